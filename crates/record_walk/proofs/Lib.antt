@@ -1,0 +1,12 @@
+pub mod Alone
+pub mod Back
+pub mod Found
+pub mod Grows
+pub mod Lists
+pub mod Noted
+pub mod Place
+pub mod Run
+pub mod Same
+pub mod Seen
+pub mod Visited
+pub mod Whole

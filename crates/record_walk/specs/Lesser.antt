@@ -1,0 +1,13 @@
+-- The lesser of what a walk has noted and what it meets.
+use Rattle.std.specs.Prelude.{ℕ, Option, None, Some, nat_lt, nat_le, ◌==◌, ◌||◌, ◌&&◌, if◌then◌else◌}
+use Rattle.record_walk.specs.declared.reference.Fault.{Fault}
+
+-- the lesser of a number, if there is one, and q
+abbrev pub lesser : Option ℕ → ℕ → Option ℕ
+lesser None q = Some q
+lesser (Some p) q = Some (if nat_lt p q then p else q)
+
+-- the lesser of a fault, if there is one, and e
+abbrev pub lesser_fault : Option Fault → Fault → Option Fault
+lesser_fault None e = Some e
+lesser_fault (Some d) e = Some (if nat_lt d.at e.at || (d.at == e.at && nat_le d.number e.number) then d else e)

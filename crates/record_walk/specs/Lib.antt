@@ -1,0 +1,7 @@
+pub mod Members
+pub mod References
+pub mod Forest
+pub mod Faults
+pub mod Lesser
+pub mod Walk
+pub mod Table

@@ -1,0 +1,15 @@
+//! The walk over the records of an image.
+//!
+//! An image's records refer to one another: a directory to the first record of its list, a record
+//! to the one after it. This crate says what a format's references are (`specs/References.antt`),
+//! which finite forest of records they give (`specs/Forest.antt`) and which faults they have
+//! (`specs/Faults.antt`), and walks them: it gives the forest's records in preorder, or the least
+//! fault.
+#![tactic(auto)]
+
+pub mod laws;
+pub mod records;
+pub mod reference;
+#[cfg(test)]
+mod tests;
+pub mod walk;

@@ -1,0 +1,143 @@
+ghost use Rattle.std.specs.Prelude.{◌≡◌, Some};
+ghost use Rattle.record_walk.specs.Table.{offset, table_references, table_sound, table_faulty};
+
+use crate::records::Records;
+use crate::reference::{Fault, Link, Links, Reference, Row};
+use crate::walk::{WalkError, walk};
+use std::alloc::Global;
+use std::test::Fail;
+
+/// Records in two tables, the root at 1: where the own list of each begins, and what comes after it.
+#[derive(Drop)]
+struct Table {
+    own: [u32; 8],
+    after: [u32; 8],
+}
+
+/// An offset, where it is one.
+fn offset_of(n: u32) -> Option<u32>
+    ensures { result ≡ offset n }
+{
+    if n == 0 { None } else { Some(n) }
+}
+
+impl Records for Table {
+    ghost references = { λ s. table_references s.own s.after };
+
+    ghost sound = { λ s. table_sound s.own s.after };
+
+    ghost faulty = { λ s. table_faulty s.own s.after };
+
+    fn top(&self) -> Link {
+        Link {
+            reference: Reference {
+                source: 0,
+                which: 0,
+            },
+            target: Some(1),
+        }
+    }
+
+    fn is_chained(&self) -> bool {
+        true
+    }
+
+    fn links(&self, _: Reference, at: u32) -> Result<Links, Fault> {
+        if at >= 8 {
+            return Err(Fault { number: 1, at });
+        }
+        let own = Reference {
+            source: at,
+            which: 1,
+        };
+        let after = Reference {
+            source: at,
+            which: 2,
+        };
+        Ok(Links {
+            own: Link {
+                reference: own,
+                target: offset_of(self.own[at as usize]),
+            },
+            after: Link {
+                reference: after,
+                target: offset_of(self.after[at as usize]),
+            },
+        })
+    }
+}
+
+fn walk_table(
+    alloc: Global,
+    own: [u32; 8],
+    after: [u32; 8],
+    most: u32,
+) -> Result<Vec<Row>, WalkError> {
+    walk(alloc, &Table { own, after }, most)
+}
+
+#[test]
+fn a_tree_in_preorder(rt: HostRuntime) -> Result<(), Fail> {
+    let rows = walk_table(
+        rt.alloc(),
+        [0, 2, 4, 0, 0, 0, 0, 0],
+        [0, 5, 3, 0, 0, 0, 0, 0],
+        5,
+    )?;
+    assert_eq!(rt; rows.len(), 5);
+    for (row, want) in rows.iter().zip([
+        (1, 1, 1, 0),
+        (2, 1, 1, 1),
+        (4, 2, 1, 2),
+        (3, 1, 1, 1),
+        (5, 1, 1, 1),
+    ]) {
+        assert_eq!(rt; (row.offset, row.directory, row.parent, row.depth), want);
+    }
+    Ok(())
+}
+
+#[test]
+fn more_than_the_limit(rt: HostRuntime) -> Result<(), Fail> {
+    for most in [0, 1, 2] {
+        let walked = walk_table(
+            rt.alloc(),
+            [0, 2, 9, 0, 0, 0, 0, 0],
+            [0, 0, 0, 0, 0, 0, 0, 0],
+            most,
+        );
+        assert!(rt; matches!(walked, Err(WalkError::TooMany)), "at {most}");
+    }
+    Ok(())
+}
+
+#[test]
+fn the_least_fault(rt: HostRuntime) -> Result<(), Fail> {
+    let walked = walk_table(
+        rt.alloc(),
+        [0, 2, 9, 8, 1, 0, 0, 0],
+        [0, 0, 3, 4, 0, 0, 0, 0],
+        100,
+    );
+    assert!(rt; matches!(walked, Err(WalkError::Record(Fault { number: 1, at: 8 }))));
+    Ok(())
+}
+
+#[test]
+fn the_least_record_with_two_references(rt: HostRuntime) -> Result<(), Fail> {
+    let walked = walk_table(
+        rt.alloc(),
+        [0, 2, 3, 3, 1, 0, 0, 0],
+        [0, 0, 4, 0, 0, 0, 0, 0],
+        100,
+    );
+    assert!(rt; matches!(walked, Err(WalkError::Twice(1))));
+    let walked = walk_table(
+        rt.alloc(),
+        [0, 2, 3, 3, 4, 0, 0, 0],
+        [0, 0, 4, 0, 0, 0, 0, 0],
+        100,
+    );
+    assert!(rt; matches!(walked, Err(WalkError::Twice(3))));
+    Ok(())
+}

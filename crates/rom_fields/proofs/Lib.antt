@@ -1,0 +1,5 @@
+pub mod Joins
+pub mod Sums
+pub mod Puts
+pub mod Escapes
+pub mod Least

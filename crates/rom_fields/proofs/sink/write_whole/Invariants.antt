@@ -1,0 +1,13 @@
+use Rattle.std.proofs.Common.{◌≡◌, ◌≤◌, ◌-◌, length, take}
+use Rattle.std.specs.Io.KnownBytes.{Appends}
+use Rattle.rom_fields.proofs.sink.write_whole.Given as goal
+
+abbrev pub invariant-loop-at : goal.invariant-loop-at
+invariant-loop-at g l = record {
+  within : l.at ≤ length l.b;
+  written : Appends (g.W.ByteWrite.told l.initial.w) (g.W.ByteWrite.told l.w) (take l.at l.b);
+  quiet : g.W.ByteWrite.failures l.w ≡ g.W.ByteWrite.failures l.initial.w;
+}
+
+abbrev pub decreases-loop-at : goal.decreases-loop-at
+decreases-loop-at g l = length l.b - l.at

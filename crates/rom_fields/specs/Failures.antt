@@ -1,0 +1,24 @@
+-- How the count of a reader's or writer's failures moves. It stops at 2^64 - 1.
+use Rattle.std.specs.Prelude.{ℕ, ◌+◌, ◌-◌, ◌^◌, ◌<◌, ◌≤◌, ◌≡◌, ◌⊎◌, min, if◌then◌else◌, ◌==◌, ◌&&◌, nat_lt, Result, Ok, Err, MatchResult}
+
+-- one more failure
+abbrev pub one_more : ℕ → ℕ
+one_more n = min (n + 1) (2 ^ 64 - 1)
+
+-- a read or a flush fails at `Err`
+abbrev pub after_read : {A E : Type 0} → ℕ → Result A E → ℕ
+after_read n (Ok k) = n
+after_read n (Err e) = one_more n
+
+-- a write of `len` bytes fails at `Err`, and where it took none of some bytes
+abbrev pub after_write : {E : Type 0} → ℕ → ℕ → Result ℕ E → ℕ
+after_write n len (Ok k) = if k == 0 && nat_lt 0 len then one_more n else n
+after_write n len (Err e) = one_more n
+
+-- the count rose, or stood at its end
+abbrev pub Rose : ℕ → ℕ → Type 0
+Rose old new = (old < new) ⊎ (2 ^ 64 - 1 ≤ old)
+
+-- a failure was counted where there is an error, and none where there is none
+abbrev pub Counts : {T E : Type 0} → ℕ → ℕ → Result T E → Type 0
+Counts old new r = MatchResult r (λ _. new ≡ old) (λ _. Rose old new)

@@ -1,0 +1,5 @@
+pub mod Words
+pub mod Failures
+pub mod Written
+pub mod Texts
+pub mod Extents

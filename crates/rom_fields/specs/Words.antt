@@ -1,0 +1,28 @@
+-- Words of 32 bits in a list of bytes, their sum, and parts of the list.
+-- romfs stores words with the highest byte first (Documentation/filesystems/romfs.rst).
+use Rattle.std.specs.Prelude.{ℕ, ◌+◌, ◌%◌, ◌^◌, List, [], ◌∷◌, ◌++◌, take, drop}
+use Rattle.byteorder.specs.Endian.{big_number, big_bytes}
+
+-- the word whose first byte is at p, the highest byte first
+unfoldable pub word_be : List ℕ → ℕ → ℕ
+word_be b p = big_number 4 (drop p b)
+
+-- the bytes with the word at p set to v, its highest byte first, and all others as they were
+unfoldable pub with_word_be : List ℕ → ℕ → ℕ → List ℕ
+with_word_be b p v = take p b ++ (big_bytes 4 v ++ drop (p + 4) b)
+
+-- the sum of the words from the front, as a whole number; a rest of fewer than four bytes is not counted
+abbrev pub words_total : List ℕ → ℕ
+words_total [] = 0
+words_total (a ∷ []) = 0
+words_total (a ∷ b ∷ []) = 0
+words_total (a ∷ b ∷ c ∷ []) = 0
+words_total (a ∷ b ∷ c ∷ d ∷ rest) = big_number 4 (a ∷ b ∷ c ∷ d ∷ []) + words_total rest
+
+-- the same modulo 2^32, as romfs sums
+unfoldable pub words_sum : List ℕ → ℕ
+words_sum b = words_total b % 2 ^ 32
+
+-- the len bytes from p
+abbrev pub part_of : List ℕ → ℕ → ℕ → List ℕ
+part_of b p len = take len (drop p b)

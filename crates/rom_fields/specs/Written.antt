@@ -1,0 +1,35 @@
+-- What was appended to a writer that may tell its bytes, and how texts join.
+use Rattle.std.specs.Prelude.{◌≡◌, ℕ, Bool, MatchBool, List, ◌++◌, Option, Result, MatchResult}
+use Rattle.std.specs.Io.KnownBytes.{Appends}
+use Rattle.rom_fields.specs.Failures.{Rose}
+
+-- a front of the text was appended, perhaps none or all of it
+abbrev pub AppendsFront : Option (List ℕ) → Option (List ℕ) → List ℕ → Type 0
+AppendsFront old new text = (front : List ℕ) × (rest : List ℕ) × Appends old new front × (text ≡ front ++ rest)
+
+-- all of the text at Ok, and a front of it at Err
+abbrev pub WritesText : {T E : Type 0} → Option (List ℕ) → Option (List ℕ) → Result T E → List ℕ → Type 0
+WritesText old new r text = MatchResult r (λ _. Appends old new text) (λ _. AppendsFront old new text)
+
+-- A writer that is not written to any more once it failed: its bytes, where it tells them, its count of
+-- failures, and whether it failed.
+pub record Sink : Type 0 where
+  pub told : Option (List ℕ)
+  pub failures : ℕ
+  pub failed : Bool
+
+abbrev pub sink : Option (List ℕ) → ℕ → Bool → Sink
+sink t n f = record { told = t; failures = n; failed = f }
+
+-- all of the text was appended since, or a front of it where the sink failed
+unfoldable pub Said : Option (List ℕ) → Sink → List ℕ → Type 0
+Said start s all = MatchBool s.failed (AppendsFront start s.told all) (Appends start s.told all)
+
+-- failures were counted since exactly where the sink failed
+unfoldable pub Counted : ℕ → Sink → Type 0
+Counted start s = MatchBool s.failed (Rose start s.failures) (s.failures ≡ start)
+
+-- The text was put into the sink: whatever was said before is now said with the text after it.
+pub record Puts (s t : Sink) (text : List ℕ) : Type 0 where
+  pub said : (start : Option (List ℕ)) (all : List ℕ) → Said start s all → Said start t (all ++ text)
+  pub counted : (start : ℕ) → Counted start s → Counted start t

@@ -1,0 +1,39 @@
+//! Whole texts to a writer, and a sink that stays failed.
+ghost use Rattle.std.specs.Prelude.{◌≡◌, length};
+ghost use Rattle.rom_fields.specs.Failures.{Counts};
+ghost use Rattle.rom_fields.specs.Written.{WritesText, Puts, sink};
+
+use crate::bytes::{ByteWrite, Failed};
+
+/// Writes all of the bytes. A write that takes none of them is a failure. After an error a front of
+/// them was written.
+pub fn write_whole<W: ByteWrite>(w: &mut W, b: &[u8]) -> Result<(), Failed>
+    ensures text { WritesText (W.told w.old) (W.told w.new) result b.now }
+    ensures count { Counts (W.failures w.old) (W.failures w.new) result }
+{
+    let mut at = 0;
+    while at < b.len() {
+        match w.write(&b[at..]) {
+            Ok(0) => return Err(Failed),
+            Ok(n) => at += n,
+            Err(_) => return Err(Failed),
+        }
+    }
+    Ok(())
+}
+
+/// Writes all of the bytes where nothing failed yet, and notes a failure in `failed`. Texts that
+/// are put one after the other so need no test between them.
+pub fn put<W: ByteWrite>(w: &mut W, failed: &mut bool, b: &[u8])
+    ensures { Puts (sink (W.told w.old) (W.failures w.old) failed.old) (sink (W.told w.new) (W.failures w.new) failed.new) b.now }
+{
+    if *failed {
+        return;
+    }
+    match write_whole(w, b) {
+        Ok(()) => {}
+        Err(_) => {
+            *failed = true;
+        }
+    }
+}

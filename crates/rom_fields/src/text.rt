@@ -1,0 +1,42 @@
+//! The texts of numbers and names, put into a sink.
+ghost use Rattle.std.specs.Prelude.{◌≡◌, ◌∷◌, [], ◌++◌, ◌<◌, decimal};
+ghost use Rattle.rom_fields.specs.Written.{Puts, sink};
+ghost use Rattle.rom_fields.specs.Texts.{escaped, octal};
+
+use crate::bytes::ByteWrite;
+use crate::sink::put;
+use itoa::Buffer;
+use percent_encoding::{AsciiSet, CONTROLS, ascii_set, percent_encode};
+
+const ESCAPED: AsciiSet = ascii_set!(CONTROLS.add(b' ').add(b'%'));
+
+/// Puts a number in decimal digits.
+pub fn put_decimal<W: ByteWrite>(w: &mut W, failed: &mut bool, n: u32)
+    ensures { Puts (sink (W.told w.old) (W.failures w.old) failed.old) (sink (W.told w.new) (W.failures w.new) failed.new) (decimal n) }
+{
+    let mut buffer = Buffer::new();
+    put(w, failed, buffer.format(n).as_bytes());
+}
+
+/// Puts the last four octal digits of a mode.
+pub fn put_octal<W: ByteWrite>(w: &mut W, failed: &mut bool, mode: u32)
+    ensures { Puts (sink (W.told w.old) (W.failures w.old) failed.old) (sink (W.told w.new) (W.failures w.new) failed.new) (octal mode) }
+{
+    let digits = [
+        48 + (mode / 512 % 8) as u8,
+        48 + (mode / 64 % 8) as u8,
+        48 + (mode / 8 % 8) as u8,
+        48 + (mode % 8) as u8,
+    ];
+    put(w, failed, &digits);
+}
+
+/// Puts a name with each byte that is no visible ASCII character, and each `%`, escaped as `%` and
+/// two upper-case hexadecimal digits.
+pub fn put_escaped<W: ByteWrite>(w: &mut W, failed: &mut bool, name: &[u8])
+    ensures { Puts (sink (W.told w.old) (W.failures w.old) failed.old) (sink (W.told w.new) (W.failures w.new) failed.new) (escaped name.now) }
+{
+    for piece in percent_encode(name, ESCAPED) {
+        put(w, failed, piece.as_bytes());
+    }
+}

@@ -1,0 +1,70 @@
+//! Words of 32 bits in a slice of bytes, and parts of it.
+ghost use Rattle.std.specs.Prelude.{◌≡◌, ◌+◌, ◌*◌, ◌^◌, ◌<◌, ◌≤◌, ℕ, length, SomeIff, IsTrue, ◌↔◌, option_copied};
+ghost use Rattle.std.specs.Bool.{OnTrue, OnFalse};
+ghost use Rattle.rom_fields.specs.Words.{word_be, with_word_be, words_sum, part_of};
+
+use byteorder::{BigEndian, ByteOrder};
+
+/// The word at `at`, the highest byte first. `None` where its four bytes do not lie in `b`.
+#[tactic(auto, unfolding(crate::specs::Words::word_be))]
+pub fn be32(b: &[u8], at: usize) -> Option<u32>
+    ensures { SomeIff result (at + 4 ≤ length b.now) (word_be b.now at) }
+{
+    let rest = b.get(at..)?;
+    if rest.len() < 4 {
+        return None;
+    }
+    Some(BigEndian::read_u32(rest))
+}
+
+/// Sets the word at `at`, the highest byte first. False, and nothing changes, where its four bytes
+/// do not lie in `b`.
+
+pub fn put_be32(b: &mut [u8], at: usize, v: u32) -> bool
+    ensures fits { IsTrue result ↔ (at + 4 ≤ length b.old) }
+    ensures put { OnTrue result (b.new ≡ with_word_be b.old at v) }
+    ensures same { OnFalse result (b.new ≡ b.old) }
+{
+    if b.len() < 4 || b.len() - 4 < at {
+        return false;
+    }
+    BigEndian::write_u32(&mut b[at..], v);
+    true
+}
+
+/// The sum modulo 2^32 of the big-endian words from the front. A rest of fewer than four bytes is
+/// not counted.
+pub fn word_sum(b: &[u8]) -> u32
+    ensures { result ≡ words_sum b.now }
+{
+    let mut sum: u32 = 0;
+    let mut rest = b;
+    while rest.len() >= 4 {
+        sum = sum.wrapping_add(BigEndian::read_u32(rest));
+        rest = &rest[4..];
+    }
+    sum
+}
+
+/// The least multiple of `k` that is at least `n`.
+pub fn pad(n: u64, k: u64) -> u64
+    requires low { 1 ≤ k }
+    requires high { k ≤ 65536 }
+    requires small { n < 2 ^ 40 }
+    ensures multiple { (m : ℕ) × (result ≡ m * k) }
+    ensures reaches { n ≤ result }
+    ensures least { (m : ℕ) → n ≤ m * k → result ≤ m * k }
+{
+    (n + (k - 1)) / k * k
+}
+
+/// Exactly the `len` bytes from `at`. `None` where they do not all lie in `b`.
+pub fn part<'a>(b: &'a [u8], at: usize, len: usize) -> Option<&'a [u8]>
+    ensures { SomeIff (option_copied result) (at + len ≤ length b.now) (part_of b.now at len) }
+{
+    if b.len() < at || b.len() - at < len {
+        None
+    } else {
+        Some(&b[at..at + len])
+    }
+}

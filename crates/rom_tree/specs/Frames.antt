@@ -1,0 +1,63 @@
+-- What a stack of open directories has still to list. The last frame is that of the deepest directory.
+use Rattle.std.specs.Prelude.{◌≡◌, ◌<◌, ℕ, suc, ◌+◌, ◌*◌, ◌≤◌, List, [], ◌∷◌, ◌++◌, length, Option, Some, None}
+use Rattle.std.specs.Borrow.{Bor}
+use Rattle.rom_fields.specs.Texts.{escaped}
+use Rattle.rom_tree.specs.Tree.{Node, Entries, no_entries, drop_entries, entries_of, entries_nodes, levels}
+use Rattle.rom_tree.specs.Image.{Image, image_node, HasDirectory, HasCursor}
+use Rattle.rom_tree.specs.Listing.{entries_lines}
+use Rattle.rom_tree.specs.declared.frame.Frame.{Frame}
+
+-- what a directory's name adds to a path: nothing at the root
+abbrev pub name_text : Option (Bor (List ℕ)) → List ℕ
+name_text None = []
+name_text (Some n) = 47 ∷ escaped n.now
+
+abbrev pub entries_left : Option Node → Option ℕ → Entries
+entries_left None i = no_entries
+entries_left (Some x) None = no_entries
+entries_left (Some x) (Some i) = drop_entries i (entries_of x)
+
+-- the entries that are left at a frame
+unfoldable pub left : Image → Frame → Entries
+left m f = entries_left (image_node m f.directory.0) (m.cursor_index f.directory.0 f.cursor.0)
+
+-- the path of the last of the frames, where the first lies at `path`
+unfoldable pub path_text : List ℕ → List Frame → List ℕ
+path_text path [] = path
+path_text path (f ∷ fs) = path_text (path ++ name_text f.name) fs
+
+-- the lines that are still to come, those of the last frame first
+unfoldable pub pending : Image → List ℕ → List Frame → List ℕ
+pending m path [] = []
+pending m path (f ∷ fs) = pending m (path ++ name_text f.name) fs ++ entries_lines m.bytes (path ++ name_text f.name) (left m f)
+
+abbrev pub levels_at : Option Node → ℕ
+levels_at None = 0
+levels_at (Some x) = levels x
+
+-- a frame with k frames before it
+pub record IsFrame (m : Image) (k : ℕ) (f : Frame) : Type 0 where
+  pub directory : HasDirectory m f.directory.0
+  pub cursor : HasCursor m f.directory.0 f.cursor.0
+  pub deep : levels_at (image_node m f.directory.0) + k ≤ 65
+
+unfoldable pub AreFrames : Image → ℕ → List Frame → Type 0
+AreFrames m k [] = Unit {0}
+AreFrames m k (f ∷ fs) = IsFrame m k f × AreFrames m (suc k) fs
+
+-- twice the nodes that are still to come, and the frames
+unfoldable pub weight : Image → List Frame → ℕ
+weight m [] = 0
+weight m (f ∷ fs) = suc (2 * length (entries_nodes (left m f))) + weight m fs
+
+-- The stack `new` follows the stack `old` where a text was added to what is listed: less is still to
+-- come, and what was to come is that text and what is to come now.
+pub record Follows (m : Image) (old new : List Frame) (added : List ℕ) : Type 0 where
+  pub frames : AreFrames m 0 new
+  pub less : weight m new < weight m old
+  pub text : pending m [] old ≡ added ++ pending m [] new
+
+-- the path of a name in the last of the frames, or the root's
+abbrev pub line_path : List Frame → Option (Bor (List ℕ)) → List ℕ
+line_path fs None = 47 ∷ []
+line_path fs (Some n) = path_text [] fs ++ 47 ∷ escaped n.now

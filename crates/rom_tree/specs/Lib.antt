@@ -1,0 +1,4 @@
+pub mod Tree
+pub mod Image
+pub mod Listing
+pub mod Frames

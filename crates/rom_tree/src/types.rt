@@ -1,0 +1,111 @@
+//! What the calls of an image take and give.
+ghost use Rattle.std.specs.Prelude.{◌≡◌};
+
+use thiserror::Error;
+
+/// What a node is.
+#[derive(Clone, Copy, Debug, PartialEq, Eq)]
+pub enum Kind {
+    Directory,
+    Regular,
+    Symlink,
+    Block,
+    Character,
+    Socket,
+    Fifo,
+}
+
+/// The number of a node, by which an image names it.
+#[derive(Clone, Copy, Debug, Default, PartialEq, Eq)]
+pub struct NodeId(pub u32);
+
+/// A place in a directory's list.
+#[derive(Clone, Copy, Debug, Default, PartialEq, Eq)]
+pub struct Cursor(pub u64);
+
+impl Cursor {
+    /// The place before the first entry of each directory.
+    pub const START: Cursor = Cursor(0);
+}
+
+/// What is kept of a node beside its contents. `size` counts the bytes of a regular file or of a
+/// symbolic link's text, and is 0 for other kinds. `major` and `minor` name a device.
+#[derive(Clone, Copy, Debug, PartialEq, Eq)]
+pub struct Stat {
+    pub ino: u32,
+    pub kind: Kind,
+    pub mode: u32,
+    pub uid: u32,
+    pub gid: u32,
+    pub size: u32,
+    pub major: u32,
+    pub minor: u32,
+}
+
+/// Bytes of a file that follow one another in the image: `len` of them from `place` on.
+#[derive(Clone, Copy, Debug, PartialEq, Eq)]
+pub struct Run {
+    pub place: u32,
+    pub len: u32,
+}
+
+/// An entry of a directory, and the cursor of the entry after it.
+#[derive(Clone, Copy, Debug)]
+pub struct Entry<'a> {
+    pub name: &'a [u8],
+    pub node: NodeId,
+    pub cursor: Cursor,
+}
+
+/// Bytes of an image and the place where they begin.
+#[derive(Clone, Copy, Debug)]
+pub struct Piece<'a> {
+    pub place: u32,
+    pub bytes: &'a [u8],
+}
+
+/// How much of an image a check follows: at most `references` references between records, and
+/// directories at most `depth` deep.
+#[derive(Clone, Copy, Debug, PartialEq, Eq)]
+pub struct Limits {
+    pub references: u32,
+    pub depth: u32,
+}
+
+impl Limits {
+    /// 1,048,576 references and 64 directories deep.
+    pub fn usual() -> Limits
+        ensures references { result.references ≡ 1048576 }
+        ensures depth { result.depth ≡ 64 }
+    {
+        Limits {
+            references: 1_048_576,
+            depth: 64,
+        }
+    }
+}
+
+/// What a check found in a sound image: how many references it has, and the greatest number of
+/// names from the root to a node.
+#[derive(Clone, Copy, Debug, PartialEq, Eq)]
+pub struct Report {
+    pub references: u32,
+    pub depth: u32,
+}
+
+/// Why an image was not taken. A fault has its number in the list of the format's faults and the
+/// place in the image, in bytes from its front.
+#[derive(Clone, Copy, Debug, PartialEq, Eq, Error)]
+pub enum CheckError {
+    #[error("out of memory")]
+    OutOfMemory,
+    #[error("fault {number} at byte {at}")]
+    Fault { number: u32, at: u32 },
+}
+
+/// Why a list was not written whole.
+#[derive(Clone, Copy, Debug, PartialEq, Eq, Error)]
+pub enum ListError {
+    #[error("a write failed")]
+    WriteFault,
+}

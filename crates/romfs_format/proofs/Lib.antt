@@ -1,0 +1,15 @@
+pub mod Same
+pub mod Picks
+pub mod Trees
+pub mod Chain
+pub mod Stack
+pub mod Bridge
+pub mod Contents
+pub mod Faults
+pub mod Lawful
+pub mod Depths
+pub mod Dots
+pub mod Sets
+pub mod Spans
+pub mod Orders
+pub mod Named

@@ -1,0 +1,150 @@
+-- The lists that a walk through a tree has still to read.
+use Rattle.std.proofs.Common.{◌≡◌, ℕ, suc, ◌+◌, ◌*◌, ◌≤◌, Bool, true, false, eqb, List, [], ◌∷◌, ◌++◌, length, Some, IsSome, inl, inr, refl, sym, ap, subst, ◌∙◌, arith, rules, if◌then◌else◌}
+use Rattle.std.proofs.lemmas.Bool.{false≢true}
+use Rattle.std.proofs.lemmas.Bool.Decides.{eqb_tells}
+use Rattle.std.specs.Prelude.{max, find, IsTrue, ◌↔◌}
+use Rattle.rom_tree.specs.Tree.{Node, Body, directory, regular, symlink, block, character, socket, fifo, Entries, no_entries, nodes, body_nodes, entries_nodes, entries_depth, body_depth, ino_of, node_at}
+use Rattle.romfs_format.specs.Record.{first_of, next_of, name_of, type_of}
+use Rattle.record_walk.specs.Forest.{none}
+use Rattle.romfs_format.specs.Tree.{node_of, entries_at, is_dot, led, body_named, places_at, attributes_at}
+use Rattle.romfs_format.specs.Made.{grow, count}
+use Rattle.romfs_format.proofs.Picks.{pick_map, pick_one, pick_rest}
+use Rattle.romfs_format.proofs.Trees.{IsList, led_self}
+use Rattle.romfs_format.proofs.Chain.{IsStep, list_end}
+
+-- whether one of the nodes has this number
+abbrev pub among : ℕ → List Node → Bool
+among n [] = false
+among n (x ∷ xs) = if eqb (ino_of x) n then true else among n xs
+
+pub among_append : (n : ℕ) (xs ys : List Node) → among n (xs ++ ys) ≡ (if among n xs then true else among n ys)
+among_append n [] ys = refl
+among_append n (x ∷ xs) ys = elim (eqb (ino_of x) n) as (λ v. (if v then true else among n (xs ++ ys)) ≡ (if (if v then true else among n xs) then true else among n ys)) [
+  | true ↦ refl
+  | false ↦ among_append n xs ys
+]
+
+among_some : (n : ℕ) (xs : List Node) → among n xs ≡ true → IsSome (find (λ x. eqb (ino_of x) n) xs)
+among_some n [] h = absurd (false≢true h)
+among_some n (x ∷ xs) h = elim (eqb (ino_of x) n) as (λ v. (if v then true else among n xs) ≡ true → IsSome (if v then Some x else find (λ y. eqb (ino_of y) n) xs)) [
+  | true ↦ λ e. search rules
+  | false ↦ λ e. among_some n xs e
+] h
+
+some_among : (n : ℕ) (xs : List Node) → IsSome (find (λ x. eqb (ino_of x) n) xs) → among n xs ≡ true
+some_among n [] h = absurd (search rules)
+some_among n (x ∷ xs) h = elim (eqb (ino_of x) n) as (λ v. IsSome (if v then Some x else find (λ y. eqb (ino_of y) n) xs) → (if v then true else among n xs) ≡ true) [
+  | true ↦ λ e. refl
+  | false ↦ λ e. some_among n xs e
+] h
+
+-- a number names a node where one has it
+pub node_by : (t : Node) (n : ℕ) (v : Bool) → v ≡ among n (nodes t) → IsTrue v ↔ IsSome (node_at t n)
+unfolding node_at
+node_by t n v e = ((λ h. among_some n (nodes t) (sym e ∙ h)), (λ h. e ∙ some_among n (nodes t) h))
+
+-- whether a node of the list at q has the number
+unfoldable pub below : List ℕ → ℕ → ℕ → ℕ → Bool
+below b k n q = among n (entries_nodes (entries_at b (grow k b q)))
+
+-- whether one of the lists has such a node
+abbrev pub waits : List ℕ → ℕ → ℕ → List ℕ → Bool
+waits b k n [] = false
+waits b k n (q ∷ qs) = if below b k n q then true else waits b k n qs
+
+abbrev either : Bool → Bool → Bool
+either x y = if x then true else y
+
+pub waits_push : (b : List ℕ) (k n q : ℕ) (qs : List ℕ) → waits b k n (qs ++ q ∷ []) ≡ either (waits b k n qs) (below b k n q)
+waits_push b k n q [] = elim (below b k n q) as (λ v. (if v then true else false) ≡ v) [ true ↦ refl | false ↦ refl ]
+waits_push b k n q (x ∷ xs) = elim (below b k n x) as (λ v. (if v then true else waits b k n (xs ++ q ∷ [])) ≡ either (if v then true else waits b k n xs) (below b k n q)) [
+  | true ↦ refl
+  | false ↦ waits_push b k n q xs
+]
+
+-- how many names lead down from the list at q
+unfoldable pub depth_at : List ℕ → ℕ → ℕ → ℕ
+depth_at b k q = entries_depth (entries_at b (grow k b q))
+
+no_list : (b : List ℕ) (q : ℕ) → (type_of b (led 8 b q) ≡ 1 → ⊥) → first_of b q ≡ 0
+unfolding first_of
+no_list b q h = elim (eqb_tells (type_of b q) 1) [
+  | inl i ↦ absurd (h (ap (type_of b) (led_self 8 b q (λ z. absurd (let y = i.1 in omega arith))) ∙ i.1))
+  | inr i ↦ rw i.0 refl
+]
+
+-- what goes by the entries of a node goes by the list of its record
+by_list : {A : Type 0} (f : Body → A) (g : Entries → A) (b : List ℕ) (r k q : ℕ) (ps : List ℕ) → IsStep b r k q → ((es : Entries) → f (directory es) ≡ g es)
+    → f (regular ps) ≡ g no_entries → f (symlink ps) ≡ g no_entries → f block ≡ g no_entries → f character ≡ g no_entries → f socket ≡ g no_entries → f fifo ≡ g no_entries
+    → f (body_named (type_of b (led 8 b q)) ps (entries_at b (grow k b (first_of b q)))) ≡ g (entries_at b (grow k b (first_of b q)))
+by_list f g b r k q ps st h h2 h3 h4 h5 h6 h7 =
+    let t = type_of b (led 8 b q) in
+    let es = entries_at b (grow k b (first_of b q)) in
+    let m = pick_map f t (directory es) (regular ps) (symlink ps) block character socket fifo in
+    elim (eqb_tells t 1) [
+      | inl i ↦ m ∙ pick_one t (f (directory es)) (f (regular ps)) (f (symlink ps)) (f block) (f character) (f socket) (f fifo) i.1 ∙ h es
+      | inr i ↦
+          let z : first_of b q ≡ 0 = no_list b q i.1 in
+          let end : grow k b (first_of b q) ≡ none = subst (λ (v : ℕ). IsList b r k v → grow k b v ≡ none) (sym z) (list_end b r k) st.first in
+          let e : es ≡ no_entries = ap (entries_at b) end in
+          m ∙ (rw (h2, h3, h4, h5, h6, h7) (pick_rest t (f (directory es)) (g no_entries) i.1)) ∙ ap g (sym e)
+    ]
+
+-- one record further: a record that is no entry
+pub below_dot : (b : List ℕ) (r k n q : ℕ) → IsStep b r k q → is_dot (name_of b q) ≡ true → below b k n q ≡ below b k n (next_of b q)
+unfolding below
+below_dot b r k n q st d = rw (st.is, d) refl
+
+pub depth_dot : (b : List ℕ) (r k q : ℕ) → IsStep b r k q → is_dot (name_of b q) ≡ true → depth_at b k q ≡ depth_at b k (next_of b q)
+unfolding depth_at
+depth_dot b r k q st d = rw (st.is, d) refl
+
+-- an entry
+pub below_entry : (b : List ℕ) (r k n q : ℕ) → IsStep b r k q → is_dot (name_of b q) ≡ false
+    → below b k n q ≡ either (if eqb (led 8 b q) n then true else below b k n (first_of b q)) (below b k n (next_of b q))
+unfolding below node_of attributes_at
+below_entry b r k n q st d =
+    let p = led 8 b q in
+    let es = entries_at b (grow k b (first_of b q)) in
+    let own : among n (body_nodes (body_named (type_of b p) (places_at b p) es)) ≡ among n (entries_nodes es) =
+    by_list (λ c. among n (body_nodes c)) (λ x. among n (entries_nodes x)) b r k q (places_at b p) st (λ x. refl) refl refl refl refl refl refl in
+    rw (st.is, d) (among_append n (nodes (node_of b p es)) (entries_nodes (entries_at b (grow k b (next_of b q))))
+    ∙ ap (λ (v : Bool). either (if eqb p n then true else v) (among n (entries_nodes (entries_at b (grow k b (next_of b q)))))) own)
+
+pub depth_entry : (b : List ℕ) (r k q : ℕ) → IsStep b r k q → is_dot (name_of b q) ≡ false
+    → depth_at b k q ≡ max (suc (depth_at b k (first_of b q))) (depth_at b k (next_of b q))
+unfolding depth_at node_of
+depth_entry b r k q st d =
+    let p = led 8 b q in
+    let es = entries_at b (grow k b (first_of b q)) in
+    let own : body_depth (body_named (type_of b p) (places_at b p) es) ≡ entries_depth es = by_list body_depth entries_depth b r k q (places_at b p) st (λ x. refl) refl refl refl refl refl refl in
+    rw (st.is, d) (ap (λ (v : ℕ). max (suc v) (entries_depth (entries_at b (grow k b (next_of b q))))) own)
+
+pub below_end : (b : List ℕ) (r k n : ℕ) → IsList b r k 0 → below b k n 0 ≡ false
+unfolding below
+below_end b r k n l = rw (list_end b r k l) refl
+
+-- the lists stand, the i-th of them not too deep
+abbrev pub AreDeep : List ℕ → ℕ → ℕ → ℕ → List ℕ → Type 0
+AreDeep b r k i [] = Unit {0}
+AreDeep b r k i (q ∷ qs) = IsList b r k q × (depth_at b k q + i ≤ 64) × AreDeep b r k (suc i) qs
+
+pub deep_push : (b : List ℕ) (r k i q : ℕ) (qs : List ℕ) → AreDeep b r k i qs → IsList b r k q → depth_at b k q + (i + length qs) ≤ 64 → AreDeep b r k i (qs ++ q ∷ [])
+deep_push b r k i q [] h l d = (l, omega arith, tt)
+deep_push b r k i q (x ∷ xs) h l d = (h.0, h.1, deep_push b r k (suc i) q xs h.2 l (omega arith))
+
+pub deep_front : (b : List ℕ) (r k i q : ℕ) (qs : List ℕ) → AreDeep b r k i (qs ++ q ∷ []) → AreDeep b r k i qs
+deep_front b r k i q [] h = tt
+deep_front b r k i q (x ∷ xs) h = (h.0, h.1, deep_front b r k (suc i) q xs h.2)
+
+pub deep_last : (b : List ℕ) (r k i q : ℕ) (qs : List ℕ) → AreDeep b r k i (qs ++ q ∷ []) → IsList b r k q × (depth_at b k q + (i + length qs) ≤ 64)
+deep_last b r k i q [] h = (h.0, omega arith)
+deep_last b r k i q (x ∷ xs) h = let t = deep_last b r k (suc i) q xs h.2 in let u = t.1 in (t.0, omega arith)
+
+abbrev pub weight : ℕ → List ℕ → List ℕ → ℕ
+weight k b [] = 0
+weight k b (q ∷ qs) = suc (2 * count (grow k b q)) + weight k b qs
+
+pub weight_push : (k : ℕ) (b : List ℕ) (q : ℕ) (qs : List ℕ) → weight k b (qs ++ q ∷ []) ≡ suc (2 * count (grow k b q)) + weight k b qs
+weight_push k b q [] = refl
+weight_push k b q (x ∷ xs) = let h = weight_push k b q xs in omega arith

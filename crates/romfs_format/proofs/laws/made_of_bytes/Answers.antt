@@ -1,0 +1,5 @@
+use Rattle.romfs_format.proofs.Bridge.{accepted}
+use Rattle.romfs_format.proofs.laws.made_of_bytes.Goals as goal
+
+pub returns : goal.returns
+returns c = accepted

@@ -1,0 +1,5 @@
+use Rattle.romfs_format.proofs.Bridge.{same_tree}
+use Rattle.romfs_format.proofs.laws.one_tree.Goals as goal
+
+pub returns : goal.returns
+returns c = same_tree

@@ -1,0 +1,6 @@
+pub mod Record
+pub mod Refers
+pub mod Tree
+pub mod Superblock
+pub mod Made
+pub mod Faults

@@ -1,0 +1,46 @@
+-- What refers to what in a romfs image: a directory to the first record of its list, by its spec; a record to the one
+-- after it, by its next; the superblock to the root. A hard link's target is no reference.
+use Rattle.std.specs.Prelude.{◌≡◌, ℕ, Bool, true, if◌then◌else◌, ◌==◌, Option, None, Some, List}
+use Rattle.record_walk.specs.declared.reference.Reference.{Reference}
+use Rattle.record_walk.specs.References.{References}
+use Rattle.romfs_format.specs.Record.{next_of, first_of, IsSound, HasRecordFault}
+use Rattle.record_walk.specs.declared.reference.Fault.{Fault}
+
+-- the root heads its own list, as genromfs writes it
+unfoldable pub heads_itself : List ℕ → ℕ → Bool
+heads_itself b r = first_of b r == r
+
+-- where the list of the record at p begins; that the root heads its own list is no reference
+unfoldable pub list_of : List ℕ → ℕ → ℕ → ℕ
+list_of b r p = if p == r then (if heads_itself b r then 0 else first_of b r) else first_of b p
+
+-- the record after that at p; the root's next counts only where the root heads its own list
+unfoldable pub following : List ℕ → ℕ → ℕ → ℕ
+following b r p = if p == r then (if heads_itself b r then next_of b r else 0) else next_of b p
+
+-- the offset that a reference holds, 0 where it leads to no record: the superblock's (source 0) is the root, a record's
+-- first (which 0) its list, its other the record after it
+unfoldable pub offset_of : List ℕ → ℕ → Reference → ℕ
+offset_of b r x = if x.source == 0 then r else (if x.which == 0 then list_of b r x.source else following b r x.source)
+
+abbrev pub some_offset : ℕ → Option ℕ
+some_offset q = if q == 0 then None else Some q
+
+-- the references of the image whose accessible bytes are b and whose root is at r
+abbrev pub references : List ℕ → ℕ → References
+references b r = record {
+  top = record { source = 0; which = 0 };
+  target = λ x. some_offset (offset_of b r x);
+  own = λ x. record { source = offset_of b r x; which = 0 };
+  after = λ x. record { source = offset_of b r x; which = 1 };
+  chained = true;
+}
+
+-- the reference leads to a sound record
+abbrev pub LeadsToSound : List ℕ → ℕ → Reference → Type 0
+LeadsToSound b r x = IsSound b r (offset_of b r x)
+
+-- the record that it leads to has this fault, which stands at the record
+pub record LeadsToFault (b : List ℕ) (r : ℕ) (x : Reference) (e : Fault) : Type 0 where
+  pub at : e.at ≡ offset_of b r x
+  pub number : HasRecordFault b r (offset_of b r x) e.number

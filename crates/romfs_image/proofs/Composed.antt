@@ -1,0 +1,80 @@
+-- The phases over the rows of a forest, put together.
+use Rattle.std.proofs.Common.{◌≡◌, ◌≢◌, ℕ, min, Bool, true, false, List, [], ◌∷◌, ◌++◌, drop, get_or, Option, None, Some, MatchOption, refl, sym, ap, subst, ◌∙◌, append_assoc, append-nil, if◌then◌else◌}
+use Rattle.std.proofs.lemmas.List.{get_or_default}
+use Rattle.std.proofs.lemmas.List.Elements.{recursion_from_All, All-from_recursion, All-tail}
+use Rattle.std.specs.List.{All, AllByRecursion as Every}
+use Rattle.rom_fields.specs.Extents.{OverlapsAt, IsLeastOf}
+use Rattle.record_walk.specs.declared.reference.Fault.{Fault}
+use Rattle.record_walk.specs.declared.reference.Row.{Row}
+use Rattle.record_walk.specs.Members.{Pairs}
+use Rattle.record_walk.specs.Forest.{Forest, none, at, all_rows, IsForest}
+use Rattle.record_walk.proofs.Lists.{pairs_push, pairs_to}
+use Rattle.romfs_format.specs.Record.{name_of, IsSound}
+use Rattle.romfs_format.specs.Refers.{references, offset_of, heads_itself, LeadsToSound}
+use Rattle.romfs_format.specs.Tree.{dot, extents_of, listed_rows, NamesDiffer, LeadsWell, IsTree}
+use Rattle.romfs_format.proofs.Bridge.{offset_some, offset_none, top_offset}
+use Rattle.romfs_format.proofs.Depths.{IsWithin}
+use Rattle.romfs_format.proofs.Dots.{tree_within}
+use Rattle.romfs_image.specs.Phases.{IsLeastRowFault, IsTooDeep, IsShallow, Repeats, HasNameFault, IsWellNamed, AreWell, IsLaterFault, name}
+
+-- with no entry too deep and no overlap, the names decide
+pub well_or_fault : (b : List ℕ) (r most : ℕ) (all : List Row) (o : Option Fault) → IsLeastRowFault (IsShallow b most) (IsTooDeep b most) all None → IsLeastOf (OverlapsAt (extents_of b r all)) None
+    → IsLeastRowFault (IsWellNamed b r all) (HasNameFault b r all) (listed_rows b r all) o → MatchOption o (AreWell b r most all) (IsLaterFault b r most all)
+well_or_fault b r most all None d v n = record { shallow = d.clean refl; apart = λ p h. v.least p h; named = n.clean refl }
+well_or_fault b r most all (Some e) d v n = name d v n
+
+-- the rows that stand in lists are rows
+pub listed_sound : (b : List ℕ) (r : ℕ) (all : List Row) → All (λ (x : Row). IsSound b r x.offset) all → All (λ (x : Row). IsSound b r x.offset) (listed_rows b r all)
+unfolding listed_rows
+listed_sound b r [] h = elim (heads_itself b r) as (λ v. All (λ (x : Row). IsSound b r x.offset) (if v then [] else [])) [ true ↦ h | false ↦ h ]
+listed_sound b r (x ∷ xs) h = elim (heads_itself b r) as (λ v. All (λ (x : Row). IsSound b r x.offset) (if v then x ∷ xs else xs)) [ true ↦ h | false ↦ All-tail (λ (x : Row). IsSound b r x.offset) x xs h ]
+
+-- what holds at each place of a list
+every_split : (P : Row → Type 0) (done xs : List Row) → ((before : List Row) (x : Row) (after : List Row) → done ++ xs ≡ before ++ x ∷ after → P x) → Every P xs
+every_split P done [] h = tt
+every_split P done (x ∷ xs) h = (h done x xs refl, every_split P (done ++ x ∷ []) xs (λ before y after e. h before y after (sym (append_assoc done (x ∷ []) xs) ∙ e)))
+
+pairs_split : (R : Row → Row → Type 0) (done xs : List Row) → Pairs R done → ((before : List Row) (x : Row) (after : List Row) → done ++ xs ≡ before ++ x ∷ after → Every (λ y. R y x) before) → Pairs R (done ++ xs)
+pairs_split R done [] p h = subst (Pairs R) (sym (append-nil done)) p
+pairs_split R done (x ∷ xs) p h =
+    subst (Pairs R) (append_assoc done (x ∷ []) xs)
+    (pairs_split R (done ++ x ∷ []) xs (pairs_push R done x p (h done x xs refl)) (λ before y after e. h before y after (sym (append_assoc done (x ∷ []) xs) ∙ e)))
+
+-- a name that is not repeated differs from those before it
+fresh_differs : (b : List ℕ) (before : List Row) (x : Row) → (Repeats b before x → ⊥) → Every (λ (y : Row). NamesDiffer b y x) before
+fresh_differs b before x fresh = recursion_from_All (λ (y : Row). NamesDiffer b y x) before
+    (λ k d l same equal. fresh (k, get_or before k d, l, get_or_default before k (get_or before k d) d l, (same, equal)))
+
+-- the rows below the root are among those that stand in lists
+listed_place : (b : List ℕ) (r : ℕ) (first : Row) (below before : List Row) (x : Row) (after : List Row) (v : Bool) → heads_itself b r ≡ v → below ≡ before ++ x ∷ after
+    → (front : List Row) × (listed_rows b r (first ∷ below) ≡ front ++ x ∷ after)
+unfolding listed_rows
+listed_place b r first below before x after true e s = (first ∷ before, rw e (ap (λ (v : List Row). first ∷ v) s))
+listed_place b r first below before x after false e s = (before, rw e s)
+
+below_leads : (b : List ℕ) (r most : ℕ) (first : Row) (below : List Row) → AreWell b r most (first ∷ below) → Every (LeadsWell b (first ∷ below)) below
+below_leads b r most first below w = every_split (LeadsWell b (first ∷ below)) [] below (λ before x after s.
+    let p = listed_place b r first below before x after (heads_itself b r) refl s in
+    (w.named p.0 x after p.1).leads)
+
+root_named : (b : List ℕ) (r most : ℕ) (first : Row) (below : List Row) → AreWell b r most (first ∷ below) → first.offset ≡ r → heads_itself b r ≡ true → name_of b r ≡ dot
+unfolding listed_rows
+root_named b r most first below w e heads = subst (λ (p : ℕ). name_of b p ≡ dot) e ((w.named [] first below (rw heads refl)).root e)
+
+-- a forest whose rows are well makes a tree
+pub tree_of_well : (b : List ℕ) (r most deepest : ℕ) (f : Forest) → r ≢ 0 → IsForest (references b r) (LeadsToSound b r) most f → AreWell b r (min deepest 64) (all_rows (references b r) f) → IsTree b r most deepest f
+tree_of_well b r most deepest none live h w = absurd (live (sym (top_offset b r) ∙ offset_none (offset_of b r (references b r).top) h.stands))
+tree_of_well b r most deepest (at p own after) live h w =
+    let f : Forest = at p own after in
+    let all : List Row = all_rows (references b r) f in
+    let first : Row = record { offset = p; reference = (references b r).top; directory = p; parent = p; depth = 0 } in
+    let is : p ≡ r = (offset_some (offset_of b r (references b r).top) p h.stands.0).1 ∙ top_offset b r in
+    let below : List Row = drop 1 all in
+    record {
+      forest = h;
+      shallow = tree_within b r (min deepest 64) f (every_split (IsWithin b (min deepest 64)) (first ∷ []) below (λ before x after s. w.shallow before x after s));
+      apart = w.apart;
+      names = pairs_to (NamesDiffer b) (listed_rows b r all) (pairs_split (NamesDiffer b) [] (listed_rows b r all) tt (λ before x after s. fresh_differs b before x (w.named before x after s).fresh));
+      leads = All-from_recursion (LeadsWell b all) below (below_leads b r (min deepest 64) first below w);
+      leaf = root_named b r (min deepest 64) first below w is;
+    }

@@ -1,0 +1,12 @@
+pub mod Zeros
+pub mod Fields
+pub mod Calls
+pub mod Walk
+pub mod Steps
+pub mod Sweeps
+pub mod Naming
+pub mod Composed
+pub mod Refused
+pub mod Trees
+pub mod Exact
+pub mod Least

@@ -1,0 +1,94 @@
+-- The faults of a name, and what a row without them says.
+use Rattle.std.proofs.Common.{◌≡◌, ◌≢◌, ℕ, ◌+◌, ◌<◌, true, false, List, [], ◌∷◌, ◌++◌, length, length-append, Option, None, Some, ◌⊎◌, inl, inr, refl, sym, ap, subst, ◌∙◌, arith, take, get_or}
+use Rattle.std.proofs.lemmas.List.{take_more, get_or_append_left, get_or_at}
+use Rattle.std.proofs.lemmas.Bool.{false≢true, cases_lt}
+use Rattle.std.specs.List.{Any}
+use Rattle.record_walk.specs.declared.reference.Row.{Row}
+use Rattle.record_walk.specs.Faults.{IsLeast}
+use Rattle.romfs_format.specs.Record.{name_of, type_of}
+use Rattle.romfs_format.specs.Tree.{dot, dot_dot, is_dot, follow}
+use Rattle.romfs_image.specs.Phases.{Repeats, HasNameFault, repeated, here_astray, above_astray, root_renamed, link_astray, IsWellNamed}
+
+-- each number of such a fault is at least 23, and 24 where the name is not repeated
+module _ {b : List ℕ} {r : ℕ} {all before : List Row} {x : Row} where
+  pub least_repeated : Repeats b before x → IsLeast (HasNameFault b r all before x) 23
+  least_repeated h = record {
+    here = repeated refl h;
+    least = λ n f. elim f [
+      | repeated e k ↦ omega arith
+      | here_astray e k l ↦ omega arith
+      | above_astray e k l ↦ omega arith
+      | root_renamed e k l ↦ omega arith
+      | link_astray e k l m ↦ omega arith
+    ];
+  }
+
+  pub least_astray : (Repeats b before x → ⊥) → HasNameFault b r all before x 24 → IsLeast (HasNameFault b r all before x) 24
+  least_astray fresh h = record {
+    here = h;
+    least = λ n f. elim f [
+      | repeated e k ↦ absurd (fresh k)
+      | here_astray e k l ↦ omega arith
+      | above_astray e k l ↦ omega arith
+      | root_renamed e k l ↦ omega arith
+      | link_astray e k l m ↦ omega arith
+    ];
+  }
+
+  pub least_link : (Repeats b before x → ⊥) → (name_of b x.offset ≡ dot → follow b all 8 x.offset ≡ Some x.directory) → (name_of b x.offset ≡ dot_dot → follow b all 8 x.offset ≡ Some x.parent)
+      → (x.offset ≡ r → name_of b x.offset ≡ dot) → HasNameFault b r all before x 25 → IsLeast (HasNameFault b r all before x) 25
+  least_link fresh here above root h = record {
+    here = h;
+    least = λ n f. elim f [
+      | repeated e k ↦ absurd (fresh k)
+      | here_astray e k l ↦ absurd (l (here k))
+      | above_astray e k l ↦ absurd (l (above k))
+      | root_renamed e k l ↦ absurd (l (root k))
+      | link_astray e k l m ↦ omega arith
+    ];
+  }
+
+  pub well_faultless : IsWellNamed b r all before x → (n : ℕ) → HasNameFault b r all before x n → ⊥
+  well_faultless w n f = elim f [
+    | repeated e k ↦ w.fresh k
+    | here_astray e k l ↦ l (w.leads.here k)
+    | above_astray e k l ↦ l (w.leads.above k)
+    | root_renamed e k l ↦ l (w.root k)
+    | link_astray e k l m ↦ let q = w.leads.link k l in m q.0 q.1 q.2
+  ]
+
+-- `.` is one of the two, and not the other
+pub dot_is : is_dot dot ≡ true
+dot_is = refl
+
+pub dot_apart : (name : List ℕ) → name ≡ dot → name ≡ dot_dot → ⊥
+dot_apart name e f = let z = ap length (sym e ∙ f) in absurd (omega arith)
+
+pub dot_not : (name : List ℕ) → is_dot name ≡ false → name ≡ dot → ⊥
+dot_not name e f = false≢true (sym e ∙ ap is_dot f ∙ refl)
+
+-- a name that is repeated among the rows up to an index
+any_split : (P : Row → Type 0) (xs : List Row) (x : Row) → Any P (xs ++ x ∷ []) → Any P xs ⊎ P x
+any_split P xs x a =
+    let most : a.0 < length xs + 1 = (let l = a.2 in let m = length-append xs (x ∷ []) in omega arith) in
+    elim (cases_lt a.0 (length xs)) [
+      | inl l ↦ inl (a.0, a.1, l, sym (get_or_append_left xs (x ∷ []) a.1 a.0 l) ∙ a.3, a.4)
+      | inr g ↦
+          let e : a.0 ≡ length xs = omega arith in
+          let is : x ≡ a.1 = sym (get_or_at xs x [] a.1 a.0 (sym e)) ∙ a.3 in
+          inr (subst P (sym is) a.4)
+    ]
+
+pub repeats_more : (b : List ℕ) (xs : List Row) (i : ℕ) (d x : Row) → i < length xs → (Repeats b (take i xs) x → ⊥) → (((get_or xs i d).directory ≡ x.directory) × (name_of b (get_or xs i d).offset ≡ name_of b x.offset) → ⊥)
+    → Repeats b (take (i + 1) xs) x → ⊥
+repeats_more b xs i d x l none other h =
+    let P : Row → Type 0 = λ y. (y.directory ≡ x.directory) × (name_of b y.offset ≡ name_of b x.offset) in
+    let k : Any P (take i xs ++ get_or xs i d ∷ []) = subst (λ (v : List Row). Any P v) (take_more xs i d l) h in
+    elim (any_split P (take i xs) (get_or xs i d) k) [ inl z ↦ none z | inr z ↦ other z ]
+
+-- where following a record leads to no record, or to a directory
+pub no_target : (b : List ℕ) (o : Option ℕ) → o ≡ None → (q : ℕ) → o ≡ Some q → type_of b q ≢ 1 → ⊥
+no_target b o e q f n = let z : None ≡ Some q = sym e ∙ f in absurd (cc)
+
+pub directory_target : (b : List ℕ) (o : Option ℕ) (p : ℕ) → o ≡ Some p → type_of b p ≡ 1 → (q : ℕ) → o ≡ Some q → type_of b q ≢ 1 → ⊥
+directory_target b o p e t q f n = let z : Some p ≡ Some q = sym e ∙ f in let i : p ≡ q = cc in n (subst (λ (v : ℕ). type_of b v ≡ 1) i t)

@@ -1,0 +1,6 @@
+use Rattle.std.proofs.Common.{take}
+use Rattle.romfs_image.specs.Phases.{IsLeastRowFault, IsTooDeep, IsShallow}
+use Rattle.romfs_image.proofs.depth.least_too_deep.Given as goal
+
+abbrev pub invariant-rows : goal.invariant-rows
+invariant-rows l = IsLeastRowFault (IsShallow l.b l.most) (IsTooDeep l.b l.most) (take l.row-index l.rows) l.noted

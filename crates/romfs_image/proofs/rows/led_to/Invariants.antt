@@ -1,0 +1,10 @@
+use Rattle.std.proofs.Common.{◌≡◌, ◌-◌}
+use Rattle.romfs_format.specs.Record.{IsSound}
+use Rattle.romfs_format.specs.Tree.{follow}
+use Rattle.romfs_image.proofs.rows.led_to.Given as goal
+
+abbrev pub invariant-links : goal.invariant-links
+invariant-links l = record {
+  same : follow l.b l.rows (8 - l.i) l.p ≡ follow l.b l.rows 8 l.at;
+  sound : IsSound l.b l.root l.p;
+}

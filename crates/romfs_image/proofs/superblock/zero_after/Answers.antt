@@ -1,0 +1,5 @@
+use Rattle.romfs_image.proofs.Zeros.{ended}
+use Rattle.romfs_image.proofs.superblock.zero_after.Goals as goal
+
+pub returns : goal.returns
+returns c = ended c.args.b.now c.args.at c.memchr-found.result c.requires c.memchr-found.ensures

@@ -1,0 +1,4 @@
+pub mod Romfs
+pub mod Phases
+pub mod Checked
+pub mod Reported

@@ -1,0 +1,67 @@
+-- What the later phases of the check look for among the records of a forest.
+use Rattle.std.specs.Prelude.{◌≡◌, ◌≢◌, ℕ, ◌<◌, ◌≤◌, false, List, ◌∷◌, ◌++◌, Option, None, Some, IfSome, IsSomeAnd, nat_le, if◌then◌else◌}
+use Rattle.std.specs.List.{Any}
+use Rattle.record_walk.specs.declared.reference.Fault.{Fault}
+use Rattle.record_walk.specs.declared.reference.Row.{Row}
+use Rattle.record_walk.specs.Faults.{IsLeast}
+use Rattle.romfs_format.specs.Record.{name_of, type_of}
+use Rattle.rom_fields.specs.Extents.{OverlapsAt, IsLeastOf}
+use Rattle.romfs_format.specs.Tree.{dot, dot_dot, is_dot, follow, LeadsWell, extents_of, listed_rows}
+
+-- a fault stands at a row, which has no fault of a lesser number; P has the rows before a row, the row and a number
+pub record StandsAtRow (P : List Row → Row → ℕ → Type 0) (xs : List Row) (e : Fault) : Type 0 where
+  pub before : List Row
+  pub row : Row
+  pub after : List Row
+  pub among : xs ≡ before ++ row ∷ after
+  pub at : e.at ≡ row.offset
+  pub number : IsLeast (P before row) e.number
+
+-- The fault at the least offset of those of the rows, or none where each row is well (C).
+pub record IsLeastRowFault (C : List Row → Row → Type 0) (P : List Row → Row → ℕ → Type 0) (xs : List Row) (o : Option Fault) : Type 0 where
+  pub clean : o ≡ None → (before : List Row) (x : Row) (after : List Row) → xs ≡ before ++ x ∷ after → C before x
+  pub noted : IfSome o (StandsAtRow P xs)
+  pub least : (before : List Row) (x : Row) (after : List Row) (n : ℕ) → xs ≡ before ++ x ∷ after → P before x n → IsSomeAnd o (λ e. e.at ≤ x.offset)
+
+-- 21 TooDeep: an entry deeper than the limit
+abbrev pub IsTooDeep : List ℕ → ℕ → List Row → Row → ℕ → Type 0
+IsTooDeep b most before x n = (n ≡ 21) × (is_dot (name_of b x.offset) ≡ false) × (most < x.depth)
+
+abbrev pub IsShallow : List ℕ → ℕ → List Row → Row → Type 0
+IsShallow b most before x = is_dot (name_of b x.offset) ≡ false → x.depth ≤ most
+
+-- an earlier row of the same list has the same name
+abbrev pub Repeats : List ℕ → List Row → Row → Type 0
+Repeats b before x = Any (λ (y : Row). (y.directory ≡ x.directory) × (name_of b y.offset ≡ name_of b x.offset)) before
+
+-- 23 DupName, 24 Dot, 25 HardLink
+pub data HasNameFault (b : List ℕ) (r : ℕ) (all before : List Row) (x : Row) : ℕ → Type 0 where
+  repeated : {n : ℕ} → n ≡ 23 → Repeats b before x → HasNameFault b r all before x n
+  here_astray : {n : ℕ} → n ≡ 24 → name_of b x.offset ≡ dot → follow b all 8 x.offset ≢ Some x.directory → HasNameFault b r all before x n
+  above_astray : {n : ℕ} → n ≡ 24 → name_of b x.offset ≡ dot_dot → follow b all 8 x.offset ≢ Some x.parent → HasNameFault b r all before x n
+  root_renamed : {n : ℕ} → n ≡ 24 → x.offset ≡ r → name_of b x.offset ≢ dot → HasNameFault b r all before x n
+  link_astray : {n : ℕ} → n ≡ 25 → is_dot (name_of b x.offset) ≡ false → type_of b x.offset ≡ 0
+      → ((q : ℕ) → follow b all 8 x.offset ≡ Some q → type_of b q ≢ 1 → ⊥) → HasNameFault b r all before x n
+
+pub record IsWellNamed (b : List ℕ) (r : ℕ) (all before : List Row) (x : Row) : Type 0 where
+  pub fresh : Repeats b before x → ⊥
+  pub leads : LeadsWell b all x
+  pub root : x.offset ≡ r → name_of b x.offset ≡ dot
+
+-- the one of the lesser offset; the noted one where both stand at one
+abbrev pub lesser_of : Option Fault → Fault → Option Fault
+lesser_of None e = Some e
+lesser_of (Some d) e = Some (if nat_le d.at e.at then d else e)
+
+-- no entry too deep, no overlap, and each name in its place
+pub record AreWell (b : List ℕ) (r most : ℕ) (all : List Row) : Type 0 where
+  pub shallow : (before : List Row) (x : Row) (after : List Row) → all ≡ before ++ x ∷ after → IsShallow b most before x
+  pub apart : (p : ℕ) → OverlapsAt (extents_of b r all) p → ⊥
+  pub named : (before : List Row) (x : Row) (after : List Row) → listed_rows b r all ≡ before ++ x ∷ after → IsWellNamed b r all before x
+
+-- the least fault of the first of these phases that has one
+pub data IsLaterFault (b : List ℕ) (r most : ℕ) (all : List Row) (e : Fault) : Type 0 where
+  deep : IsLeastRowFault (IsShallow b most) (IsTooDeep b most) all (Some e) → IsLaterFault b r most all e
+  overlap : IsLeastRowFault (IsShallow b most) (IsTooDeep b most) all None → {p : ℕ} → IsLeastOf (OverlapsAt (extents_of b r all)) (Some p) → e ≡ record { number = 22; at = p } → IsLaterFault b r most all e
+  name : IsLeastRowFault (IsShallow b most) (IsTooDeep b most) all None → IsLeastOf (OverlapsAt (extents_of b r all)) None
+      → IsLeastRowFault (IsWellNamed b r all) (HasNameFault b r all) (listed_rows b r all) (Some e) → IsLaterFault b r most all e

@@ -1,0 +1,22 @@
+-- What a checked romfs image is to the layers above.
+use Rattle.std.proofs.Common.{◌≡◌, ℕ, ◌≤◌, List, length, Some, refl}
+use Rattle.rom_tree.specs.Image.{Image}
+use Rattle.romfs_format.specs.Made.{made, cursor_of, IsRomfs}
+use Rattle.romfs_format.proofs.Trees.{coherent}
+use Rattle.romfs_format.proofs.Contents.{made_links, made_placed}
+
+pub starts_at : (b : List ℕ) (r k d : ℕ) → cursor_of b r k d 0 ≡ Some 0
+unfolding cursor_of
+starts_at b r k d = refl
+
+-- All bytes of the image, and the tree that the accessible ones, b, give: the root is at r, and there are k records.
+abbrev pub romfs_view : (bytes b : List ℕ) (r k : ℕ) → IsRomfs b r k → length b ≤ length bytes → Image
+romfs_view bytes b r k s within = record {
+  bytes = bytes;
+  tree = made b r k r;
+  cursor_index = cursor_of b r k;
+  coherent = coherent s;
+  starts = starts_at b r k;
+  links = made_links s;
+  placed = made_placed bytes s within;
+}

@@ -1,0 +1,64 @@
+//! The phase that looks for entries below the limit on depth.
+ghost use Rattle.std.specs.Prelude.{◌≡◌, ◌+◌, ◌≤◌, ◌<◌, ◌⊎◌, not, false};
+ghost use Rattle.std.specs.Bool.{OnTrue, OnFalse};
+ghost use Rattle.std.specs.List.{All, Any};
+ghost use Rattle.romfs_format.specs.Record.{name_of, IsSound};
+ghost use Rattle.romfs_format.specs.Tree.{is_dot};
+ghost use Rattle.romfs_image.specs.Phases.{IsLeastRowFault, IsTooDeep, IsShallow};
+
+use crate::record::{is_dots, name_at};
+use crate::rows::lesser;
+use record_walk::reference::{Fault, Row};
+
+const TOO_DEEP: u32 = 21;
+
+/// Whether a row is an entry, and not `.` or `..`.
+fn is_entry(b: &[u8], root: u32, row: Row) -> bool
+    requires { IsSound b.now root row.offset }
+    ensures { result ≡ not (is_dot (name_of b.now row.offset)) }
+{
+    !is_dots(name_at(b, root, row.offset))
+}
+
+/// Whether a row is an entry deeper than `most`.
+fn is_too_deep(b: &[u8], root: u32, row: Row, most: u32) -> bool
+    requires { IsSound b.now root row.offset }
+    ensures entry { OnTrue result (is_dot (name_of b.now row.offset) ≡ false) }
+    ensures deep { OnTrue result (most < row.depth) }
+    ensures shallow { OnFalse result (is_dot (name_of b.now row.offset) ≡ false → row.depth ≤ most) }
+{
+    row.depth > most && is_entry(b, root, row)
+}
+
+/// The least fault of an entry deeper than `most`.
+pub fn least_too_deep(b: &[u8], root: u32, rows: &[Row], most: u32) -> Option<Fault>
+    requires { All (λ x. IsSound b.now root x.offset) rows.now }
+    ensures { IsLeastRowFault (IsShallow b.now most) (IsTooDeep b.now most) rows.now result }
+{
+    let mut noted: Option<Fault> = None;
+    'rows: for row in rows {
+        if is_too_deep(b, root, *row, most) {
+            let fault = Fault {
+                number: TOO_DEEP,
+                at: row.offset,
+            };
+            noted = lesser(noted, fault);
+        }
+    }
+    noted
+}
+
+/// The greatest depth of an entry, 0 where there is none.
+pub fn greatest_depth(b: &[u8], root: u32, rows: &[Row]) -> u32
+    requires { All (λ x. IsSound b.now root x.offset) rows.now }
+    ensures bound { All (λ x. is_dot (name_of b.now x.offset) ≡ false → x.depth ≤ result) rows.now }
+    ensures reached { (result ≡ 0) ⊎ Any (λ x. (is_dot (name_of b.now x.offset) ≡ false) × (x.depth ≡ result)) rows.now }
+{
+    let mut deepest: u32 = 0;
+    'rows: for row in rows {
+        if is_too_deep(b, root, *row, deepest) {
+            deepest = row.depth;
+        }
+    }
+    deepest
+}

@@ -1,0 +1,22 @@
+//! Checked romfs images.
+//!
+//! `Romfs::check` takes the bytes of an image (Linux Documentation/filesystems/romfs.rst) and gives
+//! an image value, or the least fault. Proved: it gives a value only where the bytes hold a tree of
+//! files, as `romfs_format` defines it, and have no fault; it gives a fault only where they hold
+//! none, and that fault is the least one; and each call on the value answers from the tree
+//! (`rom_tree::image::TreeImage`). Contents are never copied.
+#![tactic(auto)]
+
+mod check;
+mod depth;
+mod header;
+pub mod image;
+mod later;
+mod names;
+mod overlap;
+mod reader;
+mod record;
+mod rows;
+mod superblock;
+#[cfg(test)]
+mod tests;

@@ -1,0 +1,106 @@
+//! The superblock of an image: which bytes are accessible, and where the root is.
+ghost use Rattle.std.specs.Prelude.{◌≡◌, ◌≤◌, ◌<◌, ◌+◌, ◌^◌, length, IfOk, IfErr, IsTrue, ◌↔◌, take, min, drop, SomeIff, IfSome, option_copied};
+ghost use Rattle.rom_fields.specs.Words.{words_sum};
+ghost use Rattle.romfs_format.specs.Record.{type_of, before_zero};
+ghost use Rattle.romfs_format.specs.Tree.{magic, full_size, root_of, IsSuperblock};
+ghost use Rattle.romfs_format.specs.Superblock.{accessible, HasSize, HasSum, HasRoot, HasImageFault};
+
+use crate::header::type_at;
+use crate::record::word;
+use memchr::memchr;
+use record_walk::reference::Fault;
+use rom_fields::word::word_sum;
+
+/// `-rom1fs-`, with which an image begins.
+const MAGIC: [u8; 8] = [45, 114, 111, 109, 49, 102, 115, 45];
+
+/// The accessible bytes, and the root's offset among them.
+#[derive(Clone, Copy)]
+pub struct Superblock<'a> {
+    pub bytes: &'a [u8],
+    pub root: u32,
+}
+
+/// Whether the bytes begin with the magic.
+fn has_magic(bytes: &[u8]) -> bool
+    requires { 32 ≤ length bytes.now }
+    ensures { IsTrue result ↔ (take 8 bytes.now ≡ magic) }
+{
+    &bytes[..8] == MAGIC.as_slice()
+}
+
+/// The accessible bytes, where the size is one that the image can have.
+fn accessible_bytes<'a>(bytes: &'a [u8]) -> Option<&'a [u8]>
+    requires { 32 ≤ length bytes.now }
+    ensures part { SomeIff (option_copied result) (HasSize bytes.now) (accessible bytes.now) }
+    ensures small { IfSome result (λ b. length b.now < 2 ^ 32) }
+{
+    let size = word(bytes, 8) as usize;
+    if size < 32 || bytes.len() < size {
+        return None;
+    }
+    Some(&bytes[..size])
+}
+
+/// Whether the words of the first 512 bytes sum to 0.
+fn has_sum(b: &[u8]) -> bool
+    ensures { IsTrue result ↔ HasSum b.now }
+{
+    word_sum(&b[..b.len().min(512)]) == 0
+}
+
+/// How many bytes stand from `at` before the first zero, where there is a zero.
+fn zero_after(b: &[u8], at: usize) -> Option<usize>
+    requires { at ≤ length b.now }
+    ensures { SomeIff result (at + length (before_zero (drop at b.now)) < length b.now) (length (before_zero (drop at b.now))) }
+{
+    let found = memchr(0, &b[at..]);
+    found
+}
+
+/// The root's offset, where a zero ends the volume name and a header lies behind it.
+fn root_offset(b: &[u8]) -> Option<u32>
+    requires long { 32 ≤ length b.now }
+    requires small { length b.now < 2 ^ 32 }
+    ensures { SomeIff result (HasRoot b.now) (root_of b.now) }
+{
+    let Some(len) = zero_after(b, 16) else {
+        return None;
+    };
+    let root = 16 + (len + 1 + 15) / 16 * 16;
+    if b.len() < root + 32 {
+        return None;
+    }
+    Some(root as u32)
+}
+
+/// What the superblock says, or the first fault of the image as a whole: 2 Short, 3 Magic, 4 Size,
+/// 5 Sum, 9 Root.
+pub fn read_superblock<'a>(bytes: &'a [u8]) -> Result<Superblock<'a>, Fault>
+    ensures ok { IfOk result (λ s. IsSuperblock bytes.now s.bytes.now s.root) }
+    ensures small { IfOk result (λ s. length s.bytes.now < 2 ^ 32) }
+    ensures fault { IfErr result (HasImageFault bytes.now) }
+{
+    if bytes.len() < 32 {
+        return Err(Fault { number: 2, at: 0 });
+    }
+    if !has_magic(bytes) {
+        return Err(Fault { number: 3, at: 0 });
+    }
+    let Some(b) = accessible_bytes(bytes) else {
+        return Err(Fault { number: 4, at: 8 });
+    };
+    if !has_sum(b) {
+        return Err(Fault { number: 5, at: 12 });
+    }
+    let Some(root) = root_offset(b) else {
+        return Err(Fault { number: 9, at: 16 });
+    };
+    if type_at(b, root as usize) != 1 {
+        return Err(Fault {
+            number: 9,
+            at: root,
+        });
+    }
+    Ok(Superblock { bytes: b, root })
+}

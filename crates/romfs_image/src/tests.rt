@@ -1,0 +1,142 @@
+use crate::image::Romfs;
+use rom_fields::word::{part, put_be32};
+use rom_tree::types::{CheckError, Limits, Report};
+use std::alloc::Global;
+use std::test::Fail;
+
+/// Writes the four words of a header, and its name.
+fn header(b: &mut [u8; 288], at: usize, words: [u32; 4], name: &[u8]) {
+    let _ = put_be32(b, at, words[0]);
+    let _ = put_be32(b, at.saturating_add(4), words[1]);
+    let _ = put_be32(b, at.saturating_add(8), words[2]);
+    let _ = put_be32(b, at.saturating_add(12), words[3]);
+    put_bytes(b, at.saturating_add(16), name);
+}
+
+/// Writes bytes, as many as there is room for.
+fn put_bytes(b: &mut [u8; 288], at: usize, bytes: &[u8]) {
+    for (i, byte) in bytes.iter().enumerate() {
+        if let Some(place) = at.checked_add(i) {
+            if place < 288 {
+                b[place] = *byte;
+            }
+        }
+    }
+}
+
+/// An image of an empty volume name, with its root's header and `..`.
+fn image(size: u32, sum: u32, dots: [u32; 4]) -> [u8; 288] {
+    let mut b = [0; 288];
+    put_bytes(&mut b, 0, b"-rom1fs-");
+    let _ = put_be32(&mut b, 8, size);
+    let _ = put_be32(&mut b, 12, sum);
+    header(&mut b, 32, [0x49, 0x20, 0, 0xd1ff_ff97], b".");
+    header(&mut b, 64, dots, b"..");
+    b
+}
+
+/// A file `a` that holds `hello`.
+fn hello() -> [u8; 288] {
+    let mut b = image(0x90, 0xc9c1_b06a, [0x60, 0x20, 0, 0xd1d1_ff80]);
+    header(&mut b, 96, [2, 0, 5, 0x9eff_fff9], b"a");
+    put_bytes(&mut b, 128, b"hello");
+    b
+}
+
+/// A directory `d` whose list begins at `spec`.
+fn subdirectory(spec: u32, sum: u32) -> [u8; 288] {
+    let mut b = image(0x80, 0xa127_1ce6, [0x60, 0x20, 0, 0xd1d1_ff80]);
+    header(&mut b, 96, [9, spec, 0, sum], b"d");
+    b
+}
+
+/// A file `a`, and a hard link `b`.
+fn hard_link(spec: u32, sum: u32) -> [u8; 288] {
+    let mut b = image(0xb0, 0xc9c1_b04a, [0x60, 0x20, 0, 0xd1d1_ff80]);
+    header(&mut b, 96, [0x92, 0, 5, 0x9eff_ff69], b"a");
+    put_bytes(&mut b, 128, b"hello");
+    header(&mut b, 144, [0, spec, 0, sum], b"b");
+    b
+}
+
+/// The answer of a check: the report, or the fault's number and place.
+fn answer(alloc: Global, b: &[u8], limits: Limits) -> Result<Report, CheckError> {
+    let image = Romfs::check(alloc, b, limits)?;
+    Ok(image.report())
+}
+
+fn counts(references: u32, depth: u32) -> Result<Report, CheckError> {
+    Ok(Report { references, depth })
+}
+
+fn fault(number: u32, at: u32) -> Result<Report, CheckError> {
+    Err(CheckError::Fault { number, at })
+}
+
+#[test]
+fn accepted(rt: HostRuntime) -> Result<(), Fail> {
+    let usual = Limits::usual();
+    assert_eq!(rt; answer(rt.alloc(), &hello(), usual), counts(3, 1));
+    assert_eq!(rt;
+        answer(rt.alloc(), &subdirectory(0, 0x9bff_fff7), usual),
+        counts(3, 1)
+    );
+    assert_eq!(rt;
+        answer(rt.alloc(), &hard_link(0x60, 0x9dff_ffa0), usual),
+        counts(4, 1)
+    );
+    assert_eq!(rt;
+        answer(rt.alloc(), &hard_link(0x6c, 0x9dff_ff94), usual),
+        counts(4, 1)
+    );
+    Ok(())
+}
+
+#[test]
+fn refused(rt: HostRuntime) -> Result<(), Fail> {
+    let usual = Limits::usual();
+    assert_eq!(rt; answer(rt.alloc(), &[], usual), fault(2, 0));
+    assert_eq!(rt; answer(rt.alloc(), &[0; 64], usual), fault(3, 0));
+    let cut = hello();
+    assert_eq!(rt;
+        answer(rt.alloc(), part(&cut, 0, 143).ok_or("lies within")?, usual),
+        fault(4, 8)
+    );
+    assert_eq!(rt;
+        answer(rt.alloc(), &subdirectory(0x20, 0x9bff_ffd7), usual),
+        fault(20, 32)
+    );
+    assert_eq!(rt;
+        answer(rt.alloc(), &subdirectory(0x40, 0x9bff_ffb7), usual),
+        fault(20, 64)
+    );
+    assert_eq!(rt;
+        answer(rt.alloc(), &subdirectory(0x60, 0x9bff_ff97), usual),
+        fault(20, 96)
+    );
+    assert_eq!(rt;
+        answer(rt.alloc(), &hard_link(0x20, 0x9dff_ffe0), usual),
+        fault(25, 144)
+    );
+    assert_eq!(rt;
+        answer(rt.alloc(), &hard_link(0x90, 0x9dff_ff70), usual),
+        fault(25, 144)
+    );
+    Ok(())
+}
+
+#[test]
+fn limits(rt: HostRuntime) -> Result<(), Fail> {
+    let few = |references| Limits {
+        references,
+        depth: 64,
+    };
+    assert_eq!(rt; answer(rt.alloc(), &hello(), few(2)), fault(1, 0));
+    assert_eq!(rt; answer(rt.alloc(), &hello(), few(3)), counts(3, 1));
+    let flat = Limits {
+        references: 3,
+        depth: 0,
+    };
+    assert_eq!(rt; answer(rt.alloc(), &hello(), flat), fault(21, 96));
+    Ok(())
+}

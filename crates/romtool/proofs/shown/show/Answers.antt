@@ -1,0 +1,43 @@
+use Rattle.std.proofs.Common.{◌≡◌, ℕ, inl, inr}
+use Rattle.rom_tree.specs.Image.{Image}
+use Rattle.romfs_image.specs.Romfs.{romfs_view}
+use Rattle.romfs_image.specs.Reported.{report_of}
+use Rattle.romtool.specs.Answers.{sound_text, fault_line, usual_limits}
+use Rattle.romtool.proofs.Texts.{usual, sound, faulty}
+use Rattle.romtool.proofs.shown.show.Goals as goal
+
+pub returns-in-Ok-write_sound : goal.returns-in-Ok-write_sound
+returns-in-Ok-write_sound g c =
+    let s = c.in-Ok.image in
+    let m : Image = romfs_view s.all.now s.bytes.now s.root s.references s.sound s.within in
+    let e : c.usual.result ≡ usual_limits = usual c.usual.result c.usual.ensures.references c.usual.ensures.depth in
+    (sound_text c.args.listed m (report_of s), sound c.args.bytes.now c.args.listed c.usual.result m (report_of s) e c.in-Ok.ensures.ok c.in-Ok.ensures.clean, c.in-Ok-write_sound.ensures.text)
+
+pub returns-in-Err : goal.returns-in-Err
+returns-in-Err g c =
+    let s = c.in-Ok.image in
+    let m : Image = romfs_view s.all.now s.bytes.now s.root s.references s.sound s.within in
+    let e : c.usual.result ≡ usual_limits = usual c.usual.result c.usual.ensures.references c.usual.ensures.depth in (
+      sound_text c.args.listed m (report_of s),
+      inl (sound c.args.bytes.now c.args.listed c.usual.result m (report_of s) e c.in-Ok.ensures.ok c.in-Ok.ensures.clean),
+      c.in-Err.ensures.text,
+      c.in-Err.ensures.fault,
+    )
+
+pub returns-in-Ok-write_fault_line : goal.returns-in-Ok-write_fault_line
+returns-in-Ok-write_fault_line g c =
+    let n : ℕ = c.in-Err-Fault.number in
+    let at : ℕ = c.in-Err-Fault.at in
+    let e : c.usual.result ≡ usual_limits = usual c.usual.result c.usual.ensures.references c.usual.ensures.depth in
+    (fault_line n at, faulty c.args.bytes.now c.usual.result n at e (rw c.in-Err-Fault.field-0-is at c.in-Err-Fault.ensures.fault) (rw c.in-Err-Fault.field-0-is at c.in-Err-Fault.ensures.least), c.in-Ok-write_fault_line.ensures.text)
+
+pub returns-in-Err-write_fault_line : goal.returns-in-Err-write_fault_line
+returns-in-Err-write_fault_line g c =
+    let n : ℕ = c.in-Err-Fault.number in
+    let at : ℕ = c.in-Err-Fault.at in
+    let e : c.usual.result ≡ usual_limits = usual c.usual.result c.usual.ensures.references c.usual.ensures.depth in (
+      fault_line n at,
+      inr (faulty c.args.bytes.now c.usual.result n at e (rw c.in-Err-Fault.field-0-is at c.in-Err-Fault.ensures.fault) (rw c.in-Err-Fault.field-0-is at c.in-Err-Fault.ensures.least)),
+      c.in-Err-write_fault_line.ensures.text,
+      c.in-Err-write_fault_line.ensures.fault,
+    )

@@ -1,0 +1,15 @@
+use Rattle.rom_fields.proofs.Joins.{chain, said_ok, said_front, said_rose}
+use Rattle.romtool.specs.Answers.{ok_line}
+use Rattle.romtool.proofs.shown.write_ok_line.Goals as goal
+
+pub returns-then-failed-clause-text : goal.returns-then-failed-clause-text
+unfolding ok_line
+returns-then-failed-clause-text g c = said_front _ _ _ _ _ _ c.if-failed.true (chain c.put.ensures (chain c.put_decimal.ensures (chain c.put-2.ensures (chain c.put_decimal-2.ensures c.put-3.ensures))))
+
+pub returns-then-failed-clause-fault : goal.returns-then-failed-clause-fault
+unfolding ok_line
+returns-then-failed-clause-fault g c = said_rose _ _ _ _ _ _ c.if-failed.true (chain c.put.ensures (chain c.put_decimal.ensures (chain c.put-2.ensures (chain c.put_decimal-2.ensures c.put-3.ensures))))
+
+pub returns-else-failed-clause-text : goal.returns-else-failed-clause-text
+unfolding ok_line
+returns-else-failed-clause-text g c = said_ok _ _ _ _ _ _ c.if-failed.false (chain c.put.ensures (chain c.put_decimal.ensures (chain c.put-2.ensures (chain c.put_decimal-2.ensures c.put-3.ensures))))

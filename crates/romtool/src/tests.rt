@@ -1,0 +1,89 @@
+use crate::hello::hello;
+use crate::shown::shown;
+use rom_fields::bytes::Plain;
+use rom_fields::faulty::Faulty;
+use rom_fields::word::put_be32;
+use std::test::Fail;
+
+const LISTED: &[u8] = b"32 d 0755 0 0 0 0 0 /\n96 f 0644 0 0 5 0 0 /a\n";
+
+/// What is shown of some bytes, after the status.
+fn answer(rt: &HostRuntime, bytes: &[u8], list: bool) -> (u8, Vec<u8>) {
+    let mut w = Plain::new(Vec::new(rt.alloc()));
+    let status = shown(rt.alloc(), bytes, list, &mut w);
+    (status, w.into_inner())
+}
+
+#[test]
+fn shows_hello(rt: HostRuntime) -> Result<(), Fail> {
+    let (status, text) = answer(&rt, &hello(), false);
+    assert_eq!(rt; status, 0);
+    assert_eq!(rt; text.as_slice(), b"ok romfs 3 1\n".as_slice());
+    let (status, text) = answer(&rt, &hello(), true);
+    assert_eq!(rt; status, 0);
+    assert_eq!(rt; text.as_slice(), LISTED);
+    Ok(())
+}
+
+#[test]
+fn shows_faults(rt: HostRuntime) -> Result<(), Fail> {
+    let zeros = [0u8; 1024];
+    let mut subdirectory = [0u8; 128];
+    for (at, word) in [
+        (0, 0x2d72_6f6d),
+        (4, 0x3166_732d),
+        (8, 128),
+        (12, 0xa127_1ce6),
+        (32, 0x49),
+        (36, 32),
+        (44, 0xd1ff_ff97),
+        (48, 0x2e00_0000),
+        (64, 0x60),
+        (68, 32),
+        (76, 0xd1d1_ff80),
+        (80, 0x2e2e_0000),
+        (96, 9),
+        (100, 32),
+        (108, 0x9bff_ffd7),
+        (112, 0x6400_0000),
+    ] {
+        assert!(rt; put_be32(&mut subdirectory, at, word));
+    }
+    for list in [false, true] {
+        let (status, text) = answer(&rt, &subdirectory, list);
+        assert_eq!(rt; status, 1);
+        assert_eq!(rt; text.as_slice(), b"fault 20 Twice at 32\n".as_slice());
+        let (status, text) = answer(&rt, &zeros, list);
+        assert_eq!(rt; status, 1);
+        assert_eq!(rt; text.as_slice(), b"fault 3 Magic at 0\n".as_slice());
+        let (status, text) = answer(&rt, &[], list);
+        assert_eq!(rt; status, 1);
+        assert_eq!(rt; text.as_slice(), b"fault 2 Short at 0\n".as_slice());
+    }
+    Ok(())
+}
+
+#[test]
+fn writes_byte_by_byte(rt: HostRuntime) -> Result<(), Fail> {
+    let mut w = Faulty::new(Plain::new(Vec::new(rt.alloc())), u64::MAX, 1);
+    assert_eq!(rt; shown(rt.alloc(), &hello(), true, &mut w), 0);
+    let held: Vec<u8> = w.into_inner().into_inner();
+    assert_eq!(rt; held.as_slice(), LISTED);
+    Ok(())
+}
+
+#[test]
+fn a_failed_write_ends_it(rt: HostRuntime) -> Result<(), Fail> {
+    let image = hello();
+    for calls in 0..LISTED.len() {
+        let mut w = Faulty::new(Plain::new(Vec::new(rt.alloc())), calls as u64, 1);
+        assert_eq!(rt; shown(rt.alloc(), &image, true, &mut w), 3, "at {calls}");
+        let held: Vec<u8> = w.into_inner().into_inner();
+        assert_eq!(rt; held.as_slice(), &LISTED[..calls], "at {calls}");
+    }
+    let mut w = Faulty::new(Plain::new(Vec::new(rt.alloc())), 2, 4);
+    assert_eq!(rt; shown(rt.alloc(), &image[..8], false, &mut w), 3);
+    let held: Vec<u8> = w.into_inner().into_inner();
+    assert_eq!(rt; held.as_slice(), b"fault ".as_slice());
+    Ok(())
+}

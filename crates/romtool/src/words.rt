@@ -1,0 +1,73 @@
+//! The words of the command line.
+ghost use Rattle.std.specs.Prelude.{◌≡◌, ◌≢◌, ◌≤◌, ◌↔◌, length, IfSome};
+ghost use Rattle.romtool.specs.declared.words.Request.TheVariants.{Example};
+
+use clap::error::ErrorKind;
+use clap::{Arg, ArgMatches, Command};
+use std::alloc::{AllocError, Global};
+
+/// What the words ask for.
+#[derive(Debug, Clone, Copy, PartialEq, Eq)]
+pub enum Request<'a> {
+    /// To check and list the example image.
+    Example,
+    /// To check the image in this file.
+    Check(&'a str),
+    /// To list the image in this file.
+    List(&'a str),
+}
+
+/// Why words ask for nothing.
+#[derive(Debug, Clone, Copy, PartialEq, Eq)]
+pub enum WordsError {
+    /// Memory was refused.
+    OutOfMemory,
+    /// They are no words of this program.
+    Other,
+}
+
+impl From<AllocError> for WordsError {
+    fn from(_error: AllocError) -> WordsError {
+        WordsError::OutOfMemory
+    }
+}
+
+/// A subcommand with an image.
+fn with_image<'a>(alloc: Global, name: &'a str) -> Result<Command<'a>, AllocError> {
+    Command::new(alloc, name).arg(Arg::new(alloc, "image").required(true))
+}
+
+fn command<'a>(alloc: Global) -> Result<Command<'a>, AllocError> {
+    Command::new(alloc, "romtool")
+        .subcommand(with_image(alloc, "check")?)?
+        .subcommand(with_image(alloc, "list")?)
+}
+
+/// What was asked for with a subcommand.
+fn chosen<'a>(matches: &ArgMatches<'a>) -> Option<Request<'a>>
+    ensures { IfSome result (λ r. r ≢ Example) }
+{
+    let (name, values) = matches.subcommand()?;
+    match name {
+        "check" => Some(Request::Check(values.get_str("image")?)),
+        "list" => Some(Request::List(values.get_str("image")?)),
+        _ => None,
+    }
+}
+
+/// Reads the words of a command line, the program's name first. Requests for help are no words of
+/// this program.
+pub fn read<'a>(alloc: Global, words: &'a [String]) -> Result<Request<'a>, WordsError>
+    ensures { (result ≡ Ok Example) ↔ (length words.now ≤ 1) }
+{
+    if words.len() <= 1 {
+        return Ok(Request::Example);
+    }
+    match command(alloc)?.try_get_matches_from(words) {
+        Ok(matches) => chosen(&matches).ok_or(WordsError::Other),
+        Err(e) => Err(match e.kind() {
+            ErrorKind::OutOfMemory => WordsError::OutOfMemory,
+            _ => WordsError::Other,
+        }),
+    }
+}
