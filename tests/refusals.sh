@@ -10,8 +10,8 @@
 # 32 KiB more each time, up to the first run that is whole; limits under which no program starts at
 # all are passed over. The last line is `N passed, M failed`.
 #
-# Run last with kit 13b: of the stored run's allocations the first LAST_HERE are refused with
-# `memory`, and the run is whole from there on.
+# Run with rattle-kit-13b up to the 17th allocation: the stored run has 14. Each that is refused ends it
+# with `memory`, but the 4th, without which it is whole all the same.
 set -u
 here=$(cd "$(dirname "$0")" && pwd)
 crate=$here/../crates/romtool

@@ -1,7 +1,8 @@
 -- Words of 32 bits in a list of bytes, their sum, and parts of the list.
--- romfs stores words with the highest byte first (Documentation/filesystems/romfs.rst).
+-- romfs stores words with the highest byte first (Documentation/filesystems/romfs.rst). A cramfs image is in the byte
+-- order of the machine that it is made for (Documentation/filesystems/cramfs.rst), on most the lowest byte first.
 use Rattle.std.specs.Prelude.{ℕ, ◌+◌, ◌%◌, ◌^◌, List, [], ◌∷◌, ◌++◌, take, drop}
-use Rattle.byteorder.specs.Endian.{big_number, big_bytes}
+use Rattle.byteorder.specs.Endian.{big_number, big_bytes, little_number, little_bytes}
 
 -- the word whose first byte is at p, the highest byte first
 unfoldable pub word_be : List ℕ → ℕ → ℕ
@@ -10,6 +11,14 @@ word_be b p = big_number 4 (drop p b)
 -- the bytes with the word at p set to v, its highest byte first, and all others as they were
 unfoldable pub with_word_be : List ℕ → ℕ → ℕ → List ℕ
 with_word_be b p v = take p b ++ (big_bytes 4 v ++ drop (p + 4) b)
+
+-- the word whose first byte is at p, the lowest byte first
+unfoldable pub word_le : List ℕ → ℕ → ℕ
+word_le b p = little_number 4 (drop p b)
+
+-- the bytes with the word at p set to v, its lowest byte first, and all others as they were
+unfoldable pub with_word_le : List ℕ → ℕ → ℕ → List ℕ
+with_word_le b p v = take p b ++ (little_bytes 4 v ++ drop (p + 4) b)
 
 -- the sum of the words from the front, as a whole number; a rest of fewer than four bytes is not counted
 abbrev pub words_total : List ℕ → ℕ

@@ -4,7 +4,7 @@ use crate::faulty::Faulty;
 use crate::sink::{put, write_whole};
 use crate::span::Extent;
 use crate::text::{put_decimal, put_escaped, put_octal};
-use crate::word::{be32, pad, part, put_be32, word_sum};
+use crate::word::{be32, le32, pad, part, put_be32, put_le32, word_sum};
 use std::test::Fail;
 
 #[test]
@@ -12,6 +12,8 @@ fn words(rt: HostRuntime) -> Result<(), Fail> {
     assert_eq!(rt; be32(&[0, 0, 1, 0], 0), Some(256));
     assert_eq!(rt; be32(&[0, 0, 1, 0], 1), None);
     assert_eq!(rt; be32(&[0, 0, 1, 0], usize::MAX), None);
+    assert_eq!(rt; le32(&[9, 0, 1, 0, 0], 1), Some(256));
+    assert_eq!(rt; le32(&[0, 1, 0, 0], 1), None);
     assert_eq!(rt; word_sum(&[0, 0, 0, 2, 255]), 2);
     assert_eq!(rt; word_sum(&[255, 255, 255, 255, 0, 0, 0, 3]), 2);
     assert_eq!(rt; pad(33, 16), 48);
@@ -26,6 +28,8 @@ fn words_that_are_put(rt: HostRuntime) -> Result<(), Fail> {
     assert_eq!(rt; five.as_slice(), [9, 9, 9, 9, 9].as_slice());
     assert!(rt; put_be32(&mut five, 1, 0x0102_0304));
     assert_eq!(rt; five.as_slice(), [9, 1, 2, 3, 4].as_slice());
+    assert!(rt; put_le32(&mut five, 0, 0x0506_0708));
+    assert_eq!(rt; five.as_slice(), [8, 7, 6, 5, 4].as_slice());
     Ok(())
 }
 

@@ -1,9 +1,9 @@
 //! Words of 32 bits in a slice of bytes, and parts of it.
 ghost use Rattle.std.specs.Prelude.{◌≡◌, ◌+◌, ◌*◌, ◌^◌, ◌<◌, ◌≤◌, ℕ, length, SomeIff, IsTrue, ◌↔◌, option_copied};
 ghost use Rattle.std.specs.Bool.{OnTrue, OnFalse};
-ghost use Rattle.rom_fields.specs.Words.{word_be, with_word_be, words_sum, part_of};
+ghost use Rattle.rom_fields.specs.Words.{word_be, with_word_be, word_le, with_word_le, words_sum, part_of};
 
-use byteorder::{BigEndian, ByteOrder};
+use byteorder::{BigEndian, ByteOrder, LittleEndian};
 
 /// The word at `at`, the highest byte first. `None` where its four bytes do not lie in `b`.
 #[tactic(auto, unfolding(crate::specs::Words::word_be))]
@@ -19,7 +19,6 @@ pub fn be32(b: &[u8], at: usize) -> Option<u32>
 
 /// Sets the word at `at`, the highest byte first. False, and nothing changes, where its four bytes
 /// do not lie in `b`.
-
 pub fn put_be32(b: &mut [u8], at: usize, v: u32) -> bool
     ensures fits { IsTrue result ↔ (at + 4 ≤ length b.old) }
     ensures put { OnTrue result (b.new ≡ with_word_be b.old at v) }
@@ -29,6 +28,32 @@ pub fn put_be32(b: &mut [u8], at: usize, v: u32) -> bool
         return false;
     }
     BigEndian::write_u32(&mut b[at..], v);
+    true
+}
+
+/// The word at `at`, the lowest byte first. `None` where its four bytes do not lie in `b`.
+#[tactic(auto, unfolding(crate::specs::Words::word_le))]
+pub fn le32(b: &[u8], at: usize) -> Option<u32>
+    ensures { SomeIff result (at + 4 ≤ length b.now) (word_le b.now at) }
+{
+    let rest = b.get(at..)?;
+    if rest.len() < 4 {
+        return None;
+    }
+    Some(LittleEndian::read_u32(rest))
+}
+
+/// Sets the word at `at`, the lowest byte first. False, and nothing changes, where its four bytes
+/// do not lie in `b`.
+pub fn put_le32(b: &mut [u8], at: usize, v: u32) -> bool
+    ensures fits { IsTrue result ↔ (at + 4 ≤ length b.old) }
+    ensures put { OnTrue result (b.new ≡ with_word_le b.old at v) }
+    ensures same { OnFalse result (b.new ≡ b.old) }
+{
+    if b.len() < 4 || at > b.len() - 4 {
+        return false;
+    }
+    LittleEndian::write_u32(&mut b[at..], v);
     true
 }
 

@@ -8,8 +8,7 @@ use Rattle.rom_tree.specs.Image.{Image}
 use Rattle.rom_tree.specs.declared.types.CheckError.TheVariants.{Fault}
 use Rattle.rom_tree.specs.declared.types.Limits.{Limits}
 use Rattle.rom_tree.specs.declared.types.Report.{Report}
-use Rattle.romfs_format.specs.Faults.{HasNoFault}
-use Rattle.romfs_image.specs.Checked.{Shows, IsRefused, IsLeastAnswer}
+use Rattle.image_check.specs.Checked.{Shows, IsRefused, IsRomfs, IsCramfs, IsFaultless, IsLeastFault}
 use Rattle.romtool.specs.declared.shown.Outcome.{Outcome}
 use Rattle.romtool.specs.declared.shown.Outcome.TheVariants.{Done, Refused, Memory, WriteFault}
 
@@ -45,32 +44,39 @@ name_of_fault n =
 unfoldable pub fault_line : ℕ → ℕ → List ℕ
 fault_line n at = codes "fault " ++ (decimal n ++ (codes " " ++ (name_of_fault n ++ (codes " at " ++ (decimal at ++ codes "\n")))))
 
--- ok romfs REFERENCES DEPTH, and a line feed
-unfoldable pub ok_line : ℕ → ℕ → List ℕ
-ok_line references depth = codes "ok romfs " ++ (decimal references ++ (codes " " ++ (decimal depth ++ codes "\n")))
+-- the name of the format that the first bytes name
+pub data IsFormatName (bytes : List ℕ) : List ℕ → Type 0 where
+  romfs : {name : List ℕ} → IsRomfs bytes → name ≡ codes "romfs" → IsFormatName bytes name
+  cramfs : {name : List ℕ} → IsCramfs bytes → name ≡ codes "cramfs" → IsFormatName bytes name
+
+-- ok FORMAT REFERENCES DEPTH, and a line feed
+unfoldable pub ok_line : List ℕ → ℕ → ℕ → List ℕ
+ok_line format references depth = codes "ok " ++ (format ++ (codes " " ++ (decimal references ++ (codes " " ++ (decimal depth ++ codes "\n")))))
 
 -- what is printed of a sound image: the list of its tree, or a line with its report
-abbrev pub sound_text : Bool → Image → Report → List ℕ
-sound_text listed m report = if listed then list_text m.bytes m.tree else ok_line report.references report.depth
+abbrev pub sound_text : Bool → Image → List ℕ → Report → List ℕ
+sound_text listed m format report = if listed then list_text m.bytes m.tree else ok_line format report.references report.depth
 
 -- 1,048,576 references, and directories 64 deep
 abbrev pub usual_limits : Limits
 usual_limits = record { references = 1048576; depth = 64 }
 
--- the text is what is printed of a sound image that has these bytes, which have no fault
+-- the text is what is printed of a sound image that has these bytes
 pub record IsSoundText (bytes : List ℕ) (listed : Bool) (text : List ℕ) : Type 0 where
   pub image : Image
+  pub format : List ℕ
   pub report : Report
   pub shows : Shows bytes usual_limits image report
-  pub clean : HasNoFault bytes usual_limits.references usual_limits.depth
-  pub same : text ≡ sound_text listed image report
+  pub named : IsFormatName bytes format
+  pub clean : IsFaultless bytes usual_limits
+  pub same : text ≡ sound_text listed image format report
 
--- the text is the line of the least fault of these bytes, which hold no tree
+-- the text is the line of a fault of these bytes, which hold no tree
 pub record IsFaultText (bytes text : List ℕ) : Type 0 where
   pub number : ℕ
   pub at : ℕ
   pub refused : IsRefused bytes usual_limits (Fault number at)
-  pub least : IsLeastAnswer bytes usual_limits (Fault number at)
+  pub least : IsLeastFault bytes usual_limits (Fault number at)
   pub same : text ≡ fault_line number at
 
 -- a writer's bytes, where it tells them, and its count of failures

@@ -2,18 +2,19 @@
 ghost use Rattle.std.specs.Prelude.{◌≡◌, ◌≤◌, OnErr};
 ghost use Rattle.rom_fields.specs.Failures.{Rose};
 ghost use Rattle.rom_fields.specs.Written.{WritesText};
-ghost use Rattle.romfs_image.specs.Reported.{report_of};
+ghost use Rattle.image_check.specs.Any.{any_view, report_of};
 ghost use Rattle.romtool.specs.Answers.{fault_line, ok_line, sound_text, status_of, Ends, writer};
+ghost use Rattle.romtool.specs.Formats.{format_of};
 ghost use Rattle.romtool.specs.declared.shown.Outcome.{Outcome};
 
 use crate::fault::put_fault;
+use image_check::any::AnyImage;
+use image_check::check::check;
 use rom_fields::bytes::{ByteWrite, Failed};
 use rom_fields::sink::put;
 use rom_fields::text::put_decimal;
-use rom_tree::image::Viewed;
 use rom_tree::list::list;
 use rom_tree::types::{CheckError, Limits, Report};
-use romfs_image::image::Romfs;
 use std::alloc::Global;
 
 /// How the showing of an image ended.
@@ -51,13 +52,25 @@ fn write_fault_line<W: ByteWrite>(w: &mut W, number: u32, at: u32) -> Result<(),
     if failed { Err(Failed) } else { Ok(()) }
 }
 
+/// The name of an image's format.
+fn format_name(image: &AnyImage) -> &'static [u8]
+    ensures { result.now ≡ format_of image.now }
+{
+    match image {
+        AnyImage::Romfs(_) => b"romfs",
+        AnyImage::Cramfs(_) => b"cramfs",
+    }
+}
+
 /// Writes the line of a sound image.
-fn write_ok_line<W: ByteWrite>(w: &mut W, report: Report) -> Result<(), Failed>
-    ensures text { WritesText (W.told w.old) (W.told w.new) result (ok_line report.references report.depth) }
+fn write_ok_line<W: ByteWrite>(w: &mut W, format: &[u8], report: Report) -> Result<(), Failed>
+    ensures text { WritesText (W.told w.old) (W.told w.new) result (ok_line format.now report.references report.depth) }
     ensures fault { OnErr result (Rose (W.failures w.old) (W.failures w.new)) }
 {
     let mut failed = false;
-    put(w, &mut failed, b"ok romfs ");
+    put(w, &mut failed, b"ok ");
+    put(w, &mut failed, format);
+    put(w, &mut failed, b" ");
     put_decimal(w, &mut failed, report.references);
     put(w, &mut failed, b" ");
     put_decimal(w, &mut failed, report.depth);
@@ -66,8 +79,8 @@ fn write_ok_line<W: ByteWrite>(w: &mut W, report: Report) -> Result<(), Failed>
 }
 
 /// Writes the list of a sound image (`listed`), or its line.
-fn write_sound<'a, W: ByteWrite>(image: &Romfs<'a>, listed: bool, w: &mut W) -> Result<(), Failed>
-    ensures text { WritesText (W.told w.old) (W.told w.new) result (sound_text listed (⟦<Romfs<'a> as Viewed>⟧.image image.now) (report_of image.now)) }
+fn write_sound<W: ByteWrite>(image: &AnyImage, listed: bool, w: &mut W) -> Result<(), Failed>
+    ensures text { WritesText (W.told w.old) (W.told w.new) result (sound_text listed (any_view image.now) (format_of image.now) (report_of image.now)) }
     ensures fault { OnErr result (Rose (W.failures w.old) (W.failures w.new)) }
 {
     if listed {
@@ -76,7 +89,7 @@ fn write_sound<'a, W: ByteWrite>(image: &Romfs<'a>, listed: bool, w: &mut W) -> 
             Err(_) => Err(Failed),
         }
     } else {
-        write_ok_line(w, image.report())
+        write_ok_line(w, format_name(image), image.report())
     }
 }
 
@@ -85,7 +98,7 @@ fn write_sound<'a, W: ByteWrite>(image: &Romfs<'a>, listed: bool, w: &mut W) -> 
 pub fn show<W: ByteWrite>(alloc: Global, bytes: &[u8], listed: bool, w: &mut W) -> Outcome
     ensures { Ends bytes.now listed (writer (W.told w.old) (W.failures w.old)) (writer (W.told w.new) (W.failures w.new)) result }
 {
-    match Romfs::check(alloc, bytes, Limits::usual()) {
+    match check(alloc, bytes, Limits::usual()) {
         Ok(image) => match write_sound(&image, listed, w) {
             Ok(()) => Outcome::Done,
             Err(_) => Outcome::WriteFault,

@@ -1,25 +1,23 @@
 use Rattle.std.proofs.Common.{◌≡◌, ℕ, inl, inr}
-use Rattle.rom_tree.specs.Image.{Image}
-use Rattle.romfs_image.specs.Romfs.{romfs_view}
-use Rattle.romfs_image.specs.Reported.{report_of}
+use Rattle.image_check.specs.declared.any.AnyImage.{AnyImage}
+use Rattle.image_check.specs.Any.{any_view, report_of}
+use Rattle.romtool.specs.Formats.{format_of}
 use Rattle.romtool.specs.Answers.{sound_text, fault_line, usual_limits}
 use Rattle.romtool.proofs.Texts.{usual, sound, faulty}
 use Rattle.romtool.proofs.shown.show.Goals as goal
 
 pub returns-in-Ok-write_sound : goal.returns-in-Ok-write_sound
 returns-in-Ok-write_sound g c =
-    let s = c.in-Ok.image in
-    let m : Image = romfs_view s.all.now s.bytes.now s.root s.references s.sound s.within in
+    let v : AnyImage = c.in-Ok.image in
     let e : c.usual.result ≡ usual_limits = usual c.usual.result c.usual.ensures.references c.usual.ensures.depth in
-    (sound_text c.args.listed m (report_of s), sound c.args.bytes.now c.args.listed c.usual.result m (report_of s) e c.in-Ok.ensures.ok c.in-Ok.ensures.clean, c.in-Ok-write_sound.ensures.text)
+    (sound_text c.args.listed (any_view v) (format_of v) (report_of v), sound c.args.bytes.now c.args.listed c.usual.result v e c.in-Ok.ensures.ok c.in-Ok.ensures.format c.in-Ok.ensures.clean, c.in-Ok-write_sound.ensures.text)
 
 pub returns-in-Err : goal.returns-in-Err
 returns-in-Err g c =
-    let s = c.in-Ok.image in
-    let m : Image = romfs_view s.all.now s.bytes.now s.root s.references s.sound s.within in
+    let v : AnyImage = c.in-Ok.image in
     let e : c.usual.result ≡ usual_limits = usual c.usual.result c.usual.ensures.references c.usual.ensures.depth in (
-      sound_text c.args.listed m (report_of s),
-      inl (sound c.args.bytes.now c.args.listed c.usual.result m (report_of s) e c.in-Ok.ensures.ok c.in-Ok.ensures.clean),
+      sound_text c.args.listed (any_view v) (format_of v) (report_of v),
+      inl (sound c.args.bytes.now c.args.listed c.usual.result v e c.in-Ok.ensures.ok c.in-Ok.ensures.format c.in-Ok.ensures.clean),
       c.in-Err.ensures.text,
       c.in-Err.ensures.fault,
     )

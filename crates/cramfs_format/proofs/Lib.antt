@@ -1,0 +1,12 @@
+pub mod Lists
+pub mod Lawful
+pub mod Picks
+pub mod Same
+pub mod Trees
+pub mod Chain
+pub mod Stack
+pub mod Bridge
+pub mod Contents
+pub mod Faults
+pub mod Depths
+pub mod Orders

@@ -1,0 +1,7 @@
+pub mod Order
+pub mod Inode
+pub mod Refers
+pub mod Tree
+pub mod Crc
+pub mod Superblock
+pub mod Made

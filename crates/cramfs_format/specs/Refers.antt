@@ -1,0 +1,38 @@
+-- What refers to what in a cramfs image: the superblock to the root, and a directory to each entry of its list, which
+-- follow one another from the list's start to its end. A reference is the pair of the two.
+use Rattle.std.specs.Prelude.{◌≡◌, ◌≢◌, ℕ, false, if◌then◌else◌, ◌==◌, nat_lt, Option, None, Some, List}
+use Rattle.record_walk.specs.declared.reference.Reference.{Reference}
+use Rattle.record_walk.specs.declared.reference.Fault.{Fault}
+use Rattle.record_walk.specs.References.{References}
+use Rattle.cramfs_format.specs.Order.{Order}
+use Rattle.cramfs_format.specs.Inode.{end_of, list_start, list_end, IsSound, ListLies, HasEntryFault}
+
+-- the root's inode is in the superblock
+abbrev pub root_place : ℕ
+root_place = 64
+
+-- An entry of the directory `source` stands at `which`, before the end of its list. No record stands at 0, which as a
+-- source is the superblock.
+unfoldable pub target_of : Order → List ℕ → Reference → Option ℕ
+target_of o b x =
+    if x.source == 0 then (if x.which == root_place then Some root_place else None) else (if nat_lt x.which (list_end o b x.source) then Some x.which else None)
+
+-- the references of the image whose accessible bytes are b
+abbrev pub references : Order → List ℕ → References
+references o b = record {
+  top = record { source = 0; which = root_place };
+  target = target_of o b;
+  own = λ x. record { source = x.which; which = list_start o b x.which };
+  after = λ x. record { source = x.source; which = end_of o b x.which };
+  chained = false;
+}
+
+-- the record that x leads to is sound: the root, or an entry towards the end of the list that it stands in
+pub record LeadsToSound (o : Order) (b : List ℕ) (x : Reference) : Type 0 where
+  pub root : x.source ≡ 0 → ListLies o b x.which
+  pub entry : x.source ≢ 0 → IsSound o b (list_end o b x.source) x.which
+
+-- the record that x leads to has this fault; the root, a directory, can only have a list that does not lie where it may
+pub data LeadsToFault (o : Order) (b : List ℕ) (x : Reference) (f : Fault) : Type 0 where
+  root_list : x.source ≡ 0 → f ≡ record { number = 11; at = x.which } → (ListLies o b x.which → ⊥) → LeadsToFault o b x f
+  of_entry : x.source ≢ 0 → HasEntryFault o b (list_end o b x.source) x.which f → LeadsToFault o b x f

@@ -1,0 +1,134 @@
+-- The tree that a cramfs image's bytes give, as a relation.
+use Rattle.std.specs.Prelude.{◌++◌, ◌≡◌, ◌≢◌, ℕ, zero, suc, ◌+◌, ◌-◌, ◌*◌, ◌/◌, ◌%◌, ◌≤◌, min, nat_lt, Bool, true, false, if◌then◌else◌, ◌==◌, List, [], ◌∷◌, drop}
+use Rattle.std.specs.List.{All, AllPairs, flat_map}
+use Rattle.rom_fields.specs.declared.span.Extent.TheVariants.{Super, List as ListOf, Table, Data}
+use Rattle.rom_fields.specs.declared.span.Span.{Span}
+use Rattle.rom_fields.specs.Extents.{OverlapsAt, added}
+use Rattle.record_walk.specs.declared.reference.Row.{Row}
+use Rattle.record_walk.specs.Forest.{Forest, none, at, all_rows, IsForest}
+use Rattle.rom_tree.specs.declared.types.Kind.{Kind}
+use Rattle.rom_tree.specs.declared.types.Kind.TheVariants.{Directory, Regular, Symlink, Block, Character, Socket, Fifo}
+use Rattle.rom_tree.specs.Tree.{Node, node, Body, directory, regular, symlink, block, character, socket, fifo, Entries, no_entries, entry, Attributes, depth}
+use Rattle.cramfs_format.specs.Order.{Order, word}
+use Rattle.cramfs_format.specs.Inode.{mode_of, uid_of, gid_of, size_of, type_of, name_of, offset_of, has_data, block_count, block_start}
+use Rattle.cramfs_format.specs.Refers.{references, root_place, LeadsToSound}
+use Rattle.cramfs_format.specs.Superblock.{IsSuperblock}
+
+-- one of seven things by the type of an inode
+abbrev pub pick : {A : Type 0} → ℕ → A → A → A → A → A → A → A → A
+pick t directory' regular' symlink' block' character' socket' fifo' =
+    if t == 4 then directory' else (if t == 8 then regular' else (if t == 10 then symlink' else (if t == 6 then block' else (if t == 2 then character' else (if t == 12 then socket' else fifo')))))
+
+abbrev pub kind_named : ℕ → Kind
+kind_named t = pick t Directory Regular Symlink Block Character Socket Fifo
+
+-- k numbers in a row from p on
+abbrev pub row_from : ℕ → ℕ → List ℕ
+row_from p zero = []
+row_from p (suc k) = p ∷ row_from (p + 1) k
+
+-- the places of the bytes in k blocks one after the other, `size` bytes in all: their pointers stand from q on
+abbrev pub blocks_from : Order → List ℕ → ℕ → ℕ → ℕ → List ℕ
+blocks_from o b zero q size = []
+blocks_from o b (suc k) q size = row_from (block_start (word o b q)) (min 4096 size) ++ blocks_from o b k (q + 4) (size - 4096)
+
+-- the places of a file's or link's data
+unfoldable pub places_at : Order → List ℕ → ℕ → List ℕ
+places_at o b p = blocks_from o b (block_count (size_of o b p)) (offset_of o b p) (size_of o b p)
+
+-- what the inode at p says of its node; the size of a device is 256 times its major number, and its minor number
+unfoldable pub attributes_at : Order → List ℕ → ℕ → Attributes
+attributes_at o b p = record {
+  ino = p;
+  mode = mode_of o b p % 4096;
+  uid = uid_of o b p;
+  gid = gid_of o b p;
+  major = pick (type_of o b p) 0 0 0 (size_of o b p / 256) (size_of o b p / 256) 0 0;
+  minor = pick (type_of o b p) 0 0 0 (size_of o b p % 256) (size_of o b p % 256) 0 0;
+}
+
+abbrev pub body_named : ℕ → List ℕ → Entries → Body
+body_named t ps es = pick t (directory es) (regular ps) (symlink ps) block character socket fifo
+
+-- the node of the inode at p, its list being es
+unfoldable pub node_of : Order → List ℕ → ℕ → Entries → Node
+node_of o b p es = node (attributes_at o b p) (body_named (type_of o b p) (places_at o b p) es)
+
+-- the entries of a list, in its order
+abbrev pub entries_at : Order → List ℕ → Forest → Entries
+entries_at o b none = no_entries
+entries_at o b (at p own after) = entry (name_of o b p) (node_of o b p (entries_at o b own)) (entries_at o b after)
+
+-- what stands in the root's list
+abbrev pub below_root : Forest → Forest
+below_root none = none
+below_root (at p own after) = own
+
+-- the tree of the forest f that stands in the bytes
+unfoldable pub tree_of : Order → List ℕ → Forest → Node
+tree_of o b f = node_of o b root_place (entries_at o b (below_root f))
+
+-- the extents of k blocks of `size` bytes in all, their pointers from q on
+abbrev pub data_from : Order → List ℕ → ℕ → ℕ → ℕ → List Span
+data_from o b zero q size = []
+data_from o b (suc k) q size = added Data (block_start (word o b q)) (min 4096 size) ++ data_from o b k (q + 4) (size - 4096)
+
+-- the extents of a file or a link: its block pointers and its blocks
+unfoldable pub file_extents : Order → List ℕ → ℕ → List Span
+file_extents o b p = added Table (offset_of o b p) (4 * block_count (size_of o b p)) ++ data_from o b (block_count (size_of o b p)) (offset_of o b p) (size_of o b p)
+
+-- what a record takes beside its place in a list: a directory its own list, a file or a link its pointers and blocks
+abbrev pub row_extents : Order → List ℕ → Row → List Span
+row_extents o b x =
+    (if type_of o b x.offset == 4 then added ListOf (offset_of o b x.offset) (size_of o b x.offset) else [])
+    ++ (if has_data (type_of o b x.offset) then file_extents o b x.offset else [])
+
+-- what the superblock and the records take
+abbrev pub extents_of : Order → List ℕ → List Row → List Span
+extents_of o b xs = added Super 0 76 ++ flat_map (row_extents o b) xs
+
+abbrev pub dot : List ℕ
+dot = 46 ∷ []
+
+abbrev pub dot_dot : List ℕ
+dot_dot = 46 ∷ 46 ∷ []
+
+-- x comes before y in the order of unsigned bytes, a proper front first
+abbrev pub precedes : List ℕ → List ℕ → Bool
+precedes xs [] = false
+precedes [] (y ∷ ys) = true
+precedes (x ∷ xs) (y ∷ ys) = if nat_lt x y then true else (if x == y then precedes xs ys else false)
+
+-- the flag that lists are sorted
+abbrev pub is_sorted : Order → List ℕ → Bool
+is_sorted o b = word o b 8 / 2 % 2 == 1
+
+-- in one list names differ
+abbrev pub NamesDiffer : Order → List ℕ → Row → Row → Type 0
+NamesDiffer o b x y = x.directory ≡ y.directory → name_of o b x.offset ≢ name_of o b y.offset
+
+-- in one list names rise
+abbrev pub NamesRise : Order → List ℕ → Row → Row → Type 0
+NamesRise o b x y = x.directory ≡ y.directory → precedes (name_of o b x.offset) (name_of o b y.offset) ≡ true
+
+-- lists hold neither `.` nor `..`
+pub record IsNoDot (o : Order) (b : List ℕ) (x : Row) : Type 0 where
+  pub here : name_of o b x.offset ≢ dot
+  pub above : name_of o b x.offset ≢ dot_dot
+
+-- The forest f that stands in the accessible bytes b makes a tree.
+pub record IsTree (o : Order) (b : List ℕ) (most deepest : ℕ) (f : Forest) : Type 0 where
+  pub forest : IsForest (references o b) (LeadsToSound o b) most f
+  pub shallow : depth (tree_of o b f) ≤ min deepest 64
+  pub apart : (p : ℕ) → OverlapsAt (extents_of o b (all_rows (references o b) f)) p → ⊥
+  pub names : AllPairs (NamesDiffer o b) (drop 1 (all_rows (references o b) f))
+  pub no_dots : All (IsNoDot o b) (drop 1 (all_rows (references o b) f))
+  pub rising : is_sorted o b ≡ true → AllPairs (NamesRise o b) (drop 1 (all_rows (references o b) f))
+
+-- t is the tree of the image, under these limits on references and depth.
+pub record CramfsTree (o : Order) (bytes : List ℕ) (most deepest : ℕ) (t : Node) : Type 0 where
+  pub b : List ℕ
+  pub super : IsSuperblock o bytes b
+  pub forest : Forest
+  pub whole : IsTree o b most deepest forest
+  pub same : t ≡ tree_of o b forest

@@ -1,0 +1,10 @@
+//! The cramfs format: what its bytes say, and laws about it.
+//!
+//! It restates Linux Documentation/filesystems/cramfs.rst and include/uapi/linux/cramfs_fs.h for
+//! images whose blocks are stored as they are, and read where they stand: an inode and its fields,
+//! in either byte order (`specs/Inode.antt`), what refers to what (`specs/Refers.antt`), and the
+//! tree of files that an image's bytes give (`specs/Tree.antt`). Proved of it: an image has at most
+//! one tree, and the tree is a function of the bytes.
+#![tactic(auto)]
+
+pub mod laws;

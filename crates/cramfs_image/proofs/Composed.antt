@@ -1,0 +1,100 @@
+-- The phases over the rows of a forest, put together.
+use Rattle.std.proofs.Common.{◌≡◌, ◌≢◌, ℕ, min, true, eqb, List, [], ◌∷◌, ◌++◌, drop, get_or, Option, None, Some, MatchOption, ◌⊎◌, inl, inr, refl, sym, subst, ◌∙◌, append_assoc, append-nil, if◌then◌else◌}
+use Rattle.std.proofs.lemmas.Bool.{eq-eqb}
+use Rattle.std.proofs.lemmas.Bool.Decides.{eqb_tells}
+use Rattle.std.proofs.lemmas.List.{get_or_default}
+use Rattle.std.proofs.lemmas.List.Elements.{recursion_from_All, All-from_recursion}
+use Rattle.std.specs.Prelude.{IsSomeAnd}
+use Rattle.std.specs.List.{AllByRecursion as Every}
+use Rattle.rom_fields.specs.Extents.{OverlapsAt, IsLeastOf}
+use Rattle.record_walk.specs.declared.reference.Fault.{Fault}
+use Rattle.record_walk.specs.declared.reference.Row.{Row}
+use Rattle.record_walk.specs.Members.{Pairs}
+use Rattle.record_walk.specs.Forest.{Forest, all_rows, IsForest}
+use Rattle.record_walk.proofs.Lists.{pairs_push, pairs_to, every_weaker, every_both}
+use Rattle.cramfs_format.specs.Order.{Order}
+use Rattle.cramfs_format.specs.Inode.{name_of}
+use Rattle.cramfs_format.specs.Refers.{references, LeadsToSound}
+use Rattle.cramfs_format.specs.Tree.{precedes, is_sorted, extents_of, NamesDiffer, NamesRise, IsNoDot, IsTree}
+use Rattle.cramfs_format.proofs.Depths.{IsWithin, tree_within}
+use Rattle.cramfs_format.proofs.Orders.{precedes_on, one_first}
+use Rattle.cramfs_image.specs.Phases.{IsLeastRowFault, IsTooDeep, IsShallow, Repeats, last_name, HasNameFault, IsWellNamed, AreWell, IsLaterFault, of_name}
+
+-- with no entry too deep and no overlap, the names decide
+pub well_or_fault : (o : Order) (b : List ℕ) (most : ℕ) (all : List Row) (v : Option Fault) → IsLeastRowFault (IsShallow o b most) (IsTooDeep o b most) (drop 1 all) None → IsLeastOf (OverlapsAt (extents_of o b all)) None
+    → IsLeastRowFault (IsWellNamed o b) (HasNameFault o b) (drop 1 all) v → MatchOption v (AreWell o b most all) (IsLaterFault o b most all)
+well_or_fault o b most all None d v n = record { shallow = d.clean refl; apart = λ p h. v.least p h; named = n.clean refl }
+well_or_fault o b most all (Some e) d v n = of_name d v n
+
+-- what holds at each place of a list
+pub every_split : (P : Row → Type 0) (done xs : List Row) → ((before : List Row) (x : Row) (after : List Row) → done ++ xs ≡ before ++ x ∷ after → P x) → Every P xs
+every_split P done [] h = tt
+every_split P done (x ∷ xs) h = (h done x xs refl, every_split P (done ++ x ∷ []) xs (λ before y after e. h before y after (sym (append_assoc done (x ∷ []) xs) ∙ e)))
+
+pairs_split : (R : Row → Row → Type 0) (done xs : List Row) → Pairs R done → ((before : List Row) (x : Row) (after : List Row) → done ++ xs ≡ before ++ x ∷ after → Pairs R before → Every (λ y. R y x) before) → Pairs R (done ++ xs)
+pairs_split R done [] p h = subst (Pairs R) (sym (append-nil done)) p
+pairs_split R done (x ∷ xs) p h =
+    subst (Pairs R) (append_assoc done (x ∷ []) xs)
+    (pairs_split R (done ++ x ∷ []) xs (pairs_push R done x p (h done x xs refl p)) (λ before y after e. h before y after (sym (append_assoc done (x ∷ []) xs) ∙ e)))
+
+-- a name that is not repeated differs from those before it
+fresh_differs : (o : Order) (b : List ℕ) (before : List Row) (x : Row) → (Repeats o b before x → ⊥) → Every (λ (y : Row). NamesDiffer o b y x) before
+fresh_differs o b before x fresh = recursion_from_All (λ (y : Row). NamesDiffer o b y x) before
+    (λ k d l same equal. fresh (k, get_or before k d, l, get_or_default before k (get_or before k d) d l, (same, equal)))
+
+-- the name is n, or before it
+abbrev pub UpTo : List ℕ → List ℕ → Type 0
+UpTo name n = (name ≡ n) ⊎ (precedes name n ≡ true)
+
+-- what is noted stays at or before the last name of a list that rises
+noted_up : (o : Order) (b : List ℕ) (d : ℕ) (name k : List ℕ) (xs : List Row) → UpTo name k → Every (λ (y : Row). y.directory ≡ d → precedes name (name_of o b y.offset) ≡ true) xs → IsSomeAnd (last_name o b d (Some k) xs) (UpTo name)
+noted_up o b d name k [] u h = u
+noted_up o b d name k (x ∷ xs) u h = elim (eqb_tells x.directory d) [
+  | inl e ↦ rw e.0 (noted_up o b d name (name_of o b x.offset) xs (inr (h.0 e.1)) h.1)
+  | inr e ↦ rw e.0 (noted_up o b d name k xs u h.1)
+]
+
+all_up : (o : Order) (b : List ℕ) (d : ℕ) (noted : Option (List ℕ)) (xs : List Row) → Pairs (NamesRise o b) xs → Every (λ (y : Row). y.directory ≡ d → IsSomeAnd (last_name o b d noted xs) (UpTo (name_of o b y.offset))) xs
+all_up o b d noted [] p = tt
+all_up o b d noted (x ∷ xs) p = (
+  (λ e. rw (eq-eqb x.directory d e) (noted_up o b d (name_of o b x.offset) (name_of o b x.offset) xs (inl refl) (every_weaker (NamesRise o b x) (λ (y : Row). y.directory ≡ d → precedes (name_of o b x.offset) (name_of o b y.offset) ≡ true) (λ y r i. r (e ∙ sym i)) xs p.0))),
+  all_up o b d (if eqb x.directory d then Some (name_of o b x.offset) else noted) xs p.1,
+)
+
+-- a name that is neither repeated nor before the last one is after all
+after_all : (name other : List ℕ) (last : Option (List ℕ)) → IsSomeAnd last (UpTo other) → (IsSomeAnd last (λ n. precedes name n ≡ true) → ⊥) → other ≢ name → precedes other name ≡ true
+after_all name other None u n d = absurd u
+after_all name other (Some k) (inl e) n d = elim (one_first other name d) [ inl h ↦ h | inr h ↦ absurd (n (subst (λ (v : List ℕ). precedes name v ≡ true) e h)) ]
+after_all name other (Some k) (inr l) n d = elim (same_or name k) [
+  | inl e ↦ subst (λ (v : List ℕ). precedes other v ≡ true) (sym e) l
+  | inr m ↦ elim (one_first name k m) [ inl h ↦ absurd (n h) | inr h ↦ precedes_on other k name l h ]
+]
+  where
+    same_or : (xs ys : List ℕ) → (xs ≡ ys) ⊎ (xs ≢ ys)
+    same_or [] [] = inl refl
+    same_or [] (y ∷ ys) = inr (λ e. cc)
+    same_or (x ∷ xs) [] = inr (λ e. cc)
+    same_or (x ∷ xs) (y ∷ ys) = elim (eqb_tells x y) [
+      | inl a ↦ elim (same_or xs ys) [ inl e ↦ inl (let z = a.1 in cc) | inr n ↦ inr (λ e. n (cc)) ]
+      | inr a ↦ inr (λ e. a.1 (cc))
+    ]
+
+rises_next : (o : Order) (b : List ℕ) (before : List Row) (x : Row) → is_sorted o b ≡ true → IsWellNamed o b before x → Pairs (NamesRise o b) before → Every (λ (y : Row). NamesRise o b y x) before
+rises_next o b before x s w p =
+    every_weaker (λ (y : Row). (y.directory ≡ x.directory → IsSomeAnd (last_name o b x.directory None before) (UpTo (name_of o b y.offset))) × NamesDiffer o b y x) (λ (y : Row). NamesRise o b y x)
+    (λ y h e. after_all (name_of o b x.offset) (name_of o b y.offset) (last_name o b x.directory None before) (h.0 e) (λ k. w.sorted (s, k)) (h.1 e)) before
+    (every_both (λ (y : Row). y.directory ≡ x.directory → IsSomeAnd (last_name o b x.directory None before) (UpTo (name_of o b y.offset))) (λ (y : Row). NamesDiffer o b y x) before (all_up o b x.directory None before p) (fresh_differs o b before x w.fresh))
+
+-- a forest whose rows are well makes a tree
+pub tree_of_well : (o : Order) (b : List ℕ) (most deepest : ℕ) (f : Forest) → IsForest (references o b) (LeadsToSound o b) most f → AreWell o b (min deepest 64) (all_rows (references o b) f) → IsTree o b most deepest f
+tree_of_well o b most deepest f h w =
+    let m : ℕ = min deepest 64 in
+    let below : List Row = drop 1 (all_rows (references o b) f) in
+    record {
+      forest = h;
+      shallow = tree_within most m f h (every_split (IsWithin m) [] below (λ before x after s. w.shallow before x after s (w.named before x after s).other));
+      apart = w.apart;
+      names = pairs_to (NamesDiffer o b) below (pairs_split (NamesDiffer o b) [] below tt (λ before x after s p. fresh_differs o b before x (w.named before x after s).fresh));
+      no_dots = All-from_recursion (IsNoDot o b) below (every_split (IsNoDot o b) [] below (λ before x after s. (w.named before x after s).other));
+      rising = λ sorted. pairs_to (NamesRise o b) below (pairs_split (NamesRise o b) [] below tt (λ before x after s p. rises_next o b before x sorted (w.named before x after s) p));
+    }

@@ -1,0 +1,261 @@
+-- The least faults of one record.
+use Rattle.std.proofs.Common.{◌≡◌, ℕ, ◌+◌, ◌*◌, ◌<◌, ◌≤◌, true, false, List, Option, None, Some, ◌⊎◌, inl, inr, refl, sym, ap, subst, ◌∙◌, arith}
+use Rattle.std.proofs.lemmas.Bool.{true≢false, cases_lt}
+use Rattle.std.proofs.lemmas.Bool.Decides.{eqb_tells, leb_tells}
+use Rattle.std.specs.Prelude.{nat_lt, nat_le, ◌&&◌, ◌||◌, ◌==◌}
+use Rattle.rom_fields.specs.Extents.{IsLeastOf}
+use Rattle.record_walk.specs.declared.reference.Fault.{Fault}
+use Rattle.record_walk.specs.Faults.{NotAfter, IsLeastFault}
+use Rattle.cramfs_format.specs.Order.{Order, word}
+use Rattle.cramfs_format.specs.Inode.{type_of, size_of, offset_of, name_of, block_start, block_len, Lies, is_kind, has_data, block_count, pointer_place, pointer_of, IsPlain, ListLies, TableLies, BlockLies, Fits, IsName, other_kind as kind_fault, link_size as link_fault, list_outside as list_fault, table_outside as table_fault, other_block as kind_of_block, block_outside as block_fault, HasEntryFault, past_end, bad_name as name_fault, bad_body}
+use Rattle.cramfs_format.proofs.Lists.{lt_tells}
+use Rattle.cramfs_image.specs.Phases.{IsLeastFaultOf, lesser_fault, IsFaultAt, list_outside, table_outside, bad_name, other_kind, link_size, IsPointerFault, other_block, block_outside}
+
+module _ {o : Order} {b : List ℕ} {p : ℕ} where
+  pub least_list : (ListLies o b p → ⊥) → IsLeastOf (IsFaultAt o b p) (Some 11)
+  least_list n = record {
+    here = list_outside refl n;
+    least = λ m h. elim h [
+      | list_outside e x ↦ omega arith
+      | table_outside e x ↦ omega arith
+      | bad_name e x ↦ omega arith
+      | other_kind e x ↦ omega arith
+      | link_size e x y ↦ omega arith
+    ];
+  }
+
+  pub least_table : (TableLies o b p → ⊥) → IsLeastOf (IsFaultAt o b p) (Some 11)
+  least_table n = record {
+    here = table_outside refl n;
+    least = λ m h. elim h [
+      | list_outside e x ↦ omega arith
+      | table_outside e x ↦ omega arith
+      | bad_name e x ↦ omega arith
+      | other_kind e x ↦ omega arith
+      | link_size e x y ↦ omega arith
+    ];
+  }
+
+  module _ (list : ListLies o b p) (table : TableLies o b p) where
+    pub least_name : (IsName (name_of o b p) → ⊥) → IsLeastOf (IsFaultAt o b p) (Some 13)
+    least_name n = record {
+      here = bad_name refl n;
+      least = λ m h. elim h [
+        | list_outside e x ↦ absurd (x list)
+        | table_outside e x ↦ absurd (x table)
+        | bad_name e x ↦ omega arith
+        | other_kind e x ↦ omega arith
+        | link_size e x y ↦ omega arith
+      ];
+    }
+
+    module _ (name : IsName (name_of o b p)) where
+      pub least_kind : is_kind (type_of o b p) ≡ false → IsLeastOf (IsFaultAt o b p) (Some 14)
+      least_kind n = record {
+        here = other_kind refl n;
+        least = λ m h. elim h [
+          | list_outside e x ↦ absurd (x list)
+          | table_outside e x ↦ absurd (x table)
+          | bad_name e x ↦ absurd (x name)
+          | other_kind e x ↦ omega arith
+          | link_size e x y ↦ omega arith
+        ];
+      }
+
+      pub least_link : is_kind (type_of o b p) ≡ true → type_of o b p ≡ 10 → (size_of o b p ≡ 0) ⊎ (4095 < size_of o b p) → IsLeastOf (IsFaultAt o b p) (Some 15)
+      least_link k t n = record {
+        here = link_size refl t n;
+        least = λ m h. elim h [
+          | list_outside e x ↦ absurd (x list)
+          | table_outside e x ↦ absurd (x table)
+          | bad_name e x ↦ absurd (x name)
+          | other_kind e x ↦ absurd (true≢false (sym k ∙ x))
+          | link_size e x y ↦ omega arith
+        ];
+      }
+
+-- where the i-th pointer stands
+pub pointer_there : (o : Order) (b : List ℕ) (p i : ℕ) → pointer_place o b p i ≡ offset_of o b p + 4 * i
+unfolding pointer_place
+pointer_there o b p i = refl
+
+-- what was read at a place is the pointer that stands there
+pub pointer_read : (o : Order) (b : List ℕ) (p i table pointer : ℕ) → table ≡ offset_of o b p → pointer ≡ word o b (table + 4 * i) → pointer ≡ pointer_of o b p i
+unfolding pointer_place
+pointer_read o b p i table pointer e f = f ∙ ap (λ (q : ℕ). word o b (q + 4 * i)) e
+
+-- all pointers before the i-th are those of blocks that lie there
+abbrev pub ArePlain : Order → List ℕ → ℕ → ℕ → Type 0
+ArePlain o b p i = (j : ℕ) → j < i → IsPlain o b (pointer_of o b p j) × BlockLies o b p j
+
+pub plain_more : (o : Order) (b : List ℕ) (p i : ℕ) → ArePlain o b p i → IsPlain o b (pointer_of o b p i) → BlockLies o b p i → ArePlain o b p (i + 1)
+plain_more o b p i all plain lies j l = elim (eqb_tells j i) [
+  | inl e ↦ subst (λ (v : ℕ). IsPlain o b (pointer_of o b p v) × BlockLies o b p v) (sym e.1) (plain, lies)
+  | inr n ↦ let m = n.1 in all j (omega arith)
+]
+
+pub none_pointed : (o : Order) (b : List ℕ) (p : ℕ) → ArePlain o b p (block_count (size_of o b p)) → IsLeastFaultOf (IsPointerFault o b p) None
+none_pointed o b p all = record {
+  here = tt;
+  least = λ d h. elim h [ other_block i e t table l n ↦ n (all i l).0 | block_outside i e t table l k n ↦ n (all i l).1 ];
+}
+
+pub none_without : (o : Order) (b : List ℕ) (p : ℕ) → (has_data (type_of o b p) ≡ true → TableLies o b p → ⊥) → IsLeastFaultOf (IsPointerFault o b p) None
+none_without o b p none = record {
+  here = tt;
+  least = λ d h. elim h [ other_block i e t table l n ↦ none t table | block_outside i e t table l k n ↦ none t table ];
+}
+
+module _ (o : Order) (b : List ℕ) (p i : ℕ) (data' : has_data (type_of o b p) ≡ true) (table' : TableLies o b p) (within : i < block_count (size_of o b p)) (all : ArePlain o b p i) where
+  place_order : (j : ℕ) (d : Fault) (number : ℕ) → i ≤ j → d.at ≡ pointer_place o b p j → (i ≡ j → number ≤ d.number) → NotAfter (record { number = number; at = pointer_place o b p i }) d
+  place_order j d number l e same =
+      let x = pointer_there o b p i in
+      let y = pointer_there o b p j in
+      elim (eqb_tells i j) [
+        | inl k ↦ inr (ap (pointer_place o b p) k.1 ∙ sym e, same k.1)
+        | inr k ↦ let n = k.1 in inl (omega arith)
+      ]
+
+  pub first_other : (IsPlain o b (pointer_of o b p i) → ⊥) → IsLeastFaultOf (IsPointerFault o b p) (Some (record { number = 16; at = pointer_place o b p i }))
+  first_other other = record {
+    here = other_block i refl data' table' within other;
+    least = λ d h. elim h [
+      | other_block j e t table l n ↦ elim (cases_lt j i) [
+        | inl k ↦ absurd (n (all j k).0)
+        | inr k ↦ place_order j d 16 k (ap (λ (v : Fault). v.at) e) (λ z. let w : d.number ≡ 16 = ap (λ (v : Fault). v.number) e in omega arith)
+      ]
+      | block_outside j e t table l plain n ↦ elim (cases_lt j i) [
+        | inl k ↦ absurd (n (all j k).1)
+        | inr k ↦ place_order j d 16 k (ap (λ (v : Fault). v.at) e) (λ z. absurd (other (subst (λ (v : ℕ). IsPlain o b (pointer_of o b p v)) (sym z) plain)))
+      ]
+    ];
+  }
+
+  pub first_outside : IsPlain o b (pointer_of o b p i) → (BlockLies o b p i → ⊥) → IsLeastFaultOf (IsPointerFault o b p) (Some (record { number = 11; at = pointer_place o b p i }))
+  first_outside plain' outside = record {
+    here = block_outside i refl data' table' within plain' outside;
+    least = λ d h. elim h [
+      | other_block j e t table l n ↦ elim (cases_lt j i) [
+        | inl k ↦ absurd (n (all j k).0)
+        | inr k ↦ place_order j d 11 k (ap (λ (v : Fault). v.at) e) (λ z. let w : d.number ≡ 16 = ap (λ (v : Fault). v.number) e in omega arith)
+      ]
+      | block_outside j e t table l plain n ↦ elim (cases_lt j i) [
+        | inl k ↦ absurd (n (all j k).1)
+        | inr k ↦ place_order j d 11 k (ap (λ (v : Fault). v.at) e) (λ z. let w : d.number ≡ 11 = ap (λ (v : Fault). v.number) e in omega arith)
+      ]
+    ];
+  }
+
+  -- the same by what was read
+  pub other_there : (table pointer : ℕ) → table ≡ offset_of o b p → pointer ≡ word o b (table + 4 * i) → (IsPlain o b pointer → ⊥) → IsLeastFaultOf (IsPointerFault o b p) (Some (record { number = 16; at = table + 4 * i }))
+  other_there table pointer e f n =
+      let place : pointer_place o b p i ≡ table + 4 * i = pointer_there o b p i ∙ ap (λ (q : ℕ). q + 4 * i) (sym e) in
+      let n' : IsPlain o b (pointer_of o b p i) → ⊥ = subst (λ (v : ℕ). IsPlain o b v → ⊥) (pointer_read o b p i table pointer e f) n in
+      subst (λ (q : ℕ). IsLeastFaultOf (IsPointerFault o b p) (Some (record { number = 16; at = q }))) place (first_other n')
+
+  pub outside_there : (table pointer size start len : ℕ) → table ≡ offset_of o b p → pointer ≡ word o b (table + 4 * i) → size ≡ size_of o b p → start ≡ block_start pointer → len ≡ block_len size i → IsPlain o b pointer
+      → (Lies b start len → ⊥) → IsLeastFaultOf (IsPointerFault o b p) (Some (record { number = 11; at = table + 4 * i }))
+  outside_there table pointer size start len e f es et el plain n =
+      let place : pointer_place o b p i ≡ table + 4 * i = pointer_there o b p i ∙ ap (λ (q : ℕ). q + 4 * i) (sym e) in
+      let is = pointer_read o b p i table pointer e f in
+      let n' : BlockLies o b p i → ⊥ = subst (λ (v : ℕ). Lies b v (block_len (size_of o b p) i) → ⊥) (et ∙ ap block_start is) (subst (λ (v : ℕ). Lies b start v → ⊥) (el ∙ ap (λ (v : ℕ). block_len v i) es) n) in
+      subst (λ (q : ℕ). IsLeastFaultOf (IsPointerFault o b p) (Some (record { number = 11; at = q }))) place (first_outside (subst (IsPlain o b) is plain) n')
+
+pub more_there : (o : Order) (b : List ℕ) (p i : ℕ) (table pointer size start len : ℕ) → ArePlain o b p i → table ≡ offset_of o b p → pointer ≡ word o b (table + 4 * i) → size ≡ size_of o b p → start ≡ block_start pointer → len ≡ block_len size i
+    → IsPlain o b pointer → Lies b start len → ArePlain o b p (i + 1)
+more_there o b p i table pointer size start len all e f es et el plain lies =
+    let is = pointer_read o b p i table pointer e f in
+    plain_more o b p i all (subst (IsPlain o b) is plain)
+    (subst (λ (v : ℕ). Lies b v (block_len (size_of o b p) i)) (et ∙ ap block_start is) (subst (λ (v : ℕ). Lies b start v) (el ∙ ap (λ (v : ℕ). block_len v i) es) lies))
+
+-- of two least faults the lesser one
+at_test : (d e : Fault) → ((nat_lt d.at e.at || (d.at == e.at && nat_le d.number e.number) ≡ true) × NotAfter d e) ⊎ ((nat_lt d.at e.at || (d.at == e.at && nat_le d.number e.number) ≡ false) × NotAfter e d)
+at_test d e = elim (lt_tells d.at e.at) [
+  | inl h ↦ inl (rw h.0 refl, inl h.1)
+  | inr h ↦ elim (eqb_tells d.at e.at) [
+    | inl k ↦ elim (leb_tells d.number e.number) [
+      | inl l ↦ inl (rw (h.0, k.0, l.0) refl, inr (k.1, l.1))
+      | inr l ↦ inr (rw (h.0, k.0, l.0) refl, inr (sym k.1, let m = l.1 in omega arith))
+    ]
+    | inr k ↦ let n = k.1 in let g = h.1 in inr (rw (h.0, k.0) refl, inl (omega arith))
+  ]
+]
+
+not_after : (d e f : Fault) → NotAfter d e → NotAfter e f → NotAfter d f
+not_after d e f (inl h) (inl k) = inl (omega arith)
+not_after d e f (inl h) (inr k) = let z = k.0 in inl (omega arith)
+not_after d e f (inr h) (inl k) = let z = h.0 in inl (omega arith)
+not_after d e f (inr h) (inr k) = let z = h.1 in let y = k.1 in inr (h.0 ∙ k.0, omega arith)
+
+module _ {P Q R : Fault → Type 0} (left : (f : Fault) → P f → R f) (right : (f : Fault) → Q f → R f) (either : (f : Fault) → R f → P f ⊎ Q f) where
+  some_less : (d e : Fault) → IsLeastFaultOf P (Some d) → IsLeastFaultOf Q (Some e) → IsLeastFaultOf R (lesser_fault (Some d) (Some e))
+  some_less d e x y = elim (at_test d e) [
+    | inl h ↦ rw h.0 (record { here = left d x.here; least = λ f r. elim (either f r) [ inl q ↦ x.least f q | inr q ↦ not_after d e f h.1 (y.least f q) ] })
+    | inr h ↦ rw h.0 (record { here = right e y.here; least = λ f r. elim (either f r) [ inl q ↦ not_after e d f h.1 (x.least f q) | inr q ↦ y.least f q ] })
+  ]
+
+  pub joined : (u v : Option Fault) → IsLeastFaultOf P u → IsLeastFaultOf Q v → IsLeastFaultOf R (lesser_fault u v)
+  joined None None x y = record { here = tt; least = λ f r. elim (either f r) [ inl q ↦ x.least f q | inr q ↦ y.least f q ] }
+  joined None (Some e) x y = record { here = right e y.here; least = λ f r. elim (either f r) [ inl q ↦ absurd (x.least f q) | inr q ↦ y.least f q ] }
+  joined (Some d) None x y = record { here = left d x.here; least = λ f r. elim (either f r) [ inl q ↦ x.least f q | inr q ↦ absurd (y.least f q) ] }
+  joined (Some d) (Some e) x y = some_less d e x y
+
+-- a fault that stands at the record itself
+pub record StandsHere (o : Order) (b : List ℕ) (p : ℕ) (f : Fault) : Type 0 where
+  pub at : f.at ≡ p
+  pub number : IsFaultAt o b p f.number
+
+fault_is : (f : Fault) (n p : ℕ) → f.number ≡ n → f.at ≡ p → f ≡ record { number = n; at = p }
+fault_is f n p e a = λ t. record { number = e t; at = a t }
+
+module _ {o : Order} {b : List ℕ} {e p : ℕ} (fit : Fits o b e p) where
+  here_fault : (f : Fault) → StandsHere o b p f → HasEntryFault o b e p f
+  here_fault f h = elim h.number [
+    | list_outside i n ↦ bad_body fit (list_fault (fault_is f 11 p i h.at) n)
+    | table_outside i n ↦ bad_body fit (table_fault (fault_is f 11 p i h.at) n)
+    | bad_name i n ↦ name_fault (fault_is f 13 p i h.at) fit n
+    | other_kind i n ↦ bad_body fit (kind_fault (fault_is f 14 p i h.at) n)
+    | link_size i t n ↦ bad_body fit (link_fault (fault_is f 15 p i h.at) t n)
+  ]
+
+  pointed_fault : (f : Fault) → IsPointerFault o b p f → HasEntryFault o b e p f
+  pointed_fault f (other_block i k d t l n) = bad_body fit (kind_of_block i k d t l n)
+  pointed_fault f (block_outside i k d t l m n) = bad_body fit (block_fault i k d t l m n)
+
+  stands : (f : Fault) (n : ℕ) → f ≡ record { number = n; at = p } → IsFaultAt o b p n → StandsHere o b p f
+  stands f n k h = record { at = ap (λ (v : Fault). v.at) k; number = subst (IsFaultAt o b p) (sym (ap (λ (v : Fault). v.number) k)) h }
+
+  which_fault : (f : Fault) → HasEntryFault o b e p f → StandsHere o b p f ⊎ IsPointerFault o b p f
+  which_fault f (past_end k n) = absurd (n fit)
+  which_fault f (name_fault k m n) = inl (stands f 13 k (bad_name refl n))
+  which_fault f (bad_body m (kind_fault k n)) = inl (stands f 14 k (other_kind refl n))
+  which_fault f (bad_body m (link_fault k t n)) = inl (stands f 15 k (link_size refl t n))
+  which_fault f (bad_body m (list_fault k n)) = inl (stands f 11 k (list_outside refl n))
+  which_fault f (bad_body m (table_fault k n)) = inl (stands f 11 k (table_outside refl n))
+  which_fault f (bad_body m (kind_of_block i k d t l n)) = inr (other_block i k d t l n)
+  which_fault f (bad_body m (block_fault i k d t l q n)) = inr (block_outside i k d t l q n)
+
+  -- the least fault of an entry is the lesser of the two kinds
+  pub entry_joined : (u v : Option Fault) → IsLeastFaultOf (StandsHere o b p) u → IsLeastFaultOf (IsPointerFault o b p) v → IsLeastFaultOf (HasEntryFault o b e p) (lesser_fault u v)
+  entry_joined u v x y = joined here_fault pointed_fault which_fault u v x y
+
+pub numbered : (o : Order) (b : List ℕ) (p n : ℕ) → IsLeastOf (IsFaultAt o b p) (Some n) → IsLeastFaultOf (StandsHere o b p) (Some (record { number = n; at = p }))
+numbered o b p n h = record { here = record { at = refl; number = h.here }; least = λ d k. inr (sym k.at, h.least d.number k.number) }
+
+pub unnumbered : (o : Order) (b : List ℕ) (p : ℕ) → IsLeastOf (IsFaultAt o b p) None → IsLeastFaultOf (StandsHere o b p) None
+unnumbered o b p h = record { here = tt; least = λ d k. h.least d.number k.number }
+
+-- one that does not fit has no other fault
+pub unfit : (o : Order) (b : List ℕ) (e p : ℕ) → (Fits o b e p → ⊥) → IsLeastFaultOf (HasEntryFault o b e p) (Some (record { number = 17; at = p }))
+unfit o b e p n = record {
+  here = past_end refl n;
+  least = λ d h. elim h [
+    | past_end k m ↦ let z : d.number ≡ 17 = ap (λ (v : Fault). v.number) k in inr (sym (ap (λ (v : Fault). v.at) k), omega arith)
+    | name_fault k m x ↦ absurd (n m)
+    | bad_body m x ↦ absurd (n m)
+  ];
+}
+
+-- the least fault, where there is one
+pub least_fault : (P : Fault → Type 0) (e : Fault) → IsLeastFaultOf P (Some e) → IsLeastFault P e
+least_fault P e h = record { here = h.here; least = h.least }

@@ -1,0 +1,13 @@
+pub mod Zeros
+pub mod Calls
+pub mod Walk
+pub mod Crcs
+pub mod Faults
+pub mod Reading
+pub mod Sweeps
+pub mod Naming
+pub mod Spans
+pub mod Composed
+pub mod Refused
+pub mod Trees
+pub mod Repeats

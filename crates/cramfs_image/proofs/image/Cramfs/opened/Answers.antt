@@ -1,0 +1,23 @@
+use Rattle.std.proofs.Common.{◌≡◌, ◌≤◌, length, length-take, refl, ap, arith, ◌∙◌, take, ℕ, List}
+use Rattle.cramfs_format.specs.Order.{little}
+use Rattle.cramfs_format.specs.Superblock.{accessible_size}
+use Rattle.cramfs_image.proofs.Trees.{cramfs_by, shows_by, deepest_is}
+use Rattle.cramfs_image.proofs.image.Cramfs.opened.Goals as goal
+
+-- the accessible bytes are no more than all
+within : (all b : List ℕ) (n : ℕ) → b ≡ take n all → length b ≤ length all
+within all b n e = let k = ap length e ∙ length-take n all in omega arith
+
+pub invariant_of-result : goal.invariant_of-result
+invariant_of-result c =
+    let w = c.requires.tree in
+    record {
+      sound = cramfs_by c.requires.superblock c.args.limits.references c.args.limits.depth w.0 c.args.rows.now c.requires.long c.requires.small w.1 w.2;
+      within = within c.args.all.now c.args.bytes.now (accessible_size little c.args.all.now) c.requires.superblock.cut;
+    }
+
+pub returns : goal.returns
+returns c =
+    let w = c.requires.tree in
+    shows_by c.requires.superblock c.args.limits w.0 c.args.rows.now c.greatest_depth-depth.result _ c.requires.long c.requires.small w.1 w.2
+    (deepest_is c.requires.superblock c.args.limits.references c.args.limits.depth c.greatest_depth-depth.result w.0 c.args.rows.now w.1 w.2 c.greatest_depth-depth.ensures.bound c.greatest_depth-depth.ensures.reached) refl refl

@@ -1,0 +1,20 @@
+use Rattle.std.proofs.Common.{List, subst, refl}
+use Rattle.rom_fields.specs.Extents.{OverlapsAt, IsLeastOf}
+use Rattle.record_walk.specs.declared.reference.Row.{Row}
+use Rattle.cramfs_format.specs.Order.{little}
+use Rattle.cramfs_format.specs.Tree.{extents_of}
+use Rattle.cramfs_image.specs.Phases.{of_overlap, IsLeastRowFault, IsTooDeep, IsShallow, IsWellNamed, HasNameFault}
+use Rattle.cramfs_image.proofs.Composed.{well_or_fault}
+use Rattle.cramfs_image.proofs.later.later_fault.Goals as goal
+
+pub returns-in-Some-2 : goal.returns-in-Some-2
+returns-in-Some-2 c =
+    of_overlap (subst (λ (xs : List Row). IsLeastRowFault (IsShallow little c.args.b.now c.args.most) (IsTooDeep little c.args.b.now c.args.most) xs _) c.below_root-below.ensures c.in_default.ensures)
+    (subst (IsLeastOf (OverlapsAt (extents_of little c.args.b.now c.args.rows.now))) c.in-Some-2.is c.in_ok-at.ensures) refl
+
+pub returns : goal.returns
+returns c =
+    well_or_fault little c.args.b.now c.args.most c.args.rows.now c.least_name_fault.result
+    (subst (λ (xs : List Row). IsLeastRowFault (IsShallow little c.args.b.now c.args.most) (IsTooDeep little c.args.b.now c.args.most) xs _) c.below_root-below.ensures c.in_default.ensures)
+    (subst (IsLeastOf (OverlapsAt (extents_of little c.args.b.now c.args.rows.now))) c.in_default-2.is c.in_ok-at.ensures)
+    (subst (λ (xs : List Row). IsLeastRowFault (IsWellNamed little c.args.b.now) (HasNameFault little c.args.b.now) xs c.least_name_fault.result) c.below_root-below.ensures c.least_name_fault.ensures)

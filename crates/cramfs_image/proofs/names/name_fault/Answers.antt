@@ -1,0 +1,13 @@
+use Rattle.std.proofs.Common.{sym, ◌∙◌}
+use Rattle.std.proofs.lemmas.Bool.{false≢true}
+use Rattle.cramfs_image.proofs.Naming.{least_repeated, least_dot, least_unsorted}
+use Rattle.cramfs_image.proofs.names.name_fault.Goals as goal
+
+pub returns-then-repeats-clause-fault : goal.returns-then-repeats-clause-fault
+returns-then-repeats-clause-fault c = least_repeated c.if-repeats.ensures.repeated
+
+pub returns-then-not-is_other-clause-fault : goal.returns-then-not-is_other-clause-fault
+returns-then-not-is_other-clause-fault c = least_dot c.if-repeats.ensures.fresh (λ h. false≢true (sym c.if-not-is_other.true ∙ c.is_other.ensures.1 h))
+
+pub returns-then-is_unsorted-clause-fault : goal.returns-then-is_unsorted-clause-fault
+returns-then-is_unsorted-clause-fault c = least_unsorted c.if-repeats.ensures.fresh (c.is_other.ensures.0 c.if-not-is_other.false) c.if-is_unsorted.ensures.unsorted

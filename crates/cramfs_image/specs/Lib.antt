@@ -1,0 +1,4 @@
+pub mod Cramfs
+pub mod Phases
+pub mod Checked
+pub mod Reported

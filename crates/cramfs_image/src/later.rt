@@ -1,0 +1,52 @@
+//! The phases of the check that go over the records of a forest: depth, extents and names.
+ghost use Rattle.std.specs.Prelude.{◌≡◌, ◌+◌, ◌≤◌, ◌<◌, ◌^◌, length, drop, IfOk, MatchOption};
+ghost use Rattle.std.specs.List.{All};
+ghost use Rattle.cramfs_format.specs.Order.{little};
+ghost use Rattle.cramfs_format.specs.Made.{IsGood};
+ghost use Rattle.cramfs_image.specs.Phases.{IsRecord, AreWell, IsLaterFault};
+
+use crate::depth::least_too_deep;
+use crate::names::least_name_fault;
+use crate::overlap::least_overlap;
+use record_walk::reference::{Fault, Row};
+use rom_fields::extents::OutOfMemory;
+use std::alloc::Global;
+
+const OVERLAP: u32 = 22;
+
+/// The rows other than the root's, which is the first.
+pub fn below_root<'a>(rows: &'a [Row]) -> &'a [Row]
+    requires { 1 ≤ length rows.now }
+    ensures { result.now ≡ drop 1 rows.now }
+{
+    &rows[1..]
+}
+
+/// The least fault of depth, extents and names among the rows of an image, by phases; none where
+/// they are well.
+pub fn later_fault(
+    alloc: Global,
+    b: &[u8],
+    rows: &[Row],
+    most: u32,
+) -> Result<Option<Fault>, OutOfMemory>
+    requires records { All (λ x. IsRecord little b.now x.offset) rows.now }
+    requires good { All (λ x. IsGood little b.now x.offset) (drop 1 rows.now) }
+    requires some { 1 ≤ length rows.now }
+    requires long { 12 ≤ length b.now }
+    requires small { length b.now < 2 ^ 32 }
+    ensures { IfOk result (λ o. MatchOption o (AreWell little b.now most rows.now) (IsLaterFault little b.now most rows.now)) }
+{
+    let below = below_root(rows);
+    if let Some(fault) = least_too_deep(b, below, most) {
+        return Ok(Some(fault));
+    }
+    if let Some(at) = least_overlap(alloc, b, rows)? {
+        let fault = Fault {
+            number: OVERLAP,
+            at,
+        };
+        return Ok(Some(fault));
+    }
+    Ok(least_name_fault(b, below))
+}

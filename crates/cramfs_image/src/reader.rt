@@ -1,0 +1,97 @@
+//! The records of an image as the walk reads them.
+ghost use Rattle.std.specs.Prelude.{◌≡◌, ◌≢◌, ◌+◌, ◌<◌, ◌≤◌, ◌^◌, length, nat_lt, Some, None, if◌then◌else◌};
+ghost use Rattle.record_walk.specs.Faults.{IsLeastFault};
+ghost use Rattle.cramfs_format.specs.Order.{little};
+ghost use Rattle.cramfs_format.specs.Inode.{list_end};
+ghost use Rattle.cramfs_format.specs.Refers.{references, target_of, LeadsToSound, LeadsToFault};
+ghost use Rattle.cramfs_image.specs.Phases.{IsLeastFaultOf};
+
+use crate::inode::{end_at, list_end_at, offset_at};
+use crate::record::{BOUNDS, entry_fault, list_lies};
+use record_walk::records::Records;
+use record_walk::reference::{Fault, Link, Links, Reference};
+
+/// The accessible bytes of an image.
+#[derive(Clone, Copy)]
+pub struct Reader<'a> {
+    pub bytes: &'a [u8],
+    ghost small: { length bytes.now < 2 ^ 32 },
+    ghost long: { 76 ≤ length bytes.now },
+}
+
+/// The reference to what stands at `which` in a list that ends at `end`, of the directory at
+/// `source`.
+fn link_to(source: u32, which: u32, end: u32) -> Link
+    ensures source { result.reference.source ≡ source }
+    ensures which { result.reference.which ≡ which }
+    ensures target { result.target ≡ (if nat_lt which end then Some which else None) }
+{
+    Link {
+        reference: Reference { source, which },
+        target: if which < end { Some(which) } else { None },
+    }
+}
+
+/// The least fault of the record that a reference leads to, if it is not sound.
+fn fault_of(b: &[u8], x: Reference) -> Option<Fault>
+    requires small { length b.now < 2 ^ 32 }
+    requires root { x.source ≡ 0 → x.which + 12 ≤ length b.now }
+    requires source { x.source ≢ 0 → x.source + 12 ≤ length b.now }
+    requires end { x.source ≢ 0 → list_end little b.now x.source ≤ length b.now }
+    ensures { IsLeastFaultOf (LeadsToFault little b.now x) result }
+{
+    if x.source == 0 {
+        if list_lies(b, x.which as usize) {
+            return None;
+        }
+        let number = BOUNDS;
+        return Some(Fault {
+            number,
+            at: x.which,
+        });
+    }
+    entry_fault(
+        b,
+        list_end_at(b, x.source as usize) as usize,
+        x.which as usize,
+    )
+}
+
+impl Records for Reader<'_> {
+    ghost references = { λ s. references little s.bytes.now };
+
+    ghost sound = { λ s. LeadsToSound little s.bytes.now };
+
+    ghost faulty = { λ s. LeadsToFault little s.bytes.now };
+
+    #[tactic(auto, unfolding(cramfs_format::specs::Refers::target_of))]
+    fn top(&self) -> Link {
+        let reference = Reference {
+            source: 0,
+            which: 64,
+        };
+        Link {
+            reference,
+            target: Some(64),
+        }
+    }
+
+    fn is_chained(&self) -> bool {
+        false
+    }
+
+    fn links(&self, x: Reference, at: u32) -> Result<Links, Fault> {
+        let b = self.bytes;
+        if let Some(fault) = fault_of(b, x) {
+            return Err(fault);
+        }
+        let own = link_to(at, offset_at(b, at as usize), list_end_at(b, at as usize));
+        let end = if x.source == 0 {
+            0
+        } else {
+            list_end_at(b, x.source as usize)
+        };
+        let after = link_to(x.source, end_at(b, at as usize) as u32, end);
+        Ok(Links { own, after })
+    }
+}

@@ -1,0 +1,212 @@
+//! The tests of one record, wherever a reference leads.
+ghost use Rattle.std.specs.Prelude.{◌≡◌, ◌≢◌, ◌+◌, ◌*◌, ◌≤◌, ◌<◌, ◌^◌, ◌⊎◌, ◌↔◌, ◌==◌, IsTrue, ℕ, length, if◌then◌else◌, true, false};
+ghost use Rattle.std.specs.Bool.{OnTrue, OnFalse};
+ghost use Rattle.std.specs.List.{Contains};
+ghost use Rattle.rom_fields.specs.Extents.{IsLeastOf};
+ghost use Rattle.cramfs_format.specs.Order.{little, word as word_of};
+ghost use Rattle.cramfs_format.specs.Inode.{type_of, size_of, name_of, end_of, offset_of, is_kind, has_data, block_count, block_len, block_start, pointer_place, pointer_of, is_direct, has_kinds, IsPlain, Lies, ListLies, TableLies, HasLinkSize, Fits, IsName, HasEntryFault};
+ghost use Rattle.cramfs_image.specs.Phases.{IsLeastFaultOf, IsFaultAt, IsPointerFault, lesser_fault};
+
+use crate::inode::{end_at, name_at, offset_at, size_at, start_of, type_at, word};
+use record_walk::reference::Fault;
+
+/// The numbers of a record's faults.
+pub const BOUNDS: u32 = 11;
+
+const BAD_NAME: u32 = 13;
+
+const KIND: u32 = 14;
+
+const LINK_SIZE: u32 = 15;
+
+const BLOCK_KIND: u32 = 16;
+
+const LIST_END: u32 = 17;
+
+/// Whether the bytes lie behind the superblock and among the accessible ones, if there are any.
+fn lies(b: &[u8], start: usize, len: usize) -> bool
+    requires start { start < 2 ^ 33 }
+    requires len { len < 2 ^ 33 }
+    ensures { IsTrue result ↔ Lies b.now start len }
+{
+    len == 0 || (start >= 76 && start + len <= b.len())
+}
+
+/// Whether a list, where there is one, lies there.
+pub fn list_lies(b: &[u8], at: usize) -> bool
+    requires { at + 12 ≤ length b.now }
+    ensures { IsTrue result ↔ ListLies little b.now at }
+{
+    type_at(b, at) != 4 || lies(b, offset_at(b, at) as usize, size_at(b, at) as usize)
+}
+
+/// Whether the inode has contents: it is a file or a link.
+pub fn has_contents(b: &[u8], at: usize) -> bool
+    requires { at + 12 ≤ length b.now }
+    ensures { result ≡ has_data (type_of little b.now at) }
+{
+    let kind = type_at(b, at);
+    kind == 8 || kind == 10
+}
+
+/// How many blocks hold so many bytes.
+pub fn blocks_of(size: u32) -> u32
+    requires { size < 2 ^ 24 }
+    ensures { result ≡ block_count size }
+{
+    (size + 4_095) / 4_096
+}
+
+/// Whether the block pointers, where there are some, lie there.
+pub fn table_lies(b: &[u8], at: usize) -> bool
+    requires { at + 12 ≤ length b.now }
+    ensures { IsTrue result ↔ TableLies little b.now at }
+{
+    let count = blocks_of(size_at(b, at)) as usize;
+    !has_contents(b, at) || lies(b, offset_at(b, at) as usize, 4 * count)
+}
+
+/// Whether a name is not empty, and without a zero or a slash.
+fn is_name(name: &[u8]) -> bool
+    ensures { IsTrue result ↔ IsName name.now }
+{
+    !name.is_empty() && !name.contains(&0) && !name.contains(&47)
+}
+
+/// Whether the inode and its name end where their list ends, or before.
+fn fits(b: &[u8], end: usize, at: usize) -> bool
+    requires end { end ≤ length b.now }
+    requires at { at < 2 ^ 32 }
+    requires small { length b.now < 2 ^ 32 }
+    ensures { IsTrue result ↔ Fits little b.now end at }
+{
+    at + 12 <= end && end_at(b, at) <= end
+}
+
+/// Whether an inode's type is one of seven.
+fn is_known(t: u32) -> bool
+    ensures { result ≡ is_kind t }
+{
+    t == 4 || (t == 8 || (t == 10 || (t == 6 || (t == 2 || (t == 12 || t == 1)))))
+}
+
+/// Whether the size of a symbolic link is that of a text: 1 to 4,095 bytes.
+fn has_link_size(b: &[u8], at: usize) -> bool
+    requires { at + 12 ≤ length b.now }
+    ensures fits { OnTrue result (HasLinkSize little b.now at) }
+    ensures link { OnFalse result (type_of little b.now at ≡ 10) }
+    ensures size { OnFalse result ((size_of little b.now at ≡ 0) ⊎ (4095 < size_of little b.now at)) }
+{
+    if type_at(b, at) == 10 {
+        let size = size_at(b, at);
+        1 <= size && size <= 4_095
+    } else {
+        true
+    }
+}
+
+/// The least number of the faults that stand at an entry that fits into its list.
+fn fault_at(b: &[u8], at: usize) -> Option<u32>
+    requires header { at + 12 ≤ length b.now }
+    requires name { end_of little b.now at ≤ length b.now }
+    requires small { length b.now < 2 ^ 32 }
+    ensures { IsLeastOf (IsFaultAt little b.now at) result }
+{
+    if !list_lies(b, at) {
+        return Some(BOUNDS);
+    }
+    if !table_lies(b, at) {
+        return Some(BOUNDS);
+    }
+    if !is_name(name_at(b, at)) {
+        return Some(BAD_NAME);
+    }
+    if !is_known(type_at(b, at)) {
+        return Some(KIND);
+    }
+    if !has_link_size(b, at) {
+        return Some(LINK_SIZE);
+    }
+    None
+}
+
+/// Whether a pointer is that of a block which is read where it stands.
+fn is_plain(b: &[u8], pointer: u32) -> bool
+    requires { 12 ≤ length b.now }
+    ensures { IsTrue result ↔ IsPlain little b.now pointer }
+{
+    let kinds = word(b, 8) / 2_048 % 2 == 1;
+    kinds && (pointer / 2_147_483_648 % 2 == 1 && pointer / 1_073_741_824 % 2 == 1)
+}
+
+/// How long the block of this index is, in a file of so many bytes.
+pub fn len_of_block(size: u32, i: u32) -> u32
+    requires { 4096 * i ≤ size }
+    ensures { result ≡ block_len size i }
+{
+    (size - 4_096 * i).min(4_096)
+}
+
+/// The least fault of the block pointers.
+fn pointer_fault(b: &[u8], at: usize) -> Option<Fault>
+    requires header { at + 12 ≤ length b.now }
+    requires small { length b.now < 2 ^ 32 }
+    ensures { IsLeastFaultOf (IsPointerFault little b.now at) result }
+{
+    if !has_contents(b, at) {
+        return None;
+    }
+    if !table_lies(b, at) {
+        return None;
+    }
+    let size = size_at(b, at);
+    let table = offset_at(b, at);
+    for i in 0..blocks_of(size) {
+        let place = table + 4 * i;
+        let pointer = word(b, place as usize);
+        if !is_plain(b, pointer) {
+            let number = BLOCK_KIND;
+            return Some(Fault { number, at: place });
+        }
+        let start = start_of(pointer) as usize;
+        if !lies(b, start, len_of_block(size, i) as usize) {
+            let number = BOUNDS;
+            return Some(Fault { number, at: place });
+        }
+    }
+    None
+}
+
+/// The lesser of two faults: by place, then by number.
+fn lesser(one: Option<Fault>, other: Option<Fault>) -> Option<Fault>
+    ensures { result ≡ lesser_fault one other }
+{
+    match (one, other) {
+        (None, _) => other,
+        (Some(_), None) => one,
+        (Some(d), Some(e)) => {
+            let before = d.at < e.at;
+            let beside = d.at == e.at && d.number <= e.number;
+            Some(if before || beside { d } else { e })
+        }
+    }
+}
+
+/// The least fault of the entry at `at` of a list that ends at `end`.
+pub fn entry_fault(b: &[u8], end: usize, at: usize) -> Option<Fault>
+    requires end { end ≤ length b.now }
+    requires at { at < 2 ^ 32 }
+    requires small { length b.now < 2 ^ 32 }
+    ensures { IsLeastFaultOf (HasEntryFault little b.now end at) result }
+{
+    let place = at as u32;
+    if !fits(b, end, at) {
+        let number = LIST_END;
+        return Some(Fault { number, at: place });
+    }
+    let here = match fault_at(b, at) {
+        Some(number) => Some(Fault { number, at: place }),
+        None => None,
+    };
+    lesser(here, pointer_fault(b, at))
+}

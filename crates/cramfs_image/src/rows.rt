@@ -1,0 +1,15 @@
+//! What several phases ask of the rows.
+ghost use Rattle.std.specs.Prelude.{◌≡◌};
+ghost use Rattle.cramfs_image.specs.Phases.{lesser_of};
+
+use record_walk::reference::Fault;
+
+/// The one of the lesser offset; the noted one where both stand at one.
+pub fn lesser(noted: Option<Fault>, fault: Fault) -> Option<Fault>
+    ensures { result ≡ lesser_of noted fault }
+{
+    match noted {
+        None => Some(fault),
+        Some(least) => Some(if least.at <= fault.at { least } else { fault }),
+    }
+}

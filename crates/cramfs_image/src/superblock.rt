@@ -1,0 +1,112 @@
+//! The superblock of an image: which bytes are accessible, and what is wrong with the image as a whole.
+ghost use Rattle.std.specs.Prelude.{◌≡◌, ◌≢◌, ◌≤◌, ◌<◌, ◌^◌, ◌↔◌, IsTrue, length, IfOk, IfErr, IfSome, SomeIff, option_copied};
+ghost use Rattle.std.specs.Bool.{OnTrue, OnFalse};
+ghost use Rattle.cramfs_format.specs.Order.{little};
+ghost use Rattle.cramfs_format.specs.Superblock.{accessible, HasSize, HasCrc, HasSignature, HasRoot, IsSuperblock, HasImageFault};
+
+use crate::crc::{START, with_bytes, with_zero_word};
+use crate::inode::{offset_at, size_at, type_at, word};
+use record_walk::reference::Fault;
+
+/// The first word of an image.
+const MAGIC: u32 = 0x28cd_3d45;
+
+/// `Compressed ROMFS`, which stands at 16.
+const SIGNATURE: [u8; 16] = [
+    67, 111, 109, 112, 114, 101, 115, 115, 101, 100, 32, 82, 79, 77, 70, 83,
+];
+
+/// The accessible bytes, where the stored size is one that the image can have.
+#[tactic(auto, unfolding(cramfs_format::specs::Superblock::accessible_size))]
+fn accessible_bytes<'a>(bytes: &'a [u8]) -> Option<&'a [u8]>
+    requires { 76 ≤ length bytes.now }
+    ensures part { SomeIff (option_copied result) (HasSize little bytes.now) (accessible little bytes.now) }
+    ensures small { IfSome result (λ b. length b.now < 2 ^ 32) }
+    ensures long { IfSome result (λ b. 76 ≤ length b.now) }
+{
+    if word(bytes, 8) % 2 == 1 {
+        let size = word(bytes, 4) as usize;
+        if size < 76 || bytes.len() < size {
+            return None;
+        }
+        return Some(&bytes[..size]);
+    }
+    Some(&bytes[..bytes.len().min(268_435_456)])
+}
+
+/// Whether the stored CRC, if there is one, is that of the bytes with the field that holds it zero.
+fn has_crc(b: &[u8]) -> bool
+    requires { 76 ≤ length b.now }
+    ensures right { OnTrue result (HasCrc little b.now) }
+    ensures wrong { OnFalse result (HasCrc little b.now → ⊥) }
+{
+    if word(b, 8) % 2 != 1 {
+        return true;
+    }
+    let front = with_bytes(START, &b[..32]);
+    let rest = with_bytes(with_zero_word(front), &b[36..]);
+    if word(b, 32) != rest ^ START {
+        return false;
+    }
+    true
+}
+
+/// Whether the signature stands at 16.
+fn has_signature(b: &[u8]) -> bool
+    requires { 76 ≤ length b.now }
+    ensures { IsTrue result ↔ HasSignature b.now }
+{
+    &b[16..32] == SIGNATURE.as_slice()
+}
+
+/// Whether the root is a directory whose list is where a list may be.
+fn has_root(b: &[u8]) -> bool
+    requires { 76 ≤ length b.now }
+    ensures root { OnTrue result (HasRoot little b.now) }
+    ensures other { OnFalse result (HasRoot little b.now → ⊥) }
+{
+    if type_at(b, 64) != 4 {
+        return false;
+    }
+    let offset = offset_at(b, 64);
+    let shifted = word(b, 8) / 1_024 % 2 == 1;
+    if !shifted && offset != 0 && offset != 76 && offset != 588 {
+        return false;
+    }
+    if offset == 0 && size_at(b, 64) != 0 {
+        return false;
+    }
+    true
+}
+
+/// The accessible bytes, or the first fault of the image as a whole: 2 Short, 3 Magic, 4 Size,
+/// 6 Flags, 7 Crc, 8 Signature, 9 Root.
+pub fn read_superblock<'a>(bytes: &'a [u8]) -> Result<&'a [u8], Fault>
+    ensures ok { IfOk result (λ b. IsSuperblock little bytes.now b.now) }
+    ensures small { IfOk result (λ b. length b.now < 2 ^ 32) }
+    ensures long { IfOk result (λ b. 76 ≤ length b.now) }
+    ensures fault { IfErr result (HasImageFault little bytes.now) }
+{
+    if bytes.len() < 76 {
+        return Err(Fault { number: 2, at: 0 });
+    }
+    if word(bytes, 0) != MAGIC {
+        return Err(Fault { number: 3, at: 0 });
+    }
+    let Some(b) = accessible_bytes(bytes) else {
+        return Err(Fault { number: 4, at: 4 });
+    };
+    if word(b, 8) >= 4_096 {
+        return Err(Fault { number: 6, at: 8 });
+    }
+    if !has_crc(b) {
+        return Err(Fault { number: 7, at: 32 });
+    }
+    if !has_signature(b) {
+        return Err(Fault { number: 8, at: 16 });
+    }
+    if !has_root(b) {
+        return Err(Fault { number: 9, at: 64 });
+    }
+    Ok(b)
+}

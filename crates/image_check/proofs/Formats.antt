@@ -1,0 +1,65 @@
+-- No bytes begin as an image of both formats.
+use Rattle.std.proofs.Common.{◌≡◌, ℕ, ◌≤◌, List, [], ◌∷◌, length, IsTrue, nat_eq, inl, inr, refl, sym, ◌∙◌, arith}
+use Rattle.std.proofs.lemmas.Bool.{eq-eqb, false≢true}
+use Rattle.std.proofs.lemmas.Bool.Decides.{eqb_tells}
+use Rattle.rom_fields.specs.Words.{word_le}
+use Rattle.rom_tree.specs.Tree.{Node}
+use Rattle.rom_tree.specs.declared.types.Limits.{Limits}
+use Rattle.rom_tree.specs.declared.types.CheckError.{CheckError}
+use Rattle.rom_tree.specs.declared.types.CheckError.TheVariants.{OutOfMemory, Fault}
+use Rattle.romfs_format.specs.Tree.{RomfsTree}
+use Rattle.romfs_image.specs.Checked.{IsRefused as RomfsRefused}
+use Rattle.cramfs_image.specs.Checked.{IsRefused as CramfsRefused}
+use Rattle.cramfs_format.specs.Order.{little, word}
+use Rattle.cramfs_format.specs.Superblock.{magic as cramfs_magic}
+use Rattle.cramfs_format.specs.Tree.{CramfsTree}
+use Rattle.image_check.specs.Checked.{IsRomfs, IsCramfs, IsRefused}
+
+pub little_word : (b : List ℕ) → word little b 0 ≡ word_le b 0
+unfolding word
+little_word b = refl
+
+-- the word of four bytes
+front_word : (a b c d : ℕ) (rest : List ℕ) → a ≡ 45 → b ≡ 114 → c ≡ 111 → d ≡ 109 → word_le (a ∷ b ∷ c ∷ d ∷ rest) 0 ≡ 684539205 → ⊥
+unfolding word_le
+front_word a b c d rest p q r s e = omega arith
+
+pub apart : (all : List ℕ) → IsRomfs all → word little all 0 ≡ cramfs_magic → ⊥
+apart [] h e = cc
+apart (a ∷ []) h e = cc
+apart (a ∷ b ∷ []) h e = cc
+apart (a ∷ b ∷ c ∷ []) h e = cc
+apart (a ∷ b ∷ c ∷ d ∷ rest) h e =
+    let p : a ≡ 45 = cc in
+    let q : b ≡ 114 = cc in
+    let r : c ≡ 111 = cc in
+    let s : d ≡ 109 = cc in
+    front_word a b c d rest p q r s (sym (little_word (a ∷ b ∷ c ∷ d ∷ rest)) ∙ e)
+
+pub romfs_alone : (all : List ℕ) (limits : Limits) (t : Node) → IsRomfs all → CramfsTree little all limits.references limits.depth t → ⊥
+romfs_alone all limits t h c = apart all h c.super.begins
+
+pub cramfs_alone : (all : List ℕ) (limits : Limits) (t : Node) → IsCramfs all → RomfsTree all limits.references limits.depth t → ⊥
+cramfs_alone all limits t h r = apart all r.super.begins h.1
+
+-- What the check of one format refuses holds no tree of the other.
+pub refused_romfs : (all : List ℕ) (limits : Limits) (e : CheckError) → IsRomfs all → RomfsRefused all limits e → IsRefused all limits e
+refused_romfs all limits OutOfMemory h r = tt
+refused_romfs all limits (Fault number at) h r = λ t. (r t, romfs_alone all limits t h)
+
+pub refused_cramfs : (all : List ℕ) (limits : Limits) (e : CheckError) → IsCramfs all → CramfsRefused little all limits e → IsRefused all limits e
+refused_cramfs all limits OutOfMemory h r = tt
+refused_cramfs all limits (Fault number at) h r = λ t. (cramfs_alone all limits t h, r t)
+
+-- the first word tells whether they begin as a cramfs image does
+pub word_tells : (all : List ℕ) (m : ℕ) → (4 ≤ length all) × (m ≡ word_le all 0) → (IsTrue (nat_eq m 684539205) → IsCramfs all) × (IsCramfs all → IsTrue (nat_eq m 684539205))
+word_tells all m h = (
+  (λ t. (h.0, little_word all ∙ sym h.1 ∙ by_true m t)),
+  (λ k. by_same m (h.1 ∙ sym (little_word all) ∙ k.1)),
+)
+  where
+    by_true : (m : ℕ) → IsTrue (nat_eq m 684539205) → m ≡ 684539205
+    by_true m t = elim (eqb_tells m 684539205) [ inl e ↦ e.1 | inr e ↦ absurd (false≢true (sym e.0 ∙ t)) ]
+
+    by_same : (m : ℕ) → m ≡ 684539205 → IsTrue (nat_eq m 684539205)
+    by_same m e = eq-eqb m 684539205 e

@@ -1,0 +1,53 @@
+-- What the check of an image of either format answers. The formats are told apart by their first bytes.
+use Rattle.std.specs.Prelude.{◌≡◌, ℕ, ◌≤◌, List, length, take, if◌then◌else◌, nat_lt}
+use Rattle.rom_tree.specs.Tree.{Node}
+use Rattle.rom_tree.specs.Image.{Image}
+use Rattle.rom_tree.specs.declared.types.Limits.{Limits}
+use Rattle.rom_tree.specs.declared.types.Report.{Report}
+use Rattle.rom_tree.specs.declared.types.CheckError.{CheckError}
+use Rattle.rom_tree.specs.declared.types.CheckError.TheVariants.{OutOfMemory, Fault}
+use Rattle.romfs_format.specs.Tree.{RomfsTree, magic as romfs_magic}
+use Rattle.romfs_format.specs.Faults.{HasNoFault}
+use Rattle.romfs_image.specs.Checked.{Shows as RomfsShows, IsLeastAnswer}
+use Rattle.cramfs_format.specs.Order.{little, word}
+use Rattle.cramfs_format.specs.Superblock.{magic as cramfs_magic}
+use Rattle.cramfs_format.specs.Tree.{CramfsTree}
+use Rattle.cramfs_image.specs.Checked.{Shows as CramfsShows}
+use Rattle.image_check.specs.declared.any.AnyImage.{AnyImage}
+use Rattle.image_check.specs.declared.any.AnyImage.TheVariants.{Romfs, Cramfs}
+
+-- the bytes begin with `-rom1fs-`
+abbrev pub IsRomfs : List ℕ → Type 0
+IsRomfs all = take 8 all ≡ romfs_magic
+
+-- the first word is 28cd3d45, its lowest byte first
+abbrev pub IsCramfs : List ℕ → Type 0
+IsCramfs all = (4 ≤ length all) × (word little all 0 ≡ cramfs_magic)
+
+-- The image m shows the tree that one of the formats gives these bytes.
+pub data Shows (all : List ℕ) (limits : Limits) (m : Image) (report : Report) : Type 0 where
+  romfs : RomfsShows all limits m report → Shows all limits m report
+  cramfs : CramfsShows little all limits m report → Shows all limits m report
+
+-- a fault only where the bytes hold no tree of either format
+abbrev pub IsRefused : List ℕ → Limits → CheckError → Type 0
+IsRefused all limits OutOfMemory = Unit {0}
+IsRefused all limits (Fault number at) =
+    (t : Node) → (RomfsTree all limits.references limits.depth t → ⊥) × (CramfsTree little all limits.references limits.depth t → ⊥)
+
+-- bytes of no format: 2 Short where they are fewer than 8, else 3 Magic, at 0
+abbrev pub neither : List ℕ → CheckError
+neither all = Fault (if nat_lt (length all) 8 then 2 else 3) 0
+
+-- the image is of the format that the first bytes name
+abbrev pub HasFormat : List ℕ → AnyImage → Type 0
+HasFormat all (Romfs s) = IsRomfs all
+HasFormat all (Cramfs s) = IsCramfs all
+
+-- bytes that begin as a romfs image have no fault
+abbrev pub IsFaultless : List ℕ → Limits → Type 0
+IsFaultless all limits = IsRomfs all → HasNoFault all limits.references limits.depth
+
+-- of bytes that begin as a romfs image this is the least fault
+abbrev pub IsLeastFault : List ℕ → Limits → CheckError → Type 0
+IsLeastFault all limits e = IsRomfs all → IsLeastAnswer all limits e

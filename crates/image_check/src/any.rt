@@ -1,0 +1,85 @@
+//! An image of either format.
+ghost use Rattle.std.specs.Prelude.{◌≡◌};
+ghost use Rattle.image_check.specs.Any.{any_view, report_of};
+
+use cramfs_image::image::Cramfs;
+use rom_tree::image::{TreeImage, Viewed};
+use rom_tree::types::{Cursor, Entry, NodeId, Report, Run, Stat};
+use romfs_image::image::Romfs;
+
+/// An image that has been checked, of one of the two formats.
+#[derive(Drop)]
+pub enum AnyImage<'a> {
+    /// A romfs image.
+    Romfs(Romfs<'a>),
+    /// A cramfs image.
+    Cramfs(Cramfs<'a>),
+}
+
+impl Viewed for AnyImage<'_> {
+    ghost image = { λ a. any_view a };
+}
+
+impl<'a> TreeImage<'a> for AnyImage<'a> {
+    fn bytes(&self) -> &'a [u8] {
+        match self {
+            AnyImage::Romfs(image) => image.bytes(),
+            AnyImage::Cramfs(image) => image.bytes(),
+        }
+    }
+
+    fn root(&self) -> NodeId {
+        match self {
+            AnyImage::Romfs(image) => image.root(),
+            AnyImage::Cramfs(image) => image.root(),
+        }
+    }
+
+    fn is_node(&self, n: NodeId) -> bool {
+        match self {
+            AnyImage::Romfs(image) => image.is_node(n),
+            AnyImage::Cramfs(image) => image.is_node(n),
+        }
+    }
+
+    fn stat(&self, n: NodeId) -> Stat {
+        match self {
+            AnyImage::Romfs(image) => image.stat(n),
+            AnyImage::Cramfs(image) => image.stat(n),
+        }
+    }
+
+    fn entry(&self, d: NodeId, c: Cursor) -> Option<Entry<'a>> {
+        match self {
+            AnyImage::Romfs(image) => image.entry(d, c),
+            AnyImage::Cramfs(image) => image.entry(d, c),
+        }
+    }
+
+    fn lookup(&mut self, d: NodeId, name: &[u8]) -> Option<NodeId> {
+        match self {
+            AnyImage::Romfs(image) => image.lookup(d, name),
+            AnyImage::Cramfs(image) => image.lookup(d, name),
+        }
+    }
+
+    fn run(&self, n: NodeId, off: u64) -> Option<Run> {
+        match self {
+            AnyImage::Romfs(image) => image.run(n, off),
+            AnyImage::Cramfs(image) => image.run(n, off),
+        }
+    }
+}
+
+impl AnyImage<'_> {
+    /// How many references the image has, that of the superblock among them, and the greatest
+    /// number of names from the root to a node.
+    pub fn report(&self) -> Report
+        ensures { result ≡ report_of self.now }
+    {
+        match self {
+            AnyImage::Romfs(image) => image.report(),
+            AnyImage::Cramfs(image) => image.report(),
+        }
+    }
+}

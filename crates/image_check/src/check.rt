@@ -1,0 +1,60 @@
+//! The check of an image of either format.
+ghost use Rattle.std.specs.Prelude.{◌≡◌, ◌↔◌, IsTrue, IfOk, IfErr, Err};
+ghost use Rattle.image_check.specs.Any.{any_view, report_of};
+ghost use Rattle.image_check.specs.Checked.{Shows, IsRefused, IsRomfs, IsCramfs, HasFormat, IsFaultless, IsLeastFault, neither};
+
+use crate::any::AnyImage;
+use cramfs_image::image::Cramfs;
+use rom_fields::word::le32;
+use rom_tree::types::{CheckError, Limits};
+use romfs_image::image::Romfs;
+use std::alloc::Global;
+
+const SHORT: u32 = 2;
+
+const MAGIC: u32 = 3;
+
+/// Whether the bytes begin as a romfs image does.
+fn is_romfs(bytes: &[u8]) -> bool
+    ensures { IsTrue result ↔ IsRomfs bytes.now }
+{
+    bytes.len() >= 8 && &bytes[..8] == b"-rom1fs-".as_slice()
+}
+
+/// Whether the bytes begin as a little-endian cramfs image does.
+fn is_cramfs(bytes: &[u8]) -> bool
+    ensures { IsTrue result ↔ IsCramfs bytes.now }
+{
+    match le32(bytes, 0) {
+        Some(magic) => magic == 0x28cd_3d45,
+        None => false,
+    }
+}
+
+/// The image of these bytes, where they hold the tree of a romfs or a little-endian cramfs image
+/// within the limits (a depth limit above 64 counts as 64); else a fault of the format that their
+/// first bytes name. Bytes that name none have fault 2 where they are fewer than 8, else fault 3,
+/// at 0. `OutOfMemory` where the room for the table of records is refused.
+pub fn check<'a>(alloc: Global, bytes: &'a [u8], limits: Limits) -> Result<AnyImage<'a>, CheckError>
+    ensures ok { IfOk result (λ v. Shows bytes.now limits (any_view v) (report_of v)) }
+    ensures fault { IfErr result (IsRefused bytes.now limits) }
+    ensures format { IfOk result (HasFormat bytes.now) }
+    ensures clean { IfOk result (λ v. IsFaultless bytes.now limits) }
+    ensures least { IfErr result (IsLeastFault bytes.now limits) }
+    ensures neither { (IsRomfs bytes.now → ⊥) → (IsCramfs bytes.now → ⊥) → result ≡ Err (neither bytes.now) }
+{
+    if is_romfs(bytes) {
+        return match Romfs::check(alloc, bytes, limits) {
+            Ok(image) => Ok(AnyImage::Romfs(image)),
+            Err(error) => Err(error),
+        };
+    }
+    if is_cramfs(bytes) {
+        return match Cramfs::check(alloc, bytes, limits) {
+            Ok(image) => Ok(AnyImage::Cramfs(image)),
+            Err(error) => Err(error),
+        };
+    }
+    let number = if bytes.len() < 8 { SHORT } else { MAGIC };
+    Err(CheckError::Fault { number, at: 0 })
+}
