@@ -5,3 +5,4 @@ pub mod Tree
 pub mod Crc
 pub mod Superblock
 pub mod Made
+pub mod Faults
