@@ -18,7 +18,8 @@ use Rattle.cramfs_format.specs.Refers.{references, LeadsToSound}
 use Rattle.cramfs_format.specs.Tree.{precedes, is_sorted, extents_of, NamesDiffer, NamesRise, IsNoDot, IsTree}
 use Rattle.cramfs_format.proofs.Depths.{IsWithin, tree_within}
 use Rattle.cramfs_format.proofs.Orders.{precedes_on, one_first}
-use Rattle.cramfs_image.specs.Phases.{IsLeastRowFault, IsTooDeep, IsShallow, Repeats, last_name, HasNameFault, IsWellNamed, AreWell, IsLaterFault, of_name}
+use Rattle.record_walk.specs.Sweep.{IsLeastRowFault}
+use Rattle.cramfs_image.specs.Phases.{IsTooDeep, IsShallow, Repeats, last_name, HasNameFault, IsWellNamed, AreWell, IsLaterFault, of_name}
 
 -- with no entry too deep and no overlap, the names decide
 pub well_or_fault : (o : Order) (b : List ℕ) (most : ℕ) (all : List Row) (v : Option Fault) → IsLeastRowFault (IsShallow o b most) (IsTooDeep o b most) (drop 1 all) None → IsLeastOf (OverlapsAt (extents_of o b all)) None

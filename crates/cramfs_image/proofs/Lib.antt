@@ -4,7 +4,6 @@ pub mod Walk
 pub mod Crcs
 pub mod Faults
 pub mod Reading
-pub mod Sweeps
 pub mod Naming
 pub mod Spans
 pub mod Composed

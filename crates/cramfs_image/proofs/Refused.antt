@@ -20,7 +20,8 @@ use Rattle.cramfs_format.proofs.Depths.{IsWithin, all_within}
 use Rattle.cramfs_format.proofs.Orders.{precedes_on, never_self}
 use Rattle.cramfs_format.proofs.Faults.{led_faultless}
 use Rattle.cramfs_format.proofs.Lawful.{references_lawful}
-use Rattle.cramfs_image.specs.Phases.{Repeats, last_name, HasNameFault, repeated, dots, unsorted, StandsAtRow, IsLaterFault, of_depth, of_overlap, of_name}
+use Rattle.record_walk.specs.Sweep.{StandsAtRow}
+use Rattle.cramfs_image.specs.Phases.{Repeats, last_name, HasNameFault, repeated, dots, unsorted, IsLaterFault, of_depth, of_overlap, of_name}
 
 pub every_drop : (P : Row → Type 0) (xs : List Row) → Every P xs → Every P (drop 1 xs)
 every_drop P [] h = tt

@@ -4,7 +4,8 @@ use Rattle.std.specs.List.{Any}
 use Rattle.rom_fields.specs.Extents.{OverlapsAt, IsLeastOf}
 use Rattle.record_walk.specs.declared.reference.Fault.{Fault}
 use Rattle.record_walk.specs.declared.reference.Row.{Row}
-use Rattle.record_walk.specs.Faults.{IsLeast, NotAfter}
+use Rattle.record_walk.specs.Sweep.{IsLeastRowFault}
+use Rattle.record_walk.specs.Faults.{NotAfter}
 use Rattle.cramfs_format.specs.Order.{Order}
 use Rattle.cramfs_format.specs.Inode.{type_of, size_of, offset_of, name_of, is_kind, has_data, block_count, pointer_place, pointer_of, IsPlain, ListLies, TableLies, BlockLies, HasBody, IsName}
 use Rattle.cramfs_format.specs.Tree.{precedes, is_sorted, extents_of, IsNoDot}
@@ -44,21 +45,6 @@ pub record IsRecord (o : Order) (b : List ℕ) (p : ℕ) : Type 0 where
 abbrev pub HasSameFile : Order → List ℕ → Row → Row → Type 0
 HasSameFile o b x y = (has_data (type_of o b y.offset) ≡ true) × (offset_of o b y.offset ≡ offset_of o b x.offset) × (size_of o b y.offset ≡ size_of o b x.offset)
 
--- a fault stands at a row, which has no fault of a lesser number; P has the rows before a row, the row and a number
-pub record StandsAtRow (P : List Row → Row → ℕ → Type 0) (xs : List Row) (e : Fault) : Type 0 where
-  pub before : List Row
-  pub row : Row
-  pub after : List Row
-  pub among : xs ≡ before ++ row ∷ after
-  pub at : e.at ≡ row.offset
-  pub number : IsLeast (P before row) e.number
-
--- The fault at the least offset of those of the rows, or none where each row is well (C).
-pub record IsLeastRowFault (C : List Row → Row → Type 0) (P : List Row → Row → ℕ → Type 0) (xs : List Row) (o : Option Fault) : Type 0 where
-  pub clean : o ≡ None → (before : List Row) (x : Row) (after : List Row) → xs ≡ before ++ x ∷ after → C before x
-  pub noted : IfSome o (StandsAtRow P xs)
-  pub least : (before : List Row) (x : Row) (after : List Row) (n : ℕ) → xs ≡ before ++ x ∷ after → P before x n → IsSomeAnd o (λ e. e.at ≤ x.offset)
-
 -- 21 TooDeep: an entry deeper than the limit, of another name than `.` and `..`
 abbrev pub IsTooDeep : Order → List ℕ → ℕ → List Row → Row → ℕ → Type 0
 IsTooDeep o b most before x n = (n ≡ 21) × IsNoDot o b x × (most < x.depth)
@@ -94,11 +80,6 @@ pub record IsWellNamed (o : Order) (b : List ℕ) (before : List Row) (x : Row) 
   pub fresh : Repeats o b before x → ⊥
   pub other : IsNoDot o b x
   pub sorted : IsUnsorted o b before x → ⊥
-
--- the one of the lesser offset; the noted one where both stand at one
-abbrev pub lesser_of : Option Fault → Fault → Option Fault
-lesser_of None e = Some e
-lesser_of (Some d) e = Some (if nat_le d.at e.at then d else e)
 
 -- no entry too deep, no overlap, and each name in its place; the root's row is the first
 pub record AreWell (o : Order) (b : List ℕ) (most : ℕ) (all : List Row) : Type 0 where

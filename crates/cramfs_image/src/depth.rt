@@ -6,11 +6,12 @@ ghost use Rattle.cramfs_format.specs.Order.{little};
 ghost use Rattle.cramfs_format.specs.Inode.{name_of};
 ghost use Rattle.cramfs_format.specs.Made.{IsGood};
 ghost use Rattle.cramfs_format.specs.Tree.{dot, dot_dot, IsNoDot};
-ghost use Rattle.cramfs_image.specs.Phases.{IsLeastRowFault, IsTooDeep, IsShallow};
+ghost use Rattle.record_walk.specs.Sweep.{IsLeastRowFault};
+ghost use Rattle.cramfs_image.specs.Phases.{IsTooDeep, IsShallow};
 
 use crate::inode::name_at;
-use crate::rows::lesser;
 use record_walk::reference::{Fault, Row};
+use record_walk::sweep::lesser;
 
 const TOO_DEEP: u32 = 21;
 

@@ -17,7 +17,6 @@ mod names;
 mod overlap;
 mod reader;
 mod record;
-mod rows;
 mod superblock;
 #[cfg(test)]
 mod tests;

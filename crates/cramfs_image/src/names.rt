@@ -8,12 +8,13 @@ ghost use Rattle.cramfs_format.specs.Order.{little};
 ghost use Rattle.cramfs_format.specs.Inode.{name_of};
 ghost use Rattle.cramfs_format.specs.Made.{IsGood};
 ghost use Rattle.cramfs_format.specs.Tree.{precedes, is_sorted, IsNoDot};
-ghost use Rattle.cramfs_image.specs.Phases.{IsLeastRowFault, Repeats, last_name, row_name, IsUnsorted, HasNameFault, IsWellNamed};
+ghost use Rattle.record_walk.specs.Sweep.{IsLeastRowFault};
+ghost use Rattle.cramfs_image.specs.Phases.{Repeats, last_name, row_name, IsUnsorted, HasNameFault, IsWellNamed};
 
 use crate::depth::is_other;
 use crate::inode::{name_at, word};
-use crate::rows::lesser;
 use record_walk::reference::{Fault, Row};
+use record_walk::sweep::lesser;
 
 const DUPLICATE_NAME: u32 = 23;
 

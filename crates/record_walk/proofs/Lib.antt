@@ -10,3 +10,4 @@ pub mod Same
 pub mod Seen
 pub mod Visited
 pub mod Whole
+pub mod Sweeps

@@ -5,3 +5,4 @@ pub mod Faults
 pub mod Lesser
 pub mod Walk
 pub mod Table
+pub mod Sweep

@@ -10,6 +10,7 @@
 pub mod laws;
 pub mod records;
 pub mod reference;
+pub mod sweep;
 #[cfg(test)]
 mod tests;
 pub mod walk;

@@ -3,6 +3,7 @@ ghost use Rattle.record_walk.specs.Table.{offset, table_references, table_sound,
 
 use crate::records::Records;
 use crate::reference::{Fault, Link, Links, Reference, Row};
+use crate::sweep::lesser;
 use crate::walk::{WalkError, walk};
 use std::alloc::Global;
 use std::test::Fail;
@@ -139,5 +140,15 @@ fn the_least_record_with_two_references(rt: HostRuntime) -> Result<(), Fail> {
         100,
     );
     assert!(rt; matches!(walked, Err(WalkError::Twice(3))));
+    Ok(())
+}
+
+#[test]
+fn the_lesser_offset_is_kept(rt: HostRuntime) -> Result<(), Fail> {
+    let one = Fault { number: 21, at: 96 };
+    let other = Fault { number: 23, at: 64 };
+    assert!(rt; matches!(lesser(None, one), Some(Fault { number: 21, at: 96 })));
+    assert!(rt; matches!(lesser(Some(one), other), Some(Fault { number: 23, at: 64 })));
+    assert!(rt; matches!(lesser(Some(other), one), Some(Fault { number: 23, at: 64 })));
     Ok(())
 }

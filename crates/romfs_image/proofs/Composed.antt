@@ -15,7 +15,8 @@ use Rattle.romfs_format.specs.Tree.{dot, extents_of, listed_rows, NamesDiffer, L
 use Rattle.romfs_format.proofs.Bridge.{offset_some, offset_none, top_offset}
 use Rattle.romfs_format.proofs.Depths.{IsWithin}
 use Rattle.romfs_format.proofs.Dots.{tree_within}
-use Rattle.romfs_image.specs.Phases.{IsLeastRowFault, IsTooDeep, IsShallow, Repeats, HasNameFault, IsWellNamed, AreWell, IsLaterFault, name}
+use Rattle.record_walk.specs.Sweep.{IsLeastRowFault}
+use Rattle.romfs_image.specs.Phases.{IsTooDeep, IsShallow, Repeats, HasNameFault, IsWellNamed, AreWell, IsLaterFault, name}
 
 -- with no entry too deep and no overlap, the names decide
 pub well_or_fault : (b : List ℕ) (r most : ℕ) (all : List Row) (o : Option Fault) → IsLeastRowFault (IsShallow b most) (IsTooDeep b most) all None → IsLeastOf (OverlapsAt (extents_of b r all)) None

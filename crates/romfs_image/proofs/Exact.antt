@@ -16,7 +16,8 @@ use Rattle.romfs_format.specs.Tree.{is_dot, follow, listed_rows}
 use Rattle.romfs_format.specs.Faults.{IsReached, IsListed, itself, ComesAfter, IsParent, Leads, here, link, IsNone, HasNameFault as HasSetNameFault, repeated as set_repeated, here_astray as set_here, above_astray as set_above, root_renamed as set_root, link_astray as set_link}
 use Rattle.romfs_format.proofs.Orders.{Comes, comes_precedes, split_at}
 use Rattle.romfs_format.proofs.Named.{rows_listed, listed_in, rows_ordered, rows_followed, rows_parent, one_parent, reached_has, rows_are_reached, root_heads}
-use Rattle.romfs_image.specs.Phases.{IsLeastRowFault, HasNameFault, repeated, here_astray, above_astray, root_renamed, link_astray}
+use Rattle.record_walk.specs.Sweep.{IsLeastRowFault}
+use Rattle.romfs_image.specs.Phases.{HasNameFault, repeated, here_astray, above_astray, root_renamed, link_astray}
 use Rattle.romfs_image.proofs.Steps.{Is, step_done, step_lost, step_more, step_end}
 
 -- a row at an offset, as the code looks for it

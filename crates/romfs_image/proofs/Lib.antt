@@ -3,7 +3,6 @@ pub mod Fields
 pub mod Calls
 pub mod Walk
 pub mod Steps
-pub mod Sweeps
 pub mod Naming
 pub mod Composed
 pub mod Refused

@@ -1,27 +1,12 @@
 -- What the later phases of the check look for among the records of a forest.
-use Rattle.std.specs.Prelude.{◌≡◌, ◌≢◌, ℕ, ◌<◌, ◌≤◌, false, List, ◌∷◌, ◌++◌, Option, None, Some, IfSome, IsSomeAnd, nat_le, if◌then◌else◌}
+use Rattle.std.specs.Prelude.{◌≡◌, ◌≢◌, ℕ, ◌<◌, ◌≤◌, false, List, ◌∷◌, ◌++◌, None, Some}
 use Rattle.std.specs.List.{Any}
 use Rattle.record_walk.specs.declared.reference.Fault.{Fault}
 use Rattle.record_walk.specs.declared.reference.Row.{Row}
-use Rattle.record_walk.specs.Faults.{IsLeast}
+use Rattle.record_walk.specs.Sweep.{IsLeastRowFault}
 use Rattle.romfs_format.specs.Record.{name_of, type_of}
 use Rattle.rom_fields.specs.Extents.{OverlapsAt, IsLeastOf}
 use Rattle.romfs_format.specs.Tree.{dot, dot_dot, is_dot, follow, LeadsWell, extents_of, listed_rows}
-
--- a fault stands at a row, which has no fault of a lesser number; P has the rows before a row, the row and a number
-pub record StandsAtRow (P : List Row → Row → ℕ → Type 0) (xs : List Row) (e : Fault) : Type 0 where
-  pub before : List Row
-  pub row : Row
-  pub after : List Row
-  pub among : xs ≡ before ++ row ∷ after
-  pub at : e.at ≡ row.offset
-  pub number : IsLeast (P before row) e.number
-
--- The fault at the least offset of those of the rows, or none where each row is well (C).
-pub record IsLeastRowFault (C : List Row → Row → Type 0) (P : List Row → Row → ℕ → Type 0) (xs : List Row) (o : Option Fault) : Type 0 where
-  pub clean : o ≡ None → (before : List Row) (x : Row) (after : List Row) → xs ≡ before ++ x ∷ after → C before x
-  pub noted : IfSome o (StandsAtRow P xs)
-  pub least : (before : List Row) (x : Row) (after : List Row) (n : ℕ) → xs ≡ before ++ x ∷ after → P before x n → IsSomeAnd o (λ e. e.at ≤ x.offset)
 
 -- 21 TooDeep: an entry deeper than the limit
 abbrev pub IsTooDeep : List ℕ → ℕ → List Row → Row → ℕ → Type 0
@@ -47,11 +32,6 @@ pub record IsWellNamed (b : List ℕ) (r : ℕ) (all before : List Row) (x : Row
   pub fresh : Repeats b before x → ⊥
   pub leads : LeadsWell b all x
   pub root : x.offset ≡ r → name_of b x.offset ≡ dot
-
--- the one of the lesser offset; the noted one where both stand at one
-abbrev pub lesser_of : Option Fault → Fault → Option Fault
-lesser_of None e = Some e
-lesser_of (Some d) e = Some (if nat_le d.at e.at then d else e)
 
 -- no entry too deep, no overlap, and each name in its place
 pub record AreWell (b : List ℕ) (r most : ℕ) (all : List Row) : Type 0 where

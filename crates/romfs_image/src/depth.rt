@@ -4,11 +4,12 @@ ghost use Rattle.std.specs.Bool.{OnTrue, OnFalse};
 ghost use Rattle.std.specs.List.{All, Any};
 ghost use Rattle.romfs_format.specs.Record.{name_of, IsSound};
 ghost use Rattle.romfs_format.specs.Tree.{is_dot};
-ghost use Rattle.romfs_image.specs.Phases.{IsLeastRowFault, IsTooDeep, IsShallow};
+ghost use Rattle.record_walk.specs.Sweep.{IsLeastRowFault};
+ghost use Rattle.romfs_image.specs.Phases.{IsTooDeep, IsShallow};
 
 use crate::record::{is_dots, name_at};
-use crate::rows::lesser;
 use record_walk::reference::{Fault, Row};
+use record_walk::sweep::lesser;
 
 const TOO_DEEP: u32 = 21;
 

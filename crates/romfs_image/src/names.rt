@@ -6,12 +6,14 @@ ghost use Rattle.record_walk.specs.declared.reference.Row.{Row};
 ghost use Rattle.record_walk.specs.Faults.{IsLeast};
 ghost use Rattle.romfs_format.specs.Record.{name_of, type_of, IsSound};
 ghost use Rattle.romfs_format.specs.Tree.{dot, dot_dot, is_dot, follow};
-ghost use Rattle.romfs_image.specs.Phases.{IsLeastRowFault, Repeats, HasNameFault, IsWellNamed};
+ghost use Rattle.record_walk.specs.Sweep.{IsLeastRowFault};
+ghost use Rattle.romfs_image.specs.Phases.{Repeats, HasNameFault, IsWellNamed};
 
 use crate::header::type_at;
 use crate::record::{is_dots, name_at};
-use crate::rows::{led_to, lesser};
+use crate::rows::led_to;
 use record_walk::reference::{Fault, Row};
+use record_walk::sweep::lesser;
 
 const DUPLICATE_NAME: u32 = 23;
 

@@ -3,20 +3,9 @@ ghost use Rattle.std.specs.Prelude.{◌≡◌, ◌==◌, IfSome};
 ghost use Rattle.std.specs.List.{All, list_any};
 ghost use Rattle.romfs_format.specs.Record.{IsSound};
 ghost use Rattle.romfs_format.specs.Tree.{follow};
-ghost use Rattle.romfs_image.specs.Phases.{lesser_of};
 
 use crate::header::{target_offset, type_at};
-use record_walk::reference::{Fault, Row};
-
-/// The one of the lesser offset; the noted one where both stand at one.
-pub fn lesser(noted: Option<Fault>, fault: Fault) -> Option<Fault>
-    ensures { result ≡ lesser_of noted fault }
-{
-    match noted {
-        None => Some(fault),
-        Some(least) => Some(if least.at <= fault.at { least } else { fault }),
-    }
-}
+use record_walk::reference::Row;
 
 /// Whether one of the rows has this offset.
 fn is_among(rows: &[Row], offset: u32) -> bool

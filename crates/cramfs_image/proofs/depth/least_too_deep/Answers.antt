@@ -4,7 +4,7 @@ use Rattle.record_walk.specs.Faults.{IsLeast}
 use Rattle.cramfs_format.specs.Order.{Order, little}
 use Rattle.cramfs_format.specs.Tree.{IsNoDot}
 use Rattle.cramfs_image.specs.Phases.{IsTooDeep, IsShallow}
-use Rattle.cramfs_image.proofs.Sweeps.{blank, sweep_well_at, sweep_fault_at}
+use Rattle.record_walk.proofs.Sweeps.{blank, sweep_well_at, sweep_fault_at}
 use Rattle.cramfs_image.proofs.depth.least_too_deep.Goals as goal
 use Rattle.cramfs_image.proofs.depth.least_too_deep.Goals.{then-is_too_deep, else-is_too_deep}
 

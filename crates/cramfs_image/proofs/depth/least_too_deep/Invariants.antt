@@ -1,6 +1,7 @@
 use Rattle.std.proofs.Common.{take}
 use Rattle.cramfs_format.specs.Order.{little}
-use Rattle.cramfs_image.specs.Phases.{IsLeastRowFault, IsTooDeep, IsShallow}
+use Rattle.record_walk.specs.Sweep.{IsLeastRowFault}
+use Rattle.cramfs_image.specs.Phases.{IsTooDeep, IsShallow}
 use Rattle.cramfs_image.proofs.depth.least_too_deep.Given as goal
 
 abbrev pub invariant-rows : goal.invariant-rows

@@ -3,7 +3,8 @@ use Rattle.rom_fields.specs.Extents.{OverlapsAt, IsLeastOf}
 use Rattle.record_walk.specs.declared.reference.Row.{Row}
 use Rattle.cramfs_format.specs.Order.{little}
 use Rattle.cramfs_format.specs.Tree.{extents_of}
-use Rattle.cramfs_image.specs.Phases.{of_overlap, IsLeastRowFault, IsTooDeep, IsShallow, IsWellNamed, HasNameFault}
+use Rattle.record_walk.specs.Sweep.{IsLeastRowFault}
+use Rattle.cramfs_image.specs.Phases.{of_overlap, IsTooDeep, IsShallow, IsWellNamed, HasNameFault}
 use Rattle.cramfs_image.proofs.Composed.{well_or_fault}
 use Rattle.cramfs_image.proofs.later.later_fault.Goals as goal
 

@@ -3,7 +3,7 @@ use Rattle.std.specs.Prelude.{IfSome}
 use Rattle.record_walk.specs.declared.reference.Row.{Row}
 use Rattle.cramfs_format.specs.Order.{little}
 use Rattle.cramfs_format.specs.Made.{IsGood}
-use Rattle.cramfs_image.proofs.Sweeps.{blank}
+use Rattle.record_walk.proofs.Sweeps.{blank}
 use Rattle.cramfs_image.proofs.Naming.{last_here, last_kept}
 use Rattle.cramfs_image.proofs.names.last_of.Goals as goal
 use Rattle.cramfs_image.proofs.names.last_of.Goals.{then-row-directory, else-row-directory}

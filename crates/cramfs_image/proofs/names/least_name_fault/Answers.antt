@@ -1,5 +1,5 @@
 use Rattle.std.proofs.Common.{◌∙◌}
-use Rattle.cramfs_image.proofs.Sweeps.{sweep_start, sweep_well_at, sweep_fault_at}
+use Rattle.record_walk.proofs.Sweeps.{sweep_start, sweep_well_at, sweep_fault_at}
 use Rattle.cramfs_image.proofs.Naming.{well_faultless}
 use Rattle.cramfs_image.proofs.names.least_name_fault.Goals as goal
 use Rattle.cramfs_image.proofs.names.least_name_fault.Goals.{in-Some, in_default}

@@ -1,6 +1,7 @@
 use Rattle.std.proofs.Common.{take}
 use Rattle.cramfs_format.specs.Order.{little}
-use Rattle.cramfs_image.specs.Phases.{IsLeastRowFault, HasNameFault, IsWellNamed}
+use Rattle.record_walk.specs.Sweep.{IsLeastRowFault}
+use Rattle.cramfs_image.specs.Phases.{HasNameFault, IsWellNamed}
 use Rattle.cramfs_image.proofs.names.least_name_fault.Given as goal
 
 abbrev pub invariant-loop-i : goal.invariant-loop-i

@@ -1,7 +1,7 @@
 use Rattle.std.proofs.Common.{sym, ◌∙◌}
 use Rattle.std.proofs.lemmas.Bool.{false≢true}
 use Rattle.cramfs_format.specs.Order.{little}
-use Rattle.cramfs_image.proofs.Sweeps.{blank}
+use Rattle.record_walk.proofs.Sweeps.{blank}
 use Rattle.cramfs_image.proofs.Naming.{repeats_more}
 use Rattle.cramfs_image.proofs.names.repeats.Goals as goal
 

@@ -1,6 +1,6 @@
 use Rattle.std.proofs.Common.{sym, ◌∙◌}
 use Rattle.cramfs_format.specs.Order.{little}
-use Rattle.cramfs_image.proofs.Sweeps.{blank}
+use Rattle.record_walk.proofs.Sweeps.{blank}
 use Rattle.cramfs_image.proofs.Repeats.{row_added, row_left_out}
 use Rattle.cramfs_image.proofs.overlap.least_overlap.Goals as goal
 

@@ -6,7 +6,7 @@ use Rattle.std.specs.List.{All, Any}
 use Rattle.record_walk.specs.declared.reference.Row.{Row}
 use Rattle.romfs_format.specs.Record.{name_of}
 use Rattle.romfs_format.specs.Tree.{is_dot}
-use Rattle.romfs_image.proofs.Sweeps.{blank}
+use Rattle.record_walk.proofs.Sweeps.{blank}
 use Rattle.romfs_image.proofs.depth.greatest_depth.Goals as goal
 use Rattle.romfs_image.proofs.depth.greatest_depth.Goals.{then-is_too_deep, else-is_too_deep}
 

@@ -4,7 +4,7 @@ use Rattle.record_walk.specs.Faults.{IsLeast}
 use Rattle.romfs_format.specs.Record.{name_of}
 use Rattle.romfs_format.specs.Tree.{is_dot}
 use Rattle.romfs_image.specs.Phases.{IsTooDeep, IsShallow}
-use Rattle.romfs_image.proofs.Sweeps.{blank, sweep_well_at, sweep_fault_at}
+use Rattle.record_walk.proofs.Sweeps.{blank, sweep_well_at, sweep_fault_at}
 use Rattle.romfs_image.proofs.depth.least_too_deep.Goals as goal
 use Rattle.romfs_image.proofs.depth.least_too_deep.Goals.{then-is_too_deep, else-is_too_deep}
 

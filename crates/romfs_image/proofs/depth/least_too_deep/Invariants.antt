@@ -1,5 +1,6 @@
 use Rattle.std.proofs.Common.{take}
-use Rattle.romfs_image.specs.Phases.{IsLeastRowFault, IsTooDeep, IsShallow}
+use Rattle.record_walk.specs.Sweep.{IsLeastRowFault}
+use Rattle.romfs_image.specs.Phases.{IsTooDeep, IsShallow}
 use Rattle.romfs_image.proofs.depth.least_too_deep.Given as goal
 
 abbrev pub invariant-rows : goal.invariant-rows

@@ -4,7 +4,8 @@ use Rattle.rom_fields.specs.Extents.{OverlapsAt, IsLeastOf}
 use Rattle.record_walk.specs.declared.reference.Row.{Row}
 use Rattle.romfs_format.specs.Record.{IsSound}
 use Rattle.romfs_format.specs.Tree.{extents_of}
-use Rattle.romfs_image.specs.Phases.{overlap, IsLeastRowFault, IsWellNamed, HasNameFault}
+use Rattle.record_walk.specs.Sweep.{IsLeastRowFault}
+use Rattle.romfs_image.specs.Phases.{overlap, IsWellNamed, HasNameFault}
 use Rattle.romfs_image.proofs.Composed.{well_or_fault, listed_sound}
 use Rattle.romfs_image.proofs.later.later_fault.Goals as goal
 

@@ -1,5 +1,5 @@
 use Rattle.std.proofs.Common.{◌∙◌}
-use Rattle.romfs_image.proofs.Sweeps.{sweep_start, sweep_well_at, sweep_fault_at}
+use Rattle.record_walk.proofs.Sweeps.{sweep_start, sweep_well_at, sweep_fault_at}
 use Rattle.romfs_image.proofs.Naming.{well_faultless}
 use Rattle.romfs_image.proofs.names.least_name_fault.Goals as goal
 use Rattle.romfs_image.proofs.names.least_name_fault.Goals.{in-Some, in_default}

@@ -1,5 +1,6 @@
 use Rattle.std.proofs.Common.{take}
-use Rattle.romfs_image.specs.Phases.{IsLeastRowFault, HasNameFault, IsWellNamed}
+use Rattle.record_walk.specs.Sweep.{IsLeastRowFault}
+use Rattle.romfs_image.specs.Phases.{HasNameFault, IsWellNamed}
 use Rattle.romfs_image.proofs.names.least_name_fault.Given as goal
 
 abbrev pub invariant-loop-i : goal.invariant-loop-i

@@ -1,6 +1,6 @@
 use Rattle.std.proofs.Common.{sym, ◌∙◌}
 use Rattle.std.proofs.lemmas.Bool.{false≢true}
-use Rattle.romfs_image.proofs.Sweeps.{blank}
+use Rattle.record_walk.proofs.Sweeps.{blank}
 use Rattle.romfs_image.proofs.Naming.{repeats_more}
 use Rattle.romfs_image.proofs.names.repeats.Goals as goal
 

@@ -1,8 +1,8 @@
-//! What several phases ask of the rows.
+//! A sweep over the rows of a forest.
 ghost use Rattle.std.specs.Prelude.{◌≡◌};
-ghost use Rattle.cramfs_image.specs.Phases.{lesser_of};
+ghost use Rattle.record_walk.specs.Sweep.{lesser_of};
 
-use record_walk::reference::Fault;
+use crate::reference::Fault;
 
 /// The one of the lesser offset; the noted one where both stand at one.
 pub fn lesser(noted: Option<Fault>, fault: Fault) -> Option<Fault>

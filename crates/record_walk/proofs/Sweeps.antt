@@ -6,7 +6,7 @@ use Rattle.std.specs.Prelude.{IsSomeAnd}
 use Rattle.record_walk.specs.declared.reference.Fault.{Fault}
 use Rattle.record_walk.specs.declared.reference.Row.{Row}
 use Rattle.record_walk.specs.Faults.{IsLeast}
-use Rattle.romfs_image.specs.Phases.{IsLeastRowFault, StandsAtRow, lesser_of}
+use Rattle.record_walk.specs.Sweep.{IsLeastRowFault, StandsAtRow, lesser_of}
 
 -- where a member of xs ++ x stands: it is x, or it stands in xs
 pub split_push : {X : Type 0} (xs : List X) (x : X) (before : List X) (y : X) (after : List X) → xs ++ x ∷ [] ≡ before ++ y ∷ after
