@@ -48,10 +48,12 @@ impl<'a> Cramfs<'a> {
     ghost use Rattle.cramfs_image.specs.Reported.{report_of};
 
     /// The image of these little-endian bytes, where they hold the tree of a cramfs image within the
-    /// limits (a depth limit above 64 counts as 64); else its least fault, by phases: the image as a
-    /// whole, the count of references, records, references, depth, extents, names.
+    /// limits (a depth limit above 64 counts as 64); else a fault.
     ///
-    /// It looks at no more than `limits.references` references and one more.
+    /// The fault is meant to be the least one of the first phase that has any: the image as a whole,
+    /// the count of references, records, references, depth, extents, names; that it is the least is
+    /// tested, not proved. It looks at no more than `limits.references` references and one more.
+    /// `OutOfMemory` where the room for the table of records or for the extents is refused.
     pub fn check(alloc: Global, bytes: &'a [u8], limits: Limits) -> Result<Cramfs<'a>, CheckError>
         ensures ok { IfOk result (λ v. Shows little bytes.now limits (⟦<Cramfs<'a> as Viewed>⟧.image v) (report_of v)) }
         ensures fault { IfErr result (IsRefused little bytes.now limits) }
