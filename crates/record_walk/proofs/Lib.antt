@@ -8,6 +8,10 @@ pub mod Place
 pub mod Run
 pub mod Same
 pub mod Seen
+pub mod Spans
 pub mod Visited
 pub mod Whole
 pub mod Sweeps
+pub mod Exact
+pub mod Orders
+pub mod Decided

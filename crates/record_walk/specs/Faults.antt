@@ -36,6 +36,10 @@ pub record IsLeastFault (P : Fault → Type 0) (e : Fault) : Type 0 where
   pub here : P e
   pub least : (d : Fault) → P d → NotAfter e d
 
+-- none has this fault
+abbrev pub IsNone : (Fault → Type 0) → Type 0
+IsNone P = (e : Fault) → P e → ⊥
+
 -- the least offset of which P holds
 pub record IsLeast (P : ℕ → Type 0) (p : ℕ) : Type 0 where
   pub here : P p

@@ -6,3 +6,4 @@ pub mod Lesser
 pub mod Walk
 pub mod Table
 pub mod Sweep
+pub mod Answers

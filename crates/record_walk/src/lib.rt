@@ -7,6 +7,7 @@
 //! fault.
 #![tactic(auto)]
 
+pub mod answer;
 pub mod laws;
 pub mod records;
 pub mod reference;

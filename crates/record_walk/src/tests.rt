@@ -5,6 +5,7 @@ use crate::records::Records;
 use crate::reference::{Fault, Link, Links, Reference, Row};
 use crate::sweep::lesser;
 use crate::walk::{WalkError, walk};
+use rom_tree::types::CheckError;
 use std::alloc::Global;
 use std::test::Fail;
 
@@ -150,5 +151,44 @@ fn the_lesser_offset_is_kept(rt: HostRuntime) -> Result<(), Fail> {
     assert!(rt; matches!(lesser(None, one), Some(Fault { number: 21, at: 96 })));
     assert!(rt; matches!(lesser(Some(one), other), Some(Fault { number: 23, at: 64 })));
     assert!(rt; matches!(lesser(Some(other), one), Some(Fault { number: 23, at: 64 })));
+    Ok(())
+}
+
+#[test]
+fn refusals_as_answers(rt: HostRuntime) -> Result<(), Fail> {
+    let fault = Fault { number: 12, at: 96 };
+    assert!(rt;
+        matches!(
+            CheckError::from(fault),
+            CheckError::Fault { number: 12, at: 96 }
+        )
+    );
+    assert!(rt;
+        matches!(
+            CheckError::from(WalkError::TooMany),
+            CheckError::Fault { number: 1, at: 0 }
+        )
+    );
+    assert!(rt;
+        matches!(
+            CheckError::from(WalkError::Record(fault)),
+            CheckError::Fault { number: 12, at: 96 }
+        )
+    );
+    assert!(rt;
+        matches!(
+            CheckError::from(WalkError::Twice(160)),
+            CheckError::Fault {
+                number: 20,
+                at: 160
+            }
+        )
+    );
+    assert!(rt;
+        matches!(
+            CheckError::from(WalkError::OutOfMemory),
+            CheckError::OutOfMemory
+        )
+    );
     Ok(())
 }

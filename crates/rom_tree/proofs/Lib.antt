@@ -4,3 +4,4 @@ pub mod Named
 pub mod Rows
 pub mod Stacks
 pub mod Turns
+pub mod Answered

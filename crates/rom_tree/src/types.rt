@@ -1,6 +1,7 @@
 //! What the calls of an image take and give.
 ghost use Rattle.std.specs.Prelude.{◌≡◌};
 
+use rom_fields::extents::OutOfMemory;
 use thiserror::Error;
 
 /// What a node is.
@@ -64,8 +65,8 @@ pub struct Piece<'a> {
     pub bytes: &'a [u8],
 }
 
-/// How much of an image a check follows: at most `references` references between records, and
-/// directories at most `depth` deep.
+/// How much of an image a check follows: at most `references` references to records, the
+/// superblock's among them, and at most `depth` names on the way to an entry (above 64 counts as 64).
 #[derive(Clone, Copy, Debug, PartialEq, Eq)]
 pub struct Limits {
     pub references: u32,
@@ -73,7 +74,7 @@ pub struct Limits {
 }
 
 impl Limits {
-    /// 1,048,576 references and 64 directories deep.
+    /// 1,048,576 references and 64 names.
     pub fn usual() -> Limits
         ensures references { result.references ≡ 1048576 }
         ensures depth { result.depth ≡ 64 }
@@ -101,6 +102,16 @@ pub enum CheckError {
     OutOfMemory,
     #[error("fault {number} at byte {at}")]
     Fault { number: u32, at: u32 },
+}
+
+impl From<OutOfMemory> for CheckError {
+    ghost use Rattle.rom_tree.specs.declared.types.CheckError.{CheckError};
+
+    ghost from_gives = { λ _ answer. answer ≡ CheckError.OutOfMemory };
+
+    fn from(_: OutOfMemory) -> CheckError {
+        CheckError::OutOfMemory
+    }
 }
 
 /// Why a list was not written whole.

@@ -1,5 +1,6 @@
 use crate::sample::Sample;
 use rom_fields::bytes::Plain;
+use rom_fields::extents::OutOfMemory;
 use rom_fields::faulty::Faulty;
 use rom_tree::image::{TreeImage, is_directory_at, is_link_at, is_regular_at, link_text};
 use rom_tree::list::list;
@@ -98,7 +99,8 @@ fn limits_and_messages(rt: HostRuntime) -> Result<(), Fail> {
         fault.to_string(rt.alloc())?.as_str(),
         "fault 7 at byte 512"
     );
-    let memory = CheckError::OutOfMemory;
+    let memory = CheckError::from(OutOfMemory);
+    assert_eq!(rt; memory, CheckError::OutOfMemory);
     assert_eq!(rt; memory.to_string(rt.alloc())?.as_str(), "out of memory");
     let write = ListError::WriteFault;
     assert_eq!(rt; write.to_string(rt.alloc())?.as_str(), "a write failed");

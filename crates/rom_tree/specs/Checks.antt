@@ -1,0 +1,9 @@
+-- What the check of an image answers, by the trees that its format gives.
+use Rattle.rom_tree.specs.Tree.{Node}
+use Rattle.rom_tree.specs.declared.types.CheckError.{CheckError}
+use Rattle.rom_tree.specs.declared.types.CheckError.TheVariants.{OutOfMemory, Fault}
+
+-- a fault is answered only where no tree stands
+abbrev pub Refuses : (Node → Type 0) → CheckError → Type 0
+Refuses Tree OutOfMemory = Unit {0}
+Refuses Tree (Fault number at) = (t : Node) → Tree t → ⊥
