@@ -1,5 +1,7 @@
 -- The faults of one record, and its soundness.
 use Rattle.std.proofs.Common.{◌≡◌, ◌≢◌, ℕ, ◌+◌, ◌-◌, ◌<◌, ◌≤◌, List, length, ◌⊎◌, inl, inr, refl, arith}
+use Rattle.std.proofs.lemmas.Bool.{cases_lt}
+use Rattle.std.proofs.lemmas.Bool.Decides.{eqb_tells}
 use Rattle.std.specs.Prelude.{IsTrue}
 use Rattle.std.specs.List.{Contains}
 use Rattle.rom_fields.specs.Words.{words_sum, part_of}
@@ -131,6 +133,28 @@ module _ {b : List ℕ} {r p : ℕ} where
           data_within = contents;
           link_size = l;
         }
+
+  -- a record without a fault is sound
+  pub faultless_sound : ((n : ℕ) → HasRecordFault b r p n → ⊥) → IsSound b r p
+  faultless_sound h =
+      let lies : HeaderLies b r p = (
+        elim (cases_lt p r) [ inl i ↦ absurd (h 11 (outside refl (λ k. let z = k.0 in omega arith))) | inr i ↦ i ],
+        elim (cases_lt (length b) (p + 32)) [ inl i ↦ absurd (h 11 (outside refl (λ k. let z = k.1 in omega arith))) | inr i ↦ i ],
+      ) in
+      let ends : NameEnds b p = (
+        elim (cases_lt (p + 16 + length (name_of b p)) (length b)) [ inl i ↦ i | inr i ↦ absurd (h 13 (name_unended refl lies (λ k. let z = k.0 in omega arith))) ],
+        elim (cases_lt (length (name_of b p)) 256) [ inl i ↦ i | inr i ↦ absurd (h 13 (name_unended refl lies (λ k. let z = k.1 in omega arith))) ],
+      ) in
+      let within : end_of b p ≤ length b = elim (cases_lt (length b) (end_of b p)) [ inl i ↦ absurd (h 11 (end_outside refl lies ends i)) | inr i ↦ i ] in
+      let w : IsWhole b r p = (lies, ends, within) in
+      let contents : IsTrue (has_data (type_of b p)) → end_of b p + size_of b p ≤ length b =
+      λ d. elim (cases_lt (length b) (end_of b p + size_of b p)) [ inl i ↦ absurd (h 11 (data_outside refl w d i)) | inr i ↦ i ] in
+      let sum : words_sum (part_of b p (end_of b p - p)) ≡ 0 = elim (eqb_tells (words_sum (part_of b p (end_of b p - p))) 0) [ inl i ↦ i.1 | inr i ↦ absurd (h 12 (bad_sum refl w i.1)) ] in
+      let named : 0 < length (name_of b p) = elim (cases_lt 0 (length (name_of b p))) [ inl i ↦ i | inr i ↦ absurd (h 13 (empty_name refl w (omega arith))) ] in
+      sound_of w contents sum named (λ z. h 13 (slash refl w z)) (λ t. (
+        elim (cases_lt 0 (size_of b p)) [ inl i ↦ i | inr i ↦ absurd (h 15 (link_size refl w t (inl (omega arith)))) ],
+        elim (cases_lt 4095 (size_of b p)) [ inl i ↦ absurd (h 15 (link_size refl w t (inr i))) | inr i ↦ i ],
+      ))
 
   -- a sound record has no fault
   pub sound_faultless : IsSound b r p → (n : ℕ) → HasRecordFault b r p n → ⊥

@@ -9,23 +9,31 @@ use Rattle.record_walk.specs.Members.{Has, Pairs}
 use Rattle.record_walk.specs.References.{Reached, top}
 use Rattle.record_walk.specs.Forest.{Forest, none, at, Stands, rows, all_rows, IsForest}
 use Rattle.record_walk.specs.Faults.{InList, HasDepth}
-use Rattle.record_walk.proofs.Lists.{every_join, every_left, every_right, every_weaker, every_both, every_all, has_weaker, has_both, has_every, pairs_join, pairs_left, pairs_right, pairs_from}
-use Rattle.record_walk.proofs.Place.{HasParent, rows_parented, rows_reached, reached_row, listed_row, listed_live, listed_reached, listed_not_top, same_leads, one_list}
+use Rattle.record_walk.proofs.Lists.{every_join, every_left, every_right, every_weaker, every_both, every_all, has_weaker, has_both, has_every, pairs_join, pairs_left, pairs_right, pairs_from, pairs_of}
+use Rattle.record_walk.proofs.Place.{HasParent, rows_parented, rows_reached, rows_sound, reached_row, listed_row, listed_live, listed_reached, listed_not_top, same_leads, one_list}
 use Rattle.record_walk.proofs.Back.{clean_of}
+use Rattle.record_walk.proofs.Exact.{Differ}
+use Rattle.record_walk.proofs.Orders.{Comes as Follow, ordered, first_comes}
 use Rattle.romfs_format.specs.Record.{IsSound}
 use Rattle.romfs_format.specs.Refers.{references, offset_of, heads_itself, LeadsToSound}
 use Rattle.romfs_format.specs.Tree.{listed_rows}
-use Rattle.romfs_format.specs.Faults.{IsReached, IsListed, entry, itself, IsParent, of_root, of_other}
+use Rattle.romfs_format.specs.Faults.{IsReached, IsListed, entry, itself, ComesAfter, IsParent, of_root, of_other}
 use Rattle.romfs_format.proofs.Bridge.{offset_some, offset_none, top_offset, root_own, root_after, all_targets}
 use Rattle.romfs_format.proofs.Lawful.{references_lawful}
 use Rattle.romfs_format.proofs.Sets.{target_at, row_facts}
-use Rattle.romfs_format.proofs.Orders.{Comes, IsGoodRow, Tailed, Followed, ordered, followed, first_comes, follows, tailed_join, live_offset}
+use Rattle.romfs_format.proofs.Orders.{Comes, follows_comes, Tailed, Followed, followed, follows, tailed_join, live_offset}
 
 -- the rows that stand in lists, by whether the root heads its own
 pub listed_by : (b : List ℕ) (r : ℕ) (first : Row) (below : List Row) (P : List Row → Type 0) → (heads_itself b r ≡ true → P (first ∷ below)) → (heads_itself b r ≡ false → P below) → (v : Bool) → heads_itself b r ≡ v → P (listed_rows b r (first ∷ below))
 unfolding listed_rows
 listed_by b r first below P t f true e = rw e (t e)
 listed_by b r first below P t f false e = rw e (f e)
+
+every_listed : (b : List ℕ) (r : ℕ) (P : Row → Type 0) (xs : List Row) (v : Bool) → heads_itself b r ≡ v → Every P xs → Every P (listed_rows b r xs)
+unfolding listed_rows
+every_listed b r P xs true e k = rw e k
+every_listed b r P [] false e k = rw e k
+every_listed b r P (x ∷ xs) false e k = rw e k.1
 
 -- a root that heads its own list has no other list, and one that does not has no record after it
 own_empty : (b : List ℕ) (r : ℕ) → r ≢ 0 → heads_itself b r ≡ true → (own : Forest) → Stands (references b r) ((references b r).own (references b r).top) own → own ≡ none
@@ -66,6 +74,13 @@ module _ {b : List ℕ} {r most : ℕ} {f : Forest} (above : 0 < r) (h : IsFores
   sounds =
       every_weaker (λ (y : Row). LeadsToSound b r y.reference × (offset_of b r y.reference ≡ y.offset)) (λ (y : Row). IsSound b r y.offset) (λ y k. subst (IsSound b r) k.1 k.0) (all_rows (references b r) f)
       (every_both (λ (y : Row). LeadsToSound b r y.reference) (λ (y : Row). offset_of b r y.reference ≡ y.offset) (all_rows (references b r) f) (recursion_from_All (λ (y : Row). LeadsToSound b r y.reference) (all_rows (references b r) f) h.sound) targets)
+
+  -- what holds of all rows holds of those of lists
+  listed_every : (P : Row → Type 0) → Every P (all_rows (references b r) f) → Every P (listed_rows b r (all_rows (references b r) f))
+  listed_every P k = by (all_rows (references b r) f) k
+    where
+      by : (xs : List Row) → Every P xs → Every P (listed_rows b r xs)
+      by xs k = every_listed b r P xs (heads_itself b r) refl k
 
   -- The records of the rows are those that are reached.
   pub rows_are_reached : Every (λ (y : Row). IsReached b r y.offset) (all_rows (references b r) f)
@@ -125,34 +140,41 @@ module _ {b : List ℕ} {r most : ℕ} {f : Forest} (above : 0 < r) (h : IsFores
           listed_by b r (record { offset = o; reference = g.top; directory = o; parent = o; depth = 0 }) below (Has (λ (y : Row). (y.offset ≡ p) × (y.directory ≡ d))) (λ z. inl (is ∙ sym j, is ∙ sym i))
           (λ z. absurd (true≢false (sym e ∙ z))) (heads_itself b r) refl
 
-  -- Of two rows of one list the later one's record comes after the other's.
-  pub rows_ordered : Pairs (Comes b r) (listed_rows b r (all_rows (references b r) f))
-  rows_ordered = by f h.stands below_listed sounds (pairs_from (λ (x : Row) (y : Row). x.offset ≢ y.offset) (all_rows (references b r) f) h.single)
+  -- the references of the rows of lists stand in the order of their lists
+  rows_follow : Pairs (Follow (references b r) (LeadsToSound b r)) (listed_rows b r (all_rows (references b r) f))
+  rows_follow = by f h.stands (rows_sound (references_lawful b r above) h) (pairs_from Differ (all_rows (references b r) f) h.single)
     where
-      by : (e : Forest) → Stands (references b r) (references b r).top e → Every (λ (y : Row). IsListed b r y.directory y.offset × (y.offset ≢ r)) (drop 1 (all_rows (references b r) e)) → Every (λ (y : Row). IsSound b r y.offset) (all_rows (references b r) e)
-          → Pairs (λ (x : Row) (y : Row). x.offset ≢ y.offset) (all_rows (references b r) e) → Pairs (Comes b r) (listed_rows b r (all_rows (references b r) e))
-      by none s k sound single = absurd (root_only none s refl)
-      by (at p own after) s k sound single =
+      by : (e : Forest) → Stands (references b r) (references b r).top e → Every (λ (y : Row). LeadsToSound b r y.reference) (all_rows (references b r) e) → Pairs Differ (all_rows (references b r) e)
+          → Pairs (Follow (references b r) (LeadsToSound b r)) (listed_rows b r (all_rows (references b r) e))
+      by none s sound single = absurd (root_only none s refl)
+      by (at p own after) s sound single =
           let g = references b r in
-          let Differ : Row → Row → Type 0 = λ x y. x.offset ≢ y.offset in
-          let is : p ≡ r = (offset_some (offset_of b r g.top) p s.0).1 ∙ top_offset b r in
+          let Sound : Reference → Type 0 = LeadsToSound b r in
           let own_rows = rows g (g.own g.top) p p 1 own in
           let after_rows = rows g (g.after g.top) p p 1 after in
-          let below : List Row = own_rows ++ after_rows in
           let me : Row = record { offset = p; reference = g.top; directory = p; parent = p; depth = 0 } in
-          let good = every_weaker (λ (y : Row). (IsListed b r y.directory y.offset × (y.offset ≢ r)) × IsSound b r y.offset) (IsGoodRow b r) (λ y z. (z.0.0, z.1)) below
-          (every_both (λ (y : Row). IsListed b r y.directory y.offset × (y.offset ≢ r)) (λ (y : Row). IsSound b r y.offset) below k sound.1) in
-          let out = every_weaker (λ (y : Row). p ≢ y.offset) (λ (y : Row). y.offset ≢ p) (λ y n i. n (sym i)) below single.0 in
-          let own_ordered = ordered b r (g.own g.top) p p 1 own s.1 (every_left (IsGoodRow b r) own_rows after_rows good) (every_left (λ (y : Row). y.offset ≢ p) own_rows after_rows out) (pairs_left Differ own_rows after_rows single.1) in
+          let out = every_weaker (λ (y : Row). p ≢ y.offset) (λ (y : Row). y.offset ≢ p) (λ y n i. n (sym i)) (own_rows ++ after_rows) single.0 in
+          let own_ordered = ordered g Sound (g.own g.top) p p 1 own s.1 (every_left (λ (y : Row). Sound y.reference) own_rows after_rows sound.1) (every_left (λ (y : Row). y.offset ≢ p) own_rows after_rows out) (pairs_left Differ own_rows after_rows single.1) in
+          let after_sound = every_right (λ (y : Row). Sound y.reference) own_rows after_rows sound.1 in
           let after_out = every_right (λ (y : Row). y.offset ≢ p) own_rows after_rows out in
-          let after_ordered = ordered b r (g.after g.top) p p 1 after s.2 (every_right (IsGoodRow b r) own_rows after_rows good) after_out (pairs_right Differ own_rows after_rows single.1) in
-          let others = pairs_join (Comes b r) own_rows after_rows own_ordered after_ordered (apart b r p (Comes b r) root_live own after s.1 s.2 (heads_itself b r) refl) in
-          listed_by b r me below (Pairs (Comes b r))
+          let after_ordered = ordered g Sound (g.after g.top) p p 1 after s.2 after_sound after_out (pairs_right Differ own_rows after_rows single.1) in
+          let others = pairs_join (Follow g Sound) own_rows after_rows own_ordered after_ordered (apart b r p (Follow g Sound) root_live own after s.1 s.2 (heads_itself b r) refl) in
+          listed_by b r me (own_rows ++ after_rows) (Pairs (Follow g Sound))
           (λ e. (
-            every_join (Comes b r me) own_rows after_rows (subst (λ (o : Forest). Every (Comes b r me) (rows g (g.own g.top) p p 1 o)) (sym (own_empty b r root_live e own s.1)) tt)
-                (first_comes b r g.top me p 1 after s.0 s.2 (itself e is is) sound.0 (every_right (λ (y : Row). IsSound b r y.offset) own_rows after_rows sound.1) after_out),
+            every_join (Follow g Sound me) own_rows after_rows (subst (λ (o : Forest). Every (Follow g Sound me) (rows g (g.own g.top) p p 1 o)) (sym (own_empty b r root_live e own s.1)) tt)
+                (first_comes g Sound me p 1 after s.2 sound.0 after_sound after_out),
             others,
           )) (λ e. others) (heads_itself b r) refl
+
+  -- Of two rows of one list the later one's record comes after the other's.
+  pub rows_ordered : Pairs (Comes b r) (listed_rows b r (all_rows (references b r) f))
+  rows_ordered =
+      let Known : Row → Type 0 = λ y. IsListed b r y.directory y.offset × (offset_of b r y.reference ≡ y.offset) in
+      pairs_of Known (Follow (references b r) (LeadsToSound b r)) (Comes b r)
+      (λ y z u v k e. subst (λ (q : ℕ). ComesAfter b r y.directory y.offset q) v.1
+      (subst (λ (p : ℕ). ComesAfter b r y.directory p (offset_of b r z.reference)) u.1 (follows_comes b r y.directory y.reference z.reference above (subst (IsListed b r y.directory) (sym u.1) u.0) (k e))))
+      (listed_rows b r (all_rows (references b r) f))
+      (every_both (λ (y : Row). IsListed b r y.directory y.offset) (λ (y : Row). offset_of b r y.reference ≡ y.offset) (listed_rows b r (all_rows (references b r) f)) rows_listed (listed_every (λ (y : Row). offset_of b r y.reference ≡ y.offset) targets)) rows_follow
 
   -- Where a record follows that of a row, its row stands later.
   pub rows_followed : Tailed (Followed b r) (listed_rows b r (all_rows (references b r) f))

@@ -7,7 +7,7 @@ use Rattle.rom_fields.specs.Extents.{Overlap}
 use Rattle.record_walk.specs.declared.reference.Reference.{Reference}
 use Rattle.record_walk.specs.declared.reference.Fault.{Fault}
 use Rattle.record_walk.specs.References.{Reached}
-use Rattle.record_walk.specs.Faults.{TooMany, HasFault, Twice, InList, HasDepth, IsLeastFault}
+use Rattle.record_walk.specs.Faults.{TooMany, HasFault, Twice, InList, HasDepth, IsLeastFault, IsNone}
 use Rattle.romfs_format.specs.Record.{name_of, end_of, size_of, type_of, target_of, has_data, IsSound}
 use Rattle.romfs_format.specs.Refers.{references, offset_of, following, heads_itself, LeadsToSound, LeadsToFault}
 use Rattle.romfs_format.specs.Tree.{dot, dot_dot, is_dot, root_of}
@@ -68,7 +68,7 @@ pub data IsParent (b : List ℕ) (r : ℕ) : ℕ → ℕ → Type 0 where
   of_root : {d u : ℕ} → d ≡ r → u ≡ r → IsParent b r d u
   of_other : {d u : ℕ} → d ≢ r → IsListed b r u d → IsParent b r d u
 
--- 23 DupName, 24 Dot, 25 HardLink, at an entry p of the list of d
+-- 23 DupName, 24 Dot, 25 HardLink, at a record of the list of d; in the first, p stands before it
 pub data HasNameFault (b : List ℕ) (r : ℕ) (e : Fault) : Type 0 where
   repeated : {d p : ℕ} → ComesAfter b r d p e.at → name_of b p ≡ name_of b e.at → e.number ≡ 23 → HasNameFault b r e
   here_astray : {d : ℕ} → IsListed b r d e.at → name_of b e.at ≡ dot → (Leads b r 8 e.at d → ⊥) → e.number ≡ 24 → HasNameFault b r e
@@ -88,9 +88,6 @@ HasTooMany b r most = TooMany (references b r) (LeadsToSound b r) most
 -- a reached record has this fault
 abbrev pub HasReachedFault : List ℕ → ℕ → Fault → Type 0
 HasReachedFault b r e = HasFault (references b r) (LeadsToSound b r) (LeadsToFault b r) e
-
-abbrev pub IsNone : (Fault → Type 0) → Type 0
-IsNone P = (e : Fault) → P e → ⊥
 
 -- No phase has a fault. A depth limit above 64 counts as 64.
 pub record HasNoFault (bytes : List ℕ) (most deepest : ℕ) : Type 0 where

@@ -44,6 +44,10 @@ no_run b r k n off len x e le el = rw (e, made_places b r k n, length_row, ← e
 pub run_whole : (b : List ℕ) (r k n off len : ℕ) (x : Node) → x ≡ made b r k n → off ≡ 0 → len ≡ file_size b n → len - off ≡ length (places_of x)
 run_whole b r k n off len x e o el = rw (e, made_places b r k n, length_row, ← el) (omega arith)
 
+-- a run has the rest of the file
+pub run_rest : (b : List ℕ) (r k n off len : ℕ) (x : Node) → x ≡ made b r k n → len ≡ file_size b n → len - off ≡ length (places_of x) - off
+run_rest b r k n off len x e el = rw (e, made_places b r k n, length_row, ← el) refl
+
 pub file_size_is : (b : List ℕ) (n front size len : ℕ) → front ≡ word_be b n → size ≡ word_be b (n + 8) → len ≡ pick (front % 8) 0 size size 0 0 0 0 → len ≡ file_size b n
 unfolding type_of size_of
 file_size_is b n front size len f s e = rw (e, f, s) refl

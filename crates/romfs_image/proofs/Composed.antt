@@ -1,14 +1,14 @@
 -- The phases over the rows of a forest, put together.
-use Rattle.std.proofs.Common.{◌≡◌, ◌≢◌, ℕ, min, Bool, true, false, List, [], ◌∷◌, ◌++◌, drop, get_or, Option, None, Some, MatchOption, refl, sym, ap, subst, ◌∙◌, append_assoc, append-nil, if◌then◌else◌}
+use Rattle.std.proofs.Common.{◌≡◌, ◌≢◌, ℕ, min, Bool, true, false, List, [], ◌∷◌, ◌++◌, drop, get_or, Option, None, Some, MatchOption, refl, sym, ap, subst, ◌∙◌, if◌then◌else◌}
 use Rattle.std.proofs.lemmas.List.{get_or_default}
 use Rattle.std.proofs.lemmas.List.Elements.{recursion_from_All, All-from_recursion, All-tail}
 use Rattle.std.specs.List.{All, AllByRecursion as Every}
 use Rattle.rom_fields.specs.Extents.{OverlapsAt, IsLeastOf}
 use Rattle.record_walk.specs.declared.reference.Fault.{Fault}
 use Rattle.record_walk.specs.declared.reference.Row.{Row}
-use Rattle.record_walk.specs.Members.{Pairs}
 use Rattle.record_walk.specs.Forest.{Forest, none, at, all_rows, IsForest}
-use Rattle.record_walk.proofs.Lists.{pairs_push, pairs_to}
+use Rattle.record_walk.proofs.Lists.{pairs_to}
+use Rattle.record_walk.proofs.Exact.{every_split, pairs_split}
 use Rattle.romfs_format.specs.Record.{name_of, IsSound}
 use Rattle.romfs_format.specs.Refers.{references, offset_of, heads_itself, LeadsToSound}
 use Rattle.romfs_format.specs.Tree.{dot, extents_of, listed_rows, NamesDiffer, LeadsWell, IsTree}
@@ -29,17 +29,6 @@ pub listed_sound : (b : List ℕ) (r : ℕ) (all : List Row) → All (λ (x : Ro
 unfolding listed_rows
 listed_sound b r [] h = elim (heads_itself b r) as (λ v. All (λ (x : Row). IsSound b r x.offset) (if v then [] else [])) [ true ↦ h | false ↦ h ]
 listed_sound b r (x ∷ xs) h = elim (heads_itself b r) as (λ v. All (λ (x : Row). IsSound b r x.offset) (if v then x ∷ xs else xs)) [ true ↦ h | false ↦ All-tail (λ (x : Row). IsSound b r x.offset) x xs h ]
-
--- what holds at each place of a list
-every_split : (P : Row → Type 0) (done xs : List Row) → ((before : List Row) (x : Row) (after : List Row) → done ++ xs ≡ before ++ x ∷ after → P x) → Every P xs
-every_split P done [] h = tt
-every_split P done (x ∷ xs) h = (h done x xs refl, every_split P (done ++ x ∷ []) xs (λ before y after e. h before y after (sym (append_assoc done (x ∷ []) xs) ∙ e)))
-
-pairs_split : (R : Row → Row → Type 0) (done xs : List Row) → Pairs R done → ((before : List Row) (x : Row) (after : List Row) → done ++ xs ≡ before ++ x ∷ after → Every (λ y. R y x) before) → Pairs R (done ++ xs)
-pairs_split R done [] p h = subst (Pairs R) (sym (append-nil done)) p
-pairs_split R done (x ∷ xs) p h =
-    subst (Pairs R) (append_assoc done (x ∷ []) xs)
-    (pairs_split R (done ++ x ∷ []) xs (pairs_push R done x p (h done x xs refl)) (λ before y after e. h before y after (sym (append_assoc done (x ∷ []) xs) ∙ e)))
 
 -- a name that is not repeated differs from those before it
 fresh_differs : (b : List ℕ) (before : List Row) (x : Row) → (Repeats b before x → ⊥) → Every (λ (y : Row). NamesDiffer b y x) before
@@ -75,7 +64,7 @@ tree_of_well b r most deepest (at p own after) live h w =
       forest = h;
       shallow = tree_within b r (min deepest 64) f (every_split (IsWithin b (min deepest 64)) (first ∷ []) below (λ before x after s. w.shallow before x after s));
       apart = w.apart;
-      names = pairs_to (NamesDiffer b) (listed_rows b r all) (pairs_split (NamesDiffer b) [] (listed_rows b r all) tt (λ before x after s. fresh_differs b before x (w.named before x after s).fresh));
+      names = pairs_to (NamesDiffer b) (listed_rows b r all) (pairs_split (NamesDiffer b) [] (listed_rows b r all) tt (λ before x after s p. fresh_differs b before x (w.named before x after s).fresh));
       leads = All-from_recursion (LeadsWell b all) below (below_leads b r (min deepest 64) first below w);
       leaf = root_named b r (min deepest 64) first below w is;
     }

@@ -1,22 +1,20 @@
 -- What the later phases find among the rows of a forest is what the fault set says of references and records.
-use Rattle.std.proofs.Common.{◌≡◌, ◌≢◌, ℕ, zero, suc, ◌<◌, ◌≤◌, Bool, true, false, List, [], ◌∷◌, ◌++◌, append_assoc, None, Some, inl, inr, refl, sym, ap, subst, ◌∙◌, arith}
+use Rattle.std.proofs.Common.{◌≡◌, ℕ, zero, suc, ◌<◌, Bool, true, false, List, [], ◌∷◌, ◌++◌, None, Some, inl, inr, refl, sym, ap, subst, ◌∙◌}
 use Rattle.std.proofs.lemmas.Bool.{false≢true, eq-eqb}
 use Rattle.std.proofs.lemmas.Bool.Decides.{eqb_tells}
-use Rattle.std.proofs.lemmas.List.Elements.{All-from_recursion}
-use Rattle.std.specs.List.{Any, AllByRecursion as Every, list_any}
+use Rattle.std.specs.List.{AllByRecursion as Every, list_any}
 use Rattle.record_walk.specs.declared.reference.Fault.{Fault}
 use Rattle.record_walk.specs.declared.reference.Row.{Row}
 use Rattle.record_walk.specs.Members.{Has, Pairs}
 use Rattle.record_walk.specs.Forest.{Forest, all_rows, IsForest}
-use Rattle.record_walk.specs.Faults.{IsLeastFault}
-use Rattle.record_walk.proofs.Lists.{every_right, has_every, pairs_cross, same_some}
+use Rattle.record_walk.proofs.Lists.{has_every, pairs_cross, same_some}
+use Rattle.record_walk.proofs.Exact.{has_member, member_every, has_at, every_here, split_at, later_split, FoundAt}
 use Rattle.romfs_format.specs.Record.{name_of, type_of, target_of}
 use Rattle.romfs_format.specs.Refers.{references, LeadsToSound}
 use Rattle.romfs_format.specs.Tree.{is_dot, follow, listed_rows}
-use Rattle.romfs_format.specs.Faults.{IsReached, IsListed, itself, ComesAfter, IsParent, Leads, here, link, IsNone, HasNameFault as HasSetNameFault, repeated as set_repeated, here_astray as set_here, above_astray as set_above, root_renamed as set_root, link_astray as set_link}
-use Rattle.romfs_format.proofs.Orders.{Comes, comes_precedes, split_at}
+use Rattle.romfs_format.specs.Faults.{IsReached, IsListed, itself, ComesAfter, IsParent, Leads, here, link, HasNameFault as HasSetNameFault, repeated as set_repeated, here_astray as set_here, above_astray as set_above, root_renamed as set_root, link_astray as set_link}
+use Rattle.romfs_format.proofs.Orders.{Comes, comes_precedes}
 use Rattle.romfs_format.proofs.Named.{rows_listed, listed_in, rows_ordered, rows_followed, rows_parent, one_parent, reached_has, rows_are_reached, root_heads}
-use Rattle.record_walk.specs.Sweep.{IsLeastRowFault}
 use Rattle.romfs_image.specs.Phases.{HasNameFault, repeated, here_astray, above_astray, root_renamed, link_astray}
 use Rattle.romfs_image.proofs.Steps.{Is, step_done, step_lost, step_more, step_end}
 
@@ -32,78 +30,6 @@ offset_any t (x ∷ xs) (inr h) = elim (eqb_tells x.offset t) [ inl k ↦ rw k.0
 
 none_some : {q : ℕ} → None ≡ Some q → ⊥
 none_some e = cc
-
--- some member that has a property, by its index
-has_member : (P : Row → Type 0) (xs : List Row) → Has P xs → Any P xs
-has_member P [] h = absurd h
-has_member P (x ∷ xs) (inl h) = (0, x, omega arith, refl, h)
-has_member P (x ∷ xs) (inr h) = let a = has_member P xs h in let l = a.2 in (suc a.0, a.1, omega arith, a.3, a.4)
-
-member_every : (P Q : Row → Type 0) (xs : List Row) → Every P xs → Any Q xs → (y : Row) × P y × Q y
-member_every P Q xs h a = (a.1, subst P a.3 (All-from_recursion P xs h a.0 a.1 a.2), a.4)
-
-has_at : (P : Row → Type 0) (before : List Row) (x : Row) (after : List Row) → P x → Has P (before ++ x ∷ after)
-has_at P [] x after h = inl h
-has_at P (y ∷ before) x after h = inr (has_at P before x after h)
-
-pub every_here : (P : Row → Type 0) (before : List Row) (x : Row) (after : List Row) → Every P (before ++ x ∷ after) → P x
-every_here P before x after h = (every_right P before (x ∷ after) h).0
-
-abbrev pub Differ : Row → Row → Type 0
-Differ x y = x.offset ≢ y.offset
-
--- a later row's place
-later_split : (xs before : List Row) (x : Row) (after between : List Row) (y : Row) (rest : List Row) → xs ≡ before ++ x ∷ after → after ≡ between ++ y ∷ rest → xs ≡ (before ++ x ∷ between) ++ y ∷ rest
-later_split xs before x after between y rest e i = e ∙ ap (λ (ys : List Row). before ++ x ∷ ys) i ∙ sym (append_assoc before (x ∷ between) (y ∷ rest))
-
--- where no offset stands twice, a row stands at one place
-one_place : (before : List Row) (x : Row) (after before' : List Row) (x' : Row) (after' : List Row) → before ++ x ∷ after ≡ before' ++ x' ∷ after' → Pairs Differ (before ++ x ∷ after) → x.offset ≡ x'.offset → (before ≡ before') × (x ≡ x')
-one_place [] x after [] x' after' e p same = let z : x ≡ x' = cc in (refl, z)
-one_place [] x after (y ∷ ys) x' after' e p same =
-    let z : after ≡ ys ++ x' ∷ after' = cc in
-    absurd (every_here (Differ x) ys x' after' (subst (Every (Differ x)) z p.0) same)
-one_place (y ∷ ys) x after [] x' after' e p same =
-    let z : y ≡ x' = cc in
-    absurd (every_here (Differ y) ys x after p.0 (ap (λ (v : Row). v.offset) z ∙ sym same))
-one_place (y ∷ ys) x after (z ∷ zs) x' after' e p same =
-    let head : y ≡ z = cc in
-    let tail : ys ++ x ∷ after ≡ zs ++ x' ∷ after' = cc in
-    let ih = one_place ys x after zs x' after' tail p.1 same in
-    (let k : y ∷ ys ≡ z ∷ zs = (rw (head, ih.0) refl) in k, ih.1)
-
--- a fault at the row among these
-pub record FoundAt (P : List Row → Row → ℕ → Type 0) (xs : List Row) (e : Fault) : Type 0 where
-  pub before : List Row
-  pub row : Row
-  pub after : List Row
-  pub among : xs ≡ before ++ row ∷ after
-  pub at : row.offset ≡ e.at
-  pub found : P before row e.number
-
--- Where the faults of rows are those of the fault set, so are the least ones.
-module _ {C : List Row → Row → Type 0} {P : List Row → Row → ℕ → Type 0} {xs : List Row} {S : Fault → Type 0} (single : Pairs Differ xs)
-    (into : (before : List Row) (x : Row) (after : List Row) (n : ℕ) → xs ≡ before ++ x ∷ after → P before x n → S (record { number = n; at = x.offset })) (from : (e : Fault) → S e → FoundAt P xs e) where
-  pub none_found : IsLeastRowFault C P xs None → IsNone S
-  none_found l e s = let f = from e s in absurd (l.least f.before f.row f.after e.number f.among f.found)
-
-  pub least_found : (e : Fault) → IsLeastRowFault C P xs (Some e) → IsLeastFault S e
-  least_found e l =
-      let s = l.noted in
-      let is : record { number = e.number; at = s.row.offset } ≡ e = ap (λ (p : ℕ). record { number = e.number; at = p }) (sym s.at) in
-      record {
-        here = subst S is (into s.before s.row s.after e.number s.among s.number.here);
-        least = λ d k.
-            let f = from d k in
-            let no_more : e.at ≤ f.row.offset = l.least f.before f.row f.after d.number f.among f.found in
-            let place = f.at in
-            elim (eqb_tells e.at d.at) [
-              | inl i ↦
-                  let same = one_place s.before s.row s.after f.before f.row f.after (sym s.among ∙ f.among) (subst (Pairs Differ) s.among single) (sym s.at ∙ i.1 ∙ sym f.at) in
-                  let found : P s.before s.row d.number = subst (λ (y : Row). P s.before y d.number) (sym same.1) (subst (λ (ys : List Row). P ys f.row d.number) (sym same.0) f.found) in
-                  inr (i.1, s.number.least d.number found)
-              | inr i ↦ let n = i.1 in inl (omega arith)
-            ];
-      }
 
 module _ {b : List ℕ} {r most : ℕ} {f : Forest} (above : 0 < r) (h : IsForest (references b r) (LeadsToSound b r) most f) where
   -- what a record leads to

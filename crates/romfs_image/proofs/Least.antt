@@ -1,6 +1,5 @@
 -- The check's fault is the least of the image's faults, and an image that it accepts has none.
-use Rattle.std.proofs.Common.{◌≡◌, ℕ, ◌+◌, ◌<◌, ◌≤◌, min, false, List, ◌∷◌, ◌++◌, length, drop, Some, inl, inr, refl, sym, ap, subst, ◌∙◌, arith}
-use Rattle.std.proofs.lemmas.Bool.Decides.{eqb_tells}
+use Rattle.std.proofs.Common.{◌≡◌, ℕ, ◌+◌, ◌<◌, ◌≤◌, min, false, List, ◌∷◌, ◌++◌, length, drop, Some, refl, sym, ap, subst, ◌∙◌, arith}
 use Rattle.std.specs.List.{AllByRecursion as Every}
 use Rattle.rom_tree.specs.declared.types.Limits.{Limits}
 use Rattle.rom_tree.specs.declared.types.CheckError.TheVariants.{Fault as FaultAnswer}
@@ -10,25 +9,26 @@ use Rattle.record_walk.specs.declared.reference.Row.{Row}
 use Rattle.record_walk.specs.declared.walk.WalkError.{WalkError}
 use Rattle.record_walk.specs.declared.walk.WalkError.TheVariants.{OutOfMemory as NoMemory, TooMany as TooManyRefusal, Record, Twice as TwiceRefusal}
 use Rattle.record_walk.specs.Walk.{IsLeastRefusal}
+use Rattle.record_walk.specs.Answers.{walk_answer}
 use Rattle.record_walk.specs.Members.{Pairs}
 use Rattle.record_walk.specs.Forest.{Forest, none, at, all_rows, IsForest}
-use Rattle.record_walk.specs.Faults.{IsLeastFault}
+use Rattle.record_walk.specs.Faults.{IsLeastFault, IsNone}
 use Rattle.record_walk.proofs.Lists.{pairs_from}
 use Rattle.record_walk.proofs.Back.{clean_of}
+use Rattle.record_walk.proofs.Exact.{Differ, every_here, split_at, FoundAt, none_found, least_found, least_numbered}
 use Rattle.romfs_format.specs.Record.{name_of, type_of}
 use Rattle.romfs_format.specs.Refers.{references, LeadsToSound, LeadsToFault}
 use Rattle.romfs_format.specs.Tree.{is_dot, extents_of, root_of, IsSuperblock}
 use Rattle.romfs_format.specs.Superblock.{HasImageFault, short, no_magic, bad_size, bad_sum, no_root, root_kind, accessible, HasSum, HasRoot}
-use Rattle.romfs_format.specs.Faults.{HasDepthFault, HasExtentFault, HasNameFault as HasSetNameFault, HasTwiceFault, HasTooMany, HasReachedFault, IsNone, HasNoFault, IsLeastPhaseFault, record_fault, twice_fault, depth_fault, extent_fault, name_fault, whole, many, phase}
+use Rattle.romfs_format.specs.Faults.{HasDepthFault, HasExtentFault, HasNameFault as HasSetNameFault, HasTwiceFault, HasTooMany, HasReachedFault, HasNoFault, IsLeastPhaseFault, record_fault, twice_fault, depth_fault, extent_fault, name_fault, many, phase}
 use Rattle.romfs_format.proofs.Faults.{sound_faultless}
 use Rattle.romfs_format.proofs.Lawful.{references_lawful}
-use Rattle.romfs_format.proofs.Orders.{split_at}
 use Rattle.romfs_format.proofs.Sets.{depth_to_row, row_to_depth}
 use Rattle.romfs_format.proofs.Spans.{overlap_fault, fault_overlap}
 use Rattle.romfs_format.proofs.Named.{rows_are_reached, reached_has, listed_single}
-use Rattle.romfs_image.specs.Checked.{IsLeastAnswer, walk_answer}
+use Rattle.romfs_image.specs.Checked.{IsLeastAnswer}
 use Rattle.romfs_image.specs.Phases.{IsTooDeep, AreWell, IsLaterFault, deep, overlap, name}
-use Rattle.romfs_image.proofs.Exact.{Differ, every_here, FoundAt, none_found, least_found, into_names, from_names}
+use Rattle.romfs_image.proofs.Exact.{into_names, from_names}
 use Rattle.romfs_image.proofs.Naming.{well_faultless}
 
 -- a well formed superblock has no fault
@@ -59,7 +59,7 @@ module _ {b : List ℕ} {r most : ℕ} {f : Forest} (above : 0 < r) (h : IsFores
   deep_rows m none k = tt
   deep_rows m (at p own after) k = ((λ e l. absurd (omega arith)), k)
 
-  into_depths : (m : ℕ) (before : List Row) (x : Row) (after : List Row) (n : ℕ) → all_rows (references b r) f ≡ before ++ x ∷ after → IsTooDeep b m before x n → HasDepthFault b r m (record { number = n; at = x.offset })
+  pub into_depths : (m : ℕ) (before : List Row) (x : Row) (after : List Row) (n : ℕ) → all_rows (references b r) f ≡ before ++ x ∷ after → IsTooDeep b m before x n → HasDepthFault b r m (record { number = n; at = x.offset })
   into_depths m before x after n among t =
       let P : Row → Type 0 = λ y. is_dot (name_of b y.offset) ≡ false → m < y.depth → HasDepthFault b r m (record { number = 21; at = y.offset }) in
       let k : P x = every_here P before x after (subst (Every P) among (deep_rows m f (row_to_depth above h m))) in
@@ -74,15 +74,10 @@ module _ {b : List ℕ} {r most : ℕ} {f : Forest} (above : 0 < r) (h : IsFores
   from_overlaps e d = fault_overlap (all_rows (references b r) f) above single (rows_are_reached above h) (reached_has above h) e d
 
   least_overlap : (p : ℕ) (e : Fault) → IsLeastOf (OverlapsAt (extents_of b r (all_rows (references b r) f))) (Some p) → e ≡ record { number = 22; at = p } → IsLeastFault (HasExtentFault b r) e
-  least_overlap p e v is = record {
-    here = subst (HasExtentFault b r) (sym is) (overlap_fault (all_rows (references b r) f) above single (rows_are_reached above h) (reached_has above h) p v.here);
-    least = λ d k.
-        let place : e.at ≡ p = ap (λ (z : Fault). z.at) is in
-        let number : e.number ≡ 22 = ap (λ (z : Fault). z.number) is in
-        let other = k.number in
-        let l : p ≤ d.at = v.least d.at (from_overlaps d k) in
-        elim (eqb_tells e.at d.at) [ inl i ↦ inr (i.1, omega arith) | inr i ↦ let n = i.1 in inl (omega arith) ];
-  }
+  least_overlap p e v is =
+      let all = all_rows (references b r) f in
+      subst (IsLeastFault (HasExtentFault b r)) (sym is)
+      (least_numbered (HasExtentFault b r) 22 p (overlap_fault all above single (rows_are_reached above h) (reached_has above h) p v.here) (λ d k. (v.least d.at (from_overlaps d k), k.number)))
 
   -- The fault of the later phases is the least,
   pub least_later : (deepest m : ℕ) (e : Fault) → m ≡ min deepest 64 → IsLaterFault b r m (all_rows (references b r) f) e → IsLeastPhaseFault b r deepest e
@@ -123,14 +118,7 @@ module _ {bytes b : List ℕ} {r : ℕ} (super : IsSuperblock bytes b r) where
   least_walk limits (Record e) above h = phase (super_faultless super) (λ k. h.0 (many_here limits.references k)) (moved limits.depth e (record_fault h.1))
   least_walk limits (TwiceRefusal q) above h =
       phase (super_faultless super) (λ k. h.0 (many_here limits.references k)) (moved limits.depth (record { number = 20; at = q })
-      (twice_fault (λ e k. sound_faultless (h.1 k.reference k.reached) e.number k.faulty.number)
-      (record {
-        here = (h.2.here, refl);
-        least = λ d k.
-            let l : q ≤ d.at = h.2.least d.at k.0 in
-            let n = k.1 in
-            elim (eqb_tells q d.at) [ inl i ↦ inr (i.1, omega arith) | inr i ↦ let m = i.1 in inl (omega arith) ];
-      })))
+      (twice_fault (λ e k. sound_faultless (h.1 k.reference k.reached) e.number k.faulty.number) (least_numbered (HasTwiceFault b r) 20 q (h.2.here, refl) (λ d k. (h.2.least d.at k.0, k.1)))))
 
   -- what the later phases refuse is,
   pub least_after : (limits : Limits) (m : ℕ) (f : Forest) (rows : List Row) (e : Fault) → 0 < r → m ≡ min limits.depth 64 → rows ≡ all_rows (references b r) f → IsForest (references b r) (LeadsToSound b r) limits.references f
@@ -153,7 +141,3 @@ module _ {bytes b : List ℕ} {r : ℕ} (super : IsSuperblock bytes b r) where
         apart = move (λ c q. IsNone (HasExtentFault c q)) n.1;
         named = move (λ c q. IsNone (HasSetNameFault c q)) n.2;
       }
-
--- an image's fault as a whole is its least
-pub least_whole : (bytes : List ℕ) (limits : Limits) (e : Fault) → HasImageFault bytes e → IsLeastAnswer bytes limits (FaultAnswer e.number e.at)
-least_whole bytes limits e h = whole h

@@ -5,7 +5,8 @@ pub mod Walk
 pub mod Steps
 pub mod Naming
 pub mod Composed
-pub mod Refused
 pub mod Trees
 pub mod Exact
 pub mod Least
+pub mod Faultless
+pub mod Whole

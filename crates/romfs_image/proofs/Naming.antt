@@ -1,12 +1,12 @@
 -- The faults of a name, and what a row without them says.
-use Rattle.std.proofs.Common.{◌≡◌, ◌≢◌, ℕ, ◌+◌, ◌<◌, true, false, List, [], ◌∷◌, ◌++◌, length, length-append, Option, None, Some, ◌⊎◌, inl, inr, refl, sym, ap, subst, ◌∙◌, arith, take, get_or}
+use Rattle.std.proofs.Common.{◌≡◌, ◌≢◌, ℕ, ◌+◌, ◌<◌, List, [], ◌∷◌, ◌++◌, length, length-append, Option, None, Some, ◌⊎◌, inl, inr, refl, sym, ap, subst, ◌∙◌, arith, take, get_or}
 use Rattle.std.proofs.lemmas.List.{take_more, get_or_append_left, get_or_at}
-use Rattle.std.proofs.lemmas.Bool.{false≢true, cases_lt}
+use Rattle.std.proofs.lemmas.Bool.{cases_lt}
 use Rattle.std.specs.List.{Any}
 use Rattle.record_walk.specs.declared.reference.Row.{Row}
 use Rattle.record_walk.specs.Faults.{IsLeast}
 use Rattle.romfs_format.specs.Record.{name_of, type_of}
-use Rattle.romfs_format.specs.Tree.{dot, dot_dot, is_dot, follow}
+use Rattle.romfs_format.specs.Tree.{dot, dot_dot, follow}
 use Rattle.romfs_image.specs.Phases.{Repeats, HasNameFault, repeated, here_astray, above_astray, root_renamed, link_astray, IsWellNamed}
 
 -- each number of such a fault is at least 23, and 24 where the name is not repeated
@@ -58,14 +58,8 @@ module _ {b : List ℕ} {r : ℕ} {all before : List Row} {x : Row} where
   ]
 
 -- `.` is one of the two, and not the other
-pub dot_is : is_dot dot ≡ true
-dot_is = refl
-
 pub dot_apart : (name : List ℕ) → name ≡ dot → name ≡ dot_dot → ⊥
 dot_apart name e f = let z = ap length (sym e ∙ f) in absurd (omega arith)
-
-pub dot_not : (name : List ℕ) → is_dot name ≡ false → name ≡ dot → ⊥
-dot_not name e f = false≢true (sym e ∙ ap is_dot f ∙ refl)
 
 -- a name that is repeated among the rows up to an index
 any_split : (P : Row → Type 0) (xs : List Row) (x : Row) → Any P (xs ++ x ∷ []) → Any P xs ⊎ P x

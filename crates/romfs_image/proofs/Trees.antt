@@ -1,28 +1,20 @@
 -- The tree of an image that a check was given, and the image that it shows.
-use Rattle.std.proofs.Common.{◌≡◌, ◌≢◌, ℕ, ◌^◌, ◌<◌, ◌≤◌, min, false, List, [], ◌∷◌, length, drop, ◌⊎◌, inl, inr, sym, ap, subst, ◌∙◌, arith}
+use Rattle.std.proofs.Common.{◌≡◌, ◌≢◌, ℕ, ◌^◌, ◌<◌, ◌≤◌, false, List, [], ◌∷◌, length, drop, ◌⊎◌, inl, inr, sym, ap, subst, ◌∙◌, arith}
 use Rattle.std.proofs.lemmas.List.Elements.{recursion_from_All, All-from_recursion}
 use Rattle.std.specs.List.{All, Any, AllByRecursion as Every}
-use Rattle.rom_tree.specs.Tree.{Node, depth}
+use Rattle.rom_tree.specs.Tree.{depth}
 use Rattle.rom_tree.specs.declared.types.Limits.{Limits}
-use Rattle.rom_tree.specs.declared.types.CheckError.TheVariants.{Fault as FaultAnswer}
-use Rattle.record_walk.specs.declared.reference.Fault.{Fault}
 use Rattle.record_walk.specs.declared.reference.Row.{Row}
-use Rattle.record_walk.specs.declared.walk.WalkError.{WalkError}
-use Rattle.record_walk.specs.declared.walk.WalkError.TheVariants.{OutOfMemory as NoMemory, TooMany as TooManyRefusal, Record, Twice as TwiceRefusal}
-use Rattle.record_walk.specs.Walk.{IsLeastRefusal}
 use Rattle.record_walk.specs.Forest.{Forest, none, at, all_rows, IsForest}
-use Rattle.record_walk.proofs.Same.{same_forest}
 use Rattle.romfs_format.specs.Record.{name_of, IsSound}
-use Rattle.romfs_format.specs.Refers.{references, LeadsToSound, LeadsToFault}
-use Rattle.romfs_format.specs.Tree.{is_dot, tree_of, root_of, IsTree, IsSuperblock, RomfsTree}
+use Rattle.romfs_format.specs.Refers.{references, LeadsToSound}
+use Rattle.romfs_format.specs.Tree.{is_dot, tree_of, root_of, IsTree, IsSuperblock}
 use Rattle.romfs_format.specs.Made.{made, IsRomfs}
 use Rattle.romfs_format.proofs.Bridge.{accepted, sound_rows, offset_none, top_offset}
 use Rattle.romfs_format.proofs.Depths.{IsWithin}
 use Rattle.romfs_format.proofs.Dots.{tree_within, rows_of_tree}
 use Rattle.rom_tree.specs.Image.{Image}
-use Rattle.romfs_image.specs.Checked.{Shows, IsRefused, walk_answer}
-use Rattle.romfs_image.specs.Phases.{IsLaterFault}
-use Rattle.romfs_image.proofs.Refused.{no_later, no_too_many, no_twice, no_record_fault}
+use Rattle.romfs_image.specs.Checked.{Shows}
 
 every_drop : (P : Row → Type 0) (xs : List Row) → Every P xs → Every P (drop 1 xs)
 every_drop P [] h = tt
@@ -39,31 +31,6 @@ module _ {bytes b : List ℕ} {r : ℕ} (super : IsSuperblock bytes b r) where
 
   pub root_live : r ≢ 0
   root_live e = let h = root_positive in omega arith
-
-  -- a tree of the bytes stands in these accessible ones, from this root
-  pub tree_here : {most deepest : ℕ} {t : Node} → RomfsTree bytes most deepest t → (f : Forest) × IsTree b r most deepest f
-  tree_here {most} {deepest} {t} x =
-      let eb : x.b ≡ b = x.super.cut ∙ sym super.cut in
-      let er : x.r ≡ r = x.super.root ∙ ap root_of eb ∙ sym super.root in
-      let P : List ℕ → ℕ → Type 0 = λ c s. IsTree c s most deepest x.forest in
-      (x.forest, subst (λ (s : ℕ). P b s) er (subst (λ (c : List ℕ). P c x.r) eb x.whole))
-
-  -- the walk refuses only where no tree stands
-  pub refused_walk : (limits : Limits) (e : WalkError) → IsLeastRefusal (references b r) (LeadsToSound b r) (LeadsToFault b r) limits.references e → IsRefused bytes limits (walk_answer e)
-  refused_walk limits NoMemory h = tt
-  refused_walk limits TooManyRefusal h = λ t x. let f = tree_here x in no_too_many root_positive f.1 h
-  refused_walk limits (Record e) h = λ t x. let f = tree_here x in no_record_fault root_positive f.1 e h.1.here
-  refused_walk limits (TwiceRefusal q) h = λ t x. let f = tree_here x in no_twice root_positive f.1 q h.2.here
-
-  -- so do the later phases
-  pub refused_later : (limits : Limits) (most : ℕ) (f : Forest) (rows : List Row) (e : Fault) → most ≡ min limits.depth 64 → rows ≡ all_rows (references b r) f → IsForest (references b r) (LeadsToSound b r) limits.references f
-      → IsLaterFault b r most rows e → IsRefused bytes limits (FaultAnswer e.number e.at)
-  refused_later limits most f rows e em er h l = λ t x.
-      let g = tree_here x in
-      let same : f ≡ g.0 = same_forest (references b r) (references b r).top f g.0 h.stands g.1.forest.stands in
-      let here : IsTree b r limits.references limits.depth f = subst (IsTree b r limits.references limits.depth) (sym same) g.1 in
-      let later : IsLaterFault b r (min limits.depth 64) (all_rows (references b r) f) e = subst (λ (xs : List Row). IsLaterFault b r (min limits.depth 64) xs e) er (subst (λ (m : ℕ). IsLaterFault b r m rows e) em l) in
-      no_later b r limits.references limits.depth f e root_live super.directory later here
 
   -- the rows of a forest: each sound, the root's first
   pub rows_sound : (most : ℕ) (f : Forest) (rows : List Row) → rows ≡ all_rows (references b r) f → IsForest (references b r) (LeadsToSound b r) most f → All (λ (x : Row). IsSound b r x.offset) rows

@@ -1,13 +1,12 @@
 -- What a check answers.
 use Rattle.std.specs.Prelude.{◌≡◌, ℕ, List, length}
-use Rattle.rom_tree.specs.Tree.{Node, depth}
+use Rattle.rom_tree.specs.Tree.{depth}
 use Rattle.rom_tree.specs.Image.{Image}
 use Rattle.rom_tree.specs.declared.types.Limits.{Limits}
 use Rattle.rom_tree.specs.declared.types.Report.{Report}
 use Rattle.rom_tree.specs.declared.types.CheckError.{CheckError}
-use Rattle.rom_tree.specs.declared.types.CheckError.TheVariants.{OutOfMemory, Fault}
-use Rattle.record_walk.specs.declared.walk.WalkError.{WalkError}
-use Rattle.record_walk.specs.declared.walk.WalkError.TheVariants.{OutOfMemory as NoMemory, TooMany, Record, Twice}
+use Rattle.rom_tree.specs.Checks.{Refuses}
+use Rattle.record_walk.specs.Answers.{AnswersLeast}
 use Rattle.record_walk.specs.Forest.{all_rows}
 use Rattle.romfs_format.specs.Refers.{references}
 use Rattle.romfs_format.specs.Tree.{RomfsTree}
@@ -22,17 +21,8 @@ pub record Shows (all : List ℕ) (limits : Limits) (m : Image) (report : Report
 
 -- a fault only where the bytes hold no tree
 abbrev pub IsRefused : List ℕ → Limits → CheckError → Type 0
-IsRefused all limits OutOfMemory = Unit {0}
-IsRefused all limits (Fault number at) = (t : Node) → RomfsTree all limits.references limits.depth t → ⊥
+IsRefused all limits = Refuses (RomfsTree all limits.references limits.depth)
 
 -- the fault is the least of the image's faults, by phases
 abbrev pub IsLeastAnswer : List ℕ → Limits → CheckError → Type 0
-IsLeastAnswer all limits OutOfMemory = Unit {0}
-IsLeastAnswer all limits (Fault number at) = IsLeastImageFault all limits.references limits.depth (record { number = number; at = at })
-
--- a refusal of the walk as an answer of the check: 1 TooMany at 0, a record's fault, 20 Twice
-abbrev pub walk_answer : WalkError → CheckError
-walk_answer NoMemory = OutOfMemory
-walk_answer TooMany = Fault 1 0
-walk_answer (Record e) = Fault e.number e.at
-walk_answer (Twice q) = Fault 20 q
+IsLeastAnswer all limits = AnswersLeast (IsLeastImageFault all limits.references limits.depth)

@@ -1,5 +1,7 @@
 -- What a checked romfs image is to the layers above.
 use Rattle.std.proofs.Common.{◌≡◌, ℕ, ◌≤◌, List, length, Some, refl}
+use Rattle.std.specs.Prelude.{◌-◌, Option, MatchOption}
+use Rattle.rom_tree.specs.declared.types.Run.{Run}
 use Rattle.rom_tree.specs.Image.{Image}
 use Rattle.romfs_format.specs.Made.{made, cursor_of, IsRomfs}
 use Rattle.romfs_format.proofs.Trees.{coherent}
@@ -20,3 +22,7 @@ romfs_view bytes b r k s within = record {
   links = made_links s;
   placed = made_placed bytes s within;
 }
+
+-- a run has the rest of the file
+abbrev pub GivesRest : List ℕ → ℕ → Option Run → Type 0
+GivesRest ps off r = MatchOption r (Unit {0}) (λ v. v.len ≡ length ps - off)

@@ -29,6 +29,11 @@ impl Viewed for Romfs<'_> {
 }
 
 impl<'a> TreeImage<'a> for Romfs<'a> {
+    ghost use Rattle.std.specs.Prelude.{Some};
+    ghost use Rattle.rom_tree.specs.Tree.{Node, places_of};
+    ghost use Rattle.rom_tree.specs.Image.{image_node, HasNode, GivesRun, GivesWhole};
+    ghost use Rattle.romfs_image.specs.Romfs.{GivesRest};
+
     fn bytes(&self) -> &'a [u8] {
         self.all
     }
@@ -110,7 +115,16 @@ impl<'a> TreeImage<'a> for Romfs<'a> {
         None
     }
 
-    fn run(&self, n: NodeId, off: u64) -> Option<Run> {
+    /// It has the rest of the file.
+    fn run(&self, n: NodeId, off: u64) -> Option<Run>
+        requires { HasNode (⟦<Romfs<'a> as Viewed>⟧.image self.now) n.0 }
+        ensures row { (x : Node) → image_node (⟦<Romfs<'a> as Viewed>⟧.image self.now) n.0 ≡ Some x
+            → GivesRun (places_of x) off result }
+        ensures whole { (x : Node) → image_node (⟦<Romfs<'a> as Viewed>⟧.image self.now) n.0 ≡ Some x
+            → GivesWhole x off result }
+        ensures rest { (x : Node) → image_node (⟦<Romfs<'a> as Viewed>⟧.image self.now) n.0 ≡ Some x
+            → GivesRest (places_of x) off result }
+    {
         let at = n.0 as usize;
         let t = word(self.bytes, at) % 8;
         let size = file_at(t, word(self.bytes, at + 8));

@@ -4,7 +4,8 @@
 //! an image value, or the least fault. Proved: it gives a value only where the bytes hold a tree of
 //! files, as `romfs_format` defines it, and have no fault; it gives a fault only where they hold
 //! none, and that fault is the least one; and each call on the value answers from the tree
-//! (`rom_tree::image::TreeImage`). Contents are never copied.
+//! (`rom_tree::image::TreeImage`). Contents are never copied. By `laws::exact` the set of faults,
+//! which knows no tree, is empty exactly where a tree stands.
 #![tactic(auto)]
 
 mod check;
@@ -12,6 +13,7 @@ mod depth;
 mod header;
 pub mod image;
 mod later;
+pub mod laws;
 mod names;
 mod overlap;
 mod reader;

@@ -1,6 +1,7 @@
 use crate::image::Romfs;
 use rom_fields::word::{part, put_be32};
-use rom_tree::types::{CheckError, Limits, Report};
+use rom_tree::image::TreeImage;
+use rom_tree::types::{CheckError, Limits, NodeId, Report};
 use std::alloc::Global;
 use std::test::Fail;
 
@@ -138,5 +139,21 @@ fn limits(rt: HostRuntime) -> Result<(), Fail> {
         depth: 0,
     };
     assert_eq!(rt; answer(rt.alloc(), &hello(), flat), fault(21, 96));
+    let deep = Limits {
+        references: 3,
+        depth: u32::MAX,
+    };
+    assert_eq!(rt; answer(rt.alloc(), &hello(), deep), counts(3, 1));
+    Ok(())
+}
+
+#[test]
+fn runs(rt: HostRuntime) -> Result<(), Fail> {
+    let b = hello();
+    let image = Romfs::check(rt.alloc(), &b, Limits::usual()).map_err(|_| "is sound")?;
+    assert!(rt; image.is_node(NodeId(96)));
+    let run = image.run(NodeId(96), 2).ok_or("has a third byte")?;
+    assert_eq!(rt; (run.place, run.len), (130, 3));
+    assert!(rt; image.run(NodeId(96), 5).is_none());
     Ok(())
 }

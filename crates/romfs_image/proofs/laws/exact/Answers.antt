@@ -1,0 +1,9 @@
+use Rattle.romfs_image.proofs.Faultless.{faultless_of_tree}
+use Rattle.romfs_image.proofs.Whole.{tree_of_faultless}
+use Rattle.romfs_image.proofs.laws.exact.Goals as goal
+
+pub returns-clause-tree : goal.returns-clause-tree
+returns-clause-tree c = faultless_of_tree
+
+pub returns-clause-faultless : goal.returns-clause-faultless
+returns-clause-faultless c = tree_of_faultless
