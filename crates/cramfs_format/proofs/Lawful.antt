@@ -14,7 +14,7 @@ abbrev pub nth : Order → List ℕ → ℕ → ℕ → ℕ
 nth o b d zero = list_start o b d
 nth o b d (suc n) = end_of o b (nth o b d n)
 
-nth_rises : (o : Order) (b : List ℕ) (d n m : ℕ) → n < m → nth o b d n + 12 ≤ nth o b d m
+pub nth_rises : (o : Order) (b : List ℕ) (d n m : ℕ) → n < m → nth o b d n + 12 ≤ nth o b d m
 nth_rises o b d n zero h = absurd (omega arith)
 nth_rises o b d n (suc m) h =
     let e = end_after o b (nth o b d m) in
@@ -32,7 +32,7 @@ nth_same o b d n m e = elim (cases_lt n m) [
   ]
 ]
 
-nth_from : (o : Order) (b : List ℕ) (d n : ℕ) → list_start o b d ≤ nth o b d n
+pub nth_from : (o : Order) (b : List ℕ) (d n : ℕ) → list_start o b d ≤ nth o b d n
 nth_from o b d zero = omega arith
 nth_from o b d (suc n) = let ih = nth_from o b d n in let e = end_after o b (nth o b d n) in omega arith
 

@@ -10,3 +10,6 @@ pub mod Contents
 pub mod Faults
 pub mod Depths
 pub mod Orders
+pub mod Named
+pub mod Spans
+pub mod Alone

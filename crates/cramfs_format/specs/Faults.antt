@@ -1,13 +1,13 @@
 -- The faults of a cramfs image, by phases, apart from any tree: they know offsets, references and extents alone.
 -- A phase is looked at where the ones before it have no fault. The numbers and their order are this project's own.
-use Rattle.std.specs.Prelude.{◌≡◌, ◌≢◌, ℕ, ◌+◌, ◌-◌, ◌*◌, ◌<◌, max, min, true, false, List, IsTrue, ◌⊎◌}
+use Rattle.std.specs.Prelude.{◌≡◌, ◌≢◌, ℕ, ◌+◌, ◌-◌, ◌*◌, ◌<◌, max, min, true, List, IsTrue, ◌⊎◌}
 use Rattle.rom_fields.specs.declared.span.Extent.TheVariants.{Super, List as ListOf, Table, Data}
 use Rattle.rom_fields.specs.declared.span.Span.{Span}
 use Rattle.rom_fields.specs.Extents.{Overlap}
 use Rattle.record_walk.specs.declared.reference.Reference.{Reference}
 use Rattle.record_walk.specs.declared.reference.Fault.{Fault}
 use Rattle.record_walk.specs.References.{Reached}
-use Rattle.record_walk.specs.Faults.{TooMany, HasFault, Twice, InList, HasDepth, IsLeastFault}
+use Rattle.record_walk.specs.Faults.{TooMany, HasFault, Twice, InList, HasDepth, IsLeastFault, IsNone}
 use Rattle.cramfs_format.specs.Order.{Order, word}
 use Rattle.cramfs_format.specs.Inode.{name_of, end_of, size_of, type_of, offset_of, list_end, has_data, block_count, block_start, IsSound}
 use Rattle.cramfs_format.specs.Refers.{references, LeadsToSound, LeadsToFault}
@@ -71,11 +71,12 @@ pub record HasExtentFault (o : Order) (b : List ℕ) (e : Fault) : Type 0 where
   pub at : e.at ≡ max one.start other.start
   pub number : e.number ≡ 22
 
--- 23 DupName, 24 Dot, 26 Unsorted, at an entry of a list; the last only where the superblock says that lists are sorted
+-- 23 DupName, 24 Dot, 26 Unsorted, at an entry of a list; the last at a name that precedes the one before it, only where
+-- the superblock says that lists are sorted
 pub data HasNameFault (o : Order) (b : List ℕ) (e : Fault) : Type 0 where
   repeated : {d p : ℕ} → ComesAfter o b d p e.at → name_of o b p ≡ name_of o b e.at → e.number ≡ 23 → HasNameFault o b e
   dots : {d : ℕ} → IsListed o b d e.at → (name_of o b e.at ≡ dot) ⊎ (name_of o b e.at ≡ dot_dot) → e.number ≡ 24 → HasNameFault o b e
-  unsorted : {d p : ℕ} → is_sorted o b ≡ true → ComesNext o b d p e.at → precedes (name_of o b p) (name_of o b e.at) ≡ false → e.number ≡ 26 → HasNameFault o b e
+  unsorted : {d p : ℕ} → is_sorted o b ≡ true → ComesNext o b d p e.at → precedes (name_of o b e.at) (name_of o b p) ≡ true → e.number ≡ 26 → HasNameFault o b e
 
 -- 20 Twice at a record to which two references lead
 abbrev pub HasTwiceFault : Order → List ℕ → Fault → Type 0
@@ -88,9 +89,6 @@ HasTooMany o b most = TooMany (references o b) (LeadsToSound o b) most
 -- a reached record has this fault
 abbrev pub HasReachedFault : Order → List ℕ → Fault → Type 0
 HasReachedFault o b e = HasFault (references o b) (LeadsToSound o b) (LeadsToFault o b) e
-
-abbrev pub IsNone : (Fault → Type 0) → Type 0
-IsNone P = (e : Fault) → P e → ⊥
 
 -- No phase has a fault. A depth limit above 64 counts as 64.
 pub record HasNoFault (o : Order) (bytes : List ℕ) (most deepest : ℕ) : Type 0 where

@@ -1,5 +1,5 @@
 -- The phases over the rows of a forest, put together.
-use Rattle.std.proofs.Common.{◌≡◌, ◌≢◌, ℕ, min, true, eqb, List, [], ◌∷◌, ◌++◌, drop, get_or, Option, None, Some, MatchOption, ◌⊎◌, inl, inr, refl, sym, subst, ◌∙◌, append_assoc, append-nil, if◌then◌else◌}
+use Rattle.std.proofs.Common.{◌≡◌, ◌≢◌, ℕ, min, true, eqb, List, [], ◌∷◌, drop, get_or, Option, None, Some, MatchOption, ◌⊎◌, inl, inr, refl, sym, subst, ◌∙◌, if◌then◌else◌}
 use Rattle.std.proofs.lemmas.Bool.{eq-eqb}
 use Rattle.std.proofs.lemmas.Bool.Decides.{eqb_tells}
 use Rattle.std.proofs.lemmas.List.{get_or_default}
@@ -11,7 +11,9 @@ use Rattle.record_walk.specs.declared.reference.Fault.{Fault}
 use Rattle.record_walk.specs.declared.reference.Row.{Row}
 use Rattle.record_walk.specs.Members.{Pairs}
 use Rattle.record_walk.specs.Forest.{Forest, all_rows, IsForest}
-use Rattle.record_walk.proofs.Lists.{pairs_push, pairs_to, every_weaker, every_both}
+use Rattle.record_walk.proofs.Lists.{pairs_to, every_weaker, every_both}
+use Rattle.record_walk.proofs.Exact.{every_split, pairs_split}
+use Rattle.record_walk.proofs.Decided.{same_or_not}
 use Rattle.cramfs_format.specs.Order.{Order}
 use Rattle.cramfs_format.specs.Inode.{name_of}
 use Rattle.cramfs_format.specs.Refers.{references, LeadsToSound}
@@ -26,17 +28,6 @@ pub well_or_fault : (o : Order) (b : List ℕ) (most : ℕ) (all : List Row) (v 
     → IsLeastRowFault (IsWellNamed o b) (HasNameFault o b) (drop 1 all) v → MatchOption v (AreWell o b most all) (IsLaterFault o b most all)
 well_or_fault o b most all None d v n = record { shallow = d.clean refl; apart = λ p h. v.least p h; named = n.clean refl }
 well_or_fault o b most all (Some e) d v n = of_name d v n
-
--- what holds at each place of a list
-pub every_split : (P : Row → Type 0) (done xs : List Row) → ((before : List Row) (x : Row) (after : List Row) → done ++ xs ≡ before ++ x ∷ after → P x) → Every P xs
-every_split P done [] h = tt
-every_split P done (x ∷ xs) h = (h done x xs refl, every_split P (done ++ x ∷ []) xs (λ before y after e. h before y after (sym (append_assoc done (x ∷ []) xs) ∙ e)))
-
-pairs_split : (R : Row → Row → Type 0) (done xs : List Row) → Pairs R done → ((before : List Row) (x : Row) (after : List Row) → done ++ xs ≡ before ++ x ∷ after → Pairs R before → Every (λ y. R y x) before) → Pairs R (done ++ xs)
-pairs_split R done [] p h = subst (Pairs R) (sym (append-nil done)) p
-pairs_split R done (x ∷ xs) p h =
-    subst (Pairs R) (append_assoc done (x ∷ []) xs)
-    (pairs_split R (done ++ x ∷ []) xs (pairs_push R done x p (h done x xs refl p)) (λ before y after e. h before y after (sym (append_assoc done (x ∷ []) xs) ∙ e)))
 
 -- a name that is not repeated differs from those before it
 fresh_differs : (o : Order) (b : List ℕ) (before : List Row) (x : Row) → (Repeats o b before x → ⊥) → Every (λ (y : Row). NamesDiffer o b y x) before
@@ -66,19 +57,10 @@ all_up o b d noted (x ∷ xs) p = (
 after_all : (name other : List ℕ) (last : Option (List ℕ)) → IsSomeAnd last (UpTo other) → (IsSomeAnd last (λ n. precedes name n ≡ true) → ⊥) → other ≢ name → precedes other name ≡ true
 after_all name other None u n d = absurd u
 after_all name other (Some k) (inl e) n d = elim (one_first other name d) [ inl h ↦ h | inr h ↦ absurd (n (subst (λ (v : List ℕ). precedes name v ≡ true) e h)) ]
-after_all name other (Some k) (inr l) n d = elim (same_or name k) [
+after_all name other (Some k) (inr l) n d = elim (same_or_not name k) [
   | inl e ↦ subst (λ (v : List ℕ). precedes other v ≡ true) (sym e) l
   | inr m ↦ elim (one_first name k m) [ inl h ↦ absurd (n h) | inr h ↦ precedes_on other k name l h ]
 ]
-  where
-    same_or : (xs ys : List ℕ) → (xs ≡ ys) ⊎ (xs ≢ ys)
-    same_or [] [] = inl refl
-    same_or [] (y ∷ ys) = inr (λ e. cc)
-    same_or (x ∷ xs) [] = inr (λ e. cc)
-    same_or (x ∷ xs) (y ∷ ys) = elim (eqb_tells x y) [
-      | inl a ↦ elim (same_or xs ys) [ inl e ↦ inl (let z = a.1 in cc) | inr n ↦ inr (λ e. n (cc)) ]
-      | inr a ↦ inr (λ e. a.1 (cc))
-    ]
 
 rises_next : (o : Order) (b : List ℕ) (before : List Row) (x : Row) → is_sorted o b ≡ true → IsWellNamed o b before x → Pairs (NamesRise o b) before → Every (λ (y : Row). NamesRise o b y x) before
 rises_next o b before x s w p =

@@ -7,6 +7,9 @@ pub mod Reading
 pub mod Naming
 pub mod Spans
 pub mod Composed
-pub mod Refused
 pub mod Trees
 pub mod Repeats
+pub mod Exact
+pub mod Least
+pub mod Whole
+pub mod Faultless

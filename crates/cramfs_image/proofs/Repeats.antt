@@ -1,21 +1,20 @@
 -- Extents that are left out of a list because they stand in it already.
-use Rattle.std.proofs.Common.{◌≡◌, ℕ, zero, suc, ◌+◌, ◌-◌, ◌*◌, min, ◌<◌, max, true, Option, None, Some, List, [], ◌∷◌, ◌++◌, length, take, get_or, ◌⊎◌, inl, inr, refl, sym, ap, subst, ◌∙◌, arith, append_assoc, append-nil}
+use Rattle.std.proofs.Common.{◌≡◌, ℕ, zero, suc, ◌+◌, ◌<◌, max, true, Option, None, Some, List, [], ◌∷◌, ◌++◌, length, take, get_or, ◌⊎◌, inl, inr, refl, sym, ap, subst, ◌∙◌, arith, append_assoc, append-nil}
 use Rattle.std.proofs.Math.Nat.{max_comm}
-use Rattle.std.proofs.lemmas.Bool.{false≢true}
-use Rattle.std.proofs.lemmas.Bool.Decides.{eqb_tells}
 use Rattle.std.proofs.lemmas.List.{take_more}
 use Rattle.std.specs.Prelude.{IfSome}
 use Rattle.std.specs.List.{Any, flat_map, AllByRecursion as Every}
 use Rattle.rom_fields.specs.declared.span.Span.{Span}
-use Rattle.rom_fields.specs.declared.span.Extent.TheVariants.{Super, Table, Data}
+use Rattle.rom_fields.specs.declared.span.Extent.TheVariants.{Super}
 use Rattle.rom_fields.specs.Extents.{is_shareable, Overlap, MeetsAt, OverlapsAt, IsLeastOf, added}
 use Rattle.record_walk.specs.declared.reference.Row.{Row}
 use Rattle.record_walk.specs.Members.{Has}
-use Rattle.record_walk.proofs.Lists.{has_left, has_right, has_cases, has_weaker, every_join, every_weaker}
-use Rattle.cramfs_format.specs.Order.{Order, word}
-use Rattle.cramfs_format.specs.Inode.{type_of, size_of, offset_of, has_data, block_count, block_start}
+use Rattle.record_walk.proofs.Lists.{has_left, has_right, has_cases, has_weaker, every_weaker}
+use Rattle.cramfs_format.specs.Order.{Order}
+use Rattle.cramfs_format.specs.Inode.{type_of, size_of, offset_of, has_data}
+use Rattle.cramfs_format.proofs.Spans.{file_shareable, row_file}
 use Rattle.cramfs_image.specs.Phases.{HasSameFile}
-use Rattle.cramfs_format.specs.Tree.{data_from, file_extents, row_extents, extents_of}
+use Rattle.cramfs_format.specs.Tree.{file_extents, row_extents, extents_of}
 
 -- y stands in the list
 abbrev pub Member : Span → List Span → Type 0
@@ -132,36 +131,10 @@ least_if P Q (Some p) f h = f p h
 pub same_least : (ks fs : List Span) (v : Option ℕ) → Same ks fs → IsLeastOf (OverlapsAt ks) v → IsLeastOf (OverlapsAt fs) v
 same_least ks fs v s h = record { here = least_if (OverlapsAt ks) (OverlapsAt fs) v s.over h.here; least = λ p k. h.least p (s.under p k) }
 
--- all extents of a file may be shared
-added_shareable : (start len : ℕ) → Every (λ (x : Span). is_shareable x.kind ≡ true) (added Data start len)
-added_shareable start zero = tt
-added_shareable start (suc n) = (refl, tt)
-
-table_shareable : (start len : ℕ) → Every (λ (x : Span). is_shareable x.kind ≡ true) (added Table start len)
-table_shareable start zero = tt
-table_shareable start (suc n) = (refl, tt)
-
-data_shareable : (k : ℕ) (o : Order) (b : List ℕ) (q size : ℕ) → Every (λ (x : Span). is_shareable x.kind ≡ true) (data_from o b k q size)
-data_shareable zero o b q size = tt
-data_shareable (suc k) o b q size =
-    every_join (λ (x : Span). is_shareable x.kind ≡ true) (added Data (block_start (word o b q)) (min 4096 size)) (data_from o b k (q + 4) (size - 4096)) (added_shareable (block_start (word o b q)) (min 4096 size)) (data_shareable k o b (q + 4) (size - 4096))
-
-file_shareable : (o : Order) (b : List ℕ) (p : ℕ) → Every (λ (x : Span). is_shareable x.kind ≡ true) (file_extents o b p)
-unfolding file_extents
-file_shareable o b p =
-    every_join (λ (x : Span). is_shareable x.kind ≡ true) (added Table (offset_of o b p) (4 * block_count (size_of o b p))) (data_from o b (block_count (size_of o b p)) (offset_of o b p) (size_of o b p))
-    (table_shareable (offset_of o b p) (4 * block_count (size_of o b p))) (data_shareable (block_count (size_of o b p)) o b (offset_of o b p) (size_of o b p))
-
 -- equal block pointers and sizes make equal extents
 file_same : (o : Order) (b : List ℕ) (p q : ℕ) → offset_of o b p ≡ offset_of o b q → size_of o b p ≡ size_of o b q → file_extents o b p ≡ file_extents o b q
 unfolding file_extents
 file_same o b p q e f = rw (e, f) refl
-
-row_file : (o : Order) (b : List ℕ) (x : Row) → has_data (type_of o b x.offset) ≡ true → row_extents o b x ≡ file_extents o b x.offset
-row_file o b x h = elim (eqb_tells (type_of o b x.offset) 4) [
-  | inl e ↦ let z : has_data 4 ≡ true = (rw e.1 at h) in absurd (false≢true z)
-  | inr n ↦ rw (n.0, h) refl
-]
 
 -- the file of an earlier row is the same
 every_member : (xs : List Span) → Every (λ (x : Span). Member x xs) xs

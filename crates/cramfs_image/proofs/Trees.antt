@@ -1,55 +1,29 @@
 -- The tree of an image that a check was given, and the image that it shows.
-use Rattle.std.proofs.Common.{◌≡◌, ◌≢◌, ℕ, suc, ◌^◌, ◌<◌, ◌≤◌, min, List, [], ◌∷◌, length, drop, None, Some, ◌⊎◌, inl, inr, refl, sym, ap, subst, ◌∙◌, arith}
+use Rattle.std.proofs.Common.{◌≡◌, ◌≢◌, ℕ, suc, ◌^◌, ◌<◌, ◌≤◌, List, [], ◌∷◌, length, drop, None, Some, ◌⊎◌, inl, inr, refl, sym, ap, subst, ◌∙◌, arith}
 use Rattle.std.proofs.lemmas.List.Elements.{recursion_from_All, All-from_recursion}
 use Rattle.std.specs.List.{All, Any, AllByRecursion as Every}
-use Rattle.rom_tree.specs.Tree.{Node, depth}
+use Rattle.rom_tree.specs.Tree.{depth}
 use Rattle.rom_tree.specs.Image.{Image}
 use Rattle.rom_tree.specs.declared.types.Limits.{Limits}
-use Rattle.rom_tree.specs.declared.types.CheckError.TheVariants.{Fault as FaultAnswer}
-use Rattle.record_walk.specs.declared.reference.Fault.{Fault}
 use Rattle.record_walk.specs.declared.reference.Row.{Row}
-use Rattle.record_walk.specs.declared.walk.WalkError.{WalkError}
-use Rattle.record_walk.specs.declared.walk.WalkError.TheVariants.{OutOfMemory as NoMemory, TooMany as TooManyRefusal, Record, Twice as TwiceRefusal}
-use Rattle.record_walk.specs.Walk.{IsLeastRefusal}
 use Rattle.record_walk.specs.Forest.{Forest, none, at, all_rows, IsForest}
 use Rattle.record_walk.proofs.Lists.{every_weaker}
-use Rattle.record_walk.proofs.Same.{same_forest}
 use Rattle.cramfs_format.specs.Order.{Order}
-use Rattle.cramfs_format.specs.Refers.{references, root_place, LeadsToSound, LeadsToFault}
+use Rattle.cramfs_format.specs.Refers.{references, root_place, LeadsToSound}
 use Rattle.cramfs_format.specs.Superblock.{IsSuperblock}
-use Rattle.cramfs_format.specs.Tree.{tree_of, IsTree, CramfsTree}
+use Rattle.cramfs_format.specs.Tree.{tree_of, IsTree}
 use Rattle.cramfs_format.specs.Made.{made, IsGood, IsCramfs}
 use Rattle.cramfs_format.proofs.Lawful.{top_target}
 use Rattle.cramfs_format.proofs.Bridge.{IsFine, rows_fine, fine_good, root_body, accepted}
 use Rattle.cramfs_format.proofs.Depths.{IsWithin, tree_within, all_within}
-use Rattle.cramfs_image.specs.Checked.{Shows, IsRefused, walk_answer}
-use Rattle.cramfs_image.specs.Phases.{IsRecord, IsLaterFault}
-use Rattle.cramfs_image.proofs.Refused.{every_drop, no_later, no_too_many, no_twice, no_record_fault}
+use Rattle.cramfs_image.specs.Checked.{Shows}
+use Rattle.cramfs_image.specs.Phases.{IsRecord}
+
+pub every_drop : (P : Row → Type 0) (xs : List Row) → Every P xs → Every P (drop 1 xs)
+every_drop P [] h = tt
+every_drop P (x ∷ xs) h = h.1
 
 module _ {o : Order} {bytes b : List ℕ} (super : IsSuperblock o bytes b) where
-  -- a tree of the bytes stands in these accessible ones
-  pub tree_here : {most deepest : ℕ} {t : Node} → CramfsTree o bytes most deepest t → (f : Forest) × IsTree o b most deepest f
-  tree_here {most} {deepest} {t} x =
-      let eb : x.b ≡ b = x.super.cut ∙ sym super.cut in
-      (x.forest, subst (λ (c : List ℕ). IsTree o c most deepest x.forest) eb x.whole)
-
-  -- the walk refuses only where no tree stands
-  pub refused_walk : (limits : Limits) (e : WalkError) → IsLeastRefusal (references o b) (LeadsToSound o b) (LeadsToFault o b) limits.references e → IsRefused o bytes limits (walk_answer e)
-  refused_walk limits NoMemory h = tt
-  refused_walk limits TooManyRefusal h = λ t x. let f = tree_here x in no_too_many f.1 h
-  refused_walk limits (Record e) h = λ t x. let f = tree_here x in no_record_fault f.1 e h.1.here
-  refused_walk limits (TwiceRefusal q) h = λ t x. let f = tree_here x in no_twice f.1 q h.2.here
-
-  -- so do the later phases
-  pub refused_later : (limits : Limits) (most : ℕ) (f : Forest) (rows : List Row) (e : Fault) → most ≡ min limits.depth 64 → rows ≡ all_rows (references o b) f → IsForest (references o b) (LeadsToSound o b) limits.references f
-      → IsLaterFault o b most rows e → IsRefused o bytes limits (FaultAnswer e.number e.at)
-  refused_later limits most f rows e em er h l = λ t x.
-      let g = tree_here x in
-      let same : f ≡ g.0 = same_forest (references o b) (references o b).top f g.0 h.stands g.1.forest.stands in
-      let here : IsTree o b limits.references limits.depth f = subst (IsTree o b limits.references limits.depth) (sym same) g.1 in
-      let later : IsLaterFault o b (min limits.depth 64) (all_rows (references o b) f) e = subst (λ (xs : List Row). IsLaterFault o b (min limits.depth 64) xs e) er (subst (λ (m : ℕ). IsLaterFault o b m rows e) em l) in
-      no_later o b limits.references limits.depth f e later here
-
   -- the rows of a forest: the root's, and each other good
   good_below : (most : ℕ) (f : Forest) → IsForest (references o b) (LeadsToSound o b) most f → Every (λ (x : Row). IsGood o b x.offset) (drop 1 (all_rows (references o b) f))
   good_below most none h = tt

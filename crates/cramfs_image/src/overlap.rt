@@ -66,8 +66,8 @@ fn is_shared(b: &[u8], before: &[Row], row: Row) -> bool
     false
 }
 
-/// The least place where two extents of the image overlap. Files may share block pointers: they
-/// and their blocks are added once, so there are no more extents than the image has room for.
+/// The least place where two extents of the image overlap. The block pointers and the blocks of
+/// files with equal pointers and equal sizes are added once.
 pub fn least_overlap(alloc: Global, b: &[u8], rows: &[Row]) -> Result<Option<u32>, OutOfMemory>
     requires records { All (λ x. IsRecord little b.now x.offset) rows.now }
     requires small { length b.now < 2 ^ 32 }
