@@ -1,9 +1,12 @@
--- No bytes begin as an image of both formats.
-use Rattle.std.proofs.Common.{◌≡◌, ℕ, ◌≤◌, List, [], ◌∷◌, length, IsTrue, nat_eq, inl, inr, refl, sym, ◌∙◌, arith}
+-- No bytes begin as an image of both formats, and what follows for the answers.
+use Rattle.std.proofs.Common.{◌≡◌, ℕ, ◌≤◌, List, [], ◌∷◌, length, IsTrue, nat_eq, inl, inr, refl, sym, ap, ◌∙◌, arith}
 use Rattle.std.proofs.lemmas.Bool.{eq-eqb, false≢true}
 use Rattle.std.proofs.lemmas.Bool.Decides.{eqb_tells}
 use Rattle.rom_fields.specs.Words.{word_le}
-use Rattle.rom_tree.specs.Tree.{Node}
+use Rattle.rom_tree.specs.Tree.{Node, depth, levels}
+use Rattle.rom_tree.specs.Image.{Image}
+use Rattle.rom_tree.specs.declared.types.Report.{Report}
+use Rattle.rom_tree.proofs.Nodes.{levels_depth}
 use Rattle.rom_tree.specs.declared.types.Limits.{Limits}
 use Rattle.rom_tree.specs.declared.types.CheckError.{CheckError}
 use Rattle.rom_tree.specs.declared.types.CheckError.TheVariants.{OutOfMemory, Fault}
@@ -13,7 +16,7 @@ use Rattle.cramfs_image.specs.Checked.{IsRefused as CramfsRefused}
 use Rattle.cramfs_format.specs.Order.{little, word}
 use Rattle.cramfs_format.specs.Superblock.{magic as cramfs_magic}
 use Rattle.cramfs_format.specs.Tree.{CramfsTree}
-use Rattle.image_check.specs.Checked.{IsRomfs, IsCramfs, IsRefused}
+use Rattle.image_check.specs.Checked.{IsRomfs, IsCramfs, Shows, romfs, cramfs, IsRefused}
 
 pub little_word : (b : List ℕ) → word little b 0 ≡ word_le b 0
 unfolding word
@@ -36,20 +39,26 @@ apart (a ∷ b ∷ c ∷ d ∷ rest) h e =
     let s : d ≡ 109 = cc in
     front_word a b c d rest p q r s (sym (little_word (a ∷ b ∷ c ∷ d ∷ rest)) ∙ e)
 
-pub romfs_alone : (all : List ℕ) (limits : Limits) (t : Node) → IsRomfs all → CramfsTree little all limits.references limits.depth t → ⊥
-romfs_alone all limits t h c = apart all h c.super.begins
+-- the bytes of a tree begin as its format says
+pub romfs_begins : {all : List ℕ} {most deepest : ℕ} {t : Node} → RomfsTree all most deepest t → IsRomfs all
+romfs_begins r = r.super.begins
 
-pub cramfs_alone : (all : List ℕ) (limits : Limits) (t : Node) → IsCramfs all → RomfsTree all limits.references limits.depth t → ⊥
-cramfs_alone all limits t h r = apart all r.super.begins h.1
+pub cramfs_begins : {all : List ℕ} {most deepest : ℕ} {t : Node} → CramfsTree little all most deepest t → IsCramfs all
+cramfs_begins c = let l = c.super.long in (omega arith, c.super.begins)
 
 -- What the check of one format refuses holds no tree of the other.
 pub refused_romfs : (all : List ℕ) (limits : Limits) (e : CheckError) → IsRomfs all → RomfsRefused all limits e → IsRefused all limits e
 refused_romfs all limits OutOfMemory h r = tt
-refused_romfs all limits (Fault number at) h r = λ t. (r t, romfs_alone all limits t h)
+refused_romfs all limits (Fault number at) h r = λ t x. elim x [ inl y ↦ r t y | inr y ↦ apart all h (cramfs_begins y).1 ]
 
 pub refused_cramfs : (all : List ℕ) (limits : Limits) (e : CheckError) → IsCramfs all → CramfsRefused little all limits e → IsRefused all limits e
 refused_cramfs all limits OutOfMemory h r = tt
-refused_cramfs all limits (Fault number at) h r = λ t. (cramfs_alone all limits t h, r t)
+refused_cramfs all limits (Fault number at) h r = λ t x. elim x [ inl y ↦ apart all (romfs_begins y) h.1 | inr y ↦ r t y ]
+
+-- a checked image is shallow enough to be listed
+pub shallow : {all : List ℕ} {limits : Limits} {m : Image} {report : Report} → Shows all limits m report → levels m.tree ≤ 65
+shallow {m = m} (romfs s) = let e = ap depth s.tree.same in let h = s.tree.whole.shallow in let l = levels_depth m.tree in omega arith
+shallow {m = m} (cramfs s) = let e = ap depth s.tree.same in let h = s.tree.whole.shallow in let l = levels_depth m.tree in omega arith
 
 -- the first word tells whether they begin as a cramfs image does
 pub word_tells : (all : List ℕ) (m : ℕ) → (4 ≤ length all) × (m ≡ word_le all 0) → (IsTrue (nat_eq m 684539205) → IsCramfs all) × (IsCramfs all → IsTrue (nat_eq m 684539205))

@@ -1,10 +1,12 @@
 -- An image of either format, as the layers above see it.
+use Rattle.std.specs.Prelude.{ℕ, List, Option}
+use Rattle.rom_tree.specs.declared.types.Run.{Run}
 use Rattle.rom_tree.specs.Image.{Image}
 use Rattle.rom_tree.specs.declared.types.Report.{Report}
-use Rattle.romfs_image.specs.Romfs.{romfs_view}
+use Rattle.romfs_image.specs.Romfs.{romfs_view, GivesRest}
 use Rattle.romfs_image.specs.Reported.{report_of as romfs_report}
 use Rattle.cramfs_format.specs.Order.{little}
-use Rattle.cramfs_image.specs.Cramfs.{cramfs_view}
+use Rattle.cramfs_image.specs.Cramfs.{cramfs_view, GivesBlock}
 use Rattle.cramfs_image.specs.Reported.{report_of as cramfs_report}
 use Rattle.image_check.specs.declared.any.AnyImage.{AnyImage}
 use Rattle.image_check.specs.declared.any.AnyImage.TheVariants.{Romfs, Cramfs}
@@ -17,3 +19,8 @@ any_view (Cramfs s) = cramfs_view little s.all.now s.bytes.now s.references s.so
 abbrev pub report_of : AnyImage → Report
 report_of (Romfs s) = romfs_report s
 report_of (Cramfs s) = cramfs_report s
+
+-- how much a run has: of romfs the rest of the file, of cramfs the rest of its block
+abbrev pub GivesPart : AnyImage → List ℕ → ℕ → Option Run → Type 0
+GivesPart (Romfs s) = GivesRest
+GivesPart (Cramfs s) = GivesBlock

@@ -1,18 +1,20 @@
 -- What the check of an image of either format answers. The formats are told apart by their first bytes.
-use Rattle.std.specs.Prelude.{◌≡◌, ℕ, ◌≤◌, List, length, take, if◌then◌else◌, nat_lt}
+use Rattle.std.specs.Prelude.{◌≡◌, ℕ, ◌≤◌, ◌⊎◌, List, length, take, if◌then◌else◌, nat_lt}
 use Rattle.rom_tree.specs.Tree.{Node}
 use Rattle.rom_tree.specs.Image.{Image}
 use Rattle.rom_tree.specs.declared.types.Limits.{Limits}
 use Rattle.rom_tree.specs.declared.types.Report.{Report}
 use Rattle.rom_tree.specs.declared.types.CheckError.{CheckError}
-use Rattle.rom_tree.specs.declared.types.CheckError.TheVariants.{OutOfMemory, Fault}
+use Rattle.rom_tree.specs.declared.types.CheckError.TheVariants.{Fault}
+use Rattle.rom_tree.specs.Checks.{Refuses}
 use Rattle.romfs_format.specs.Tree.{RomfsTree, magic as romfs_magic}
-use Rattle.romfs_format.specs.Faults.{HasNoFault}
-use Rattle.romfs_image.specs.Checked.{Shows as RomfsShows, IsLeastAnswer}
+use Rattle.romfs_format.specs.Faults.{HasNoFault as HasNoRomfsFault}
+use Rattle.romfs_image.specs.Checked.{Shows as RomfsShows, IsLeastAnswer as IsLeastRomfsAnswer}
 use Rattle.cramfs_format.specs.Order.{little, word}
 use Rattle.cramfs_format.specs.Superblock.{magic as cramfs_magic}
 use Rattle.cramfs_format.specs.Tree.{CramfsTree}
-use Rattle.cramfs_image.specs.Checked.{Shows as CramfsShows}
+use Rattle.cramfs_format.specs.Faults.{HasNoFault as HasNoCramfsFault}
+use Rattle.cramfs_image.specs.Checked.{Shows as CramfsShows, IsLeastAnswer as IsLeastCramfsAnswer}
 use Rattle.image_check.specs.declared.any.AnyImage.{AnyImage}
 use Rattle.image_check.specs.declared.any.AnyImage.TheVariants.{Romfs, Cramfs}
 
@@ -24,6 +26,10 @@ IsRomfs all = take 8 all ≡ romfs_magic
 abbrev pub IsCramfs : List ℕ → Type 0
 IsCramfs all = (4 ≤ length all) × (word little all 0 ≡ cramfs_magic)
 
+-- t is the tree that one of the formats gives these bytes, under these limits
+abbrev pub HasTree : List ℕ → Limits → Node → Type 0
+HasTree all limits t = RomfsTree all limits.references limits.depth t ⊎ CramfsTree little all limits.references limits.depth t
+
 -- The image m shows the tree that one of the formats gives these bytes.
 pub data Shows (all : List ℕ) (limits : Limits) (m : Image) (report : Report) : Type 0 where
   romfs : RomfsShows all limits m report → Shows all limits m report
@@ -31,9 +37,7 @@ pub data Shows (all : List ℕ) (limits : Limits) (m : Image) (report : Report) 
 
 -- a fault only where the bytes hold no tree of either format
 abbrev pub IsRefused : List ℕ → Limits → CheckError → Type 0
-IsRefused all limits OutOfMemory = Unit {0}
-IsRefused all limits (Fault number at) =
-    (t : Node) → (RomfsTree all limits.references limits.depth t → ⊥) × (CramfsTree little all limits.references limits.depth t → ⊥)
+IsRefused all limits = Refuses (HasTree all limits)
 
 -- bytes of no format: 2 Short where they are fewer than 8, else 3 Magic, at 0
 abbrev pub neither : List ℕ → CheckError
@@ -44,10 +48,13 @@ abbrev pub HasFormat : List ℕ → AnyImage → Type 0
 HasFormat all (Romfs s) = IsRomfs all
 HasFormat all (Cramfs s) = IsCramfs all
 
--- bytes that begin as a romfs image have no fault
-abbrev pub IsFaultless : List ℕ → Limits → Type 0
-IsFaultless all limits = IsRomfs all → HasNoFault all limits.references limits.depth
+-- The bytes begin as an image of one of the formats does, and have none of its faults.
+pub data IsFaultless (all : List ℕ) (limits : Limits) : Type 0 where
+  no_romfs_fault : IsRomfs all → HasNoRomfsFault all limits.references limits.depth → IsFaultless all limits
+  no_cramfs_fault : IsCramfs all → HasNoCramfsFault little all limits.references limits.depth → IsFaultless all limits
 
--- of bytes that begin as a romfs image this is the least fault
-abbrev pub IsLeastFault : List ℕ → Limits → CheckError → Type 0
-IsLeastFault all limits e = IsRomfs all → IsLeastAnswer all limits e
+-- The fault is the least one of the format that the first bytes name, or that of bytes which name none.
+pub data IsLeastFault (all : List ℕ) (limits : Limits) (e : CheckError) : Type 0 where
+  least_of_romfs : IsRomfs all → IsLeastRomfsAnswer all limits e → IsLeastFault all limits e
+  least_of_cramfs : IsCramfs all → IsLeastCramfsAnswer little all limits e → IsLeastFault all limits e
+  of_neither : (IsRomfs all → ⊥) → (IsCramfs all → ⊥) → e ≡ neither all → IsLeastFault all limits e

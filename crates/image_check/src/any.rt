@@ -21,6 +21,11 @@ impl Viewed for AnyImage<'_> {
 }
 
 impl<'a> TreeImage<'a> for AnyImage<'a> {
+    ghost use Rattle.std.specs.Prelude.{Some};
+    ghost use Rattle.rom_tree.specs.Tree.{Node, places_of};
+    ghost use Rattle.rom_tree.specs.Image.{image_node, HasNode, GivesRun, GivesWhole};
+    ghost use Rattle.image_check.specs.Any.{GivesPart};
+
     fn bytes(&self) -> &'a [u8] {
         match self {
             AnyImage::Romfs(image) => image.bytes(),
@@ -63,7 +68,13 @@ impl<'a> TreeImage<'a> for AnyImage<'a> {
         }
     }
 
-    fn run(&self, n: NodeId, off: u64) -> Option<Run> {
+    /// It has the rest of the file (romfs), or of the block of 4096 bytes (cramfs).
+    fn run(&self, n: NodeId, off: u64) -> Option<Run>
+        requires { HasNode (any_view self.now) n.0 }
+        ensures row { (x : Node) → image_node (any_view self.now) n.0 ≡ Some x → GivesRun (places_of x) off result }
+        ensures whole { (x : Node) → image_node (any_view self.now) n.0 ≡ Some x → GivesWhole x off result }
+        ensures part { (x : Node) → image_node (any_view self.now) n.0 ≡ Some x → GivesPart self.now (places_of x) off result }
+    {
         match self {
             AnyImage::Romfs(image) => image.run(n, off),
             AnyImage::Cramfs(image) => image.run(n, off),

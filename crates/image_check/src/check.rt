@@ -1,5 +1,6 @@
 //! The check of an image of either format.
-ghost use Rattle.std.specs.Prelude.{◌≡◌, ◌↔◌, IsTrue, IfOk, IfErr, Err};
+ghost use Rattle.std.specs.Prelude.{◌≡◌, ◌≤◌, ◌↔◌, IsTrue, IfOk, IfErr, Err};
+ghost use Rattle.rom_tree.specs.Tree.{levels};
 ghost use Rattle.image_check.specs.Any.{any_view, report_of};
 ghost use Rattle.image_check.specs.Checked.{Shows, IsRefused, IsRomfs, IsCramfs, HasFormat, IsFaultless, IsLeastFault, neither};
 
@@ -32,28 +33,26 @@ fn is_cramfs(bytes: &[u8]) -> bool
 }
 
 /// The image of these bytes, where they hold the tree of a romfs or a little-endian cramfs image
-/// within the limits (a depth limit above 64 counts as 64); else a fault of the format that their
-/// first bytes name. Bytes that name none have fault 2 where they are fewer than 8, else fault 3,
-/// at 0. `OutOfMemory` where the room for the table of records is refused.
+/// within the limits (a depth limit above 64 counts as 64), which is where they have no fault of the
+/// format that their first bytes name; else the least of these faults, by phases. Bytes that name no
+/// format have fault 2 where they are fewer than 8, else fault 3, at 0. `OutOfMemory` where the room
+/// for the table of records or for the extents is refused.
 pub fn check<'a>(alloc: Global, bytes: &'a [u8], limits: Limits) -> Result<AnyImage<'a>, CheckError>
     ensures ok { IfOk result (λ v. Shows bytes.now limits (any_view v) (report_of v)) }
     ensures fault { IfErr result (IsRefused bytes.now limits) }
     ensures format { IfOk result (HasFormat bytes.now) }
+    ensures shallow { IfOk result (λ v. levels (any_view v).tree ≤ 65) }
     ensures clean { IfOk result (λ v. IsFaultless bytes.now limits) }
     ensures least { IfErr result (IsLeastFault bytes.now limits) }
     ensures neither { (IsRomfs bytes.now → ⊥) → (IsCramfs bytes.now → ⊥) → result ≡ Err (neither bytes.now) }
 {
     if is_romfs(bytes) {
-        return match Romfs::check(alloc, bytes, limits) {
-            Ok(image) => Ok(AnyImage::Romfs(image)),
-            Err(error) => Err(error),
-        };
+        let image = Romfs::check(alloc, bytes, limits)?;
+        return Ok(AnyImage::Romfs(image));
     }
     if is_cramfs(bytes) {
-        return match Cramfs::check(alloc, bytes, limits) {
-            Ok(image) => Ok(AnyImage::Cramfs(image)),
-            Err(error) => Err(error),
-        };
+        let image = Cramfs::check(alloc, bytes, limits)?;
+        return Ok(AnyImage::Cramfs(image));
     }
     let number = if bytes.len() < 8 { SHORT } else { MAGIC };
     Err(CheckError::Fault { number, at: 0 })

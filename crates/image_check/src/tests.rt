@@ -49,6 +49,7 @@ fn both_formats(rt: HostRuntime) -> Result<(), Fail> {
     );
     assert_eq!(rt; one.root(), NodeId(32));
     assert!(rt; one.is_node(NodeId(32)));
+    assert!(rt; one.run(NodeId(32), 0).is_none());
     assert!(rt; !one.is_node(NodeId(48)));
     let cramfs = empty_cramfs();
     let other = check(rt.alloc(), &cramfs, Limits::usual())?;

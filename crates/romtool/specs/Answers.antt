@@ -57,7 +57,7 @@ ok_line format references depth = codes "ok " ++ (format ++ (codes " " ++ (decim
 abbrev pub sound_text : Bool → Image → List ℕ → Report → List ℕ
 sound_text listed m format report = if listed then list_text m.bytes m.tree else ok_line format report.references report.depth
 
--- 1,048,576 references, and directories 64 deep
+-- 1,048,576 references, and 64 names on the way to an entry
 abbrev pub usual_limits : Limits
 usual_limits = record { references = 1048576; depth = 64 }
 

@@ -2,6 +2,7 @@
 ghost use Rattle.std.specs.Prelude.{◌≡◌, ◌≤◌, OnErr};
 ghost use Rattle.rom_fields.specs.Failures.{Rose};
 ghost use Rattle.rom_fields.specs.Written.{WritesText};
+ghost use Rattle.rom_tree.specs.Tree.{levels};
 ghost use Rattle.image_check.specs.Any.{any_view, report_of};
 ghost use Rattle.romtool.specs.Answers.{fault_line, ok_line, sound_text, status_of, Ends, writer};
 ghost use Rattle.romtool.specs.Formats.{format_of};
@@ -80,6 +81,7 @@ fn write_ok_line<W: ByteWrite>(w: &mut W, format: &[u8], report: Report) -> Resu
 
 /// Writes the list of a sound image (`listed`), or its line.
 fn write_sound<W: ByteWrite>(image: &AnyImage, listed: bool, w: &mut W) -> Result<(), Failed>
+    requires { levels (any_view image.now).tree ≤ 65 }
     ensures text { WritesText (W.told w.old) (W.told w.new) result (sound_text listed (any_view image.now) (format_of image.now) (report_of image.now)) }
     ensures fault { OnErr result (Rose (W.failures w.old) (W.failures w.new)) }
 {

@@ -1,6 +1,5 @@
 use Rattle.std.proofs.Common.{refl}
-use Rattle.image_check.proofs.Shallow.{shallow}
 use Rattle.romtool.proofs.shown.write_sound.Goals as goal
 
 pub list-requires : goal.list-requires
-list-requires g c κs = ((refl, tt), shallow c.args.image.now)
+list-requires g c κs = ((refl, tt), c.requires)
