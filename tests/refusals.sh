@@ -1,14 +1,14 @@
 #!/bin/sh
 # Lets memory be refused, and sees that the answer stays, or is `memory` with status 3. By hand, from
-# anywhere; `rt ci` does not run it.
+# anywhere; `rt ci` does not run it. What needs no toolchain and is quick is in refusals.py.
 #
 #     tests/refusals.sh [LAST]
 #
 # First the stored run of romtool has each of its allocations refused in turn, the Nth by
 # `rt try --fail-alloc N` (half a minute each), up to the third whole run in a row or to LAST, 60 where
-# it is left out. Then the built binary checks and lists an image of 1,500 files under `ulimit -v`,
-# 32 KiB more each time, up to the first run that is whole; limits under which no program starts at
-# all are passed over. The last line is `N passed, M failed`.
+# it is left out; 0 is none. Then the built binary checks and lists an image of 1,500 files of each
+# format under `ulimit -v`, one page of 4 KiB more each time, up to the first run that is whole; limits
+# under which no program starts at all are passed over. The last line is `N passed, M failed`.
 #
 # Run with rattle-kit-13b up to the 17th allocation: the stored run has 14. Each that is refused ends it
 # with `memory`, but the 4th, without which it is whole all the same.
@@ -52,26 +52,10 @@ while [ "$n" -le "$last" ] && [ "$whole" -lt 3 ]; do
     n=$((n + 1))
 done
 
-python3 - "$top/image" <<'EOF'
-import struct, sys
-
-def words(b):
-    return sum(struct.unpack(">%dI" % (len(b) // 4), b)) & 0xFFFFFFFF
-
-def header(following, spec, size, name):
-    name += b"\0" * (16 - len(name))
-    front = struct.pack(">III", following, spec, size)
-    return front + struct.pack(">I", -words(front + name) & 0xFFFFFFFF) + name
-
-files = 1500
-out = header(0x49, 32, 0, b".") + header(96, 32, 0, b"..")
-for n in range(files):
-    following = 96 + 32 * (n + 1) if n + 1 < files else 0
-    out += header(following | 2, 0, 0, b"file%05d" % n)
-out = b"-rom1fs-" + struct.pack(">II", 32 + len(out), 0) + b"\0" * 16 + out
-out = out[:12] + struct.pack(">I", -words(out[:512]) & 0xFFFFFFFF) + out[16:]
-open(sys.argv[1], "wb").write(out)
-EOF
+# image CASE: lays out the image of a case, as $top/image.
+image() {
+    PYTHONPATH=$here python3 -c 'import run, sys; sys.stdout.buffer.write(run.file_of(sys.argv[1]))' "$1/image" >"$top/image"
+}
 
 # limited WORD KIB: the binary's status on the image under that limit.
 limited() {
@@ -81,27 +65,35 @@ limited() {
     ) 2>/dev/null
 }
 
-for word in check list; do
-    "$binary" "$word" "$top/image" >"$top/$word" || wrong "$word without a limit"
-    refused=0
-    whole=no
-    for kib in $(seq 1024 32 16384); do
-        limited "$word" "$kib"
-        status=$?
-        if [ "$status" = 0 ]; then
-            if cmp -s "$top/out" "$top/$word"; then whole=$kib; else wrong "$word under $kib KiB answers something else"; fi
-            break
-        elif [ "$status" = 3 ]; then
-            if [ "$(cat "$top/err")" = memory ] && [ ! -s "$top/out" ]; then
-                refused=$((refused + 1))
-                passed=$((passed + 1))
-            else
-                wrong "$word under $kib KiB"
+for format in romfs cramfs; do
+    image "many/$format-1500-files" || wrong "no image of $format"
+    for word in check list; do
+        "$binary" "$word" "$top/image" >"$top/$word" || wrong "$word of $format without a limit"
+        refused=0
+        whole=no
+        started=no
+        for kib in $(seq 1024 4 16384); do
+            limited "$word" "$kib"
+            status=$?
+            if [ "$status" = 0 ]; then
+                if cmp -s "$top/out" "$top/$word"; then whole=$kib; else wrong "$word of $format under $kib KiB answers something else"; fi
+                break
+            elif [ "$status" = 3 ]; then
+                started=yes
+                if [ "$(cat "$top/err")" = memory ] && [ ! -s "$top/out" ]; then
+                    refused=$((refused + 1))
+                    passed=$((passed + 1))
+                else
+                    wrong "$word of $format under $kib KiB"
+                fi
+            elif [ "$started" = yes ]; then
+                wrong "$word of $format under $kib KiB ends with status $status"
             fi
-        fi
+        done
+        if [ "$refused" = 0 ]; then wrong "$word of $format is refused memory under no limit"; fi
+        if [ "$whole" = no ]; then wrong "$word of $format is whole under no limit"; else passed=$((passed + 1)); fi
+        echo "refusals: $word of 1,500 files in $format: memory was refused under $refused limits, and the run is whole from $whole KiB"
     done
-    if [ "$whole" = no ]; then wrong "$word is whole under no limit"; else passed=$((passed + 1)); fi
-    echo "refusals: $word of 1,500 files: memory was refused under $refused limits, and the run is whole from $whole KiB"
 done
 
 echo "$passed passed, $failed failed"

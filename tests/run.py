@@ -7,12 +7,13 @@ cases/TOPIC.json is a list of cases; the file `topics` names the topics that are
 in a new folder of its own, and has
     name     unique in its topic
     about    what it is about, in a few words (may be missing)
+    large    true: it takes long, and refusals.py passes it over
     folders  names of folders to make
     files    name -> bytes
     runs     what is run in turn
 A run has
     words    the words after the program's name
-    out      the bytes of its standard output
+    out      the bytes of its standard output (not compared where missing)
     err      the bytes of its standard error (not compared where missing)
     status   its exit status
     full     true: its standard output goes to a device that takes nothing, and `out` is missing
@@ -22,11 +23,19 @@ Bytes are a text, or
     {"size": N, "at": {"64": BYTES}}    zeros but for what stands at these offsets
     {"repeat": BYTES, "times": N}
     {"join": [BYTES, ..]}
+    {"words": [W, ..], "by": [D, ..], "times": N}
+                                        words of 32 bits, the highest byte first, N times; each time
+                                        each word is by its D more, modulo 2^32
+    {"like": "TOPIC/CASE/FILE", "first": N, "at": {"64": BYTES}}
+                                        that file's first N bytes (all, where N is missing), with these
+                                        bytes at these offsets
     {"sparse": N}                       zeros, in a file without blocks
 The last line is `N passed, M failed`.
 """
 
 import argparse
+import array
+import functools
 import json
 import os
 import resource
@@ -49,13 +58,36 @@ def bytes_of(told):
         return bytes_of(told["repeat"]) * told["times"]
     if "join" in told:
         return b"".join(bytes_of(part) for part in told["join"])
-    out = bytearray(told["size"])
-    for at, part in told["at"].items():
+    if "words" in told:
+        return rising(told["words"], told["by"], told["times"])
+    out = bytearray(file_of(told["like"])[: told.get("first")] if "like" in told else told["size"])
+    size = len(out)
+    for at, part in told.get("at", {}).items():
         part = bytes_of(part)
         out[int(at) : int(at) + len(part)] = part
-    if len(out) != told["size"]:
+    if len(out) != size:
         raise ValueError("a part reaches past the size")
     return bytes(out)
+
+
+def rising(words, by, times):
+    """The words, each by its step more each time."""
+    out = array.array("I", bytes(4 * len(words) * times))
+    for place, (word, step) in enumerate(zip(words, by)):
+        if step:
+            column = ((word + step * time) % 2**32 for time in range(times))
+            out[place :: len(words)] = array.array("I", column)
+        else:
+            out[place :: len(words)] = array.array("I", [word]) * times
+    if sys.byteorder == "little":
+        out.byteswap()
+    return out.tobytes()
+
+
+def file_of(place):
+    """The bytes of a file of a case, named as TOPIC/CASE/FILE."""
+    topic, name, file = place.split("/")
+    return bytes_of(next(case for case in load(topic) if case["name"] == name)["files"][file])
 
 
 def topics():
@@ -64,6 +96,7 @@ def topics():
         return file.read().split()
 
 
+@functools.lru_cache(maxsize=None)
 def load(topic):
     """The cases of a topic."""
     with open(os.path.join(HERE, "cases", topic + ".json"), encoding="utf-8") as file:
@@ -87,8 +120,8 @@ def lay_out(case, top):
                 file.write(bytes_of(told))
 
 
-def started(binary, run, top):
-    """The finished program."""
+def started(binary, run, top, environment=None):
+    """The finished program; its environment has what is told, too."""
     words = [os.fsencode(binary)] + [bytes_of(word) for word in run["words"]]
     limit = run.get("memory")
 
@@ -99,7 +132,7 @@ def started(binary, run, top):
     try:
         return subprocess.run(
             words, cwd=top, stdin=subprocess.DEVNULL, stdout=out, stderr=subprocess.PIPE,
-            timeout=SECONDS, preexec_fn=limited if limit else None,
+            timeout=SECONDS, preexec_fn=limited if limit else None, env={**os.environ, **(environment or {})},
         )  # fmt: skip
     finally:
         if run.get("full"):

@@ -1,0 +1,219 @@
+#!/usr/bin/env python3
+"""Runs romtool on small images that are cut or changed everywhere, and looks at how it ends.
+
+    changes.py [--binary PATH]
+
+The images are those of cases (see run.py). Each is cut to every length from 0 on, and what `check`
+prints of that is compared with the image's row of CUTS. Each byte of those of CHANGED is set to 0, set
+to 255, and has each of its bits turned over. In a romfs image each such change breaks a sum, so the
+image is run once more with the superblock's sum mended, and once with the sums of the records too. Of
+each image that comes of this
+    check    prints one line, an `ok` with status 0 or a fault of its format with status 1
+    list     prints the same fault line, or with status 0 at most as many lines (in cramfs as many) as
+             `check` says that there are references, and as many names on a path
+    neither  prints anything on standard error
+The last line is `N passed, M failed`.
+"""
+
+import argparse
+import concurrent.futures
+import os
+import re
+import struct
+import subprocess
+import sys
+import tempfile
+
+import run
+
+# image -> where a fault line begins to hold, by length: it holds up to the next one.
+CUTS = {
+    "romfs/hello/image": {0: "fault 2 Short at 0", 32: "fault 4 Size at 8", 144: "ok romfs 3 1"},
+    "romfs/tree/image": {0: "fault 2 Short at 0", 32: "fault 4 Size at 8", 272: "ok romfs 7 2"},
+    "cramfs/file-tight/image": {
+        0: "fault 2 Short at 0",
+        76: "fault 11 Bounds at 64",
+        92: "fault 11 Bounds at 76",
+        96: "fault 11 Bounds at 92",
+        101: "ok cramfs 2 1",
+    },
+    "cramfs/one-table-for-two-files/image": {
+        0: "fault 2 Short at 0",
+        76: "fault 11 Bounds at 64",
+        108: "fault 11 Bounds at 76",
+        112: "fault 11 Bounds at 108",
+        117: "ok cramfs 3 1",
+    },
+    "cramfs/file-with-sum/image": {0: "fault 2 Short at 0", 76: "fault 4 Size at 4", 4096: "ok cramfs 2 1"},
+}
+
+# image -> where its records begin, for those whose sums are mended.
+CHANGED = {
+    "romfs/hello/image": [32, 64, 96],
+    "romfs/tree/image": [32, 64, 96, 128, 160, 192, 240],
+    "cramfs/file-tight/image": [],
+    "cramfs/one-table-for-two-files/image": [],
+}
+
+FAULTS = {
+    "romfs": {
+        2: "Short", 3: "Magic", 4: "Size", 5: "Sum", 9: "Root", 11: "Bounds", 12: "HeaderSum", 13: "BadName",
+        15: "LinkSize", 20: "Twice", 22: "Overlap", 23: "DupName", 24: "Dot", 25: "HardLink",
+    },
+    "cramfs": {
+        2: "Short", 3: "Magic", 4: "Size", 6: "Flags", 7: "Crc", 8: "Signature", 9: "Root", 11: "Bounds",
+        13: "BadName", 14: "Kind", 15: "LinkSize", 16: "BlockKind", 17: "ListEnd", 20: "Twice",
+        22: "Overlap", 23: "DupName", 24: "Dot", 26: "Unsorted",
+    },
+}  # fmt: skip
+
+OK = re.compile(rb"ok (romfs|cramfs) ([0-9]+) ([0-9]+)\n")
+FAULT = re.compile(rb"fault ([0-9]+) ([A-Za-z]+) at ([0-9]+)\n")
+LINE = re.compile(rb"([0-9]+) ([dflbcsp]) [0-7]{4}( [0-9]+){5} (/[!-~]*)( [!-~]+)?")
+
+
+def word_sum(data):
+    """The sum of the words, the highest byte first; a rest of fewer than four bytes is not counted."""
+    return sum(word for (word,) in struct.iter_unpack(">I", data[: len(data) // 4 * 4]))
+
+
+def mended(image, place, end):
+    """The image with the word at `place + 12` such that the words up to `end` have the sum 0."""
+    total = word_sum(image[place : place + 12] + image[place + 16 : end])
+    return image[: place + 12] + struct.pack(">I", -total % 2**32) + image[place + 16 :]
+
+
+def with_sums(image, records):
+    """The romfs image with the sums of the records mended, then that of the superblock."""
+    for place in records:
+        name_end = image.find(0, place + 16)
+        if name_end >= 0:
+            image = mended(image, place, place + 16 + (name_end - place) // 16 * 16)
+    return mended(image, 0, min(512, struct.unpack_from(">I", image, 8)[0]))
+
+
+def changes_of(image, records, place):
+    """What comes of the image by changes of the byte at `place`, each with the words that tell it."""
+    old = image[place]
+    for new in sorted({0, 255} | {old ^ 1 << bit for bit in range(8)}):
+        if new == old:
+            continue
+        changed = image[:place] + bytes([new]) + image[place + 1 :]
+        yield "byte %d is %d" % (place, new), changed
+        if records:
+            yield "byte %d is %d, superblock's sum mended" % (place, new), with_sums(changed, [])
+            yield "byte %d is %d, all sums mended" % (place, new), with_sums(changed, records)
+
+
+def wrong_fault(format, image, line):
+    """What is wrong in a fault line, or nothing."""
+    number, name, offset = int(line[1]), line[2].decode(), int(line[3])
+    if FAULTS[format].get(number) != name:
+        return "no fault of %s" % format
+    # A reference of romfs may lead anywhere; every other fault is at a byte that is there.
+    if offset >= max(1, len(image)) and not (format == "romfs" and number == 11 and offset % 16 == 0):
+        return "its offset lies outside"
+    return None
+
+
+def wrong_list(told, done, image):
+    """What is wrong in the list of an accepted image, or nothing."""
+    format, references, depth = told[1].decode(), int(told[2]), int(told[3])
+    if done.returncode != 0:
+        return "list ends with status %d" % done.returncode
+    lines = [LINE.fullmatch(line) for line in done.stdout[:-1].split(b"\n")]
+    if not done.stdout.endswith(b"\n") or not all(lines):
+        return "list prints a line that is none"
+    if (lines[0][2], lines[0][4]) != (b"d", b"/"):
+        return "list does not begin with the root"
+    if len(lines) > references or (format == "cramfs" and len(lines) != references):
+        return "list prints %d lines of %d references" % (len(lines), references)
+    if depth != max([line[4].count(b"/") for line in lines[1:]], default=0):
+        return "the deepest entry has another depth"
+    if any(int(line[1]) >= len(image) for line in lines):
+        return "a node's number lies outside"
+    return None
+
+
+def wrong_in(binary, format, image, expected, path):
+    """What is wrong in the runs on the image, or nothing; `expected` is check's line where it is known."""
+    with open(path, "wb") as file:
+        file.write(image)
+    checked, listed = (
+        subprocess.run(
+            [binary, word, path], stdin=subprocess.DEVNULL, capture_output=True, timeout=run.SECONDS
+        )
+        for word in ("check", "list")
+    )
+    if checked.stderr or listed.stderr:
+        return "standard error: %r %r" % (checked.stderr, listed.stderr)
+    told, refused = OK.fullmatch(checked.stdout), FAULT.fullmatch(checked.stdout)
+    if not (told and checked.returncode == 0 or refused and checked.returncode == 1):
+        return "check ends with status %d and %r" % (checked.returncode, checked.stdout)
+    if expected is not None and checked.stdout != expected.encode() + b"\n":
+        return "%r, expected %r" % (checked.stdout, expected)
+    if told:
+        wrong = wrong_list(told, listed, image) if told[1].decode() == format else "another format"
+    elif (listed.returncode, listed.stdout) != (1, checked.stdout):
+        wrong = "list ends with status %d and %r" % (listed.returncode, listed.stdout)
+    else:
+        wrong = wrong_fault(format, image, refused)
+    return wrong and "%r: %s" % (checked.stdout, wrong)
+
+
+def works():
+    """The parts of the work: an image's name, and variants of it as (words, bytes, line or None)."""
+    for name, rows in CUTS.items():
+        image = run.file_of(name)
+        for first in range(0, len(image) + 1, 64):
+            lengths = range(first, min(first + 64, len(image) + 1))
+            yield name, [
+                ("cut to %d" % length, image[:length], rows[max(row for row in rows if row <= length)])
+                for length in lengths
+            ]
+    for name, records in CHANGED.items():
+        image = run.file_of(name)
+        for place in range(len(image)):
+            yield name, [(words, changed, None) for words, changed in changes_of(image, records, place)]
+
+
+def done_work(binary, top, number, work):
+    """How many variants of a part of the work end well, and what is wrong with the others."""
+    name, variants = work
+    path = os.path.join(top, str(number))
+    failures = []
+    for words, image, expected in variants:
+        try:
+            wrong = wrong_in(binary, name.split("/")[0], image, expected, path)
+        except subprocess.TimeoutExpired:
+            wrong = "did not end within %d seconds" % run.SECONDS
+        if wrong:
+            failures.append("FAILED changes: %s, %s: %s" % (name, words, wrong))
+    os.unlink(path)
+    return len(variants) - len(failures), failures
+
+
+def main():
+    parser = argparse.ArgumentParser(description="Run romtool on images that are cut or changed.")
+    parser.add_argument("--binary", default=run.BINARY, help="the program, if not the one of `rt ci`")
+    binary = os.path.abspath(parser.parse_args().binary)
+    if not os.access(binary, os.X_OK):
+        print("no program %s: build it by `rt run` in crates/romtool" % binary)
+        print("0 passed, 1 failed")
+        return 1
+    passed = failed = 0
+    pool = concurrent.futures.ThreadPoolExecutor(os.cpu_count())
+    with tempfile.TemporaryDirectory() as top, pool:
+        parts = [pool.submit(done_work, binary, top, number, work) for number, work in enumerate(works())]
+        for part in parts:
+            good, failures = part.result()
+            passed += good
+            failed += len(failures)
+            for line in failures:
+                print(line)
+    print("%d passed, %d failed" % (passed, failed))
+    return 1 if failed or not passed else 0
+
+
+if __name__ == "__main__":
+    sys.exit(main())

@@ -1,0 +1,106 @@
+#!/usr/bin/env python3
+"""Runs romtool on the cases of this folder with each of its allocations refused in turn.
+
+    refusals.py [--binary PATH] [--topic NAME]
+
+refuse.c, which the C compiler `cc` builds, refuses the Nth allocation, for N = 1, 2, .. up to the first
+that a run does not make; and then all from the Nth on. Each run answers as it does with ample memory, or
+prints `memory` on standard error with status 3 and nothing else. A run without words, which prints
+two answers, may have printed the first. Passed over are cases that are large, and runs whose memory the
+case limits. The last line is `N passed, M failed`; without `cc` nothing is run, and that is said.
+"""
+
+import argparse
+import concurrent.futures
+import itertools
+import os
+import shutil
+import subprocess
+import sys
+import tempfile
+
+import run
+
+
+def is_well(told, whole, done):
+    """Whether a run that had memory refused answers as the whole one, or `memory` in place of an answer."""
+    if (done.returncode, done.stdout, done.stderr) == (whole.returncode, whole.stdout, whole.stderr):
+        return True
+    printed = done.stdout or b""
+    first = not told["words"] and printed.endswith(b"\n") and whole.stdout.startswith(printed)
+    return (done.returncode, done.stderr) == (3, b"memory\n") and (printed == b"" or first)
+
+
+def refused(binary, told, top, refuse, mark):
+    """How many runs end well with memory refused, and what is wrong with the others."""
+    whole = run.started(binary, told, top)
+    good, failures = 0, []
+    for more in ({}, {"REFUSE_ALL": "yes"}):
+        for number in itertools.count(1):
+            preload = {"LD_PRELOAD": refuse, "REFUSE_AT": str(number), "REFUSED": mark}
+            done = run.started(binary, told, top, {**preload, **more})
+            if not os.path.exists(mark):
+                break
+            os.unlink(mark)
+            if is_well(told, whole, done):
+                good += 1
+            else:
+                which = "%d and all later" % number if more else "%d" % number
+                answer = (done.returncode, done.stdout, done.stderr)
+                failures.append("allocation %s refused: %r" % (which, answer))
+    return good, failures
+
+
+def done_case(binary, topic, case, refuse):
+    """How many runs of a case end well with memory refused, and lines on the others."""
+    good, lines = 0, []
+    with tempfile.TemporaryDirectory() as top, tempfile.TemporaryDirectory() as aside:
+        run.lay_out(case, top)
+        for told in case["runs"]:
+            if "memory" in told:
+                continue
+            well, failures = refused(binary, told, top, refuse, os.path.join(aside, "refused"))
+            good += well
+            place = "%s: %s: romtool %s" % (topic, case["name"], " ".join(map(str, told["words"])))
+            lines += ["FAILED refusals of %s: %s" % (place, failure) for failure in failures]
+    return good, lines
+
+
+def main():
+    parser = argparse.ArgumentParser(description="Run romtool with each of its allocations refused.")
+    parser.add_argument("--binary", default=run.BINARY, help="the program, if not the one of `rt ci`")
+    parser.add_argument("--topic", choices=run.topics(), help="the cases of this topic alone")
+    arguments = parser.parse_args()
+    binary = os.path.abspath(arguments.binary)
+    if not os.access(binary, os.X_OK):
+        print("no program %s: build it by `rt run` in crates/romtool" % binary)
+        print("0 passed, 1 failed")
+        return 1
+    if not shutil.which("cc"):
+        print("cc is not installed: no memory is refused")
+        print("0 passed, 0 failed")
+        return 0
+    passed = failed = 0
+    pool = concurrent.futures.ThreadPoolExecutor(os.cpu_count())
+    with tempfile.TemporaryDirectory() as top, pool:
+        refuse = os.path.join(top, "refuse.so")
+        source = os.path.join(run.HERE, "refuse.c")
+        subprocess.run(["cc", "-shared", "-fPIC", "-o", refuse, source], check=True)
+        parts = [
+            pool.submit(done_case, binary, topic, case, refuse)
+            for topic in ([arguments.topic] if arguments.topic else run.topics())
+            for case in run.load(topic)
+            if not case.get("large")
+        ]
+        for part in parts:
+            good, lines = part.result()
+            passed += good
+            failed += len(lines)
+            for line in lines:
+                print(line)
+    print("%d passed, %d failed" % (passed, failed))
+    return 1 if failed or not passed else 0
+
+
+if __name__ == "__main__":
+    sys.exit(main())
