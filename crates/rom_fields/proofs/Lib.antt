@@ -2,4 +2,5 @@ pub mod Joins
 pub mod Sums
 pub mod Puts
 pub mod Escapes
-pub mod Least
+pub mod Same
+pub mod Look

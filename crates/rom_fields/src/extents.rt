@@ -61,6 +61,6 @@ impl Extents {
         ensures least { IsLeastOf (OverlapsAt self.old) result }
         ensures kept { IsPermutation self.new self.old }
     {
-        least_overlap(&self.spans)
+        least_overlap(&mut self.spans)
     }
 }

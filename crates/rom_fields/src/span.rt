@@ -1,6 +1,8 @@
 //! Extents of bytes, and whether two of them overlap.
-ghost use Rattle.std.specs.Prelude.{◌≡◌, IsTrue, ◌↔◌, max};
-ghost use Rattle.rom_fields.specs.Extents.{is_shareable, AreShared, HaveCommonByte, Overlap, MeetsAt, OverlapsAt, IsLeastOf, lesser_of};
+ghost use Rattle.std.specs.Prelude.{◌≡◌, ◌+◌, IsTrue, ◌↔◌, IsPermutation};
+ghost use Rattle.std.specs.List.Sorted.{IsNonDecreasingBy};
+ghost use Rattle.rom_fields.specs.declared.span.Span.{Span};
+ghost use Rattle.rom_fields.specs.Extents.{is_shareable, AreShared, HaveCommonByte, Overlap, OverlapsAt, IsLeastOf};
 
 /// What an extent of bytes holds: the superblock, a record, a directory's list, a file's block
 /// table, or contents.
@@ -38,14 +40,19 @@ fn are_shared(x: Span, y: Span) -> bool
     x.kind == y.kind && is_shareable_kind(x.kind) && x.start == y.start && x.len == y.len
 }
 
+/// Where an extent ends.
+fn end(x: Span) -> u64
+    ensures { result ≡ x.start + x.len }
+{
+    u64::from(x.start) + u64::from(x.len)
+}
+
 /// Whether two extents have a byte in common.
 fn have_common_byte(x: Span, y: Span) -> bool
     ensures { IsTrue result ↔ HaveCommonByte x y }
 {
-    let end_x = u64::from(x.start) + u64::from(x.len);
-    let end_y = u64::from(y.start) + u64::from(y.len);
     let first = u64::from(x.start.max(y.start));
-    first < end_x && first < end_y
+    first < end(x) && first < end(y)
 }
 
 /// Whether two extents have a byte in common and are not shared.
@@ -55,44 +62,34 @@ pub fn overlap(x: Span, y: Span) -> bool
     have_common_byte(x, y) && !are_shared(x, y)
 }
 
-/// The lesser of a noted place, if there is one, and `at`.
-pub fn lesser(noted: Option<u32>, at: u32) -> Option<u32>
-    ensures { result ≡ lesser_of noted at }
-{
-    match noted {
-        None => Some(at),
-        Some(least) => Some(if least < at { least } else { at }),
-    }
-}
-
-/// The least place at which `x` overlaps one of the others: the greater of two starts.
-pub fn least_meeting(x: Span, others: &[Span]) -> Option<u32>
-    ensures { IsLeastOf (MeetsAt x others.now) result }
-{
-    let mut noted: Option<u32> = None;
-    let mut rest = others;
-    while !rest.is_empty() {
-        let y = rest[0];
-        if overlap(x, y) {
-            noted = lesser(noted, x.start.max(y.start));
-        }
-        rest = &rest[1..];
-    }
-    noted
-}
-
-/// The least place at which two of the extents overlap: the greater of their two starts.
-pub fn least_overlap(spans: &[Span]) -> Option<u32>
+/// The least place at which two of the extents overlap, whose starts do not fall: the start of the
+/// first that overlaps the one which reaches furthest of those before it.
+fn first_meeting(spans: &[Span]) -> Option<u32>
+    requires { IsNonDecreasingBy (λ (x : Span). x.start) spans.now }
     ensures { IsLeastOf (OverlapsAt spans.now) result }
 {
-    let mut noted: Option<u32> = None;
-    let mut rest = spans;
-    while !rest.is_empty() {
-        let x = rest[0];
-        rest = &rest[1..];
-        if let Some(at) = least_meeting(x, rest) {
-            noted = lesser(noted, at);
+    let mut furthest = Span {
+        kind: Extent::Super,
+        start: 0,
+        len: 0,
+    };
+    'spans: for x in spans {
+        if overlap(furthest, *x) {
+            return Some(x.start);
+        }
+        if end(furthest) < end(*x) {
+            furthest = *x;
         }
     }
-    noted
+    None
+}
+
+/// The least place at which two of the extents overlap: the greater of their two starts. The
+/// extents stay, in another order.
+pub fn least_overlap(spans: &mut [Span]) -> Option<u32>
+    ensures least { IsLeastOf (OverlapsAt spans.old) result }
+    ensures kept { IsPermutation spans.new spans.old }
+{
+    spans.sort_unstable_by_key(|x| x.start);
+    first_meeting(spans)
 }
