@@ -3,7 +3,7 @@ use Rattle.std.proofs.Common.{◌≡◌, ◌≢◌, ℕ, zero, suc, ◌+◌, ◌
 use Rattle.std.proofs.lemmas.Bool.{ne_eqb, eq-eqb, cases_lt, false≢true}
 use Rattle.std.proofs.lemmas.Bool.Decides.{eqb_tells}
 use Rattle.record_walk.specs.declared.reference.Reference.{Reference}
-use Rattle.record_walk.specs.References.{Reached, top, more, AreLawful, link, IsLive}
+use Rattle.record_walk.specs.References.{Reached, top, more, AreLawful, edge, IsLive}
 use Rattle.cramfs_format.specs.Order.{Order}
 use Rattle.cramfs_format.specs.Inode.{end_of, list_start, list_end, ListLies}
 use Rattle.cramfs_format.specs.Refers.{references, target_of, root_place, LeadsToSound}
@@ -149,14 +149,14 @@ module _ {o : Order} {b : List ℕ} where
       let which : x.which ≡ y.which = k ∙ ap (λ (v : ℕ). nth o b v n) s ∙ ap (nth o b y.source) same' ∙ sym k' in
       (λ t. record { source = s t; which = which t })
 
-  apart : (x y : Reference) (k l : Bool) → IsPlaced o b x → IsPlaced o b y → link (references o b) k x ≡ link (references o b) l y
+  apart : (x y : Reference) (k l : Bool) → IsPlaced o b x → IsPlaced o b y → edge (references o b) k x ≡ edge (references o b) l y
       → (k ≡ l) × ((x ≡ y) ⊎ ((target_of o b x ≡ target_of o b y) × ((k ≡ true) ⊎ ((references o b).chained ≡ true))))
   apart x y true true p q e = (refl, inr (same_target x y p q (ap (λ (v : Reference). v.source) e), inl refl))
   apart x y true false p q e = absurd (never_first x y p q e)
   apart x y false true p q e = absurd (never_first y x q p (sym e))
   apart x y false false p q e = (refl, inl (same_after x y p q e))
 
-  only_top : (x : Reference) (k : Bool) → IsPlaced o b x → link (references o b) k x ≢ (references o b).top
+  only_top : (x : Reference) (k : Bool) → IsPlaced o b x → edge (references o b) k x ≢ (references o b).top
   only_top x true p e = let z : x.which ≡ 0 = ap (λ (v : Reference). v.source) e in let a = placed_above x p in omega arith
   only_top x false (at_top i j) e = let z : end_of o b x.which ≡ 64 = ap (λ (v : Reference). v.which) e in let a = end_after o b x.which in omega arith
   only_top x false (in_chain n i j k l m) e = i (ap (λ (v : Reference). v.source) e)

@@ -5,7 +5,7 @@ use Rattle.rom_fields.specs.declared.span.Extent.TheVariants.{Super, List as Lis
 use Rattle.rom_fields.specs.declared.span.Span.{Span}
 use Rattle.rom_fields.specs.Extents.{Overlap}
 use Rattle.record_walk.specs.declared.reference.Reference.{Reference}
-use Rattle.record_walk.specs.declared.reference.Fault.{Fault}
+use Rattle.rom_faults.specs.declared.fault.Fault.{Fault}
 use Rattle.record_walk.specs.References.{Reached}
 use Rattle.record_walk.specs.Faults.{TooMany, HasFault, Twice, InList, HasDepth, IsLeastFault, IsNone}
 use Rattle.cramfs_format.specs.Order.{Order, word}
@@ -13,6 +13,7 @@ use Rattle.cramfs_format.specs.Inode.{name_of, end_of, size_of, type_of, offset_
 use Rattle.cramfs_format.specs.Refers.{references, LeadsToSound, LeadsToFault}
 use Rattle.cramfs_format.specs.Tree.{dot, dot_dot, precedes, is_sorted}
 use Rattle.cramfs_format.specs.Superblock.{HasImageFault, accessible}
+use Rattle.rom_faults.specs.declared.fault.TheConstants.{TOO_MANY, TWICE, TOO_DEEP, OVERLAP, DUPLICATE_NAME, DOT, UNSORTED}
 
 -- a sound record that a reference leads to
 pub record IsReached (o : Order) (b : List ℕ) (p : ℕ) : Type 0 where
@@ -48,7 +49,7 @@ pub record HasDepthFault (o : Order) (b : List ℕ) (most : ℕ) (e : Fault) : T
   pub names : ℕ
   pub depth : HasDepth (references o b) (LeadsToSound o b) e.at names
   pub deep : most < names
-  pub number : e.number ≡ 21
+  pub number : e.number ≡ TOO_DEEP
 
 -- the extents of the image: the superblock's, each directory's list, the block pointers and the blocks of each file and
 -- link; none is empty
@@ -69,18 +70,18 @@ pub record HasExtentFault (o : Order) (b : List ℕ) (e : Fault) : Type 0 where
   pub other_is : IsExtent o b other
   pub overlap : Overlap one other
   pub at : e.at ≡ max one.start other.start
-  pub number : e.number ≡ 22
+  pub number : e.number ≡ OVERLAP
 
 -- 23 DupName, 24 Dot, 26 Unsorted, at an entry of a list; the last at a name that precedes the one before it, only where
 -- the superblock says that lists are sorted
 pub data HasNameFault (o : Order) (b : List ℕ) (e : Fault) : Type 0 where
-  repeated : {d p : ℕ} → ComesAfter o b d p e.at → name_of o b p ≡ name_of o b e.at → e.number ≡ 23 → HasNameFault o b e
-  dots : {d : ℕ} → IsListed o b d e.at → (name_of o b e.at ≡ dot) ⊎ (name_of o b e.at ≡ dot_dot) → e.number ≡ 24 → HasNameFault o b e
-  unsorted : {d p : ℕ} → is_sorted o b ≡ true → ComesNext o b d p e.at → precedes (name_of o b e.at) (name_of o b p) ≡ true → e.number ≡ 26 → HasNameFault o b e
+  repeated : {d p : ℕ} → ComesAfter o b d p e.at → name_of o b p ≡ name_of o b e.at → e.number ≡ DUPLICATE_NAME → HasNameFault o b e
+  dots : {d : ℕ} → IsListed o b d e.at → (name_of o b e.at ≡ dot) ⊎ (name_of o b e.at ≡ dot_dot) → e.number ≡ DOT → HasNameFault o b e
+  unsorted : {d p : ℕ} → is_sorted o b ≡ true → ComesNext o b d p e.at → precedes (name_of o b e.at) (name_of o b p) ≡ true → e.number ≡ UNSORTED → HasNameFault o b e
 
 -- 20 Twice at a record to which two references lead
 abbrev pub HasTwiceFault : Order → List ℕ → Fault → Type 0
-HasTwiceFault o b e = Twice (references o b) (LeadsToSound o b) e.at × (e.number ≡ 20)
+HasTwiceFault o b e = Twice (references o b) (LeadsToSound o b) e.at × (e.number ≡ TWICE)
 
 -- there are more references than the limit
 abbrev pub HasTooMany : Order → List ℕ → ℕ → Type 0
@@ -111,5 +112,5 @@ pub data IsLeastPhaseFault (o : Order) (b : List ℕ) (deepest : ℕ) (e : Fault
 -- The least fault of an image: the image's as a whole; else 1 TooMany at 0; else that of the first phase after it.
 pub data IsLeastImageFault (o : Order) (bytes : List ℕ) (most deepest : ℕ) (e : Fault) : Type 0 where
   whole : HasImageFault o bytes e → IsLeastImageFault o bytes most deepest e
-  many : IsNone (HasImageFault o bytes) → HasTooMany o (accessible o bytes) most → e ≡ record { number = 1; at = 0 } → IsLeastImageFault o bytes most deepest e
+  many : IsNone (HasImageFault o bytes) → HasTooMany o (accessible o bytes) most → e ≡ record { number = TOO_MANY; at = 0 } → IsLeastImageFault o bytes most deepest e
   phase : IsNone (HasImageFault o bytes) → (HasTooMany o (accessible o bytes) most → ⊥) → IsLeastPhaseFault o (accessible o bytes) deepest e → IsLeastImageFault o bytes most deepest e

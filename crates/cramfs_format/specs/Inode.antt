@@ -7,8 +7,9 @@
 -- A directory's list, of `size` bytes, and the block pointers of a file or a link stand at the offset.
 use Rattle.std.specs.Prelude.{◌≡◌, ℕ, ◌+◌, ◌-◌, ◌*◌, ◌/◌, ◌%◌, ◌^◌, ◌<◌, ◌≤◌, ◌⊎◌, min, Bool, true, false, if◌then◌else◌, ◌==◌, ◌||◌, ◌&&◌, List, [], ◌∷◌, length, take, drop}
 use Rattle.std.specs.List.{Contains}
-use Rattle.record_walk.specs.declared.reference.Fault.{Fault}
+use Rattle.rom_faults.specs.declared.fault.Fault.{Fault}
 use Rattle.cramfs_format.specs.Order.{Order, word, first_field, field_after}
+use Rattle.rom_faults.specs.declared.fault.TheConstants.{BOUNDS, BAD_NAME, KIND, LINK_SIZE, BLOCK_KIND, LIST_END}
 
 -- file type and permissions
 unfoldable pub mode_of : Order → List ℕ → ℕ → ℕ
@@ -148,18 +149,18 @@ pub record IsSound (o : Order) (b : List ℕ) (e p : ℕ) : Type 0 where
 
 -- the faults of what the inode at p describes: 14 Kind, 15 LinkSize, 11 Bounds, 16 BlockKind
 pub data HasBodyFault (o : Order) (b : List ℕ) (p : ℕ) : Fault → Type 0 where
-  other_kind : {f : Fault} → f ≡ record { number = 14; at = p } → is_kind (type_of o b p) ≡ false → HasBodyFault o b p f
-  link_size : {f : Fault} → f ≡ record { number = 15; at = p } → type_of o b p ≡ 10 → (size_of o b p ≡ 0) ⊎ (4095 < size_of o b p) → HasBodyFault o b p f
-  list_outside : {f : Fault} → f ≡ record { number = 11; at = p } → (ListLies o b p → ⊥) → HasBodyFault o b p f
-  table_outside : {f : Fault} → f ≡ record { number = 11; at = p } → (TableLies o b p → ⊥) → HasBodyFault o b p f
-  other_block : {f : Fault} (i : ℕ) → f ≡ record { number = 16; at = pointer_place o b p i } → has_data (type_of o b p) ≡ true → TableLies o b p
+  other_kind : {f : Fault} → f ≡ record { number = KIND; at = p } → is_kind (type_of o b p) ≡ false → HasBodyFault o b p f
+  link_size : {f : Fault} → f ≡ record { number = LINK_SIZE; at = p } → type_of o b p ≡ 10 → (size_of o b p ≡ 0) ⊎ (4095 < size_of o b p) → HasBodyFault o b p f
+  list_outside : {f : Fault} → f ≡ record { number = BOUNDS; at = p } → (ListLies o b p → ⊥) → HasBodyFault o b p f
+  table_outside : {f : Fault} → f ≡ record { number = BOUNDS; at = p } → (TableLies o b p → ⊥) → HasBodyFault o b p f
+  other_block : {f : Fault} (i : ℕ) → f ≡ record { number = BLOCK_KIND; at = pointer_place o b p i } → has_data (type_of o b p) ≡ true → TableLies o b p
       → i < block_count (size_of o b p) → (IsPlain o b (pointer_of o b p i) → ⊥) → HasBodyFault o b p f
-  block_outside : {f : Fault} (i : ℕ) → f ≡ record { number = 11; at = pointer_place o b p i } → has_data (type_of o b p) ≡ true → TableLies o b p
+  block_outside : {f : Fault} (i : ℕ) → f ≡ record { number = BOUNDS; at = pointer_place o b p i } → has_data (type_of o b p) ≡ true → TableLies o b p
       → i < block_count (size_of o b p) → IsPlain o b (pointer_of o b p i) → (BlockLies o b p i → ⊥) → HasBodyFault o b p f
 
 -- The faults of the entry at p of a list that ends at e. One that does not fit, 17 ListEnd, has no other fault (this
 -- project's own). 13 is BadName.
 pub data HasEntryFault (o : Order) (b : List ℕ) (e p : ℕ) : Fault → Type 0 where
-  past_end : {f : Fault} → f ≡ record { number = 17; at = p } → (Fits o b e p → ⊥) → HasEntryFault o b e p f
-  bad_name : {f : Fault} → f ≡ record { number = 13; at = p } → Fits o b e p → (IsName (name_of o b p) → ⊥) → HasEntryFault o b e p f
+  past_end : {f : Fault} → f ≡ record { number = LIST_END; at = p } → (Fits o b e p → ⊥) → HasEntryFault o b e p f
+  bad_name : {f : Fault} → f ≡ record { number = BAD_NAME; at = p } → Fits o b e p → (IsName (name_of o b p) → ⊥) → HasEntryFault o b e p f
   bad_body : {f : Fault} → Fits o b e p → HasBodyFault o b p f → HasEntryFault o b e p f

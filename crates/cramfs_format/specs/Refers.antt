@@ -2,10 +2,11 @@
 -- follow one another from the list's start to its end. A reference is the pair of the two.
 use Rattle.std.specs.Prelude.{◌≡◌, ◌≢◌, ℕ, false, if◌then◌else◌, ◌==◌, nat_lt, Option, None, Some, List}
 use Rattle.record_walk.specs.declared.reference.Reference.{Reference}
-use Rattle.record_walk.specs.declared.reference.Fault.{Fault}
+use Rattle.rom_faults.specs.declared.fault.Fault.{Fault}
 use Rattle.record_walk.specs.References.{References}
 use Rattle.cramfs_format.specs.Order.{Order}
 use Rattle.cramfs_format.specs.Inode.{end_of, list_start, list_end, IsSound, ListLies, HasEntryFault}
+use Rattle.rom_faults.specs.declared.fault.TheConstants.{BOUNDS}
 
 -- the root's inode is in the superblock
 abbrev pub root_place : ℕ
@@ -34,5 +35,5 @@ pub record LeadsToSound (o : Order) (b : List ℕ) (x : Reference) : Type 0 wher
 
 -- the record that x leads to has this fault; the root, a directory, can only have a list that does not lie where it may
 pub data LeadsToFault (o : Order) (b : List ℕ) (x : Reference) (f : Fault) : Type 0 where
-  root_list : x.source ≡ 0 → f ≡ record { number = 11; at = x.which } → (ListLies o b x.which → ⊥) → LeadsToFault o b x f
+  root_list : x.source ≡ 0 → f ≡ record { number = BOUNDS; at = x.which } → (ListLies o b x.which → ⊥) → LeadsToFault o b x f
   of_entry : x.source ≢ 0 → HasEntryFault o b (list_end o b x.source) x.which f → LeadsToFault o b x f

@@ -3,11 +3,12 @@
 -- The tests stand in this order, and the first that fails is the image's fault: 2 Short and 3 Magic at 0, 4 Size at 4,
 -- 6 Flags at 8, 7 Crc at 32, 8 Signature at 16, 9 Root at 64.
 use Rattle.std.specs.Prelude.{◌++◌, ◌≡◌, ◌≢◌, ℕ, ◌/◌, ◌%◌, ◌^◌, ◌<◌, ◌≤◌, ◌⊎◌, min, Bool, true, false, if◌then◌else◌, ◌==◌, List, [], ◌∷◌, length, take, drop}
-use Rattle.record_walk.specs.declared.reference.Fault.{Fault}
+use Rattle.rom_faults.specs.declared.fault.Fault.{Fault}
 use Rattle.cramfs_format.specs.Order.{Order, word}
 use Rattle.cramfs_format.specs.Inode.{type_of, offset_of, size_of}
 use Rattle.cramfs_format.specs.Refers.{root_place}
 use Rattle.cramfs_format.specs.Crc.{crc_of}
+use Rattle.rom_faults.specs.declared.fault.TheConstants.{SHORT, MAGIC, SIZE, FLAGS, CRC, SIGNATURE, ROOT}
 
 -- 28cd3d45 (hexadecimal)
 abbrev pub magic : ℕ
@@ -74,13 +75,13 @@ pub record IsSuperblock (o : Order) (bytes b : List ℕ) : Type 0 where
   pub root : HasRoot o b
 
 pub data HasImageFault (o : Order) (bytes : List ℕ) : Fault → Type 0 where
-  short : {e : Fault} → length bytes < 76 → e ≡ record { number = 2; at = 0 } → HasImageFault o bytes e
-  no_magic : {e : Fault} → 76 ≤ length bytes → word o bytes 0 ≢ magic → e ≡ record { number = 3; at = 0 } → HasImageFault o bytes e
-  bad_size : {e : Fault} → 76 ≤ length bytes → word o bytes 0 ≡ magic → (HasSize o bytes → ⊥) → e ≡ record { number = 4; at = 4 } → HasImageFault o bytes e
-  bad_flags : {e : Fault} → 76 ≤ length bytes → word o bytes 0 ≡ magic → HasSize o bytes → (HasFlags o (accessible o bytes) → ⊥) → e ≡ record { number = 6; at = 8 } → HasImageFault o bytes e
+  short : {e : Fault} → length bytes < 76 → e ≡ record { number = SHORT; at = 0 } → HasImageFault o bytes e
+  no_magic : {e : Fault} → 76 ≤ length bytes → word o bytes 0 ≢ magic → e ≡ record { number = MAGIC; at = 0 } → HasImageFault o bytes e
+  bad_size : {e : Fault} → 76 ≤ length bytes → word o bytes 0 ≡ magic → (HasSize o bytes → ⊥) → e ≡ record { number = SIZE; at = 4 } → HasImageFault o bytes e
+  bad_flags : {e : Fault} → 76 ≤ length bytes → word o bytes 0 ≡ magic → HasSize o bytes → (HasFlags o (accessible o bytes) → ⊥) → e ≡ record { number = FLAGS; at = 8 } → HasImageFault o bytes e
   bad_crc : {e : Fault} → 76 ≤ length bytes → word o bytes 0 ≡ magic → HasSize o bytes → HasFlags o (accessible o bytes) → (HasCrc o (accessible o bytes) → ⊥)
-      → e ≡ record { number = 7; at = 32 } → HasImageFault o bytes e
+      → e ≡ record { number = CRC; at = 32 } → HasImageFault o bytes e
   unsigned : {e : Fault} → 76 ≤ length bytes → word o bytes 0 ≡ magic → HasSize o bytes → HasFlags o (accessible o bytes) → HasCrc o (accessible o bytes)
-      → (HasSignature (accessible o bytes) → ⊥) → e ≡ record { number = 8; at = 16 } → HasImageFault o bytes e
+      → (HasSignature (accessible o bytes) → ⊥) → e ≡ record { number = SIGNATURE; at = 16 } → HasImageFault o bytes e
   bad_root : {e : Fault} → 76 ≤ length bytes → word o bytes 0 ≡ magic → HasSize o bytes → HasFlags o (accessible o bytes) → HasCrc o (accessible o bytes)
-      → HasSignature (accessible o bytes) → (HasRoot o (accessible o bytes) → ⊥) → e ≡ record { number = 9; at = root_place } → HasImageFault o bytes e
+      → HasSignature (accessible o bytes) → (HasRoot o (accessible o bytes) → ⊥) → e ≡ record { number = ROOT; at = root_place } → HasImageFault o bytes e

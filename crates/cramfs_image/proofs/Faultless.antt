@@ -6,9 +6,9 @@ use Rattle.std.specs.Prelude.{IsSomeAnd}
 use Rattle.std.specs.List.{AllByRecursion as Every}
 use Rattle.rom_tree.specs.Tree.{Node, depth}
 use Rattle.rom_tree.specs.declared.types.Limits.{Limits}
-use Rattle.rom_tree.specs.declared.types.CheckError.{CheckError}
-use Rattle.rom_tree.specs.declared.types.CheckError.TheVariants.{OutOfMemory, Fault as FaultAnswer}
-use Rattle.record_walk.specs.declared.reference.Fault.{Fault}
+use Rattle.rom_faults.specs.declared.error.CheckError.{CheckError}
+use Rattle.rom_faults.specs.declared.error.CheckError.TheVariants.{OutOfMemory, Fault as FaultAnswer}
+use Rattle.rom_faults.specs.declared.fault.Fault.{Fault}
 use Rattle.record_walk.specs.declared.reference.Row.{Row}
 use Rattle.record_walk.specs.Members.{Pairs}
 use Rattle.record_walk.specs.Forest.{Forest, all_rows}

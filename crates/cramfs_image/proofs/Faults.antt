@@ -1,10 +1,10 @@
 -- The least faults of one record.
-use Rattle.std.proofs.Common.{◌≡◌, ℕ, ◌+◌, ◌*◌, ◌<◌, ◌≤◌, true, false, List, Option, None, Some, ◌⊎◌, inl, inr, refl, sym, ap, subst, ◌∙◌, arith}
+use Rattle.std.proofs.Common.{length, ◌≡◌, ℕ, ◌+◌, ◌*◌, ◌<◌, ◌≤◌, true, false, List, Option, None, Some, ◌⊎◌, inl, inr, refl, sym, ap, subst, ◌∙◌, arith}
 use Rattle.std.proofs.lemmas.Bool.{true≢false, cases_lt}
 use Rattle.std.proofs.lemmas.Bool.Decides.{eqb_tells, leb_tells}
 use Rattle.std.specs.Prelude.{nat_lt, nat_le, ◌&&◌, ◌||◌, ◌==◌}
 use Rattle.rom_fields.specs.Extents.{IsLeastOf}
-use Rattle.record_walk.specs.declared.reference.Fault.{Fault}
+use Rattle.rom_faults.specs.declared.fault.Fault.{Fault}
 use Rattle.record_walk.specs.Faults.{NotAfter, IsLeastFault}
 use Rattle.cramfs_format.specs.Order.{Order, word}
 use Rattle.cramfs_format.specs.Inode.{type_of, size_of, offset_of, name_of, block_start, block_len, Lies, is_kind, has_data, block_count, pointer_place, pointer_of, IsPlain, ListLies, TableLies, BlockLies, Fits, IsName, other_kind as kind_fault, link_size as link_fault, list_outside as list_fault, table_outside as table_fault, other_block as kind_of_block, block_outside as block_fault, HasEntryFault, past_end, bad_name as name_fault, bad_body}
@@ -93,6 +93,20 @@ plain_more o b p i all plain lies j l = elim (eqb_tells j i) [
   | inl e ↦ subst (λ (v : ℕ). IsPlain o b (pointer_of o b p v) × BlockLies o b p v) (sym e.1) (plain, lies)
   | inr n ↦ let m = n.1 in all j (omega arith)
 ]
+
+-- whole blocks are blocks of the file, of their length or less
+pub run_there : (o : Order) (b : List ℕ) (p table n : ℕ) → table ≡ offset_of o b p → ((j : ℕ) → j < n → IsPlain o b (word o b (table + 4 * j)) × Lies b (block_start (word o b (table + 4 * j))) 4096)
+    → ArePlain o b p n
+run_there o b p table n e h j l =
+    let pointer : ℕ = word o b (table + 4 * j) in
+    let is : pointer ≡ pointer_of o b p j = pointer_read o b p j table pointer e refl in
+    let w = h j l in (
+      subst (IsPlain o b) is w.0,
+      λ s.
+          let z = w.1 (omega arith) in
+          let y : block_start (pointer_of o b p j) + 4096 ≤ length b = subst (λ (v : ℕ). block_start v + 4096 ≤ length b) is z.1 in
+          (subst (λ (v : ℕ). 76 ≤ block_start v) is z.0, omega arith),
+    )
 
 pub none_pointed : (o : Order) (b : List ℕ) (p : ℕ) → ArePlain o b p (block_count (size_of o b p)) → IsLeastFaultOf (IsPointerFault o b p) None
 none_pointed o b p all = record {

@@ -1,14 +1,14 @@
 -- The check's fault is the least of the image's faults, and an image that it accepts has none.
 use Rattle.std.proofs.Common.{◌≡◌, ℕ, min, List, Some, refl, sym, subst, arith}
 use Rattle.rom_tree.specs.declared.types.Limits.{Limits}
-use Rattle.rom_tree.specs.declared.types.CheckError.TheVariants.{Fault as FaultAnswer}
+use Rattle.rom_faults.specs.declared.error.CheckError.TheVariants.{Fault as FaultAnswer}
 use Rattle.rom_fields.specs.Extents.{OverlapsAt, IsLeastOf}
-use Rattle.record_walk.specs.declared.reference.Fault.{Fault}
+use Rattle.rom_faults.specs.declared.fault.Fault.{Fault}
 use Rattle.record_walk.specs.declared.reference.Row.{Row}
-use Rattle.record_walk.specs.declared.walk.WalkError.{WalkError}
-use Rattle.record_walk.specs.declared.walk.WalkError.TheVariants.{OutOfMemory as NoMemory, TooMany as TooManyRefusal, Record, Twice as TwiceRefusal}
-use Rattle.record_walk.specs.Walk.{IsLeastRefusal}
-use Rattle.record_walk.specs.Answers.{walk_answer}
+use Rattle.record_walk.specs.declared.traversal.TraversalError.{TraversalError}
+use Rattle.record_walk.specs.declared.traversal.TraversalError.TheVariants.{OutOfMemory as NoMemory, TooMany as TooManyRefusal, Record, Twice as TwiceRefusal}
+use Rattle.record_walk.specs.Traversal.{IsLeastRefusal}
+use Rattle.record_walk.specs.Answers.{traversal_answer}
 use Rattle.record_walk.specs.Forest.{Forest, all_rows, IsForest}
 use Rattle.record_walk.specs.Faults.{IsLeastFault, IsNone}
 use Rattle.record_walk.proofs.Back.{clean_of}
@@ -84,7 +84,7 @@ module _ {o : Order} {bytes b : List ℕ} (super : IsSuperblock o bytes b) where
   many_here most h = subst (λ (c : List ℕ). HasTooMany o c most) (sym super.cut) h
 
   -- What the walk refuses is the least fault,
-  pub least_walk : (limits : Limits) (e : WalkError) → IsLeastRefusal (references o b) (LeadsToSound o b) (LeadsToFault o b) limits.references e → IsLeastAnswer o bytes limits (walk_answer e)
+  pub least_walk : (limits : Limits) (e : TraversalError) → IsLeastRefusal (references o b) (LeadsToSound o b) (LeadsToFault o b) limits.references e → IsLeastAnswer o bytes limits (traversal_answer e)
   least_walk limits NoMemory h = tt
   least_walk limits TooManyRefusal h = many (super_faultless super) (subst (λ (c : List ℕ). HasTooMany o c limits.references) super.cut h) refl
   least_walk limits (Record e) h = phase (super_faultless super) (λ k. h.0 (many_here limits.references k)) (moved limits.depth e (record_fault h.1))

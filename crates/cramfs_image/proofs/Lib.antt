@@ -5,10 +5,13 @@ pub mod Crcs
 pub mod Faults
 pub mod Reading
 pub mod Naming
+pub mod Lasts
 pub mod Spans
 pub mod Composed
 pub mod Trees
 pub mod Repeats
+pub mod Blocks
+pub mod Rows
 pub mod Exact
 pub mod Least
 pub mod Whole

@@ -1,20 +1,12 @@
 -- Extents that are left out of a list because they stand in it already.
-use Rattle.std.proofs.Common.{◌≡◌, ℕ, zero, suc, ◌+◌, ◌<◌, max, true, Option, None, Some, List, [], ◌∷◌, ◌++◌, length, take, get_or, ◌⊎◌, inl, inr, refl, sym, ap, subst, ◌∙◌, arith, append_assoc, append-nil}
+use Rattle.std.proofs.Common.{◌≡◌, ℕ, max, true, Option, None, Some, List, [], ◌∷◌, ◌++◌, ◌⊎◌, inl, inr, refl, sym, ap, subst, ◌∙◌, append_assoc, append-nil}
 use Rattle.std.proofs.Math.Nat.{max_comm}
-use Rattle.std.proofs.lemmas.List.{take_more}
 use Rattle.std.specs.Prelude.{IfSome}
-use Rattle.std.specs.List.{Any, flat_map, AllByRecursion as Every}
+use Rattle.std.specs.List.{AllByRecursion as Every}
 use Rattle.rom_fields.specs.declared.span.Span.{Span}
-use Rattle.rom_fields.specs.declared.span.Extent.TheVariants.{Super}
-use Rattle.rom_fields.specs.Extents.{is_shareable, Overlap, MeetsAt, OverlapsAt, IsLeastOf, added}
-use Rattle.record_walk.specs.declared.reference.Row.{Row}
+use Rattle.rom_fields.specs.Extents.{is_shareable, Overlap, MeetsAt, OverlapsAt, IsLeastOf}
 use Rattle.record_walk.specs.Members.{Has}
-use Rattle.record_walk.proofs.Lists.{has_left, has_right, has_cases, has_weaker, every_weaker}
-use Rattle.cramfs_format.specs.Order.{Order}
-use Rattle.cramfs_format.specs.Inode.{type_of, size_of, offset_of, has_data}
-use Rattle.cramfs_format.proofs.Spans.{file_shareable, row_file}
-use Rattle.cramfs_image.specs.Phases.{HasSameFile}
-use Rattle.cramfs_format.specs.Tree.{file_extents, row_extents, extents_of}
+use Rattle.record_walk.proofs.Lists.{has_left, has_right, has_cases, has_weaker}
 
 -- y stands in the list
 abbrev pub Member : Span → List Span → Type 0
@@ -130,49 +122,3 @@ least_if P Q (Some p) f h = f p h
 
 pub same_least : (ks fs : List Span) (v : Option ℕ) → Same ks fs → IsLeastOf (OverlapsAt ks) v → IsLeastOf (OverlapsAt fs) v
 same_least ks fs v s h = record { here = least_if (OverlapsAt ks) (OverlapsAt fs) v s.over h.here; least = λ p k. h.least p (s.under p k) }
-
--- equal block pointers and sizes make equal extents
-file_same : (o : Order) (b : List ℕ) (p q : ℕ) → offset_of o b p ≡ offset_of o b q → size_of o b p ≡ size_of o b q → file_extents o b p ≡ file_extents o b q
-unfolding file_extents
-file_same o b p q e f = rw (e, f) refl
-
--- the file of an earlier row is the same
-every_member : (xs : List Span) → Every (λ (x : Span). Member x xs) xs
-every_member [] = tt
-every_member (x ∷ xs) = (inl refl, every_weaker (λ (y : Span). Member y xs) (λ (y : Span). Member y (x ∷ xs)) (λ y h. inr h) xs (every_member xs))
-
-in_rows : (o : Order) (b : List ℕ) (x : Row) (rows : List Row) (k : ℕ) (y : Row) → k < length rows → get_or rows k y ≡ y → HasSameFile o b x y → Every (λ (z : Span). Member z (flat_map (row_extents o b) rows)) (file_extents o b x.offset)
-in_rows o b x [] k y l e h = absurd (omega arith)
-in_rows o b x (r ∷ rows) zero y l e h =
-    let same : row_extents o b r ≡ file_extents o b x.offset = ap (row_extents o b) e ∙ row_file o b y h.0 ∙ file_same o b y.offset x.offset h.1 h.2 in
-    let own = every_member (file_extents o b x.offset) in
-    every_weaker (λ (z : Span). Member z (file_extents o b x.offset)) (λ (z : Span). Member z (row_extents o b r ++ flat_map (row_extents o b) rows))
-    (λ z m. has_left (λ (v : Span). v ≡ z) (row_extents o b r) (flat_map (row_extents o b) rows) (subst (Member z) (sym same) m)) (file_extents o b x.offset) own
-in_rows o b x (r ∷ rows) (suc k) y l e h =
-    every_weaker (λ (z : Span). Member z (flat_map (row_extents o b) rows)) (λ (z : Span). Member z (row_extents o b r ++ flat_map (row_extents o b) rows))
-    (λ z m. has_right (λ (v : Span). v ≡ z) (row_extents o b r) (flat_map (row_extents o b) rows) m) (file_extents o b x.offset) (in_rows o b x rows k y (omega arith) e h)
-
--- one row further
-flat_push : (o : Order) (b : List ℕ) (rows : List Row) (x : Row) → flat_map (row_extents o b) (rows ++ x ∷ []) ≡ flat_map (row_extents o b) rows ++ row_extents o b x
-flat_push o b [] x = append-nil (row_extents o b x)
-flat_push o b (r ∷ rows) x = ap (λ (v : List Span). row_extents o b r ++ v) (flat_push o b rows x) ∙ sym (append_assoc (row_extents o b r) (flat_map (row_extents o b) rows) (row_extents o b x))
-
-extents_more : (o : Order) (b : List ℕ) (rows : List Row) (i : ℕ) (d : Row) → i < length rows → extents_of o b (take (i + 1) rows) ≡ extents_of o b (take i rows) ++ row_extents o b (get_or rows i d)
-extents_more o b rows i d l = ap (extents_of o b) (take_more rows i d l) ∙ ap (λ (v : List Span). added Super 0 76 ++ v) (flat_push o b (take i rows) (get_or rows i d)) ∙ sym (append_assoc (added Super 0 76) (flat_map (row_extents o b) (take i rows)) (row_extents o b (get_or rows i d)))
-
-pub row_added : (o : Order) (b : List ℕ) (rows : List Row) (i : ℕ) (d : Row) (old new : List Span) → i < length rows → Same old (extents_of o b (take i rows)) → new ≡ old ++ row_extents o b (get_or rows i d) → Same new (extents_of o b (take (i + 1) rows))
-row_added o b rows i d old new l s e = rw (e, extents_more o b rows i d l) (same_keep old (extents_of o b (take i rows)) (row_extents o b (get_or rows i d)) s)
-
-pub row_left_out : (o : Order) (b : List ℕ) (rows : List Row) (i : ℕ) (d : Row) (old : List Span) → i < length rows → Same old (extents_of o b (take i rows)) → has_data (type_of o b (get_or rows i d).offset) ≡ true
-    → Any (HasSameFile o b (get_or rows i d)) (take i rows) → Same old (extents_of o b (take (i + 1) rows))
-row_left_out o b rows i d old l s h a =
-    let x : Row = get_or rows i d in
-    let members = in_rows o b x (take i rows) a.0 a.1 a.2 a.3 a.4 in
-    let repeat : Every (IsRepeat old) (file_extents o b x.offset) =
-    both (file_extents o b x.offset) (file_shareable o b x.offset) (every_weaker (λ (z : Span). Member z (flat_map (row_extents o b) (take i rows))) (λ (z : Span). Member z old)
-    (λ z m. s.back z (has_right (λ (v : Span). v ≡ z) (added Super 0 76) (flat_map (row_extents o b) (take i rows)) m)) (file_extents o b x.offset) members) in
-    rw (extents_more o b rows i d l, row_file o b x h) (same_drop old (extents_of o b (take i rows)) (file_extents o b x.offset) s repeat)
-  where
-    both : (xs : List Span) → Every (λ (z : Span). is_shareable z.kind ≡ true) xs → Every (λ (z : Span). Member z old) xs → Every (IsRepeat old) xs
-    both [] p q = tt
-    both (z ∷ zs) p q = (record { shareable = p.0; member = q.0 }, both zs p.1 q.1)

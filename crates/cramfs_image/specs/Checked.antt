@@ -4,7 +4,7 @@ use Rattle.rom_tree.specs.Tree.{depth}
 use Rattle.rom_tree.specs.Image.{Image}
 use Rattle.rom_tree.specs.declared.types.Limits.{Limits}
 use Rattle.rom_tree.specs.declared.types.Report.{Report}
-use Rattle.rom_tree.specs.declared.types.CheckError.{CheckError}
+use Rattle.rom_faults.specs.declared.error.CheckError.{CheckError}
 use Rattle.rom_tree.specs.Checks.{Refuses}
 use Rattle.record_walk.specs.Answers.{AnswersLeast}
 use Rattle.record_walk.specs.Forest.{all_rows}

@@ -2,3 +2,4 @@ pub mod Cramfs
 pub mod Phases
 pub mod Checked
 pub mod Reported
+pub mod Files

@@ -5,9 +5,10 @@ use crate::image::Cramfs;
 use crate::later::later_fault;
 use crate::reader::Reader;
 use crate::superblock::read_superblock;
-use record_walk::walk::walk;
+use record_walk::traversal::traverse;
 use rom_tree::image::Viewed;
-use rom_tree::types::{CheckError, Limits};
+use rom_faults::CheckError;
+use rom_tree::types::Limits;
 use std::alloc::Global;
 
 impl<'a> Cramfs<'a> {
@@ -31,7 +32,7 @@ impl<'a> Cramfs<'a> {
     {
         let b = read_superblock(bytes)?;
         let reader = Reader { bytes: b };
-        let rows = walk(alloc, &reader, limits.references)?;
+        let rows = traverse(alloc, &reader, limits.references)?;
         let list = rows.as_slice();
         match later_fault(alloc, b, list, limits.depth.min(64))? {
             None => Ok(Cramfs::opened(bytes, b, list, limits)),

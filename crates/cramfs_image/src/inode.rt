@@ -1,5 +1,5 @@
 //! The fields of an inode. All words are little-endian, so the first field of a word is its low bits.
-ghost use Rattle.std.specs.Prelude.{◌≡◌, ◌≢◌, ◌+◌, ◌*◌, ◌≤◌, ◌<◌, ◌^◌, length, if◌then◌else◌};
+ghost use Rattle.std.specs.Prelude.{◌≡◌, ◌≢◌, ◌+◌, ◌*◌, ◌%◌, ◌≤◌, ◌<◌, ◌^◌, length, if◌then◌else◌};
 ghost use Rattle.cramfs_format.specs.Order.{little, word as word_of};
 ghost use Rattle.cramfs_format.specs.Inode.{mode_of, uid_of, size_of, gid_of, name_room, offset_of, type_of, has_data, without_zeros, name_of, end_of, list_start, list_end, block_start};
 ghost use Rattle.cramfs_format.specs.Tree.{kind_named, pick};
@@ -80,6 +80,7 @@ pub fn offset_at(b: &[u8], at: usize) -> u32
     ensures offset { result ≡ offset_of little b.now at }
     ensures start { result ≡ list_start little b.now at }
     ensures small { result < 2 ^ 28 }
+    ensures aligned { result % 4 ≡ 0 }
 {
     word(b, at + 8) / 64 * 4
 }

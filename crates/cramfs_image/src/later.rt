@@ -8,11 +8,11 @@ ghost use Rattle.cramfs_image.specs.Phases.{IsRecord, AreWell, IsLaterFault};
 use crate::depth::least_too_deep;
 use crate::names::least_name_fault;
 use crate::overlap::least_overlap;
-use record_walk::reference::{Fault, Row};
-use rom_fields::extents::OutOfMemory;
+use record_walk::reference::Row;
+use rom_faults::Fault;
+use rom_faults::fault::{OVERLAP};
+use rom_fields::memory::OutOfMemory;
 use std::alloc::Global;
-
-const OVERLAP: u32 = 22;
 
 /// The rows other than the root's, which is the first.
 pub fn below_root<'a>(rows: &'a [Row]) -> &'a [Row]
@@ -48,5 +48,6 @@ pub fn later_fault(
         };
         return Ok(Some(fault));
     }
-    Ok(least_name_fault(b, below))
+    let named = least_name_fault(alloc, b, below)?;
+    Ok(named)
 }

@@ -1,85 +1,135 @@
 //! The phase that looks for parts of the image that overlap.
-ghost use Rattle.std.specs.Prelude.{◌≡◌, ◌+◌, ◌<◌, ◌^◌, ◌++◌, ℕ, length, OnOk, IfOk, true};
-ghost use Rattle.std.specs.Bool.{OnTrue};
-ghost use Rattle.std.specs.List.{All, Any};
+ghost use Rattle.std.specs.Prelude.{◌≡◌, ◌+◌, ◌*◌, ◌%◌, ◌<◌, ◌≤◌, ◌^◌, ◌++◌, ℕ, max, length, OnOk, IfOk, true};
+ghost use Rattle.std.specs.List.{All, AllByRecursion as Every};
+ghost use Rattle.std.specs.List.Sorted.{IsNonDecreasingBy};
 ghost use Rattle.rom_fields.specs.Extents.{OverlapsAt, IsLeastOf};
-ghost use Rattle.cramfs_format.specs.Order.{little};
-ghost use Rattle.cramfs_format.specs.Inode.{type_of, has_data};
-ghost use Rattle.cramfs_format.specs.Tree.{file_extents, row_extents, extents_of};
-ghost use Rattle.cramfs_image.specs.Phases.{IsRecord, HasSameFile};
+ghost use Rattle.cramfs_format.specs.Order.{little, word as word_of};
+ghost use Rattle.cramfs_format.specs.Inode.{type_of, size_of, offset_of, has_data, block_start};
+ghost use Rattle.cramfs_format.specs.Tree.{extents_of};
+ghost use Rattle.cramfs_image.specs.declared.overlap.File.{File};
+ghost use Rattle.cramfs_image.specs.Phases.{IsRecord};
+ghost use Rattle.cramfs_image.specs.Files.{list_part, file_part, FileLies, whole_end, whole_blocks, file_added, AddsFiles};
 
 use crate::inode::{offset_at, size_at, start_of, type_at, word};
-use crate::record::{blocks_of, has_contents, len_of_block};
+use crate::record::{blocks_of, has_contents};
 use record_walk::reference::Row;
-use rom_fields::extents::{Extents, OutOfMemory};
+use rom_fields::extents::Extents;
+use rom_fields::memory::OutOfMemory;
 use rom_fields::span::Extent;
 use std::alloc::Global;
 
-/// Adds the block pointers and the blocks of a file or a link.
-fn add_file(extents: &mut Extents, b: &[u8], at: usize) -> Result<(), OutOfMemory>
-    requires record { IsRecord little b.now at }
-    requires contents { has_data (type_of little b.now at) ≡ true }
-    requires small { length b.now < 2 ^ 32 }
-    ensures { OnOk result (extents.new ≡ extents.old ++ file_extents little b.now at) }
+/// A file or a link: where its block pointers begin, and its size.
+#[derive(Clone, Copy, Debug, PartialEq, Eq)]
+pub struct File {
+    pub table: u32,
+    pub size: u32,
+}
+
+/// Adds the whole blocks of some pointers from `at` on.
+fn add_blocks(extents: &mut Extents, b: &[u8], at: u32, count: u32) -> Result<(), OutOfMemory>
+    requires small { at + 4 * count < 2 ^ 32 }
+    requires pointers { (i : ℕ) → i < count → at + 4 * i + 4 ≤ length b.now }
+    requires blocks { (i : ℕ) → i < count → block_start (word_of little b.now (at + 4 * i)) + 4096 < 2 ^ 32 }
+    ensures { OnOk result (extents.new ≡ extents.old ++ whole_blocks b.now count at) }
 {
-    let size = size_at(b, at);
-    let table = offset_at(b, at);
-    let count = blocks_of(size);
-    extents.add(Extent::Table, table, 4 * count)?;
     'pointers: for i in 0..count {
-        let pointer = word(b, (table + 4 * i) as usize);
-        extents.add(Extent::Data, start_of(pointer), len_of_block(size, i))?;
+        let pointer = word(b, (at + 4 * i) as usize);
+        extents.add(Extent::Data, start_of(pointer), 4_096)?;
     }
     Ok(())
 }
 
-/// Adds what the record of a row takes beside its place in a list.
-fn add_row(extents: &mut Extents, b: &[u8], row: Row) -> Result<(), OutOfMemory>
+/// Adds the block pointers and the blocks of a file, but for the whole blocks of pointers before
+/// `done`. It gives up to where whole blocks are there then.
+fn add_file(
+    extents: &mut Extents,
+    b: &[u8],
+    file: File,
+    done: u32,
+) -> Result<u32, OutOfMemory>
+    requires lies { FileLies b.now file }
+    requires small { length b.now < 2 ^ 32 }
+    requires aligned { done % 4 ≡ 0 }
+    requires low { done < 2 ^ 29 }
+    ensures extents { OnOk result (extents.new ≡ extents.old ++ file_added b.now file.table file.size done) }
+    ensures done { IfOk result (λ d. d ≡ max done (whole_end file.table file.size)) }
+{
+    let end = file.table + 4 * (file.size / 4_096);
+    let first = file.table.max(done);
+    let rest = file.size % 4_096;
+    extents.add(Extent::Table, file.table, 4 * blocks_of(file.size))?;
+    add_blocks(extents, b, first, end.saturating_sub(first) / 4)?;
+    if rest > 0 {
+        extents.add(Extent::Data, start_of(word(b, end as usize)), rest)?;
+    }
+    Ok(done.max(end))
+}
+
+/// Adds the block pointers and the blocks of files, whose pointers begin at offsets that do not
+/// fall. A whole block is added once for each pointer, however many files have the pointer.
+fn add_files(extents: &mut Extents, b: &[u8], files: &[File]) -> Result<(), OutOfMemory>
+    requires lie { All (FileLies b.now) files.now }
+    requires small { length b.now < 2 ^ 32 }
+    requires sorted { IsNonDecreasingBy (λ (f : File). f.table) files.now }
+    ensures { OnOk result (AddsFiles b.now files.now extents.old extents.new) }
+{
+    let mut done: u32 = 0;
+    'files: for file in files {
+        done = add_file(extents, b, *file, done)?;
+    }
+    Ok(())
+}
+
+/// What a file or a link takes.
+fn file_at(b: &[u8], at: usize) -> File
+    requires record { IsRecord little b.now at }
+    requires contents { has_data (type_of little b.now at) ≡ true }
+    ensures value { result ≡ record { table = offset_of little b.now at; size = size_of little b.now at } }
+    ensures lies { FileLies b.now result }
+{
+    File {
+        table: offset_at(b, at),
+        size: size_at(b, at),
+    }
+}
+
+/// Adds the list of a directory, and notes a file or a link.
+fn add_row(
+    extents: &mut Extents,
+    files: &mut Vec<File>,
+    b: &[u8],
+    row: Row,
+) -> Result<(), OutOfMemory>
     requires record { IsRecord little b.now row.offset }
     requires small { length b.now < 2 ^ 32 }
-    ensures { OnOk result (extents.new ≡ extents.old ++ row_extents little b.now row) }
+    ensures extents { OnOk result (extents.new ≡ extents.old ++ list_part b.now row) }
+    ensures files { OnOk result (files.new.items ≡ files.old.items ++ file_part b.now row) }
+    ensures lie { Every (FileLies b.now) (file_part b.now row) }
 {
     let at = row.offset as usize;
     if type_at(b, at) == 4 {
         extents.add(Extent::List, offset_at(b, at), size_at(b, at))?;
     }
     if has_contents(b, at) {
-        add_file(extents, b, at)?;
+        files.push(file_at(b, at))?;
     }
     Ok(())
 }
 
-/// Whether a file or link among the rows has the block pointers and the size of that at `at`.
-fn is_shared(b: &[u8], before: &[Row], row: Row) -> bool
-    requires before { All (λ x. IsRecord little b.now x.offset) before.now }
-    requires row { IsRecord little b.now row.offset }
-    ensures { OnTrue result (Any (HasSameFile little b.now row) before.now) }
-{
-    let table = offset_at(b, row.offset as usize);
-    let size = size_at(b, row.offset as usize);
-    'rows: for other in before {
-        let at = other.offset as usize;
-        if has_contents(b, at) && offset_at(b, at) == table && size_at(b, at) == size {
-            return true;
-        }
-    }
-    false
-}
-
-/// The least place where two extents of the image overlap. The block pointers and the blocks of
-/// files with equal pointers and equal sizes are added once.
+/// The least place where two extents of the image overlap. They are no more than the words of the
+/// image and three for each row.
 pub fn least_overlap(alloc: Global, b: &[u8], rows: &[Row]) -> Result<Option<u32>, OutOfMemory>
     requires records { All (λ x. IsRecord little b.now x.offset) rows.now }
     requires small { length b.now < 2 ^ 32 }
     ensures { IfOk result (IsLeastOf (OverlapsAt (extents_of little b.now rows.now))) }
 {
     let mut extents = Extents::new(alloc);
+    let mut files: Vec<File> = Vec::new(alloc);
     extents.add(Extent::Super, 0, 76)?;
-    for i in 0..rows.len() {
-        if has_contents(b, rows[i].offset as usize) && is_shared(b, &rows[..i], rows[i]) {
-            continue;
-        }
-        add_row(&mut extents, b, rows[i])?;
+    'rows: for row in rows {
+        add_row(&mut extents, &mut files, b, *row)?;
     }
+    files.sort_unstable_by_key(|x| x.table);
+    add_files(&mut extents, b, &files)?;
     Ok(extents.first_overlap())
 }

@@ -4,12 +4,16 @@ ghost use Rattle.record_walk.specs.Faults.{IsLeastFault};
 ghost use Rattle.cramfs_format.specs.Order.{little};
 ghost use Rattle.cramfs_format.specs.Inode.{list_end};
 ghost use Rattle.cramfs_format.specs.Refers.{references, target_of, LeadsToSound, LeadsToFault};
-ghost use Rattle.cramfs_image.specs.Phases.{IsLeastFaultOf};
+ghost use Rattle.record_walk.specs.Known.{AreKnown};
+ghost use Rattle.cramfs_image.specs.Phases.{IsWhole, IsLeastFaultOf};
 
 use crate::inode::{end_at, list_end_at, offset_at};
-use crate::record::{BOUNDS, entry_fault, list_lies};
+use crate::record::{entry_fault, list_lies};
+use record_walk::known::Known;
 use record_walk::records::Records;
-use record_walk::reference::{Fault, Link, Links, Reference};
+use record_walk::reference::{Edge, Edges, Reference};
+use rom_faults::Fault;
+use rom_faults::fault::BOUNDS;
 
 /// The accessible bytes of an image.
 #[derive(Clone, Copy)]
@@ -21,24 +25,27 @@ pub struct Reader<'a> {
 
 /// The reference to what stands at `which` in a list that ends at `end`, of the directory at
 /// `source`.
-fn link_to(source: u32, which: u32, end: u32) -> Link
+fn edge_to(source: u32, which: u32, end: u32) -> Edge
     ensures source { result.reference.source ≡ source }
     ensures which { result.reference.which ≡ which }
     ensures target { result.target ≡ (if nat_lt which end then Some which else None) }
 {
-    Link {
+    Edge {
         reference: Reference { source, which },
         target: if which < end { Some(which) } else { None },
     }
 }
 
 /// The least fault of the record that a reference leads to, if it is not sound.
-fn fault_of(b: &[u8], x: Reference) -> Option<Fault>
+fn fault_of(b: &[u8], known: &mut Known, x: Reference) -> Option<Fault>
+    requires known { AreKnown (IsWhole little b.now) known.old }
+    requires long { 76 ≤ length b.now }
     requires small { length b.now < 2 ^ 32 }
     requires root { x.source ≡ 0 → x.which + 12 ≤ length b.now }
     requires source { x.source ≢ 0 → x.source + 12 ≤ length b.now }
     requires end { x.source ≢ 0 → list_end little b.now x.source ≤ length b.now }
-    ensures { IsLeastFaultOf (LeadsToFault little b.now x) result }
+    ensures known { AreKnown (IsWhole little b.now) known.new }
+    ensures least { IsLeastFaultOf (LeadsToFault little b.now x) result }
 {
     if x.source == 0 {
         if list_lies(b, x.which as usize) {
@@ -52,6 +59,7 @@ fn fault_of(b: &[u8], x: Reference) -> Option<Fault>
     }
     entry_fault(
         b,
+        known,
         list_end_at(b, x.source as usize) as usize,
         x.which as usize,
     )
@@ -64,13 +72,16 @@ impl Records for Reader<'_> {
 
     ghost faulty = { λ s. LeadsToFault little s.bytes.now };
 
+    // The words that are pointers of whole blocks.
+    ghost well = { λ s. IsWhole little s.bytes.now };
+
     #[tactic(auto, unfolding(cramfs_format::specs::Refers::target_of))]
-    fn top(&self) -> Link {
+    fn top(&self) -> Edge {
         let reference = Reference {
             source: 0,
             which: 64,
         };
-        Link {
+        Edge {
             reference,
             target: Some(64),
         }
@@ -80,18 +91,18 @@ impl Records for Reader<'_> {
         false
     }
 
-    fn links(&self, x: Reference, at: u32) -> Result<Links, Fault> {
+    fn edges(&self, known: &mut Known, x: Reference, at: u32) -> Result<Edges, Fault> {
         let b = self.bytes;
-        if let Some(fault) = fault_of(b, x) {
+        if let Some(fault) = fault_of(b, known, x) {
             return Err(fault);
         }
-        let own = link_to(at, offset_at(b, at as usize), list_end_at(b, at as usize));
+        let own = edge_to(at, offset_at(b, at as usize), list_end_at(b, at as usize));
         let end = if x.source == 0 {
             0
         } else {
             list_end_at(b, x.source as usize)
         };
-        let after = link_to(x.source, end_at(b, at as usize) as u32, end);
-        Ok(Links { own, after })
+        let after = edge_to(x.source, end_at(b, at as usize) as u32, end);
+        Ok(Edges { own, after })
     }
 }

@@ -1,27 +1,17 @@
 //! The tests of one record, wherever a reference leads.
-ghost use Rattle.std.specs.Prelude.{◌≡◌, ◌≢◌, ◌+◌, ◌*◌, ◌≤◌, ◌<◌, ◌^◌, ◌⊎◌, ◌↔◌, ◌==◌, IsTrue, ℕ, length, if◌then◌else◌, true, false};
+ghost use Rattle.std.specs.Prelude.{◌≡◌, ◌≢◌, ◌+◌, ◌*◌, ◌%◌, ◌≤◌, ◌<◌, ◌^◌, ◌⊎◌, ◌↔◌, ◌==◌, IsTrue, ℕ, length, if◌then◌else◌, true, false};
 ghost use Rattle.std.specs.Bool.{OnTrue, OnFalse};
 ghost use Rattle.std.specs.List.{Contains};
 ghost use Rattle.rom_fields.specs.Extents.{IsLeastOf};
 ghost use Rattle.cramfs_format.specs.Order.{little, word as word_of};
 ghost use Rattle.cramfs_format.specs.Inode.{type_of, size_of, name_of, end_of, offset_of, is_kind, has_data, block_count, block_len, block_start, pointer_place, pointer_of, is_direct, has_kinds, IsPlain, Lies, ListLies, TableLies, HasLinkSize, Fits, IsName, HasEntryFault};
-ghost use Rattle.cramfs_image.specs.Phases.{IsLeastFaultOf, IsFaultAt, IsPointerFault, lesser_fault};
+ghost use Rattle.record_walk.specs.Known.{AreKnown};
+ghost use Rattle.cramfs_image.specs.Phases.{IsWhole, IsLeastFaultOf, IsFaultAt, IsPointerFault, lesser_fault};
 
 use crate::inode::{end_at, name_at, offset_at, size_at, start_of, type_at, word};
-use record_walk::reference::Fault;
-
-/// The numbers of a record's faults.
-pub const BOUNDS: u32 = 11;
-
-const BAD_NAME: u32 = 13;
-
-const KIND: u32 = 14;
-
-const LINK_SIZE: u32 = 15;
-
-const BLOCK_KIND: u32 = 16;
-
-const LIST_END: u32 = 17;
+use record_walk::known::{Known, Range};
+use rom_faults::Fault;
+use rom_faults::fault::{BAD_NAME, BLOCK_KIND, BOUNDS, KIND, LINK_SIZE, LIST_END};
 
 /// Whether the bytes lie behind the superblock and among the accessible ones, if there are any.
 fn lies(b: &[u8], start: usize, len: usize) -> bool
@@ -147,11 +137,78 @@ pub fn len_of_block(size: u32, i: u32) -> u32
     (size - 4_096 * i).min(4_096)
 }
 
-/// The least fault of the block pointers.
-fn pointer_fault(b: &[u8], at: usize) -> Option<Fault>
+/// Whether the word of this number is the pointer of a whole block that is read where it stands.
+fn is_whole(b: &[u8], number: u32) -> bool
+    requires header { 12 ≤ length b.now }
+    requires word { 4 * number + 4 ≤ length b.now }
+    requires small { length b.now < 2 ^ 32 }
+    ensures { IsTrue result ↔ IsWhole little b.now number }
+{
+    let pointer = word(b, 4 * number as usize);
+    is_plain(b, pointer) && lies(b, start_of(pointer) as usize, 4_096)
+}
+
+/// How many pointers have to lead to whole blocks, one after the other, to be kept as known: fewer
+/// are as soon looked at as looked up.
+const WORTH_KNOWING: u32 = 16;
+
+/// Up to where the words from `first` to `end`, counted in words, are pointers of whole blocks; it may
+/// be further. What is known is not looked at again.
+fn whole_up_to(b: &[u8], known: &mut Known, first: u32, end: u32) -> u32
+    requires header { 12 ≤ length b.now }
+    requires words { 4 * end ≤ length b.now }
+    requires small { length b.now < 2 ^ 32 }
+    requires known { AreKnown (IsWhole little b.now) known.old }
+    ensures known { AreKnown (IsWhole little b.now) known.new }
+    ensures whole { (n : ℕ) → first ≤ n → n < result → IsWhole little b.now n }
+{
+    let mut start = first;
+    let mut next = first;
+    while next < end {
+        if let Some(range) = known.take(next) {
+            start = start.min(range.start);
+            next = range.end;
+            continue;
+        }
+        if !is_whole(b, next) {
+            break;
+        }
+        next += 1;
+    }
+    if start.saturating_add(WORTH_KNOWING) <= next {
+        known.note(Range { start, end: next });
+    }
+    next
+}
+
+/// How many pointers of the `count` from `table` on lead, one after the other, to whole blocks.
+fn whole_pointers(b: &[u8], known: &mut Known, table: u32, count: u32) -> u32
+    requires header { 12 ≤ length b.now }
+    requires aligned { table % 4 ≡ 0 }
+    requires pointers { 0 < count → table + 4 * count ≤ length b.now }
+    requires small { length b.now < 2 ^ 32 }
+    requires known { AreKnown (IsWhole little b.now) known.old }
+    ensures known { AreKnown (IsWhole little b.now) known.new }
+    ensures few { result ≤ count }
+    ensures whole { (i : ℕ) → i < result → IsPlain little b.now (word_of little b.now (table + 4 * i))
+        × Lies b.now (block_start (word_of little b.now (table + 4 * i))) 4096 }
+{
+    if count == 0 {
+        return 0;
+    }
+    let first = table / 4;
+    let next = whole_up_to(b, known, first, first + count);
+    next.saturating_sub(first).min(count)
+}
+
+/// The least fault of the block pointers. Those that are known to lead to whole blocks are not
+/// looked at again.
+fn pointer_fault(b: &[u8], known: &mut Known, at: usize) -> Option<Fault>
     requires header { at + 12 ≤ length b.now }
     requires small { length b.now < 2 ^ 32 }
-    ensures { IsLeastFaultOf (IsPointerFault little b.now at) result }
+    requires known { AreKnown (IsWhole little b.now) known.old }
+    ensures known { AreKnown (IsWhole little b.now) known.new }
+    ensures least { IsLeastFaultOf (IsPointerFault little b.now at) result }
 {
     if !has_contents(b, at) {
         return None;
@@ -161,7 +218,8 @@ fn pointer_fault(b: &[u8], at: usize) -> Option<Fault>
     }
     let size = size_at(b, at);
     let table = offset_at(b, at);
-    for i in 0..blocks_of(size) {
+    let whole = whole_pointers(b, known, table, size / 4_096);
+    for i in whole..blocks_of(size) {
         let place = table + 4 * i;
         let pointer = word(b, place as usize);
         if !is_plain(b, pointer) {
@@ -193,11 +251,13 @@ fn lesser(one: Option<Fault>, other: Option<Fault>) -> Option<Fault>
 }
 
 /// The least fault of the entry at `at` of a list that ends at `end`.
-pub fn entry_fault(b: &[u8], end: usize, at: usize) -> Option<Fault>
+pub fn entry_fault(b: &[u8], known: &mut Known, end: usize, at: usize) -> Option<Fault>
+    requires known { AreKnown (IsWhole little b.now) known.old }
     requires end { end ≤ length b.now }
     requires at { at < 2 ^ 32 }
     requires small { length b.now < 2 ^ 32 }
-    ensures { IsLeastFaultOf (HasEntryFault little b.now end at) result }
+    ensures known { AreKnown (IsWhole little b.now) known.new }
+    ensures least { IsLeastFaultOf (HasEntryFault little b.now end at) result }
 {
     let place = at as u32;
     if !fits(b, end, at) {
@@ -208,5 +268,5 @@ pub fn entry_fault(b: &[u8], end: usize, at: usize) -> Option<Fault>
         Some(number) => Some(Fault { number, at: place }),
         None => None,
     };
-    lesser(here, pointer_fault(b, at))
+    lesser(here, pointer_fault(b, known, at))
 }

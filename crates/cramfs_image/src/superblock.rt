@@ -6,15 +6,14 @@ ghost use Rattle.cramfs_format.specs.Superblock.{accessible, HasSize, HasCrc, Ha
 
 use crate::crc::{START, with_bytes, with_zero_word};
 use crate::inode::{offset_at, size_at, type_at, word};
-use record_walk::reference::Fault;
+use rom_faults::Fault;
+use rom_faults::fault;
 
 /// The first word of an image.
 const MAGIC: u32 = 0x28cd_3d45;
 
 /// `Compressed ROMFS`, which stands at 16.
-const SIGNATURE: [u8; 16] = [
-    67, 111, 109, 112, 114, 101, 115, 115, 101, 100, 32, 82, 79, 77, 70, 83,
-];
+const SIGNATURE: [u8; 16] = *b"Compressed ROMFS";
 
 /// The accessible bytes, where the stored size is one that the image can have.
 #[tactic(auto, unfolding(cramfs_format::specs::Superblock::accessible_size))]
@@ -88,25 +87,25 @@ pub fn read_superblock<'a>(bytes: &'a [u8]) -> Result<&'a [u8], Fault>
     ensures fault { IfErr result (HasImageFault little bytes.now) }
 {
     if bytes.len() < 76 {
-        return Err(Fault { number: 2, at: 0 });
+        return Err(Fault { number: fault::SHORT, at: 0 });
     }
     if word(bytes, 0) != MAGIC {
-        return Err(Fault { number: 3, at: 0 });
+        return Err(Fault { number: fault::MAGIC, at: 0 });
     }
     let Some(b) = accessible_bytes(bytes) else {
-        return Err(Fault { number: 4, at: 4 });
+        return Err(Fault { number: fault::SIZE, at: 4 });
     };
     if word(b, 8) >= 4_096 {
-        return Err(Fault { number: 6, at: 8 });
+        return Err(Fault { number: fault::FLAGS, at: 8 });
     }
     if !has_crc(b) {
-        return Err(Fault { number: 7, at: 32 });
+        return Err(Fault { number: fault::CRC, at: 32 });
     }
     if !has_signature(b) {
-        return Err(Fault { number: 8, at: 16 });
+        return Err(Fault { number: fault::SIGNATURE, at: 16 });
     }
     if !has_root(b) {
-        return Err(Fault { number: 9, at: 64 });
+        return Err(Fault { number: fault::ROOT, at: 64 });
     }
     Ok(b)
 }

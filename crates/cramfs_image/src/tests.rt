@@ -2,7 +2,8 @@ use crate::crc::crc32;
 use crate::image::Cramfs;
 use rom_fields::word::{part, put_le32};
 use rom_tree::image::TreeImage;
-use rom_tree::types::{CheckError, Limits, NodeId, Report};
+use rom_faults::CheckError;
+use rom_tree::types::{Limits, NodeId, Report};
 use std::alloc::Global;
 use std::test::Fail;
 

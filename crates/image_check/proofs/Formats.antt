@@ -8,8 +8,8 @@ use Rattle.rom_tree.specs.Image.{Image}
 use Rattle.rom_tree.specs.declared.types.Report.{Report}
 use Rattle.rom_tree.proofs.Nodes.{levels_depth}
 use Rattle.rom_tree.specs.declared.types.Limits.{Limits}
-use Rattle.rom_tree.specs.declared.types.CheckError.{CheckError}
-use Rattle.rom_tree.specs.declared.types.CheckError.TheVariants.{OutOfMemory, Fault}
+use Rattle.rom_faults.specs.declared.error.CheckError.{CheckError}
+use Rattle.rom_faults.specs.declared.error.CheckError.TheVariants.{OutOfMemory, Fault}
 use Rattle.romfs_format.specs.Tree.{RomfsTree}
 use Rattle.romfs_image.specs.Checked.{IsRefused as RomfsRefused}
 use Rattle.cramfs_image.specs.Checked.{IsRefused as CramfsRefused}

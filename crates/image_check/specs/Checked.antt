@@ -4,8 +4,8 @@ use Rattle.rom_tree.specs.Tree.{Node}
 use Rattle.rom_tree.specs.Image.{Image}
 use Rattle.rom_tree.specs.declared.types.Limits.{Limits}
 use Rattle.rom_tree.specs.declared.types.Report.{Report}
-use Rattle.rom_tree.specs.declared.types.CheckError.{CheckError}
-use Rattle.rom_tree.specs.declared.types.CheckError.TheVariants.{Fault}
+use Rattle.rom_faults.specs.declared.error.CheckError.{CheckError}
+use Rattle.rom_faults.specs.declared.error.CheckError.TheVariants.{Fault}
 use Rattle.rom_tree.specs.Checks.{Refuses}
 use Rattle.romfs_format.specs.Tree.{RomfsTree, magic as romfs_magic}
 use Rattle.romfs_format.specs.Faults.{HasNoFault as HasNoRomfsFault}

@@ -4,16 +4,14 @@ ghost use Rattle.rom_tree.specs.Tree.{levels};
 ghost use Rattle.image_check.specs.Any.{any_view, report_of};
 ghost use Rattle.image_check.specs.Checked.{Shows, IsRefused, IsRomfs, IsCramfs, HasFormat, IsFaultless, IsLeastFault, neither};
 
+use rom_faults::fault::{MAGIC, SHORT};
 use crate::any::AnyImage;
 use cramfs_image::image::Cramfs;
 use rom_fields::word::le32;
-use rom_tree::types::{CheckError, Limits};
+use rom_faults::CheckError;
+use rom_tree::types::Limits;
 use romfs_image::image::Romfs;
 use std::alloc::Global;
-
-const SHORT: u32 = 2;
-
-const MAGIC: u32 = 3;
 
 /// Whether the bytes begin as a romfs image does.
 fn is_romfs(bytes: &[u8]) -> bool

@@ -2,7 +2,8 @@ use crate::any::AnyImage;
 use crate::check::check;
 use rom_fields::word::{put_be32, put_le32};
 use rom_tree::image::TreeImage;
-use rom_tree::types::{CheckError, Limits, NodeId, Report};
+use rom_faults::CheckError;
+use rom_tree::types::{Limits, NodeId, Report};
 use std::test::Fail;
 
 /// A romfs image whose root holds nothing.

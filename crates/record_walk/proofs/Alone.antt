@@ -1,7 +1,7 @@
 -- Where the root is not sound, nothing but it is reached.
 use Rattle.std.proofs.Common.{◌≡◌, ◌<◌, ℕ, [], ◌∷◌, refl, sym, subst, ◌∙◌, arith}
 use Rattle.record_walk.specs.declared.reference.Reference.{Reference}
-use Rattle.record_walk.specs.declared.reference.Fault.{Fault}
+use Rattle.rom_faults.specs.declared.fault.Fault.{Fault}
 use Rattle.record_walk.specs.References.{References, Reached, top, more}
 use Rattle.record_walk.specs.Faults.{TooMany, HasFault, IsLeastFault}
 

@@ -7,7 +7,7 @@ use Rattle.std.specs.List.{AllByRecursion as Every}
 use Rattle.record_walk.specs.declared.reference.Reference.{Reference}
 use Rattle.record_walk.specs.declared.reference.Row.{Row}
 use Rattle.record_walk.specs.Members.{Has}
-use Rattle.record_walk.specs.References.{References, link, IsLive, Reached, top, more, AreLawful}
+use Rattle.record_walk.specs.References.{References, edge, IsLive, Reached, top, more, AreLawful}
 use Rattle.record_walk.specs.Forest.{Forest, none, at, Stands, rows, all_rows, IsForest}
 use Rattle.record_walk.specs.Faults.{TooMany, Twice, IsClean}
 use Rattle.record_walk.proofs.Lists.{every_join, every_weaker, has_left, has_right, has_cases, has_every, has_both, pairs_pick, pairs_weaker, pairs_from, pigeon, same_some}
@@ -25,7 +25,7 @@ head_row g x directory parent depth (at p own after) s live = inl refl
 
 -- what follows from the reference of a row is that of another
 links_in : (g : References) (x : Reference) (directory parent depth : ℕ) (f : Forest) → Stands g x f → (z : Reference) → Has (By z) (rows g x directory parent depth f)
-    → (k : Bool) → IsLive g (link g k z) → Has (By (link g k z)) (rows g x directory parent depth f)
+    → (k : Bool) → IsLive g (edge g k z) → Has (By (edge g k z)) (rows g x directory parent depth f)
 links_in g x directory parent depth none s z h k live = absurd h
 links_in g x directory parent depth (at p own after) s z (inl e) true live =
     let own_rows = rows g (g.own x) p directory (depth + 1) own in
@@ -39,12 +39,12 @@ links_in g x directory parent depth (at p own after) s z (inr h) k live =
     let own_rows = rows g (g.own x) p directory (depth + 1) own in
     let after_rows = rows g (g.after x) directory parent depth after in
     elim (has_cases (By z) own_rows after_rows h) [
-      | inl i ↦ inr (has_left (By (link g k z)) own_rows after_rows (links_in g (g.own x) p directory (depth + 1) own s.1 z i k live))
-      | inr i ↦ inr (has_right (By (link g k z)) own_rows after_rows (links_in g (g.after x) directory parent depth after s.2 z i k live))
+      | inl i ↦ inr (has_left (By (edge g k z)) own_rows after_rows (links_in g (g.own x) p directory (depth + 1) own s.1 z i k live))
+      | inr i ↦ inr (has_right (By (edge g k z)) own_rows after_rows (links_in g (g.after x) directory parent depth after s.2 z i k live))
     ]
 
 -- the same, from the root on
-all_links_in : (g : References) (f : Forest) → Stands g g.top f → (z : Reference) → Has (By z) (all_rows g f) → (k : Bool) → IsLive g (link g k z) → Has (By (link g k z)) (all_rows g f)
+all_links_in : (g : References) (f : Forest) → Stands g g.top f → (z : Reference) → Has (By z) (all_rows g f) → (k : Bool) → IsLive g (edge g k z) → Has (By (edge g k z)) (all_rows g f)
 all_links_in g none s z h k live = absurd h
 all_links_in g (at r own after) s z (inl e) true live =
     let own_rows = rows g (g.own g.top) r r 1 own in
@@ -58,8 +58,8 @@ all_links_in g (at r own after) s z (inr h) k live =
     let own_rows = rows g (g.own g.top) r r 1 own in
     let after_rows = rows g (g.after g.top) r r 1 after in
     elim (has_cases (By z) own_rows after_rows h) [
-      | inl i ↦ inr (has_left (By (link g k z)) own_rows after_rows (links_in g (g.own g.top) r r 1 own s.1 z i k live))
-      | inr i ↦ inr (has_right (By (link g k z)) own_rows after_rows (links_in g (g.after g.top) r r 1 after s.2 z i k live))
+      | inl i ↦ inr (has_left (By (edge g k z)) own_rows after_rows (links_in g (g.own g.top) r r 1 own s.1 z i k live))
+      | inr i ↦ inr (has_right (By (edge g k z)) own_rows after_rows (links_in g (g.after g.top) r r 1 after s.2 z i k live))
     ]
 
 -- the reference of a row leads to its offset

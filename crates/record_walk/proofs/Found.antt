@@ -5,7 +5,7 @@ use Rattle.std.specs.List.{AllByRecursion as Every}
 use Rattle.record_walk.specs.declared.reference.Reference.{Reference}
 use Rattle.record_walk.specs.declared.reference.Row.{Row}
 use Rattle.record_walk.specs.Members.{Has, Pairs}
-use Rattle.record_walk.specs.References.{References, link, IsLive, Reached}
+use Rattle.record_walk.specs.References.{References, edge, IsLive, Reached}
 use Rattle.record_walk.specs.Faults.{Twice}
 use Rattle.record_walk.proofs.Lists.{every_join, every_left, every_weaker, has_left, has_right, has_weaker, has_every, has_of, every_of, same_some, pairs_push}
 use Rattle.record_walk.proofs.Seen.{Seen, Closed, newest, front_reached, front_differs}
@@ -91,15 +91,15 @@ module _ {g : References} {Sound : Reference → Type 0} {found : List Row} {don
 
   -- what follows from it was seen, where it is what follows from the first
   pub closed_again : (p : ℕ) (k : Bool) → Seen g Sound done (q ∷ ws) → Found g Sound found done → Every (Closed g Sound (done ++ q ∷ ws)) done → g.target q ≡ Some p → Has (At p) found
-      → ((x : Reference) → Reached g Sound x → Sound x → g.target x ≡ g.target q → link g k x ≡ link g k q)
-      → IsLive g (link g k q) → Has (λ y. y ≡ link g k q) (done ++ q ∷ ws)
+      → ((x : Reference) → Reached g Sound x → Sound x → g.target x ≡ g.target q → edge g k x ≡ edge g k q)
+      → IsLive g (edge g k q) → Has (λ y. y ≡ edge g k q) (done ++ q ∷ ws)
   closed_again p k s h c leads old joined live =
       let r = row_at p h old in
       let x = r.0.reference in
       let reached = has_of (Reached g Sound) done x r.1.among (every_left (Reached g Sound) done (q ∷ ws) s.reached) in
       let same = joined x reached r.1.sound (r.1.leads ∙ ap Some r.2 ∙ sym leads) in
       let there = has_of (Closed g Sound (done ++ q ∷ ws)) done x r.1.among c r.1.sound k (subst (IsLive g) (sym same) live) in
-      has_weaker (λ y. y ≡ link g k x) (λ y. y ≡ link g k q) (λ y i. i ∙ same) (done ++ q ∷ ws) there
+      has_weaker (λ y. y ≡ edge g k x) (λ y. y ≡ edge g k q) (λ y i. i ∙ same) (done ++ q ∷ ws) there
 
 -- a reference to p leads to the record of a row at p
 pub leads_again : (g : References) (found : List Row) (q : Reference) (p : ℕ) → g.target q ≡ Some p → Has (At p) found → Has (Leads g q) found

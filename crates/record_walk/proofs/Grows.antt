@@ -2,34 +2,34 @@
 use Rattle.std.proofs.Common.{◌≡◌, ◌+◌, ℕ, List, [], ◌∷◌, ◌++◌, refl, sym, ap, ◌∙◌, append_assoc, reverse, None, Some}
 use Rattle.std.proofs.lemmas.List.{append-nil, reverse-append}
 use Rattle.record_walk.specs.declared.reference.Reference.{Reference}
-use Rattle.record_walk.specs.declared.reference.Link.{Link}
+use Rattle.record_walk.specs.declared.reference.Edge.{Edge}
 use Rattle.record_walk.specs.declared.reference.Row.{Row}
-use Rattle.record_walk.specs.declared.walk.Pending.{Pending}
+use Rattle.record_walk.specs.declared.traversal.Pending.{Pending}
 use Rattle.record_walk.specs.References.{References}
 use Rattle.record_walk.specs.Forest.{Forest, none, at, Stands, rows, all_rows}
 use Rattle.record_walk.proofs.Seen.{keep}
 
 -- the reference x with where it leads
-abbrev pub link_to : References → Reference → Link
+abbrev pub link_to : References → Reference → Edge
 link_to g x = record { reference = x; target = g.target x }
 
-pub link_is : (g : References) (x : Reference) (l : Link) → l.reference ≡ x → l.target ≡ g.target l.reference → l ≡ link_to g x
-link_is g x l e f = let i : l.target ≡ g.target x = f ∙ ap g.target e in λ t. record { reference = e t; target = i t }
+pub edge_is : (g : References) (x : Reference) (l : Edge) → l.reference ≡ x → l.target ≡ g.target l.reference → l ≡ link_to g x
+edge_is g x l e f = let i : l.target ≡ g.target x = f ∙ ap g.target e in λ t. record { reference = e t; target = i t }
 
 -- the row of the record at p, to which q leads
 abbrev pub row_of : Pending → ℕ → Row
-row_of q p = record { offset = p; reference = q.link.reference; directory = q.directory; parent = q.parent; depth = q.depth }
+row_of q p = record { offset = p; reference = q.edge.reference; directory = q.directory; parent = q.parent; depth = q.depth }
 
 -- the own list of the record at p, and what comes after it
 abbrev pub own_of : References → Pending → ℕ → Pending
-own_of g q p = record { link = link_to g (g.own q.link.reference); directory = p; parent = q.directory; depth = q.depth + 1 }
+own_of g q p = record { edge = link_to g (g.own q.edge.reference); directory = p; parent = q.directory; depth = q.depth + 1 }
 
 abbrev pub after_of : References → Pending → Pending
-after_of g q = record { link = link_to g (g.after q.link.reference); directory = q.directory; parent = q.parent; depth = q.depth }
+after_of g q = record { edge = link_to g (g.after q.edge.reference); directory = q.directory; parent = q.parent; depth = q.depth }
 
 -- what follows from the superblock's reference, in the list of the root at r
-abbrev pub below_root : ℕ → Link → Pending
-below_root r l = record { link = l; directory = r; parent = r; depth = 1 }
+abbrev pub below_root : ℕ → Edge → Pending
+below_root r l = record { edge = l; directory = r; parent = r; depth = 1 }
 
 abbrev pub root_row : References → ℕ → Row
 root_row g r = record { offset = r; reference = g.top; directory = r; parent = r; depth = 0 }
@@ -37,27 +37,27 @@ root_row g r = record { offset = r; reference = g.top; directory = r; parent = r
 -- the references that lead somewhere, in the order in which they will be looked at
 abbrev pub waiting : List Pending → List Reference
 waiting [] = []
-waiting (q ∷ qs) = keep q.link.target q.link.reference (waiting qs)
+waiting (q ∷ qs) = keep q.edge.target q.edge.reference (waiting qs)
 
 -- The pending references lead to forests that stand, the next one in front, and these are their rows.
 abbrev pub Pends : References → List Pending → List Row → Type 0
 Pends g [] coming = coming ≡ []
 Pends g (q ∷ qs) coming =
-    (f : Forest) × (later : List Row) × Stands g q.link.reference f × Pends g qs later × (coming ≡ rows g q.link.reference q.directory q.parent q.depth f ++ later)
+    (f : Forest) × (later : List Row) × Stands g q.edge.reference f × Pends g qs later × (coming ≡ rows g q.edge.reference q.directory q.parent q.depth f ++ later)
 
 -- whatever rows are to come, with those that were found they are all rows of a forest
 abbrev pub Grows : References → List Row → List Pending → Type 0
 Grows g found pending = (coming : List Row) → Pends g pending coming → (f : Forest) × Stands g g.top f × (all_rows g f ≡ found ++ coming)
 
 -- q leads nowhere
-pub grows_none : (g : References) (found : List Row) (q : Pending) (qs : List Pending) → g.target q.link.reference ≡ None → Grows g found (q ∷ qs) → Grows g found qs
+pub grows_none : (g : References) (found : List Row) (q : Pending) (qs : List Pending) → g.target q.edge.reference ≡ None → Grows g found (q ∷ qs) → Grows g found qs
 grows_none g found q qs e h coming p = h coming (none, coming, e, p, refl)
 
 -- a row is in front of those of its own list and of those after it
-more_pends : (g : References) (q : Pending) (p : ℕ) (qs : List Pending) (coming : List Row) → g.target q.link.reference ≡ Some p → Pends g (own_of g q p ∷ after_of g q ∷ qs) coming
+more_pends : (g : References) (q : Pending) (p : ℕ) (qs : List Pending) (coming : List Row) → g.target q.edge.reference ≡ Some p → Pends g (own_of g q p ∷ after_of g q ∷ qs) coming
     → Pends g (q ∷ qs) (row_of q p ∷ coming)
 more_pends g q p qs coming leads h =
-    let x = q.link.reference in
+    let x = q.edge.reference in
     let own = h.0 in
     let after = h.3.0 in
     let later = h.3.1 in
@@ -67,7 +67,7 @@ more_pends g q p qs coming leads h =
     (at p own after, later, (leads, h.2, h.3.2), h.3.3, ap (λ (z : List Row). row_of q p ∷ z) (is ∙ sym (append_assoc front rest later)))
 
 -- q leads to a sound record that was not found
-pub grows_more : (g : References) (found : List Row) (q : Pending) (p : ℕ) (qs : List Pending) → g.target q.link.reference ≡ Some p → Grows g found (q ∷ qs)
+pub grows_more : (g : References) (found : List Row) (q : Pending) (p : ℕ) (qs : List Pending) → g.target q.edge.reference ≡ Some p → Grows g found (q ∷ qs)
     → Grows g (found ++ row_of q p ∷ []) (own_of g q p ∷ after_of g q ∷ qs)
 grows_more g found q p qs leads h coming k =
     let c = h (row_of q p ∷ coming) (more_pends g q p qs coming leads k) in

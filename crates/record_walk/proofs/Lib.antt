@@ -10,6 +10,10 @@ pub mod Same
 pub mod Seen
 pub mod Spans
 pub mod Visited
+pub mod Marks
+pub mod Ranges
+pub mod Marked
+pub mod Listing
 pub mod Whole
 pub mod Sweeps
 pub mod Exact

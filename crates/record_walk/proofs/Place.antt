@@ -9,7 +9,7 @@ use Rattle.std.specs.List.{AllByRecursion as Every}
 use Rattle.record_walk.specs.declared.reference.Reference.{Reference}
 use Rattle.record_walk.specs.declared.reference.Row.{Row}
 use Rattle.record_walk.specs.Members.{Has, Pairs}
-use Rattle.record_walk.specs.References.{References, link, IsLive, Reached, top, more, AreLawful}
+use Rattle.record_walk.specs.References.{References, edge, IsLive, Reached, top, more, AreLawful}
 use Rattle.record_walk.specs.Forest.{Forest, none, at, Stands, rows, all_rows, IsForest}
 use Rattle.record_walk.specs.Faults.{Twice, InList, first, next, beside_root, HasDepth, root, below}
 use Rattle.record_walk.proofs.Lists.{has_left, has_right, every_join, every_left, every_right, every_weaker, every_both, has_weaker, has_both, pairs_from, same_some}
@@ -188,7 +188,7 @@ module _ {g : References} {Sound : Reference → Type 0} (lawful : AreLawful g S
   ]
 
   -- the same is the source where two follow alike
-  one_source : (x y : Reference) (k l : Bool) → Reached g Sound x → Reached g Sound y → Sound x → Sound y → IsLive g (link g k x) → link g k x ≡ link g l y → (k ≡ l) × (x ≡ y)
+  one_source : (x y : Reference) (k l : Bool) → Reached g Sound x → Reached g Sound y → Sound x → Sound y → IsLive g (edge g k x) → edge g k x ≡ edge g l y → (k ≡ l) × (x ≡ y)
   one_source x y k l u v s t live e =
       let a = lawful.apart x y k l u v s t live e in
       (a.0, elim a.1 [ inl same ↦ same | inr j ↦ let q = live_some (g.target x) (reached_live lawful u) in same_leads x y q.0 u v q.1 (sym j.0 ∙ q.1) ])

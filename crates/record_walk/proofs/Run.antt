@@ -4,9 +4,9 @@ use Rattle.std.proofs.lemmas.Bool.{cases_lt, false≢true}
 use Rattle.std.proofs.lemmas.Bool.Decides.{eqb_tells}
 use Rattle.std.specs.Prelude.{IsSome}
 use Rattle.record_walk.specs.declared.reference.Reference.{Reference}
-use Rattle.record_walk.specs.declared.reference.Fault.{Fault}
+use Rattle.rom_faults.specs.declared.fault.Fault.{Fault}
 use Rattle.record_walk.specs.declared.reference.Row.{Row}
-use Rattle.record_walk.specs.declared.walk.Pending.{Pending}
+use Rattle.record_walk.specs.declared.traversal.Pending.{Pending}
 use Rattle.record_walk.specs.References.{References, top, AreLawful}
 use Rattle.record_walk.specs.Forest.{Forest, IsForest}
 use Rattle.record_walk.specs.Faults.{IsClean}
@@ -33,7 +33,7 @@ run : (n : ℕ) {g : References} {Sound : Reference → Type 0} (most : ℕ) →
 run n most lawful clean count found [] w fuel = let d = whole_done w refl refl in (d.0, d.2)
 run zero most lawful clean count found (q ∷ qs) w fuel = absurd (omega arith)
 run (suc n) {g} {Sound} most lawful clean count found (q ∷ qs) w fuel =
-    elim (none_or_some q.link.target) [
+    elim (none_or_some q.edge.target) [
       | inl e ↦ run n most lawful clean count found qs (whole_none w e) (omega arith)
       | inr s ↦
           let p = s.0 in
@@ -43,7 +43,7 @@ run (suc n) {g} {Sound} most lawful clean count found (q ∷ qs) w fuel =
             | inr room ↦ elim (has_at p found) [
               | inl old ↦ absurd (clean.once p (whole_twice_here w p e old))
               | inr fresh ↦
-                  let sound = clean.sound q.link.reference (whole_reached w p e) in
+                  let sound = clean.sound q.edge.reference (whole_reached w p e) in
                   let fits = w.fits in
                   let other = room.1 in
                   run n most lawful clean (count + 1) (found ++ row_of q p ∷ []) (own_of g q p ∷ after_of g q ∷ qs) (whole_new lawful w p e other sound (λ d h. h) fresh) (omega arith)

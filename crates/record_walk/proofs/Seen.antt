@@ -5,7 +5,7 @@ use Rattle.std.proofs.lemmas.Bool.{true≢false, false≢true}
 use Rattle.std.specs.List.{AllByRecursion as Every}
 use Rattle.record_walk.specs.declared.reference.Reference.{Reference}
 use Rattle.record_walk.specs.Members.{Has, Pairs}
-use Rattle.record_walk.specs.References.{References, link, IsLive, Reached, top, more, AreLawful}
+use Rattle.record_walk.specs.References.{References, edge, IsLive, Reached, top, more, AreLawful}
 use Rattle.record_walk.proofs.Lists.{every_left, every_right, every_weaker, every_put, has_left, has_right, has_weaker, has_put, has_of, pairs_put, pairs_cross}
 
 -- x follows from a sound reference that was looked at
@@ -14,7 +14,7 @@ pub record Follows (g : References) (Sound : Reference → Type 0) (done : List 
   pub kind : Bool
   pub among : Has (λ y. y ≡ source) done
   pub sound : Sound source
-  pub is : link g kind source ≡ x
+  pub is : edge g kind source ≡ x
 
 abbrev pub Known : (g : References) (Sound : Reference → Type 0) → List Reference → Reference → Type 0
 Known g Sound done x = (x ≡ g.top) ⊎ Follows g Sound done x
@@ -28,7 +28,7 @@ pub record Seen (g : References) (Sound : Reference → Type 0) (done waiting : 
 
 -- what follows from z was seen
 abbrev pub Closed : (g : References) (Sound : Reference → Type 0) → List Reference → Reference → Type 0
-Closed g Sound seen z = Sound z → (k : Bool) → IsLive g (link g k z) → Has (λ y. y ≡ link g k z) seen
+Closed g Sound seen z = Sound z → (k : Bool) → IsLive g (edge g k z) → Has (λ y. y ≡ edge g k z) seen
 
 -- a reference that leads nowhere does not wait
 abbrev pub keep : Option ℕ → Reference → List Reference → List Reference
@@ -92,9 +92,9 @@ module _ {g : References} {Sound : Reference → Type 0} {done ws : List Referen
   front_differs {q} s = every_weaker (λ z. Every (λ y. z ≢ y) (q ∷ ws)) (λ z. z ≢ q) (λ z k. k.0) done (pairs_cross (λ x y. x ≢ y) done (q ∷ ws) s.differ)
 
   -- what follows from q was not seen
-  follows_apart : AreLawful g Sound → (q : Reference) (k : Bool) → Seen g Sound done (q ∷ ws) → Sound q → IsLive g (link g k q)
+  follows_apart : AreLawful g Sound → (q : Reference) (k : Bool) → Seen g Sound done (q ∷ ws) → Sound q → IsLive g (edge g k q)
       → Every (λ z. Sound z → g.target q ≡ g.target z → (k ≡ true) ⊎ (g.chained ≡ true) → ⊥) done
-      → (y : Reference) → Known g Sound done y → link g k q ≢ y
+      → (y : Reference) → Known g Sound done y → edge g k q ≢ y
   follows_apart lawful q k s sound live apart y (inl e) same = lawful.only_top q k (front_reached s) sound live (same ∙ e)
   follows_apart lawful q k s sound live apart y (inr f) same =
       let there = has_of (Reached g Sound) done f.source f.among (every_left (Reached g Sound) done (q ∷ ws) s.reached) in
@@ -105,11 +105,11 @@ module _ {g : References} {Sound : Reference → Type 0} {done ws : List Referen
 
   unlike : AreLawful g Sound → (q : Reference) (k : Bool) → Seen g Sound done (q ∷ ws) → Sound q
       → Every (λ z. Sound z → g.target q ≡ g.target z → (k ≡ true) ⊎ (g.chained ≡ true) → ⊥) done
-      → IsLive g (link g k q) → Every (λ y. link g k q ≢ y) ((done ++ q ∷ []) ++ ws)
+      → IsLive g (edge g k q) → Every (λ y. edge g k q ≢ y) ((done ++ q ∷ []) ++ ws)
   unlike lawful q k s sound apart live =
-      subst (Every (λ y. link g k q ≢ y)) (moved done ws q) (every_weaker (Known g Sound done) (λ y. link g k q ≢ y) (follows_apart lawful q k s sound live apart) (done ++ q ∷ ws) s.known)
+      subst (Every (λ y. edge g k q ≢ y)) (moved done ws q) (every_weaker (Known g Sound done) (λ y. edge g k q ≢ y) (follows_apart lawful q k s sound live apart) (done ++ q ∷ ws) s.known)
 
-following : {g : References} {Sound : Reference → Type 0} (done : List Reference) (q : Reference) (k : Bool) → Sound q → Follows g Sound (done ++ q ∷ []) (link g k q)
+following : {g : References} {Sound : Reference → Type 0} (done : List Reference) (q : Reference) (k : Bool) → Sound q → Follows g Sound (done ++ q ∷ []) (edge g k q)
 following done q k sound = record { source = q; kind = k; among = newest done q; sound = sound; is = refl }
 
 module _ {g : References} {Sound : Reference → Type 0} {done ws : List Reference} where
@@ -143,4 +143,4 @@ all_done {g} {Sound} {done} s c x (more {x = z} reached sound k e live) =
     let here = all_done s c z reached in
     let closed = has_of (Closed g Sound (done ++ [])) done z here c in
     let there = closed sound k (subst (IsLive g) (sym e) live) in
-    has_weaker (λ y. y ≡ link g k z) (λ y. y ≡ x) (λ y i. i ∙ e) done (subst (Has (λ y. y ≡ link g k z)) (append-nil done) there)
+    has_weaker (λ y. y ≡ edge g k z) (λ y. y ≡ x) (λ y i. i ∙ e) done (subst (Has (λ y. y ≡ edge g k z)) (append-nil done) there)

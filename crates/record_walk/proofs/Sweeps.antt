@@ -3,7 +3,7 @@ use Rattle.std.proofs.Common.{◌≡◌, ℕ, ◌+◌, ◌<◌, ◌≤◌, List,
 use Rattle.std.proofs.lemmas.Bool.Decides.{leb_tells}
 use Rattle.std.proofs.lemmas.List.{take_more}
 use Rattle.std.specs.Prelude.{IsSomeAnd}
-use Rattle.record_walk.specs.declared.reference.Fault.{Fault}
+use Rattle.rom_faults.specs.declared.fault.Fault.{Fault}
 use Rattle.record_walk.specs.declared.reference.Row.{Row}
 use Rattle.record_walk.specs.Faults.{IsLeast}
 use Rattle.record_walk.specs.Sweep.{IsLeastRowFault, StandsAtRow, lesser_of}

@@ -5,11 +5,11 @@ use Rattle.std.proofs.lemmas.Bool.{false≢true}
 use Rattle.std.proofs.lemmas.List.Elements.{All-from_recursion}
 use Rattle.std.specs.List.{AllByRecursion as Every, All, AllPairs}
 use Rattle.record_walk.specs.declared.reference.Reference.{Reference}
-use Rattle.record_walk.specs.declared.reference.Fault.{Fault}
+use Rattle.rom_faults.specs.declared.fault.Fault.{Fault}
 use Rattle.record_walk.specs.declared.reference.Row.{Row}
-use Rattle.record_walk.specs.declared.walk.Pending.{Pending}
+use Rattle.record_walk.specs.declared.traversal.Pending.{Pending}
 use Rattle.record_walk.specs.Members.{Has}
-use Rattle.record_walk.specs.References.{References, link, IsLive, Reached, top, AreLawful}
+use Rattle.record_walk.specs.References.{References, edge, IsLive, Reached, top, AreLawful}
 use Rattle.record_walk.specs.Forest.{Forest, all_rows, IsForest}
 use Rattle.record_walk.specs.Faults.{TooMany, HasFault, Twice, IsLeast, IsLeastFault}
 use Rattle.record_walk.specs.Lesser.{lesser, lesser_fault}
@@ -22,7 +22,7 @@ use Rattle.record_walk.proofs.Grows.{link_to, row_of, own_of, after_of, below_ro
 -- `done` is what was looked at, which the code need not hold.
 pub record Whole (g : References) (Sound : Reference → Type 0) (Faulty : Reference → Fault → Type 0) (most : ℕ) (found : List Row) (pending : List Pending) (count : ℕ) (noted : Option Fault) (twice : Option ℕ) : Type 0 where
   pub done : List Reference
-  pub linked : Every (λ (q : Pending). q.link.target ≡ g.target q.link.reference) pending
+  pub linked : Every (λ (q : Pending). q.edge.target ≡ g.target q.edge.reference) pending
   pub seen : Seen g Sound done (waiting pending)
   pub closed : Every (Closed g Sound (done ++ waiting pending)) done
   pub rows : Found g Sound found done
@@ -35,9 +35,9 @@ pub record Whole (g : References) (Sound : Reference → Type 0) (Faulty : Refer
 
 module _ {g : References} {Sound : Reference → Type 0} {Faulty : Reference → Fault → Type 0} {most count : ℕ} {found : List Row} {qs : List Pending} {noted : Option Fault} {twice : Option ℕ} {q : Pending} where
   -- a reference that leads nowhere
-  pub whole_none : Whole g Sound Faulty most found (q ∷ qs) count noted twice → q.link.target ≡ None → Whole g Sound Faulty most found qs count noted twice
+  pub whole_none : Whole g Sound Faulty most found (q ∷ qs) count noted twice → q.edge.target ≡ None → Whole g Sound Faulty most found qs count noted twice
   whole_none w e =
-      let is : waiting (q ∷ qs) ≡ waiting qs = ap (λ (t : Option ℕ). keep t q.link.reference (waiting qs)) e in
+      let is : waiting (q ∷ qs) ≡ waiting qs = ap (λ (t : Option ℕ). keep t q.edge.reference (waiting qs)) e in
       record {
         done = w.done;
         linked = w.linked.1;
@@ -53,26 +53,26 @@ module _ {g : References} {Sound : Reference → Type 0} {Faulty : Reference →
       }
 
   -- the reference that is in front
-  front : Whole g Sound Faulty most found (q ∷ qs) count noted twice → (p : ℕ) → q.link.target ≡ Some p → waiting (q ∷ qs) ≡ q.link.reference ∷ waiting qs
-  front w p e = ap (λ (t : Option ℕ). keep t q.link.reference (waiting qs)) e
+  front : Whole g Sound Faulty most found (q ∷ qs) count noted twice → (p : ℕ) → q.edge.target ≡ Some p → waiting (q ∷ qs) ≡ q.edge.reference ∷ waiting qs
+  front w p e = ap (λ (t : Option ℕ). keep t q.edge.reference (waiting qs)) e
 
-  front_seen : (w : Whole g Sound Faulty most found (q ∷ qs) count noted twice) (p : ℕ) → q.link.target ≡ Some p → Seen g Sound w.done (q.link.reference ∷ waiting qs)
+  front_seen : (w : Whole g Sound Faulty most found (q ∷ qs) count noted twice) (p : ℕ) → q.edge.target ≡ Some p → Seen g Sound w.done (q.edge.reference ∷ waiting qs)
   front_seen w p e = subst (Seen g Sound w.done) (front w p e) w.seen
 
-  front_closed : (w : Whole g Sound Faulty most found (q ∷ qs) count noted twice) (p : ℕ) → q.link.target ≡ Some p → Every (Closed g Sound (w.done ++ q.link.reference ∷ waiting qs)) w.done
+  front_closed : (w : Whole g Sound Faulty most found (q ∷ qs) count noted twice) (p : ℕ) → q.edge.target ≡ Some p → Every (Closed g Sound (w.done ++ q.edge.reference ∷ waiting qs)) w.done
   front_closed w p e = subst (λ ws. Every (Closed g Sound (w.done ++ ws)) w.done) (front w p e) w.closed
 
-  pub whole_leads : Whole g Sound Faulty most found (q ∷ qs) count noted twice → (p : ℕ) → q.link.target ≡ Some p → g.target q.link.reference ≡ Some p
+  pub whole_leads : Whole g Sound Faulty most found (q ∷ qs) count noted twice → (p : ℕ) → q.edge.target ≡ Some p → g.target q.edge.reference ≡ Some p
   whole_leads w p e = sym w.linked.0 ∙ e
 
-  pub whole_reached : Whole g Sound Faulty most found (q ∷ qs) count noted twice → (p : ℕ) → q.link.target ≡ Some p → Reached g Sound q.link.reference
+  pub whole_reached : Whole g Sound Faulty most found (q ∷ qs) count noted twice → (p : ℕ) → q.edge.target ≡ Some p → Reached g Sound q.edge.reference
   whole_reached w p e = front_reached (front_seen w p e)
 
   -- one reference too many
-  pub whole_many : Whole g Sound Faulty most found (q ∷ qs) count noted twice → (p : ℕ) → q.link.target ≡ Some p → count ≡ most → TooMany g Sound most
+  pub whole_many : Whole g Sound Faulty most found (q ∷ qs) count noted twice → (p : ℕ) → q.edge.target ≡ Some p → count ≡ most → TooMany g Sound most
   whole_many w p e full =
       let s = seen_moved (front_seen w p e) in
-      let xs : List Reference = w.done ++ q.link.reference ∷ [] in
+      let xs : List Reference = w.done ++ q.edge.reference ∷ [] in
       let counted = w.counted in (
         xs,
         pairs_left (λ x y. x ≢ y) xs (waiting qs) s.differ,
@@ -81,14 +81,14 @@ module _ {g : References} {Sound : Reference → Type 0} {Faulty : Reference →
       )
 
   -- two references lead to one record
-  pub whole_twice_here : Whole g Sound Faulty most found (q ∷ qs) count noted twice → (p : ℕ) → q.link.target ≡ Some p → Has (At p) found → Twice g Sound p
+  pub whole_twice_here : Whole g Sound Faulty most found (q ∷ qs) count noted twice → (p : ℕ) → q.edge.target ≡ Some p → Has (At p) found → Twice g Sound p
   whole_twice_here w p e old = twice_here p (front_seen w p e) w.rows (whole_leads w p e) old
 
   -- the record is not sound
-  pub whole_faulty : (fault : Fault) → Whole g Sound Faulty most found (q ∷ qs) count noted twice → (p : ℕ) → q.link.target ≡ Some p → count ≢ most
-      → (Sound q.link.reference → ⊥) → IsLeastFault (Faulty q.link.reference) fault → Whole g Sound Faulty most found qs (count + 1) (lesser_fault noted fault) twice
+  pub whole_faulty : (fault : Fault) → Whole g Sound Faulty most found (q ∷ qs) count noted twice → (p : ℕ) → q.edge.target ≡ Some p → count ≢ most
+      → (Sound q.edge.reference → ⊥) → IsLeastFault (Faulty q.edge.reference) fault → Whole g Sound Faulty most found qs (count + 1) (lesser_fault noted fault) twice
   whole_faulty fault w p e room bad least =
-      let x = q.link.reference in
+      let x = q.edge.reference in
       let s = front_seen w p e in
       let m = moved w.done (waiting qs) x in
       let counted = w.counted in
@@ -110,10 +110,10 @@ module _ {g : References} {Sound : Reference → Type 0} {Faulty : Reference →
       }
 
   -- the record was found, and what comes after it was seen with the first reference
-  pub whole_again : AreLawful g Sound → g.chained ≡ true → Whole g Sound Faulty most found (q ∷ qs) count noted twice → (p : ℕ) → q.link.target ≡ Some p → count ≢ most
-      → Sound q.link.reference → ((d : Fault) → Faulty q.link.reference d → ⊥) → Has (At p) found → Whole g Sound Faulty most found qs (count + 1) noted (lesser twice p)
+  pub whole_again : AreLawful g Sound → g.chained ≡ true → Whole g Sound Faulty most found (q ∷ qs) count noted twice → (p : ℕ) → q.edge.target ≡ Some p → count ≢ most
+      → Sound q.edge.reference → ((d : Fault) → Faulty q.edge.reference d → ⊥) → Has (At p) found → Whole g Sound Faulty most found qs (count + 1) noted (lesser twice p)
   whole_again lawful chained w p e room sound faultless old =
-      let x = q.link.reference in
+      let x = q.edge.reference in
       let s = front_seen w p e in
       let leads = whole_leads w p e in
       let reached = front_reached s in
@@ -131,7 +131,7 @@ module _ {g : References} {Sound : Reference → Type 0} {Faulty : Reference →
         linked = w.linked.1;
         seen = seen_moved s;
         closed = every_join (Closed g Sound seen') w.done (x ∷ []) (subst (λ xs. Every (Closed g Sound xs) w.done) m (front_closed w p e))
-            ((λ _ k. elim k as (λ k. IsLive g (link g k x) → Has (λ y. y ≡ link g k x) seen') [ true ↦ (λ live. subst (Has (λ y. y ≡ g.own x)) m (own live)) | false ↦ (λ live. subst (Has (λ y. y ≡ g.after x)) m (after live)) ]), tt);
+            ((λ _ k. elim k as (λ k. IsLive g (edge g k x) → Has (λ y. y ≡ edge g k x) seen') [ true ↦ (λ live. subst (Has (λ y. y ≡ g.own x)) m (own live)) | false ↦ (λ live. subst (Has (λ y. y ≡ g.after x)) m (after live)) ]), tt);
         rows = found_same x w.rows (λ _. leads_again g found x p leads old);
         faults = faults_same x w.faults sound faultless;
         twices = twices_more x p w.twices leads (whole_twice_here w p e old);
@@ -142,11 +142,11 @@ module _ {g : References} {Sound : Reference → Type 0} {Faulty : Reference →
       }
 
   -- the record was found, and what comes after it is another reference than with the first
-  pub whole_beside : AreLawful g Sound → g.chained ≡ false → Whole g Sound Faulty most found (q ∷ qs) count noted twice → (p : ℕ) → q.link.target ≡ Some p → count ≢ most
-      → Sound q.link.reference → ((d : Fault) → Faulty q.link.reference d → ⊥) → Has (At p) found
+  pub whole_beside : AreLawful g Sound → g.chained ≡ false → Whole g Sound Faulty most found (q ∷ qs) count noted twice → (p : ℕ) → q.edge.target ≡ Some p → count ≢ most
+      → Sound q.edge.reference → ((d : Fault) → Faulty q.edge.reference d → ⊥) → Has (At p) found
       → Whole g Sound Faulty most found (after_of g q ∷ qs) (count + 1) noted (lesser twice p)
   whole_beside lawful chained w p e room sound faultless old =
-      let x = q.link.reference in
+      let x = q.edge.reference in
       let y = g.after x in
       let s = front_seen w p e in
       let leads = whole_leads w p e in
@@ -166,8 +166,8 @@ module _ {g : References} {Sound : Reference → Type 0} {Faulty : Reference →
         seen = seen_after lawful x s sound
             (every_all (λ z. Sound z → g.target x ≡ g.target z → (false ≡ true) ⊎ (g.chained ≡ true) → ⊥) (λ z _ _ k. elim k [ inl i ↦ false≢true i | inr i ↦ false≢true (sym chained ∙ i) ]) w.done);
         closed = every_join (Closed g Sound seen') w.done (x ∷ [])
-            (every_weaker (Closed g Sound (w.done ++ x ∷ waiting qs)) (Closed g Sound seen') (λ z c t k live. more_seen (link g k z) (c t k live)) w.done (front_closed w p e)) (
-              (λ _ k. elim k as (λ k. IsLive g (link g k x) → Has (λ y. y ≡ link g k x) seen') [
+            (every_weaker (Closed g Sound (w.done ++ x ∷ waiting qs)) (Closed g Sound seen') (λ z c t k live. more_seen (edge g k z) (c t k live)) w.done (front_closed w p e)) (
+              (λ _ k. elim k as (λ k. IsLive g (edge g k x) → Has (λ y. y ≡ edge g k x) seen') [
                 | true ↦ (λ live. more_seen (g.own x) (own live))
                 | false ↦ (λ live. kept (λ z. z ≡ y) done' (waiting qs) (g.target y) y live refl)
               ]),
@@ -183,11 +183,11 @@ module _ {g : References} {Sound : Reference → Type 0} {Faulty : Reference →
       }
 
   -- the record is sound and new: its own list and what comes after it are still to be looked at
-  pub whole_new : AreLawful g Sound → Whole g Sound Faulty most found (q ∷ qs) count noted twice → (p : ℕ) → q.link.target ≡ Some p → count ≢ most
-      → Sound q.link.reference → ((d : Fault) → Faulty q.link.reference d → ⊥) → (Has (At p) found → ⊥)
+  pub whole_new : AreLawful g Sound → Whole g Sound Faulty most found (q ∷ qs) count noted twice → (p : ℕ) → q.edge.target ≡ Some p → count ≢ most
+      → Sound q.edge.reference → ((d : Fault) → Faulty q.edge.reference d → ⊥) → (Has (At p) found → ⊥)
       → Whole g Sound Faulty most (found ++ row_of q p ∷ []) (own_of g q p ∷ after_of g q ∷ qs) (count + 1) noted twice
   whole_new lawful w p e room sound faultless fresh =
-      let x = q.link.reference in
+      let x = q.edge.reference in
       let s = front_seen w p e in
       let leads = whole_leads w p e in
       let m = moved w.done (waiting qs) x in
@@ -205,8 +205,8 @@ module _ {g : References} {Sound : Reference → Type 0} {Faulty : Reference →
         linked = (refl, (refl, w.linked.1));
         seen = seen_both lawful x s sound apart;
         closed = every_join (Closed g Sound seen') w.done (x ∷ [])
-            (every_weaker (Closed g Sound (w.done ++ x ∷ waiting qs)) (Closed g Sound seen') (λ z c t k live. more_seen (link g k z) (c t k live)) w.done (front_closed w p e)) (
-              (λ _ k. elim k as (λ k. IsLive g (link g k x) → Has (λ y. y ≡ link g k x) seen') [
+            (every_weaker (Closed g Sound (w.done ++ x ∷ waiting qs)) (Closed g Sound seen') (λ z c t k live. more_seen (edge g k z) (c t k live)) w.done (front_closed w p e)) (
+              (λ _ k. elim k as (λ k. IsLive g (edge g k x) → Has (λ y. y ≡ edge g k x) seen') [
                 | true ↦ (λ live. kept (λ z. z ≡ g.own x) done' ws (g.target (g.own x)) (g.own x) live refl)
                 | false ↦ (λ live. has_keep (λ z. z ≡ g.after x) done' ws (g.target (g.own x)) (g.own x) (kept (λ z. z ≡ g.after x) done' (waiting qs) (g.target (g.after x)) (g.after x) live refl))
               ]),
@@ -235,7 +235,7 @@ whole_start {g} {Sound} {Faulty} most r lawful leads sound faultless some =
       linked = (refl, (refl, tt));
       seen = seen_both lawful x start sound tt;
       closed = (
-        (λ _ k. elim k as (λ k. IsLive g (link g k x) → Has (λ y. y ≡ link g k x) seen') [
+        (λ _ k. elim k as (λ k. IsLive g (edge g k x) → Has (λ y. y ≡ edge g k x) seen') [
           | true ↦ (λ live. kept (λ z. z ≡ g.own x) (x ∷ []) ws (g.target (g.own x)) (g.own x) live refl)
           | false ↦ (λ live. has_keep (λ z. z ≡ g.after x) (x ∷ []) ws (g.target (g.own x)) (g.own x) (kept (λ z. z ≡ g.after x) (x ∷ []) [] (g.target (g.after x)) (g.after x) live refl))
         ]),

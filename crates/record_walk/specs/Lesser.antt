@@ -1,6 +1,6 @@
 -- The lesser of what a walk has noted and what it meets.
 use Rattle.std.specs.Prelude.{ℕ, Option, None, Some, nat_lt, nat_le, ◌==◌, ◌||◌, ◌&&◌, if◌then◌else◌}
-use Rattle.record_walk.specs.declared.reference.Fault.{Fault}
+use Rattle.rom_faults.specs.declared.fault.Fault.{Fault}
 
 -- the lesser of a number, if there is one, and q
 abbrev pub lesser : Option ℕ → ℕ → Option ℕ

@@ -3,7 +3,9 @@ pub mod References
 pub mod Forest
 pub mod Faults
 pub mod Lesser
-pub mod Walk
+pub mod Traversal
 pub mod Table
 pub mod Sweep
 pub mod Answers
+pub mod Listed
+pub mod Known

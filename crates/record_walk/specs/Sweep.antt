@@ -1,6 +1,6 @@
 -- A sweep over the rows of a forest, which notes the fault at the least offset.
 use Rattle.std.specs.Prelude.{◌≡◌, ℕ, ◌≤◌, List, ◌∷◌, ◌++◌, Option, None, Some, IfSome, IsSomeAnd, nat_le, if◌then◌else◌}
-use Rattle.record_walk.specs.declared.reference.Fault.{Fault}
+use Rattle.rom_faults.specs.declared.fault.Fault.{Fault}
 use Rattle.record_walk.specs.declared.reference.Row.{Row}
 use Rattle.record_walk.specs.Faults.{IsLeast}
 

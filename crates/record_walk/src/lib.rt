@@ -8,10 +8,12 @@
 #![tactic(auto)]
 
 pub mod answer;
+pub mod known;
 pub mod laws;
+pub mod listed;
 pub mod records;
 pub mod reference;
 pub mod sweep;
 #[cfg(test)]
 mod tests;
-pub mod walk;
+pub mod traversal;

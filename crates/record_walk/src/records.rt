@@ -1,11 +1,14 @@
 //! The records of an image as a walk sees them.
 ghost use Rattle.std.specs.Prelude.{◌≡◌, ℕ, Option, Some, IfOk, IfErr};
 ghost use Rattle.record_walk.specs.declared.reference.Reference.{Reference};
-ghost use Rattle.record_walk.specs.declared.reference.Fault.{Fault};
+ghost use Rattle.rom_faults.specs.declared.fault.Fault.{Fault};
 ghost use Rattle.record_walk.specs.References.{References, Reached};
 ghost use Rattle.record_walk.specs.Faults.{IsLeastFault};
+ghost use Rattle.record_walk.specs.Known.{AreKnown};
 
-use crate::reference::{Fault, Link, Links, Reference};
+use crate::known::Known;
+use crate::reference::{Edge, Edges, Reference};
+use rom_faults::Fault;
 
 /// The records of an image, by the references between them.
 pub trait Records {
@@ -18,8 +21,11 @@ pub trait Records {
     // The record that the reference leads to has this fault.
     ghost faulty: { Self → Reference → Fault → Type 0 };
 
+    // What is so of a number that is known. What the numbers count is each format's own.
+    ghost well: { Self → ℕ → Type 0 };
+
     /// The superblock's reference to the root.
-    fn top(&self) -> Link
+    fn top(&self) -> Edge
         ensures reference { result.reference ≡ (references self.now).top }
         ensures target { result.target ≡ (references self.now).target result.reference };
 
@@ -28,10 +34,13 @@ pub trait Records {
     fn is_chained(&self) -> bool
         ensures { result ≡ (references self.now).chained };
 
-    /// What follows from a reached reference to the record at `at`, or the record's least fault.
-    fn links(&self, x: Reference, at: u32) -> Result<Links, Fault>
+    /// What follows from a reached reference to the record at `at`, or the record's least fault. It
+    /// may note in `known` what it looked at.
+    fn edges(&self, known: &mut Known, x: Reference, at: u32) -> Result<Edges, Fault>
+        requires known { AreKnown (well self.now) known.old }
         requires reached { Reached (references self.now) (sound self.now) x }
         requires target { (references self.now).target x ≡ Some at }
+        ensures known { AreKnown (well self.now) known.new }
         ensures ok { IfOk result (λ n. sound self.now x) }
         ensures faultless { IfOk result (λ n. (e : Fault) → faulty self.now x e → ⊥) }
         ensures own { IfOk result (λ n. n.own.reference ≡ (references self.now).own x) }

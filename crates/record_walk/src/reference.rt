@@ -12,7 +12,7 @@ pub struct Reference {
 /// A reference with the offset of the record that it leads to, `None` where it leads to none, as
 /// after the last record of a list.
 #[derive(Clone, Copy, Debug)]
-pub struct Link {
+pub struct Edge {
     pub reference: Reference,
     pub target: Option<u32>,
 }
@@ -20,16 +20,9 @@ pub struct Link {
 /// What follows from a reference to a sound record: the first record in that record's own list,
 /// and the record after it in the list that it stands in.
 #[derive(Clone, Copy, Debug)]
-pub struct Links {
-    pub own: Link,
-    pub after: Link,
-}
-
-/// A fault of a record: its number, and the offset at which it stands.
-#[derive(Clone, Copy, Debug, PartialEq, Eq)]
-pub struct Fault {
-    pub number: u32,
-    pub at: u32,
+pub struct Edges {
+    pub own: Edge,
+    pub after: Edge,
 }
 
 /// A record that a walk met: its offset, the reference that led there, the directory in whose

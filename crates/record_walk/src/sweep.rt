@@ -2,7 +2,7 @@
 ghost use Rattle.std.specs.Prelude.{◌≡◌};
 ghost use Rattle.record_walk.specs.Sweep.{lesser_of};
 
-use crate::reference::Fault;
+use rom_faults::Fault;
 
 /// The one of the lesser offset; the noted one where both stand at one.
 pub fn lesser(noted: Option<Fault>, fault: Fault) -> Option<Fault>

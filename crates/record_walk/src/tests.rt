@@ -1,11 +1,13 @@
 ghost use Rattle.std.specs.Prelude.{◌≡◌, Some};
 ghost use Rattle.record_walk.specs.Table.{offset, table_references, table_sound, table_faulty};
 
+use crate::known::Known;
 use crate::records::Records;
-use crate::reference::{Fault, Link, Links, Reference, Row};
+use crate::reference::{Edge, Edges, Reference, Row};
+use rom_faults::Fault;
 use crate::sweep::lesser;
-use crate::walk::{WalkError, walk};
-use rom_tree::types::CheckError;
+use crate::traversal::{TraversalError, traverse};
+use rom_faults::CheckError;
 use std::alloc::Global;
 use std::test::Fail;
 
@@ -30,8 +32,10 @@ impl Records for Table {
 
     ghost faulty = { λ s. table_faulty s.own s.after };
 
-    fn top(&self) -> Link {
-        Link {
+    ghost well = { λ _ _. Unit {0} };
+
+    fn top(&self) -> Edge {
+        Edge {
             reference: Reference {
                 source: 0,
                 which: 0,
@@ -44,7 +48,7 @@ impl Records for Table {
         true
     }
 
-    fn links(&self, _: Reference, at: u32) -> Result<Links, Fault> {
+    fn edges(&self, _: &mut Known, _: Reference, at: u32) -> Result<Edges, Fault> {
         if at >= 8 {
             return Err(Fault { number: 1, at });
         }
@@ -56,12 +60,12 @@ impl Records for Table {
             source: at,
             which: 2,
         };
-        Ok(Links {
-            own: Link {
+        Ok(Edges {
+            own: Edge {
                 reference: own,
                 target: offset_of(self.own[at as usize]),
             },
-            after: Link {
+            after: Edge {
                 reference: after,
                 target: offset_of(self.after[at as usize]),
             },
@@ -69,18 +73,18 @@ impl Records for Table {
     }
 }
 
-fn walk_table(
+fn traverse_table(
     alloc: Global,
     own: [u32; 8],
     after: [u32; 8],
     most: u32,
-) -> Result<Vec<Row>, WalkError> {
-    walk(alloc, &Table { own, after }, most)
+) -> Result<Vec<Row>, TraversalError> {
+    traverse(alloc, &Table { own, after }, most)
 }
 
 #[test]
 fn a_tree_in_preorder(rt: HostRuntime) -> Result<(), Fail> {
-    let rows = walk_table(
+    let rows = traverse_table(
         rt.alloc(),
         [0, 2, 4, 0, 0, 0, 0, 0],
         [0, 5, 3, 0, 0, 0, 0, 0],
@@ -102,45 +106,45 @@ fn a_tree_in_preorder(rt: HostRuntime) -> Result<(), Fail> {
 #[test]
 fn more_than_the_limit(rt: HostRuntime) -> Result<(), Fail> {
     for most in [0, 1, 2] {
-        let walked = walk_table(
+        let walked = traverse_table(
             rt.alloc(),
             [0, 2, 9, 0, 0, 0, 0, 0],
             [0, 0, 0, 0, 0, 0, 0, 0],
             most,
         );
-        assert!(rt; matches!(walked, Err(WalkError::TooMany)), "at {most}");
+        assert!(rt; matches!(walked, Err(TraversalError::TooMany)), "at {most}");
     }
     Ok(())
 }
 
 #[test]
 fn the_least_fault(rt: HostRuntime) -> Result<(), Fail> {
-    let walked = walk_table(
+    let walked = traverse_table(
         rt.alloc(),
         [0, 2, 9, 8, 1, 0, 0, 0],
         [0, 0, 3, 4, 0, 0, 0, 0],
         100,
     );
-    assert!(rt; matches!(walked, Err(WalkError::Record(Fault { number: 1, at: 8 }))));
+    assert!(rt; matches!(walked, Err(TraversalError::Record(Fault { number: 1, at: 8 }))));
     Ok(())
 }
 
 #[test]
 fn the_least_record_with_two_references(rt: HostRuntime) -> Result<(), Fail> {
-    let walked = walk_table(
+    let walked = traverse_table(
         rt.alloc(),
         [0, 2, 3, 3, 1, 0, 0, 0],
         [0, 0, 4, 0, 0, 0, 0, 0],
         100,
     );
-    assert!(rt; matches!(walked, Err(WalkError::Twice(1))));
-    let walked = walk_table(
+    assert!(rt; matches!(walked, Err(TraversalError::Twice(1))));
+    let walked = traverse_table(
         rt.alloc(),
         [0, 2, 3, 3, 4, 0, 0, 0],
         [0, 0, 4, 0, 0, 0, 0, 0],
         100,
     );
-    assert!(rt; matches!(walked, Err(WalkError::Twice(3))));
+    assert!(rt; matches!(walked, Err(TraversalError::Twice(3))));
     Ok(())
 }
 
@@ -165,19 +169,19 @@ fn refusals_as_answers(rt: HostRuntime) -> Result<(), Fail> {
     );
     assert!(rt;
         matches!(
-            CheckError::from(WalkError::TooMany),
+            CheckError::from(TraversalError::TooMany),
             CheckError::Fault { number: 1, at: 0 }
         )
     );
     assert!(rt;
         matches!(
-            CheckError::from(WalkError::Record(fault)),
+            CheckError::from(TraversalError::Record(fault)),
             CheckError::Fault { number: 12, at: 96 }
         )
     );
     assert!(rt;
         matches!(
-            CheckError::from(WalkError::Twice(160)),
+            CheckError::from(TraversalError::Twice(160)),
             CheckError::Fault {
                 number: 20,
                 at: 160
@@ -186,7 +190,7 @@ fn refusals_as_answers(rt: HostRuntime) -> Result<(), Fail> {
     );
     assert!(rt;
         matches!(
-            CheckError::from(WalkError::OutOfMemory),
+            CheckError::from(TraversalError::OutOfMemory),
             CheckError::OutOfMemory
         )
     );

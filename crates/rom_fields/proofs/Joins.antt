@@ -4,7 +4,7 @@ use Rattle.std.proofs.Math.Seq.{take-add}
 use Rattle.std.proofs.lemmas.List.{take_rest}
 use Rattle.std.specs.Io.KnownBytes.{Appends, Keeps}
 use Rattle.rom_fields.specs.Failures.{Rose, Counts}
-use Rattle.rom_fields.specs.Written.{AppendsFront, WritesText, Sink, sink, Said, Counted, Puts}
+use Rattle.rom_fields.specs.Written.{AppendsFront, WritesText, Output, Sink, sink, Said, Counted, Puts}
 
 pub appends_none : (a : Option (List ℕ)) → Appends a a []
 appends_none None = search rules
@@ -74,25 +74,25 @@ puts_then r s t a b h k = record {
   counted = λ start v. k.counted start (h.counted start v);
 }
 
-pub puts_to_failed : (t : Option (List ℕ)) (n : ℕ) (b : List ℕ) → Puts (sink t n true) (sink t n true) b
+pub puts_to_failed : (o : Output) (b : List ℕ) → Puts (sink o true) (sink o true) b
 unfolding Said Counted
-puts_to_failed t n b = record {
-  said = λ start all v. front_first start t all b v;
+puts_to_failed o b = record {
+  said = λ start all v. front_first start o.contents all b v;
   counted = λ start v. v;
 }
 
-pub puts_ok : (t u : Option (List ℕ)) (n m : ℕ) (b : List ℕ) → Appends t u b → m ≡ n → Puts (sink t n false) (sink u m false) b
+pub puts_ok : (o p : Output) (b : List ℕ) → Appends o.contents p.contents b → p.failures ≡ o.failures → Puts (sink o false) (sink p false) b
 unfolding Said Counted
-puts_ok t u n m b h e = record {
-  said = λ start all v. appends_join start t u all b v h;
+puts_ok o p b h e = record {
+  said = λ start all v. appends_join start o.contents p.contents all b v h;
   counted = λ start v. e ∙ v;
 }
 
-pub puts_err : (t u : Option (List ℕ)) (n m : ℕ) (b : List ℕ) → AppendsFront t u b → Rose n m → Puts (sink t n false) (sink u m true) b
+pub puts_err : (o p : Output) (b : List ℕ) → AppendsFront o.contents p.contents b → Rose o.failures p.failures → Puts (sink o false) (sink p true) b
 unfolding Said Counted
-puts_err t u n m b h e = record {
-  said = λ start all v. front_after start t u all b v h;
-  counted = λ start v. rose_after start n m v e;
+puts_err o p b h e = record {
+  said = λ start all v. front_after start o.contents p.contents all b v h;
+  counted = λ start v. rose_after start o.failures p.failures v e;
 }
 
 -- one text after the other
@@ -100,14 +100,14 @@ pub chain : {r s t : Sink} {a b : List ℕ} → Puts r s a → Puts s t b → Pu
 chain {r} {s} {t} {a} {b} h k = puts_then r s t a b h k
 
 -- what was put into a sink that had not failed
-pub said_ok : (t u : Option (List ℕ)) (n k : ℕ) (f : Bool) (text : List ℕ) → f ≡ false → Puts (sink t n false) (sink u k f) text → Appends t u text
+pub said_ok : (o p : Output) (f : Bool) (text : List ℕ) → f ≡ false → Puts (sink o false) (sink p f) text → Appends o.contents p.contents text
 unfolding Said
-said_ok t u n k f text e p = let P : Bool → Type 0 = λ v. Said t (sink u k v) text in let q : Said t (sink u k false) text = subst P e (p.said t [] (appends_none t)) in q
+said_ok o p f text e h = let P : Bool → Type 0 = λ v. Said o.contents (sink p v) text in let q : Said o.contents (sink p false) text = subst P e (h.said o.contents [] (appends_none o.contents)) in q
 
-pub said_front : (t u : Option (List ℕ)) (n k : ℕ) (f : Bool) (text : List ℕ) → f ≡ true → Puts (sink t n false) (sink u k f) text → AppendsFront t u text
+pub said_front : (o p : Output) (f : Bool) (text : List ℕ) → f ≡ true → Puts (sink o false) (sink p f) text → AppendsFront o.contents p.contents text
 unfolding Said
-said_front t u n k f text e p = let P : Bool → Type 0 = λ v. Said t (sink u k v) text in let q : Said t (sink u k true) text = subst P e (p.said t [] (appends_none t)) in q
+said_front o p f text e h = let P : Bool → Type 0 = λ v. Said o.contents (sink p v) text in let q : Said o.contents (sink p true) text = subst P e (h.said o.contents [] (appends_none o.contents)) in q
 
-pub said_rose : (t u : Option (List ℕ)) (n k : ℕ) (f : Bool) (text : List ℕ) → f ≡ true → Puts (sink t n false) (sink u k f) text → Rose n k
+pub said_rose : (o p : Output) (f : Bool) (text : List ℕ) → f ≡ true → Puts (sink o false) (sink p f) text → Rose o.failures p.failures
 unfolding Counted
-said_rose t u n k f text e p = let P : Bool → Type 0 = λ v. Counted n (sink u k v) in let q : Counted n (sink u k true) = subst P e (p.counted n refl) in q
+said_rose o p f text e h = let P : Bool → Type 0 = λ v. Counted o.failures (sink p v) in let q : Counted o.failures (sink p true) = subst P e (h.counted o.failures refl) in q

@@ -1,5 +1,5 @@
 -- Extents: runs of bytes, each with what it belongs to, and the places where two of them overlap.
-use Rattle.std.specs.Prelude.{◌≡◌, ℕ, zero, suc, nat_lt, if◌then◌else◌, None, Some, ◌+◌, ◌<◌, ◌≤◌, ◌⊎◌, max, Bool, true, false, List, [], ◌∷◌, Option, IfSome, IsSomeAnd}
+use Rattle.std.specs.Prelude.{◌≡◌, ℕ, zero, suc, ◌+◌, ◌<◌, ◌≤◌, ◌⊎◌, max, Bool, true, false, List, [], ◌∷◌, Option, IfSome, IsSomeAnd}
 use Rattle.rom_fields.specs.declared.span.Extent.{Extent}
 use Rattle.rom_fields.specs.declared.span.Extent.TheVariants.{Super, Record, List as ListOf, Table, Data}
 use Rattle.rom_fields.specs.declared.span.Span.{Span}
@@ -50,8 +50,3 @@ pub record IsLeastOf (P : ℕ → Type 0) (o : Option ℕ) : Type 0 where
 abbrev pub added : Extent → ℕ → ℕ → List Span
 added kind start zero = []
 added kind start (suc n) = record { kind = kind; start = start; len = suc n } ∷ []
-
--- the lesser of a noted number, if there is one, and q
-abbrev pub lesser_of : Option ℕ → ℕ → Option ℕ
-lesser_of None q = Some q
-lesser_of (Some p) q = Some (if nat_lt p q then p else q)

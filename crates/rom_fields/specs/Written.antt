@@ -11,23 +11,29 @@ AppendsFront old new text = (front : List ℕ) × (rest : List ℕ) × Appends o
 abbrev pub WritesText : {T E : Type 0} → Option (List ℕ) → Option (List ℕ) → Result T E → List ℕ → Type 0
 WritesText old new r text = MatchResult r (λ _. Appends old new text) (λ _. AppendsFront old new text)
 
--- A writer that is not written to any more once it failed: its bytes, where it tells them, its count of
--- failures, and whether it failed.
-pub record Sink : Type 0 where
-  pub told : Option (List ℕ)
+-- What is known of a writer: the bytes that it holds, where it tells them, and how many of its writes and flushes failed.
+pub record Output : Type 0 where
+  pub contents : Option (List ℕ)
   pub failures : ℕ
+
+abbrev pub output_of : Option (List ℕ) → ℕ → Output
+output_of contents failures = record { contents = contents; failures = failures }
+
+-- A writer that is not written to any more once it failed, and whether it failed.
+pub record Sink : Type 0 where
+  pub output : Output
   pub failed : Bool
 
-abbrev pub sink : Option (List ℕ) → ℕ → Bool → Sink
-sink t n f = record { told = t; failures = n; failed = f }
+abbrev pub sink : Output → Bool → Sink
+sink o f = record { output = o; failed = f }
 
 -- all of the text was appended since, or a front of it where the sink failed
 unfoldable pub Said : Option (List ℕ) → Sink → List ℕ → Type 0
-Said start s all = MatchBool s.failed (AppendsFront start s.told all) (Appends start s.told all)
+Said start s all = MatchBool s.failed (AppendsFront start s.output.contents all) (Appends start s.output.contents all)
 
 -- failures were counted since exactly where the sink failed
 unfoldable pub Counted : ℕ → Sink → Type 0
-Counted start s = MatchBool s.failed (Rose start s.failures) (s.failures ≡ start)
+Counted start s = MatchBool s.failed (Rose start s.output.failures) (s.output.failures ≡ start)
 
 -- The text was put into the sink: whatever was said before is now said with the text after it.
 pub record Puts (s t : Sink) (text : List ℕ) : Type 0 where

@@ -1,7 +1,9 @@
+//! Readers and writers that count their failures.
 ghost use Rattle.std.specs.Prelude.{◌≡◌, ℕ, List, Option, length};
 ghost use Rattle.std.specs.Io.{ReadsAtMost, WritesAtMost};
 ghost use Rattle.std.specs.Io.KnownBytes.{Keeps, ReadConsumes, WriteAppends};
 ghost use Rattle.rom_fields.specs.Failures.{after_read, after_write};
+ghost use Rattle.rom_fields.specs.Written.{Output, output_of};
 
 use std::io::{Read, Write};
 
@@ -17,6 +19,7 @@ pub trait ByteRead {
     // How many reads failed, up to 2^64 - 1.
     ghost failures: { Self → ℕ };
 
+    /// Puts the next bytes into a front of `buf`, and says how many; none at the end.
     fn read(&mut self, buf: &mut [u8]) -> Result<usize, Failed>
         ensures bound { ReadsAtMost result buf.new }
         ensures bytes { ReadConsumes (remaining self.old) (remaining self.new) result buf.new }
@@ -26,20 +29,20 @@ pub trait ByteRead {
 /// A writer whose failed writes and flushes are counted, among them each write that took
 /// none of some bytes.
 pub trait ByteWrite {
-    // The bytes that the writer holds, where they are known.
-    ghost told: { Self → Option (List ℕ) };
+    // The bytes that the writer holds, where they are known, and how many of its writes and flushes
+    // failed, up to 2^64 - 1.
+    ghost output: { Self → Output };
 
-    // How many writes and flushes failed, up to 2^64 - 1.
-    ghost failures: { Self → ℕ };
-
+    /// Takes a front of the bytes, and says how many.
     fn write(&mut self, b: &[u8]) -> Result<usize, Failed>
         ensures bound { WritesAtMost result b.now }
-        ensures bytes { WriteAppends (told self.old) (told self.new) result b.now }
-        ensures count { failures self.new ≡ after_write (failures self.old) (length b.now) result };
+        ensures bytes { WriteAppends (output self.old).contents (output self.new).contents result b.now }
+        ensures count { (output self.new).failures ≡ after_write (output self.old).failures (length b.now) result };
 
+    /// Hands on what was taken and is still held back.
     fn flush(&mut self) -> Result<(), Failed>
-        ensures bytes { Keeps (told self.old) (told self.new) }
-        ensures count { failures self.new ≡ after_read (failures self.old) result };
+        ensures bytes { Keeps (output self.old).contents (output self.new).contents }
+        ensures count { (output self.new).failures ≡ after_read (output self.old).failures result };
 }
 
 /// A reader or a writer of std with a count of its failures.
@@ -50,6 +53,7 @@ pub struct Plain<X> {
 }
 
 impl<X> Plain<X> {
+    /// With no failure counted yet.
     pub fn new(x: X) -> Plain<X>
         ensures inner { result.inner ≡ x }
         ensures failures { result.failures ≡ 0 }
@@ -60,6 +64,14 @@ impl<X> Plain<X> {
         }
     }
 
+    /// How many of its calls failed.
+    pub fn failures(&self) -> u64
+        ensures { result ≡ self.now.failures }
+    {
+        self.failures
+    }
+
+    /// The reader or writer itself.
     pub fn into_inner(self) -> X
         ensures { result ≡ self.inner }
     {
@@ -85,9 +97,7 @@ impl<X: Read> ByteRead for Plain<X> {
 }
 
 impl<X: Write> ByteWrite for Plain<X> {
-    ghost told = { λ s. X.contents s.inner };
-
-    ghost failures = { λ s. s.failures };
+    ghost output = { λ s. output_of (X.contents s.inner) s.failures };
 
     fn write(&mut self, b: &[u8]) -> Result<usize, Failed> {
         match self.inner.write(b) {

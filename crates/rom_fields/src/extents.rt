@@ -1,19 +1,8 @@
 //! The extents of an image: the bytes that its parts take, and the first place where two overlap.
+use crate::memory::OutOfMemory;
 use crate::span::{Extent, Span, least_overlap};
-use std::alloc::{AllocFailed, Global};
+use std::alloc::Global;
 use std::marker::Model;
-use thiserror::Error;
-
-/// A growth was refused.
-#[derive(Clone, Copy, Debug, PartialEq, Eq, Error)]
-#[error("out of memory")]
-pub struct OutOfMemory;
-
-impl<T: Drop> From<AllocFailed<T>> for OutOfMemory {
-    fn from(_: AllocFailed<T>) -> Self {
-        OutOfMemory
-    }
-}
 
 /// A list of extents, none of them empty.
 #[derive(Drop)]

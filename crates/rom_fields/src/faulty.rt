@@ -1,5 +1,9 @@
-ghost use Rattle.std.specs.Prelude.{◌≡◌};
-ghost use Rattle.rom_fields.specs.Failures.{one_more};
+//! Readers and writers that fail after a number of calls, for tests.
+ghost use Rattle.std.specs.Prelude.{◌≡◌, ◌-◌, ◌≤◌, length, IfOk, IsOk, IsErr};
+ghost use Rattle.std.specs.Io.{ReadsAtMost, WritesAtMost};
+ghost use Rattle.std.specs.Io.KnownBytes.{Keeps, ReadConsumes, WriteAppends};
+ghost use Rattle.rom_fields.specs.Failures.{one_more, after_read, after_write};
+ghost use Rattle.rom_fields.specs.Written.{output_of};
 
 use crate::bytes::{ByteRead, ByteWrite, Failed};
 
@@ -14,6 +18,7 @@ pub struct Faulty<X> {
 }
 
 impl<X> Faulty<X> {
+    /// With no call made yet.
     pub fn new(inner: X, calls: u64, most: usize) -> Faulty<X>
         ensures inner { result.inner ≡ inner }
         ensures calls { result.calls ≡ calls }
@@ -28,14 +33,18 @@ impl<X> Faulty<X> {
         }
     }
 
+    /// Counts a failure.
     fn fail(&mut self) -> Failed
         ensures failures { self.new.failures ≡ one_more self.old.failures }
         ensures inner { self.new.inner ≡ self.old.inner }
+        ensures calls { self.new.calls ≡ self.old.calls }
+        ensures most { self.new.most ≡ self.old.most }
     {
         self.failures = self.failures.saturating_add(1);
         Failed
     }
 
+    /// The reader or writer itself.
     pub fn into_inner(self) -> X
         ensures { result ≡ self.inner }
     {
@@ -54,7 +63,15 @@ impl<X: ByteRead> ByteRead for Faulty<X> {
 
     ghost failures = { λ s. s.failures };
 
-    fn read(&mut self, buf: &mut [u8]) -> Result<usize, Failed> {
+    fn read(&mut self, buf: &mut [u8]) -> Result<usize, Failed>
+        ensures bound { ReadsAtMost result buf.new }
+        ensures bytes { ReadConsumes (X.remaining self.old.inner) (X.remaining self.new.inner) result buf.new }
+        ensures count { self.new.failures ≡ after_read self.old.failures result }
+        ensures limit { IfOk result (λ n. n ≤ self.old.most) }
+        ensures spent { self.old.calls ≡ 0 → IsErr result }
+        ensures calls { IsOk result → self.new.calls ≡ self.old.calls - 1 }
+        ensures most { self.new.most ≡ self.old.most }
+    {
         let most = buf.len().min(self.most);
         if self.calls == 0 || (most == 0 && !buf.is_empty()) {
             return Err(self.fail());
@@ -68,11 +85,17 @@ impl<X: ByteRead> ByteRead for Faulty<X> {
 }
 
 impl<X: ByteWrite> ByteWrite for Faulty<X> {
-    ghost told = { λ s. X.told s.inner };
+    ghost output = { λ s. output_of (X.output s.inner).contents s.failures };
 
-    ghost failures = { λ s. s.failures };
-
-    fn write(&mut self, b: &[u8]) -> Result<usize, Failed> {
+    fn write(&mut self, b: &[u8]) -> Result<usize, Failed>
+        ensures bound { WritesAtMost result b.now }
+        ensures bytes { WriteAppends (X.output self.old.inner).contents (X.output self.new.inner).contents result b.now }
+        ensures count { self.new.failures ≡ after_write self.old.failures (length b.now) result }
+        ensures limit { IfOk result (λ n. n ≤ self.old.most) }
+        ensures spent { self.old.calls ≡ 0 → IsErr result }
+        ensures calls { self.new.calls ≡ self.old.calls - 1 }
+        ensures most { self.new.most ≡ self.old.most }
+    {
         let most = b.len().min(self.most);
         if self.calls == 0 {
             return Err(self.fail());
@@ -89,7 +112,13 @@ impl<X: ByteWrite> ByteWrite for Faulty<X> {
         }
     }
 
-    fn flush(&mut self) -> Result<(), Failed> {
+    fn flush(&mut self) -> Result<(), Failed>
+        ensures bytes { Keeps (X.output self.old.inner).contents (X.output self.new.inner).contents }
+        ensures count { self.new.failures ≡ after_read self.old.failures result }
+        ensures spent { self.old.calls ≡ 0 → IsErr result }
+        ensures calls { self.new.calls ≡ self.old.calls - 1 }
+        ensures most { self.new.most ≡ self.old.most }
+    {
         if self.calls == 0 {
             return Err(self.fail());
         }

@@ -10,6 +10,7 @@
 pub mod bytes;
 pub mod extents;
 pub mod faulty;
+pub mod memory;
 pub mod sink;
 pub mod span;
 #[cfg(test)]

@@ -8,8 +8,8 @@ use crate::bytes::{ByteWrite, Failed};
 /// Writes all of the bytes. A write that takes none of them is a failure. After an error a front of
 /// them was written.
 pub fn write_whole<W: ByteWrite>(w: &mut W, b: &[u8]) -> Result<(), Failed>
-    ensures text { WritesText (W.told w.old) (W.told w.new) result b.now }
-    ensures count { Counts (W.failures w.old) (W.failures w.new) result }
+    ensures text { WritesText (W.output w.old).contents (W.output w.new).contents result b.now }
+    ensures count { Counts (W.output w.old).failures (W.output w.new).failures result }
 {
     let mut at = 0;
     while at < b.len() {
@@ -25,7 +25,7 @@ pub fn write_whole<W: ByteWrite>(w: &mut W, b: &[u8]) -> Result<(), Failed>
 /// Writes all of the bytes where nothing failed yet, and notes a failure in `failed`. Texts that
 /// are put one after the other so need no test between them.
 pub fn put<W: ByteWrite>(w: &mut W, failed: &mut bool, b: &[u8])
-    ensures { Puts (sink (W.told w.old) (W.failures w.old) failed.old) (sink (W.told w.new) (W.failures w.new) failed.new) b.now }
+    ensures { Puts (sink (W.output w.old) failed.old) (sink (W.output w.new) failed.new) b.now }
 {
     if *failed {
         return;

@@ -1,7 +1,7 @@
 -- What the check of an image answers, by the trees that its format gives.
 use Rattle.rom_tree.specs.Tree.{Node}
-use Rattle.rom_tree.specs.declared.types.CheckError.{CheckError}
-use Rattle.rom_tree.specs.declared.types.CheckError.TheVariants.{OutOfMemory, Fault}
+use Rattle.rom_faults.specs.declared.error.CheckError.{CheckError}
+use Rattle.rom_faults.specs.declared.error.CheckError.TheVariants.{OutOfMemory, Fault}
 
 -- a fault is answered only where no tree stands
 abbrev pub Refuses : (Node → Type 0) → CheckError → Type 0

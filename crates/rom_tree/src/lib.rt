@@ -13,3 +13,5 @@ pub mod image;
 mod line;
 pub mod list;
 pub mod types;
+
+pub use rom_faults::CheckError;

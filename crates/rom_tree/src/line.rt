@@ -15,8 +15,8 @@ use rom_fields::text::{put_decimal, put_escaped, put_octal};
 
 /// Puts a slash and a name, and nothing for the root.
 fn put_name<'a, W: ByteWrite>(w: &mut W, failed: &mut bool, name: Option<&'a [u8]>)
-    ensures { Puts (sink (W.told w.old) (W.failures w.old) failed.old)
-        (sink (W.told w.new) (W.failures w.new) failed.new) (name_text name.entry) }
+    ensures { Puts (sink (W.output w.old) failed.old)
+        (sink (W.output w.new) failed.new) (name_text name.entry) }
 {
     if let Some(name) = name {
         put(w, failed, b"/");
@@ -26,8 +26,8 @@ fn put_name<'a, W: ByteWrite>(w: &mut W, failed: &mut bool, name: Option<&'a [u8
 
 /// Puts the path of the last of some frames.
 fn put_path<'a, W: ByteWrite>(w: &mut W, failed: &mut bool, frames: &[Frame<'a>])
-    ensures { Puts (sink (W.told w.old) (W.failures w.old) failed.old)
-        (sink (W.told w.new) (W.failures w.new) failed.new) (path_text [] frames.now) }
+    ensures { Puts (sink (W.output w.old) failed.old)
+        (sink (W.output w.new) failed.new) (path_text [] frames.now) }
 {
     for frame in frames {
         put_name(w, failed, frame.name);
@@ -41,8 +41,8 @@ fn put_line_path<'a, W: ByteWrite>(
     frames: &[Frame<'a>],
     name: Option<&'a [u8]>,
 )
-    ensures { Puts (sink (W.told w.old) (W.failures w.old) failed.old)
-        (sink (W.told w.new) (W.failures w.new) failed.new) (line_path frames.now name.entry) }
+    ensures { Puts (sink (W.output w.old) failed.old)
+        (sink (W.output w.new) failed.new) (line_path frames.now name.entry) }
 {
     match name {
         None => put(w, failed, b"/"),
@@ -62,8 +62,8 @@ fn put_target<'a, T: TreeImage<'a>, W: ByteWrite>(
 )
     requires { HasNode (T.image image.now) n.0 }
     ensures { (x : Node) → image_node (T.image image.now) n.0 ≡ Some x
-        → Puts (sink (W.told w.old) (W.failures w.old) failed.old)
-        (sink (W.told w.new) (W.failures w.new) failed.new) (target_text (T.image image.now).bytes x) }
+        → Puts (sink (W.output w.old) failed.old)
+        (sink (W.output w.new) failed.new) (target_text (T.image image.now).bytes x) }
 {
     if is_link_at(image, n) {
         put(w, failed, b" ");
@@ -97,8 +97,8 @@ pub fn put_line<'a, T: TreeImage<'a>, W: ByteWrite>(
 )
     requires { HasNode (T.image image.now) n.0 }
     ensures { (x : Node) → image_node (T.image image.now) n.0 ≡ Some x
-        → Puts (sink (W.told w.old) (W.failures w.old) failed.old)
-        (sink (W.told w.new) (W.failures w.new) failed.new)
+        → Puts (sink (W.output w.old) failed.old)
+        (sink (W.output w.new) failed.new)
         (line (T.image image.now).bytes (line_path frames.now name.entry) x) }
 {
     let stat = image.stat(n);

@@ -25,8 +25,8 @@ fn step<'a, T: TreeImage<'a>, W: ByteWrite>(
     requires frames { AreFrames (T.image image.now) 0 stack.old.items }
     requires some { 0 < array_vec_len stack.old }
     ensures { (text : List ℕ) × Follows (T.image image.now) stack.old.items stack.new.items text
-        × Puts (sink (W.told w.old) (W.failures w.old) failed.old)
-        (sink (W.told w.new) (W.failures w.new) failed.new) text }
+        × Puts (sink (W.output w.old) failed.old)
+        (sink (W.output w.new) failed.new) text }
 {
     if let Some(frame) = stack.pop() {
         if let Some(entry) = image.entry(frame.directory, frame.cursor) {
@@ -66,11 +66,11 @@ fn step<'a, T: TreeImage<'a>, W: ByteWrite>(
 /// `WriteFault` where a write failed. Then a front of the list was written.
 pub fn list<'a, T: TreeImage<'a>, W: ByteWrite>(image: &T, w: &mut W) -> Result<(), ListError>
     requires { levels (T.image image.now).tree ≤ 65 }
-    ensures ok { OnOk result (Appends (W.told w.old) (W.told w.new)
+    ensures ok { OnOk result (Appends (W.output w.old).contents (W.output w.new).contents
         (list_text (T.image image.now).bytes (T.image image.now).tree)) }
-    ensures err { OnErr result (AppendsFront (W.told w.old) (W.told w.new)
+    ensures err { OnErr result (AppendsFront (W.output w.old).contents (W.output w.new).contents
         (list_text (T.image image.now).bytes (T.image image.now).tree)) }
-    ensures fault { OnErr result (Rose (W.failures w.old) (W.failures w.new)) }
+    ensures fault { OnErr result (Rose (W.output w.old).failures (W.output w.new).failures) }
 {
     let mut failed = false;
     let root = image.root();

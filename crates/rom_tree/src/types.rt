@@ -1,7 +1,6 @@
 //! What the calls of an image take and give.
 ghost use Rattle.std.specs.Prelude.{◌≡◌};
 
-use rom_fields::extents::OutOfMemory;
 use thiserror::Error;
 
 /// What a node is.
@@ -92,26 +91,6 @@ impl Limits {
 pub struct Report {
     pub references: u32,
     pub depth: u32,
-}
-
-/// Why an image was not taken. A fault has its number in the list of the format's faults and the
-/// place in the image, in bytes from its front.
-#[derive(Clone, Copy, Debug, PartialEq, Eq, Error)]
-pub enum CheckError {
-    #[error("out of memory")]
-    OutOfMemory,
-    #[error("fault {number} at byte {at}")]
-    Fault { number: u32, at: u32 },
-}
-
-impl From<OutOfMemory> for CheckError {
-    ghost use Rattle.rom_tree.specs.declared.types.CheckError.{CheckError};
-
-    ghost from_gives = { λ _ answer. answer ≡ CheckError.OutOfMemory };
-
-    fn from(_: OutOfMemory) -> CheckError {
-        CheckError::OutOfMemory
-    }
 }
 
 /// Why a list was not written whole.

@@ -3,7 +3,7 @@ use Rattle.std.proofs.Common.{◌≡◌, ◌≢◌, ℕ, ◌<◌, Bool, true, fa
 use Rattle.std.proofs.lemmas.Bool.{ne_eqb}
 use Rattle.std.proofs.lemmas.Bool.Decides.{eqb_tells}
 use Rattle.record_walk.specs.declared.reference.Reference.{Reference}
-use Rattle.record_walk.specs.References.{AreLawful, link, IsLive}
+use Rattle.record_walk.specs.References.{AreLawful, edge, IsLive}
 use Rattle.romfs_format.specs.Refers.{references, offset_of, list_of, following, some_offset, LeadsToSound}
 
 -- the two references of a record
@@ -22,17 +22,17 @@ same_offset p q e = elim (eqb_tells p 0) [
 ]
 
 -- a reference that follows from one to a sound record has that record as its source
-link_source : (b : List ℕ) (r : ℕ) (k : Bool) (x : Reference) → (link (references b r) k x).source ≡ offset_of b r x
+link_source : (b : List ℕ) (r : ℕ) (k : Bool) (x : Reference) → (edge (references b r) k x).source ≡ offset_of b r x
 link_source b r true x = refl
 link_source b r false x = refl
 
 differ : (x y : Reference) → x.which ≡ 0 → y.which ≡ 1 → x ≡ y → ⊥
 differ x y e f g = let z : x.which ≡ y.which = ap (λ (v : Reference). v.which) g in omega arith
 
-which_kind : (b : List ℕ) (r : ℕ) (k l : Bool) (x y : Reference) → link (references b r) k x ≡ link (references b r) l y → k ≡ l
+which_kind : (b : List ℕ) (r : ℕ) (k l : Bool) (x y : Reference) → edge (references b r) k x ≡ edge (references b r) l y → k ≡ l
 which_kind b r true true x y e = refl
-which_kind b r true false x y e = absurd (differ (link (references b r) true x) (link (references b r) false y) refl refl e)
-which_kind b r false true x y e = absurd (differ (link (references b r) true y) (link (references b r) false x) refl refl (sym e))
+which_kind b r true false x y e = absurd (differ (edge (references b r) true x) (edge (references b r) false y) refl refl e)
+which_kind b r false true x y e = absurd (differ (edge (references b r) true y) (edge (references b r) false x) refl refl (sym e))
 which_kind b r false false x y e = refl
 
 top_live : (b : List ℕ) (r : ℕ) → 0 < r → IsLive (references b r) (references b r).top

@@ -5,13 +5,14 @@ use Rattle.rom_fields.specs.declared.span.Extent.TheVariants.{Super, Record, Dat
 use Rattle.rom_fields.specs.declared.span.Span.{Span}
 use Rattle.rom_fields.specs.Extents.{Overlap}
 use Rattle.record_walk.specs.declared.reference.Reference.{Reference}
-use Rattle.record_walk.specs.declared.reference.Fault.{Fault}
+use Rattle.rom_faults.specs.declared.fault.Fault.{Fault}
 use Rattle.record_walk.specs.References.{Reached}
 use Rattle.record_walk.specs.Faults.{TooMany, HasFault, Twice, InList, HasDepth, IsLeastFault, IsNone}
 use Rattle.romfs_format.specs.Record.{name_of, end_of, size_of, type_of, target_of, has_data, IsSound}
 use Rattle.romfs_format.specs.Refers.{references, offset_of, following, heads_itself, LeadsToSound, LeadsToFault}
 use Rattle.romfs_format.specs.Tree.{dot, dot_dot, is_dot, root_of}
 use Rattle.romfs_format.specs.Superblock.{HasImageFault, accessible}
+use Rattle.rom_faults.specs.declared.fault.TheConstants.{TOO_MANY, TWICE, TOO_DEEP, OVERLAP, DUPLICATE_NAME, DOT, HARD_LINK}
 
 -- a sound record that a reference leads to
 pub record IsReached (b : List ℕ) (r p : ℕ) : Type 0 where
@@ -44,7 +45,7 @@ pub record HasDepthFault (b : List ℕ) (r most : ℕ) (e : Fault) : Type 0 wher
   pub names : ℕ
   pub depth : HasDepth (references b r) (LeadsToSound b r) e.at names
   pub deep : most < names
-  pub number : e.number ≡ 21
+  pub number : e.number ≡ TOO_DEEP
 
 -- the extents of the image: the superblock's, each reached record's, and the data of each file and link; none is empty
 pub data IsExtent (b : List ℕ) (r : ℕ) (s : Span) : Type 0 where
@@ -61,7 +62,7 @@ pub record HasExtentFault (b : List ℕ) (r : ℕ) (e : Fault) : Type 0 where
   pub other_is : IsExtent b r other
   pub overlap : Overlap one other
   pub at : e.at ≡ max one.start other.start
-  pub number : e.number ≡ 22
+  pub number : e.number ≡ OVERLAP
 
 -- u is the directory in whose list the directory d stands; the root's is the root
 pub data IsParent (b : List ℕ) (r : ℕ) : ℕ → ℕ → Type 0 where
@@ -70,16 +71,16 @@ pub data IsParent (b : List ℕ) (r : ℕ) : ℕ → ℕ → Type 0 where
 
 -- 23 DupName, 24 Dot, 25 HardLink, at a record of the list of d; in the first, p stands before it
 pub data HasNameFault (b : List ℕ) (r : ℕ) (e : Fault) : Type 0 where
-  repeated : {d p : ℕ} → ComesAfter b r d p e.at → name_of b p ≡ name_of b e.at → e.number ≡ 23 → HasNameFault b r e
-  here_astray : {d : ℕ} → IsListed b r d e.at → name_of b e.at ≡ dot → (Leads b r 8 e.at d → ⊥) → e.number ≡ 24 → HasNameFault b r e
-  above_astray : {d u : ℕ} → IsListed b r d e.at → IsParent b r d u → name_of b e.at ≡ dot_dot → (Leads b r 8 e.at u → ⊥) → e.number ≡ 24 → HasNameFault b r e
-  root_renamed : heads_itself b r ≡ true → e.at ≡ r → name_of b r ≢ dot → e.number ≡ 24 → HasNameFault b r e
+  repeated : {d p : ℕ} → ComesAfter b r d p e.at → name_of b p ≡ name_of b e.at → e.number ≡ DUPLICATE_NAME → HasNameFault b r e
+  here_astray : {d : ℕ} → IsListed b r d e.at → name_of b e.at ≡ dot → (Leads b r 8 e.at d → ⊥) → e.number ≡ DOT → HasNameFault b r e
+  above_astray : {d u : ℕ} → IsListed b r d e.at → IsParent b r d u → name_of b e.at ≡ dot_dot → (Leads b r 8 e.at u → ⊥) → e.number ≡ DOT → HasNameFault b r e
+  root_renamed : heads_itself b r ≡ true → e.at ≡ r → name_of b r ≢ dot → e.number ≡ DOT → HasNameFault b r e
   link_astray : {d : ℕ} → IsListed b r d e.at → is_dot (name_of b e.at) ≡ false → type_of b e.at ≡ 0
-      → ((q : ℕ) → Leads b r 8 e.at q → type_of b q ≢ 1 → ⊥) → e.number ≡ 25 → HasNameFault b r e
+      → ((q : ℕ) → Leads b r 8 e.at q → type_of b q ≢ 1 → ⊥) → e.number ≡ HARD_LINK → HasNameFault b r e
 
 -- 20 Twice at a record to which two references lead
 abbrev pub HasTwiceFault : List ℕ → ℕ → Fault → Type 0
-HasTwiceFault b r e = Twice (references b r) (LeadsToSound b r) e.at × (e.number ≡ 20)
+HasTwiceFault b r e = Twice (references b r) (LeadsToSound b r) e.at × (e.number ≡ TWICE)
 
 -- there are more references than the limit
 abbrev pub HasTooMany : List ℕ → ℕ → ℕ → Type 0
@@ -110,5 +111,5 @@ pub data IsLeastPhaseFault (b : List ℕ) (r deepest : ℕ) (e : Fault) : Type 0
 -- The least fault of an image: the image's as a whole; else 1 TooMany at 0; else that of the first phase after it.
 pub data IsLeastImageFault (bytes : List ℕ) (most deepest : ℕ) (e : Fault) : Type 0 where
   whole : HasImageFault bytes e → IsLeastImageFault bytes most deepest e
-  many : IsNone (HasImageFault bytes) → HasTooMany (accessible bytes) (root_of (accessible bytes)) most → e ≡ record { number = 1; at = 0 } → IsLeastImageFault bytes most deepest e
+  many : IsNone (HasImageFault bytes) → HasTooMany (accessible bytes) (root_of (accessible bytes)) most → e ≡ record { number = TOO_MANY; at = 0 } → IsLeastImageFault bytes most deepest e
   phase : IsNone (HasImageFault bytes) → (HasTooMany (accessible bytes) (root_of (accessible bytes)) most → ⊥) → IsLeastPhaseFault (accessible bytes) (root_of (accessible bytes)) deepest e → IsLeastImageFault bytes most deepest e

@@ -8,6 +8,7 @@
 use Rattle.std.specs.Prelude.{◌≡◌, ◌≢◌, ℕ, ◌+◌, ◌-◌, ◌*◌, ◌/◌, ◌%◌, ◌<◌, ◌≤◌, Bool, if◌then◌else◌, ◌==◌, ◌||◌, IsTrue, List, [], ◌∷◌, length, drop, ◌⊎◌}
 use Rattle.std.specs.List.{Contains}
 use Rattle.rom_fields.specs.Words.{word_be, words_sum, part_of}
+use Rattle.rom_faults.specs.declared.fault.TheConstants.{BOUNDS, HEADER_SUM, BAD_NAME, LINK_SIZE}
 
 -- the low four bits of an offset are not part of it
 abbrev pub align16 : ℕ → ℕ
@@ -80,11 +81,11 @@ IsWhole b r p = HeaderLies b r p × NameEnds b p × (end_of b p ≤ length b)
 -- The record at p has the fault of this number: 11 Bounds, 12 HeaderSum, 13 BadName, 15 LinkSize.
 -- Where it is not whole it has one fault alone (this project's own).
 pub data HasRecordFault (b : List ℕ) (r p : ℕ) : ℕ → Type 0 where
-  outside : {n : ℕ} → n ≡ 11 → (HeaderLies b r p → ⊥) → HasRecordFault b r p n
-  name_unended : {n : ℕ} → n ≡ 13 → HeaderLies b r p → (NameEnds b p → ⊥) → HasRecordFault b r p n
-  end_outside : {n : ℕ} → n ≡ 11 → HeaderLies b r p → NameEnds b p → length b < end_of b p → HasRecordFault b r p n
-  data_outside : {n : ℕ} → n ≡ 11 → IsWhole b r p → IsTrue (has_data (type_of b p)) → length b < end_of b p + size_of b p → HasRecordFault b r p n
-  bad_sum : {n : ℕ} → n ≡ 12 → IsWhole b r p → words_sum (part_of b p (end_of b p - p)) ≢ 0 → HasRecordFault b r p n
-  empty_name : {n : ℕ} → n ≡ 13 → IsWhole b r p → length (name_of b p) ≡ 0 → HasRecordFault b r p n
-  slash : {n : ℕ} → n ≡ 13 → IsWhole b r p → Contains (name_of b p) 47 → HasRecordFault b r p n
-  link_size : {n : ℕ} → n ≡ 15 → IsWhole b r p → type_of b p ≡ 3 → (size_of b p ≡ 0) ⊎ (4095 < size_of b p) → HasRecordFault b r p n
+  outside : {n : ℕ} → n ≡ BOUNDS → (HeaderLies b r p → ⊥) → HasRecordFault b r p n
+  name_unended : {n : ℕ} → n ≡ BAD_NAME → HeaderLies b r p → (NameEnds b p → ⊥) → HasRecordFault b r p n
+  end_outside : {n : ℕ} → n ≡ BOUNDS → HeaderLies b r p → NameEnds b p → length b < end_of b p → HasRecordFault b r p n
+  data_outside : {n : ℕ} → n ≡ BOUNDS → IsWhole b r p → IsTrue (has_data (type_of b p)) → length b < end_of b p + size_of b p → HasRecordFault b r p n
+  bad_sum : {n : ℕ} → n ≡ HEADER_SUM → IsWhole b r p → words_sum (part_of b p (end_of b p - p)) ≢ 0 → HasRecordFault b r p n
+  empty_name : {n : ℕ} → n ≡ BAD_NAME → IsWhole b r p → length (name_of b p) ≡ 0 → HasRecordFault b r p n
+  slash : {n : ℕ} → n ≡ BAD_NAME → IsWhole b r p → Contains (name_of b p) 47 → HasRecordFault b r p n
+  link_size : {n : ℕ} → n ≡ LINK_SIZE → IsWhole b r p → type_of b p ≡ 3 → (size_of b p ≡ 0) ⊎ (4095 < size_of b p) → HasRecordFault b r p n

@@ -4,7 +4,7 @@ use Rattle.std.specs.Prelude.{◌≡◌, ℕ, Bool, true, if◌then◌else◌, �
 use Rattle.record_walk.specs.declared.reference.Reference.{Reference}
 use Rattle.record_walk.specs.References.{References}
 use Rattle.romfs_format.specs.Record.{next_of, first_of, IsSound, HasRecordFault}
-use Rattle.record_walk.specs.declared.reference.Fault.{Fault}
+use Rattle.rom_faults.specs.declared.fault.Fault.{Fault}
 
 -- the root heads its own list, as genromfs writes it
 unfoldable pub heads_itself : List ℕ → ℕ → Bool

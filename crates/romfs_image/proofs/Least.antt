@@ -2,14 +2,14 @@
 use Rattle.std.proofs.Common.{◌≡◌, ℕ, ◌+◌, ◌<◌, ◌≤◌, min, false, List, ◌∷◌, ◌++◌, length, drop, Some, refl, sym, ap, subst, ◌∙◌, arith}
 use Rattle.std.specs.List.{AllByRecursion as Every}
 use Rattle.rom_tree.specs.declared.types.Limits.{Limits}
-use Rattle.rom_tree.specs.declared.types.CheckError.TheVariants.{Fault as FaultAnswer}
+use Rattle.rom_faults.specs.declared.error.CheckError.TheVariants.{Fault as FaultAnswer}
 use Rattle.rom_fields.specs.Extents.{OverlapsAt, IsLeastOf}
-use Rattle.record_walk.specs.declared.reference.Fault.{Fault}
+use Rattle.rom_faults.specs.declared.fault.Fault.{Fault}
 use Rattle.record_walk.specs.declared.reference.Row.{Row}
-use Rattle.record_walk.specs.declared.walk.WalkError.{WalkError}
-use Rattle.record_walk.specs.declared.walk.WalkError.TheVariants.{OutOfMemory as NoMemory, TooMany as TooManyRefusal, Record, Twice as TwiceRefusal}
-use Rattle.record_walk.specs.Walk.{IsLeastRefusal}
-use Rattle.record_walk.specs.Answers.{walk_answer}
+use Rattle.record_walk.specs.declared.traversal.TraversalError.{TraversalError}
+use Rattle.record_walk.specs.declared.traversal.TraversalError.TheVariants.{OutOfMemory as NoMemory, TooMany as TooManyRefusal, Record, Twice as TwiceRefusal}
+use Rattle.record_walk.specs.Traversal.{IsLeastRefusal}
+use Rattle.record_walk.specs.Answers.{traversal_answer}
 use Rattle.record_walk.specs.Members.{Pairs}
 use Rattle.record_walk.specs.Forest.{Forest, none, at, all_rows, IsForest}
 use Rattle.record_walk.specs.Faults.{IsLeastFault, IsNone}
@@ -112,7 +112,7 @@ module _ {bytes b : List ℕ} {r : ℕ} (super : IsSuperblock bytes b r) where
   many_here most h = subst (λ (q : ℕ). HasTooMany b q most) (sym place) (subst (λ (c : List ℕ). HasTooMany c (root_of (accessible bytes)) most) (sym super.cut) h)
 
   -- What the walk refuses is the least fault,
-  pub least_walk : (limits : Limits) (e : WalkError) → 0 < r → IsLeastRefusal (references b r) (LeadsToSound b r) (LeadsToFault b r) limits.references e → IsLeastAnswer bytes limits (walk_answer e)
+  pub least_walk : (limits : Limits) (e : TraversalError) → 0 < r → IsLeastRefusal (references b r) (LeadsToSound b r) (LeadsToFault b r) limits.references e → IsLeastAnswer bytes limits (traversal_answer e)
   least_walk limits NoMemory above h = tt
   least_walk limits TooManyRefusal above h = many (super_faultless super) (many_there limits.references h) refl
   least_walk limits (Record e) above h = phase (super_faultless super) (λ k. h.0 (many_here limits.references k)) (moved limits.depth e (record_fault h.1))

@@ -4,6 +4,7 @@ pub mod Calls
 pub mod Walk
 pub mod Steps
 pub mod Naming
+pub mod Offsets
 pub mod Composed
 pub mod Trees
 pub mod Exact

@@ -1,8 +1,5 @@
 -- The faults of a name, and what a row without them says.
-use Rattle.std.proofs.Common.{◌≡◌, ◌≢◌, ℕ, ◌+◌, ◌<◌, List, [], ◌∷◌, ◌++◌, length, length-append, Option, None, Some, ◌⊎◌, inl, inr, refl, sym, ap, subst, ◌∙◌, arith, take, get_or}
-use Rattle.std.proofs.lemmas.List.{take_more, get_or_append_left, get_or_at}
-use Rattle.std.proofs.lemmas.Bool.{cases_lt}
-use Rattle.std.specs.List.{Any}
+use Rattle.std.proofs.Common.{◌≡◌, ◌≢◌, ℕ, List, length, Option, None, Some, refl, sym, ap, subst, ◌∙◌, arith}
 use Rattle.record_walk.specs.declared.reference.Row.{Row}
 use Rattle.record_walk.specs.Faults.{IsLeast}
 use Rattle.romfs_format.specs.Record.{name_of, type_of}
@@ -60,25 +57,6 @@ module _ {b : List ℕ} {r : ℕ} {all before : List Row} {x : Row} where
 -- `.` is one of the two, and not the other
 pub dot_apart : (name : List ℕ) → name ≡ dot → name ≡ dot_dot → ⊥
 dot_apart name e f = let z = ap length (sym e ∙ f) in absurd (omega arith)
-
--- a name that is repeated among the rows up to an index
-any_split : (P : Row → Type 0) (xs : List Row) (x : Row) → Any P (xs ++ x ∷ []) → Any P xs ⊎ P x
-any_split P xs x a =
-    let most : a.0 < length xs + 1 = (let l = a.2 in let m = length-append xs (x ∷ []) in omega arith) in
-    elim (cases_lt a.0 (length xs)) [
-      | inl l ↦ inl (a.0, a.1, l, sym (get_or_append_left xs (x ∷ []) a.1 a.0 l) ∙ a.3, a.4)
-      | inr g ↦
-          let e : a.0 ≡ length xs = omega arith in
-          let is : x ≡ a.1 = sym (get_or_at xs x [] a.1 a.0 (sym e)) ∙ a.3 in
-          inr (subst P (sym is) a.4)
-    ]
-
-pub repeats_more : (b : List ℕ) (xs : List Row) (i : ℕ) (d x : Row) → i < length xs → (Repeats b (take i xs) x → ⊥) → (((get_or xs i d).directory ≡ x.directory) × (name_of b (get_or xs i d).offset ≡ name_of b x.offset) → ⊥)
-    → Repeats b (take (i + 1) xs) x → ⊥
-repeats_more b xs i d x l none other h =
-    let P : Row → Type 0 = λ y. (y.directory ≡ x.directory) × (name_of b y.offset ≡ name_of b x.offset) in
-    let k : Any P (take i xs ++ get_or xs i d ∷ []) = subst (λ (v : List Row). Any P v) (take_more xs i d l) h in
-    elim (any_split P (take i xs) (get_or xs i d) k) [ inl z ↦ none z | inr z ↦ other z ]
 
 -- where following a record leads to no record, or to a directory
 pub no_target : (b : List ℕ) (o : Option ℕ) → o ≡ None → (q : ℕ) → o ≡ Some q → type_of b q ≢ 1 → ⊥

@@ -5,9 +5,10 @@ use crate::image::Romfs;
 use crate::later::later_fault;
 use crate::reader::Reader;
 use crate::superblock::read_superblock;
-use record_walk::walk::walk;
+use record_walk::traversal::traverse;
 use rom_tree::image::Viewed;
-use rom_tree::types::{CheckError, Limits};
+use rom_faults::CheckError;
+use rom_tree::types::Limits;
 use std::alloc::Global;
 
 impl<'a> Romfs<'a> {
@@ -32,7 +33,7 @@ impl<'a> Romfs<'a> {
         let b = superblock.bytes;
         let root = superblock.root;
         let reader = Reader { bytes: b, root };
-        let rows = walk(alloc, &reader, limits.references)?;
+        let rows = traverse(alloc, &reader, limits.references)?;
         let list = rows.as_slice();
         match later_fault(alloc, b, root, list, limits.depth.min(64))? {
             None => Ok(Romfs::opened(bytes, b, root, list, limits)),

@@ -8,10 +8,10 @@ ghost use Rattle.record_walk.specs.Sweep.{IsLeastRowFault};
 ghost use Rattle.romfs_image.specs.Phases.{IsTooDeep, IsShallow};
 
 use crate::record::{is_dots, name_at};
-use record_walk::reference::{Fault, Row};
+use record_walk::reference::Row;
+use rom_faults::Fault;
+use rom_faults::fault::{TOO_DEEP};
 use record_walk::sweep::lesser;
-
-const TOO_DEEP: u32 = 21;
 
 /// Whether a row is an entry, and not `.` or `..`.
 fn is_entry(b: &[u8], root: u32, row: Row) -> bool

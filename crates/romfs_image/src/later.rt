@@ -9,11 +9,11 @@ use crate::depth::least_too_deep;
 use crate::header::first_offset;
 use crate::names::least_name_fault;
 use crate::overlap::least_overlap;
-use record_walk::reference::{Fault, Row};
-use rom_fields::extents::OutOfMemory;
+use record_walk::reference::Row;
+use rom_faults::Fault;
+use rom_faults::fault::{OVERLAP};
+use rom_fields::memory::OutOfMemory;
 use std::alloc::Global;
-
-const OVERLAP: u32 = 22;
 
 /// The rows that stand in lists: all, where the root heads its own list, else all but the root's.
 #[tactic(auto, unfolding(romfs_format::specs::Tree::listed_rows, romfs_format::specs::Refers::heads_itself))]
@@ -54,5 +54,6 @@ pub fn later_fault(
         };
         return Ok(Some(fault));
     }
-    Ok(least_name_fault(b, root, rows, listed(b, root, rows)))
+    let named = least_name_fault(alloc, b, root, rows, listed(b, root, rows))?;
+    Ok(named)
 }

@@ -1,50 +1,25 @@
 //! The phase that looks at the names in each list, and at what hard links lead to.
-ghost use Rattle.std.specs.Prelude.{◌≡◌, ◌≢◌, ◌<◌, ◌↔◌, IsTrue, IfNone, IfSome, Some, List, ℕ, false};
+ghost use Rattle.std.specs.Prelude.{◌≡◌, ◌≢◌, ◌<◌, ◌↔◌, IsTrue, IfNone, IfSome, IfOk, Some, List, ℕ, false};
 ghost use Rattle.std.specs.Bool.{OnTrue, OnFalse};
 ghost use Rattle.std.specs.List.{All};
 ghost use Rattle.record_walk.specs.declared.reference.Row.{Row};
 ghost use Rattle.record_walk.specs.Faults.{IsLeast};
 ghost use Rattle.romfs_format.specs.Record.{name_of, type_of, IsSound};
 ghost use Rattle.romfs_format.specs.Tree.{dot, dot_dot, is_dot, follow};
+ghost use Rattle.record_walk.specs.Listed.{AreNames};
 ghost use Rattle.record_walk.specs.Sweep.{IsLeastRowFault};
-ghost use Rattle.romfs_image.specs.Phases.{Repeats, HasNameFault, IsWellNamed};
+ghost use Rattle.romfs_image.specs.Phases.{AreOffsets, TellsRepeated, HasNameFault, IsWellNamed};
 
 use crate::header::type_at;
 use crate::record::{is_dots, name_at};
-use crate::rows::led_to;
-use record_walk::reference::{Fault, Row};
+use crate::rows::{led_to, offsets_of};
+use record_walk::listed::{ListedName, repeats};
+use record_walk::reference::Row;
+use rom_faults::Fault;
+use rom_faults::fault::{DOT, DUPLICATE_NAME, HARD_LINK};
 use record_walk::sweep::lesser;
-
-const DUPLICATE_NAME: u32 = 23;
-
-const DOT: u32 = 24;
-
-const HARD_LINK: u32 = 25;
-
-/// Whether two rows stand in one list under one name.
-fn is_repeated(b: &[u8], root: u32, one: Row, other: Row) -> bool
-    requires one { IsSound b.now root one.offset }
-    requires other { IsSound b.now root other.offset }
-    ensures { IsTrue result ↔ ((one.directory ≡ other.directory) × (name_of b.now one.offset ≡ name_of b.now other.offset)) }
-{
-    one.directory == other.directory
-        && name_at(b, root, one.offset) == name_at(b, root, other.offset)
-}
-
-/// Whether one of the rows before it stands in the list of `row` under its name.
-fn repeats(b: &[u8], root: u32, before: &[Row], row: Row) -> bool
-    requires before { All (λ x. IsSound b.now root x.offset) before.now }
-    requires row { IsSound b.now root row.offset }
-    ensures repeated { OnTrue result (Repeats b.now before.now row) }
-    ensures fresh { OnFalse result (Repeats b.now before.now row → ⊥) }
-{
-    'rows: for other in before {
-        if is_repeated(b, root, *other, row) {
-            return true;
-        }
-    }
-    false
-}
+use rom_fields::memory::OutOfMemory;
+use std::alloc::Global;
 
 /// Whether a name is `.`.
 fn is_dot_name(name: &[u8]) -> bool
@@ -71,8 +46,9 @@ fn leads(led: Option<u32>, to: u32) -> bool
 }
 
 /// Whether `.` or `..` leads elsewhere than it is to, or the root heads its list under another name.
-fn is_astray(b: &[u8], root: u32, all: &[Row], row: Row) -> bool
+fn is_astray(b: &[u8], root: u32, all: &[Row], offsets: &[u32], row: Row) -> bool
     requires all { All (λ x. IsSound b.now root x.offset) all.now }
+    requires offsets { AreOffsets all.now offsets.now }
     requires row { IsSound b.now root row.offset }
     ensures astray { OnTrue result ((before : List Row) → HasNameFault b.now root all.now before row 24) }
     ensures here { OnFalse result (name_of b.now row.offset ≡ dot → follow b.now all.now 8 row.offset ≡ Some row.directory) }
@@ -81,7 +57,7 @@ fn is_astray(b: &[u8], root: u32, all: &[Row], row: Row) -> bool
 {
     let name = name_at(b, root, row.offset);
     if is_dot_name(name) {
-        if leads(led_to(b, root, all, row.offset), row.directory) {
+        if leads(led_to(b, root, all, offsets, row.offset), row.directory) {
             return false;
         }
         return true;
@@ -90,7 +66,7 @@ fn is_astray(b: &[u8], root: u32, all: &[Row], row: Row) -> bool
         return true;
     }
     if is_dot_dot_name(name) {
-        if leads(led_to(b, root, all, row.offset), row.parent) {
+        if leads(led_to(b, root, all, offsets, row.offset), row.parent) {
             return false;
         }
         return true;
@@ -99,8 +75,9 @@ fn is_astray(b: &[u8], root: u32, all: &[Row], row: Row) -> bool
 }
 
 /// Whether a hard link of another name leads to no record, or to a directory.
-fn is_link_astray(b: &[u8], root: u32, all: &[Row], row: Row) -> bool
+fn is_link_astray(b: &[u8], root: u32, all: &[Row], offsets: &[u32], row: Row) -> bool
     requires all { All (λ x. IsSound b.now root x.offset) all.now }
+    requires offsets { AreOffsets all.now offsets.now }
     requires row { IsSound b.now root row.offset }
     ensures astray { OnTrue result ((before : List Row) → HasNameFault b.now root all.now before row 25) }
     ensures leads { OnFalse result (is_dot (name_of b.now row.offset) ≡ false → type_of b.now row.offset ≡ 0
@@ -112,7 +89,7 @@ fn is_link_astray(b: &[u8], root: u32, all: &[Row], row: Row) -> bool
     if type_at(b, row.offset as usize) != 0 {
         return false;
     }
-    match led_to(b, root, all, row.offset) {
+    match led_to(b, root, all, offsets, row.offset) {
         Some(at) => {
             if type_at(b, at as usize) == 1 {
                 return true;
@@ -123,41 +100,81 @@ fn is_link_astray(b: &[u8], root: u32, all: &[Row], row: Row) -> bool
     }
 }
 
-/// The least fault of a row's name, the rows before it being given.
-fn name_fault(b: &[u8], root: u32, all: &[Row], before: &[Row], row: Row) -> Option<u32>
+/// The least fault of a row's name, whatever rows stand before it; `repeated` tells whether one of
+/// them has the name in its list.
+fn name_fault(
+    b: &[u8],
+    root: u32,
+    all: &[Row],
+    offsets: &[u32],
+    row: Row,
+    repeated: bool,
+) -> Option<u32>
     requires all { All (λ x. IsSound b.now root x.offset) all.now }
-    requires before { All (λ x. IsSound b.now root x.offset) before.now }
+    requires offsets { AreOffsets all.now offsets.now }
     requires row { IsSound b.now root row.offset }
-    ensures well { IfNone result (IsWellNamed b.now root all.now before.now row) }
-    ensures fault { IfSome result (λ n. IsLeast (HasNameFault b.now root all.now before.now row) n) }
+    ensures well { (before : List Row) → TellsRepeated b.now before row repeated → IfNone result (IsWellNamed b.now root all.now before row) }
+    ensures fault { (before : List Row) → TellsRepeated b.now before row repeated
+        → IfSome result (λ n. IsLeast (HasNameFault b.now root all.now before row) n) }
 {
-    if repeats(b, root, before, row) {
+    if repeated {
         return Some(DUPLICATE_NAME);
     }
-    if is_astray(b, root, all, row) {
+    if is_astray(b, root, all, offsets, row) {
         return Some(DOT);
     }
-    if is_link_astray(b, root, all, row) {
+    if is_link_astray(b, root, all, offsets, row) {
         return Some(HARD_LINK);
     }
     None
 }
 
+/// The names of the rows, by their indices.
+fn names_of<'a>(
+    alloc: Global,
+    b: &'a [u8],
+    root: u32,
+    rows: &[Row],
+) -> Result<Vec<ListedName<'a>>, OutOfMemory>
+    requires { All (λ x. IsSound b.now root x.offset) rows.now }
+    ensures { IfOk result (λ v. AreNames (name_of b.now) rows.now v.items) }
+{
+    let mut names = Vec::new(alloc);
+    for index in 0..rows.len() {
+        let row = rows[index];
+        names.push(ListedName {
+            list: row.directory,
+            name: name_at(b, root, row.offset),
+            index,
+        })?;
+    }
+    Ok(names)
+}
+
 /// The least fault of a name among the rows that stand in lists; `all` are those of the whole image.
-pub fn least_name_fault(b: &[u8], root: u32, all: &[Row], listed: &[Row]) -> Option<Fault>
+pub fn least_name_fault(
+    alloc: Global,
+    b: &[u8],
+    root: u32,
+    all: &[Row],
+    listed: &[Row],
+) -> Result<Option<Fault>, OutOfMemory>
     requires all { All (λ x. IsSound b.now root x.offset) all.now }
     requires listed { All (λ x. IsSound b.now root x.offset) listed.now }
-    ensures { IsLeastRowFault (IsWellNamed b.now root all.now) (HasNameFault b.now root all.now) listed.now result }
+    ensures { IfOk result (IsLeastRowFault (IsWellNamed b.now root all.now) (HasNameFault b.now root all.now) listed.now) }
 {
+    let offsets = offsets_of(alloc, all)?;
+    let repeated = repeats(alloc, names_of(alloc, b, root, listed)?)?;
     let mut noted: Option<Fault> = None;
     for i in 0..listed.len() {
-        if let Some(number) = name_fault(b, root, all, &listed[..i], listed[i]) {
+        let row = listed[i];
+        if let Some(number) = name_fault(b, root, all, &offsets, row, repeated[i]) {
             let fault = Fault {
                 number,
-                at: listed[i].offset,
+                at: row.offset,
             };
             noted = lesser(noted, fault);
         }
     }
-    noted
+    Ok(noted)
 }

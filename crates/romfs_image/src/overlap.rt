@@ -8,7 +8,8 @@ ghost use Rattle.romfs_format.specs.Tree.{row_extents, extents_of};
 use crate::header::{size_at, type_at};
 use crate::record::end_at;
 use record_walk::reference::Row;
-use rom_fields::extents::{Extents, OutOfMemory};
+use rom_fields::extents::Extents;
+use rom_fields::memory::OutOfMemory;
 use rom_fields::span::Extent;
 use std::alloc::Global;
 

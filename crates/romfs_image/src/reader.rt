@@ -3,8 +3,10 @@ ghost use Rattle.std.specs.Prelude.{◌≡◌, ◌≢◌, ◌+◌, ◌<◌, ◌�
 ghost use Rattle.romfs_format.specs.Refers.{references, LeadsToSound, LeadsToFault, some_offset, list_of, following, offset_of};
 
 use crate::header::{first_offset, next_offset, record_fault};
+use record_walk::known::Known;
 use record_walk::records::Records;
-use record_walk::reference::{Fault, Link, Links, Reference};
+use record_walk::reference::{Edge, Edges, Reference};
+use rom_faults::Fault;
 
 /// The accessible bytes of an image, and its root's offset.
 #[derive(Clone, Copy)]
@@ -56,9 +58,12 @@ impl Records for Reader<'_> {
 
     ghost faulty = { λ s. LeadsToFault s.bytes.now s.root };
 
+    // Nothing is kept: a record is looked at once for each reference.
+    ghost well = { λ _ _. Unit {0} };
+
     #[tactic(auto, unfolding(romfs_format::specs::Refers::offset_of))]
-    fn top(&self) -> Link {
-        Link {
+    fn top(&self) -> Edge {
+        Edge {
             reference: Reference {
                 source: 0,
                 which: 0,
@@ -71,24 +76,24 @@ impl Records for Reader<'_> {
         true
     }
 
-    fn links(&self, x: Reference, at: u32) -> Result<Links, Fault> {
+    fn edges(&self, _: &mut Known, x: Reference, at: u32) -> Result<Edges, Fault> {
         if let Some(number) = record_fault(self.bytes, self.root as usize, at as usize) {
             return Err(Fault { number, at });
         }
-        let own = Link {
+        let own = Edge {
             reference: Reference {
                 source: at,
                 which: 0,
             },
             target: some(list_at(self.bytes, self.root, at)),
         };
-        let after = Link {
+        let after = Edge {
             reference: Reference {
                 source: at,
                 which: 1,
             },
             target: some(record_after(self.bytes, self.root, at)),
         };
-        Ok(Links { own, after })
+        Ok(Edges { own, after })
     }
 }

@@ -1,22 +1,39 @@
 //! Facts that several phases ask of the rows.
-ghost use Rattle.std.specs.Prelude.{◌≡◌, ◌==◌, IfSome};
+ghost use Rattle.std.specs.Prelude.{◌≡◌, ◌==◌, IfSome, IfOk};
 ghost use Rattle.std.specs.List.{All, list_any};
 ghost use Rattle.romfs_format.specs.Record.{IsSound};
 ghost use Rattle.romfs_format.specs.Tree.{follow};
+ghost use Rattle.romfs_image.specs.Phases.{AreOffsets};
 
 use crate::header::{target_offset, type_at};
 use record_walk::reference::Row;
+use rom_fields::memory::OutOfMemory;
+use std::alloc::Global;
 
-/// Whether one of the rows has this offset.
-fn is_among(rows: &[Row], offset: u32) -> bool
+/// The offsets of the rows, in rising order.
+pub fn offsets_of(alloc: Global, rows: &[Row]) -> Result<Vec<u32>, OutOfMemory>
+    ensures { IfOk result (λ v. AreOffsets rows.now v.items) }
+{
+    let mut offsets = Vec::new(alloc);
+    'rows: for row in rows {
+        offsets.push(row.offset)?;
+    }
+    offsets.sort_unstable();
+    Ok(offsets)
+}
+
+/// Whether one of the rows that have these offsets has this one.
+fn is_among(rows: &[Row], offsets: &[u32], offset: u32) -> bool
+    requires { AreOffsets rows.now offsets.now }
     ensures { result ≡ list_any (λ x. x.offset == offset) rows.now }
 {
-    rows.iter().any(|x| x.offset == offset)
+    offsets.binary_search(&offset).is_ok()
 }
 
 /// The record that the one at `at` leads to among the rows, over at most 8 hard links.
-pub fn led_to(b: &[u8], root: u32, rows: &[Row], at: u32) -> Option<u32>
+pub fn led_to(b: &[u8], root: u32, rows: &[Row], offsets: &[u32], at: u32) -> Option<u32>
     requires here { IsSound b.now root at }
+    requires offsets { AreOffsets rows.now offsets.now }
     requires rows { All (λ x. IsSound b.now root x.offset) rows.now }
     ensures leads { result ≡ follow b.now rows.now 8 at }
     ensures sound { IfSome result (λ q. IsSound b.now root q) }
@@ -27,7 +44,7 @@ pub fn led_to(b: &[u8], root: u32, rows: &[Row], at: u32) -> Option<u32>
             return Some(p);
         }
         let target = target_offset(b, p as usize);
-        if !is_among(rows, target) {
+        if !is_among(rows, offsets, target) {
             return None;
         }
         p = target;

@@ -1,44 +1,17 @@
 -- What is printed of an image, and how the printing ends.
-use Rattle.std.specs.Prelude.{◌≡◌, ℕ, ◌⊎◌, Bool, List, ◌++◌, ◌==◌, if◌then◌else◌, codes, decimal, Option}
+use Rattle.std.specs.Prelude.{◌≡◌, ℕ, ◌⊎◌, Bool, false, List, [], ◌++◌, if◌then◌else◌, codes, decimal}
 use Rattle.std.specs.Io.KnownBytes.{Appends}
 use Rattle.rom_fields.specs.Failures.{Rose}
-use Rattle.rom_fields.specs.Written.{AppendsFront}
+use Rattle.rom_fields.specs.Written.{AppendsFront, Output, Puts, sink}
+use Rattle.rom_faults.specs.Faults.{name_of_fault}
 use Rattle.rom_tree.specs.Listing.{list_text}
 use Rattle.rom_tree.specs.Image.{Image}
-use Rattle.rom_tree.specs.declared.types.CheckError.TheVariants.{Fault}
+use Rattle.rom_faults.specs.declared.error.CheckError.TheVariants.{Fault}
 use Rattle.rom_tree.specs.declared.types.Limits.{Limits}
 use Rattle.rom_tree.specs.declared.types.Report.{Report}
 use Rattle.image_check.specs.Checked.{Shows, IsRefused, IsRomfs, IsCramfs, IsFaultless, IsLeastFault}
 use Rattle.romtool.specs.declared.shown.Outcome.{Outcome}
 use Rattle.romtool.specs.declared.shown.Outcome.TheVariants.{Done, Refused, Memory, WriteFault}
-
--- the names of the faults by their numbers
-abbrev pub name_of_fault : ℕ → List ℕ
-name_of_fault n =
-    if n == 1 then codes "TooMany"
-    else (if n == 2 then codes "Short"
-    else (if n == 3 then codes "Magic"
-    else (if n == 4 then codes "Size"
-    else (if n == 5 then codes "Sum"
-    else (if n == 6 then codes "Flags"
-    else (if n == 7 then codes "Crc"
-    else (if n == 8 then codes "Signature"
-    else (if n == 9 then codes "Root"
-    else (if n == 11 then codes "Bounds"
-    else (if n == 12 then codes "HeaderSum"
-    else (if n == 13 then codes "BadName"
-    else (if n == 14 then codes "Kind"
-    else (if n == 15 then codes "LinkSize"
-    else (if n == 16 then codes "BlockKind"
-    else (if n == 17 then codes "ListEnd"
-    else (if n == 20 then codes "Twice"
-    else (if n == 21 then codes "TooDeep"
-    else (if n == 22 then codes "Overlap"
-    else (if n == 23 then codes "DupName"
-    else (if n == 24 then codes "Dot"
-    else (if n == 25 then codes "HardLink"
-    else (if n == 26 then codes "Unsorted"
-    else codes "Unknown"))))))))))))))))))))))
 
 -- fault NUMBER NAME at OFFSET, and a line feed
 unfoldable pub fault_line : ℕ → ℕ → List ℕ
@@ -79,21 +52,13 @@ pub record IsFaultText (bytes text : List ℕ) : Type 0 where
   pub least : IsLeastFault bytes usual_limits (Fault number at)
   pub same : text ≡ fault_line number at
 
--- a writer's bytes, where it tells them, and its count of failures
-pub record Writer : Type 0 where
-  pub told : Option (List ℕ)
-  pub failures : ℕ
-
-abbrev pub writer : Option (List ℕ) → ℕ → Writer
-writer t n = record { told = t; failures = n }
-
 -- what was written of the image that has these bytes, by how it ended
-abbrev pub Ends : List ℕ → Bool → Writer → Writer → Outcome → Type 0
-Ends bytes listed old new Done = (text : List ℕ) × IsSoundText bytes listed text × Appends old.told new.told text
-Ends bytes listed old new Refused = (text : List ℕ) × IsFaultText bytes text × Appends old.told new.told text
+abbrev pub Ends : List ℕ → Bool → Output → Output → Outcome → Type 0
+Ends bytes listed old new Done = (text : List ℕ) × IsSoundText bytes listed text × Appends old.contents new.contents text
+Ends bytes listed old new Refused = (text : List ℕ) × IsFaultText bytes text × Appends old.contents new.contents text
 Ends bytes listed old new Memory = new ≡ old
 Ends bytes listed old new WriteFault =
-    (text : List ℕ) × (IsSoundText bytes listed text ⊎ IsFaultText bytes text) × AppendsFront old.told new.told text × Rose old.failures new.failures
+    (text : List ℕ) × (IsSoundText bytes listed text ⊎ IsFaultText bytes text) × AppendsFront old.contents new.contents text × Rose old.failures new.failures
 
 -- the status with which the program ends
 abbrev pub status_of : Outcome → ℕ
@@ -101,3 +66,14 @@ status_of Done = 0
 status_of Refused = 1
 status_of Memory = 3
 status_of WriteFault = 3
+
+-- the text was put into a writer, or a front of it where a write failed
+abbrev pub Prints : Output → Output → List ℕ → Type 0
+Prints old new text = (failed : Bool) × Puts (sink old false) (sink new failed) text
+
+-- what standard error says of how the printing ended
+abbrev pub complaint_of : Outcome → List ℕ
+complaint_of Done = []
+complaint_of Refused = []
+complaint_of Memory = codes "memory\n"
+complaint_of WriteFault = codes "write fault\n"

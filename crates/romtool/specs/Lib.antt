@@ -1,3 +1,4 @@
 pub mod Answers
 pub mod Hello
 pub mod Formats
+pub mod Words

@@ -8,6 +8,7 @@
 
 mod fault;
 mod hello;
+mod print;
 mod program;
 mod shown;
 #[cfg(test)]

@@ -4,7 +4,7 @@ ghost use Rattle.rom_fields.specs.Failures.{Rose};
 ghost use Rattle.rom_fields.specs.Written.{WritesText};
 ghost use Rattle.rom_tree.specs.Tree.{levels};
 ghost use Rattle.image_check.specs.Any.{any_view, report_of};
-ghost use Rattle.romtool.specs.Answers.{fault_line, ok_line, sound_text, status_of, Ends, writer};
+ghost use Rattle.romtool.specs.Answers.{fault_line, ok_line, sound_text, status_of, Ends};
 ghost use Rattle.romtool.specs.Formats.{format_of};
 ghost use Rattle.romtool.specs.declared.shown.Outcome.{Outcome};
 
@@ -15,7 +15,8 @@ use rom_fields::bytes::{ByteWrite, Failed};
 use rom_fields::sink::put;
 use rom_fields::text::put_decimal;
 use rom_tree::list::list;
-use rom_tree::types::{CheckError, Limits, Report};
+use rom_faults::CheckError;
+use rom_tree::types::{Limits, Report};
 use std::alloc::Global;
 
 /// How the showing of an image ended.
@@ -45,8 +46,8 @@ pub fn status(outcome: Outcome) -> u8
 
 /// Writes the line of a fault.
 fn write_fault_line<W: ByteWrite>(w: &mut W, number: u32, at: u32) -> Result<(), Failed>
-    ensures text { WritesText (W.told w.old) (W.told w.new) result (fault_line number at) }
-    ensures fault { OnErr result (Rose (W.failures w.old) (W.failures w.new)) }
+    ensures text { WritesText (W.output w.old).contents (W.output w.new).contents result (fault_line number at) }
+    ensures fault { OnErr result (Rose (W.output w.old).failures (W.output w.new).failures) }
 {
     let mut failed = false;
     put_fault(w, &mut failed, number, at);
@@ -65,8 +66,8 @@ fn format_name(image: &AnyImage) -> &'static [u8]
 
 /// Writes the line of a sound image.
 fn write_ok_line<W: ByteWrite>(w: &mut W, format: &[u8], report: Report) -> Result<(), Failed>
-    ensures text { WritesText (W.told w.old) (W.told w.new) result (ok_line format.now report.references report.depth) }
-    ensures fault { OnErr result (Rose (W.failures w.old) (W.failures w.new)) }
+    ensures text { WritesText (W.output w.old).contents (W.output w.new).contents result (ok_line format.now report.references report.depth) }
+    ensures fault { OnErr result (Rose (W.output w.old).failures (W.output w.new).failures) }
 {
     let mut failed = false;
     put(w, &mut failed, b"ok ");
@@ -82,8 +83,8 @@ fn write_ok_line<W: ByteWrite>(w: &mut W, format: &[u8], report: Report) -> Resu
 /// Writes the list of a sound image (`listed`), or its line.
 fn write_sound<W: ByteWrite>(image: &AnyImage, listed: bool, w: &mut W) -> Result<(), Failed>
     requires { levels (any_view image.now).tree ≤ 65 }
-    ensures text { WritesText (W.told w.old) (W.told w.new) result (sound_text listed (any_view image.now) (format_of image.now) (report_of image.now)) }
-    ensures fault { OnErr result (Rose (W.failures w.old) (W.failures w.new)) }
+    ensures text { WritesText (W.output w.old).contents (W.output w.new).contents result (sound_text listed (any_view image.now) (format_of image.now) (report_of image.now)) }
+    ensures fault { OnErr result (Rose (W.output w.old).failures (W.output w.new).failures) }
 {
     if listed {
         match list(image, w) {
@@ -98,7 +99,7 @@ fn write_sound<W: ByteWrite>(image: &AnyImage, listed: bool, w: &mut W) -> Resul
 /// Checks an image under the usual limits, and writes its list (`listed`) or a line with its
 /// references and its depth, or the line of its fault.
 pub fn show<W: ByteWrite>(alloc: Global, bytes: &[u8], listed: bool, w: &mut W) -> Outcome
-    ensures { Ends bytes.now listed (writer (W.told w.old) (W.failures w.old)) (writer (W.told w.new) (W.failures w.new)) result }
+    ensures { Ends bytes.now listed (W.output w.old) (W.output w.new) result }
 {
     match check(alloc, bytes, Limits::usual()) {
         Ok(image) => match write_sound(&image, listed, w) {
@@ -116,7 +117,7 @@ pub fn show<W: ByteWrite>(alloc: Global, bytes: &[u8], listed: bool, w: &mut W) 
 /// Writes what `check` or `list` prints of an image on standard output, and gives the status: 0
 /// where the image is sound, 1 where it has a fault, 3 where memory was refused or a write failed.
 pub fn shown<W: ByteWrite>(alloc: Global, bytes: &[u8], list: bool, w: &mut W) -> u8
-    ensures { (o : Outcome) × (result ≡ status_of o) × Ends bytes.now list (writer (W.told w.old) (W.failures w.old)) (writer (W.told w.new) (W.failures w.new)) o }
+    ensures { (o : Outcome) × (result ≡ status_of o) × Ends bytes.now list (W.output w.old) (W.output w.new) o }
 {
     status(show(alloc, bytes, list, w))
 }

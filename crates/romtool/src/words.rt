@@ -1,5 +1,7 @@
 //! The words of the command line.
-ghost use Rattle.std.specs.Prelude.{◌≡◌, ◌≢◌, ◌≤◌, ◌↔◌, length, IfSome};
+ghost use Rattle.std.specs.Prelude.{◌≡◌, ◌≢◌, ◌≤◌, ◌↔◌, length, IfSome, Some};
+ghost use Rattle.clap.specs.Words.{subcommand_name_of};
+ghost use Rattle.romtool.specs.Words.{word_of};
 ghost use Rattle.romtool.specs.declared.words.Request.TheVariants.{Example};
 
 use clap::error::ErrorKind;
@@ -22,8 +24,8 @@ pub enum Request<'a> {
 pub enum WordsError {
     /// Memory was refused.
     OutOfMemory,
-    /// They are no words of this program.
-    Other,
+    /// They ask for nothing that the program does.
+    Usage,
 }
 
 impl From<AllocError> for WordsError {
@@ -45,7 +47,8 @@ fn command<'a>(alloc: Global) -> Result<Command<'a>, AllocError> {
 
 /// What was asked for with a subcommand.
 fn chosen<'a>(matches: &ArgMatches<'a>) -> Option<Request<'a>>
-    ensures { IfSome result (λ r. r ≢ Example) }
+    ensures other { IfSome result (λ r. r ≢ Example) }
+    ensures named { IfSome result (λ r. subcommand_name_of matches.now ≡ Some (word_of r)) }
 {
     let (name, values) = matches.subcommand()?;
     match name {
@@ -64,10 +67,10 @@ pub fn read<'a>(alloc: Global, words: &'a [String]) -> Result<Request<'a>, Words
         return Ok(Request::Example);
     }
     match command(alloc)?.try_get_matches_from(words) {
-        Ok(matches) => chosen(&matches).ok_or(WordsError::Other),
+        Ok(matches) => chosen(&matches).ok_or(WordsError::Usage),
         Err(e) => Err(match e.kind() {
             ErrorKind::OutOfMemory => WordsError::OutOfMemory,
-            _ => WordsError::Other,
+            _ => WordsError::Usage,
         }),
     }
 }

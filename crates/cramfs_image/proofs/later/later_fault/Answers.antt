@@ -15,7 +15,7 @@ returns-in-Some-2 c =
 
 pub returns : goal.returns
 returns c =
-    well_or_fault little c.args.b.now c.args.most c.args.rows.now c.least_name_fault.result
+    well_or_fault little c.args.b.now c.args.most c.args.rows.now c.in_ok-named.named
     (subst (λ (xs : List Row). IsLeastRowFault (IsShallow little c.args.b.now c.args.most) (IsTooDeep little c.args.b.now c.args.most) xs _) c.below_root-below.ensures c.in_default.ensures)
     (subst (IsLeastOf (OverlapsAt (extents_of little c.args.b.now c.args.rows.now))) c.in_default-2.is c.in_ok-at.ensures)
-    (subst (λ (xs : List Row). IsLeastRowFault (IsWellNamed little c.args.b.now) (HasNameFault little c.args.b.now) xs c.least_name_fault.result) c.below_root-below.ensures c.least_name_fault.ensures)
+    (subst (λ (xs : List Row). IsLeastRowFault (IsWellNamed little c.args.b.now) (HasNameFault little c.args.b.now) xs c.in_ok-named.named) c.below_root-below.ensures c.in_ok-named.ensures)

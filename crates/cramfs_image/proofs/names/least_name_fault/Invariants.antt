@@ -2,7 +2,11 @@ use Rattle.std.proofs.Common.{take}
 use Rattle.cramfs_format.specs.Order.{little}
 use Rattle.record_walk.specs.Sweep.{IsLeastRowFault}
 use Rattle.cramfs_image.specs.Phases.{HasNameFault, IsWellNamed}
+use Rattle.cramfs_image.proofs.Lasts.{HaveLast}
 use Rattle.cramfs_image.proofs.names.least_name_fault.Given as goal
 
 abbrev pub invariant-loop-i : goal.invariant-loop-i
-invariant-loop-i l = IsLeastRowFault (IsWellNamed little l.b) (HasNameFault little l.b) (take l.i l.rows) l.noted
+invariant-loop-i l = record {
+  last : HaveLast l.b l.last_names (take l.i l.rows);
+  noted : IsLeastRowFault (IsWellNamed little l.b) (HasNameFault little l.b) (take l.i l.rows) l.noted;
+}

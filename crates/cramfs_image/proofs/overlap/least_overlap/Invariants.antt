@@ -1,8 +1,13 @@
-use Rattle.std.proofs.Common.{take}
-use Rattle.cramfs_format.specs.Order.{little}
-use Rattle.cramfs_format.specs.Tree.{extents_of}
-use Rattle.cramfs_image.proofs.Repeats.{Same}
+use Rattle.std.proofs.Common.{◌≡◌, ◌++◌, [], take}
+use Rattle.std.specs.List.{flat_map, AllByRecursion as Every}
+use Rattle.rom_fields.specs.declared.span.Extent.TheVariants.{Super}
+use Rattle.rom_fields.specs.Extents.{added}
+use Rattle.cramfs_image.specs.Files.{list_part, file_part, FileLies}
 use Rattle.cramfs_image.proofs.overlap.least_overlap.Given as goal
 
-abbrev pub invariant-loop-i : goal.invariant-loop-i
-invariant-loop-i l = Same l.extents (extents_of little l.b (take l.i l.rows))
+abbrev pub invariant-rows : goal.invariant-rows
+invariant-rows l = record {
+  lists : l.extents ≡ added Super 0 76 ++ flat_map (list_part l.b) (take l.row-index l.rows);
+  files : l.files.items ≡ [] ++ flat_map (file_part l.b) (take l.row-index l.rows);
+  lie : Every (FileLies l.b) l.files.items;
+}

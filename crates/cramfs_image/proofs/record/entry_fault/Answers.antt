@@ -8,14 +8,14 @@ use Rattle.cramfs_image.proofs.Faults.{StandsHere, entry_joined, numbered, unnum
 use Rattle.cramfs_image.proofs.record.entry_fault.Goals as goal
 use Rattle.cramfs_image.proofs.record.entry_fault.Goals.{in-Some, in-None}
 
-pub returns-then-not-fits : goal.returns-then-not-fits
-returns-then-not-fits c = unfit little c.args.b.now c.args.end c.args.at (λ h. false≢true (sym c.if-not-fits.true ∙ c.fits.ensures.1 h))
+pub returns-then-not-fits-clause-least : goal.returns-then-not-fits-clause-least
+returns-then-not-fits-clause-least c = unfit little c.args.b.now c.args.end c.args.at (λ h. false≢true (sym c.if-not-fits.true ∙ c.fits.ensures.1 h))
 
-pub returns : goal.returns
-returns c =
+pub returns-clause-least : goal.returns-clause-least
+returns-clause-least c =
     let here : IsLeastFaultOf (StandsHere little c.args.b.now c.args.at) c.match-fault_at.here = elim c.match-fault_at.branch [
       | in-Some w ↦ rw w.here-is (numbered little c.args.b.now c.args.at w.in-Some.number (subst (IsLeastOf (IsFaultAt little c.args.b.now c.args.at)) w.in-Some.is c.fault_at.ensures))
       | in-None w ↦ rw w.here-is (unnumbered little c.args.b.now c.args.at (subst (IsLeastOf (IsFaultAt little c.args.b.now c.args.at)) w.in-None.is c.fault_at.ensures))
     ] in
     subst (IsLeastFaultOf (HasEntryFault little c.args.b.now c.args.end c.args.at)) (sym c.lesser.ensures)
-    (entry_joined (c.fits.ensures.0 c.if-not-fits.false) c.match-fault_at.here c.pointer_fault.result here c.pointer_fault.ensures)
+    (entry_joined (c.fits.ensures.0 c.if-not-fits.false) c.match-fault_at.here c.pointer_fault.result here c.pointer_fault.ensures.least)

@@ -5,8 +5,8 @@ use Rattle.rom_fields.proofs.sink.write_whole.Given as goal
 abbrev pub invariant-loop-at : goal.invariant-loop-at
 invariant-loop-at g l = record {
   within : l.at ≤ length l.b;
-  written : Appends (g.W.ByteWrite.told l.initial.w) (g.W.ByteWrite.told l.w) (take l.at l.b);
-  quiet : g.W.ByteWrite.failures l.w ≡ g.W.ByteWrite.failures l.initial.w;
+  written : Appends (g.W.ByteWrite.output l.initial.w).contents (g.W.ByteWrite.output l.w).contents (take l.at l.b);
+  quiet : (g.W.ByteWrite.output l.w).failures ≡ (g.W.ByteWrite.output l.initial.w).failures;
 }
 
 abbrev pub decreases-loop-at : goal.decreases-loop-at

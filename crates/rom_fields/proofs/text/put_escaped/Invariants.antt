@@ -9,6 +9,6 @@ invariant-loop-piece g l = record {
   can : (goal.iterator-loop-piece g).can_next l.piece-iterator;
   finite : (goal.iterator-loop-piece g).is_finite l.piece-iterator;
   done : List ℕ;
-  puts : Puts (sink (g.W.ByteWrite.told l.fn.w) (g.W.ByteWrite.failures l.fn.w) l.fn.failed) (sink (g.W.ByteWrite.told l.w) (g.W.ByteWrite.failures l.w) l.failed) done;
+  puts : Puts (sink (g.W.ByteWrite.output l.fn.w) l.fn.failed) (sink (g.W.ByteWrite.output l.w) l.failed) done;
   rest : done ++ encoded_text l.piece-iterator ≡ escaped l.name;
 }

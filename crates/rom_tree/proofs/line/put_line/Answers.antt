@@ -11,10 +11,10 @@ pub returns : goal.returns
 unfolding line stat_line
 returns g c = λ x e.
     let m : Image = g.T.Viewed.image c.args.image.now in
-    let from : Sink = sink (g.W.ByteWrite.told c.args.w.now) (g.W.ByteWrite.failures c.args.w.now) c.args.failed.now in
-    let to : Sink = sink (g.W.ByteWrite.told c.put-8.new.w) (g.W.ByteWrite.failures c.put-8.new.w) c.put-8.new.failed in
+    let from : Sink = sink (g.W.ByteWrite.output c.args.w.now) c.args.failed.now in
+    let to : Sink = sink (g.W.ByteWrite.output c.put-8.new.w) c.put-8.new.failed in
     let P : Stat → Type 0 = λ v. Puts from to (stat_line (line_path c.args.frames.now c.args.name) (target_text m.bytes x) v) in
-    let Q : ℕ → Type 0 = λ v. Puts (sink (g.W.ByteWrite.told c.put_decimal.new.w) (g.W.ByteWrite.failures c.put_decimal.new.w) c.put_decimal.new.failed) (sink (g.W.ByteWrite.told c.put.new.w) (g.W.ByteWrite.failures c.put.new.w) c.put.new.failed) (32 ∷ v ∷ 32 ∷ []) in
+    let Q : ℕ → Type 0 = λ v. Puts (sink (g.W.ByteWrite.output c.put_decimal.new.w) c.put_decimal.new.failed) (sink (g.W.ByteWrite.output c.put.new.w) c.put.new.failed) (32 ∷ v ∷ 32 ∷ []) in
     subst P (c.stat-stat.ensures x e)
     (chain c.put_decimal.ensures (chain (subst Q c.letter_of-letter.ensures c.put.ensures) (chain c.put_octal.ensures
     (chain c.put-2.ensures (chain c.put_decimal-2.ensures (chain c.put-3.ensures (chain c.put_decimal-3.ensures (chain c.put-4.ensures (chain c.put_decimal-4.ensures

@@ -7,7 +7,7 @@ use Rattle.rom_tree.proofs.Stacks.{path_text-push, path_text-nil}
 use Rattle.rom_tree.proofs.line.put_path.Goals as goal
 
 pub loop-frame-init : goal.loop-frame-init
-loop-frame-init g c = rw (path_text-nil []) (puts_nothing (sink (g.W.ByteWrite.told c.args.w.now) (g.W.ByteWrite.failures c.args.w.now) c.args.failed.now))
+loop-frame-init g c = rw (path_text-nil []) (puts_nothing (sink (g.W.ByteWrite.output c.args.w.now) c.args.failed.now))
 
 pub loop-frame-preserved : goal.loop-frame-preserved
 loop-frame-preserved g c =

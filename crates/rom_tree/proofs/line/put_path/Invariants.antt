@@ -4,4 +4,4 @@ use Rattle.rom_tree.specs.Frames.{path_text}
 use Rattle.rom_tree.proofs.line.put_path.Given as goal
 
 abbrev pub invariant-loop-frame : goal.invariant-loop-frame
-invariant-loop-frame g l = Puts (sink (g.W.ByteWrite.told l.fn.w) (g.W.ByteWrite.failures l.fn.w) l.fn.failed) (sink (g.W.ByteWrite.told l.w) (g.W.ByteWrite.failures l.w) l.failed) (path_text [] (take l.frame-index l.frames))
+invariant-loop-frame g l = Puts (sink (g.W.ByteWrite.output l.fn.w) l.fn.failed) (sink (g.W.ByteWrite.output l.w) l.failed) (path_text [] (take l.frame-index l.frames))

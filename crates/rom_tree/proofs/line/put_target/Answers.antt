@@ -16,8 +16,8 @@ link_text-requires g c κs =
 pub returns-then-is_link_at : goal.returns-then-is_link_at
 returns-then-is_link_at g c = λ x e.
     let m : Image = g.T.Viewed.image c.args.image.now in
-    let from : Sink = sink (g.W.ByteWrite.told c.args.w.now) (g.W.ByteWrite.failures c.args.w.now) c.args.failed.now in
-    let to : Sink = sink (g.W.ByteWrite.told c.put_escaped.new.w) (g.W.ByteWrite.failures c.put_escaped.new.w) c.put_escaped.new.failed in
+    let from : Sink = sink (g.W.ByteWrite.output c.args.w.now) c.args.failed.now in
+    let to : Sink = sink (g.W.ByteWrite.output c.put_escaped.new.w) c.put_escaped.new.failed in
     let P : Bool → Type 0 = λ v. Puts from to (if v then 32 ∷ escaped (text_of m.bytes x) else []) in
     let Q : List ℕ → Type 0 = λ v. Puts from to (32 ∷ escaped v) in
     subst P (c.if-is_link_at.ensures x e) (subst Q (c.link_text.ensures x e) (chain c.put.ensures c.put_escaped.ensures))
@@ -25,6 +25,6 @@ returns-then-is_link_at g c = λ x e.
 pub returns-else-is_link_at : goal.returns-else-is_link_at
 returns-else-is_link_at g c = λ x e.
     let m : Image = g.T.Viewed.image c.args.image.now in
-    let from : Sink = sink (g.W.ByteWrite.told c.args.w.now) (g.W.ByteWrite.failures c.args.w.now) c.args.failed.now in
+    let from : Sink = sink (g.W.ByteWrite.output c.args.w.now) c.args.failed.now in
     let P : Bool → Type 0 = λ v. Puts from from (if v then 32 ∷ escaped (text_of m.bytes x) else []) in
     subst P (c.if-is_link_at.ensures x e) (puts_nothing from)

@@ -23,7 +23,7 @@ pub loop-failed-init : goal.loop-failed-init
 loop-failed-init g c =
     let m : Image = g.T.Viewed.image c.args.image.now in
     let x : image_node m c.root-root.result.0 ≡ Some m.tree = root_node m c.root-root.result.0 c.root-root.ensures in
-    let p : Puts (sink (g.W.ByteWrite.told c.args.w.now) (g.W.ByteWrite.failures c.args.w.now) false) (sink (g.W.ByteWrite.told c.put_line.new.w) (g.W.ByteWrite.failures c.put_line.new.w) c.put_line.new.failed) (line m.bytes (47 ∷ []) m.tree) = c.put_line.ensures m.tree x in
+    let p : Puts (sink (g.W.ByteWrite.output c.args.w.now) false) (sink (g.W.ByteWrite.output c.put_line.new.w) c.put_line.new.failed) (line m.bytes (47 ∷ []) m.tree) = c.put_line.ensures m.tree x in
     let P : List Frame → Type 0 = λ v. AreFrames m 0 v in
     let f : Frame = record { directory = c.root-root.result; cursor = record { 0 = 0 }; name = None } in
     elim c.if-is_directory_at.branch [
@@ -63,11 +63,11 @@ loop-failed-smaller g c = let step = c.step.ensures in step.1.less
 
 pub returns-clause-err : goal.returns-clause-err
 returns-clause-err g c = let m : Image = g.T.Viewed.image c.args.image.now in let i = c.loop-failed.invariant in
-    let P : List ℕ → Type 0 = λ v. AppendsFront (g.W.ByteWrite.told c.args.w.now) (g.W.ByteWrite.told c.loop-failed.w) v in
-    subst P i.rest (front_first (g.W.ByteWrite.told c.args.w.now) (g.W.ByteWrite.told c.loop-failed.w) i.done (pending m [] c.loop-failed.stack.items) (said_front (g.W.ByteWrite.told c.args.w.now) (g.W.ByteWrite.told c.loop-failed.w) (g.W.ByteWrite.failures c.args.w.now) (g.W.ByteWrite.failures c.loop-failed.w) c.loop-failed.failed i.done c.loop-failed-test.false i.puts))
+    let P : List ℕ → Type 0 = λ v. AppendsFront (g.W.ByteWrite.output c.args.w.now).contents (g.W.ByteWrite.output c.loop-failed.w).contents v in
+    subst P i.rest (front_first (g.W.ByteWrite.output c.args.w.now).contents (g.W.ByteWrite.output c.loop-failed.w).contents i.done (pending m [] c.loop-failed.stack.items) (said_front (g.W.ByteWrite.output c.args.w.now) (g.W.ByteWrite.output c.loop-failed.w) c.loop-failed.failed i.done c.loop-failed-test.false i.puts))
 
 pub returns-clause-fault : goal.returns-clause-fault
-returns-clause-fault g c = let i = c.loop-failed.invariant in said_rose (g.W.ByteWrite.told c.args.w.now) (g.W.ByteWrite.told c.loop-failed.w) (g.W.ByteWrite.failures c.args.w.now) (g.W.ByteWrite.failures c.loop-failed.w) c.loop-failed.failed i.done c.loop-failed-test.false i.puts
+returns-clause-fault g c = let i = c.loop-failed.invariant in said_rose (g.W.ByteWrite.output c.args.w.now) (g.W.ByteWrite.output c.loop-failed.w) c.loop-failed.failed i.done c.loop-failed-test.false i.puts
 
 empty_by : (xs : List Frame) → (length xs == 0) ≡ true → xs ≡ []
 empty_by [] h = refl
@@ -77,5 +77,5 @@ pub returns-then-is_empty-clause-ok : goal.returns-then-is_empty-clause-ok
 returns-then-is_empty-clause-ok g c = let m : Image = g.T.Viewed.image c.args.image.now in let i = c.loop-failed.invariant in
     let n : c.loop-failed.stack.items ≡ [] = empty_by c.loop-failed.stack.items (sym c.is_empty.ensures ∙ c.if-is_empty.true) in
     let e : i.done ≡ list_text m.bytes m.tree = sym (append-nil i.done) ∙ (ap (λ (v : List ℕ). i.done ++ v) (sym (ap (pending m []) n ∙ pending-nil m [])) ∙ i.rest) in
-    let P : List ℕ → Type 0 = λ v. Appends (g.W.ByteWrite.told c.args.w.now) (g.W.ByteWrite.told c.loop-failed.w) v in
-    subst P e (said_ok (g.W.ByteWrite.told c.args.w.now) (g.W.ByteWrite.told c.loop-failed.w) (g.W.ByteWrite.failures c.args.w.now) (g.W.ByteWrite.failures c.loop-failed.w) c.loop-failed.failed i.done c.loop-failed-test.true i.puts)
+    let P : List ℕ → Type 0 = λ v. Appends (g.W.ByteWrite.output c.args.w.now).contents (g.W.ByteWrite.output c.loop-failed.w).contents v in
+    subst P e (said_ok (g.W.ByteWrite.output c.args.w.now) (g.W.ByteWrite.output c.loop-failed.w) c.loop-failed.failed i.done c.loop-failed-test.true i.puts)

@@ -9,7 +9,7 @@ abbrev pub invariant-loop-failed : goal.invariant-loop-failed
 invariant-loop-failed g l = record {
   frames : AreFrames (g.T.Viewed.image l.image) 0 l.stack.items;
   done : List ℕ;
-  puts : Puts (sink (g.W.ByteWrite.told l.fn.w) (g.W.ByteWrite.failures l.fn.w) false) (sink (g.W.ByteWrite.told l.w) (g.W.ByteWrite.failures l.w) l.failed) done;
+  puts : Puts (sink (g.W.ByteWrite.output l.fn.w) false) (sink (g.W.ByteWrite.output l.w) l.failed) done;
   rest : done ++ pending (g.T.Viewed.image l.image) [] l.stack.items ≡ list_text (g.T.Viewed.image l.image).bytes (g.T.Viewed.image l.image).tree;
 }
 

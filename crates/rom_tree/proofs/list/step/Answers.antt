@@ -38,7 +38,7 @@ returns-in_default-entry g c =
     let all : List Frame = c.args.stack.now.items in
     let fs : List Frame = c.pop.new.self.items in
     let f : Frame = c.in-Some.frame in
-    ([], ends m all fs f c.in-Some.ensures.items c.requires.frames c.in_default-entry.ensures, puts_nothing (sink (g.W.ByteWrite.told c.args.w.now) (g.W.ByteWrite.failures c.args.w.now) c.args.failed.now))
+    ([], ends m all fs f c.in-Some.ensures.items c.requires.frames c.in_default-entry.ensures, puts_nothing (sink (g.W.ByteWrite.output c.args.w.now) c.args.failed.now))
 
 pub put_line-requires : goal.put_line-requires
 put_line-requires g c κs =
@@ -76,7 +76,7 @@ returns-else-is_directory_at g c =
     let t : Turn m all fs f' name n = turn m all fs f name n c.in-Some-entry.entry.cursor c.in-Some.ensures.items c.requires.frames c.in-Some-entry.ensures in
     let file : false ≡ is_directory t.target = c.if-is_directory_at.ensures t.target t.node in
     let s : Follows m all c.push.new.self.items (entry_line m (fs ++ f' ∷ []) name t.target) = follows_as m all (fs ++ f' ∷ []) c.push.new.self.items (entry_line m (fs ++ f' ∷ []) name t.target) c.push.ensures.items (t.leaf (not_directory_entries t.target file)) in
-    let P : List Frame → Type 0 = λ v. Puts (sink (g.W.ByteWrite.told c.args.w.now) (g.W.ByteWrite.failures c.args.w.now) c.args.failed.now) (sink (g.W.ByteWrite.told c.put_line.new.w) (g.W.ByteWrite.failures c.put_line.new.w) c.put_line.new.failed) (entry_line m v name t.target) in
+    let P : List Frame → Type 0 = λ v. Puts (sink (g.W.ByteWrite.output c.args.w.now) c.args.failed.now) (sink (g.W.ByteWrite.output c.put_line.new.w) c.put_line.new.failed) (entry_line m v name t.target) in
     (entry_line m (fs ++ f' ∷ []) name t.target, s, subst P (c.as_slice.ensures.value ∙ c.push.ensures.items) (c.put_line.ensures t.target t.node))
 
 pub push-requires-then-is_directory_at : goal.push-requires-then-is_directory_at
@@ -108,5 +108,5 @@ returns-then-is_directory_at g c =
     let top : List Frame = c.push-then-is_directory_at.new.self.items in
     let pushed : top ≡ (fs ++ f' ∷ []) ++ k ∷ [] = two top c.push.new.self.items fs f' k c.push-then-is_directory_at.ensures.items c.push.ensures.items in
     let s : Follows m all top (entry_line m (fs ++ f' ∷ []) name t.target) = follows_as m all ((fs ++ f' ∷ []) ++ k ∷ []) top (entry_line m (fs ++ f' ∷ []) name t.target) pushed (t.enters (sym directory)) in
-    let P : List Frame → Type 0 = λ v. Puts (sink (g.W.ByteWrite.told c.args.w.now) (g.W.ByteWrite.failures c.args.w.now) c.args.failed.now) (sink (g.W.ByteWrite.told c.put_line.new.w) (g.W.ByteWrite.failures c.put_line.new.w) c.put_line.new.failed) (entry_line m v name t.target) in
+    let P : List Frame → Type 0 = λ v. Puts (sink (g.W.ByteWrite.output c.args.w.now) c.args.failed.now) (sink (g.W.ByteWrite.output c.put_line.new.w) c.put_line.new.failed) (entry_line m v name t.target) in
     (entry_line m (fs ++ f' ∷ []) name t.target, s, subst P (c.as_slice.ensures.value ∙ c.push.ensures.items) (c.put_line.ensures t.target t.node))

@@ -18,6 +18,6 @@ least_name_fault-requires-clause-listed c = subst (All (λ (x : Row). IsSound c.
 
 pub returns : goal.returns
 returns c =
-    well_or_fault c.args.b.now c.args.root c.args.most c.args.rows.now c.least_name_fault.result c.in_default.ensures
+    well_or_fault c.args.b.now c.args.root c.args.most c.args.rows.now c.in_ok-named.named c.in_default.ensures
     (subst (IsLeastOf (OverlapsAt (extents_of c.args.b.now c.args.root c.args.rows.now))) c.in_default-2.is c.in_ok-at.ensures)
-    (subst (λ (xs : List Row). IsLeastRowFault (IsWellNamed c.args.b.now c.args.root c.args.rows.now) (HasNameFault c.args.b.now c.args.root c.args.rows.now) xs c.least_name_fault.result) c.listed.ensures c.least_name_fault.ensures)
+    (subst (λ (xs : List Row). IsLeastRowFault (IsWellNamed c.args.b.now c.args.root c.args.rows.now) (HasNameFault c.args.b.now c.args.root c.args.rows.now) xs c.in_ok-named.named) c.listed.ensures c.in_ok-named.ensures)

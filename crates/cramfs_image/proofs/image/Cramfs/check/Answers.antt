@@ -1,6 +1,7 @@
 use Rattle.std.proofs.Common.{◌≡◌, ℕ, List, sym, subst, ◌∙◌}
 use Rattle.record_walk.specs.declared.reference.Row.{Row}
-use Rattle.record_walk.specs.Answers.{fault_answer, walk_answer}
+use Rattle.rom_faults.specs.Faults.{fault_answer}
+use Rattle.record_walk.specs.Answers.{traversal_answer}
 use Rattle.rom_tree.proofs.Answered.{err_by}
 use Rattle.cramfs_format.specs.Order.{Order, little}
 use Rattle.cramfs_format.specs.Faults.{whole}
@@ -21,13 +22,13 @@ pub returns-in_err-b-clause-fault : goal.returns-in_err-b-clause-fault
 returns-in_err-b-clause-fault c = err_by c.from_residual.result c.from_residual.ensures.1 (λ e is.
     subst (IsRefused little c.args.bytes.now c.args.limits) (sym is) (least_refuses little c.args.bytes.now c.args.limits (fault_answer c.in_err-b.field-0.0) (whole c.in_err-b.ensures.fault)))
 
-pub walk-requires : goal.walk-requires
-walk-requires c = references_lawful little c.in_ok-b.b.now
+pub traverse-requires : goal.traverse-requires
+traverse-requires c = references_lawful little c.in_ok-b.b.now
 
 pub returns-in_err-rows-clause-fault : goal.returns-in_err-rows-clause-fault
 returns-in_err-rows-clause-fault c = err_by c.from_residual-in_err-rows.result c.from_residual-in_err-rows.ensures.1 (λ e is.
     subst (IsRefused little c.args.bytes.now c.args.limits) (sym is)
-    (least_refuses little c.args.bytes.now c.args.limits (walk_answer c.in_err-rows.field-0.0) (least_walk c.in_ok-b.ensures.ok c.args.limits c.in_err-rows.field-0.0 c.in_err-rows.ensures.fault)))
+    (least_refuses little c.args.bytes.now c.args.limits (traversal_answer c.in_err-rows.field-0.0) (least_walk c.in_ok-b.ensures.ok c.args.limits c.in_err-rows.field-0.0 c.in_err-rows.ensures.fault)))
 
 pub returns-in_err-rows-clause-least : goal.returns-in_err-rows-clause-least
 returns-in_err-rows-clause-least c = err_by c.from_residual-in_err-rows.result c.from_residual-in_err-rows.ensures.1 (λ e is.

@@ -1,6 +1,7 @@
 use Rattle.std.proofs.Common.{◌≡◌, ℕ, List, sym, subst, ◌∙◌}
 use Rattle.record_walk.specs.declared.reference.Row.{Row}
-use Rattle.record_walk.specs.Answers.{fault_answer, walk_answer}
+use Rattle.rom_faults.specs.Faults.{fault_answer}
+use Rattle.record_walk.specs.Answers.{traversal_answer}
 use Rattle.rom_tree.proofs.Answered.{err_by}
 use Rattle.romfs_format.specs.Faults.{whole}
 use Rattle.romfs_format.proofs.Lawful.{references_lawful}
@@ -23,13 +24,13 @@ returns-in_err-superblock-clause-fault c = err_by c.from_residual.result c.from_
 pub invariant_of-reader : goal.invariant_of-reader
 invariant_of-reader c = record { small = c.in_ok-superblock.ensures.small; below = root_positive c.in_ok-superblock.ensures.ok }
 
-pub walk-requires : goal.walk-requires
-walk-requires c = references_lawful c.in_ok-superblock.superblock.bytes.now c.in_ok-superblock.superblock.root (root_positive c.in_ok-superblock.ensures.ok)
+pub traverse-requires : goal.traverse-requires
+traverse-requires c = references_lawful c.in_ok-superblock.superblock.bytes.now c.in_ok-superblock.superblock.root (root_positive c.in_ok-superblock.ensures.ok)
 
 pub returns-in_err-rows-clause-fault : goal.returns-in_err-rows-clause-fault
 returns-in_err-rows-clause-fault c = err_by c.from_residual-in_err-rows.result c.from_residual-in_err-rows.ensures.1 (λ e is.
     subst (IsRefused c.args.bytes.now c.args.limits) (sym is)
-    (least_refuses c.args.bytes.now c.args.limits (walk_answer c.in_err-rows.field-0.0) (least_walk c.in_ok-superblock.ensures.ok c.args.limits c.in_err-rows.field-0.0 (root_positive c.in_ok-superblock.ensures.ok) c.in_err-rows.ensures.fault)))
+    (least_refuses c.args.bytes.now c.args.limits (traversal_answer c.in_err-rows.field-0.0) (least_walk c.in_ok-superblock.ensures.ok c.args.limits c.in_err-rows.field-0.0 (root_positive c.in_ok-superblock.ensures.ok) c.in_err-rows.ensures.fault)))
 
 pub returns-in_err-rows-clause-least : goal.returns-in_err-rows-clause-least
 returns-in_err-rows-clause-least c = err_by c.from_residual-in_err-rows.result c.from_residual-in_err-rows.ensures.1 (λ e is.

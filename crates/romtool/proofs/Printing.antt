@@ -1,0 +1,44 @@
+-- How a printing ended, by its status and the count of failed writes.
+use Rattle.std.proofs.Common.{◌≡◌, ℕ, ◌+◌, ◌-◌, ◌^◌, ◌<◌, ◌≤◌, ◌⊎◌, min, Bool, true, false, List, [], Result, Ok, Err, inl, inr, sym, ap, subst, ◌∙◌, arith}
+use Rattle.std.specs.Io.KnownBytes.{Keeps}
+use Rattle.rom_fields.specs.Failures.{after_read, Rose}
+use Rattle.rom_fields.specs.Written.{Output, sink}
+use Rattle.rom_fields.proofs.Joins.{appends_keep, front_all, puts_nothing}
+use Rattle.romtool.specs.declared.shown.Outcome.{Outcome}
+use Rattle.romtool.specs.declared.shown.Outcome.TheVariants.{Done, Refused, Memory, WriteFault}
+use Rattle.romtool.specs.Answers.{Ends, Prints, status_of}
+
+pub prints_nothing : (o : Output) → Prints o o []
+prints_nothing o = (false, puts_nothing (sink o false))
+
+rose_counted : (old new : ℕ) → old ≡ 0 → Rose old new → new ≡ 0 → ⊥
+rose_counted old new z r e = elim r [ inl l ↦ omega arith | inr l ↦ omega arith ]
+
+-- status 3 and no failed write: memory was refused
+pub memory_told : (bytes : List ℕ) (listed : Bool) (old new : Output) (o : Outcome) → Ends bytes listed old new o → old.failures ≡ 0 → 3 ≡ status_of o → new.failures ≡ 0 → Ends bytes listed old new Memory
+memory_told bytes listed old new Done h z e f = absurd (omega arith)
+memory_told bytes listed old new Refused h z e f = absurd (omega arith)
+memory_told bytes listed old new Memory h z e f = h
+memory_told bytes listed old new WriteFault h z e f = absurd (rose_counted old.failures new.failures z h.3 f)
+
+-- a failed write, or a failed flush after the text
+pub fault_told : (bytes : List ℕ) (listed : Bool) (old mid new : Output) (o : Outcome) → Ends bytes listed old mid o → old.failures ≡ 0 → Keeps mid.contents new.contents → 0 < new.failures
+    → (3 ≡ status_of o → mid.failures ≡ 0 → ⊥) → Ends bytes listed old new WriteFault
+fault_told bytes listed old mid new Done h z k l n = (h.0, inl h.1, front_all old.contents new.contents h.0 (appends_keep old.contents mid.contents new.contents h.0 h.2 k), inl (omega arith))
+fault_told bytes listed old mid new Refused h z k l n = (h.0, inr h.1, front_all old.contents new.contents h.0 (appends_keep old.contents mid.contents new.contents h.0 h.2 k), inl (omega arith))
+fault_told bytes listed old mid new Memory h z k l n = absurd (n (omega arith) (ap (λ (v : Output). v.failures) h ∙ z))
+fault_told bytes listed old mid new WriteFault h z k l n =
+    let a = h.2 in
+    (h.0, h.1, (a.0, a.1, appends_keep old.contents mid.contents new.contents a.0 a.2 k, a.3), inl (omega arith))
+
+count_after : {E : Type 0} (n : ℕ) (r : Result _ E) → n < 2 ^ 64 → after_read n r ≡ 0 → n ≡ 0
+count_after n (Ok v) l e = e
+count_after n (Err v) l e = let m : min (n + 1) (2 ^ 64 - 1) ≡ 0 = e in omega arith
+
+-- no failure, and memory was not refused: the text is there
+pub shown_told : (bytes : List ℕ) (listed : Bool) (old mid new : Output) (o : Outcome) → Ends bytes listed old mid o → old.failures ≡ 0 → Keeps mid.contents new.contents → mid.failures ≡ 0
+    → (3 ≡ status_of o → ⊥) → Ends bytes listed old new o
+shown_told bytes listed old mid new Done h z k f n = (h.0, h.1, appends_keep old.contents mid.contents new.contents h.0 h.2 k)
+shown_told bytes listed old mid new Refused h z k f n = (h.0, h.1, appends_keep old.contents mid.contents new.contents h.0 h.2 k)
+shown_told bytes listed old mid new Memory h z k f n = absurd (n (omega arith))
+shown_told bytes listed old mid new WriteFault h z k f n = absurd (n (omega arith))
