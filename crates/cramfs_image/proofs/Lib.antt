@@ -8,6 +8,7 @@ pub mod Naming
 pub mod Lasts
 pub mod Spans
 pub mod Composed
+pub mod Shallow
 pub mod Trees
 pub mod Repeats
 pub mod Blocks

@@ -33,9 +33,10 @@ impl Viewed for Cramfs<'_> {
 }
 
 impl<'a> TreeImage<'a> for Cramfs<'a> {
-    ghost use Rattle.std.specs.Prelude.{Some};
-    ghost use Rattle.rom_tree.specs.Tree.{Node, places_of};
-    ghost use Rattle.rom_tree.specs.Image.{image_node, HasNode, GivesRun, GivesWhole};
+    ghost use Rattle.std.specs.Prelude.{Some, None, MatchOption};
+    ghost use Rattle.rom_tree.specs.Tree.{Node, places_of, entries_of, ino_of};
+    ghost use Rattle.rom_tree.specs.Image.{image_node, find_entry, HasNode, HasDirectory, GivesRun, GivesWhole};
+    ghost use Rattle.cramfs_image.specs.Reported.{report_of};
     ghost use Rattle.cramfs_image.specs.Cramfs.{GivesBlock};
 
     fn bytes(&self) -> &'a [u8] {
@@ -107,7 +108,15 @@ impl<'a> TreeImage<'a> for Cramfs<'a> {
         })
     }
 
-    fn lookup(&mut self, d: NodeId, name: &[u8]) -> Option<NodeId> {
+    /// The report stays as it is.
+    fn lookup(&mut self, d: NodeId, name: &[u8]) -> Option<NodeId>
+        requires { HasDirectory (⟦<Cramfs<'a> as Viewed>⟧.image self.old) d.0 }
+        ensures stays { ⟦<Cramfs<'a> as Viewed>⟧.image self.new ≡ ⟦<Cramfs<'a> as Viewed>⟧.image self.old }
+        ensures found { (x : Node) → image_node (⟦<Cramfs<'a> as Viewed>⟧.image self.old) d.0 ≡ Some x
+            → MatchOption result (find_entry (entries_of x) name.now ≡ None)
+            (λ n. (y : Node) × (find_entry (entries_of x) name.now ≡ Some y) × (ino_of y ≡ n.0)) }
+        ensures report { report_of self.new ≡ report_of self.old }
+    {
         let end = list_end_at(self.bytes, d.0 as usize);
         let mut at = offset_at(self.bytes, d.0 as usize);
         while at < end {

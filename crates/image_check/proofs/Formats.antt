@@ -55,11 +55,6 @@ pub refused_cramfs : (all : List ℕ) (limits : Limits) (e : CheckError) → IsC
 refused_cramfs all limits OutOfMemory h r = tt
 refused_cramfs all limits (Fault number at) h r = λ t x. elim x [ inl y ↦ apart all (romfs_begins y) h.1 | inr y ↦ r t y ]
 
--- a checked image is shallow enough to be listed
-pub shallow : {all : List ℕ} {limits : Limits} {m : Image} {report : Report} → Shows all limits m report → levels m.tree ≤ 65
-shallow {m = m} (romfs s) = let e = ap depth s.tree.same in let h = s.tree.whole.shallow in let l = levels_depth m.tree in omega arith
-shallow {m = m} (cramfs s) = let e = ap depth s.tree.same in let h = s.tree.whole.shallow in let l = levels_depth m.tree in omega arith
-
 -- the first word tells whether they begin as a cramfs image does
 pub word_tells : (all : List ℕ) (m : ℕ) → (4 ≤ length all) × (m ≡ word_le all 0) → (IsTrue (nat_eq m 684539205) → IsCramfs all) × (IsCramfs all → IsTrue (nat_eq m 684539205))
 word_tells all m h = (

@@ -21,9 +21,9 @@ impl Viewed for AnyImage<'_> {
 }
 
 impl<'a> TreeImage<'a> for AnyImage<'a> {
-    ghost use Rattle.std.specs.Prelude.{Some};
-    ghost use Rattle.rom_tree.specs.Tree.{Node, places_of};
-    ghost use Rattle.rom_tree.specs.Image.{image_node, HasNode, GivesRun, GivesWhole};
+    ghost use Rattle.std.specs.Prelude.{Some, None, MatchOption};
+    ghost use Rattle.rom_tree.specs.Tree.{Node, places_of, entries_of, ino_of};
+    ghost use Rattle.rom_tree.specs.Image.{image_node, find_entry, HasNode, HasDirectory, GivesRun, GivesWhole};
     ghost use Rattle.image_check.specs.Any.{GivesPart};
 
     fn bytes(&self) -> &'a [u8] {
@@ -61,7 +61,15 @@ impl<'a> TreeImage<'a> for AnyImage<'a> {
         }
     }
 
-    fn lookup(&mut self, d: NodeId, name: &[u8]) -> Option<NodeId> {
+    /// The report stays as it is.
+    fn lookup(&mut self, d: NodeId, name: &[u8]) -> Option<NodeId>
+        requires { HasDirectory (any_view self.old) d.0 }
+        ensures stays { any_view self.new ≡ any_view self.old }
+        ensures found { (x : Node) → image_node (any_view self.old) d.0 ≡ Some x
+            → MatchOption result (find_entry (entries_of x) name.now ≡ None)
+            (λ n. (y : Node) × (find_entry (entries_of x) name.now ≡ Some y) × (ino_of y ≡ n.0)) }
+        ensures report { report_of self.new ≡ report_of self.old }
+    {
         match self {
             AnyImage::Romfs(image) => image.lookup(d, name),
             AnyImage::Cramfs(image) => image.lookup(d, name),

@@ -6,6 +6,7 @@ pub mod Steps
 pub mod Naming
 pub mod Offsets
 pub mod Composed
+pub mod Shallow
 pub mod Trees
 pub mod Exact
 pub mod Least

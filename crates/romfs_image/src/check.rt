@@ -14,6 +14,7 @@ use std::alloc::Global;
 impl<'a> Romfs<'a> {
     ghost use Rattle.romfs_image.specs.Checked.{Shows, IsRefused, IsLeastAnswer};
     ghost use Rattle.romfs_format.specs.Faults.{HasNoFault};
+    ghost use Rattle.rom_tree.specs.Tree.{levels};
     ghost use Rattle.romfs_image.specs.Reported.{report_of};
 
     /// The image of these bytes, where they hold the tree of a romfs image within the limits (a
@@ -21,10 +22,11 @@ impl<'a> Romfs<'a> {
     /// fault, by phases: the image as a whole, the count of references, records, references, depth,
     /// extents, names (`romfs_format/specs/Faults.antt`).
     ///
-    /// It looks at no more than `limits.references` references and one more. `OutOfMemory` where the
-    /// room for the table of records or for the extents is refused.
+    /// It looks at no more than `limits.references` references and one more. Of r records it takes
+    /// time as r log r and memory for some 120 bytes a record. `OutOfMemory` where that is refused.
     pub fn check(alloc: Global, bytes: &'a [u8], limits: Limits) -> Result<Romfs<'a>, CheckError>
         ensures ok { IfOk result (λ v. Shows bytes.now limits (⟦<Romfs<'a> as Viewed>⟧.image v) (report_of v)) }
+        ensures shallow { IfOk result (λ v. levels (⟦<Romfs<'a> as Viewed>⟧.image v).tree ≤ 65) }
         ensures clean { IfOk result (λ v. HasNoFault bytes.now limits.references limits.depth) }
         ensures fault { IfErr result (IsRefused bytes.now limits) }
         ensures least { IfErr result (IsLeastAnswer bytes.now limits) }

@@ -29,9 +29,10 @@ impl Viewed for Romfs<'_> {
 }
 
 impl<'a> TreeImage<'a> for Romfs<'a> {
-    ghost use Rattle.std.specs.Prelude.{Some};
-    ghost use Rattle.rom_tree.specs.Tree.{Node, places_of};
-    ghost use Rattle.rom_tree.specs.Image.{image_node, HasNode, GivesRun, GivesWhole};
+    ghost use Rattle.std.specs.Prelude.{Some, None, MatchOption};
+    ghost use Rattle.rom_tree.specs.Tree.{Node, places_of, entries_of, ino_of};
+    ghost use Rattle.rom_tree.specs.Image.{image_node, find_entry, HasNode, HasDirectory, GivesRun, GivesWhole};
+    ghost use Rattle.romfs_image.specs.Reported.{report_of};
     ghost use Rattle.romfs_image.specs.Romfs.{GivesRest};
 
     fn bytes(&self) -> &'a [u8] {
@@ -103,7 +104,15 @@ impl<'a> TreeImage<'a> for Romfs<'a> {
         None
     }
 
-    fn lookup(&mut self, d: NodeId, name: &[u8]) -> Option<NodeId> {
+    /// The report stays as it is.
+    fn lookup(&mut self, d: NodeId, name: &[u8]) -> Option<NodeId>
+        requires { HasDirectory (⟦<Romfs<'a> as Viewed>⟧.image self.old) d.0 }
+        ensures stays { ⟦<Romfs<'a> as Viewed>⟧.image self.new ≡ ⟦<Romfs<'a> as Viewed>⟧.image self.old }
+        ensures found { (x : Node) → image_node (⟦<Romfs<'a> as Viewed>⟧.image self.old) d.0 ≡ Some x
+            → MatchOption result (find_entry (entries_of x) name.now ≡ None)
+            (λ n. (y : Node) × (find_entry (entries_of x) name.now ≡ Some y) × (ino_of y ≡ n.0)) }
+        ensures report { report_of self.new ≡ report_of self.old }
+    {
         let mut at = list_start(self.bytes, self.root, d.0);
         while at != 0 {
             let found = name_at(self.bytes, self.root, at);

@@ -1,12 +1,12 @@
 -- How a printing ended, by its status and the count of failed writes.
-use Rattle.std.proofs.Common.{◌≡◌, ℕ, ◌+◌, ◌-◌, ◌^◌, ◌<◌, ◌≤◌, ◌⊎◌, min, Bool, true, false, List, [], Result, Ok, Err, inl, inr, sym, ap, subst, ◌∙◌, arith}
+use Rattle.std.proofs.Common.{◌≡◌, ℕ, ◌+◌, ◌-◌, ◌^◌, ◌<◌, ◌≤◌, ◌⊎◌, min, Bool, true, false, List, [], Result, Ok, Err, inl, inr, refl, sym, ap, subst, ◌∙◌, arith}
 use Rattle.std.specs.Io.KnownBytes.{Keeps}
 use Rattle.rom_fields.specs.Failures.{after_read, Rose}
 use Rattle.rom_fields.specs.Written.{Output, sink}
 use Rattle.rom_fields.proofs.Joins.{appends_keep, front_all, puts_nothing}
 use Rattle.romtool.specs.declared.shown.Outcome.{Outcome}
 use Rattle.romtool.specs.declared.shown.Outcome.TheVariants.{Done, Refused, Memory, WriteFault}
-use Rattle.romtool.specs.Answers.{Ends, Prints, status_of}
+use Rattle.romtool.specs.Answers.{Ends, Prints, complaint_of, status_of}
 
 pub prints_nothing : (o : Output) → Prints o o []
 prints_nothing o = (false, puts_nothing (sink o false))
@@ -31,14 +31,15 @@ fault_told bytes listed old mid new WriteFault h z k l n =
     let a = h.2 in
     (h.0, h.1, (a.0, a.1, appends_keep old.contents mid.contents new.contents a.0 a.2 k, a.3), inl (omega arith))
 
-count_after : {E : Type 0} (n : ℕ) (r : Result _ E) → n < 2 ^ 64 → after_read n r ≡ 0 → n ≡ 0
-count_after n (Ok v) l e = e
-count_after n (Err v) l e = let m : min (n + 1) (2 ^ 64 - 1) ≡ 0 = e in omega arith
+-- a count that is 0 after a flush was 0 before it
+pub count_before : {A E : Type 0} (n m : ℕ) (r : Result A E) → m ≡ after_read n r → m ≡ 0 → n ≡ 0
+count_before n m (Ok v) e z = sym e ∙ z
+count_before n m (Err v) e z = let k : min (n + 1) (2 ^ 64 - 1) ≡ 0 = sym e ∙ z in absurd (omega arith)
 
--- no failure, and memory was not refused: the text is there
-pub shown_told : (bytes : List ℕ) (listed : Bool) (old mid new : Output) (o : Outcome) → Ends bytes listed old mid o → old.failures ≡ 0 → Keeps mid.contents new.contents → mid.failures ≡ 0
-    → (3 ≡ status_of o → ⊥) → Ends bytes listed old new o
-shown_told bytes listed old mid new Done h z k f n = (h.0, h.1, appends_keep old.contents mid.contents new.contents h.0 h.2 k)
-shown_told bytes listed old mid new Refused h z k f n = (h.0, h.1, appends_keep old.contents mid.contents new.contents h.0 h.2 k)
-shown_told bytes listed old mid new Memory h z k f n = absurd (n (omega arith))
-shown_told bytes listed old mid new WriteFault h z k f n = absurd (n (omega arith))
+-- no failure, and memory was not refused: the text is there, and nothing is said of an error
+pub shown_told : (bytes : List ℕ) (listed : Bool) (old mid new err : Output) (o : Outcome) → Ends bytes listed old mid o → Keeps mid.contents new.contents → (3 ≡ status_of o → ⊥)
+    → Ends bytes listed old new o × Prints err err (complaint_of o)
+shown_told bytes listed old mid new err Done h k n = ((h.0, h.1, appends_keep old.contents mid.contents new.contents h.0 h.2 k), prints_nothing err)
+shown_told bytes listed old mid new err Refused h k n = ((h.0, h.1, appends_keep old.contents mid.contents new.contents h.0 h.2 k), prints_nothing err)
+shown_told bytes listed old mid new err Memory h k n = absurd (n refl)
+shown_told bytes listed old mid new err WriteFault h k n = absurd (n refl)

@@ -1,19 +1,13 @@
 use Rattle.std.proofs.Common.{sym, subst}
 use Rattle.rom_tree.proofs.Answered.{err_by}
-use Rattle.image_check.specs.Checked.{romfs, cramfs, IsRefused}
-use Rattle.image_check.proofs.Formats.{refused_romfs, refused_cramfs, shallow}
+use Rattle.image_check.specs.Checked.{IsRefused}
+use Rattle.image_check.proofs.Formats.{refused_romfs, refused_cramfs}
 use Rattle.image_check.proofs.check.check.Goals as goal
 
 pub returns-in_err-image-clause-fault : goal.returns-in_err-image-clause-fault
 returns-in_err-image-clause-fault c = err_by c.from_residual.result c.from_residual.ensures.1 (λ e is.
     subst (IsRefused c.args.bytes.now c.args.limits) (sym is) (refused_romfs c.args.bytes.now c.args.limits c.in_err-image.field-0.0 (c.is_romfs.ensures.0 c.if-is_romfs.true) c.in_err-image.ensures.fault))
 
-pub returns-then-is_romfs-clause-shallow : goal.returns-then-is_romfs-clause-shallow
-returns-then-is_romfs-clause-shallow c = shallow (romfs c.in_ok-image.ensures.ok)
-
 pub returns-in_err-image-2-clause-fault : goal.returns-in_err-image-2-clause-fault
 returns-in_err-image-2-clause-fault c = err_by c.from_residual-in_err-image-2.result c.from_residual-in_err-image-2.ensures.1 (λ e is.
     subst (IsRefused c.args.bytes.now c.args.limits) (sym is) (refused_cramfs c.args.bytes.now c.args.limits c.in_err-image-2.field-0.0 (c.is_cramfs.ensures.0 c.if-is_cramfs.true) c.in_err-image-2.ensures.fault))
-
-pub returns-then-is_cramfs-clause-shallow : goal.returns-then-is_cramfs-clause-shallow
-returns-then-is_cramfs-clause-shallow c = shallow (cramfs c.in_ok-image-2.ensures.ok)

@@ -11,6 +11,7 @@ use Rattle.cramfs_image.specs.Phases.{AreWell}
 use Rattle.cramfs_image.proofs.Trees.{rows_good, rows_records, rows_some}
 use Rattle.cramfs_image.proofs.Faultless.{least_refuses}
 use Rattle.cramfs_image.proofs.Least.{least_walk, least_after, faultless}
+use Rattle.cramfs_image.proofs.Shallow.{shallow}
 use Rattle.cramfs_image.proofs.Composed.{tree_of_well}
 use Rattle.cramfs_image.proofs.image.Cramfs.check.Goals as goal
 
@@ -54,6 +55,9 @@ opened-requires-clause-tree c =
     let w = c.in_ok-rows.ensures.ok in
     let rows = c.as_slice-list.ensures.value ∙ w.1 in
     (w.0, rows, tree_of_well little _ c.args.limits.references c.args.limits.depth w.0 w.2 (moved _ _ _ _ _ _ c.min.ensures rows (rw c.in-None.is at c.in_ok-later_fault.ensures)))
+
+pub returns-in-None-clause-shallow : goal.returns-in-None-clause-shallow
+returns-in-None-clause-shallow c = shallow c.opened.ensures
 
 pub returns-in-None-clause-clean : goal.returns-in-None-clause-clean
 returns-in-None-clause-clean c =

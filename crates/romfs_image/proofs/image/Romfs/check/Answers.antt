@@ -10,6 +10,7 @@ use Rattle.romfs_image.specs.Phases.{AreWell}
 use Rattle.romfs_image.proofs.Trees.{root_positive, root_live, rows_sound, rows_some, root_sound}
 use Rattle.romfs_image.proofs.Faultless.{least_refuses}
 use Rattle.romfs_image.proofs.Least.{least_walk, least_after, faultless}
+use Rattle.romfs_image.proofs.Shallow.{shallow}
 use Rattle.romfs_image.proofs.Composed.{tree_of_well}
 use Rattle.romfs_image.proofs.image.Romfs.check.Goals as goal
 
@@ -59,6 +60,9 @@ opened-requires-clause-tree c =
     let w = c.in_ok-rows.ensures.ok in
     let rows = c.as_slice-list.ensures.value ∙ w.1 in
     (w.0, rows, tree_of_well _ _ c.args.limits.references c.args.limits.depth w.0 (root_live c.in_ok-superblock.ensures.ok) w.2 (moved _ _ _ _ _ _ c.min.ensures rows (rw c.in-None.is at c.in_ok-later_fault.ensures)))
+
+pub returns-in-None-clause-shallow : goal.returns-in-None-clause-shallow
+returns-in-None-clause-shallow c = shallow c.opened.ensures
 
 pub returns-in-None-clause-clean : goal.returns-in-None-clause-clean
 returns-in-None-clause-clean c =
