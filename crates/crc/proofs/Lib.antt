@@ -1,0 +1,3 @@
+pub mod Xors
+pub mod Linear
+pub mod Joins
