@@ -27,15 +27,18 @@ step_odd c e = rw e refl
 
 pub step_linear : (a b : ℕ) → step (bit_xor a b) ≡ bit_xor (step a) (step b)
 step_linear a b = elim (parity a) [
-    inl p ↦ elim (parity b) [
-        inl q ↦ let e = xor_last a b in step_even (bit_xor a b) (omega arith) ∙ xor_half a b ∙ sym (ap (λ (x : ℕ). bit_xor x (step b)) (step_even a p) ∙ ap (bit_xor (a / 2)) (step_even b q))
-      | inr q ↦ let e = xor_last a b in step_odd (bit_xor a b) (omega arith) ∙ ap (λ (x : ℕ). bit_xor x polynomial) (xor_half a b) ∙ xor_assoc (a / 2) (b / 2) polynomial
-          ∙ sym (ap (λ (x : ℕ). bit_xor x (step b)) (step_even a p) ∙ ap (bit_xor (a / 2)) (step_odd b q)) ]
+  | inl p ↦ elim (parity b) [
+    | inl q ↦ let e = xor_last a b in step_even (bit_xor a b) (omega arith) ∙ xor_half a b ∙ sym (ap (λ (x : ℕ). bit_xor x (step b)) (step_even a p) ∙ ap (bit_xor (a / 2)) (step_even b q))
+    | inr q ↦ let e = xor_last a b in step_odd (bit_xor a b) (omega arith) ∙ ap (λ (x : ℕ). bit_xor x polynomial) (xor_half a b) ∙ xor_assoc (a / 2) (b / 2) polynomial
+        ∙ sym (ap (λ (x : ℕ). bit_xor x (step b)) (step_even a p) ∙ ap (bit_xor (a / 2)) (step_odd b q))
+  ]
   | inr p ↦ elim (parity b) [
-        inl q ↦ let e = xor_last a b in step_odd (bit_xor a b) (omega arith) ∙ ap (λ (x : ℕ). bit_xor x polynomial) (xor_half a b) ∙ xor_turn (a / 2) (b / 2) polynomial
-          ∙ sym (ap (λ (x : ℕ). bit_xor x (step b)) (step_odd a p) ∙ ap (bit_xor (bit_xor (a / 2) polynomial)) (step_even b q))
-      | inr q ↦ let e = xor_last a b in step_even (bit_xor a b) (omega arith) ∙ xor_half a b
-          ∙ sym (ap (λ (x : ℕ). bit_xor x (step b)) (step_odd a p) ∙ ap (bit_xor (bit_xor (a / 2) polynomial)) (step_odd b q) ∙ xor_swap (a / 2) polynomial (b / 2) polynomial ∙ ap (bit_xor (bit_xor (a / 2) (b / 2))) (xor_self polynomial) ∙ xor_zero (bit_xor (a / 2) (b / 2))) ] ]
+    | inl q ↦ let e = xor_last a b in step_odd (bit_xor a b) (omega arith) ∙ ap (λ (x : ℕ). bit_xor x polynomial) (xor_half a b) ∙ xor_turn (a / 2) (b / 2) polynomial
+        ∙ sym (ap (λ (x : ℕ). bit_xor x (step b)) (step_odd a p) ∙ ap (bit_xor (bit_xor (a / 2) polynomial)) (step_even b q))
+    | inr q ↦ let e = xor_last a b in step_even (bit_xor a b) (omega arith) ∙ xor_half a b
+        ∙ sym (ap (λ (x : ℕ). bit_xor x (step b)) (step_odd a p) ∙ ap (bit_xor (bit_xor (a / 2) polynomial)) (step_odd b q) ∙ xor_swap (a / 2) polynomial (b / 2) polynomial ∙ ap (bit_xor (bit_xor (a / 2) (b / 2))) (xor_self polynomial) ∙ xor_zero (bit_xor (a / 2) (b / 2)))
+  ]
+]
 
 one_even : (c : ℕ) → c % 2 ≡ 0 → after_bit c 1 ≡ bit_xor (c / 2) polynomial
 unfolding after_bit
@@ -50,8 +53,9 @@ half_one c = xor_half c 1 ∙ xor_zero (c / 2)
 
 one_step : (c : ℕ) → after_bit c 1 ≡ step (bit_xor c 1)
 one_step c = elim (parity c) [
-    inl p ↦ let e = xor_last c 1 in one_even c p ∙ sym (step_odd (bit_xor c 1) (omega arith) ∙ ap (λ (x : ℕ). bit_xor x polynomial) (half_one c))
-  | inr p ↦ let e = xor_last c 1 in one_odd c p ∙ sym (step_even (bit_xor c 1) (omega arith) ∙ half_one c) ]
+  | inl p ↦ let e = xor_last c 1 in one_even c p ∙ sym (step_odd (bit_xor c 1) (omega arith) ∙ ap (λ (x : ℕ). bit_xor x polynomial) (half_one c))
+  | inr p ↦ let e = xor_last c 1 in one_odd c p ∙ sym (step_even (bit_xor c 1) (omega arith) ∙ half_one c)
+]
 
 zero_step : (c : ℕ) → after_bit c 0 ≡ step (bit_xor c 0)
 unfolding step
@@ -60,8 +64,9 @@ zero_step c = ap (λ (x : ℕ). after_bit x 0) (sym (xor_zero c))
 -- a step with a bit
 pub bit_step : (c bit : ℕ) → bit < 2 → after_bit c bit ≡ step (bit_xor c bit)
 bit_step c bit small = elim (cases_lt bit 1) [
-    inl h ↦ let e : bit ≡ 0 = omega arith in ap (after_bit c) e ∙ zero_step c ∙ ap (λ (x : ℕ). step (bit_xor c x)) (sym e)
-  | inr h ↦ let e : bit ≡ 1 = omega arith in ap (after_bit c) e ∙ one_step c ∙ ap (λ (x : ℕ). step (bit_xor c x)) (sym e) ]
+  | inl h ↦ let e : bit ≡ 0 = omega arith in ap (after_bit c) e ∙ zero_step c ∙ ap (λ (x : ℕ). step (bit_xor c x)) (sym e)
+  | inr h ↦ let e : bit ≡ 1 = omega arith in ap (after_bit c) e ∙ one_step c ∙ ap (λ (x : ℕ). step (bit_xor c x)) (sym e)
+]
 
 pub steps_linear : (n a b : ℕ) → steps n (bit_xor a b) ≡ bit_xor (steps n a) (steps n b)
 unfolding steps
@@ -79,7 +84,7 @@ bits_linear zero a b x = refl
 bits_linear (suc n) a b x =
     let small : x % 2 < 2 = omega arith in
     let e : after_bit (bit_xor a b) (x % 2) ≡ bit_xor (after_bit a (x % 2)) (step b) =
-        bit_step (bit_xor a b) (x % 2) small ∙ ap step (xor_turn a b (x % 2)) ∙ step_linear (bit_xor a (x % 2)) b ∙ ap (λ (y : ℕ). bit_xor y (step b)) (sym (bit_step a (x % 2) small)) in
+    bit_step (bit_xor a b) (x % 2) small ∙ ap step (xor_turn a b (x % 2)) ∙ step_linear (bit_xor a (x % 2)) b ∙ ap (λ (y : ℕ). bit_xor y (step b)) (sym (bit_step a (x % 2) small)) in
     ap (λ (y : ℕ). after_bits n y (x / 2)) e ∙ bits_linear n (after_bit a (x % 2)) (step b) (x / 2)
 
 -- bytes later
@@ -94,8 +99,9 @@ bytes_linear (x ∷ t) a b =
 -- the lowest bit of v apart
 step_split : (v : ℕ) → step v ≡ bit_xor (step (v % 2)) (v / 2)
 step_split v = elim (parity v) [
-    inl p ↦ step_even v p ∙ sym (ap (λ (x : ℕ). bit_xor (step x) (v / 2)) p ∙ ap (λ (x : ℕ). bit_xor x (v / 2)) (step_even 0 refl) ∙ zero_xor (v / 2))
-  | inr p ↦ step_odd v p ∙ sym (ap (λ (x : ℕ). bit_xor (step x) (v / 2)) p ∙ ap (λ (x : ℕ). bit_xor x (v / 2)) (step_odd 1 refl ∙ zero_xor polynomial) ∙ xor_comm polynomial (v / 2)) ]
+  | inl p ↦ step_even v p ∙ sym (ap (λ (x : ℕ). bit_xor (step x) (v / 2)) p ∙ ap (λ (x : ℕ). bit_xor x (v / 2)) (step_even 0 refl) ∙ zero_xor (v / 2))
+  | inr p ↦ step_odd v p ∙ sym (ap (λ (x : ℕ). bit_xor (step x) (v / 2)) p ∙ ap (λ (x : ℕ). bit_xor x (v / 2)) (step_odd 1 refl ∙ zero_xor polynomial) ∙ xor_comm polynomial (v / 2))
+]
 
 -- v goes into the next n bits
 pub bits_xor : (n a x v : ℕ) → v < 2 ^ n → after_bits n a (bit_xor x v) ≡ bit_xor (after_bits n a x) (steps n v)
@@ -107,8 +113,8 @@ bits_xor (suc n) a x v small =
     let both : bit_xor x v % 2 < 2 = omega arith in
     let bits : bit_xor x v % 2 ≡ bit_xor (x % 2) (v % 2) = xor_mod x v 1 in
     let first : after_bit a (bit_xor x v % 2) ≡ bit_xor (after_bit a (x % 2)) (step (v % 2)) =
-        bit_step a (bit_xor x v % 2) both ∙ ap (λ (y : ℕ). step (bit_xor a y)) bits ∙ ap step (sym (xor_assoc a (x % 2) (v % 2))) ∙ step_linear (bit_xor a (x % 2)) (v % 2)
-        ∙ ap (λ (y : ℕ). bit_xor y (step (v % 2))) (sym (bit_step a (x % 2) low)) in
+    bit_step a (bit_xor x v % 2) both ∙ ap (λ (y : ℕ). step (bit_xor a y)) bits ∙ ap step (sym (xor_assoc a (x % 2) (v % 2))) ∙ step_linear (bit_xor a (x % 2)) (v % 2)
+    ∙ ap (λ (y : ℕ). bit_xor y (step (v % 2))) (sym (bit_step a (x % 2) low)) in
     let rest : v / 2 < 2 ^ n = shr_below v n 1 (let P : ℕ → Type 0 = λ k. v < 2 ^ k in subst P (sym (add-one n)) small) in
     ap (λ (y : ℕ). after_bits n y (bit_xor x v / 2)) first ∙ ap (after_bits n (bit_xor (after_bit a (x % 2)) (step (v % 2)))) (xor_half x v)
     ∙ bits_xor n (bit_xor (after_bit a (x % 2)) (step (v % 2))) (x / 2) (v / 2) rest

@@ -28,3 +28,18 @@ xor_twice a b = xor_assoc a b b ∙ ap (bit_xor a) (xor_self b) ∙ xor_zero a
 pub xor_turn : (a b c : ℕ) → bit_xor (bit_xor a b) c ≡ bit_xor (bit_xor a c) b
 xor_turn a b c = xor_assoc a b c ∙ ap (bit_xor a) (xor_comm b c) ∙ sym (xor_assoc a c b)
 
+-- four together
+abbrev pub four : ℕ → ℕ → ℕ → ℕ → ℕ
+four a b c d = bit_xor a (bit_xor b (bit_xor c d))
+
+pub four_same : {a b c d e f g h : ℕ} → a ≡ e → b ≡ f → c ≡ g → d ≡ h → four a b c d ≡ four e f g h
+four_same p q r s = cc
+
+pub four_swap : (a b c d e f g h : ℕ) → four (bit_xor a b) (bit_xor c d) (bit_xor e f) (bit_xor g h) ≡ bit_xor (four a c e g) (four b d f h)
+four_swap a b c d e f g h =
+    ap (bit_xor (bit_xor a b)) (ap (bit_xor (bit_xor c d)) (xor_swap e f g h) ∙ xor_swap c d (bit_xor e g) (bit_xor f h))
+    ∙ xor_swap a b (bit_xor c (bit_xor e g)) (bit_xor d (bit_xor f h))
+
+-- four added in turn
+pub four_turn : (x a b c d : ℕ) → bit_xor (bit_xor (bit_xor (bit_xor x a) b) c) d ≡ bit_xor x (four a b c d)
+four_turn x a b c d = xor_assoc (bit_xor (bit_xor x a) b) c d ∙ xor_assoc (bit_xor x a) b (bit_xor c d) ∙ xor_assoc x a (bit_xor b (bit_xor c d))

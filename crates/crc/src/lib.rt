@@ -5,6 +5,7 @@
 #![tactic(auto)]
 
 mod bits;
+mod blocks;
 mod checksum;
 #[cfg(test)]
 mod tests;
