@@ -1,12 +1,11 @@
 -- What single bytes, and the four of a remainder, do to a remainder.
-use Rattle.std.proofs.Common.{◌≡◌, ℕ, suc, ◌+◌, ◌*◌, ◌/◌, ◌%◌, ◌^◌, ◌<◌, List, [], ◌∷◌, ◌++◌, length, set, get_or, replicate, refl, sym, ap, ◌∙◌, arith, zero}
+use Rattle.std.proofs.Common.{◌≡◌, ℕ, suc, ◌+◌, ◌*◌, ◌/◌, ◌%◌, ◌^◌, ◌<◌, List, [], ◌∷◌, ◌++◌, length, replicate, refl, sym, ap, ◌∙◌, arith, zero}
 use Rattle.std.specs.Int.Bits.{bit_xor}
 use Rattle.std.proofs.lemmas.Nat.{xor_block, xor_comm}
-use Rattle.std.proofs.lemmas.List.{length-set}
 use Rattle.crc.specs.Crc.{after_bit, after_bits, after_bytes}
 use Rattle.crc.specs.History.{step, steps}
 use Rattle.crc.proofs.Xors.{xor_assoc, zero_xor, xor_zero}
-use Rattle.crc.proofs.Linear.{steps_linear, steps_add, bytes_linear, bits_xor, byte_xor}
+use Rattle.crc.proofs.Linear.{steps_linear, steps_add, bytes_linear, bits_xor}
 use Rattle.crc.proofs.Relation.{step_double, steps_zero}
 use Rattle.crc.proofs.Joins.{after_append}
 
@@ -32,18 +31,6 @@ unfolding steps step
 zero_bytes zero c = refl
 zero_bytes (suc n) c = let e : 8 * suc n ≡ 8 + 8 * n = omega arith in zero_bytes n (after_bits 8 c 0) ∙ sym (steps_add 8 (8 * n) c) ∙ ap (λ (k : ℕ). steps k c) (sym e)
 
-unfoldable pub add_at : List ℕ → ℕ → ℕ → List ℕ
-add_at b k v = set b k (bit_xor (get_or b k 0) v)
-
-pub length-add_at : (b : List ℕ) (k v : ℕ) → length (add_at b k v) ≡ length b
-unfolding add_at
-length-add_at b k v = length-set b k (bit_xor (get_or b k 0) v)
-
--- a byte added to the one at k, where n bytes are left
-pub add_byte : (b : List ℕ) (k n v : ℕ) → n + k ≡ length b → 0 < n → v < 256 → after_bytes 0 (add_at b k v) ≡ bit_xor (after_bytes 0 b) (steps (8 * n) v)
-unfolding add_at
-add_byte b k n v e p small = byte_xor b k n 0 v e p small
-
 -- the lowest byte apart
 low_byte : (c : ℕ) → c ≡ bit_xor (c % 256) (c / 256 * 256)
 low_byte c =
@@ -67,7 +54,7 @@ eight y =
     ap (steps 7) e1 ∙ ap (steps 6) e2 ∙ ap (steps 5) e3 ∙ ap (steps 4) e4 ∙ ap (steps 3) e5 ∙ ap (steps 2) e6 ∙ ap (steps 1) e7 ∙ step_double y
 
 -- eight steps take the lowest byte away
-pub eight_more : (m c : ℕ) → steps (8 + m) c ≡ bit_xor (steps (8 + m) (c % 256)) (steps m (c / 256))
+eight_more : (m c : ℕ) → steps (8 + m) c ≡ bit_xor (steps (8 + m) (c % 256)) (steps m (c / 256))
 eight_more m c =
     ap (steps (8 + m)) (low_byte c) ∙ steps_linear (8 + m) (c % 256) (c / 256 * 256) ∙ ap (bit_xor (steps (8 + m) (c % 256))) (steps_add 8 m (c / 256 * 256) ∙ ap (steps m) (eight (c / 256)))
 

@@ -1,5 +1,5 @@
 -- The ends of a gathering: a remainder as a history, pieces that follow each other, and the last 300 bytes.
-use Rattle.std.proofs.Common.{◌≡◌, ℕ, ◌+◌, ◌-◌, ◌*◌, ◌<◌, ◌/◌, ◌%◌, ◌≤◌, ◌^◌, List, [], ◌∷◌, ◌++◌, length, take, drop, get_or, replicate, sym, ap, ◌∙◌, arith, zero-le, take-append-drop}
+use Rattle.std.proofs.Common.{◌≡◌, ℕ, ◌+◌, ◌-◌, ◌*◌, ◌<◌, ◌/◌, ◌%◌, ◌≤◌, ◌^◌, List, [], ◌∷◌, ◌++◌, length, take, drop, set, get_or, replicate, sym, ap, ◌∙◌, arith, zero-le, take-append-drop}
 use Rattle.std.specs.Int.Bits.{bit_xor}
 use Rattle.std.proofs.Math.Seq.{paste, take-append_seam}
 use Rattle.std.proofs.Math.ListN.{drop_of_length-le}
@@ -8,16 +8,17 @@ use Rattle.std.proofs.lemmas.List.{length-drop, length-replicate, drop-drop, dro
 use Rattle.crc.specs.Crc.{after_bytes}
 use Rattle.crc.specs.History.{steps, added, after_history, StandsFor}
 use Rattle.crc.proofs.Xors.{xor_assoc, xor_turn, zero_xor, xor_zero, four_same, four_turn}
-use Rattle.crc.proofs.Linear.{steps_linear, steps_add, bytes_linear}
+use Rattle.crc.proofs.Linear.{byte_xor, steps_linear, steps_add, bytes_linear}
 use Rattle.crc.proofs.Relation.{steps_zero}
-use Rattle.crc.proofs.Bytes.{first_byte, zero_bytes, add_at, add_byte, four_bytes}
+use Rattle.crc.proofs.Bytes.{first_byte, zero_bytes, four_bytes}
 
--- the history goes to the front
+-- the history comes to the front
 pub slides : (b : List ℕ) (n m : ℕ) → m ≡ 300 → n + 300 ≤ length b → take 300 (paste b 0 (drop n b) m) ≡ take 300 (drop n b)
 slides b n m e room =
     let behind : 300 ≤ length (drop n b) = omega (arith, length-drop n b) in
     ap (λ (k : ℕ). take 300 (paste b 0 (drop n b) k)) e ∙ take-paste b 0 (drop n b) 300 zero-le behind
 
+-- a history that stands in front
 pub front : (h xs : List ℕ) → length h ≡ 300 → take 300 (h ++ xs) ≡ h
 front h xs whole = ap (λ (k : ℕ). take k (h ++ xs)) (sym whole) ∙ take-append_seam h xs
 
@@ -27,9 +28,9 @@ pieces h bytes at count end e =
     ap (λ (k : ℕ). after_history h (take k (drop at bytes) ++ drop (at + count) bytes)) e
     ∙ ap (λ (xs : List ℕ). after_history h (take count (drop at bytes) ++ xs)) (sym (drop-drop count at bytes)) ∙ ap (after_history h) (take-append-drop count (drop at bytes))
 
--- a byte is added, of those that are
+-- one more byte is added, of those that are
 pub adds : (b from : List ℕ) (i extra : ℕ) → extra + length from ≡ length b → i < length from → get_or from i 0 < 256
-    → bit_xor (after_bytes 0 (add_at b i (get_or from i 0))) (steps (8 * extra) (after_bytes 0 (drop (i + 1) from))) ≡ bit_xor (after_bytes 0 b) (steps (8 * extra) (after_bytes 0 (drop i from)))
+    → bit_xor (after_bytes 0 (set b i (bit_xor (get_or b i 0) (get_or from i 0)))) (steps (8 * extra) (after_bytes 0 (drop (i + 1) from))) ≡ bit_xor (after_bytes 0 b) (steps (8 * extra) (after_bytes 0 (drop i from)))
 adds b from i extra whole here small =
     let v = get_or from i 0 in
     let r = drop (i + 1) from in
@@ -40,9 +41,10 @@ adds b from i extra whole here small =
     ap (λ (xs : List ℕ). steps (8 * extra) (after_bytes 0 xs)) (drop_more from i 0 here) ∙ ap (steps (8 * extra)) (first_byte r v small)
     ∙ steps_linear (8 * extra) (after_bytes 0 r) (steps (8 * length r + 8) v)
     ∙ ap (bit_xor t) (sym (steps_add (8 * length r + 8) (8 * extra) v) ∙ ap (λ (k : ℕ). steps k v) all) in
-    ap (λ (x : ℕ). bit_xor x t) (add_byte b i n v (omega arith) (omega arith) small) ∙ xor_turn (after_bytes 0 b) (steps (8 * n) v) t
+    ap (λ (x : ℕ). bit_xor x t) (byte_xor b i n 0 v (omega arith) (omega arith) small) ∙ xor_turn (after_bytes 0 b) (steps (8 * n) v) t
     ∙ xor_assoc (after_bytes 0 b) t (steps (8 * n) v) ∙ sym (ap (bit_xor (after_bytes 0 b)) rest)
 
+-- all of them are
 pub added_all : (a : ℕ) (from : List ℕ) (i extra : ℕ) → length from ≤ i → bit_xor a (steps (8 * extra) (after_bytes 0 (drop i from))) ≡ a
 added_all a from i extra done = ap (λ (xs : List ℕ). bit_xor a (steps (8 * extra) (after_bytes 0 xs))) (drop_of_length-le from done) ∙ ap (bit_xor a) (steps_zero (8 * extra)) ∙ xor_zero a
 
@@ -58,6 +60,7 @@ finishes h last h1 h2 h3 b0 b1 b2 b3 b4 w1 w2 w3 e0 n1 n2 n3 e1 e2 e3 e4 =
     let sums : after_bytes 0 b4 ≡ bit_xor (bit_xor (bit_xor (bit_xor (after_bytes 0 last) (added (drop 155 h) n)) (added (drop 117 h) n)) (added (drop 89 h) n)) (added h n) = cc in
     sums ∙ four_turn (after_bytes 0 last) (added (drop 155 h) n) (added (drop 117 h) n) (added (drop 89 h) n) (added h n)
 
+-- bytes of zero from remainder 0 on
 none_of : (k : ℕ) → after_bytes 0 (replicate k 0) ≡ 0
 none_of k = zero_bytes k 0 ∙ steps_zero (8 * k)
 

@@ -52,7 +52,7 @@ module _ (h : List ℕ) (whole : length h ≡ 300) (lag k m n : ℕ) (place : la
       ∙ ap (λ (x : ℕ). bit_xor x (steps (8 * (n - lag)) (steps 8 y))) (later (after_bytes 0 r)) ∙ ap (bit_xor (steps (8 * (m - lag)) (after_bytes 0 r))) (later y)
 
 -- The next byte, with those added that stand 145, 183, 211 and 300 before it, goes over into the history.
-pub history_step : (h t : List ℕ) (x y : ℕ) → length h ≡ 300 → 300 ≤ length t → x < 256 → y < 256 → ((k : ℕ) → k < 300 → get_or h k 0 < 256)
+history_step : (h t : List ℕ) (x y : ℕ) → length h ≡ 300 → 300 ≤ length t → x < 256 → y < 256 → ((k : ℕ) → k < 300 → get_or h k 0 < 256)
     → y ≡ bit_xor x (bit_xor (bit_xor (bit_xor (get_or h 155 0) (get_or h 117 0)) (get_or h 89 0)) (get_or h 0 0))
     → after_history (drop 1 h ++ y ∷ []) t ≡ after_history h (x ∷ t)
 unfolding after_history

@@ -1,5 +1,5 @@
 -- A remainder is linear in the bits that go into it.
-use Rattle.std.proofs.Common.{◌≡◌, ℕ, zero, suc, ◌+◌, ◌*◌, ◌/◌, ◌%◌, ◌^◌, ◌<◌, ◌≤◌, ◌⊎◌, inl, inr, List, [], ◌∷◌, length, drop, set, get_or, refl, sym, ap, ◌∙◌, arith, subst, add-one}
+use Rattle.std.proofs.Common.{◌≡◌, ℕ, zero, suc, ◌+◌, ◌*◌, ◌/◌, ◌%◌, ◌^◌, ◌<◌, ◌⊎◌, inl, inr, List, [], ◌∷◌, length, set, get_or, refl, sym, ap, ◌∙◌, arith, subst, add-one}
 use Rattle.std.specs.Int.Bits.{bit_xor}
 use Rattle.std.proofs.lemmas.Nat.{xor_comm, xor_shr, xor_mod, shr_below}
 use Rattle.std.proofs.lemmas.Nat.Bits.{bit_at_xor, bit_at_lowest}
@@ -8,20 +8,20 @@ use Rattle.crc.specs.Crc.{polynomial, after_bit, after_bits, after_bytes}
 use Rattle.crc.specs.History.{step, steps}
 use Rattle.crc.proofs.Xors.{xor_assoc, xor_self, xor_zero, zero_xor, xor_swap, xor_turn}
 
-pub xor_half : (a b : ℕ) → bit_xor a b / 2 ≡ bit_xor (a / 2) (b / 2)
+xor_half : (a b : ℕ) → bit_xor a b / 2 ≡ bit_xor (a / 2) (b / 2)
 xor_half a b = xor_shr a b 1
 
-pub xor_last : (a b : ℕ) → bit_xor a b % 2 ≡ (a % 2 + b % 2) % 2
+xor_last : (a b : ℕ) → bit_xor a b % 2 ≡ (a % 2 + b % 2) % 2
 xor_last a b = sym (bit_at_lowest (bit_xor a b)) ∙ bit_at_xor a b 0 ∙ (let p = bit_at_lowest a in let q = bit_at_lowest b in omega arith)
 
-pub parity : (c : ℕ) → (c % 2 ≡ 0) ⊎ (c % 2 ≡ 1)
+parity : (c : ℕ) → (c % 2 ≡ 0) ⊎ (c % 2 ≡ 1)
 parity c = elim (cases_lt (c % 2) 1) [ inl h ↦ inl (omega arith) | inr h ↦ inr (omega arith) ]
 
 pub step_even : (c : ℕ) → c % 2 ≡ 0 → step c ≡ c / 2
 unfolding step after_bit
 step_even c e = rw e refl
 
-pub step_odd : (c : ℕ) → c % 2 ≡ 1 → step c ≡ bit_xor (c / 2) polynomial
+step_odd : (c : ℕ) → c % 2 ≡ 1 → step c ≡ bit_xor (c / 2) polynomial
 unfolding step after_bit
 step_odd c e = rw e refl
 
@@ -62,7 +62,7 @@ unfolding step
 zero_step c = ap (λ (x : ℕ). after_bit x 0) (sym (xor_zero c))
 
 -- a step with a bit
-pub bit_step : (c bit : ℕ) → bit < 2 → after_bit c bit ≡ step (bit_xor c bit)
+bit_step : (c bit : ℕ) → bit < 2 → after_bit c bit ≡ step (bit_xor c bit)
 bit_step c bit small = elim (cases_lt bit 1) [
   | inl h ↦ let e : bit ≡ 0 = omega arith in ap (after_bit c) e ∙ zero_step c ∙ ap (λ (x : ℕ). step (bit_xor c x)) (sym e)
   | inr h ↦ let e : bit ≡ 1 = omega arith in ap (after_bit c) e ∙ one_step c ∙ ap (λ (x : ℕ). step (bit_xor c x)) (sym e)
@@ -78,7 +78,7 @@ unfolding steps
 steps_add zero n c = let e : 0 + n ≡ n = omega arith in ap (λ (k : ℕ). steps k c) e
 steps_add (suc m) n c = let e : suc m + n ≡ suc (m + n) = omega arith in ap (λ (k : ℕ). steps k c) e ∙ steps_add m n (step c)
 
-pub bits_linear : (n a b x : ℕ) → after_bits n (bit_xor a b) x ≡ bit_xor (after_bits n a x) (steps n b)
+bits_linear : (n a b x : ℕ) → after_bits n (bit_xor a b) x ≡ bit_xor (after_bits n a x) (steps n b)
 unfolding steps
 bits_linear zero a b x = refl
 bits_linear (suc n) a b x =
@@ -130,10 +130,3 @@ byte_xor (x ∷ t) zero n c v e p small =
     ap (λ (y : ℕ). after_bytes y t) (bits_xor 8 c x v small) ∙ bytes_linear t (after_bits 8 c x) (steps 8 v)
     ∙ ap (bit_xor (after_bytes (after_bits 8 c x) t)) (sym (steps_add 8 (8 * length t) v) ∙ ap (λ (y : ℕ). steps y v) m)
 byte_xor (x ∷ t) (suc k) n c v e p small = byte_xor t k n (after_bits 8 c x) v (omega arith) p small
-
--- the same behind the first i bytes
-pub drop_xor : (t : List ℕ) (i k n c v : ℕ) → i ≤ k → n + k ≡ length t → 0 < n → v < 256 → after_bytes c (drop i (set t k (bit_xor (get_or t k 0) v))) ≡ bit_xor (after_bytes c (drop i t)) (steps (8 * n) v)
-drop_xor t zero k n c v le e p small = byte_xor t k n c v e p small
-drop_xor [] (suc i) k n c v le e p small = absurd (omega arith)
-drop_xor (x ∷ t) (suc i) zero n c v le e p small = absurd (omega arith)
-drop_xor (x ∷ t) (suc i) (suc k) n c v le e p small = drop_xor t i k n c v (omega arith) (omega arith) p small

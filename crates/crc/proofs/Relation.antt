@@ -14,7 +14,7 @@ unfolding steps step after_bit
 steps_zero zero = refl
 steps_zero (suc n) = steps_zero n
 
-pub steps_step : (n c : ℕ) → steps n (step c) ≡ step (steps n c)
+steps_step : (n c : ℕ) → steps n (step c) ≡ step (steps n c)
 unfolding steps
 steps_step zero c = refl
 steps_step (suc n) c = steps_step n (step c)

@@ -58,7 +58,8 @@ fn take_in(bytes: &[u8], buf: &mut [u8])
 /// Adds the bytes of `from` to the first of `bytes`.
 fn add(from: &[u8], bytes: &mut [u8])
     requires { length from.now ≤ length bytes.old }
-    ensures { after_bytes 0 bytes.new ≡ bit_xor (after_bytes 0 bytes.old) (added from.now (length bytes.old)) }
+    ensures { after_bytes 0 bytes.new
+        ≡ bit_xor (after_bytes 0 bytes.old) (added from.now (length bytes.old)) }
 {
     for i in 0..from.len() {
         bytes[i] ^= from[i];

@@ -2,12 +2,10 @@ use Rattle.std.proofs.Common.{◌-◌, length, sym, ◌∙◌, arith}
 use Rattle.std.proofs.lemmas.List.{length-set}
 use Rattle.crc.specs.Crc.{after_bytes}
 use Rattle.crc.specs.History.{added}
-use Rattle.crc.proofs.Bytes.{add_at}
 use Rattle.crc.proofs.Ends.{adds, added_all}
 use Rattle.crc.proofs.blocks.add.Goals as goal
 
 pub loop-i-preserved : goal.loop-i-preserved
-unfolding add_at
 loop-i-preserved c =
     let b = c.loop-i.bytes in
     let from = c.args.from.now in
