@@ -54,7 +54,7 @@ fold_xor a b h k = steps_linear 2400 a b ∙ ap (λ (x : ℕ). bit_xor x (steps 
 
 fold_none : IsFold 0
 unfolding IsFold folds
-fold_none = steps_zero 2400 ∙ sym (four_same (steps_zero 1240) (steps_zero 936) (steps_zero 712) refl ∙ refl)
+fold_none = steps_zero 2400 ∙ sym (four_same (steps_zero 1240) (steps_zero 936) (steps_zero 712) refl)
 
 pub step_double : (y : ℕ) → step (y * 2) ≡ y
 step_double y = step_even (y * 2) (omega arith) ∙ omega arith

@@ -28,7 +28,8 @@ pub fn crc32(bytes: &[u8]) -> u32
     crc32_more(0, bytes)
 }
 
-/// The CRC-32 of some bytes and `bytes` behind them, where `c` is that of the former.
+/// The CRC-32 of some bytes and `bytes` behind them, where `c` is that of the former: 0 where there
+/// are none.
 pub fn crc32_more(c: u32, bytes: &[u8]) -> u32
     ensures more { (xs : List ℕ) → c ≡ crc_of xs → result ≡ crc_of (xs ++ bytes.now) }
     ensures first { c ≡ 0 → result ≡ crc_of bytes.now }
