@@ -2,7 +2,6 @@ pub mod Order
 pub mod Inode
 pub mod Refers
 pub mod Tree
-pub mod Crc
 pub mod Superblock
 pub mod Made
 pub mod Faults

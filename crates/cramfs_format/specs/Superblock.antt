@@ -7,7 +7,7 @@ use Rattle.rom_faults.specs.declared.fault.Fault.{Fault}
 use Rattle.cramfs_format.specs.Order.{Order, word}
 use Rattle.cramfs_format.specs.Inode.{type_of, offset_of, size_of}
 use Rattle.cramfs_format.specs.Refers.{root_place}
-use Rattle.cramfs_format.specs.Crc.{crc_of}
+use Rattle.crc.specs.Crc.{crc_of}
 use Rattle.rom_faults.specs.declared.fault.TheConstants.{SHORT, MAGIC, SIZE, FLAGS, CRC, SIGNATURE, ROOT}
 
 -- 28cd3d45 (hexadecimal)

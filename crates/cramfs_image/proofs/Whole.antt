@@ -10,7 +10,7 @@ use Rattle.record_walk.proofs.Run.{forest_of}
 use Rattle.record_walk.proofs.Decided.{by_test, same_number, same_list}
 use Rattle.cramfs_format.specs.Order.{Order, word}
 use Rattle.cramfs_format.specs.Inode.{type_of, offset_of, size_of}
-use Rattle.cramfs_format.specs.Crc.{crc_of}
+use Rattle.crc.specs.Crc.{crc_of}
 use Rattle.cramfs_format.specs.Refers.{references, root_place, LeadsToSound}
 use Rattle.cramfs_format.specs.Tree.{tree_of, IsNoDot, CramfsTree}
 use Rattle.cramfs_format.proofs.Faults.{faultless_led}

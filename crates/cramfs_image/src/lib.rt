@@ -1,4 +1,4 @@
-//! Checked cramfs images, and CRC-32.
+//! Checked cramfs images, and `crc32`, their check sum, from the crate `crc`.
 //!
 //! `Cramfs::check` takes the bytes of an image (Linux Documentation/filesystems/cramfs.rst) whose
 //! blocks are stored as they are, and gives an image value, or the least fault. Proved: it gives a
@@ -9,7 +9,6 @@
 #![tactic(auto)]
 
 mod check;
-pub mod crc;
 mod depth;
 pub mod image;
 mod inode;
@@ -22,3 +21,5 @@ mod record;
 mod superblock;
 #[cfg(test)]
 mod tests;
+
+pub use crc::crc32;

@@ -2,10 +2,11 @@
 ghost use Rattle.std.specs.Prelude.{◌≡◌, ◌≢◌, ◌≤◌, ◌<◌, ◌^◌, ◌↔◌, IsTrue, length, IfOk, IfErr, IfSome, SomeIff, option_copied};
 ghost use Rattle.std.specs.Bool.{OnTrue, OnFalse};
 ghost use Rattle.cramfs_format.specs.Order.{little};
-ghost use Rattle.cramfs_format.specs.Superblock.{accessible, HasSize, HasCrc, HasSignature, HasRoot, IsSuperblock, HasImageFault};
+ghost use Rattle.crc.specs.Crc.{crc_of};
+ghost use Rattle.cramfs_format.specs.Superblock.{accessible, HasSize, without_crc, HasCrc, HasSignature, HasRoot, IsSuperblock, HasImageFault};
 
-use crate::crc::{START, with_bytes, with_zero_word};
 use crate::inode::{offset_at, size_at, type_at, word};
+use crc::{crc32, crc32_more};
 use rom_faults::Fault;
 use rom_faults::fault;
 
@@ -14,6 +15,9 @@ const MAGIC: u32 = 0x28cd_3d45;
 
 /// `Compressed ROMFS`, which stands at 16.
 const SIGNATURE: [u8; 16] = *b"Compressed ROMFS";
+
+/// What the field of the CRC is taken as.
+const NO_CRC: [u8; 4] = [0; 4];
 
 /// The accessible bytes, where the stored size is one that the image can have.
 #[tactic(auto, unfolding(cramfs_format::specs::Superblock::accessible_size))]
@@ -33,6 +37,16 @@ fn accessible_bytes<'a>(bytes: &'a [u8]) -> Option<&'a [u8]>
     Some(&bytes[..bytes.len().min(268_435_456)])
 }
 
+/// The CRC of the bytes with the field that holds it taken as zero.
+fn crc_with_no_field(b: &[u8]) -> u32
+    requires { 76 ≤ length b.now }
+    ensures { result ≡ crc_of (without_crc b.now) }
+{
+    let front = crc32(&b[..32]);
+    let upto = crc32_more(front, NO_CRC.as_slice());
+    crc32_more(upto, &b[36..])
+}
+
 /// Whether the stored CRC, if there is one, is that of the bytes with the field that holds it zero.
 fn has_crc(b: &[u8]) -> bool
     requires { 76 ≤ length b.now }
@@ -42,9 +56,7 @@ fn has_crc(b: &[u8]) -> bool
     if word(b, 8) % 2 != 1 {
         return true;
     }
-    let front = with_bytes(START, &b[..32]);
-    let rest = with_bytes(with_zero_word(front), &b[36..]);
-    if word(b, 32) != rest ^ START {
+    if word(b, 32) != crc_with_no_field(b) {
         return false;
     }
     true

@@ -1,4 +1,4 @@
-use crate::crc::crc32;
+use crate::crc32;
 use crate::image::Cramfs;
 use rom_fields::word::{part, put_le32};
 use rom_tree::image::TreeImage;

@@ -13,6 +13,9 @@ use rom_tree::types::Limits;
 use romfs_image::image::Romfs;
 use std::alloc::Global;
 
+/// Fewer bytes are too short to name a format.
+const SHORTEST: usize = 8;
+
 /// Whether the bytes begin as a romfs image does.
 fn is_romfs(bytes: &[u8]) -> bool
     ensures { IsTrue result ↔ IsRomfs bytes.now }
@@ -52,6 +55,6 @@ pub fn check<'a>(alloc: Global, bytes: &'a [u8], limits: Limits) -> Result<AnyIm
         let image = Cramfs::check(alloc, bytes, limits)?;
         return Ok(AnyImage::Cramfs(image));
     }
-    let number = if bytes.len() < 8 { SHORT } else { MAGIC };
+    let number = if bytes.len() < SHORTEST { SHORT } else { MAGIC };
     Err(CheckError::Fault { number, at: 0 })
 }

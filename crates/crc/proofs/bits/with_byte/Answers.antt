@@ -1,6 +1,6 @@
 use Rattle.std.proofs.Common.{◌≡◌, ◌+◌, ◌-◌, ◌/◌, ◌%◌, ℕ, suc, sym, ap, ◌∙◌, arith}
-use Rattle.cramfs_format.specs.Crc.{after_bit, after_bits}
-use Rattle.cramfs_image.proofs.crc.with_byte.Goals as goal
+use Rattle.crc.specs.Crc.{after_bit, after_bits}
+use Rattle.crc.proofs.bits.with_byte.Goals as goal
 
 one_bit : (n m c x : ℕ) → n ≡ suc m → after_bits n c x ≡ after_bits m (after_bit c (x % 2)) (x / 2)
 one_bit n m c x e = ap (λ (k : ℕ). after_bits k c x) e

@@ -1,0 +1,13 @@
+//! CRC-32, the check sum of ISO 3309 and ITU-T V.42, of bytes in one piece or in several.
+//!
+//! Proved: it is that of the definition in `specs/Crc.antt`, which goes bit by bit. A long piece is
+//! reduced to its last 300 bytes first, without a table.
+#![tactic(auto)]
+
+mod bits;
+mod blocks;
+mod checksum;
+#[cfg(test)]
+mod tests;
+
+pub use checksum::{crc32, crc32_more};
