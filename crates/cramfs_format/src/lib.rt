@@ -3,7 +3,7 @@
 //! It restates Linux Documentation/filesystems/cramfs.rst and include/uapi/linux/cramfs_fs.h for
 //! images whose blocks are stored as they are, and read where they stand: an inode and its fields,
 //! in either byte order (`specs/Order.antt`, `specs/Inode.antt`), the superblock
-//! (`specs/Superblock.antt`), whose check sum is that of the crate `crc`, what refers to what
+//! (`specs/Superblock.antt`), whose checksum is that of the crate `crc`, what refers to what
 //! (`specs/Refers.antt`), the faults of an image (`specs/Faults.antt`), and the tree of files that
 //! its bytes give (`specs/Tree.antt`). Proved of it: an image has at most one tree, and the tree is
 //! a function of the bytes.

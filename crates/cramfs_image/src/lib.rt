@@ -1,4 +1,4 @@
-//! Checked cramfs images, and `crc32`, their check sum, from the crate `crc`.
+//! Checked cramfs images, and `crc32`, their checksum, from the crate `crc`.
 //!
 //! `Cramfs::check` takes the bytes of an image (Linux Documentation/filesystems/cramfs.rst) whose
 //! blocks are stored as they are, and gives an image value, or the least fault. Proved: it gives a
@@ -23,3 +23,4 @@ mod superblock;
 mod tests;
 
 pub use crc::crc32;
+pub use image::Cramfs;

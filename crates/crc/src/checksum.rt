@@ -1,4 +1,4 @@
-//! The check sum of bytes.
+//! The checksum of bytes.
 ghost use Rattle.std.specs.Prelude.{◌≡◌, ◌++◌, ℕ, List};
 ghost use Rattle.crc.specs.Crc.{after_bytes, crc_of};
 

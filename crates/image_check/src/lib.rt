@@ -7,7 +7,10 @@
 #![tactic(auto)]
 
 pub mod any;
-pub mod check;
+pub mod checking;
 pub mod laws;
 #[cfg(test)]
 mod tests;
+
+pub use any::AnyImage;
+pub use checking::check;

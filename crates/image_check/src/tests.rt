@@ -1,5 +1,5 @@
 use crate::any::AnyImage;
-use crate::check::check;
+use crate::checking::check;
 use rom_fields::word::{put_be32, put_le32};
 use rom_tree::image::TreeImage;
 use rom_faults::CheckError;

@@ -6,6 +6,8 @@
 
 pub mod error;
 pub mod fault;
+#[cfg(test)]
+mod tests;
 
 pub use error::CheckError;
 pub use fault::{Fault, name};

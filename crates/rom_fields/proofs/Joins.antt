@@ -4,7 +4,7 @@ use Rattle.std.proofs.Math.Seq.{take-add}
 use Rattle.std.proofs.lemmas.List.{take_rest}
 use Rattle.std.specs.Io.KnownBytes.{Appends, Keeps}
 use Rattle.rom_fields.specs.Failures.{Rose, Counts}
-use Rattle.rom_fields.specs.Written.{AppendsFront, WritesText, Output, Sink, sink, Said, Counted, Puts}
+use Rattle.rom_fields.specs.Written.{AppendsPrefix, WritesText, Output, Sink, sink, Said, Counted, Puts}
 
 pub appends_none : (a : Option (List ℕ)) → Appends a a []
 appends_none None = search rules
@@ -21,25 +21,25 @@ keeps_appends None b h = search rules
 keeps_appends (Some xs) None h = absurd h
 keeps_appends (Some xs) (Some ys) h = h ∙ sym (append-nil xs)
 
--- after a whole text, a front of the next one is a front of both
-pub front_after : (a b c : Option (List ℕ)) (s t : List ℕ) → Appends a b s → AppendsFront b c t → AppendsFront a c (s ++ t)
+-- after a whole text, a prefix of the next one is a prefix of both
+pub front_after : (a b c : Option (List ℕ)) (s t : List ℕ) → Appends a b s → AppendsPrefix b c t → AppendsPrefix a c (s ++ t)
 front_after a b c s t h k = (s ++ k.0, k.1, appends_join a b c s k.0 h k.2, ap (λ (v : List ℕ). s ++ v) k.3 ∙ sym (append_assoc s k.0 k.1))
 
--- a front of the first text is a front of both
-pub front_first : (a b : Option (List ℕ)) (s t : List ℕ) → AppendsFront a b s → AppendsFront a b (s ++ t)
+-- a prefix of the first text is a prefix of both
+pub front_first : (a b : Option (List ℕ)) (s t : List ℕ) → AppendsPrefix a b s → AppendsPrefix a b (s ++ t)
 front_first a b s t h = (h.0, h.1 ++ t, h.2, ap (λ (v : List ℕ). v ++ t) h.3 ∙ append_assoc h.0 h.1 t)
 
-pub front_all : (a b : Option (List ℕ)) (s : List ℕ) → Appends a b s → AppendsFront a b s
+pub front_all : (a b : Option (List ℕ)) (s : List ℕ) → Appends a b s → AppendsPrefix a b s
 front_all a b s h = (s, [], h, sym (append-nil s))
 
 pub rose_after : (a b c : ℕ) → b ≡ a → Rose b c → Rose a c
 rose_after a b c e h = rw (← e) h
 
--- a front of the list that was appended
-pub front_take : (a b : Option (List ℕ)) (s : List ℕ) (n : ℕ) → Appends a b (take n s) → AppendsFront a b s
+-- a prefix of the list that was appended
+pub front_take : (a b : Option (List ℕ)) (s : List ℕ) (n : ℕ) → Appends a b (take n s) → AppendsPrefix a b s
 front_take a b s n h = (take n s, drop n s, h, sym (take-append-drop n s))
 
-pub err_text : {T E : Type 0} (r : Result T E) (a b : Option (List ℕ)) (t : List ℕ) → IsErr r → AppendsFront a b t → WritesText a b r t
+pub err_text : {T E : Type 0} (r : Result T E) (a b : Option (List ℕ)) (t : List ℕ) → IsErr r → AppendsPrefix a b t → WritesText a b r t
 err_text (Ok v) a b t e h = absurd (search rules)
 err_text (Err v) a b t e h = h
 
@@ -88,7 +88,7 @@ puts_ok o p b h e = record {
   counted = λ start v. e ∙ v;
 }
 
-pub puts_err : (o p : Output) (b : List ℕ) → AppendsFront o.contents p.contents b → Rose o.failures p.failures → Puts (sink o false) (sink p true) b
+pub puts_err : (o p : Output) (b : List ℕ) → AppendsPrefix o.contents p.contents b → Rose o.failures p.failures → Puts (sink o false) (sink p true) b
 unfolding Said Counted
 puts_err o p b h e = record {
   said = λ start all v. front_after start o.contents p.contents all b v h;
@@ -104,7 +104,7 @@ pub said_ok : (o p : Output) (f : Bool) (text : List ℕ) → f ≡ false → Pu
 unfolding Said
 said_ok o p f text e h = let P : Bool → Type 0 = λ v. Said o.contents (sink p v) text in let q : Said o.contents (sink p false) text = subst P e (h.said o.contents [] (appends_none o.contents)) in q
 
-pub said_front : (o p : Output) (f : Bool) (text : List ℕ) → f ≡ true → Puts (sink o false) (sink p f) text → AppendsFront o.contents p.contents text
+pub said_front : (o p : Output) (f : Bool) (text : List ℕ) → f ≡ true → Puts (sink o false) (sink p f) text → AppendsPrefix o.contents p.contents text
 unfolding Said
 said_front o p f text e h = let P : Bool → Type 0 = λ v. Said o.contents (sink p v) text in let q : Said o.contents (sink p true) text = subst P e (h.said o.contents [] (appends_none o.contents)) in q
 

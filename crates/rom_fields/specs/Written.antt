@@ -3,13 +3,13 @@ use Rattle.std.specs.Prelude.{◌≡◌, ℕ, Bool, MatchBool, List, ◌++◌, O
 use Rattle.std.specs.Io.KnownBytes.{Appends}
 use Rattle.rom_fields.specs.Failures.{Rose}
 
--- a front of the text was appended, perhaps none or all of it
-abbrev pub AppendsFront : Option (List ℕ) → Option (List ℕ) → List ℕ → Type 0
-AppendsFront old new text = (front : List ℕ) × (rest : List ℕ) × Appends old new front × (text ≡ front ++ rest)
+-- a prefix of the text was appended, perhaps none or all of it
+abbrev pub AppendsPrefix : Option (List ℕ) → Option (List ℕ) → List ℕ → Type 0
+AppendsPrefix old new text = (front : List ℕ) × (rest : List ℕ) × Appends old new front × (text ≡ front ++ rest)
 
--- all of the text at Ok, and a front of it at Err
+-- all of the text at Ok, and a prefix of it at Err
 abbrev pub WritesText : {T E : Type 0} → Option (List ℕ) → Option (List ℕ) → Result T E → List ℕ → Type 0
-WritesText old new r text = MatchResult r (λ _. Appends old new text) (λ _. AppendsFront old new text)
+WritesText old new r text = MatchResult r (λ _. Appends old new text) (λ _. AppendsPrefix old new text)
 
 -- What is known of a writer: the bytes that it holds, where it tells them, and how many of its writes and flushes failed.
 pub record Output : Type 0 where
@@ -27,9 +27,9 @@ pub record Sink : Type 0 where
 abbrev pub sink : Output → Bool → Sink
 sink o f = record { output = o; failed = f }
 
--- all of the text was appended since, or a front of it where the sink failed
+-- all of the text was appended since, or a prefix of it where the sink failed
 unfoldable pub Said : Option (List ℕ) → Sink → List ℕ → Type 0
-Said start s all = MatchBool s.failed (AppendsFront start s.output.contents all) (Appends start s.output.contents all)
+Said start s all = MatchBool s.failed (AppendsPrefix start s.output.contents all) (Appends start s.output.contents all)
 
 -- failures were counted since exactly where the sink failed
 unfoldable pub Counted : ℕ → Sink → Type 0

@@ -19,7 +19,7 @@ pub trait ByteRead {
     // How many reads failed, up to 2^64 - 1.
     ghost failures: { Self → ℕ };
 
-    /// Puts the next bytes into a front of `buf`, and says how many; none at the end.
+    /// Puts the next bytes into a prefix of `buf`, and says how many; none at the end.
     fn read(&mut self, buf: &mut [u8]) -> Result<usize, Failed>
         ensures bound { ReadsAtMost result buf.new }
         ensures bytes { ReadConsumes (remaining self.old) (remaining self.new) result buf.new }
@@ -33,7 +33,7 @@ pub trait ByteWrite {
     // failed, up to 2^64 - 1.
     ghost output: { Self → Output };
 
-    /// Takes a front of the bytes, and says how many.
+    /// Takes a prefix of the bytes, and says how many.
     fn write(&mut self, b: &[u8]) -> Result<usize, Failed>
         ensures bound { WritesAtMost result b.now }
         ensures bytes { WriteAppends (output self.old).contents (output self.new).contents result b.now }

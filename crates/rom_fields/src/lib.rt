@@ -4,7 +4,7 @@
 //!
 //! Proved: each word that is read or put is that of the definitions in `specs/Words.antt` (romfs
 //! stores big-endian words, Linux Documentation/filesystems/romfs.rst), and each text goes out
-//! whole, or a front of it where the writer failed.
+//! whole, or a prefix of it where the writer failed.
 #![tactic(auto)]
 
 pub mod bytes;

@@ -5,7 +5,22 @@ use crate::sink::{put, write_whole};
 use crate::span::Extent;
 use crate::text::{put_decimal, put_escaped, put_octal};
 use crate::word::{be32, le32, pad, part, put_be32, put_le32, word_sum};
+use std::io::{self, ErrorKind, Write};
 use std::test::Fail;
+
+/// Takes all bytes, and fails each flush.
+#[derive(Drop)]
+struct Unflushed;
+
+impl Write for Unflushed {
+    fn write(&mut self, buf: &[u8]) -> io::Result<usize> {
+        Ok(buf.len())
+    }
+
+    fn flush(&mut self) -> io::Result<()> {
+        Err(ErrorKind::BrokenPipe.into())
+    }
+}
 
 #[test]
 fn words(rt: HostRuntime) -> Result<(), Fail> {
@@ -78,6 +93,16 @@ fn a_write_of_nothing_is_a_failure(rt: HostRuntime) -> Result<(), Fail> {
     assert_eq!(rt; w.flush(), Ok(()));
     let held: Vec<u8> = w.into_inner().into_inner();
     assert!(rt; held.is_empty());
+    Ok(())
+}
+
+#[test]
+fn a_failed_flush_is_counted(rt: HostRuntime) -> Result<(), Fail> {
+    let mut w = Plain::new(Unflushed);
+    assert_eq!(rt; w.write(b"abc"), Ok(3));
+    assert_eq!(rt; w.failures(), 0);
+    assert_eq!(rt; w.flush(), Err(Failed));
+    assert_eq!(rt; w.failures(), 1);
     Ok(())
 }
 

@@ -4,14 +4,17 @@
 //! A tree is that of `specs/Tree.antt`: a node has its attributes and a body, and a directory's
 //! body is a list of names with nodes. `specs/Image.antt` says what an image is. Proved: generic
 //! code that cites the trait `TreeImage` gets for each call the answer of that one tree, and
-//! `list` writes one line for each name of it, in preorder, or a front of these lines where the
+//! `list` writes one line for each name of it, in preorder, or a prefix of these lines where the
 //! writer failed. Nothing here takes memory.
 #![tactic(auto)]
 
 mod frame;
 pub mod image;
 mod line;
-pub mod list;
+pub mod listing;
 pub mod types;
 
+pub use image::{TreeImage, Viewed};
+pub use listing::list;
 pub use rom_faults::CheckError;
+pub use types::{Cursor, Entry, Kind, Limits, ListError, NodeId, Piece, Report, Run, Stat};

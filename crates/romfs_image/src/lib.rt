@@ -22,3 +22,5 @@ mod rows;
 mod superblock;
 #[cfg(test)]
 mod tests;
+
+pub use image::Romfs;

@@ -45,6 +45,14 @@ fn hello() -> [u8; 288] {
     b
 }
 
+/// The same with a sum of the header that is one too great, and the superblock's mended.
+fn hello_of_another_sum() -> [u8; 288] {
+    let mut b = image(0x90, 0xc9c1_b069, [0x60, 0x20, 0, 0xd1d1_ff80]);
+    header(&mut b, 96, [2, 0, 5, 0x9eff_fffa], b"a");
+    put_bytes(&mut b, 128, b"hello");
+    b
+}
+
 /// A directory `d` whose list begins at `spec`.
 fn subdirectory(spec: u32, sum: u32) -> [u8; 288] {
     let mut b = image(0x80, 0xa127_1ce6, [0x60, 0x20, 0, 0xd1d1_ff80]);
@@ -135,6 +143,9 @@ fn limits(rt: HostRuntime) -> Result<(), Fail> {
     };
     assert_eq!(rt; answer(rt.alloc(), &hello(), few(2)), fault(1, 0));
     assert_eq!(rt; answer(rt.alloc(), &hello(), few(3)), counts(3, 1));
+    let other = hello_of_another_sum();
+    assert_eq!(rt; answer(rt.alloc(), &other, few(2)), fault(1, 0));
+    assert_eq!(rt; answer(rt.alloc(), &other, few(3)), fault(12, 96));
     let flat = Limits {
         references: 3,
         depth: 0,

@@ -2,7 +2,7 @@
 use Rattle.std.specs.Prelude.{◌≡◌, ℕ, ◌⊎◌, Bool, false, List, [], ◌++◌, if◌then◌else◌, codes, decimal}
 use Rattle.std.specs.Io.KnownBytes.{Appends}
 use Rattle.rom_fields.specs.Failures.{Rose}
-use Rattle.rom_fields.specs.Written.{AppendsFront, Output, Puts, sink}
+use Rattle.rom_fields.specs.Written.{AppendsPrefix, Output, Puts, sink}
 use Rattle.rom_faults.specs.Faults.{name_of_fault}
 use Rattle.rom_tree.specs.Listing.{list_text}
 use Rattle.rom_tree.specs.Image.{Image}
@@ -58,7 +58,7 @@ Ends bytes listed old new Done = (text : List ℕ) × IsSoundText bytes listed t
 Ends bytes listed old new Refused = (text : List ℕ) × IsFaultText bytes text × Appends old.contents new.contents text
 Ends bytes listed old new Memory = new ≡ old
 Ends bytes listed old new WriteFault =
-    (text : List ℕ) × (IsSoundText bytes listed text ⊎ IsFaultText bytes text) × AppendsFront old.contents new.contents text × Rose old.failures new.failures
+    (text : List ℕ) × (IsSoundText bytes listed text ⊎ IsFaultText bytes text) × AppendsPrefix old.contents new.contents text × Rose old.failures new.failures
 
 -- the status with which the program ends
 abbrev pub status_of : Outcome → ℕ
@@ -67,7 +67,7 @@ status_of Refused = 1
 status_of Memory = 3
 status_of WriteFault = 3
 
--- the text was put into a writer, or a front of it where a write failed
+-- the text was put into a writer, or a prefix of it where a write failed
 abbrev pub Prints : Output → Output → List ℕ → Type 0
 Prints old new text = (failed : Bool) × Puts (sink old false) (sink new failed) text
 

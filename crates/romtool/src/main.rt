@@ -8,7 +8,7 @@
 
 mod fault;
 mod hello;
-mod print;
+mod printing;
 mod program;
 mod shown;
 #[cfg(test)]

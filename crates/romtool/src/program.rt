@@ -2,7 +2,7 @@
 ghost use Rattle.std.specs.Prelude.{◌≡◌, ◌≤◌};
 
 use crate::hello::hello;
-use crate::print::{FAULT, complain, print};
+use crate::printing::{FAULT, complain, print};
 use crate::words::{Request, WordsError, read};
 use rom_fields::bytes::Plain;
 use std::io::BufWriter;

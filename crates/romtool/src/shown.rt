@@ -9,12 +9,11 @@ ghost use Rattle.romtool.specs.Formats.{format_of};
 ghost use Rattle.romtool.specs.declared.shown.Outcome.{Outcome};
 
 use crate::fault::put_fault;
-use image_check::any::AnyImage;
-use image_check::check::check;
+use image_check::{AnyImage, check};
 use rom_fields::bytes::{ByteWrite, Failed};
 use rom_fields::sink::put;
 use rom_fields::text::put_decimal;
-use rom_tree::list::list;
+use rom_tree::list;
 use rom_faults::CheckError;
 use rom_tree::types::{Limits, Report};
 use std::alloc::Global;
@@ -28,7 +27,7 @@ pub enum Outcome {
     Refused,
     /// Memory was refused, and nothing was written.
     Memory,
-    /// A write failed. A front of the text was written.
+    /// A write failed. A prefix of the text was written.
     WriteFault,
 }
 

@@ -1,9 +1,25 @@
 use crate::hello::hello;
+use crate::printing::{complain, print};
 use crate::shown::shown;
 use rom_fields::bytes::Plain;
 use rom_fields::faulty::Faulty;
 use rom_fields::word::put_be32;
+use std::io::{self, ErrorKind, Write};
 use std::test::Fail;
+
+/// Takes all bytes, and fails each flush.
+#[derive(Drop)]
+struct Unflushed;
+
+impl Write for Unflushed {
+    fn write(&mut self, buf: &[u8]) -> io::Result<usize> {
+        Ok(buf.len())
+    }
+
+    fn flush(&mut self) -> io::Result<()> {
+        Err(ErrorKind::BrokenPipe.into())
+    }
+}
 
 const LISTED: &[u8] = b"32 d 0755 0 0 0 0 0 /\n96 f 0644 0 0 5 0 0 /a\n";
 
@@ -85,5 +101,32 @@ fn a_failed_write_ends_it(rt: HostRuntime) -> Result<(), Fail> {
     assert_eq!(rt; shown(rt.alloc(), &image[..8], false, &mut w), 3);
     let held: Vec<u8> = w.into_inner().into_inner();
     assert_eq!(rt; held.as_slice(), b"fault ".as_slice());
+    Ok(())
+}
+
+#[test]
+fn prints_and_flushes(rt: HostRuntime) -> Result<(), Fail> {
+    let mut out = Plain::new(Vec::new(rt.alloc()));
+    let mut err = Plain::new(Vec::new(rt.alloc()));
+    assert_eq!(rt; print(rt.alloc(), &hello(), true, &mut out, &mut err), 0);
+    assert_eq!(rt; out.into_inner().as_slice(), LISTED);
+    assert!(rt; err.into_inner().is_empty());
+    Ok(())
+}
+
+#[test]
+fn a_failed_flush_is_a_write_fault(rt: HostRuntime) -> Result<(), Fail> {
+    let mut out = Plain::new(Unflushed);
+    let mut err = Plain::new(Vec::new(rt.alloc()));
+    assert_eq!(rt; print(rt.alloc(), &hello(), false, &mut out, &mut err), 3);
+    assert_eq!(rt; err.into_inner().as_slice(), b"write fault\n".as_slice());
+    Ok(())
+}
+
+#[test]
+fn complains_with_an_escaped_name(rt: HostRuntime) -> Result<(), Fail> {
+    let mut w = Plain::new(Vec::new(rt.alloc()));
+    complain(&mut w, b"file ", b"a b");
+    assert_eq!(rt; w.into_inner().as_slice(), b"file a%20b\n".as_slice());
     Ok(())
 }

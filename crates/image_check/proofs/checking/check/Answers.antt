@@ -2,7 +2,7 @@ use Rattle.std.proofs.Common.{sym, subst}
 use Rattle.rom_tree.proofs.Answered.{err_by}
 use Rattle.image_check.specs.Checked.{IsRefused}
 use Rattle.image_check.proofs.Formats.{refused_romfs, refused_cramfs}
-use Rattle.image_check.proofs.check.check.Goals as goal
+use Rattle.image_check.proofs.checking.check.Goals as goal
 
 pub returns-in_err-image-clause-fault : goal.returns-in_err-image-clause-fault
 returns-in_err-image-clause-fault c = err_by c.from_residual.result c.from_residual.ensures.1 (λ e is.

@@ -3,7 +3,7 @@ ghost use Rattle.std.specs.Prelude.{◌<◌, ◌≤◌, ℕ, List, OnOk, OnErr};
 ghost use Rattle.std.specs.Io.KnownBytes.{Appends};
 ghost use Rattle.arrayvec.specs.ArrayVec.{array_vec_len};
 ghost use Rattle.rom_fields.specs.Failures.{Rose};
-ghost use Rattle.rom_fields.specs.Written.{AppendsFront, Puts, sink};
+ghost use Rattle.rom_fields.specs.Written.{AppendsPrefix, Puts, sink};
 ghost use Rattle.rom_tree.specs.Tree.{levels};
 ghost use Rattle.rom_tree.specs.Listing.{list_text};
 ghost use Rattle.rom_tree.specs.Frames.{AreFrames, Follows};
@@ -63,12 +63,12 @@ fn step<'a, T: TreeImage<'a>, W: ByteWrite>(
 ///
 /// # Errors
 ///
-/// `WriteFault` where a write failed. Then a front of the list was written.
+/// `WriteFault` where a write failed. Then a prefix of the list was written.
 pub fn list<'a, T: TreeImage<'a>, W: ByteWrite>(image: &T, w: &mut W) -> Result<(), ListError>
     requires { levels (T.image image.now).tree ≤ 65 }
     ensures ok { OnOk result (Appends (W.output w.old).contents (W.output w.new).contents
         (list_text (T.image image.now).bytes (T.image image.now).tree)) }
-    ensures err { OnErr result (AppendsFront (W.output w.old).contents (W.output w.new).contents
+    ensures err { OnErr result (AppendsPrefix (W.output w.old).contents (W.output w.new).contents
         (list_text (T.image image.now).bytes (T.image image.now).tree)) }
     ensures fault { OnErr result (Rose (W.output w.old).failures (W.output w.new).failures) }
 {

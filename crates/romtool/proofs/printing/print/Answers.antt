@@ -3,9 +3,9 @@ use Rattle.rom_fields.specs.Texts.{escaped}
 use Rattle.rom_fields.specs.Written.{Output, output_of}
 use Rattle.romtool.specs.Answers.{status_of}
 use Rattle.romtool.specs.declared.shown.Outcome.TheVariants.{Memory, WriteFault}
-use Rattle.romtool.proofs.Printing.{memory_told, fault_told, shown_told, count_before}
-use Rattle.romtool.proofs.print.print.Goals as goal
-use Rattle.romtool.proofs.print.print.Goals.{else-status-eq-FAULT-via-then-status-eq-FAULT+else-failures-eq0, else-status-eq-FAULT-via-else-status-eq-FAULT}
+use Rattle.romtool.proofs.Printed.{memory_told, fault_told, shown_told, count_before}
+use Rattle.romtool.proofs.printing.print.Goals as goal
+use Rattle.romtool.proofs.printing.print.Goals.{else-status-eq-FAULT-via-then-status-eq-FAULT+else-failures-eq0, else-status-eq-FAULT-via-else-status-eq-FAULT}
 
 pub returns-then-failures-eq0-clause-ends : goal.returns-then-failures-eq0-clause-ends
 unfolding escaped

@@ -11,7 +11,7 @@ use Rattle.rom_tree.proofs.Nodes.{not_directory_entries}
 use Rattle.rom_tree.proofs.Named.{has_node}
 use Rattle.rom_tree.proofs.Stacks.{frame_fits, last_frame}
 use Rattle.rom_tree.proofs.Turns.{moved, entered, entry_line, Turn, turn, ends, follows_as}
-use Rattle.rom_tree.proofs.list.step.Goals as goal
+use Rattle.rom_tree.proofs.listing.step.Goals as goal
 
 -- two pushes in a row
 two : (a b c : List Frame) (f k : Frame) → a ≡ b ++ k ∷ [] → b ≡ c ++ f ∷ [] → a ≡ (c ++ f ∷ []) ++ k ∷ []

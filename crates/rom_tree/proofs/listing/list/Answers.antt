@@ -1,7 +1,7 @@
 use Rattle.std.proofs.Common.{true, false, ◌≡◌, Some, None, refl, sym, ap, ◌∙◌, subst, ℕ, ◌∷◌, [], ◌++◌, List, arith, append_assoc, append-nil, length, ◌==◌}
 use Rattle.std.specs.Io.KnownBytes.{Appends}
 use Rattle.std.proofs.lemmas.Bool.{eqb-true}
-use Rattle.rom_fields.specs.Written.{Puts, sink, AppendsFront}
+use Rattle.rom_fields.specs.Written.{Puts, sink, AppendsPrefix}
 use Rattle.rom_fields.proofs.Joins.{chain, said_ok, said_front, said_rose, front_first}
 use Rattle.rom_tree.specs.Image.{Image, image_node, HasDirectory}
 use Rattle.rom_tree.specs.Listing.{line, list_text}
@@ -10,8 +10,8 @@ use Rattle.arrayvec.specs.ArrayVec.{ArrayVec}
 use Rattle.rom_tree.specs.declared.frame.Frame.{Frame}
 use Rattle.rom_tree.proofs.Named.{root_node, has_node, has_directory}
 use Rattle.rom_tree.proofs.Stacks.{root_frame, root_text, leaf_text, no_frames, pending-nil}
-use Rattle.rom_tree.proofs.list.list.Goals as goal
-use Rattle.rom_tree.proofs.list.list.Goals.{then-is_directory_at, else-is_directory_at}
+use Rattle.rom_tree.proofs.listing.list.Goals as goal
+use Rattle.rom_tree.proofs.listing.list.Goals.{then-is_directory_at, else-is_directory_at}
 
 pub put_line-requires : goal.put_line-requires
 put_line-requires g c κs = let m : Image = g.T.Viewed.image c.args.image.now in ((refl, tt), has_node m c.root-root.result.0 m.tree (root_node m c.root-root.result.0 c.root-root.ensures))
@@ -63,7 +63,7 @@ loop-failed-smaller g c = let step = c.step.ensures in step.1.less
 
 pub returns-clause-err : goal.returns-clause-err
 returns-clause-err g c = let m : Image = g.T.Viewed.image c.args.image.now in let i = c.loop-failed.invariant in
-    let P : List ℕ → Type 0 = λ v. AppendsFront (g.W.ByteWrite.output c.args.w.now).contents (g.W.ByteWrite.output c.loop-failed.w).contents v in
+    let P : List ℕ → Type 0 = λ v. AppendsPrefix (g.W.ByteWrite.output c.args.w.now).contents (g.W.ByteWrite.output c.loop-failed.w).contents v in
     subst P i.rest (front_first (g.W.ByteWrite.output c.args.w.now).contents (g.W.ByteWrite.output c.loop-failed.w).contents i.done (pending m [] c.loop-failed.stack.items) (said_front (g.W.ByteWrite.output c.args.w.now) (g.W.ByteWrite.output c.loop-failed.w) c.loop-failed.failed i.done c.loop-failed-test.false i.puts))
 
 pub returns-clause-fault : goal.returns-clause-fault

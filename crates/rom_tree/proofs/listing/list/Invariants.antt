@@ -2,7 +2,7 @@ use Rattle.std.proofs.Common.{◌≡◌, ◌++◌, [], List, ℕ, false}
 use Rattle.rom_fields.specs.Written.{Puts, sink}
 use Rattle.rom_tree.specs.Listing.{list_text}
 use Rattle.rom_tree.specs.Frames.{AreFrames, weight, pending}
-use Rattle.rom_tree.proofs.list.list.Given as goal
+use Rattle.rom_tree.proofs.listing.list.Given as goal
 
 -- `done` was put, and what the stack has still to list completes it
 abbrev pub invariant-loop-failed : goal.invariant-loop-failed
