@@ -1,14 +1,12 @@
 -- What numbers of images and nodes name.
-use Rattle.std.proofs.Common.{◌≡◌, ℕ, zero, suc, ◌<◌, ◌≤◌, true, List, [], ◌∷◌, length, map, Some, None, refl, sym, ap, ◌∙◌, arith, get_or}
+use Rattle.std.proofs.Common.{◌≡◌, ℕ, zero, suc, ◌<◌, ◌≤◌, true, List, [], ◌∷◌, length, map, Some, None, refl, ap, arith, get_or}
 use Rattle.std.proofs.lemmas.List.{length-map}
 use Rattle.std.specs.Prelude.{slice_index, slice_set}
 use Rattle.rom_tree.specs.Tree.{Node, ino_of, is_link, entries_of, places_of}
 use Rattle.rom_tree.specs.Image.{Image, image_node, find_entry, text_of}
 use Rattle.rom_tree.proofs.Nodes.{node_at-some}
 use Rattle.rom_tree.proofs.Named.{node_number, root_node, named_node}
-use Rattle.path_walk.specs.declared.mount.Place.{Place}
-use Rattle.path_walk.specs.Graft.{GraftNode, tree_in, bytes_in, node_in}
-use Rattle.path_walk.specs.Trails.{NamesAt}
+use Rattle.path_walk.specs.Graft.{tree_in, bytes_in, node_in}
 
 pub none_some : {A : Type 0} (x : A) → None ≡ Some x → ⊥
 none_some x h = cc
@@ -77,19 +75,3 @@ module _ {T : Type 0} (f : T → Image) where
 pub one_node : (m : Image) (i n : ℕ) (x : Node) → node_in (m ∷ []) i n ≡ Some x → image_node m n ≡ Some x
 one_node m zero n x h = h
 one_node m (suc i) n x h = absurd (none_some x h)
-
-pub one_bytes : (m : Image) (i n : ℕ) (x : Node) → node_in (m ∷ []) i n ≡ Some x → bytes_in (m ∷ []) i ≡ m.bytes
-one_bytes m zero n x h = refl
-one_bytes m (suc i) n x h = absurd (none_some x h)
-
-pub one_tree : (m : Image) (i : ℕ) → i < length (m ∷ []) → tree_in (m ∷ []) i ≡ m.tree
-one_tree m zero l = refl
-one_tree m (suc i) l = absurd (omega (arith, l))
-
--- a place names one named
-pub same_named : (ms : List Image) (p : Place) (s t : GraftNode) → NamesAt ms p s → NamesAt ms p t → s ≡ t
-same_named ms p s t h k =
-    let i : s.image ≡ t.image = sym h.image ∙ k.image in
-    let e : Some s.node ≡ Some t.node = sym h.node ∙ k.node in
-    let a : s.node ≡ t.node = cc in
-    ap (λ (v : ℕ). record { image = v; node = s.node }) i ∙ ap (λ (v : Node). record { image = t.image; node = v }) a

@@ -1,5 +1,5 @@
 -- How far mounts lead.
-use Rattle.std.proofs.Common.{◌≡◌, ℕ, zero, suc, ◌<◌, ◌≤◌, Bool, true, false, List, [], ◌∷◌, length, Some, None, refl, sym, ap, ◌∙◌, subst, rules, arith, ◌==◌, nat_lt, eqb, tests, get_or, drop}
+use Rattle.std.proofs.Common.{◌≡◌, ℕ, zero, suc, ◌<◌, ◌≤◌, Bool, true, false, List, [], ◌∷◌, length, Some, refl, sym, ap, ◌∙◌, subst, rules, arith, ◌==◌, nat_lt, eqb, tests}
 use Rattle.std.proofs.lemmas.Bool.{false≢true, eqb-true, false_from_ne_true, or_right}
 use Rattle.std.proofs.lemmas.Map.Steps.{length-le_from_distinct_below}
 use Rattle.std.proofs.lemmas.Map.Keys.{IsDistinct-cons}
@@ -138,20 +138,3 @@ module _ (ms : List Image) (us : List Mount) (h : are_mounts ms us ≡ true) whe
   led_few r i s l =
       let k = length-le_from_distinct_below (way l) (length ms) (way_distinct l) (λ q e. led_below s (on_way l q e).led) in
       omega (arith, k, way_length l)
-
--- the first from an index on
-pub find_drop : (p : Mount → Bool) (us : List Mount) (i : ℕ) (d : Mount) → i < length us → p (get_or us i d) ≡ true → find p (drop i us) ≡ Some (get_or us i d)
-find_drop p [] i d l h = absurd (omega (arith, l))
-find_drop p (u ∷ us) zero d l h = rw h
-find_drop p (u ∷ us) (suc i) d l h = find_drop p us i d (omega (arith, l)) h
-
-pub find_skip : (p : Mount → Bool) (us : List Mount) (i : ℕ) (d : Mount) → i < length us → p (get_or us i d) ≡ false → find p (drop i us) ≡ find p (drop (suc i) us)
-find_skip p [] i d l h = absurd (omega (arith, l))
-find_skip p (u ∷ us) zero d l h = rw h
-find_skip p (u ∷ us) (suc i) d l h = find_skip p us i d (omega (arith, l)) h
-
-pub find_end : (p : Mount → Bool) (us : List Mount) (i : ℕ) → length us ≤ i → find p (drop i us) ≡ None
-find_end p [] zero l = refl
-find_end p [] (suc i) l = refl
-find_end p (u ∷ us) zero l = absurd (omega (arith, l))
-find_end p (u ∷ us) (suc i) l = find_end p us i (omega (arith, l))

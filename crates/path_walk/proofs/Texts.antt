@@ -84,7 +84,7 @@ components-first (c ∷ cs) (suc n) some other h b f =
     let q : names_of (after_slash (drop n cs)) ≡ names_of (pieces (drop n cs)) = after_slash-names (drop n cs) s in
     rw (p, e, q)
 
--- texts
+-- the unread texts
 pub bytes-push : (us : List (Bor (List ℕ))) (u : Bor (List ℕ)) → unread_bytes (us ++ u ∷ []) ≡ unread_bytes us + length u.now
 unfolding unread_bytes
 bytes-push [] u = omega arith

@@ -105,7 +105,7 @@ covered ms us i n s u h e f =
     let there : node_in ms u.on u.dir.0 ≡ Some s.node = ap (λ (v : ℕ). node_in ms v u.dir.0) on ∙ (ap (node_in ms s.image) (dir ∙ num) ∙ e) in
     record { member = r.0; on = on; directory = sym (ap is_directory_node there) ∙ g.directory; below = g.image }
 
--- where a node shows, a node is, and it is a link only where it is that node
+-- what stands at a node is a node of its image
 over_named : (ms : List Image) (us : List Mount) (p q : Place) (s : GraftNode) (o : Option Mount) → are_mounts ms us ≡ true → NamesAt ms p s → find (covers s.image (ino_of s.node)) us ≡ o
     → (o ≡ None → q ≡ p) → ((u : Mount) → o ≡ Some u → (q.image ≡ u.image) × (u.image < length ms → q.node.0 ≡ ino_of (tree_in ms u.image))) → NamesAt ms q (over ms s o)
 over_named ms us p q s None h i f a b = let P : Place → Type 0 = λ v. NamesAt ms v s in subst P (sym (a refl)) i
@@ -124,15 +124,11 @@ pub shown_named : (ms : List Image) (us : List Mount) (p q : Place) (s : GraftNo
 unfolding shown
 shown_named ms us p q s h i a b = over_named ms us p q s (find (covers s.image (ino_of s.node)) us) h i refl a b
 
--- the mounts of a place and of its named
+-- the mounts of a place and of the node that it names
 pub same_cover : (ms : List Image) (us : List Mount) (p : Place) (s : GraftNode) → NamesAt ms p s → find (covers s.image (ino_of s.node)) us ≡ find (covers p.image p.node.0) us
 same_cover ms us p s i = ap (λ (v : ℕ). find (covers v (ino_of s.node)) us) (sym i.image) ∙ ap (λ (v : ℕ). find (covers p.image v) us) (node_in-number ms p.image p.node.0 s.node i.node)
 
--- the mount of a root is one of an image that is there
-pub mount_below : (ms : List Image) (us : List Mount) (p : Place) (s : GraftNode) (u : Mount) → are_mounts ms us ≡ true → NamesAt ms p s → find (covers s.image (ino_of s.node)) us ≡ Some u → u.image < length ms
-mount_below ms us p s u h i f = (covered ms us s.image p.node.0 s u h (ap (λ (v : ℕ). node_in ms v p.node.0) (sym i.image) ∙ i.node) f).below
-
--- room for what shows
+-- room below what stands at a node
 over_fits : (ms : List Image) (us : List Mount) (s t : GraftNode) (p : Place) (n : ℕ) (o : Option Mount) → are_mounts ms us ≡ true → length ms ≤ 8 → 0 < length ms → AreShallow ms
     → IsFitting us s n → t.image ≡ s.image → suc (levels t.node) ≤ levels s.node → NamesAt ms p t → find (covers t.image (ino_of t.node)) us ≡ o → IsFitting us (over ms t o) (suc n)
 over_fits ms us s t p n None h w z sh f i l sp e =
@@ -161,7 +157,7 @@ pub entry_named : (ms : List Image) (p : Place) (s : GraftNode) (x : Node) (n : 
 entry_named ms p s x n name i f e = record { image = i.image; node = ap (node_in ms p.image) (sym e) ∙ node_in-named ms p.image p.node.0 s.node x name i.node f }
 
 module _ (ms : List Image) (us : List Mount) where
-  -- there is room for one more ancestors an entry
+  -- there is room for one more ancestor above an entry
   pub trail_room : (current : Place) (ancestors : List Place) (s : Trail GraftNode) (x : Node) (name : List ℕ) → IsTrail ms us current ancestors s → find_entry (entries_of s.current.node) name ≡ Some x → length ancestors < 513
   trail_room current ancestors s x name i e =
       let f = fit_current us s.current s.ancestors i.fit in

@@ -1,6 +1,6 @@
 -- Several images as one tree: that of image 0, with the root of each mounted image in place of the
--- directory that it covers, under the same name. This project's own, after mount points as POSIX.1-2017,
--- 4.13 "Pathname Resolution", has them: dot-dot at a mounted root leads to the covered directory's parent.
+-- directory that it covers, under the same name. As in Linux, path_resolution(7), "Mount points", dot-dot at
+-- a mounted root leads to the parent of the covered directory. What may be mounted is this project's own.
 use Rattle.std.specs.Prelude.{◌≡◌, ℕ, zero, suc, ◌≤◌, ◌==◌, nat_lt, Bool, true, false, ◌&&◌, not, List, [], ◌∷◌, length, find, Option, Some, None, option_map}
 use Rattle.rom_tree.specs.Tree.{Node, node, fifo, ino_of, is_directory, entries_of, levels}
 use Rattle.rom_tree.specs.Image.{Image, image_node, find_entry}
@@ -39,6 +39,7 @@ pub record Names (ms : List Image) (i n : ℕ) (s : GraftNode) : Type 0 where
 abbrev pub covers : ℕ → ℕ → Mount → Bool
 covers i n u = (u.on == i) && (u.dir.0 == n)
 
+-- no mount does
 abbrev pub IsUncovered : List Mount → ℕ → ℕ → Type 0
 IsUncovered us i n = find (covers i n) us ≡ None
 
@@ -55,7 +56,8 @@ graft ms us = record {
   root = record { image = 0; node = tree_in ms 0 };
   node = λ s. s.node;
   bytes = λ s. bytes_in ms s.image;
-  entry = λ s name. option_map (λ x. shown ms us (record { image = s.image; node = x })) (find_entry (entries_of s.node) name);
+  entry = λ s name. option_map (λ x. shown ms us (record { image = s.image; node = x }))
+      (find_entry (entries_of s.node) name);
 }
 
 -- What mounts are: each covers a directory of an image, not its root, by an image other than 0, and no

@@ -21,7 +21,12 @@ pub record Namespace (F : Type 0) : Type 0 where
 
 -- a tree in an image of these bytes: its places are its nodes
 abbrev pub tree_namespace : List ℕ → Node → Namespace Node
-tree_namespace b t = record { root = t; node = λ x. x; bytes = λ x. b; entry = λ x name. find_entry (entries_of x) name }
+tree_namespace b t = record {
+  root = t;
+  node = λ x. x;
+  bytes = λ x. b;
+  entry = λ x name. find_entry (entries_of x) name;
+}
 
 -- the current place, and those that were entered on the way to it from the root, the last one first
 pub record Trail (F : Type 0) : Type 0 where

@@ -52,14 +52,16 @@ AreAncestors ms ps (s ∷ ss) =
     (front : List Place) × (p : Place) × (ps ≡ front ++ p ∷ []) × NamesAt ms p s × AreAncestors ms front ss
 
 -- a place and a stack of places are a trail in the graft
-pub record IsTrail (ms : List Image) (us : List Mount) (current : Place) (ancestors : List Place) (s : Trail GraftNode) : Type 0 where
+pub record IsTrail (ms : List Image) (us : List Mount) (current : Place) (ancestors : List Place)
+    (s : Trail GraftNode) : Type 0 where
   pub named : NamesAt ms current s.current
   pub all_named : AreAncestors ms ancestors s.ancestors
   pub fit : AreFitting us s.current s.ancestors
   pub root : root_of s.current s.ancestors ≡ (graft ms us).root
 
 -- what one component led to
-abbrev pub Leads : List Image → List Mount → Trail GraftNode → Step GraftNode → Place → List Place → Result (Option Place) WalkError → Type 0
+abbrev pub Leads : List Image → List Mount → Trail GraftNode → Step GraftNode → Place → List Place
+    → Result (Option Place) WalkError → Type 0
 Leads ms us s t current ancestors (Err e) = t ≡ fails e
 Leads ms us s t current ancestors (Ok None) = (u : Trail GraftNode) × (t ≡ goes u) × IsTrail ms us current ancestors u
 Leads ms us s t current ancestors (Ok (Some p)) =

@@ -47,7 +47,8 @@ pub(crate) trait Images<'a>: Gathered {
         ensures stays { Self.held self.new ≡ Self.held self.old }
         ensures found { (s : GraftNode) → NamesAt (Self.held self.old).images place s
             → MatchOption result (find_entry (entries_of s.node) name.now ≡ None)
-            (λ n. (y : Node) × (find_entry (entries_of s.node) name.now ≡ Some y) × (ino_of y ≡ n.0)) };
+            (λ n. (y : Node) × (find_entry (entries_of s.node) name.now ≡ Some y)
+            × (ino_of y ≡ n.0)) };
 }
 
 /// One image, of number 0.

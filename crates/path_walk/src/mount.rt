@@ -1,7 +1,8 @@
 //! Where images are mounted.
 use rom_tree::types::NodeId;
 
-/// A mounted image: the root of image number `image` covers the directory `dir` of image number `on`.
+/// A mounted image: the root of image number `image` covers the directory `dir` of image number
+/// `on`.
 #[derive(Clone, Copy, Debug, Default, PartialEq, Eq)]
 pub struct Mount {
     pub image: u32,

@@ -79,23 +79,23 @@ fn find_place<'a, G: Images<'a>>(
     Ok(current)
 }
 
-/// Finds the node that a path leads to. `follow_last` says whether a symbolic link is followed where
-/// it is the last component. The image stays as it is.
+/// Finds the node that a path leads to. `follow_last` says whether a symbolic link is followed
+/// where it is the last component. The image stays as it is. Directories may lie 64 deep.
 ///
-/// The components of the path are looked up one after the other, from the root on; `.` stays, `..`
-/// goes to the parent, which at the root is the root. A link's text is put in the place of its
-/// name, and leads on from the root where it begins with a slash, else from the directory that holds
-/// the link.
+/// The components of the path are looked up one after the other, from the root on: `.` stays, `..`
+/// goes to the parent, which at the root is the root. A link's text is put in the place of its name,
+/// and leads on from the root where it begins with a slash, else from the directory that holds the
+/// link (POSIX.1-2017, 4.13 "Pathname Resolution").
 ///
-/// Each component costs one look-up in the list of its directory, and each link that is followed one
-/// reading of its text. A path and 40 links have at most 41 times 2,048 components. No memory is taken.
+/// Each name costs one look-up in the list of its directory, and each link that is followed one
+/// reading of its text. A path and 40 links have at most 41 times 2,048 names. No memory is taken.
 ///
 /// # Errors
 ///
-/// First of the path as a whole, in this order: `Enametoolong` above 4095 bytes, `Enoent` where it is
-/// empty, `Einval` without a slash in front. Then for each component: `Enotdir` where it stands
-/// behind what is no directory, `Enametoolong` above 255 bytes, `Enoent` where the directory has no
-/// such entry, `Eloop` where it is the 41st link that would be followed.
+/// First those of the path as a whole, in this order: `Enametoolong` above 4095 bytes, `Enoent`
+/// where it is empty, `Einval` without a slash in front. Then for each component in turn: `Enotdir`
+/// where it stands behind what is no directory, `Enametoolong` above 255 bytes, `Enoent` where the
+/// directory has no entry of that name, `Eloop` where it is the 41st link that is to be followed.
 pub fn walk<'a, T: TreeImage<'a>>(
     image: &mut T,
     path: &[u8],
@@ -104,9 +104,11 @@ pub fn walk<'a, T: TreeImage<'a>>(
     requires { levels (T.image image.old).tree ≤ 65 }
     ensures leads { MatchResult result
         (λ n. (x : Node)
-        × (resolution (tree_namespace (T.image image.old).bytes (T.image image.old).tree) path.now follow_last ≡ Ok x)
+        × (resolution (tree_namespace (T.image image.old).bytes (T.image image.old).tree)
+        path.now follow_last ≡ Ok x)
         × (image_node (T.image image.old) n.0 ≡ Some x))
-        (λ e. resolution (tree_namespace (T.image image.old).bytes (T.image image.old).tree) path.now follow_last ≡ Err e) }
+        (λ e. resolution (tree_namespace (T.image image.old).bytes (T.image image.old).tree)
+        path.now follow_last ≡ Err e) }
     ensures stays { T.image image.new ≡ T.image image.old }
 {
     let place = find_place(&mut One { image }, &[], path, follow_last)?;
@@ -117,13 +119,13 @@ pub fn walk<'a, T: TreeImage<'a>>(
 /// of each mounted image in place of the directory that it covers. Gives the number of the node's
 /// image and the node, which is never a covered directory. The images stay as they are.
 ///
-/// There are 1 to 8 images. Each mount covers a directory of an image, not its root, by an image
-/// other than 0, and no directory and no image stands twice among them; a mount whose directory is
-/// never met has no effect. The path leads as in `walk`. `..` at a mounted root goes to the parent
-/// of the covered directory, and a link whose text begins with a slash leads on from the root of
-/// image 0.
+/// There are 1 to 8 images, in which directories may lie 64 deep. Each mount covers a directory of
+/// an image, not its root, by an image other than 0, and no directory and no image stands twice
+/// among them; a mount whose directory is never met has no effect. The path leads as in `walk`. `..`
+/// at a mounted root goes to the parent of the covered directory, and a link whose text begins with
+/// a slash leads on from the root of image 0.
 ///
-/// Each component costs one look-up in the list of its directory and one look at the mounts.
+/// Each name costs one look-up in the list of its directory and one look at the mounts.
 ///
 /// # Errors
 ///

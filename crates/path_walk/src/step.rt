@@ -55,7 +55,8 @@ fn shown_place<'a, G: Images<'a>>(images: &G, mounts: &[Mount], image: u32, node
     requires { are_mounts (G.held images.now).images mounts.now ≡ true }
     ensures { (s : GraftNode)
         → NamesAt (G.held images.now).images (record { image = image; node = node }) s
-        → NamesAt (G.held images.now).images result (shown (G.held images.now).images mounts.now s) }
+        → NamesAt (G.held images.now).images result
+        (shown (G.held images.now).images mounts.now s) }
 {
     match mounted_on(mounts, image, node) {
         None => Place { image, node },
@@ -132,7 +133,8 @@ pub(crate) fn start_from(
     ensures { (ms : List Image) (us : List Mount) (s : Trail GraftNode)
         → IsTrail ms us current.old ancestors.old.items s → AreShallow ms
         → NamesAt ms root (graft ms us).root
-        → IsTrail ms us current.new ancestors.new.items (if begins_with_slash text.now then to_root s else s) }
+        → IsTrail ms us current.new ancestors.new.items
+        (if begins_with_slash text.now then to_root s else s) }
 {
     if is_absolute(text) {
         *current = root;
