@@ -13,6 +13,8 @@ mod images;
 mod mount;
 mod paths;
 mod step;
+#[cfg(test)]
+mod tests;
 
 pub use error::WalkError;
 pub use mount::Mount;
