@@ -1,7 +1,7 @@
 -- Facts on one component of a path.
-use Rattle.std.proofs.Common.{◌≡◌, ℕ, suc, ◌<◌, ◌≤◌, Bool, true, false, List, [], ◌∷◌, ◌++◌, length, Option, Some, None, refl, sym, ap, ◌∙◌, subst, rules, arith, length-append, tests, ◌==◌, nat_lt}
+use Rattle.std.proofs.Common.{◌≡◌, ℕ, suc, ◌<◌, ◌≤◌, Bool, true, false, List, [], ◌∷◌, ◌++◌, length, Option, Some, None, refl, sym, ap, ◌∙◌, subst, rules, arith, length-append, append-nil, tests, ◌==◌, nat_lt}
 use Rattle.std.proofs.lemmas.Bool.{false≢true, eqb-true}
-use Rattle.std.specs.Prelude.{not, ◌&&◌, if◌then◌else◌, find, option_map}
+use Rattle.std.specs.Prelude.{IsSome, unwrap_or, option_to_list, not, ◌&&◌, if◌then◌else◌, find, option_map}
 use Rattle.std.specs.Str.{bytes_eq}
 use Rattle.rom_tree.specs.Tree.{Node, ino_of, is_directory, is_link, levels, entries_of}
 use Rattle.rom_tree.specs.Image.{Image, find_entry}
@@ -202,6 +202,14 @@ module _ (ms : List Image) (us : List Mount) where
 
   pub top_parent : (current : Place) (ancestors fs : List Place) (s : Trail GraftNode) → IsTrail ms us current ancestors s → ancestors ≡ [] → fs ≡ [] → IsTrail ms us current fs (parent s)
   top_parent current ancestors fs s i e z = top_trail current ancestors fs s.current s.ancestors i.named i.all_named i.fit i.root e z
+
+  -- dot-dot, where `o` was taken from the stack
+  pub dot_dot_trail : (current : Place) (ancestors fs : List Place) (o : Option Place) (s : Trail GraftNode) → IsTrail ms us current ancestors s → ancestors ≡ fs ++ option_to_list o
+      → (0 < length ancestors → IsSome o) → IsTrail ms us (unwrap_or o current) fs (parent s)
+  dot_dot_trail current ancestors fs (Some f) s i e v = parent_trail current ancestors fs f s i e
+  dot_dot_trail current ancestors fs None s i e v =
+      let z : ancestors ≡ [] = nil_none ancestors v in
+      top_parent current ancestors fs s i z (sym (append-nil fs) ∙ (sym e ∙ z))
 
   root_fits : (s : GraftNode) → AreShallow ms → s ≡ (graft ms us).root → IsFitting us s 0
   root_fits s sh e = let P : GraftNode → Type 0 = λ v. IsFitting us v 0 in subst P (sym e) (record { deep = 0; led = origin; few = omega arith; room = (let k = sh 0 in omega (arith, k)) })

@@ -99,9 +99,7 @@ pub(crate) fn advance<'a, G: Images<'a>>(
         return Ok(None);
     }
     if is_dot_dot(component) {
-        if let Some(parent) = ancestors.pop() {
-            *current = parent;
-        }
+        *current = ancestors.pop().unwrap_or(*current);
         return Ok(None);
     }
     let Some(node) = images.find_in(*current, component) else {
