@@ -160,19 +160,3 @@ fn forty_links(rt: HostRuntime) -> Result<(), Fail> {
     );
     Ok(())
 }
-
-#[test]
-fn errors(rt: HostRuntime) -> Result<(), Fail> {
-    for (error, number, name, shown) in [
-        (WalkError::Enoent, 1, "ENOENT", "1 ENOENT"),
-        (WalkError::Enotdir, 2, "ENOTDIR", "2 ENOTDIR"),
-        (WalkError::Eloop, 3, "ELOOP", "3 ELOOP"),
-        (WalkError::Enametoolong, 4, "ENAMETOOLONG", "4 ENAMETOOLONG"),
-        (WalkError::Einval, 5, "EINVAL", "5 EINVAL"),
-    ] {
-        assert_eq!(rt; error.number(), number);
-        assert_eq!(rt; error.name(), name);
-        assert_eq!(rt; error.to_string(rt.alloc())?.as_str(), shown);
-    }
-    Ok(())
-}

@@ -1,0 +1,1 @@
+//! Where paths lead in several images.
