@@ -137,7 +137,10 @@ fn forty_links(rt: HostRuntime) -> Result<(), Fail> {
     // The text of `l01` is `l01`.
     let mut ring = *LINK_CHAIN;
     ring[754] = b'1';
-    assert_eq!(rt; walked(rt.alloc(), &ring, b"/l01", true)?, Err(WalkError::Eloop));
+    assert_eq!(rt;
+        walked(rt.alloc(), &ring, b"/l01", true)?,
+        Err(WalkError::Eloop)
+    );
     // The links of one walk are counted together.
     let mut path = Vec::new(rt.alloc());
     for _ in 0..40 {
