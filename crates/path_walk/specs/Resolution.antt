@@ -94,10 +94,13 @@ module _ {F : Type 0} where
       (λ x. resolve g follow n (after_link g s x) (components (link_text_at g x) ++ rest))
       (step g s p (is_empty rest && not follow))
 
+  abbrev pub at_root : Namespace F → Trail F
+  at_root g = record { current = g.root; ancestors = [] }
+
   -- where a path leads
   unfoldable pub resolution : Namespace F → List ℕ → Bool → Result F WalkError
   resolution g path follow =
       if nat_lt 4095 (length path) then Err Enametoolong
       else if is_empty path then Err Enoent
       else if not (begins_with_slash path) then Err Einval
-      else resolve g follow 40 (record { current = g.root; ancestors = [] }) (components path)
+      else resolve g follow 40 (at_root g) (components path)

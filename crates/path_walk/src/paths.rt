@@ -1,8 +1,9 @@
 //! The walk along a path.
-ghost use Rattle.std.specs.Prelude.{◌≡◌, ◌<◌, ◌≤◌, true, MatchResult, IfOk, Ok, Err, length, Some, map};
+ghost use Rattle.std.specs.Prelude.{Bool, ◌≡◌, ◌<◌, ◌≤◌, true, MatchResult, IfOk, Ok, Err, length, Some, map};
 ghost use Rattle.rom_tree.specs.Tree.{Node, levels};
 ghost use Rattle.rom_tree.specs.Image.{image_node};
-ghost use Rattle.path_walk.specs.Resolution.{resolution, tree_namespace};
+ghost use Rattle.path_walk.specs.Components.{components};
+ghost use Rattle.path_walk.specs.Resolution.{Namespace, at_root, resolution, resolve, tree_namespace};
 ghost use Rattle.path_walk.specs.Graft.{GraftNode, Names, graft, are_mounts, AreShallow, IsUncovered};
 ghost use Rattle.path_walk.specs.Trails.{NamesAt};
 
@@ -18,6 +19,25 @@ use rom_tree::types::NodeId;
 const PATH_MAX: usize = 4095;
 
 const LINKS_MAX: u32 = 40;
+
+/// Refuses a path as a whole: by its length, where it is empty, and without a slash in front.
+fn test_path(path: &[u8]) -> Result<(), WalkError>
+    ensures leads { (g : Namespace GraftNode) (follow : Bool) → MatchResult result
+        (λ _. resolution g path.now follow ≡ resolve g follow 40 (at_root g) (components path.now))
+        (λ e. resolution g path.now follow ≡ Err e) }
+    ensures some { IfOk result (λ _. 0 < length path.now) }
+{
+    if path.len() > PATH_MAX {
+        return Err(WalkError::Enametoolong);
+    }
+    if path.is_empty() {
+        return Err(WalkError::Enoent);
+    }
+    if !is_absolute(path) {
+        return Err(WalkError::Einval);
+    }
+    Ok(())
+}
 
 /// The place that a path leads to. The components that are still to come are those of `unread`: the
 /// rests of the path and of the texts of the links on the way, the last one first.
@@ -38,15 +58,7 @@ fn find_place<'a, G: Images<'a>>(
         (λ e. resolution (graft (G.held images.old).images mounts.now) path.now follow_last ≡ Err e) }
     ensures stays { G.held images.new ≡ G.held images.old }
 {
-    if path.len() > PATH_MAX {
-        return Err(WalkError::Enametoolong);
-    }
-    if path.is_empty() {
-        return Err(WalkError::Enoent);
-    }
-    if !is_absolute(path) {
-        return Err(WalkError::Einval);
-    }
+    test_path(path)?;
     let root = Place {
         image: 0,
         node: images.root_in(0),

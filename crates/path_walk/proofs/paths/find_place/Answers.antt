@@ -1,76 +1,49 @@
-use Rattle.std.proofs.Common.{◌≡◌, ℕ, ◌<◌, ◌≤◌, ◌∷◌, [], ◌++◌, List, length, ap, sym, ◌∙◌, subst, arith, false, true, Bool, ◌==◌, refl, Some, None, Option, Result, Ok, Err, nat_lt, length-append}
+use Rattle.std.proofs.Common.{◌≡◌, ℕ, ◌<◌, ◌≤◌, ◌∷◌, [], ◌++◌, List, length, ap, sym, ◌∙◌, subst, arith, true, Bool, ◌==◌, refl, Some, None, Option, Result, Ok, Err, length-append}
 use Rattle.std.specs.Prelude.{not, ◌&&◌, if◌then◌else◌}
 use Rattle.std.specs.Borrow.{Bor}
 use Rattle.rom_tree.specs.Image.{Image, text_of}
 use Rattle.path_walk.specs.declared.error.WalkError.{WalkError}
 use Rattle.path_walk.specs.declared.mount.Mount.{Mount}
 use Rattle.path_walk.specs.declared.mount.Place.{Place}
-use Rattle.path_walk.specs.Components.{is_empty, begins_with_slash}
-use Rattle.path_walk.specs.Resolution.{Namespace, Trail, step, resolution, resolve, to_root}
+use Rattle.path_walk.specs.Components.{begins_with_slash}
+use Rattle.path_walk.specs.Resolution.{Namespace, at_root, Trail, step, resolution, resolve, to_root}
 use Rattle.path_walk.specs.Graft.{GraftNode, graft, bytes_in, are_mounts, AreShallow}
 use Rattle.path_walk.specs.Trails.{Held, NamesAt, IsTrail, Leads, NoneEmpty, unread_bytes}
-use Rattle.path_walk.proofs.Texts.{some_by, none-push, none-nil, bytes-push}
+use Rattle.path_walk.proofs.Texts.{none-push, none-nil, bytes-push}
 use Rattle.path_walk.proofs.GraftNodes.{link_length}
-use Rattle.path_walk.proofs.Trails.{lt_true, lt_false, first_trail, root_named}
-use Rattle.path_walk.proofs.Turns.{empty_is, empty_not, walk-long, walk-empty, walk-relative, walk-goes, first_components, turn_fails, turn_goes, turn_loops, turn_follows, walk_ends}
+use Rattle.path_walk.proofs.Trails.{first_trail, root_named}
+use Rattle.path_walk.proofs.Turns.{first_components, turn_fails, turn_goes, turn_loops, turn_follows, walk_ends}
 use Rattle.path_walk.proofs.Answered.{handed_on}
 use Rattle.path_walk.proofs.paths.find_place.Goals as goal
 
-pub returns-then-path-gt-PATH_MAX-clause-leads : goal.returns-then-path-gt-PATH_MAX-clause-leads
-returns-then-path-gt-PATH_MAX-clause-leads g c =
-    let h : Held = g.G.Gathered.held c.args.images.now in
-    let ms : List Image = h.images in
-    let us : List Mount = c.args.mounts.now in
-    let gr : Namespace GraftNode = graft ms us in
-    let path : List ℕ = c.args.path.now in
+pub returns-in_err-test_path-clause-leads : goal.returns-in_err-test_path-clause-leads
+returns-in_err-test_path-clause-leads g c =
+    let ms : List Image = (g.G.Gathered.held c.args.images.now).images in
+    let gr : Namespace GraftNode = graft ms c.args.mounts.now in
     let follow : Bool = c.args.follow_last in
-    walk-long gr path follow (lt_true 4095 (length path) c.if-path-gt-PATH_MAX.true)
-
-pub returns-then-is_empty-clause-leads : goal.returns-then-is_empty-clause-leads
-returns-then-is_empty-clause-leads g c =
-    let h : Held = g.G.Gathered.held c.args.images.now in
-    let ms : List Image = h.images in
-    let us : List Mount = c.args.mounts.now in
-    let gr : Namespace GraftNode = graft ms us in
-    let path : List ℕ = c.args.path.now in
-    let follow : Bool = c.args.follow_last in
-    let l : nat_lt 4095 (length path) ≡ false = lt_false 4095 (length path) (omega arith) in
-    walk-empty gr path follow l (empty_is path (sym c.is_empty.ensures ∙ c.if-is_empty.true))
-
-pub returns-then-not-is_absolute-clause-leads : goal.returns-then-not-is_absolute-clause-leads
-returns-then-not-is_absolute-clause-leads g c =
-    let h : Held = g.G.Gathered.held c.args.images.now in
-    let ms : List Image = h.images in
-    let us : List Mount = c.args.mounts.now in
-    let gr : Namespace GraftNode = graft ms us in
-    let path : List ℕ = c.args.path.now in
-    let follow : Bool = c.args.follow_last in
-    let l : nat_lt 4095 (length path) ≡ false = lt_false 4095 (length path) (omega arith) in
-    let e : is_empty path ≡ false = empty_not path (sym c.is_empty.ensures ∙ c.if-is_empty.false) in
-    walk-relative gr path follow l e (sym c.is_absolute.ensures ∙ c.if-not-is_absolute.true)
+    let all : Result GraftNode WalkError = resolution gr c.args.path.now follow in
+    let e : WalkError = c.in_err-test_path.field-0.0 in
+    handed_on (λ p. (x : GraftNode) × (all ≡ Ok x) × NamesAt ms p x) (λ v. all ≡ Err v) c.from_residual.result e c.from_residual.ensures.1 (c.in_err-test_path.ensures.leads gr follow)
 
 pub loop-component-init : goal.loop-component-init
 loop-component-init g c =
-    let h : Held = g.G.Gathered.held c.args.images.now in
-    let ms : List Image = h.images in
+    let ms : List Image = (g.G.Gathered.held c.args.images.now).images in
     let us : List Mount = c.args.mounts.now in
     let gr : Namespace GraftNode = graft ms us in
     let path : List ℕ = c.args.path.now in
     let follow : Bool = c.args.follow_last in
-    let l : nat_lt 4095 (length path) ≡ false = lt_false 4095 (length path) (omega arith) in
-    let e : is_empty path ≡ false = empty_not path (sym c.is_empty.ensures ∙ c.if-is_empty.false) in
     let u : c.push.new.self.items ≡ c.args.path ∷ [] = c.push.ensures.items ∙ ap (λ (v : List (Bor (List ℕ))). v ++ c.args.path ∷ []) c.new-unread.ensures in
     let P : List (Bor (List ℕ)) → Type 0 = λ v. NoneEmpty v in
     let root : Place = record { image = 0; node = c.root_in.result } in
     let rs : NamesAt ms root gr.root = root_named ms us root c.requires.some refl c.root_in.ensures in
     record {
       held = refl;
-      trail = record { current = gr.root; ancestors = [] };
+      trail = at_root gr;
       is = first_trail ms us root c.new-ancestors.result.items c.requires.shallow rs c.new-ancestors.ensures;
       links = omega arith;
       full = omega (arith, ap length u);
-      none_empty = subst P (sym u) (none-push [] c.args.path none-nil (some_by path (sym c.is_empty.ensures ∙ c.if-is_empty.false)));
-      rest = ap (resolve gr follow 40 (record { current = gr.root; ancestors = [] })) (first_components c.push.new.self.items c.args.path u) ∙ sym (walk-goes gr path follow l e (sym c.is_absolute.ensures ∙ c.if-not-is_absolute.false));
+      none_empty = subst P (sym u) (none-push [] c.args.path none-nil c.in_ok-test_path.ensures.some);
+      rest = ap (resolve gr follow 40 (at_root gr)) (first_components c.push.new.self.items c.args.path u) ∙ sym (c.in_ok-test_path.ensures.leads gr follow);
     }
 
 pub advance-requires : goal.advance-requires
@@ -102,13 +75,13 @@ returns-in_err-link-clause-leads g c =
     let IS : Held → Type 0 = λ (v : Held). IsTrail v.images us c.loop-component.current c.loop-component.ancestors.items s in
     let is : IsTrail (g.G.Gathered.held c.loop-component.images).images us c.loop-component.current c.loop-component.ancestors.items s = subst IS (sym hh) i.is in
     let st : Bool = c.last_stays-stays.result in
-    let t : st ≡ ((length c.take_component.new.unread.items == 0) && not follow) = c.last_stays-stays.ensures ∙ ap (λ (v : Bool). v && not follow) c.is_empty-in-Some.ensures in
+    let t : st ≡ ((length c.take_component.new.unread.items == 0) && not follow) = c.last_stays-stays.ensures ∙ ap (λ (v : Bool). v && not follow) c.is_empty.ensures in
     let q = c.in-Some.ensures.component in
     let pt : List ℕ = c.in-Some.component.now in
     let e : WalkError = c.in_err-link.field-0.0 in
     let LD : Held → Type 0 = λ (v : Held). Leads v.images us s (step (graft v.images us) s pt st) c.advance.new.current c.advance.new.ancestors.items (Err e) in
     let fails_so : all ≡ Err e = turn_fails gr follow c.loop-component.links s pt c.loop-component.unread.items c.take_component.new.unread.items st all i.rest q c.take_component.ensures.none_empty t e (subst LD hh (c.in_err-link.ensures.leads s is)) in
-    handed_on (λ p. (x : GraftNode) × (all ≡ Ok x) × NamesAt ms p x) (λ v. all ≡ Err v) c.from_residual.result e c.from_residual.ensures.1 fails_so
+    handed_on (λ p. (x : GraftNode) × (all ≡ Ok x) × NamesAt ms p x) (λ v. all ≡ Err v) c.from_residual-in_err-link.result e c.from_residual-in_err-link.ensures.1 fails_so
 
 pub returns-then-links-eq0-clause-leads : goal.returns-then-links-eq0-clause-leads
 returns-then-links-eq0-clause-leads g c =
@@ -125,7 +98,7 @@ returns-then-links-eq0-clause-leads g c =
     let IS : Held → Type 0 = λ (v : Held). IsTrail v.images us c.loop-component.current c.loop-component.ancestors.items s in
     let is : IsTrail (g.G.Gathered.held c.loop-component.images).images us c.loop-component.current c.loop-component.ancestors.items s = subst IS (sym hh) i.is in
     let st : Bool = c.last_stays-stays.result in
-    let t : st ≡ ((length c.take_component.new.unread.items == 0) && not follow) = c.last_stays-stays.ensures ∙ ap (λ (v : Bool). v && not follow) c.is_empty-in-Some.ensures in
+    let t : st ≡ ((length c.take_component.new.unread.items == 0) && not follow) = c.last_stays-stays.ensures ∙ ap (λ (v : Bool). v && not follow) c.is_empty.ensures in
     let q = c.in-Some.ensures.component in
     let pt : List ℕ = c.in-Some.component.now in
     let LD : Held → Type 0 = λ (v : Held). Leads v.images us s (step (graft v.images us) s pt st) c.advance.new.current c.advance.new.ancestors.items (Ok (Some c.in-Some-link.link)) in
@@ -196,7 +169,7 @@ loop-component-preserved-in-Some-link g c =
     let IS : Held → Type 0 = λ (v : Held). IsTrail v.images us c.loop-component.current c.loop-component.ancestors.items s in
     let is : IsTrail (g.G.Gathered.held c.loop-component.images).images us c.loop-component.current c.loop-component.ancestors.items s = subst IS (sym hh) i.is in
     let st : Bool = c.last_stays-stays.result in
-    let t : st ≡ ((length c.take_component.new.unread.items == 0) && not follow) = c.last_stays-stays.ensures ∙ ap (λ (v : Bool). v && not follow) c.is_empty-in-Some.ensures in
+    let t : st ≡ ((length c.take_component.new.unread.items == 0) && not follow) = c.last_stays-stays.ensures ∙ ap (λ (v : Bool). v && not follow) c.is_empty.ensures in
     let q = c.in-Some.ensures.component in
     let pt : List ℕ = c.in-Some.component.now in
     let LD : Held → Type 0 = λ (v : Held). Leads v.images us s (step (graft v.images us) s pt st) c.advance.new.current c.advance.new.ancestors.items (Ok (Some c.in-Some-link.link)) in
@@ -239,7 +212,7 @@ loop-component-preserved g c =
     let IS : Held → Type 0 = λ (v : Held). IsTrail v.images us c.loop-component.current c.loop-component.ancestors.items s in
     let is : IsTrail (g.G.Gathered.held c.loop-component.images).images us c.loop-component.current c.loop-component.ancestors.items s = subst IS (sym hh) i.is in
     let st : Bool = c.last_stays-stays.result in
-    let t : st ≡ ((length c.take_component.new.unread.items == 0) && not follow) = c.last_stays-stays.ensures ∙ ap (λ (v : Bool). v && not follow) c.is_empty-in-Some.ensures in
+    let t : st ≡ ((length c.take_component.new.unread.items == 0) && not follow) = c.last_stays-stays.ensures ∙ ap (λ (v : Bool). v && not follow) c.is_empty.ensures in
     let q = c.in-Some.ensures.component in
     let pt : List ℕ = c.in-Some.component.now in
     let LD : Held → Type 0 = λ (v : Held). Leads v.images us s (step (graft v.images us) s pt st) c.advance.new.current c.advance.new.ancestors.items (Ok None) in
