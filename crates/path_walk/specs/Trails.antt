@@ -1,5 +1,5 @@
 -- What the variables of a walk stand for: places, their stack, and the texts that are still to be read.
-use Rattle.std.specs.Prelude.{◌≡◌, ℕ, suc, ◌+◌, ◌*◌, ◌≤◌, ◌<◌, true, List, [], ◌∷◌, ◌++◌, length, Option, Some, None, Result, Ok, Err}
+use Rattle.std.specs.Prelude.{◌≡◌, ℕ, suc, ◌+◌, ◌*◌, ◌≤◌, ◌<◌, Bool, true, List, [], ◌∷◌, ◌++◌, length, Option, Some, None, Result, Ok, Err, MatchResult}
 use Rattle.std.specs.Borrow.{Bor}
 use base.Fml.{GName}
 use Rattle.rom_tree.specs.Tree.{Node, levels, is_link}
@@ -8,13 +8,13 @@ use Rattle.path_walk.specs.declared.error.WalkError.{WalkError}
 use Rattle.path_walk.specs.declared.mount.Mount.{Mount}
 use Rattle.path_walk.specs.declared.mount.Place.{Place}
 use Rattle.path_walk.specs.Components.{components}
-use Rattle.path_walk.specs.Resolution.{Trail, Step, fails, goes, follows, root_of}
+use Rattle.path_walk.specs.Resolution.{Trail, Step, fails, goes, follows, root_of, resolution}
 use Rattle.path_walk.specs.Graft.{GraftNode, Names, graft}
 
 -- images, and the reference through which they are reached
 pub record Held : Type 0 where
   pub images : List Image
-  pub lender : GName
+  pub loan : GName
 
 -- a place names a node of the graft
 abbrev pub NamesAt : List Image → Place → GraftNode → Type 0
@@ -66,6 +66,12 @@ Leads ms us s t current ancestors (Err e) = t ≡ fails e
 Leads ms us s t current ancestors (Ok None) = (u : Trail GraftNode) × (t ≡ goes u) × IsTrail ms us current ancestors u
 Leads ms us s t current ancestors (Ok (Some p)) =
     (x : GraftNode) × (t ≡ follows x) × NamesAt ms p x × (is_link x.node ≡ true) × IsTrail ms us current ancestors s
+
+-- where a path led to
+abbrev pub IsFound : List Image → List Mount → List ℕ → Bool → Result Place WalkError → Type 0
+IsFound ms us path follow r = MatchResult r
+    (λ p. (s : GraftNode) × (resolution (graft ms us) path follow ≡ Ok s) × NamesAt ms p s)
+    (λ e. resolution (graft ms us) path follow ≡ Err e)
 
 -- the components of all unread texts, those of the last text first
 unfoldable pub unread_components : List (Bor (List ℕ)) → List (List ℕ)

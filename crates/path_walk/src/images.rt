@@ -58,7 +58,7 @@ pub(crate) struct One<'s, T> {
 }
 
 impl<'s, T: Viewed> Gathered for One<'s, T> {
-    ghost held = { λ s. record { images = T.image s.image.now ∷ []; lender = s.image.ghost_name } };
+    ghost held = { λ s. record { images = T.image s.image.now ∷ []; loan = s.image.ghost_name } };
 }
 
 impl<'s, 'a, T: TreeImage<'a>> Images<'a> for One<'s, T> {
@@ -90,7 +90,7 @@ pub(crate) struct Many<'s, T> {
 }
 
 impl<'s, T: Viewed> Gathered for Many<'s, T> {
-    ghost held = { λ s. record { images = map T.image s.images.now; lender = s.images.ghost_name } };
+    ghost held = { λ s. record { images = map T.image s.images.now; loan = s.images.ghost_name } };
 }
 
 impl<'s, 'a, T: TreeImage<'a>> Images<'a> for Many<'s, T> {

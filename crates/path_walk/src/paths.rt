@@ -5,7 +5,7 @@ ghost use Rattle.rom_tree.specs.Image.{image_node};
 ghost use Rattle.path_walk.specs.Components.{components};
 ghost use Rattle.path_walk.specs.Resolution.{Namespace, at_root, resolution, resolve, tree_namespace};
 ghost use Rattle.path_walk.specs.Graft.{GraftNode, Names, graft, are_mounts, AreShallow, IsUncovered};
-ghost use Rattle.path_walk.specs.Trails.{NamesAt};
+ghost use Rattle.path_walk.specs.Trails.{IsFound};
 
 use crate::component::take_component;
 use crate::error::WalkError;
@@ -51,11 +51,7 @@ fn find_place<'a, G: Images<'a>>(
     requires some { 0 < length (G.held images.old).images }
     requires few { length (G.held images.old).images ≤ 8 }
     requires shallow { AreShallow (G.held images.old).images }
-    ensures leads { MatchResult result
-        (λ p. (s : GraftNode)
-        × (resolution (graft (G.held images.old).images mounts.now) path.now follow_last ≡ Ok s)
-        × NamesAt (G.held images.old).images p s)
-        (λ e. resolution (graft (G.held images.old).images mounts.now) path.now follow_last ≡ Err e) }
+    ensures leads { IsFound (G.held images.old).images mounts.now path.now follow_last result }
     ensures stays { G.held images.new ≡ G.held images.old }
 {
     test_path(path)?;
@@ -95,7 +91,7 @@ fn find_place<'a, G: Images<'a>>(
 /// where it is the last component. The image stays as it is. Directories may lie 64 deep.
 ///
 /// The components of the path are looked up one after the other, from the root on: `.` stays, `..`
-/// goes to the parent, which at the root is the root. A link's text is put in the place of its name,
+/// goes to the parent, which at the root is the root. A link's text is put in place of its name,
 /// and leads on from the root where it begins with a slash, else from the directory that holds the
 /// link (POSIX.1-2017, 4.13 "Pathname Resolution").
 ///
@@ -127,15 +123,15 @@ pub fn walk<'a, T: TreeImage<'a>>(
     Ok(place.node)
 }
 
-/// Finds the node that a path leads to in the tree of several images: that of image 0, with the root
-/// of each mounted image in place of the directory that it covers. Gives the number of the node's
-/// image and the node, which is never a covered directory. The images stay as they are.
+/// Finds the node that a path leads to in the tree of several images: that of image 0, with the
+/// root of each mounted image in place of the directory that it covers. Gives the number of the
+/// node's image and the node, which is never a covered directory. The images stay as they are.
 ///
 /// There are 1 to 8 images, in which directories may lie 64 deep. Each mount covers a directory of
 /// an image, not its root, by an image other than 0, and no directory and no image stands twice
-/// among them; a mount whose directory is never met has no effect. The path leads as in `walk`. `..`
-/// at a mounted root goes to the parent of the covered directory, and a link whose text begins with
-/// a slash leads on from the root of image 0.
+/// among them; a mount whose directory is never met has no effect. The path leads as in `walk`.
+/// `..` at a mounted root goes to the parent of the covered directory, and a link whose text begins
+/// with a slash leads on from the root of image 0.
 ///
 /// Each name costs one look-up in the list of its directory and one look at the mounts.
 ///

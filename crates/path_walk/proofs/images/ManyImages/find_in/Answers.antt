@@ -43,7 +43,7 @@ returns-clause-stays g c =
     let xs = c.args.self.now.images.now in
     let i : ℕ = c.args.place.image in
     let y = c.index-self-place.result in
-    ap (λ (v : List Image). record { images = v; lender = c.args.self.now.images.ghost_name }) (map_set f xs i y c.lookup.new.self c.lookup.ensures.stays)
+    ap (λ (v : List Image). record { images = v; loan = c.args.self.now.images.ghost_name }) (map_set f xs i y c.lookup.new.self c.lookup.ensures.stays)
 
 pub returns-clause-found : goal.returns-clause-found
 returns-clause-found g c = λ t h.
