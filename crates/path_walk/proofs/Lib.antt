@@ -7,3 +7,4 @@ pub mod Trails
 pub mod Alike
 pub mod Answered
 pub mod Kept
+pub mod Led

@@ -27,6 +27,7 @@ ends_with_slash [] = false
 ends_with_slash (c ∷ []) = c == 47
 ends_with_slash (c ∷ d ∷ cs) = ends_with_slash (d ∷ cs)
 
+-- the pieces without the empty ones
 abbrev pub names_of : List (List ℕ) → List (List ℕ)
 names_of ps = filter (λ p. not (is_empty p)) ps
 

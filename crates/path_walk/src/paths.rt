@@ -21,7 +21,7 @@ const PATH_MAX: usize = 4095;
 const LINKS_MAX: u32 = 40;
 
 /// Refuses a path as a whole: by its length, where it is empty, and without a slash in front.
-fn test_path(path: &[u8]) -> Result<(), WalkError>
+fn check_path(path: &[u8]) -> Result<(), WalkError>
     ensures leads { (g : Namespace GraftNode) (follow : Bool) → MatchResult result
         (λ _. resolution g path.now follow ≡ resolve g follow 40 (at_root g) (components path.now))
         (λ e. resolution g path.now follow ≡ Err e) }
@@ -54,7 +54,7 @@ fn find_place<'a, G: Images<'a>>(
     ensures leads { IsFound (G.held images.old).images mounts.now path.now follow_last result }
     ensures stays { G.held images.new ≡ G.held images.old }
 {
-    test_path(path)?;
+    check_path(path)?;
     let root = Place {
         image: 0,
         node: images.root_in(0),

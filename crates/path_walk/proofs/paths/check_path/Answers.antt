@@ -2,7 +2,7 @@ use Rattle.std.proofs.Common.{◌≡◌, ℕ, List, length, sym, ◌∙◌, arit
 use Rattle.path_walk.specs.Components.{is_empty}
 use Rattle.path_walk.proofs.Trails.{lt_true, lt_false}
 use Rattle.path_walk.proofs.Turns.{empty_is, empty_not, walk-long, walk-empty, walk-relative, walk-goes}
-use Rattle.path_walk.proofs.paths.test_path.Goals as goal
+use Rattle.path_walk.proofs.paths.check_path.Goals as goal
 
 pub returns-then-path-gt-PATH_MAX-clause-leads : goal.returns-then-path-gt-PATH_MAX-clause-leads
 returns-then-path-gt-PATH_MAX-clause-leads c = λ g follow.
