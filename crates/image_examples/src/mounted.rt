@@ -1,0 +1,203 @@
+//! Where paths lead in several images.
+ghost use Rattle.std.specs.Prelude.{◌≡◌, ◌≢◌, true, map, Some, IsTrue};
+ghost use Rattle.rom_tree.specs.Tree.{Node, ino_of, is_directory};
+ghost use Rattle.rom_tree.specs.Image.{image_node};
+ghost use Rattle.image_check.specs.Any.{any_view};
+ghost use Rattle.path_walk.specs.Graft.{are_apart, are_mounts, is_mount};
+
+use crate::images::{HELLO, LINK_AND_DEVICE, LINK_CHAIN, LINKS_AND_DOTS};
+use image_check::{AnyImage, check};
+use path_walk::{Mount, WalkError, walk_mounts};
+use rom_tree::image::{TreeImage, is_directory_at};
+use rom_tree::CheckError;
+use rom_tree::types::{Limits, NodeId};
+use std::alloc::Global;
+use std::test::Fail;
+
+/// Whether an image has this directory, and it is not its root.
+fn is_below_root(image: &AnyImage<'_>, dir: NodeId) -> bool
+    ensures { IsTrue result → (x : Node) × (image_node (any_view image.now) dir.0 ≡ Some x)
+        × (is_directory x ≡ true) × (dir.0 ≢ ino_of (any_view image.now).tree) }
+{
+    if !image.is_node(dir) {
+        return false;
+    }
+    if !is_directory_at(image, dir) {
+        return false;
+    }
+    image.root().0 != dir.0
+}
+
+/// Whether this is a mount of one of the images.
+fn is_one_mount(images: &[AnyImage<'_>], mount: Mount) -> bool
+    ensures { IsTrue result → is_mount (map any_view images.now) mount ≡ true }
+{
+    let on = mount.on as usize;
+    if mount.image == 0 || mount.image as usize >= images.len() || on >= images.len() {
+        return false;
+    }
+    is_below_root(&images[on], mount.dir)
+}
+
+/// Whether no other mount has the same image or the same directory.
+fn is_alone(mount: Mount, others: &[Mount]) -> bool
+    ensures { IsTrue result → are_apart mount others.now ≡ true }
+{
+    match others {
+        [] => true,
+        [other, rest @ ..] => {
+            if other.image == mount.image {
+                return false;
+            }
+            if other.on == mount.on && other.dir.0 == mount.dir.0 {
+                return false;
+            }
+            is_alone(mount, rest)
+        }
+    }
+}
+
+/// Whether these are mounts of the images.
+fn can_mount(images: &[AnyImage<'_>], mounts: &[Mount]) -> bool
+    ensures { IsTrue result → are_mounts (map any_view images.now) mounts.now ≡ true }
+{
+    match mounts {
+        [] => true,
+        [mount, rest @ ..] => {
+            if !is_one_mount(images, *mount) {
+                return false;
+            }
+            if !is_alone(*mount, rest) {
+                return false;
+            }
+            can_mount(images, rest)
+        }
+    }
+}
+
+/// The number of the image and that of the node that a path leads to in images of these bytes.
+/// `None` where they cannot be mounted so.
+fn walked(
+    alloc: Global,
+    bytes: [&[u8]; 3],
+    mounts: &[Mount],
+    path: &[u8],
+    follow_last: bool,
+) -> Result<Option<Result<(u32, u32), WalkError>>, CheckError> {
+    let first = check(alloc, bytes[0], Limits::usual())?;
+    let second = check(alloc, bytes[1], Limits::usual())?;
+    let third = check(alloc, bytes[2], Limits::usual())?;
+    let mut images = [first, second, third];
+    if !can_mount(&images, mounts) {
+        return Ok(None);
+    }
+    match walk_mounts(&mut images, mounts, path, follow_last) {
+        Ok((image, node)) => Ok(Some(Ok((image, node.0)))),
+        Err(error) => Ok(Some(Err(error))),
+    }
+}
+
+/// The image of a number covers a directory of another.
+fn mount(image: u32, on: u32, dir: u32) -> Mount {
+    Mount {
+        image,
+        on,
+        dir: NodeId(dir),
+    }
+}
+
+#[test]
+fn one_mount(rt: HostRuntime) -> Result<(), Fail> {
+    // The second covers `/d` of the first; the third is not mounted.
+    let images = [LINK_AND_DEVICE.as_slice(), HELLO, LINK_CHAIN];
+    for (path, want) in [
+        (b"/".as_slice(), Ok((0, 32))),
+        (b"/d", Ok((1, 32))),
+        (b"/d/", Ok((1, 32))),
+        (b"/d/a", Ok((1, 96))),
+        (b"/d/..", Ok((0, 32))),
+        (b"/d/../d/a", Ok((1, 96))),
+        (b"/d/l", Err(WalkError::Enoent)),
+        (b"/d/a/", Err(WalkError::Enotdir)),
+        (b"/n", Ok((0, 240))),
+    ] {
+        assert_eq!(rt;
+            walked(rt.alloc(), images, &[mount(1, 0, 96)], path, true)?,
+            Some(want),
+            "at {path:?}"
+        );
+    }
+    // A cramfs image covers `/d` of a romfs image. 40 links are followed in it.
+    for (path, want) in [
+        (b"/d".as_slice(), Ok((2, 64))),
+        (b"/d/l40", Ok((2, 76))),
+        (b"/d/l41", Err(WalkError::Eloop)),
+        (b"/d/../d/l00", Ok((2, 76))),
+    ] {
+        assert_eq!(rt;
+            walked(rt.alloc(), images, &[mount(2, 0, 96)], path, true)?,
+            Some(want),
+            "at {path:?}"
+        );
+    }
+    // Without mounts, image 0 alone.
+    assert_eq!(rt;
+        walked(rt.alloc(), images, &[], b"/d", true)?,
+        Some(Ok((0, 96)))
+    );
+    assert_eq!(rt;
+        walked(rt.alloc(), images, &[], b"/d/a", true)?,
+        Some(Err(WalkError::Enoent))
+    );
+    Ok(())
+}
+
+#[test]
+fn mount_in_a_mounted_image(rt: HostRuntime) -> Result<(), Fail> {
+    let images = [LINK_AND_DEVICE.as_slice(), LINK_AND_DEVICE, HELLO];
+    let mounts = [mount(1, 0, 96), mount(2, 1, 96)];
+    for (path, want) in [
+        (b"/d/d/a".as_slice(), Ok((2, 96))),
+        (b"/d/d", Ok((2, 32))),
+        (b"/d/d/..", Ok((1, 32))),
+        (b"/d/d/../..", Ok((0, 32))),
+        (b"/d/n", Ok((1, 240))),
+    ] {
+        assert_eq!(rt;
+            walked(rt.alloc(), images, &mounts, path, true)?,
+            Some(want),
+            "at {path:?}"
+        );
+    }
+    // A directory that is not met: the mount in it has no effect.
+    let unmet = [mount(2, 1, 96)];
+    assert_eq!(rt;
+        walked(rt.alloc(), images, &unmet, b"/d", true)?,
+        Some(Ok((0, 96)))
+    );
+    Ok(())
+}
+
+#[test]
+fn links_in_the_graft(rt: HostRuntime) -> Result<(), Fail> {
+    // The second covers `/d` of the first.
+    let images = [LINKS_AND_DOTS.as_slice(), LINKS_AND_DOTS, HELLO];
+    let mounts = [mount(1, 0, 144)];
+    for (path, follow_last, want) in [
+        (b"/d/d/abs".as_slice(), true, Ok((0, 96))),
+        (b"/d/d/up", true, Ok((1, 32))),
+        (b"/d/slash", true, Ok((0, 32))),
+        (b"/d/d/../../f", true, Ok((0, 96))),
+        (b"/d/here/..", true, Ok((0, 32))),
+        (b"/d/d/up", false, Ok((1, 176))),
+        (b"/d/up", true, Err(WalkError::Enoent)),
+        (b"/to/to/abs", true, Ok((0, 96))),
+    ] {
+        assert_eq!(rt;
+            walked(rt.alloc(), images, &mounts, path, follow_last)?,
+            Some(want),
+            "at {path:?}"
+        );
+    }
+    Ok(())
+}

@@ -1,0 +1,10 @@
+pub mod Texts
+pub mod Resolving
+pub mod Turns
+pub mod GraftNodes
+pub mod Mounts
+pub mod Trails
+pub mod Alike
+pub mod Answered
+pub mod Kept
+pub mod Led

@@ -1,0 +1,5 @@
+pub mod Errors
+pub mod Components
+pub mod Resolution
+pub mod Graft
+pub mod Trails

@@ -1,0 +1,120 @@
+//! One image or several, by their numbers.
+ghost use Rattle.std.specs.Prelude.{◌≡◌, ◌∷◌, [], ◌<◌, ℕ, true, length, map, Some, None, MatchOption};
+ghost use Rattle.rom_tree.specs.Tree.{Node, ino_of, is_directory, is_link, entries_of};
+ghost use Rattle.rom_tree.specs.Image.{find_entry, text_of};
+ghost use Rattle.path_walk.specs.Graft.{GraftNode, tree_in, bytes_in};
+ghost use Rattle.path_walk.specs.Trails.{Held, NamesAt, HasNodeAt};
+
+use crate::mount::Place;
+use rom_tree::image::{TreeImage, Viewed, is_directory_at, is_link_at, link_text};
+use rom_tree::types::NodeId;
+
+/// What is seen as several images.
+pub(crate) trait Gathered {
+    // Their bytes and trees, and the reference that lends them.
+    ghost held: { Self → Held };
+}
+
+/// Images that are reached by their numbers.
+pub(crate) trait Images<'a>: Gathered {
+    /// Whether a place is a directory.
+    fn is_directory_in(&self, place: Place) -> bool
+        requires { HasNodeAt (Self.held self.now).images place (λ x. Unit {0}) }
+        ensures { (s : GraftNode) → NamesAt (Self.held self.now).images place s
+            → result ≡ is_directory s.node };
+
+    /// Whether a place is a symbolic link.
+    fn is_link_in(&self, place: Place) -> bool
+        requires { HasNodeAt (Self.held self.now).images place (λ x. Unit {0}) }
+        ensures { (s : GraftNode) → NamesAt (Self.held self.now).images place s
+            → result ≡ is_link s.node };
+
+    /// A link's text.
+    fn link_text_in(&self, place: Place) -> &'a [u8]
+        requires { HasNodeAt (Self.held self.now).images place (λ x. is_link x ≡ true) }
+        ensures { (s : GraftNode) → NamesAt (Self.held self.now).images place s
+            → result.now ≡ text_of (bytes_in (Self.held self.now).images s.image) s.node };
+
+    /// The root of an image.
+    fn root_in(&self, image: u32) -> NodeId
+        requires { image < length (Self.held self.now).images }
+        ensures { result.0 ≡ ino_of (tree_in (Self.held self.now).images image) };
+
+    /// The node that a directory's entry of this name has, in the same image. The images stay as
+    /// they are.
+    fn find_in(&mut self, place: Place, name: &[u8]) -> Option<NodeId>
+        requires { HasNodeAt (Self.held self.old).images place (λ x. is_directory x ≡ true) }
+        ensures stays { Self.held self.new ≡ Self.held self.old }
+        ensures found { (s : GraftNode) → NamesAt (Self.held self.old).images place s
+            → MatchOption result (find_entry (entries_of s.node) name.now ≡ None)
+            (λ n. (y : Node) × (find_entry (entries_of s.node) name.now ≡ Some y)
+            × (ino_of y ≡ n.0)) };
+}
+
+/// One image, of number 0.
+#[derive(Drop)]
+pub(crate) struct One<'s, T> {
+    pub(crate) image: &'s mut T,
+}
+
+impl<'s, T: Viewed> Gathered for One<'s, T> {
+    ghost held = { λ s. record { images = T.image s.image.now ∷ []; loan = s.image.ghost_name } };
+}
+
+impl<'s, 'a, T: TreeImage<'a>> Images<'a> for One<'s, T> {
+    fn is_directory_in(&self, place: Place) -> bool {
+        is_directory_at(&*self.image, place.node)
+    }
+
+    fn is_link_in(&self, place: Place) -> bool {
+        is_link_at(&*self.image, place.node)
+    }
+
+    fn link_text_in(&self, place: Place) -> &'a [u8] {
+        link_text(&*self.image, place.node)
+    }
+
+    fn root_in(&self, _image: u32) -> NodeId {
+        self.image.root()
+    }
+
+    fn find_in(&mut self, place: Place, name: &[u8]) -> Option<NodeId> {
+        self.image.lookup(place.node, name)
+    }
+}
+
+/// The images of a slice, by their indices.
+#[derive(Drop)]
+pub(crate) struct Many<'s, T> {
+    pub(crate) images: &'s mut [T],
+}
+
+impl<'s, T: Viewed> Gathered for Many<'s, T> {
+    ghost held = { λ s. record { images = map T.image s.images.now; loan = s.images.ghost_name } };
+}
+
+impl<'s, 'a, T: TreeImage<'a>> Images<'a> for Many<'s, T> {
+    fn is_directory_in(&self, place: Place) -> bool {
+        let images = &*self.images;
+        is_directory_at(&images[place.image as usize], place.node)
+    }
+
+    fn is_link_in(&self, place: Place) -> bool {
+        let images = &*self.images;
+        is_link_at(&images[place.image as usize], place.node)
+    }
+
+    fn link_text_in(&self, place: Place) -> &'a [u8] {
+        let images = &*self.images;
+        link_text(&images[place.image as usize], place.node)
+    }
+
+    fn root_in(&self, image: u32) -> NodeId {
+        let images = &*self.images;
+        images[image as usize].root()
+    }
+
+    fn find_in(&mut self, place: Place, name: &[u8]) -> Option<NodeId> {
+        self.images[place.image as usize].lookup(place.node, name)
+    }
+}

@@ -1,0 +1,18 @@
+//! Where images are mounted.
+use rom_tree::types::NodeId;
+
+/// A mounted image: the root of image number `image` covers the directory `dir` of image number
+/// `on`.
+#[derive(Clone, Copy, Debug, Default, PartialEq, Eq)]
+pub struct Mount {
+    pub image: u32,
+    pub on: u32,
+    pub dir: NodeId,
+}
+
+/// A node of one of several images, and the number of that image.
+#[derive(Clone, Copy, Debug, Default, PartialEq, Eq)]
+pub(crate) struct Place {
+    pub(crate) image: u32,
+    pub(crate) node: NodeId,
+}

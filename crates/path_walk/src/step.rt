@@ -1,0 +1,141 @@
+//! One component of a path.
+ghost use Rattle.std.specs.Prelude.{◌≡◌, ◌∷◌, [], ◌≤◌, true, List, length, ◌&&◌, not, if◌then◌else◌, find};
+ghost use Rattle.std.specs.Str.{bytes_eq};
+ghost use Rattle.rom_tree.specs.Image.{Image};
+ghost use Rattle.path_walk.specs.declared.mount.Mount.{Mount};
+ghost use Rattle.path_walk.specs.Components.{begins_with_slash};
+ghost use Rattle.path_walk.specs.Resolution.{Trail, step, to_root};
+ghost use Rattle.path_walk.specs.Graft.{GraftNode, graft, covers, shown, are_mounts, AreShallow};
+ghost use Rattle.path_walk.specs.Trails.{NamesAt, IsTrail, Leads};
+
+use crate::error::WalkError;
+use crate::images::Images;
+use crate::mount::{Mount, Place};
+use arrayvec::ArrayVec;
+use rom_tree::types::NodeId;
+
+const COMPONENT_MAX: usize = 255;
+
+fn is_dot(component: &[u8]) -> bool
+    ensures { result ≡ bytes_eq component.now (46 ∷ []) }
+{
+    component == b".".as_slice()
+}
+
+fn is_dot_dot(component: &[u8]) -> bool
+    ensures { result ≡ bytes_eq component.now (46 ∷ 46 ∷ []) }
+{
+    component == b"..".as_slice()
+}
+
+/// Whether a text begins with a slash.
+pub(crate) fn is_absolute(text: &[u8]) -> bool
+    ensures { result ≡ begins_with_slash text.now }
+{
+    match text {
+        [] => false,
+        [c, ..] => *c == b'/',
+    }
+}
+
+/// The mount that covers a directory.
+fn mounted_on(mounts: &[Mount], image: u32, dir: NodeId) -> Option<Mount>
+    ensures { result ≡ find (covers image dir.0) mounts.now }
+{
+    for mount in mounts {
+        if mount.on == image && mount.dir.0 == dir.0 {
+            return Some(*mount);
+        }
+    }
+    None
+}
+
+/// What stands at a node: the root of the image that covers it, or the node itself.
+fn shown_place<'a, G: Images<'a>>(images: &G, mounts: &[Mount], image: u32, node: NodeId) -> Place
+    requires { are_mounts (G.held images.now).images mounts.now ≡ true }
+    ensures { (s : GraftNode)
+        → NamesAt (G.held images.now).images (record { image = image; node = node }) s
+        → NamesAt (G.held images.now).images result
+        (shown (G.held images.now).images mounts.now s) }
+{
+    match mounted_on(mounts, image, node) {
+        None => Place { image, node },
+        Some(mount) => Place {
+            image: mount.image,
+            node: images.root_in(mount.image),
+        },
+    }
+}
+
+/// Goes where one component leads, and gives a link that is to be followed. `stays` says that this
+/// is the last component and that a link there is not followed.
+pub(crate) fn advance<'a, G: Images<'a>>(
+    images: &mut G,
+    mounts: &[Mount],
+    current: &mut Place,
+    ancestors: &mut ArrayVec<Place, 513>,
+    component: &[u8],
+    stays: bool,
+) -> Result<Option<Place>, WalkError>
+    requires mounts { are_mounts (G.held images.old).images mounts.now ≡ true }
+    requires few { length (G.held images.old).images ≤ 8 }
+    requires shallow { AreShallow (G.held images.old).images }
+    requires trail { (s : Trail GraftNode)
+        × IsTrail (G.held images.old).images mounts.now current.old ancestors.old.items s }
+    ensures leads { (s : Trail GraftNode)
+        → IsTrail (G.held images.old).images mounts.now current.old ancestors.old.items s
+        → Leads (G.held images.old).images mounts.now s
+        (step (graft (G.held images.old).images mounts.now) s component.now stays)
+        current.new ancestors.new.items result }
+    ensures stays { G.held images.new ≡ G.held images.old }
+{
+    if !images.is_directory_in(*current) {
+        return Err(WalkError::Enotdir);
+    }
+    if component.len() > COMPONENT_MAX {
+        return Err(WalkError::Enametoolong);
+    }
+    if is_dot(component) {
+        return Ok(None);
+    }
+    if is_dot_dot(component) {
+        *current = ancestors.pop().unwrap_or(*current);
+        return Ok(None);
+    }
+    let Some(node) = images.find_in(*current, component) else {
+        return Err(WalkError::Enoent);
+    };
+    let found = shown_place(images, mounts, current.image, node);
+    if images.is_link_in(found) && !stays {
+        return Ok(Some(found));
+    }
+    ancestors.push(*current);
+    *current = found;
+    Ok(None)
+}
+
+/// Whether a link in this place stays.
+pub(crate) fn last_stays(follow_last: bool, is_last: bool) -> bool
+    ensures { result ≡ is_last && not follow_last }
+{
+    is_last && !follow_last
+}
+
+/// Goes to the root where a text begins with a slash.
+pub(crate) fn start_from(
+    root: Place,
+    current: &mut Place,
+    ancestors: &mut ArrayVec<Place, 513>,
+    text: &[u8],
+)
+    ensures { (ms : List Image) (us : List Mount) (s : Trail GraftNode)
+        → IsTrail ms us current.old ancestors.old.items s → AreShallow ms
+        → NamesAt ms root (graft ms us).root
+        → IsTrail ms us current.new ancestors.new.items
+        (if begins_with_slash text.now then to_root s else s) }
+{
+    if is_absolute(text) {
+        *current = root;
+        ancestors.clear();
+    }
+}
