@@ -34,9 +34,9 @@ every_data P b (suc k) q size h =
     every_join P (added Data (block_start (word little b q)) (min 4096 size)) (data_from little b k (q + 4) (size - 4096))
     (every_added P Data (block_start (word little b q)) (min 4096 size) (λ l. subst (λ (v : ℕ). P (block b v (min 4096 size))) e (subst (λ (v : ℕ). P (block b (q + 4 * 0) (min 4096 v))) f (h 0 (omega arith) (subst (λ (v : ℕ). 0 < min 4096 v) (sym f) l)))))
     (every_data P b k (q + 4) (size - 4096) (λ i l m.
-        let g : q + 4 * (suc i) ≡ q + 4 + 4 * i = omega arith in
-        let r : size - 4096 * (suc i) ≡ size - 4096 - 4096 * i = omega arith in
-        subst (λ (v : ℕ). P (block b v (min 4096 (size - 4096 - 4096 * i)))) g (subst (λ (v : ℕ). P (block b (q + 4 * (suc i)) (min 4096 v))) r (h (suc i) (omega arith) (subst (λ (v : ℕ). 0 < min 4096 v) (sym r) m)))))
+    let g : q + 4 * (suc i) ≡ q + 4 + 4 * i = omega arith in
+    let r : size - 4096 * (suc i) ≡ size - 4096 - 4096 * i = omega arith in
+    subst (λ (v : ℕ). P (block b v (min 4096 (size - 4096 - 4096 * i)))) g (subst (λ (v : ℕ). P (block b (q + 4 * (suc i)) (min 4096 v))) r (h (suc i) (omega arith) (subst (λ (v : ℕ). 0 < min 4096 v) (sym r) m)))))
 
 has_block : (b : List ℕ) (count q size i : ℕ) → i < count → 0 < min 4096 (size - 4096 * i) → Member (block b (q + 4 * i) (min 4096 (size - 4096 * i))) (data_from little b count q size)
 has_block b zero q size i l m = absurd (omega arith)
@@ -46,14 +46,14 @@ has_block b (suc k) q size zero l m =
     let here = has_added Data (block_start (word little b q)) (min 4096 size) (subst (λ (v : ℕ). 0 < min 4096 v) f m) in
     has_left (λ (y : Span). y ≡ block b (q + 4 * 0) (min 4096 (size - 4096 * 0))) (added Data (block_start (word little b q)) (min 4096 size)) (data_from little b k (q + 4) (size - 4096))
     (subst (λ (v : ℕ). Member (block b v (min 4096 (size - 4096 * 0))) (added Data (block_start (word little b q)) (min 4096 size))) (sym e)
-        (subst (λ (v : ℕ). Member (block b q (min 4096 v)) (added Data (block_start (word little b q)) (min 4096 size))) (sym f) here))
+    (subst (λ (v : ℕ). Member (block b q (min 4096 v)) (added Data (block_start (word little b q)) (min 4096 size))) (sym f) here))
 has_block b (suc k) q size (suc i) l m =
     let g : q + 4 * (suc i) ≡ q + 4 + 4 * i = omega arith in
     let r : size - 4096 * (suc i) ≡ size - 4096 - 4096 * i = omega arith in
     let rest = data_from little b k (q + 4) (size - 4096) in
     has_right (λ (y : Span). y ≡ block b (q + 4 * (suc i)) (min 4096 (size - 4096 * (suc i)))) (added Data (block_start (word little b q)) (min 4096 size)) rest
     (subst (λ (v : ℕ). Member (block b v (min 4096 (size - 4096 * (suc i)))) rest) (sym g)
-        (subst (λ (v : ℕ). Member (block b (q + 4 + 4 * i) (min 4096 v)) rest) (sym r) (has_block b k (q + 4) (size - 4096) i (omega arith) (subst (λ (v : ℕ). 0 < min 4096 v) r m))))
+    (subst (λ (v : ℕ). Member (block b (q + 4 + 4 * i) (min 4096 v)) rest) (sym r) (has_block b k (q + 4) (size - 4096) i (omega arith) (subst (λ (v : ℕ). 0 < min 4096 v) r m))))
 
 -- blocks that are whole
 pub full : (n i : ℕ) → i < n → min 4096 (4096 * n - 4096 * i) ≡ 4096
@@ -87,7 +87,7 @@ file_whole b f i l =
     let e : min 4096 (f.size - 4096 * i) ≡ 4096 = min-eq_left (omega arith) in
     has_right (λ (y : Span). y ≡ block b (f.table + 4 * i) 4096) (added Table f.table (4 * block_count f.size)) (data_from little b (block_count f.size) f.table f.size)
     (subst (λ (v : ℕ). Member (block b (f.table + 4 * i) v) (data_from little b (block_count f.size) f.table f.size)) e
-        (has_block b (block_count f.size) f.table f.size i (omega arith) (subst (λ (v : ℕ). 0 < v) (sym e) (omega arith))))
+    (has_block b (block_count f.size) f.table f.size i (omega arith) (subst (λ (v : ℕ). 0 < v) (sym e) (omega arith))))
 
 file_rest : (b : List ℕ) (f : File) → 0 < f.size % 4096 → Member (block b (whole_end f.table f.size) (f.size % 4096)) (spans_of b f)
 file_rest b f l =
@@ -96,7 +96,7 @@ file_rest b f l =
     let e : min 4096 (f.size - 4096 * i) ≡ f.size % 4096 = min-eq_right (omega arith) ∙ r in
     has_right (λ (y : Span). y ≡ block b (f.table + 4 * i) (f.size % 4096)) (added Table f.table (4 * block_count f.size)) (data_from little b (block_count f.size) f.table f.size)
     (subst (λ (v : ℕ). Member (block b (f.table + 4 * i) v) (data_from little b (block_count f.size) f.table f.size)) e
-        (has_block b (block_count f.size) f.table f.size i (omega arith) (subst (λ (v : ℕ). 0 < v) (sym e) l)))
+    (has_block b (block_count f.size) f.table f.size i (omega arith) (subst (λ (v : ℕ). 0 < v) (sym e) l)))
 
 -- what stands past the end of a list of files
 abbrev pub no_file : File
@@ -144,13 +144,13 @@ module _ (b : List ℕ) (f : File) (done : ℕ) (h : FileLies b f) (a : done % 4
   pub all_into : parts (λ z. Member z (spans_of b f))
   all_into = join (λ z. Member z (spans_of b f))
       (every_added (λ z. Member z (spans_of b f)) Table f.table (4 * block_count f.size) (λ l.
-          has_left (λ (y : Span). y ≡ record { kind = Table; start = f.table; len = 4 * block_count f.size }) (added Table f.table (4 * block_count f.size)) (data_from little b (block_count f.size) f.table f.size)
-          (has_added Table f.table (4 * block_count f.size) l)))
+      has_left (λ (y : Span). y ≡ record { kind = Table; start = f.table; len = 4 * block_count f.size }) (added Table f.table (4 * block_count f.size)) (data_from little b (block_count f.size) f.table f.size)
+      (has_added Table f.table (4 * block_count f.size) l)))
       (every_whole (λ z. Member z (spans_of b f)) b ((end - first) / 4) first (λ i l.
-          let w = first_facts in
-          let x = w.0 in let y = w.2 in let k = h.aligned in
-          let at : f.table + 4 * ((first - f.table) / 4 + i) ≡ first + 4 * i = omega arith in
-          subst (λ (v : ℕ). Member (block b v 4096) (spans_of b f)) at (file_whole b f ((first - f.table) / 4 + i) (omega arith))))
+      let w = first_facts in
+      let x = w.0 in let y = w.2 in let k = h.aligned in
+      let at : f.table + 4 * ((first - f.table) / 4 + i) ≡ first + 4 * i = omega arith in
+      subst (λ (v : ℕ). Member (block b v 4096) (spans_of b f)) at (file_whole b f ((first - f.table) / 4 + i) (omega arith))))
       (every_added (λ z. Member z (spans_of b f)) Data (block_start (word little b end)) (f.size % 4096) (λ l. file_rest b f l))
 
   pub whole_at : (q : ℕ) → f.table ≤ q → done ≤ q → q < end → q % 4 ≡ 0 → Member (block b q 4096) (file_added b f.table f.size done)
@@ -171,17 +171,17 @@ module _ (b : List ℕ) (f : File) (done : ℕ) (h : FileLies b f) (a : done % 4
       let rest = added Data (block_start (word little b end)) (f.size % 4096) in
       every_join (λ z. Member z (more ++ fresh)) table (data_from little b (block_count f.size) f.table f.size)
       (every_added (λ z. Member z (more ++ fresh)) Table f.table (4 * block_count f.size) (λ l.
-          let P : Span → Type 0 = λ y. y ≡ record { kind = Table; start = f.table; len = 4 * block_count f.size } in
-          has_right P more fresh (has_left P table (whole ++ rest) (has_added Table f.table (4 * block_count f.size) l))))
+      let P : Span → Type 0 = λ y. y ≡ record { kind = Table; start = f.table; len = 4 * block_count f.size } in
+      has_right P more fresh (has_left P table (whole ++ rest) (has_added Table f.table (4 * block_count f.size) l))))
       (every_data (λ z. Member z (more ++ fresh)) b (block_count f.size) f.table f.size (λ i l m.
-          elim (block_cases f.size i l) [
-            | inl k ↦ subst (λ (v : ℕ). Member (block b (f.table + 4 * i) v) (more ++ fresh)) (sym k.1) (inside i k.0)
-            | inr k ↦
-                let P : Span → Type 0 = λ y. y ≡ block b (f.table + 4 * i) (min 4096 (f.size - 4096 * i)) in
-                has_right P more fresh (has_right P table (whole ++ rest) (has_right P whole rest
-                    (subst (λ (v : ℕ). Member (block b (f.table + 4 * v) (min 4096 (f.size - 4096 * i))) rest) (sym k.0)
-                        (subst (λ (v : ℕ). Member (block b end v) rest) (sym k.1) (has_added Data (block_start (word little b end)) (f.size % 4096) k.2)))))
-          ]))
+      elim (block_cases f.size i l) [
+        | inl k ↦ subst (λ (v : ℕ). Member (block b (f.table + 4 * i) v) (more ++ fresh)) (sym k.1) (inside i k.0)
+        | inr k ↦
+            let P : Span → Type 0 = λ y. y ≡ block b (f.table + 4 * i) (min 4096 (f.size - 4096 * i)) in
+            has_right P more fresh (has_right P table (whole ++ rest) (has_right P whole rest
+            (subst (λ (v : ℕ). Member (block b (f.table + 4 * v) (min 4096 (f.size - 4096 * i))) rest) (sym k.0)
+            (subst (λ (v : ℕ). Member (block b end v) rest) (sym k.1) (has_added Data (block_start (word little b end)) (f.size % 4096) k.2)))))
+      ]))
     where
       inside : (i : ℕ) → i < f.size / 4096 → Member (block b (f.table + 4 * i) 4096) (more ++ file_added b f.table f.size done)
       inside i l =
@@ -191,7 +191,6 @@ module _ (b : List ℕ) (f : File) (done : ℕ) (h : FileLies b f) (a : done % 4
             | inl u ↦ has_left P more (file_added b f.table f.size done) (old (f.table + 4 * i) (omega arith) u (omega arith))
             | inr u ↦ has_right P more (file_added b f.table f.size done) (whole_at (f.table + 4 * i) (omega arith) u (omega arith) (omega arith))
           ]
-
 
 pub done_start : (b : List ℕ) (files : List File) (base es : List Span) → es ≡ base → Done b files 0 base es 0
 done_start b files base es e = record {
@@ -274,5 +273,5 @@ all_spans_shareable b [] = tt
 all_spans_shareable b (f ∷ fs) =
     every_join (λ z. is_shareable z.kind ≡ true) (spans_of b f) (flat_map (spans_of b) fs)
     (every_join (λ z. is_shareable z.kind ≡ true) (added Table f.table (4 * block_count f.size)) (data_from little b (block_count f.size) f.table f.size)
-        (every_added (λ z. is_shareable z.kind ≡ true) Table f.table (4 * block_count f.size) (λ l. refl)) (every_data (λ z. is_shareable z.kind ≡ true) b (block_count f.size) f.table f.size (λ i l m. refl)))
+    (every_added (λ z. is_shareable z.kind ≡ true) Table f.table (4 * block_count f.size) (λ l. refl)) (every_data (λ z. is_shareable z.kind ≡ true) b (block_count f.size) f.table f.size (λ i l m. refl)))
     (all_spans_shareable b fs)

@@ -50,10 +50,10 @@ files b x = if has_data (type_of little b x.offset) then file_extents little b x
 file_is : (b : List ℕ) (x : Row) → flat_map (spans_of b) (file_part b x) ≡ files b x
 unfolding file_extents
 file_is b x = elim (has_data (type_of little b x.offset)) as (λ v. flat_map (spans_of b) (if v then record { table = offset_of little b x.offset; size = size_of little b x.offset } ∷ [] else [])
-        ≡ (if v then added Table (offset_of little b x.offset) (4 * block_count (size_of little b x.offset)) ++ data_from little b (block_count (size_of little b x.offset)) (offset_of little b x.offset) (size_of little b x.offset) else [])) [
-    | true ↦ append-nil _
-    | false ↦ refl
-  ]
+    ≡ (if v then added Table (offset_of little b x.offset) (4 * block_count (size_of little b x.offset)) ++ data_from little b (block_count (size_of little b x.offset)) (offset_of little b x.offset) (size_of little b x.offset) else [])) [
+      | true ↦ append-nil _
+      | false ↦ refl
+    ]
 
 files_are : (b : List ℕ) (rows : List Row) → flat_map (spans_of b) (flat_map (file_part b) rows) ≡ flat_map (files b) rows
 files_are b [] = refl
@@ -89,12 +89,12 @@ rows_least b rows sorted base es v e p w h =
     let all : List Span = flat_map (spans_of b) fs in
     let gs : List Span = w.more in
     let into : Every (λ z. Member z all) gs = every_weaker (λ z. (f : File) × Contains sorted f × Member z (spans_of b f)) (λ z. Member z all)
-            (λ z m. let c = Contains-permutation sorted fs m.0 (IsPermutation-sym fs sorted p) m.1 in found z m.0 c m.2) gs w.into in
+    (λ z m. let c = Contains-permutation sorted fs m.0 (IsPermutation-sym fs sorted p) m.1 in found z m.0 c m.2) gs w.into in
     let back : Every (λ z. Member z gs) all = every_files (λ z. Member z gs) b fs (recursion_from_All (λ f. Every (λ z. Member z gs) (spans_of b f)) fs (All-permutation (λ f. Every (λ z. Member z gs) (spans_of b f)) sorted fs (IsPermutation-sym fs sorted p) w.back)) in
     let one : Same (base ++ gs) ((base ++ gs) ++ all) = same_drop (base ++ gs) (base ++ gs) all (same_self (base ++ gs))
-            (repeats (base ++ gs) all (all_spans_shareable b fs) (every_weaker (λ z. Member z gs) (λ z. Member z (base ++ gs)) (λ z. has_right (λ (y : Span). y ≡ z) base gs) all back)) in
+    (repeats (base ++ gs) all (all_spans_shareable b fs) (every_weaker (λ z. Member z gs) (λ z. Member z (base ++ gs)) (λ z. has_right (λ (y : Span). y ≡ z) base gs) all back)) in
     let two : Same (base ++ all) ((base ++ all) ++ gs) = same_drop (base ++ all) (base ++ all) gs (same_self (base ++ all))
-            (repeats (base ++ all) gs w.shareable (every_weaker (λ z. Member z all) (λ z. Member z (base ++ all)) (λ z. has_right (λ (y : Span). y ≡ z) base all) gs into)) in
+    (repeats (base ++ all) gs w.shareable (every_weaker (λ z. Member z all) (λ z. Member z (base ++ all)) (λ z. has_right (λ (y : Span). y ≡ z) base all) gs into)) in
     let turn : IsPermutation (base ++ (all ++ gs)) (base ++ (gs ++ all)) = IsPermutation-append_right base (all ++ gs) (gs ++ all) (IsPermutation-append_comm all gs) in
     let swap : IsPermutation ((base ++ all) ++ gs) ((base ++ gs) ++ all) = subst (λ x. IsPermutation x ((base ++ gs) ++ all)) (sym (append_assoc base all gs)) (subst (IsPermutation (base ++ (all ++ gs))) (sym (append_assoc base gs all)) turn) in
     let a : IsLeastOf (OverlapsAt (base ++ gs)) v = subst (λ x. IsLeastOf (OverlapsAt x) v) w.is h in
@@ -105,12 +105,13 @@ rows_least b rows sorted base es v e p w h =
   where
     found : (z : Span) (f : File) → Contains (flat_map (file_part b) rows) f → Member z (spans_of b f) → Member z (flat_map (spans_of b) (flat_map (file_part b) rows))
     found z f c m = has_file b z (flat_map (file_part b) rows) c.0 f c.1 c.2 m
+
     whole : IsPermutation (extents_of little b rows) (base ++ flat_map (spans_of b) (flat_map (file_part b) rows))
     whole =
         let k : IsPermutation (added Super 0 76 ++ flat_map (row_extents little b) rows) (added Super 0 76 ++ (flat_map (list_part b) rows ++ flat_map (files b) rows)) =
-                IsPermutation-append_right (added Super 0 76) (flat_map (row_extents little b) rows) (flat_map (list_part b) rows ++ flat_map (files b) rows) (split (list_part b) (files b) rows) in
+        IsPermutation-append_right (added Super 0 76) (flat_map (row_extents little b) rows) (flat_map (list_part b) rows ++ flat_map (files b) rows) (split (list_part b) (files b) rows) in
         let same : added Super 0 76 ++ (flat_map (list_part b) rows ++ flat_map (files b) rows) ≡ base ++ flat_map (spans_of b) (flat_map (file_part b) rows) =
-                sym (append_assoc (added Super 0 76) (flat_map (list_part b) rows) (flat_map (files b) rows)) ∙ ap (λ x. x ++ flat_map (files b) rows) (sym e) ∙ ap (λ x. base ++ x) (sym (files_are b rows)) in
+        sym (append_assoc (added Super 0 76) (flat_map (list_part b) rows) (flat_map (files b) rows)) ∙ ap (λ x. x ++ flat_map (files b) rows) (sym e) ∙ ap (λ x. base ++ x) (sym (files_are b rows)) in
         subst (IsPermutation (extents_of little b rows)) same k
 
 -- what a file takes lies among the bytes

@@ -6,8 +6,8 @@ use crate::later::later_fault;
 use crate::reader::Reader;
 use crate::superblock::read_superblock;
 use record_walk::traversal::traverse;
-use rom_tree::image::Viewed;
 use rom_faults::CheckError;
+use rom_tree::image::Viewed;
 use rom_tree::types::Limits;
 use std::alloc::Global;
 

@@ -11,9 +11,9 @@ ghost use Rattle.cramfs_image.specs.Phases.{IsTooDeep, IsShallow};
 
 use crate::inode::name_at;
 use record_walk::reference::Row;
-use rom_faults::Fault;
-use rom_faults::fault::{TOO_DEEP};
 use record_walk::sweep::lesser;
+use rom_faults::Fault;
+use rom_faults::fault::TOO_DEEP;
 
 /// Whether a row is an entry of another name than `.` and `..`.
 pub fn is_other(b: &[u8], row: Row) -> bool

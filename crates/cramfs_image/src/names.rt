@@ -16,9 +16,9 @@ use crate::depth::is_other;
 use crate::inode::{name_at, word};
 use record_walk::listed::{ListedName, repeats};
 use record_walk::reference::Row;
+use record_walk::sweep::lesser;
 use rom_faults::Fault;
 use rom_faults::fault::{DOT, DUPLICATE_NAME, UNSORTED};
-use record_walk::sweep::lesser;
 use rom_fields::memory::OutOfMemory;
 use std::alloc::Global;
 use std::collections::BTreeMap;
@@ -118,11 +118,7 @@ fn names_of<'a>(
 }
 
 /// The least fault of a name among the rows other than the root's.
-pub fn least_name_fault(
-    alloc: Global,
-    b: &[u8],
-    rows: &[Row],
-) -> Result<Option<Fault>, OutOfMemory>
+pub fn least_name_fault(alloc: Global, b: &[u8], rows: &[Row]) -> Result<Option<Fault>, OutOfMemory>
     requires long { 12 ≤ length b.now }
     requires good { All (λ x. IsGood little b.now x.offset) rows.now }
     requires small { length b.now < 2 ^ 32 }

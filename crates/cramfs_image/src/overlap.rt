@@ -41,12 +41,7 @@ fn add_blocks(extents: &mut Extents, b: &[u8], at: u32, count: u32) -> Result<()
 
 /// Adds the block pointers and the blocks of a file, but for the whole blocks of pointers before
 /// `done`. It gives up to where whole blocks are there then.
-fn add_file(
-    extents: &mut Extents,
-    b: &[u8],
-    file: File,
-    done: u32,
-) -> Result<u32, OutOfMemory>
+fn add_file(extents: &mut Extents, b: &[u8], file: File, done: u32) -> Result<u32, OutOfMemory>
     requires lies { FileLies b.now file }
     requires small { length b.now < 2 ^ 32 }
     requires aligned { done % 4 ≡ 0 }

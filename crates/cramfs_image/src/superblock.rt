@@ -7,8 +7,7 @@ ghost use Rattle.cramfs_format.specs.Superblock.{accessible, HasSize, without_cr
 
 use crate::inode::{offset_at, size_at, type_at, word};
 use crc::{crc32, crc32_more};
-use rom_faults::Fault;
-use rom_faults::fault;
+use rom_faults::{Fault, fault};
 
 /// The first word of an image.
 const MAGIC: u32 = 0x28cd_3d45;
@@ -99,25 +98,46 @@ pub fn read_superblock<'a>(bytes: &'a [u8]) -> Result<&'a [u8], Fault>
     ensures fault { IfErr result (HasImageFault little bytes.now) }
 {
     if bytes.len() < 76 {
-        return Err(Fault { number: fault::SHORT, at: 0 });
+        return Err(Fault {
+            number: fault::SHORT,
+            at: 0,
+        });
     }
     if word(bytes, 0) != MAGIC {
-        return Err(Fault { number: fault::MAGIC, at: 0 });
+        return Err(Fault {
+            number: fault::MAGIC,
+            at: 0,
+        });
     }
     let Some(b) = accessible_bytes(bytes) else {
-        return Err(Fault { number: fault::SIZE, at: 4 });
+        return Err(Fault {
+            number: fault::SIZE,
+            at: 4,
+        });
     };
     if word(b, 8) >= 4_096 {
-        return Err(Fault { number: fault::FLAGS, at: 8 });
+        return Err(Fault {
+            number: fault::FLAGS,
+            at: 8,
+        });
     }
     if !has_crc(b) {
-        return Err(Fault { number: fault::CRC, at: 32 });
+        return Err(Fault {
+            number: fault::CRC,
+            at: 32,
+        });
     }
     if !has_signature(b) {
-        return Err(Fault { number: fault::SIGNATURE, at: 16 });
+        return Err(Fault {
+            number: fault::SIGNATURE,
+            at: 16,
+        });
     }
     if !has_root(b) {
-        return Err(Fault { number: fault::ROOT, at: 64 });
+        return Err(Fault {
+            number: fault::ROOT,
+            at: 64,
+        });
     }
     Ok(b)
 }

@@ -1,8 +1,8 @@
 use crate::crc32;
 use crate::image::Cramfs;
+use rom_faults::CheckError;
 use rom_fields::word::{part, put_le32};
 use rom_tree::image::TreeImage;
-use rom_faults::CheckError;
 use rom_tree::types::{Limits, NodeId, Report};
 use std::alloc::Global;
 use std::test::Fail;

@@ -4,11 +4,11 @@ ghost use Rattle.rom_tree.specs.Tree.{levels};
 ghost use Rattle.image_check.specs.Any.{any_view, report_of};
 ghost use Rattle.image_check.specs.Checked.{Shows, IsRefused, IsRomfs, IsCramfs, HasFormat, IsFaultless, IsLeastFault, neither};
 
-use rom_faults::fault::{MAGIC, SHORT};
 use crate::any::AnyImage;
 use cramfs_image::image::Cramfs;
-use rom_fields::word::le32;
 use rom_faults::CheckError;
+use rom_faults::fault::{MAGIC, SHORT};
+use rom_fields::word::le32;
 use rom_tree::types::Limits;
 use romfs_image::image::Romfs;
 use std::alloc::Global;

@@ -1,8 +1,8 @@
 use crate::any::AnyImage;
 use crate::checking::check;
+use rom_faults::CheckError;
 use rom_fields::word::{put_be32, put_le32};
 use rom_tree::image::TreeImage;
-use rom_faults::CheckError;
 use rom_tree::types::{Limits, NodeId, Report};
 use std::test::Fail;
 

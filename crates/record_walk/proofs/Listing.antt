@@ -29,13 +29,13 @@ module _ (name : ℕ → List ℕ) where
       | inl c ↦ ap (λ (v : ListedName). v.list) (get_or_append_left xs (x ∷ []) d i (let k = w.count in omega arith)) ∙ w.list i d g c ∙ ap (λ (v : Row). v.directory) (sym (get_or_append_left rows (r ∷ []) g i c))
       | inr c ↦
           (let k = length-append rows (r ∷ []) in let is : length rows ≡ i = omega arith in let at : length xs ≡ i = w.count ∙ is in
-            ap (λ (v : ListedName). v.list) (get_or_at xs x [] d i at) ∙ e ∙ ap (λ (v : Row). v.directory) (sym (get_or_at rows r [] g i is)))
+          ap (λ (v : ListedName). v.list) (get_or_at xs x [] d i at) ∙ e ∙ ap (λ (v : Row). v.directory) (sym (get_or_at rows r [] g i is)))
     ];
     named = λ i d g l. elim (cases_lt i (length rows)) [
       | inl c ↦ ap (λ (v : ListedName). v.name.now) (get_or_append_left xs (x ∷ []) d i (let k = w.count in omega arith)) ∙ w.named i d g c ∙ ap (λ (v : Row). name v.offset) (sym (get_or_append_left rows (r ∷ []) g i c))
       | inr c ↦
           (let k = length-append rows (r ∷ []) in let is : length rows ≡ i = omega arith in let at : length xs ≡ i = w.count ∙ is in
-            ap (λ (v : ListedName). v.name.now) (get_or_at xs x [] d i at) ∙ f ∙ ap (λ (v : Row). name v.offset) (sym (get_or_at rows r [] g i is)))
+          ap (λ (v : ListedName). v.name.now) (get_or_at xs x [] d i at) ∙ f ∙ ap (λ (v : Row). name v.offset) (sym (get_or_at rows r [] g i is)))
     ];
   }
 

@@ -60,8 +60,7 @@ place_of : (xs ys : List ListedName) → AreNumbered xs → IsPermutation xs ys 
 place_of xs ys own p m d l =
     let y : ListedName = get_or ys m d in
     let c = Contains-permutation ys xs y (IsPermutation-sym xs ys p) (Contains-get_or ys m d l) in
-    let n : y.index ≡ c.0 = ap (λ (v : ListedName). v.index) (sym c.2) ∙ own c.0 y c.1 in
-    (
+    let n : y.index ≡ c.0 = ap (λ (v : ListedName). v.index) (sym c.2) ∙ own c.0 y c.1 in (
       subst (λ (k : ℕ). k < length xs) (sym n) c.1,
       λ e. ap (λ (k : ℕ). get_or xs k e) n ∙ get_or_default xs c.0 e y c.1 ∙ c.2,
     )
@@ -116,21 +115,29 @@ module _ (xs ys : List ListedName) (own : AreNumbered xs) (p : IsPermutation xs 
     where
       here : ListedName
       here = get_or ys i d
+
       before : ListedName
       before = get_or ys (i - 1) d
+
       there : (here.index < length xs) × ((e : ListedName) → get_or xs here.index e ≡ here)
       there = place_of xs ys own p i d l
+
       room : here.index < length marks
       room = subst (λ (v : ℕ). here.index < v) (sym w.count) there.0
+
       next : i - 1 + 1 ≡ i
       next = omega arith
+
       neighbour : get_or ys (i - 1 + 1) d ≡ here
       neighbour = ap (λ (v : ℕ). get_or ys v d) next
+
       lesser : before.index < here.index
       lesser = subst (λ (v : ListedName). before.index < v.index) neighbour
           (earlier list_of name_of index_of xs ys p up own (i - 1) d (omega arith) (subst (AreAlike before) (sym neighbour) a))
+
       first : (before.index < length xs) × ((e : ListedName) → get_or xs before.index e ≡ before)
       first = place_of xs ys own p (i - 1) d (omega arith)
+
       repeats : Repeats xs here.index
       repeats = (before.index, lesser, λ e. subst (AreAlike (get_or xs before.index e)) (sym (there.1 e)) (subst (λ (v : ListedName). AreAlike v here) (sym (first.1 e)) a))
 

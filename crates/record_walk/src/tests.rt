@@ -4,10 +4,9 @@ ghost use Rattle.record_walk.specs.Table.{offset, table_references, table_sound,
 use crate::known::Known;
 use crate::records::Records;
 use crate::reference::{Edge, Edges, Reference, Row};
-use rom_faults::Fault;
 use crate::sweep::lesser;
 use crate::traversal::{TraversalError, traverse};
-use rom_faults::CheckError;
+use rom_faults::{CheckError, Fault};
 use std::alloc::Global;
 use std::test::Fail;
 
@@ -125,7 +124,12 @@ fn the_least_fault(rt: HostRuntime) -> Result<(), Fail> {
         [0, 0, 3, 4, 0, 0, 0, 0],
         100,
     );
-    assert!(rt; matches!(walked, Err(TraversalError::Record(Fault { number: 1, at: 8 }))));
+    assert!(rt;
+        matches!(
+            walked,
+            Err(TraversalError::Record(Fault { number: 1, at: 8 }))
+        )
+    );
     Ok(())
 }
 

@@ -173,7 +173,11 @@ fn enter(
 /// The records from the root on, in preorder, or the least fault that references and records have:
 /// more references than `most`, else a record's fault, else a record with two references.
 /// It looks at no more than `most` references and one more.
-pub fn traverse<R: Records>(alloc: Global, records: &R, most: u32) -> Result<Vec<Row>, TraversalError>
+pub fn traverse<R: Records>(
+    alloc: Global,
+    records: &R,
+    most: u32,
+) -> Result<Vec<Row>, TraversalError>
     requires { AreLawful (R.references records.now) (R.sound records.now) }
     ensures ok { IfOk result (λ v. (f : Forest) × (v.items ≡ all_rows (R.references records.now) f)
         × IsForest (R.references records.now) (R.sound records.now) most f) }

@@ -74,6 +74,7 @@ look_more xs i f g up l w misses c = record {
       | inl h ↦ let e : g.start + g.len ≡ (get_or xs i blank).start + (get_or xs i blank).len = ap (λ (v : Span). v.start + v.len) h.0 in (omega arith, (let u = h.1 in omega arith))
       | inr h ↦ let e : g.start + g.len ≡ f.start + f.len = ap (λ (v : Span). v.start + v.len) h.0 in ((let u = h.1 in omega arith), omega arith)
     ]
+
     reach : (k : ℕ) → k < i + 1 → (get_or xs k blank).start + (get_or xs k blank).len ≤ g.start + g.len
     reach k b = elim (cases_lt k i) [
       | inl v ↦ (let h = w.furthest k v in let t = top.1 in omega arith)

@@ -1,10 +1,10 @@
 use crate::sample::Sample;
+use rom_faults::CheckError;
 use rom_fields::bytes::Plain;
-use rom_fields::memory::OutOfMemory;
 use rom_fields::faulty::Faulty;
+use rom_fields::memory::OutOfMemory;
 use rom_tree::image::{TreeImage, is_directory_at, is_link_at, is_regular_at, link_text};
 use rom_tree::list;
-use rom_faults::CheckError;
 use rom_tree::types::{Cursor, Kind, Limits, ListError, NodeId};
 use std::test::Fail;
 

@@ -9,9 +9,9 @@ ghost use Rattle.romfs_image.specs.Phases.{IsTooDeep, IsShallow};
 
 use crate::record::{is_dots, name_at};
 use record_walk::reference::Row;
-use rom_faults::Fault;
-use rom_faults::fault::{TOO_DEEP};
 use record_walk::sweep::lesser;
+use rom_faults::Fault;
+use rom_faults::fault::TOO_DEEP;
 
 /// Whether a row is an entry, and not `.` or `..`.
 fn is_entry(b: &[u8], root: u32, row: Row) -> bool

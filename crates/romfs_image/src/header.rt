@@ -6,8 +6,8 @@ ghost use Rattle.rom_fields.specs.Words.{words_sum, part_of};
 ghost use Rattle.record_walk.specs.Faults.{IsLeast};
 ghost use Rattle.romfs_format.specs.Record.{name_of, end_of, next_of, first_of, type_of, target_of, size_of, has_data, IsSound, IsWhole, HasRecordFault};
 
-use rom_faults::fault::{BAD_NAME, BOUNDS, HEADER_SUM, LINK_SIZE};
 use crate::record::{name_len, word};
+use rom_faults::fault::{BAD_NAME, BOUNDS, HEADER_SUM, LINK_SIZE};
 use rom_fields::word::word_sum;
 
 /// How long the name of a whole record is, and where the record ends.

@@ -11,7 +11,7 @@ use crate::names::least_name_fault;
 use crate::overlap::least_overlap;
 use record_walk::reference::Row;
 use rom_faults::Fault;
-use rom_faults::fault::{OVERLAP};
+use rom_faults::fault::OVERLAP;
 use rom_fields::memory::OutOfMemory;
 use std::alloc::Global;
 

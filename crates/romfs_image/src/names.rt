@@ -15,9 +15,9 @@ use crate::record::{is_dots, name_at};
 use crate::rows::{led_to, offsets_of};
 use record_walk::listed::{ListedName, repeats};
 use record_walk::reference::Row;
+use record_walk::sweep::lesser;
 use rom_faults::Fault;
 use rom_faults::fault::{DOT, DUPLICATE_NAME, HARD_LINK};
-use record_walk::sweep::lesser;
 use rom_fields::memory::OutOfMemory;
 use std::alloc::Global;
 

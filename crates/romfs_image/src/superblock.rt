@@ -8,8 +8,7 @@ ghost use Rattle.romfs_format.specs.Superblock.{accessible, HasSize, HasSum, Has
 use crate::header::type_at;
 use crate::record::word;
 use memchr::memchr;
-use rom_faults::Fault;
-use rom_faults::fault;
+use rom_faults::{Fault, fault};
 use rom_fields::word::word_sum;
 
 /// `-rom1fs-`, with which an image begins.
@@ -83,19 +82,34 @@ pub fn read_superblock<'a>(bytes: &'a [u8]) -> Result<Superblock<'a>, Fault>
     ensures fault { IfErr result (HasImageFault bytes.now) }
 {
     if bytes.len() < 32 {
-        return Err(Fault { number: fault::SHORT, at: 0 });
+        return Err(Fault {
+            number: fault::SHORT,
+            at: 0,
+        });
     }
     if !has_magic(bytes) {
-        return Err(Fault { number: fault::MAGIC, at: 0 });
+        return Err(Fault {
+            number: fault::MAGIC,
+            at: 0,
+        });
     }
     let Some(b) = accessible_bytes(bytes) else {
-        return Err(Fault { number: fault::SIZE, at: 8 });
+        return Err(Fault {
+            number: fault::SIZE,
+            at: 8,
+        });
     };
     if !has_sum(b) {
-        return Err(Fault { number: fault::SUM, at: 12 });
+        return Err(Fault {
+            number: fault::SUM,
+            at: 12,
+        });
     }
     let Some(root) = root_offset(b) else {
-        return Err(Fault { number: fault::ROOT, at: 16 });
+        return Err(Fault {
+            number: fault::ROOT,
+            at: 16,
+        });
     };
     if type_at(b, root as usize) != 1 {
         return Err(Fault {

@@ -1,7 +1,7 @@
 use crate::image::Romfs;
+use rom_faults::CheckError;
 use rom_fields::word::{part, put_be32};
 use rom_tree::image::TreeImage;
-use rom_faults::CheckError;
 use rom_tree::types::{Limits, NodeId, Report};
 use std::alloc::Global;
 use std::test::Fail;

@@ -10,11 +10,11 @@ ghost use Rattle.romtool.specs.declared.shown.Outcome.{Outcome};
 
 use crate::fault::put_fault;
 use image_check::{AnyImage, check};
+use rom_faults::CheckError;
 use rom_fields::bytes::{ByteWrite, Failed};
 use rom_fields::sink::put;
 use rom_fields::text::put_decimal;
 use rom_tree::list;
-use rom_faults::CheckError;
 use rom_tree::types::{Limits, Report};
 use std::alloc::Global;
 

@@ -33,5 +33,5 @@ returns c =
     let files : c.rows.files.items ≡ flat_map (file_part c.args.b.now) c.args.rows.now = c.rows.invariant.files ∙ ap (λ (v : List Row). flat_map (file_part c.args.b.now) v) all in
     let lists = c.rows.invariant.lists ∙ ap (λ (v : List Row). added Super 0 76 ++ flat_map (list_part c.args.b.now) v) all in
     let sorted : IsPermutation (flat_map (file_part c.args.b.now) c.args.rows.now) c.deref.result.now =
-            subst (λ (v : List File). IsPermutation v c.deref.result.now) files (subst (λ (v : List File). IsPermutation c.rows.files.items v) (sym c.deref.ensures.value) c.sort_unstable_by_key.ensures.permutation) in
+    subst (λ (v : List File). IsPermutation v c.deref.result.now) files (subst (λ (v : List File). IsPermutation c.rows.files.items v) (sym c.deref.ensures.value) c.sort_unstable_by_key.ensures.permutation) in
     rows_least c.args.b.now c.args.rows.now c.deref.result.now c.rows.extents c.add_files.new.extents c.first_overlap.result lists sorted c.in_ok-add_files.ensures c.first_overlap.ensures.least

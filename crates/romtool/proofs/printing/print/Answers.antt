@@ -21,12 +21,16 @@ returns-then-failures-gt0-clause-ends g c =
     let old : Output = output_of (g.X.Write.contents c.args.out.now.inner) c.args.out.now.failures in
     let mid : Output = output_of (g.X.Write.contents c.shown-status.new.w.inner) c.shown-status.new.w.failures in
     let new : Output = output_of (g.X.Write.contents c.flush.new.self.inner) c.flush.new.self.failures in
-    let s = c.shown-status.ensures in
-    (WriteFault, refl, fault_told c.args.bytes.now c.args.listed old mid new s.0 s.2 c.requires c.flush.ensures.bytes (let e = c.failures-2.ensures in let f = c.if-failures-gt0.true in omega arith)
-        (λ e z. elim c.else-status-eq-FAULT.branch [
-          | else-status-eq-FAULT-via-then-status-eq-FAULT+else-failures-eq0 w ↦ w.if-failures-eq0.false (w.failures.ensures ∙ z)
-          | else-status-eq-FAULT-via-else-status-eq-FAULT w ↦ w.if-status-eq-FAULT.false (s.1 ∙ sym e)
-        ]), c.complain-then-failures-gt0.ensures)
+    let s = c.shown-status.ensures in (
+      WriteFault,
+      refl,
+      fault_told c.args.bytes.now c.args.listed old mid new s.0 s.2 c.requires c.flush.ensures.bytes (let e = c.failures-2.ensures in let f = c.if-failures-gt0.true in omega arith)
+          (λ e z. elim c.else-status-eq-FAULT.branch [
+            | else-status-eq-FAULT-via-then-status-eq-FAULT+else-failures-eq0 w ↦ w.if-failures-eq0.false (w.failures.ensures ∙ z)
+            | else-status-eq-FAULT-via-else-status-eq-FAULT w ↦ w.if-status-eq-FAULT.false (s.1 ∙ sym e)
+          ]),
+      c.complain-then-failures-gt0.ensures,
+    )
 
 pub returns-clause-ends : goal.returns-clause-ends
 returns-clause-ends g c =
