@@ -1,12 +1,9 @@
 -- No bytes begin as an image of both formats, and what follows for the answers.
-use Rattle.std.proofs.Common.{◌≡◌, ℕ, ◌≤◌, List, [], ◌∷◌, length, IsTrue, nat_eq, inl, inr, refl, sym, ap, ◌∙◌, arith}
+use Rattle.std.proofs.Common.{◌≡◌, ℕ, ◌≤◌, List, [], ◌∷◌, length, IsTrue, nat_eq, inl, inr, refl, sym, ◌∙◌, arith}
 use Rattle.std.proofs.lemmas.Bool.{eq-eqb, false≢true}
 use Rattle.std.proofs.lemmas.Bool.Decides.{eqb_tells}
 use Rattle.rom_fields.specs.Words.{word_le}
-use Rattle.rom_tree.specs.Tree.{Node, depth, levels}
-use Rattle.rom_tree.specs.Image.{Image}
-use Rattle.rom_tree.specs.declared.types.Report.{Report}
-use Rattle.rom_tree.proofs.Nodes.{levels_depth}
+use Rattle.rom_tree.specs.Tree.{Node}
 use Rattle.rom_tree.specs.declared.types.Limits.{Limits}
 use Rattle.rom_faults.specs.declared.error.CheckError.{CheckError}
 use Rattle.rom_faults.specs.declared.error.CheckError.TheVariants.{OutOfMemory, Fault}
@@ -16,7 +13,7 @@ use Rattle.cramfs_image.specs.Checked.{IsRefused as CramfsRefused}
 use Rattle.cramfs_format.specs.Order.{little, word}
 use Rattle.cramfs_format.specs.Superblock.{magic as cramfs_magic}
 use Rattle.cramfs_format.specs.Tree.{CramfsTree}
-use Rattle.image_check.specs.Checked.{IsRomfs, IsCramfs, Shows, romfs, cramfs, IsRefused}
+use Rattle.image_check.specs.Checked.{IsRomfs, IsCramfs, IsRefused}
 
 pub little_word : (b : List ℕ) → word little b 0 ≡ word_le b 0
 unfolding word

@@ -1,11 +1,11 @@
 -- The names of rows, and what the marks of names tell of the rows.
-use Rattle.std.proofs.Common.{◌≡◌, ℕ, ◌+◌, ◌<◌, ◌≤◌, Bool, true, false, List, [], ◌∷◌, ◌++◌, length, length-append, take, get_or, ◌⊎◌, inl, inr, refl, sym, ap, subst, ◌∙◌, arith}
+use Rattle.std.proofs.Common.{◌≡◌, ℕ, ◌+◌, ◌<◌, Bool, true, false, List, [], ◌∷◌, ◌++◌, length, length-append, take, get_or, inl, inr, refl, sym, ap, subst, ◌∙◌, arith}
 use Rattle.std.proofs.lemmas.Bool.{cases_lt}
 use Rattle.std.proofs.lemmas.List.{take_more, get_or-take, length-take-le, get_or_append_left, get_or_at, get_or_default}
 use Rattle.std.specs.List.{Any}
 use Rattle.record_walk.specs.declared.listed.ListedName.{ListedName}
 use Rattle.record_walk.specs.declared.reference.Row.{Row}
-use Rattle.record_walk.specs.Listed.{AreAlike, Repeats, MarksRepeats, AreNames}
+use Rattle.record_walk.specs.Listed.{MarksRepeats, AreNames}
 use Rattle.record_walk.proofs.Marked.{some}
 
 module _ (name : ℕ → List ℕ) where

@@ -1,5 +1,5 @@
 -- Names in lists, and which of them repeat an earlier one. (This project's own.)
-use Rattle.std.specs.Prelude.{◌≡◌, ℕ, ◌<◌, Bool, true, false, List, length, get_or, ◌↔◌}
+use Rattle.std.specs.Prelude.{◌≡◌, ℕ, ◌<◌, Bool, true, false, List, length, get_or}
 use Rattle.record_walk.specs.declared.listed.ListedName.{ListedName}
 use Rattle.record_walk.specs.declared.reference.Row.{Row}
 

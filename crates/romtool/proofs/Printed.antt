@@ -1,5 +1,5 @@
 -- How a printing ended, by its status and the count of failed writes.
-use Rattle.std.proofs.Common.{◌≡◌, ℕ, ◌+◌, ◌-◌, ◌^◌, ◌<◌, ◌≤◌, ◌⊎◌, min, Bool, true, false, List, [], Result, Ok, Err, inl, inr, refl, sym, ap, subst, ◌∙◌, arith}
+use Rattle.std.proofs.Common.{◌≡◌, ℕ, ◌+◌, ◌-◌, ◌^◌, ◌<◌, min, Bool, false, List, [], Result, Ok, Err, inl, inr, refl, sym, ap, ◌∙◌, arith}
 use Rattle.std.specs.Io.KnownBytes.{Keeps}
 use Rattle.rom_fields.specs.Failures.{after_read, Rose}
 use Rattle.rom_fields.specs.Written.{Output, sink}

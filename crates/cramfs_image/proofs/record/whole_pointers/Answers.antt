@@ -1,4 +1,4 @@
-use Rattle.std.proofs.Common.{◌≡◌, ℕ, ◌+◌, ◌-◌, ◌*◌, ◌/◌, ◌%◌, ◌<◌, ◌≤◌, subst, arith}
+use Rattle.std.proofs.Common.{◌≡◌, ℕ, ◌+◌, ◌*◌, ◌/◌, subst, arith}
 use Rattle.cramfs_format.specs.Order.{little, word}
 use Rattle.cramfs_format.specs.Inode.{IsPlain, Lies, block_start}
 use Rattle.cramfs_image.proofs.record.whole_pointers.Goals as goal

@@ -1,4 +1,4 @@
-use Rattle.std.proofs.Common.{ℕ, sym, subst, ◌+◌, ◌<◌, ◌≤◌, arith}
+use Rattle.std.proofs.Common.{ℕ, sym, subst, arith}
 use Rattle.record_walk.specs.Known.{AreKnown}
 use Rattle.record_walk.proofs.Ranges.{part_known, more_known, joined, one_more}
 use Rattle.cramfs_format.specs.Order.{little}

@@ -1,4 +1,4 @@
-use Rattle.std.proofs.Common.{◌≡◌, ◌+◌, ◌-◌, ◌<◌, arith, sym, ◌∙◌, subst, ap, length, true, false, List, Bool, slice_set}
+use Rattle.std.proofs.Common.{◌+◌, arith, sym, ◌∙◌, subst, ap}
 use Rattle.std.proofs.lemmas.Bool.{false≢true}
 use Rattle.record_walk.proofs.Marked.{Marked, places_sorted, next_apart, next_alike, next_within, marked_end}
 use Rattle.record_walk.proofs.listed.repeats.Goals as goal

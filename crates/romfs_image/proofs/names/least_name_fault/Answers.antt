@@ -1,4 +1,4 @@
-use Rattle.std.proofs.Common.{◌≡◌, ◌<◌, ◌≤◌, false, length, sym, take, get_or, ◌∙◌, arith}
+use Rattle.std.proofs.Common.{◌≡◌, false, sym, take, get_or, ◌∙◌, arith}
 use Rattle.std.proofs.lemmas.List.{get_or_default}
 use Rattle.record_walk.proofs.Listing.{marked_old, marked_new}
 use Rattle.record_walk.proofs.Sweeps.{blank, sweep_start, sweep_well_at, sweep_fault_at}

@@ -1,7 +1,6 @@
-use Rattle.std.proofs.Common.{◌≡◌, ◌≤◌, ◌<◌, ℕ, refl, sym, ◌∙◌, arith}
+use Rattle.std.proofs.Common.{◌≡◌, refl, sym, ◌∙◌, arith}
 use Rattle.rom_fields.specs.Texts.{escaped}
 use Rattle.rom_fields.specs.Written.{Output, output_of}
-use Rattle.romtool.specs.Answers.{status_of}
 use Rattle.romtool.specs.declared.shown.Outcome.TheVariants.{Memory, WriteFault}
 use Rattle.romtool.proofs.Printed.{memory_told, fault_told, shown_told, count_before}
 use Rattle.romtool.proofs.printing.print.Goals as goal
