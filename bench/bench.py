@@ -126,13 +126,17 @@ def one_table_many_lengths(count):
 
 
 def two_far_tables(count):
-    """Files that have in turn one of two tables of 4,095 pointers, a million words apart."""
+    """Files that have in turn one of two tables of 4,096 pointers, a million words apart.
+
+    All blocks but the last, which has 4,095 bytes, are one.
+    """
     table = 76 + 16 * count
-    other = table + 4 * 4095 + 4 * MIB
-    blocks = other + 4 * 4095
-    inodes = (inode(CRAMFS_REGULAR, 4095 * BLOCK, (table, other)[n % 2], name_of(n)) for n in range(count))
-    tables = pointers(blocks, 4095, 0) + bytes(4 * MIB) + pointers(blocks, 4095, 0)
-    return cramfs_files(inodes, tables, bytes(BLOCK))
+    other = table + 4 * 4096 + 4 * MIB
+    block = other + 4 * 4096
+    size = 4096 * BLOCK - 1
+    inodes = (inode(CRAMFS_REGULAR, size, (table, other)[n % 2], name_of(n)) for n in range(count))
+    words = pointers(block, 4095, 0) + pointers(block + BLOCK, 1)
+    return cramfs_files(inodes, words + bytes(4 * MIB) + words, bytes(2 * BLOCK))
 
 
 def shifted_tables(count):
