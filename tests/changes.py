@@ -5,7 +5,7 @@
 
 The images are those of cases (see run.py). Each is cut to every length from 0 on, and what `check`
 prints of that is compared with the image's row of CUTS. Each byte of those of CHANGED is set to 0, set
-to 255, and has each of its bits turned over. In a romfs image each such change breaks a sum, so the
+to 255, and has each of its bits inverted. In a romfs image each such change breaks a sum, so the
 image is run once more with the superblock's sum mended, and once with the sums of the records too. Of
 each image that comes of this
     check    prints one line, an `ok` with status 0 or a fault of its format with status 1
