@@ -5,11 +5,11 @@
 
 A row is one image: its kind, how many records or files it has (MiB, where it says so), its length, the
 user and system time of `check` and of `list` in seconds (the least of three runs, of one where a run
-takes a second), the peak memory of `check` beside the image and beside what the program takes for its
+takes five seconds), the peak memory of `check` beside the image and beside what the program takes for its
 example, in bytes a record, the ratio of `list` to `check`, and how many times the time of `check` for a
 record is that of the next smaller image. Rows of other programs stand below, each with the user time of
-`check` by theirs, and the same with the system time. It is run by hand, best on a machine that does
-nothing else.
+the program by theirs, and the same with the system time: `check` beside programs that read the image,
+`list` beside those that read its output. It is run by hand, best on a machine that does nothing else.
 """
 
 import os
@@ -228,9 +228,9 @@ def peak_of(words, aside):
 
 
 def measured(words, out):
-    """The run of least time of three, or the first where it takes a second."""
+    """The run of least time of three, or the first where it takes five seconds."""
     best = once(words, out)
-    for _ in range(2 if best.total < 1 else 0):
+    for _ in range(2 if best.total < 5 else 0):
         best = min(best, once(words, out), key=lambda run: run.total)
     return best
 
@@ -240,16 +240,16 @@ def ratio(one, other):
     return "%.1f" % (one / other) if other >= 0.002 else "-"
 
 
-def beside(words, out, check, name):
-    """A row of another program, and how many times its time the check takes."""
+def beside(words, out, mine, name):
+    """A row of another program, and how many times its time mine takes."""
     run = measured(words, out)
-    times = (ratio(check.user, run.user), ratio(check.total, run.total))
-    print("    %-32s %27s %7.3f %6.3f   check: %s, with sys %s" % (
-        (name, "", run.user, run.system) + times), flush=True)  # fmt: skip
+    print("    %-32s %27s %7.3f %6.3f   romtool by this: %s, with sys %s" % (
+        name, "", run.user, run.system, ratio(mine.user, run.user), ratio(mine.total, run.total)
+    ), flush=True)  # fmt: skip
 
 
 def row(binary, path, out, kind, count, last, base):
-    """Measures an image and prints its row; gives what `check` took."""
+    """Measures an image and prints its row; gives what `check` and `list` took."""
     size = os.path.getsize(path)
     check = measured([binary, "check", path], out)
     with open(out, encoding="ascii") as file:
@@ -262,7 +262,7 @@ def row(binary, path, out, kind, count, last, base):
         ratio(listed.total, check.total), grows, told), flush=True)  # fmt: skip
     if max(check.user, listed.user) > 20:
         print("    MORE THAN 20 SECONDS", flush=True)
-    return check
+    return check, listed
 
 
 def compare(path, out, check, image):
@@ -275,7 +275,9 @@ def compare(path, out, check, image):
             file.write(for_fsck(image))
         beside([fsck, path], out, check, "fsck.cramfs, other flags")
         with open(out, "rb") as file:
-            print("    %s" % file.read(100).decode().strip())
+            said = file.read(100).decode().strip()
+        if said:
+            print("    it says: %s" % said)
 
 
 def main():
@@ -296,13 +298,13 @@ def main():
                 image = make(count)
                 with open(path, "wb") as file:
                     file.write(image)
-                check = row(binary, path, out, kind, count, last, base)
+                check, listed = row(binary, path, out, kind, count, last, base)
                 last = check.total / count
                 if count == 200:
                     compare(path, out, check, image)
                 elif count == max(COUNTS):
-                    beside(["cat", out], "/dev/null", check, "cat LIST >/dev/null")
-                    beside(["cat", out], out + ".copy", check, "cat LIST >FILE")
+                    beside(["cat", out], "/dev/null", listed, "cat LIST >/dev/null")
+                    beside(["cat", out], out + ".copy", listed, "cat LIST >FILE")
     return 0
 
 
