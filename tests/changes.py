@@ -5,7 +5,7 @@
 
 The images are those of cases (see run.py). Each is cut to every length from 0 on, and what `check`
 prints of that is compared with the image's row of CUTS. Each byte of those of CHANGED is set to 0, set
-to 255, and has each of its bits turned over. In a romfs image each such change breaks a sum, so the
+to 255, and has each of its bits inverted. In a romfs image each such change breaks a sum, so the
 image is run once more with the superblock's sum mended, and once with the sums of the records too. Of
 each image that comes of this
     check    prints one line, an `ok` with status 0 or a fault of its format with status 1
@@ -15,7 +15,6 @@ each image that comes of this
 The last line is `N passed, M failed`.
 """
 
-import argparse
 import concurrent.futures
 import os
 import re
@@ -25,6 +24,8 @@ import sys
 import tempfile
 
 import run
+from harness import SECONDS, Counts, parser, program_of
+from images import with_sums
 
 # image -> where a fault line begins to hold, by length: it holds up to the next one.
 CUTS = {
@@ -70,26 +71,6 @@ FAULTS = {
 OK = re.compile(rb"ok (romfs|cramfs) ([0-9]+) ([0-9]+)\n")
 FAULT = re.compile(rb"fault ([0-9]+) ([A-Za-z]+) at ([0-9]+)\n")
 LINE = re.compile(rb"([0-9]+) ([dflbcsp]) [0-7]{4}( [0-9]+){5} (/[!-~]*)( [!-~]+)?")
-
-
-def word_sum(data):
-    """The sum of the words, the highest byte first; a rest of fewer than four bytes is not counted."""
-    return sum(word for (word,) in struct.iter_unpack(">I", data[: len(data) // 4 * 4]))
-
-
-def mended(image, place, end):
-    """The image with the word at `place + 12` such that the words up to `end` have the sum 0."""
-    total = word_sum(image[place : place + 12] + image[place + 16 : end])
-    return image[: place + 12] + struct.pack(">I", -total % 2**32) + image[place + 16 :]
-
-
-def with_sums(image, records):
-    """The romfs image with the sums of the records mended, then that of the superblock."""
-    for place in records:
-        name_end = image.find(0, place + 16)
-        if name_end >= 0:
-            image = mended(image, place, place + 16 + (name_end - place) // 16 * 16)
-    return mended(image, 0, min(512, struct.unpack_from(">I", image, 8)[0]))
 
 
 def changes_of(image, records, place):
@@ -141,7 +122,7 @@ def wrong_in(binary, format, image, expected, path):
         file.write(image)
     checked, listed = (
         subprocess.run(
-            [binary, word, path], stdin=subprocess.DEVNULL, capture_output=True, timeout=run.SECONDS
+            [binary, word, path], stdin=subprocess.DEVNULL, capture_output=True, timeout=SECONDS
         )
         for word in ("check", "list")
     )
@@ -186,33 +167,25 @@ def done_work(binary, top, number, work):
         try:
             wrong = wrong_in(binary, name.split("/")[0], image, expected, path)
         except subprocess.TimeoutExpired:
-            wrong = "did not end within %d seconds" % run.SECONDS
+            wrong = "did not end within %d seconds" % SECONDS
         if wrong:
-            failures.append("FAILED changes: %s, %s: %s" % (name, words, wrong))
+            failures.append("%s, %s: %s" % (name, words, wrong))
     os.unlink(path)
     return len(variants) - len(failures), failures
 
 
 def main():
-    parser = argparse.ArgumentParser(description="Run romtool on images that are cut or changed.")
-    parser.add_argument("--binary", default=run.BINARY, help="the program, if not the one of `rt ci`")
-    binary = os.path.abspath(parser.parse_args().binary)
-    if not os.access(binary, os.X_OK):
-        print("no program %s: build it by `rt run` in crates/romtool" % binary)
-        print("0 passed, 1 failed")
-        return 1
-    passed = failed = 0
+    binary = program_of(parser("Run romtool on images that are cut or changed.").parse_args())
+    counts = Counts()
     pool = concurrent.futures.ThreadPoolExecutor(os.cpu_count())
     with tempfile.TemporaryDirectory() as top, pool:
         parts = [pool.submit(done_work, binary, top, number, work) for number, work in enumerate(works())]
         for part in parts:
             good, failures = part.result()
-            passed += good
-            failed += len(failures)
-            for line in failures:
-                print(line)
-    print("%d passed, %d failed" % (passed, failed))
-    return 1 if failed or not passed else 0
+            counts.passes(good)
+            for failure in failures:
+                counts.fails("changes: %s" % failure)
+    return counts.close()
 
 
 if __name__ == "__main__":

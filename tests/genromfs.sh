@@ -5,76 +5,21 @@
 #
 #     tests/genromfs.sh [BINARY]
 #
-# The last line is `N passed, M failed`. Without genromfs nothing is run, and that is said.
+# The last line is `N passed, M failed`, with `, K skipped` where genromfs or the right to make devices
+# is missing.
 set -u
 here=$(cd "$(dirname "$0")" && pwd)
-binary=${1:-$here/../crates/romtool/out/romtool}
-passed=0
-failed=0
-
-finish() {
-    echo "$passed passed, $failed failed"
-    [ "$failed" -eq 0 ]
-    exit
-}
-
-if ! command -v genromfs >/dev/null; then
-    echo "genromfs is not installed (apt-get install genromfs): its images are passed over"
-    finish
-fi
-if [ ! -x "$binary" ]; then
-    echo "no program $binary: build it by \`rt run\` in crates/romtool"
-    failed=1
-    finish
-fi
+part=genromfs
+. "$here/counts.sh"
+needs genromfs genromfs
+find_program "${1:-$here/../crates/romtool/out/romtool}"
 top=$(mktemp -d) || exit 1
 trap 'rm -rf "$top"' EXIT
 cd "$top" || exit 1
 
-# The lines of a folder, sorted, without the numbers of nodes: KIND MODE UID GID SIZE MAJOR MINOR PATH
-# and a link's text.
-cat >folder.py <<'EOF'
-import os, stat, sys
-
-KINDS = {
-    stat.S_IFDIR: "d", stat.S_IFREG: "f", stat.S_IFLNK: "l", stat.S_IFBLK: "b",
-    stat.S_IFCHR: "c", stat.S_IFSOCK: "s", stat.S_IFIFO: "p",
-}
-
-def escaped(name):
-    return "".join(chr(b) if 0x21 <= b <= 0x7E and b != 0x25 else "%%%02X" % b for b in name)
-
-def line(path, shown):
-    s = os.lstat(path)
-    kind = KINDS[stat.S_IFMT(s.st_mode)]
-    mode = {"l": "0777", "b": "0600", "c": "0600", "s": "0644", "p": "0644"}.get(kind)
-    mode = mode or ("0755" if s.st_mode & 0o111 else "0644")
-    size = s.st_size if kind in "fl" else 0
-    major, minor = (os.major(s.st_rdev), os.minor(s.st_rdev)) if kind in "bc" else (0, 0)
-    text = " " + escaped(os.readlink(path)) if kind == "l" else ""
-    return "%s %s 0 0 %d %d %d %s%s" % (kind, mode, size, major, minor, escaped(shown), text)
-
-top = os.fsencode(sys.argv[1])
-lines = [line(top, b"/")]
-for folder, folders, files in os.walk(top):
-    for name in folders + files:
-        path = os.path.join(folder, name)
-        lines.append(line(path, path[len(top):]))
-print("\n".join(sorted(lines)))
-EOF
-
-# The same of an image.
+# The lines of an image, sorted, without the numbers of nodes.
 listed() {
     "$binary" list "$1" | sed 's/^[0-9]* //' | LC_ALL=C sort
-}
-
-note() {
-    if [ "$2" = 0 ]; then
-        passed=$((passed + 1))
-    else
-        failed=$((failed + 1))
-        echo "FAILED genromfs: $1"
-    fi
 }
 
 # same NAME FOLDER OPTION..: builds an image of the folder and compares its list.
@@ -83,7 +28,7 @@ same() {
     folder=$2
     shift 2
     genromfs -f image -d "$folder" "$@" || { note "$name: genromfs" 1; return; }
-    python3 folder.py "$folder" | LC_ALL=C sort >wanted
+    python3 "$here/folder.py" romfs "$folder" | LC_ALL=C sort >wanted
     listed image >got
     if cmp -s wanted got && "$binary" check image | grep -q '^ok romfs '; then
         note "$name" 0
@@ -163,7 +108,7 @@ python3 -c 'import socket; socket.socket(socket.AF_UNIX).bind("special/socket")'
 if mknod special/character c 1 3 2>/dev/null && mknod special/block b 8 17 2>/dev/null; then
     mknod special/large c 511 255
 else
-    echo "genromfs: device nodes are left out: they are made by root alone"
+    skip "device nodes, which root alone can make"
 fi
 same "fifos, sockets and devices" special
 

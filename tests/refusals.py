@@ -7,10 +7,10 @@ refuse.c, which the C compiler `cc` builds, refuses the Nth allocation, for N = 
 that a run does not make; and then all from the Nth on. Each run answers as it does with ample memory, or
 prints `memory` on standard error with status 3 and nothing else. A run without words, which prints
 two answers, may have printed the first. Passed over are cases that are large, and runs whose memory the
-case limits. The last line is `N passed, M failed`; without `cc` nothing is run, and that is said.
+case limits. The last line is `N passed, M failed`, with `, K skipped` where nothing was run for want of
+`cc`.
 """
 
-import argparse
 import concurrent.futures
 import itertools
 import os
@@ -20,6 +20,7 @@ import sys
 import tempfile
 
 import run
+from harness import HERE, Counts, parser, program_of
 
 
 def is_well(told, whole, done):
@@ -62,44 +63,39 @@ def done_case(binary, topic, case, refuse):
             well, failures = refused(binary, told, top, refuse, os.path.join(aside, "refused"))
             good += well
             place = "%s: %s: romtool %s" % (topic, case["name"], " ".join(map(str, told["words"])))
-            lines += ["FAILED refusals of %s: %s" % (place, failure) for failure in failures]
+            lines += ["refusals of %s: %s" % (place, failure) for failure in failures]
     return good, lines
 
 
+def chosen(topic):
+    """The cases that are run: those of the topic, or all, but for large ones."""
+    for name in [topic] if topic else run.topics():
+        for case in run.load(name):
+            if not case.get("large") and not (case.get("no_root") and os.geteuid() == 0):
+                yield name, case
+
+
 def main():
-    parser = argparse.ArgumentParser(description="Run romtool with each of its allocations refused.")
-    parser.add_argument("--binary", default=run.BINARY, help="the program, if not the one of `rt ci`")
-    parser.add_argument("--topic", choices=run.topics(), help="the cases of this topic alone")
-    arguments = parser.parse_args()
-    binary = os.path.abspath(arguments.binary)
-    if not os.access(binary, os.X_OK):
-        print("no program %s: build it by `rt run` in crates/romtool" % binary)
-        print("0 passed, 1 failed")
-        return 1
+    reader = parser("Run romtool with each of its allocations refused.")
+    reader.add_argument("--topic", choices=run.topics(), help="the cases of this topic alone")
+    arguments = reader.parse_args()
+    binary, counts = program_of(arguments), Counts()
     if not shutil.which("cc"):
-        print("cc is not installed: no memory is refused")
-        print("0 passed, 0 failed")
-        return 0
-    passed = failed = 0
+        counts.skips("refusals: cc is not installed")
+        return counts.close()
     pool = concurrent.futures.ThreadPoolExecutor(os.cpu_count())
     with tempfile.TemporaryDirectory() as top, pool:
         refuse = os.path.join(top, "refuse.so")
-        source = os.path.join(run.HERE, "refuse.c")
-        subprocess.run(["cc", "-shared", "-fPIC", "-o", refuse, source], check=True)
+        subprocess.run(["cc", "-shared", "-fPIC", "-o", refuse, os.path.join(HERE, "refuse.c")], check=True)
         parts = [
-            pool.submit(done_case, binary, topic, case, refuse)
-            for topic in ([arguments.topic] if arguments.topic else run.topics())
-            for case in run.load(topic)
-            if not case.get("large")
+            pool.submit(done_case, binary, topic, case, refuse) for topic, case in chosen(arguments.topic)
         ]
         for part in parts:
-            good, lines = part.result()
-            passed += good
-            failed += len(lines)
-            for line in lines:
-                print(line)
-    print("%d passed, %d failed" % (passed, failed))
-    return 1 if failed or not passed else 0
+            good, failures = part.result()
+            counts.passes(good)
+            for failure in failures:
+                counts.fails(failure)
+    return counts.close()
 
 
 if __name__ == "__main__":

@@ -1,23 +1,32 @@
 #!/usr/bin/env python3
-"""Runs romtool on the cases of this folder, and compares what it prints and its status.
+"""Runs romtool on the cases of this folder, and compares what it prints, what it writes and its status.
 
-    run.py [--binary PATH] [--topic NAME]
+    run.py [--binary PATH] [--topic TOPIC] [--name TEXT] [--list] [--keep]
 
-cases/TOPIC.json is a list of cases; the file `topics` names the topics that are run. Each case runs
-in a new folder of its own, and has
+cases/TOPIC.json is a list of cases; the file `topics` names the topics that are run. With `--name`
+only the cases run whose name has the text, `--list` prints the cases and runs none, and `--keep`
+leaves the folders of the failed cases and says where they are. Each case runs in a new folder of its
+own, and has
     name     unique in its topic
     about    what it is about, in a few words (may be missing)
     large    true: it takes long, and refusals.py passes it over
+    no_root  true: it is skipped where root runs it
     folders  names of folders to make
     files    name -> bytes
+    modes    name -> the permissions of a file or folder, in octal
+    links    name -> the text of a symbolic link to make
     runs     what is run in turn
 A run has
     words    the words after the program's name
+    in       the bytes of its standard input (nothing where missing)
     out      the bytes of its standard output (not compared where missing)
-    err      the bytes of its standard error (not compared where missing)
+    out_to   where its standard output goes, and `out` is missing: `full`, a device that takes nothing;
+             `closed`, nowhere; `no reader`, a pipe that nobody reads
+    err      the bytes of its standard error (nothing where missing)
     status   its exit status
-    full     true: its standard output goes to a device that takes nothing, and `out` is missing
     memory   the bytes of memory that it may have
+    written  name -> the bytes of a file after the run
+    absent   names that are not there after the run
 Bytes are a text, or
     {"hex": "00ff"}
     {"size": N, "at": {"64": BYTES}}    zeros but for what stands at these offsets
@@ -29,23 +38,25 @@ Bytes are a text, or
     {"like": "TOPIC/CASE/FILE", "first": N, "at": {"64": BYTES}}
                                         that file's first N bytes (all, where N is missing), with these
                                         bytes at these offsets
+    {"romfs": BYTES, "records": [32]}   that romfs image with its sums mended, of the records at these
+                                        offsets and then of the superblock
+    {"cramfs": BYTES}                   that cramfs image with its CRC-32 mended
     {"sparse": N}                       zeros, in a file without blocks
-The last line is `N passed, M failed`.
+The last line is `N passed, M failed`, with `, K skipped` where cases were skipped.
 """
 
-import argparse
 import array
 import functools
 import json
 import os
 import resource
+import shutil
 import subprocess
 import sys
 import tempfile
 
-HERE = os.path.dirname(os.path.abspath(__file__))
-BINARY = os.path.join(HERE, "..", "crates", "romtool", "out", "romtool")
-SECONDS = 60
+from harness import HERE, SECONDS, Counts, parser, program_of
+from images import with_crc, with_sums
 
 
 def bytes_of(told):
@@ -60,6 +71,10 @@ def bytes_of(told):
         return b"".join(bytes_of(part) for part in told["join"])
     if "words" in told:
         return rising(told["words"], told["by"], told["times"])
+    if "romfs" in told:
+        return with_sums(bytes_of(told["romfs"]), told["records"])
+    if "cramfs" in told:
+        return with_crc(bytes_of(told["cramfs"]))
     out = bytearray(file_of(told["like"])[: told.get("first")] if "like" in told else told["size"])
     size = len(out)
     for at, part in told.get("at", {}).items():
@@ -109,7 +124,7 @@ def load(topic):
 
 
 def lay_out(case, top):
-    """Makes a case's folders and files."""
+    """Makes a case's folders, files and links."""
     for name in case.get("folders", []):
         os.mkdir(os.path.join(top, name))
     for name, told in case.get("files", {}).items():
@@ -118,25 +133,62 @@ def lay_out(case, top):
                 file.truncate(told["sparse"])
             else:
                 file.write(bytes_of(told))
+    for name, text in case.get("links", {}).items():
+        os.symlink(text, os.path.join(top, name))
+    for name, mode in case.get("modes", {}).items():
+        os.chmod(os.path.join(top, name), int(mode, 8))
+
+
+def output_for(out_to):
+    """What `subprocess.run` has as the standard output of a run: a new descriptor, or a pipe."""
+    if out_to == "full":
+        return os.open("/dev/full", os.O_WRONLY)
+    if out_to == "no reader":
+        reader, writer = os.pipe()
+        os.close(reader)
+        return writer
+    return None if out_to == "closed" else subprocess.PIPE
 
 
 def started(binary, run, top, environment=None):
     """The finished program; its environment has what is told, too."""
     words = [os.fsencode(binary)] + [bytes_of(word) for word in run["words"]]
-    limit = run.get("memory")
+    limit, out_to = run.get("memory"), run.get("out_to")
 
-    def limited():
-        resource.setrlimit(resource.RLIMIT_AS, (limit, limit))
+    def prepare():
+        if limit:
+            resource.setrlimit(resource.RLIMIT_AS, (limit, limit))
+        if out_to == "closed":
+            os.close(1)
 
-    out = open("/dev/full", "wb") if run.get("full") else subprocess.PIPE
+    out = output_for(out_to)
     try:
         return subprocess.run(
-            words, cwd=top, stdin=subprocess.DEVNULL, stdout=out, stderr=subprocess.PIPE,
-            timeout=SECONDS, preexec_fn=limited if limit else None, env={**os.environ, **(environment or {})},
+            words, cwd=top, input=bytes_of(run.get("in", "")), stdout=out, stderr=subprocess.PIPE,
+            timeout=SECONDS, preexec_fn=prepare if limit or out_to == "closed" else None,
+            env={**os.environ, **(environment or {})},
         )  # fmt: skip
     finally:
-        if run.get("full"):
-            out.close()
+        if out_to in ("full", "no reader"):
+            os.close(out)
+
+
+def wrong_file(top, name, wanted):
+    """What is wrong in a file after a run."""
+    try:
+        with open(os.path.join(top, name), "rb") as file:
+            got = file.read()
+    except OSError as fault:
+        return ["%s: %s" % (name, fault.strerror)]
+    if got == wanted:
+        return []
+    unlike = (place for place, (one, other) in enumerate(zip(got, wanted)) if one != other)
+    place = next(unlike, min(len(got), len(wanted)))
+    return [
+        "%s differs first at %d: it has %d bytes, expected %d" % (name, place, len(got), len(wanted)),
+        "    %s" % got[place : place + 16].hex(" "),
+        "expected %s" % wanted[place : place + 16].hex(" "),
+    ]  # fmt: skip
 
 
 def wrong_in(binary, run, top):
@@ -148,45 +200,64 @@ def wrong_in(binary, run, top):
     wrong = []
     if done.returncode != run["status"]:
         wrong.append("status %d, expected %d" % (done.returncode, run["status"]))
-    for key, got in (("out", done.stdout), ("err", done.stderr)):
-        if key in run and got != bytes_of(run[key]):
+    for key, got, wanted in (("out", done.stdout, run.get("out")), ("err", done.stderr, run.get("err", ""))):
+        if wanted is not None and got != bytes_of(wanted):
             wrong.append("%s     %r" % (key, got[:400]))
-            wrong.append("expected %r" % bytes_of(run[key])[:400])
-    return wrong
+            wrong.append("expected %r" % bytes_of(wanted)[:400])
+    for name, told in run.get("written", {}).items():
+        wrong += wrong_file(top, name, bytes_of(told))
+    there = [name for name in run.get("absent", []) if os.path.lexists(os.path.join(top, name))]
+    return wrong + ["%s is there" % name for name in there]
 
 
-def passes(binary, topic, case):
-    """Whether all runs of a case end as they should; says where not."""
-    with tempfile.TemporaryDirectory() as top:
-        lay_out(case, top)
-        for run in case["runs"]:
-            wrong = wrong_in(binary, run, top)
-            if wrong:
-                print("FAILED %s: %s: romtool %s" % (topic, case["name"], " ".join(map(str, run["words"]))))
-                print("".join("    %s\n" % line for line in wrong), end="")
-                return False
-    return True
+def wrong_run(binary, case, top):
+    """The first run of a case that does not end as it should, and what is wrong in it; or nothing."""
+    for run in case["runs"]:
+        wrong = wrong_in(binary, run, top)
+        if wrong:
+            return ["romtool %s" % " ".join(map(str, run["words"]))] + wrong
+    return []
+
+
+def done_case(binary, place, case, keep, counts):
+    """Runs a case and counts how it ended."""
+    if case.get("no_root") and os.geteuid() == 0:
+        counts.skips("%s: root runs it" % place)
+        return
+    top = tempfile.mkdtemp(prefix="romtool-")
+    lay_out(case, top)
+    wrong = wrong_run(binary, case, top)
+    if not wrong:
+        counts.passes()
+    elif keep:
+        counts.fails("%s, left in %s" % (place, top), wrong)
+        return
+    else:
+        counts.fails(place, wrong)
+    shutil.rmtree(top)
 
 
 def main():
-    parser = argparse.ArgumentParser(description="Run romtool on the cases of this folder.")
-    parser.add_argument("--binary", default=BINARY, help="the program, if not the one that `rt ci` leaves")
-    parser.add_argument("--topic", choices=topics(), help="the cases of this topic alone")
-    arguments = parser.parse_args()
-    binary = os.path.abspath(arguments.binary)
-    if not os.access(binary, os.X_OK):
-        print("no program %s: build it by `rt run` in crates/romtool" % binary)
-        print("0 passed, 1 failed")
-        return 1
-    passed = failed = 0
-    for topic in [arguments.topic] if arguments.topic else topics():
-        for case in load(topic):
-            if passes(binary, topic, case):
-                passed += 1
-            else:
-                failed += 1
-    print("%d passed, %d failed" % (passed, failed))
-    return 1 if failed or not passed else 0
+    reader = parser("Run romtool on the cases of this folder.")
+    reader.add_argument("--topic", choices=topics(), help="the cases of this topic alone")
+    reader.add_argument("--name", default="", help="the cases alone whose name has this text")
+    reader.add_argument("--list", action="store_true", help="print the cases, and run none")
+    reader.add_argument("--keep", action="store_true", help="leave the folders of the failed cases")
+    arguments = reader.parse_args()
+    cases = [
+        ("%s: %s" % (topic, case["name"]), case)
+        for topic in ([arguments.topic] if arguments.topic else topics())
+        for case in load(topic)
+        if arguments.name in case["name"]
+    ]
+    if arguments.list:
+        for place, _ in cases:
+            print(place)
+        return 0
+    binary, counts = program_of(arguments), Counts()
+    for place, case in cases:
+        done_case(binary, place, case, arguments.keep, counts)
+    return counts.close()
 
 
 if __name__ == "__main__":

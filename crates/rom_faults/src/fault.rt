@@ -1,4 +1,4 @@
-//! The faults by number. Their meaning is this project's own, and docs/FORMATS.md has them in words.
+//! The faults by number. Their meaning is this project's own, and docs/FAULTS.md has them in words.
 ghost use Rattle.std.specs.Prelude.{◌≡◌};
 ghost use Rattle.rom_faults.specs.Faults.{name_of_fault};
 
