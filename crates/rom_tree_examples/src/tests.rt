@@ -96,10 +96,7 @@ fn limits_and_messages(rt: HostRuntime) -> Result<(), Fail> {
     assert_eq!(rt; (usual.references, usual.depth), (1_048_576, 64));
     assert_eq!(rt; Sample.stat(NodeId(8)).kind, Kind::Character);
     let fault = CheckError::Fault { number: 7, at: 512 };
-    assert_eq!(rt;
-        fault.to_string(rt.alloc())?.as_str(),
-        "fault 7 at byte 512"
-    );
+    assert_eq!(rt; fault.to_string(rt.alloc())?.as_str(), "7 Crc at 512");
     let memory = CheckError::from(OutOfMemory);
     assert_eq!(rt; memory, CheckError::OutOfMemory);
     assert_eq!(rt; memory.to_string(rt.alloc())?.as_str(), "out of memory");
