@@ -39,7 +39,6 @@ fn edge_to(source: u32, which: u32, end: u32) -> Edge
 /// The least fault of the record that a reference leads to, if it is not sound.
 fn fault_of(b: &[u8], known: &mut Known, x: Reference) -> Option<Fault>
     requires known { AreKnown (IsWhole little b.now) known.old }
-    requires long { 76 ≤ length b.now }
     requires small { length b.now < 2 ^ 32 }
     requires root { x.source ≡ 0 → x.which + 12 ≤ length b.now }
     requires source { x.source ≢ 0 → x.source + 12 ≤ length b.now }

@@ -55,7 +55,7 @@ pub finishes : (h last h1 h2 h3 b0 b1 b2 b3 b4 : List ℕ) → h1 ≡ drop 155 h
     → after_bytes 0 b3 ≡ bit_xor (after_bytes 0 b2) (added h3 (length b2)) → after_bytes 0 b4 ≡ bit_xor (after_bytes 0 b3) (added h (length b3))
     → after_bytes 0 b4 ≡ after_history h last
 unfolding after_history
-finishes h last h1 h2 h3 b0 b1 b2 b3 b4 w1 w2 w3 e0 n1 n2 n3 e1 e2 e3 e4 =
+finishes h last h1 h2 h3 b0 b1 b2 b3 b4 of1 of2 of3 e0 n1 n2 n3 e1 e2 e3 e4 =
     let n = length last in
     let sums : after_bytes 0 b4 ≡ bit_xor (bit_xor (bit_xor (bit_xor (after_bytes 0 last) (added (drop 155 h) n)) (added (drop 117 h) n)) (added (drop 89 h) n)) (added h n) = cc in
     sums ∙ four_turn (after_bytes 0 last) (added (drop 155 h) n) (added (drop 117 h) n) (added (drop 89 h) n) (added h n)
