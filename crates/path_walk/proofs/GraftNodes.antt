@@ -1,5 +1,5 @@
 -- What numbers of images and nodes name.
-use Rattle.std.proofs.Common.{◌≡◌, ℕ, zero, suc, ◌<◌, ◌≤◌, true, List, [], ◌∷◌, length, map, Some, None, refl, ap, arith, get_or}
+use Rattle.std.proofs.Common.{◌≡◌, ℕ, zero, suc, ◌<◌, ◌≤◌, true, List, [], ◌∷◌, length, map, Some, None, refl, ap, ◌∙◌, arith, get_or}
 use Rattle.std.proofs.lemmas.List.{length-map}
 use Rattle.std.specs.Prelude.{slice_index, slice_set}
 use Rattle.rom_tree.specs.Tree.{Node, ino_of, is_link, entries_of, places_of}
@@ -70,6 +70,13 @@ module _ {T : Type 0} (f : T → Image) where
 
   pub map_below : (xs : List T) (i : ℕ) → i < length (map f xs) → i < length xs
   map_below xs i l = let k = length-map xs f in omega (arith, k, l)
+
+  -- a place that names a node: its image is there, and has the node
+  pub place_within : (xs : List T) (i n : ℕ) (x : Node) → node_in (map f xs) i n ≡ Some x → i < length xs
+  place_within xs i n x h = map_below xs i (node_below (map f xs) i n x h)
+
+  pub place_node : (xs : List T) (i n : ℕ) (y : T) (x : Node) → y ≡ get_or xs i y → node_in (map f xs) i n ≡ Some x → image_node (f y) n ≡ Some x
+  place_node xs i n y x e h = ap (λ v. image_node (f v) n) e ∙ map_node xs i n y x h
 
 -- one image alone
 pub one_node : (m : Image) (i n : ℕ) (x : Node) → node_in (m ∷ []) i n ≡ Some x → image_node m n ≡ Some x

@@ -1,52 +1,22 @@
-use Rattle.std.proofs.Common.{◌≡◌, ℕ, ◌<◌, map, length, get_or, Some, refl, ap, ◌∙◌, arith}
-use Rattle.rom_tree.specs.Image.{image_node}
+use Rattle.std.proofs.Common.{◌<◌, length, refl, arith}
 use Rattle.rom_tree.proofs.Named.{has_node}
-use Rattle.path_walk.specs.Graft.{GraftNode, node_in}
-use Rattle.path_walk.proofs.GraftNodes.{node_below, map_node, map_below}
+use Rattle.path_walk.proofs.GraftNodes.{place_within, place_node}
 use Rattle.path_walk.proofs.images.ManyImages.is_link_in.Goals as goal
 
 pub offset_bounds-images-place : goal.offset_bounds-images-place
-offset_bounds-images-place g c =
-    let f = g.T.Viewed.image in
-    let xs = c.args.self.now.images.now in
-    let i : ℕ = c.args.place.image in
-    let s : GraftNode = c.requires.0 in
-    let e : node_in (map f xs) i c.args.place.node.0 ≡ Some s.node = c.requires.1.node in
-    let b : i < length xs = map_below f xs i (node_below (map f xs) i c.args.place.node.0 s.node e) in
-    omega (arith, b)
+offset_bounds-images-place g c = let b = place_within g.T.Viewed.image c.args.self.now.images.now c.args.place.image c.args.place.node.0 c.requires.0.node c.requires.1.node in omega (arith, b)
 
 pub bounds-images-place : goal.bounds-images-place
-bounds-images-place g c =
-    let f = g.T.Viewed.image in
-    let xs = c.args.self.now.images.now in
-    let i : ℕ = c.args.place.image in
-    let s : GraftNode = c.requires.0 in
-    let e : node_in (map f xs) i c.args.place.node.0 ≡ Some s.node = c.requires.1.node in
-    let b : i < length xs = map_below f xs i (node_below (map f xs) i c.args.place.node.0 s.node e) in
-    b
+bounds-images-place g c = place_within g.T.Viewed.image c.args.self.now.images.now c.args.place.image c.args.place.node.0 c.requires.0.node c.requires.1.node
 
 pub is_link_at-requires : goal.is_link_at-requires
 is_link_at-requires g c κs =
-    let f = g.T.Viewed.image in
-    let xs = c.args.self.now.images.now in
-    let i : ℕ = c.args.place.image in
-    let s : GraftNode = c.requires.0 in
-    let e : node_in (map f xs) i c.args.place.node.0 ≡ Some s.node = c.requires.1.node in
-    let b : i < length xs = map_below f xs i (node_below (map f xs) i c.args.place.node.0 s.node e) in
-    let y = c.index-images-place.result in
-    let k : image_node (f (get_or xs i y)) c.args.place.node.0 ≡ Some s.node = map_node f xs i c.args.place.node.0 y s.node e in
-    let q : image_node (f y) c.args.place.node.0 ≡ Some s.node = ap (λ v. image_node (f v) c.args.place.node.0) c.index-images-place.is ∙ k in
-    ((refl, tt), has_node (f y) c.args.place.node.0 s.node q)
+    let y = c.index-images-place.result in (
+      (refl, tt),
+      has_node (g.T.Viewed.image y) c.args.place.node.0 c.requires.0.node
+          (place_node g.T.Viewed.image c.args.self.now.images.now c.args.place.image c.args.place.node.0 y c.requires.0.node c.index-images-place.is c.requires.1.node),
+    )
 
 pub returns : goal.returns
-returns g c = λ t h.
-    let f = g.T.Viewed.image in
-    let xs = c.args.self.now.images.now in
-    let i : ℕ = c.args.place.image in
-    let s : GraftNode = c.requires.0 in
-    let e : node_in (map f xs) i c.args.place.node.0 ≡ Some s.node = c.requires.1.node in
-    let b : i < length xs = map_below f xs i (node_below (map f xs) i c.args.place.node.0 s.node e) in
-    let y = c.index-images-place.result in
-    let k : image_node (f (get_or xs i y)) c.args.place.node.0 ≡ Some t.node = map_node f xs i c.args.place.node.0 y t.node h.node in
-    let q : image_node (f y) c.args.place.node.0 ≡ Some t.node = ap (λ v. image_node (f v) c.args.place.node.0) c.index-images-place.is ∙ k in
-    c.is_link_at.ensures t.node q
+returns g c = λ t h. c.is_link_at.ensures t.node
+    (place_node g.T.Viewed.image c.args.self.now.images.now c.args.place.image c.args.place.node.0 c.index-images-place.result t.node c.index-images-place.is h.node)
