@@ -1,4 +1,4 @@
-use Rattle.std.proofs.Common.{◌<◌, length, refl, arith}
+use Rattle.std.proofs.Common.{refl, arith}
 use Rattle.rom_tree.proofs.Named.{has_node}
 use Rattle.path_walk.proofs.GraftNodes.{place_within, place_node}
 use Rattle.path_walk.proofs.images.ManyImages.is_link_in.Goals as goal

@@ -1,4 +1,4 @@
-use Rattle.std.proofs.Common.{◌≡◌, ◌<◌, ℕ, List, map, length, get_or, refl, sym, ap, ◌∙◌, arith}
+use Rattle.std.proofs.Common.{◌≡◌, ℕ, List, map, get_or, refl, sym, ap, ◌∙◌, arith}
 use Rattle.rom_tree.specs.Image.{text_of}
 use Rattle.rom_tree.proofs.Named.{has_link}
 use Rattle.path_walk.specs.Graft.{bytes_in}
