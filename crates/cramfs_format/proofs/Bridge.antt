@@ -8,7 +8,7 @@ use Rattle.rom_tree.specs.Tree.{Node, depth}
 use Rattle.record_walk.specs.declared.reference.Reference.{Reference}
 use Rattle.record_walk.specs.declared.reference.Row.{Row}
 use Rattle.record_walk.specs.References.{Reached}
-use Rattle.record_walk.specs.Forest.{Forest, none, at, Stands, rows, all_rows, IsForest}
+use Rattle.record_walk.specs.Forest.{Forest, none, at, Stands, rows, all_rows, IsForest, count, stands_in}
 use Rattle.record_walk.proofs.Lists.{every_left, every_right, every_weaker, every_both}
 use Rattle.record_walk.proofs.Place.{rows_reached, rows_lead, rows_sound}
 use Rattle.record_walk.proofs.Same.{same_forest as same_standing}
@@ -16,7 +16,7 @@ use Rattle.cramfs_format.specs.Order.{Order}
 use Rattle.cramfs_format.specs.Inode.{type_of, has_data, end_of, list_start, list_end, ListLies, HasBody}
 use Rattle.cramfs_format.specs.Refers.{references, target_of, root_place, LeadsToSound}
 use Rattle.cramfs_format.specs.Tree.{node_of, tree_of, entries_at, below_root, IsTree, CramfsTree}
-use Rattle.cramfs_format.specs.Made.{StandsAt, grow, list_at, made, count, ends_within, stands_in, IsGood, IsCramfs}
+use Rattle.cramfs_format.specs.Made.{StandsAt, grow, list_at, made, ends_within, IsGood, IsCramfs}
 use Rattle.cramfs_format.proofs.Lists.{lt_tells}
 use Rattle.cramfs_format.proofs.Lawful.{IsPlaced, at_top, in_chain, reached_placed, target_placed, references_lawful, top_target}
 use Rattle.cramfs_format.proofs.Same.{grown}

@@ -3,11 +3,11 @@ use Rattle.std.proofs.Common.{◌≡◌, ℕ, zero, suc, ◌+◌, ◌<◌, ◌�
 use Rattle.std.proofs.lemmas.Bool.{eq-eqb, le-ltb}
 use Rattle.std.proofs.lemmas.Bool.Decides.{eqb_tells}
 use Rattle.rom_tree.specs.Tree.{entry_at}
-use Rattle.record_walk.specs.Forest.{Forest, none, at}
+use Rattle.record_walk.specs.Forest.{Forest, none, at, count, Everywhere}
 use Rattle.cramfs_format.specs.Order.{Order}
 use Rattle.cramfs_format.specs.Inode.{end_of, list_start, list_end}
 use Rattle.cramfs_format.specs.Tree.{entries_at}
-use Rattle.cramfs_format.specs.Made.{grow, StandsAt, count, Everywhere, IsGood, one_more, index_at}
+use Rattle.cramfs_format.specs.Made.{grow, StandsAt, IsGood, one_more, index_at}
 use Rattle.cramfs_format.proofs.Lists.{lt_tells, end_after}
 use Rattle.cramfs_format.proofs.Same.{same_forest, grown}
 use Rattle.cramfs_format.proofs.Trees.{IsList, list_is}

@@ -1,20 +1,21 @@
 -- The contents of the nodes that are made of inodes.
-use Rattle.std.proofs.Common.{◌≡◌, ℕ, zero, suc, ◌+◌, ◌-◌, ◌*◌, ◌/◌, ◌%◌, ◌<◌, ◌≤◌, min, Bool, true, false, List, [], length, get_or, length-append, inl, inr, refl, sym, ap, subst, ◌∙◌, arith, if◌then◌else◌}
-use Rattle.std.proofs.lemmas.Bool.{false≢true, cases_lt}
+use Rattle.std.proofs.Common.{◌≡◌, ℕ, zero, suc, ◌+◌, ◌-◌, ◌*◌, ◌/◌, ◌%◌, ◌<◌, ◌≤◌, min, Bool, true, false, List, [], length, get_or, length-append, inl, inr, refl, ap, subst, ◌∙◌, arith, if◌then◌else◌}
+use Rattle.std.proofs.lemmas.Bool.{cases_lt}
 use Rattle.std.proofs.lemmas.Bool.Decides.{eqb_tells}
 use Rattle.std.proofs.lemmas.List.{get_or_append_left, get_or-append_right}
 use Rattle.std.specs.Prelude.{slice_index}
-use Rattle.rom_tree.specs.Tree.{Node, IsIn, nodes, places_of, is_link, is_link_body, ino_of, directory, regular, symlink, block, character, socket, fifo}
+use Rattle.rom_tree.specs.Tree.{Node, IsIn, is_device, attributes_of, nodes, places_of, is_link, ino_of, row_from}
 use Rattle.cramfs_format.specs.Order.{Order, word}
 use Rattle.cramfs_format.specs.Inode.{type_of, size_of, offset_of, has_data, block_count, block_start, block_len, pointer_place, pointer_of, HasBody}
 use Rattle.cramfs_format.specs.Refers.{root_place}
-use Rattle.cramfs_format.specs.Tree.{pick, row_from, blocks_from, places_at, node_of, entries_at}
+use Rattle.cramfs_format.specs.Tree.{kind_numbers, attributes_at, blocks_from, places_at, node_of, entries_at, by_type}
 use Rattle.cramfs_format.specs.Made.{made, list_at, IsCramfs}
-use Rattle.cramfs_format.proofs.Picks.{pick_map, places_is, length_row, row_at}
+use Rattle.rom_tree.proofs.ByKind.{body_places_is, only_link, device_zero}
+use Rattle.rom_tree.proofs.Numbers.{length_row, row_at}
 use Rattle.cramfs_format.proofs.Trees.{all_made}
 
 -- what files and links have, and nothing else
-pub pick_data : {A : Type 0} (t : ℕ) (a n : A) → pick t n a a n n n n ≡ (if has_data t then a else n)
+pub pick_data : {A : Type 0} (t : ℕ) (a n : A) → by_type t n a a n n n n ≡ (if has_data t then a else n)
 pick_data t a n =
     elim (eqb_tells t 4) [
       | inl h ↦ rw (h.1) refl
@@ -72,7 +73,7 @@ block_at (suc k) o b q size j h l =
 
 pub made_places : (o : Order) (b : List ℕ) (k n : ℕ) → places_of (made o b k n) ≡ (if has_data (type_of o b n) then places_at o b n else [])
 unfolding made node_of
-made_places o b k n = places_is (type_of o b n) (places_at o b n) (entries_at o b (list_at o b k n)) ∙ pick_data (type_of o b n) (places_at o b n) []
+made_places o b k n = body_places_is kind_numbers (type_of o b n) (places_at o b n) (entries_at o b (list_at o b k n)) ∙ pick_data (type_of o b n) (places_at o b n) []
 
 pub length_places : (o : Order) (b : List ℕ) (n : ℕ) → length (places_at o b n) ≡ size_of o b n
 unfolding places_at
@@ -116,35 +117,16 @@ byte_within o b n j h l =
     let w' = w.1 in
     omega arith
 
--- only a symbolic link's body is one of a link
-only_link : (t : ℕ) → pick t false false true false false false false ≡ true → t ≡ 10
-only_link t e =
-    elim (eqb_tells t 10) [
-      | inl h ↦ h.1
-      | inr h ↦
-          elim (eqb_tells t 4) [
-            | inl i ↦ absurd (false≢true (rw i.0 at e))
-            | inr i ↦
-                elim (eqb_tells t 8) [
-                  | inl j ↦ absurd (false≢true (rw (i.0, j.0) at e))
-                  | inr j ↦
-                      elim (eqb_tells t 6) [
-                        | inl k ↦ absurd (false≢true (rw (i.0, j.0, h.0, k.0) at e))
-                        | inr k ↦
-                            elim (eqb_tells t 2) [
-                              | inl l ↦ absurd (false≢true (rw (i.0, j.0, h.0, k.0, l.0) at e))
-                              | inr l ↦
-                                  elim (eqb_tells t 12) [ inl m ↦ absurd (false≢true (rw (i.0, j.0, h.0, k.0, l.0, m.0) at e)) | inr m ↦ absurd (false≢true (rw (i.0, j.0, h.0, k.0, l.0, m.0) at e)) ]
-                            ]
-                      ]
-                ]
-          ]
-    ]
-
 pub made_link : (o : Order) (b : List ℕ) (k n : ℕ) → is_link (made o b k n) ≡ true → type_of o b n ≡ 10
 unfolding made node_of
-made_link o b k n e = only_link (type_of o b n)
-    (sym (pick_map is_link_body (type_of o b n) (directory (entries_at o b (list_at o b k n))) (regular (places_at o b n)) (symlink (places_at o b n)) block character socket fifo) ∙ e)
+made_link o b k n e = only_link kind_numbers (type_of o b n) (places_at o b n) (entries_at o b (list_at o b k n)) e
+
+made_zeros : (o : Order) (b : List ℕ) (k n : ℕ) → is_device (made o b k n) ≡ false → ((attributes_of (made o b k n)).major ≡ 0) × ((attributes_of (made o b k n)).minor ≡ 0)
+unfolding made node_of attributes_at
+made_zeros o b k n e = (
+  device_zero kind_numbers (type_of o b n) (places_at o b n) (entries_at o b (list_at o b k n)) (size_of o b n / 256) e,
+  device_zero kind_numbers (type_of o b n) (places_at o b n) (entries_at o b (list_at o b k n)) (size_of o b n % 256) e,
+)
 
 pub link_data : (o : Order) (b : List ℕ) (n : ℕ) → type_of o b n ≡ 10 → file_size o b n ≡ size_of o b n
 link_data o b n h = rw h refl
@@ -170,3 +152,12 @@ module _ {o : Order} {b : List ℕ} {k : ℕ} where
       let place : slice_index (places_of x) j ≡ block_start (pointer_of o b n (j / 4096)) + j % 4096 = ap (λ (y : Node). slice_index (places_of y) j) m.is ∙ made_place o b k n j small in
       let w = byte_within o b n j m.known.body small in
       omega arith
+
+  -- what is no device has no numbers of one
+  pub made_devices : IsCramfs o b k → (x : Node) → IsIn x (nodes (made o b k root_place)) → is_device x ≡ false → ((attributes_of x).major ≡ 0) × ((attributes_of x).minor ≡ 0)
+  made_devices s x h e =
+      let m = all_made s x h in
+      let n : ℕ = ino_of x in
+      let other : is_device (made o b k n) ≡ false = subst (λ (y : Node). is_device y ≡ false) m.is e in
+      let zeros = made_zeros o b k n other in
+      (ap (λ (y : Node). (attributes_of y).major) m.is ∙ zeros.0, ap (λ (y : Node). (attributes_of y).minor) m.is ∙ zeros.1)

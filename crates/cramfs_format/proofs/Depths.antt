@@ -11,11 +11,11 @@ use Rattle.record_walk.proofs.Lists.{every_join, every_left, every_right}
 use Rattle.cramfs_format.specs.Order.{Order}
 use Rattle.cramfs_format.specs.Inode.{type_of, end_of, list_start, list_end}
 use Rattle.cramfs_format.specs.Refers.{references, target_of, root_place, LeadsToSound}
-use Rattle.cramfs_format.specs.Tree.{places_at, node_of, tree_of, entries_at}
+use Rattle.cramfs_format.specs.Tree.{kind_numbers, places_at, node_of, tree_of, entries_at}
 use Rattle.cramfs_format.specs.Made.{StandsAt}
 use Rattle.cramfs_format.proofs.Lists.{end_after, other_list}
 use Rattle.cramfs_format.proofs.Lawful.{top_target}
-use Rattle.cramfs_format.proofs.Picks.{pick_map, pick_directory, pick_rest}
+use Rattle.rom_tree.proofs.ByKind.{by_kind_map, by_kind_directory, by_kind_rest}
 use Rattle.cramfs_format.proofs.Bridge.{below_of}
 
 empty_list : (o : Order) (b : List ℕ) (p q : ℕ) (f : Forest) → type_of o b p ≢ 4 → StandsAt o b (list_end o b p) q f → entries_depth (entries_at o b f) ≡ 0
@@ -29,10 +29,10 @@ node_depth o b p own s =
     let t = type_of o b p in
     let es = entries_at o b own in
     let ps = places_at o b p in
-    let m = pick_map body_depth t (directory es) (regular ps) (symlink ps) block character socket fifo in
+    let m = by_kind_map body_depth kind_numbers t (directory es) (regular ps) (symlink ps) block character socket fifo in
     elim (eqb_tells t 4) [
-      | inl h ↦ m ∙ pick_directory t (entries_depth es) 0 0 0 0 0 0 h.1
-      | inr h ↦ m ∙ pick_rest t (entries_depth es) 0 h.1 ∙ sym (empty_list o b p (list_start o b p) own h.1 s)
+      | inl h ↦ m ∙ by_kind_directory kind_numbers t (entries_depth es) 0 0 0 0 0 0 h.1
+      | inr h ↦ m ∙ by_kind_rest kind_numbers t (entries_depth es) 0 h.1 ∙ sym (empty_list o b p (list_start o b p) own h.1 s)
     ]
 
 -- a row is no deeper than m

@@ -1,6 +1,5 @@
 pub mod Lists
 pub mod Lawful
-pub mod Picks
 pub mod Same
 pub mod Trees
 pub mod Chain

@@ -1,10 +1,10 @@
 -- What stands in the bytes is determined by them.
 use Rattle.std.proofs.Common.{◌≡◌, ℕ, List, refl, sym, subst, ◌∙◌, zero, suc, ◌≤◌, arith}
 use Rattle.std.proofs.lemmas.Bool.{lt-ltb, le-ltb}
-use Rattle.record_walk.specs.Forest.{Forest, none, at}
+use Rattle.record_walk.specs.Forest.{Forest, none, at, count}
 use Rattle.cramfs_format.specs.Order.{Order}
 use Rattle.cramfs_format.specs.Inode.{end_of, list_start, list_end}
-use Rattle.cramfs_format.specs.Made.{StandsAt, grow, count}
+use Rattle.cramfs_format.specs.Made.{StandsAt, grow}
 
 pub same_forest : (o : Order) (b : List ℕ) (e q : ℕ) (f g : Forest) → StandsAt o b e q f → StandsAt o b e q g → f ≡ g
 same_forest o b e q none none s t = refl

@@ -1,49 +1,18 @@
 -- The lists that a walk through a tree has still to read: each is the offset of its next record, and its end.
-use Rattle.std.proofs.Common.{◌≡◌, ℕ, suc, ◌+◌, ◌*◌, ◌≤◌, Bool, true, false, eqb, List, [], ◌∷◌, ◌++◌, length, Some, IsSome, inl, inr, refl, sym, ap, ◌∙◌, arith, rules, if◌then◌else◌}
-use Rattle.std.proofs.lemmas.Bool.{false≢true}
+use Rattle.std.proofs.Common.{◌≡◌, ℕ, suc, ◌+◌, ◌*◌, ◌≤◌, Bool, true, false, eqb, List, [], ◌∷◌, ◌++◌, length, inl, inr, refl, sym, ap, ◌∙◌, arith, if◌then◌else◌}
 use Rattle.std.proofs.lemmas.Bool.Decides.{eqb_tells}
-use Rattle.std.specs.Prelude.{max, find, IsTrue, ◌↔◌}
-use Rattle.rom_tree.specs.Tree.{Node, Body, directory, regular, symlink, block, character, socket, fifo, Entries, no_entries, nodes, body_nodes, entries_nodes, entries_depth, body_depth, ino_of, node_at}
-use Rattle.record_walk.specs.Forest.{none}
+use Rattle.std.specs.Prelude.{max}
+use Rattle.rom_tree.specs.Tree.{Body, directory, regular, symlink, block, character, socket, fifo, Entries, no_entries, nodes, body_nodes, entries_nodes, entries_depth, body_depth}
+use Rattle.record_walk.specs.Forest.{none, count}
 use Rattle.cramfs_format.specs.Order.{Order}
 use Rattle.cramfs_format.specs.Inode.{type_of, end_of, list_start, list_end}
-use Rattle.cramfs_format.specs.Tree.{node_of, entries_at, body_named, places_at, attributes_at}
-use Rattle.cramfs_format.specs.Made.{grow, count}
+use Rattle.cramfs_format.specs.Tree.{kind_numbers, node_of, entries_at, body_named, places_at, attributes_at}
+use Rattle.cramfs_format.specs.Made.{grow}
 use Rattle.cramfs_format.proofs.Lists.{other_list}
-use Rattle.cramfs_format.proofs.Picks.{pick_map, pick_directory, pick_rest}
+use Rattle.rom_tree.proofs.Numbers.{among, among_append}
+use Rattle.rom_tree.proofs.ByKind.{by_kind_map, by_kind_directory, by_kind_rest}
 use Rattle.cramfs_format.proofs.Trees.{IsList}
 use Rattle.cramfs_format.proofs.Chain.{IsStep, list_done}
-
--- whether one of the nodes has this number
-abbrev pub among : ℕ → List Node → Bool
-among n [] = false
-among n (x ∷ xs) = if eqb (ino_of x) n then true else among n xs
-
-pub among_append : (n : ℕ) (xs ys : List Node) → among n (xs ++ ys) ≡ (if among n xs then true else among n ys)
-among_append n [] ys = refl
-among_append n (x ∷ xs) ys = elim (eqb (ino_of x) n) as (λ v. (if v then true else among n (xs ++ ys)) ≡ (if (if v then true else among n xs) then true else among n ys)) [
-  | true ↦ refl
-  | false ↦ among_append n xs ys
-]
-
-among_some : (n : ℕ) (xs : List Node) → among n xs ≡ true → IsSome (find (λ x. eqb (ino_of x) n) xs)
-among_some n [] h = absurd (false≢true h)
-among_some n (x ∷ xs) h = elim (eqb (ino_of x) n) as (λ v. (if v then true else among n xs) ≡ true → IsSome (if v then Some x else find (λ y. eqb (ino_of y) n) xs)) [
-  | true ↦ λ e. search rules
-  | false ↦ λ e. among_some n xs e
-] h
-
-some_among : (n : ℕ) (xs : List Node) → IsSome (find (λ x. eqb (ino_of x) n) xs) → among n xs ≡ true
-some_among n [] h = absurd (search rules)
-some_among n (x ∷ xs) h = elim (eqb (ino_of x) n) as (λ v. IsSome (if v then Some x else find (λ y. eqb (ino_of y) n) xs) → (if v then true else among n xs) ≡ true) [
-  | true ↦ λ e. refl
-  | false ↦ λ e. some_among n xs e
-] h
-
--- a number names a node where one has it
-pub node_by : (t : Node) (n : ℕ) (v : Bool) → v ≡ among n (nodes t) → IsTrue v ↔ IsSome (node_at t n)
-unfolding node_at
-node_by t n v e = ((λ h. among_some n (nodes t) (sym e ∙ h)), (λ h. e ∙ some_among n (nodes t) h))
 
 -- whether a node of the list from q to e has the number
 unfoldable pub below : Order → List ℕ → ℕ → ℕ → ℕ → ℕ → Bool
@@ -75,14 +44,14 @@ by_list : {A : Type 0} (f : Body → A) (g : Entries → A) (o : Order) (b : Lis
 by_list f g o b k q ps h h2 h3 h4 h5 h6 h7 =
     let t = type_of o b q in
     let es = entries_at o b (grow k o b (list_end o b q) (list_start o b q)) in
-    let m = pick_map f t (directory es) (regular ps) (symlink ps) block character socket fifo in
+    let m = by_kind_map f kind_numbers t (directory es) (regular ps) (symlink ps) block character socket fifo in
     elim (eqb_tells t 4) [
-      | inl i ↦ m ∙ pick_directory t (f (directory es)) (f (regular ps)) (f (symlink ps)) (f block) (f character) (f socket) (f fifo) i.1 ∙ h es
+      | inl i ↦ m ∙ by_kind_directory kind_numbers t (f (directory es)) (f (regular ps)) (f (symlink ps)) (f block) (f character) (f socket) (f fifo) i.1 ∙ h es
       | inr i ↦
           let z = other_list o b q i.1 in
           let end : grow k o b (list_end o b q) (list_start o b q) ≡ none = list_done k o b (list_end o b q) (list_start o b q) (omega arith) in
           let e : es ≡ no_entries = ap (entries_at o b) end in
-          m ∙ (rw (h2, h3, h4, h5, h6, h7) (pick_rest t (f (directory es)) (g no_entries) i.1)) ∙ ap g (sym e)
+          m ∙ (rw (h2, h3, h4, h5, h6, h7) (by_kind_rest kind_numbers t (f (directory es)) (g no_entries) i.1)) ∙ ap g (sym e)
     ]
 
 -- one record further

@@ -4,14 +4,14 @@ use Rattle.std.proofs.lemmas.Bool.{eq-eqb, false≢true}
 use Rattle.std.specs.Prelude.{IsSomeAnd}
 use Rattle.rom_tree.specs.Tree.{Node, node, Body, Attributes, Entries, IsIn, here, there, nodes, body_nodes, entries_nodes, ino_of, entries_of, is_directory, node_at, IsCoherent}
 use Rattle.rom_tree.proofs.Nodes.{in-split, node_at-some}
-use Rattle.record_walk.specs.Forest.{Forest, none, at}
+use Rattle.record_walk.specs.Forest.{Forest, none, at, Everywhere, count, stands_in}
 use Rattle.cramfs_format.specs.Order.{Order}
 use Rattle.cramfs_format.specs.Inode.{type_of, end_of, list_start, list_end, HasBody}
 use Rattle.cramfs_format.specs.Refers.{root_place}
-use Rattle.cramfs_format.specs.Tree.{node_of, entries_at, attributes_at, body_named, places_at}
-use Rattle.cramfs_format.specs.Made.{grow, StandsAt, list_at, made, ends_within, Everywhere, count, stands_in, IsGood, IsCramfs}
+use Rattle.cramfs_format.specs.Tree.{kind_numbers, node_of, entries_at, attributes_at, body_named, places_at}
+use Rattle.cramfs_format.specs.Made.{grow, StandsAt, list_at, made, ends_within, IsGood, IsCramfs}
 use Rattle.cramfs_format.proofs.Same.{grown}
-use Rattle.cramfs_format.proofs.Picks.{below_in, only_directory, directory_is}
+use Rattle.rom_tree.proofs.ByKind.{below_body, only_directory, body_directory_is}
 use Rattle.cramfs_format.proofs.Lists.{lt_tells}
 
 both_true : (x y : Bool) → (if x then y else false) ≡ true → (x ≡ true) × (y ≡ true)
@@ -89,7 +89,7 @@ module _ {o : Order} {b : List ℕ} {k : ℕ} where
   made_node p own g s e c ih x h =
       elim (in_node (attributes_at o b p) (body_named (type_of o b p) (places_at o b p) (entries_at o b own)) x h) [
         | inl i ↦ subst (IsMade o b k) (sym i) (entry_made p own g s e c)
-        | inr i ↦ ih x (below_in (type_of o b p) (places_at o b p) (entries_at o b own) x i).1
+        | inr i ↦ ih x (below_body kind_numbers (type_of o b p) (places_at o b p) (entries_at o b own) x i).1
       ]
 
   pub made_in : (e q : ℕ) (f : Forest) → StandsAt o b e q f → Everywhere (IsGood o b) f → count f ≤ k → (x : Node) → IsIn x (entries_nodes (entries_at o b f)) → IsMade o b k x
@@ -119,7 +119,7 @@ module _ {o : Order} {b : List ℕ} {k : ℕ} where
         elim (in_node (attributes_at o b root_place) (body_named (type_of o b root_place) (places_at o b root_place) (entries_at o b (list_at o b k root_place))) x h) [
           | inl i ↦ subst (IsMade o b k) (sym i) (root_made)
           | inr i ↦ made_in (list_end o b root_place) (list_start o b root_place) (grow k o b (list_end o b root_place) (list_start o b root_place)) root_list.stands root_list.good root_list.few x
-              (below_in (type_of o b root_place) (places_at o b root_place) (entries_at o b (list_at o b k root_place)) x i).1
+              (below_body kind_numbers (type_of o b root_place) (places_at o b root_place) (entries_at o b (list_at o b k root_place)) x i).1
         ]
 
     pub coherent : IsCoherent (made o b k root_place)
@@ -145,7 +145,7 @@ module _ {o : Order} {b : List ℕ} {k : ℕ} where
     directory_by n (Some x) e h =
         let m = named n x e in
         let d : is_directory (made o b k n) ≡ true = subst (λ (y : Node). is_directory y ≡ true) m.0 h in
-        (m.1, only_directory (type_of o b n) (sym (directory_is (type_of o b n) (places_at o b n) (entries_at o b (list_at o b k n))) ∙ d))
+        (m.1, only_directory kind_numbers (type_of o b n) (sym (body_directory_is kind_numbers (type_of o b n) (places_at o b n) (entries_at o b (list_at o b k n))) ∙ d))
 
     -- a directory of the tree
     pub directory_known : (n : ℕ) → IsSomeAnd (node_at (made o b k root_place) n) (λ x. is_directory x ≡ true) → IsKnown o b k n × (type_of o b n ≡ 4)

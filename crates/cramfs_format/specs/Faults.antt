@@ -11,7 +11,8 @@ use Rattle.record_walk.specs.Faults.{TooMany, HasFault, Twice, InList, HasDepth,
 use Rattle.cramfs_format.specs.Order.{Order, word}
 use Rattle.cramfs_format.specs.Inode.{name_of, end_of, size_of, type_of, offset_of, list_end, has_data, block_count, block_start, IsSound}
 use Rattle.cramfs_format.specs.Refers.{references, LeadsToSound, LeadsToFault}
-use Rattle.cramfs_format.specs.Tree.{dot, dot_dot, precedes, is_sorted}
+use Rattle.cramfs_format.specs.Tree.{precedes, is_sorted}
+use Rattle.rom_tree.specs.Dots.{dot, dot_dot}
 use Rattle.cramfs_format.specs.Superblock.{HasImageFault, accessible}
 use Rattle.rom_faults.specs.declared.fault.TheConstants.{TOO_MANY, TWICE, TOO_DEEP, OVERLAP, DUPLICATE_NAME, DOT, UNSORTED}
 

@@ -1,6 +1,6 @@
 -- The tree of a checked image as a function of its accessible bytes b, in which there are no more than k records.
 use Rattle.std.specs.Prelude.{◌≡◌, ℕ, zero, suc, ◌+◌, ◌^◌, ◌<◌, ◌≤◌, nat_lt, Bool, true, false, if◌then◌else◌, ◌==◌, List, length, Option, Some, None}
-use Rattle.record_walk.specs.Forest.{Forest, none, at}
+use Rattle.record_walk.specs.Forest.{Forest, none, at, count, stands_in}
 use Rattle.rom_tree.specs.Tree.{Node, depth}
 use Rattle.cramfs_format.specs.Order.{Order}
 use Rattle.cramfs_format.specs.Inode.{type_of, end_of, list_start, list_end, HasBody}
@@ -30,19 +30,6 @@ abbrev pub ends_within : ℕ → Order → List ℕ → ℕ → ℕ → Bool
 ends_within zero o b e q = if nat_lt q e then false else true
 ends_within (suc k) o b e q =
     if nat_lt q e then (if ends_within k o b (list_end o b q) (list_start o b q) then ends_within k o b e (end_of o b q) else false) else true
-
--- P of the offset of each record
-abbrev pub Everywhere : (ℕ → Type 0) → Forest → Type 0
-Everywhere P none = Unit {0}
-Everywhere P (at p own after) = P p × Everywhere P own × Everywhere P after
-
-abbrev pub count : Forest → ℕ
-count none = 0
-count (at p own after) = suc (count own + count after)
-
-abbrev pub stands_in : Forest → ℕ → Bool
-stands_in none q = false
-stands_in (at p own after) q = if p == q then true else (if stands_in own q then true else stands_in after q)
 
 -- what is known of a record: it lies among the bytes, and so does what it describes
 pub record IsGood (o : Order) (b : List ℕ) (p : ℕ) : Type 0 where

@@ -5,27 +5,26 @@ use Rattle.rom_fields.specs.declared.span.Extent.TheVariants.{Super, List as Lis
 use Rattle.rom_fields.specs.declared.span.Span.{Span}
 use Rattle.rom_fields.specs.Extents.{OverlapsAt, added}
 use Rattle.record_walk.specs.declared.reference.Row.{Row}
-use Rattle.record_walk.specs.Forest.{Forest, none, at, all_rows, IsForest}
+use Rattle.record_walk.specs.Forest.{Forest, none, at, all_rows, IsForest, NamesDiffer}
 use Rattle.rom_tree.specs.declared.types.Kind.{Kind}
-use Rattle.rom_tree.specs.declared.types.Kind.TheVariants.{Directory, Regular, Symlink, Block, Character, Socket, Fifo}
-use Rattle.rom_tree.specs.Tree.{Node, node, Body, directory, regular, symlink, block, character, socket, fifo, Entries, no_entries, entry, Attributes, depth}
+use Rattle.rom_tree.specs.Dots.{dot, dot_dot}
+use Rattle.rom_tree.specs.Kinds.{KindNumbers, by_kind, kind_by, body_by, device_by}
+use Rattle.rom_tree.specs.Tree.{Node, node, Body, Entries, no_entries, entry, Attributes, row_from, depth}
 use Rattle.cramfs_format.specs.Order.{Order, word}
 use Rattle.cramfs_format.specs.Inode.{mode_of, uid_of, gid_of, size_of, type_of, name_of, offset_of, has_data, block_count, block_start}
 use Rattle.cramfs_format.specs.Refers.{references, root_place, LeadsToSound}
 use Rattle.cramfs_format.specs.Superblock.{IsSuperblock}
 
+-- the types of inodes by what they are
+abbrev pub kind_numbers : KindNumbers
+kind_numbers = record { of_directory = 4; of_regular = 8; of_symlink = 10; of_block = 6; of_character = 2; of_socket = 12 }
+
 -- one of seven things by the type of an inode
-abbrev pub pick : {A : Type 0} → ℕ → A → A → A → A → A → A → A → A
-pick t directory' regular' symlink' block' character' socket' fifo' =
-    if t == 4 then directory' else (if t == 8 then regular' else (if t == 10 then symlink' else (if t == 6 then block' else (if t == 2 then character' else (if t == 12 then socket' else fifo')))))
+abbrev pub by_type : {A : Type 0} → ℕ → A → A → A → A → A → A → A → A
+by_type t directory' regular' symlink' block' character' socket' fifo' = by_kind kind_numbers t directory' regular' symlink' block' character' socket' fifo'
 
 abbrev pub kind_named : ℕ → Kind
-kind_named t = pick t Directory Regular Symlink Block Character Socket Fifo
-
--- k numbers in a row from p on
-abbrev pub row_from : ℕ → ℕ → List ℕ
-row_from p zero = []
-row_from p (suc k) = p ∷ row_from (p + 1) k
+kind_named t = kind_by kind_numbers t
 
 -- the places of the bytes in k blocks one after the other, `size` bytes in all: their pointers stand from q on
 abbrev pub blocks_from : Order → List ℕ → ℕ → ℕ → ℕ → List ℕ
@@ -43,12 +42,12 @@ attributes_at o b p = record {
   mode = mode_of o b p % 4096;
   uid = uid_of o b p;
   gid = gid_of o b p;
-  major = pick (type_of o b p) 0 0 0 (size_of o b p / 256) (size_of o b p / 256) 0 0;
-  minor = pick (type_of o b p) 0 0 0 (size_of o b p % 256) (size_of o b p % 256) 0 0;
+  major = device_by kind_numbers (type_of o b p) (size_of o b p / 256);
+  minor = device_by kind_numbers (type_of o b p) (size_of o b p % 256);
 }
 
 abbrev pub body_named : ℕ → List ℕ → Entries → Body
-body_named t ps es = pick t (directory es) (regular ps) (symlink ps) block character socket fifo
+body_named t ps es = body_by kind_numbers t ps es
 
 -- the node of the inode at p, its list being es
 unfoldable pub node_of : Order → List ℕ → ℕ → Entries → Node
@@ -87,12 +86,6 @@ row_extents o b x =
 abbrev pub extents_of : Order → List ℕ → List Row → List Span
 extents_of o b xs = added Super 0 76 ++ flat_map (row_extents o b) xs
 
-abbrev pub dot : List ℕ
-dot = 46 ∷ []
-
-abbrev pub dot_dot : List ℕ
-dot_dot = 46 ∷ 46 ∷ []
-
 -- x comes before y in the order of unsigned bytes, a proper front first
 abbrev pub precedes : List ℕ → List ℕ → Bool
 precedes xs [] = false
@@ -102,10 +95,6 @@ precedes (x ∷ xs) (y ∷ ys) = if nat_lt x y then true else (if x == y then pr
 -- the flag that lists are sorted
 abbrev pub is_sorted : Order → List ℕ → Bool
 is_sorted o b = word o b 8 / 2 % 2 == 1
-
--- in one list names differ
-abbrev pub NamesDiffer : Order → List ℕ → Row → Row → Type 0
-NamesDiffer o b x y = x.directory ≡ y.directory → name_of o b x.offset ≢ name_of o b y.offset
 
 -- in one list names rise
 abbrev pub NamesRise : Order → List ℕ → Row → Row → Type 0
@@ -121,7 +110,7 @@ pub record IsTree (o : Order) (b : List ℕ) (most deepest : ℕ) (f : Forest) :
   pub forest : IsForest (references o b) (LeadsToSound o b) most f
   pub shallow : depth (tree_of o b f) ≤ min deepest 64
   pub apart : (p : ℕ) → OverlapsAt (extents_of o b (all_rows (references o b) f)) p → ⊥
-  pub names : AllPairs (NamesDiffer o b) (drop 1 (all_rows (references o b) f))
+  pub names : AllPairs (NamesDiffer (name_of o b)) (drop 1 (all_rows (references o b) f))
   pub no_dots : All (IsNoDot o b) (drop 1 (all_rows (references o b) f))
   pub rising : is_sorted o b ≡ true → AllPairs (NamesRise o b) (drop 1 (all_rows (references o b) f))
 

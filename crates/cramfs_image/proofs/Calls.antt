@@ -8,10 +8,10 @@ use Rattle.rom_tree.specs.Tree.{Node, entry_at, entries_of, places_of, ino_of}
 use Rattle.rom_tree.specs.Image.{find_entry, stat_of, IsEntry, IsRun}
 use Rattle.cramfs_format.specs.Order.{Order, word}
 use Rattle.cramfs_format.specs.Inode.{mode_of, uid_of, gid_of, size_of, type_of, name_of, name_room, end_of, offset_of, list_start, list_end, without_zeros, block_start, pointer_place, pointer_of, HasBody}
-use Rattle.cramfs_format.specs.Tree.{node_of, entries_at, pick, kind_named, places_at, attributes_at}
+use Rattle.cramfs_format.specs.Tree.{kind_numbers, node_of, entries_at, kind_named, places_at, attributes_at, by_type}
 use Rattle.cramfs_format.specs.Made.{grow, list_at, made, index_at, cursor_of, IsCramfs}
 use Rattle.cramfs_format.proofs.Lists.{end_after}
-use Rattle.cramfs_format.proofs.Picks.{kind_is}
+use Rattle.rom_tree.proofs.ByKind.{body_kind_is}
 use Rattle.cramfs_format.proofs.Trees.{IsList, IsKnown, made_entries, ino_is}
 use Rattle.cramfs_format.proofs.Chain.{IsStep, step_of, list_done, index_start, index_rest, index_next, list_there}
 use Rattle.cramfs_format.proofs.Contents.{file_size, made_length, made_place, file_byte, link_data}
@@ -24,12 +24,12 @@ name_slice o b p room e =
     ap (λ (x : ℕ). without_zeros (take x (drop (p + 12) b))) n
 
 pub stat_is : (o : Order) (b : List ℕ) (k n t size : ℕ) (kind : Kind) (mode uid gid len major minor : ℕ) (x : Node) → x ≡ made o b k n → t ≡ type_of o b n → size ≡ size_of o b n
-    → kind ≡ kind_named t → mode ≡ mode_of o b n → uid ≡ uid_of o b n → gid ≡ gid_of o b n → len ≡ file_size o b n → major ≡ pick t 0 0 0 (size / 256) (size / 256) 0 0 → minor ≡ pick t 0 0 0 (size % 256) (size % 256) 0 0
+    → kind ≡ kind_named t → mode ≡ mode_of o b n → uid ≡ uid_of o b n → gid ≡ gid_of o b n → len ≡ file_size o b n → major ≡ by_type t 0 0 0 (size / 256) (size / 256) 0 0 → minor ≡ by_type t 0 0 0 (size % 256) (size % 256) 0 0
     → record { ino = n; kind = kind; mode = mode % 4096; uid = uid; gid = gid; size = len; major = major; minor = minor } ≡ stat_of x
 unfolding made node_of attributes_at
 stat_is o b k n t size kind mode uid gid len major minor x e et es ek em eu eg el ea ei =
     let l = made_length o b k n in
-    let q = kind_is (type_of o b n) (places_at o b n) (entries_at o b (list_at o b k n)) in
+    let q = body_kind_is kind_numbers (type_of o b n) (places_at o b n) (entries_at o b (list_at o b k n)) in
     rw (e, ek, em, eu, eg, el, ea, ei, et, es, l, q) refl
 
 -- where byte off of a file has its block's pointer

@@ -10,14 +10,14 @@ use Rattle.rom_fields.specs.Extents.{OverlapsAt, IsLeastOf}
 use Rattle.rom_faults.specs.declared.fault.Fault.{Fault}
 use Rattle.record_walk.specs.declared.reference.Row.{Row}
 use Rattle.record_walk.specs.Members.{Pairs}
-use Rattle.record_walk.specs.Forest.{Forest, all_rows, IsForest}
+use Rattle.record_walk.specs.Forest.{Forest, all_rows, IsForest, NamesDiffer}
 use Rattle.record_walk.proofs.Lists.{pairs_to, every_weaker, every_both}
 use Rattle.record_walk.proofs.Exact.{every_split, pairs_split}
 use Rattle.record_walk.proofs.Decided.{same_or_not}
 use Rattle.cramfs_format.specs.Order.{Order}
 use Rattle.cramfs_format.specs.Inode.{name_of}
 use Rattle.cramfs_format.specs.Refers.{references, LeadsToSound}
-use Rattle.cramfs_format.specs.Tree.{precedes, is_sorted, extents_of, NamesDiffer, NamesRise, IsNoDot, IsTree}
+use Rattle.cramfs_format.specs.Tree.{precedes, is_sorted, extents_of, NamesRise, IsNoDot, IsTree}
 use Rattle.cramfs_format.proofs.Depths.{IsWithin, tree_within}
 use Rattle.cramfs_format.proofs.Orders.{precedes_on, one_first}
 use Rattle.record_walk.specs.Sweep.{IsLeastRowFault}
@@ -30,8 +30,8 @@ well_or_fault o b most all None d v n = record { shallow = d.clean refl; apart =
 well_or_fault o b most all (Some e) d v n = of_name d v n
 
 -- a name that is not repeated differs from those before it
-fresh_differs : (o : Order) (b : List ℕ) (before : List Row) (x : Row) → (Repeats o b before x → ⊥) → Every (λ (y : Row). NamesDiffer o b y x) before
-fresh_differs o b before x fresh = recursion_from_All (λ (y : Row). NamesDiffer o b y x) before
+fresh_differs : (o : Order) (b : List ℕ) (before : List Row) (x : Row) → (Repeats o b before x → ⊥) → Every (λ (y : Row). NamesDiffer (name_of o b) y x) before
+fresh_differs o b before x fresh = recursion_from_All (λ (y : Row). NamesDiffer (name_of o b) y x) before
     (λ k d l same equal. fresh (k, get_or before k d, l, get_or_default before k (get_or before k d) d l, (same, equal)))
 
 -- the name is n, or before it
@@ -64,9 +64,9 @@ after_all name other (Some k) (inr l) n d = elim (same_or_not name k) [
 
 rises_next : (o : Order) (b : List ℕ) (before : List Row) (x : Row) → is_sorted o b ≡ true → IsWellNamed o b before x → Pairs (NamesRise o b) before → Every (λ (y : Row). NamesRise o b y x) before
 rises_next o b before x s w p =
-    every_weaker (λ (y : Row). (y.directory ≡ x.directory → IsSomeAnd (last_name o b x.directory None before) (UpTo (name_of o b y.offset))) × NamesDiffer o b y x) (λ (y : Row). NamesRise o b y x)
+    every_weaker (λ (y : Row). (y.directory ≡ x.directory → IsSomeAnd (last_name o b x.directory None before) (UpTo (name_of o b y.offset))) × NamesDiffer (name_of o b) y x) (λ (y : Row). NamesRise o b y x)
     (λ y h e. after_all (name_of o b x.offset) (name_of o b y.offset) (last_name o b x.directory None before) (h.0 e) (λ k. w.sorted (s, k)) (h.1 e)) before
-    (every_both (λ (y : Row). y.directory ≡ x.directory → IsSomeAnd (last_name o b x.directory None before) (UpTo (name_of o b y.offset))) (λ (y : Row). NamesDiffer o b y x) before (all_up o b x.directory None before p) (fresh_differs o b before x w.fresh))
+    (every_both (λ (y : Row). y.directory ≡ x.directory → IsSomeAnd (last_name o b x.directory None before) (UpTo (name_of o b y.offset))) (λ (y : Row). NamesDiffer (name_of o b) y x) before (all_up o b x.directory None before p) (fresh_differs o b before x w.fresh))
 
 -- a forest whose rows are well makes a tree
 pub tree_of_well : (o : Order) (b : List ℕ) (most deepest : ℕ) (f : Forest) → IsForest (references o b) (LeadsToSound o b) most f → AreWell o b (min deepest 64) (all_rows (references o b) f) → IsTree o b most deepest f
@@ -77,7 +77,7 @@ tree_of_well o b most deepest f h w =
       forest = h;
       shallow = tree_within most m f h (every_split (IsWithin m) [] below (λ before x after s. w.shallow before x after s (w.named before x after s).other));
       apart = w.apart;
-      names = pairs_to (NamesDiffer o b) below (pairs_split (NamesDiffer o b) [] below tt (λ before x after s p. fresh_differs o b before x (w.named before x after s).fresh));
+      names = pairs_to (NamesDiffer (name_of o b)) below (pairs_split (NamesDiffer (name_of o b)) [] below tt (λ before x after s p. fresh_differs o b before x (w.named before x after s).fresh));
       no_dots = All-from_recursion (IsNoDot o b) below (every_split (IsNoDot o b) [] below (λ before x after s. (w.named before x after s).other));
       rising = λ sorted. pairs_to (NamesRise o b) below (pairs_split (NamesRise o b) [] below tt (λ before x after s p. rises_next o b before x sorted (w.named before x after s) p));
     }

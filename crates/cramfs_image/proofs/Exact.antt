@@ -16,7 +16,8 @@ use Rattle.record_walk.proofs.Decided.{same_or_not}
 use Rattle.cramfs_format.specs.Order.{Order}
 use Rattle.cramfs_format.specs.Inode.{name_of}
 use Rattle.cramfs_format.specs.Refers.{references, LeadsToSound}
-use Rattle.cramfs_format.specs.Tree.{dot, dot_dot, precedes, is_sorted, IsNoDot}
+use Rattle.cramfs_format.specs.Tree.{precedes, is_sorted, IsNoDot}
+use Rattle.rom_tree.specs.Dots.{dot, dot_dot}
 use Rattle.cramfs_format.specs.Faults.{IsListed, ComesNext, ComesAfter, next, HasDepthFault, HasNameFault as HasSetNameFault, repeated as set_repeated, dots as set_dots, unsorted as set_unsorted}
 use Rattle.cramfs_format.proofs.Lawful.{references_lawful}
 use Rattle.cramfs_format.proofs.Named.{Rises, rows_listed, listed_in, rows_rise, comes_between, comes_rises, comes_listed, comes_from, next_listed, next_closest, none_between}

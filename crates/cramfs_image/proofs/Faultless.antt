@@ -11,13 +11,13 @@ use Rattle.rom_faults.specs.declared.error.CheckError.TheVariants.{OutOfMemory, 
 use Rattle.rom_faults.specs.declared.fault.Fault.{Fault}
 use Rattle.record_walk.specs.declared.reference.Row.{Row}
 use Rattle.record_walk.specs.Members.{Pairs}
-use Rattle.record_walk.specs.Forest.{Forest, all_rows}
+use Rattle.record_walk.specs.Forest.{Forest, all_rows, NamesDiffer}
 use Rattle.record_walk.proofs.Lists.{every_weaker, pairs_cross, pairs_from}
 use Rattle.record_walk.proofs.Exact.{every_here}
 use Rattle.cramfs_format.specs.Order.{Order}
 use Rattle.cramfs_format.specs.Inode.{name_of}
 use Rattle.cramfs_format.specs.Refers.{references}
-use Rattle.cramfs_format.specs.Tree.{precedes, tree_of, NamesDiffer, NamesRise, IsNoDot, IsTree, CramfsTree}
+use Rattle.cramfs_format.specs.Tree.{precedes, tree_of, NamesRise, IsNoDot, IsTree, CramfsTree}
 use Rattle.cramfs_format.specs.Faults.{HasNoFault, IsLeastImageFault, record_fault, twice_fault, depth_fault, extent_fault, name_fault, whole, many, phase}
 use Rattle.cramfs_format.proofs.Depths.{IsWithin, all_within}
 use Rattle.cramfs_format.proofs.Orders.{precedes_on, never_self}
@@ -27,9 +27,9 @@ use Rattle.cramfs_image.proofs.Least.{faultless}
 use Rattle.cramfs_image.proofs.Trees.{every_drop}
 
 -- a name that is repeated does not differ
-repeated_same : (o : Order) (b : List ℕ) (before : List Row) (x : Row) → Every (λ (y : Row). NamesDiffer o b y x) before → Repeats o b before x → ⊥
+repeated_same : (o : Order) (b : List ℕ) (before : List Row) (x : Row) → Every (λ (y : Row). NamesDiffer (name_of o b) y x) before → Repeats o b before x → ⊥
 repeated_same o b before x h a =
-    let d = All-from_recursion (λ (y : Row). NamesDiffer o b y x) before h a.0 a.1 a.2 in
+    let d = All-from_recursion (λ (y : Row). NamesDiffer (name_of o b) y x) before h a.0 a.1 a.2 in
     d (ap (λ (y : Row). y.directory) a.3 ∙ a.4.0) (ap (λ (y : Row). name_of o b y.offset) a.3 ∙ a.4.1)
 
 -- the last name of a list is that of one of its rows
@@ -50,7 +50,7 @@ before_place R xs before x after e p =
 named_of_tree : (o : Order) (b : List ℕ) (most deepest : ℕ) (f : Forest) → IsTree o b most deepest f → (before : List Row) (x : Row) (after : List Row) → drop 1 (all_rows (references o b) f) ≡ before ++ x ∷ after → IsWellNamed o b before x
 named_of_tree o b most deepest f t before x after s =
     let below : List Row = drop 1 (all_rows (references o b) f) in
-    let differ = before_place (NamesDiffer o b) below before x after s (pairs_from (NamesDiffer o b) below t.names) in
+    let differ = before_place (NamesDiffer (name_of o b)) below before x after s (pairs_from (NamesDiffer (name_of o b)) below t.names) in
     record {
       fresh = repeated_same o b before x differ;
       other = every_here (IsNoDot o b) before x after (subst (Every (IsNoDot o b)) s (recursion_from_All (IsNoDot o b) below t.no_dots));

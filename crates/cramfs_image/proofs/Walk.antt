@@ -6,12 +6,14 @@ use Rattle.rom_tree.specs.Tree.{Node, nodes, body_nodes, body_depth, entries_dep
 use Rattle.cramfs_format.specs.Order.{Order}
 use Rattle.cramfs_format.specs.Inode.{type_of, end_of, list_start, list_end}
 use Rattle.cramfs_format.specs.Refers.{root_place}
-use Rattle.cramfs_format.specs.Made.{grow, list_at, made, count, IsCramfs}
-use Rattle.cramfs_format.specs.Tree.{node_of, attributes_at, places_at, entries_at, body_named}
-use Rattle.cramfs_format.proofs.Picks.{pick_map, pick_directory}
+use Rattle.cramfs_format.specs.Made.{grow, list_at, made, IsCramfs}
+use Rattle.record_walk.specs.Forest.{count}
+use Rattle.cramfs_format.specs.Tree.{kind_numbers, node_of, attributes_at, places_at, entries_at, body_named}
+use Rattle.rom_tree.proofs.ByKind.{by_kind_map, by_kind_directory}
 use Rattle.cramfs_format.proofs.Trees.{IsList, root_list}
 use Rattle.cramfs_format.proofs.Chain.{IsStep, step_of}
-use Rattle.cramfs_format.proofs.Stack.{among, below, waits, waits_push, depth_at, below_entry, below_end, depth_entry, AreDeep, deep_push, deep_front, deep_last, weight, weight_push}
+use Rattle.cramfs_format.proofs.Stack.{below, waits, waits_push, depth_at, below_entry, below_end, depth_entry, AreDeep, deep_push, deep_front, deep_last, weight, weight_push}
+use Rattle.rom_tree.proofs.Numbers.{among}
 
 abbrev either : Bool → Bool → Bool
 either x y = if x then true else y
@@ -116,8 +118,8 @@ root_among o b k n s =
     let es = entries_at o b (grow k o b (list_end o b root_place) (list_start o b root_place)) in
     let t = type_of o b root_place in
     let ps = places_at o b root_place in
-    let m = pick_map body_nodes t (directory es) (regular ps) (symlink ps) block character socket fifo in
-    let e : body_nodes (body_named t ps es) ≡ entries_nodes es = m ∙ pick_directory t (entries_nodes es) [] [] [] [] [] [] s.directory in
+    let m = by_kind_map body_nodes kind_numbers t (directory es) (regular ps) (symlink ps) block character socket fifo in
+    let e : body_nodes (body_named t ps es) ≡ entries_nodes es = m ∙ by_kind_directory kind_numbers t (entries_nodes es) [] [] [] [] [] [] s.directory in
     ap (λ (xs : List Node). if eqb root_place n then true else among n xs) e
 
 root_depth : (o : Order) (b : List ℕ) (k : ℕ) → IsCramfs o b k → depth_at o b k (list_end o b root_place) (list_start o b root_place) ≤ 64
@@ -126,8 +128,8 @@ root_depth o b k s =
     let es = entries_at o b (grow k o b (list_end o b root_place) (list_start o b root_place)) in
     let t = type_of o b root_place in
     let ps = places_at o b root_place in
-    let m = pick_map body_depth t (directory es) (regular ps) (symlink ps) block character socket fifo in
-    let e : body_depth (body_named t ps es) ≡ entries_depth es = m ∙ pick_directory t (entries_depth es) 0 0 0 0 0 0 s.directory in
+    let m = by_kind_map body_depth kind_numbers t (directory es) (regular ps) (symlink ps) block character socket fifo in
+    let e : body_depth (body_named t ps es) ≡ entries_depth es = m ∙ by_kind_directory kind_numbers t (entries_depth es) 0 0 0 0 0 0 s.directory in
     let l : body_depth (body_named t ps es) ≤ 64 = s.shallow in
     subst (λ (x : ℕ). x ≤ 64) e l
 

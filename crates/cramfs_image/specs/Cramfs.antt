@@ -7,7 +7,7 @@ use Rattle.cramfs_format.specs.Order.{Order}
 use Rattle.cramfs_format.specs.Refers.{root_place}
 use Rattle.cramfs_format.specs.Made.{made, cursor_of, IsCramfs}
 use Rattle.cramfs_format.proofs.Trees.{coherent}
-use Rattle.cramfs_format.proofs.Contents.{made_links, made_placed}
+use Rattle.cramfs_format.proofs.Contents.{made_devices, made_links, made_placed}
 
 pub starts_at : (o : Order) (b : List ℕ) (k d : ℕ) → cursor_of o b k d 0 ≡ Some 0
 unfolding cursor_of
@@ -21,6 +21,7 @@ cramfs_view o bytes b k s within = record {
   cursor_index = cursor_of o b k;
   coherent = coherent s;
   starts = starts_at o b k;
+  devices = made_devices s;
   links = made_links s;
   placed = made_placed bytes s within;
 }

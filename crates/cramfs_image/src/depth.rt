@@ -5,7 +5,8 @@ ghost use Rattle.std.specs.List.{All, Any};
 ghost use Rattle.cramfs_format.specs.Order.{little};
 ghost use Rattle.cramfs_format.specs.Inode.{name_of};
 ghost use Rattle.cramfs_format.specs.Made.{IsGood};
-ghost use Rattle.cramfs_format.specs.Tree.{dot, dot_dot, IsNoDot};
+ghost use Rattle.cramfs_format.specs.Tree.{IsNoDot};
+ghost use Rattle.rom_tree.specs.Dots.{dot, dot_dot};
 ghost use Rattle.record_walk.specs.Sweep.{IsLeastRowFault};
 ghost use Rattle.cramfs_image.specs.Phases.{IsTooDeep, IsShallow};
 

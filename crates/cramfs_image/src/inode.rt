@@ -2,7 +2,7 @@
 ghost use Rattle.std.specs.Prelude.{◌≡◌, ◌≢◌, ◌+◌, ◌*◌, ◌%◌, ◌≤◌, ◌<◌, ◌^◌, length, if◌then◌else◌};
 ghost use Rattle.cramfs_format.specs.Order.{little, word as word_of};
 ghost use Rattle.cramfs_format.specs.Inode.{mode_of, uid_of, size_of, gid_of, name_room, offset_of, type_of, has_data, without_zeros, name_of, end_of, list_start, list_end, block_start};
-ghost use Rattle.cramfs_format.specs.Tree.{kind_named, pick};
+ghost use Rattle.cramfs_format.specs.Tree.{kind_named, by_type};
 
 use byteorder::{ByteOrder, LittleEndian};
 use rom_tree::types::Kind;
@@ -173,7 +173,7 @@ pub fn kind_named_by(t: u32) -> Kind
 
 /// What only devices have.
 pub fn of_device(t: u32, x: u32) -> u32
-    ensures { result ≡ pick t 0 0 0 x x 0 0 }
+    ensures { result ≡ by_type t 0 0 0 x x 0 0 }
 {
     if t == 6 || t == 2 { x } else { 0 }
 }

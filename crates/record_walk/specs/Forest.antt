@@ -1,5 +1,5 @@
 -- The finite forest of records that the references of an image give.
-use Rattle.std.specs.Prelude.{◌≡◌, ◌≢◌, ℕ, ◌+◌, ◌≤◌, List, [], ◌∷◌, ◌++◌, length, None, Some}
+use Rattle.std.specs.Prelude.{◌≡◌, ◌≢◌, ℕ, suc, ◌+◌, ◌≤◌, ◌==◌, Bool, true, false, if◌then◌else◌, List, [], ◌∷◌, ◌++◌, length, None, Some}
 use Rattle.std.specs.List.{All, AllPairs}
 use Rattle.record_walk.specs.declared.reference.Reference.{Reference}
 use Rattle.record_walk.specs.declared.reference.Row.{Row}
@@ -9,6 +9,21 @@ use Rattle.record_walk.specs.References.{References}
 pub data Forest : Type 0 where
   none : Forest
   at : ℕ → Forest → Forest → Forest
+
+-- P of the offset of each record
+abbrev pub Everywhere : (ℕ → Type 0) → Forest → Type 0
+Everywhere P none = Unit {0}
+Everywhere P (at p own after) = P p × Everywhere P own × Everywhere P after
+
+-- how many records it has
+abbrev pub count : Forest → ℕ
+count none = 0
+count (at p own after) = suc (count own + count after)
+
+-- one of its records is at the offset q
+abbrev pub stands_in : Forest → ℕ → Bool
+stands_in none q = false
+stands_in (at p own after) q = if p == q then true else (if stands_in own q then true else stands_in after q)
 
 -- From the reference x on, this forest stands.
 abbrev pub Stands : References → Reference → Forest → Type 0
@@ -40,3 +55,7 @@ pub record IsForest (g : References) (Sound : Reference → Type 0) (most : ℕ)
   pub sound : All (λ (x : Row). Sound x.reference) (all_rows g f)
   pub single : AreSingle (all_rows g f)
   pub few : length (all_rows g f) ≤ most
+
+-- in one list names differ
+abbrev pub NamesDiffer : (ℕ → List ℕ) → Row → Row → Type 0
+NamesDiffer name x y = x.directory ≡ y.directory → name x.offset ≢ name y.offset

@@ -5,3 +5,5 @@ pub mod Rows
 pub mod Stacks
 pub mod Turns
 pub mod Answered
+pub mod ByKind
+pub mod Numbers

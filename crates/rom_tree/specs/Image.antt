@@ -1,9 +1,9 @@
 -- What an image is to the layers above, and the answers of its calls.
-use Rattle.std.specs.Prelude.{◌≡◌, ℕ, ◌+◌, ◌≤◌, ◌<◌, true, List, length, slice_index, Option, Some, None, MatchOption, IsSomeAnd, IsSome, map, if◌then◌else◌}
+use Rattle.std.specs.Prelude.{◌≡◌, ℕ, ◌+◌, ◌≤◌, ◌<◌, true, false, List, length, slice_index, Option, Some, None, MatchOption, IsSomeAnd, IsSome, map, if◌then◌else◌}
 use Rattle.std.specs.Str.{bytes_eq}
 use Rattle.rom_tree.specs.declared.types.Stat.{Stat}
 use Rattle.rom_tree.specs.declared.types.Run.{Run}
-use Rattle.rom_tree.specs.Tree.{Node, Entries, attributes_of, ino_of, kind_of, is_directory, places_of, entry_at, node_at, nodes, IsIn, is_link, no_entries, entry, IsCoherent}
+use Rattle.rom_tree.specs.Tree.{Node, Entries, attributes_of, ino_of, kind_of, is_directory, places_of, entry_at, node_at, nodes, IsIn, is_link, is_device, no_entries, entry, IsCoherent}
 
 -- An image: its bytes, its tree, and what holds of them.
 pub record Image : Type 0 where
@@ -15,6 +15,8 @@ pub record Image : Type 0 where
   pub coherent : IsCoherent tree
   -- a list begins at cursor 0
   pub starts : (d : ℕ) → cursor_index d 0 ≡ Some 0
+  -- what is no device has 0 for the numbers of one
+  pub devices : (x : Node) → IsIn x (nodes tree) → is_device x ≡ false → ((attributes_of x).major ≡ 0) × ((attributes_of x).minor ≡ 0)
   -- a link has a text of 1 to 4095 bytes
   pub links : (x : Node) → IsIn x (nodes tree) → is_link x ≡ true → (0 < length (places_of x)) × (length (places_of x) ≤ 4095)
   -- each byte of a file or a link is one of the image

@@ -1,6 +1,6 @@
 -- A tree of files: a node has its attributes and a body, and a directory's body is a list of names
 -- with nodes.
-use Rattle.std.specs.Prelude.{◌≡◌, ℕ, zero, suc, max, ◌==◌, Bool, true, false, List, [], ◌∷◌, ◌++◌, find, Option, Some, None}
+use Rattle.std.specs.Prelude.{◌≡◌, ℕ, zero, suc, ◌+◌, max, ◌==◌, Bool, true, false, List, [], ◌∷◌, ◌++◌, find, Option, Some, None}
 use Rattle.rom_tree.specs.declared.types.Kind.{Kind}
 use Rattle.rom_tree.specs.declared.types.Kind.TheVariants.{Directory, Regular, Symlink, Block, Character, Socket, Fifo}
 
@@ -90,6 +90,19 @@ is_regular_body _ = false
 
 abbrev pub is_regular : Node → Bool
 is_regular n = is_regular_body (body_of n)
+
+abbrev pub is_device_body : Body → Bool
+is_device_body block = true
+is_device_body character = true
+is_device_body _ = false
+
+abbrev pub is_device : Node → Bool
+is_device n = is_device_body (body_of n)
+
+-- k places in a row from p on
+abbrev pub row_from : ℕ → ℕ → List ℕ
+row_from p zero = []
+row_from p (suc k) = p ∷ row_from (p + 1) k
 
 -- the entry at an index
 abbrev pub entry_at : Entries → ℕ → Option (List ℕ × Node)

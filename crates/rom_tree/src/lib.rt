@@ -8,6 +8,7 @@
 //! writer failed. Nothing here takes memory.
 #![tactic(auto)]
 
+pub mod dots;
 mod frame;
 pub mod image;
 mod line;

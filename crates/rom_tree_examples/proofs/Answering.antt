@@ -5,8 +5,10 @@ use Rattle.rom_tree.specs.Image.{image_node, HasNode, stat_of, IsEntry, IsRun}
 use Rattle.rom_tree.specs.declared.types.Stat.{Stat}
 use Rattle.rom_tree.proofs.Nodes.{node_at-some, entry_at-none}
 use Rattle.rom_tree.proofs.Named.{some_is, node_by}
-use Rattle.rom_tree_examples.specs.Sample.{row, root, bin, sh, deep, pipe, link, disk, tty, log, empty}
-use Rattle.rom_tree_examples.specs.SampleLaws.{sample, each, length-row, row-at}
+use Rattle.rom_tree.specs.Tree.{row_from}
+use Rattle.rom_tree.proofs.Numbers.{length_row, row_at}
+use Rattle.rom_tree_examples.specs.Sample.{root, bin, sh, deep, pipe, link, disk, tty, log, empty}
+use Rattle.rom_tree_examples.specs.SampleLaws.{sample, each}
 
 -- what holds of each node holds of each that a number names
 pub each_named : (P : ℕ → Node → Type 0) → P 1 root → P 2 bin → P 3 sh → P 4 deep → P 5 pipe → P 6 link → P 7 disk → P 8 tty → P 9 log → P 10 empty → (n : ℕ) (x : Node) → image_node sample n ≡ Some x → P n x
@@ -125,12 +127,12 @@ no_places = each_named (λ n x. n ≢ 3 → n ≢ 6 → length (places_of x) ≡
     (λ f g. refl)
     (λ f g. refl)
 
-pub run_is : (place len off : ℕ) → off < len → IsRun (row place len) off (record { place = place + off; len = len - off })
+pub run_is : (place len off : ℕ) → off < len → IsRun (row_from place len) off (record { place = place + off; len = len - off })
 run_is place len off h = record {
   some = omega arith;
-  within = rw (length-row place len) (omega arith);
-  row = λ j v. row-at place len (off + j) (omega arith) ∙ (omega arith);
+  within = rw (length_row place len) (omega arith);
+  row = λ j v. row_at place len (off + j) (omega arith) ∙ (omega arith);
 }
 
-pub run_none : (place len off : ℕ) → len ≤ off → length (row place len) ≤ off
-run_none place len off h = rw (length-row place len) h
+pub run_none : (place len off : ℕ) → len ≤ off → length (row_from place len) ≤ off
+run_none place len off h = rw (length_row place len) h

@@ -1,12 +1,7 @@
 -- A small tree with a node of each kind.
-use Rattle.std.specs.Prelude.{◌≡◌, ℕ, zero, suc, ◌+◌, List, [], ◌∷◌, Option, MatchOption}
+use Rattle.std.specs.Prelude.{◌≡◌, ℕ, List, [], ◌∷◌, Option, MatchOption}
 use Rattle.rom_tree.specs.declared.types.Run.{Run}
-use Rattle.rom_tree.specs.Tree.{Node, node, directory, regular, symlink, block, character, socket, fifo, Entries, no_entries, entry, Attributes}
-
--- len places in a row
-abbrev pub row : ℕ → ℕ → List ℕ
-row place zero = []
-row place (suc len) = place ∷ row (place + 1) len
+use Rattle.rom_tree.specs.Tree.{Node, node, directory, regular, symlink, block, character, socket, fifo, Entries, no_entries, entry, Attributes, row_from}
 
 -- from the front on, a run has all len bytes
 abbrev pub IsWhole : ℕ → ℕ → Option Run → Type 0
@@ -20,7 +15,7 @@ abbrev pub sample_bytes : List ℕ
 sample_bytes = 104 ∷ 101 ∷ 108 ∷ 108 ∷ 111 ∷ 97 ∷ 32 ∷ 98 ∷ 37 ∷ []
 
 abbrev pub sh : Node
-sh = node (attributes 3 2541 0 0) (regular (row 0 5))
+sh = node (attributes 3 2541 0 0) (regular (row_from 0 5))
 
 abbrev pub pipe : Node
 pipe = node (attributes 5 420 0 0) fifo
@@ -40,7 +35,7 @@ abbrev pub bin : Node
 bin = node (attributes 2 448 0 0) (directory bin_entries)
 
 abbrev pub link : Node
-link = node (attributes 6 511 0 0) (symlink (row 5 4))
+link = node (attributes 6 511 0 0) (symlink (row_from 5 4))
 
 abbrev pub disk : Node
 disk = node (attributes 7 432 8 1) block

@@ -1,10 +1,11 @@
 -- The laws of the sample, and what its numbers name.
-use Rattle.std.proofs.Common.{◌≡◌, ℕ, zero, suc, ◌+◌, ◌<◌, ◌≤◌, true, [], length, get_or, Some, refl, ap, ◌∙◌, arith}
+use Rattle.std.proofs.Common.{◌≡◌, ℕ, ◌+◌, ◌<◌, ◌≤◌, true, false, [], length, Some, refl, arith}
 use Rattle.std.specs.Prelude.{slice_index}
-use Rattle.rom_tree.specs.Tree.{Node, ino_of, is_link, places_of, nodes, node_at, IsIn, here, there, IsCoherent}
+use Rattle.rom_tree.specs.Tree.{Node, is_device, attributes_of, row_from, ino_of, is_link, places_of, nodes, node_at, IsIn, here, there, IsCoherent}
 use Rattle.rom_tree.specs.Image.{Image}
 use Rattle.rom_tree.proofs.Nodes.{coherent_by}
-use Rattle.rom_tree_examples.specs.Sample.{row, sample_bytes, root, bin, sh, deep, pipe, link, disk, tty, log, empty}
+use Rattle.rom_tree.proofs.Numbers.{length_row, row_at}
+use Rattle.rom_tree_examples.specs.Sample.{sample_bytes, root, bin, sh, deep, pipe, link, disk, tty, log, empty}
 
 -- what holds of each node holds of each that stands in the tree
 pub each : (P : Node → Type 0) → P root → P bin → P sh → P deep → P pipe → P link → P disk → P tty → P log → P empty → (x : Node) → IsIn x (nodes root) → P x
@@ -28,14 +29,11 @@ named = each (λ x. node_at root (ino_of x) ≡ Some x) refl refl refl refl refl
 pub coherent : IsCoherent root
 coherent = coherent_by root named
 
-pub length-row : (p k : ℕ) → length (row p k) ≡ k
-length-row p zero = refl
-length-row p (suc k) = ap suc (length-row (p + 1) k)
+abbrev pub NumbersDevices : Node → Type 0
+NumbersDevices x = is_device x ≡ false → ((attributes_of x).major ≡ 0) × ((attributes_of x).minor ≡ 0)
 
-pub row-at : (p k j : ℕ) → j < k → get_or (row p k) j 0 ≡ p + j
-row-at p zero j h = absurd (omega arith)
-row-at p (suc k) zero h = omega arith
-row-at p (suc k) (suc j) h = let e : (p + 1) + j ≡ p + suc j = omega arith in row-at (p + 1) k j (omega arith) ∙ e
+pub devices : (x : Node) → IsIn x (nodes root) → NumbersDevices x
+devices = each NumbersDevices (λ h. (refl, refl)) (λ h. (refl, refl)) (λ h. (refl, refl)) (λ h. (refl, refl)) (λ h. (refl, refl)) (λ h. (refl, refl)) (λ h. absurd (cc)) (λ h. absurd (cc)) (λ h. (refl, refl)) (λ h. (refl, refl))
 
 abbrev pub FewPlaces : Node → Type 0
 FewPlaces x = is_link x ≡ true → (0 < length (places_of x)) × (length (places_of x) ≤ 4095)
@@ -49,8 +47,8 @@ IsPlaced x = (k : ℕ) → k < length (places_of x) → slice_index (places_of x
 none_placed : (k : ℕ) → k < 0 → slice_index [] k < length sample_bytes
 none_placed k h = absurd (omega arith)
 
-row_placed : (p n : ℕ) → p + n ≤ 9 → (k : ℕ) → k < length (row p n) → slice_index (row p n) k < 9
-row_placed p n f k h = let l : k < n = (let e = length-row p n in omega (arith, e)) in let r = row-at p n k l in omega (arith, r)
+row_placed : (p n : ℕ) → p + n ≤ 9 → (k : ℕ) → k < length (row_from p n) → slice_index (row_from p n) k < 9
+row_placed p n f k h = let l : k < n = (let e = length_row p n in omega (arith, e)) in let r = row_at p n k l in omega (arith, r)
 
 pub placed : (x : Node) → IsIn x (nodes root) → IsPlaced x
 placed = each IsPlaced none_placed none_placed (row_placed 0 5 (omega arith)) none_placed none_placed (row_placed 5 4 (omega arith)) none_placed none_placed none_placed none_placed
@@ -62,6 +60,7 @@ sample = record {
   cursor_index = λ d c. Some c;
   coherent = coherent;
   starts = λ d. refl;
+  devices = devices;
   links = links;
   placed = placed;
 }

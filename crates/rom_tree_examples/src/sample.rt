@@ -1,7 +1,8 @@
 //! The sample.
 ghost use Rattle.std.specs.Prelude.{◌≡◌, ◌+◌, ◌≤◌};
 ghost use Rattle.rom_tree.specs.Image.{GivesRun};
-ghost use Rattle.rom_tree_examples.specs.Sample.{row, IsWhole};
+ghost use Rattle.rom_tree.specs.Tree.{row_from};
+ghost use Rattle.rom_tree_examples.specs.Sample.{IsWhole};
 ghost use Rattle.rom_tree_examples.specs.SampleLaws.{sample};
 
 use rom_tree::image::{TreeImage, Viewed};
@@ -59,7 +60,7 @@ fn found<'a>(name: &'a [u8], node: u32, after: u64) -> Entry<'a>
 
 fn row_run(place: u32, len: u32, off: u64) -> Option<Run>
     requires { place + len ≤ 9 }
-    ensures row { GivesRun (row place len) off result }
+    ensures row { GivesRun (row_from place len) off result }
     ensures whole { IsWhole len off result }
 {
     if off < u64::from(len) {

@@ -7,13 +7,13 @@ use Rattle.std.specs.List.{AllByRecursion as Every, list_any}
 use Rattle.rom_tree.specs.Tree.{Node, depth}
 use Rattle.record_walk.specs.declared.reference.Reference.{Reference}
 use Rattle.record_walk.specs.declared.reference.Row.{Row}
-use Rattle.record_walk.specs.Forest.{Forest, none, at, Stands, rows, all_rows, IsForest}
+use Rattle.record_walk.specs.Forest.{Forest, none, at, Stands, rows, all_rows, IsForest, count, stands_in}
 use Rattle.record_walk.proofs.Lists.{every_join, every_left, every_right, every_weaker, every_both}
 use Rattle.record_walk.proofs.Same.{same_forest as same_standing}
 use Rattle.romfs_format.specs.Record.{first_of, next_of, type_of, target_of, IsSound}
 use Rattle.romfs_format.specs.Refers.{references, offset_of, list_of, following, some_offset, heads_itself, LeadsToSound}
 use Rattle.romfs_format.specs.Tree.{node_of, tree_of, entries_at, led, follow, below_root, LeadsWell, IsTree, RomfsTree, root_of}
-use Rattle.romfs_format.specs.Made.{StandsAt, start_of, grow, list_at, made, count, ends_within, stands_in, IsGood, IsRomfs}
+use Rattle.romfs_format.specs.Made.{StandsAt, start_of, grow, list_at, made, ends_within, IsGood, IsRomfs}
 use Rattle.romfs_format.proofs.Same.{grown}
 use Rattle.romfs_format.proofs.Trees.{begins_root, led_self}
 

@@ -4,9 +4,10 @@ use Rattle.std.proofs.lemmas.Bool.{eq-eqb}
 use Rattle.std.proofs.lemmas.Bool.Decides.{eqb_tells}
 use Rattle.rom_tree.specs.Tree.{entry_at}
 use Rattle.romfs_format.specs.Record.{first_of, next_of, name_of}
-use Rattle.record_walk.specs.Forest.{Forest, none, at}
-use Rattle.romfs_format.specs.Tree.{entries_at, is_dot}
-use Rattle.romfs_format.specs.Made.{grow, StandsAt, count, Everywhere, IsGood, bump, index_at}
+use Rattle.record_walk.specs.Forest.{Forest, none, at, count, Everywhere}
+use Rattle.romfs_format.specs.Tree.{entries_at}
+use Rattle.rom_tree.specs.Dots.{is_dots}
+use Rattle.romfs_format.specs.Made.{grow, StandsAt, IsGood, bump, index_at}
 use Rattle.romfs_format.proofs.Same.{same_forest, grown}
 use Rattle.romfs_format.proofs.Trees.{IsList}
 
@@ -69,10 +70,10 @@ index_rest b s q i j (at p own after) g x y e = elim (eqb_tells p q) [
       let same : at p own after ≡ g = same_forest b q (at p own after) g (subst (λ (v : ℕ). StandsAt b v (at p own after)) (sym x.1 ∙ h.1) x) y in
       let zj : 0 + j ≡ j = omega arith in
       rw (z, zj) (ap (λ (f : Forest). entry_at (entries_at b f) j) same)
-  | inr h ↦ rest_by b q i j p own after g y (is_dot (name_of b p)) refl (index_at b after q) refl (rw h.0 at e) (λ m z. index_rest b (next_of b p) q m j after g x.3 y z)
+  | inr h ↦ rest_by b q i j p own after g y (is_dots (name_of b p)) refl (index_at b after q) refl (rw h.0 at e) (λ m z. index_rest b (next_of b p) q m j after g x.3 y z)
 ]
   where
-    rest_by : (b : List ℕ) (q i j p : ℕ) (own after g : Forest) → StandsAt b q g → (d : Bool) → is_dot (name_of b p) ≡ d → (o : Option ℕ) → index_at b after q ≡ o → bump (is_dot (name_of b p)) (index_at b after q) ≡ Some i
+    rest_by : (b : List ℕ) (q i j p : ℕ) (own after g : Forest) → StandsAt b q g → (d : Bool) → is_dots (name_of b p) ≡ d → (o : Option ℕ) → index_at b after q ≡ o → bump (is_dots (name_of b p)) (index_at b after q) ≡ Some i
         → ((m : ℕ) → index_at b after q ≡ Some m → entry_at (entries_at b after) (m + j) ≡ entry_at (entries_at b g) j)
         → entry_at (entries_at b (at p own after)) (i + j) ≡ entry_at (entries_at b g) j
     rest_by b q i j p own after g y d ed None eo e ih = let k = (rw eo at e) in absurd (cc)
@@ -93,7 +94,7 @@ index_count b s q i (at p own after) g x y e = elim (eqb_tells p q) [
   | inr h ↦ by b q i p own after g (index_at b after q) refl (rw h.0 at e) (λ m z. index_count b (next_of b p) q m after g x.3 y z)
 ]
   where
-    by : (b : List ℕ) (q i p : ℕ) (own after g : Forest) → (o : Option ℕ) → index_at b after q ≡ o → bump (is_dot (name_of b p)) (index_at b after q) ≡ Some i
+    by : (b : List ℕ) (q i p : ℕ) (own after g : Forest) → (o : Option ℕ) → index_at b after q ≡ o → bump (is_dots (name_of b p)) (index_at b after q) ≡ Some i
         → ((m : ℕ) → index_at b after q ≡ Some m → count g ≤ count after) → count g ≤ suc (count own + count after)
     by b q i p own after g None eo e ih = let k = (rw eo at e) in absurd (cc)
     by b q i p own after g (Some m) eo e ih = let c = ih m eo in omega arith
@@ -106,7 +107,7 @@ two_bumps false false m = refl
 
 -- one record further
 pub index_next : (b : List ℕ) (s q i : ℕ) (f own after : Forest) → StandsAt b s f → StandsAt b q (at q own after) → index_at b f q ≡ Some i
-    → index_at b f (next_of b q) ≡ Some (if is_dot (name_of b q) then i else suc i)
+    → index_at b f (next_of b q) ≡ Some (if is_dots (name_of b q) then i else suc i)
 index_next b s q i none own after x y e = elim (eqb_tells q 0) [ inl h ↦ absurd (y.0 h.1) | inr h ↦ let k = (rw h.0 at e) in absurd (cc) ]
 index_next b s q i (at p own' after') own after x y e =
     elim (eqb_tells p (next_of b q)) [
@@ -121,16 +122,16 @@ index_next b s q i (at p own' after') own after x y e =
             let z : i ≡ 0 = cc in
             let start = index_start b (next_of b p) after' x.3 in
             let t : index_at b after' (next_of b q) ≡ Some 0 = subst (λ (v : ℕ). index_at b after' (next_of b v) ≡ Some 0) h.1 start in
-            rw (n.0, t, z) (ap (λ (v : ℕ). Some (if is_dot (name_of b v) then 0 else 1)) h.1)
+            rw (n.0, t, z) (ap (λ (v : ℕ). Some (if is_dots (name_of b v) then 0 else 1)) h.1)
         | inr h ↦ rw n.0 (by b q i p after' (index_at b after' q) refl (rw h.0 at e) (λ m z. index_next b (next_of b p) q m after' own after x.3 y z))
       ]
     ]
   where
-    by : (b : List ℕ) (q i p : ℕ) (after' : Forest) → (o : Option ℕ) → index_at b after' q ≡ o → bump (is_dot (name_of b p)) (index_at b after' q) ≡ Some i
-        → ((m : ℕ) → index_at b after' q ≡ Some m → index_at b after' (next_of b q) ≡ Some (if is_dot (name_of b q) then m else suc m))
-        → bump (is_dot (name_of b p)) (index_at b after' (next_of b q)) ≡ Some (if is_dot (name_of b q) then i else suc i)
+    by : (b : List ℕ) (q i p : ℕ) (after' : Forest) → (o : Option ℕ) → index_at b after' q ≡ o → bump (is_dots (name_of b p)) (index_at b after' q) ≡ Some i
+        → ((m : ℕ) → index_at b after' q ≡ Some m → index_at b after' (next_of b q) ≡ Some (if is_dots (name_of b q) then m else suc m))
+        → bump (is_dots (name_of b p)) (index_at b after' (next_of b q)) ≡ Some (if is_dots (name_of b q) then i else suc i)
     by b q i p after' None eo e ih = let k = (rw eo at e) in absurd (cc)
     by b q i p after' (Some m) eo e ih =
-        let k : Some (if is_dot (name_of b p) then m else suc m) ≡ Some i = (rw eo at e) in
-        let z : i ≡ (if is_dot (name_of b p) then m else suc m) = cc in
-        rw (ih m eo, z) (ap Some (two_bumps (is_dot (name_of b p)) (is_dot (name_of b q)) m))
+        let k : Some (if is_dots (name_of b p) then m else suc m) ≡ Some i = (rw eo at e) in
+        let z : i ≡ (if is_dots (name_of b p) then m else suc m) = cc in
+        rw (ih m eo, z) (ap Some (two_bumps (is_dots (name_of b p)) (is_dots (name_of b q)) m))

@@ -1,26 +1,27 @@
 -- The contents of the nodes that are made of records.
-use Rattle.std.proofs.Common.{◌≡◌, ℕ, ◌+◌, ◌<◌, ◌≤◌, true, false, List, length, ◌⊎◌, inl, inr, refl, sym, ap, subst, ◌∙◌, arith, rules}
-use Rattle.std.proofs.lemmas.Bool.{false≢true}
+use Rattle.std.proofs.Common.{◌≡◌, ℕ, ◌+◌, ◌/◌, ◌%◌, ◌<◌, ◌≤◌, true, false, List, length, ◌⊎◌, inl, inr, refl, sym, ap, subst, ◌∙◌, arith, rules}
 use Rattle.std.proofs.lemmas.Bool.Decides.{eqb_tells}
 use Rattle.std.specs.Prelude.{IsTrue, slice_index}
-use Rattle.rom_tree.specs.Tree.{Node, IsIn, nodes, places_of, is_link, is_link_body, ino_of, directory, regular, symlink, block, character, socket, fifo}
+use Rattle.rom_tree.specs.Tree.{Node, IsIn, is_device, attributes_of, nodes, places_of, is_link, ino_of, row_from}
+use Rattle.rom_fields.specs.Words.{word_be}
 use Rattle.romfs_format.specs.Record.{end_of, type_of, size_of, has_data, IsSound}
-use Rattle.romfs_format.specs.Tree.{pick, row_from, places_at, node_of, entries_at}
+use Rattle.romfs_format.specs.Tree.{kind_numbers, attributes_at, places_at, node_of, entries_at, by_type}
 use Rattle.romfs_format.specs.Made.{made, list_at, IsRomfs}
-use Rattle.romfs_format.proofs.Picks.{pick_map, places_is, length_row, row_at}
+use Rattle.rom_tree.proofs.ByKind.{by_kind_map, body_places_is, only_link, device_zero}
+use Rattle.rom_tree.proofs.Numbers.{length_row, row_at}
 use Rattle.romfs_format.proofs.Trees.{all_made}
 
 -- how long the contents of the record at n are
 abbrev pub file_size : List ℕ → ℕ → ℕ
-file_size b n = pick (type_of b n) 0 (size_of b n) (size_of b n) 0 0 0 0
+file_size b n = by_type (type_of b n) 0 (size_of b n) (size_of b n) 0 0 0 0
 
 pub made_places : (b : List ℕ) (r k n : ℕ) → places_of (made b r k n) ≡ row_from (end_of b n) (file_size b n)
 unfolding made node_of places_at
-made_places b r k n = places_is (type_of b n) (row_from (end_of b n) (size_of b n)) (entries_at b (list_at b r k n))
-    ∙ sym (pick_map (row_from (end_of b n)) (type_of b n) 0 (size_of b n) (size_of b n) 0 0 0 0)
+made_places b r k n = body_places_is kind_numbers (type_of b n) (row_from (end_of b n) (size_of b n)) (entries_at b (list_at b r k n))
+    ∙ sym (by_kind_map (row_from (end_of b n)) kind_numbers (type_of b n) 0 (size_of b n) (size_of b n) 0 0 0 0)
 
 -- only data have a length
-data_cases : (t s : ℕ) → IsTrue (has_data t) ⊎ (pick t 0 s s 0 0 0 0 ≡ 0)
+data_cases : (t s : ℕ) → IsTrue (has_data t) ⊎ (by_type t 0 s s 0 0 0 0 ≡ 0)
 data_cases t s =
     elim (eqb_tells t 1) [
       | inl h ↦ inr (rw (h.0) refl)
@@ -44,7 +45,7 @@ data_cases t s =
           ]
     ]
 
-at_most : (t s : ℕ) → pick t 0 s s 0 0 0 0 ≤ s
+at_most : (t s : ℕ) → by_type t 0 s s 0 0 0 0 ≤ s
 at_most t s =
     elim (eqb_tells t 1) [
       | inl h ↦ rw (h.0) (omega arith)
@@ -77,35 +78,16 @@ file_fits b r n s =
       | inr z ↦ omega arith
     ]
 
--- only a symbolic link's body is one of a link
-only_three : (t : ℕ) → pick t false false true false false false false ≡ true → t ≡ 3
-only_three t e =
-    elim (eqb_tells t 3) [
-      | inl h ↦ h.1
-      | inr h ↦
-          elim (eqb_tells t 1) [
-            | inl i ↦ absurd (false≢true (rw i.0 at e))
-            | inr i ↦
-                elim (eqb_tells t 2) [
-                  | inl j ↦ absurd (false≢true (rw (i.0, j.0) at e))
-                  | inr j ↦
-                      elim (eqb_tells t 4) [
-                        | inl k ↦ absurd (false≢true (rw (i.0, j.0, h.0, k.0) at e))
-                        | inr k ↦
-                            elim (eqb_tells t 5) [
-                              | inl l ↦ absurd (false≢true (rw (i.0, j.0, h.0, k.0, l.0) at e))
-                              | inr l ↦
-                                  elim (eqb_tells t 6) [ inl m ↦ absurd (false≢true (rw (i.0, j.0, h.0, k.0, l.0, m.0) at e)) | inr m ↦ absurd (false≢true (rw (i.0, j.0, h.0, k.0, l.0, m.0) at e)) ]
-                            ]
-                      ]
-                ]
-          ]
-    ]
-
 made_link : (b : List ℕ) (r k n : ℕ) → is_link (made b r k n) ≡ true → type_of b n ≡ 3
 unfolding made node_of
-made_link b r k n e = only_three (type_of b n)
-    (sym (pick_map is_link_body (type_of b n) (directory (entries_at b (list_at b r k n))) (regular (places_at b n)) (symlink (places_at b n)) block character socket fifo) ∙ e)
+made_link b r k n e = only_link kind_numbers (type_of b n) (places_at b n) (entries_at b (list_at b r k n)) e
+
+made_zeros : (b : List ℕ) (r k n : ℕ) → is_device (made b r k n) ≡ false → ((attributes_of (made b r k n)).major ≡ 0) × ((attributes_of (made b r k n)).minor ≡ 0)
+unfolding made node_of attributes_at
+made_zeros b r k n e = (
+  device_zero kind_numbers (type_of b n) (places_at b n) (entries_at b (list_at b r k n)) (word_be b (n + 4) / 65536) e,
+  device_zero kind_numbers (type_of b n) (places_at b n) (entries_at b (list_at b r k n)) (word_be b (n + 4) % 65536) e,
+)
 
 link_size : (b : List ℕ) (n : ℕ) → type_of b n ≡ 3 → file_size b n ≡ size_of b n
 link_size b n h = rw h refl
@@ -132,3 +114,12 @@ module _ {b : List ℕ} {r k : ℕ} where
       let small : j < file_size b n = omega arith in
       let at : slice_index (places_of x) j ≡ end_of b n + j = ap (λ (ps : List ℕ). slice_index ps j) places ∙ row_at (end_of b n) (file_size b n) j small in
       omega arith
+
+  -- what is no device has no numbers of one
+  pub made_devices : IsRomfs b r k → (x : Node) → IsIn x (nodes (made b r k r)) → is_device x ≡ false → ((attributes_of x).major ≡ 0) × ((attributes_of x).minor ≡ 0)
+  made_devices s x h e =
+      let m = all_made s x h in
+      let n : ℕ = ino_of x in
+      let other : is_device (made b r k n) ≡ false = subst (λ (y : Node). is_device y ≡ false) m.is e in
+      let zeros = made_zeros b r k n other in
+      (ap (λ (y : Node). (attributes_of y).major) m.is ∙ zeros.0, ap (λ (y : Node). (attributes_of y).minor) m.is ∙ zeros.1)

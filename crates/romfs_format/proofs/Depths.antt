@@ -10,29 +10,30 @@ use Rattle.record_walk.specs.Forest.{Forest, none, at, Stands, rows}
 use Rattle.record_walk.proofs.Lists.{every_join, every_left, every_right, every_weaker}
 use Rattle.romfs_format.specs.Record.{first_of, name_of, type_of}
 use Rattle.romfs_format.specs.Refers.{references, offset_of}
-use Rattle.romfs_format.specs.Tree.{pick, places_at, node_of, entries_at, is_dot, led}
+use Rattle.romfs_format.specs.Tree.{kind_numbers, places_at, node_of, entries_at, led, by_type}
+use Rattle.rom_tree.specs.Dots.{is_dots}
 use Rattle.romfs_format.specs.Made.{StandsAt}
-use Rattle.romfs_format.proofs.Picks.{pick_map, pick_one, pick_rest}
+use Rattle.rom_tree.proofs.ByKind.{by_kind_map, by_kind_directory, by_kind_rest}
 use Rattle.romfs_format.proofs.Trees.{led_self}
 use Rattle.romfs_format.proofs.Bridge.{offset_some, own_offset, standing}
 
 -- a node is as deep as its list, where it is a directory
-node_depth_is : (b : List ℕ) (q : ℕ) (es : Entries) → depth (node_of b q es) ≡ pick (type_of b q) (entries_depth es) 0 0 0 0 0 0
+node_depth_is : (b : List ℕ) (q : ℕ) (es : Entries) → depth (node_of b q es) ≡ by_type (type_of b q) (entries_depth es) 0 0 0 0 0 0
 unfolding node_of
-node_depth_is b q es = pick_map body_depth (type_of b q) (directory es) (regular (places_at b q)) (symlink (places_at b q)) block character socket fifo
+node_depth_is b q es = by_kind_map body_depth kind_numbers (type_of b q) (directory es) (regular (places_at b q)) (symlink (places_at b q)) block character socket fifo
 
 pub directory_depth : (b : List ℕ) (q : ℕ) (es : Entries) → type_of b q ≡ 1 → depth (node_of b q es) ≡ entries_depth es
-directory_depth b q es t = node_depth_is b q es ∙ pick_one (type_of b q) (entries_depth es) 0 0 0 0 0 0 t
+directory_depth b q es t = node_depth_is b q es ∙ by_kind_directory kind_numbers (type_of b q) (entries_depth es) 0 0 0 0 0 0 t
 
 pub node_depth : (b : List ℕ) (q : ℕ) (es : Entries) → depth (node_of b q es) ≤ entries_depth es
 node_depth b q es = elim (eqb_tells (type_of b q) 1) [
   | inl h ↦ let e = directory_depth b q es h.1 in omega arith
-  | inr h ↦ let e = node_depth_is b q es ∙ pick_rest (type_of b q) (entries_depth es) 0 h.1 in omega arith
+  | inr h ↦ let e = node_depth_is b q es ∙ by_kind_rest kind_numbers (type_of b q) (entries_depth es) 0 h.1 in omega arith
 ]
 
 -- an entry is no deeper than m
 abbrev pub IsWithin : List ℕ → ℕ → Row → Type 0
-IsWithin b m y = is_dot (name_of b y.offset) ≡ false → y.depth ≤ m
+IsWithin b m y = is_dots (name_of b y.offset) ≡ false → y.depth ≤ m
 
 -- where no entry's row is deeper than m, the entries are not
 pub entries_within : (b : List ℕ) (r : ℕ) (x : Reference) (d p n m : ℕ) (f : Forest) → Every (IsWithin b m) (rows (references b r) x d p (n + 1) f) → n ≤ m → n + entries_depth (entries_at b f) ≤ m
@@ -43,7 +44,7 @@ entries_within b r x d p n m (at q own after) h l =
     let after_rows = rows g (g.after x) d p (n + 1) after in
     let right = entries_within b r (g.after x) d p n m after (every_right (IsWithin b m) own_rows after_rows h.1) l in
     let left = every_left (IsWithin b m) own_rows after_rows h.1 in
-    elim (is_dot (name_of b q)) as (λ v. is_dot (name_of b q) ≡ v → n + entries_depth (if v then entries_at b after else entry (name_of b q) (node_of b (led 8 b q) (entries_at b own)) (entries_at b after)) ≤ m) [
+    elim (is_dots (name_of b q)) as (λ v. is_dots (name_of b q) ≡ v → n + entries_depth (if v then entries_at b after else entry (name_of b q) (node_of b (led 8 b q) (entries_at b own)) (entries_at b after)) ≤ m) [
       | true ↦ λ e. right
       | false ↦ λ e.
           let here = h.0 e in
@@ -54,7 +55,7 @@ entries_within b r x d p n m (at q own after) h l =
 
 -- `.` and `..` are hard links
 abbrev pub IsDotLink : List ℕ → Row → Type 0
-IsDotLink b y = is_dot (name_of b y.offset) ≡ true → type_of b y.offset ≡ 0
+IsDotLink b y = is_dots (name_of b y.offset) ≡ true → type_of b y.offset ≡ 0
 
 no_list : (b : List ℕ) (p : ℕ) (f : Forest) → type_of b p ≢ 1 → StandsAt b (first_of b p) f → f ≡ none
 unfolding first_of
@@ -88,7 +89,7 @@ abbrev pub IsBelowRoot : List ℕ → ℕ → Row → Type 0
 IsBelowRoot b r y = IsDotLink b y × (r ≢ y.offset)
 
 -- an empty list for `.` and `..`
-dot_list : (b : List ℕ) (q : ℕ) (own : Forest) → (is_dot (name_of b q) ≡ true → type_of b q ≡ 0) → is_dot (name_of b q) ≡ true → StandsAt b (first_of b q) own → own ≡ none
+dot_list : (b : List ℕ) (q : ℕ) (own : Forest) → (is_dots (name_of b q) ≡ true → type_of b q ≡ 0) → is_dots (name_of b q) ≡ true → StandsAt b (first_of b q) own → own ≡ none
 dot_list b q own link e s = let t = link e in no_list b q own (λ z. absurd (omega arith)) s
 
 -- a higher bound
@@ -109,9 +110,9 @@ rows_within b r x d p n (at q own after) s h =
     let list = own_stands b r x q d (n + 1 + 1) own s.0 (λ z. h.0.1 (sym z)) s.1 apart in
     let rest = rows_within b r (g.after x) d p n after s.2 right in
     let inner = rows_within b r (g.own x) q d (n + 1) own s.1 left in
-    let Goal : Bool → Type 0 = λ v. (is_dot (name_of b q) ≡ false → n + 1 ≤ n + entries_depth (if v then entries_at b after else entry (name_of b q) (node_of b (led 8 b q) (entries_at b own)) (entries_at b after)))
+    let Goal : Bool → Type 0 = λ v. (is_dots (name_of b q) ≡ false → n + 1 ≤ n + entries_depth (if v then entries_at b after else entry (name_of b q) (node_of b (led 8 b q) (entries_at b own)) (entries_at b after)))
     × Every (IsWithin b (n + entries_depth (if v then entries_at b after else entry (name_of b q) (node_of b (led 8 b q) (entries_at b own)) (entries_at b after)))) (own_rows ++ after_rows) in
-    elim (is_dot (name_of b q)) as (λ v. is_dot (name_of b q) ≡ v → Goal v) [
+    elim (is_dots (name_of b q)) as (λ v. is_dots (name_of b q) ≡ v → Goal v) [
       | true ↦ λ e.
           let empty = dot_list b q own h.0.0 e list in
           let nothing : own_rows ≡ [] = ap (λ (f : Forest). rows g (g.own x) q d (n + 1 + 1) f) empty in

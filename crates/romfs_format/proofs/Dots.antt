@@ -13,12 +13,13 @@ use Rattle.record_walk.proofs.Lists.{every_join, every_left, every_right, every_
 use Rattle.record_walk.proofs.Place.{HasParent, rows_parented}
 use Rattle.romfs_format.specs.Record.{name_of, type_of}
 use Rattle.romfs_format.specs.Refers.{references, offset_of, heads_itself}
-use Rattle.romfs_format.specs.Tree.{node_of, tree_of, entries_at, is_dot, dot, dot_dot, follow, below_root, LeadsWell, IsTree}
+use Rattle.romfs_format.specs.Tree.{node_of, tree_of, entries_at, follow, below_root, LeadsWell, IsTree}
+use Rattle.rom_tree.specs.Dots.{is_dots, dot, dot_dot}
 use Rattle.romfs_format.proofs.Bridge.{offset_some, top_offset, root_own, root_after}
 use Rattle.romfs_format.proofs.Depths.{IsWithin, IsDotLink, IsBelowRoot, entries_within, rows_within, node_depth, directory_depth}
 
 -- `.` or `..`
-pub dot_cases : (name : List ℕ) → is_dot name ≡ true → (name ≡ dot) ⊎ (name ≡ dot_dot)
+pub dot_cases : (name : List ℕ) → is_dots name ≡ true → (name ≡ dot) ⊎ (name ≡ dot_dot)
 dot_cases [] e = absurd (false≢true e)
 dot_cases (x ∷ []) e = inl (ap (λ (v : ℕ). v ∷ []) (eqb-true x 46 e))
 dot_cases (x ∷ y ∷ []) e = elim (eqb_tells x 46) [

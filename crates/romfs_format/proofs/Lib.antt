@@ -1,5 +1,4 @@
 pub mod Same
-pub mod Picks
 pub mod Trees
 pub mod Chain
 pub mod Stack

@@ -1,9 +1,9 @@
 -- What stands in the bytes is determined by them.
 use Rattle.std.proofs.Common.{◌≡◌, ℕ, List, refl, sym, subst, ◌∙◌, zero, suc, ◌≤◌, arith}
 use Rattle.std.proofs.lemmas.Bool.{ne_eqb}
-use Rattle.record_walk.specs.Forest.{Forest, none, at}
+use Rattle.record_walk.specs.Forest.{Forest, none, at, count}
 use Rattle.romfs_format.specs.Record.{first_of, next_of}
-use Rattle.romfs_format.specs.Made.{StandsAt, grow, count}
+use Rattle.romfs_format.specs.Made.{StandsAt, grow}
 
 pub same_forest : (b : List ℕ) (q : ℕ) (f g : Forest) → StandsAt b q f → StandsAt b q g → f ≡ g
 same_forest b q none none s t = refl

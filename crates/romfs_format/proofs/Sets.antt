@@ -12,7 +12,7 @@ use Rattle.record_walk.proofs.Lists.{every_weaker, every_both, has_weaker, pairs
 use Rattle.record_walk.proofs.Place.{Placed, rows_placed, depth_row}
 use Rattle.romfs_format.specs.Record.{name_of}
 use Rattle.romfs_format.specs.Refers.{references, offset_of, LeadsToSound}
-use Rattle.romfs_format.specs.Tree.{is_dot}
+use Rattle.rom_tree.specs.Dots.{is_dots}
 use Rattle.romfs_format.specs.Faults.{entry, HasDepthFault}
 use Rattle.romfs_format.proofs.Bridge.{offset_some, top_offset, all_targets}
 use Rattle.romfs_format.proofs.Lawful.{references_lawful}
@@ -23,10 +23,10 @@ target_at b r x p live e = rw (e, ne_eqb p 0 live) refl
 
 module _ {b : List ℕ} {r most : ℕ} {f : Forest} (above : 0 < r) (h : IsForest (references b r) (LeadsToSound b r) most f) where
   -- an entry too deep is a row too deep
-  pub depth_to_row : (m : ℕ) (e : Fault) → HasDepthFault b r m e → Has (λ (y : Row). (y.offset ≡ e.at) × ((is_dot (name_of b y.offset) ≡ false) × (m < y.depth))) (all_rows (references b r) f)
+  pub depth_to_row : (m : ℕ) (e : Fault) → HasDepthFault b r m e → Has (λ (y : Row). (y.offset ≡ e.at) × ((is_dots (name_of b y.offset) ≡ false) × (m < y.depth))) (all_rows (references b r) f)
   depth_to_row m e d =
-      has_weaker (λ (y : Row). (y.offset ≡ e.at) × (y.depth ≡ d.names)) (λ (y : Row). (y.offset ≡ e.at) × ((is_dot (name_of b y.offset) ≡ false) × (m < y.depth)))
-      (λ y k. (k.0, (ap (λ (p : ℕ). is_dot (name_of b p)) k.0 ∙ d.entry, subst (λ (n : ℕ). m < n) (sym k.1) d.deep))) (all_rows (references b r) f)
+      has_weaker (λ (y : Row). (y.offset ≡ e.at) × (y.depth ≡ d.names)) (λ (y : Row). (y.offset ≡ e.at) × ((is_dots (name_of b y.offset) ≡ false) × (m < y.depth)))
+      (λ y k. (k.0, (ap (λ (p : ℕ). is_dots (name_of b p)) k.0 ∙ d.entry, subst (λ (n : ℕ). m < n) (sym k.1) d.deep))) (all_rows (references b r) f)
       (depth_row (references_lawful b r above) h e.at d.names d.depth)
 
   -- each row below the root: where it stands, how deep, and that it is not the root
@@ -51,10 +51,10 @@ module _ {b : List ℕ} {r most : ℕ} {f : Forest} (above : 0 < r) (h : IsFores
           (every_both (λ (y : Row). offset_of b r y.reference ≡ y.offset) (λ (y : Row). p ≢ y.offset) below targets apart))
 
   -- a row too deep below the root is an entry too deep
-  pub row_to_depth : (m : ℕ) → Every (λ (y : Row). is_dot (name_of b y.offset) ≡ false → m < y.depth → HasDepthFault b r m (record { number = 21; at = y.offset })) (drop 1 (all_rows (references b r) f))
+  pub row_to_depth : (m : ℕ) → Every (λ (y : Row). is_dots (name_of b y.offset) ≡ false → m < y.depth → HasDepthFault b r m (record { number = 21; at = y.offset })) (drop 1 (all_rows (references b r) f))
   row_to_depth m =
       every_weaker (λ (y : Row). InList (references b r) (LeadsToSound b r) y.directory y.reference × (HasDepth (references b r) (LeadsToSound b r) y.offset y.depth × ((offset_of b r y.reference ≡ y.offset) × (y.offset ≢ r))))
-      (λ (y : Row). is_dot (name_of b y.offset) ≡ false → m < y.depth → HasDepthFault b r m (record { number = 21; at = y.offset }))
+      (λ (y : Row). is_dots (name_of b y.offset) ≡ false → m < y.depth → HasDepthFault b r m (record { number = 21; at = y.offset }))
       (λ y k e l. record {
         directory = y.directory;
         listed = entry k.0 k.1.1.0;

@@ -1,47 +1,17 @@
 -- The lists that a walk through a tree has still to read.
-use Rattle.std.proofs.Common.{◌≡◌, ℕ, suc, ◌+◌, ◌*◌, ◌≤◌, Bool, true, false, eqb, List, [], ◌∷◌, ◌++◌, length, Some, IsSome, inl, inr, refl, sym, ap, subst, ◌∙◌, arith, rules, if◌then◌else◌}
-use Rattle.std.proofs.lemmas.Bool.{false≢true}
+use Rattle.std.proofs.Common.{◌≡◌, ℕ, suc, ◌+◌, ◌*◌, ◌≤◌, Bool, true, false, eqb, List, [], ◌∷◌, ◌++◌, length, inl, inr, refl, sym, ap, subst, ◌∙◌, arith, if◌then◌else◌}
 use Rattle.std.proofs.lemmas.Bool.Decides.{eqb_tells}
-use Rattle.std.specs.Prelude.{max, find, IsTrue, ◌↔◌}
-use Rattle.rom_tree.specs.Tree.{Node, Body, directory, regular, symlink, block, character, socket, fifo, Entries, no_entries, nodes, body_nodes, entries_nodes, entries_depth, body_depth, ino_of, node_at}
+use Rattle.std.specs.Prelude.{max}
+use Rattle.rom_tree.specs.Tree.{Body, directory, regular, symlink, block, character, socket, fifo, Entries, no_entries, nodes, body_nodes, entries_nodes, entries_depth, body_depth}
 use Rattle.romfs_format.specs.Record.{first_of, next_of, name_of, type_of}
-use Rattle.record_walk.specs.Forest.{none}
-use Rattle.romfs_format.specs.Tree.{node_of, entries_at, is_dot, led, body_named, places_at, attributes_at}
-use Rattle.romfs_format.specs.Made.{grow, count}
-use Rattle.romfs_format.proofs.Picks.{pick_map, pick_one, pick_rest}
+use Rattle.record_walk.specs.Forest.{none, count}
+use Rattle.romfs_format.specs.Tree.{kind_numbers, node_of, entries_at, led, body_named, places_at, attributes_at}
+use Rattle.rom_tree.specs.Dots.{is_dots}
+use Rattle.romfs_format.specs.Made.{grow}
+use Rattle.rom_tree.proofs.Numbers.{among, among_append}
+use Rattle.rom_tree.proofs.ByKind.{by_kind_map, by_kind_directory, by_kind_rest}
 use Rattle.romfs_format.proofs.Trees.{IsList, led_self}
 use Rattle.romfs_format.proofs.Chain.{IsStep, list_end}
-
--- whether one of the nodes has this number
-abbrev pub among : ℕ → List Node → Bool
-among n [] = false
-among n (x ∷ xs) = if eqb (ino_of x) n then true else among n xs
-
-pub among_append : (n : ℕ) (xs ys : List Node) → among n (xs ++ ys) ≡ (if among n xs then true else among n ys)
-among_append n [] ys = refl
-among_append n (x ∷ xs) ys = elim (eqb (ino_of x) n) as (λ v. (if v then true else among n (xs ++ ys)) ≡ (if (if v then true else among n xs) then true else among n ys)) [
-  | true ↦ refl
-  | false ↦ among_append n xs ys
-]
-
-among_some : (n : ℕ) (xs : List Node) → among n xs ≡ true → IsSome (find (λ x. eqb (ino_of x) n) xs)
-among_some n [] h = absurd (false≢true h)
-among_some n (x ∷ xs) h = elim (eqb (ino_of x) n) as (λ v. (if v then true else among n xs) ≡ true → IsSome (if v then Some x else find (λ y. eqb (ino_of y) n) xs)) [
-  | true ↦ λ e. search rules
-  | false ↦ λ e. among_some n xs e
-] h
-
-some_among : (n : ℕ) (xs : List Node) → IsSome (find (λ x. eqb (ino_of x) n) xs) → among n xs ≡ true
-some_among n [] h = absurd (search rules)
-some_among n (x ∷ xs) h = elim (eqb (ino_of x) n) as (λ v. IsSome (if v then Some x else find (λ y. eqb (ino_of y) n) xs) → (if v then true else among n xs) ≡ true) [
-  | true ↦ λ e. refl
-  | false ↦ λ e. some_among n xs e
-] h
-
--- a number names a node where one has it
-pub node_by : (t : Node) (n : ℕ) (v : Bool) → v ≡ among n (nodes t) → IsTrue v ↔ IsSome (node_at t n)
-unfolding node_at
-node_by t n v e = ((λ h. among_some n (nodes t) (sym e ∙ h)), (λ h. e ∙ some_among n (nodes t) h))
 
 -- whether a node of the list at q has the number
 unfoldable pub below : List ℕ → ℕ → ℕ → ℕ → Bool
@@ -80,27 +50,27 @@ by_list : {A : Type 0} (f : Body → A) (g : Entries → A) (b : List ℕ) (r k 
 by_list f g b r k q ps st h h2 h3 h4 h5 h6 h7 =
     let t = type_of b (led 8 b q) in
     let es = entries_at b (grow k b (first_of b q)) in
-    let m = pick_map f t (directory es) (regular ps) (symlink ps) block character socket fifo in
+    let m = by_kind_map f kind_numbers t (directory es) (regular ps) (symlink ps) block character socket fifo in
     elim (eqb_tells t 1) [
-      | inl i ↦ m ∙ pick_one t (f (directory es)) (f (regular ps)) (f (symlink ps)) (f block) (f character) (f socket) (f fifo) i.1 ∙ h es
+      | inl i ↦ m ∙ by_kind_directory kind_numbers t (f (directory es)) (f (regular ps)) (f (symlink ps)) (f block) (f character) (f socket) (f fifo) i.1 ∙ h es
       | inr i ↦
           let z : first_of b q ≡ 0 = no_list b q i.1 in
           let end : grow k b (first_of b q) ≡ none = subst (λ (v : ℕ). IsList b r k v → grow k b v ≡ none) (sym z) (list_end b r k) st.first in
           let e : es ≡ no_entries = ap (entries_at b) end in
-          m ∙ (rw (h2, h3, h4, h5, h6, h7) (pick_rest t (f (directory es)) (g no_entries) i.1)) ∙ ap g (sym e)
+          m ∙ (rw (h2, h3, h4, h5, h6, h7) (by_kind_rest kind_numbers t (f (directory es)) (g no_entries) i.1)) ∙ ap g (sym e)
     ]
 
 -- one record further: a record that is no entry
-pub below_dot : (b : List ℕ) (r k n q : ℕ) → IsStep b r k q → is_dot (name_of b q) ≡ true → below b k n q ≡ below b k n (next_of b q)
+pub below_dot : (b : List ℕ) (r k n q : ℕ) → IsStep b r k q → is_dots (name_of b q) ≡ true → below b k n q ≡ below b k n (next_of b q)
 unfolding below
 below_dot b r k n q st d = rw (st.is, d) refl
 
-pub depth_dot : (b : List ℕ) (r k q : ℕ) → IsStep b r k q → is_dot (name_of b q) ≡ true → depth_at b k q ≡ depth_at b k (next_of b q)
+pub depth_dot : (b : List ℕ) (r k q : ℕ) → IsStep b r k q → is_dots (name_of b q) ≡ true → depth_at b k q ≡ depth_at b k (next_of b q)
 unfolding depth_at
 depth_dot b r k q st d = rw (st.is, d) refl
 
 -- an entry
-pub below_entry : (b : List ℕ) (r k n q : ℕ) → IsStep b r k q → is_dot (name_of b q) ≡ false
+pub below_entry : (b : List ℕ) (r k n q : ℕ) → IsStep b r k q → is_dots (name_of b q) ≡ false
     → below b k n q ≡ either (if eqb (led 8 b q) n then true else below b k n (first_of b q)) (below b k n (next_of b q))
 unfolding below node_of attributes_at
 below_entry b r k n q st d =
@@ -111,7 +81,7 @@ below_entry b r k n q st d =
     rw (st.is, d) (among_append n (nodes (node_of b p es)) (entries_nodes (entries_at b (grow k b (next_of b q))))
     ∙ ap (λ (v : Bool). either (if eqb p n then true else v) (among n (entries_nodes (entries_at b (grow k b (next_of b q)))))) own)
 
-pub depth_entry : (b : List ℕ) (r k q : ℕ) → IsStep b r k q → is_dot (name_of b q) ≡ false
+pub depth_entry : (b : List ℕ) (r k q : ℕ) → IsStep b r k q → is_dots (name_of b q) ≡ false
     → depth_at b k q ≡ max (suc (depth_at b k (first_of b q))) (depth_at b k (next_of b q))
 unfolding depth_at node_of
 depth_entry b r k q st d =

@@ -6,11 +6,12 @@ use Rattle.std.specs.Prelude.{IsSomeAnd}
 use Rattle.rom_tree.specs.Tree.{Node, node, Body, Attributes, directory, Entries, entry, IsIn, here, there, nodes, body_nodes, entries_nodes, ino_of, entries_of, is_directory, node_at, IsCoherent}
 use Rattle.rom_tree.proofs.Nodes.{in-split, node_at-some}
 use Rattle.romfs_format.specs.Record.{IsSound, first_of, next_of, type_of, name_of}
-use Rattle.record_walk.specs.Forest.{Forest, none, at}
-use Rattle.romfs_format.specs.Tree.{node_of, entries_at, is_dot, led, attributes_at, body_named, places_at}
-use Rattle.romfs_format.specs.Made.{grow, StandsAt, start_of, begins, list_at, made, ends_within, Everywhere, count, stands_in, IsGood, IsRomfs}
+use Rattle.record_walk.specs.Forest.{Forest, none, at, Everywhere, count, stands_in}
+use Rattle.romfs_format.specs.Tree.{kind_numbers, node_of, entries_at, led, attributes_at, body_named, places_at}
+use Rattle.rom_tree.specs.Dots.{is_dots}
+use Rattle.romfs_format.specs.Made.{grow, StandsAt, start_of, begins, list_at, made, ends_within, IsGood, IsRomfs}
 use Rattle.romfs_format.proofs.Same.{grown}
-use Rattle.romfs_format.proofs.Picks.{pick_other, below_in, only_one, directory_is}
+use Rattle.rom_tree.proofs.ByKind.{by_kind_other, below_body, only_directory, body_directory_is}
 
 -- a list within k records stands
 pub stands_within : (k : ℕ) (b : List ℕ) (q : ℕ) → ends_within k b q ≡ true → StandsAt b q (grow k b q)
@@ -81,7 +82,7 @@ ino_is b p es = refl
 
 same_node : (b : List ℕ) (q : ℕ) (es fs : Entries) → type_of b q ≢ 1 → node_of b q es ≡ node_of b q fs
 unfolding node_of
-same_node b q es fs h = ap (node (attributes_at b q)) (pick_other (type_of b q) (directory es) (directory fs) _ _ _ _ _ _ h)
+same_node b q es fs h = ap (node (attributes_at b q)) (by_kind_other kind_numbers (type_of b q) (directory es) (directory fs) _ _ _ _ _ _ h)
 
 in_node : (a : Attributes) (c : Body) (x : Node) → IsIn x (nodes (node a c)) → (x ≡ node a c) ⊎ IsIn x (body_nodes c)
 in_node a c x here = inl refl
@@ -101,7 +102,7 @@ module _ {b : List ℕ} {r k : ℕ} where
       })
 
   -- the node that an entry leads to
-  entry_made : (p : ℕ) (own : Forest) → IsGood b r p → is_dot (name_of b p) ≡ false → StandsAt b (first_of b p) own → Everywhere (IsGood b r) own → count own ≤ k
+  entry_made : (p : ℕ) (own : Forest) → IsGood b r p → is_dots (name_of b p) ≡ false → StandsAt b (first_of b p) own → Everywhere (IsGood b r) own → count own ≤ k
       → IsMade b r k (node_of b (led 8 b p) (entries_at b own))
   unfolding made node_of attributes_at
   entry_made p own g d s e c = elim (eqb_tells (type_of b p) 0) [
@@ -112,19 +113,19 @@ module _ {b : List ℕ} {r k : ℕ} where
     | inr h ↦ rw (led_self 8 b p h.1) (plain p own g h.1 s e c)
   ]
 
-  made_node : (p : ℕ) (own : Forest) → IsGood b r p → is_dot (name_of b p) ≡ false → StandsAt b (first_of b p) own → Everywhere (IsGood b r) own → count own ≤ k
+  made_node : (p : ℕ) (own : Forest) → IsGood b r p → is_dots (name_of b p) ≡ false → StandsAt b (first_of b p) own → Everywhere (IsGood b r) own → count own ≤ k
       → ((y : Node) → IsIn y (entries_nodes (entries_at b own)) → IsMade b r k y) → (x : Node) → IsIn x (nodes (node_of b (led 8 b p) (entries_at b own))) → IsMade b r k x
   unfolding node_of
   made_node p own g d s e c ih x h =
       elim (in_node (attributes_at b (led 8 b p)) (body_named (type_of b (led 8 b p)) (places_at b (led 8 b p)) (entries_at b own)) x h) [
         | inl i ↦ subst (IsMade b r k) (sym i) (entry_made p own g d s e c)
-        | inr i ↦ ih x (below_in (type_of b (led 8 b p)) (places_at b (led 8 b p)) (entries_at b own) x i).1
+        | inr i ↦ ih x (below_body kind_numbers (type_of b (led 8 b p)) (places_at b (led 8 b p)) (entries_at b own) x i).1
       ]
 
   pub made_in : (q : ℕ) (f : Forest) → StandsAt b q f → Everywhere (IsGood b r) f → count f ≤ k → (x : Node) → IsIn x (entries_nodes (entries_at b f)) → IsMade b r k x
   made_in q none s g c x h = elim h [ ]
   made_in q (at p own after) s g c x h =
-      elim (is_dot (name_of b p)) as (λ v. is_dot (name_of b p) ≡ v → IsIn x (entries_nodes (if v then entries_at b after else entry (name_of b p) (node_of b (led 8 b p) (entries_at b own)) (entries_at b after))) → IsMade b r k x) [
+      elim (is_dots (name_of b p)) as (λ v. is_dots (name_of b p) ≡ v → IsIn x (entries_nodes (if v then entries_at b after else entry (name_of b p) (node_of b (led 8 b p) (entries_at b own)) (entries_at b after))) → IsMade b r k x) [
         | true ↦ λ d i. made_in (next_of b p) after s.3 g.2 (omega arith) x i
         | false ↦ λ d i. in-split x (nodes (node_of b (led 8 b p) (entries_at b own))) (entries_nodes (entries_at b after)) i
             (λ j. made_node p own g.0 d s.2 g.1 (omega arith) (λ y m. made_in (first_of b p) own s.2 g.1 (omega arith) y m) x j)
@@ -147,7 +148,7 @@ module _ {b : List ℕ} {r k : ℕ} where
     all_made x h =
         elim (in_node (attributes_at b r) (body_named (type_of b r) (places_at b r) (entries_at b (list_at b r k r))) x h) [
           | inl i ↦ subst (IsMade b r k) (sym i) (root_made)
-          | inr i ↦ made_in (start_of b r) (grow k b (start_of b r)) root_list.stands root_list.good root_list.few x (subst (λ (q : ℕ). IsIn x (entries_nodes (entries_at b (grow k b q)))) (begins_root b r) (below_in (type_of b r) (places_at b r) (entries_at b (list_at b r k r)) x i).1)
+          | inr i ↦ made_in (start_of b r) (grow k b (start_of b r)) root_list.stands root_list.good root_list.few x (subst (λ (q : ℕ). IsIn x (entries_nodes (entries_at b (grow k b q)))) (begins_root b r) (below_body kind_numbers (type_of b r) (places_at b r) (entries_at b (list_at b r k r)) x i).1)
         ]
 
     pub coherent : IsCoherent (made b r k r)
@@ -173,7 +174,7 @@ module _ {b : List ℕ} {r k : ℕ} where
     directory_by n (Some x) e h =
         let m = named n x e in
         let d : is_directory (made b r k n) ≡ true = subst (λ (y : Node). is_directory y ≡ true) m.0 h in
-        (m.1, only_one (type_of b n) (sym (directory_is (type_of b n) (places_at b n) (entries_at b (list_at b r k n))) ∙ d))
+        (m.1, only_directory kind_numbers (type_of b n) (sym (body_directory_is kind_numbers (type_of b n) (places_at b n) (entries_at b (list_at b r k n))) ∙ d))
 
     -- a directory of the tree
     pub directory_known : (n : ℕ) → IsSomeAnd (node_at (made b r k r) n) (λ x. is_directory x ≡ true) → IsKnown b r k n × (type_of b n ≡ 1)

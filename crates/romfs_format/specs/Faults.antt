@@ -10,7 +10,8 @@ use Rattle.record_walk.specs.References.{Reached}
 use Rattle.record_walk.specs.Faults.{TooMany, HasFault, Twice, InList, HasDepth, IsLeastFault, IsNone}
 use Rattle.romfs_format.specs.Record.{name_of, end_of, size_of, type_of, target_of, has_data, IsSound}
 use Rattle.romfs_format.specs.Refers.{references, offset_of, following, heads_itself, LeadsToSound, LeadsToFault}
-use Rattle.romfs_format.specs.Tree.{dot, dot_dot, is_dot, root_of}
+use Rattle.romfs_format.specs.Tree.{root_of}
+use Rattle.rom_tree.specs.Dots.{dot, dot_dot, is_dots}
 use Rattle.romfs_format.specs.Superblock.{HasImageFault, accessible}
 use Rattle.rom_faults.specs.declared.fault.TheConstants.{TOO_MANY, TWICE, TOO_DEEP, OVERLAP, DUPLICATE_NAME, DOT, HARD_LINK}
 
@@ -41,7 +42,7 @@ pub record HasDepthFault (b : List ℕ) (r most : ℕ) (e : Fault) : Type 0 wher
   pub directory : ℕ
   pub listed : IsListed b r directory e.at
   pub other : e.at ≢ r
-  pub entry : is_dot (name_of b e.at) ≡ false
+  pub entry : is_dots (name_of b e.at) ≡ false
   pub names : ℕ
   pub depth : HasDepth (references b r) (LeadsToSound b r) e.at names
   pub deep : most < names
@@ -75,7 +76,7 @@ pub data HasNameFault (b : List ℕ) (r : ℕ) (e : Fault) : Type 0 where
   here_astray : {d : ℕ} → IsListed b r d e.at → name_of b e.at ≡ dot → (Leads b r 8 e.at d → ⊥) → e.number ≡ DOT → HasNameFault b r e
   above_astray : {d u : ℕ} → IsListed b r d e.at → IsParent b r d u → name_of b e.at ≡ dot_dot → (Leads b r 8 e.at u → ⊥) → e.number ≡ DOT → HasNameFault b r e
   root_renamed : heads_itself b r ≡ true → e.at ≡ r → name_of b r ≢ dot → e.number ≡ DOT → HasNameFault b r e
-  link_astray : {d : ℕ} → IsListed b r d e.at → is_dot (name_of b e.at) ≡ false → type_of b e.at ≡ 0
+  link_astray : {d : ℕ} → IsListed b r d e.at → is_dots (name_of b e.at) ≡ false → type_of b e.at ≡ 0
       → ((q : ℕ) → Leads b r 8 e.at q → type_of b q ≢ 1 → ⊥) → e.number ≡ HARD_LINK → HasNameFault b r e
 
 -- 20 Twice at a record to which two references lead

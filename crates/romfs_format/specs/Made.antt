@@ -1,9 +1,10 @@
 -- The tree of a checked image as a function of its bytes: b are the accessible ones, the root is at r, and there are no more than k records.
-use Rattle.std.specs.Prelude.{◌≡◌, ◌≢◌, ℕ, zero, suc, ◌+◌, ◌-◌, ◌^◌, ◌<◌, ◌≤◌, nat_lt, Bool, true, false, if◌then◌else◌, ◌==◌, List, length, Option, Some, None}
+use Rattle.std.specs.Prelude.{◌≡◌, ◌≢◌, ℕ, zero, suc, ◌-◌, ◌^◌, ◌<◌, ◌≤◌, nat_lt, Bool, true, false, if◌then◌else◌, ◌==◌, List, length, Option, Some, None}
 use Rattle.romfs_format.specs.Record.{next_of, first_of, type_of, name_of, IsSound}
-use Rattle.record_walk.specs.Forest.{Forest, none, at}
+use Rattle.record_walk.specs.Forest.{Forest, none, at, count, stands_in}
 use Rattle.romfs_format.specs.Refers.{heads_itself}
-use Rattle.romfs_format.specs.Tree.{node_of, entries_at, led, is_dot}
+use Rattle.romfs_format.specs.Tree.{node_of, entries_at, led}
+use Rattle.rom_tree.specs.Dots.{is_dots}
 use Rattle.rom_tree.specs.Tree.{Node, depth}
 
 -- where the root's list begins, without the root itself
@@ -37,26 +38,13 @@ abbrev pub ends_within : ℕ → List ℕ → ℕ → Bool
 ends_within zero b q = q == 0
 ends_within (suc k) b q = if q == 0 then true else (if ends_within k b (first_of b q) then ends_within k b (next_of b q) else false)
 
--- P of the offset of each record
-abbrev pub Everywhere : (ℕ → Type 0) → Forest → Type 0
-Everywhere P none = Unit {0}
-Everywhere P (at p own after) = P p × Everywhere P own × Everywhere P after
-
-abbrev pub count : Forest → ℕ
-count none = 0
-count (at p own after) = suc (count own + count after)
-
-abbrev pub stands_in : Forest → ℕ → Bool
-stands_in none q = false
-stands_in (at p own after) q = if p == q then true else (if stands_in own q then true else stands_in after q)
-
 -- what is known of a record below the root
 pub record IsGood (b : List ℕ) (r p : ℕ) : Type 0 where
   pub sound : IsSound b r p
   pub other : p ≢ r
-  pub linked : is_dot (name_of b p) ≡ false → (n : ℕ) → n ≤ 8 → IsSound b r (led n b p)
-  pub ends : is_dot (name_of b p) ≡ false → type_of b (led 8 b p) ≢ 0
-  pub leaf : is_dot (name_of b p) ≡ false → type_of b p ≡ 0 → type_of b (led 8 b p) ≢ 1
+  pub linked : is_dots (name_of b p) ≡ false → (n : ℕ) → n ≤ 8 → IsSound b r (led n b p)
+  pub ends : is_dots (name_of b p) ≡ false → type_of b (led 8 b p) ≢ 0
+  pub leaf : is_dots (name_of b p) ≡ false → type_of b p ≡ 0 → type_of b (led 8 b p) ≢ 1
 
 -- what a check has shown
 pub record IsRomfs (b : List ℕ) (r k : ℕ) : Type 0 where
@@ -76,7 +64,7 @@ bump d (Some i) = Some (if d then i else suc i)
 -- the number of entries before the record at q in a list; 0 is its end
 abbrev pub index_at : List ℕ → Forest → ℕ → Option ℕ
 index_at b none q = if q == 0 then Some 0 else None
-index_at b (at p own after) q = if p == q then Some 0 else bump (is_dot (name_of b p)) (index_at b after q)
+index_at b (at p own after) q = if p == q then Some 0 else bump (is_dots (name_of b p)) (index_at b after q)
 
 unfoldable pub cursor_of : List ℕ → ℕ → ℕ → ℕ → ℕ → Option ℕ
 cursor_of b r k d c = if c == 0 then Some 0 else (if nat_lt c (2 ^ 32) then None else index_at b (list_at b r k d) (c - 2 ^ 32))

@@ -6,29 +6,28 @@ use Rattle.rom_fields.specs.declared.span.Extent.TheVariants.{Super, Record, Dat
 use Rattle.rom_fields.specs.declared.span.Span.{Span}
 use Rattle.rom_fields.specs.Extents.{OverlapsAt, added}
 use Rattle.record_walk.specs.declared.reference.Row.{Row}
-use Rattle.record_walk.specs.Forest.{Forest, none, at, all_rows, IsForest}
+use Rattle.record_walk.specs.Forest.{Forest, none, at, all_rows, IsForest, NamesDiffer}
 use Rattle.romfs_format.specs.Record.{type_of, target_of, name_of, end_of, size_of, has_data, before_zero, pad16}
 use Rattle.romfs_format.specs.Refers.{references, heads_itself, LeadsToSound}
 use Rattle.rom_tree.specs.declared.types.Kind.{Kind}
-use Rattle.rom_tree.specs.declared.types.Kind.TheVariants.{Directory, Regular, Symlink, Block, Character, Socket, Fifo}
-use Rattle.rom_tree.specs.Tree.{Node, node, Body, directory, regular, symlink, block, character, socket, fifo, Entries, no_entries, entry, Attributes, depth}
+use Rattle.rom_tree.specs.Dots.{dot, dot_dot, is_dots}
+use Rattle.rom_tree.specs.Kinds.{KindNumbers, by_kind, kind_by, body_by, device_by}
+use Rattle.rom_tree.specs.Tree.{Node, node, Body, Entries, no_entries, entry, Attributes, row_from, depth}
+
+-- the types of records by what they are
+abbrev pub kind_numbers : KindNumbers
+kind_numbers = record { of_directory = 1; of_regular = 2; of_symlink = 3; of_block = 4; of_character = 5; of_socket = 6 }
 
 -- one of seven things by the type of a record that is no hard link
-abbrev pub pick : {A : Type 0} → ℕ → A → A → A → A → A → A → A → A
-pick t directory' regular' symlink' block' character' socket' fifo' =
-    if t == 1 then directory' else (if t == 2 then regular' else (if t == 3 then symlink' else (if t == 4 then block' else (if t == 5 then character' else (if t == 6 then socket' else fifo')))))
+abbrev pub by_type : {A : Type 0} → ℕ → A → A → A → A → A → A → A → A
+by_type t directory' regular' symlink' block' character' socket' fifo' = by_kind kind_numbers t directory' regular' symlink' block' character' socket' fifo'
 
 abbrev pub kind_named : ℕ → Kind
-kind_named t = pick t Directory Regular Symlink Block Character Socket Fifo
+kind_named t = kind_by kind_numbers t
 
 -- the modes are this project's own: romfs stores none but "executable", bit 3 of the mode
 abbrev pub mode_named : ℕ → Bool → ℕ
-mode_named t executable = pick t (if executable then 493 else 420) (if executable then 493 else 420) 511 384 384 420 420
-
--- k numbers in a row from p on
-abbrev pub row_from : ℕ → ℕ → List ℕ
-row_from p zero = []
-row_from p (suc k) = p ∷ row_from (p + 1) k
+mode_named t executable = by_type t (if executable then 493 else 420) (if executable then 493 else 420) 511 384 384 420 420
 
 -- the places of a file's or link's data, right behind the record
 unfoldable pub places_at : List ℕ → ℕ → List ℕ
@@ -44,29 +43,16 @@ attributes_at b p = record {
   mode = mode_named (type_of b p) (executable b p);
   uid = 0;
   gid = 0;
-  major = pick (type_of b p) 0 0 0 (word_be b (p + 4) / 65536) (word_be b (p + 4) / 65536) 0 0;
-  minor = pick (type_of b p) 0 0 0 (word_be b (p + 4) % 65536) (word_be b (p + 4) % 65536) 0 0;
+  major = device_by kind_numbers (type_of b p) (word_be b (p + 4) / 65536);
+  minor = device_by kind_numbers (type_of b p) (word_be b (p + 4) % 65536);
 }
 
 abbrev pub body_named : ℕ → List ℕ → Entries → Body
-body_named t ps es = pick t (directory es) (regular ps) (symlink ps) block character socket fifo
+body_named t ps es = body_by kind_numbers t ps es
 
 -- the node of the record at p, its list being es
 unfoldable pub node_of : List ℕ → ℕ → Entries → Node
 node_of b p es = node (attributes_at b p) (body_named (type_of b p) (places_at b p) es)
-
-abbrev pub dot : List ℕ
-dot = 46 ∷ []
-
-abbrev pub dot_dot : List ℕ
-dot_dot = 46 ∷ 46 ∷ []
-
--- `.` and `..`, which stand in lists and are no entries of the tree
-abbrev pub is_dot : List ℕ → Bool
-is_dot [] = false
-is_dot (x ∷ []) = x == 46
-is_dot (x ∷ y ∷ []) = if x == 46 then y == 46 else false
-is_dot (x ∷ y ∷ z ∷ more) = false
 
 -- the record that p leads to among those of the rows, over at most n hard links
 unfoldable pub follow : List ℕ → List Row → ℕ → ℕ → Option ℕ
@@ -83,7 +69,7 @@ led (suc n) b p = if type_of b (led n b p) == 0 then target_of b (led n b p) els
 abbrev pub entries_at : List ℕ → Forest → Entries
 entries_at b none = no_entries
 entries_at b (at p own after) =
-    if is_dot (name_of b p) then entries_at b after else entry (name_of b p) (node_of b (led 8 b p) (entries_at b own)) (entries_at b after)
+    if is_dots (name_of b p) then entries_at b after else entry (name_of b p) (node_of b (led 8 b p) (entries_at b own)) (entries_at b after)
 
 -- what stands in the root's list besides the root itself
 abbrev pub below_root : List ℕ → ℕ → Forest → Forest
@@ -108,22 +94,18 @@ extents_of b r xs = added Super 0 r ++ flat_map (row_extents b) xs
 pub record LeadsWell (b : List ℕ) (all : List Row) (x : Row) : Type 0 where
   pub here : name_of b x.offset ≡ dot → follow b all 8 x.offset ≡ Some x.directory
   pub above : name_of b x.offset ≡ dot_dot → follow b all 8 x.offset ≡ Some x.parent
-  pub link : is_dot (name_of b x.offset) ≡ false → type_of b x.offset ≡ 0 → (q : ℕ) × (follow b all 8 x.offset ≡ Some q) × (type_of b q ≢ 1)
+  pub link : is_dots (name_of b x.offset) ≡ false → type_of b x.offset ≡ 0 → (q : ℕ) × (follow b all 8 x.offset ≡ Some q) × (type_of b q ≢ 1)
 
 -- the rows that stand in lists: the root's too, where it heads its own list
 unfoldable pub listed_rows : List ℕ → ℕ → List Row → List Row
 listed_rows b r all = if heads_itself b r then all else drop 1 all
-
--- in one list names differ
-abbrev pub NamesDiffer : List ℕ → Row → Row → Type 0
-NamesDiffer b x y = x.directory ≡ y.directory → name_of b x.offset ≢ name_of b y.offset
 
 -- The forest f that stands in the accessible bytes b from the root at r makes a tree.
 pub record IsTree (b : List ℕ) (r most deepest : ℕ) (f : Forest) : Type 0 where
   pub forest : IsForest (references b r) (LeadsToSound b r) most f
   pub shallow : depth (tree_of b r f) ≤ min deepest 64
   pub apart : (p : ℕ) → OverlapsAt (extents_of b r (all_rows (references b r) f)) p → ⊥
-  pub names : AllPairs (NamesDiffer b) (listed_rows b r (all_rows (references b r) f))
+  pub names : AllPairs (NamesDiffer (name_of b)) (listed_rows b r (all_rows (references b r) f))
   pub leads : All (LeadsWell b (all_rows (references b r) f)) (drop 1 (all_rows (references b r) f))
   pub leaf : heads_itself b r ≡ true → name_of b r ≡ dot
 

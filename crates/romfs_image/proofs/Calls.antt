@@ -9,24 +9,26 @@ use Rattle.rom_tree.specs.Tree.{Node, entry_at, entries_of, places_of, ino_of}
 use Rattle.rom_tree.specs.Image.{find_entry, stat_of, IsEntry, IsRun}
 use Rattle.rom_fields.specs.Words.{word_be}
 use Rattle.romfs_format.specs.Record.{first_of, next_of, name_of, end_of, type_of, size_of}
-use Rattle.record_walk.specs.Forest.{Forest, none, at}
-use Rattle.romfs_format.specs.Made.{StandsAt, grow, list_at, made, count, Everywhere, IsGood, IsRomfs, bump, index_at, cursor_of, begins}
-use Rattle.romfs_format.specs.Tree.{node_of, entries_at, is_dot, led, pick, kind_named, mode_named, places_at, attributes_at}
-use Rattle.romfs_format.proofs.Picks.{kind_is, length_row, row_at}
+use Rattle.record_walk.specs.Forest.{Forest, none, at, count, Everywhere}
+use Rattle.romfs_format.specs.Made.{StandsAt, grow, list_at, made, IsGood, IsRomfs, bump, index_at, cursor_of, begins}
+use Rattle.romfs_format.specs.Tree.{kind_numbers, node_of, entries_at, led, kind_named, mode_named, places_at, attributes_at, by_type}
+use Rattle.rom_tree.specs.Dots.{is_dots}
+use Rattle.rom_tree.proofs.ByKind.{body_kind_is}
+use Rattle.rom_tree.proofs.Numbers.{length_row, row_at}
 use Rattle.romfs_format.proofs.Contents.{file_size, made_places}
 use Rattle.romfs_format.proofs.Trees.{IsList, list_is, ino_is, made_entries}
 use Rattle.romfs_format.proofs.Chain.{IsStep, step_of, list_end, index_start, index_rest, index_next}
 use Rattle.romfs_image.specs.Romfs.{romfs_view}
 
 pub stat_is : (b : List ℕ) (r k n front spec size : ℕ) (kind : Kind) (mode len major minor : ℕ) (x : Node) → x ≡ made b r k n → front ≡ word_be b n → spec ≡ word_be b (n + 4) → size ≡ word_be b (n + 8)
-    → kind ≡ kind_named (front % 8) → mode ≡ mode_named (front % 8) (nat_eq (front / 8 % 2) 1) → len ≡ pick (front % 8) 0 size size 0 0 0 0
-    → major ≡ pick (front % 8) 0 0 0 (spec / 65536) (spec / 65536) 0 0 → minor ≡ pick (front % 8) 0 0 0 (spec % 65536) (spec % 65536) 0 0
+    → kind ≡ kind_named (front % 8) → mode ≡ mode_named (front % 8) (nat_eq (front / 8 % 2) 1) → len ≡ by_type (front % 8) 0 size size 0 0 0 0
+    → major ≡ by_type (front % 8) 0 0 0 (spec / 65536) (spec / 65536) 0 0 → minor ≡ by_type (front % 8) 0 0 0 (spec % 65536) (spec % 65536) 0 0
     → record { ino = n; kind = kind; mode = mode; uid = 0; gid = 0; size = len; major = major; minor = minor } ≡ stat_of x
 unfolding made node_of attributes_at type_of size_of places_at
 stat_is b r k n front spec size kind mode len major minor x e ef es ez ek em el ea ei =
     let t : ℕ = word_be b n % 8 in
-    let l : length (places_of (made b r k n)) ≡ pick t 0 (word_be b (n + 8)) (word_be b (n + 8)) 0 0 0 0 = ap length (made_places b r k n) ∙ length_row (end_of b n) (file_size b n) in
-    let q = kind_is t (places_at b n) (entries_at b (list_at b r k n)) in
+    let l : length (places_of (made b r k n)) ≡ by_type t 0 (word_be b (n + 8)) (word_be b (n + 8)) 0 0 0 0 = ap length (made_places b r k n) ∙ length_row (end_of b n) (file_size b n) in
+    let q = body_kind_is kind_numbers t (places_at b n) (entries_at b (list_at b r k n)) in
     rw (e, ek, em, el, ea, ei, ef, es, ez, l, q) refl
 
 pub run_is : (b : List ℕ) (r k n off place len : ℕ) (x : Node) → x ≡ made b r k n → off < len → len ≡ file_size b n → place ≡ end_of b n
@@ -48,7 +50,7 @@ run_whole b r k n off len x e o el = rw (e, made_places b r k n, length_row, ←
 pub run_rest : (b : List ℕ) (r k n off len : ℕ) (x : Node) → x ≡ made b r k n → len ≡ file_size b n → len - off ≡ length (places_of x) - off
 run_rest b r k n off len x e el = rw (e, made_places b r k n, length_row, ← el) refl
 
-pub file_size_is : (b : List ℕ) (n front size len : ℕ) → front ≡ word_be b n → size ≡ word_be b (n + 8) → len ≡ pick (front % 8) 0 size size 0 0 0 0 → len ≡ file_size b n
+pub file_size_is : (b : List ℕ) (n front size len : ℕ) → front ≡ word_be b n → size ≡ word_be b (n + 8) → len ≡ by_type (front % 8) 0 size size 0 0 0 0 → len ≡ file_size b n
 unfolding type_of size_of
 file_size_is b n front size len f s e = rw (e, f, s) refl
 
@@ -77,7 +79,7 @@ list_there b r k s q i (at p own after) x g c e = elim (eqb_tells p q) [
   | inr h ↦ by b r k q i p after (index_at b after q) refl (rw h.0 at e) (λ m z. list_there b r k (next_of b p) q m after x.3 g.2 (omega arith) z)
 ]
   where
-    by : (b : List ℕ) (r k q i p : ℕ) (after : Forest) → (o : Option ℕ) → index_at b after q ≡ o → bump (is_dot (name_of b p)) (index_at b after q) ≡ Some i
+    by : (b : List ℕ) (r k q i p : ℕ) (after : Forest) → (o : Option ℕ) → index_at b after q ≡ o → bump (is_dots (name_of b p)) (index_at b after q) ≡ Some i
         → ((m : ℕ) → index_at b after q ≡ Some m → IsList b r k q) → IsList b r k q
     by b r k q i p after None eo e ih = let v = (rw eo at e) in absurd (cc)
     by b r k q i p after (Some m) eo e ih = ih m eo
@@ -99,13 +101,13 @@ cursor_next b r k d next i e =
 
 -- one record further
 pub further : (b : List ℕ) (r k d i q : ℕ) → IsList b r k (begins b r d) → IsList b r k q → IsStep b r k q → index_at b (list_at b r k d) q ≡ Some i
-    → index_at b (list_at b r k d) (next_of b q) ≡ Some (if is_dot (name_of b q) then i else suc i)
+    → index_at b (list_at b r k d) (next_of b q) ≡ Some (if is_dots (name_of b q) then i else suc i)
 unfolding list_at
 further b r k d i q l lq st e = index_next b (begins b r d) q i (grow k b (begins b r d)) (grow k b (first_of b q)) (grow k b (next_of b q)) l.stands (subst (StandsAt b q) st.is lq.stands) e
 
 -- the entry of a record
 pub entry_here : (bytes b : List ℕ) (r k q : ℕ) (s : IsRomfs b r k) (w : length b ≤ length bytes) (d i node next : ℕ) (name : List ℕ) (x : Node) → x ≡ made b r k d → type_of b d ≡ 1 → IsList b r k (begins b r d) → IsStep b r k q → q ≢ 0 → IsList b r k q
-    → index_at b (list_at b r k d) q ≡ Some i → is_dot (name_of b q) ≡ false → name ≡ name_of b q → node ≡ led 8 b q → next ≡ next_of b q
+    → index_at b (list_at b r k d) q ≡ Some i → is_dots (name_of b q) ≡ false → name ≡ name_of b q → node ≡ led 8 b q → next ≡ next_of b q
     → IsEntry (romfs_view bytes b r k s w) d (entries_of x) i name node (4294967296 + next)
 unfolding list_at
 entry_here bytes b r k q s w d i node next name x e t l st n lq ei ed en eo ex =
@@ -151,28 +153,28 @@ list_cursor b r k d c here n e l h =
 pub cursor_low : (b : List ℕ) (r k d c : ℕ) → c ≢ 0 → IsSome (cursor_of b r k d c) → 4294967296 ≤ c
 cursor_low b r k d c n h = let i = has_index (cursor_of b r k d c) h in (cursor_cases b r k d c i.0 i.1 n).0
 
-pub skipped : (b : List ℕ) (r k d i q n : ℕ) → IsList b r k (begins b r d) → IsList b r k q → IsStep b r k q → is_dot (name_of b q) ≡ true → n ≡ next_of b q → index_at b (list_at b r k d) q ≡ Some i → index_at b (list_at b r k d) n ≡ Some i
+pub skipped : (b : List ℕ) (r k d i q n : ℕ) → IsList b r k (begins b r d) → IsList b r k q → IsStep b r k q → is_dots (name_of b q) ≡ true → n ≡ next_of b q → index_at b (list_at b r k d) q ≡ Some i → index_at b (list_at b r k d) n ≡ Some i
 skipped b r k d i q n l lq st ed en e = rw en (further b r k d i q l lq st e ∙ rw ed refl)
 
 pub shrinks : (b : List ℕ) (r k q n : ℕ) → IsStep b r k q → n ≡ next_of b q → count (grow k b n) < count (grow k b q)
 shrinks b r k q n st e = let z = st.size in rw e (omega arith)
 
 -- lookup: past a record whose name is another, or none of an entry
-pub passed : (b : List ℕ) (r k q n : ℕ) (name found : List ℕ) → IsStep b r k q → n ≡ next_of b q → found ≡ name_of b q → (is_dot found ≡ true) ⊎ (bytes_eq found name ≡ false)
+pub passed : (b : List ℕ) (r k q n : ℕ) (name found : List ℕ) → IsStep b r k q → n ≡ next_of b q → found ≡ name_of b q → (is_dots found ≡ true) ⊎ (bytes_eq found name ≡ false)
     → find_entry (entries_at b (grow k b q)) name ≡ find_entry (entries_at b (grow k b n)) name
-passed b r k q n name found st e f (inl d) = let d' : is_dot (name_of b q) ≡ true = sym (ap is_dot f) ∙ d in rw (e, st.is, d') refl
+passed b r k q n name found st e f (inl d) = let d' : is_dots (name_of b q) ≡ true = sym (ap is_dots f) ∙ d in rw (e, st.is, d') refl
 passed b r k q n name found st e f (inr d) =
     let d' : bytes_eq (name_of b q) name ≡ false = sym (ap (λ (x : List ℕ). bytes_eq x name) f) ∙ d in
-    elim (is_dot (name_of b q)) as (λ v. is_dot (name_of b q) ≡ v → find_entry (entries_at b (grow k b q)) name ≡ find_entry (entries_at b (grow k b n)) name) [
+    elim (is_dots (name_of b q)) as (λ v. is_dots (name_of b q) ≡ v → find_entry (entries_at b (grow k b q)) name ≡ find_entry (entries_at b (grow k b n)) name) [
       | true ↦ λ t. rw (e, st.is, t) refl
       | false ↦ λ t. rw (e, st.is, t, d') refl
     ] refl
 
-pub found_here : (b : List ℕ) (r k q d node : ℕ) (name found : List ℕ) (x : Node) → x ≡ made b r k d → type_of b d ≡ 1 → IsStep b r k q → found ≡ name_of b q → is_dot found ≡ false → bytes_eq found name ≡ true → node ≡ led 8 b q
+pub found_here : (b : List ℕ) (r k q d node : ℕ) (name found : List ℕ) (x : Node) → x ≡ made b r k d → type_of b d ≡ 1 → IsStep b r k q → found ≡ name_of b q → is_dots found ≡ false → bytes_eq found name ≡ true → node ≡ led 8 b q
     → find_entry (entries_at b (list_at b r k d)) name ≡ find_entry (entries_at b (grow k b q)) name
     → (y : Node) × (find_entry (entries_of x) name ≡ Some y) × (ino_of y ≡ node)
 found_here b r k q d node name found x e t st f n m g h =
-    let n' : is_dot (name_of b q) ≡ false = sym (ap is_dot f) ∙ n in
+    let n' : is_dots (name_of b q) ≡ false = sym (ap is_dots f) ∙ n in
     let m' : bytes_eq (name_of b q) name ≡ true = sym (ap (λ (x : List ℕ). bytes_eq x name) f) ∙ m in
     let es : entries_of x ≡ entries_at b (list_at b r k d) = ap entries_of e ∙ made_entries b r k d t in
     let y = node_of b (led 8 b q) (entries_at b (grow k b (first_of b q))) in

@@ -6,12 +6,13 @@ use Rattle.std.specs.List.{All, AllByRecursion as Every}
 use Rattle.rom_fields.specs.Extents.{OverlapsAt, IsLeastOf}
 use Rattle.rom_faults.specs.declared.fault.Fault.{Fault}
 use Rattle.record_walk.specs.declared.reference.Row.{Row}
-use Rattle.record_walk.specs.Forest.{Forest, none, at, all_rows, IsForest}
+use Rattle.record_walk.specs.Forest.{Forest, none, at, all_rows, IsForest, NamesDiffer}
 use Rattle.record_walk.proofs.Lists.{pairs_to}
 use Rattle.record_walk.proofs.Exact.{every_split, pairs_split}
 use Rattle.romfs_format.specs.Record.{name_of, IsSound}
 use Rattle.romfs_format.specs.Refers.{references, offset_of, heads_itself, LeadsToSound}
-use Rattle.romfs_format.specs.Tree.{dot, extents_of, listed_rows, NamesDiffer, LeadsWell, IsTree}
+use Rattle.romfs_format.specs.Tree.{extents_of, listed_rows, LeadsWell, IsTree}
+use Rattle.rom_tree.specs.Dots.{dot}
 use Rattle.romfs_format.proofs.Bridge.{offset_some, offset_none, top_offset}
 use Rattle.romfs_format.proofs.Depths.{IsWithin}
 use Rattle.romfs_format.proofs.Dots.{tree_within}
@@ -31,8 +32,8 @@ listed_sound b r [] h = elim (heads_itself b r) as (λ v. All (λ (x : Row). IsS
 listed_sound b r (x ∷ xs) h = elim (heads_itself b r) as (λ v. All (λ (x : Row). IsSound b r x.offset) (if v then x ∷ xs else xs)) [ true ↦ h | false ↦ All-tail (λ (x : Row). IsSound b r x.offset) x xs h ]
 
 -- a name that is not repeated differs from those before it
-fresh_differs : (b : List ℕ) (before : List Row) (x : Row) → (Repeats b before x → ⊥) → Every (λ (y : Row). NamesDiffer b y x) before
-fresh_differs b before x fresh = recursion_from_All (λ (y : Row). NamesDiffer b y x) before
+fresh_differs : (b : List ℕ) (before : List Row) (x : Row) → (Repeats b before x → ⊥) → Every (λ (y : Row). NamesDiffer (name_of b) y x) before
+fresh_differs b before x fresh = recursion_from_All (λ (y : Row). NamesDiffer (name_of b) y x) before
     (λ k d l same equal. fresh (k, get_or before k d, l, get_or_default before k (get_or before k d) d l, (same, equal)))
 
 -- the rows below the root are among those that stand in lists
@@ -64,7 +65,7 @@ tree_of_well b r most deepest (at p own after) live h w =
       forest = h;
       shallow = tree_within b r (min deepest 64) f (every_split (IsWithin b (min deepest 64)) (first ∷ []) below (λ before x after s. w.shallow before x after s));
       apart = w.apart;
-      names = pairs_to (NamesDiffer b) (listed_rows b r all) (pairs_split (NamesDiffer b) [] (listed_rows b r all) tt (λ before x after s p. fresh_differs b before x (w.named before x after s).fresh));
+      names = pairs_to (NamesDiffer (name_of b)) (listed_rows b r all) (pairs_split (NamesDiffer (name_of b)) [] (listed_rows b r all) tt (λ before x after s p. fresh_differs b before x (w.named before x after s).fresh));
       leads = All-from_recursion (LeadsWell b all) below (below_leads b r (min deepest 64) first below w);
       leaf = root_named b r (min deepest 64) first below w is;
     }

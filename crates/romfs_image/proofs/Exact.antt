@@ -11,7 +11,8 @@ use Rattle.record_walk.proofs.Lists.{has_every, pairs_cross, same_some}
 use Rattle.record_walk.proofs.Exact.{has_member, member_every, has_at, every_here, split_at, later_split, FoundAt}
 use Rattle.romfs_format.specs.Record.{name_of, type_of, target_of}
 use Rattle.romfs_format.specs.Refers.{references, LeadsToSound}
-use Rattle.romfs_format.specs.Tree.{is_dot, follow, listed_rows}
+use Rattle.romfs_format.specs.Tree.{follow, listed_rows}
+use Rattle.rom_tree.specs.Dots.{is_dots}
 use Rattle.romfs_format.specs.Faults.{IsReached, IsListed, itself, ComesAfter, IsParent, Leads, here, link, HasNameFault as HasSetNameFault, repeated as set_repeated, here_astray as set_here, above_astray as set_above, root_renamed as set_root, link_astray as set_link}
 use Rattle.romfs_format.proofs.Orders.{Comes, comes_precedes}
 use Rattle.romfs_format.proofs.Named.{rows_listed, listed_in, rows_ordered, rows_followed, rows_parent, one_parent, reached_has, rows_are_reached, root_heads}
@@ -136,5 +137,5 @@ module _ {b : List ℕ} {r most : ℕ} {f : Forest} (above : 0 < r) (h : IsFores
         after = s.2;
         among = s.3;
         at = s.4.0;
-        found = link_astray number (ap (λ (p : ℕ). is_dot (name_of b p)) s.4.0 ∙ entry) (ap (type_of b) s.4.0 ∙ kind) (λ q k. astray q (subst (λ (p : ℕ). Leads b r 8 p q) s.4.0 (follow_leads 8 s.1.offset q k)));
+        found = link_astray number (ap (λ (p : ℕ). is_dots (name_of b p)) s.4.0 ∙ entry) (ap (type_of b) s.4.0 ∙ kind) (λ q k. astray q (subst (λ (p : ℕ). Leads b r 8 p q) s.4.0 (follow_leads 8 s.1.offset q k)));
       }

@@ -9,12 +9,13 @@ use Rattle.rom_faults.specs.declared.error.CheckError.TheVariants.{OutOfMemory, 
 use Rattle.rom_faults.specs.declared.fault.Fault.{Fault}
 use Rattle.record_walk.specs.declared.reference.Row.{Row}
 use Rattle.record_walk.specs.Members.{Pairs}
-use Rattle.record_walk.specs.Forest.{Forest, none, at, all_rows}
+use Rattle.record_walk.specs.Forest.{Forest, none, at, all_rows, NamesDiffer}
 use Rattle.record_walk.proofs.Lists.{every_weaker, pairs_cross, pairs_from}
 use Rattle.record_walk.proofs.Exact.{every_here}
 use Rattle.romfs_format.specs.Record.{name_of, type_of}
 use Rattle.romfs_format.specs.Refers.{references, offset_of, heads_itself}
-use Rattle.romfs_format.specs.Tree.{dot, tree_of, listed_rows, NamesDiffer, LeadsWell, IsTree, RomfsTree}
+use Rattle.romfs_format.specs.Tree.{tree_of, listed_rows, LeadsWell, IsTree, RomfsTree}
+use Rattle.rom_tree.specs.Dots.{dot}
 use Rattle.romfs_format.specs.Faults.{HasNoFault, IsLeastImageFault, record_fault, twice_fault, depth_fault, extent_fault, name_fault, whole, many, phase}
 use Rattle.romfs_format.proofs.Bridge.{offset_some, offset_none, top_offset}
 use Rattle.romfs_format.proofs.Depths.{IsWithin}
@@ -26,9 +27,9 @@ use Rattle.romfs_image.proofs.Trees.{root_positive, root_live}
 use Rattle.romfs_image.proofs.Least.{faultless}
 
 -- a name that is repeated does not differ
-repeated_same : (b : List ℕ) (before : List Row) (x : Row) → Every (λ (y : Row). NamesDiffer b y x) before → Repeats b before x → ⊥
+repeated_same : (b : List ℕ) (before : List Row) (x : Row) → Every (λ (y : Row). NamesDiffer (name_of b) y x) before → Repeats b before x → ⊥
 repeated_same b before x h a =
-    let d = All-from_recursion (λ (y : Row). NamesDiffer b y x) before h a.0 a.1 a.2 in
+    let d = All-from_recursion (λ (y : Row). NamesDiffer (name_of b) y x) before h a.0 a.1 a.2 in
     d (ap (λ (y : Row). y.directory) a.3 ∙ a.4.0) (ap (λ (y : Row). name_of b y.offset) a.3 ∙ a.4.1)
 
 -- a row of the list that stands in lists is the root's, which heads its own list, or one below the root
@@ -73,7 +74,7 @@ well_of_tree b r most deepest (at p own after) live kind t =
     let shallow = t.shallow in
     let single = pairs_from (λ (x : Row) (y : Row). x.offset ≢ y.offset) all t.forest.single in
     let leads = recursion_from_All (LeadsWell b all) below t.leads in
-    let differ = pairs_from (NamesDiffer b) (listed_rows b r all) t.names in
+    let differ = pairs_from (NamesDiffer (name_of b)) (listed_rows b r all) t.names in
     record {
       shallow = λ before x after s e.
           let here = every_here (IsWithin b deep) before x after (subst (Every (IsWithin b deep)) s within) in
@@ -81,8 +82,8 @@ well_of_tree b r most deepest (at p own after) live kind t =
           omega arith;
       apart = t.apart;
       named = λ before x after s.
-          let cross = pairs_cross (NamesDiffer b) before (x ∷ after) (subst (Pairs (NamesDiffer b)) s differ) in
-          let fresh : Repeats b before x → ⊥ = repeated_same b before x (every_weaker (λ (y : Row). Every (NamesDiffer b y) (x ∷ after)) (λ (y : Row). NamesDiffer b y x) (λ y h. h.0) before cross) in
+          let cross = pairs_cross (NamesDiffer (name_of b)) before (x ∷ after) (subst (Pairs (NamesDiffer (name_of b))) s differ) in
+          let fresh : Repeats b before x → ⊥ = repeated_same b before x (every_weaker (λ (y : Row). Every (NamesDiffer (name_of b) y) (x ∷ after)) (λ (y : Row). NamesDiffer (name_of b) y x) (λ y h. h.0) before cross) in
           elim (listed_cases b r first below before x after (heads_itself b r) refl s) [
             | inl h ↦ root_well (ap (λ (y : Row). y.offset) h.1 ∙ is) (ap (λ (y : Row). y.directory) h.1 ∙ sym (ap (λ (y : Row). y.offset) h.1)) kind (t.leaf h.0) fresh
             | inr h ↦

@@ -18,7 +18,8 @@ use Rattle.record_walk.proofs.Back.{clean_of}
 use Rattle.record_walk.proofs.Exact.{Differ, every_here, split_at, FoundAt, none_found, least_found, least_numbered}
 use Rattle.romfs_format.specs.Record.{name_of, type_of}
 use Rattle.romfs_format.specs.Refers.{references, LeadsToSound, LeadsToFault}
-use Rattle.romfs_format.specs.Tree.{is_dot, extents_of, root_of, IsSuperblock}
+use Rattle.romfs_format.specs.Tree.{extents_of, root_of, IsSuperblock}
+use Rattle.rom_tree.specs.Dots.{is_dots}
 use Rattle.romfs_format.specs.Superblock.{HasImageFault, short, no_magic, bad_size, bad_sum, no_root, root_kind, accessible, HasSum, HasRoot}
 use Rattle.romfs_format.specs.Faults.{HasDepthFault, HasExtentFault, HasNameFault as HasSetNameFault, HasTwiceFault, HasTooMany, HasReachedFault, HasNoFault, IsLeastPhaseFault, record_fault, twice_fault, depth_fault, extent_fault, name_fault, many, phase}
 use Rattle.romfs_format.proofs.Faults.{sound_faultless}
@@ -54,20 +55,20 @@ module _ {b : List ℕ} {r most : ℕ} {f : Forest} (above : 0 < r) (h : IsFores
   not_too_many k = (clean_of (references_lawful b r above) h).few k
 
   -- each row too deep is an entry too deep
-  deep_rows : (m : ℕ) (e : Forest) → Every (λ (y : Row). is_dot (name_of b y.offset) ≡ false → m < y.depth → HasDepthFault b r m (record { number = 21; at = y.offset })) (drop 1 (all_rows (references b r) e))
-      → Every (λ (y : Row). is_dot (name_of b y.offset) ≡ false → m < y.depth → HasDepthFault b r m (record { number = 21; at = y.offset })) (all_rows (references b r) e)
+  deep_rows : (m : ℕ) (e : Forest) → Every (λ (y : Row). is_dots (name_of b y.offset) ≡ false → m < y.depth → HasDepthFault b r m (record { number = 21; at = y.offset })) (drop 1 (all_rows (references b r) e))
+      → Every (λ (y : Row). is_dots (name_of b y.offset) ≡ false → m < y.depth → HasDepthFault b r m (record { number = 21; at = y.offset })) (all_rows (references b r) e)
   deep_rows m none k = tt
   deep_rows m (at p own after) k = ((λ e l. absurd (omega arith)), k)
 
   pub into_depths : (m : ℕ) (before : List Row) (x : Row) (after : List Row) (n : ℕ) → all_rows (references b r) f ≡ before ++ x ∷ after → IsTooDeep b m before x n → HasDepthFault b r m (record { number = n; at = x.offset })
   into_depths m before x after n among t =
-      let P : Row → Type 0 = λ y. is_dot (name_of b y.offset) ≡ false → m < y.depth → HasDepthFault b r m (record { number = 21; at = y.offset }) in
+      let P : Row → Type 0 = λ y. is_dots (name_of b y.offset) ≡ false → m < y.depth → HasDepthFault b r m (record { number = 21; at = y.offset }) in
       let k : P x = every_here P before x after (subst (Every P) among (deep_rows m f (row_to_depth above h m))) in
       subst (λ (v : ℕ). HasDepthFault b r m (record { number = v; at = x.offset })) (sym t.0) (k t.1 t.2)
 
   from_depths : (m : ℕ) (e : Fault) → HasDepthFault b r m e → FoundAt (IsTooDeep b m) (all_rows (references b r) f) e
   from_depths m e d =
-      let s = split_at (λ (y : Row). (y.offset ≡ e.at) × ((is_dot (name_of b y.offset) ≡ false) × (m < y.depth))) (all_rows (references b r) f) (depth_to_row above h m e d) in
+      let s = split_at (λ (y : Row). (y.offset ≡ e.at) × ((is_dots (name_of b y.offset) ≡ false) × (m < y.depth))) (all_rows (references b r) f) (depth_to_row above h m e d) in
       record { before = s.0; row = s.1; after = s.2; among = s.3; at = s.4.0; found = (d.number, s.4.1.0, s.4.1.1) }
 
   from_overlaps : (e : Fault) → HasExtentFault b r e → OverlapsAt (extents_of b r (all_rows (references b r) f)) e.at

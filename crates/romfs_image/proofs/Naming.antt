@@ -3,7 +3,8 @@ use Rattle.std.proofs.Common.{◌≡◌, ◌≢◌, ℕ, List, length, Option, N
 use Rattle.record_walk.specs.declared.reference.Row.{Row}
 use Rattle.record_walk.specs.Faults.{IsLeast}
 use Rattle.romfs_format.specs.Record.{name_of, type_of}
-use Rattle.romfs_format.specs.Tree.{dot, dot_dot, follow}
+use Rattle.romfs_format.specs.Tree.{follow}
+use Rattle.rom_tree.specs.Dots.{dot, dot_dot}
 use Rattle.romfs_image.specs.Phases.{Repeats, HasNameFault, repeated, here_astray, above_astray, root_renamed, link_astray, IsWellNamed}
 
 -- each number of such a fault is at least 23, and 24 where the name is not repeated

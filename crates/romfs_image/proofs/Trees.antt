@@ -8,7 +8,8 @@ use Rattle.record_walk.specs.declared.reference.Row.{Row}
 use Rattle.record_walk.specs.Forest.{Forest, none, at, all_rows, IsForest}
 use Rattle.romfs_format.specs.Record.{name_of, IsSound}
 use Rattle.romfs_format.specs.Refers.{references, LeadsToSound}
-use Rattle.romfs_format.specs.Tree.{is_dot, tree_of, root_of, IsTree, IsSuperblock}
+use Rattle.romfs_format.specs.Tree.{tree_of, root_of, IsTree, IsSuperblock}
+use Rattle.rom_tree.specs.Dots.{is_dots}
 use Rattle.romfs_format.specs.Made.{made, IsRomfs}
 use Rattle.romfs_format.proofs.Bridge.{accepted, sound_rows, offset_none, top_offset}
 use Rattle.romfs_format.proofs.Depths.{IsWithin}
@@ -46,7 +47,7 @@ module _ {bytes b : List ℕ} {r : ℕ} (super : IsSuperblock bytes b r) where
 
   -- the greatest depth of an entry's row is that of the tree
   pub deepest_is : (most deepest n : ℕ) (f : Forest) (rows : List Row) → rows ≡ all_rows (references b r) f → IsTree b r most deepest f
-      → All (λ (x : Row). is_dot (name_of b x.offset) ≡ false → x.depth ≤ n) rows → (n ≡ 0) ⊎ Any (λ (x : Row). (is_dot (name_of b x.offset) ≡ false) × (x.depth ≡ n)) rows → n ≡ depth (tree_of b r f)
+      → All (λ (x : Row). is_dots (name_of b x.offset) ≡ false → x.depth ≤ n) rows → (n ≡ 0) ⊎ Any (λ (x : Row). (is_dots (name_of b x.offset) ≡ false) × (x.depth ≡ n)) rows → n ≡ depth (tree_of b r f)
   deepest_is most deepest n f rows e t bound reached =
       let g = references b r in
       let all : List Row = all_rows g f in

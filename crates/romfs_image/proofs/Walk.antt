@@ -4,12 +4,15 @@ use Rattle.std.proofs.lemmas.Bool.{ne_eqb, eq-eqb, false≢true}
 use Rattle.std.specs.Prelude.{max}
 use Rattle.rom_tree.specs.Tree.{Node, nodes, body_nodes, body_depth, entries_depth, entries_nodes, directory, regular, symlink, block, character, socket, fifo}
 use Rattle.romfs_format.specs.Record.{first_of, next_of, name_of, type_of}
-use Rattle.romfs_format.specs.Made.{grow, list_at, made, count, IsRomfs, begins}
-use Rattle.romfs_format.specs.Tree.{is_dot, led, node_of, attributes_at, places_at, entries_at, body_named}
-use Rattle.romfs_format.proofs.Picks.{pick_map, pick_one}
+use Rattle.romfs_format.specs.Made.{grow, list_at, made, IsRomfs, begins}
+use Rattle.record_walk.specs.Forest.{count}
+use Rattle.romfs_format.specs.Tree.{kind_numbers, led, node_of, attributes_at, places_at, entries_at, body_named}
+use Rattle.rom_tree.specs.Dots.{is_dots}
+use Rattle.rom_tree.proofs.ByKind.{by_kind_map, by_kind_directory}
 use Rattle.romfs_format.proofs.Trees.{IsList, begins_other, begins_root, root_list}
 use Rattle.romfs_format.proofs.Chain.{IsStep, step_of}
-use Rattle.romfs_format.proofs.Stack.{among, below, waits, waits_push, depth_at, below_dot, below_entry, below_end, depth_dot, depth_entry, AreDeep, deep_push, deep_front, deep_last, weight, weight_push}
+use Rattle.romfs_format.proofs.Stack.{below, waits, waits_push, depth_at, below_dot, below_entry, below_end, depth_dot, depth_entry, AreDeep, deep_push, deep_front, deep_last, weight, weight_push}
+use Rattle.rom_tree.proofs.Numbers.{among}
 
 abbrev either : Bool → Bool → Bool
 either x y = if x then true else y
@@ -65,7 +68,7 @@ module _ {b : List ℕ} {r k n : ℕ} {v : Bool} {items : List ℕ} (qs : List �
   pub room : length qs < 65
   room = let l = last.1 in omega arith
 
-  pub room_more : (m : ℕ) (more : List ℕ) → q ≢ 0 → is_dot (name_of b q) ≡ false → more ≡ qs ++ m ∷ [] → length more < 65
+  pub room_more : (m : ℕ) (more : List ℕ) → q ≢ 0 → is_dots (name_of b q) ≡ false → more ≡ qs ++ m ∷ [] → length more < 65
   room_more m more h d e =
       let x = depth_entry b r k q (step_at h) d in
       let l = last.1 in
@@ -74,7 +77,7 @@ module _ {b : List ℕ} {r k n : ℕ} {v : Bool} {items : List ℕ} (qs : List �
       let a = length-append qs (m ∷ []) in
       rw e (omega arith)
 
-  pub walk_dot : (m : ℕ) (more : List ℕ) → q ≢ 0 → is_dot (name_of b q) ≡ true → m ≡ next_of b q → more ≡ qs ++ m ∷ [] → Walks b r k n v more × (weight k b more < weight k b items)
+  pub walk_dot : (m : ℕ) (more : List ℕ) → q ≢ 0 → is_dots (name_of b q) ≡ true → m ≡ next_of b q → more ≡ qs ++ m ∷ [] → Walks b r k n v more × (weight k b more < weight k b items)
   walk_dot m more h d e f =
       let st = step_at h in
       let l = last.1 in
@@ -89,13 +92,13 @@ module _ {b : List ℕ} {r k n : ℕ} {v : Bool} {items : List ℕ} (qs : List �
         omega arith,
       )
 
-  pub walk_found : q ≢ 0 → is_dot (name_of b q) ≡ false → led 8 b q ≡ n → v ≡ true
+  pub walk_found : q ≢ 0 → is_dots (name_of b q) ≡ false → led 8 b q ≡ n → v ≡ true
   walk_found h d e =
       let x = below_entry b r k n q (step_at h) d in
       let y : below b k n q ≡ true = x ∙ (rw (eq-eqb (led 8 b q) n e) refl) in
       sym same_at ∙ ap (either (waits b k n qs)) y ∙ either_true (waits b k n qs)
 
-  pub walk_entry : (m f : ℕ) (more all : List ℕ) → q ≢ 0 → is_dot (name_of b q) ≡ false → (led 8 b q ≡ n → ⊥) → m ≡ next_of b q → more ≡ qs ++ m ∷ [] → f ≡ begins b r q → all ≡ more ++ f ∷ []
+  pub walk_entry : (m f : ℕ) (more all : List ℕ) → q ≢ 0 → is_dots (name_of b q) ≡ false → (led 8 b q ≡ n → ⊥) → m ≡ next_of b q → more ≡ qs ++ m ∷ [] → f ≡ begins b r q → all ≡ more ++ f ∷ []
       → Walks b r k n v all × (weight k b all < weight k b items)
   walk_entry m f more all h d o em e ef g =
       let st = step_at h in
@@ -124,16 +127,16 @@ root_among : (b : List ℕ) (r k n : ℕ) → IsRomfs b r k → among n (nodes (
 unfolding made node_of attributes_at below list_at
 root_among b r k n s =
     let es = entries_at b (grow k b (begins b r r)) in
-    let m = pick_map body_nodes (type_of b r) (directory es) (regular (places_at b r)) (symlink (places_at b r)) block character socket fifo in
-    let e : body_nodes (body_named (type_of b r) (places_at b r) es) ≡ entries_nodes es = m ∙ pick_one (type_of b r) (entries_nodes es) [] [] [] [] [] [] s.directory in
+    let m = by_kind_map body_nodes kind_numbers (type_of b r) (directory es) (regular (places_at b r)) (symlink (places_at b r)) block character socket fifo in
+    let e : body_nodes (body_named (type_of b r) (places_at b r) es) ≡ entries_nodes es = m ∙ by_kind_directory kind_numbers (type_of b r) (entries_nodes es) [] [] [] [] [] [] s.directory in
     ap (λ (xs : List Node). if eqb r n then true else among n xs) e
 
 root_depth : (b : List ℕ) (r k : ℕ) → IsRomfs b r k → depth_at b k (begins b r r) ≤ 64
 unfolding made node_of depth_at list_at
 root_depth b r k s =
     let es = entries_at b (grow k b (begins b r r)) in
-    let m = pick_map body_depth (type_of b r) (directory es) (regular (places_at b r)) (symlink (places_at b r)) block character socket fifo in
-    let e : body_depth (body_named (type_of b r) (places_at b r) es) ≡ entries_depth es = m ∙ pick_one (type_of b r) (entries_depth es) 0 0 0 0 0 0 s.directory in
+    let m = by_kind_map body_depth kind_numbers (type_of b r) (directory es) (regular (places_at b r)) (symlink (places_at b r)) block character socket fifo in
+    let e : body_depth (body_named (type_of b r) (places_at b r) es) ≡ entries_depth es = m ∙ by_kind_directory kind_numbers (type_of b r) (entries_depth es) 0 0 0 0 0 0 s.directory in
     let l : body_depth (body_named (type_of b r) (places_at b r) es) ≤ 64 = s.shallow in
     subst (λ (x : ℕ). x ≤ 64) e l
 

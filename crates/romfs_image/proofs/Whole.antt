@@ -13,7 +13,8 @@ use Rattle.record_walk.proofs.Decided.{same_number, same_list}
 use Rattle.record_walk.proofs.Exact.{Differ}
 use Rattle.romfs_format.specs.Record.{name_of, type_of, before_zero}
 use Rattle.romfs_format.specs.Refers.{references, offset_of, LeadsToSound}
-use Rattle.romfs_format.specs.Tree.{dot, is_dot, follow, tree_of, magic, full_size, root_of, IsSuperblock, RomfsTree}
+use Rattle.romfs_format.specs.Tree.{follow, tree_of, magic, full_size, root_of, IsSuperblock, RomfsTree}
+use Rattle.rom_tree.specs.Dots.{dot, is_dots}
 use Rattle.romfs_format.specs.Superblock.{HasImageFault, short, no_magic, bad_size, bad_sum, no_root, root_kind, accessible, HasSize, HasSum, HasRoot}
 use Rattle.romfs_format.specs.Faults.{HasDepthFault, HasExtentFault, HasNameFault as HasSetNameFault, HasTwiceFault, HasTooMany, HasReachedFault, HasNoFault}
 use Rattle.romfs_format.proofs.Faults.{faultless_sound}
@@ -64,7 +65,7 @@ module _ {b : List ℕ} {r most : ℕ} (above : 0 < r) where
 
 -- a row without a fault of a name is well named
 module _ {b : List ℕ} {r : ℕ} {all before : List Row} {x : Row} (none : (n : ℕ) → HasNameFault b r all before x n → ⊥) where
-  target_of_link : is_dot (name_of b x.offset) ≡ false → type_of b x.offset ≡ 0 → (o : Option ℕ) → follow b all 8 x.offset ≡ o → (q : ℕ) × (follow b all 8 x.offset ≡ Some q) × (type_of b q ≢ 1)
+  target_of_link : is_dots (name_of b x.offset) ≡ false → type_of b x.offset ≡ 0 → (o : Option ℕ) → follow b all 8 x.offset ≡ o → (q : ℕ) × (follow b all 8 x.offset ≡ Some q) × (type_of b q ≢ 1)
   target_of_link e t None i = absurd (none 25 (link_astray refl e t (no_target b (follow b all 8 x.offset) i)))
   target_of_link e t (Some q) i = elim (eqb_tells (type_of b q) 1) [
     | inl k ↦ absurd (none 25 (link_astray refl e t (directory_target b (follow b all 8 x.offset) q i k.1)))

@@ -6,7 +6,8 @@ use Rattle.record_walk.specs.declared.reference.Row.{Row}
 use Rattle.record_walk.specs.Sweep.{IsLeastRowFault}
 use Rattle.romfs_format.specs.Record.{name_of, type_of}
 use Rattle.rom_fields.specs.Extents.{OverlapsAt, IsLeastOf}
-use Rattle.romfs_format.specs.Tree.{dot, dot_dot, is_dot, follow, LeadsWell, extents_of, listed_rows}
+use Rattle.romfs_format.specs.Tree.{follow, LeadsWell, extents_of, listed_rows}
+use Rattle.rom_tree.specs.Dots.{dot, dot_dot, is_dots}
 use Rattle.rom_faults.specs.declared.fault.TheConstants.{TOO_DEEP, OVERLAP, DUPLICATE_NAME, DOT, HARD_LINK}
 
 -- the offsets of the rows, in rising order
@@ -16,10 +17,10 @@ pub record AreOffsets (rows : List Row) (offsets : List ℕ) : Type 0 where
 
 -- 21 TooDeep: an entry deeper than the limit
 abbrev pub IsTooDeep : List ℕ → ℕ → List Row → Row → ℕ → Type 0
-IsTooDeep b most before x n = (n ≡ TOO_DEEP) × (is_dot (name_of b x.offset) ≡ false) × (most < x.depth)
+IsTooDeep b most before x n = (n ≡ TOO_DEEP) × (is_dots (name_of b x.offset) ≡ false) × (most < x.depth)
 
 abbrev pub IsShallow : List ℕ → ℕ → List Row → Row → Type 0
-IsShallow b most before x = is_dot (name_of b x.offset) ≡ false → x.depth ≤ most
+IsShallow b most before x = is_dots (name_of b x.offset) ≡ false → x.depth ≤ most
 
 -- an earlier row of the same list has the same name
 abbrev pub Repeats : List ℕ → List Row → Row → Type 0
@@ -36,7 +37,7 @@ pub data HasNameFault (b : List ℕ) (r : ℕ) (all before : List Row) (x : Row)
   here_astray : {n : ℕ} → n ≡ DOT → name_of b x.offset ≡ dot → follow b all 8 x.offset ≢ Some x.directory → HasNameFault b r all before x n
   above_astray : {n : ℕ} → n ≡ DOT → name_of b x.offset ≡ dot_dot → follow b all 8 x.offset ≢ Some x.parent → HasNameFault b r all before x n
   root_renamed : {n : ℕ} → n ≡ DOT → x.offset ≡ r → name_of b x.offset ≢ dot → HasNameFault b r all before x n
-  link_astray : {n : ℕ} → n ≡ HARD_LINK → is_dot (name_of b x.offset) ≡ false → type_of b x.offset ≡ 0
+  link_astray : {n : ℕ} → n ≡ HARD_LINK → is_dots (name_of b x.offset) ≡ false → type_of b x.offset ≡ 0
       → ((q : ℕ) → follow b all 8 x.offset ≡ Some q → type_of b q ≢ 1 → ⊥) → HasNameFault b r all before x n
 
 pub record IsWellNamed (b : List ℕ) (r : ℕ) (all before : List Row) (x : Row) : Type 0 where

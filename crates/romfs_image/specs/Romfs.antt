@@ -5,7 +5,7 @@ use Rattle.rom_tree.specs.declared.types.Run.{Run}
 use Rattle.rom_tree.specs.Image.{Image}
 use Rattle.romfs_format.specs.Made.{made, cursor_of, IsRomfs}
 use Rattle.romfs_format.proofs.Trees.{coherent}
-use Rattle.romfs_format.proofs.Contents.{made_links, made_placed}
+use Rattle.romfs_format.proofs.Contents.{made_devices, made_links, made_placed}
 
 pub starts_at : (b : List ℕ) (r k d : ℕ) → cursor_of b r k d 0 ≡ Some 0
 unfolding cursor_of
@@ -19,6 +19,7 @@ romfs_view bytes b r k s within = record {
   cursor_index = cursor_of b r k;
   coherent = coherent s;
   starts = starts_at b r k;
+  devices = made_devices s;
   links = made_links s;
   placed = made_placed bytes s within;
 }

@@ -3,7 +3,7 @@ ghost use Rattle.std.specs.Prelude.{◌≡◌, ◌+◌, ◌≤◌, ◌<◌, ◌�
 ghost use Rattle.std.specs.Bool.{OnTrue, OnFalse};
 ghost use Rattle.std.specs.List.{All, Any};
 ghost use Rattle.romfs_format.specs.Record.{name_of, IsSound};
-ghost use Rattle.romfs_format.specs.Tree.{is_dot};
+ghost use Rattle.rom_tree.specs.Dots.{is_dots};
 ghost use Rattle.record_walk.specs.Sweep.{IsLeastRowFault};
 ghost use Rattle.romfs_image.specs.Phases.{IsTooDeep, IsShallow};
 
@@ -16,7 +16,7 @@ use rom_faults::fault::TOO_DEEP;
 /// Whether a row is an entry, and not `.` or `..`.
 fn is_entry(b: &[u8], root: u32, row: Row) -> bool
     requires { IsSound b.now root row.offset }
-    ensures { result ≡ not (is_dot (name_of b.now row.offset)) }
+    ensures { result ≡ not (is_dots (name_of b.now row.offset)) }
 {
     !is_dots(name_at(b, root, row.offset))
 }
@@ -24,9 +24,9 @@ fn is_entry(b: &[u8], root: u32, row: Row) -> bool
 /// Whether a row is an entry deeper than `most`.
 fn is_too_deep(b: &[u8], root: u32, row: Row, most: u32) -> bool
     requires { IsSound b.now root row.offset }
-    ensures entry { OnTrue result (is_dot (name_of b.now row.offset) ≡ false) }
+    ensures entry { OnTrue result (is_dots (name_of b.now row.offset) ≡ false) }
     ensures deep { OnTrue result (most < row.depth) }
-    ensures shallow { OnFalse result (is_dot (name_of b.now row.offset) ≡ false → row.depth ≤ most) }
+    ensures shallow { OnFalse result (is_dots (name_of b.now row.offset) ≡ false → row.depth ≤ most) }
 {
     row.depth > most && is_entry(b, root, row)
 }
@@ -52,8 +52,8 @@ pub fn least_too_deep(b: &[u8], root: u32, rows: &[Row], most: u32) -> Option<Fa
 /// The greatest depth of an entry, 0 where there is none.
 pub fn greatest_depth(b: &[u8], root: u32, rows: &[Row]) -> u32
     requires { All (λ x. IsSound b.now root x.offset) rows.now }
-    ensures bound { All (λ x. is_dot (name_of b.now x.offset) ≡ false → x.depth ≤ result) rows.now }
-    ensures reached { (result ≡ 0) ⊎ Any (λ x. (is_dot (name_of b.now x.offset) ≡ false) × (x.depth ≡ result)) rows.now }
+    ensures bound { All (λ x. is_dots (name_of b.now x.offset) ≡ false → x.depth ≤ result) rows.now }
+    ensures reached { (result ≡ 0) ⊎ Any (λ x. (is_dots (name_of b.now x.offset) ≡ false) × (x.depth ≡ result)) rows.now }
 {
     let mut deepest: u32 = 0;
     'rows: for row in rows {

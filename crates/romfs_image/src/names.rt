@@ -5,7 +5,8 @@ ghost use Rattle.std.specs.List.{All};
 ghost use Rattle.record_walk.specs.declared.reference.Row.{Row};
 ghost use Rattle.record_walk.specs.Faults.{IsLeast};
 ghost use Rattle.romfs_format.specs.Record.{name_of, type_of, IsSound};
-ghost use Rattle.romfs_format.specs.Tree.{dot, dot_dot, is_dot, follow};
+ghost use Rattle.romfs_format.specs.Tree.{follow};
+ghost use Rattle.rom_tree.specs.Dots.{dot, dot_dot, is_dots};
 ghost use Rattle.record_walk.specs.Listed.{AreNames};
 ghost use Rattle.record_walk.specs.Sweep.{IsLeastRowFault};
 ghost use Rattle.romfs_image.specs.Phases.{AreOffsets, TellsRepeated, HasNameFault, IsWellNamed};
@@ -80,7 +81,7 @@ fn is_link_astray(b: &[u8], root: u32, all: &[Row], offsets: &[u32], row: Row) -
     requires offsets { AreOffsets all.now offsets.now }
     requires row { IsSound b.now root row.offset }
     ensures astray { OnTrue result ((before : List Row) → HasNameFault b.now root all.now before row 25) }
-    ensures leads { OnFalse result (is_dot (name_of b.now row.offset) ≡ false → type_of b.now row.offset ≡ 0
+    ensures leads { OnFalse result (is_dots (name_of b.now row.offset) ≡ false → type_of b.now row.offset ≡ 0
         → (q : ℕ) × (follow b.now all.now 8 row.offset ≡ Some q) × (type_of b.now q ≢ 1)) }
 {
     if is_dots(name_at(b, root, row.offset)) {

@@ -1,7 +1,8 @@
 ghost use Rattle.std.specs.Prelude.{◌≡◌, ◌≢◌, ◌+◌, ◌≤◌, ◌<◌, ◌^◌, ℕ, List, length, MatchOption, SomeIff, drop, IsTrue};
 ghost use Rattle.rom_fields.specs.Words.{word_be};
 ghost use Rattle.romfs_format.specs.Record.{before_zero, name_of, end_of, next_of, IsSound};
-ghost use Rattle.romfs_format.specs.Tree.{is_dot, kind_named, mode_named, led, pick};
+ghost use Rattle.romfs_format.specs.Tree.{kind_named, mode_named, led, by_type};
+ghost use Rattle.rom_tree.specs.Dots.{is_dots};
 ghost use Rattle.romfs_format.specs.Made.{begins};
 
 use byteorder::{BigEndian, ByteOrder};
@@ -80,7 +81,7 @@ pub fn list_start(b: &[u8], root: u32, at: u32) -> u32
 
 /// Whether a name is `.` or `..`.
 pub fn is_dots(name: &[u8]) -> bool
-    ensures { result ≡ is_dot name.now }
+    ensures { result ≡ is_dots name.now }
 {
     if name.len() == 1 {
         name[0] == 46
@@ -143,14 +144,14 @@ pub fn led_at(b: &[u8], root: u32, at: u32) -> u32
 
 /// What only regular files and symbolic links have.
 pub fn file_at(t: u32, x: u32) -> u32
-    ensures { result ≡ pick t 0 x x 0 0 0 0 }
+    ensures { result ≡ by_type t 0 x x 0 0 0 0 }
 {
     if t == 2 || t == 3 { x } else { 0 }
 }
 
 /// What only devices have.
 pub fn device_at(t: u32, x: u32) -> u32
-    ensures { result ≡ pick t 0 0 0 x x 0 0 }
+    ensures { result ≡ by_type t 0 0 0 x x 0 0 }
 {
     if t == 4 || t == 5 { x } else { 0 }
 }

@@ -5,17 +5,17 @@ use Rattle.std.proofs.lemmas.List.Quantifiers.{Any-push}
 use Rattle.std.specs.List.{All, Any}
 use Rattle.record_walk.specs.declared.reference.Row.{Row}
 use Rattle.romfs_format.specs.Record.{name_of}
-use Rattle.romfs_format.specs.Tree.{is_dot}
+use Rattle.rom_tree.specs.Dots.{is_dots}
 use Rattle.record_walk.proofs.Sweeps.{blank}
 use Rattle.romfs_image.proofs.depth.greatest_depth.Goals as goal
 use Rattle.romfs_image.proofs.depth.greatest_depth.Goals.{then-is_too_deep, else-is_too_deep}
 
 -- no entry among the rows is deeper
 abbrev Bounds : List ℕ → ℕ → Row → Type 0
-Bounds b n x = is_dot (name_of b x.offset) ≡ false → x.depth ≤ n
+Bounds b n x = is_dots (name_of b x.offset) ≡ false → x.depth ≤ n
 
 abbrev Reaches : List ℕ → ℕ → Row → Type 0
-Reaches b n x = (is_dot (name_of b x.offset) ≡ false) × (x.depth ≡ n)
+Reaches b n x = (is_dots (name_of b x.offset) ≡ false) × (x.depth ≡ n)
 
 record Deepest (b : List ℕ) (xs : List Row) (n : ℕ) : Type 0 where
   bound : All (Bounds b n) xs
@@ -24,7 +24,7 @@ record Deepest (b : List ℕ) (xs : List Row) (n : ℕ) : Type 0 where
 any_left : (P : Row → Type 0) (xs ys : List Row) → Any P xs → Any P (xs ++ ys)
 any_left P xs ys a = (a.0, a.1, rw length-append (omega arith), get_or_append_left xs ys a.1 a.0 a.2 ∙ a.3, a.4)
 
-higher : (b : List ℕ) (xs : List Row) (x : Row) (n m : ℕ) → Deepest b xs n → m ≡ x.depth → is_dot (name_of b x.offset) ≡ false → n < x.depth → Deepest b (xs ++ x ∷ []) m
+higher : (b : List ℕ) (xs : List Row) (x : Row) (n m : ℕ) → Deepest b xs n → m ≡ x.depth → is_dots (name_of b x.offset) ≡ false → n < x.depth → Deepest b (xs ++ x ∷ []) m
 higher b xs x n m d e t l = record {
   bound = All-push (Bounds b m) xs x (All-weaker (Bounds b n) (Bounds b m) (λ y h k. let z = h k in omega arith) xs d.bound) (λ k. omega arith);
   reached = inr (Any-push (Reaches b m) xs x (t, sym e));

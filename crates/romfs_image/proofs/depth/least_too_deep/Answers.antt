@@ -2,14 +2,14 @@ use Rattle.std.proofs.Common.{◌≡◌, ◌<◌, ℕ, false, refl, arith, ◌�
 use Rattle.record_walk.specs.declared.reference.Row.{Row}
 use Rattle.record_walk.specs.Faults.{IsLeast}
 use Rattle.romfs_format.specs.Record.{name_of}
-use Rattle.romfs_format.specs.Tree.{is_dot}
+use Rattle.rom_tree.specs.Dots.{is_dots}
 use Rattle.romfs_image.specs.Phases.{IsTooDeep, IsShallow}
 use Rattle.record_walk.proofs.Sweeps.{blank, sweep_well_at, sweep_fault_at}
 use Rattle.romfs_image.proofs.depth.least_too_deep.Goals as goal
 use Rattle.romfs_image.proofs.depth.least_too_deep.Goals.{then-is_too_deep, else-is_too_deep}
 
 -- the one fault of an entry that is too deep
-deep : (b : List ℕ) (most : ℕ) (before : List Row) (x : Row) → is_dot (name_of b x.offset) ≡ false → most < x.depth → IsLeast (IsTooDeep b most before x) 21
+deep : (b : List ℕ) (most : ℕ) (before : List Row) (x : Row) → is_dots (name_of b x.offset) ≡ false → most < x.depth → IsLeast (IsTooDeep b most before x) 21
 deep b most before x e l = record { here = (refl, e, l); least = λ n h. let k = h.0 in omega arith }
 
 shallow : (b : List ℕ) (most : ℕ) (before : List Row) (x : Row) → IsShallow b most before x → (n : ℕ) → IsTooDeep b most before x n → ⊥

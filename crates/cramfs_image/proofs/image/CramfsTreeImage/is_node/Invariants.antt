@@ -2,7 +2,8 @@ use Rattle.cramfs_format.specs.Order.{little}
 use Rattle.cramfs_format.specs.Refers.{root_place}
 use Rattle.cramfs_format.specs.Made.{made}
 use Rattle.rom_tree.specs.Tree.{nodes}
-use Rattle.cramfs_format.proofs.Stack.{among, weight}
+use Rattle.cramfs_format.proofs.Stack.{weight}
+use Rattle.rom_tree.proofs.Numbers.{among}
 use Rattle.cramfs_image.proofs.Walk.{Walks}
 use Rattle.cramfs_image.proofs.image.CramfsTreeImage.is_node.Given as goal
 

@@ -1,5 +1,5 @@
 use Rattle.std.proofs.Common.{arith, refl, ◌-◌, ◌<◌, ◌^◌, sym, ap, subst, ◌∙◌}
-use Rattle.romfs_format.specs.Tree.{is_dot}
+use Rattle.rom_tree.specs.Dots.{is_dots}
 use Rattle.romfs_format.specs.Made.{begins}
 use Rattle.romfs_format.proofs.Chain.{step_of}
 use Rattle.romfs_format.proofs.Trees.{named, directory_known, IsList}
@@ -69,7 +69,7 @@ loop-at-preserved c =
     let st = step_of b r k c.loop-at.at lq c.loop-at-test.true in
     record {
       list = subst (IsList b r k) (sym c.next_at-next.ensures) st.next;
-      place = λ i e. skipped b r k c.args.d.0 i c.loop-at.at c.next_at-next.result l lq st (ap is_dot (sym c.name_at-name.ensures) ∙ sym c.is_dots.ensures ∙ c.if-is_dots.true) c.next_at-next.ensures (c.loop-at.invariant.place i e);
+      place = λ i e. skipped b r k c.args.d.0 i c.loop-at.at c.next_at-next.result l lq st (ap is_dots (sym c.name_at-name.ensures) ∙ sym c.is_dots.ensures ∙ c.if-is_dots.true) c.next_at-next.ensures (c.loop-at.invariant.place i e);
     }
 
 pub led_at-requires : goal.led_at-requires
@@ -81,7 +81,7 @@ led_at-requires c =
     let l : IsList b r k (begins b r c.args.d.0) = kd.0.list kd.1 in
     let lq = c.loop-at.invariant.list in
     let st = step_of b r k c.loop-at.at lq c.loop-at-test.true in
-    st.good.linked (ap is_dot (sym c.name_at-name.ensures) ∙ sym c.is_dots.ensures ∙ c.if-is_dots.false)
+    st.good.linked (ap is_dots (sym c.name_at-name.ensures) ∙ sym c.is_dots.ensures ∙ c.if-is_dots.false)
 
 pub returns-in-loop-at : goal.returns-in-loop-at
 returns-in-loop-at c =
@@ -93,7 +93,7 @@ returns-in-loop-at c =
     let lq = c.loop-at.invariant.list in
     let st = step_of b r k c.loop-at.at lq c.loop-at-test.true in
     λ x i e h. entry_here c.args.self.now.all.now b r k c.loop-at.at c.args.self.now.sound c.args.self.now.within c.args.d.0 i _ _ _ x (named c.args.self.now.sound c.args.d.0 x e).0 kd.1 l st c.loop-at-test.true lq (c.loop-at.invariant.place i h)
-    (ap is_dot (sym c.name_at-name.ensures) ∙ sym c.is_dots.ensures ∙ c.if-is_dots.false) c.name_at-name.ensures c.led_at.ensures (c.from.ensures ∙ c.next_at-next.ensures)
+    (ap is_dots (sym c.name_at-name.ensures) ∙ sym c.is_dots.ensures ∙ c.if-is_dots.false) c.name_at-name.ensures c.led_at.ensures (c.from.ensures ∙ c.next_at-next.ensures)
 
 pub returns : goal.returns
 returns c =

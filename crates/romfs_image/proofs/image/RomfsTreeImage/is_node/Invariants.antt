@@ -1,6 +1,7 @@
 use Rattle.romfs_format.specs.Made.{made}
 use Rattle.rom_tree.specs.Tree.{nodes}
-use Rattle.romfs_format.proofs.Stack.{among, weight}
+use Rattle.romfs_format.proofs.Stack.{weight}
+use Rattle.rom_tree.proofs.Numbers.{among}
 use Rattle.romfs_image.proofs.Walk.{Walks}
 use Rattle.romfs_image.proofs.image.RomfsTreeImage.is_node.Given as goal
 

@@ -1,5 +1,5 @@
 use Rattle.std.proofs.Common.{refl, sym, ap, subst, ◌∙◌, inl, inr}
-use Rattle.romfs_format.specs.Tree.{is_dot}
+use Rattle.rom_tree.specs.Dots.{is_dots}
 use Rattle.romfs_format.specs.Made.{begins, list_at}
 use Rattle.romfs_format.proofs.Chain.{step_of}
 use Rattle.romfs_format.proofs.Trees.{named, directory_known, IsList}
@@ -35,7 +35,7 @@ led_at-requires c =
     let l : IsList b r k (begins b r c.args.d.0) = kd.0.list kd.1 in
     let lq = c.loop-at.invariant.list in
     let st = step_of b r k c.loop-at.at lq c.loop-at-test.true in
-    st.good.linked (ap is_dot (sym c.name_at-found.ensures) ∙ sym c.is_dots.ensures ∙ c.if-not-is_dots.true)
+    st.good.linked (ap is_dots (sym c.name_at-found.ensures) ∙ sym c.is_dots.ensures ∙ c.if-not-is_dots.true)
 
 pub returns-then-eq-clause-found : goal.returns-then-eq-clause-found
 returns-then-eq-clause-found c =
