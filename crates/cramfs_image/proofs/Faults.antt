@@ -5,11 +5,13 @@ use Rattle.std.proofs.lemmas.Bool.Decides.{eqb_tells, leb_tells}
 use Rattle.std.specs.Prelude.{nat_lt, nat_le, ◌&&◌, ◌||◌, ◌==◌}
 use Rattle.rom_fields.specs.Extents.{IsLeastOf}
 use Rattle.rom_faults.specs.declared.fault.Fault.{Fault}
-use Rattle.record_walk.specs.Faults.{NotAfter, IsLeastFault}
+use Rattle.record_walk.specs.Faults.{NotAfter, IsLeastFault, IsLeastFaultOf}
 use Rattle.cramfs_format.specs.Order.{Order, word}
 use Rattle.cramfs_format.specs.Inode.{type_of, size_of, offset_of, name_of, block_start, block_len, Lies, is_kind, has_data, block_count, pointer_place, pointer_of, IsPlain, ListLies, TableLies, BlockLies, Fits, IsName, other_kind as kind_fault, link_size as link_fault, list_outside as list_fault, table_outside as table_fault, other_block as kind_of_block, block_outside as block_fault, HasEntryFault, past_end, bad_name as name_fault, bad_body}
 use Rattle.cramfs_format.proofs.Lists.{lt_tells}
-use Rattle.cramfs_image.specs.Phases.{IsLeastFaultOf, lesser_fault, IsFaultAt, list_outside, table_outside, bad_name, other_kind, link_size, IsPointerFault, other_block, block_outside}
+use Rattle.record_walk.proofs.Noted.{least_joined}
+use Rattle.cramfs_image.specs.Phases.{IsFaultAt, list_outside, table_outside, bad_name, other_kind, link_size, IsPointerFault, other_block, block_outside}
+use Rattle.record_walk.specs.Lesser.{lesser_of_both}
 
 module _ {o : Order} {b : List ℕ} {p : ℕ} where
   pub least_list : (ListLies o b p → ⊥) → IsLeastOf (IsFaultAt o b p) (Some 11)
@@ -182,38 +184,6 @@ more_there o b p i table pointer size start len all e f es et el plain lies =
     plain_more o b p i all (subst (IsPlain o b) is plain)
     (subst (λ (v : ℕ). Lies b v (block_len (size_of o b p) i)) (et ∙ ap block_start is) (subst (λ (v : ℕ). Lies b start v) (el ∙ ap (λ (v : ℕ). block_len v i) es) lies))
 
--- of two least faults the lesser one
-at_test : (d e : Fault) → ((nat_lt d.at e.at || (d.at == e.at && nat_le d.number e.number) ≡ true) × NotAfter d e) ⊎ ((nat_lt d.at e.at || (d.at == e.at && nat_le d.number e.number) ≡ false) × NotAfter e d)
-at_test d e = elim (lt_tells d.at e.at) [
-  | inl h ↦ inl (rw h.0 refl, inl h.1)
-  | inr h ↦ elim (eqb_tells d.at e.at) [
-    | inl k ↦ elim (leb_tells d.number e.number) [
-      | inl l ↦ inl (rw (h.0, k.0, l.0) refl, inr (k.1, l.1))
-      | inr l ↦ inr (rw (h.0, k.0, l.0) refl, inr (sym k.1, let m = l.1 in omega arith))
-    ]
-    | inr k ↦ let n = k.1 in let g = h.1 in inr (rw (h.0, k.0) refl, inl (omega arith))
-  ]
-]
-
-not_after : (d e f : Fault) → NotAfter d e → NotAfter e f → NotAfter d f
-not_after d e f (inl h) (inl k) = inl (omega arith)
-not_after d e f (inl h) (inr k) = let z = k.0 in inl (omega arith)
-not_after d e f (inr h) (inl k) = let z = h.0 in inl (omega arith)
-not_after d e f (inr h) (inr k) = let z = h.1 in let y = k.1 in inr (h.0 ∙ k.0, omega arith)
-
-module _ {P Q R : Fault → Type 0} (left : (f : Fault) → P f → R f) (right : (f : Fault) → Q f → R f) (either : (f : Fault) → R f → P f ⊎ Q f) where
-  some_less : (d e : Fault) → IsLeastFaultOf P (Some d) → IsLeastFaultOf Q (Some e) → IsLeastFaultOf R (lesser_fault (Some d) (Some e))
-  some_less d e x y = elim (at_test d e) [
-    | inl h ↦ rw h.0 (record { here = left d x.here; least = λ f r. elim (either f r) [ inl q ↦ x.least f q | inr q ↦ not_after d e f h.1 (y.least f q) ] })
-    | inr h ↦ rw h.0 (record { here = right e y.here; least = λ f r. elim (either f r) [ inl q ↦ not_after e d f h.1 (x.least f q) | inr q ↦ y.least f q ] })
-  ]
-
-  pub joined : (u v : Option Fault) → IsLeastFaultOf P u → IsLeastFaultOf Q v → IsLeastFaultOf R (lesser_fault u v)
-  joined None None x y = record { here = tt; least = λ f r. elim (either f r) [ inl q ↦ x.least f q | inr q ↦ y.least f q ] }
-  joined None (Some e) x y = record { here = right e y.here; least = λ f r. elim (either f r) [ inl q ↦ absurd (x.least f q) | inr q ↦ y.least f q ] }
-  joined (Some d) None x y = record { here = left d x.here; least = λ f r. elim (either f r) [ inl q ↦ x.least f q | inr q ↦ absurd (y.least f q) ] }
-  joined (Some d) (Some e) x y = some_less d e x y
-
 -- a fault that stands at the record itself
 pub record StandsHere (o : Order) (b : List ℕ) (p : ℕ) (f : Fault) : Type 0 where
   pub at : f.at ≡ p
@@ -250,8 +220,8 @@ module _ {o : Order} {b : List ℕ} {e p : ℕ} (fit : Fits o b e p) where
   which_fault f (bad_body m (block_fault i k d t l q n)) = inr (block_outside i k d t l q n)
 
   -- the least fault of an entry is the lesser of the two kinds
-  pub entry_joined : (u v : Option Fault) → IsLeastFaultOf (StandsHere o b p) u → IsLeastFaultOf (IsPointerFault o b p) v → IsLeastFaultOf (HasEntryFault o b e p) (lesser_fault u v)
-  entry_joined u v x y = joined here_fault pointed_fault which_fault u v x y
+  pub entry_joined : (u v : Option Fault) → IsLeastFaultOf (StandsHere o b p) u → IsLeastFaultOf (IsPointerFault o b p) v → IsLeastFaultOf (HasEntryFault o b e p) (lesser_of_both u v)
+  entry_joined u v x y = least_joined here_fault pointed_fault which_fault u v x y
 
 pub numbered : (o : Order) (b : List ℕ) (p n : ℕ) → IsLeastOf (IsFaultAt o b p) (Some n) → IsLeastFaultOf (StandsHere o b p) (Some (record { number = n; at = p }))
 numbered o b p n h = record { here = record { at = refl; number = h.here }; least = λ d k. inr (sym k.at, h.least d.number k.number) }

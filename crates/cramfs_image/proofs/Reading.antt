@@ -9,7 +9,7 @@ use Rattle.cramfs_format.specs.Inode.{end_of, list_end}
 use Rattle.cramfs_format.specs.Refers.{references, target_of, LeadsToSound, LeadsToFault}
 use Rattle.cramfs_format.proofs.Lawful.{IsPlaced, at_top, in_chain, reached_placed, target_placed, placed_above, sound_within, source_within}
 use Rattle.cramfs_format.proofs.Faults.{faultless_led}
-use Rattle.cramfs_image.specs.Phases.{IsLeastFaultOf}
+use Rattle.record_walk.specs.Faults.{IsLeastFaultOf}
 
 -- a reference, by its parts
 pub by_parts : (x : Reference) (s w : ℕ) → x.source ≡ s → x.which ≡ w → x ≡ record { source = s; which = w }

@@ -12,17 +12,6 @@ use Rattle.cramfs_format.specs.Inode.{type_of, size_of, name_of, is_kind, has_da
 use Rattle.cramfs_format.specs.Tree.{precedes, is_sorted, extents_of, IsNoDot}
 use Rattle.rom_faults.specs.declared.fault.TheConstants.{BOUNDS, BAD_NAME, KIND, LINK_SIZE, BLOCK_KIND, TOO_DEEP, OVERLAP, DUPLICATE_NAME, DOT, UNSORTED}
 
--- The least fault of those that P tells, or none where it tells none.
-pub record IsLeastFaultOf (P : Fault → Type 0) (o : Option Fault) : Type 0 where
-  pub here : IfSome o P
-  pub least : (d : Fault) → P d → IsSomeAnd o (λ e. NotAfter e d)
-
--- the lesser of two faults, where there are two: by place, then by number
-abbrev pub lesser_fault : Option Fault → Option Fault → Option Fault
-lesser_fault None e = e
-lesser_fault (Some d) None = Some d
-lesser_fault (Some d) (Some e) = Some (if nat_lt d.at e.at || (d.at == e.at && nat_le d.number e.number) then d else e)
-
 -- the faults that stand at the entry at p itself, which fits into its list: 11 Bounds, 13 BadName, 14 Kind, 15 LinkSize
 pub data IsFaultAt (o : Order) (b : List ℕ) (p : ℕ) : ℕ → Type 0 where
   list_outside : {n : ℕ} → n ≡ BOUNDS → (ListLies o b p → ⊥) → IsFaultAt o b p n

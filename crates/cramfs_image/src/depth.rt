@@ -12,7 +12,7 @@ ghost use Rattle.cramfs_image.specs.Phases.{IsTooDeep, IsShallow};
 
 use crate::inode::name_at;
 use record_walk::reference::Row;
-use record_walk::sweep::lesser;
+use record_walk::least::lesser_fault;
 use rom_faults::Fault;
 use rom_faults::fault::TOO_DEEP;
 
@@ -50,7 +50,7 @@ pub fn least_too_deep(b: &[u8], rows: &[Row], most: u32) -> Option<Fault>
                 number: TOO_DEEP,
                 at: row.offset,
             };
-            noted = lesser(noted, fault);
+            noted = lesser_fault(noted, fault);
         }
     }
     noted

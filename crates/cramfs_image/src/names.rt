@@ -16,7 +16,7 @@ use crate::depth::is_other;
 use crate::inode::{name_at, word};
 use record_walk::listed::{ListedName, repeats};
 use record_walk::reference::Row;
-use record_walk::sweep::lesser;
+use record_walk::least::lesser_fault;
 use rom_faults::Fault;
 use rom_faults::fault::{DOT, DUPLICATE_NAME, UNSORTED};
 use rom_fields::memory::OutOfMemory;
@@ -136,7 +136,7 @@ pub fn least_name_fault(alloc: Global, b: &[u8], rows: &[Row]) -> Result<Option<
                 number,
                 at: row.offset,
             };
-            noted = lesser(noted, fault);
+            noted = lesser_fault(noted, fault);
         }
     }
     Ok(noted)

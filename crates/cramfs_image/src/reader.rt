@@ -1,11 +1,11 @@
 //! The records of an image as the walk reads them.
 ghost use Rattle.std.specs.Prelude.{◌≡◌, ◌≢◌, ◌+◌, ◌<◌, ◌≤◌, ◌^◌, length, nat_lt, Some, None, if◌then◌else◌};
-ghost use Rattle.record_walk.specs.Faults.{IsLeastFault};
+ghost use Rattle.record_walk.specs.Faults.{IsLeastFault, IsLeastFaultOf};
 ghost use Rattle.cramfs_format.specs.Order.{little};
 ghost use Rattle.cramfs_format.specs.Inode.{list_end};
 ghost use Rattle.cramfs_format.specs.Refers.{references, target_of, LeadsToSound, LeadsToFault};
 ghost use Rattle.record_walk.specs.Known.{AreKnown};
-ghost use Rattle.cramfs_image.specs.Phases.{IsWhole, IsLeastFaultOf};
+ghost use Rattle.cramfs_image.specs.Phases.{IsWhole};
 
 use crate::inode::{end_at, list_end_at, offset_at};
 use crate::record::{entry_fault, list_lies};

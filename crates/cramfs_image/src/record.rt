@@ -6,10 +6,13 @@ ghost use Rattle.rom_fields.specs.Extents.{IsLeastOf};
 ghost use Rattle.cramfs_format.specs.Order.{little, word as word_of};
 ghost use Rattle.cramfs_format.specs.Inode.{type_of, size_of, name_of, end_of, offset_of, is_kind, has_data, block_count, block_len, block_start, pointer_place, pointer_of, is_direct, has_kinds, IsPlain, Lies, ListLies, TableLies, HasLinkSize, Fits, IsName, HasEntryFault};
 ghost use Rattle.record_walk.specs.Known.{AreKnown};
-ghost use Rattle.cramfs_image.specs.Phases.{IsWhole, IsLeastFaultOf, IsFaultAt, IsPointerFault, lesser_fault};
+ghost use Rattle.cramfs_image.specs.Phases.{IsWhole, IsFaultAt, IsPointerFault};
+ghost use Rattle.record_walk.specs.Faults.{IsLeastFaultOf};
+ghost use Rattle.record_walk.specs.Lesser.{lesser_of_both};
 
 use crate::inode::{end_at, name_at, offset_at, size_at, start_of, type_at, word};
 use record_walk::known::{Known, Range};
+use record_walk::least::lesser_of_both;
 use rom_faults::Fault;
 use rom_faults::fault::{BAD_NAME, BLOCK_KIND, BOUNDS, KIND, LINK_SIZE, LIST_END};
 
@@ -235,21 +238,6 @@ fn pointer_fault(b: &[u8], known: &mut Known, at: usize) -> Option<Fault>
     None
 }
 
-/// The lesser of two faults: by place, then by number.
-fn lesser(one: Option<Fault>, other: Option<Fault>) -> Option<Fault>
-    ensures { result ≡ lesser_fault one other }
-{
-    match (one, other) {
-        (None, _) => other,
-        (Some(_), None) => one,
-        (Some(d), Some(e)) => {
-            let before = d.at < e.at;
-            let beside = d.at == e.at && d.number <= e.number;
-            Some(if before || beside { d } else { e })
-        }
-    }
-}
-
 /// The least fault of the entry at `at` of a list that ends at `end`.
 pub fn entry_fault(b: &[u8], known: &mut Known, end: usize, at: usize) -> Option<Fault>
     requires known { AreKnown (IsWhole little b.now) known.old }
@@ -268,5 +256,5 @@ pub fn entry_fault(b: &[u8], known: &mut Known, end: usize, at: usize) -> Option
         Some(number) => Some(Fault { number, at: place }),
         None => None,
     };
-    lesser(here, pointer_fault(b, known, at))
+    lesser_of_both(here, pointer_fault(b, known, at))
 }

@@ -8,8 +8,8 @@ use Rattle.record_walk.specs.declared.reference.Reference.{Reference}
 use Rattle.rom_faults.specs.declared.fault.Fault.{Fault}
 use Rattle.record_walk.specs.Members.{Pairs}
 use Rattle.record_walk.specs.References.{References, Reached}
-use Rattle.record_walk.specs.Faults.{HasFault, Twice, NotAfter, IsLeastFault}
-use Rattle.record_walk.specs.Lesser.{lesser, lesser_fault}
+use Rattle.record_walk.specs.Faults.{HasFault, Twice, NotAfter, IsLeastFault, IsLeastFaultOf}
+use Rattle.record_walk.specs.Lesser.{lesser, lesser_fault, lesser_of_both}
 use Rattle.record_walk.proofs.Lists.{every_join, every_weaker, every_all, same_some, pairs_push, pairs_weaker}
 
 -- one at most q was noted
@@ -34,10 +34,10 @@ lesser_some None q e = cc
 lesser_some (Some m) q e = cc
 
 -- the test of two faults
-abbrev Before : Fault → Fault → Bool
+abbrev pub Before : Fault → Fault → Bool
 Before d e = nat_lt d.at e.at || (d.at == e.at && nat_le d.number e.number)
 
-before_tells : (d e : Fault) → ((Before d e ≡ true) × NotAfter d e) ⊎ ((Before d e ≡ false) × NotAfter e d)
+pub before_tells : (d e : Fault) → ((Before d e ≡ true) × NotAfter d e) ⊎ ((Before d e ≡ false) × NotAfter e d)
 before_tells d e =
     elim (cases_lt d.at e.at) [
       | inl l ↦ inl (rw (lt-ltb d.at e.at l) refl, inl l)
@@ -50,10 +50,14 @@ before_tells d e =
       ]
     ]
 
+pub not_after_at : (d e : Fault) → NotAfter d e → d.at ≤ e.at
+not_after_at d e (inl l) = omega arith
+not_after_at d e (inr l) = omega arith
+
 not_after_same : (e : Fault) → NotAfter e e
 not_after_same e = inr (refl, omega arith)
 
-not_after_both : (c d e : Fault) → NotAfter c d → NotAfter d e → NotAfter c e
+pub not_after_both : (c d e : Fault) → NotAfter c d → NotAfter d e → NotAfter c e
 not_after_both c d e (inl l) (inl m) = inl (omega arith)
 not_after_both c d e (inl l) (inr m) = inl (omega arith)
 not_after_both c d e (inr l) (inl m) = inl (omega arith)
@@ -72,7 +76,7 @@ caught_fault_kept : (o : Option Fault) (e d : Fault) → CaughtFault o d → Cau
 caught_fault_kept None e d h = absurd h
 caught_fault_kept (Some c) e d h = elim (before_tells c e) [ inl t ↦ rw t.0 h | inr t ↦ rw t.0 (not_after_both e c d t.1 h) ]
 
-truly_lesser_fault : (P : Fault → Type 0) (o : Option Fault) (e : Fault) → IfSome o P → P e → IfSome (lesser_fault o e) P
+pub truly_lesser_fault : (P : Fault → Type 0) (o : Option Fault) (e : Fault) → IfSome o P → P e → IfSome (lesser_fault o e) P
 truly_lesser_fault P None e h k = k
 truly_lesser_fault P (Some c) e h k = elim (before_tells c e) [ inl t ↦ rw t.0 h | inr t ↦ rw t.0 k ]
 
@@ -133,3 +137,17 @@ module _ {g : References} {Sound : Reference → Type 0} {done : List Reference}
         caught = pairs_push (Noted g Sound o') done q (pairs_weaker (Noted g Sound o) (Noted g Sound o') (λ x y k s t p i j. caught_kept o at p (k s t p i j)) done h.caught)
             (every_all (λ x. Noted g Sound o' x q) here done);
       }
+
+-- the lesser of the least faults of two kinds is the least of both
+module _ {P Q R : Fault → Type 0} (left : (f : Fault) → P f → R f) (right : (f : Fault) → Q f → R f) (either : (f : Fault) → R f → P f ⊎ Q f) where
+  some_less : (d e : Fault) → IsLeastFaultOf P (Some d) → IsLeastFaultOf Q (Some e) → IsLeastFaultOf R (lesser_fault (Some d) e)
+  some_less d e x y = elim (before_tells d e) [
+    | inl h ↦ rw h.0 (record { here = left d x.here; least = λ f r. elim (either f r) [ inl q ↦ x.least f q | inr q ↦ not_after_both d e f h.1 (y.least f q) ] })
+    | inr h ↦ rw h.0 (record { here = right e y.here; least = λ f r. elim (either f r) [ inl q ↦ not_after_both e d f h.1 (x.least f q) | inr q ↦ y.least f q ] })
+  ]
+
+  pub least_joined : (u v : Option Fault) → IsLeastFaultOf P u → IsLeastFaultOf Q v → IsLeastFaultOf R (lesser_of_both u v)
+  least_joined None None x y = record { here = tt; least = λ f r. elim (either f r) [ inl q ↦ x.least f q | inr q ↦ y.least f q ] }
+  least_joined None (Some e) x y = record { here = right e y.here; least = λ f r. elim (either f r) [ inl q ↦ absurd (x.least f q) | inr q ↦ y.least f q ] }
+  least_joined (Some d) None x y = record { here = left d x.here; least = λ f r. elim (either f r) [ inl q ↦ x.least f q | inr q ↦ absurd (y.least f q) ] }
+  least_joined (Some d) (Some e) x y = some_less d e x y

@@ -1,12 +1,13 @@
 -- A sweep over rows that notes the fault of the least offset.
 use Rattle.std.proofs.Common.{◌≡◌, ℕ, ◌+◌, ◌<◌, ◌≤◌, List, [], ◌∷◌, ◌++◌, length, Option, None, Some, IfSome, ◌⊎◌, inl, inr, refl, sym, ap, subst, ◌∙◌, arith, length-append, append_assoc, take, get_or}
-use Rattle.std.proofs.lemmas.Bool.Decides.{leb_tells}
 use Rattle.std.proofs.lemmas.List.{take_more}
 use Rattle.std.specs.Prelude.{IsSomeAnd}
 use Rattle.rom_faults.specs.declared.fault.Fault.{Fault}
 use Rattle.record_walk.specs.declared.reference.Row.{Row}
 use Rattle.record_walk.specs.Faults.{IsLeast}
-use Rattle.record_walk.specs.Sweep.{IsLeastRowFault, StandsAtRow, lesser_of}
+use Rattle.record_walk.specs.Sweep.{IsLeastRowFault, StandsAtRow}
+use Rattle.record_walk.specs.Lesser.{lesser_fault}
+use Rattle.record_walk.proofs.Noted.{before_tells, not_after_at, truly_lesser_fault, lesser_fault_some}
 
 -- where a member of xs ++ x stands: it is x, or it stands in xs
 pub split_push : {X : Type 0} (xs : List X) (x : X) (before : List X) (y : X) (after : List X) → xs ++ x ∷ [] ≡ before ++ y ∷ after
@@ -26,21 +27,13 @@ split_push (u ∷ xs) x (z ∷ before) y after e =
 abbrev pub NotedBy : Option Fault → ℕ → Type 0
 NotedBy o p = IsSomeAnd o (λ e. e.at ≤ p)
 
-lesser_kept : (o : Option Fault) (f : Fault) (p : ℕ) → NotedBy o p → NotedBy (lesser_of o f) p
+lesser_kept : (o : Option Fault) (f : Fault) (p : ℕ) → NotedBy o p → NotedBy (lesser_fault o f) p
 lesser_kept None f p h = absurd h
-lesser_kept (Some d) f p h = elim (leb_tells d.at f.at) [ inl k ↦ rw k.0 h | inr k ↦ rw k.0 (omega arith) ]
+lesser_kept (Some d) f p h = elim (before_tells d f) [ inl k ↦ rw k.0 h | inr k ↦ let l = not_after_at f d k.1 in rw k.0 (omega arith) ]
 
-lesser_here : (o : Option Fault) (f : Fault) → NotedBy (lesser_of o f) f.at
+lesser_here : (o : Option Fault) (f : Fault) → NotedBy (lesser_fault o f) f.at
 lesser_here None f = omega arith
-lesser_here (Some d) f = elim (leb_tells d.at f.at) [ inl k ↦ rw k.0 k.1 | inr k ↦ rw k.0 (omega arith) ]
-
-lesser_of-some : (o : Option Fault) (f : Fault) → lesser_of o f ≡ None → ⊥
-lesser_of-some None f e = cc
-lesser_of-some (Some d) f e = cc
-
-lesser_if : (P : Fault → Type 0) (o : Option Fault) (f : Fault) → IfSome o P → P f → IfSome (lesser_of o f) P
-lesser_if P None f h k = k
-lesser_if P (Some d) f h k = elim (leb_tells d.at f.at) [ inl e ↦ rw e.0 h | inr e ↦ rw e.0 k ]
+lesser_here (Some d) f = elim (before_tells d f) [ inl k ↦ rw k.0 (not_after_at d f k.1) | inr k ↦ rw k.0 (omega arith) ]
 
 module _ (P : List Row → Row → ℕ → Type 0) where
   stands_more : (xs : List Row) (x : Row) (e : Fault) → StandsAtRow P xs e → StandsAtRow P (xs ++ x ∷ []) e
@@ -81,15 +74,15 @@ module _ {C : List Row → Row → Type 0} {P : List Row → Row → ℕ → Typ
 
   -- a row with a fault, of which this number is the least
   pub sweep_fault : (xs : List Row) (x : Row) (number : ℕ) (o : Option Fault) → IsLeastRowFault C P xs o → IsLeast (P xs x) number
-      → IsLeastRowFault C P (xs ++ x ∷ []) (lesser_of o (record { number = number; at = x.offset }))
+      → IsLeastRowFault C P (xs ++ x ∷ []) (lesser_fault o (record { number = number; at = x.offset }))
   sweep_fault xs x number o w here =
       let f : Fault = record { number = number; at = x.offset } in
       let mine : StandsAtRow P (xs ++ x ∷ []) f = record { before = xs; row = x; after = []; among = refl; at = refl; number = here } in
       record {
-        clean = λ e. absurd (lesser_of-some o f e);
-        noted = lesser_if (StandsAtRow P (xs ++ x ∷ [])) o f (stands_all P xs x o w.noted) mine;
+        clean = λ e. absurd (lesser_fault_some o f e);
+        noted = truly_lesser_fault (StandsAtRow P (xs ++ x ∷ [])) o f (stands_all P xs x o w.noted) mine;
         least = λ before y after n s h. elim (split_push xs x before y after s) [
-          | inl k ↦ subst (λ (v : Row). NotedBy (lesser_of o f) v.offset) (sym k.1) (lesser_here o f)
+          | inl k ↦ subst (λ (v : Row). NotedBy (lesser_fault o f) v.offset) (sym k.1) (lesser_here o f)
           | inr k ↦ lesser_kept o f y.offset (w.least before y k.0 n k.1 h)
         ];
       }
@@ -104,6 +97,6 @@ module _ {C : List Row → Row → Type 0} {P : List Row → Row → ℕ → Typ
       → ((n : ℕ) → P (take i xs) (get_or xs i blank) n → ⊥) → IsLeastRowFault C P (take (i + 1) xs) q
   sweep_well_at xs i o q l e w well none = rw (e, take_more xs i blank l) (sweep_well (take i xs) (get_or xs i blank) o w well none)
 
-  pub sweep_fault_at : (xs : List Row) (i number : ℕ) (o q : Option Fault) → i < length xs → q ≡ lesser_of o (record { number = number; at = (get_or xs i blank).offset }) → IsLeastRowFault C P (take i xs) o
+  pub sweep_fault_at : (xs : List Row) (i number : ℕ) (o q : Option Fault) → i < length xs → q ≡ lesser_fault o (record { number = number; at = (get_or xs i blank).offset }) → IsLeastRowFault C P (take i xs) o
       → IsLeast (P (take i xs) (get_or xs i blank)) number → IsLeastRowFault C P (take (i + 1) xs) q
   sweep_fault_at xs i number o q l e w here = rw (e, take_more xs i blank l) (sweep_fault (take i xs) (get_or xs i blank) number o w here)

@@ -1,5 +1,5 @@
 -- The faults that references and records make, without any forest or order of visiting.
-use Rattle.std.specs.Prelude.{◌≡◌, ◌≢◌, ℕ, ◌+◌, ◌<◌, ◌≤◌, List, length, Some, ◌⊎◌}
+use Rattle.std.specs.Prelude.{◌≡◌, ◌≢◌, ℕ, ◌+◌, ◌<◌, ◌≤◌, List, length, Some, ◌⊎◌, Option, IfSome, IsSomeAnd}
 use Rattle.std.specs.List.{AllByRecursion as Every}
 use Rattle.record_walk.specs.declared.reference.Reference.{Reference}
 use Rattle.rom_faults.specs.declared.fault.Fault.{Fault}
@@ -35,6 +35,11 @@ NotAfter d e = (d.at < e.at) ⊎ ((d.at ≡ e.at) × (d.number ≤ e.number))
 pub record IsLeastFault (P : Fault → Type 0) (e : Fault) : Type 0 where
   pub here : P e
   pub least : (d : Fault) → P d → NotAfter e d
+
+-- the least fault of those that P tells, or none where it tells none
+pub record IsLeastFaultOf (P : Fault → Type 0) (o : Option Fault) : Type 0 where
+  pub here : IfSome o P
+  pub least : (d : Fault) → P d → IsSomeAnd o (λ e. NotAfter e d)
 
 -- none has this fault
 abbrev pub IsNone : (Fault → Type 0) → Type 0

@@ -11,3 +11,8 @@ lesser (Some p) q = Some (if nat_lt p q then p else q)
 abbrev pub lesser_fault : Option Fault → Fault → Option Fault
 lesser_fault None e = Some e
 lesser_fault (Some d) e = Some (if nat_lt d.at e.at || (d.at == e.at && nat_le d.number e.number) then d else e)
+
+-- the lesser of two faults, where there are two
+abbrev pub lesser_of_both : Option Fault → Option Fault → Option Fault
+lesser_of_both o None = o
+lesser_of_both o (Some e) = lesser_fault o e

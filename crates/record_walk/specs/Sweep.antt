@@ -1,5 +1,5 @@
 -- A sweep over the rows of a forest, which notes the fault at the least offset.
-use Rattle.std.specs.Prelude.{◌≡◌, ℕ, ◌≤◌, List, ◌∷◌, ◌++◌, Option, None, Some, IfSome, IsSomeAnd, nat_le, if◌then◌else◌}
+use Rattle.std.specs.Prelude.{◌≡◌, ℕ, ◌≤◌, List, ◌∷◌, ◌++◌, Option, None, IfSome, IsSomeAnd}
 use Rattle.rom_faults.specs.declared.fault.Fault.{Fault}
 use Rattle.record_walk.specs.declared.reference.Row.{Row}
 use Rattle.record_walk.specs.Faults.{IsLeast}
@@ -18,8 +18,3 @@ pub record IsLeastRowFault (C : List Row → Row → Type 0) (P : List Row → R
   pub clean : o ≡ None → (before : List Row) (x : Row) (after : List Row) → xs ≡ before ++ x ∷ after → C before x
   pub noted : IfSome o (StandsAtRow P xs)
   pub least : (before : List Row) (x : Row) (after : List Row) (n : ℕ) → xs ≡ before ++ x ∷ after → P before x n → IsSomeAnd o (λ e. e.at ≤ x.offset)
-
--- the one of the lesser offset; the noted one where both stand at one
-abbrev pub lesser_of : Option Fault → Fault → Option Fault
-lesser_of None e = Some e
-lesser_of (Some d) e = Some (if nat_le d.at e.at then d else e)

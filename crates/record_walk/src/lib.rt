@@ -10,10 +10,10 @@
 pub mod answer;
 pub mod known;
 pub mod laws;
+pub mod least;
 pub mod listed;
 pub mod records;
 pub mod reference;
-pub mod sweep;
 #[cfg(test)]
 mod tests;
 pub mod traversal;

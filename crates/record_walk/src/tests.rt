@@ -2,9 +2,9 @@ ghost use Rattle.std.specs.Prelude.{◌≡◌, Some};
 ghost use Rattle.record_walk.specs.Table.{offset, table_references, table_sound, table_faulty};
 
 use crate::known::Known;
+use crate::least::lesser_fault;
 use crate::records::Records;
 use crate::reference::{Edge, Edges, Reference, Row};
-use crate::sweep::lesser;
 use crate::traversal::{TraversalError, traverse};
 use rom_faults::{CheckError, Fault};
 use std::alloc::Global;
@@ -153,12 +153,29 @@ fn the_least_record_with_two_references(rt: HostRuntime) -> Result<(), Fail> {
 }
 
 #[test]
-fn the_lesser_offset_is_kept(rt: HostRuntime) -> Result<(), Fail> {
+fn the_lesser_fault_is_kept(rt: HostRuntime) -> Result<(), Fail> {
     let one = Fault { number: 21, at: 96 };
     let other = Fault { number: 23, at: 64 };
-    assert!(rt; matches!(lesser(None, one), Some(Fault { number: 21, at: 96 })));
-    assert!(rt; matches!(lesser(Some(one), other), Some(Fault { number: 23, at: 64 })));
-    assert!(rt; matches!(lesser(Some(other), one), Some(Fault { number: 23, at: 64 })));
+    let beside = Fault { number: 21, at: 64 };
+    assert!(rt; matches!(lesser_fault(None, one), Some(Fault { number: 21, at: 96 })));
+    assert!(rt;
+        matches!(
+            lesser_fault(Some(one), other),
+            Some(Fault { number: 23, at: 64 })
+        )
+    );
+    assert!(rt;
+        matches!(
+            lesser_fault(Some(other), one),
+            Some(Fault { number: 23, at: 64 })
+        )
+    );
+    assert!(rt;
+        matches!(
+            lesser_fault(Some(other), beside),
+            Some(Fault { number: 21, at: 64 })
+        )
+    );
     Ok(())
 }
 

@@ -5,10 +5,11 @@ ghost use Rattle.record_walk.specs.declared.traversal.TraversalError.TheVariants
 ghost use Rattle.record_walk.specs.References.{AreLawful};
 ghost use Rattle.record_walk.specs.Forest.{Forest, all_rows, IsForest};
 ghost use Rattle.record_walk.specs.Known.{AreKnown};
-ghost use Rattle.record_walk.specs.Lesser.{lesser, lesser_fault};
+ghost use Rattle.record_walk.specs.Lesser.{lesser};
 ghost use Rattle.record_walk.specs.Traversal.{IsLeastRefusal};
 
 use crate::known::Known;
+use crate::least::lesser_fault;
 use crate::records::Records;
 use crate::reference::{Edge, Edges, Reference, Row};
 use rom_faults::Fault;
@@ -44,20 +45,6 @@ fn lesser_offset(noted: Option<u32>, at: u32) -> Option<u32>
     match noted {
         None => Some(at),
         Some(least) => Some(if least < at { least } else { at }),
-    }
-}
-
-/// The lesser of a noted fault, if there is one, and `fault`: by place, then by number.
-fn lesser_of_faults(noted: Option<Fault>, fault: Fault) -> Option<Fault>
-    ensures { result ≡ lesser_fault noted fault }
-{
-    match noted {
-        None => Some(fault),
-        Some(least) => {
-            let before = least.at < fault.at;
-            let beside = least.at == fault.at && least.number <= fault.number;
-            Some(if before || beside { least } else { fault })
-        }
     }
 }
 
@@ -236,7 +223,7 @@ fn traverse_below<R: Records>(
         let edges = match records.edges(&mut known, next.edge.reference, at) {
             Ok(edges) => edges,
             Err(fault) => {
-                noted = lesser_of_faults(noted, fault);
+                noted = lesser_fault(noted, fault);
                 continue;
             }
         };

@@ -9,7 +9,7 @@ ghost use Rattle.romfs_image.specs.Phases.{IsTooDeep, IsShallow};
 
 use crate::record::{is_dots, name_at};
 use record_walk::reference::Row;
-use record_walk::sweep::lesser;
+use record_walk::least::lesser_fault;
 use rom_faults::Fault;
 use rom_faults::fault::TOO_DEEP;
 
@@ -43,7 +43,7 @@ pub fn least_too_deep(b: &[u8], root: u32, rows: &[Row], most: u32) -> Option<Fa
                 number: TOO_DEEP,
                 at: row.offset,
             };
-            noted = lesser(noted, fault);
+            noted = lesser_fault(noted, fault);
         }
     }
     noted

@@ -16,7 +16,7 @@ use crate::record::{is_dots, name_at};
 use crate::rows::{led_to, offsets_of};
 use record_walk::listed::{ListedName, repeats};
 use record_walk::reference::Row;
-use record_walk::sweep::lesser;
+use record_walk::least::lesser_fault;
 use rom_faults::Fault;
 use rom_faults::fault::{DOT, DUPLICATE_NAME, HARD_LINK};
 use rom_fields::memory::OutOfMemory;
@@ -174,7 +174,7 @@ pub fn least_name_fault(
                 number,
                 at: row.offset,
             };
-            noted = lesser(noted, fault);
+            noted = lesser_fault(noted, fault);
         }
     }
     Ok(noted)

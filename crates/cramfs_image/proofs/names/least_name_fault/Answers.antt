@@ -26,7 +26,7 @@ loop-i-preserved c =
     record {
       last = last_more b c.loop-i.last_names c.insert.new.self c.name_at-name.result xs i blank c.loop-i-test.true c.loop-i.invariant.last c.in_ok-last.ensures.updates c.name_at-name.ensures;
       noted = elim c.match-name_fault.branch [
-        | in-Some w ↦ sweep_fault_at xs i w.in-Some.number _ _ c.loop-i-test.true (w.noted-is ∙ w.lesser-noted.ensures) c.loop-i.invariant.noted (w.in-Some.ensures.fault (take i xs) tells)
+        | in-Some w ↦ sweep_fault_at xs i w.in-Some.number _ _ c.loop-i-test.true (w.noted-is ∙ w.lesser_fault-noted.ensures) c.loop-i.invariant.noted (w.in-Some.ensures.fault (take i xs) tells)
         | in_default w ↦ sweep_well_at xs i _ _ c.loop-i-test.true w.noted-is c.loop-i.invariant.noted (w.in_default.ensures.well (take i xs) tells) (well_faultless (w.in_default.ensures.well (take i xs) tells))
       ];
     }

@@ -3,7 +3,8 @@ use Rattle.std.proofs.lemmas.Bool.{false≢true}
 use Rattle.rom_fields.specs.Extents.{IsLeastOf}
 use Rattle.cramfs_format.specs.Order.{little}
 use Rattle.cramfs_format.specs.Inode.{HasEntryFault}
-use Rattle.cramfs_image.specs.Phases.{IsLeastFaultOf, IsFaultAt}
+use Rattle.cramfs_image.specs.Phases.{IsFaultAt}
+use Rattle.record_walk.specs.Faults.{IsLeastFaultOf}
 use Rattle.cramfs_image.proofs.Faults.{StandsHere, entry_joined, numbered, unnumbered, unfit}
 use Rattle.cramfs_image.proofs.record.entry_fault.Goals as goal
 use Rattle.cramfs_image.proofs.record.entry_fault.Goals.{in-Some, in-None}
@@ -17,5 +18,5 @@ returns-clause-least c =
       | in-Some w ↦ rw w.here-is (numbered little c.args.b.now c.args.at w.in-Some.number (subst (IsLeastOf (IsFaultAt little c.args.b.now c.args.at)) w.in-Some.is c.fault_at.ensures))
       | in-None w ↦ rw w.here-is (unnumbered little c.args.b.now c.args.at (subst (IsLeastOf (IsFaultAt little c.args.b.now c.args.at)) w.in-None.is c.fault_at.ensures))
     ] in
-    subst (IsLeastFaultOf (HasEntryFault little c.args.b.now c.args.end c.args.at)) (sym c.lesser.ensures)
+    subst (IsLeastFaultOf (HasEntryFault little c.args.b.now c.args.end c.args.at)) (sym c.lesser_of_both.ensures)
     (entry_joined (c.fits.ensures.0 c.if-not-fits.false) c.match-fault_at.here c.pointer_fault.result here c.pointer_fault.ensures.least)

@@ -44,7 +44,7 @@ edges-requires-clause-reached g c = whole_reached (whole_popped _ _ c.in-Some.ne
 
 pub references-preserved-in-Err : goal.references-preserved-in-Err
 references-preserved-in-Err g c = record {
-  whole = rw c.lesser_of_faults-noted.ensures (whole_faulty c.in-Err.fault (whole_popped _ _ c.in-Some.next c.in-Some.ensures.items c.references.invariant.whole) c.in-Some-target.at c.in-Some-target.is
+  whole = rw c.lesser_fault-noted.ensures (whole_faulty c.in-Err.fault (whole_popped _ _ c.in-Some.next c.in-Some.ensures.items c.references.invariant.whole) c.in-Some-target.at c.in-Some-target.is
       c.if-count-most.false c.in-Err.ensures.unsound c.in-Err.ensures.err);
   visits = c.references.invariant.visits;
   known = c.in-Err.ensures.known;

@@ -24,6 +24,6 @@ loop-i-preserved c =
       new = λ e. marked_new (name_of b) xs c.in_ok-names_of.field-0.items marks names c.in_ok-repeated.ensures i blank c.loop-i-test.true (is ∙ e);
     } in
     elim c.match-name_fault.branch [
-      | in-Some w ↦ sweep_fault_at xs i w.in-Some.number _ _ c.loop-i-test.true (w.noted-is ∙ w.lesser-noted.ensures) c.loop-i.invariant (w.in-Some.ensures.fault (take i xs) tells)
+      | in-Some w ↦ sweep_fault_at xs i w.in-Some.number _ _ c.loop-i-test.true (w.noted-is ∙ w.lesser_fault-noted.ensures) c.loop-i.invariant (w.in-Some.ensures.fault (take i xs) tells)
       | in_default w ↦ sweep_well_at xs i _ _ c.loop-i-test.true w.noted-is c.loop-i.invariant (w.in_default.ensures.well (take i xs) tells) (well_faultless (w.in_default.ensures.well (take i xs) tells))
     ]
