@@ -7,7 +7,7 @@ use Rattle.record_walk.specs.References.{Reached, more}
 use Rattle.record_walk.specs.Forest.{Forest, all_rows, IsForest}
 use Rattle.record_walk.proofs.Lists.{pairs_from, pairs_of}
 use Rattle.record_walk.proofs.Back.{clean_of}
-use Rattle.cramfs_format.specs.Order.{Order}
+use Rattle.cramfs_format.specs.declared.order.Order.{Order}
 use Rattle.cramfs_format.specs.Inode.{size_of, type_of, offset_of, list_start}
 use Rattle.cramfs_format.specs.Refers.{references, target_of, LeadsToSound}
 use Rattle.cramfs_format.proofs.Lists.{directory_list, start_is}

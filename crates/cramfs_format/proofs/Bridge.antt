@@ -12,7 +12,7 @@ use Rattle.record_walk.specs.Forest.{Forest, none, at, Stands, rows, all_rows, I
 use Rattle.record_walk.proofs.Lists.{every_left, every_right, every_weaker, every_both}
 use Rattle.record_walk.proofs.Place.{rows_reached, rows_lead, rows_sound}
 use Rattle.record_walk.proofs.Same.{same_forest as same_standing}
-use Rattle.cramfs_format.specs.Order.{Order}
+use Rattle.cramfs_format.specs.declared.order.Order.{Order}
 use Rattle.cramfs_format.specs.Inode.{type_of, has_data, end_of, list_start, list_end, ListLies, HasBody}
 use Rattle.cramfs_format.specs.Refers.{references, target_of, root_place, LeadsToSound}
 use Rattle.cramfs_format.specs.Tree.{node_of, tree_of, entries_at, below_root, IsTree, CramfsTree}

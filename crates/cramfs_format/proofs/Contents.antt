@@ -5,7 +5,8 @@ use Rattle.std.proofs.lemmas.Bool.Decides.{eqb_tells}
 use Rattle.std.proofs.lemmas.List.{get_or_append_left, get_or-append_right}
 use Rattle.std.specs.Prelude.{slice_index}
 use Rattle.rom_tree.specs.Tree.{Node, IsIn, is_device, attributes_of, nodes, places_of, is_link, ino_of, row_from}
-use Rattle.cramfs_format.specs.Order.{Order, word}
+use Rattle.cramfs_format.specs.Order.{word}
+use Rattle.cramfs_format.specs.declared.order.Order.{Order}
 use Rattle.cramfs_format.specs.Inode.{type_of, size_of, offset_of, has_data, block_count, block_start, block_len, pointer_place, pointer_of, HasBody}
 use Rattle.cramfs_format.specs.Refers.{root_place}
 use Rattle.cramfs_format.specs.Tree.{kind_numbers, attributes_at, blocks_from, places_at, node_of, entries_at, by_type}

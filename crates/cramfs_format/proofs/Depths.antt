@@ -8,7 +8,7 @@ use Rattle.record_walk.specs.declared.reference.Reference.{Reference}
 use Rattle.record_walk.specs.declared.reference.Row.{Row}
 use Rattle.record_walk.specs.Forest.{Forest, none, at, Stands, rows, all_rows, IsForest}
 use Rattle.record_walk.proofs.Lists.{every_join, every_left, every_right}
-use Rattle.cramfs_format.specs.Order.{Order}
+use Rattle.cramfs_format.specs.declared.order.Order.{Order}
 use Rattle.cramfs_format.specs.Inode.{type_of, end_of, list_start, list_end}
 use Rattle.cramfs_format.specs.Refers.{references, target_of, root_place, LeadsToSound}
 use Rattle.cramfs_format.specs.Tree.{kind_numbers, places_at, node_of, tree_of, entries_at}

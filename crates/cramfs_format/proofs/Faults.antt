@@ -3,7 +3,8 @@ use Rattle.std.proofs.Common.{◌≡◌, ℕ, ◌+◌, ◌*◌, ◌<◌, Bool, t
 use Rattle.std.proofs.lemmas.Bool.{cases_lt, true≢false}
 use Rattle.record_walk.specs.declared.reference.Reference.{Reference}
 use Rattle.rom_faults.specs.declared.fault.Fault.{Fault}
-use Rattle.cramfs_format.specs.Order.{Order, word}
+use Rattle.cramfs_format.specs.Order.{word}
+use Rattle.cramfs_format.specs.declared.order.Order.{Order}
 use Rattle.cramfs_format.specs.Inode.{type_of, size_of, offset_of, name_of, end_of, is_kind, has_data, has_kinds, is_direct, block_count, block_start, block_len, pointer_place, pointer_of, IsPlain, Lies, TableLies, HasLinkSize, HasBody, Fits, IsSound, HasBodyFault, other_kind, link_size, list_outside, table_outside, other_block, block_outside, HasEntryFault, past_end, bad_name, bad_body}
 use Rattle.cramfs_format.specs.Refers.{LeadsToSound, LeadsToFault, root_list, of_entry}
 

@@ -4,7 +4,7 @@ use Rattle.std.proofs.lemmas.Bool.{ne_eqb, eq-eqb, cases_lt, false≢true}
 use Rattle.std.proofs.lemmas.Bool.Decides.{eqb_tells}
 use Rattle.record_walk.specs.declared.reference.Reference.{Reference}
 use Rattle.record_walk.specs.References.{Reached, top, more, AreLawful, edge, IsLive}
-use Rattle.cramfs_format.specs.Order.{Order}
+use Rattle.cramfs_format.specs.declared.order.Order.{Order}
 use Rattle.cramfs_format.specs.Inode.{end_of, list_start, list_end, ListLies}
 use Rattle.cramfs_format.specs.Refers.{references, target_of, root_place, LeadsToSound}
 use Rattle.cramfs_format.proofs.Lists.{lt_tells, end_after, in_list, start_is}

@@ -12,3 +12,5 @@ pub mod Orders
 pub mod Named
 pub mod Spans
 pub mod Alone
+pub mod Shifts
+pub mod Begins

@@ -12,7 +12,7 @@ use Rattle.record_walk.proofs.Lists.{every_weaker, every_both, has_weaker, has_b
 use Rattle.record_walk.proofs.Place.{Placed, rows_placed, rows_sound, listed_row, reached_row, listed_reached, listed_live}
 use Rattle.record_walk.proofs.Exact.{Differ}
 use Rattle.record_walk.proofs.Orders.{Follows, next as next_after, further as further_after, Comes, ordered}
-use Rattle.cramfs_format.specs.Order.{Order}
+use Rattle.cramfs_format.specs.declared.order.Order.{Order}
 use Rattle.cramfs_format.specs.Inode.{end_of, list_start, list_end, IsSound}
 use Rattle.cramfs_format.specs.Refers.{references, LeadsToSound}
 use Rattle.cramfs_format.specs.Faults.{IsReached, IsListed, ComesNext, ComesAfter, next, further}

@@ -11,7 +11,8 @@ use Rattle.record_walk.specs.declared.reference.Row.{Row}
 use Rattle.record_walk.specs.Members.{Has, Pairs}
 use Rattle.record_walk.proofs.Lists.{every_join, every_weaker, every_all, has_every, has_left, has_right, pairs_join}
 use Rattle.record_walk.proofs.Spans.{NotTwin, overlaps_in, overlaps_of, pairs_flat, every_added, pairs_added, has_added, has_flat, every_flat}
-use Rattle.cramfs_format.specs.Order.{Order, word}
+use Rattle.cramfs_format.specs.Order.{word}
+use Rattle.cramfs_format.specs.declared.order.Order.{Order}
 use Rattle.cramfs_format.specs.Inode.{size_of, type_of, offset_of, has_data, block_count, block_start}
 use Rattle.cramfs_format.specs.Tree.{data_from, file_extents, row_extents, extents_of}
 use Rattle.cramfs_format.specs.Faults.{IsReached, IsExtent, superblock, list_of, table_of, block_of, HasExtentFault}

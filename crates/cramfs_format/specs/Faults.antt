@@ -8,7 +8,8 @@ use Rattle.record_walk.specs.declared.reference.Reference.{Reference}
 use Rattle.rom_faults.specs.declared.fault.Fault.{Fault}
 use Rattle.record_walk.specs.References.{Reached}
 use Rattle.record_walk.specs.Faults.{TooMany, HasFault, Twice, InList, HasDepth, IsLeastFault, IsNone}
-use Rattle.cramfs_format.specs.Order.{Order, word}
+use Rattle.cramfs_format.specs.Order.{word}
+use Rattle.cramfs_format.specs.declared.order.Order.{Order}
 use Rattle.cramfs_format.specs.Inode.{name_of, end_of, size_of, type_of, offset_of, list_end, has_data, block_count, block_start, IsSound}
 use Rattle.cramfs_format.specs.Refers.{references, LeadsToSound, LeadsToFault}
 use Rattle.cramfs_format.specs.Tree.{precedes, is_sorted}

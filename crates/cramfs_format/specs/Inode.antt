@@ -8,7 +8,8 @@
 use Rattle.std.specs.Prelude.{◌≡◌, ℕ, ◌+◌, ◌-◌, ◌*◌, ◌/◌, ◌%◌, ◌^◌, ◌<◌, ◌≤◌, ◌⊎◌, min, Bool, true, false, if◌then◌else◌, ◌==◌, ◌||◌, ◌&&◌, List, [], ◌∷◌, length, take, drop}
 use Rattle.std.specs.List.{Contains}
 use Rattle.rom_faults.specs.declared.fault.Fault.{Fault}
-use Rattle.cramfs_format.specs.Order.{Order, word, first_field, field_after}
+use Rattle.cramfs_format.specs.Order.{word, first_field, field_after}
+use Rattle.cramfs_format.specs.declared.order.Order.{Order}
 use Rattle.rom_faults.specs.declared.fault.TheConstants.{BOUNDS, BAD_NAME, KIND, LINK_SIZE, BLOCK_KIND, LIST_END}
 
 -- file type and permissions

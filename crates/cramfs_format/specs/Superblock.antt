@@ -4,7 +4,9 @@
 -- 6 Flags at 8, 7 Crc at 32, 8 Signature at 16, 9 Root at 64.
 use Rattle.std.specs.Prelude.{◌++◌, ◌≡◌, ◌≢◌, ℕ, ◌/◌, ◌%◌, ◌^◌, ◌<◌, ◌≤◌, ◌⊎◌, min, Bool, true, false, if◌then◌else◌, ◌==◌, List, [], ◌∷◌, length, take, drop}
 use Rattle.rom_faults.specs.declared.fault.Fault.{Fault}
-use Rattle.cramfs_format.specs.Order.{Order, word}
+use Rattle.cramfs_format.specs.Order.{word}
+use Rattle.cramfs_format.specs.declared.order.Order.{Order}
+use Rattle.cramfs_format.specs.declared.order.Order.TheVariants.{Little, Big}
 use Rattle.cramfs_format.specs.Inode.{type_of, offset_of, size_of}
 use Rattle.cramfs_format.specs.Refers.{root_place}
 use Rattle.crc.specs.Crc.{crc_of}
@@ -13,6 +15,10 @@ use Rattle.rom_faults.specs.declared.fault.TheConstants.{SHORT, MAGIC, SIZE, FLA
 -- 28cd3d45 (hexadecimal)
 abbrev pub magic : ℕ
 magic = 684539205
+
+-- the byte order of an image: big-endian where its first word is the magic in that order, else little-endian
+unfoldable pub order_of : List ℕ → Order
+order_of bytes = if word Big bytes 0 == magic then Big else Little
 
 -- `Compressed ROMFS`
 abbrev pub signature : List ℕ

@@ -10,7 +10,8 @@ use Rattle.rom_tree.specs.declared.types.Kind.{Kind}
 use Rattle.rom_tree.specs.Dots.{dot, dot_dot}
 use Rattle.rom_tree.specs.Kinds.{KindNumbers, by_kind, kind_by, body_by, device_by}
 use Rattle.rom_tree.specs.Tree.{Node, node, Body, Entries, no_entries, entry, Attributes, row_from, depth}
-use Rattle.cramfs_format.specs.Order.{Order, word}
+use Rattle.cramfs_format.specs.Order.{word}
+use Rattle.cramfs_format.specs.declared.order.Order.{Order}
 use Rattle.cramfs_format.specs.Inode.{mode_of, uid_of, gid_of, size_of, type_of, name_of, offset_of, has_data, block_count, block_start}
 use Rattle.cramfs_format.specs.Refers.{references, root_place, LeadsToSound}
 use Rattle.cramfs_format.specs.Superblock.{IsSuperblock}

@@ -1,16 +1,19 @@
 //! Laws about the cramfs definitions.
 ghost use Rattle.std.specs.Prelude.{◌≡◌, ◌≤◌, ◌<◌, ◌^◌, ℕ, List, length};
 ghost use Rattle.record_walk.specs.Forest.{Forest, all_rows};
-ghost use Rattle.cramfs_format.specs.Order.{Order};
+ghost use Rattle.cramfs_format.specs.declared.order.Order.{Order};
 ghost use Rattle.cramfs_format.specs.Inode.{type_of};
 ghost use Rattle.cramfs_format.specs.Refers.{references, root_place};
+ghost use Rattle.cramfs_format.specs.Superblock.{order_of};
 ghost use Rattle.cramfs_format.specs.Tree.{CramfsTree, IsTree, tree_of};
 ghost use Rattle.cramfs_format.specs.Made.{IsCramfs, made};
 ghost use Rattle.rom_tree.specs.Tree.{Node};
 
-/// An image has at most one tree, under whatever limits.
+/// An image has at most one tree, in whatever byte order and under whatever limits; and the order is
+/// that in which it begins with the magic.
 pub fn one_tree()
-    ensures { (o : Order) (bytes : List ℕ) (m n d e : ℕ) (t u : Node) → CramfsTree o bytes m d t → CramfsTree o bytes n e u → t ≡ u }
+    ensures tree { (o p : Order) (bytes : List ℕ) (m n d e : ℕ) (t u : Node) → CramfsTree o bytes m d t → CramfsTree p bytes n e u → t ≡ u }
+    ensures order { (o : Order) (bytes : List ℕ) (m d : ℕ) (t : Node) → CramfsTree o bytes m d t → o ≡ order_of bytes }
 {}
 
 /// The tree of an image is a function of its bytes and the number of its records; and what a reader

@@ -10,3 +10,4 @@
 #![tactic(auto)]
 
 pub mod laws;
+pub mod order;

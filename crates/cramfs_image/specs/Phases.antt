@@ -1,12 +1,11 @@
 -- What the phases of the check look for: at one record, and among the records of a forest.
 use Rattle.std.specs.Borrow.{Bor}
-use Rattle.std.specs.Prelude.{◌≡◌, ℕ, ◌+◌, ◌*◌, ◌<◌, ◌≤◌, ◌⊎◌, ◌&&◌, ◌||◌, ◌==◌, Bool, true, false, nat_lt, nat_le, if◌then◌else◌, List, [], ◌∷◌, ◌++◌, length, drop, Option, None, Some, IfSome, IsSomeAnd}
+use Rattle.std.specs.Prelude.{◌≡◌, ℕ, ◌+◌, ◌*◌, ◌<◌, ◌≤◌, ◌⊎◌, ◌==◌, Bool, true, false, if◌then◌else◌, List, [], ◌∷◌, ◌++◌, length, drop, Option, None, Some, IsSomeAnd}
 use Rattle.std.specs.List.{Any}
 use Rattle.rom_fields.specs.Extents.{OverlapsAt, IsLeastOf}
 use Rattle.rom_faults.specs.declared.fault.Fault.{Fault}
 use Rattle.record_walk.specs.declared.reference.Row.{Row}
 use Rattle.record_walk.specs.Sweep.{IsLeastRowFault}
-use Rattle.record_walk.specs.Faults.{NotAfter}
 use Rattle.cramfs_format.specs.Order.{Order, word}
 use Rattle.cramfs_format.specs.Inode.{type_of, size_of, name_of, is_kind, has_data, block_count, block_start, pointer_place, pointer_of, IsPlain, Lies, ListLies, TableLies, BlockLies, HasBody, IsName}
 use Rattle.cramfs_format.specs.Tree.{precedes, is_sorted, extents_of, IsNoDot}

@@ -1,0 +1,55 @@
+//! The byte order of an image.
+ghost use Rattle.std.specs.Prelude.{◌≡◌, ◌+◌, ◌-◌, ◌≤◌, ◌<◌, ◌^◌, length};
+ghost use Rattle.cramfs_format.specs.Order.{word as word_of, first_field, field_after};
+
+use byteorder::{BigEndian, ByteOrder, LittleEndian};
+
+/// The byte order of a cramfs image, which is that of the machine that it is made for. It says how
+/// four bytes make a word, and at which end of a word its first field is.
+#[derive(Clone, Copy, Debug, PartialEq, Eq)]
+pub enum Order {
+    /// The first byte of a word and the first field of a word are its lowest bits.
+    Little,
+    /// The first byte of a word and the first field of a word are its highest bits.
+    Big,
+}
+
+impl Order {
+    /// The word whose first byte is at `at`.
+    #[tactic(auto, unfolding(crate::specs::Order::word, rom_fields::specs::Words::word_le, rom_fields::specs::Words::word_be))]
+    pub fn word(self, b: &[u8], at: usize) -> u32
+        requires { at + 4 ≤ length b.now }
+        ensures { result ≡ word_of self b.now at }
+    {
+        match self {
+            Order::Little => LittleEndian::read_u32(&b[at..]),
+            Order::Big => BigEndian::read_u32(&b[at..]),
+        }
+    }
+
+    /// The first field of a word, of `bits` bits.
+    pub fn first_field(self, bits: u32, word: u32) -> u32
+        requires some { 0 < bits }
+        requires few { bits < 32 }
+        ensures field { result ≡ first_field self bits word }
+        ensures small { result < 2 ^ bits }
+    {
+        match self {
+            Order::Little => word % (1 << bits),
+            Order::Big => word >> (32 - bits),
+        }
+    }
+
+    /// What comes after a first field of `bits` bits.
+    pub fn field_after(self, bits: u32, word: u32) -> u32
+        requires some { 0 < bits }
+        requires few { bits < 32 }
+        ensures field { result ≡ field_after self bits word }
+        ensures small { result < 2 ^ (32 - bits) }
+    {
+        match self {
+            Order::Little => word >> bits,
+            Order::Big => word % (1 << (32 - bits)),
+        }
+    }
+}
