@@ -1,6 +1,6 @@
 -- How the byte order of a cramfs image, which is that of the machine that it is made for, reads a word and its fields
 -- (Linux include/uapi/linux/cramfs_fs.h, and bit fields as the compilers of such machines place them).
-use Rattle.std.specs.Prelude.{ℕ, ◌-◌, ◌/◌, ◌%◌, ◌^◌, List}
+use Rattle.std.specs.Prelude.{ℕ, ◌-◌, ◌/◌, ◌%◌, ◌^◌, Bool, true, false, List}
 use Rattle.rom_fields.specs.Words.{word_be, word_le}
 use Rattle.cramfs_format.specs.declared.order.Order.{Order}
 use Rattle.cramfs_format.specs.declared.order.Order.TheVariants.{Little, Big}
@@ -19,3 +19,7 @@ first_field Big bits w = w / 2 ^ (32 - bits)
 abbrev pub field_after : Order → ℕ → ℕ → ℕ
 field_after Little bits w = w / 2 ^ bits
 field_after Big bits w = w % 2 ^ (32 - bits)
+
+abbrev pub is_big : Order → Bool
+is_big Little = false
+is_big Big = true

@@ -6,7 +6,8 @@ use Rattle.std.specs.Str.{bytes_eq}
 use Rattle.rom_tree.specs.declared.types.Kind.{Kind}
 use Rattle.rom_tree.specs.Tree.{Node, entry_at, entries_of, places_of, ino_of}
 use Rattle.rom_tree.specs.Image.{find_entry, stat_of, IsEntry, IsRun}
-use Rattle.cramfs_format.specs.Order.{Order, word}
+use Rattle.cramfs_format.specs.Order.{word}
+use Rattle.cramfs_format.specs.declared.order.Order.{Order}
 use Rattle.cramfs_format.specs.Inode.{mode_of, uid_of, gid_of, size_of, type_of, name_of, name_room, end_of, offset_of, list_start, list_end, without_zeros, block_start, pointer_place, pointer_of, HasBody}
 use Rattle.cramfs_format.specs.Tree.{kind_numbers, node_of, entries_at, kind_named, places_at, attributes_at, by_type}
 use Rattle.cramfs_format.specs.Made.{grow, list_at, made, index_at, cursor_of, IsCramfs}

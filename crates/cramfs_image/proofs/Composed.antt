@@ -14,7 +14,7 @@ use Rattle.record_walk.specs.Forest.{Forest, all_rows, IsForest, NamesDiffer}
 use Rattle.record_walk.proofs.Lists.{pairs_to, every_weaker, every_both}
 use Rattle.record_walk.proofs.Exact.{every_split, pairs_split}
 use Rattle.record_walk.proofs.Decided.{same_or_not}
-use Rattle.cramfs_format.specs.Order.{Order}
+use Rattle.cramfs_format.specs.declared.order.Order.{Order}
 use Rattle.cramfs_format.specs.Inode.{name_of}
 use Rattle.cramfs_format.specs.Refers.{references, LeadsToSound}
 use Rattle.cramfs_format.specs.Tree.{precedes, is_sorted, extents_of, NamesRise, IsNoDot, IsTree}

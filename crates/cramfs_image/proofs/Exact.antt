@@ -13,7 +13,7 @@ use Rattle.record_walk.proofs.Place.{one_depth}
 use Rattle.record_walk.proofs.Back.{clean_of}
 use Rattle.record_walk.proofs.Exact.{has_member, member_every, every_here, split_at, FoundAt}
 use Rattle.record_walk.proofs.Decided.{same_or_not}
-use Rattle.cramfs_format.specs.Order.{Order}
+use Rattle.cramfs_format.specs.declared.order.Order.{Order}
 use Rattle.cramfs_format.specs.Inode.{name_of}
 use Rattle.cramfs_format.specs.Refers.{references, LeadsToSound}
 use Rattle.cramfs_format.specs.Tree.{precedes, is_sorted, IsNoDot}

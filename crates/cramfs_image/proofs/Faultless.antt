@@ -1,5 +1,5 @@
 -- The image of a tree has no fault, so a fault leaves no tree.
-use Rattle.std.proofs.Common.{◌≡◌, ℕ, min, true, List, [], ◌∷◌, ◌++◌, drop, Option, None, Some, inl, inr, refl, ap, subst, ◌∙◌, arith}
+use Rattle.std.proofs.Common.{sym, ◌≡◌, ℕ, min, true, List, [], ◌∷◌, ◌++◌, drop, Option, None, Some, inl, inr, refl, ap, subst, ◌∙◌, arith}
 use Rattle.std.proofs.lemmas.Bool.Decides.{eqb_tells}
 use Rattle.std.proofs.lemmas.List.Elements.{recursion_from_All, All-from_recursion}
 use Rattle.std.specs.Prelude.{IsSomeAnd}
@@ -14,13 +14,15 @@ use Rattle.record_walk.specs.Members.{Pairs}
 use Rattle.record_walk.specs.Forest.{Forest, all_rows, NamesDiffer}
 use Rattle.record_walk.proofs.Lists.{every_weaker, pairs_cross, pairs_from}
 use Rattle.record_walk.proofs.Exact.{every_here}
-use Rattle.cramfs_format.specs.Order.{Order}
+use Rattle.cramfs_format.specs.declared.order.Order.{Order}
 use Rattle.cramfs_format.specs.Inode.{name_of}
 use Rattle.cramfs_format.specs.Refers.{references}
 use Rattle.cramfs_format.specs.Tree.{precedes, tree_of, NamesRise, IsNoDot, IsTree, CramfsTree}
 use Rattle.cramfs_format.specs.Faults.{HasNoFault, IsLeastImageFault, record_fault, twice_fault, depth_fault, extent_fault, name_fault, whole, many, phase}
 use Rattle.cramfs_format.proofs.Depths.{IsWithin, all_within}
 use Rattle.cramfs_format.proofs.Orders.{precedes_on, never_self}
+use Rattle.cramfs_format.specs.Superblock.{order_of}
+use Rattle.cramfs_format.proofs.Begins.{tree_order}
 use Rattle.cramfs_image.specs.Checked.{IsRefused, IsLeastAnswer}
 use Rattle.cramfs_image.specs.Phases.{Repeats, last_name, IsWellNamed, AreWell}
 use Rattle.cramfs_image.proofs.Least.{faultless}
@@ -90,7 +92,9 @@ no_least {e = e} h (phase n m k) = elim k [
   | name_fault i j k q l ↦ h.named e l.here
 ]
 
--- what answers the least fault refuses
-pub least_refuses : (o : Order) (bytes : List ℕ) (limits : Limits) (e : CheckError) → IsLeastAnswer o bytes limits e → IsRefused o bytes limits e
-least_refuses o bytes limits OutOfMemory h = tt
-least_refuses o bytes limits (FaultAnswer number place) h = λ t x. no_least (faultless_of_tree o bytes limits.references limits.depth t x) h
+-- what answers the least fault refuses a tree in either byte order
+pub least_refuses : (o : Order) (bytes : List ℕ) (limits : Limits) (e : CheckError) → o ≡ order_of bytes → IsLeastAnswer o bytes limits e → IsRefused bytes limits e
+least_refuses o bytes limits OutOfMemory is h = tt
+least_refuses o bytes limits (FaultAnswer number place) is h = λ t x.
+    let same = tree_order x.0 bytes limits.references limits.depth t x.1 ∙ sym is in
+    no_least (faultless_of_tree o bytes limits.references limits.depth t (subst (λ (v : Order). CramfsTree v bytes limits.references limits.depth t) same x.1)) h

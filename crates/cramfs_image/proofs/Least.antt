@@ -13,7 +13,7 @@ use Rattle.record_walk.specs.Forest.{Forest, all_rows, IsForest}
 use Rattle.record_walk.specs.Faults.{IsLeastFault, IsNone}
 use Rattle.record_walk.proofs.Back.{clean_of}
 use Rattle.record_walk.proofs.Exact.{none_found, least_found, least_numbered}
-use Rattle.cramfs_format.specs.Order.{Order}
+use Rattle.cramfs_format.specs.declared.order.Order.{Order}
 use Rattle.cramfs_format.specs.Refers.{references, LeadsToSound, LeadsToFault}
 use Rattle.cramfs_format.specs.Tree.{extents_of}
 use Rattle.cramfs_format.specs.Superblock.{IsSuperblock, HasImageFault, short, no_magic, bad_size, bad_flags, bad_crc, unsigned, bad_root, accessible, HasFlags, HasCrc, HasSignature, HasRoot}

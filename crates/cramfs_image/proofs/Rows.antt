@@ -10,7 +10,7 @@ use Rattle.rom_fields.specs.Extents.{is_shareable, OverlapsAt, IsLeastOf, added}
 use Rattle.rom_fields.proofs.Same.{least_permuted}
 use Rattle.record_walk.specs.declared.reference.Row.{Row}
 use Rattle.record_walk.proofs.Lists.{every_join, every_weaker, has_left, has_right}
-use Rattle.cramfs_format.specs.Order.{little}
+use Rattle.cramfs_format.specs.declared.order.Order.{Order}
 use Rattle.cramfs_format.specs.Inode.{type_of, size_of, offset_of, has_data, block_count, pointer_place}
 use Rattle.cramfs_format.specs.Tree.{data_from, file_extents, row_extents, extents_of}
 use Rattle.cramfs_image.specs.declared.overlap.File.{File}
@@ -18,7 +18,6 @@ use Rattle.cramfs_image.specs.Phases.{IsRecord}
 use Rattle.cramfs_image.specs.Files.{list_part, file_part, spans_of, FileLies, AddsFiles}
 use Rattle.cramfs_image.proofs.Repeats.{Same, same_self, same_drop, same_least, IsRepeat}
 use Rattle.cramfs_image.proofs.Blocks.{Member, all_spans_shareable}
-
 -- one member more
 flat_push : {X Y : Type 0} (g : X → List Y) (xs : List X) (x : X) → flat_map g (xs ++ x ∷ []) ≡ flat_map g xs ++ g x
 flat_push g [] x = append-nil (g x)
@@ -44,34 +43,34 @@ split f g (x ∷ xs) =
     IsPermutation-trans _ _ _ (subst (IsPermutation ((f x ++ g x) ++ R)) a one) (subst (IsPermutation (f x ++ ((g x ++ F) ++ G))) b two)
 
 -- the extents of a row are its list and those of its file
-abbrev files : List ℕ → Row → List Span
-files b x = if has_data (type_of little b x.offset) then file_extents little b x.offset else []
+abbrev files : Order → List ℕ → Row → List Span
+files o b x = if has_data (type_of o b x.offset) then file_extents o b x.offset else []
 
-file_is : (b : List ℕ) (x : Row) → flat_map (spans_of b) (file_part b x) ≡ files b x
+file_is : (o : Order) (b : List ℕ) (x : Row) → flat_map (spans_of o b) (file_part o b x) ≡ files o b x
 unfolding file_extents
-file_is b x = elim (has_data (type_of little b x.offset)) as (λ v. flat_map (spans_of b) (if v then record { table = offset_of little b x.offset; size = size_of little b x.offset } ∷ [] else [])
-    ≡ (if v then added Table (offset_of little b x.offset) (4 * block_count (size_of little b x.offset)) ++ data_from little b (block_count (size_of little b x.offset)) (offset_of little b x.offset) (size_of little b x.offset) else [])) [
+file_is o b x = elim (has_data (type_of o b x.offset)) as (λ v. flat_map (spans_of o b) (if v then record { table = offset_of o b x.offset; size = size_of o b x.offset } ∷ [] else [])
+    ≡ (if v then added Table (offset_of o b x.offset) (4 * block_count (size_of o b x.offset)) ++ data_from o b (block_count (size_of o b x.offset)) (offset_of o b x.offset) (size_of o b x.offset) else [])) [
       | true ↦ append-nil _
       | false ↦ refl
     ]
 
-files_are : (b : List ℕ) (rows : List Row) → flat_map (spans_of b) (flat_map (file_part b) rows) ≡ flat_map (files b) rows
-files_are b [] = refl
-files_are b (x ∷ rows) = flat_join (spans_of b) (file_part b x) (flat_map (file_part b) rows) ∙ ap (λ v. v ++ flat_map (spans_of b) (flat_map (file_part b) rows)) (file_is b x) ∙ ap (λ v. files b x ++ v) (files_are b rows)
+files_are : (o : Order) (b : List ℕ) (rows : List Row) → flat_map (spans_of o b) (flat_map (file_part o b) rows) ≡ flat_map (files o b) rows
+files_are o b [] = refl
+files_are o b (x ∷ rows) = flat_join (spans_of o b) (file_part o b x) (flat_map (file_part o b) rows) ∙ ap (λ v. v ++ flat_map (spans_of o b) (flat_map (file_part o b) rows)) (file_is o b x) ∙ ap (λ v. files o b x ++ v) (files_are o b rows)
   where
     flat_join : {X Y : Type 0} (g : X → List Y) (xs ys : List X) → flat_map g (xs ++ ys) ≡ flat_map g xs ++ flat_map g ys
     flat_join g [] ys = refl
     flat_join g (x ∷ xs) ys = ap (λ v. g x ++ v) (flat_join g xs ys) ∙ sym (append_assoc (g x) (flat_map g xs) (flat_map g ys))
 
 -- members of what a list's members give
-every_files : (P : Span → Type 0) (b : List ℕ) (fs : List File) → Every (λ f. Every P (spans_of b f)) fs → Every P (flat_map (spans_of b) fs)
-every_files P b [] h = tt
-every_files P b (f ∷ fs) h = every_join P (spans_of b f) (flat_map (spans_of b) fs) h.0 (every_files P b fs h.1)
+every_files : (P : Span → Type 0) (o : Order) (b : List ℕ) (fs : List File) → Every (λ f. Every P (spans_of o b f)) fs → Every P (flat_map (spans_of o b) fs)
+every_files P o b [] h = tt
+every_files P o b (f ∷ fs) h = every_join P (spans_of o b f) (flat_map (spans_of o b) fs) h.0 (every_files P o b fs h.1)
 
-has_file : (b : List ℕ) (z : Span) (fs : List File) (k : ℕ) (f : File) → k < length fs → get_or fs k f ≡ f → Member z (spans_of b f) → Member z (flat_map (spans_of b) fs)
-has_file b z [] k f l e m = absurd (omega arith)
-has_file b z (g ∷ fs) zero f l e m = has_left (λ (y : Span). y ≡ z) (spans_of b g) (flat_map (spans_of b) fs) (subst (λ (v : File). Member z (spans_of b v)) (sym e) m)
-has_file b z (g ∷ fs) (suc k) f l e m = has_right (λ (y : Span). y ≡ z) (spans_of b g) (flat_map (spans_of b) fs) (has_file b z fs k f (omega arith) e m)
+has_file : (o : Order) (b : List ℕ) (z : Span) (fs : List File) (k : ℕ) (f : File) → k < length fs → get_or fs k f ≡ f → Member z (spans_of o b f) → Member z (flat_map (spans_of o b) fs)
+has_file o b z [] k f l e m = absurd (omega arith)
+has_file o b z (g ∷ fs) zero f l e m = has_left (λ (y : Span). y ≡ z) (spans_of o b g) (flat_map (spans_of o b) fs) (subst (λ (v : File). Member z (spans_of o b v)) (sym e) m)
+has_file o b z (g ∷ fs) (suc k) f l e m = has_right (λ (y : Span). y ≡ z) (spans_of o b g) (flat_map (spans_of o b) fs) (has_file o b z fs k f (omega arith) e m)
 
 repeats : (ks xs : List Span) → Every (λ (z : Span). is_shareable z.kind ≡ true) xs → Every (λ z. Member z ks) xs → Every (IsRepeat ks) xs
 repeats ks [] p q = tt
@@ -82,17 +81,17 @@ back_if P Q None f h = h
 back_if P Q (Some p) f h = f p h
 
 -- What is added of files has their overlaps, with what stands before.
-pub rows_least : (b : List ℕ) (rows : List Row) (sorted : List File) (base es : List Span) (v : Option ℕ) → base ≡ added Super 0 76 ++ flat_map (list_part b) rows → IsPermutation (flat_map (file_part b) rows) sorted
-    → AddsFiles b sorted base es → IsLeastOf (OverlapsAt es) v → IsLeastOf (OverlapsAt (extents_of little b rows)) v
-rows_least b rows sorted base es v e p w h =
-    let fs : List File = flat_map (file_part b) rows in
-    let all : List Span = flat_map (spans_of b) fs in
+pub rows_least : (o : Order) (b : List ℕ) (rows : List Row) (sorted : List File) (base es : List Span) (v : Option ℕ) → base ≡ added Super 0 76 ++ flat_map (list_part o b) rows → IsPermutation (flat_map (file_part o b) rows) sorted
+    → AddsFiles o b sorted base es → IsLeastOf (OverlapsAt es) v → IsLeastOf (OverlapsAt (extents_of o b rows)) v
+rows_least o b rows sorted base es v e p w h =
+    let fs : List File = flat_map (file_part o b) rows in
+    let all : List Span = flat_map (spans_of o b) fs in
     let gs : List Span = w.more in
-    let into : Every (λ z. Member z all) gs = every_weaker (λ z. (f : File) × Contains sorted f × Member z (spans_of b f)) (λ z. Member z all)
+    let into : Every (λ z. Member z all) gs = every_weaker (λ z. (f : File) × Contains sorted f × Member z (spans_of o b f)) (λ z. Member z all)
     (λ z m. let c = Contains-permutation sorted fs m.0 (IsPermutation-sym fs sorted p) m.1 in found z m.0 c m.2) gs w.into in
-    let back : Every (λ z. Member z gs) all = every_files (λ z. Member z gs) b fs (recursion_from_All (λ f. Every (λ z. Member z gs) (spans_of b f)) fs (All-permutation (λ f. Every (λ z. Member z gs) (spans_of b f)) sorted fs (IsPermutation-sym fs sorted p) w.back)) in
+    let back : Every (λ z. Member z gs) all = every_files (λ z. Member z gs) o b fs (recursion_from_All (λ f. Every (λ z. Member z gs) (spans_of o b f)) fs (All-permutation (λ f. Every (λ z. Member z gs) (spans_of o b f)) sorted fs (IsPermutation-sym fs sorted p) w.back)) in
     let one : Same (base ++ gs) ((base ++ gs) ++ all) = same_drop (base ++ gs) (base ++ gs) all (same_self (base ++ gs))
-    (repeats (base ++ gs) all (all_spans_shareable b fs) (every_weaker (λ z. Member z gs) (λ z. Member z (base ++ gs)) (λ z. has_right (λ (y : Span). y ≡ z) base gs) all back)) in
+    (repeats (base ++ gs) all (all_spans_shareable o b fs) (every_weaker (λ z. Member z gs) (λ z. Member z (base ++ gs)) (λ z. has_right (λ (y : Span). y ≡ z) base gs) all back)) in
     let two : Same (base ++ all) ((base ++ all) ++ gs) = same_drop (base ++ all) (base ++ all) gs (same_self (base ++ all))
     (repeats (base ++ all) gs w.shareable (every_weaker (λ z. Member z all) (λ z. Member z (base ++ all)) (λ z. has_right (λ (y : Span). y ≡ z) base all) gs into)) in
     let turn : IsPermutation (base ++ (all ++ gs)) (base ++ (gs ++ all)) = IsPermutation-append_right base (all ++ gs) (gs ++ all) (IsPermutation-append_comm all gs) in
@@ -101,24 +100,24 @@ rows_least b rows sorted base es v e p w h =
     let c : IsLeastOf (OverlapsAt ((base ++ gs) ++ all)) v = same_least (base ++ gs) ((base ++ gs) ++ all) v one a in
     let d : IsLeastOf (OverlapsAt ((base ++ all) ++ gs)) v = least_permuted ((base ++ all) ++ gs) ((base ++ gs) ++ all) v swap c in
     let f : IsLeastOf (OverlapsAt (base ++ all)) v = record { here = back_if (OverlapsAt ((base ++ all) ++ gs)) (OverlapsAt (base ++ all)) v two.under d.here; least = λ q k. d.least q (two.over q k) } in
-    least_permuted (extents_of little b rows) (base ++ all) v whole f
+    least_permuted (extents_of o b rows) (base ++ all) v whole f
   where
-    found : (z : Span) (f : File) → Contains (flat_map (file_part b) rows) f → Member z (spans_of b f) → Member z (flat_map (spans_of b) (flat_map (file_part b) rows))
-    found z f c m = has_file b z (flat_map (file_part b) rows) c.0 f c.1 c.2 m
+    found : (z : Span) (f : File) → Contains (flat_map (file_part o b) rows) f → Member z (spans_of o b f) → Member z (flat_map (spans_of o b) (flat_map (file_part o b) rows))
+    found z f c m = has_file o b z (flat_map (file_part o b) rows) c.0 f c.1 c.2 m
 
-    whole : IsPermutation (extents_of little b rows) (base ++ flat_map (spans_of b) (flat_map (file_part b) rows))
+    whole : IsPermutation (extents_of o b rows) (base ++ flat_map (spans_of o b) (flat_map (file_part o b) rows))
     whole =
-        let k : IsPermutation (added Super 0 76 ++ flat_map (row_extents little b) rows) (added Super 0 76 ++ (flat_map (list_part b) rows ++ flat_map (files b) rows)) =
-        IsPermutation-append_right (added Super 0 76) (flat_map (row_extents little b) rows) (flat_map (list_part b) rows ++ flat_map (files b) rows) (split (list_part b) (files b) rows) in
-        let same : added Super 0 76 ++ (flat_map (list_part b) rows ++ flat_map (files b) rows) ≡ base ++ flat_map (spans_of b) (flat_map (file_part b) rows) =
-        sym (append_assoc (added Super 0 76) (flat_map (list_part b) rows) (flat_map (files b) rows)) ∙ ap (λ x. x ++ flat_map (files b) rows) (sym e) ∙ ap (λ x. base ++ x) (sym (files_are b rows)) in
-        subst (IsPermutation (extents_of little b rows)) same k
+        let k : IsPermutation (added Super 0 76 ++ flat_map (row_extents o b) rows) (added Super 0 76 ++ (flat_map (list_part o b) rows ++ flat_map (files o b) rows)) =
+        IsPermutation-append_right (added Super 0 76) (flat_map (row_extents o b) rows) (flat_map (list_part o b) rows ++ flat_map (files o b) rows) (split (list_part o b) (files o b) rows) in
+        let same : added Super 0 76 ++ (flat_map (list_part o b) rows ++ flat_map (files o b) rows) ≡ base ++ flat_map (spans_of o b) (flat_map (file_part o b) rows) =
+        sym (append_assoc (added Super 0 76) (flat_map (list_part o b) rows) (flat_map (files o b) rows)) ∙ ap (λ x. x ++ flat_map (files o b) rows) (sym e) ∙ ap (λ x. base ++ x) (sym (files_are o b rows)) in
+        subst (IsPermutation (extents_of o b rows)) same k
 
 -- what a file takes lies among the bytes
-pub file_lies : (b : List ℕ) (p table size : ℕ) → IsRecord little b p → has_data (type_of little b p) ≡ true → table ≡ offset_of little b p → size ≡ size_of little b p → table < 2 ^ 28 → size < 2 ^ 24 → table % 4 ≡ 0
-    → FileLies b (record { table = table; size = size })
+pub file_lies : (o : Order) (b : List ℕ) (p table size : ℕ) → IsRecord o b p → has_data (type_of o b p) ≡ true → table ≡ offset_of o b p → size ≡ size_of o b p → table < 2 ^ 28 → size < 2 ^ 24 → table % 4 ≡ 0
+    → FileLies o b (record { table = table; size = size })
 unfolding pointer_place
-file_lies b p table size r d e f l m a = record {
+file_lies o b p table size r d e f l m a = record {
   aligned = a;
   low = l;
   small = m;
@@ -128,5 +127,5 @@ file_lies b p table size r d e f l m a = record {
       (rw (e, f) t.1);
 }
 
-pub all_lie : (b : List ℕ) (fs sorted : List File) → IsPermutation fs sorted → Every (FileLies b) fs → All (FileLies b) sorted
-all_lie b fs sorted p h = All-permutation (FileLies b) fs sorted p (All-from_recursion (FileLies b) fs h)
+pub all_lie : (o : Order) (b : List ℕ) (fs sorted : List File) → IsPermutation fs sorted → Every (FileLies o b) fs → All (FileLies o b) sorted
+all_lie o b fs sorted p h = All-permutation (FileLies o b) fs sorted p (All-from_recursion (FileLies o b) fs h)

@@ -5,7 +5,7 @@ use Rattle.rom_tree.specs.Image.{Image}
 use Rattle.rom_tree.specs.Tree.{depth, levels}
 use Rattle.rom_tree.specs.declared.types.Limits.{Limits}
 use Rattle.rom_tree.specs.declared.types.Report.{Report}
-use Rattle.cramfs_format.specs.Order.{Order}
+use Rattle.cramfs_format.specs.declared.order.Order.{Order}
 use Rattle.cramfs_image.specs.Checked.{Shows}
 
 pub shallow : {o : Order} {all : List ℕ} {limits : Limits} {m : Image} {report : Report} → Shows o all limits m report → levels m.tree ≤ 65

@@ -3,7 +3,8 @@ use Rattle.std.proofs.Common.{◌≡◌, ℕ, suc, ◌+◌, ◌-◌, ◌*◌, �
 use Rattle.rom_fields.specs.declared.span.Span.{Span}
 use Rattle.rom_fields.specs.declared.span.Extent.TheVariants.{Table, Data}
 use Rattle.rom_fields.specs.Extents.{added}
-use Rattle.cramfs_format.specs.Order.{Order, word}
+use Rattle.cramfs_format.specs.Order.{word}
+use Rattle.cramfs_format.specs.declared.order.Order.{Order}
 use Rattle.cramfs_format.specs.Inode.{type_of, size_of, offset_of, has_data, block_count, block_start, block_len, pointer_of, HasBody}
 use Rattle.cramfs_format.specs.Tree.{data_from, file_extents}
 use Rattle.cramfs_image.proofs.Faults.{pointer_read}

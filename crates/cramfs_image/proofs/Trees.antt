@@ -8,7 +8,7 @@ use Rattle.rom_tree.specs.declared.types.Limits.{Limits}
 use Rattle.record_walk.specs.declared.reference.Row.{Row}
 use Rattle.record_walk.specs.Forest.{Forest, none, at, all_rows, IsForest}
 use Rattle.record_walk.proofs.Lists.{every_weaker}
-use Rattle.cramfs_format.specs.Order.{Order}
+use Rattle.cramfs_format.specs.declared.order.Order.{Order}
 use Rattle.cramfs_format.specs.Refers.{references, root_place, LeadsToSound}
 use Rattle.cramfs_format.specs.Superblock.{IsSuperblock}
 use Rattle.cramfs_format.specs.Tree.{tree_of, IsTree}

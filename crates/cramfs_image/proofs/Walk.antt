@@ -3,7 +3,7 @@ use Rattle.std.proofs.Common.{◌≡◌, ℕ, suc, ◌+◌, ◌*◌, ◌<◌, �
 use Rattle.std.proofs.lemmas.Bool.{ne_eqb, eq-eqb, false≢true}
 use Rattle.std.specs.Prelude.{max}
 use Rattle.rom_tree.specs.Tree.{Node, nodes, body_nodes, body_depth, entries_depth, entries_nodes, directory, regular, symlink, block, character, socket, fifo}
-use Rattle.cramfs_format.specs.Order.{Order}
+use Rattle.cramfs_format.specs.declared.order.Order.{Order}
 use Rattle.cramfs_format.specs.Inode.{type_of, end_of, list_start, list_end}
 use Rattle.cramfs_format.specs.Refers.{root_place}
 use Rattle.cramfs_format.specs.Made.{grow, list_at, made, IsCramfs}

@@ -8,7 +8,8 @@ use Rattle.record_walk.specs.Forest.{Forest, all_rows, IsForest}
 use Rattle.record_walk.specs.Faults.{IsClean, IsNone}
 use Rattle.record_walk.proofs.Run.{forest_of}
 use Rattle.record_walk.proofs.Decided.{by_test, same_number, same_list}
-use Rattle.cramfs_format.specs.Order.{Order, word}
+use Rattle.cramfs_format.specs.Order.{word}
+use Rattle.cramfs_format.specs.declared.order.Order.{Order}
 use Rattle.cramfs_format.specs.Inode.{type_of, offset_of, size_of}
 use Rattle.crc.specs.Crc.{crc_of}
 use Rattle.cramfs_format.specs.Refers.{references, root_place, LeadsToSound}

@@ -8,7 +8,7 @@ use Rattle.rom_faults.specs.declared.error.CheckError.{CheckError}
 use Rattle.rom_tree.specs.Checks.{Refuses}
 use Rattle.record_walk.specs.Answers.{AnswersLeast}
 use Rattle.record_walk.specs.Forest.{all_rows}
-use Rattle.cramfs_format.specs.Order.{Order}
+use Rattle.cramfs_format.specs.declared.order.Order.{Order}
 use Rattle.cramfs_format.specs.Refers.{references}
 use Rattle.cramfs_format.specs.Tree.{CramfsTree}
 use Rattle.cramfs_format.specs.Faults.{IsLeastImageFault}
@@ -20,9 +20,9 @@ pub record Shows (o : Order) (all : List ℕ) (limits : Limits) (m : Image) (rep
   pub count : report.references ≡ length (all_rows (references o tree.b) tree.forest)
   pub deep : report.depth ≡ depth m.tree
 
--- a fault only where the bytes hold no tree
-abbrev pub IsRefused : Order → List ℕ → Limits → CheckError → Type 0
-IsRefused o all limits = Refuses (CramfsTree o all limits.references limits.depth)
+-- a fault only where the bytes hold no tree, in either byte order
+abbrev pub IsRefused : List ℕ → Limits → CheckError → Type 0
+IsRefused all limits = Refuses (λ t. (o : Order) × CramfsTree o all limits.references limits.depth t)
 
 -- the fault is the least of the image's faults, by phases
 abbrev pub IsLeastAnswer : Order → List ℕ → Limits → CheckError → Type 0

@@ -3,7 +3,7 @@ use Rattle.std.proofs.Common.{◌≡◌, ℕ, ◌≤◌, List, length, Some, ref
 use Rattle.std.specs.Prelude.{◌-◌, ◌%◌, min, Option, MatchOption}
 use Rattle.rom_tree.specs.declared.types.Run.{Run}
 use Rattle.rom_tree.specs.Image.{Image}
-use Rattle.cramfs_format.specs.Order.{Order}
+use Rattle.cramfs_format.specs.declared.order.Order.{Order}
 use Rattle.cramfs_format.specs.Refers.{root_place}
 use Rattle.cramfs_format.specs.Made.{made, cursor_of, IsCramfs}
 use Rattle.cramfs_format.proofs.Trees.{coherent}

@@ -6,7 +6,8 @@ use Rattle.rom_fields.specs.Extents.{OverlapsAt, IsLeastOf}
 use Rattle.rom_faults.specs.declared.fault.Fault.{Fault}
 use Rattle.record_walk.specs.declared.reference.Row.{Row}
 use Rattle.record_walk.specs.Sweep.{IsLeastRowFault}
-use Rattle.cramfs_format.specs.Order.{Order, word}
+use Rattle.cramfs_format.specs.Order.{word}
+use Rattle.cramfs_format.specs.declared.order.Order.{Order}
 use Rattle.cramfs_format.specs.Inode.{type_of, size_of, name_of, is_kind, has_data, block_count, block_start, pointer_place, pointer_of, IsPlain, Lies, ListLies, TableLies, BlockLies, HasBody, IsName}
 use Rattle.cramfs_format.specs.Tree.{precedes, is_sorted, extents_of, IsNoDot}
 use Rattle.rom_faults.specs.declared.fault.TheConstants.{BOUNDS, BAD_NAME, KIND, LINK_SIZE, BLOCK_KIND, TOO_DEEP, OVERLAP, DUPLICATE_NAME, DOT, UNSORTED}

@@ -2,7 +2,6 @@
 ghost use Rattle.std.specs.Prelude.{◌≡◌, ◌+◌, ◌≤◌, ◌<◌, ◌⊎◌, ◌↔◌, ◌^◌, IsTrue, length};
 ghost use Rattle.std.specs.Bool.{OnTrue, OnFalse};
 ghost use Rattle.std.specs.List.{All, Any};
-ghost use Rattle.cramfs_format.specs.Order.{little};
 ghost use Rattle.cramfs_format.specs.Inode.{name_of};
 ghost use Rattle.cramfs_format.specs.Made.{IsGood};
 ghost use Rattle.cramfs_format.specs.Tree.{IsNoDot};
@@ -10,38 +9,35 @@ ghost use Rattle.rom_tree.specs.Dots.{dot, dot_dot};
 ghost use Rattle.record_walk.specs.Sweep.{IsLeastRowFault};
 ghost use Rattle.cramfs_image.specs.Phases.{IsTooDeep, IsShallow};
 
-use crate::inode::name_at;
+use crate::accessible::Accessible;
 use record_walk::reference::Row;
 use record_walk::least::lesser_fault;
 use rom_faults::Fault;
 use rom_faults::fault::TOO_DEEP;
+use rom_tree::dots::is_dots;
 
 /// Whether a row is an entry of another name than `.` and `..`.
-pub fn is_other(b: &[u8], row: Row) -> bool
-    requires good { IsGood little b.now row.offset }
-    requires small { length b.now < 2 ^ 32 }
-    ensures { IsTrue result ↔ IsNoDot little b.now row }
+pub fn is_other(b: &Accessible<'_>, row: Row) -> bool
+    requires good { IsGood b.now.order b.now.bytes.now row.offset }
+    ensures { IsTrue result ↔ IsNoDot b.now.order b.now.bytes.now row }
 {
-    let name = name_at(b, row.offset as usize);
-    name != b".".as_slice() && name != b"..".as_slice()
+    !is_dots(b.name_at(row.offset as usize))
 }
 
 /// Whether a row is an entry deeper than `most`.
-fn is_too_deep(b: &[u8], row: Row, most: u32) -> bool
-    requires good { IsGood little b.now row.offset }
-    requires small { length b.now < 2 ^ 32 }
-    ensures other { OnTrue result (IsNoDot little b.now row) }
+fn is_too_deep(b: &Accessible<'_>, row: Row, most: u32) -> bool
+    requires good { IsGood b.now.order b.now.bytes.now row.offset }
+    ensures other { OnTrue result (IsNoDot b.now.order b.now.bytes.now row) }
     ensures deep { OnTrue result (most < row.depth) }
-    ensures shallow { OnFalse result (IsNoDot little b.now row → row.depth ≤ most) }
+    ensures shallow { OnFalse result (IsNoDot b.now.order b.now.bytes.now row → row.depth ≤ most) }
 {
     row.depth > most && is_other(b, row)
 }
 
 /// The least fault of an entry deeper than `most`, among rows other than the root's.
-pub fn least_too_deep(b: &[u8], rows: &[Row], most: u32) -> Option<Fault>
-    requires good { All (λ x. IsGood little b.now x.offset) rows.now }
-    requires small { length b.now < 2 ^ 32 }
-    ensures { IsLeastRowFault (IsShallow little b.now most) (IsTooDeep little b.now most) rows.now result }
+pub fn least_too_deep(b: &Accessible<'_>, rows: &[Row], most: u32) -> Option<Fault>
+    requires good { All (λ x. IsGood b.now.order b.now.bytes.now x.offset) rows.now }
+    ensures { IsLeastRowFault (IsShallow b.now.order b.now.bytes.now most) (IsTooDeep b.now.order b.now.bytes.now most) rows.now result }
 {
     let mut noted: Option<Fault> = None;
     'rows: for row in rows {

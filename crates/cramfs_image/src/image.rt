@@ -1,15 +1,13 @@
 //! A checked image as a tree of files.
 ghost use Rattle.std.specs.Prelude.{◌≡◌, ◌<◌, ◌≤◌, ◌^◌, ℕ, length};
-ghost use Rattle.cramfs_format.specs.Order.{little};
 ghost use Rattle.cramfs_format.specs.Made.{IsCramfs};
 ghost use Rattle.cramfs_image.specs.Cramfs.{cramfs_view};
 
+use crate::accessible::Accessible;
 use crate::depth::greatest_depth;
-use crate::inode::{
-    end_at, file_len, gid_at, kind_named_by, list_end_at, mode_at, name_at, of_device, offset_at,
-    size_at, start_of, type_at, uid_at, word,
-};
+use crate::fields::{kind_named_by, of_device, start_of};
 use arrayvec::ArrayVec;
+use cramfs_format::order::Order;
 use record_walk::reference::Row;
 use rom_tree::image::{TreeImage, Viewed};
 use rom_tree::types::{Cursor, Entry, Limits, NodeId, Report, Run, Stat};
@@ -21,15 +19,15 @@ pub(crate) const ROOT: u32 = 64;
 #[derive(Drop)]
 pub struct Cramfs<'a> {
     all: &'a [u8],
-    bytes: &'a [u8],
+    accessible: Accessible<'a>,
     references: u32,
     depth: u32,
-    ghost sound: { IsCramfs little bytes.now references },
-    ghost within: { length bytes.now ≤ length all.now },
+    ghost sound: { IsCramfs accessible.order accessible.bytes.now references },
+    ghost within: { length accessible.bytes.now ≤ length all.now },
 }
 
 impl Viewed for Cramfs<'_> {
-    ghost image = { λ s. cramfs_view little s.all.now s.bytes.now s.references s.sound s.within };
+    ghost image = { λ s. cramfs_view s.accessible.order s.all.now s.accessible.bytes.now s.references s.sound s.within };
 }
 
 impl<'a> TreeImage<'a> for Cramfs<'a> {
@@ -51,9 +49,9 @@ impl<'a> TreeImage<'a> for Cramfs<'a> {
         if n.0 == ROOT {
             return true;
         }
-        let bytes = self.bytes;
+        let b = &self.accessible;
         let mut stack: ArrayVec<(u32, u32), 65> = ArrayVec::new();
-        stack.push((offset_at(bytes, 64), list_end_at(bytes, 64)));
+        stack.push((b.offset_at(64), b.list_end_at(64)));
         while let Some(list) = stack.pop() {
             let at = list.0;
             if at >= list.1 {
@@ -62,10 +60,10 @@ impl<'a> TreeImage<'a> for Cramfs<'a> {
             if at == n.0 {
                 return true;
             }
-            stack.push((end_at(bytes, at as usize) as u32, list.1));
+            stack.push((b.end_at(at as usize) as u32, list.1));
             stack.push((
-                offset_at(bytes, at as usize),
-                list_end_at(bytes, at as usize),
+                b.offset_at(at as usize),
+                b.list_end_at(at as usize),
             ));
         }
         false
@@ -73,25 +71,25 @@ impl<'a> TreeImage<'a> for Cramfs<'a> {
 
     fn stat(&self, n: NodeId) -> Stat {
         let at = n.0 as usize;
-        let t = type_at(self.bytes, at);
-        let size = size_at(self.bytes, at);
+        let t = self.accessible.type_at(at);
+        let size = self.accessible.size_at(at);
         Stat {
             ino: n.0,
             kind: kind_named_by(t),
-            mode: mode_at(self.bytes, at) % 4_096,
-            uid: uid_at(self.bytes, at),
-            gid: gid_at(self.bytes, at),
-            size: file_len(self.bytes, at),
+            mode: self.accessible.mode_at(at) % 4_096,
+            uid: self.accessible.uid_at(at),
+            gid: self.accessible.gid_at(at),
+            size: self.accessible.file_len(at),
             major: of_device(t, size / 256),
             minor: of_device(t, size % 256),
         }
     }
 
     fn entry(&self, d: NodeId, c: Cursor) -> Option<Entry<'a>> {
-        let bytes: &'a [u8] = self.bytes;
-        let end = list_end_at(bytes, d.0 as usize);
+        let b = &self.accessible;
+        let end = b.list_end_at(d.0 as usize);
         let next = if c.0 == 0 {
-            u64::from(offset_at(bytes, d.0 as usize))
+            u64::from(b.offset_at(d.0 as usize))
         } else {
             c.0
         };
@@ -99,8 +97,8 @@ impl<'a> TreeImage<'a> for Cramfs<'a> {
             return None;
         }
         let at = next as u32;
-        let name = name_at(bytes, at as usize);
-        let cursor = Cursor(end_at(bytes, at as usize) as u64);
+        let name = b.name_at(at as usize);
+        let cursor = Cursor(b.end_at(at as usize) as u64);
         Some(Entry {
             name,
             node: NodeId(at),
@@ -117,13 +115,13 @@ impl<'a> TreeImage<'a> for Cramfs<'a> {
             (λ n. (y : Node) × (find_entry (entries_of x) name.now ≡ Some y) × (ino_of y ≡ n.0)) }
         ensures report { report_of self.new ≡ report_of self.old }
     {
-        let end = list_end_at(self.bytes, d.0 as usize);
-        let mut at = offset_at(self.bytes, d.0 as usize);
+        let end = self.accessible.list_end_at(d.0 as usize);
+        let mut at = self.accessible.offset_at(d.0 as usize);
         while at < end {
-            if name_at(self.bytes, at as usize) == name {
+            if self.accessible.name_at(at as usize) == name {
                 return Some(NodeId(at));
             }
-            at = end_at(self.bytes, at as usize) as u32;
+            at = self.accessible.end_at(at as usize) as u32;
         }
         None
     }
@@ -139,13 +137,13 @@ impl<'a> TreeImage<'a> for Cramfs<'a> {
             → GivesBlock (places_of x) off result }
     {
         let at = n.0 as usize;
-        let size = file_len(self.bytes, at);
+        let size = self.accessible.file_len(at);
         if off >= u64::from(size) {
             return None;
         }
         let off = off as u32;
-        let table = offset_at(self.bytes, at) as usize;
-        let pointer = word(self.bytes, table + 4 * (off / 4_096) as usize);
+        let table = self.accessible.offset_at(at) as usize;
+        let pointer = self.accessible.word(table + 4 * (off / 4_096) as usize);
         let place = start_of(pointer) + off % 4_096;
         let len = (size - off).min(4_096 - off % 4_096);
         Some(Run { place, len })
@@ -159,24 +157,40 @@ impl<'a> Cramfs<'a> {
     ghost use Rattle.cramfs_format.specs.Superblock.{IsSuperblock};
     ghost use Rattle.cramfs_format.specs.Tree.{IsTree};
     ghost use Rattle.cramfs_image.specs.Checked.{Shows};
-    ghost use Rattle.cramfs_image.specs.Reported.{report_of};
+    ghost use Rattle.cramfs_format.specs.Order.{is_big};
+    ghost use Rattle.cramfs_image.specs.Reported.{order_in, report_of};
 
-    /// The image of the bytes `all`, whose accessible ones are `bytes`, with the rows of its tree.
-    pub(crate) fn opened(all: &'a [u8], bytes: &'a [u8], rows: &[Row], limits: Limits) -> Cramfs<'a>
-        requires superblock { IsSuperblock little all.now bytes.now }
-        requires long { 76 ≤ length bytes.now }
-        requires small { length bytes.now < 2 ^ 32 }
+    /// The image of the bytes `all`, whose accessible ones are those of `b`, with the rows of its
+    /// tree.
+    pub(crate) fn opened(
+        all: &'a [u8],
+        b: Accessible<'a>,
+        rows: &[Row],
+        limits: Limits,
+    ) -> Cramfs<'a>
+        requires superblock { IsSuperblock b.order all.now b.bytes.now }
         requires few { length rows.now < 2 ^ 32 }
-        requires tree { (f : Forest) × (rows.now ≡ all_rows (references little bytes.now) f)
-            × IsTree little bytes.now limits.references limits.depth f }
-        ensures { Shows little all.now limits (⟦<Cramfs<'a> as Viewed>⟧.image result) (report_of result) }
+        requires tree { (f : Forest) × (rows.now ≡ all_rows (references b.order b.bytes.now) f)
+            × IsTree b.order b.bytes.now limits.references limits.depth f }
+        ensures shows { Shows b.entry.order all.now limits (⟦<Cramfs<'a> as Viewed>⟧.image result) (report_of result) }
+        ensures order { order_in result ≡ b.entry.order }
     {
         let depth = greatest_depth(rows);
         Cramfs {
             all,
-            bytes,
+            accessible: b,
             references: rows.len() as u32,
             depth,
+        }
+    }
+
+    /// Whether the image is big-endian: its first bytes are `28 cd 3d 45`.
+    pub fn big(&self) -> bool
+        ensures { result ≡ is_big (order_in self.now) }
+    {
+        match self.accessible.order {
+            Order::Little => false,
+            Order::Big => true,
         }
     }
 

@@ -1,6 +1,6 @@
 //! Laws about the faults of an image and its tree.
 ghost use Rattle.std.specs.Prelude.{ℕ, List};
-ghost use Rattle.cramfs_format.specs.Order.{Order};
+ghost use Rattle.cramfs_format.specs.declared.order.Order.{Order};
 ghost use Rattle.cramfs_format.specs.Tree.{CramfsTree};
 ghost use Rattle.cramfs_format.specs.Faults.{HasNoFault};
 ghost use Rattle.rom_tree.specs.Tree.{Node};

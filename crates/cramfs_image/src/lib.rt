@@ -8,16 +8,16 @@
 //! `laws::exact` the set of faults, which knows no tree, is empty exactly where a tree stands.
 #![tactic(auto)]
 
+mod accessible;
 mod check;
 mod depth;
+mod fields;
 pub mod image;
-mod inode;
-mod later;
 pub mod laws;
 mod names;
 mod overlap;
-mod reader;
-mod record;
+mod phases;
+mod soundness;
 mod superblock;
 #[cfg(test)]
 mod tests;

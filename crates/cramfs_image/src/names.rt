@@ -4,7 +4,6 @@ ghost use Rattle.std.specs.Bool.{OnTrue, OnFalse};
 ghost use Rattle.std.specs.List.{All};
 ghost use Rattle.record_walk.specs.declared.reference.Row.{Row};
 ghost use Rattle.record_walk.specs.Faults.{IsLeast};
-ghost use Rattle.cramfs_format.specs.Order.{little};
 ghost use Rattle.cramfs_format.specs.Inode.{name_of};
 ghost use Rattle.cramfs_format.specs.Made.{IsGood};
 ghost use Rattle.cramfs_format.specs.Tree.{precedes, is_sorted, IsNoDot};
@@ -13,7 +12,7 @@ ghost use Rattle.record_walk.specs.Sweep.{IsLeastRowFault};
 ghost use Rattle.cramfs_image.specs.Phases.{TellsEarlier, last_name, name_seen, IsUnsorted, HasNameFault, IsWellNamed};
 
 use crate::depth::is_other;
-use crate::inode::{name_at, word};
+use crate::accessible::Accessible;
 use record_walk::listed::{ListedName, repeats};
 use record_walk::reference::Row;
 use record_walk::least::lesser_fault;
@@ -46,20 +45,17 @@ fn comes_before(one: &[u8], other: &[u8]) -> bool
 }
 
 /// Whether lists are sorted.
-fn has_sorted_lists(b: &[u8]) -> bool
-    requires { 12 ≤ length b.now }
-    ensures { result ≡ is_sorted little b.now }
+fn has_sorted_lists(b: &Accessible<'_>) -> bool
+    ensures { result ≡ is_sorted b.now.order b.now.bytes.now }
 {
-    word(b, 8) / 2 % 2 == 1
+    b.word(8) / 2 % 2 == 1
 }
 
 /// Whether a name comes before that of the row just before it in its list, where lists are sorted.
-fn is_unsorted(b: &[u8], last: Option<&[u8]>, row: Row) -> bool
-    requires long { 12 ≤ length b.now }
-    requires row { IsGood little b.now row.offset }
-    requires small { length b.now < 2 ^ 32 }
-    ensures unsorted { (before : List Row) → name_seen last.entry ≡ last_name little b.now row.directory None before → OnTrue result (IsUnsorted little b.now before row) }
-    ensures sorted { (before : List Row) → name_seen last.entry ≡ last_name little b.now row.directory None before → OnFalse result (IsUnsorted little b.now before row → ⊥) }
+fn is_unsorted(b: &Accessible<'_>, last: Option<&[u8]>, row: Row) -> bool
+    requires row { IsGood b.now.order b.now.bytes.now row.offset }
+    ensures unsorted { (before : List Row) → name_seen last.entry ≡ last_name b.now.order b.now.bytes.now row.directory None before → OnTrue result (IsUnsorted b.now.order b.now.bytes.now before row) }
+    ensures sorted { (before : List Row) → name_seen last.entry ≡ last_name b.now.order b.now.bytes.now row.directory None before → OnFalse result (IsUnsorted b.now.order b.now.bytes.now before row → ⊥) }
 {
     if !has_sorted_lists(b) {
         return false;
@@ -67,7 +63,7 @@ fn is_unsorted(b: &[u8], last: Option<&[u8]>, row: Row) -> bool
     let Some(last) = last else {
         return false;
     };
-    if comes_before(name_at(b, row.offset as usize), last) {
+    if comes_before(b.name_at(row.offset as usize), last) {
         return true;
     }
     false
@@ -75,13 +71,11 @@ fn is_unsorted(b: &[u8], last: Option<&[u8]>, row: Row) -> bool
 
 /// The least fault of a row's name, whatever rows stand before it; `repeated` tells whether one of
 /// them has the name in its list, and `last` is the name just before it there.
-fn name_fault(b: &[u8], row: Row, repeated: bool, last: Option<&[u8]>) -> Option<u32>
-    requires long { 12 ≤ length b.now }
-    requires row { IsGood little b.now row.offset }
-    requires small { length b.now < 2 ^ 32 }
-    ensures well { (before : List Row) → TellsEarlier little b.now before row repeated last.entry → IfNone result (IsWellNamed little b.now before row) }
-    ensures fault { (before : List Row) → TellsEarlier little b.now before row repeated last.entry
-        → IfSome result (λ n. IsLeast (HasNameFault little b.now before row) n) }
+fn name_fault(b: &Accessible<'_>, row: Row, repeated: bool, last: Option<&[u8]>) -> Option<u32>
+    requires row { IsGood b.now.order b.now.bytes.now row.offset }
+    ensures well { (before : List Row) → TellsEarlier b.now.order b.now.bytes.now before row repeated last.entry → IfNone result (IsWellNamed b.now.order b.now.bytes.now before row) }
+    ensures fault { (before : List Row) → TellsEarlier b.now.order b.now.bytes.now before row repeated last.entry
+        → IfSome result (λ n. IsLeast (HasNameFault b.now.order b.now.bytes.now before row) n) }
 {
     if repeated {
         return Some(DUPLICATE_NAME);
@@ -98,19 +92,18 @@ fn name_fault(b: &[u8], row: Row, repeated: bool, last: Option<&[u8]>) -> Option
 /// The names of the rows, by their indices.
 fn names_of<'a>(
     alloc: Global,
-    b: &'a [u8],
+    b: &Accessible<'a>,
     rows: &[Row],
 ) -> Result<Vec<ListedName<'a>>, OutOfMemory>
-    requires good { All (λ x. IsGood little b.now x.offset) rows.now }
-    requires small { length b.now < 2 ^ 32 }
-    ensures { IfOk result (λ v. AreNames (name_of little b.now) rows.now v.items) }
+    requires good { All (λ x. IsGood b.now.order b.now.bytes.now x.offset) rows.now }
+    ensures { IfOk result (λ v. AreNames (name_of b.now.order b.now.bytes.now) rows.now v.items) }
 {
     let mut names = Vec::new(alloc);
     for index in 0..rows.len() {
         let row = rows[index];
         names.push(ListedName {
             list: row.directory,
-            name: name_at(b, row.offset as usize),
+            name: b.name_at(row.offset as usize),
             index,
         })?;
     }
@@ -118,18 +111,16 @@ fn names_of<'a>(
 }
 
 /// The least fault of a name among the rows other than the root's.
-pub fn least_name_fault(alloc: Global, b: &[u8], rows: &[Row]) -> Result<Option<Fault>, OutOfMemory>
-    requires long { 12 ≤ length b.now }
-    requires good { All (λ x. IsGood little b.now x.offset) rows.now }
-    requires small { length b.now < 2 ^ 32 }
-    ensures { IfOk result (IsLeastRowFault (IsWellNamed little b.now) (HasNameFault little b.now) rows.now) }
+pub fn least_name_fault(alloc: Global, b: &Accessible<'_>, rows: &[Row]) -> Result<Option<Fault>, OutOfMemory>
+    requires good { All (λ x. IsGood b.now.order b.now.bytes.now x.offset) rows.now }
+    ensures { IfOk result (IsLeastRowFault (IsWellNamed b.now.order b.now.bytes.now) (HasNameFault b.now.order b.now.bytes.now) rows.now) }
 {
     let repeated = repeats(alloc, names_of(alloc, b, rows)?)?;
     let mut last_names: BTreeMap<u32, &[u8], Global> = BTreeMap::new(alloc);
     let mut noted: Option<Fault> = None;
     for i in 0..rows.len() {
         let row = rows[i];
-        let name = name_at(b, row.offset as usize);
+        let name = b.name_at(row.offset as usize);
         let last = last_names.insert(row.directory, name)?;
         if let Some(number) = name_fault(b, row, repeated[i], last) {
             let fault = Fault {

@@ -3,15 +3,16 @@ ghost use Rattle.std.specs.Prelude.{◌≡◌, ◌+◌, ◌*◌, ◌%◌, ◌<�
 ghost use Rattle.std.specs.List.{All, AllByRecursion as Every};
 ghost use Rattle.std.specs.List.Sorted.{IsNonDecreasingBy};
 ghost use Rattle.rom_fields.specs.Extents.{OverlapsAt, IsLeastOf};
-ghost use Rattle.cramfs_format.specs.Order.{little, word as word_of};
+ghost use Rattle.cramfs_format.specs.Order.{word as word_of};
 ghost use Rattle.cramfs_format.specs.Inode.{type_of, size_of, offset_of, has_data, block_start};
 ghost use Rattle.cramfs_format.specs.Tree.{extents_of};
 ghost use Rattle.cramfs_image.specs.declared.overlap.File.{File};
 ghost use Rattle.cramfs_image.specs.Phases.{IsRecord};
 ghost use Rattle.cramfs_image.specs.Files.{list_part, file_part, FileLies, whole_end, whole_blocks, file_added, AddsFiles};
 
-use crate::inode::{offset_at, size_at, start_of, type_at, word};
-use crate::record::{blocks_of, has_contents};
+use crate::accessible::Accessible;
+use crate::fields::start_of;
+use crate::soundness::{blocks_of, has_contents};
 use record_walk::reference::Row;
 use rom_fields::extents::Extents;
 use rom_fields::memory::OutOfMemory;
@@ -26,14 +27,14 @@ pub struct File {
 }
 
 /// Adds the whole blocks of some pointers from `at` on.
-fn add_blocks(extents: &mut Extents, b: &[u8], at: u32, count: u32) -> Result<(), OutOfMemory>
+fn add_blocks(extents: &mut Extents, b: &Accessible<'_>, at: u32, count: u32) -> Result<(), OutOfMemory>
     requires small { at + 4 * count < 2 ^ 32 }
-    requires pointers { (i : ℕ) → i < count → at + 4 * i + 4 ≤ length b.now }
-    requires blocks { (i : ℕ) → i < count → block_start (word_of little b.now (at + 4 * i)) + 4096 < 2 ^ 32 }
-    ensures { OnOk result (extents.new ≡ extents.old ++ whole_blocks b.now count at) }
+    requires pointers { (i : ℕ) → i < count → at + 4 * i + 4 ≤ length b.now.bytes.now }
+    requires blocks { (i : ℕ) → i < count → block_start (word_of b.now.order b.now.bytes.now (at + 4 * i)) + 4096 < 2 ^ 32 }
+    ensures { OnOk result (extents.new ≡ extents.old ++ whole_blocks b.now.order b.now.bytes.now count at) }
 {
     'pointers: for i in 0..count {
-        let pointer = word(b, (at + 4 * i) as usize);
+        let pointer = b.word((at + 4 * i) as usize);
         extents.add(Extent::Data, start_of(pointer), 4_096)?;
     }
     Ok(())
@@ -41,12 +42,11 @@ fn add_blocks(extents: &mut Extents, b: &[u8], at: u32, count: u32) -> Result<()
 
 /// Adds the block pointers and the blocks of a file, but for the whole blocks of pointers before
 /// `done`. It gives up to where whole blocks are there then.
-fn add_file(extents: &mut Extents, b: &[u8], file: File, done: u32) -> Result<u32, OutOfMemory>
-    requires lies { FileLies b.now file }
-    requires small { length b.now < 2 ^ 32 }
+fn add_file(extents: &mut Extents, b: &Accessible<'_>, file: File, done: u32) -> Result<u32, OutOfMemory>
+    requires lies { FileLies b.now.order b.now.bytes.now file }
     requires aligned { done % 4 ≡ 0 }
     requires low { done < 2 ^ 29 }
-    ensures extents { OnOk result (extents.new ≡ extents.old ++ file_added b.now file.table file.size done) }
+    ensures extents { OnOk result (extents.new ≡ extents.old ++ file_added b.now.order b.now.bytes.now file.table file.size done) }
     ensures done { IfOk result (λ d. d ≡ max done (whole_end file.table file.size)) }
 {
     let end = file.table + 4 * (file.size / 4_096);
@@ -55,18 +55,17 @@ fn add_file(extents: &mut Extents, b: &[u8], file: File, done: u32) -> Result<u3
     extents.add(Extent::Table, file.table, 4 * blocks_of(file.size))?;
     add_blocks(extents, b, first, end.saturating_sub(first) / 4)?;
     if rest > 0 {
-        extents.add(Extent::Data, start_of(word(b, end as usize)), rest)?;
+        extents.add(Extent::Data, start_of(b.word(end as usize)), rest)?;
     }
     Ok(done.max(end))
 }
 
 /// Adds the block pointers and the blocks of files, whose pointers begin at offsets that do not
 /// fall. A whole block is added once for each pointer, however many files have the pointer.
-fn add_files(extents: &mut Extents, b: &[u8], files: &[File]) -> Result<(), OutOfMemory>
-    requires lie { All (FileLies b.now) files.now }
-    requires small { length b.now < 2 ^ 32 }
+fn add_files(extents: &mut Extents, b: &Accessible<'_>, files: &[File]) -> Result<(), OutOfMemory>
+    requires lie { All (FileLies b.now.order b.now.bytes.now) files.now }
     requires sorted { IsNonDecreasingBy (λ (f : File). f.table) files.now }
-    ensures { OnOk result (AddsFiles b.now files.now extents.old extents.new) }
+    ensures { OnOk result (AddsFiles b.now.order b.now.bytes.now files.now extents.old extents.new) }
 {
     let mut done: u32 = 0;
     'files: for file in files {
@@ -76,15 +75,15 @@ fn add_files(extents: &mut Extents, b: &[u8], files: &[File]) -> Result<(), OutO
 }
 
 /// What a file or a link takes.
-fn file_at(b: &[u8], at: usize) -> File
-    requires record { IsRecord little b.now at }
-    requires contents { has_data (type_of little b.now at) ≡ true }
-    ensures value { result ≡ record { table = offset_of little b.now at; size = size_of little b.now at } }
-    ensures lies { FileLies b.now result }
+fn file_at(b: &Accessible<'_>, at: usize) -> File
+    requires record { IsRecord b.now.order b.now.bytes.now at }
+    requires contents { has_data (type_of b.now.order b.now.bytes.now at) ≡ true }
+    ensures value { result ≡ record { table = offset_of b.now.order b.now.bytes.now at; size = size_of b.now.order b.now.bytes.now at } }
+    ensures lies { FileLies b.now.order b.now.bytes.now result }
 {
     File {
-        table: offset_at(b, at),
-        size: size_at(b, at),
+        table: b.offset_at(at),
+        size: b.size_at(at),
     }
 }
 
@@ -92,18 +91,17 @@ fn file_at(b: &[u8], at: usize) -> File
 fn add_row(
     extents: &mut Extents,
     files: &mut Vec<File>,
-    b: &[u8],
+    b: &Accessible<'_>,
     row: Row,
 ) -> Result<(), OutOfMemory>
-    requires record { IsRecord little b.now row.offset }
-    requires small { length b.now < 2 ^ 32 }
-    ensures extents { OnOk result (extents.new ≡ extents.old ++ list_part b.now row) }
-    ensures files { OnOk result (files.new.items ≡ files.old.items ++ file_part b.now row) }
-    ensures lie { Every (FileLies b.now) (file_part b.now row) }
+    requires record { IsRecord b.now.order b.now.bytes.now row.offset }
+    ensures extents { OnOk result (extents.new ≡ extents.old ++ list_part b.now.order b.now.bytes.now row) }
+    ensures files { OnOk result (files.new.items ≡ files.old.items ++ file_part b.now.order b.now.bytes.now row) }
+    ensures lie { Every (FileLies b.now.order b.now.bytes.now) (file_part b.now.order b.now.bytes.now row) }
 {
     let at = row.offset as usize;
-    if type_at(b, at) == 4 {
-        extents.add(Extent::List, offset_at(b, at), size_at(b, at))?;
+    if b.type_at(at) == 4 {
+        extents.add(Extent::List, b.offset_at(at), b.size_at(at))?;
     }
     if has_contents(b, at) {
         files.push(file_at(b, at))?;
@@ -113,10 +111,9 @@ fn add_row(
 
 /// The least place where two extents of the image overlap. They are no more than the words of the
 /// image and three for each row.
-pub fn least_overlap(alloc: Global, b: &[u8], rows: &[Row]) -> Result<Option<u32>, OutOfMemory>
-    requires records { All (λ x. IsRecord little b.now x.offset) rows.now }
-    requires small { length b.now < 2 ^ 32 }
-    ensures { IfOk result (IsLeastOf (OverlapsAt (extents_of little b.now rows.now))) }
+pub fn least_overlap(alloc: Global, b: &Accessible<'_>, rows: &[Row]) -> Result<Option<u32>, OutOfMemory>
+    requires records { All (λ x. IsRecord b.now.order b.now.bytes.now x.offset) rows.now }
+    ensures { IfOk result (IsLeastOf (OverlapsAt (extents_of b.now.order b.now.bytes.now rows.now))) }
 {
     let mut extents = Extents::new(alloc);
     let mut files: Vec<File> = Vec::new(alloc);

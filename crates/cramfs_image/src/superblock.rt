@@ -1,16 +1,22 @@
 //! The superblock of an image: which bytes are accessible, and what is wrong with the image as a whole.
 ghost use Rattle.std.specs.Prelude.{◌≡◌, ◌≢◌, ◌≤◌, ◌<◌, ◌^◌, ◌↔◌, IsTrue, length, IfOk, IfErr, IfSome, SomeIff, option_copied};
 ghost use Rattle.std.specs.Bool.{OnTrue, OnFalse};
-ghost use Rattle.cramfs_format.specs.Order.{little};
 ghost use Rattle.crc.specs.Crc.{crc_of};
-ghost use Rattle.cramfs_format.specs.Superblock.{accessible, HasSize, without_crc, HasCrc, HasSignature, HasRoot, IsSuperblock, HasImageFault};
+ghost use Rattle.cramfs_format.specs.Superblock.{order_of, accessible, HasSize, without_crc, HasCrc, HasSignature, HasRoot, IsSuperblock, HasImageFault};
 
-use crate::inode::{offset_at, size_at, type_at, word};
+use crate::accessible::Accessible;
+use cramfs_format::order::Order;
 use crc::{crc32, crc32_more};
 use rom_faults::{Fault, fault};
 
 /// The first word of an image.
 const MAGIC: u32 = 0x28cd_3d45;
+
+/// The flag that the root's list may stand anywhere.
+const SHIFTED_ROOT: u32 = 0x400;
+
+/// Flags from here on are not known.
+const ALL_FLAGS: u32 = 0x1000;
 
 /// `Compressed ROMFS`, which stands at 16.
 const SIGNATURE: [u8; 16] = *b"Compressed ROMFS";
@@ -18,16 +24,30 @@ const SIGNATURE: [u8; 16] = *b"Compressed ROMFS";
 /// What the field of the CRC is taken as.
 const NO_CRC: [u8; 4] = [0; 4];
 
+/// The byte order of an image: big-endian where its first word is the magic in that order.
+#[tactic(auto, unfolding(cramfs_format::specs::Superblock::order_of))]
+fn order_at(bytes: &[u8]) -> Order
+    requires { 76 ≤ length bytes.now }
+    ensures { result ≡ order_of bytes.now }
+{
+    if Order::Big.word(bytes, 0) == MAGIC {
+        Order::Big
+    } else {
+        Order::Little
+    }
+}
+
 /// The accessible bytes, where the stored size is one that the image can have.
 #[tactic(auto, unfolding(cramfs_format::specs::Superblock::accessible_size))]
-fn accessible_bytes<'a>(bytes: &'a [u8]) -> Option<&'a [u8]>
+fn accessible_bytes<'a>(order: Order, bytes: &'a [u8]) -> Option<&'a [u8]>
     requires { 76 ≤ length bytes.now }
-    ensures part { SomeIff (option_copied result) (HasSize little bytes.now) (accessible little bytes.now) }
+    ensures part { SomeIff (option_copied result) (HasSize order bytes.now) (accessible order bytes.now) }
     ensures small { IfSome result (λ b. length b.now < 2 ^ 32) }
     ensures long { IfSome result (λ b. 76 ≤ length b.now) }
 {
-    if word(bytes, 8) % 2 == 1 {
-        let size = word(bytes, 4) as usize;
+    // The lowest flag says that the size and the CRC are stored.
+    if order.word(bytes, 8) % 2 == 1 {
+        let size = order.word(bytes, 4) as usize;
         if size < 76 || bytes.len() < size {
             return None;
         }
@@ -47,15 +67,14 @@ fn crc_with_no_field(b: &[u8]) -> u32
 }
 
 /// Whether the stored CRC, if there is one, is that of the bytes with the field that holds it zero.
-fn has_crc(b: &[u8]) -> bool
-    requires { 76 ≤ length b.now }
-    ensures right { OnTrue result (HasCrc little b.now) }
-    ensures wrong { OnFalse result (HasCrc little b.now → ⊥) }
+fn has_crc(b: &Accessible<'_>) -> bool
+    ensures right { OnTrue result (HasCrc b.now.order b.now.bytes.now) }
+    ensures wrong { OnFalse result (HasCrc b.now.order b.now.bytes.now → ⊥) }
 {
-    if word(b, 8) % 2 != 1 {
+    if b.word(8) % 2 != 1 {
         return true;
     }
-    if word(b, 32) != crc_with_no_field(b) {
+    if b.word(32) != crc_with_no_field(b.bytes) {
         return false;
     }
     true
@@ -70,32 +89,78 @@ fn has_signature(b: &[u8]) -> bool
 }
 
 /// Whether the root is a directory whose list is where a list may be.
-fn has_root(b: &[u8]) -> bool
-    requires { 76 ≤ length b.now }
-    ensures root { OnTrue result (HasRoot little b.now) }
-    ensures other { OnFalse result (HasRoot little b.now → ⊥) }
+fn has_root(b: &Accessible<'_>) -> bool
+    ensures root { OnTrue result (HasRoot b.now.order b.now.bytes.now) }
+    ensures other { OnFalse result (HasRoot b.now.order b.now.bytes.now → ⊥) }
 {
-    if type_at(b, 64) != 4 {
+    if b.type_at(64) != 4 {
         return false;
     }
-    let offset = offset_at(b, 64);
-    let shifted = word(b, 8) / 1_024 % 2 == 1;
+    let offset = b.offset_at(64);
+    let shifted = b.word(8) / SHIFTED_ROOT % 2 == 1;
     if !shifted && offset != 0 && offset != 76 && offset != 588 {
         return false;
     }
-    if offset == 0 && size_at(b, 64) != 0 {
+    if offset == 0 && b.size_at(64) != 0 {
         return false;
     }
     true
 }
 
-/// The accessible bytes, or the first fault of the image as a whole: 2 Short, 3 Magic, 4 Size,
-/// 6 Flags, 7 Crc, 8 Signature, 9 Root.
-pub fn read_superblock<'a>(bytes: &'a [u8]) -> Result<&'a [u8], Fault>
-    ensures ok { IfOk result (λ b. IsSuperblock little bytes.now b.now) }
-    ensures small { IfOk result (λ b. length b.now < 2 ^ 32) }
-    ensures long { IfOk result (λ b. 76 ≤ length b.now) }
-    ensures fault { IfErr result (HasImageFault little bytes.now) }
+/// The accessible bytes in this byte order, or the first fault of the image as a whole in that order,
+/// from its magic on.
+fn read_in_order<'a>(order: Order, bytes: &'a [u8]) -> Result<Accessible<'a>, Fault>
+    requires { 76 ≤ length bytes.now }
+    ensures order { IfOk result (λ b. b.order ≡ order) }
+    ensures ok { IfOk result (λ b. IsSuperblock order bytes.now b.bytes.now) }
+    ensures fault { IfErr result (HasImageFault order bytes.now) }
+{
+    if order.word(bytes, 0) != MAGIC {
+        return Err(Fault {
+            number: fault::MAGIC,
+            at: 0,
+        });
+    }
+    let Some(part) = accessible_bytes(order, bytes) else {
+        return Err(Fault {
+            number: fault::SIZE,
+            at: 4,
+        });
+    };
+    let b = Accessible { bytes: part, order };
+    if b.word(8) >= ALL_FLAGS {
+        return Err(Fault {
+            number: fault::FLAGS,
+            at: 8,
+        });
+    }
+    if !has_crc(&b) {
+        return Err(Fault {
+            number: fault::CRC,
+            at: 32,
+        });
+    }
+    if !has_signature(part) {
+        return Err(Fault {
+            number: fault::SIGNATURE,
+            at: 16,
+        });
+    }
+    if !has_root(&b) {
+        return Err(Fault {
+            number: fault::ROOT,
+            at: 64,
+        });
+    }
+    Ok(b)
+}
+
+/// The accessible bytes in the order in which the image begins, or the first fault of the image as a
+/// whole: 2 Short, 3 Magic, 4 Size, 6 Flags, 7 Crc, 8 Signature, 9 Root.
+pub fn read_superblock<'a>(bytes: &'a [u8]) -> Result<Accessible<'a>, Fault>
+    ensures order { IfOk result (λ b. b.order ≡ order_of bytes.now) }
+    ensures ok { IfOk result (λ b. IsSuperblock b.order bytes.now b.bytes.now) }
+    ensures fault { IfErr result (HasImageFault (order_of bytes.now) bytes.now) }
 {
     if bytes.len() < 76 {
         return Err(Fault {
@@ -103,41 +168,6 @@ pub fn read_superblock<'a>(bytes: &'a [u8]) -> Result<&'a [u8], Fault>
             at: 0,
         });
     }
-    if word(bytes, 0) != MAGIC {
-        return Err(Fault {
-            number: fault::MAGIC,
-            at: 0,
-        });
-    }
-    let Some(b) = accessible_bytes(bytes) else {
-        return Err(Fault {
-            number: fault::SIZE,
-            at: 4,
-        });
-    };
-    if word(b, 8) >= 4_096 {
-        return Err(Fault {
-            number: fault::FLAGS,
-            at: 8,
-        });
-    }
-    if !has_crc(b) {
-        return Err(Fault {
-            number: fault::CRC,
-            at: 32,
-        });
-    }
-    if !has_signature(b) {
-        return Err(Fault {
-            number: fault::SIGNATURE,
-            at: 16,
-        });
-    }
-    if !has_root(b) {
-        return Err(Fault {
-            number: fault::ROOT,
-            at: 64,
-        });
-    }
-    Ok(b)
+    let order = order_at(bytes);
+    read_in_order(order, bytes)
 }

@@ -1,7 +1,7 @@
 use Rattle.std.proofs.Common.{◌<◌, ℕ, refl, arith, ◌∙◌, take, get_or, List}
 use Rattle.record_walk.specs.declared.reference.Row.{Row}
 use Rattle.record_walk.specs.Faults.{IsLeast}
-use Rattle.cramfs_format.specs.Order.{Order, little}
+use Rattle.cramfs_format.specs.declared.order.Order.{Order}
 use Rattle.cramfs_format.specs.Tree.{IsNoDot}
 use Rattle.cramfs_image.specs.Phases.{IsTooDeep, IsShallow}
 use Rattle.record_walk.proofs.Sweeps.{blank, sweep_well_at, sweep_fault_at}
@@ -18,7 +18,7 @@ shallow o b most before x s n h = let k = s h.1 in let l = h.2 in omega arith
 pub rows-preserved : goal.rows-preserved
 rows-preserved c = elim c.if-is_too_deep.branch [
   | then-is_too_deep w ↦ sweep_fault_at c.args.rows.now c.rows.row-index 21 _ _ c.rows-test.true (w.noted-is ∙ w.lesser_fault-noted.ensures) c.rows.invariant
-      (deep little c.args.b.now c.args.most (take c.rows.row-index c.args.rows.now) (get_or c.args.rows.now c.rows.row-index blank) w.if-is_too_deep.ensures.other w.if-is_too_deep.ensures.deep)
+      (deep c.args.b.now.order c.args.b.now.bytes.now c.args.most (take c.rows.row-index c.args.rows.now) (get_or c.args.rows.now c.rows.row-index blank) w.if-is_too_deep.ensures.other w.if-is_too_deep.ensures.deep)
   | else-is_too_deep w ↦ sweep_well_at c.args.rows.now c.rows.row-index _ _ c.rows-test.true w.noted-is c.rows.invariant w.if-is_too_deep.ensures.shallow
-      (shallow little c.args.b.now c.args.most (take c.rows.row-index c.args.rows.now) (get_or c.args.rows.now c.rows.row-index blank) w.if-is_too_deep.ensures.shallow)
+      (shallow c.args.b.now.order c.args.b.now.bytes.now c.args.most (take c.rows.row-index c.args.rows.now) (get_or c.args.rows.now c.rows.row-index blank) w.if-is_too_deep.ensures.shallow)
 ]

@@ -1,5 +1,4 @@
 use Rattle.std.proofs.Common.{take}
-use Rattle.cramfs_format.specs.Order.{little}
 use Rattle.record_walk.specs.Sweep.{IsLeastRowFault}
 use Rattle.cramfs_image.specs.Phases.{HasNameFault, IsWellNamed}
 use Rattle.cramfs_image.proofs.Lasts.{HaveLast}
@@ -7,6 +6,6 @@ use Rattle.cramfs_image.proofs.names.least_name_fault.Given as goal
 
 abbrev pub invariant-loop-i : goal.invariant-loop-i
 invariant-loop-i l = record {
-  last : HaveLast l.b l.last_names (take l.i l.rows);
-  noted : IsLeastRowFault (IsWellNamed little l.b) (HasNameFault little l.b) (take l.i l.rows) l.noted;
+  last : HaveLast l.b.order l.b.bytes.now l.last_names (take l.i l.rows);
+  noted : IsLeastRowFault (IsWellNamed l.b.order l.b.bytes.now) (HasNameFault l.b.order l.b.bytes.now) (take l.i l.rows) l.noted;
 }

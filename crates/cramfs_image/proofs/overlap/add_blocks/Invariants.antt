@@ -1,8 +1,7 @@
 use Rattle.std.proofs.Common.{◌≡◌, ◌+◌, ◌-◌, ◌*◌, ◌++◌}
-use Rattle.cramfs_format.specs.Order.{little}
 use Rattle.cramfs_format.specs.Tree.{data_from}
 use Rattle.cramfs_image.specs.Files.{whole_blocks}
 use Rattle.cramfs_image.proofs.overlap.add_blocks.Given as goal
 
 abbrev pub invariant-pointers : goal.invariant-pointers
-invariant-pointers l = l.extents ++ data_from little l.b (l.count - l.i) (l.at + 4 * l.i) (4096 * l.count - 4096 * l.i) ≡ l.fn.extents ++ whole_blocks l.b l.count l.at
+invariant-pointers l = l.extents ++ data_from l.b.order l.b.bytes.now (l.count - l.i) (l.at + 4 * l.i) (4096 * l.count - 4096 * l.i) ≡ l.fn.extents ++ whole_blocks l.b.order l.b.bytes.now l.count l.at

@@ -7,7 +7,7 @@ use Rattle.cramfs_image.proofs.overlap.least_overlap.Given as goal
 
 abbrev pub invariant-rows : goal.invariant-rows
 invariant-rows l = record {
-  lists : l.extents ≡ added Super 0 76 ++ flat_map (list_part l.b) (take l.row-index l.rows);
-  files : l.files.items ≡ [] ++ flat_map (file_part l.b) (take l.row-index l.rows);
-  lie : Every (FileLies l.b) l.files.items;
+  lists : l.extents ≡ added Super 0 76 ++ flat_map (list_part l.b.order l.b.bytes.now) (take l.row-index l.rows);
+  files : l.files.items ≡ [] ++ flat_map (file_part l.b.order l.b.bytes.now) (take l.row-index l.rows);
+  lie : Every (FileLies l.b.order l.b.bytes.now) l.files.items;
 }

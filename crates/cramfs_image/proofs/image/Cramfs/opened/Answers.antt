@@ -1,5 +1,4 @@
 use Rattle.std.proofs.Common.{◌≡◌, ◌≤◌, length, length-take, refl, ap, arith, ◌∙◌, take, ℕ, List}
-use Rattle.cramfs_format.specs.Order.{little}
 use Rattle.cramfs_format.specs.Superblock.{accessible_size}
 use Rattle.cramfs_image.proofs.Trees.{cramfs_by, shows_by, deepest_is}
 use Rattle.cramfs_image.proofs.image.Cramfs.opened.Goals as goal
@@ -12,12 +11,12 @@ pub invariant_of-result : goal.invariant_of-result
 invariant_of-result c =
     let w = c.requires.tree in
     record {
-      sound = cramfs_by c.requires.superblock c.args.limits.references c.args.limits.depth w.0 c.args.rows.now c.requires.long c.requires.small w.1 w.2;
-      within = within c.args.all.now c.args.bytes.now (accessible_size little c.args.all.now) c.requires.superblock.cut;
+      sound = cramfs_by c.requires.superblock c.args.limits.references c.args.limits.depth w.0 c.args.rows.now c.args.b.long c.args.b.small w.1 w.2;
+      within = within c.args.all.now c.args.b.bytes.now (accessible_size c.args.b.order c.args.all.now) c.requires.superblock.cut;
     }
 
-pub returns : goal.returns
-returns c =
+pub returns-clause-shows : goal.returns-clause-shows
+returns-clause-shows c =
     let w = c.requires.tree in
-    shows_by c.requires.superblock c.args.limits w.0 c.args.rows.now c.greatest_depth-depth.result _ c.requires.long c.requires.small w.1 w.2
+    shows_by c.requires.superblock c.args.limits w.0 c.args.rows.now c.greatest_depth-depth.result _ c.args.b.long c.args.b.small w.1 w.2
     (deepest_is c.requires.superblock c.args.limits.references c.args.limits.depth c.greatest_depth-depth.result w.0 c.args.rows.now w.1 w.2 c.greatest_depth-depth.ensures.bound c.greatest_depth-depth.ensures.reached) refl refl

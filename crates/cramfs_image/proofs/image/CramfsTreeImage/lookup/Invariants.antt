@@ -1,5 +1,4 @@
 use Rattle.std.proofs.Common.{◌≡◌, ◌-◌}
-use Rattle.cramfs_format.specs.Order.{little}
 use Rattle.cramfs_format.specs.Inode.{list_end}
 use Rattle.cramfs_format.specs.Tree.{entries_at}
 use Rattle.cramfs_format.specs.Made.{grow, list_at}
@@ -9,9 +8,9 @@ use Rattle.cramfs_image.proofs.image.CramfsTreeImage.lookup.Given as goal
 
 abbrev pub invariant-loop-at : goal.invariant-loop-at
 invariant-loop-at l = record {
-  list : IsList little l.self.bytes.now l.self.references (list_end little l.self.bytes.now l.fn.d.0) l.at;
-  same : find_entry (entries_at little l.self.bytes.now (list_at little l.self.bytes.now l.self.references l.fn.d.0)) l.name
-      ≡ find_entry (entries_at little l.self.bytes.now (grow l.self.references little l.self.bytes.now (list_end little l.self.bytes.now l.fn.d.0) l.at)) l.name;
+  list : IsList l.self.accessible.order l.self.accessible.bytes.now l.self.references (list_end l.self.accessible.order l.self.accessible.bytes.now l.fn.d.0) l.at;
+  same : find_entry (entries_at l.self.accessible.order l.self.accessible.bytes.now (list_at l.self.accessible.order l.self.accessible.bytes.now l.self.references l.fn.d.0)) l.name
+      ≡ find_entry (entries_at l.self.accessible.order l.self.accessible.bytes.now (grow l.self.references l.self.accessible.order l.self.accessible.bytes.now (list_end l.self.accessible.order l.self.accessible.bytes.now l.fn.d.0) l.at)) l.name;
 }
 
 abbrev pub decreases-loop-at : goal.decreases-loop-at

@@ -3,42 +3,43 @@ ghost use Rattle.std.specs.Prelude.{◌≡◌, ◌≢◌, ◌+◌, ◌*◌, ◌%
 ghost use Rattle.std.specs.Bool.{OnTrue, OnFalse};
 ghost use Rattle.std.specs.List.{Contains};
 ghost use Rattle.rom_fields.specs.Extents.{IsLeastOf};
-ghost use Rattle.cramfs_format.specs.Order.{little, word as word_of};
+ghost use Rattle.cramfs_format.specs.Order.{word as word_of};
 ghost use Rattle.cramfs_format.specs.Inode.{type_of, size_of, name_of, end_of, offset_of, is_kind, has_data, block_count, block_len, block_start, pointer_place, pointer_of, is_direct, has_kinds, IsPlain, Lies, ListLies, TableLies, HasLinkSize, Fits, IsName, HasEntryFault};
 ghost use Rattle.record_walk.specs.Known.{AreKnown};
 ghost use Rattle.cramfs_image.specs.Phases.{IsWhole, IsFaultAt, IsPointerFault};
 ghost use Rattle.record_walk.specs.Faults.{IsLeastFaultOf};
 ghost use Rattle.record_walk.specs.Lesser.{lesser_of_both};
 
-use crate::inode::{end_at, name_at, offset_at, size_at, start_of, type_at, word};
+use crate::accessible::Accessible;
+use crate::fields::start_of;
 use record_walk::known::{Known, Range};
 use record_walk::least::lesser_of_both;
 use rom_faults::Fault;
 use rom_faults::fault::{BAD_NAME, BLOCK_KIND, BOUNDS, KIND, LINK_SIZE, LIST_END};
 
 /// Whether the bytes lie behind the superblock and among the accessible ones, if there are any.
-fn lies(b: &[u8], start: usize, len: usize) -> bool
+fn lies(b: &Accessible<'_>, start: usize, len: usize) -> bool
     requires start { start < 2 ^ 33 }
     requires len { len < 2 ^ 33 }
-    ensures { IsTrue result ↔ Lies b.now start len }
+    ensures { IsTrue result ↔ Lies b.now.bytes.now start len }
 {
-    len == 0 || (start >= 76 && start + len <= b.len())
+    len == 0 || (start >= 76 && start + len <= b.bytes.len())
 }
 
 /// Whether a list, where there is one, lies there.
-pub fn list_lies(b: &[u8], at: usize) -> bool
-    requires { at + 12 ≤ length b.now }
-    ensures { IsTrue result ↔ ListLies little b.now at }
+pub fn list_lies(b: &Accessible<'_>, at: usize) -> bool
+    requires { at + 12 ≤ length b.now.bytes.now }
+    ensures { IsTrue result ↔ ListLies b.now.order b.now.bytes.now at }
 {
-    type_at(b, at) != 4 || lies(b, offset_at(b, at) as usize, size_at(b, at) as usize)
+    b.type_at(at) != 4 || lies(b, b.offset_at(at) as usize, b.size_at(at) as usize)
 }
 
 /// Whether the inode has contents: it is a file or a link.
-pub fn has_contents(b: &[u8], at: usize) -> bool
-    requires { at + 12 ≤ length b.now }
-    ensures { result ≡ has_data (type_of little b.now at) }
+pub fn has_contents(b: &Accessible<'_>, at: usize) -> bool
+    requires { at + 12 ≤ length b.now.bytes.now }
+    ensures { result ≡ has_data (type_of b.now.order b.now.bytes.now at) }
 {
-    let kind = type_at(b, at);
+    let kind = b.type_at(at);
     kind == 8 || kind == 10
 }
 
@@ -51,12 +52,12 @@ pub fn blocks_of(size: u32) -> u32
 }
 
 /// Whether the block pointers, where there are some, lie there.
-pub fn table_lies(b: &[u8], at: usize) -> bool
-    requires { at + 12 ≤ length b.now }
-    ensures { IsTrue result ↔ TableLies little b.now at }
+pub fn table_lies(b: &Accessible<'_>, at: usize) -> bool
+    requires { at + 12 ≤ length b.now.bytes.now }
+    ensures { IsTrue result ↔ TableLies b.now.order b.now.bytes.now at }
 {
-    let count = blocks_of(size_at(b, at)) as usize;
-    !has_contents(b, at) || lies(b, offset_at(b, at) as usize, 4 * count)
+    let count = blocks_of(b.size_at(at)) as usize;
+    !has_contents(b, at) || lies(b, b.offset_at(at) as usize, 4 * count)
 }
 
 /// Whether a name is not empty, and without a zero or a slash.
@@ -67,13 +68,12 @@ fn is_name(name: &[u8]) -> bool
 }
 
 /// Whether the inode and its name end where their list ends, or before.
-fn fits(b: &[u8], end: usize, at: usize) -> bool
-    requires end { end ≤ length b.now }
+fn fits(b: &Accessible<'_>, end: usize, at: usize) -> bool
+    requires end { end ≤ length b.now.bytes.now }
     requires at { at < 2 ^ 32 }
-    requires small { length b.now < 2 ^ 32 }
-    ensures { IsTrue result ↔ Fits little b.now end at }
+    ensures { IsTrue result ↔ Fits b.now.order b.now.bytes.now end at }
 {
-    at + 12 <= end && end_at(b, at) <= end
+    at + 12 <= end && b.end_at(at) <= end
 }
 
 /// Whether an inode's type is one of seven.
@@ -84,14 +84,14 @@ fn is_known(t: u32) -> bool
 }
 
 /// Whether the size of a symbolic link is that of a text: 1 to 4,095 bytes.
-fn has_link_size(b: &[u8], at: usize) -> bool
-    requires { at + 12 ≤ length b.now }
-    ensures fits { OnTrue result (HasLinkSize little b.now at) }
-    ensures link { OnFalse result (type_of little b.now at ≡ 10) }
-    ensures size { OnFalse result ((size_of little b.now at ≡ 0) ⊎ (4095 < size_of little b.now at)) }
+fn has_link_size(b: &Accessible<'_>, at: usize) -> bool
+    requires { at + 12 ≤ length b.now.bytes.now }
+    ensures fits { OnTrue result (HasLinkSize b.now.order b.now.bytes.now at) }
+    ensures link { OnFalse result (type_of b.now.order b.now.bytes.now at ≡ 10) }
+    ensures size { OnFalse result ((size_of b.now.order b.now.bytes.now at ≡ 0) ⊎ (4095 < size_of b.now.order b.now.bytes.now at)) }
 {
-    if type_at(b, at) == 10 {
-        let size = size_at(b, at);
+    if b.type_at(at) == 10 {
+        let size = b.size_at(at);
         1 <= size && size <= 4_095
     } else {
         true
@@ -99,11 +99,10 @@ fn has_link_size(b: &[u8], at: usize) -> bool
 }
 
 /// The least number of the faults that stand at an entry that fits into its list.
-fn fault_at(b: &[u8], at: usize) -> Option<u32>
-    requires header { at + 12 ≤ length b.now }
-    requires name { end_of little b.now at ≤ length b.now }
-    requires small { length b.now < 2 ^ 32 }
-    ensures { IsLeastOf (IsFaultAt little b.now at) result }
+fn fault_at(b: &Accessible<'_>, at: usize) -> Option<u32>
+    requires header { at + 12 ≤ length b.now.bytes.now }
+    requires name { end_of b.now.order b.now.bytes.now at ≤ length b.now.bytes.now }
+    ensures { IsLeastOf (IsFaultAt b.now.order b.now.bytes.now at) result }
 {
     if !list_lies(b, at) {
         return Some(BOUNDS);
@@ -111,10 +110,10 @@ fn fault_at(b: &[u8], at: usize) -> Option<u32>
     if !table_lies(b, at) {
         return Some(BOUNDS);
     }
-    if !is_name(name_at(b, at)) {
+    if !is_name(b.name_at(at)) {
         return Some(BAD_NAME);
     }
-    if !is_known(type_at(b, at)) {
+    if !is_known(b.type_at(at)) {
         return Some(KIND);
     }
     if !has_link_size(b, at) {
@@ -124,11 +123,10 @@ fn fault_at(b: &[u8], at: usize) -> Option<u32>
 }
 
 /// Whether a pointer is that of a block which is read where it stands.
-fn is_plain(b: &[u8], pointer: u32) -> bool
-    requires { 12 ≤ length b.now }
-    ensures { IsTrue result ↔ IsPlain little b.now pointer }
+fn is_plain(b: &Accessible<'_>, pointer: u32) -> bool
+    ensures { IsTrue result ↔ IsPlain b.now.order b.now.bytes.now pointer }
 {
-    let kinds = word(b, 8) / 2_048 % 2 == 1;
+    let kinds = b.word(8) / 2_048 % 2 == 1;
     kinds && (pointer / 2_147_483_648 % 2 == 1 && pointer / 1_073_741_824 % 2 == 1)
 }
 
@@ -141,13 +139,11 @@ pub fn len_of_block(size: u32, i: u32) -> u32
 }
 
 /// Whether the word of this number is the pointer of a whole block that is read where it stands.
-fn is_whole(b: &[u8], number: u32) -> bool
-    requires header { 12 ≤ length b.now }
-    requires word { 4 * number + 4 ≤ length b.now }
-    requires small { length b.now < 2 ^ 32 }
-    ensures { IsTrue result ↔ IsWhole little b.now number }
+fn is_whole(b: &Accessible<'_>, number: u32) -> bool
+    requires word { 4 * number + 4 ≤ length b.now.bytes.now }
+    ensures { IsTrue result ↔ IsWhole b.now.order b.now.bytes.now number }
 {
-    let pointer = word(b, 4 * number as usize);
+    let pointer = b.word(4 * number as usize);
     is_plain(b, pointer) && lies(b, start_of(pointer) as usize, 4_096)
 }
 
@@ -157,13 +153,11 @@ const WORTH_KNOWING: u32 = 16;
 
 /// Up to where the words from `first` to `end`, counted in words, are pointers of whole blocks; it may
 /// be further. What is known is not looked at again.
-fn whole_up_to(b: &[u8], known: &mut Known, first: u32, end: u32) -> u32
-    requires header { 12 ≤ length b.now }
-    requires words { 4 * end ≤ length b.now }
-    requires small { length b.now < 2 ^ 32 }
-    requires known { AreKnown (IsWhole little b.now) known.old }
-    ensures known { AreKnown (IsWhole little b.now) known.new }
-    ensures whole { (n : ℕ) → first ≤ n → n < result → IsWhole little b.now n }
+fn whole_up_to(b: &Accessible<'_>, known: &mut Known, first: u32, end: u32) -> u32
+    requires words { 4 * end ≤ length b.now.bytes.now }
+    requires known { AreKnown (IsWhole b.now.order b.now.bytes.now) known.old }
+    ensures known { AreKnown (IsWhole b.now.order b.now.bytes.now) known.new }
+    ensures whole { (n : ℕ) → first ≤ n → n < result → IsWhole b.now.order b.now.bytes.now n }
 {
     let mut start = first;
     let mut next = first;
@@ -185,16 +179,14 @@ fn whole_up_to(b: &[u8], known: &mut Known, first: u32, end: u32) -> u32
 }
 
 /// How many pointers of the `count` from `table` on lead, one after the other, to whole blocks.
-fn whole_pointers(b: &[u8], known: &mut Known, table: u32, count: u32) -> u32
-    requires header { 12 ≤ length b.now }
+fn whole_pointers(b: &Accessible<'_>, known: &mut Known, table: u32, count: u32) -> u32
     requires aligned { table % 4 ≡ 0 }
-    requires pointers { 0 < count → table + 4 * count ≤ length b.now }
-    requires small { length b.now < 2 ^ 32 }
-    requires known { AreKnown (IsWhole little b.now) known.old }
-    ensures known { AreKnown (IsWhole little b.now) known.new }
+    requires pointers { 0 < count → table + 4 * count ≤ length b.now.bytes.now }
+    requires known { AreKnown (IsWhole b.now.order b.now.bytes.now) known.old }
+    ensures known { AreKnown (IsWhole b.now.order b.now.bytes.now) known.new }
     ensures few { result ≤ count }
-    ensures whole { (i : ℕ) → i < result → IsPlain little b.now (word_of little b.now (table + 4 * i))
-        × Lies b.now (block_start (word_of little b.now (table + 4 * i))) 4096 }
+    ensures whole { (i : ℕ) → i < result → IsPlain b.now.order b.now.bytes.now (word_of b.now.order b.now.bytes.now (table + 4 * i))
+        × Lies b.now.bytes.now (block_start (word_of b.now.order b.now.bytes.now (table + 4 * i))) 4096 }
 {
     if count == 0 {
         return 0;
@@ -206,12 +198,11 @@ fn whole_pointers(b: &[u8], known: &mut Known, table: u32, count: u32) -> u32
 
 /// The least fault of the block pointers. Those that are known to lead to whole blocks are not
 /// looked at again.
-fn pointer_fault(b: &[u8], known: &mut Known, at: usize) -> Option<Fault>
-    requires header { at + 12 ≤ length b.now }
-    requires small { length b.now < 2 ^ 32 }
-    requires known { AreKnown (IsWhole little b.now) known.old }
-    ensures known { AreKnown (IsWhole little b.now) known.new }
-    ensures least { IsLeastFaultOf (IsPointerFault little b.now at) result }
+fn pointer_fault(b: &Accessible<'_>, known: &mut Known, at: usize) -> Option<Fault>
+    requires header { at + 12 ≤ length b.now.bytes.now }
+    requires known { AreKnown (IsWhole b.now.order b.now.bytes.now) known.old }
+    ensures known { AreKnown (IsWhole b.now.order b.now.bytes.now) known.new }
+    ensures least { IsLeastFaultOf (IsPointerFault b.now.order b.now.bytes.now at) result }
 {
     if !has_contents(b, at) {
         return None;
@@ -219,12 +210,12 @@ fn pointer_fault(b: &[u8], known: &mut Known, at: usize) -> Option<Fault>
     if !table_lies(b, at) {
         return None;
     }
-    let size = size_at(b, at);
-    let table = offset_at(b, at);
+    let size = b.size_at(at);
+    let table = b.offset_at(at);
     let whole = whole_pointers(b, known, table, size / 4_096);
     for i in whole..blocks_of(size) {
         let place = table + 4 * i;
-        let pointer = word(b, place as usize);
+        let pointer = b.word(place as usize);
         if !is_plain(b, pointer) {
             let number = BLOCK_KIND;
             return Some(Fault { number, at: place });
@@ -239,13 +230,12 @@ fn pointer_fault(b: &[u8], known: &mut Known, at: usize) -> Option<Fault>
 }
 
 /// The least fault of the entry at `at` of a list that ends at `end`.
-pub fn entry_fault(b: &[u8], known: &mut Known, end: usize, at: usize) -> Option<Fault>
-    requires known { AreKnown (IsWhole little b.now) known.old }
-    requires end { end ≤ length b.now }
+pub fn entry_fault(b: &Accessible<'_>, known: &mut Known, end: usize, at: usize) -> Option<Fault>
+    requires known { AreKnown (IsWhole b.now.order b.now.bytes.now) known.old }
+    requires end { end ≤ length b.now.bytes.now }
     requires at { at < 2 ^ 32 }
-    requires small { length b.now < 2 ^ 32 }
-    ensures known { AreKnown (IsWhole little b.now) known.new }
-    ensures least { IsLeastFaultOf (HasEntryFault little b.now end at) result }
+    ensures known { AreKnown (IsWhole b.now.order b.now.bytes.now) known.new }
+    ensures least { IsLeastFaultOf (HasEntryFault b.now.order b.now.bytes.now end at) result }
 {
     let place = at as u32;
     if !fits(b, end, at) {

@@ -1,24 +1,24 @@
-//! The records of an image as the walk reads them.
+//! The accessible bytes of an image in their byte order, and its records as the traversal reads them.
 ghost use Rattle.std.specs.Prelude.{◌≡◌, ◌≢◌, ◌+◌, ◌<◌, ◌≤◌, ◌^◌, length, nat_lt, Some, None, if◌then◌else◌};
 ghost use Rattle.record_walk.specs.Faults.{IsLeastFault, IsLeastFaultOf};
-ghost use Rattle.cramfs_format.specs.Order.{little};
 ghost use Rattle.cramfs_format.specs.Inode.{list_end};
 ghost use Rattle.cramfs_format.specs.Refers.{references, target_of, LeadsToSound, LeadsToFault};
 ghost use Rattle.record_walk.specs.Known.{AreKnown};
 ghost use Rattle.cramfs_image.specs.Phases.{IsWhole};
 
-use crate::inode::{end_at, list_end_at, offset_at};
-use crate::record::{entry_fault, list_lies};
+use crate::soundness::{entry_fault, list_lies};
+use cramfs_format::order::Order;
 use record_walk::known::Known;
 use record_walk::records::Records;
 use record_walk::reference::{Edge, Edges, Reference};
 use rom_faults::Fault;
 use rom_faults::fault::BOUNDS;
 
-/// The accessible bytes of an image.
+/// The accessible bytes of an image, and their byte order.
 #[derive(Clone, Copy)]
-pub struct Reader<'a> {
+pub struct Accessible<'a> {
     pub bytes: &'a [u8],
+    pub order: Order,
     ghost small: { length bytes.now < 2 ^ 32 },
     ghost long: { 76 ≤ length bytes.now },
 }
@@ -37,14 +37,13 @@ fn edge_to(source: u32, which: u32, end: u32) -> Edge
 }
 
 /// The least fault of the record that a reference leads to, if it is not sound.
-fn fault_of(b: &[u8], known: &mut Known, x: Reference) -> Option<Fault>
-    requires known { AreKnown (IsWhole little b.now) known.old }
-    requires small { length b.now < 2 ^ 32 }
-    requires root { x.source ≡ 0 → x.which + 12 ≤ length b.now }
-    requires source { x.source ≢ 0 → x.source + 12 ≤ length b.now }
-    requires end { x.source ≢ 0 → list_end little b.now x.source ≤ length b.now }
-    ensures known { AreKnown (IsWhole little b.now) known.new }
-    ensures least { IsLeastFaultOf (LeadsToFault little b.now x) result }
+fn fault_of(b: &Accessible<'_>, known: &mut Known, x: Reference) -> Option<Fault>
+    requires known { AreKnown (IsWhole b.now.order b.now.bytes.now) known.old }
+    requires root { x.source ≡ 0 → x.which + 12 ≤ length b.now.bytes.now }
+    requires source { x.source ≢ 0 → x.source + 12 ≤ length b.now.bytes.now }
+    requires end { x.source ≢ 0 → list_end b.now.order b.now.bytes.now x.source ≤ length b.now.bytes.now }
+    ensures known { AreKnown (IsWhole b.now.order b.now.bytes.now) known.new }
+    ensures least { IsLeastFaultOf (LeadsToFault b.now.order b.now.bytes.now x) result }
 {
     if x.source == 0 {
         if list_lies(b, x.which as usize) {
@@ -59,20 +58,20 @@ fn fault_of(b: &[u8], known: &mut Known, x: Reference) -> Option<Fault>
     entry_fault(
         b,
         known,
-        list_end_at(b, x.source as usize) as usize,
+        b.list_end_at(x.source as usize) as usize,
         x.which as usize,
     )
 }
 
-impl Records for Reader<'_> {
-    ghost references = { λ s. references little s.bytes.now };
+impl Records for Accessible<'_> {
+    ghost references = { λ s. references s.order s.bytes.now };
 
-    ghost sound = { λ s. LeadsToSound little s.bytes.now };
+    ghost sound = { λ s. LeadsToSound s.order s.bytes.now };
 
-    ghost faulty = { λ s. LeadsToFault little s.bytes.now };
+    ghost faulty = { λ s. LeadsToFault s.order s.bytes.now };
 
     // The words that are pointers of whole blocks.
-    ghost well = { λ s. IsWhole little s.bytes.now };
+    ghost well = { λ s. IsWhole s.order s.bytes.now };
 
     #[tactic(auto, unfolding(cramfs_format::specs::Refers::target_of))]
     fn top(&self) -> Edge {
@@ -91,17 +90,16 @@ impl Records for Reader<'_> {
     }
 
     fn edges(&self, known: &mut Known, x: Reference, at: u32) -> Result<Edges, Fault> {
-        let b = self.bytes;
-        if let Some(fault) = fault_of(b, known, x) {
+        if let Some(fault) = fault_of(self, known, x) {
             return Err(fault);
         }
-        let own = edge_to(at, offset_at(b, at as usize), list_end_at(b, at as usize));
+        let own = edge_to(at, self.offset_at(at as usize), self.list_end_at(at as usize));
         let end = if x.source == 0 {
             0
         } else {
-            list_end_at(b, x.source as usize)
+            self.list_end_at(x.source as usize)
         };
-        let after = edge_to(x.source, end_at(b, at as usize) as u32, end);
+        let after = edge_to(x.source, self.end_at(at as usize) as u32, end);
         Ok(Edges { own, after })
     }
 }

@@ -2,7 +2,7 @@ use Rattle.std.proofs.Common.{ℕ, List, sym, subst, ◌∙◌}
 use Rattle.std.proofs.lemmas.Bool.{false≢true}
 use Rattle.cramfs_format.specs.Inode.{IsName}
 use Rattle.cramfs_image.proofs.Faults.{least_list, least_table, least_name, least_kind, least_link}
-use Rattle.cramfs_image.proofs.record.fault_at.Goals as goal
+use Rattle.cramfs_image.proofs.soundness.fault_at.Goals as goal
 
 pub returns-then-not-list_lies : goal.returns-then-not-list_lies
 returns-then-not-list_lies c = least_list (λ h. false≢true (sym c.if-not-list_lies.true ∙ c.list_lies.ensures.1 h))

@@ -1,10 +1,10 @@
 //! The phases of the check that go over the records of a forest: depth, extents and names.
 ghost use Rattle.std.specs.Prelude.{◌≡◌, ◌+◌, ◌≤◌, ◌<◌, ◌^◌, length, drop, IfOk, MatchOption};
 ghost use Rattle.std.specs.List.{All};
-ghost use Rattle.cramfs_format.specs.Order.{little};
 ghost use Rattle.cramfs_format.specs.Made.{IsGood};
 ghost use Rattle.cramfs_image.specs.Phases.{IsRecord, AreWell, IsLaterFault};
 
+use crate::accessible::Accessible;
 use crate::depth::least_too_deep;
 use crate::names::least_name_fault;
 use crate::overlap::least_overlap;
@@ -26,16 +26,14 @@ pub fn below_root<'a>(rows: &'a [Row]) -> &'a [Row]
 /// they are well.
 pub fn later_fault(
     alloc: Global,
-    b: &[u8],
+    b: &Accessible<'_>,
     rows: &[Row],
     most: u32,
 ) -> Result<Option<Fault>, OutOfMemory>
-    requires records { All (λ x. IsRecord little b.now x.offset) rows.now }
-    requires good { All (λ x. IsGood little b.now x.offset) (drop 1 rows.now) }
+    requires records { All (λ x. IsRecord b.now.order b.now.bytes.now x.offset) rows.now }
+    requires good { All (λ x. IsGood b.now.order b.now.bytes.now x.offset) (drop 1 rows.now) }
     requires some { 1 ≤ length rows.now }
-    requires long { 12 ≤ length b.now }
-    requires small { length b.now < 2 ^ 32 }
-    ensures { IfOk result (λ o. MatchOption o (AreWell little b.now most rows.now) (IsLaterFault little b.now most rows.now)) }
+    ensures { IfOk result (λ o. MatchOption o (AreWell b.now.order b.now.bytes.now most rows.now) (IsLaterFault b.now.order b.now.bytes.now most rows.now)) }
 {
     let below = below_root(rows);
     if let Some(fault) = least_too_deep(b, below, most) {

@@ -1,7 +1,0 @@
-use Rattle.std.proofs.Common.{◌∙◌}
-use Rattle.cramfs_format.specs.Order.{little}
-use Rattle.cramfs_image.proofs.Calls.{name_slice}
-use Rattle.cramfs_image.proofs.inode.name_at.Goals as goal
-
-pub returns : goal.returns
-returns c = c.cut_zeros.ensures ∙ name_slice little c.args.b.now c.args.at c.room_at-room.result c.room_at-room.ensures.room
