@@ -10,30 +10,32 @@ use Rattle.rom_tree.specs.Checks.{Refuses}
 use Rattle.romfs_format.specs.Tree.{RomfsTree, magic as romfs_magic}
 use Rattle.romfs_format.specs.Faults.{HasNoFault as HasNoRomfsFault}
 use Rattle.romfs_image.specs.Checked.{Shows as RomfsShows, IsLeastAnswer as IsLeastRomfsAnswer}
-use Rattle.cramfs_format.specs.Order.{little, word}
-use Rattle.cramfs_format.specs.Superblock.{magic as cramfs_magic}
+use Rattle.cramfs_format.specs.declared.order.Order.{Order}
+use Rattle.cramfs_format.specs.Order.{word}
+use Rattle.cramfs_format.specs.Superblock.{magic as cramfs_magic, order_of}
 use Rattle.cramfs_format.specs.Tree.{CramfsTree}
 use Rattle.cramfs_format.specs.Faults.{HasNoFault as HasNoCramfsFault}
 use Rattle.cramfs_image.specs.Checked.{Shows as CramfsShows, IsLeastAnswer as IsLeastCramfsAnswer}
+use Rattle.cramfs_image.specs.Reported.{order_in}
 use Rattle.image_check.specs.declared.any.AnyImage.{AnyImage}
 use Rattle.image_check.specs.declared.any.AnyImage.TheVariants.{Romfs, Cramfs}
 
 -- the bytes begin with `-rom1fs-`
-abbrev pub IsRomfs : List ℕ → Type 0
-IsRomfs all = take 8 all ≡ romfs_magic
+abbrev pub BeginsRomfs : List ℕ → Type 0
+BeginsRomfs all = take 8 all ≡ romfs_magic
 
--- the first word is 28cd3d45, its lowest byte first
-abbrev pub IsCramfs : List ℕ → Type 0
-IsCramfs all = (4 ≤ length all) × (word little all 0 ≡ cramfs_magic)
+-- the first word is 28cd3d45 (hexadecimal), in one of the byte orders
+abbrev pub BeginsCramfs : List ℕ → Type 0
+BeginsCramfs all = (4 ≤ length all) × (word (order_of all) all 0 ≡ cramfs_magic)
 
 -- t is the tree that one of the formats gives these bytes, under these limits
 abbrev pub HasTree : List ℕ → Limits → Node → Type 0
-HasTree all limits t = RomfsTree all limits.references limits.depth t ⊎ CramfsTree little all limits.references limits.depth t
+HasTree all limits t = RomfsTree all limits.references limits.depth t ⊎ ((o : Order) × CramfsTree o all limits.references limits.depth t)
 
 -- The image m shows the tree that one of the formats gives these bytes.
 pub data Shows (all : List ℕ) (limits : Limits) (m : Image) (report : Report) : Type 0 where
   romfs : RomfsShows all limits m report → Shows all limits m report
-  cramfs : CramfsShows little all limits m report → Shows all limits m report
+  cramfs : CramfsShows (order_of all) all limits m report → Shows all limits m report
 
 -- a fault only where the bytes hold no tree of either format
 abbrev pub IsRefused : List ℕ → Limits → CheckError → Type 0
@@ -43,18 +45,18 @@ IsRefused all limits = Refuses (HasTree all limits)
 abbrev pub neither : List ℕ → CheckError
 neither all = Fault (if nat_lt (length all) 8 then 2 else 3) 0
 
--- the image is of the format that the first bytes name
+-- the image is of the format that the first bytes name, and in their byte order
 abbrev pub HasFormat : List ℕ → AnyImage → Type 0
-HasFormat all (Romfs s) = IsRomfs all
-HasFormat all (Cramfs s) = IsCramfs all
+HasFormat all (Romfs s) = BeginsRomfs all
+HasFormat all (Cramfs s) = BeginsCramfs all × (order_in s ≡ order_of all)
 
 -- The bytes begin as an image of one of the formats does, and have none of its faults.
 pub data IsFaultless (all : List ℕ) (limits : Limits) : Type 0 where
-  no_romfs_fault : IsRomfs all → HasNoRomfsFault all limits.references limits.depth → IsFaultless all limits
-  no_cramfs_fault : IsCramfs all → HasNoCramfsFault little all limits.references limits.depth → IsFaultless all limits
+  no_romfs_fault : BeginsRomfs all → HasNoRomfsFault all limits.references limits.depth → IsFaultless all limits
+  no_cramfs_fault : BeginsCramfs all → HasNoCramfsFault (order_of all) all limits.references limits.depth → IsFaultless all limits
 
 -- The fault is the least one of the format that the first bytes name, or that of bytes which name none.
 pub data IsLeastFault (all : List ℕ) (limits : Limits) (e : CheckError) : Type 0 where
-  least_of_romfs : IsRomfs all → IsLeastRomfsAnswer all limits e → IsLeastFault all limits e
-  least_of_cramfs : IsCramfs all → IsLeastCramfsAnswer little all limits e → IsLeastFault all limits e
-  of_neither : (IsRomfs all → ⊥) → (IsCramfs all → ⊥) → e ≡ neither all → IsLeastFault all limits e
+  least_of_romfs : BeginsRomfs all → IsLeastRomfsAnswer all limits e → IsLeastFault all limits e
+  least_of_cramfs : BeginsCramfs all → IsLeastCramfsAnswer (order_of all) all limits e → IsLeastFault all limits e
+  of_neither : (BeginsRomfs all → ⊥) → (BeginsCramfs all → ⊥) → e ≡ neither all → IsLeastFault all limits e

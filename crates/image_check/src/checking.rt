@@ -1,40 +1,51 @@
-//! The check of an image of either format.
+//! The check of an image of romfs, or of cramfs in either byte order.
 ghost use Rattle.std.specs.Prelude.{◌≡◌, ◌≤◌, ◌↔◌, IsTrue, IfOk, IfErr, Err};
+ghost use Rattle.std.specs.Bool.{OnTrue, OnFalse};
 ghost use Rattle.rom_tree.specs.Tree.{levels};
 ghost use Rattle.image_check.specs.Any.{any_view, report_of};
-ghost use Rattle.image_check.specs.Checked.{Shows, IsRefused, IsRomfs, IsCramfs, HasFormat, IsFaultless, IsLeastFault, neither};
+ghost use Rattle.image_check.specs.Checked.{Shows, IsRefused, BeginsRomfs, BeginsCramfs, HasFormat, IsFaultless, IsLeastFault, neither};
 
 use crate::any::AnyImage;
+use cramfs_format::order::Order;
 use cramfs_image::image::Cramfs;
 use rom_faults::CheckError;
 use rom_faults::fault::{MAGIC, SHORT};
-use rom_fields::word::le32;
 use rom_tree::types::Limits;
 use romfs_image::image::Romfs;
 use std::alloc::Global;
+
+/// The first word of a cramfs image.
+const CRAMFS_MAGIC: u32 = 0x28cd_3d45;
 
 /// Fewer bytes are too short to name a format.
 const SHORTEST: usize = 8;
 
 /// Whether the bytes begin as a romfs image does.
 fn is_romfs(bytes: &[u8]) -> bool
-    ensures { IsTrue result ↔ IsRomfs bytes.now }
+    ensures { IsTrue result ↔ BeginsRomfs bytes.now }
 {
     bytes.len() >= 8 && &bytes[..8] == b"-rom1fs-".as_slice()
 }
 
-/// Whether the bytes begin as a little-endian cramfs image does.
+/// Whether the bytes begin as a cramfs image does, in either byte order.
 fn is_cramfs(bytes: &[u8]) -> bool
-    ensures { IsTrue result ↔ IsCramfs bytes.now }
+    ensures begins { OnTrue result (BeginsCramfs bytes.now) }
+    ensures other { OnFalse result (BeginsCramfs bytes.now → ⊥) }
 {
-    match le32(bytes, 0) {
-        Some(magic) => magic == 0x28cd_3d45,
-        None => false,
+    if bytes.len() < 4 {
+        return false;
     }
+    if Order::Little.word(bytes, 0) == CRAMFS_MAGIC {
+        return true;
+    }
+    if Order::Big.word(bytes, 0) == CRAMFS_MAGIC {
+        return true;
+    }
+    false
 }
 
-/// The image of these bytes, where they hold the tree of a romfs or a little-endian cramfs image
-/// within the limits (a depth limit above 64 counts as 64), which is where they have no fault of the
+/// The image of these bytes, where they hold the tree of a romfs image, or of a cramfs image in
+/// either byte order, within the limits (a depth limit above 64 counts as 64), which is where they have no fault of the
 /// format that their first bytes name; else the least of these faults, by phases. Bytes that name no
 /// format have fault 2 where they are fewer than 8, else fault 3, at 0. `OutOfMemory` where memory is
 /// refused; what it takes, and in what time, the formats' own checks say.
@@ -45,7 +56,7 @@ pub fn check<'a>(alloc: Global, bytes: &'a [u8], limits: Limits) -> Result<AnyIm
     ensures shallow { IfOk result (λ v. levels (any_view v).tree ≤ 65) }
     ensures clean { IfOk result (λ v. IsFaultless bytes.now limits) }
     ensures least { IfErr result (IsLeastFault bytes.now limits) }
-    ensures neither { (IsRomfs bytes.now → ⊥) → (IsCramfs bytes.now → ⊥) → result ≡ Err (neither bytes.now) }
+    ensures neither { (BeginsRomfs bytes.now → ⊥) → (BeginsCramfs bytes.now → ⊥) → result ≡ Err (neither bytes.now) }
 {
     if is_romfs(bytes) {
         let image = Romfs::check(alloc, bytes, limits)?;

@@ -6,13 +6,13 @@ use Rattle.image_check.specs.declared.any.AnyImage.{AnyImage}
 use Rattle.image_check.specs.declared.any.AnyImage.TheVariants.{Romfs, Cramfs}
 use Rattle.image_check.specs.Any.{any_view, report_of}
 use Rattle.image_check.specs.Checked.{Shows, IsRefused, HasFormat, IsFaultless, IsLeastFault}
-use Rattle.romtool.specs.Formats.{format_of}
+use Rattle.romtool.specs.Formats.{cramfs_name, format_of}
 use Rattle.romtool.specs.Answers.{romfs, cramfs, IsFormatName, IsSoundText, IsFaultText, sound_text, fault_line, usual_limits}
 
 -- the format that the first bytes name is the image's
 format_named : (bytes : List ℕ) (v : AnyImage) → HasFormat bytes v → IsFormatName bytes (format_of v)
 format_named bytes (Romfs s) h = romfs h refl
-format_named bytes (Cramfs s) h = cramfs h refl
+format_named bytes (Cramfs s) h = cramfs h.0 (ap cramfs_name h.1)
 
 -- limits of these numbers are the usual ones
 pub usual : (l : Limits) → l.references ≡ 1048576 → l.depth ≡ 64 → l ≡ usual_limits

@@ -9,7 +9,9 @@ use Rattle.rom_tree.specs.Image.{Image}
 use Rattle.rom_faults.specs.declared.error.CheckError.TheVariants.{Fault}
 use Rattle.rom_tree.specs.declared.types.Limits.{Limits}
 use Rattle.rom_tree.specs.declared.types.Report.{Report}
-use Rattle.image_check.specs.Checked.{Shows, IsRefused, IsRomfs, IsCramfs, IsFaultless, IsLeastFault}
+use Rattle.cramfs_format.specs.Superblock.{order_of}
+use Rattle.romtool.specs.Formats.{cramfs_name}
+use Rattle.image_check.specs.Checked.{Shows, IsRefused, BeginsRomfs, BeginsCramfs, IsFaultless, IsLeastFault}
 use Rattle.romtool.specs.declared.shown.Outcome.{Outcome}
 use Rattle.romtool.specs.declared.shown.Outcome.TheVariants.{Done, Refused, Memory, WriteFault}
 
@@ -17,10 +19,10 @@ use Rattle.romtool.specs.declared.shown.Outcome.TheVariants.{Done, Refused, Memo
 unfoldable pub fault_line : ℕ → ℕ → List ℕ
 fault_line n at = codes "fault " ++ (decimal n ++ (codes " " ++ (name_of_fault n ++ (codes " at " ++ (decimal at ++ codes "\n")))))
 
--- the name of the format that the first bytes name
+-- the name of the format that the first bytes name: cramfs in big-endian order has a name of its own
 pub data IsFormatName (bytes : List ℕ) : List ℕ → Type 0 where
-  romfs : {name : List ℕ} → IsRomfs bytes → name ≡ codes "romfs" → IsFormatName bytes name
-  cramfs : {name : List ℕ} → IsCramfs bytes → name ≡ codes "cramfs" → IsFormatName bytes name
+  romfs : {name : List ℕ} → BeginsRomfs bytes → name ≡ codes "romfs" → IsFormatName bytes name
+  cramfs : {name : List ℕ} → BeginsCramfs bytes → name ≡ cramfs_name (order_of bytes) → IsFormatName bytes name
 
 -- ok FORMAT REFERENCES DEPTH, and a line feed
 unfoldable pub ok_line : List ℕ → ℕ → ℕ → List ℕ

@@ -59,7 +59,13 @@ fn format_name(image: &AnyImage) -> &'static [u8]
 {
     match image {
         AnyImage::Romfs(_) => b"romfs",
-        AnyImage::Cramfs(_) => b"cramfs",
+        AnyImage::Cramfs(image) => {
+            if image.big() {
+                b"cramfs-be"
+            } else {
+                b"cramfs"
+            }
+        }
     }
 }
 

@@ -1,5 +1,13 @@
-use Rattle.image_check.proofs.Formats.{word_tells}
+use Rattle.std.proofs.Common.{sym, ◌∙◌}
+use Rattle.cramfs_format.specs.declared.order.Order.TheVariants.{Little, Big}
+use Rattle.image_check.proofs.Formats.{begins_in, begins_not}
 use Rattle.image_check.proofs.checking.is_cramfs.Goals as goal
 
-pub returns-in-Some : goal.returns-in-Some
-returns-in-Some c = word_tells c.args.bytes.now c.in-Some.magic c.in-Some.ensures
+pub returns-then-word-eq-CRAMFS_MAGIC-clause-begins : goal.returns-then-word-eq-CRAMFS_MAGIC-clause-begins
+returns-then-word-eq-CRAMFS_MAGIC-clause-begins c = begins_in Little c.args.bytes.now c.if-bytes-lt4.false (sym c.word.ensures ∙ c.if-word-eq-CRAMFS_MAGIC.true)
+
+pub returns-then-word-eq-CRAMFS_MAGIC-2-clause-begins : goal.returns-then-word-eq-CRAMFS_MAGIC-2-clause-begins
+returns-then-word-eq-CRAMFS_MAGIC-2-clause-begins c = begins_in Big c.args.bytes.now c.if-bytes-lt4.false (sym c.word-2.ensures ∙ c.if-word-eq-CRAMFS_MAGIC-2.true)
+
+pub returns-clause-other : goal.returns-clause-other
+returns-clause-other c = begins_not c.args.bytes.now (λ e. c.if-word-eq-CRAMFS_MAGIC.false (c.word.ensures ∙ e)) (λ e. c.if-word-eq-CRAMFS_MAGIC-2.false (c.word-2.ensures ∙ e))
