@@ -1,5 +1,5 @@
 pub mod Zeros
-pub mod Fields
+pub mod Reading
 pub mod Calls
 pub mod Walk
 pub mod Steps

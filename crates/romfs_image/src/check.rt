@@ -2,8 +2,7 @@
 ghost use Rattle.std.specs.Prelude.{◌≡◌, ◌≤◌, ◌<◌, ◌^◌, length, IfOk, IfErr, min};
 
 use crate::image::Romfs;
-use crate::later::later_fault;
-use crate::reader::Reader;
+use crate::phases::later_fault;
 use crate::superblock::read_superblock;
 use record_walk::traversal::traverse;
 use rom_faults::CheckError;
@@ -31,14 +30,11 @@ impl<'a> Romfs<'a> {
         ensures fault { IfErr result (IsRefused bytes.now limits) }
         ensures least { IfErr result (IsLeastAnswer bytes.now limits) }
     {
-        let superblock = read_superblock(bytes)?;
-        let b = superblock.bytes;
-        let root = superblock.root;
-        let reader = Reader { bytes: b, root };
-        let rows = traverse(alloc, &reader, limits.references)?;
+        let b = read_superblock(bytes)?;
+        let rows = traverse(alloc, &b, limits.references)?;
         let list = rows.as_slice();
-        match later_fault(alloc, b, root, list, limits.depth.min(64))? {
-            None => Ok(Romfs::opened(bytes, b, root, list, limits)),
+        match later_fault(alloc, &b, list, limits.depth.min(64))? {
+            None => Ok(Romfs::opened(bytes, b, list, limits)),
             Some(fault) => Err(fault.into()),
         }
     }

@@ -7,38 +7,39 @@ ghost use Rattle.rom_tree.specs.Dots.{is_dots};
 ghost use Rattle.record_walk.specs.Sweep.{IsLeastRowFault};
 ghost use Rattle.romfs_image.specs.Phases.{IsTooDeep, IsShallow};
 
-use crate::record::{is_dots, name_at};
+use crate::accessible::Accessible;
 use record_walk::reference::Row;
 use record_walk::least::lesser_fault;
 use rom_faults::Fault;
 use rom_faults::fault::TOO_DEEP;
+use rom_tree::dots::is_dots;
 
 /// Whether a row is an entry, and not `.` or `..`.
-fn is_entry(b: &[u8], root: u32, row: Row) -> bool
-    requires { IsSound b.now root row.offset }
-    ensures { result ≡ not (is_dots (name_of b.now row.offset)) }
+fn is_entry(b: &Accessible<'_>, row: Row) -> bool
+    requires { IsSound b.now.bytes.now b.now.root row.offset }
+    ensures { result ≡ not (is_dots (name_of b.now.bytes.now row.offset)) }
 {
-    !is_dots(name_at(b, root, row.offset))
+    !is_dots(b.name_at(row.offset))
 }
 
 /// Whether a row is an entry deeper than `most`.
-fn is_too_deep(b: &[u8], root: u32, row: Row, most: u32) -> bool
-    requires { IsSound b.now root row.offset }
-    ensures entry { OnTrue result (is_dots (name_of b.now row.offset) ≡ false) }
+fn is_too_deep(b: &Accessible<'_>, row: Row, most: u32) -> bool
+    requires { IsSound b.now.bytes.now b.now.root row.offset }
+    ensures entry { OnTrue result (is_dots (name_of b.now.bytes.now row.offset) ≡ false) }
     ensures deep { OnTrue result (most < row.depth) }
-    ensures shallow { OnFalse result (is_dots (name_of b.now row.offset) ≡ false → row.depth ≤ most) }
+    ensures shallow { OnFalse result (is_dots (name_of b.now.bytes.now row.offset) ≡ false → row.depth ≤ most) }
 {
-    row.depth > most && is_entry(b, root, row)
+    row.depth > most && is_entry(b, row)
 }
 
 /// The least fault of an entry deeper than `most`.
-pub fn least_too_deep(b: &[u8], root: u32, rows: &[Row], most: u32) -> Option<Fault>
-    requires { All (λ x. IsSound b.now root x.offset) rows.now }
-    ensures { IsLeastRowFault (IsShallow b.now most) (IsTooDeep b.now most) rows.now result }
+pub fn least_too_deep(b: &Accessible<'_>, rows: &[Row], most: u32) -> Option<Fault>
+    requires { All (λ x. IsSound b.now.bytes.now b.now.root x.offset) rows.now }
+    ensures { IsLeastRowFault (IsShallow b.now.bytes.now most) (IsTooDeep b.now.bytes.now most) rows.now result }
 {
     let mut noted: Option<Fault> = None;
     'rows: for row in rows {
-        if is_too_deep(b, root, *row, most) {
+        if is_too_deep(b, *row, most) {
             let fault = Fault {
                 number: TOO_DEEP,
                 at: row.offset,
@@ -50,14 +51,14 @@ pub fn least_too_deep(b: &[u8], root: u32, rows: &[Row], most: u32) -> Option<Fa
 }
 
 /// The greatest depth of an entry, 0 where there is none.
-pub fn greatest_depth(b: &[u8], root: u32, rows: &[Row]) -> u32
-    requires { All (λ x. IsSound b.now root x.offset) rows.now }
-    ensures bound { All (λ x. is_dots (name_of b.now x.offset) ≡ false → x.depth ≤ result) rows.now }
-    ensures reached { (result ≡ 0) ⊎ Any (λ x. (is_dots (name_of b.now x.offset) ≡ false) × (x.depth ≡ result)) rows.now }
+pub fn greatest_depth(b: &Accessible<'_>, rows: &[Row]) -> u32
+    requires { All (λ x. IsSound b.now.bytes.now b.now.root x.offset) rows.now }
+    ensures bound { All (λ x. is_dots (name_of b.now.bytes.now x.offset) ≡ false → x.depth ≤ result) rows.now }
+    ensures reached { (result ≡ 0) ⊎ Any (λ x. (is_dots (name_of b.now.bytes.now x.offset) ≡ false) × (x.depth ≡ result)) rows.now }
 {
     let mut deepest: u32 = 0;
     'rows: for row in rows {
-        if is_too_deep(b, root, *row, deepest) {
+        if is_too_deep(b, *row, deepest) {
             deepest = row.depth;
         }
     }

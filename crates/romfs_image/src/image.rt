@@ -2,30 +2,32 @@ ghost use Rattle.std.specs.Prelude.{◌≡◌, ◌<◌, ◌≤◌, ◌^◌, leng
 ghost use Rattle.romfs_format.specs.Made.{IsRomfs};
 ghost use Rattle.romfs_image.specs.Romfs.{romfs_view};
 
+use crate::accessible::Accessible;
 use crate::depth::greatest_depth;
-use crate::record::{
-    device_at, end_at, file_at, is_dots, kind_at, led_at, list_start, mode_at, name_at, next_at,
-    word,
-};
+use crate::fields::{device_at, file_at, kind_at, mode_at};
 use arrayvec::ArrayVec;
 use record_walk::reference::Row;
+use rom_tree::dots::is_dots;
 use rom_tree::image::{TreeImage, Viewed};
 use rom_tree::types::{Cursor, Entry, Limits, NodeId, Report, Run, Stat};
+
+/// A cursor other than the start is the offset of the next record from here on: the end of a list,
+/// whose offset is 0, is told from the start in this way.
+const CURSOR_BASE: u64 = 1 << 32;
 
 /// An image that has been checked.
 #[derive(Drop)]
 pub struct Romfs<'a> {
     all: &'a [u8],
-    bytes: &'a [u8],
-    root: u32,
+    accessible: Accessible<'a>,
     references: u32,
     depth: u32,
-    ghost sound: { IsRomfs bytes.now root references },
-    ghost within: { length bytes.now ≤ length all.now },
+    ghost sound: { IsRomfs accessible.bytes.now accessible.root references },
+    ghost within: { length accessible.bytes.now ≤ length all.now },
 }
 
 impl Viewed for Romfs<'_> {
-    ghost image = { λ s. romfs_view s.all.now s.bytes.now s.root s.references s.sound s.within };
+    ghost image = { λ s. romfs_view s.all.now s.accessible.bytes.now s.accessible.root s.references s.sound s.within };
 }
 
 impl<'a> TreeImage<'a> for Romfs<'a> {
@@ -40,36 +42,36 @@ impl<'a> TreeImage<'a> for Romfs<'a> {
     }
 
     fn root(&self) -> NodeId {
-        NodeId(self.root)
+        NodeId(self.accessible.root)
     }
 
     fn is_node(&self, n: NodeId) -> bool {
-        if n.0 == self.root {
+        if n.0 == self.accessible.root {
             return true;
         }
         let mut stack: ArrayVec<u32, 65> = ArrayVec::new();
-        stack.push(list_start(self.bytes, self.root, self.root));
+        stack.push(self.accessible.list_start(self.accessible.root));
         while let Some(at) = stack.pop() {
             if at == 0 {
                 continue;
             }
-            stack.push(next_at(self.bytes, self.root, at));
-            if is_dots(name_at(self.bytes, self.root, at)) {
+            stack.push(self.accessible.next_offset(at as usize));
+            if is_dots(self.accessible.name_at(at)) {
                 continue;
             }
-            if led_at(self.bytes, self.root, at) == n.0 {
+            if self.accessible.led_at(at) == n.0 {
                 return true;
             }
-            stack.push(list_start(self.bytes, self.root, at));
+            stack.push(self.accessible.list_start(at));
         }
         false
     }
 
     fn stat(&self, n: NodeId) -> Stat {
         let at = n.0 as usize;
-        let front = word(self.bytes, at);
-        let spec = word(self.bytes, at + 4);
-        let size = word(self.bytes, at + 8);
+        let front = self.accessible.word(at);
+        let spec = self.accessible.word(at + 4);
+        let size = self.accessible.word(at + 8);
         let t = front % 8;
         Stat {
             ino: n.0,
@@ -84,21 +86,21 @@ impl<'a> TreeImage<'a> for Romfs<'a> {
     }
 
     fn entry(&self, d: NodeId, c: Cursor) -> Option<Entry<'a>> {
-        let bytes: &'a [u8] = self.bytes;
+        let b = &self.accessible;
         let mut at = if c.0 == 0 {
-            list_start(bytes, self.root, d.0)
+            b.list_start(d.0)
         } else {
-            (c.0 - 4294967296) as u32
+            (c.0 - CURSOR_BASE) as u32
         };
         while at != 0 {
-            let name = name_at(bytes, self.root, at);
-            let next = next_at(bytes, self.root, at);
+            let name = b.name_at(at);
+            let next = b.next_offset(at as usize);
             if is_dots(name) {
                 at = next;
                 continue;
             }
-            let node = NodeId(led_at(bytes, self.root, at));
-            let cursor = Cursor(4294967296 + u64::from(next));
+            let node = NodeId(b.led_at(at));
+            let cursor = Cursor(CURSOR_BASE + u64::from(next));
             return Some(Entry { name, node, cursor });
         }
         None
@@ -113,13 +115,13 @@ impl<'a> TreeImage<'a> for Romfs<'a> {
             (λ n. (y : Node) × (find_entry (entries_of x) name.now ≡ Some y) × (ino_of y ≡ n.0)) }
         ensures report { report_of self.new ≡ report_of self.old }
     {
-        let mut at = list_start(self.bytes, self.root, d.0);
+        let mut at = self.accessible.list_start(d.0);
         while at != 0 {
-            let found = name_at(self.bytes, self.root, at);
+            let found = self.accessible.name_at(at);
             if !is_dots(found) && found == name {
-                return Some(NodeId(led_at(self.bytes, self.root, at)));
+                return Some(NodeId(self.accessible.led_at(at)));
             }
-            at = next_at(self.bytes, self.root, at);
+            at = self.accessible.next_offset(at as usize);
         }
         None
     }
@@ -135,13 +137,13 @@ impl<'a> TreeImage<'a> for Romfs<'a> {
             → GivesRest (places_of x) off result }
     {
         let at = n.0 as usize;
-        let t = word(self.bytes, at) % 8;
-        let size = file_at(t, word(self.bytes, at + 8));
+        let t = self.accessible.word(at) % 8;
+        let size = file_at(t, self.accessible.word(at + 8));
         if off >= u64::from(size) {
             return None;
         }
         let off = off as u32;
-        let place = end_at(self.bytes, self.root, n.0) + off;
+        let place = self.accessible.end_at(n.0) + off;
         Some(Run {
             place,
             len: size - off,
@@ -158,27 +160,25 @@ impl<'a> Romfs<'a> {
     ghost use Rattle.romfs_image.specs.Checked.{Shows};
     ghost use Rattle.romfs_image.specs.Reported.{report_of};
 
-    /// The image of the bytes `all`, whose accessible ones are `bytes`, with the rows of its tree.
+    /// The image of the bytes `all`, whose accessible ones are those of `b`, with the rows of its
+    /// tree.
     pub(crate) fn opened(
         all: &'a [u8],
-        bytes: &'a [u8],
-        root: u32,
+        b: Accessible<'a>,
         rows: &[Row],
         limits: Limits,
     ) -> Romfs<'a>
-        requires superblock { IsSuperblock all.now bytes.now root }
-        requires small { length bytes.now < 2 ^ 32 }
+        requires superblock { IsSuperblock all.now b.bytes.now b.root }
         requires few { length rows.now < 2 ^ 32 }
-        requires sound { All (λ x. IsSound bytes.now root x.offset) rows.now }
-        requires tree { (f : Forest) × (rows.now ≡ all_rows (references bytes.now root) f)
-            × IsTree bytes.now root limits.references limits.depth f }
+        requires sound { All (λ x. IsSound b.bytes.now b.root x.offset) rows.now }
+        requires tree { (f : Forest) × (rows.now ≡ all_rows (references b.bytes.now b.root) f)
+            × IsTree b.bytes.now b.root limits.references limits.depth f }
         ensures { Shows all.now limits (⟦<Romfs<'a> as Viewed>⟧.image result) (report_of result) }
     {
-        let depth = greatest_depth(bytes, root, rows);
+        let depth = greatest_depth(&b, rows);
         Romfs {
             all,
-            bytes,
-            root,
+            accessible: b,
             references: rows.len() as u32,
             depth,
         }

@@ -8,17 +8,17 @@
 //! which knows no tree, is empty exactly where a tree stands.
 #![tactic(auto)]
 
+mod accessible;
 mod check;
 mod depth;
-mod header;
+mod fields;
 pub mod image;
-mod later;
 pub mod laws;
 mod names;
 mod overlap;
-mod reader;
-mod record;
+mod phases;
 mod rows;
+mod soundness;
 mod superblock;
 #[cfg(test)]
 mod tests;

@@ -11,8 +11,7 @@ ghost use Rattle.record_walk.specs.Listed.{AreNames};
 ghost use Rattle.record_walk.specs.Sweep.{IsLeastRowFault};
 ghost use Rattle.romfs_image.specs.Phases.{AreOffsets, TellsRepeated, HasNameFault, IsWellNamed};
 
-use crate::header::type_at;
-use crate::record::{is_dots, name_at};
+use crate::accessible::Accessible;
 use crate::rows::{led_to, offsets_of};
 use record_walk::listed::{ListedName, repeats};
 use record_walk::reference::Row;
@@ -20,21 +19,8 @@ use record_walk::least::lesser_fault;
 use rom_faults::Fault;
 use rom_faults::fault::{DOT, DUPLICATE_NAME, HARD_LINK};
 use rom_fields::memory::OutOfMemory;
+use rom_tree::dots::{is_dot, is_dot_dot, is_dots};
 use std::alloc::Global;
-
-/// Whether a name is `.`.
-fn is_dot_name(name: &[u8]) -> bool
-    ensures { IsTrue result ↔ (name.now ≡ dot) }
-{
-    name == b".".as_slice()
-}
-
-/// Whether a name is `..`.
-fn is_dot_dot_name(name: &[u8]) -> bool
-    ensures { IsTrue result ↔ (name.now ≡ dot_dot) }
-{
-    name == b"..".as_slice()
-}
 
 /// Whether following a record leads to the one at `to`.
 fn leads(led: Option<u32>, to: u32) -> bool
@@ -47,27 +33,27 @@ fn leads(led: Option<u32>, to: u32) -> bool
 }
 
 /// Whether `.` or `..` leads elsewhere than it is to, or the root heads its list under another name.
-fn is_astray(b: &[u8], root: u32, all: &[Row], offsets: &[u32], row: Row) -> bool
-    requires all { All (λ x. IsSound b.now root x.offset) all.now }
+fn is_astray(b: &Accessible<'_>, all: &[Row], offsets: &[u32], row: Row) -> bool
+    requires all { All (λ x. IsSound b.now.bytes.now b.now.root x.offset) all.now }
     requires offsets { AreOffsets all.now offsets.now }
-    requires row { IsSound b.now root row.offset }
-    ensures astray { OnTrue result ((before : List Row) → HasNameFault b.now root all.now before row 24) }
-    ensures here { OnFalse result (name_of b.now row.offset ≡ dot → follow b.now all.now 8 row.offset ≡ Some row.directory) }
-    ensures above { OnFalse result (name_of b.now row.offset ≡ dot_dot → follow b.now all.now 8 row.offset ≡ Some row.parent) }
-    ensures root { OnFalse result (row.offset ≡ root → name_of b.now row.offset ≡ dot) }
+    requires row { IsSound b.now.bytes.now b.now.root row.offset }
+    ensures astray { OnTrue result ((before : List Row) → HasNameFault b.now.bytes.now b.now.root all.now before row 24) }
+    ensures here { OnFalse result (name_of b.now.bytes.now row.offset ≡ dot → follow b.now.bytes.now all.now 8 row.offset ≡ Some row.directory) }
+    ensures above { OnFalse result (name_of b.now.bytes.now row.offset ≡ dot_dot → follow b.now.bytes.now all.now 8 row.offset ≡ Some row.parent) }
+    ensures root { OnFalse result (row.offset ≡ b.now.root → name_of b.now.bytes.now row.offset ≡ dot) }
 {
-    let name = name_at(b, root, row.offset);
-    if is_dot_name(name) {
-        if leads(led_to(b, root, all, offsets, row.offset), row.directory) {
+    let name = b.name_at(row.offset);
+    if is_dot(name) {
+        if leads(led_to(b, all, offsets, row.offset), row.directory) {
             return false;
         }
         return true;
     }
-    if row.offset == root {
+    if row.offset == b.root {
         return true;
     }
-    if is_dot_dot_name(name) {
-        if leads(led_to(b, root, all, offsets, row.offset), row.parent) {
+    if is_dot_dot(name) {
+        if leads(led_to(b, all, offsets, row.offset), row.parent) {
             return false;
         }
         return true;
@@ -76,23 +62,23 @@ fn is_astray(b: &[u8], root: u32, all: &[Row], offsets: &[u32], row: Row) -> boo
 }
 
 /// Whether a hard link of another name leads to no record, or to a directory.
-fn is_link_astray(b: &[u8], root: u32, all: &[Row], offsets: &[u32], row: Row) -> bool
-    requires all { All (λ x. IsSound b.now root x.offset) all.now }
+fn is_link_astray(b: &Accessible<'_>, all: &[Row], offsets: &[u32], row: Row) -> bool
+    requires all { All (λ x. IsSound b.now.bytes.now b.now.root x.offset) all.now }
     requires offsets { AreOffsets all.now offsets.now }
-    requires row { IsSound b.now root row.offset }
-    ensures astray { OnTrue result ((before : List Row) → HasNameFault b.now root all.now before row 25) }
-    ensures leads { OnFalse result (is_dots (name_of b.now row.offset) ≡ false → type_of b.now row.offset ≡ 0
-        → (q : ℕ) × (follow b.now all.now 8 row.offset ≡ Some q) × (type_of b.now q ≢ 1)) }
+    requires row { IsSound b.now.bytes.now b.now.root row.offset }
+    ensures astray { OnTrue result ((before : List Row) → HasNameFault b.now.bytes.now b.now.root all.now before row 25) }
+    ensures leads { OnFalse result (is_dots (name_of b.now.bytes.now row.offset) ≡ false → type_of b.now.bytes.now row.offset ≡ 0
+        → (q : ℕ) × (follow b.now.bytes.now all.now 8 row.offset ≡ Some q) × (type_of b.now.bytes.now q ≢ 1)) }
 {
-    if is_dots(name_at(b, root, row.offset)) {
+    if is_dots(b.name_at(row.offset)) {
         return false;
     }
-    if type_at(b, row.offset as usize) != 0 {
+    if b.type_at(row.offset as usize) != 0 {
         return false;
     }
-    match led_to(b, root, all, offsets, row.offset) {
+    match led_to(b, all, offsets, row.offset) {
         Some(at) => {
-            if type_at(b, at as usize) == 1 {
+            if b.type_at(at as usize) == 1 {
                 return true;
             }
             false
@@ -104,27 +90,26 @@ fn is_link_astray(b: &[u8], root: u32, all: &[Row], offsets: &[u32], row: Row) -
 /// The least fault of a row's name, whatever rows stand before it; `repeated` tells whether one of
 /// them has the name in its list.
 fn name_fault(
-    b: &[u8],
-    root: u32,
+    b: &Accessible<'_>,
     all: &[Row],
     offsets: &[u32],
     row: Row,
     repeated: bool,
 ) -> Option<u32>
-    requires all { All (λ x. IsSound b.now root x.offset) all.now }
+    requires all { All (λ x. IsSound b.now.bytes.now b.now.root x.offset) all.now }
     requires offsets { AreOffsets all.now offsets.now }
-    requires row { IsSound b.now root row.offset }
-    ensures well { (before : List Row) → TellsRepeated b.now before row repeated → IfNone result (IsWellNamed b.now root all.now before row) }
-    ensures fault { (before : List Row) → TellsRepeated b.now before row repeated
-        → IfSome result (λ n. IsLeast (HasNameFault b.now root all.now before row) n) }
+    requires row { IsSound b.now.bytes.now b.now.root row.offset }
+    ensures well { (before : List Row) → TellsRepeated b.now.bytes.now before row repeated → IfNone result (IsWellNamed b.now.bytes.now b.now.root all.now before row) }
+    ensures fault { (before : List Row) → TellsRepeated b.now.bytes.now before row repeated
+        → IfSome result (λ n. IsLeast (HasNameFault b.now.bytes.now b.now.root all.now before row) n) }
 {
     if repeated {
         return Some(DUPLICATE_NAME);
     }
-    if is_astray(b, root, all, offsets, row) {
+    if is_astray(b, all, offsets, row) {
         return Some(DOT);
     }
-    if is_link_astray(b, root, all, offsets, row) {
+    if is_link_astray(b, all, offsets, row) {
         return Some(HARD_LINK);
     }
     None
@@ -133,19 +118,18 @@ fn name_fault(
 /// The names of the rows, by their indices.
 fn names_of<'a>(
     alloc: Global,
-    b: &'a [u8],
-    root: u32,
+    b: &Accessible<'a>,
     rows: &[Row],
 ) -> Result<Vec<ListedName<'a>>, OutOfMemory>
-    requires { All (λ x. IsSound b.now root x.offset) rows.now }
-    ensures { IfOk result (λ v. AreNames (name_of b.now) rows.now v.items) }
+    requires { All (λ x. IsSound b.now.bytes.now b.now.root x.offset) rows.now }
+    ensures { IfOk result (λ v. AreNames (name_of b.now.bytes.now) rows.now v.items) }
 {
     let mut names = Vec::new(alloc);
     for index in 0..rows.len() {
         let row = rows[index];
         names.push(ListedName {
             list: row.directory,
-            name: name_at(b, root, row.offset),
+            name: b.name_at(row.offset),
             index,
         })?;
     }
@@ -155,21 +139,20 @@ fn names_of<'a>(
 /// The least fault of a name among the rows that stand in lists; `all` are those of the whole image.
 pub fn least_name_fault(
     alloc: Global,
-    b: &[u8],
-    root: u32,
+    b: &Accessible<'_>,
     all: &[Row],
     listed: &[Row],
 ) -> Result<Option<Fault>, OutOfMemory>
-    requires all { All (λ x. IsSound b.now root x.offset) all.now }
-    requires listed { All (λ x. IsSound b.now root x.offset) listed.now }
-    ensures { IfOk result (IsLeastRowFault (IsWellNamed b.now root all.now) (HasNameFault b.now root all.now) listed.now) }
+    requires all { All (λ x. IsSound b.now.bytes.now b.now.root x.offset) all.now }
+    requires listed { All (λ x. IsSound b.now.bytes.now b.now.root x.offset) listed.now }
+    ensures { IfOk result (IsLeastRowFault (IsWellNamed b.now.bytes.now b.now.root all.now) (HasNameFault b.now.bytes.now b.now.root all.now) listed.now) }
 {
     let offsets = offsets_of(alloc, all)?;
-    let repeated = repeats(alloc, names_of(alloc, b, root, listed)?)?;
+    let repeated = repeats(alloc, names_of(alloc, b, listed)?)?;
     let mut noted: Option<Fault> = None;
     for i in 0..listed.len() {
         let row = listed[i];
-        if let Some(number) = name_fault(b, root, all, &offsets, row, repeated[i]) {
+        if let Some(number) = name_fault(b, all, &offsets, row, repeated[i]) {
             let fault = Fault {
                 number,
                 at: row.offset,

@@ -5,7 +5,7 @@ ghost use Rattle.romfs_format.specs.Record.{IsSound};
 ghost use Rattle.romfs_format.specs.Tree.{follow};
 ghost use Rattle.romfs_image.specs.Phases.{AreOffsets};
 
-use crate::header::{target_offset, type_at};
+use crate::accessible::Accessible;
 use record_walk::reference::Row;
 use rom_fields::memory::OutOfMemory;
 use std::alloc::Global;
@@ -31,25 +31,25 @@ fn is_among(rows: &[Row], offsets: &[u32], offset: u32) -> bool
 }
 
 /// The record that the one at `at` leads to among the rows, over at most 8 hard links.
-pub fn led_to(b: &[u8], root: u32, rows: &[Row], offsets: &[u32], at: u32) -> Option<u32>
-    requires here { IsSound b.now root at }
+pub fn led_to(b: &Accessible<'_>, rows: &[Row], offsets: &[u32], at: u32) -> Option<u32>
+    requires here { IsSound b.now.bytes.now b.now.root at }
     requires offsets { AreOffsets rows.now offsets.now }
-    requires rows { All (λ x. IsSound b.now root x.offset) rows.now }
-    ensures leads { result ≡ follow b.now rows.now 8 at }
-    ensures sound { IfSome result (λ q. IsSound b.now root q) }
+    requires rows { All (λ x. IsSound b.now.bytes.now b.now.root x.offset) rows.now }
+    ensures leads { result ≡ follow b.now.bytes.now rows.now 8 at }
+    ensures sound { IfSome result (λ q. IsSound b.now.bytes.now b.now.root q) }
 {
     let mut p = at;
     'links: for i in 0..8usize {
-        if type_at(b, p as usize) != 0 {
+        if b.type_at(p as usize) != 0 {
             return Some(p);
         }
-        let target = target_offset(b, p as usize);
+        let target = b.target_offset(p as usize);
         if !is_among(rows, offsets, target) {
             return None;
         }
         p = target;
     }
-    if type_at(b, p as usize) == 0 {
+    if b.type_at(p as usize) == 0 {
         None
     } else {
         Some(p)

@@ -5,21 +5,14 @@ ghost use Rattle.romfs_format.specs.Record.{type_of, before_zero};
 ghost use Rattle.romfs_format.specs.Tree.{magic, full_size, root_of, IsSuperblock};
 ghost use Rattle.romfs_format.specs.Superblock.{accessible, HasSize, HasSum, HasRoot, HasImageFault};
 
-use crate::header::type_at;
-use crate::record::word;
+use crate::accessible::Accessible;
+use crate::fields::word;
 use memchr::memchr;
 use rom_faults::{Fault, fault};
 use rom_fields::word::word_sum;
 
 /// `-rom1fs-`, with which an image begins.
 const MAGIC: [u8; 8] = *b"-rom1fs-";
-
-/// The accessible bytes, and the root's offset among them.
-#[derive(Clone, Copy)]
-pub struct Superblock<'a> {
-    pub bytes: &'a [u8],
-    pub root: u32,
-}
 
 /// Whether the bytes begin with the magic.
 fn has_magic(bytes: &[u8]) -> bool
@@ -74,11 +67,10 @@ fn root_offset(b: &[u8]) -> Option<u32>
     Some(root as u32)
 }
 
-/// What the superblock says, or the first fault of the image as a whole: 2 Short, 3 Magic, 4 Size,
+/// The accessible bytes with the place of the root, or the first fault of the image as a whole: 2 Short, 3 Magic, 4 Size,
 /// 5 Sum, 9 Root.
-pub fn read_superblock<'a>(bytes: &'a [u8]) -> Result<Superblock<'a>, Fault>
-    ensures ok { IfOk result (λ s. IsSuperblock bytes.now s.bytes.now s.root) }
-    ensures small { IfOk result (λ s. length s.bytes.now < 2 ^ 32) }
+pub fn read_superblock<'a>(bytes: &'a [u8]) -> Result<Accessible<'a>, Fault>
+    ensures ok { IfOk result (λ b. IsSuperblock bytes.now b.bytes.now b.root) }
     ensures fault { IfErr result (HasImageFault bytes.now) }
 {
     if bytes.len() < 32 {
@@ -93,29 +85,30 @@ pub fn read_superblock<'a>(bytes: &'a [u8]) -> Result<Superblock<'a>, Fault>
             at: 0,
         });
     }
-    let Some(b) = accessible_bytes(bytes) else {
+    let Some(part) = accessible_bytes(bytes) else {
         return Err(Fault {
             number: fault::SIZE,
             at: 8,
         });
     };
-    if !has_sum(b) {
+    if !has_sum(part) {
         return Err(Fault {
             number: fault::SUM,
             at: 12,
         });
     }
-    let Some(root) = root_offset(b) else {
+    let Some(root) = root_offset(part) else {
         return Err(Fault {
             number: fault::ROOT,
             at: 16,
         });
     };
-    if type_at(b, root as usize) != 1 {
+    let b = Accessible { bytes: part, root };
+    if b.type_at(root as usize) != 1 {
         return Err(Fault {
             number: fault::ROOT,
             at: root,
         });
     }
-    Ok(Superblock { bytes: b, root })
+    Ok(b)
 }

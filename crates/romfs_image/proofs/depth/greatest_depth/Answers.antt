@@ -38,7 +38,7 @@ same b xs x n m d e h = rw e (record {
 
 pub rows-preserved : goal.rows-preserved
 rows-preserved c =
-    let b = c.args.b.now in
+    let b = c.args.b.now.bytes.now in
     let xs = c.args.rows.now in
     let i = c.rows.row-index in
     let x : Row = get_or xs i blank in
@@ -54,9 +54,9 @@ rows-preserved c =
 pub returns-clause-bound : goal.returns-clause-bound
 returns-clause-bound c =
     let e = take_all c.rows.row-index c.args.rows.now (omega arith) in
-    subst (λ (v : List Row). All (Bounds c.args.b.now c.rows.deepest) v) e c.rows.invariant.bound
+    subst (λ (v : List Row). All (Bounds c.args.b.now.bytes.now c.rows.deepest) v) e c.rows.invariant.bound
 
 pub returns-clause-reached : goal.returns-clause-reached
 returns-clause-reached c =
     let e = take_all c.rows.row-index c.args.rows.now (omega arith) in
-    subst (λ (v : List Row). (c.rows.deepest ≡ 0) ⊎ Any (Reaches c.args.b.now c.rows.deepest) v) e c.rows.invariant.reached
+    subst (λ (v : List Row). (c.rows.deepest ≡ 0) ⊎ Any (Reaches c.args.b.now.bytes.now c.rows.deepest) v) e c.rows.invariant.reached

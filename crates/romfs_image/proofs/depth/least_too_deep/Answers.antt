@@ -18,7 +18,7 @@ shallow b most before x s n h = let k = s h.1 in let l = h.2 in omega arith
 pub rows-preserved : goal.rows-preserved
 rows-preserved c = elim c.if-is_too_deep.branch [
   | then-is_too_deep w ↦ sweep_fault_at c.args.rows.now c.rows.row-index 21 _ _ c.rows-test.true (w.noted-is ∙ w.lesser_fault-noted.ensures) c.rows.invariant
-      (deep c.args.b.now c.args.most (take c.rows.row-index c.args.rows.now) (get_or c.args.rows.now c.rows.row-index blank) w.if-is_too_deep.ensures.entry w.if-is_too_deep.ensures.deep)
+      (deep c.args.b.now.bytes.now c.args.most (take c.rows.row-index c.args.rows.now) (get_or c.args.rows.now c.rows.row-index blank) w.if-is_too_deep.ensures.entry w.if-is_too_deep.ensures.deep)
   | else-is_too_deep w ↦ sweep_well_at c.args.rows.now c.rows.row-index _ _ c.rows-test.true w.noted-is c.rows.invariant w.if-is_too_deep.ensures.shallow
-      (shallow c.args.b.now c.args.most (take c.rows.row-index c.args.rows.now) (get_or c.args.rows.now c.rows.row-index blank) w.if-is_too_deep.ensures.shallow)
+      (shallow c.args.b.now.bytes.now c.args.most (take c.rows.row-index c.args.rows.now) (get_or c.args.rows.now c.rows.row-index blank) w.if-is_too_deep.ensures.shallow)
 ]

@@ -13,7 +13,7 @@ loop-i-init c = sweep_start
 
 pub loop-i-preserved : goal.loop-i-preserved
 loop-i-preserved c =
-    let b = c.args.b.now in
+    let b = c.args.b.now.bytes.now in
     let xs = c.args.listed.now in
     let i = c.loop-i.i in
     let names = c.in_ok-names_of.ensures in

@@ -4,4 +4,4 @@ use Rattle.romfs_format.specs.Record.{name_of}
 use Rattle.romfs_image.proofs.names.names_of.Given as goal
 
 abbrev pub invariant-loop-index : goal.invariant-loop-index
-invariant-loop-index l = AreNames (name_of l.b) (take l.index l.rows) l.names.items
+invariant-loop-index l = AreNames (name_of l.b.bytes.now) (take l.index l.rows) l.names.items

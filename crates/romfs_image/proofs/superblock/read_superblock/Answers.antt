@@ -4,6 +4,7 @@ use Rattle.rom_faults.specs.declared.fault.Fault.{Fault}
 use Rattle.romfs_format.specs.Superblock.{accessible, HasSum, HasRoot, short, no_magic, bad_size, bad_sum, no_root, root_kind}
 use Rattle.romfs_format.specs.Tree.{root_of}
 use Rattle.romfs_format.specs.Record.{type_of}
+use Rattle.romfs_image.proofs.Reading.{root_above}
 use Rattle.romfs_image.proofs.superblock.read_superblock.Goals as goal
 
 pub returns-then-bytes-lt32-clause-fault : goal.returns-then-bytes-lt32-clause-fault
@@ -31,9 +32,15 @@ returns-in_default-root_offset-clause-fault c = no_root (omega arith) (c.has_mag
     (moved HasSum _ _ c.in-Some.ensures.part.1 (c.has_sum.ensures.0 c.if-not-has_sum.false))
     (moved (λ b. HasRoot b → ⊥) _ _ c.in-Some.ensures.part.1 c.in_default-root_offset.ensures) refl
 
+pub invariant_of-b : goal.invariant_of-b
+invariant_of-b c =
+    let h = c.in-Some-root_offset.ensures.0.1 in
+    let e = c.in-Some-root_offset.ensures.1 in
+    record { small = c.in-Some.ensures.small; below = root_above c.in-Some.part.now c.in-Some-root_offset.root e; header = omega arith }
+
 pub returns-then-type_at-ne1-clause-fault : goal.returns-then-type_at-ne1-clause-fault
 returns-then-type_at-ne1-clause-fault c =
-    let b = c.in-Some.b.now in
+    let b = c.in-Some.part.now in
     let cut = c.in-Some.ensures.part.1 in
     let root = c.in-Some-root_offset.ensures.1 in
     let kind : type_of b (root_of b) ≢ 1 = subst (λ (r : ℕ). type_of b r ≢ 1) root (λ z. c.if-type_at-ne1.true (c.type_at.ensures ∙ z)) in

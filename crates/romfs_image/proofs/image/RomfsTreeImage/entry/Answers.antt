@@ -11,12 +11,12 @@ pub list_start-at-requires : goal.list_start-at-requires
 list_start-at-requires c = (directory_known c.args.self.now.sound c.args.d.0 c.requires.directory).0.sound
 
 pub overflow_sub-at : goal.overflow_sub-at
-overflow_sub-at c = cursor_low c.args.self.now.bytes.now c.args.self.now.root c.args.self.now.references c.args.d.0 c.args.c.0 c.if-c-eq0.false c.requires.cursor
+overflow_sub-at c = cursor_low c.args.self.now.accessible.bytes.now c.args.self.now.accessible.root c.args.self.now.references c.args.d.0 c.args.c.0 c.if-c-eq0.false c.requires.cursor
 
 pub overflow_cast-at : goal.overflow_cast-at
 overflow_cast-at c =
-    let b = c.args.self.now.bytes.now in
-    let r = c.args.self.now.root in
+    let b = c.args.self.now.accessible.bytes.now in
+    let r = c.args.self.now.accessible.root in
     let k = c.args.self.now.references in
     let kd = directory_known c.args.self.now.sound c.args.d.0 c.requires.directory in
     let l : IsList b r k (begins b r c.args.d.0) = kd.0.list kd.1 in
@@ -25,8 +25,8 @@ overflow_cast-at c =
 
 pub loop-at-init : goal.loop-at-init
 loop-at-init c =
-    let b = c.args.self.now.bytes.now in
-    let r = c.args.self.now.root in
+    let b = c.args.self.now.accessible.bytes.now in
+    let r = c.args.self.now.accessible.root in
     let k = c.args.self.now.references in
     let kd = directory_known c.args.self.now.sound c.args.d.0 c.requires.directory in
     let l : IsList b r k (begins b r c.args.d.0) = kd.0.list kd.1 in
@@ -42,40 +42,40 @@ loop-at-init c =
     ]
 
 pub name_at-name-requires : goal.name_at-name-requires
-name_at-name-requires c = (step_of c.args.self.now.bytes.now c.args.self.now.root c.args.self.now.references c.loop-at.at c.loop-at.invariant.list c.loop-at-test.true).good.sound
+name_at-name-requires c = (step_of c.args.self.now.accessible.bytes.now c.args.self.now.accessible.root c.args.self.now.references c.loop-at.at c.loop-at.invariant.list c.loop-at-test.true).good.sound
 
-pub next_at-next-requires : goal.next_at-next-requires
-next_at-next-requires c = (step_of c.args.self.now.bytes.now c.args.self.now.root c.args.self.now.references c.loop-at.at c.loop-at.invariant.list c.loop-at-test.true).good.sound
+pub next_offset-next-requires : goal.next_offset-next-requires
+next_offset-next-requires c = let h = (step_of c.args.self.now.accessible.bytes.now c.args.self.now.accessible.root c.args.self.now.references c.loop-at.at c.loop-at.invariant.list c.loop-at-test.true).good.sound.header in omega arith
 
 pub loop-at-smaller : goal.loop-at-smaller
 loop-at-smaller c =
-    let b = c.args.self.now.bytes.now in
-    let r = c.args.self.now.root in
+    let b = c.args.self.now.accessible.bytes.now in
+    let r = c.args.self.now.accessible.root in
     let k = c.args.self.now.references in
     let kd = directory_known c.args.self.now.sound c.args.d.0 c.requires.directory in
     let l : IsList b r k (begins b r c.args.d.0) = kd.0.list kd.1 in
     let lq = c.loop-at.invariant.list in
     let st = step_of b r k c.loop-at.at lq c.loop-at-test.true in
-    shrinks b r k c.loop-at.at c.next_at-next.result st c.next_at-next.ensures
+    shrinks b r k c.loop-at.at c.next_offset-next.result st c.next_offset-next.ensures
 
 pub loop-at-preserved : goal.loop-at-preserved
 loop-at-preserved c =
-    let b = c.args.self.now.bytes.now in
-    let r = c.args.self.now.root in
+    let b = c.args.self.now.accessible.bytes.now in
+    let r = c.args.self.now.accessible.root in
     let k = c.args.self.now.references in
     let kd = directory_known c.args.self.now.sound c.args.d.0 c.requires.directory in
     let l : IsList b r k (begins b r c.args.d.0) = kd.0.list kd.1 in
     let lq = c.loop-at.invariant.list in
     let st = step_of b r k c.loop-at.at lq c.loop-at-test.true in
     record {
-      list = subst (IsList b r k) (sym c.next_at-next.ensures) st.next;
-      place = λ i e. skipped b r k c.args.d.0 i c.loop-at.at c.next_at-next.result l lq st (ap is_dots (sym c.name_at-name.ensures) ∙ sym c.is_dots.ensures ∙ c.if-is_dots.true) c.next_at-next.ensures (c.loop-at.invariant.place i e);
+      list = subst (IsList b r k) (sym c.next_offset-next.ensures) st.next;
+      place = λ i e. skipped b r k c.args.d.0 i c.loop-at.at c.next_offset-next.result l lq st (ap is_dots (sym c.name_at-name.ensures) ∙ sym c.is_dots.ensures ∙ c.if-is_dots.true) c.next_offset-next.ensures (c.loop-at.invariant.place i e);
     }
 
 pub led_at-requires : goal.led_at-requires
 led_at-requires c =
-    let b = c.args.self.now.bytes.now in
-    let r = c.args.self.now.root in
+    let b = c.args.self.now.accessible.bytes.now in
+    let r = c.args.self.now.accessible.root in
     let k = c.args.self.now.references in
     let kd = directory_known c.args.self.now.sound c.args.d.0 c.requires.directory in
     let l : IsList b r k (begins b r c.args.d.0) = kd.0.list kd.1 in
@@ -85,20 +85,20 @@ led_at-requires c =
 
 pub returns-in-loop-at : goal.returns-in-loop-at
 returns-in-loop-at c =
-    let b = c.args.self.now.bytes.now in
-    let r = c.args.self.now.root in
+    let b = c.args.self.now.accessible.bytes.now in
+    let r = c.args.self.now.accessible.root in
     let k = c.args.self.now.references in
     let kd = directory_known c.args.self.now.sound c.args.d.0 c.requires.directory in
     let l : IsList b r k (begins b r c.args.d.0) = kd.0.list kd.1 in
     let lq = c.loop-at.invariant.list in
     let st = step_of b r k c.loop-at.at lq c.loop-at-test.true in
     λ x i e h. entry_here c.args.self.now.all.now b r k c.loop-at.at c.args.self.now.sound c.args.self.now.within c.args.d.0 i _ _ _ x (named c.args.self.now.sound c.args.d.0 x e).0 kd.1 l st c.loop-at-test.true lq (c.loop-at.invariant.place i h)
-    (ap is_dots (sym c.name_at-name.ensures) ∙ sym c.is_dots.ensures ∙ c.if-is_dots.false) c.name_at-name.ensures c.led_at.ensures (c.from.ensures ∙ c.next_at-next.ensures)
+    (ap is_dots (sym c.name_at-name.ensures) ∙ sym c.is_dots.ensures ∙ c.if-is_dots.false) c.name_at-name.ensures c.led_at.ensures (c.from.ensures ∙ c.next_offset-next.ensures)
 
 pub returns : goal.returns
 returns c =
-    let b = c.args.self.now.bytes.now in
-    let r = c.args.self.now.root in
+    let b = c.args.self.now.accessible.bytes.now in
+    let r = c.args.self.now.accessible.root in
     let k = c.args.self.now.references in
     let kd = directory_known c.args.self.now.sound c.args.d.0 c.requires.directory in
     let l : IsList b r k (begins b r c.args.d.0) = kd.0.list kd.1 in

@@ -1,20 +1,22 @@
-//! The records of an image as the walk reads them.
+//! The accessible bytes of an image with the place of its root, and its records as the traversal reads
+//! them.
 ghost use Rattle.std.specs.Prelude.{◌≡◌, ◌≢◌, ◌+◌, ◌<◌, ◌≤◌, ◌^◌, length};
 ghost use Rattle.romfs_format.specs.Refers.{references, LeadsToSound, LeadsToFault, some_offset, list_of, following, offset_of};
 
-use crate::header::{first_offset, next_offset, record_fault};
+use crate::soundness::record_fault;
 use record_walk::known::Known;
 use record_walk::records::Records;
 use record_walk::reference::{Edge, Edges, Reference};
 use rom_faults::Fault;
 
-/// The accessible bytes of an image, and its root's offset.
+/// The accessible bytes of an image, and where the root's header stands among them.
 #[derive(Clone, Copy)]
-pub struct Reader<'a> {
+pub struct Accessible<'a> {
     pub bytes: &'a [u8],
     pub root: u32,
     ghost small: { length bytes.now < 2 ^ 32 },
     ghost below: { 0 < root },
+    ghost header: { root + 32 ≤ length bytes.now },
 }
 
 /// An offset, where it is not 0.
@@ -24,34 +26,36 @@ fn some(offset: u32) -> Option<u32>
     if offset == 0 { None } else { Some(offset) }
 }
 
-/// Where the list of the record at `at` begins.
-#[tactic(auto, unfolding(romfs_format::specs::Refers::list_of, romfs_format::specs::Refers::heads_itself))]
-fn list_at(b: &[u8], root: u32, at: u32) -> u32
-    requires { at + 16 ≤ length b.now }
-    ensures { result ≡ list_of b.now root at }
-{
-    let first = first_offset(b, at as usize);
-    if at == root && first == root {
-        0
-    } else {
-        first
+impl Accessible<'_> {
+    /// Where the list of the record at `at` begins; that the root heads its own is no reference.
+    #[tactic(auto, unfolding(romfs_format::specs::Refers::list_of, romfs_format::specs::Refers::heads_itself))]
+    fn list_at(&self, at: u32) -> u32
+        requires { at + 16 ≤ length self.now.bytes.now }
+        ensures { result ≡ list_of self.now.bytes.now self.now.root at }
+    {
+        let first = self.first_offset(at as usize);
+        if at == self.root && first == self.root {
+            0
+        } else {
+            first
+        }
+    }
+
+    /// The record after that at `at`.
+    #[tactic(auto, unfolding(romfs_format::specs::Refers::following, romfs_format::specs::Refers::heads_itself))]
+    fn record_after(&self, at: u32) -> u32
+        requires { at + 16 ≤ length self.now.bytes.now }
+        ensures { result ≡ following self.now.bytes.now self.now.root at }
+    {
+        if at == self.root && self.first_offset(at as usize) != self.root {
+            0
+        } else {
+            self.next_offset(at as usize)
+        }
     }
 }
 
-/// The record after that at `at`.
-#[tactic(auto, unfolding(romfs_format::specs::Refers::following, romfs_format::specs::Refers::heads_itself))]
-fn record_after(b: &[u8], root: u32, at: u32) -> u32
-    requires { at + 16 ≤ length b.now }
-    ensures { result ≡ following b.now root at }
-{
-    if at == root && first_offset(b, at as usize) != root {
-        0
-    } else {
-        next_offset(b, at as usize)
-    }
-}
-
-impl Records for Reader<'_> {
+impl Records for Accessible<'_> {
     ghost references = { λ s. references s.bytes.now s.root };
 
     ghost sound = { λ s. LeadsToSound s.bytes.now s.root };
@@ -77,7 +81,7 @@ impl Records for Reader<'_> {
     }
 
     fn edges(&self, _: &mut Known, x: Reference, at: u32) -> Result<Edges, Fault> {
-        if let Some(number) = record_fault(self.bytes, self.root as usize, at as usize) {
+        if let Some(number) = record_fault(self, at as usize) {
             return Err(Fault { number, at });
         }
         let own = Edge {
@@ -85,14 +89,14 @@ impl Records for Reader<'_> {
                 source: at,
                 which: 0,
             },
-            target: some(list_at(self.bytes, self.root, at)),
+            target: some(self.list_at(at)),
         };
         let after = Edge {
             reference: Reference {
                 source: at,
                 which: 1,
             },
-            target: some(record_after(self.bytes, self.root, at)),
+            target: some(self.record_after(at)),
         };
         Ok(Edges { own, after })
     }

@@ -3,8 +3,8 @@ use Rattle.std.specs.Prelude.{IsTrue}
 use Rattle.rom_fields.specs.Words.{words_sum, part_of}
 use Rattle.romfs_format.specs.Record.{size_of, type_of, has_data}
 use Rattle.romfs_format.proofs.Faults.{least_data, least_sum, least_name, least_link, sound_of}
-use Rattle.romfs_image.proofs.Fields.{end_after}
-use Rattle.romfs_image.proofs.header.record_fault.Goals as goal
+use Rattle.romfs_image.proofs.Reading.{end_after}
+use Rattle.romfs_image.proofs.soundness.record_fault.Goals as goal
 
 -- the data lie within, counted from where the record ends
 lies : (b : List ℕ) (p e f : ℕ) → e ≡ f → (IsTrue (has_data (type_of b p)) → e + size_of b p ≤ length b) → IsTrue (has_data (type_of b p)) → f + size_of b p ≤ length b
@@ -16,15 +16,15 @@ sums b p e f is h = subst (λ (x : ℕ). words_sum (part_of b p (x - p)) ≡ 0) 
 pub returns-then-not-data_lie-clause-fault : goal.returns-then-not-data_lie-clause-fault
 returns-then-not-data_lie-clause-fault c =
     let o = c.if-not-data_lie.ensures.outside in
-    least_data c.in-Ok.ensures.whole o.0 (subst (λ (x : ℕ). length c.args.b.now < x + size_of c.args.b.now c.args.at) c.in-Ok.ensures.end o.1)
+    least_data c.in-Ok.ensures.whole o.0 (subst (λ (x : ℕ). length c.args.b.now.bytes.now < x + size_of c.args.b.now.bytes.now c.args.at) c.in-Ok.ensures.end o.1)
 
 pub sums_to_zero-requires-clause-order : goal.sums_to_zero-requires-clause-order
-sums_to_zero-requires-clause-order c = let a = end_after c.args.b.now c.args.at in let e = c.in-Ok.ensures.end in omega arith
+sums_to_zero-requires-clause-order c = let a = end_after c.args.b.now.bytes.now c.args.at in let e = c.in-Ok.ensures.end in omega arith
 
 pub returns-then-not-sums_to_zero-clause-fault : goal.returns-then-not-sums_to_zero-clause-fault
 returns-then-not-sums_to_zero-clause-fault c =
     least_sum c.in-Ok.ensures.whole (lies _ _ _ _ c.in-Ok.ensures.end c.if-not-data_lie.ensures.lie)
-    (subst (λ (x : ℕ). words_sum (part_of c.args.b.now c.args.at (x - c.args.at)) ≢ 0) c.in-Ok.ensures.end c.if-not-sums_to_zero.ensures.other)
+    (subst (λ (x : ℕ). words_sum (part_of c.args.b.now.bytes.now c.args.at (x - c.args.at)) ≢ 0) c.in-Ok.ensures.end c.if-not-sums_to_zero.ensures.other)
 
 pub returns-then-not-has_name-clause-fault : goal.returns-then-not-has_name-clause-fault
 returns-then-not-has_name-clause-fault c =

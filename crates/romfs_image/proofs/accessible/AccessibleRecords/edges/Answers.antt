@@ -4,7 +4,7 @@ use Rattle.romfs_format.specs.Refers.{offset_of, some_offset}
 use Rattle.romfs_format.proofs.Bridge.{offset_some}
 use Rattle.romfs_format.proofs.Faults.{sound_faultless}
 use Rattle.romfs_format.proofs.Lawful.{own_list, after_following}
-use Rattle.romfs_image.proofs.reader.ReaderRecords.edges.Goals as goal
+use Rattle.romfs_image.proofs.accessible.AccessibleRecords.edges.Goals as goal
 
 pub returns-in-Some-clause-unsound : goal.returns-in-Some-clause-unsound
 returns-in-Some-clause-unsound c = λ s.
