@@ -11,7 +11,7 @@ use Rattle.image_check.specs.declared.any.AnyImage.{AnyImage}
 use Rattle.image_check.specs.declared.any.AnyImage.TheVariants.{Romfs, Cramfs}
 
 abbrev pub any_view : AnyImage → Image
-any_view (Romfs s) = romfs_view s.all.now s.bytes.now s.root s.references s.sound s.within
+any_view (Romfs s) = romfs_view s.all.now s.accessible.bytes.now s.accessible.root s.references s.sound s.within
 any_view (Cramfs s) = cramfs_view s.accessible.order s.all.now s.accessible.bytes.now s.references s.sound s.within
 
 -- the number of its references, and its depth

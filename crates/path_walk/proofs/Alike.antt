@@ -2,6 +2,7 @@
 use Rattle.std.proofs.Common.{◌≡◌, ℕ, zero, suc, ◌≤◌, Bool, true, false, List, [], ◌∷◌, ◌++◌, length, map, Option, Some, None, Result, Ok, Err, refl, sym, ap, ◌∙◌, nat_lt, arith}
 use Rattle.std.specs.Prelude.{option_map, not, ◌&&◌, if◌then◌else◌}
 use Rattle.std.specs.Str.{bytes_eq}
+use Rattle.rom_tree.specs.Dots.{dot, dot_dot}
 use Rattle.rom_tree.specs.Tree.{Node, is_link, is_directory, entries_of, levels}
 use Rattle.rom_tree.specs.Image.{Image, image_node, find_entry, text_of}
 use Rattle.path_walk.specs.declared.error.WalkError.{WalkError}
@@ -56,13 +57,13 @@ module _ {F G : Type 0} (a : Namespace F) (b : Namespace G) (h : F → G) where
     step_lift s p st =
         ap (λ (v : Node). if not (is_directory v) then fails Enotdir
         else if nat_lt 255 (length p) then fails Enametoolong
-        else if bytes_eq p (46 ∷ []) then goes (lift s)
-        else if bytes_eq p (46 ∷ 46 ∷ []) then goes (parent (lift s))
+        else if bytes_eq p dot then goes (lift s)
+        else if bytes_eq p dot_dot then goes (parent (lift s))
         else found b st (lift s) (b.entry (h s.current) p)) (node s.current)
         ∙ if_step (not (is_directory (a.node s.current))) _ _ _ _ refl
         (if_step (nat_lt 255 (length p)) _ _ _ _ refl
-        (if_step (bytes_eq p (46 ∷ [])) _ _ _ _ refl
-        (if_step (bytes_eq p (46 ∷ 46 ∷ [])) _ _ _ _ (ap goes (ascend_lift s.current s.ancestors))
+        (if_step (bytes_eq p dot) _ _ _ _ refl
+        (if_step (bytes_eq p dot_dot) _ _ _ _ (ap goes (ascend_lift s.current s.ancestors))
         (ap (found b st (lift s)) (entry s.current p) ∙ found_lift st s (a.entry s.current p)))))
 
     link_lift : (x : F) → link_text_at b (h x) ≡ link_text_at a x

@@ -3,6 +3,7 @@ use Rattle.std.proofs.Common.{◌≡◌, ℕ, zero, suc, Bool, true, false, List
 use Rattle.std.proofs.lemmas.Bool.{false≢true, eqb-true}
 use Rattle.std.specs.Prelude.{option_map, not, ◌&&◌, if◌then◌else◌, find}
 use Rattle.std.specs.Str.{bytes_eq}
+use Rattle.rom_tree.specs.Dots.{dot, dot_dot}
 use Rattle.rom_tree.specs.Tree.{Node, is_link, is_directory, ino_of, entries_of}
 use Rattle.rom_tree.specs.Image.{Image, find_entry}
 use Rattle.path_walk.specs.declared.error.WalkError.{WalkError}
@@ -67,8 +68,8 @@ module _ {F : Type 0} (g : Namespace F) (P : F → Type 0) (closed : (x : F) (na
   step_kept s p st k =
       if_step (not (is_directory (g.node s.current))) _ _ tt
       (if_step (nat_lt 255 (length p)) _ _ tt
-      (if_step (bytes_eq p (46 ∷ [])) _ _ k
-      (if_step (bytes_eq p (46 ∷ 46 ∷ [])) _ _ (ascend_kept s.current s.ancestors k.0 k.1)
+      (if_step (bytes_eq p dot) _ _ k
+      (if_step (bytes_eq p dot_dot) _ _ (ascend_kept s.current s.ancestors k.0 k.1)
       (found_kept st s (g.entry s.current p) k (λ y e. closed s.current p y e)))))
 
   onward_kept : (go : Trail F → Result F WalkError) (to : F → Result F WalkError) (e : Step F) → StepKeeps e → ((s : Trail F) → IsKept s → ResultKeeps (go s)) → ((x : F) → ResultKeeps (to x)) → ResultKeeps (onward go to e)

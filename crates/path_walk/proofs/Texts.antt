@@ -3,6 +3,7 @@ use Rattle.std.proofs.Common.{◌≡◌, ◌≢◌, ℕ, zero, suc, ◌+◌, ◌
 use Rattle.std.proofs.lemmas.Bool.{false_from_ne_true, eqb-true}
 use Rattle.std.specs.Prelude.{if◌then◌else◌}
 use Rattle.std.specs.Borrow.{Bor}
+use Rattle.rom_tree.specs.Dots.{dot}
 use Rattle.path_walk.specs.Components.{is_empty, begin_piece, pieces, names_of, components, ends_with_slash}
 use Rattle.path_walk.specs.Trails.{unread_components, unread_bytes, NoneEmpty}
 
@@ -26,12 +27,12 @@ components-slashes (c ∷ d ∷ cs) (suc n) h b =
     let e : c ≡ 47 = b 0 (omega arith) in
     components-slashes (d ∷ cs) n (omega arith) (λ k l. b (suc k) (omega arith)) ∙ (sym (components-slash d cs) ∙ ap (λ (v : ℕ). components (v ∷ d ∷ cs)) (sym e))
 
-components-one_slash : components (47 ∷ []) ≡ (46 ∷ []) ∷ []
+components-one_slash : components (47 ∷ []) ≡ dot ∷ []
 unfolding components pieces
 components-one_slash = refl
 
 -- slashes alone are the component `.`
-pub components-only_slashes : (text : List ℕ) → 0 < length text → ((k : ℕ) → k < length text → get_or text k 0 ≡ 47) → components text ≡ (46 ∷ []) ∷ []
+pub components-only_slashes : (text : List ℕ) → 0 < length text → ((k : ℕ) → k < length text → get_or text k 0 ≡ 47) → components text ≡ dot ∷ []
 components-only_slashes [] h b = absurd (omega arith)
 components-only_slashes (c ∷ []) h b = let e : c ≡ 47 = b 0 (omega arith) in ap (λ (v : ℕ). components (v ∷ [])) e ∙ components-one_slash
 components-only_slashes (c ∷ d ∷ cs) h b =
@@ -135,8 +136,8 @@ pub components-some : (text : List ℕ) → 0 < length text → is_empty (compon
 unfolding components
 components-some [] h = absurd (omega arith)
 components-some (c ∷ cs) h =
-    elim (ends_with_slash (c ∷ cs)) as (λ v. ends_with_slash (c ∷ cs) ≡ v → is_empty (names_of (pieces (c ∷ cs)) ++ (if v then (46 ∷ []) ∷ [] else [])) ≡ false) [
-      | true ↦ λ e. snoc_full (names_of (pieces (c ∷ cs))) (46 ∷ [])
+    elim (ends_with_slash (c ∷ cs)) as (λ v. ends_with_slash (c ∷ cs) ≡ v → is_empty (names_of (pieces (c ∷ cs)) ++ (if v then dot ∷ [] else [])) ≡ false) [
+      | true ↦ λ e. snoc_full (names_of (pieces (c ∷ cs))) dot
       | false ↦ λ e. ap is_empty (append-nil (names_of (pieces (c ∷ cs)))) ∙ pieces-some c cs e
     ] refl
 

@@ -7,6 +7,7 @@ use Rattle.rom_tree.specs.Tree.{Node, ino_of, is_directory, is_link, levels, ent
 use Rattle.rom_tree.specs.Image.{Image, find_entry}
 use Rattle.rom_tree.proofs.Nodes.{levels_directory}
 use Rattle.rom_tree.proofs.Named.{named_levels}
+use Rattle.rom_tree.specs.Dots.{dot, dot_dot}
 use Rattle.path_walk.specs.declared.error.WalkError.TheVariants.{Enoent, Enotdir, Enametoolong}
 use Rattle.path_walk.specs.declared.mount.Mount.{Mount}
 use Rattle.path_walk.specs.declared.mount.Place.{Place}
@@ -26,15 +27,15 @@ module _ {F : Type 0} (g : Namespace F) (s : Trail F) (p : List ℕ) (b : Bool) 
   unfolding step
   step-long h l = rw (← h, l)
 
-  pub step-dot : true ≡ is_directory (g.node s.current) → nat_lt 255 (length p) ≡ false → bytes_eq p (46 ∷ []) ≡ true → step g s p b ≡ goes s
+  pub step-dot : true ≡ is_directory (g.node s.current) → nat_lt 255 (length p) ≡ false → bytes_eq p dot ≡ true → step g s p b ≡ goes s
   unfolding step
   step-dot h l d = rw (← h, l, d)
 
-  pub step-dot_dot : true ≡ is_directory (g.node s.current) → nat_lt 255 (length p) ≡ false → bytes_eq p (46 ∷ []) ≡ false → bytes_eq p (46 ∷ 46 ∷ []) ≡ true → step g s p b ≡ goes (parent s)
+  pub step-dot_dot : true ≡ is_directory (g.node s.current) → nat_lt 255 (length p) ≡ false → bytes_eq p dot ≡ false → bytes_eq p dot_dot ≡ true → step g s p b ≡ goes (parent s)
   unfolding step
   step-dot_dot h l d e = rw (← h, l, d, e)
 
-  pub step-named : true ≡ is_directory (g.node s.current) → nat_lt 255 (length p) ≡ false → bytes_eq p (46 ∷ []) ≡ false → bytes_eq p (46 ∷ 46 ∷ []) ≡ false → step g s p b ≡ found g b s (g.entry s.current p)
+  pub step-named : true ≡ is_directory (g.node s.current) → nat_lt 255 (length p) ≡ false → bytes_eq p dot ≡ false → bytes_eq p dot_dot ≡ false → step g s p b ≡ found g b s (g.entry s.current p)
   unfolding step
   step-named h l d e = rw (← h, l, d, e)
 

@@ -3,6 +3,7 @@
 -- out. Behind a slash at the end one more component, dot, is added: what stands before that slash has
 -- then to be a directory. A slash is the byte 47, and a dot 46.
 use Rattle.std.specs.Prelude.{ℕ, ◌==◌, Bool, true, false, not, filter, List, [], ◌∷◌, ◌++◌, if◌then◌else◌}
+use Rattle.rom_tree.specs.Dots.{dot}
 
 abbrev pub is_empty : {A : Type 0} → List A → Bool
 is_empty [] = true
@@ -32,4 +33,4 @@ abbrev pub names_of : List (List ℕ) → List (List ℕ)
 names_of ps = filter (λ p. not (is_empty p)) ps
 
 unfoldable pub components : List ℕ → List (List ℕ)
-components text = names_of (pieces text) ++ (if ends_with_slash text then (46 ∷ []) ∷ [] else [])
+components text = names_of (pieces text) ++ (if ends_with_slash text then dot ∷ [] else [])

@@ -5,6 +5,7 @@
 -- directory.
 use Rattle.std.specs.Prelude.{ℕ, zero, suc, nat_lt, Bool, ◌&&◌, not, List, [], ◌∷◌, ◌++◌, length, Option, Some, None, Result, Ok, Err, if◌then◌else◌}
 use Rattle.std.specs.Str.{bytes_eq}
+use Rattle.rom_tree.specs.Dots.{dot, dot_dot}
 use Rattle.rom_tree.specs.Tree.{Node, is_directory, is_link, entries_of}
 use Rattle.rom_tree.specs.Image.{find_entry, text_of}
 use Rattle.path_walk.specs.declared.error.WalkError.{WalkError}
@@ -68,8 +69,8 @@ module _ {F : Type 0} where
   step g s p last_stays =
       if not (is_directory (g.node s.current)) then fails Enotdir
       else if nat_lt 255 (length p) then fails Enametoolong
-      else if bytes_eq p (46 ∷ []) then goes s
-      else if bytes_eq p (46 ∷ 46 ∷ []) then goes (parent s)
+      else if bytes_eq p dot then goes s
+      else if bytes_eq p dot_dot then goes (parent s)
       else found g last_stays s (g.entry s.current p)
 
   abbrev pub link_text_at : Namespace F → F → List ℕ

@@ -12,21 +12,10 @@ use crate::error::WalkError;
 use crate::images::Images;
 use crate::mount::{Mount, Place};
 use arrayvec::ArrayVec;
+use rom_tree::dots::{is_dot, is_dot_dot};
 use rom_tree::types::NodeId;
 
 const COMPONENT_MAX: usize = 255;
-
-fn is_dot(component: &[u8]) -> bool
-    ensures { result ≡ bytes_eq component.now (46 ∷ []) }
-{
-    component == b".".as_slice()
-}
-
-fn is_dot_dot(component: &[u8]) -> bool
-    ensures { result ≡ bytes_eq component.now (46 ∷ 46 ∷ []) }
-{
-    component == b"..".as_slice()
-}
 
 /// Whether a text begins with a slash.
 pub(crate) fn is_absolute(text: &[u8]) -> bool

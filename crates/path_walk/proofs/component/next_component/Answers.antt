@@ -1,12 +1,13 @@
-use Rattle.std.proofs.Common.{◌≡◌, ℕ, ◌<◌, ◌≤◌, ◌≢◌, ◌-◌, ◌∷◌, [], List, get_or, take, drop, length, ap, sym, ◌∙◌, arith, length-drop, add-zero}
+use Rattle.std.proofs.Common.{◌≡◌, ℕ, ◌<◌, ◌≤◌, ◌≢◌, ◌-◌, ◌∷◌, List, get_or, take, drop, length, ap, sym, ◌∙◌, arith, length-drop, add-zero}
 use Rattle.std.proofs.lemmas.List.{take_rest, get_or-drop}
+use Rattle.rom_tree.specs.Dots.{dot}
 use Rattle.path_walk.specs.Components.{components}
 use Rattle.path_walk.proofs.Texts.{components-nil, components-only_slashes, components-slashes, components-first}
 use Rattle.path_walk.proofs.component.next_component.Goals as goal
 
 pub returns-then-start-text-clause-components : goal.returns-then-start-text-clause-components
 returns-then-start-text-clause-components c =
-    components-only_slashes c.args.text.now c.requires (λ k l. c.leading_slashes-start.ensures.before k (omega arith)) ∙ ap (λ (v : List (List ℕ)). (46 ∷ []) ∷ v) (sym components-nil)
+    components-only_slashes c.args.text.now c.requires (λ k l. c.leading_slashes-start.ensures.before k (omega arith)) ∙ ap (λ (v : List (List ℕ)). dot ∷ v) (sym components-nil)
 
 -- the slashes, the component and what follows it
 first : (t : List ℕ) (a n : ℕ) (r : List ℕ) → r ≡ drop a t → a < length t → ((k : ℕ) → k < a → get_or t k 0 ≡ 47) → get_or t a 0 ≢ 47 → n ≤ length r → ((k : ℕ) → k < n → get_or r k 0 ≢ 47) → (n < length r → get_or r n 0 ≡ 47) → components t ≡ take n r ∷ components (take (length r - n) (drop n r))

@@ -1,6 +1,7 @@
-use Rattle.std.proofs.Common.{◌≡◌, ℕ, ◌∷◌, [], List, length, ap, sym, ◌∙◌, subst, arith, false, true, Bool, refl, lit<, nat_lt}
+use Rattle.std.proofs.Common.{◌≡◌, ℕ, List, length, ap, sym, ◌∙◌, subst, arith, false, true, Bool, refl, lit<, nat_lt}
 use Rattle.std.specs.Prelude.{unwrap_or}
 use Rattle.std.specs.Str.{bytes_eq}
+use Rattle.rom_tree.specs.Dots.{dot, dot_dot}
 use Rattle.rom_tree.specs.Tree.{Node, is_directory, is_link}
 use Rattle.rom_tree.specs.Image.{Image}
 use Rattle.path_walk.specs.declared.mount.Mount.{Mount}
@@ -48,7 +49,7 @@ returns-then-is_dot-clause-leads g c = λ s i.
     let st : Bool = c.args.stays in
     let d : true ≡ is_directory s.current.node = sym c.if-not-is_directory_in.false ∙ c.is_directory_in.ensures s.current i.named in
     let l : nat_lt 255 (length pt) ≡ false = lt_false 255 (length pt) (omega arith) in
-    (s, step-dot gr s pt st d l (sym c.is_dot.ensures ∙ c.if-is_dot.true), i)
+    (s, step-dot gr s pt st d l (sym c.is_dot.ensures.test ∙ c.if-is_dot.true), i)
 
 pub returns-then-is_dot_dot-clause-leads : goal.returns-then-is_dot_dot-clause-leads
 returns-then-is_dot_dot-clause-leads g c = λ s i.
@@ -59,8 +60,8 @@ returns-then-is_dot_dot-clause-leads g c = λ s i.
     let st : Bool = c.args.stays in
     let d : true ≡ is_directory s.current.node = sym c.if-not-is_directory_in.false ∙ c.is_directory_in.ensures s.current i.named in
     let l : nat_lt 255 (length pt) ≡ false = lt_false 255 (length pt) (omega arith) in
-    let p : bytes_eq pt (46 ∷ []) ≡ false = sym c.is_dot.ensures ∙ c.if-is_dot.false in
-    let q : bytes_eq pt (46 ∷ 46 ∷ []) ≡ true = sym c.is_dot_dot.ensures ∙ c.if-is_dot_dot.true in
+    let p : bytes_eq pt dot ≡ false = sym c.is_dot.ensures.test ∙ c.if-is_dot.false in
+    let q : bytes_eq pt dot_dot ≡ true = sym c.is_dot_dot.ensures.test ∙ c.if-is_dot_dot.true in
     let up : IsTrail ms us (unwrap_or c.pop.result c.args.current.now) c.pop.new.self.items (parent s) = dot_dot_trail ms us c.args.current.now c.args.ancestors.now.items c.pop.new.self.items c.pop.result s i c.pop.ensures.items c.pop.ensures.variant.1 in
     let at : Place → Type 0 = λ v. IsTrail ms us v c.pop.new.self.items (parent s) in
     (parent s, step-dot_dot gr s pt st d l p q, subst at (sym c.unwrap_or.ensures) up)
@@ -83,8 +84,8 @@ returns-in_default-clause-leads g c = λ s i.
     let st : Bool = c.args.stays in
     let d : true ≡ is_directory s.current.node = sym c.if-not-is_directory_in.false ∙ c.is_directory_in.ensures s.current i.named in
     let l : nat_lt 255 (length pt) ≡ false = lt_false 255 (length pt) (omega arith) in
-    let p : bytes_eq pt (46 ∷ []) ≡ false = sym c.is_dot.ensures ∙ c.if-is_dot.false in
-    let q : bytes_eq pt (46 ∷ 46 ∷ []) ≡ false = sym c.is_dot_dot.ensures ∙ c.if-is_dot_dot.false in
+    let p : bytes_eq pt dot ≡ false = sym c.is_dot.ensures.test ∙ c.if-is_dot.false in
+    let q : bytes_eq pt dot_dot ≡ false = sym c.is_dot_dot.ensures.test ∙ c.if-is_dot_dot.false in
     let a : step gr s pt st ≡ found gr st s (gr.entry s.current pt) = step-named gr s pt st d l p q in
     a ∙ found-none gr st s (gr.entry s.current pt) (entry_none ms us s.current pt (c.in_default.ensures.found s.current i.named))
 
@@ -121,8 +122,8 @@ returns-then-not-stays-clause-leads g c = λ s i.
     let st : Bool = c.args.stays in
     let d : true ≡ is_directory s.current.node = sym c.if-not-is_directory_in.false ∙ c.is_directory_in.ensures s.current i.named in
     let l : nat_lt 255 (length pt) ≡ false = lt_false 255 (length pt) (omega arith) in
-    let p : bytes_eq pt (46 ∷ []) ≡ false = sym c.is_dot.ensures ∙ c.if-is_dot.false in
-    let q : bytes_eq pt (46 ∷ 46 ∷ []) ≡ false = sym c.is_dot_dot.ensures ∙ c.if-is_dot_dot.false in
+    let p : bytes_eq pt dot ≡ false = sym c.is_dot.ensures.test ∙ c.if-is_dot.false in
+    let q : bytes_eq pt dot_dot ≡ false = sym c.is_dot_dot.ensures.test ∙ c.if-is_dot_dot.false in
     let a : step gr s pt st ≡ found gr st s (gr.entry s.current pt) = step-named gr s pt st d l p q in
     let f = c.in-Some.ensures.found s.current i.named in
     let x : Node = f.0 in
@@ -156,8 +157,8 @@ returns-clause-leads g c = λ s i.
     let st : Bool = c.args.stays in
     let d : true ≡ is_directory s.current.node = sym c.if-not-is_directory_in.false ∙ c.is_directory_in.ensures s.current i.named in
     let l : nat_lt 255 (length pt) ≡ false = lt_false 255 (length pt) (omega arith) in
-    let p : bytes_eq pt (46 ∷ []) ≡ false = sym c.is_dot.ensures ∙ c.if-is_dot.false in
-    let q : bytes_eq pt (46 ∷ 46 ∷ []) ≡ false = sym c.is_dot_dot.ensures ∙ c.if-is_dot_dot.false in
+    let p : bytes_eq pt dot ≡ false = sym c.is_dot.ensures.test ∙ c.if-is_dot.false in
+    let q : bytes_eq pt dot_dot ≡ false = sym c.is_dot_dot.ensures.test ∙ c.if-is_dot_dot.false in
     let a : step gr s pt st ≡ found gr st s (gr.entry s.current pt) = step-named gr s pt st d l p q in
     let f = c.in-Some.ensures.found s.current i.named in
     let x : Node = f.0 in
