@@ -85,7 +85,7 @@ module _ {o : Order} {bytes b : List ℕ} (super : IsSuperblock o bytes b) where
 
   -- What the walk refuses is the least fault,
   pub least_walk : (limits : Limits) (e : TraversalError) → IsLeastRefusal (references o b) (LeadsToSound o b) (LeadsToFault o b) limits.references e → IsLeastAnswer o bytes limits (traversal_answer e)
-  least_walk limits NoMemory h = tt
+  least_walk limits NoMemory h = super_faultless super
   least_walk limits TooManyRefusal h = many (super_faultless super) (subst (λ (c : List ℕ). HasTooMany o c limits.references) super.cut h) refl
   least_walk limits (Record e) h = phase (super_faultless super) (λ k. h.0 (many_here limits.references k)) (moved limits.depth e (record_fault h.1))
   least_walk limits (TwiceRefusal q) h =

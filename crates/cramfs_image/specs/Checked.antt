@@ -11,6 +11,7 @@ use Rattle.record_walk.specs.Forest.{all_rows}
 use Rattle.cramfs_format.specs.declared.order.Order.{Order}
 use Rattle.cramfs_format.specs.Refers.{references}
 use Rattle.cramfs_format.specs.Tree.{CramfsTree}
+use Rattle.cramfs_format.specs.Superblock.{HasImageFault}
 use Rattle.cramfs_format.specs.Faults.{IsLeastImageFault}
 
 -- The image m shows the tree of these bytes; the report counts the records of its forest, and is as deep as the tree.
@@ -24,6 +25,6 @@ pub record Shows (o : Order) (all : List ℕ) (limits : Limits) (m : Image) (rep
 abbrev pub IsRefused : List ℕ → Limits → CheckError → Type 0
 IsRefused all limits = Refuses (λ t. (o : Order) × CramfsTree o all limits.references limits.depth t)
 
--- the fault is the least of the image's faults, by phases
+-- the fault is the least of the image's faults, by phases; memory is refused only where the image as a whole has none
 abbrev pub IsLeastAnswer : Order → List ℕ → Limits → CheckError → Type 0
-IsLeastAnswer o all limits = AnswersLeast (IsLeastImageFault o all limits.references limits.depth)
+IsLeastAnswer o all limits = AnswersLeast (HasImageFault o all) (IsLeastImageFault o all limits.references limits.depth)

@@ -4,13 +4,15 @@ use Rattle.rom_faults.specs.declared.error.CheckError.TheVariants.{OutOfMemory, 
 use Rattle.rom_faults.specs.declared.fault.Fault.{Fault}
 use Rattle.rom_faults.specs.declared.fault.TheConstants.{TOO_MANY, TWICE}
 use Rattle.rom_faults.specs.Faults.{fault_answer}
+use Rattle.record_walk.specs.Faults.{IsNone}
 use Rattle.record_walk.specs.declared.traversal.TraversalError.{TraversalError}
 use Rattle.record_walk.specs.declared.traversal.TraversalError.TheVariants.{OutOfMemory as NoMemory, TooMany, Record, Twice}
 
--- the answered fault is the least, which Least tells
-abbrev pub AnswersLeast : (Fault → Type 0) → CheckError → Type 0
-AnswersLeast Least OutOfMemory = Unit {0}
-AnswersLeast Least (FaultAnswer number at) = Least (record { number = number; at = at })
+-- the answered fault is the least, which Least tells; that memory was refused is answered only where the image as a
+-- whole has no fault, which Whole tells
+abbrev pub AnswersLeast : (Fault → Type 0) → (Fault → Type 0) → CheckError → Type 0
+AnswersLeast Whole Least OutOfMemory = IsNone Whole
+AnswersLeast Whole Least (FaultAnswer number at) = Least (record { number = number; at = at })
 
 -- a refusal of the walk as an answer of the check: 1 TooMany at 0, a record's fault, 20 Twice
 abbrev pub traversal_answer : TraversalError → CheckError

@@ -114,7 +114,7 @@ module _ {bytes b : List ℕ} {r : ℕ} (super : IsSuperblock bytes b r) where
 
   -- What the walk refuses is the least fault,
   pub least_walk : (limits : Limits) (e : TraversalError) → 0 < r → IsLeastRefusal (references b r) (LeadsToSound b r) (LeadsToFault b r) limits.references e → IsLeastAnswer bytes limits (traversal_answer e)
-  least_walk limits NoMemory above h = tt
+  least_walk limits NoMemory above h = super_faultless super
   least_walk limits TooManyRefusal above h = many (super_faultless super) (many_there limits.references h) refl
   least_walk limits (Record e) above h = phase (super_faultless super) (λ k. h.0 (many_here limits.references k)) (moved limits.depth e (record_fault h.1))
   least_walk limits (TwiceRefusal q) above h =

@@ -10,6 +10,7 @@ use Rattle.record_walk.specs.Answers.{AnswersLeast}
 use Rattle.record_walk.specs.Forest.{all_rows}
 use Rattle.romfs_format.specs.Refers.{references}
 use Rattle.romfs_format.specs.Tree.{RomfsTree}
+use Rattle.romfs_format.specs.Superblock.{HasImageFault}
 use Rattle.romfs_format.specs.Faults.{IsLeastImageFault}
 
 -- The image m shows the tree of these bytes; the report counts the records of its forest, and is as deep as the tree.
@@ -23,6 +24,6 @@ pub record Shows (all : List ℕ) (limits : Limits) (m : Image) (report : Report
 abbrev pub IsRefused : List ℕ → Limits → CheckError → Type 0
 IsRefused all limits = Refuses (RomfsTree all limits.references limits.depth)
 
--- the fault is the least of the image's faults, by phases
+-- the fault is the least of the image's faults, by phases; memory is refused only where the image as a whole has none
 abbrev pub IsLeastAnswer : List ℕ → Limits → CheckError → Type 0
-IsLeastAnswer all limits = AnswersLeast (IsLeastImageFault all limits.references limits.depth)
+IsLeastAnswer all limits = AnswersLeast (HasImageFault all) (IsLeastImageFault all limits.references limits.depth)

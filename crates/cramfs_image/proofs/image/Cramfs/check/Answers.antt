@@ -8,13 +8,14 @@ use Rattle.rom_tree.specs.declared.types.Limits.{Limits}
 use Rattle.rom_tree.specs.declared.types.Report.{Report}
 use Rattle.cramfs_format.specs.declared.order.Order.{Order}
 use Rattle.cramfs_format.specs.Faults.{whole, HasNoFault}
-use Rattle.cramfs_format.specs.Superblock.{order_of}
+use Rattle.cramfs_format.specs.Superblock.{HasImageFault, order_of}
+use Rattle.record_walk.specs.Faults.{IsNone}
 use Rattle.cramfs_format.proofs.Lawful.{references_lawful}
 use Rattle.cramfs_image.specs.Checked.{Shows, IsRefused, IsLeastAnswer}
 use Rattle.cramfs_image.specs.Phases.{AreWell}
 use Rattle.cramfs_image.proofs.Trees.{rows_good, rows_records, rows_some}
 use Rattle.cramfs_image.proofs.Faultless.{least_refuses}
-use Rattle.cramfs_image.proofs.Least.{least_walk, least_after, faultless}
+use Rattle.cramfs_image.proofs.Least.{super_faultless, least_walk, least_after, faultless}
 use Rattle.cramfs_image.proofs.Shallow.{shallow}
 use Rattle.cramfs_image.proofs.Composed.{tree_of_well}
 use Rattle.cramfs_image.proofs.image.Cramfs.check.Goals as goal
@@ -56,6 +57,11 @@ pub later_fault-requires-clause-some : goal.later_fault-requires-clause-some
 later_fault-requires-clause-some c =
     let w = c.in_ok-rows.ensures.ok in
     rows_some c.in_ok-b.ensures.ok c.args.limits.references w.0 c.as_slice-list.result.now (c.as_slice-list.ensures.value ∙ w.1) w.2
+
+pub returns-in_err-later_fault-clause-least : goal.returns-in_err-later_fault-clause-least
+returns-in_err-later_fault-clause-least c = err_by c.from_residual-in_err-later_fault.result c.from_residual-in_err-later_fault.ensures.1 (λ e is.
+    subst (IsLeastAnswer (order_of c.args.bytes.now) c.args.bytes.now c.args.limits) (sym is)
+    (subst (λ (o : Order). IsNone (HasImageFault o c.args.bytes.now)) c.in_ok-b.ensures.order (super_faultless c.in_ok-b.ensures.ok)))
 
 pub opened-requires-clause-tree : goal.opened-requires-clause-tree
 opened-requires-clause-tree c =

@@ -9,7 +9,7 @@ use Rattle.romfs_image.specs.Checked.{IsRefused, IsLeastAnswer}
 use Rattle.romfs_image.specs.Phases.{AreWell}
 use Rattle.romfs_image.proofs.Trees.{root_positive, root_live, rows_sound, rows_some}
 use Rattle.romfs_image.proofs.Faultless.{least_refuses}
-use Rattle.romfs_image.proofs.Least.{least_walk, least_after, faultless}
+use Rattle.romfs_image.proofs.Least.{super_faultless, least_walk, least_after, faultless}
 use Rattle.romfs_image.proofs.Shallow.{shallow}
 use Rattle.romfs_image.proofs.Composed.{tree_of_well}
 use Rattle.romfs_image.proofs.image.Romfs.check.Goals as goal
@@ -43,6 +43,10 @@ pub later_fault-requires-clause-some : goal.later_fault-requires-clause-some
 later_fault-requires-clause-some c =
     let w = c.in_ok-rows.ensures.ok in
     rows_some c.in_ok-b.ensures.ok c.args.limits.references w.0 c.as_slice-list.result.now (c.as_slice-list.ensures.value ∙ w.1) w.2
+
+pub returns-in_err-later_fault-clause-least : goal.returns-in_err-later_fault-clause-least
+returns-in_err-later_fault-clause-least c = err_by c.from_residual-in_err-later_fault.result c.from_residual-in_err-later_fault.ensures.1 (λ e is.
+    subst (IsLeastAnswer c.args.bytes.now c.args.limits) (sym is) (super_faultless c.in_ok-b.ensures.ok))
 
 pub opened-requires-clause-sound : goal.opened-requires-clause-sound
 opened-requires-clause-sound c =
