@@ -9,7 +9,7 @@ use Rattle.record_walk.proofs.Lists.{pairs_from, pairs_of}
 use Rattle.record_walk.proofs.Back.{clean_of}
 use Rattle.cramfs_format.specs.declared.order.Order.{Order}
 use Rattle.cramfs_format.specs.Inode.{size_of, type_of, offset_of, list_start}
-use Rattle.cramfs_format.specs.Refers.{references, target_of, LeadsToSound}
+use Rattle.cramfs_format.specs.Refers.{references, reference_target, LeadsToSound}
 use Rattle.cramfs_format.proofs.Lists.{directory_list, start_is}
 use Rattle.cramfs_format.proofs.Lawful.{references_lawful, target_entry}
 use Rattle.cramfs_format.proofs.Bridge.{IsFine, fine_which, fine_above, rows_fine}
@@ -19,16 +19,16 @@ use Rattle.cramfs_format.proofs.Spans.{ListsApart}
 abbrev first : Order → List ℕ → ℕ → Reference
 first o b v = record { source = v; which = list_start o b v }
 
-first_leads : (o : Order) (b : List ℕ) (v : ℕ) → v ≢ 0 → type_of o b v ≡ 4 → 0 < size_of o b v → target_of o b (first o b v) ≡ Some (list_start o b v)
+first_leads : (o : Order) (b : List ℕ) (v : ℕ) → v ≢ 0 → type_of o b v ≡ 4 → 0 < size_of o b v → reference_target o b (first o b v) ≡ Some (list_start o b v)
 first_leads o b v n t l = let d = directory_list o b v t in target_entry o b (first o b v) n (omega arith)
 
 some_live : {t : Option ℕ} {p : ℕ} → t ≡ Some p → IsSome t
 some_live e = subst IsSome (sym e) refl
 
 module _ {o : Order} {b : List ℕ} where
-  leads : (y : Row) → IsFine o b y → type_of o b y.offset ≡ 4 → 0 < size_of o b y.offset → target_of o b (first o b y.reference.which) ≡ Some (offset_of o b y.offset)
+  leads : (y : Row) → IsFine o b y → type_of o b y.offset ≡ 4 → 0 < size_of o b y.offset → reference_target o b (first o b y.reference.which) ≡ Some (offset_of o b y.offset)
   leads y k t l =
-      subst (λ (v : ℕ). target_of o b (first o b v) ≡ Some (offset_of o b y.offset)) (sym (fine_which y k)) (first_leads o b y.offset (fine_above y k) t l ∙ ap Some (start_is o b y.offset))
+      subst (λ (v : ℕ). reference_target o b (first o b v) ≡ Some (offset_of o b y.offset)) (sym (fine_which y k)) (first_leads o b y.offset (fine_above y k) t l ∙ ap Some (start_is o b y.offset))
 
   reached : (y : Row) → IsFine o b y → type_of o b y.offset ≡ 4 → 0 < size_of o b y.offset → Reached (references o b) (LeadsToSound o b) (first o b y.reference.which)
   reached y k t l = more k.reached k.sound true refl (some_live (leads y k t l))

@@ -14,7 +14,7 @@ use Rattle.record_walk.proofs.Place.{rows_reached, rows_lead, rows_sound}
 use Rattle.record_walk.proofs.Same.{same_forest as same_standing}
 use Rattle.cramfs_format.specs.declared.order.Order.{Order}
 use Rattle.cramfs_format.specs.Inode.{type_of, has_data, end_of, list_start, list_end, ListLies, HasBody}
-use Rattle.cramfs_format.specs.Refers.{references, target_of, root_place, LeadsToSound}
+use Rattle.cramfs_format.specs.Refers.{references, reference_target, root_place, LeadsToSound}
 use Rattle.cramfs_format.specs.Tree.{node_of, tree_of, entries_at, below_root, IsTree, CramfsTree}
 use Rattle.cramfs_format.specs.Made.{StandsAt, grow, list_at, made, ends_within, IsGood, IsCramfs}
 use Rattle.cramfs_format.proofs.Lists.{lt_tells}
@@ -22,15 +22,15 @@ use Rattle.cramfs_format.proofs.Lawful.{IsPlaced, at_top, in_chain, reached_plac
 use Rattle.cramfs_format.proofs.Same.{grown}
 
 -- where an entry's reference leads
-pub target_none : (o : Order) (b : List ℕ) (x : Reference) → x.source ≢ 0 → target_of o b x ≡ None → list_end o b x.source ≤ x.which
-unfolding target_of
+pub target_none : (o : Order) (b : List ℕ) (x : Reference) → x.source ≢ 0 → reference_target o b x ≡ None → list_end o b x.source ≤ x.which
+unfolding reference_target
 target_none o b x n h = elim (lt_tells x.which (list_end o b x.source)) [
   | inl k ↦ let z : Some x.which ≡ None = (rw (ne_eqb x.source 0 n, k.0) at h) in absurd (cc)
   | inr k ↦ k.1
 ]
 
-pub target_some : (o : Order) (b : List ℕ) (x : Reference) (p : ℕ) → x.source ≢ 0 → target_of o b x ≡ Some p → (x.which < list_end o b x.source) × (p ≡ x.which)
-unfolding target_of
+pub target_some : (o : Order) (b : List ℕ) (x : Reference) (p : ℕ) → x.source ≢ 0 → reference_target o b x ≡ Some p → (x.which < list_end o b x.source) × (p ≡ x.which)
+unfolding reference_target
 target_some o b x p n h = elim (lt_tells x.which (list_end o b x.source)) [
   | inl k ↦ let z : Some x.which ≡ Some p = (rw (ne_eqb x.source 0 n, k.0) at h) in (k.1, let y : p ≡ x.which = cc in y)
   | inr k ↦ let z : None ≡ Some p = (rw (ne_eqb x.source 0 n, k.0) at h) in absurd (cc)
@@ -97,7 +97,7 @@ from_rows P o b x directory parent deep (at p own after) q h e =
 -- The row of a reached reference to a sound record is good, and so is the root's.
 pub record IsFine (o : Order) (b : List ℕ) (y : Row) : Type 0 where
   pub reached : Reached (references o b) (LeadsToSound o b) y.reference
-  pub leads : target_of o b y.reference ≡ Some y.offset
+  pub leads : reference_target o b y.reference ≡ Some y.offset
   pub sound : LeadsToSound o b y.reference
 
 module _ {o : Order} {b : List ℕ} where
@@ -140,7 +140,7 @@ pub rows_fine : (o : Order) (b : List ℕ) (most : ℕ) (f : Forest) → IsFores
 rows_fine o b most f h =
     let g = references o b in
     let Reach : Row → Type 0 = λ y. Reached g (LeadsToSound o b) y.reference in
-    let Lead : Row → Type 0 = λ y. target_of o b y.reference ≡ Some y.offset in
+    let Lead : Row → Type 0 = λ y. reference_target o b y.reference ≡ Some y.offset in
     let Firm : Row → Type 0 = λ y. LeadsToSound o b y.reference in
     let lawful = references_lawful o b in
     let all = all_rows g f in

@@ -10,7 +10,7 @@ use Rattle.record_walk.specs.Forest.{Forest, none, at, Stands, rows, all_rows, I
 use Rattle.record_walk.proofs.Lists.{every_join, every_left, every_right}
 use Rattle.cramfs_format.specs.declared.order.Order.{Order}
 use Rattle.cramfs_format.specs.Inode.{type_of, end_of, list_start, list_end}
-use Rattle.cramfs_format.specs.Refers.{references, target_of, root_place, LeadsToSound}
+use Rattle.cramfs_format.specs.Refers.{references, reference_target, root_place, LeadsToSound}
 use Rattle.cramfs_format.specs.Tree.{kind_numbers, places_at, node_of, tree_of, entries_at}
 use Rattle.cramfs_format.specs.Made.{StandsAt}
 use Rattle.cramfs_format.proofs.Lists.{end_after, other_list}
@@ -65,8 +65,8 @@ rows_within o b e q x d p n m (at r own after) s l =
     )
 
 -- nothing comes after the root
-after_target : (o : Order) (b : List ℕ) (p : ℕ) → target_of o b ((references o b).after (references o b).top) ≡ Some p → ⊥
-unfolding target_of
+after_target : (o : Order) (b : List ℕ) (p : ℕ) → reference_target o b ((references o b).after (references o b).top) ≡ Some p → ⊥
+unfolding reference_target
 after_target o b p h =
     let a = end_after o b root_place in
     let n : end_of o b root_place ≢ 64 = λ z. omega arith in

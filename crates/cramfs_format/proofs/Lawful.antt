@@ -6,7 +6,7 @@ use Rattle.record_walk.specs.declared.reference.Reference.{Reference}
 use Rattle.record_walk.specs.References.{Reached, top, more, AreLawful, edge, IsLive}
 use Rattle.cramfs_format.specs.declared.order.Order.{Order}
 use Rattle.cramfs_format.specs.Inode.{end_of, list_start, list_end, ListLies}
-use Rattle.cramfs_format.specs.Refers.{references, target_of, root_place, LeadsToSound}
+use Rattle.cramfs_format.specs.Refers.{references, reference_target, root_place, LeadsToSound}
 use Rattle.cramfs_format.proofs.Lists.{lt_tells, end_after, in_list, start_is}
 
 -- the n-th record of the list of the directory at d
@@ -41,22 +41,22 @@ pub sound_list : (o : Order) (b : List ℕ) (x : Reference) → LeadsToSound o b
 sound_list o b x s = elim (eqb_tells x.source 0) [ inl h ↦ s.root h.1 | inr h ↦ (s.entry h.1).body.list ]
 
 -- which references lead to a record
-pub live_entry : (o : Order) (b : List ℕ) (x : Reference) → x.source ≢ 0 → IsSome (target_of o b x) → x.which < list_end o b x.source
-unfolding target_of
+pub live_entry : (o : Order) (b : List ℕ) (x : Reference) → x.source ≢ 0 → IsSome (reference_target o b x) → x.which < list_end o b x.source
+unfolding reference_target
 live_entry o b x n h = elim (lt_tells x.which (list_end o b x.source)) [
   | inl k ↦ k.1
   | inr k ↦ let z : IsSome {T = ℕ} None = (rw (ne_eqb x.source 0 n, k.0) at h) in absurd (false≢true z)
 ]
 
-pub live_root : (o : Order) (b : List ℕ) (x : Reference) → x.source ≡ 0 → IsSome (target_of o b x) → x.which ≡ root_place
-unfolding target_of
+pub live_root : (o : Order) (b : List ℕ) (x : Reference) → x.source ≡ 0 → IsSome (reference_target o b x) → x.which ≡ root_place
+unfolding reference_target
 live_root o b x e h = elim (eqb_tells x.which 64) [
   | inl k ↦ k.1
   | inr k ↦ let z : IsSome {T = ℕ} None = (rw (eq-eqb x.source 0 e, k.0) at h) in absurd (false≢true z)
 ]
 
-pub target_entry : (o : Order) (b : List ℕ) (x : Reference) → x.source ≢ 0 → x.which < list_end o b x.source → target_of o b x ≡ Some x.which
-unfolding target_of
+pub target_entry : (o : Order) (b : List ℕ) (x : Reference) → x.source ≢ 0 → x.which < list_end o b x.source → reference_target o b x ≡ Some x.which
+unfolding reference_target
 target_entry o b x n h = elim (lt_tells x.which (list_end o b x.source)) [
   | inl k ↦ rw (ne_eqb x.source 0 n, k.0) refl
   | inr k ↦ let l = k.1 in absurd (omega arith)
@@ -110,15 +110,15 @@ module _ {o : Order} {b : List ℕ} where
       placed_own z x (λ k. absurd (omega arith)) (sound_list o b z sound) e live
   reached_placed x (more {x = z} reached sound false e live) = placed_after z x (reached_placed z reached) e live
 
-  pub target_placed : (x : Reference) → IsPlaced o b x → target_of o b x ≡ Some x.which
-  unfolding target_of
+  pub target_placed : (x : Reference) → IsPlaced o b x → reference_target o b x ≡ Some x.which
+  unfolding reference_target
   target_placed x (at_top i j) = rw (eq-eqb x.source 0 i, eq-eqb x.which 64 j) (ap Some (sym j))
   target_placed x (in_chain n i j k l m) = target_entry o b x i l
 
-  same_which : (x y : Reference) → IsPlaced o b x → IsPlaced o b y → target_of o b x ≡ target_of o b y → x.which ≡ y.which
+  same_which : (x y : Reference) → IsPlaced o b x → IsPlaced o b y → reference_target o b x ≡ reference_target o b y → x.which ≡ y.which
   same_which x y p q e = let z : Some x.which ≡ Some y.which = sym (target_placed x p) ∙ e ∙ target_placed y q in cc
 
-  same_target : (x y : Reference) → IsPlaced o b x → IsPlaced o b y → x.which ≡ y.which → target_of o b x ≡ target_of o b y
+  same_target : (x y : Reference) → IsPlaced o b x → IsPlaced o b y → x.which ≡ y.which → reference_target o b x ≡ reference_target o b y
   same_target x y p q e = target_placed x p ∙ ap Some e ∙ sym (target_placed y q)
 
   -- the first of one list is no later one of another
@@ -150,7 +150,7 @@ module _ {o : Order} {b : List ℕ} where
       (λ t. record { source = s t; which = which t })
 
   apart : (x y : Reference) (k l : Bool) → IsPlaced o b x → IsPlaced o b y → edge (references o b) k x ≡ edge (references o b) l y
-      → (k ≡ l) × ((x ≡ y) ⊎ ((target_of o b x ≡ target_of o b y) × ((k ≡ true) ⊎ ((references o b).chained ≡ true))))
+      → (k ≡ l) × ((x ≡ y) ⊎ ((reference_target o b x ≡ reference_target o b y) × ((k ≡ true) ⊎ ((references o b).chained ≡ true))))
   apart x y true true p q e = (refl, inr (same_target x y p q (ap (λ (v : Reference). v.source) e), inl refl))
   apart x y true false p q e = absurd (never_first x y p q e)
   apart x y false true p q e = absurd (never_first y x q p (sym e))
@@ -184,8 +184,8 @@ module _ {o : Order} {b : List ℕ} where
         let w = lies z reached (λ k. n (sym s ∙ k)) in
         omega arith
 
-pub top_target : (o : Order) (b : List ℕ) → target_of o b (references o b).top ≡ Some root_place
-unfolding target_of
+pub top_target : (o : Order) (b : List ℕ) → reference_target o b (references o b).top ≡ Some root_place
+unfolding reference_target
 top_target o b = refl
 
 pub references_lawful : (o : Order) (b : List ℕ) → AreLawful (references o b) (LeadsToSound o b)

@@ -14,15 +14,15 @@ root_place = 64
 
 -- An entry of the directory `source` stands at `which`, before the end of its list. No record stands at 0, which as a
 -- source is the superblock.
-unfoldable pub target_of : Order → List ℕ → Reference → Option ℕ
-target_of o b x =
+unfoldable pub reference_target : Order → List ℕ → Reference → Option ℕ
+reference_target o b x =
     if x.source == 0 then (if x.which == root_place then Some root_place else None) else (if nat_lt x.which (list_end o b x.source) then Some x.which else None)
 
 -- the references of the image whose accessible bytes are b
 abbrev pub references : Order → List ℕ → References
 references o b = record {
   top = record { source = 0; which = root_place };
-  target = target_of o b;
+  target = reference_target o b;
   own = λ x. record { source = x.which; which = list_start o b x.which };
   after = λ x. record { source = x.source; which = end_of o b x.which };
   chained = false;

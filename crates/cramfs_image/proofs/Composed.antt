@@ -21,11 +21,11 @@ use Rattle.cramfs_format.specs.Tree.{precedes, is_sorted, extents_of, NamesRise,
 use Rattle.cramfs_format.proofs.Depths.{IsWithin, tree_within}
 use Rattle.cramfs_format.proofs.Orders.{precedes_on, one_first}
 use Rattle.record_walk.specs.Sweep.{IsLeastRowFault}
-use Rattle.cramfs_image.specs.Phases.{IsTooDeep, IsShallow, Repeats, last_name, HasNameFault, IsWellNamed, AreWell, IsLaterFault, of_name}
+use Rattle.cramfs_image.specs.Phases.{IsTooDeep, IsShallow, Repeats, last_name, IsNameFault, IsWellNamed, AreWell, IsLaterFault, of_name}
 
 -- with no entry too deep and no overlap, the names decide
 pub well_or_fault : (o : Order) (b : List ℕ) (most : ℕ) (all : List Row) (v : Option Fault) → IsLeastRowFault (IsShallow o b most) (IsTooDeep o b most) (drop 1 all) None → IsLeastOf (OverlapsAt (extents_of o b all)) None
-    → IsLeastRowFault (IsWellNamed o b) (HasNameFault o b) (drop 1 all) v → MatchOption v (AreWell o b most all) (IsLaterFault o b most all)
+    → IsLeastRowFault (IsWellNamed o b) (IsNameFault o b) (drop 1 all) v → MatchOption v (AreWell o b most all) (IsLaterFault o b most all)
 well_or_fault o b most all None d v n = record { shallow = d.clean refl; apart = λ p h. v.least p h; named = n.clean refl }
 well_or_fault o b most all (Some e) d v n = of_name d v n
 

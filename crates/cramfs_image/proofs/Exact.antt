@@ -18,10 +18,10 @@ use Rattle.cramfs_format.specs.Inode.{name_of}
 use Rattle.cramfs_format.specs.Refers.{references, LeadsToSound}
 use Rattle.cramfs_format.specs.Tree.{precedes, is_sorted, IsNoDot}
 use Rattle.rom_tree.specs.Dots.{dot, dot_dot}
-use Rattle.cramfs_format.specs.Faults.{IsListed, ComesNext, ComesAfter, next, HasDepthFault, HasNameFault as HasSetNameFault, repeated as set_repeated, dots as set_dots, unsorted as set_unsorted}
+use Rattle.cramfs_format.specs.Faults.{IsListed, ComesNext, ComesAfter, next, HasDepthFault, HasNameFault, repeated as set_repeated, dots as set_dots, unsorted as set_unsorted}
 use Rattle.cramfs_format.proofs.Lawful.{references_lawful}
 use Rattle.cramfs_format.proofs.Named.{Rises, rows_listed, listed_in, rows_rise, comes_between, comes_rises, comes_listed, comes_from, next_listed, next_closest, none_between}
-use Rattle.cramfs_image.specs.Phases.{IsTooDeep, last_name, IsUnsorted, HasNameFault, repeated, dots, unsorted}
+use Rattle.cramfs_image.specs.Phases.{IsTooDeep, last_name, IsUnsorted, IsNameFault, repeated, dots, unsorted}
 
 -- the last of these rows that stands in the list of this directory
 pub record IsLast (o : Order) (b : List ℕ) (d : ℕ) (xs : List Row) (name : List ℕ) : Type 0 where
@@ -137,7 +137,7 @@ module _ {o : Order} {b : List ℕ} {most : ℕ} {f : Forest} (h : IsForest (ref
       ]
 
   -- A fault of a name at a row of a list is one of the fault set,
-  pub into_names : (before : List Row) (x : Row) (after : List Row) (n : ℕ) → drop 1 (all_rows (references o b) f) ≡ before ++ x ∷ after → HasNameFault o b before x n → HasSetNameFault o b (record { number = n; at = x.offset })
+  pub into_names : (before : List Row) (x : Row) (after : List Row) (n : ℕ) → drop 1 (all_rows (references o b) f) ≡ before ++ x ∷ after → IsNameFault o b before x n → HasNameFault o b (record { number = n; at = x.offset })
   into_names before x after n among (repeated e a) =
       let m = member_every (Earlier x) (λ (y : Row). (y.directory ≡ x.directory) × (name_of o b y.offset ≡ name_of o b x.offset)) before (before_facts before x after among) a in
       set_repeated (comes_at before x after among m.0 m.1.0 m.1.1 m.2.0) m.2.1 e
@@ -154,7 +154,7 @@ module _ {o : Order} {b : List ℕ} {most : ℕ} {f : Forest} (h : IsForest (ref
   listed_split : (d p : ℕ) → IsListed o b d p → (before : List Row) × (x : Row) × (after : List Row) × (drop 1 (all_rows (references o b) f) ≡ before ++ x ∷ after) × ((x.offset ≡ p) × (x.directory ≡ d))
   listed_split d p l = split_at (IsAt p d) (drop 1 (all_rows (references o b) f)) (listed_in h d p l)
 
-  repeated_row : (e : Fault) (d p : ℕ) → ComesAfter o b d p e.at → name_of o b p ≡ name_of o b e.at → e.number ≡ 23 → FoundAt (HasNameFault o b) (drop 1 (all_rows (references o b) f)) e
+  repeated_row : (e : Fault) (d p : ℕ) → ComesAfter o b d p e.at → name_of o b p ≡ name_of o b e.at → e.number ≡ 23 → FoundAt (IsNameFault o b) (drop 1 (all_rows (references o b) f)) e
   repeated_row e d p c names number =
       let s = listed_split d e.at (comes_listed p e.at c) in
       let place = s.4.0 in
@@ -187,7 +187,7 @@ module _ {o : Order} {b : List ℕ} {most : ℕ} {f : Forest} (h : IsForest (ref
         | inr i ↦ elim i [ inl j ↦ j.0 | inr j ↦ let w = has_every (λ (z : Row). z.directory ≢ x.directory) (IsAt p x.directory) after last j in absurd (w.1 w.2.1) ]
       ]
 
-  unsorted_row : (e : Fault) (d p : ℕ) → is_sorted o b ≡ true → ComesNext o b d p e.at → precedes (name_of o b e.at) (name_of o b p) ≡ true → e.number ≡ 26 → FoundAt (HasNameFault o b) (drop 1 (all_rows (references o b) f)) e
+  unsorted_row : (e : Fault) (d p : ℕ) → is_sorted o b ≡ true → ComesNext o b d p e.at → precedes (name_of o b e.at) (name_of o b p) ≡ true → e.number ≡ 26 → FoundAt (IsNameFault o b) (drop 1 (all_rows (references o b) f)) e
   unsorted_row e d p sorted c names number =
       let s = listed_split d e.at (next_listed p e.at c) in
       let place = s.4.0 in
@@ -207,7 +207,7 @@ module _ {o : Order} {b : List ℕ} {most : ℕ} {f : Forest} (h : IsForest (ref
       record { before = s.0; row = s.1; after = s.2; among = s.3; at = s.4.0; found = unsorted number found }
 
   -- and a fault of a name in the fault set stands at a row.
-  pub from_names : (e : Fault) → HasSetNameFault o b e → FoundAt (HasNameFault o b) (drop 1 (all_rows (references o b) f)) e
+  pub from_names : (e : Fault) → HasNameFault o b e → FoundAt (IsNameFault o b) (drop 1 (all_rows (references o b) f)) e
   from_names e (set_repeated {d} {p} c names number) = repeated_row e d p c names number
   from_names e (set_dots {d} l named number) =
       let s = listed_split d e.at l in

@@ -17,7 +17,7 @@ use Rattle.cramfs_format.specs.declared.order.Order.{Order}
 use Rattle.cramfs_format.specs.Refers.{references, LeadsToSound, LeadsToFault}
 use Rattle.cramfs_format.specs.Tree.{extents_of}
 use Rattle.cramfs_format.specs.Superblock.{IsSuperblock, HasImageFault, short, no_magic, bad_size, bad_flags, bad_crc, unsigned, bad_root, accessible, HasFlags, HasCrc, HasSignature, HasRoot}
-use Rattle.cramfs_format.specs.Faults.{HasDepthFault, HasExtentFault, HasNameFault as HasSetNameFault, HasTwiceFault, HasTooMany, HasReachedFault, HasNoFault, IsLeastPhaseFault, record_fault, twice_fault, depth_fault, extent_fault, name_fault, many, phase}
+use Rattle.cramfs_format.specs.Faults.{HasDepthFault, HasExtentFault, HasNameFault, HasTwiceFault, HasTooMany, HasReachedFault, HasNoFault, IsLeastPhaseFault, record_fault, twice_fault, depth_fault, extent_fault, name_fault, many, phase}
 use Rattle.cramfs_format.proofs.Faults.{led_faultless}
 use Rattle.cramfs_format.proofs.Lawful.{references_lawful}
 use Rattle.cramfs_format.proofs.Alone.{lists_apart}
@@ -69,7 +69,7 @@ module _ {o : Order} {b : List ℕ} {most : ℕ} {f : Forest} (h : IsForest (ref
 
   -- and where they find none there is none.
   pub none_later : (deepest m : ℕ) → m ≡ min deepest 64 → AreWell o b m (all_rows (references o b) f)
-      → IsNone (HasDepthFault o b (min deepest 64)) × IsNone (HasExtentFault o b) × IsNone (HasSetNameFault o b)
+      → IsNone (HasDepthFault o b (min deepest 64)) × IsNone (HasExtentFault o b) × IsNone (HasNameFault o b)
   none_later deepest m is w = (
     subst (λ (v : ℕ). IsNone (HasDepthFault o b v)) is (λ e d. let k = from_depths h m e d in let l = w.shallow k.before k.row k.after k.among k.found.1 in let n = k.found.2 in omega arith),
     (λ e d. w.apart e.at (from_overlaps e d)),
@@ -111,5 +111,5 @@ module _ {o : Order} {bytes b : List ℕ} (super : IsSuperblock o bytes b) where
         once = move (λ c. IsNone (HasTwiceFault o c)) (no_twice_fault h);
         shallow = move (λ c. IsNone (HasDepthFault o c (min limits.depth 64))) n.0;
         apart = move (λ c. IsNone (HasExtentFault o c)) n.1;
-        named = move (λ c. IsNone (HasSetNameFault o c)) n.2;
+        named = move (λ c. IsNone (HasNameFault o c)) n.2;
       }

@@ -7,19 +7,19 @@ use Rattle.record_walk.specs.Faults.{IsLeast}
 use Rattle.cramfs_format.specs.declared.order.Order.{Order}
 use Rattle.cramfs_format.specs.Inode.{name_of}
 use Rattle.cramfs_format.specs.Tree.{precedes, IsNoDot}
-use Rattle.cramfs_image.specs.Phases.{Repeats, last_name, IsUnsorted, HasNameFault, repeated, dots, unsorted, IsWellNamed}
+use Rattle.cramfs_image.specs.Phases.{Repeats, last_name, IsUnsorted, IsNameFault, repeated, dots, unsorted, IsWellNamed}
 
 module _ {o : Order} {b : List ℕ} {before : List Row} {x : Row} where
-  pub least_repeated : Repeats o b before x → IsLeast (HasNameFault o b before x) 23
+  pub least_repeated : Repeats o b before x → IsLeast (IsNameFault o b before x) 23
   least_repeated h = record { here = repeated refl h; least = λ n f. elim f [ repeated e k ↦ omega arith | dots e k ↦ omega arith | unsorted e k ↦ omega arith ] }
 
-  pub least_dot : (Repeats o b before x → ⊥) → (IsNoDot o b x → ⊥) → IsLeast (HasNameFault o b before x) 24
+  pub least_dot : (Repeats o b before x → ⊥) → (IsNoDot o b x → ⊥) → IsLeast (IsNameFault o b before x) 24
   least_dot fresh h = record { here = dots refl h; least = λ n f. elim f [ repeated e k ↦ absurd (fresh k) | dots e k ↦ omega arith | unsorted e k ↦ omega arith ] }
 
-  pub least_unsorted : (Repeats o b before x → ⊥) → IsNoDot o b x → IsUnsorted o b before x → IsLeast (HasNameFault o b before x) 26
+  pub least_unsorted : (Repeats o b before x → ⊥) → IsNoDot o b x → IsUnsorted o b before x → IsLeast (IsNameFault o b before x) 26
   least_unsorted fresh other h = record { here = unsorted refl h; least = λ n f. elim f [ repeated e k ↦ absurd (fresh k) | dots e k ↦ absurd (k other) | unsorted e k ↦ omega arith ] }
 
-  pub well_faultless : IsWellNamed o b before x → (n : ℕ) → HasNameFault o b before x n → ⊥
+  pub well_faultless : IsWellNamed o b before x → (n : ℕ) → IsNameFault o b before x n → ⊥
   well_faultless w n f = elim f [ repeated e k ↦ w.fresh k | dots e k ↦ k w.other | unsorted e k ↦ w.sorted k ]
 
 -- the last name of a list, one row further

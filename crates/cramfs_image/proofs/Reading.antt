@@ -6,7 +6,7 @@ use Rattle.record_walk.specs.declared.reference.Reference.{Reference}
 use Rattle.record_walk.specs.References.{Reached}
 use Rattle.cramfs_format.specs.declared.order.Order.{Order}
 use Rattle.cramfs_format.specs.Inode.{end_of, list_end}
-use Rattle.cramfs_format.specs.Refers.{references, target_of, LeadsToSound, LeadsToFault}
+use Rattle.cramfs_format.specs.Refers.{references, reference_target, LeadsToSound, LeadsToFault}
 use Rattle.cramfs_format.proofs.Lawful.{IsPlaced, at_top, in_chain, reached_placed, target_placed, placed_above, sound_within, source_within}
 use Rattle.cramfs_format.proofs.Faults.{faultless_led}
 use Rattle.record_walk.specs.Faults.{IsLeastFaultOf}
@@ -16,18 +16,18 @@ pub by_parts : (x : Reference) (s w : ℕ) → x.source ≡ s → x.which ≡ w 
 by_parts x s w e f = λ t. record { source = e t; which = f t }
 
 -- where an entry's reference leads
-pub target_is : (o : Order) (b : List ℕ) (x : Reference) (which end : ℕ) → x.source ≢ 0 → x.which ≡ which → end ≡ list_end o b x.source → (if nat_lt which end then Some which else None) ≡ target_of o b x
-unfolding target_of
+pub target_is : (o : Order) (b : List ℕ) (x : Reference) (which end : ℕ) → x.source ≢ 0 → x.which ≡ which → end ≡ list_end o b x.source → (if nat_lt which end then Some which else None) ≡ reference_target o b x
+unfolding reference_target
 target_is o b x which end n e f = rw (ne_eqb x.source 0 n, e, f) refl
 
 -- nothing comes after the root
-pub target_after_root : (o : Order) (b : List ℕ) (x : Reference) (which end : ℕ) → x.source ≡ 0 → end ≡ 0 → 64 < x.which → (if nat_lt which end then Some which else None) ≡ target_of o b x
-unfolding target_of
+pub target_after_root : (o : Order) (b : List ℕ) (x : Reference) (which end : ℕ) → x.source ≡ 0 → end ≡ 0 → 64 < x.which → (if nat_lt which end then Some which else None) ≡ reference_target o b x
+unfolding reference_target
 target_after_root o b x which end e f l =
     let n : x.which ≢ 64 = λ z. omega arith in
     rw (eq-eqb x.source 0 e, ne_eqb x.which 64 n, f, le-ltb which 0 (omega arith)) refl
 
-module _ {o : Order} {b : List ℕ} {x : Reference} (p : ℕ) (long : 76 ≤ length b) (reached : Reached (references o b) (LeadsToSound o b) x) (target : target_of o b x ≡ Some p) where
+module _ {o : Order} {b : List ℕ} {x : Reference} (p : ℕ) (long : 76 ≤ length b) (reached : Reached (references o b) (LeadsToSound o b) x) (target : reference_target o b x ≡ Some p) where
   placed : IsPlaced o b x
   placed = reached_placed x reached
 

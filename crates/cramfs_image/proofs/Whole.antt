@@ -16,12 +16,12 @@ use Rattle.cramfs_format.specs.Refers.{references, root_place, LeadsToSound}
 use Rattle.cramfs_format.specs.Tree.{tree_of, IsNoDot, CramfsTree}
 use Rattle.cramfs_format.proofs.Faults.{faultless_led}
 use Rattle.cramfs_format.proofs.Lawful.{references_lawful}
-use Rattle.cramfs_image.specs.Phases.{HasNameFault, repeated, dots, unsorted, IsWellNamed, AreWell}
+use Rattle.cramfs_image.specs.Phases.{IsNameFault, repeated, dots, unsorted, IsWellNamed, AreWell}
 use Rattle.cramfs_image.proofs.Composed.{tree_of_well}
 use Rattle.cramfs_image.proofs.Exact.{into_names, into_depths}
 use Rattle.cramfs_image.proofs.Least.{into_overlaps}
 use Rattle.cramfs_format.specs.Superblock.{magic, signature, size_word, flags_of, accessible, without_crc, HasSize, HasFlags, HasCrc, HasSignature, HasRoot, IsSuperblock, HasImageFault, short, no_magic, bad_size, bad_flags, bad_crc, unsigned, bad_root}
-use Rattle.cramfs_format.specs.Faults.{HasDepthFault, HasExtentFault, HasNameFault as HasSetNameFault, HasTwiceFault, HasTooMany, HasReachedFault, HasNoFault}
+use Rattle.cramfs_format.specs.Faults.{HasDepthFault, HasExtentFault, HasNameFault, HasTwiceFault, HasTooMany, HasReachedFault, HasNoFault}
 
 no_other_crc : (o : Order) (b : List ℕ) → ((HasCrc o b → ⊥) → ⊥) → HasCrc o b
 unfolding HasCrc
@@ -66,14 +66,14 @@ forest_here o b most few sound once =
     forest_of (references o b) (LeadsToSound o b) most (references_lawful o b) clean
 
 -- a row without a fault of a name is well named
-well_named : {o : Order} {b : List ℕ} {before : List Row} {x : Row} → ((n : ℕ) → HasNameFault o b before x n → ⊥) → IsWellNamed o b before x
+well_named : {o : Order} {b : List ℕ} {before : List Row} {x : Row} → ((n : ℕ) → IsNameFault o b before x n → ⊥) → IsWellNamed o b before x
 well_named {o} {b} {before} {x} none =
     let other : IsNoDot o b x = record { here = λ e. none 24 (dots refl (λ k. k.here e)); above = λ e. none 24 (dots refl (λ k. k.above e)) } in
     record { fresh = λ k. none 23 (repeated refl k); other = other; sorted = λ k. none 26 (unsorted refl k) }
 
 module _ {o : Order} {b : List ℕ} {most : ℕ} {f : Forest} (h : IsForest (references o b) (LeadsToSound o b) most f) where
   -- rows are well where the later phases have no fault
-  well_of_faultless : (m : ℕ) → IsNone (HasDepthFault o b m) → IsNone (HasExtentFault o b) → IsNone (HasSetNameFault o b) → AreWell o b m (all_rows (references o b) f)
+  well_of_faultless : (m : ℕ) → IsNone (HasDepthFault o b m) → IsNone (HasExtentFault o b) → IsNone (HasNameFault o b) → AreWell o b m (all_rows (references o b) f)
   well_of_faultless m shallow apart named = record {
     shallow = λ before x after s e. elim (cases_lt m x.depth) [ inl l ↦ absurd (shallow (record { number = 21; at = x.offset }) (into_depths h m before x after 21 s (refl, e, l))) | inr l ↦ l ];
     apart = λ p k. apart (record { number = 22; at = p }) (into_overlaps h p k);

@@ -68,10 +68,10 @@ pub record TellsEarlier (o : Order) (b : List ℕ) (before : List Row) (x : Row)
   pub last_is : name_seen last ≡ last_name o b x.directory None before
 
 -- 23 DupName, 24 Dot, 26 Unsorted
-pub data HasNameFault (o : Order) (b : List ℕ) (before : List Row) (x : Row) : ℕ → Type 0 where
-  repeated : {n : ℕ} → n ≡ DUPLICATE_NAME → Repeats o b before x → HasNameFault o b before x n
-  dots : {n : ℕ} → n ≡ DOT → (IsNoDot o b x → ⊥) → HasNameFault o b before x n
-  unsorted : {n : ℕ} → n ≡ UNSORTED → IsUnsorted o b before x → HasNameFault o b before x n
+pub data IsNameFault (o : Order) (b : List ℕ) (before : List Row) (x : Row) : ℕ → Type 0 where
+  repeated : {n : ℕ} → n ≡ DUPLICATE_NAME → Repeats o b before x → IsNameFault o b before x n
+  dots : {n : ℕ} → n ≡ DOT → (IsNoDot o b x → ⊥) → IsNameFault o b before x n
+  unsorted : {n : ℕ} → n ≡ UNSORTED → IsUnsorted o b before x → IsNameFault o b before x n
 
 pub record IsWellNamed (o : Order) (b : List ℕ) (before : List Row) (x : Row) : Type 0 where
   pub fresh : Repeats o b before x → ⊥
@@ -89,4 +89,4 @@ pub data IsLaterFault (o : Order) (b : List ℕ) (most : ℕ) (all : List Row) (
   of_depth : IsLeastRowFault (IsShallow o b most) (IsTooDeep o b most) (drop 1 all) (Some e) → IsLaterFault o b most all e
   of_overlap : IsLeastRowFault (IsShallow o b most) (IsTooDeep o b most) (drop 1 all) None → {p : ℕ} → IsLeastOf (OverlapsAt (extents_of o b all)) (Some p) → e ≡ record { number = OVERLAP; at = p } → IsLaterFault o b most all e
   of_name : IsLeastRowFault (IsShallow o b most) (IsTooDeep o b most) (drop 1 all) None → IsLeastOf (OverlapsAt (extents_of o b all)) None
-      → IsLeastRowFault (IsWellNamed o b) (HasNameFault o b) (drop 1 all) (Some e) → IsLaterFault o b most all e
+      → IsLeastRowFault (IsWellNamed o b) (IsNameFault o b) (drop 1 all) (Some e) → IsLaterFault o b most all e

@@ -2,7 +2,7 @@
 ghost use Rattle.std.specs.Prelude.{◌≡◌, ◌≢◌, ◌+◌, ◌<◌, ◌≤◌, ◌^◌, length, nat_lt, Some, None, if◌then◌else◌};
 ghost use Rattle.record_walk.specs.Faults.{IsLeastFault, IsLeastFaultOf};
 ghost use Rattle.cramfs_format.specs.Inode.{list_end};
-ghost use Rattle.cramfs_format.specs.Refers.{references, target_of, LeadsToSound, LeadsToFault};
+ghost use Rattle.cramfs_format.specs.Refers.{references, reference_target, LeadsToSound, LeadsToFault};
 ghost use Rattle.record_walk.specs.Known.{AreKnown};
 ghost use Rattle.cramfs_image.specs.Phases.{IsWhole};
 
@@ -73,7 +73,7 @@ impl Records for Accessible<'_> {
     // The words that are pointers of whole blocks.
     ghost well = { λ s. IsWhole s.order s.bytes.now };
 
-    #[tactic(auto, unfolding(cramfs_format::specs::Refers::target_of))]
+    #[tactic(auto, unfolding(cramfs_format::specs::Refers::reference_target))]
     fn top(&self) -> Edge {
         let reference = Reference {
             source: 0,

@@ -9,7 +9,7 @@ ghost use Rattle.cramfs_format.specs.Made.{IsGood};
 ghost use Rattle.cramfs_format.specs.Tree.{precedes, is_sorted, IsNoDot};
 ghost use Rattle.record_walk.specs.Listed.{AreNames};
 ghost use Rattle.record_walk.specs.Sweep.{IsLeastRowFault};
-ghost use Rattle.cramfs_image.specs.Phases.{TellsEarlier, last_name, name_seen, IsUnsorted, HasNameFault, IsWellNamed};
+ghost use Rattle.cramfs_image.specs.Phases.{TellsEarlier, last_name, name_seen, IsUnsorted, IsNameFault, IsWellNamed};
 
 use crate::depth::is_other;
 use crate::accessible::Accessible;
@@ -75,7 +75,7 @@ fn name_fault(b: &Accessible<'_>, row: Row, repeated: bool, last: Option<&[u8]>)
     requires row { IsGood b.now.order b.now.bytes.now row.offset }
     ensures well { (before : List Row) → TellsEarlier b.now.order b.now.bytes.now before row repeated last.entry → IfNone result (IsWellNamed b.now.order b.now.bytes.now before row) }
     ensures fault { (before : List Row) → TellsEarlier b.now.order b.now.bytes.now before row repeated last.entry
-        → IfSome result (λ n. IsLeast (HasNameFault b.now.order b.now.bytes.now before row) n) }
+        → IfSome result (λ n. IsLeast (IsNameFault b.now.order b.now.bytes.now before row) n) }
 {
     if repeated {
         return Some(DUPLICATE_NAME);
@@ -113,7 +113,7 @@ fn names_of<'a>(
 /// The least fault of a name among the rows other than the root's.
 pub fn least_name_fault(alloc: Global, b: &Accessible<'_>, rows: &[Row]) -> Result<Option<Fault>, OutOfMemory>
     requires good { All (λ x. IsGood b.now.order b.now.bytes.now x.offset) rows.now }
-    ensures { IfOk result (IsLeastRowFault (IsWellNamed b.now.order b.now.bytes.now) (HasNameFault b.now.order b.now.bytes.now) rows.now) }
+    ensures { IfOk result (IsLeastRowFault (IsWellNamed b.now.order b.now.bytes.now) (IsNameFault b.now.order b.now.bytes.now) rows.now) }
 {
     let repeated = repeats(alloc, names_of(alloc, b, rows)?)?;
     let mut last_names: BTreeMap<u32, &[u8], Global> = BTreeMap::new(alloc);

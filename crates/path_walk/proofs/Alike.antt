@@ -4,7 +4,7 @@ use Rattle.std.specs.Prelude.{option_map, not, ◌&&◌, if◌then◌else◌}
 use Rattle.std.specs.Str.{bytes_eq}
 use Rattle.rom_tree.specs.Dots.{dot, dot_dot}
 use Rattle.rom_tree.specs.Tree.{Node, is_link, is_directory, entries_of, levels}
-use Rattle.rom_tree.specs.Image.{Image, image_node, find_entry, text_of}
+use Rattle.rom_tree.specs.Image.{Image, image_node, find_entry, contents_of}
 use Rattle.path_walk.specs.declared.error.WalkError.{WalkError}
 use Rattle.path_walk.specs.declared.error.WalkError.TheVariants.{Enotdir, Eloop, Enametoolong}
 use Rattle.path_walk.specs.declared.mount.Place.{Place}
@@ -67,7 +67,7 @@ module _ {F G : Type 0} (a : Namespace F) (b : Namespace G) (h : F → G) where
         (ap (found b st (lift s)) (entry s.current p) ∙ found_lift st s (a.entry s.current p)))))
 
     link_lift : (x : F) → link_text_at b (h x) ≡ link_text_at a x
-    link_lift x = ap (λ (v : List ℕ). text_of v (b.node (h x))) (bytes x) ∙ ap (text_of (a.bytes x)) (node x)
+    link_lift x = ap (λ (v : List ℕ). contents_of v (b.node (h x))) (bytes x) ∙ ap (contents_of (a.bytes x)) (node x)
 
     after_lift : (s : Trail F) (x : F) → after_link b (lift s) (h x) ≡ lift (after_link a s x)
     after_lift s x = ap (λ (v : List ℕ). if begins_with_slash v then to_root (lift s) else lift s) (link_lift x) ∙ if_trail (begins_with_slash (link_text_at a x)) s

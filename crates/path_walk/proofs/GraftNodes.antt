@@ -3,7 +3,7 @@ use Rattle.std.proofs.Common.{◌≡◌, ℕ, zero, suc, ◌<◌, ◌≤◌, tru
 use Rattle.std.proofs.lemmas.List.{length-map}
 use Rattle.std.specs.Prelude.{slice_index, slice_set}
 use Rattle.rom_tree.specs.Tree.{Node, ino_of, is_link, entries_of, places_of}
-use Rattle.rom_tree.specs.Image.{Image, image_node, find_entry, text_of}
+use Rattle.rom_tree.specs.Image.{Image, image_node, find_entry, contents_of}
 use Rattle.rom_tree.proofs.Nodes.{node_at-some}
 use Rattle.rom_tree.proofs.Named.{node_number, root_node, named_node}
 use Rattle.path_walk.specs.Graft.{tree_in, bytes_in, node_in}
@@ -34,13 +34,13 @@ node_in-named (m ∷ ms) zero n d x name h f = named_node m n d x name h f
 node_in-named (m ∷ ms) (suc i) n d x name h f = node_in-named ms i n d x name h f
 
 -- a link's text has 1 to 4095 bytes
-text_length : (m : Image) (n : ℕ) (x : Node) → image_node m n ≡ Some x → is_link x ≡ true → (0 < length (text_of m.bytes x)) × (length (text_of m.bytes x) ≤ 4095)
+text_length : (m : Image) (n : ℕ) (x : Node) → image_node m n ≡ Some x → is_link x ≡ true → (0 < length (contents_of m.bytes x)) × (length (contents_of m.bytes x) ≤ 4095)
 text_length m n x e l =
     let i = m.links x (node_at-some m.tree n x e).within l in
     let k = length-map (places_of x) (λ (p : ℕ). slice_index m.bytes p) in
     (omega (arith, k, i), omega (arith, k, i))
 
-pub link_length : (ms : List Image) (i n : ℕ) (x : Node) → node_in ms i n ≡ Some x → is_link x ≡ true → (0 < length (text_of (bytes_in ms i) x)) × (length (text_of (bytes_in ms i) x) ≤ 4095)
+pub link_length : (ms : List Image) (i n : ℕ) (x : Node) → node_in ms i n ≡ Some x → is_link x ≡ true → (0 < length (contents_of (bytes_in ms i) x)) × (length (contents_of (bytes_in ms i) x) ≤ 4095)
 link_length [] i n x h l = absurd (none_some x h)
 link_length (m ∷ ms) zero n x h l = text_length m n x h l
 link_length (m ∷ ms) (suc i) n x h l = link_length ms i n x h l

@@ -1,7 +1,7 @@
 -- What a step told of the images as they are, told of the images as they were.
 use Rattle.std.proofs.Common.{◌≡◌, ℕ, ◌<◌, ◌≤◌, Bool, true, List, length, Option, Some, None, Result, Ok, ap, subst, arith}
 use Rattle.rom_tree.specs.Tree.{is_link}
-use Rattle.rom_tree.specs.Image.{text_of}
+use Rattle.rom_tree.specs.Image.{contents_of}
 use Rattle.path_walk.specs.declared.error.WalkError.{WalkError}
 use Rattle.path_walk.specs.declared.mount.Mount.{Mount}
 use Rattle.path_walk.specs.declared.mount.Place.{Place}
@@ -26,10 +26,10 @@ module _ (k h : Held) (e : k ≡ h) (us : List Mount) (current : Place) (ancesto
 
 -- the text that was read at a link
 pub link_read : (k h : Held) → k ≡ h → (p : Place) (x : GraftNode) (text : List ℕ) → NamesAt h.images p x → is_link x.node ≡ true
-    → (NamesAt k.images p x → text ≡ text_of (bytes_in k.images x.image) x.node) → (text ≡ text_of (bytes_in h.images x.image) x.node) × (0 < length text) × (length text ≤ 4095)
+    → (NamesAt k.images p x → text ≡ contents_of (bytes_in k.images x.image) x.node) → (text ≡ contents_of (bytes_in h.images x.image) x.node) × (0 < length text) × (length text ≤ 4095)
 link_read k h e p x text n l f =
-    let read : Held → Type 0 = λ v. NamesAt v.images p x → text ≡ text_of (bytes_in v.images x.image) x.node in
-    let t : text ≡ text_of (bytes_in h.images x.image) x.node = subst read e f n in
-    let fits : ℕ → Type 0 = λ v. (0 < length (text_of (bytes_in h.images v) x.node)) × (length (text_of (bytes_in h.images v) x.node) ≤ 4095) in
+    let read : Held → Type 0 = λ v. NamesAt v.images p x → text ≡ contents_of (bytes_in v.images x.image) x.node in
+    let t : text ≡ contents_of (bytes_in h.images x.image) x.node = subst read e f n in
+    let fits : ℕ → Type 0 = λ v. (0 < length (contents_of (bytes_in h.images v) x.node)) × (length (contents_of (bytes_in h.images v) x.node) ≤ 4095) in
     let m = subst fits n.image (link_length h.images p.image p.node.0 x.node n.node l) in
     (t, omega (arith, ap length t, m), omega (arith, ap length t, m))

@@ -7,7 +7,7 @@ use Rattle.std.specs.Prelude.{ℕ, zero, suc, nat_lt, Bool, ◌&&◌, not, List,
 use Rattle.std.specs.Str.{bytes_eq}
 use Rattle.rom_tree.specs.Dots.{dot, dot_dot}
 use Rattle.rom_tree.specs.Tree.{Node, is_directory, is_link, entries_of}
-use Rattle.rom_tree.specs.Image.{find_entry, text_of}
+use Rattle.rom_tree.specs.Image.{find_entry, contents_of}
 use Rattle.path_walk.specs.declared.error.WalkError.{WalkError}
 use Rattle.path_walk.specs.declared.error.WalkError.TheVariants.{Enoent, Enotdir, Eloop, Enametoolong, Einval}
 use Rattle.path_walk.specs.Components.{is_empty, begins_with_slash, components}
@@ -74,7 +74,7 @@ module _ {F : Type 0} where
       else found g last_stays s (g.entry s.current p)
 
   abbrev pub link_text_at : Namespace F → F → List ℕ
-  link_text_at g x = text_of (g.bytes x) (g.node x)
+  link_text_at g x = contents_of (g.bytes x) (g.node x)
 
   -- a link's text leads on from the root, or from the directory that holds the link
   abbrev pub after_link : Namespace F → Trail F → F → Trail F

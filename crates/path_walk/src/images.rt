@@ -1,7 +1,7 @@
 //! One image or several, by their numbers.
 ghost use Rattle.std.specs.Prelude.{◌≡◌, ◌∷◌, [], ◌<◌, ℕ, true, length, map, Some, None, MatchOption};
 ghost use Rattle.rom_tree.specs.Tree.{Node, ino_of, is_directory, is_link, entries_of};
-ghost use Rattle.rom_tree.specs.Image.{find_entry, text_of};
+ghost use Rattle.rom_tree.specs.Image.{find_entry, contents_of};
 ghost use Rattle.path_walk.specs.Graft.{GraftNode, tree_in, bytes_in};
 ghost use Rattle.path_walk.specs.Trails.{Held, NamesAt, HasNodeAt};
 
@@ -33,7 +33,7 @@ pub(crate) trait Images<'a>: Gathered {
     fn link_text_in(&self, place: Place) -> &'a [u8]
         requires { HasNodeAt (Self.held self.now).images place (λ x. is_link x ≡ true) }
         ensures { (s : GraftNode) → NamesAt (Self.held self.now).images place s
-            → result.now ≡ text_of (bytes_in (Self.held self.now).images s.image) s.node };
+            → result.now ≡ contents_of (bytes_in (Self.held self.now).images s.image) s.node };
 
     /// The root of an image.
     fn root_in(&self, image: u32) -> NodeId

@@ -78,5 +78,5 @@ abbrev pub GivesWhole : Node → ℕ → Option Run → Type 0
 GivesWhole x off r = is_link x ≡ true → off ≡ 0 → MatchOption r (Unit {0}) (λ v. v.len ≡ length (places_of x))
 
 -- the bytes at a node's places: a link's text
-abbrev pub text_of : List ℕ → Node → List ℕ
-text_of b x = map (λ p. slice_index b p) (places_of x)
+abbrev pub contents_of : List ℕ → Node → List ℕ
+contents_of b x = map (λ p. slice_index b p) (places_of x)

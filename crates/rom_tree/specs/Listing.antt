@@ -4,7 +4,7 @@ use Rattle.rom_fields.specs.Texts.{octal, escaped}
 use Rattle.rom_tree.specs.declared.types.Kind.{Kind}
 use Rattle.rom_tree.specs.declared.types.Kind.TheVariants.{Directory, Regular, Symlink, Block, Character, Socket, Fifo}
 use Rattle.rom_tree.specs.declared.types.Stat.{Stat}
-use Rattle.rom_tree.specs.Image.{stat_of, text_of}
+use Rattle.rom_tree.specs.Image.{stat_of, contents_of}
 use Rattle.rom_tree.specs.Tree.{Node, node, Body, directory, Entries, no_entries, entry, is_link}
 
 -- d, f, l, b, c, s, p
@@ -19,7 +19,7 @@ kind_letter Fifo = 112
 
 -- what follows the path: a space and a link's text
 abbrev pub target_text : List ℕ → Node → List ℕ
-target_text b x = if is_link x then 32 ∷ escaped (text_of b x) else []
+target_text b x = if is_link x then 32 ∷ escaped (contents_of b x) else []
 
 -- INO KIND MODE UID GID SIZE MAJOR MINOR PATH, what follows the path, and a line feed
 unfoldable pub stat_line : List ℕ → List ℕ → Stat → List ℕ

@@ -1,7 +1,7 @@
 //! Images as trees of files, and what each of them answers.
 ghost use Rattle.std.specs.Prelude.{◌≡◌, ℕ, ◌+◌, ◌<◌, ◌≤◌, ◌↔◌, length, Some, None, Option, IsTrue, IsSome, MatchOption, take, drop};
 ghost use Rattle.rom_tree.specs.Tree.{Node, ino_of, is_directory, entries_of, entry_at, places_of, is_link, is_regular};
-ghost use Rattle.rom_tree.specs.Image.{Image, image_node, HasNode, HasDirectory, HasLink, HasCursor, stat_of, find_entry, text_of, IsEntry, GivesRun, GivesWhole};
+ghost use Rattle.rom_tree.specs.Image.{Image, image_node, HasNode, HasDirectory, HasLink, HasCursor, stat_of, find_entry, contents_of, IsEntry, GivesRun, GivesWhole};
 
 use crate::types::{Cursor, Entry, Kind, NodeId, Run, Stat};
 
@@ -105,7 +105,7 @@ fn bytes_from<'a>(bytes: &'a [u8], place: u32, len: u32) -> &'a [u8]
 pub fn link_text<'a, T: TreeImage<'a>>(image: &T, n: NodeId) -> &'a [u8]
     requires { HasLink (T.image image.now) n.0 }
     ensures { (x : Node) → image_node (T.image image.now) n.0 ≡ Some x
-        → result.now ≡ text_of (T.image image.now).bytes x }
+        → result.now ≡ contents_of (T.image image.now).bytes x }
 {
     let bytes = image.bytes();
     match image.run(n, 0) {

@@ -10,8 +10,8 @@ use Rattle.record_walk.specs.declared.reference.Row.{Row}
 use Rattle.record_walk.specs.Forest.{Forest, none, at, Stands, rows, all_rows, IsForest, count, stands_in}
 use Rattle.record_walk.proofs.Lists.{every_join, every_left, every_right, every_weaker, every_both}
 use Rattle.record_walk.proofs.Same.{same_forest as same_standing}
-use Rattle.romfs_format.specs.Record.{first_of, next_of, type_of, target_of, IsSound}
-use Rattle.romfs_format.specs.Refers.{references, offset_of, list_of, following, some_offset, heads_itself, LeadsToSound}
+use Rattle.romfs_format.specs.Record.{first_of, next_of, type_of, spec_offset_of, IsSound}
+use Rattle.romfs_format.specs.Refers.{references, reference_offset, list_of, following, some_offset, heads_itself, LeadsToSound}
 use Rattle.romfs_format.specs.Tree.{node_of, tree_of, entries_at, led, follow, below_root, LeadsWell, IsTree, RomfsTree, root_of}
 use Rattle.romfs_format.specs.Made.{StandsAt, start_of, grow, list_at, made, ends_within, IsGood, IsRomfs}
 use Rattle.romfs_format.proofs.Same.{grown}
@@ -25,34 +25,34 @@ pub offset_some : (q p : ℕ) → some_offset q ≡ Some p → (q ≢ 0) × (p �
 offset_some q p e = elim (eqb_tells q 0) [ inl h ↦ let z = (rw h.0 at e) in absurd (cc) | inr h ↦ let z : Some q ≡ Some p = (rw h.0 at e) in (h.1, let y : p ≡ q = cc in y) ]
 
 -- the two references of a record other than the root
-pub own_offset : (b : List ℕ) (r p : ℕ) → p ≢ 0 → p ≢ r → offset_of b r (record { source = p; which = 0 }) ≡ first_of b p
-unfolding offset_of list_of
+pub own_offset : (b : List ℕ) (r p : ℕ) → p ≢ 0 → p ≢ r → reference_offset b r (record { source = p; which = 0 }) ≡ first_of b p
+unfolding reference_offset list_of
 own_offset b r p live other = rw (ne_eqb p 0 live, ne_eqb p r other) refl
 
-pub after_offset : (b : List ℕ) (r p : ℕ) → p ≢ 0 → p ≢ r → offset_of b r (record { source = p; which = 1 }) ≡ next_of b p
-unfolding offset_of following
+pub after_offset : (b : List ℕ) (r p : ℕ) → p ≢ 0 → p ≢ r → reference_offset b r (record { source = p; which = 1 }) ≡ next_of b p
+unfolding reference_offset following
 after_offset b r p live other = rw (ne_eqb p 0 live, ne_eqb p r other) refl
 
 -- those of the root
-pub root_own : (b : List ℕ) (r : ℕ) (v : Bool) → heads_itself b r ≡ v → r ≢ 0 → offset_of b r (record { source = r; which = 0 }) ≡ (if v then 0 else first_of b r)
-unfolding offset_of list_of
+pub root_own : (b : List ℕ) (r : ℕ) (v : Bool) → heads_itself b r ≡ v → r ≢ 0 → reference_offset b r (record { source = r; which = 0 }) ≡ (if v then 0 else first_of b r)
+unfolding reference_offset list_of
 root_own b r v e live = rw (ne_eqb r 0 live, eq-eqb r r refl, e) refl
 
-pub root_after : (b : List ℕ) (r : ℕ) (v : Bool) → heads_itself b r ≡ v → r ≢ 0 → offset_of b r (record { source = r; which = 1 }) ≡ (if v then next_of b r else 0)
-unfolding offset_of following
+pub root_after : (b : List ℕ) (r : ℕ) (v : Bool) → heads_itself b r ≡ v → r ≢ 0 → reference_offset b r (record { source = r; which = 1 }) ≡ (if v then next_of b r else 0)
+unfolding reference_offset following
 root_after b r v e live = rw (ne_eqb r 0 live, eq-eqb r r refl, e) refl
 
-pub top_offset : (b : List ℕ) (r : ℕ) → offset_of b r (references b r).top ≡ r
-unfolding offset_of
+pub top_offset : (b : List ℕ) (r : ℕ) → reference_offset b r (references b r).top ≡ r
+unfolding reference_offset
 top_offset b r = refl
 
 -- away from the root, what stands for the references stands for their offsets
 pub standing : (b : List ℕ) (r : ℕ) (x : Reference) (directory parent deep : ℕ) (f : Forest) → Stands (references b r) x f → Every (λ (y : Row). r ≢ y.offset) (rows (references b r) x directory parent deep f)
-    → StandsAt b (offset_of b r x) f
-standing b r x directory parent deep none s h = offset_none (offset_of b r x) s
+    → StandsAt b (reference_offset b r x) f
+standing b r x directory parent deep none s h = offset_none (reference_offset b r x) s
 standing b r x directory parent deep (at p own after) s h =
     let g = references b r in
-    let q : ℕ = offset_of b r x in
+    let q : ℕ = reference_offset b r x in
     let e = offset_some q p s.0 in
     let live : p ≢ 0 = λ z. e.0 (sym e.1 ∙ z) in
     let other : p ≢ r = λ z. h.0 (sym z) in
@@ -62,8 +62,8 @@ standing b r x directory parent deep (at p own after) s h =
     let right = every_right (λ (y : Row). r ≢ y.offset) own_rows after_rows h.1 in
     let own_at = standing b r (g.own x) p directory (deep + 1) own s.1 left in
     let after_at = standing b r (g.after x) directory parent deep after s.2 right in
-    let own_is : offset_of b r (record { source = q; which = 0 }) ≡ first_of b p = ap (λ (o : ℕ). offset_of b r (record { source = o; which = 0 })) (sym e.1) ∙ own_offset b r p live other in
-    let after_is : offset_of b r (record { source = q; which = 1 }) ≡ next_of b p = ap (λ (o : ℕ). offset_of b r (record { source = o; which = 1 })) (sym e.1) ∙ after_offset b r p live other in
+    let own_is : reference_offset b r (record { source = q; which = 0 }) ≡ first_of b p = ap (λ (o : ℕ). reference_offset b r (record { source = o; which = 0 })) (sym e.1) ∙ own_offset b r p live other in
+    let after_is : reference_offset b r (record { source = q; which = 1 }) ≡ next_of b p = ap (λ (o : ℕ). reference_offset b r (record { source = o; which = 1 })) (sym e.1) ∙ after_offset b r p live other in
     (e.0, e.1, subst (λ (o : ℕ). StandsAt b o own) own_is own_at, subst (λ (o : ℕ). StandsAt b o after) after_is after_at)
 
 -- how many records a forest has
@@ -77,21 +77,21 @@ count_rows b r x directory parent deep (at p own after) =
     omega arith
 
 -- a row's reference leads to its offset
-pub row_targets : (b : List ℕ) (r : ℕ) (x : Reference) (directory parent deep : ℕ) (f : Forest) → Stands (references b r) x f → Every (λ (y : Row). offset_of b r y.reference ≡ y.offset) (rows (references b r) x directory parent deep f)
+pub row_targets : (b : List ℕ) (r : ℕ) (x : Reference) (directory parent deep : ℕ) (f : Forest) → Stands (references b r) x f → Every (λ (y : Row). reference_offset b r y.reference ≡ y.offset) (rows (references b r) x directory parent deep f)
 row_targets b r x directory parent deep none s = tt
 row_targets b r x directory parent deep (at p own after) s =
     let g = references b r in (
-      sym (offset_some (offset_of b r x) p s.0).1,
-      every_join (λ (y : Row). offset_of b r y.reference ≡ y.offset) (rows g (g.own x) p directory (deep + 1) own) (rows g (g.after x) directory parent deep after)
+      sym (offset_some (reference_offset b r x) p s.0).1,
+      every_join (λ (y : Row). reference_offset b r y.reference ≡ y.offset) (rows g (g.own x) p directory (deep + 1) own) (rows g (g.after x) directory parent deep after)
           (row_targets b r (g.own x) p directory (deep + 1) own s.1) (row_targets b r (g.after x) directory parent deep after s.2),
     )
 
-pub all_targets : (b : List ℕ) (r : ℕ) (f : Forest) → Stands (references b r) (references b r).top f → Every (λ (y : Row). offset_of b r y.reference ≡ y.offset) (all_rows (references b r) f)
+pub all_targets : (b : List ℕ) (r : ℕ) (f : Forest) → Stands (references b r) (references b r).top f → Every (λ (y : Row). reference_offset b r y.reference ≡ y.offset) (all_rows (references b r) f)
 all_targets b r none s = tt
 all_targets b r (at p own after) s =
     let g = references b r in (
-      sym (offset_some (offset_of b r g.top) p s.0).1,
-      every_join (λ (y : Row). offset_of b r y.reference ≡ y.offset) (rows g (g.own g.top) p p 1 own) (rows g (g.after g.top) p p 1 after)
+      sym (offset_some (reference_offset b r g.top) p s.0).1,
+      every_join (λ (y : Row). reference_offset b r y.reference ≡ y.offset) (rows g (g.own g.top) p p 1 own) (rows g (g.after g.top) p p 1 after)
           (row_targets b r (g.own g.top) p p 1 own s.1) (row_targets b r (g.after g.top) p p 1 after s.2),
     )
 
@@ -131,10 +131,10 @@ row_sound b r t (x ∷ xs) h e = elim (eqb_tells x.offset t) [
 ]
 
 -- the first link first
-led_inner : (n : ℕ) (b : List ℕ) (p : ℕ) → type_of b p ≡ 0 → led (suc n) b p ≡ led n b (target_of b p)
+led_inner : (n : ℕ) (b : List ℕ) (p : ℕ) → type_of b p ≡ 0 → led (suc n) b p ≡ led n b (spec_offset_of b p)
 unfolding led
 led_inner zero b p h = rw (eq-eqb (type_of b p) 0 h) refl
-led_inner (suc n) b p h = ap (λ (q : ℕ). if eqb (type_of b q) 0 then target_of b q else q) (led_inner n b p h)
+led_inner (suc n) b p h = ap (λ (q : ℕ). if eqb (type_of b q) 0 then spec_offset_of b q else q) (led_inner n b p h)
 
 -- where following leads
 record IsLed (b : List ℕ) (r m p q : ℕ) : Type 0 where
@@ -145,7 +145,7 @@ record IsLed (b : List ℕ) (r m p q : ℕ) : Type 0 where
 stays : (b : List ℕ) (r m p : ℕ) → IsSound b r p → type_of b p ≢ 0 → IsLed b r m p p
 stays b r m p s h = record { leads = led_self m b p h; live = h; linked = λ n l. subst (IsSound b r) (sym (led_self n b p h)) s }
 
-onward : (b : List ℕ) (r m p q : ℕ) → IsSound b r p → type_of b p ≡ 0 → IsLed b r m (target_of b p) q → IsLed b r (suc m) p q
+onward : (b : List ℕ) (r m p q : ℕ) → IsSound b r p → type_of b p ≡ 0 → IsLed b r m (spec_offset_of b p) q → IsLed b r (suc m) p q
 unfolding led
 onward b r m p q s h x = record { leads = led_inner m b p h ∙ x.leads; live = x.live; linked = step } where
   step : (n : ℕ) → n ≤ suc m → IsSound b r (led n b p)
@@ -160,9 +160,9 @@ follow_led b r zero p q all a s e = elim (eqb_tells (type_of b p) 0) [
 ]
 follow_led b r (suc m) p q all a s e = elim (eqb_tells (type_of b p) 0) [
   | inl h ↦
-      let e' : (if list_any (λ (x : Row). eqb x.offset (target_of b p)) all then follow b all m (target_of b p) else None) ≡ Some q = (rw h.0 at e) in
-      elim (list_any (λ (x : Row). eqb x.offset (target_of b p)) all) as (λ v. list_any (λ (x : Row). eqb x.offset (target_of b p)) all ≡ v → (if v then follow b all m (target_of b p) else None) ≡ Some q → IsLed b r (suc m) p q) [
-        | true ↦ λ t z. onward b r m p q s h.1 (follow_led b r m (target_of b p) q all a (row_sound b r (target_of b p) all a t) z)
+      let e' : (if list_any (λ (x : Row). eqb x.offset (spec_offset_of b p)) all then follow b all m (spec_offset_of b p) else None) ≡ Some q = (rw h.0 at e) in
+      elim (list_any (λ (x : Row). eqb x.offset (spec_offset_of b p)) all) as (λ v. list_any (λ (x : Row). eqb x.offset (spec_offset_of b p)) all ≡ v → (if v then follow b all m (spec_offset_of b p) else None) ≡ Some q → IsLed b r (suc m) p q) [
+        | true ↦ λ t z. onward b r m p q s h.1 (follow_led b r m (spec_offset_of b p) q all a (row_sound b r (spec_offset_of b p) all a t) z)
         | false ↦ λ t z. absurd (cc)
       ] refl e'
   | inr h ↦ let z : Some p ≡ Some q = (rw h.0 at e) in let y : p ≡ q = cc in subst (IsLed b r (suc m) p) y (stays b r (suc m) p s h.1)
@@ -204,7 +204,7 @@ below_at b r p k own after true e live same sound so sa go ga few =
     let g = references b r in
     let apart = every_weaker (λ (y : Row). IsGood b r y.offset) (λ (y : Row). r ≢ y.offset) (λ y h z. h.other (sym z)) (rows g (g.after g.top) p p 1 after) ga in
     let here = standing b r (g.after g.top) p p 1 after sa apart in
-    let is : offset_of b r (g.after g.top) ≡ next_of b r = ap (λ (o : ℕ). offset_of b r (record { source = o; which = 1 })) (top_offset b r) ∙ root_after b r true e live in
+    let is : reference_offset b r (g.after g.top) ≡ next_of b r = ap (λ (o : ℕ). reference_offset b r (record { source = o; which = 1 })) (top_offset b r) ∙ root_after b r true e live in
     record {
       stands = rw (e) (subst (λ (o : ℕ). StandsAt b o after) is here);
       few = rw (e) (omega arith);
@@ -215,7 +215,7 @@ below_at b r p k own after false e live same sound so sa go ga few =
     let g = references b r in
     let apart = every_weaker (λ (y : Row). IsGood b r y.offset) (λ (y : Row). r ≢ y.offset) (λ y h z. h.other (sym z)) (rows g (g.own g.top) p p 1 own) go in
     let here = standing b r (g.own g.top) p p 1 own so apart in
-    let is : offset_of b r (g.own g.top) ≡ first_of b r = ap (λ (o : ℕ). offset_of b r (record { source = o; which = 0 })) (top_offset b r) ∙ root_own b r false e live in
+    let is : reference_offset b r (g.own g.top) ≡ first_of b r = ap (λ (o : ℕ). reference_offset b r (record { source = o; which = 0 })) (top_offset b r) ∙ root_own b r false e live in
     record {
       stands = rw (e) (subst (λ (o : ℕ). StandsAt b o own) is here);
       few = rw (e) (omega arith);
@@ -233,18 +233,18 @@ good_rows b r all xs sound s apart leads =
 
 pub sound_rows : (b : List ℕ) (r most : ℕ) (f : Forest) → IsForest (references b r) (LeadsToSound b r) most f → Every (λ (y : Row). IsSound b r y.offset) (all_rows (references b r) f)
 sound_rows b r most f t =
-    every_weaker (λ (y : Row). LeadsToSound b r y.reference × (offset_of b r y.reference ≡ y.offset)) (λ (y : Row). IsSound b r y.offset) (λ y h. subst (IsSound b r) h.1 h.0) (all_rows (references b r) f)
-    (every_both (λ (y : Row). LeadsToSound b r y.reference) (λ (y : Row). offset_of b r y.reference ≡ y.offset) (all_rows (references b r) f)
+    every_weaker (λ (y : Row). LeadsToSound b r y.reference × (reference_offset b r y.reference ≡ y.offset)) (λ (y : Row). IsSound b r y.offset) (λ y h. subst (IsSound b r) h.1 h.0) (all_rows (references b r) f)
+    (every_both (λ (y : Row). LeadsToSound b r y.reference) (λ (y : Row). reference_offset b r y.reference ≡ y.offset) (all_rows (references b r) f)
     (recursion_from_All (λ (y : Row). LeadsToSound b r y.reference) (all_rows (references b r) f) t.sound) (all_targets b r f t.stands))
 
 below_of : (b : List ℕ) (r most deepest : ℕ) (f : Forest) → r ≢ 0 → IsTree b r most deepest f → IsBelow b r (length (all_rows (references b r) f)) f
-below_of b r most deepest none live t = absurd (live (sym (top_offset b r) ∙ offset_none (offset_of b r (references b r).top) t.forest.stands))
+below_of b r most deepest none live t = absurd (live (sym (top_offset b r) ∙ offset_none (reference_offset b r (references b r).top) t.forest.stands))
 below_of b r most deepest (at p own after) live t =
     let g = references b r in
     let all = all_rows g (at p own after) in
     let own_rows = rows g (g.own g.top) p p 1 own in
     let after_rows = rows g (g.after g.top) p p 1 after in
-    let same : p ≡ r = (offset_some (offset_of b r g.top) p t.forest.stands.0).1 ∙ top_offset b r in
+    let same : p ≡ r = (offset_some (reference_offset b r g.top) p t.forest.stands.0).1 ∙ top_offset b r in
     let sound = sound_rows b r most (at p own after) t.forest in
     let apart : Every (λ (y : Row). r ≢ y.offset) (own_rows ++ after_rows) =
     recursion_from_All (λ (y : Row). r ≢ y.offset) (own_rows ++ after_rows) (λ i d l z. t.forest.single 0 (suc i) d (omega arith) (omega arith) (same ∙ z)) in

@@ -9,7 +9,7 @@ use Rattle.record_walk.specs.declared.reference.Row.{Row}
 use Rattle.record_walk.specs.Forest.{Forest, none, at, Stands, rows}
 use Rattle.record_walk.proofs.Lists.{every_join, every_left, every_right, every_weaker}
 use Rattle.romfs_format.specs.Record.{first_of, name_of, type_of}
-use Rattle.romfs_format.specs.Refers.{references, offset_of}
+use Rattle.romfs_format.specs.Refers.{references, reference_offset}
 use Rattle.romfs_format.specs.Tree.{kind_numbers, places_at, node_of, entries_at, led, by_type}
 use Rattle.rom_tree.specs.Dots.{is_dots}
 use Rattle.romfs_format.specs.Made.{StandsAt}
@@ -79,9 +79,9 @@ full_depth b q own s = elim (eqb_tells (type_of b q) 1) [
 own_stands : (b : List ℕ) (r : ℕ) (x : Reference) (q d n : ℕ) (own : Forest) → (references b r).target x ≡ Some q → q ≢ r → Stands (references b r) ((references b r).own x) own
     → Every (λ (y : Row). r ≢ y.offset) (rows (references b r) ((references b r).own x) q d n own) → StandsAt b (first_of b q) own
 own_stands b r x q d n own e other s apart =
-    let k = offset_some (offset_of b r x) q e in
+    let k = offset_some (reference_offset b r x) q e in
     let live : q ≢ 0 = λ z. k.0 (sym k.1 ∙ z) in
-    let is : offset_of b r (record { source = offset_of b r x; which = 0 }) ≡ first_of b q = ap (λ (o : ℕ). offset_of b r (record { source = o; which = 0 })) (sym k.1) ∙ own_offset b r q live other in
+    let is : reference_offset b r (record { source = reference_offset b r x; which = 0 }) ≡ first_of b q = ap (λ (o : ℕ). reference_offset b r (record { source = o; which = 0 })) (sym k.1) ∙ own_offset b r q live other in
     subst (λ (o : ℕ). StandsAt b o own) is (standing b r ((references b r).own x) q d n own s apart)
 
 -- what is known of a row below the root

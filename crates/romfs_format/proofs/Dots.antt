@@ -12,7 +12,7 @@ use Rattle.record_walk.specs.Forest.{Forest, none, at, Stands, rows, all_rows}
 use Rattle.record_walk.proofs.Lists.{every_join, every_left, every_right, every_weaker, every_both, has_every, pairs_pick, pairs_from}
 use Rattle.record_walk.proofs.Place.{HasParent, rows_parented}
 use Rattle.romfs_format.specs.Record.{name_of, type_of}
-use Rattle.romfs_format.specs.Refers.{references, offset_of, heads_itself}
+use Rattle.romfs_format.specs.Refers.{references, reference_offset, heads_itself}
 use Rattle.romfs_format.specs.Tree.{node_of, tree_of, entries_at, follow, below_root, LeadsWell, IsTree}
 use Rattle.rom_tree.specs.Dots.{is_dots, dot, dot_dot}
 use Rattle.romfs_format.proofs.Bridge.{offset_some, top_offset, root_own, root_after}
@@ -110,9 +110,9 @@ tree_within b r m (at p own after) h =
       | false ↦ λ l. omega arith
     ] top
 
-stands_none : (b : List ℕ) (r : ℕ) (x : Reference) (f : Forest) → offset_of b r x ≡ 0 → Stands (references b r) x f → f ≡ none
+stands_none : (b : List ℕ) (r : ℕ) (x : Reference) (f : Forest) → reference_offset b r x ≡ 0 → Stands (references b r) x f → f ≡ none
 stands_none b r x none e s = refl
-stands_none b r x (at p own after) e s = absurd ((offset_some (offset_of b r x) p s.0).0 e)
+stands_none b r x (at p own after) e s = absurd ((offset_some (reference_offset b r x) p s.0).0 e)
 
 -- the rows of a root's list, as deep as its entries
 list_within : (b : List ℕ) (r p : ℕ) (own after : Forest) (v : Bool) → heads_itself b r ≡ v → r ≢ 0
@@ -124,7 +124,7 @@ list_within b r p own after true e live so sa h =
     let g = references b r in
     let own_rows = rows g (g.own g.top) p p 1 own in
     let after_rows = rows g (g.after g.top) p p 1 after in
-    let ends : offset_of b r (g.own g.top) ≡ 0 = ap (λ (o : ℕ). offset_of b r (record { source = o; which = 0 })) (top_offset b r) ∙ root_own b r true e live in
+    let ends : reference_offset b r (g.own g.top) ≡ 0 = ap (λ (o : ℕ). reference_offset b r (record { source = o; which = 0 })) (top_offset b r) ∙ root_own b r true e live in
     let nothing : own_rows ≡ [] = ap (λ (f : Forest). rows g (g.own g.top) p p 1 f) (stands_none b r (g.own g.top) own ends so) in
     let rest = rows_within b r (g.after g.top) p p 0 after sa (every_right (IsBelowRoot b r) own_rows after_rows h) in
     subst (λ (xs : List Row). Every (IsWithin b (entries_depth (entries_at b after))) (xs ++ after_rows)) (sym nothing)
@@ -133,7 +133,7 @@ list_within b r p own after false e live so sa h =
     let g = references b r in
     let own_rows = rows g (g.own g.top) p p 1 own in
     let after_rows = rows g (g.after g.top) p p 1 after in
-    let ends : offset_of b r (g.after g.top) ≡ 0 = ap (λ (o : ℕ). offset_of b r (record { source = o; which = 1 })) (top_offset b r) ∙ root_after b r false e live in
+    let ends : reference_offset b r (g.after g.top) ≡ 0 = ap (λ (o : ℕ). reference_offset b r (record { source = o; which = 1 })) (top_offset b r) ∙ root_after b r false e live in
     let nothing : after_rows ≡ [] = ap (λ (f : Forest). rows g (g.after g.top) p p 1 f) (stands_none b r (g.after g.top) after ends sa) in
     let rest = rows_within b r (g.own g.top) p p 0 own so (every_left (IsBelowRoot b r) own_rows after_rows h) in
     every_join (IsWithin b (entries_depth (entries_at b own))) own_rows after_rows
@@ -149,7 +149,7 @@ rows_of_tree b r most deepest (at p own after) live kind t =
     let f : Forest = at p own after in
     let below : List Row = rows g (g.own g.top) p p 1 own ++ rows g (g.after g.top) p p 1 after in
     let first : Row = record { offset = p; reference = g.top; directory = p; parent = p; depth = 0 } in
-    let is : p ≡ r = (offset_some (offset_of b r g.top) p t.forest.stands.0).1 ∙ top_offset b r in
+    let is : p ≡ r = (offset_some (reference_offset b r g.top) p t.forest.stands.0).1 ∙ top_offset b r in
     let single = pairs_from (λ (x : Row) (y : Row). x.offset ≢ y.offset) (all_rows g f) t.forest.single in
     let leads : Every (LeadsWell b (all_rows g f)) below = recursion_from_All (LeadsWell b (all_rows g f)) below t.leads in
     let known = below_rows b r first below is refl single (rows_parented g f) leads in

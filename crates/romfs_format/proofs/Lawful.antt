@@ -4,15 +4,15 @@ use Rattle.std.proofs.lemmas.Bool.{ne_eqb}
 use Rattle.std.proofs.lemmas.Bool.Decides.{eqb_tells}
 use Rattle.record_walk.specs.declared.reference.Reference.{Reference}
 use Rattle.record_walk.specs.References.{AreLawful, edge, IsLive}
-use Rattle.romfs_format.specs.Refers.{references, offset_of, list_of, following, some_offset, LeadsToSound}
+use Rattle.romfs_format.specs.Refers.{references, reference_offset, list_of, following, some_offset, LeadsToSound}
 
 -- the two references of a record
-pub own_list : (b : List ℕ) (r p : ℕ) → p ≢ 0 → offset_of b r (record { source = p; which = 0 }) ≡ list_of b r p
-unfolding offset_of
+pub own_list : (b : List ℕ) (r p : ℕ) → p ≢ 0 → reference_offset b r (record { source = p; which = 0 }) ≡ list_of b r p
+unfolding reference_offset
 own_list b r p live = rw (ne_eqb p 0 live) refl
 
-pub after_following : (b : List ℕ) (r p : ℕ) → p ≢ 0 → offset_of b r (record { source = p; which = 1 }) ≡ following b r p
-unfolding offset_of
+pub after_following : (b : List ℕ) (r p : ℕ) → p ≢ 0 → reference_offset b r (record { source = p; which = 1 }) ≡ following b r p
+unfolding reference_offset
 after_following b r p live = rw (ne_eqb p 0 live) refl
 
 pub same_offset : (p q : ℕ) → some_offset p ≡ some_offset q → p ≡ q
@@ -22,7 +22,7 @@ same_offset p q e = elim (eqb_tells p 0) [
 ]
 
 -- a reference that follows from one to a sound record has that record as its source
-link_source : (b : List ℕ) (r : ℕ) (k : Bool) (x : Reference) → (edge (references b r) k x).source ≡ offset_of b r x
+link_source : (b : List ℕ) (r : ℕ) (k : Bool) (x : Reference) → (edge (references b r) k x).source ≡ reference_offset b r x
 link_source b r true x = refl
 link_source b r false x = refl
 
@@ -36,18 +36,18 @@ which_kind b r false true x y e = absurd (differ (edge (references b r) true y) 
 which_kind b r false false x y e = refl
 
 top_live : (b : List ℕ) (r : ℕ) → 0 < r → IsLive (references b r) (references b r).top
-unfolding offset_of
+unfolding reference_offset
 top_live b r above = let n : r ≢ 0 = λ z. omega arith in rw (ne_eqb r 0 n) (search rules)
 
 pub references_lawful : (b : List ℕ) (r : ℕ) → 0 < r → AreLawful (references b r) (LeadsToSound b r)
 references_lawful b r above = record {
   starts = top_live b r above;
   only_top = λ x k h s l e.
-      let z : offset_of b r x ≡ 0 = sym (link_source b r k x) ∙ ap (λ (v : Reference). v.source) e in
+      let z : reference_offset b r x ≡ 0 = sym (link_source b r k x) ∙ ap (λ (v : Reference). v.source) e in
       let w = s.from_root in
       omega arith;
-  own_joined = λ x y h i s t e. ap (λ (o : ℕ). let z : Reference = record { source = o; which = 0 } in z) (same_offset (offset_of b r x) (offset_of b r y) e);
-  after_joined = λ c x y h i s t e. ap (λ (o : ℕ). let z : Reference = record { source = o; which = 1 } in z) (same_offset (offset_of b r x) (offset_of b r y) e);
+  own_joined = λ x y h i s t e. ap (λ (o : ℕ). let z : Reference = record { source = o; which = 0 } in z) (same_offset (reference_offset b r x) (reference_offset b r y) e);
+  after_joined = λ c x y h i s t e. ap (λ (o : ℕ). let z : Reference = record { source = o; which = 1 } in z) (same_offset (reference_offset b r x) (reference_offset b r y) e);
   apart = λ x y k l h i s t live e. (
     which_kind b r k l x y e,
     inr (ap some_offset (sym (link_source b r k x) ∙ ap (λ (v : Reference). v.source) e ∙ link_source b r l y), inr refl),

@@ -15,7 +15,7 @@ use Rattle.record_walk.proofs.Back.{clean_of}
 use Rattle.record_walk.proofs.Exact.{Differ}
 use Rattle.record_walk.proofs.Orders.{Comes as Follow, ordered, first_comes}
 use Rattle.romfs_format.specs.Record.{IsSound}
-use Rattle.romfs_format.specs.Refers.{references, offset_of, heads_itself, LeadsToSound}
+use Rattle.romfs_format.specs.Refers.{references, reference_offset, heads_itself, LeadsToSound}
 use Rattle.romfs_format.specs.Tree.{listed_rows}
 use Rattle.romfs_format.specs.Faults.{IsReached, IsListed, entry, itself, ComesAfter, IsParent, of_root, of_other}
 use Rattle.romfs_format.proofs.Bridge.{offset_some, offset_none, top_offset, root_own, root_after, all_targets}
@@ -39,12 +39,12 @@ every_listed b r P (x ∷ xs) false e k = rw e k.1
 own_empty : (b : List ℕ) (r : ℕ) → r ≢ 0 → heads_itself b r ≡ true → (own : Forest) → Stands (references b r) ((references b r).own (references b r).top) own → own ≡ none
 own_empty b r live e none s = refl
 own_empty b r live e (at o x y) s =
-    absurd ((offset_some (offset_of b r ((references b r).own (references b r).top)) o s.0).0 (ap (λ (q : ℕ). offset_of b r (record { source = q; which = 0 })) (top_offset b r) ∙ root_own b r true e live))
+    absurd ((offset_some (reference_offset b r ((references b r).own (references b r).top)) o s.0).0 (ap (λ (q : ℕ). reference_offset b r (record { source = q; which = 0 })) (top_offset b r) ∙ root_own b r true e live))
 
 after_empty : (b : List ℕ) (r : ℕ) → r ≢ 0 → heads_itself b r ≡ false → (after : Forest) → Stands (references b r) ((references b r).after (references b r).top) after → after ≡ none
 after_empty b r live e none s = refl
 after_empty b r live e (at o x y) s =
-    absurd ((offset_some (offset_of b r ((references b r).after (references b r).top)) o s.0).0 (ap (λ (q : ℕ). offset_of b r (record { source = q; which = 1 })) (top_offset b r) ∙ root_after b r false e live))
+    absurd ((offset_some (reference_offset b r ((references b r).after (references b r).top)) o s.0).0 (ap (λ (q : ℕ). reference_offset b r (record { source = q; which = 1 })) (top_offset b r) ∙ root_after b r false e live))
 
 -- the root's two lists have no rows that are both there
 apart : (b : List ℕ) (r p : ℕ) (R : Row → Row → Type 0) → r ≢ 0 → (own after : Forest) → Stands (references b r) ((references b r).own (references b r).top) own → Stands (references b r) ((references b r).after (references b r).top) after
@@ -61,19 +61,19 @@ module _ {b : List ℕ} {r most : ℕ} {f : Forest} (above : 0 < r) (h : IsFores
   root_live e = omega arith
 
   root_only : (e : Forest) → Stands (references b r) (references b r).top e → e ≡ none → ⊥
-  root_only none s i = root_live (sym (top_offset b r) ∙ offset_none (offset_of b r (references b r).top) s)
+  root_only none s i = root_live (sym (top_offset b r) ∙ offset_none (reference_offset b r (references b r).top) s)
   root_only (at p own after) s i = root_not p own after i
     where
       root_not : (p : ℕ) (own after : Forest) → at p own after ≡ none → ⊥
       root_not p own after i = cc
 
-  targets : Every (λ (y : Row). offset_of b r y.reference ≡ y.offset) (all_rows (references b r) f)
+  targets : Every (λ (y : Row). reference_offset b r y.reference ≡ y.offset) (all_rows (references b r) f)
   targets = all_targets b r f h.stands
 
   sounds : Every (λ (y : Row). IsSound b r y.offset) (all_rows (references b r) f)
   sounds =
-      every_weaker (λ (y : Row). LeadsToSound b r y.reference × (offset_of b r y.reference ≡ y.offset)) (λ (y : Row). IsSound b r y.offset) (λ y k. subst (IsSound b r) k.1 k.0) (all_rows (references b r) f)
-      (every_both (λ (y : Row). LeadsToSound b r y.reference) (λ (y : Row). offset_of b r y.reference ≡ y.offset) (all_rows (references b r) f) (recursion_from_All (λ (y : Row). LeadsToSound b r y.reference) (all_rows (references b r) f) h.sound) targets)
+      every_weaker (λ (y : Row). LeadsToSound b r y.reference × (reference_offset b r y.reference ≡ y.offset)) (λ (y : Row). IsSound b r y.offset) (λ y k. subst (IsSound b r) k.1 k.0) (all_rows (references b r) f)
+      (every_both (λ (y : Row). LeadsToSound b r y.reference) (λ (y : Row). reference_offset b r y.reference ≡ y.offset) (all_rows (references b r) f) (recursion_from_All (λ (y : Row). LeadsToSound b r y.reference) (all_rows (references b r) f) h.sound) targets)
 
   -- what holds of all rows holds of those of lists
   listed_every : (P : Row → Type 0) → Every P (all_rows (references b r) f) → Every P (listed_rows b r (all_rows (references b r) f))
@@ -85,28 +85,28 @@ module _ {b : List ℕ} {r most : ℕ} {f : Forest} (above : 0 < r) (h : IsFores
   -- The records of the rows are those that are reached.
   pub rows_are_reached : Every (λ (y : Row). IsReached b r y.offset) (all_rows (references b r) f)
   rows_are_reached =
-      every_weaker (λ (y : Row). Reached (references b r) (LeadsToSound b r) y.reference × ((offset_of b r y.reference ≡ y.offset) × IsSound b r y.offset)) (λ (y : Row). IsReached b r y.offset)
+      every_weaker (λ (y : Row). Reached (references b r) (LeadsToSound b r) y.reference × ((reference_offset b r y.reference ≡ y.offset) × IsSound b r y.offset)) (λ (y : Row). IsReached b r y.offset)
       (λ y k. record { reference = y.reference; reached = k.0; offset = k.1.0; sound = k.1.1 }) (all_rows (references b r) f)
-      (every_both (λ (y : Row). Reached (references b r) (LeadsToSound b r) y.reference) (λ (y : Row). (offset_of b r y.reference ≡ y.offset) × IsSound b r y.offset) (all_rows (references b r) f) (rows_reached (references_lawful b r above) h)
-      (every_both (λ (y : Row). offset_of b r y.reference ≡ y.offset) (λ (y : Row). IsSound b r y.offset) (all_rows (references b r) f) targets sounds))
+      (every_both (λ (y : Row). Reached (references b r) (LeadsToSound b r) y.reference) (λ (y : Row). (reference_offset b r y.reference ≡ y.offset) × IsSound b r y.offset) (all_rows (references b r) f) (rows_reached (references_lawful b r above) h)
+      (every_both (λ (y : Row). reference_offset b r y.reference ≡ y.offset) (λ (y : Row). IsSound b r y.offset) (all_rows (references b r) f) targets sounds))
 
   pub reached_has : (p : ℕ) → IsReached b r p → Has (λ (y : Row). y.offset ≡ p) (all_rows (references b r) f)
   reached_has p k =
-      has_weaker (λ (y : Row). (offset_of b r y.reference ≡ y.offset) × (y.reference ≡ k.reference)) (λ (y : Row). y.offset ≡ p) (λ y z. sym z.0 ∙ ap (offset_of b r) z.1 ∙ k.offset) (all_rows (references b r) f)
-      (has_both (λ (y : Row). offset_of b r y.reference ≡ y.offset) (λ (y : Row). y.reference ≡ k.reference) (all_rows (references b r) f) targets (reached_row (references_lawful b r above) h k.reference k.reached))
+      has_weaker (λ (y : Row). (reference_offset b r y.reference ≡ y.offset) × (y.reference ≡ k.reference)) (λ (y : Row). y.offset ≡ p) (λ y z. sym z.0 ∙ ap (reference_offset b r) z.1 ∙ k.offset) (all_rows (references b r) f)
+      (has_both (λ (y : Row). reference_offset b r y.reference ≡ y.offset) (λ (y : Row). y.reference ≡ k.reference) (all_rows (references b r) f) targets (reached_row (references_lawful b r above) h k.reference k.reached))
 
   -- each row below the root stands in its list
   below_listed : Every (λ (y : Row). IsListed b r y.directory y.offset × (y.offset ≢ r)) (drop 1 (all_rows (references b r) f))
   below_listed =
-      every_weaker (λ (y : Row). InList (references b r) (LeadsToSound b r) y.directory y.reference × (HasDepth (references b r) (LeadsToSound b r) y.offset y.depth × ((offset_of b r y.reference ≡ y.offset) × (y.offset ≢ r))))
+      every_weaker (λ (y : Row). InList (references b r) (LeadsToSound b r) y.directory y.reference × (HasDepth (references b r) (LeadsToSound b r) y.offset y.depth × ((reference_offset b r y.reference ≡ y.offset) × (y.offset ≢ r))))
       (λ (y : Row). IsListed b r y.directory y.offset × (y.offset ≢ r)) (λ y k. (entry k.0 k.1.1.0, k.1.1.1)) (drop 1 (all_rows (references b r) f)) (row_facts above h)
 
   -- a reference of a list has a row below the root
-  entry_below : (d p : ℕ) (x : Reference) → InList (references b r) (LeadsToSound b r) d x → offset_of b r x ≡ p → (below : List Row) → Has (λ (y : Row). (y.reference ≡ x) × (y.directory ≡ d)) below
-      → Every (λ (y : Row). offset_of b r y.reference ≡ y.offset) below → Has (λ (y : Row). (y.offset ≡ p) × (y.directory ≡ d)) below
+  entry_below : (d p : ℕ) (x : Reference) → InList (references b r) (LeadsToSound b r) d x → reference_offset b r x ≡ p → (below : List Row) → Has (λ (y : Row). (y.reference ≡ x) × (y.directory ≡ d)) below
+      → Every (λ (y : Row). reference_offset b r y.reference ≡ y.offset) below → Has (λ (y : Row). (y.offset ≡ p) × (y.directory ≡ d)) below
   entry_below d p x u e below k t =
-      has_weaker (λ (y : Row). (offset_of b r y.reference ≡ y.offset) × ((y.reference ≡ x) × (y.directory ≡ d))) (λ (y : Row). (y.offset ≡ p) × (y.directory ≡ d)) (λ y z. (sym z.0 ∙ ap (offset_of b r) z.1.0 ∙ e, z.1.1)) below
-      (has_both (λ (y : Row). offset_of b r y.reference ≡ y.offset) (λ (y : Row). (y.reference ≡ x) × (y.directory ≡ d)) below t k)
+      has_weaker (λ (y : Row). (reference_offset b r y.reference ≡ y.offset) × ((y.reference ≡ x) × (y.directory ≡ d))) (λ (y : Row). (y.offset ≡ p) × (y.directory ≡ d)) (λ y z. (sym z.0 ∙ ap (reference_offset b r) z.1.0 ∙ e, z.1.1)) below
+      (has_both (λ (y : Row). reference_offset b r y.reference ≡ y.offset) (λ (y : Row). (y.reference ≡ x) × (y.directory ≡ d)) below t k)
 
   -- The rows of lists say where records stand.
   pub rows_listed : Every (λ (y : Row). IsListed b r y.directory y.offset) (listed_rows b r (all_rows (references b r) f))
@@ -116,7 +116,7 @@ module _ {b : List ℕ} {r most : ℕ} {f : Forest} (above : 0 < r) (h : IsFores
       by none s k = absurd (root_only none s refl)
       by (at p own after) s k =
           let g = references b r in
-          let is : p ≡ r = (offset_some (offset_of b r g.top) p s.0).1 ∙ top_offset b r in
+          let is : p ≡ r = (offset_some (reference_offset b r g.top) p s.0).1 ∙ top_offset b r in
           let below : List Row = rows g (g.own g.top) p p 1 own ++ rows g (g.after g.top) p p 1 after in
           let others = every_weaker (λ (y : Row). IsListed b r y.directory y.offset × (y.offset ≢ r)) (λ (y : Row). IsListed b r y.directory y.offset) (λ y z. z.0) below k in
           listed_by b r (record { offset = p; reference = g.top; directory = p; parent = p; depth = 0 }) below (Every (λ (y : Row). IsListed b r y.directory y.offset)) (λ e. (itself e is is, others)) (λ e. others) (heads_itself b r) refl
@@ -124,8 +124,8 @@ module _ {b : List ℕ} {r most : ℕ} {f : Forest} (above : 0 < r) (h : IsFores
   pub listed_in : (d p : ℕ) → IsListed b r d p → Has (λ (y : Row). (y.offset ≡ p) × (y.directory ≡ d)) (listed_rows b r (all_rows (references b r) f))
   listed_in d p l = by f h.stands targets (λ x u e. listed_row (references_lawful b r above) h d x u) l
     where
-      by : (e : Forest) → Stands (references b r) (references b r).top e → Every (λ (y : Row). offset_of b r y.reference ≡ y.offset) (all_rows (references b r) e)
-          → ((x : Reference) → InList (references b r) (LeadsToSound b r) d x → offset_of b r x ≡ p → Has (λ (y : Row). (y.reference ≡ x) × (y.directory ≡ d)) (drop 1 (all_rows (references b r) e)))
+      by : (e : Forest) → Stands (references b r) (references b r).top e → Every (λ (y : Row). reference_offset b r y.reference ≡ y.offset) (all_rows (references b r) e)
+          → ((x : Reference) → InList (references b r) (LeadsToSound b r) d x → reference_offset b r x ≡ p → Has (λ (y : Row). (y.reference ≡ x) × (y.directory ≡ d)) (drop 1 (all_rows (references b r) e)))
           → IsListed b r d p → Has (λ (y : Row). (y.offset ≡ p) × (y.directory ≡ d)) (listed_rows b r (all_rows (references b r) e))
       by none s t k l = absurd (root_only none s refl)
       by (at o own after) s t k (entry {x = x} u e) =
@@ -135,7 +135,7 @@ module _ {b : List ℕ} {r most : ℕ} {f : Forest} (above : 0 < r) (h : IsFores
           listed_by b r (record { offset = o; reference = g.top; directory = o; parent = o; depth = 0 }) below (Has (λ (y : Row). (y.offset ≡ p) × (y.directory ≡ d))) (λ i. inr here) (λ i. here) (heads_itself b r) refl
       by (at o own after) s t k (itself e i j) =
           let g = references b r in
-          let is : o ≡ r = (offset_some (offset_of b r g.top) o s.0).1 ∙ top_offset b r in
+          let is : o ≡ r = (offset_some (reference_offset b r g.top) o s.0).1 ∙ top_offset b r in
           let below : List Row = rows g (g.own g.top) o o 1 own ++ rows g (g.after g.top) o o 1 after in
           listed_by b r (record { offset = o; reference = g.top; directory = o; parent = o; depth = 0 }) below (Has (λ (y : Row). (y.offset ≡ p) × (y.directory ≡ d))) (λ z. inl (is ∙ sym j, is ∙ sym i))
           (λ z. absurd (true≢false (sym e ∙ z))) (heads_itself b r) refl
@@ -169,12 +169,12 @@ module _ {b : List ℕ} {r most : ℕ} {f : Forest} (above : 0 < r) (h : IsFores
   -- Of two rows of one list the later one's record comes after the other's.
   pub rows_ordered : Pairs (Comes b r) (listed_rows b r (all_rows (references b r) f))
   rows_ordered =
-      let Known : Row → Type 0 = λ y. IsListed b r y.directory y.offset × (offset_of b r y.reference ≡ y.offset) in
+      let Known : Row → Type 0 = λ y. IsListed b r y.directory y.offset × (reference_offset b r y.reference ≡ y.offset) in
       pairs_of Known (Follow (references b r) (LeadsToSound b r)) (Comes b r)
       (λ y z u v k e. subst (λ (q : ℕ). ComesAfter b r y.directory y.offset q) v.1
-      (subst (λ (p : ℕ). ComesAfter b r y.directory p (offset_of b r z.reference)) u.1 (follows_comes b r y.directory y.reference z.reference above (subst (IsListed b r y.directory) (sym u.1) u.0) (k e))))
+      (subst (λ (p : ℕ). ComesAfter b r y.directory p (reference_offset b r z.reference)) u.1 (follows_comes b r y.directory y.reference z.reference above (subst (IsListed b r y.directory) (sym u.1) u.0) (k e))))
       (listed_rows b r (all_rows (references b r) f))
-      (every_both (λ (y : Row). IsListed b r y.directory y.offset) (λ (y : Row). offset_of b r y.reference ≡ y.offset) (listed_rows b r (all_rows (references b r) f)) rows_listed (listed_every (λ (y : Row). offset_of b r y.reference ≡ y.offset) targets)) rows_follow
+      (every_both (λ (y : Row). IsListed b r y.directory y.offset) (λ (y : Row). reference_offset b r y.reference ≡ y.offset) (listed_rows b r (all_rows (references b r) f)) rows_listed (listed_every (λ (y : Row). reference_offset b r y.reference ≡ y.offset) targets)) rows_follow
 
   -- Where a record follows that of a row, its row stands later.
   pub rows_followed : Tailed (Followed b r) (listed_rows b r (all_rows (references b r) f))
@@ -200,7 +200,7 @@ module _ {b : List ℕ} {r most : ℕ} {f : Forest} (above : 0 < r) (h : IsFores
       by none s k parents = absurd (root_only none s refl)
       by (at p own after) s k parents =
           let g = references b r in
-          let is : p ≡ r = (offset_some (offset_of b r g.top) p s.0).1 ∙ top_offset b r in
+          let is : p ≡ r = (offset_some (reference_offset b r g.top) p s.0).1 ∙ top_offset b r in
           let below : List Row = rows g (g.own g.top) p p 1 own ++ rows g (g.after g.top) p p 1 after in
           let me : Row = record { offset = p; reference = g.top; directory = p; parent = p; depth = 0 } in
           let others = every_weaker (HasParent (me ∷ below)) (λ (y : Row). IsParent b r y.directory y.parent)

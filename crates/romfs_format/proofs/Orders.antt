@@ -9,26 +9,26 @@ use Rattle.record_walk.proofs.Lists.{has_left, has_right}
 use Rattle.record_walk.proofs.Run.{live_some}
 use Rattle.record_walk.proofs.Exact.{split_at}
 use Rattle.record_walk.proofs.Orders.{Follows, next as next_after, further as further_after}
-use Rattle.romfs_format.specs.Refers.{references, offset_of, following, LeadsToSound}
+use Rattle.romfs_format.specs.Refers.{references, reference_offset, following, LeadsToSound}
 use Rattle.romfs_format.specs.Faults.{IsListed, ComesAfter, next, further}
 use Rattle.romfs_format.proofs.Bridge.{offset_some, offset_none}
 use Rattle.romfs_format.proofs.Lawful.{after_following}
 
 -- the reference to the record after that at p holds its offset
-after_at : (b : List ℕ) (r : ℕ) (x : Reference) (p : ℕ) → (references b r).target x ≡ Some p → offset_of b r ((references b r).after x) ≡ following b r p
-after_at b r x p e = let q = offset_some (offset_of b r x) p e in after_following b r (offset_of b r x) q.0 ∙ ap (following b r) (sym q.1)
+after_at : (b : List ℕ) (r : ℕ) (x : Reference) (p : ℕ) → (references b r).target x ≡ Some p → reference_offset b r ((references b r).after x) ≡ following b r p
+after_at b r x p e = let q = offset_some (reference_offset b r x) p e in after_following b r (reference_offset b r x) q.0 ∙ ap (following b r) (sym q.1)
 
-pub live_offset : (b : List ℕ) (r : ℕ) (x : Reference) → IsLive (references b r) x → offset_of b r x ≢ 0
-live_offset b r x l = let q = live_some ((references b r).target x) l in (offset_some (offset_of b r x) q.0 q.1).0
+pub live_offset : (b : List ℕ) (r : ℕ) (x : Reference) → IsLive (references b r) x → reference_offset b r x ≢ 0
+live_offset b r x l = let q = live_some ((references b r).target x) l in (offset_some (reference_offset b r x) q.0 q.1).0
 
 -- where one reference follows another in a list, its record comes after the other's
-pub follows_comes : (b : List ℕ) (r d : ℕ) (x y : Reference) → 0 < r → IsListed b r d (offset_of b r x) → Follows (references b r) (LeadsToSound b r) x y → ComesAfter b r d (offset_of b r x) (offset_of b r y)
+pub follows_comes : (b : List ℕ) (r d : ℕ) (x y : Reference) → 0 < r → IsListed b r d (reference_offset b r x) → Follows (references b r) (LeadsToSound b r) x y → ComesAfter b r d (reference_offset b r x) (reference_offset b r y)
 follows_comes b r d x y above listed (next_after sound e live) =
     let from = sound.from_root in
-    next listed sound (sym (after_following b r (offset_of b r x) (λ z. absurd (omega arith))) ∙ ap (offset_of b r) e) (live_offset b r y live)
+    next listed sound (sym (after_following b r (reference_offset b r x) (λ z. absurd (omega arith))) ∙ ap (reference_offset b r) e) (live_offset b r y live)
 follows_comes b r d x y above listed (further_after {y = z} c sound e live) =
     let from = sound.from_root in
-    further (follows_comes b r d x z above listed c) sound (sym (after_following b r (offset_of b r z) (λ k. absurd (omega arith))) ∙ ap (offset_of b r) e) (live_offset b r y live)
+    further (follows_comes b r d x z above listed c) sound (sym (after_following b r (reference_offset b r z) (λ k. absurd (omega arith))) ∙ ap (reference_offset b r) e) (live_offset b r y live)
 
 -- of two rows of one list, the later one's record comes after the other's
 abbrev pub Comes : (b : List ℕ) (r : ℕ) → Row → Row → Type 0
@@ -50,8 +50,8 @@ tailed_join b r (x ∷ xs) ys h k = ((λ q e l. has_left (λ (z : Row). (z.offse
 -- the record that follows that of a reference
 pub follows : (b : List ℕ) (r : ℕ) (x : Reference) (p directory parent depth : ℕ) (after : Forest) → (references b r).target x ≡ Some p → Stands (references b r) ((references b r).after x) after
     → (q : ℕ) → following b r p ≡ q → q ≢ 0 → Has (λ (z : Row). (z.offset ≡ q) × (z.directory ≡ directory)) (rows (references b r) ((references b r).after x) directory parent depth after)
-follows b r x p directory parent depth none e s q i l = absurd (l (sym i ∙ sym (after_at b r x p e) ∙ offset_none (offset_of b r ((references b r).after x)) s))
-follows b r x p directory parent depth (at o own after) e s q i l = inl ((offset_some (offset_of b r ((references b r).after x)) o s.0).1 ∙ after_at b r x p e ∙ i, refl)
+follows b r x p directory parent depth none e s q i l = absurd (l (sym i ∙ sym (after_at b r x p e) ∙ offset_none (reference_offset b r ((references b r).after x)) s))
+follows b r x p directory parent depth (at o own after) e s q i l = inl ((offset_some (reference_offset b r ((references b r).after x)) o s.0).1 ∙ after_at b r x p e ∙ i, refl)
 
 pub followed : (b : List ℕ) (r : ℕ) (x : Reference) (directory parent depth : ℕ) (f : Forest) → Stands (references b r) x f → Tailed (Followed b r) (rows (references b r) x directory parent depth f)
 followed b r x directory parent depth none s = tt

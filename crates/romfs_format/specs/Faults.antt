@@ -8,8 +8,8 @@ use Rattle.record_walk.specs.declared.reference.Reference.{Reference}
 use Rattle.rom_faults.specs.declared.fault.Fault.{Fault}
 use Rattle.record_walk.specs.References.{Reached}
 use Rattle.record_walk.specs.Faults.{TooMany, HasFault, Twice, InList, HasDepth, IsLeastFault, IsNone}
-use Rattle.romfs_format.specs.Record.{name_of, end_of, size_of, type_of, target_of, has_data, IsSound}
-use Rattle.romfs_format.specs.Refers.{references, offset_of, following, heads_itself, LeadsToSound, LeadsToFault}
+use Rattle.romfs_format.specs.Record.{name_of, end_of, size_of, type_of, spec_offset_of, has_data, IsSound}
+use Rattle.romfs_format.specs.Refers.{references, reference_offset, following, heads_itself, LeadsToSound, LeadsToFault}
 use Rattle.romfs_format.specs.Tree.{root_of}
 use Rattle.rom_tree.specs.Dots.{dot, dot_dot, is_dots}
 use Rattle.romfs_format.specs.Superblock.{HasImageFault, accessible}
@@ -19,12 +19,12 @@ use Rattle.rom_faults.specs.declared.fault.TheConstants.{TOO_MANY, TWICE, TOO_DE
 pub record IsReached (b : List ℕ) (r p : ℕ) : Type 0 where
   pub reference : Reference
   pub reached : Reached (references b r) (LeadsToSound b r) reference
-  pub offset : offset_of b r reference ≡ p
+  pub offset : reference_offset b r reference ≡ p
   pub sound : IsSound b r p
 
 -- the record at p stands in the list of the directory at d; the root too, where it heads its own list
 pub data IsListed (b : List ℕ) (r : ℕ) : ℕ → ℕ → Type 0 where
-  entry : {d p : ℕ} {x : Reference} → InList (references b r) (LeadsToSound b r) d x → offset_of b r x ≡ p → IsListed b r d p
+  entry : {d p : ℕ} {x : Reference} → InList (references b r) (LeadsToSound b r) d x → reference_offset b r x ≡ p → IsListed b r d p
   itself : {d p : ℕ} → heads_itself b r ≡ true → d ≡ r → p ≡ r → IsListed b r d p
 
 -- q comes after p in the list of the directory at d
@@ -35,7 +35,7 @@ pub data ComesAfter (b : List ℕ) (r d p : ℕ) : ℕ → Type 0 where
 -- following the record at p leads to q: over at most n hard links, each to a reached record
 pub data Leads (b : List ℕ) (r : ℕ) : ℕ → ℕ → ℕ → Type 0 where
   here : {n p : ℕ} → type_of b p ≢ 0 → Leads b r n p p
-  link : {n p q : ℕ} → type_of b p ≡ 0 → IsReached b r (target_of b p) → Leads b r n (target_of b p) q → Leads b r (suc n) p q
+  link : {n p q : ℕ} → type_of b p ≡ 0 → IsReached b r (spec_offset_of b p) → Leads b r n (spec_offset_of b p) q → Leads b r (suc n) p q
 
 -- 21 TooDeep at an entry to which more than `most` names lead
 pub record HasDepthFault (b : List ℕ) (r most : ℕ) (e : Fault) : Type 0 where

@@ -27,8 +27,8 @@ unfoldable pub type_of : List ℕ → ℕ → ℕ
 type_of b p = word_be b p % 8
 
 -- the spec as an offset: the target of a hard link, the first header of a directory's list
-unfoldable pub target_of : List ℕ → ℕ → ℕ
-target_of b p = align16 (word_be b (p + 4))
+unfoldable pub spec_offset_of : List ℕ → ℕ → ℕ
+spec_offset_of b p = align16 (word_be b (p + 4))
 
 unfoldable pub size_of : List ℕ → ℕ → ℕ
 size_of b p = word_be b (p + 8)
@@ -51,7 +51,7 @@ has_data kind = (kind == 2) || (kind == 3)
 
 -- the first record of the list of a directory; nothing else has a list
 unfoldable pub first_of : List ℕ → ℕ → ℕ
-first_of b p = if type_of b p == 1 then target_of b p else 0
+first_of b p = if type_of b p == 1 then spec_offset_of b p else 0
 
 -- the record at p is whole and well formed, in an image whose root is at r
 pub record IsSound (b : List ℕ) (r p : ℕ) : Type 0 where

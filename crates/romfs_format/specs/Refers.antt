@@ -20,8 +20,8 @@ following b r p = if p == r then (if heads_itself b r then next_of b r else 0) e
 
 -- the offset that a reference holds, 0 where it leads to no record: the superblock's (source 0) is the root, a record's
 -- first (which 0) its list, its other the record after it
-unfoldable pub offset_of : List ℕ → ℕ → Reference → ℕ
-offset_of b r x = if x.source == 0 then r else (if x.which == 0 then list_of b r x.source else following b r x.source)
+unfoldable pub reference_offset : List ℕ → ℕ → Reference → ℕ
+reference_offset b r x = if x.source == 0 then r else (if x.which == 0 then list_of b r x.source else following b r x.source)
 
 abbrev pub some_offset : ℕ → Option ℕ
 some_offset q = if q == 0 then None else Some q
@@ -30,17 +30,17 @@ some_offset q = if q == 0 then None else Some q
 abbrev pub references : List ℕ → ℕ → References
 references b r = record {
   top = record { source = 0; which = 0 };
-  target = λ x. some_offset (offset_of b r x);
-  own = λ x. record { source = offset_of b r x; which = 0 };
-  after = λ x. record { source = offset_of b r x; which = 1 };
+  target = λ x. some_offset (reference_offset b r x);
+  own = λ x. record { source = reference_offset b r x; which = 0 };
+  after = λ x. record { source = reference_offset b r x; which = 1 };
   chained = true;
 }
 
 -- the reference leads to a sound record
 abbrev pub LeadsToSound : List ℕ → ℕ → Reference → Type 0
-LeadsToSound b r x = IsSound b r (offset_of b r x)
+LeadsToSound b r x = IsSound b r (reference_offset b r x)
 
 -- the record that it leads to has this fault, which stands at the record
 pub record LeadsToFault (b : List ℕ) (r : ℕ) (x : Reference) (e : Fault) : Type 0 where
-  pub at : e.at ≡ offset_of b r x
-  pub number : HasRecordFault b r (offset_of b r x) e.number
+  pub at : e.at ≡ reference_offset b r x
+  pub number : HasRecordFault b r (reference_offset b r x) e.number

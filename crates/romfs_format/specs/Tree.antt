@@ -7,7 +7,7 @@ use Rattle.rom_fields.specs.declared.span.Span.{Span}
 use Rattle.rom_fields.specs.Extents.{OverlapsAt, added}
 use Rattle.record_walk.specs.declared.reference.Row.{Row}
 use Rattle.record_walk.specs.Forest.{Forest, none, at, all_rows, IsForest, NamesDiffer}
-use Rattle.romfs_format.specs.Record.{type_of, target_of, name_of, end_of, size_of, has_data, before_zero, pad16}
+use Rattle.romfs_format.specs.Record.{type_of, spec_offset_of, name_of, end_of, size_of, has_data, before_zero, pad16}
 use Rattle.romfs_format.specs.Refers.{references, heads_itself, LeadsToSound}
 use Rattle.rom_tree.specs.declared.types.Kind.{Kind}
 use Rattle.rom_tree.specs.Dots.{dot, dot_dot, is_dots}
@@ -58,12 +58,12 @@ node_of b p es = node (attributes_at b p) (body_named (type_of b p) (places_at b
 unfoldable pub follow : List ℕ → List Row → ℕ → ℕ → Option ℕ
 follow b all zero p = if type_of b p == 0 then None else Some p
 follow b all (suc n) p =
-    if type_of b p == 0 then (if list_any (λ (x : Row). x.offset == target_of b p) all then follow b all n (target_of b p) else None) else Some p
+    if type_of b p == 0 then (if list_any (λ (x : Row). x.offset == spec_offset_of b p) all then follow b all n (spec_offset_of b p) else None) else Some p
 
 -- where the record at p leads over at most n hard links, whatever stands there
 unfoldable pub led : ℕ → List ℕ → ℕ → ℕ
 led zero b p = p
-led (suc n) b p = if type_of b (led n b p) == 0 then target_of b (led n b p) else led n b p
+led (suc n) b p = if type_of b (led n b p) == 0 then spec_offset_of b (led n b p) else led n b p
 
 -- the entries of a list, in its order: each name with the node of the record that it leads to
 abbrev pub entries_at : List ℕ → Forest → Entries

@@ -10,18 +10,18 @@ use Rattle.record_walk.specs.Forest.{Forest, none, at, all_rows, IsForest, Names
 use Rattle.record_walk.proofs.Lists.{pairs_to}
 use Rattle.record_walk.proofs.Exact.{every_split, pairs_split}
 use Rattle.romfs_format.specs.Record.{name_of, IsSound}
-use Rattle.romfs_format.specs.Refers.{references, offset_of, heads_itself, LeadsToSound}
+use Rattle.romfs_format.specs.Refers.{references, reference_offset, heads_itself, LeadsToSound}
 use Rattle.romfs_format.specs.Tree.{extents_of, listed_rows, LeadsWell, IsTree}
 use Rattle.rom_tree.specs.Dots.{dot}
 use Rattle.romfs_format.proofs.Bridge.{offset_some, offset_none, top_offset}
 use Rattle.romfs_format.proofs.Depths.{IsWithin}
 use Rattle.romfs_format.proofs.Dots.{tree_within}
 use Rattle.record_walk.specs.Sweep.{IsLeastRowFault}
-use Rattle.romfs_image.specs.Phases.{IsTooDeep, IsShallow, Repeats, HasNameFault, IsWellNamed, AreWell, IsLaterFault, name}
+use Rattle.romfs_image.specs.Phases.{IsTooDeep, IsShallow, Repeats, IsNameFault, IsWellNamed, AreWell, IsLaterFault, name}
 
 -- with no entry too deep and no overlap, the names decide
 pub well_or_fault : (b : List ℕ) (r most : ℕ) (all : List Row) (o : Option Fault) → IsLeastRowFault (IsShallow b most) (IsTooDeep b most) all None → IsLeastOf (OverlapsAt (extents_of b r all)) None
-    → IsLeastRowFault (IsWellNamed b r all) (HasNameFault b r all) (listed_rows b r all) o → MatchOption o (AreWell b r most all) (IsLaterFault b r most all)
+    → IsLeastRowFault (IsWellNamed b r all) (IsNameFault b r all) (listed_rows b r all) o → MatchOption o (AreWell b r most all) (IsLaterFault b r most all)
 well_or_fault b r most all None d v n = record { shallow = d.clean refl; apart = λ p h. v.least p h; named = n.clean refl }
 well_or_fault b r most all (Some e) d v n = name d v n
 
@@ -54,12 +54,12 @@ root_named b r most first below w e heads = subst (λ (p : ℕ). name_of b p ≡
 
 -- a forest whose rows are well makes a tree
 pub tree_of_well : (b : List ℕ) (r most deepest : ℕ) (f : Forest) → r ≢ 0 → IsForest (references b r) (LeadsToSound b r) most f → AreWell b r (min deepest 64) (all_rows (references b r) f) → IsTree b r most deepest f
-tree_of_well b r most deepest none live h w = absurd (live (sym (top_offset b r) ∙ offset_none (offset_of b r (references b r).top) h.stands))
+tree_of_well b r most deepest none live h w = absurd (live (sym (top_offset b r) ∙ offset_none (reference_offset b r (references b r).top) h.stands))
 tree_of_well b r most deepest (at p own after) live h w =
     let f : Forest = at p own after in
     let all : List Row = all_rows (references b r) f in
     let first : Row = record { offset = p; reference = (references b r).top; directory = p; parent = p; depth = 0 } in
-    let is : p ≡ r = (offset_some (offset_of b r (references b r).top) p h.stands.0).1 ∙ top_offset b r in
+    let is : p ≡ r = (offset_some (reference_offset b r (references b r).top) p h.stands.0).1 ∙ top_offset b r in
     let below : List Row = drop 1 all in
     record {
       forest = h;

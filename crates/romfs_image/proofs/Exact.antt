@@ -9,14 +9,14 @@ use Rattle.record_walk.specs.Members.{Has, Pairs}
 use Rattle.record_walk.specs.Forest.{Forest, all_rows, IsForest}
 use Rattle.record_walk.proofs.Lists.{has_every, pairs_cross, same_some}
 use Rattle.record_walk.proofs.Exact.{has_member, member_every, has_at, every_here, split_at, later_split, FoundAt}
-use Rattle.romfs_format.specs.Record.{name_of, type_of, target_of}
+use Rattle.romfs_format.specs.Record.{name_of, type_of, spec_offset_of}
 use Rattle.romfs_format.specs.Refers.{references, LeadsToSound}
 use Rattle.romfs_format.specs.Tree.{follow, listed_rows}
 use Rattle.rom_tree.specs.Dots.{is_dots}
-use Rattle.romfs_format.specs.Faults.{IsReached, IsListed, itself, ComesAfter, IsParent, Leads, here, link, HasNameFault as HasSetNameFault, repeated as set_repeated, here_astray as set_here, above_astray as set_above, root_renamed as set_root, link_astray as set_link}
+use Rattle.romfs_format.specs.Faults.{IsReached, IsListed, itself, ComesAfter, IsParent, Leads, here, link, HasNameFault, repeated as set_repeated, here_astray as set_here, above_astray as set_above, root_renamed as set_root, link_astray as set_link}
 use Rattle.romfs_format.proofs.Orders.{Comes, comes_precedes}
 use Rattle.romfs_format.proofs.Named.{rows_listed, listed_in, rows_ordered, rows_followed, rows_parent, one_parent, reached_has, rows_are_reached, root_heads}
-use Rattle.romfs_image.specs.Phases.{HasNameFault, repeated, here_astray, above_astray, root_renamed, link_astray}
+use Rattle.romfs_image.specs.Phases.{IsNameFault, repeated, here_astray, above_astray, root_renamed, link_astray}
 use Rattle.romfs_image.proofs.Steps.{Is, step_done, step_lost, step_more, step_end}
 
 -- a row at an offset, as the code looks for it
@@ -34,16 +34,16 @@ none_some e = cc
 
 module _ {b : List ℕ} {r most : ℕ} {f : Forest} (above : 0 < r) (h : IsForest (references b r) (LeadsToSound b r) most f) where
   -- what a record leads to
-  by_any : (n p q : ℕ) → type_of b p ≡ 0 → ((t : ℕ) → follow b (all_rows (references b r) f) n t ≡ Some q → Leads b r n t q) → (v : Bool) → list_any (Is (target_of b p)) (all_rows (references b r) f) ≡ v
+  by_any : (n p q : ℕ) → type_of b p ≡ 0 → ((t : ℕ) → follow b (all_rows (references b r) f) n t ≡ Some q → Leads b r n t q) → (v : Bool) → list_any (Is (spec_offset_of b p)) (all_rows (references b r) f) ≡ v
       → follow b (all_rows (references b r) f) (suc n) p ≡ Some q → Leads b r (suc n) p q
   by_any n p q k more true v e =
-      link k (reached n p v) (more (target_of b p) (sym (step_more b (all_rows (references b r) f) n p (target_of b p) k refl v) ∙ e))
+      link k (reached n p v) (more (spec_offset_of b p) (sym (step_more b (all_rows (references b r) f) n p (spec_offset_of b p) k refl v) ∙ e))
     where
-      reached : (n p : ℕ) → list_any (Is (target_of b p)) (all_rows (references b r) f) ≡ true → IsReached b r (target_of b p)
+      reached : (n p : ℕ) → list_any (Is (spec_offset_of b p)) (all_rows (references b r) f) ≡ true → IsReached b r (spec_offset_of b p)
       reached n p v =
-          let w = has_every (λ (y : Row). IsReached b r y.offset) (λ (y : Row). y.offset ≡ target_of b p) (all_rows (references b r) f) (rows_are_reached above h) (any_offset (target_of b p) (all_rows (references b r) f) v) in
+          let w = has_every (λ (y : Row). IsReached b r y.offset) (λ (y : Row). y.offset ≡ spec_offset_of b p) (all_rows (references b r) f) (rows_are_reached above h) (any_offset (spec_offset_of b p) (all_rows (references b r) f) v) in
           subst (IsReached b r) w.2 w.1
-  by_any n p q k more false v e = absurd (none_some (sym (step_lost b (all_rows (references b r) f) (suc n) p (target_of b p) k refl v) ∙ e))
+  by_any n p q k more false v e = absurd (none_some (sym (step_lost b (all_rows (references b r) f) (suc n) p (spec_offset_of b p) k refl v) ∙ e))
 
   pub follow_leads : (n p q : ℕ) → follow b (all_rows (references b r) f) n p ≡ Some q → Leads b r n p q
   follow_leads zero p q e = elim (eqb_tells (type_of b p) 0) [
@@ -51,18 +51,18 @@ module _ {b : List ℕ} {r most : ℕ} {f : Forest} (above : 0 < r) (h : IsFores
     | inr k ↦ subst (Leads b r zero p) (same_some (sym (step_done b (all_rows (references b r) f) zero p k.1) ∙ e)) (here k.1)
   ]
   follow_leads (suc n) p q e = elim (eqb_tells (type_of b p) 0) [
-    | inl k ↦ by_any n p q k.1 (λ t i. follow_leads n t q i) (list_any (Is (target_of b p)) (all_rows (references b r) f)) refl e
+    | inl k ↦ by_any n p q k.1 (λ t i. follow_leads n t q i) (list_any (Is (spec_offset_of b p)) (all_rows (references b r) f)) refl e
     | inr k ↦ subst (Leads b r (suc n) p) (same_some (sym (step_done b (all_rows (references b r) f) (suc n) p k.1) ∙ e)) (here k.1)
   ]
 
   pub leads_follow : (n p q : ℕ) → Leads b r n p q → follow b (all_rows (references b r) f) n p ≡ Some q
   leads_follow n p q (here k) = step_done b (all_rows (references b r) f) n p k
   leads_follow n p q (link {n = m} k reached l) =
-      step_more b (all_rows (references b r) f) m p (target_of b p) k refl (offset_any (target_of b p) (all_rows (references b r) f) (reached_has above h (target_of b p) reached)) ∙ leads_follow m (target_of b p) q l
+      step_more b (all_rows (references b r) f) m p (spec_offset_of b p) k refl (offset_any (spec_offset_of b p) (all_rows (references b r) f) (reached_has above h (spec_offset_of b p) reached)) ∙ leads_follow m (spec_offset_of b p) q l
 
   -- A fault of a name at a row of a list is one of the fault set,
-  pub into_names : (before : List Row) (x : Row) (after : List Row) (n : ℕ) → listed_rows b r (all_rows (references b r) f) ≡ before ++ x ∷ after → HasNameFault b r (all_rows (references b r) f) before x n
-      → HasSetNameFault b r (record { number = n; at = x.offset })
+  pub into_names : (before : List Row) (x : Row) (after : List Row) (n : ℕ) → listed_rows b r (all_rows (references b r) f) ≡ before ++ x ∷ after → IsNameFault b r (all_rows (references b r) f) before x n
+      → HasNameFault b r (record { number = n; at = x.offset })
   into_names before x after n among t =
       let P : Row → Type 0 = λ y. IsListed b r y.directory y.offset in
       let listed : IsListed b r x.directory x.offset = every_here P before x after (subst (Every P) among (rows_listed above h)) in
@@ -84,7 +84,7 @@ module _ {b : List ℕ} {r most : ℕ} {f : Forest} (above : 0 < r) (h : IsFores
   listed_split d p l = split_at (λ (y : Row). (y.offset ≡ p) × (y.directory ≡ d)) (listed_rows b r (all_rows (references b r) f)) (listed_in above h d p l)
 
   -- the row of a name that is repeated
-  repeated_row : (e : Fault) (d p : ℕ) → ComesAfter b r d p e.at → name_of b p ≡ name_of b e.at → e.number ≡ 23 → FoundAt (HasNameFault b r (all_rows (references b r) f)) (listed_rows b r (all_rows (references b r) f)) e
+  repeated_row : (e : Fault) (d p : ℕ) → ComesAfter b r d p e.at → name_of b p ≡ name_of b e.at → e.number ≡ 23 → FoundAt (IsNameFault b r (all_rows (references b r) f)) (listed_rows b r (all_rows (references b r) f)) e
   repeated_row e d p c names number =
       let i = comes_precedes b r d p e.at (listed_rows b r (all_rows (references b r) f)) (rows_followed above h) (λ u l. listed_in above h d u l) c in
       let s = split_at (λ (z : Row). (z.offset ≡ e.at) × (z.directory ≡ d)) i.after i.later in
@@ -101,7 +101,7 @@ module _ {b : List ℕ} {r most : ℕ} {f : Forest} (above : 0 < r) (h : IsFores
       }
 
   -- and a fault of a name in the fault set stands at a row.
-  pub from_names : (e : Fault) → HasSetNameFault b r e → FoundAt (HasNameFault b r (all_rows (references b r) f)) (listed_rows b r (all_rows (references b r) f)) e
+  pub from_names : (e : Fault) → HasNameFault b r e → FoundAt (IsNameFault b r (all_rows (references b r) f)) (listed_rows b r (all_rows (references b r) f)) e
   from_names e (set_repeated {d} {p} c names number) = repeated_row e d p c names number
   from_names e (set_here {d} l named astray number) =
       let s = listed_split d e.at l in

@@ -13,7 +13,7 @@ use Rattle.record_walk.specs.Forest.{Forest, none, at, all_rows, NamesDiffer}
 use Rattle.record_walk.proofs.Lists.{every_weaker, pairs_cross, pairs_from}
 use Rattle.record_walk.proofs.Exact.{every_here}
 use Rattle.romfs_format.specs.Record.{name_of, type_of}
-use Rattle.romfs_format.specs.Refers.{references, offset_of, heads_itself}
+use Rattle.romfs_format.specs.Refers.{references, reference_offset, heads_itself}
 use Rattle.romfs_format.specs.Tree.{tree_of, listed_rows, LeadsWell, IsTree, RomfsTree}
 use Rattle.rom_tree.specs.Dots.{dot}
 use Rattle.romfs_format.specs.Faults.{HasNoFault, IsLeastImageFault, record_fault, twice_fault, depth_fault, extent_fault, name_fault, whole, many, phase}
@@ -62,13 +62,13 @@ module _ {b : List ℕ} {r : ℕ} {all before : List Row} {x : Row} where
 
 -- the rows of a tree are well
 pub well_of_tree : (b : List ℕ) (r most deepest : ℕ) (f : Forest) → r ≢ 0 → type_of b r ≡ 1 → IsTree b r most deepest f → AreWell b r (min deepest 64) (all_rows (references b r) f)
-well_of_tree b r most deepest none live kind t = absurd (live (sym (top_offset b r) ∙ offset_none (offset_of b r (references b r).top) t.forest.stands))
+well_of_tree b r most deepest none live kind t = absurd (live (sym (top_offset b r) ∙ offset_none (reference_offset b r (references b r).top) t.forest.stands))
 well_of_tree b r most deepest (at p own after) live kind t =
     let f : Forest = at p own after in
     let all : List Row = all_rows (references b r) f in
     let first : Row = record { offset = p; reference = (references b r).top; directory = p; parent = p; depth = 0 } in
     let below : List Row = drop 1 all in
-    let is : p ≡ r = (offset_some (offset_of b r (references b r).top) p t.forest.stands.0).1 ∙ top_offset b r in
+    let is : p ≡ r = (offset_some (reference_offset b r (references b r).top) p t.forest.stands.0).1 ∙ top_offset b r in
     let deep : ℕ = depth (tree_of b r f) in
     let within : Every (IsWithin b deep) all = rows_of_tree b r most deepest f live kind t in
     let shallow = t.shallow in

@@ -21,7 +21,7 @@ use Rattle.romfs_format.specs.Refers.{references, LeadsToSound, LeadsToFault}
 use Rattle.romfs_format.specs.Tree.{extents_of, root_of, IsSuperblock}
 use Rattle.rom_tree.specs.Dots.{is_dots}
 use Rattle.romfs_format.specs.Superblock.{HasImageFault, short, no_magic, bad_size, bad_sum, no_root, root_kind, accessible, HasSum, HasRoot}
-use Rattle.romfs_format.specs.Faults.{HasDepthFault, HasExtentFault, HasNameFault as HasSetNameFault, HasTwiceFault, HasTooMany, HasReachedFault, HasNoFault, IsLeastPhaseFault, record_fault, twice_fault, depth_fault, extent_fault, name_fault, many, phase}
+use Rattle.romfs_format.specs.Faults.{HasDepthFault, HasExtentFault, HasNameFault, HasTwiceFault, HasTooMany, HasReachedFault, HasNoFault, IsLeastPhaseFault, record_fault, twice_fault, depth_fault, extent_fault, name_fault, many, phase}
 use Rattle.romfs_format.proofs.Faults.{sound_faultless}
 use Rattle.romfs_format.proofs.Lawful.{references_lawful}
 use Rattle.romfs_format.proofs.Sets.{depth_to_row, row_to_depth}
@@ -92,7 +92,7 @@ module _ {b : List ℕ} {r most : ℕ} {f : Forest} (above : 0 < r) (h : IsFores
 
   -- and where they find none there is none.
   pub none_later : (deepest m : ℕ) → m ≡ min deepest 64 → AreWell b r m (all_rows (references b r) f)
-      → IsNone (HasDepthFault b r (min deepest 64)) × IsNone (HasExtentFault b r) × IsNone (HasSetNameFault b r)
+      → IsNone (HasDepthFault b r (min deepest 64)) × IsNone (HasExtentFault b r) × IsNone (HasNameFault b r)
   none_later deepest m is w = (
     subst (λ (v : ℕ). IsNone (HasDepthFault b r v)) is (λ e d. let k = from_depths m e d in let l = w.shallow k.before k.row k.after k.among k.found.1 in let n = k.found.2 in omega arith),
     (λ e d. w.apart e.at (from_overlaps e d)),
@@ -140,5 +140,5 @@ module _ {bytes b : List ℕ} {r : ℕ} (super : IsSuperblock bytes b r) where
         once = move (λ c q. IsNone (HasTwiceFault c q)) (no_twice_fault above h);
         shallow = move (λ c q. IsNone (HasDepthFault c q (min limits.depth 64))) n.0;
         apart = move (λ c q. IsNone (HasExtentFault c q)) n.1;
-        named = move (λ c q. IsNone (HasSetNameFault c q)) n.2;
+        named = move (λ c q. IsNone (HasNameFault c q)) n.2;
       }

@@ -5,11 +5,11 @@ use Rattle.record_walk.specs.Faults.{IsLeast}
 use Rattle.romfs_format.specs.Record.{name_of, type_of}
 use Rattle.romfs_format.specs.Tree.{follow}
 use Rattle.rom_tree.specs.Dots.{dot, dot_dot}
-use Rattle.romfs_image.specs.Phases.{Repeats, HasNameFault, repeated, here_astray, above_astray, root_renamed, link_astray, IsWellNamed}
+use Rattle.romfs_image.specs.Phases.{Repeats, IsNameFault, repeated, here_astray, above_astray, root_renamed, link_astray, IsWellNamed}
 
 -- each number of such a fault is at least 23, and 24 where the name is not repeated
 module _ {b : List ℕ} {r : ℕ} {all before : List Row} {x : Row} where
-  pub least_repeated : Repeats b before x → IsLeast (HasNameFault b r all before x) 23
+  pub least_repeated : Repeats b before x → IsLeast (IsNameFault b r all before x) 23
   least_repeated h = record {
     here = repeated refl h;
     least = λ n f. elim f [
@@ -21,7 +21,7 @@ module _ {b : List ℕ} {r : ℕ} {all before : List Row} {x : Row} where
     ];
   }
 
-  pub least_astray : (Repeats b before x → ⊥) → HasNameFault b r all before x 24 → IsLeast (HasNameFault b r all before x) 24
+  pub least_astray : (Repeats b before x → ⊥) → IsNameFault b r all before x 24 → IsLeast (IsNameFault b r all before x) 24
   least_astray fresh h = record {
     here = h;
     least = λ n f. elim f [
@@ -34,7 +34,7 @@ module _ {b : List ℕ} {r : ℕ} {all before : List Row} {x : Row} where
   }
 
   pub least_link : (Repeats b before x → ⊥) → (name_of b x.offset ≡ dot → follow b all 8 x.offset ≡ Some x.directory) → (name_of b x.offset ≡ dot_dot → follow b all 8 x.offset ≡ Some x.parent)
-      → (x.offset ≡ r → name_of b x.offset ≡ dot) → HasNameFault b r all before x 25 → IsLeast (HasNameFault b r all before x) 25
+      → (x.offset ≡ r → name_of b x.offset ≡ dot) → IsNameFault b r all before x 25 → IsLeast (IsNameFault b r all before x) 25
   least_link fresh here above root h = record {
     here = h;
     least = λ n f. elim f [
@@ -46,7 +46,7 @@ module _ {b : List ℕ} {r : ℕ} {all before : List Row} {x : Row} where
     ];
   }
 
-  pub well_faultless : IsWellNamed b r all before x → (n : ℕ) → HasNameFault b r all before x n → ⊥
+  pub well_faultless : IsWellNamed b r all before x → (n : ℕ) → IsNameFault b r all before x n → ⊥
   well_faultless w n f = elim f [
     | repeated e k ↦ w.fresh k
     | here_astray e k l ↦ l (w.leads.here k)

@@ -1,7 +1,7 @@
 -- What the numbers read from a record say.
 use Rattle.std.proofs.Common.{◌<◌, ◌≤◌, ◌≡◌, ◌+◌, ◌-◌, ◌*◌, ◌/◌, ℕ, suc, true, false, cond, eqb, List, [], ◌∷◌, length, take, drop, refl, ap, ◌∙◌, arith}
 use Rattle.std.proofs.lemmas.Bool.{ne_eqb, eq-eqb}
-use Rattle.romfs_format.specs.Record.{before_zero, name_of, end_of, type_of, target_of, NameEnds}
+use Rattle.romfs_format.specs.Record.{before_zero, name_of, end_of, type_of, spec_offset_of, NameEnds}
 use Rattle.romfs_format.specs.Tree.{led, root_of}
 
 take_before_zero : (ys : List ℕ) → take (length (before_zero ys)) ys ≡ before_zero ys
@@ -21,7 +21,7 @@ unfolding end_of
 end_is b p name e = ap (λ (x : List ℕ). p + 16 + (length x + 1 + 15) / 16 * 16) e
 
 -- one step along a hard link
-pub led_more : (b : List ℕ) (n p q : ℕ) → p ≡ led n b q → type_of b p ≡ 0 → target_of b p ≡ led (suc n) b q
+pub led_more : (b : List ℕ) (n p q : ℕ) → p ≡ led n b q → type_of b p ≡ 0 → spec_offset_of b p ≡ led (suc n) b q
 unfolding led
 led_more b n p q e h = rw (← e, eq-eqb (type_of b p) 0 h) refl
 

@@ -4,7 +4,7 @@ use Rattle.std.proofs.lemmas.Bool.{ne_eqb, eq-eqb, false≢true}
 use Rattle.std.proofs.lemmas.Bool.Decides.{eqb_tells}
 use Rattle.std.proofs.lemmas.List.Elements.{All-head, All-tail}
 use Rattle.std.specs.List.{All, list_any}
-use Rattle.romfs_format.specs.Record.{type_of, target_of, IsSound}
+use Rattle.romfs_format.specs.Record.{type_of, spec_offset_of, IsSound}
 use Rattle.romfs_format.specs.Tree.{follow}
 use Rattle.record_walk.specs.declared.reference.Row.{Row}
 
@@ -16,12 +16,12 @@ unfolding follow
 step_done b all zero p e = rw (ne_eqb (type_of b p) 0 e) refl
 step_done b all (suc n) p e = rw (ne_eqb (type_of b p) 0 e) refl
 
-pub step_lost : (b : List ℕ) (all : List Row) (n p t : ℕ) → type_of b p ≡ 0 → t ≡ target_of b p → list_any (Is t) all ≡ false → follow b all n p ≡ None
+pub step_lost : (b : List ℕ) (all : List Row) (n p t : ℕ) → type_of b p ≡ 0 → t ≡ spec_offset_of b p → list_any (Is t) all ≡ false → follow b all n p ≡ None
 unfolding follow
 step_lost b all zero p t e f g = rw (eq-eqb (type_of b p) 0 e) refl
 step_lost b all (suc n) p t e f g = rw (eq-eqb (type_of b p) 0 e, ← f, g) refl
 
-pub step_more : (b : List ℕ) (all : List Row) (n p t : ℕ) → type_of b p ≡ 0 → t ≡ target_of b p → list_any (Is t) all ≡ true → follow b all (suc n) p ≡ follow b all n t
+pub step_more : (b : List ℕ) (all : List Row) (n p t : ℕ) → type_of b p ≡ 0 → t ≡ spec_offset_of b p → list_any (Is t) all ≡ true → follow b all (suc n) p ≡ follow b all n t
 unfolding follow
 step_more b all n p t e f g = rw (eq-eqb (type_of b p) 0 e, ← f, g) refl
 

@@ -12,16 +12,16 @@ use Rattle.record_walk.proofs.Run.{forest_of}
 use Rattle.record_walk.proofs.Decided.{same_number, same_list}
 use Rattle.record_walk.proofs.Exact.{Differ}
 use Rattle.romfs_format.specs.Record.{name_of, type_of, before_zero}
-use Rattle.romfs_format.specs.Refers.{references, offset_of, LeadsToSound}
+use Rattle.romfs_format.specs.Refers.{references, reference_offset, LeadsToSound}
 use Rattle.romfs_format.specs.Tree.{follow, tree_of, magic, full_size, root_of, IsSuperblock, RomfsTree}
 use Rattle.rom_tree.specs.Dots.{dot, is_dots}
 use Rattle.romfs_format.specs.Superblock.{HasImageFault, short, no_magic, bad_size, bad_sum, no_root, root_kind, accessible, HasSize, HasSum, HasRoot}
-use Rattle.romfs_format.specs.Faults.{HasDepthFault, HasExtentFault, HasNameFault as HasSetNameFault, HasTwiceFault, HasTooMany, HasReachedFault, HasNoFault}
+use Rattle.romfs_format.specs.Faults.{HasDepthFault, HasExtentFault, HasNameFault, HasTwiceFault, HasTooMany, HasReachedFault, HasNoFault}
 use Rattle.romfs_format.proofs.Faults.{faultless_sound}
 use Rattle.romfs_format.proofs.Lawful.{references_lawful}
 use Rattle.romfs_format.proofs.Spans.{overlap_fault}
 use Rattle.romfs_format.proofs.Named.{rows_are_reached, reached_has}
-use Rattle.romfs_image.specs.Phases.{HasNameFault, repeated, here_astray, above_astray, root_renamed, link_astray, IsWellNamed, AreWell}
+use Rattle.romfs_image.specs.Phases.{IsNameFault, repeated, here_astray, above_astray, root_renamed, link_astray, IsWellNamed, AreWell}
 use Rattle.romfs_image.proofs.Composed.{tree_of_well}
 use Rattle.romfs_image.proofs.Exact.{into_names}
 use Rattle.romfs_image.proofs.Least.{into_depths}
@@ -58,13 +58,13 @@ module _ {b : List ℕ} {r most : ℕ} (above : 0 < r) where
   forest_here few sound once =
       let clean : IsClean (references b r) (LeadsToSound b r) most = record {
         few = few;
-        sound = λ x k. faultless_sound (λ n e. sound (record { number = n; at = offset_of b r x }) (record { reference = x; reached = k; faulty = record { at = refl; number = e } }));
+        sound = λ x k. faultless_sound (λ n e. sound (record { number = n; at = reference_offset b r x }) (record { reference = x; reached = k; faulty = record { at = refl; number = e } }));
         once = λ q k. once (record { number = 20; at = q }) (k, refl);
       } in
       forest_of (references b r) (LeadsToSound b r) most (references_lawful b r above) clean
 
 -- a row without a fault of a name is well named
-module _ {b : List ℕ} {r : ℕ} {all before : List Row} {x : Row} (none : (n : ℕ) → HasNameFault b r all before x n → ⊥) where
+module _ {b : List ℕ} {r : ℕ} {all before : List Row} {x : Row} (none : (n : ℕ) → IsNameFault b r all before x n → ⊥) where
   target_of_link : is_dots (name_of b x.offset) ≡ false → type_of b x.offset ≡ 0 → (o : Option ℕ) → follow b all 8 x.offset ≡ o → (q : ℕ) × (follow b all 8 x.offset ≡ Some q) × (type_of b q ≢ 1)
   target_of_link e t None i = absurd (none 25 (link_astray refl e t (no_target b (follow b all 8 x.offset) i)))
   target_of_link e t (Some q) i = elim (eqb_tells (type_of b q) 1) [
@@ -85,7 +85,7 @@ module _ {b : List ℕ} {r : ℕ} {all before : List Row} {x : Row} (none : (n :
 
 module _ {b : List ℕ} {r most : ℕ} {f : Forest} (above : 0 < r) (h : IsForest (references b r) (LeadsToSound b r) most f) where
   -- Rows are well where the later phases have no fault.
-  pub well_of_faultless : (m : ℕ) → IsNone (HasDepthFault b r m) → IsNone (HasExtentFault b r) → IsNone (HasSetNameFault b r) → AreWell b r m (all_rows (references b r) f)
+  pub well_of_faultless : (m : ℕ) → IsNone (HasDepthFault b r m) → IsNone (HasExtentFault b r) → IsNone (HasNameFault b r) → AreWell b r m (all_rows (references b r) f)
   well_of_faultless m shallow apart named = record {
     shallow = λ before x after s e. elim (cases_lt m x.depth) [
       | inl l ↦ absurd (shallow (record { number = 21; at = x.offset }) (into_depths above h m before x after 21 s (refl, e, l)))

@@ -32,13 +32,13 @@ pub record TellsRepeated (b : List ℕ) (before : List Row) (x : Row) (repeated 
   pub new : repeated ≡ false → Repeats b before x → ⊥
 
 -- 23 DupName, 24 Dot, 25 HardLink
-pub data HasNameFault (b : List ℕ) (r : ℕ) (all before : List Row) (x : Row) : ℕ → Type 0 where
-  repeated : {n : ℕ} → n ≡ DUPLICATE_NAME → Repeats b before x → HasNameFault b r all before x n
-  here_astray : {n : ℕ} → n ≡ DOT → name_of b x.offset ≡ dot → follow b all 8 x.offset ≢ Some x.directory → HasNameFault b r all before x n
-  above_astray : {n : ℕ} → n ≡ DOT → name_of b x.offset ≡ dot_dot → follow b all 8 x.offset ≢ Some x.parent → HasNameFault b r all before x n
-  root_renamed : {n : ℕ} → n ≡ DOT → x.offset ≡ r → name_of b x.offset ≢ dot → HasNameFault b r all before x n
+pub data IsNameFault (b : List ℕ) (r : ℕ) (all before : List Row) (x : Row) : ℕ → Type 0 where
+  repeated : {n : ℕ} → n ≡ DUPLICATE_NAME → Repeats b before x → IsNameFault b r all before x n
+  here_astray : {n : ℕ} → n ≡ DOT → name_of b x.offset ≡ dot → follow b all 8 x.offset ≢ Some x.directory → IsNameFault b r all before x n
+  above_astray : {n : ℕ} → n ≡ DOT → name_of b x.offset ≡ dot_dot → follow b all 8 x.offset ≢ Some x.parent → IsNameFault b r all before x n
+  root_renamed : {n : ℕ} → n ≡ DOT → x.offset ≡ r → name_of b x.offset ≢ dot → IsNameFault b r all before x n
   link_astray : {n : ℕ} → n ≡ HARD_LINK → is_dots (name_of b x.offset) ≡ false → type_of b x.offset ≡ 0
-      → ((q : ℕ) → follow b all 8 x.offset ≡ Some q → type_of b q ≢ 1 → ⊥) → HasNameFault b r all before x n
+      → ((q : ℕ) → follow b all 8 x.offset ≡ Some q → type_of b q ≢ 1 → ⊥) → IsNameFault b r all before x n
 
 pub record IsWellNamed (b : List ℕ) (r : ℕ) (all before : List Row) (x : Row) : Type 0 where
   pub fresh : Repeats b before x → ⊥
@@ -56,4 +56,4 @@ pub data IsLaterFault (b : List ℕ) (r most : ℕ) (all : List Row) (e : Fault)
   deep : IsLeastRowFault (IsShallow b most) (IsTooDeep b most) all (Some e) → IsLaterFault b r most all e
   overlap : IsLeastRowFault (IsShallow b most) (IsTooDeep b most) all None → {p : ℕ} → IsLeastOf (OverlapsAt (extents_of b r all)) (Some p) → e ≡ record { number = OVERLAP; at = p } → IsLaterFault b r most all e
   name : IsLeastRowFault (IsShallow b most) (IsTooDeep b most) all None → IsLeastOf (OverlapsAt (extents_of b r all)) None
-      → IsLeastRowFault (IsWellNamed b r all) (HasNameFault b r all) (listed_rows b r all) (Some e) → IsLaterFault b r most all e
+      → IsLeastRowFault (IsWellNamed b r all) (IsNameFault b r all) (listed_rows b r all) (Some e) → IsLaterFault b r most all e

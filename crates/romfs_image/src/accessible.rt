@@ -1,7 +1,7 @@
 //! The accessible bytes of an image with the place of its root, and its records as the traversal reads
 //! them.
 ghost use Rattle.std.specs.Prelude.{◌≡◌, ◌≢◌, ◌+◌, ◌<◌, ◌≤◌, ◌^◌, length};
-ghost use Rattle.romfs_format.specs.Refers.{references, LeadsToSound, LeadsToFault, some_offset, list_of, following, offset_of};
+ghost use Rattle.romfs_format.specs.Refers.{references, LeadsToSound, LeadsToFault, some_offset, list_of, following, reference_offset};
 
 use crate::soundness::record_fault;
 use record_walk::known::Known;
@@ -65,7 +65,7 @@ impl Records for Accessible<'_> {
     // Nothing is kept: a record is looked at once for each reference.
     ghost well = { λ _ _. Unit {0} };
 
-    #[tactic(auto, unfolding(romfs_format::specs::Refers::offset_of))]
+    #[tactic(auto, unfolding(romfs_format::specs::Refers::reference_offset))]
     fn top(&self) -> Edge {
         Edge {
             reference: Reference {

@@ -1,7 +1,7 @@
 //! The fields of a record, which is a file header with its name, and what its type says.
 ghost use Rattle.std.specs.Prelude.{◌≡◌, ◌≢◌, ◌+◌, ◌≤◌, ◌<◌, ◌^◌, ℕ, List, length, MatchOption, SomeIff, drop, IsTrue};
 ghost use Rattle.rom_fields.specs.Words.{word_be};
-ghost use Rattle.romfs_format.specs.Record.{before_zero, name_of, end_of, next_of, first_of, type_of, target_of, size_of, IsSound};
+ghost use Rattle.romfs_format.specs.Record.{before_zero, name_of, end_of, next_of, first_of, type_of, spec_offset_of, size_of, IsSound};
 ghost use Rattle.romfs_format.specs.Tree.{kind_named, mode_named, led, by_type};
 ghost use Rattle.romfs_format.specs.Made.{begins};
 
@@ -61,10 +61,10 @@ impl<'a> Accessible<'a> {
     }
 
     /// The offset in its spec.
-    #[tactic(auto, unfolding(romfs_format::specs::Record::target_of))]
-    pub fn target_offset(&self, at: usize) -> u32
+    #[tactic(auto, unfolding(romfs_format::specs::Record::spec_offset_of))]
+    pub fn spec_offset(&self, at: usize) -> u32
         requires { at + 16 ≤ length self.now.bytes.now }
-        ensures { result ≡ target_of self.now.bytes.now at }
+        ensures { result ≡ spec_offset_of self.now.bytes.now at }
     {
         self.word(at + 4) / 16 * 16
     }
@@ -85,7 +85,7 @@ impl<'a> Accessible<'a> {
         ensures { result ≡ first_of self.now.bytes.now at }
     {
         if self.type_at(at) == 1 {
-            self.target_offset(at)
+            self.spec_offset(at)
         } else {
             0
         }
@@ -135,7 +135,7 @@ impl<'a> Accessible<'a> {
         let mut p = at;
         for i in 0..8usize {
             if self.type_at(p as usize) == 0 {
-                p = self.target_offset(p as usize);
+                p = self.spec_offset(p as usize);
             }
         }
         p

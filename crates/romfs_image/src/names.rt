@@ -9,7 +9,7 @@ ghost use Rattle.romfs_format.specs.Tree.{follow};
 ghost use Rattle.rom_tree.specs.Dots.{dot, dot_dot, is_dots};
 ghost use Rattle.record_walk.specs.Listed.{AreNames};
 ghost use Rattle.record_walk.specs.Sweep.{IsLeastRowFault};
-ghost use Rattle.romfs_image.specs.Phases.{AreOffsets, TellsRepeated, HasNameFault, IsWellNamed};
+ghost use Rattle.romfs_image.specs.Phases.{AreOffsets, TellsRepeated, IsNameFault, IsWellNamed};
 
 use crate::accessible::Accessible;
 use crate::rows::{led_to, offsets_of};
@@ -37,7 +37,7 @@ fn is_astray(b: &Accessible<'_>, all: &[Row], offsets: &[u32], row: Row) -> bool
     requires all { All (λ x. IsSound b.now.bytes.now b.now.root x.offset) all.now }
     requires offsets { AreOffsets all.now offsets.now }
     requires row { IsSound b.now.bytes.now b.now.root row.offset }
-    ensures astray { OnTrue result ((before : List Row) → HasNameFault b.now.bytes.now b.now.root all.now before row 24) }
+    ensures astray { OnTrue result ((before : List Row) → IsNameFault b.now.bytes.now b.now.root all.now before row 24) }
     ensures here { OnFalse result (name_of b.now.bytes.now row.offset ≡ dot → follow b.now.bytes.now all.now 8 row.offset ≡ Some row.directory) }
     ensures above { OnFalse result (name_of b.now.bytes.now row.offset ≡ dot_dot → follow b.now.bytes.now all.now 8 row.offset ≡ Some row.parent) }
     ensures root { OnFalse result (row.offset ≡ b.now.root → name_of b.now.bytes.now row.offset ≡ dot) }
@@ -66,7 +66,7 @@ fn is_link_astray(b: &Accessible<'_>, all: &[Row], offsets: &[u32], row: Row) ->
     requires all { All (λ x. IsSound b.now.bytes.now b.now.root x.offset) all.now }
     requires offsets { AreOffsets all.now offsets.now }
     requires row { IsSound b.now.bytes.now b.now.root row.offset }
-    ensures astray { OnTrue result ((before : List Row) → HasNameFault b.now.bytes.now b.now.root all.now before row 25) }
+    ensures astray { OnTrue result ((before : List Row) → IsNameFault b.now.bytes.now b.now.root all.now before row 25) }
     ensures leads { OnFalse result (is_dots (name_of b.now.bytes.now row.offset) ≡ false → type_of b.now.bytes.now row.offset ≡ 0
         → (q : ℕ) × (follow b.now.bytes.now all.now 8 row.offset ≡ Some q) × (type_of b.now.bytes.now q ≢ 1)) }
 {
@@ -101,7 +101,7 @@ fn name_fault(
     requires row { IsSound b.now.bytes.now b.now.root row.offset }
     ensures well { (before : List Row) → TellsRepeated b.now.bytes.now before row repeated → IfNone result (IsWellNamed b.now.bytes.now b.now.root all.now before row) }
     ensures fault { (before : List Row) → TellsRepeated b.now.bytes.now before row repeated
-        → IfSome result (λ n. IsLeast (HasNameFault b.now.bytes.now b.now.root all.now before row) n) }
+        → IfSome result (λ n. IsLeast (IsNameFault b.now.bytes.now b.now.root all.now before row) n) }
 {
     if repeated {
         return Some(DUPLICATE_NAME);
@@ -145,7 +145,7 @@ pub fn least_name_fault(
 ) -> Result<Option<Fault>, OutOfMemory>
     requires all { All (λ x. IsSound b.now.bytes.now b.now.root x.offset) all.now }
     requires listed { All (λ x. IsSound b.now.bytes.now b.now.root x.offset) listed.now }
-    ensures { IfOk result (IsLeastRowFault (IsWellNamed b.now.bytes.now b.now.root all.now) (HasNameFault b.now.bytes.now b.now.root all.now) listed.now) }
+    ensures { IfOk result (IsLeastRowFault (IsWellNamed b.now.bytes.now b.now.root all.now) (IsNameFault b.now.bytes.now b.now.root all.now) listed.now) }
 {
     let offsets = offsets_of(alloc, all)?;
     let repeated = repeats(alloc, names_of(alloc, b, listed)?)?;

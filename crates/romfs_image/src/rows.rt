@@ -43,7 +43,7 @@ pub fn led_to(b: &Accessible<'_>, rows: &[Row], offsets: &[u32], at: u32) -> Opt
         if b.type_at(p as usize) != 0 {
             return Some(p);
         }
-        let target = b.target_offset(p as usize);
+        let target = b.spec_offset(p as usize);
         if !is_among(rows, offsets, target) {
             return None;
         }

@@ -3,7 +3,7 @@ use Rattle.rom_fields.specs.Extents.{OverlapsAt, IsLeastOf}
 use Rattle.record_walk.specs.declared.reference.Row.{Row}
 use Rattle.cramfs_format.specs.Tree.{extents_of}
 use Rattle.record_walk.specs.Sweep.{IsLeastRowFault}
-use Rattle.cramfs_image.specs.Phases.{of_overlap, IsTooDeep, IsShallow, IsWellNamed, HasNameFault}
+use Rattle.cramfs_image.specs.Phases.{of_overlap, IsTooDeep, IsShallow, IsWellNamed, IsNameFault}
 use Rattle.cramfs_image.proofs.Composed.{well_or_fault}
 use Rattle.cramfs_image.proofs.phases.later_fault.Goals as goal
 
@@ -17,4 +17,4 @@ returns c =
     well_or_fault c.args.b.now.order c.args.b.now.bytes.now c.args.most c.args.rows.now c.in_ok-named.named
     (subst (λ (xs : List Row). IsLeastRowFault (IsShallow c.args.b.now.order c.args.b.now.bytes.now c.args.most) (IsTooDeep c.args.b.now.order c.args.b.now.bytes.now c.args.most) xs _) c.below_root-below.ensures c.in_default.ensures)
     (subst (IsLeastOf (OverlapsAt (extents_of c.args.b.now.order c.args.b.now.bytes.now c.args.rows.now))) c.in_default-2.is c.in_ok-at.ensures)
-    (subst (λ (xs : List Row). IsLeastRowFault (IsWellNamed c.args.b.now.order c.args.b.now.bytes.now) (HasNameFault c.args.b.now.order c.args.b.now.bytes.now) xs c.in_ok-named.named) c.below_root-below.ensures c.in_ok-named.ensures)
+    (subst (λ (xs : List Row). IsLeastRowFault (IsWellNamed c.args.b.now.order c.args.b.now.bytes.now) (IsNameFault c.args.b.now.order c.args.b.now.bytes.now) xs c.in_ok-named.named) c.below_root-below.ensures c.in_ok-named.ensures)

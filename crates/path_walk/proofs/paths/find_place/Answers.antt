@@ -1,7 +1,7 @@
 use Rattle.std.proofs.Common.{◌≡◌, ℕ, ◌≤◌, ◌∷◌, [], ◌++◌, List, length, ap, sym, ◌∙◌, subst, arith, true, Bool, ◌==◌, refl, Result, Ok, Err, length-append}
 use Rattle.std.specs.Prelude.{not, ◌&&◌, if◌then◌else◌}
 use Rattle.std.specs.Borrow.{Bor}
-use Rattle.rom_tree.specs.Image.{Image, text_of}
+use Rattle.rom_tree.specs.Image.{Image, contents_of}
 use Rattle.path_walk.specs.declared.error.WalkError.{WalkError}
 use Rattle.path_walk.specs.declared.mount.Mount.{Mount}
 use Rattle.path_walk.specs.declared.mount.Place.{Place}
@@ -115,7 +115,7 @@ loop-component-preserved-in-Some-link g c =
     let st : Bool = c.last_stays-stays.result in
     let t : st ≡ ((length c.take_component.new.unread.items == 0) && not follow) = c.last_stays-stays.ensures ∙ ap (λ (v : Bool). v && not follow) c.is_empty.ensures in
     let d = led_link (g.G.Gathered.held c.loop-component.images) h i.held us c.loop-component.current c.loop-component.ancestors.items s c.in-Some.component.now st c.advance.new.current c.advance.new.ancestors.items c.in_ok-link.link c.in-Some-link.link c.in-Some-link.is i.is (c.in_ok-link.ensures.leads s) in
-    let text : List ℕ = text_of (bytes_in ms d.0.image) d.0.node in
+    let text : List ℕ = contents_of (bytes_in ms d.0.image) d.0.node in
     let x = link_read (g.G.Gathered.held c.advance.new.images) h (c.advance.ensures.stays ∙ i.held) c.in-Some-link.link d.0 c.link_text_in-text.result.now d.2 d.3 (c.link_text_in-text.ensures d.0) in
     let full : List (Bor (List ℕ)) → Type 0 = λ v. NoneEmpty v in
     let root : Place = record { image = 0; node = c.root_in.result } in

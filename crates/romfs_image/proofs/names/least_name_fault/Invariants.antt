@@ -1,7 +1,7 @@
 use Rattle.std.proofs.Common.{take}
 use Rattle.record_walk.specs.Sweep.{IsLeastRowFault}
-use Rattle.romfs_image.specs.Phases.{HasNameFault, IsWellNamed}
+use Rattle.romfs_image.specs.Phases.{IsNameFault, IsWellNamed}
 use Rattle.romfs_image.proofs.names.least_name_fault.Given as goal
 
 abbrev pub invariant-loop-i : goal.invariant-loop-i
-invariant-loop-i l = IsLeastRowFault (IsWellNamed l.b.bytes.now l.b.root l.all) (HasNameFault l.b.bytes.now l.b.root l.all) (take l.i l.listed) l.noted
+invariant-loop-i l = IsLeastRowFault (IsWellNamed l.b.bytes.now l.b.root l.all) (IsNameFault l.b.bytes.now l.b.root l.all) (take l.i l.listed) l.noted

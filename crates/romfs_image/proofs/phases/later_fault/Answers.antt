@@ -5,7 +5,7 @@ use Rattle.record_walk.specs.declared.reference.Row.{Row}
 use Rattle.romfs_format.specs.Record.{IsSound}
 use Rattle.romfs_format.specs.Tree.{extents_of}
 use Rattle.record_walk.specs.Sweep.{IsLeastRowFault}
-use Rattle.romfs_image.specs.Phases.{overlap, IsWellNamed, HasNameFault}
+use Rattle.romfs_image.specs.Phases.{overlap, IsWellNamed, IsNameFault}
 use Rattle.romfs_image.proofs.Composed.{well_or_fault, listed_sound}
 use Rattle.romfs_image.proofs.phases.later_fault.Goals as goal
 
@@ -20,4 +20,4 @@ pub returns : goal.returns
 returns c =
     well_or_fault c.args.b.now.bytes.now c.args.b.now.root c.args.most c.args.rows.now c.in_ok-named.named c.in_default.ensures
     (subst (IsLeastOf (OverlapsAt (extents_of c.args.b.now.bytes.now c.args.b.now.root c.args.rows.now))) c.in_default-2.is c.in_ok-at.ensures)
-    (subst (λ (xs : List Row). IsLeastRowFault (IsWellNamed c.args.b.now.bytes.now c.args.b.now.root c.args.rows.now) (HasNameFault c.args.b.now.bytes.now c.args.b.now.root c.args.rows.now) xs c.in_ok-named.named) c.listed.ensures c.in_ok-named.ensures)
+    (subst (λ (xs : List Row). IsLeastRowFault (IsWellNamed c.args.b.now.bytes.now c.args.b.now.root c.args.rows.now) (IsNameFault c.args.b.now.bytes.now c.args.b.now.root c.args.rows.now) xs c.in_ok-named.named) c.listed.ensures c.in_ok-named.ensures)

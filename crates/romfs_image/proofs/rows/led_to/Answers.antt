@@ -8,7 +8,7 @@ returns-then-type_at-ne0-clause-leads c = sym (step_done _ _ (8 - c.links.i) c.l
 
 pub returns-then-not-is_among-clause-leads : goal.returns-then-not-is_among-clause-leads
 returns-then-not-is_among-clause-leads c =
-    sym (step_lost _ _ (8 - c.links.i) c.links.p _ (sym c.type_at.ensures ∙ c.if-type_at-ne0.false) c.target_offset-target.ensures (sym c.is_among.ensures ∙ c.if-not-is_among.true))
+    sym (step_lost _ _ (8 - c.links.i) c.links.p _ (sym c.type_at.ensures ∙ c.if-type_at-ne0.false) c.spec_offset-target.ensures (sym c.is_among.ensures ∙ c.if-not-is_among.true))
     ∙ c.links.invariant.same
 
 pub links-preserved : goal.links-preserved
@@ -16,7 +16,7 @@ links-preserved c =
     let left : 8 - c.links.i ≡ suc (8 - (c.links.i + 1)) = omega arith in
     let among = sym c.is_among.ensures ∙ c.if-not-is_among.false in
     record {
-      same = sym (step_more _ _ (8 - (c.links.i + 1)) c.links.p _ (sym c.type_at.ensures ∙ c.if-type_at-ne0.false) c.target_offset-target.ensures among)
+      same = sym (step_more _ _ (8 - (c.links.i + 1)) c.links.p _ (sym c.type_at.ensures ∙ c.if-type_at-ne0.false) c.spec_offset-target.ensures among)
           ∙ ap (λ (n : ℕ). follow c.args.b.now.bytes.now c.args.rows.now n c.links.p) (sym left) ∙ c.links.invariant.same;
       sound = row_sound _ _ _ _ c.requires.rows among;
     }

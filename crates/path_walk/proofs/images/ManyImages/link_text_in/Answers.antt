@@ -1,5 +1,5 @@
 use Rattle.std.proofs.Common.{◌≡◌, ℕ, List, map, get_or, refl, sym, ap, ◌∙◌, arith}
-use Rattle.rom_tree.specs.Image.{text_of}
+use Rattle.rom_tree.specs.Image.{contents_of}
 use Rattle.rom_tree.proofs.Named.{has_link}
 use Rattle.path_walk.specs.Graft.{bytes_in}
 use Rattle.path_walk.proofs.GraftNodes.{map_bytes, place_within, place_node}
@@ -27,4 +27,4 @@ returns g c = λ t h.
     let y = c.index-images-place.result in
     let w : bytes_in (map f xs) i ≡ (f (get_or xs i y)).bytes = map_bytes f xs i y (place_within g.T.Viewed.image c.args.self.now.images.now c.args.place.image c.args.place.node.0 c.requires.0.node c.requires.1.node) in
     let z : (f y).bytes ≡ bytes_in (map f xs) t.image = ap (λ v. (f v).bytes) c.index-images-place.is ∙ (sym w ∙ ap (bytes_in (map f xs)) h.image) in
-    c.link_text.ensures t.node (place_node f xs i c.args.place.node.0 y t.node c.index-images-place.is h.node) ∙ ap (λ (v : List ℕ). text_of v t.node) z
+    c.link_text.ensures t.node (place_node f xs i c.args.place.node.0 y t.node c.index-images-place.is h.node) ∙ ap (λ (v : List ℕ). contents_of v t.node) z

@@ -1,6 +1,6 @@
 use Rattle.std.proofs.Common.{◌≢◌, ℕ, sym, ap, subst, ◌∙◌, arith}
 use Rattle.romfs_format.specs.Record.{IsSound, HasRecordFault}
-use Rattle.romfs_format.specs.Refers.{offset_of, some_offset}
+use Rattle.romfs_format.specs.Refers.{reference_offset, some_offset}
 use Rattle.romfs_format.proofs.Bridge.{offset_some}
 use Rattle.romfs_format.proofs.Faults.{sound_faultless}
 use Rattle.romfs_format.proofs.Lawful.{own_list, after_following}
@@ -8,12 +8,12 @@ use Rattle.romfs_image.proofs.accessible.AccessibleRecords.edges.Goals as goal
 
 pub returns-in-Some-clause-unsound : goal.returns-in-Some-clause-unsound
 returns-in-Some-clause-unsound c = λ s.
-    let e = offset_some (offset_of c.args.self.now.bytes.now c.args.self.now.root c.args.x) c.args.at c.requires.target in
+    let e = offset_some (reference_offset c.args.self.now.bytes.now c.args.self.now.root c.args.x) c.args.at c.requires.target in
     sound_faultless (subst (IsSound c.args.self.now.bytes.now c.args.self.now.root) (sym e.1) s) c.in-Some.number c.in-Some.ensures.fault.here
 
 pub returns-clause-faultless : goal.returns-clause-faultless
 returns-clause-faultless c = λ f l.
-    let e = offset_some (offset_of c.args.self.now.bytes.now c.args.self.now.root c.args.x) c.args.at c.requires.target in
+    let e = offset_some (reference_offset c.args.self.now.bytes.now c.args.self.now.root c.args.x) c.args.at c.requires.target in
     sound_faultless c.in_default.ensures.sound f.number (subst (λ (p : ℕ). HasRecordFault c.args.self.now.bytes.now c.args.self.now.root p f.number) (sym e.1) l.number)
 
 pub returns-clause-own_target : goal.returns-clause-own_target
