@@ -1,0 +1,4 @@
+pub mod Following
+pub mod Copies
+pub mod Standing
+pub mod Tables

@@ -1,0 +1,13 @@
+//! Open files.
+#![tactic(auto)]
+
+mod calls;
+mod copied;
+mod error;
+mod images;
+mod lent;
+mod opened;
+mod slot;
+
+pub use error::CallError;
+pub use slot::{Fd, Slots};
