@@ -141,3 +141,15 @@ image_in f xs us i y e l =
       number = λ n x h. let r = by_map (graft_node i) (node_in (map f xs) i n) x h in ap (λ (s : GraftNode). Some s.image) (sym r.2);
       index = λ d c. index_map f xs i y d c l ∙ ap (λ z. (f z).cursor_index d c) (sym e);
     }
+
+module _ {F R : Type 0} (f : Option ℕ → List ℕ → Node → ℕ → Outcome R) (v : View F) (old : OpenNode) (o : Open F) (m : Image) (i : IsImage v old.image m) (h : stands v old ≡ Some o) where
+  -- the outcome of a call in a view, and in the image alone
+  pub in_view : f (v.number o.place) (v.names.bytes o.place) (v.names.node o.place) o.position ≡ f (v.label old.image) m.bytes (v.names.node o.place) o.position
+  in_view =
+      let k : IsOpen v old o = is_open v old o h in
+      ap (λ (w : Option ℕ). f w (v.names.bytes o.place) (v.names.node o.place) o.position) (i.number old.node.0 o.place k.place)
+      ∙ ap (λ (w : List ℕ). f (v.label old.image) w (v.names.node o.place) o.position) (i.bytes old.node.0 o.place k.place)
+
+  pub moves_in_view : (new : OpenNode) (r : Result R CallError) → Moves (image_view m) (in_image v o) old new (f (v.label old.image) m.bytes (v.names.node o.place) o.position) r
+      → Moves v o old new (f (v.number o.place) (v.names.bytes o.place) (v.names.node o.place) o.position) r
+  moves_in_view new r k = moves_back v old new o m _ _ r i h in_view k

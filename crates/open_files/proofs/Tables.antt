@@ -3,14 +3,17 @@ use Rattle.std.proofs.Common.{◌≡◌, ℕ, zero, suc, ◌<◌, Bool, true, fa
 use Rattle.std.specs.Prelude.{slice_get, slice_set, option_and_then, is_some, ◌&&◌, if◌then◌else◌, position, is_none, IsErrAnd, MatchResult}
 use Rattle.std.specs.List.{position_or_len}
 use Rattle.std.proofs.lemmas.Bool.{false≢true}
+use Rattle.rom_tree.specs.Tree.{ino_of, is_directory, entries_of, entry_at}
+use Rattle.rom_tree.specs.Image.{Image}
+use Rattle.rom_tree.proofs.Named.{node_number}
 use Rattle.path_walk.proofs.Mounts.{and_left, and_right}
 use Rattle.open_files.specs.declared.error.CallError.{CallError}
 use Rattle.open_files.specs.declared.error.CallError.TheVariants.{Ebadf, Enxio, Emfile}
 use Rattle.open_files.specs.declared.slot.OpenNode.{OpenNode}
-use Rattle.open_files.specs.Calls.{Answer, answer, refuse, give}
-use Rattle.open_files.specs.Machine.{Open, Table, Outcome, open_at, put, emptied, opened, on_open, after, closed, lowest_free, open_free, open_place}
-use Rattle.open_files.specs.Slots.{View, stands, moved, Moves, is_open, all_stand, table_by, are_sound, table_of}
-use Rattle.open_files.proofs.Standing.{none_some}
+use Rattle.open_files.specs.Calls.{Answer, answer, refuse, give, Of, Named}
+use Rattle.open_files.specs.Machine.{Open, Table, Outcome, open_at, put, emptied, opened, on_open, after, closed, lowest_free, open_free, open_place, directory_only, next_entry, readdir_on}
+use Rattle.open_files.specs.Slots.{View, IsImage, stands, moved, Moves, LeadsOn, is_open, all_stand, table_by, are_sound, table_of}
+use Rattle.open_files.proofs.Standing.{none_some, IsOpen, is_open as opened_is}
 
 pub and_both : (a b : Bool) → a ≡ true → b ≡ true → (a && b) ≡ true
 and_both true b h k = k
@@ -177,3 +180,35 @@ module _ {F : Type 0} (v : View F) (slots : List (Option OpenNode)) where
 
   pub open_sound : (slots' : List (Option OpenNode)) (i : ℕ) (s : OpenNode) (o : Open F) → slots' ≡ slice_set slots i (Some s) → stands v s ≡ Some o → are_sound v slots ≡ true → are_sound v slots' ≡ true
   open_sound slots' i s o e k g = set_stands (stands v) slots slots' i (Some s) g e (ap is_some k)
+
+-- where a cursor leads on
+
+within_by : (slots : List (Option OpenNode)) (i : ℕ) (s : OpenNode) → get_or slots i None ≡ Some s → i < length slots
+within_by [] i s e = absurd (none_some s e)
+within_by (t ∷ slots) zero s e = omega arith
+within_by (t ∷ slots) (suc i) s e = let k = within_by slots i s e in omega (arith, k)
+
+get_set : (slots : List (Option OpenNode)) (i : ℕ) (o : Option OpenNode) → i < length slots → get_or (slice_set slots i o) i None ≡ o
+get_set [] i o l = absurd (omega (arith, l))
+get_set (s ∷ slots) zero o l = refl
+get_set (s ∷ slots) (suc i) o l = get_set slots i o (omega (arith, l))
+
+on_directory : {R : Type 0} (b : Bool) (a : Outcome R) (r : R × ℕ) → directory_only b a ≡ Ok r → b ≡ true
+on_directory true a r e = refl
+on_directory false a r e = absurd (cc)
+
+module _ {F : Type 0} (v : View F) where
+  pub leads_on : (slots slots' : List (Option OpenNode)) (fd : ℕ) (s new : OpenNode) (k : HasOpen v slots fd s) (m : Image) (r : Option (Of Named)) → get_or slots fd None ≡ Some s
+      → slots' ≡ slice_set slots fd (Some new) → IsImage v s.image m → Moves v k.what s new (readdir_on (v.number k.what.place) (v.names.node k.what.place) k.what.position) (Ok r)
+      → LeadsOn v (table_of v slots') fd new.image new.position
+  leads_on slots slots' fd s new k m r g e i w =
+      λ o h.
+      let n : get_or slots' fd None ≡ Some new = ap (λ (z : List (Option OpenNode)). get_or z fd None) e ∙ get_set slots fd (Some new) (within_by slots fd s g) in
+      let a : stands v new ≡ Some o = sym (open-table (stands v) slots' fd ∙ ap (option_and_then (stands v)) n) ∙ h in
+      let j : IsOpen v new o = opened_is v new o a in
+      let q : moved k.what w.0 ≡ o = (let z : Some (moved k.what w.0) ≡ Some o = sym w.2 ∙ a in cc) in
+      let d : is_directory (v.names.node o.place) ≡ true = ap (λ (z : Open F). is_directory (v.names.node z.place)) (sym q)
+          ∙ on_directory (is_directory (v.names.node k.what.place)) (next_entry (v.number k.what.place) k.what.position (entry_at (entries_of (v.names.node k.what.place)) k.what.position)) (r, w.0) w.1 in
+      let P : ℕ → Type 0 = λ z. IsImage v z m in
+      let b : ino_of (v.names.node o.place) ≡ new.node.0 = node_number m new.node.0 (v.names.node o.place) ((subst P (sym w.3) i).node new.node.0 o.place j.place) in
+      ap (λ (z : ℕ). v.index new.image z new.position) b ∙ j.directory d
