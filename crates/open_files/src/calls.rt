@@ -1,14 +1,82 @@
 //! The calls on descriptors, once for one image and for several.
-ghost use Rattle.std.specs.Prelude.{◌≡◌, ℕ, true, length, take, drop, Option, Some, None, Ok, Err, MatchResult, MatchOption, option_map};
+ghost use Rattle.std.specs.Prelude.{◌≡◌, ℕ, true, length, take, drop, Option, Some, None, Ok, Err, MatchResult, MatchOption, option_map, ◌||◌, ◌≤◌};
+ghost use Rattle.rom_tree.specs.Tree.{is_directory, is_regular, is_link};
+ghost use Rattle.rom_tree.specs.Image.{stat_of};
 ghost use Rattle.open_files.specs.Calls.{Of, Named, answer, viewed};
+ghost use Rattle.open_files.specs.Machine.{Table, open_place, read_link};
 ghost use Rattle.open_files.specs.Slots.{are_sound, table_of, calls_of, labelled, lent_by, named_by, LeadsOn};
 
 use crate::error::CallError;
 use crate::images::Images;
+use crate::lent::{is_openable, link_piece};
 use crate::opened;
-use crate::slot::{Fd, Slots};
-use rom_tree::image::TreeImage;
-use rom_tree::types::{Entry, Piece, Stat};
+use crate::slot::{Fd, OpenNode, Slots};
+use rom_tree::image::{TreeImage, is_link_at};
+use rom_tree::types::{Cursor, Entry, NodeId, Piece, Stat};
+
+/// The kind and numbers of the node at a place.
+pub(crate) fn stat<'a, T: TreeImage<'a>, I: Images<'a, T>>(
+    images: &I,
+    image: u32,
+    node: NodeId,
+) -> (u32, Stat)
+    requires { (x : I.Spot) × ((I.view images.now).place image node.0 ≡ Some x) }
+    ensures { (x : I.Spot) → (I.view images.now).place image node.0 ≡ Some x
+        → labelled (I.view images.now).label (λ s. s) result
+        ≡ ((I.view images.now).number x, stat_of ((I.view images.now).names.node x)) }
+{
+    (image, images.image(image).stat(node))
+}
+
+/// The text of the symbolic link at a place.
+pub(crate) fn readlink<'a, T: TreeImage<'a>, I: Images<'a, T>>(
+    images: &I,
+    image: u32,
+    node: NodeId,
+) -> Result<(u32, Piece<'a>), CallError>
+    requires { (x : I.Spot) × ((I.view images.now).place image node.0 ≡ Some x) }
+    ensures { (x : I.Spot) (t : Table I.Spot) → (I.view images.now).place image node.0 ≡ Some x
+        → read_link ((I.view images.now).number x) ((I.view images.now).names.bytes x) t
+        ((I.view images.now).names.node x) (is_link ((I.view images.now).names.node x))
+        ≡ answer (viewed (labelled (I.view images.now).label lent_by) result) t }
+{
+    let holder = images.image(image);
+    if !is_link_at(holder, node) {
+        return Err(CallError::Einval);
+    }
+    Ok((image, link_piece(holder, node)))
+}
+
+/// Opens the directory or regular file at a place, at the lowest free number.
+pub(crate) fn open<'a, T: TreeImage<'a>, I: Images<'a, T>, const N: usize>(
+    images: &I,
+    slots: &mut Slots<N>,
+    image: u32,
+    node: NodeId,
+) -> Result<Fd, CallError>
+    requires place { (x : I.Spot) × ((I.view images.now).place image node.0 ≡ Some x) }
+    requires sound { are_sound (I.view images.now) slots.old.slots ≡ true }
+    requires narrow { N ≤ 65536 }
+    ensures reply { (x : I.Spot) → (I.view images.now).place image node.0 ≡ Some x
+        → open_place (table_of (I.view images.now) slots.old.slots) x
+        (is_directory ((I.view images.now).names.node x) || is_regular ((I.view images.now).names.node x))
+        ≡ answer (viewed (λ d. d.0) result) (table_of (I.view images.now) slots.new.slots) }
+    ensures sound { are_sound (I.view images.now) slots.new.slots ≡ true }
+{
+    if !is_openable(images.image(image), node) {
+        return Err(CallError::Enxio);
+    }
+    let Some(i) = slots.free() else {
+        return Err(CallError::Emfile);
+    };
+    let opened = OpenNode {
+        image,
+        node,
+        position: Cursor::START.0,
+    };
+    slots.set(i, Some(opened));
+    Ok(Fd(i as u32))
+}
 
 /// The kind and numbers of an open node.
 pub(crate) fn fstat<'a, T: TreeImage<'a>, I: Images<'a, T>, const N: usize>(

@@ -6,6 +6,7 @@ mod copied;
 mod error;
 mod images;
 mod lent;
+pub mod one_image;
 mod opened;
 mod slot;
 
