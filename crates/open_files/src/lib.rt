@@ -4,6 +4,7 @@
 mod calls;
 mod copied;
 mod error;
+mod files;
 mod images;
 mod lent;
 pub mod one_image;
@@ -11,4 +12,5 @@ mod opened;
 mod slot;
 
 pub use error::CallError;
+pub use files::Files;
 pub use slot::{Fd, Slots};
