@@ -15,7 +15,7 @@ use Rattle.open_files.specs.Slots.{View, image_view, graft_node, index_in, graft
 pub none_some : {A : Type 0} (x : A) → None ≡ Some x → ⊥
 none_some x h = cc
 
-by_map : {A B : Type 0} (f : A → B) (v : Option A) (y : B) → option_map f v ≡ Some y → (x : A) × (v ≡ Some x) × (f x ≡ y)
+pub by_map : {A B : Type 0} (f : A → B) (v : Option A) (y : B) → option_map f v ≡ Some y → (x : A) × (v ≡ Some x) × (f x ≡ y)
 by_map f None y h = absurd (none_some y h)
 by_map f (Some x) y h = (x, refl, cc)
 

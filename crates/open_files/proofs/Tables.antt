@@ -11,7 +11,7 @@ use Rattle.open_files.specs.declared.error.CallError.{CallError}
 use Rattle.open_files.specs.declared.error.CallError.TheVariants.{Ebadf, Enxio, Emfile}
 use Rattle.open_files.specs.declared.slot.OpenNode.{OpenNode}
 use Rattle.open_files.specs.Calls.{Answer, answer, refuse, give, Of, Named}
-use Rattle.open_files.specs.Machine.{Open, Table, Outcome, open_at, put, emptied, opened, on_open, after, closed, lowest_free, open_free, open_place, directory_only, next_entry, readdir_on}
+use Rattle.open_files.specs.Machine.{Open, Table, Outcome, open_at, put, opened, on_open, after, closed, lowest_free, open_free, open_place, directory_only, next_entry, readdir_on}
 use Rattle.open_files.specs.Slots.{View, IsImage, stands, moved, Moves, LeadsOn, is_open, all_stand, table_by, are_sound, table_of}
 use Rattle.open_files.proofs.Standing.{none_some, IsOpen, is_open as opened_is}
 
@@ -42,11 +42,6 @@ module _ {F : Type 0} (f : OpenNode → Option (Open F)) where
   unfolding all_stand
   stand-replicate zero = refl
   stand-replicate (suc n) = stand-replicate n
-
-  pub table-emptied : (slots : List (Option OpenNode)) → emptied (table_by f slots) ≡ replicate (length slots) None
-  unfolding table_by emptied
-  table-emptied [] = refl
-  table-emptied (s ∷ slots) = ap (λ (v : List (Option (Open F))). None ∷ v) (table-emptied slots)
 
   table_set : (slots : List (Option OpenNode)) (i : ℕ) (o : Option OpenNode) → table_by f (slice_set slots i o) ≡ slice_set (table_by f slots) i (option_and_then f o)
   unfolding table_by

@@ -4,3 +4,4 @@ pub mod Lending
 pub mod Machine
 pub mod Slots
 pub mod Sessions
+pub mod Space

@@ -91,10 +91,6 @@ module _ {F : Type 0} where
   unfoldable pub put : Table F → ℕ → Option (Open F) → Table F
   put t i o = slice_set t i o
 
-  -- the table with nothing open
-  unfoldable pub emptied : Table F → Table F
-  emptied t = map (λ o. None) t
-
   -- a call by a path: the refusal of the walk, or what becomes of the place that it leads to
   abbrev pub walked : {R : Type 0} → Table F → (F → Answer (Table F) R) → Result F WalkError → Answer (Table F) R
   walked t f (Err e) = refuse (error_of e) t
@@ -126,10 +122,14 @@ module _ {F : Type 0} where
   abbrev pub read_link : Option ℕ → List ℕ → Table F → Node → Bool → Answer (Table F) (Of Lent)
   read_link i b t x is_link = if is_link then give (i, lent b (places_of x)) t else refuse Einval t
 
-  -- The calls where names lead as in g. `number` is that of a place's image, where several are served.
-  -- Nothing is mounted by a table alone.
-  abbrev pub calls_over : Namespace F → (F → Option ℕ) → Calls (Table F)
-  calls_over g number = record {
+  -- nothing is open, of n numbers
+  abbrev pub no_files : ℕ → Table F
+  no_files n = replicate n None
+
+  -- The calls on a table of n numbers, where names lead as in g. `number` is that of a place's image, where
+  -- several are served. Nothing is mounted by a table alone.
+  abbrev pub calls_over : ℕ → Namespace F → (F → Option ℕ) → Calls (Table F)
+  calls_over n g number = record {
     lookup = λ t path. walked t (λ x. give (number x, ino_of (g.node x)) t) (resolution g path true);
     stat = λ t path. walked t (λ x. give (number x, stat_of (g.node x)) t) (resolution g path true);
     lstat = λ t path. walked t (λ x. give (number x, stat_of (g.node x)) t) (resolution g path false);
@@ -138,22 +138,18 @@ module _ {F : Type 0} where
     open_path = λ t path.
         walked t (λ x. open_place t x (is_directory (g.node x) || is_regular (g.node x))) (resolution g path true);
     fstat = λ t fd. on_open (λ x p. fstat_on (number x) (g.node x) p) t fd;
-    read_bytes = λ t fd n. on_open (λ x p. read_on (g.bytes x) n (g.node x) p) t fd;
-    lend_piece = λ t fd n. on_open (λ x p. lend_on (number x) (g.bytes x) n (g.node x) p) t fd;
+    read_bytes = λ t fd len. on_open (λ x p. read_on (g.bytes x) len (g.node x) p) t fd;
+    lend_piece = λ t fd max. on_open (λ x p. lend_on (number x) (g.bytes x) max (g.node x) p) t fd;
     map_piece = λ t fd off len. on_open (λ x p. map_on (number x) (g.bytes x) off len (g.node x) p) t fd;
     seek_to = λ t fd q. on_open (λ x p. seek_on q (g.node x) p) t fd;
     readdir = λ t fd. on_open (λ x p. readdir_on (number x) (g.node x) p) t fd;
     rewind = λ t fd. on_open (λ x p. rewind_on (g.node x) p) t fd;
     close = λ t fd. closed t fd (open_at t fd);
-    close_all = λ t. give tt (emptied t);
+    close_all = λ t. give tt (no_files n);
     mount_at = λ t i path. refuse Enodev t;
     unmount = λ t i. refuse Enodev t;
   }
 
 -- the calls on one image
-abbrev pub image_calls : Image → Calls (Table Node)
-image_calls m = calls_over (tree_namespace m.bytes m.tree) (λ x. None)
-
--- nothing is open, of n numbers
-abbrev pub no_files : {F : Type 0} → ℕ → Table F
-no_files n = replicate n None
+abbrev pub image_calls : ℕ → Image → Calls (Table Node)
+image_calls n m = calls_over n (tree_namespace m.bytes m.tree) (λ x. None)

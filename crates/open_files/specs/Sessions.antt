@@ -102,16 +102,16 @@ module _ {Shared Own : Type 0} where
     unmount = λ s i. shared_answer s (p.unmounted s.shared i);
   }
 
--- several images: the mounts are shared, and each session has a table
-abbrev pub graft_parts : List Image → Parts (List Mount) (Table GraftNode)
-graft_parts ms = record {
-  over = λ us. calls_over (graft ms us) (λ s. Some s.image);
+-- several images: the mounts are shared, and each session has a table of n numbers
+abbrev pub graft_parts : ℕ → List Image → Parts (List Mount) (Table GraftNode)
+graft_parts n ms = record {
+  over = λ us. calls_over n (graft ms us) (λ s. Some s.image);
   mounted = λ us i path. mounting ms us i path;
   unmounted = λ us i. unmounting ms us i;
 }
 
-abbrev pub space_calls : List Image → ℕ → Calls (Sessions (List Mount) (Table GraftNode))
-space_calls ms k = session_calls (graft_parts ms) k
+abbrev pub space_calls : ℕ → List Image → ℕ → Calls (Sessions (List Mount) (Table GraftNode))
+space_calls n ms k = session_calls (graft_parts n ms) k
 
 -- nothing is mounted, and no session has anything open
 abbrev pub no_sessions : ℕ → Sessions (List Mount) (Table GraftNode)

@@ -114,8 +114,8 @@ module _ {F : Type 0} where
   table_of v slots = table_by (stands v) slots
 
   -- the calls on images as they are served
-  abbrev pub calls_of : View F → Calls (Table F)
-  calls_of v = calls_over v.names v.number
+  abbrev pub calls_of : ℕ → View F → Calls (Table F)
+  calls_of n v = calls_over n v.names v.number
 
   -- the cursor of an entry of image i stands in the directory that is open at a number, where this now stands
   abbrev pub LeadsOn : View F → Table F → ℕ → ℕ → ℕ → Type 0

@@ -85,7 +85,7 @@ pub(crate) fn fstat<'a, T: TreeImage<'a>, I: Images<'a, T>, const N: usize>(
     fd: Fd,
 ) -> Result<(u32, Stat), CallError>
     requires { are_sound (I.view images.now) slots.now.slots ≡ true }
-    ensures { (calls_of (I.view images.now)).fstat (table_of (I.view images.now) slots.now.slots) fd.0
+    ensures { (calls_of N (I.view images.now)).fstat (table_of (I.view images.now) slots.now.slots) fd.0
         ≡ answer (viewed (labelled (I.view images.now).label (λ s. s)) result)
         (table_of (I.view images.now) slots.now.slots) }
 {
@@ -102,7 +102,7 @@ pub(crate) fn seek<'a, T: TreeImage<'a>, I: Images<'a, T>, const N: usize>(
     position: u64,
 ) -> Result<(), CallError>
     requires { are_sound (I.view images.now) slots.old.slots ≡ true }
-    ensures reply { (calls_of (I.view images.now)).seek_to (table_of (I.view images.now) slots.old.slots)
+    ensures reply { (calls_of N (I.view images.now)).seek_to (table_of (I.view images.now) slots.old.slots)
         fd.0 position ≡ answer result (table_of (I.view images.now) slots.new.slots) }
     ensures sound { are_sound (I.view images.now) slots.new.slots ≡ true }
 {
@@ -119,7 +119,7 @@ pub(crate) fn rewind<'a, T: TreeImage<'a>, I: Images<'a, T>, const N: usize>(
     fd: Fd,
 ) -> Result<(), CallError>
     requires { are_sound (I.view images.now) slots.old.slots ≡ true }
-    ensures reply { (calls_of (I.view images.now)).rewind (table_of (I.view images.now) slots.old.slots)
+    ensures reply { (calls_of N (I.view images.now)).rewind (table_of (I.view images.now) slots.old.slots)
         fd.0 ≡ answer result (table_of (I.view images.now) slots.new.slots) }
     ensures sound { are_sound (I.view images.now) slots.new.slots ≡ true }
 {
@@ -137,7 +137,7 @@ pub(crate) fn read<'a, T: TreeImage<'a>, I: Images<'a, T>, const N: usize>(
     buf: &mut [u8],
 ) -> Result<usize, CallError>
     requires { are_sound (I.view images.now) slots.old.slots ≡ true }
-    ensures reply { (calls_of (I.view images.now)).read_bytes
+    ensures reply { (calls_of N (I.view images.now)).read_bytes
         (table_of (I.view images.now) slots.old.slots) fd.0 (length buf.old)
         ≡ answer (viewed (λ n. take n buf.new) result) (table_of (I.view images.now) slots.new.slots) }
     ensures rest { MatchResult result (λ n. drop n buf.new ≡ drop n buf.old)
@@ -158,7 +158,7 @@ pub(crate) fn lend<'a, T: TreeImage<'a>, I: Images<'a, T>, const N: usize>(
     max: u64,
 ) -> Result<(u32, Piece<'a>), CallError>
     requires { are_sound (I.view images.now) slots.old.slots ≡ true }
-    ensures reply { (calls_of (I.view images.now)).lend_piece
+    ensures reply { (calls_of N (I.view images.now)).lend_piece
         (table_of (I.view images.now) slots.old.slots) fd.0 max
         ≡ answer (viewed (labelled (I.view images.now).label lent_by) result)
         (table_of (I.view images.now) slots.new.slots) }
@@ -179,7 +179,7 @@ pub(crate) fn map<'a, T: TreeImage<'a>, I: Images<'a, T>, const N: usize>(
     len: u64,
 ) -> Result<(u32, Piece<'a>), CallError>
     requires { are_sound (I.view images.now) slots.now.slots ≡ true }
-    ensures { (calls_of (I.view images.now)).map_piece
+    ensures { (calls_of N (I.view images.now)).map_piece
         (table_of (I.view images.now) slots.now.slots) fd.0 off len
         ≡ answer (viewed (labelled (I.view images.now).label lent_by) result)
         (table_of (I.view images.now) slots.now.slots) }
@@ -196,7 +196,7 @@ pub(crate) fn readdir<'a, T: TreeImage<'a>, I: Images<'a, T>, const N: usize>(
     fd: Fd,
 ) -> Result<Option<(u32, Entry<'a>)>, CallError>
     requires { are_sound (I.view images.now) slots.old.slots ≡ true }
-    ensures reply { (calls_of (I.view images.now)).readdir
+    ensures reply { (calls_of N (I.view images.now)).readdir
         (table_of (I.view images.now) slots.old.slots) fd.0
         ≡ answer (viewed (option_map {U = Of Named} (labelled (I.view images.now).label named_by)) result)
         (table_of (I.view images.now) slots.new.slots) }
@@ -221,7 +221,7 @@ pub(crate) fn close<'a, T: TreeImage<'a>, I: Images<'a, T>, const N: usize>(
     fd: Fd,
 ) -> Result<(), CallError>
     requires { are_sound (I.view images.now) slots.old.slots ≡ true }
-    ensures reply { (calls_of (I.view images.now)).close (table_of (I.view images.now) slots.old.slots)
+    ensures reply { (calls_of N (I.view images.now)).close (table_of (I.view images.now) slots.old.slots)
         fd.0 ≡ answer result (table_of (I.view images.now) slots.new.slots) }
     ensures sound { are_sound (I.view images.now) slots.new.slots ≡ true }
 {

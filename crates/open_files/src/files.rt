@@ -46,7 +46,7 @@ impl<'a, T: TreeImage<'a>, const N: usize> Files<'a, T, N> {
     ///
     /// Those of `path_walk::walk`.
     pub fn lookup(&mut self, path: &[u8]) -> Result<NodeId, CallError>
-        ensures reply { (image_calls (T.image self.old.image)).lookup (table_of (image_view (T.image self.old.image)) self.old.slots.slots) path.now
+        ensures reply { (image_calls N (T.image self.old.image)).lookup (table_of (image_view (T.image self.old.image)) self.old.slots.slots) path.now
             ≡ answer (viewed (unlabelled (λ n. n.0)) result) (table_of (image_view (T.image self.new.image)) self.new.slots.slots) }
         ensures image { (T.image self.new.image) ≡ (T.image self.old.image) }
     {
@@ -59,7 +59,7 @@ impl<'a, T: TreeImage<'a>, const N: usize> Files<'a, T, N> {
     ///
     /// Those of `path_walk::walk`.
     pub fn stat(&mut self, path: &[u8]) -> Result<Stat, CallError>
-        ensures reply { (image_calls (T.image self.old.image)).stat (table_of (image_view (T.image self.old.image)) self.old.slots.slots) path.now
+        ensures reply { (image_calls N (T.image self.old.image)).stat (table_of (image_view (T.image self.old.image)) self.old.slots.slots) path.now
             ≡ answer (viewed (unlabelled (λ s. s)) result) (table_of (image_view (T.image self.new.image)) self.new.slots.slots) }
         ensures image { (T.image self.new.image) ≡ (T.image self.old.image) }
     {
@@ -73,7 +73,7 @@ impl<'a, T: TreeImage<'a>, const N: usize> Files<'a, T, N> {
     ///
     /// Those of `path_walk::walk`.
     pub fn lstat(&mut self, path: &[u8]) -> Result<Stat, CallError>
-        ensures reply { (image_calls (T.image self.old.image)).lstat (table_of (image_view (T.image self.old.image)) self.old.slots.slots) path.now
+        ensures reply { (image_calls N (T.image self.old.image)).lstat (table_of (image_view (T.image self.old.image)) self.old.slots.slots) path.now
             ≡ answer (viewed (unlabelled (λ s. s)) result) (table_of (image_view (T.image self.new.image)) self.new.slots.slots) }
         ensures image { (T.image self.new.image) ≡ (T.image self.old.image) }
     {
@@ -86,7 +86,7 @@ impl<'a, T: TreeImage<'a>, const N: usize> Files<'a, T, N> {
     ///
     /// Those of `path_walk::walk`, then `Einval` where the node is no link.
     pub fn readlink(&mut self, path: &[u8]) -> Result<Piece<'a>, CallError>
-        ensures reply { (image_calls (T.image self.old.image)).readlink (table_of (image_view (T.image self.old.image)) self.old.slots.slots) path.now
+        ensures reply { (image_calls N (T.image self.old.image)).readlink (table_of (image_view (T.image self.old.image)) self.old.slots.slots) path.now
             ≡ answer (viewed (unlabelled lent_by) result) (table_of (image_view (T.image self.new.image)) self.new.slots.slots) }
         ensures image { (T.image self.new.image) ≡ (T.image self.old.image) }
     {
@@ -101,7 +101,7 @@ impl<'a, T: TreeImage<'a>, const N: usize> Files<'a, T, N> {
     /// Those of `path_walk::walk`, then `Enxio` where the node is neither, then `Emfile` where N are
     /// open.
     pub fn open(&mut self, path: &[u8]) -> Result<Fd, CallError>
-        ensures reply { (image_calls (T.image self.old.image)).open_path (table_of (image_view (T.image self.old.image)) self.old.slots.slots) path.now
+        ensures reply { (image_calls N (T.image self.old.image)).open_path (table_of (image_view (T.image self.old.image)) self.old.slots.slots) path.now
             ≡ answer (viewed (λ d. d.0) result) (table_of (image_view (T.image self.new.image)) self.new.slots.slots) }
         ensures image { (T.image self.new.image) ≡ (T.image self.old.image) }
     {
@@ -114,7 +114,7 @@ impl<'a, T: TreeImage<'a>, const N: usize> Files<'a, T, N> {
     ///
     /// `Ebadf` where nothing is open there.
     pub fn fstat(&self, fd: Fd) -> Result<Stat, CallError>
-        ensures { (image_calls (T.image self.now.image)).fstat (table_of (image_view (T.image self.now.image)) self.now.slots.slots) fd.0
+        ensures { (image_calls N (T.image self.now.image)).fstat (table_of (image_view (T.image self.now.image)) self.now.slots.slots) fd.0
             ≡ answer (viewed (unlabelled (λ s. s)) result) (table_of (image_view (T.image self.now.image)) self.now.slots.slots) }
     {
         one_image::fstat(&self.image, &self.slots, fd)
@@ -128,7 +128,7 @@ impl<'a, T: TreeImage<'a>, const N: usize> Files<'a, T, N> {
     ///
     /// `Ebadf` where nothing is open there, `Eisdir` where it is a directory.
     pub fn read(&mut self, fd: Fd, buf: &mut [u8]) -> Result<usize, CallError>
-        ensures reply { (image_calls (T.image self.old.image)).read_bytes (table_of (image_view (T.image self.old.image)) self.old.slots.slots) fd.0 (length buf.old)
+        ensures reply { (image_calls N (T.image self.old.image)).read_bytes (table_of (image_view (T.image self.old.image)) self.old.slots.slots) fd.0 (length buf.old)
             ≡ answer (viewed (λ n. take n buf.new) result) (table_of (image_view (T.image self.new.image)) self.new.slots.slots) }
         ensures rest { MatchResult result (λ n. drop n buf.new ≡ drop n buf.old)
             (λ e. buf.new ≡ buf.old) }
@@ -146,7 +146,7 @@ impl<'a, T: TreeImage<'a>, const N: usize> Files<'a, T, N> {
     ///
     /// `Ebadf` where nothing is open there, `Eisdir` where it is a directory.
     pub fn lend(&mut self, fd: Fd, max: u64) -> Result<Piece<'a>, CallError>
-        ensures reply { (image_calls (T.image self.old.image)).lend_piece (table_of (image_view (T.image self.old.image)) self.old.slots.slots) fd.0 max
+        ensures reply { (image_calls N (T.image self.old.image)).lend_piece (table_of (image_view (T.image self.old.image)) self.old.slots.slots) fd.0 max
             ≡ answer (viewed (unlabelled lent_by) result) (table_of (image_view (T.image self.new.image)) self.new.slots.slots) }
         ensures image { (T.image self.new.image) ≡ (T.image self.old.image) }
     {
@@ -161,7 +161,7 @@ impl<'a, T: TreeImage<'a>, const N: usize> Files<'a, T, N> {
     /// where `len` is 0 or the range does not end within the file, `Erange` where the bytes do not
     /// follow one another in the image.
     pub fn map(&self, fd: Fd, off: u64, len: u64) -> Result<Piece<'a>, CallError>
-        ensures { (image_calls (T.image self.now.image)).map_piece (table_of (image_view (T.image self.now.image)) self.now.slots.slots) fd.0 off len
+        ensures { (image_calls N (T.image self.now.image)).map_piece (table_of (image_view (T.image self.now.image)) self.now.slots.slots) fd.0 off len
             ≡ answer (viewed (unlabelled lent_by) result) (table_of (image_view (T.image self.now.image)) self.now.slots.slots) }
     {
         one_image::map(&self.image, &self.slots, fd, off, len)
@@ -173,7 +173,7 @@ impl<'a, T: TreeImage<'a>, const N: usize> Files<'a, T, N> {
     ///
     /// `Ebadf` where nothing is open there, `Eisdir` where it is a directory.
     pub fn seek(&mut self, fd: Fd, position: u64) -> Result<(), CallError>
-        ensures reply { (image_calls (T.image self.old.image)).seek_to (table_of (image_view (T.image self.old.image)) self.old.slots.slots) fd.0 position
+        ensures reply { (image_calls N (T.image self.old.image)).seek_to (table_of (image_view (T.image self.old.image)) self.old.slots.slots) fd.0 position
             ≡ answer result (table_of (image_view (T.image self.new.image)) self.new.slots.slots) }
         ensures image { (T.image self.new.image) ≡ (T.image self.old.image) }
     {
@@ -187,7 +187,7 @@ impl<'a, T: TreeImage<'a>, const N: usize> Files<'a, T, N> {
     ///
     /// `Ebadf` where nothing is open there, `Enotdir` where it is a file.
     pub fn readdir(&mut self, fd: Fd) -> Result<Option<Entry<'a>>, CallError>
-        ensures reply { (image_calls (T.image self.old.image)).readdir (table_of (image_view (T.image self.old.image)) self.old.slots.slots) fd.0
+        ensures reply { (image_calls N (T.image self.old.image)).readdir (table_of (image_view (T.image self.old.image)) self.old.slots.slots) fd.0
             ≡ answer (viewed (option_map {U = Of Named} (unlabelled named_by)) result) (table_of (image_view (T.image self.new.image)) self.new.slots.slots) }
         ensures cursor { MatchResult result (λ r. MatchOption r (Unit {0})
             (λ e. LeadsOn (image_view (T.image self.new.image)) (table_of (image_view (T.image self.new.image)) self.new.slots.slots)
@@ -203,7 +203,7 @@ impl<'a, T: TreeImage<'a>, const N: usize> Files<'a, T, N> {
     ///
     /// `Ebadf` where nothing is open there, `Enotdir` where it is a file.
     pub fn rewind(&mut self, fd: Fd) -> Result<(), CallError>
-        ensures reply { (image_calls (T.image self.old.image)).rewind (table_of (image_view (T.image self.old.image)) self.old.slots.slots) fd.0
+        ensures reply { (image_calls N (T.image self.old.image)).rewind (table_of (image_view (T.image self.old.image)) self.old.slots.slots) fd.0
             ≡ answer result (table_of (image_view (T.image self.new.image)) self.new.slots.slots) }
         ensures image { (T.image self.new.image) ≡ (T.image self.old.image) }
     {
@@ -216,7 +216,7 @@ impl<'a, T: TreeImage<'a>, const N: usize> Files<'a, T, N> {
     ///
     /// `Ebadf` where nothing is open there.
     pub fn close(&mut self, fd: Fd) -> Result<(), CallError>
-        ensures reply { (image_calls (T.image self.old.image)).close (table_of (image_view (T.image self.old.image)) self.old.slots.slots) fd.0
+        ensures reply { (image_calls N (T.image self.old.image)).close (table_of (image_view (T.image self.old.image)) self.old.slots.slots) fd.0
             ≡ answer result (table_of (image_view (T.image self.new.image)) self.new.slots.slots) }
         ensures image { (T.image self.new.image) ≡ (T.image self.old.image) }
     {

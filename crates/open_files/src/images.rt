@@ -1,9 +1,10 @@
 //! One image or several, by their numbers.
-ghost use Rattle.std.specs.Prelude.{◌≡◌, map};
+ghost use Rattle.std.specs.Prelude.{◌≡◌, ◌<◌, length, map, slice_index_or};
 ghost use Rattle.rom_tree.specs.Tree.{Node};
 ghost use Rattle.path_walk.specs.Graft.{GraftNode};
 ghost use Rattle.open_files.specs.Slots.{View, IsImage, HasPlace, image_view, graft_view};
 
+use arrayvec::ArrayVec;
 use path_walk::Mount;
 use rom_tree::image::{TreeImage, Viewed};
 
@@ -40,20 +41,28 @@ impl<'s, 'a, T: TreeImage<'a>> Images<'a, T> for One<'s, T> {
     }
 }
 
-/// The images of a slice, by their indices.
+/// The image of a number.
+pub(crate) fn image_of<'s, T>(images: &'s [T], image: u32) -> &'s T
+    requires { image < length images.now }
+    ensures { result.now ≡ slice_index_or images.now image result.now }
+{
+    &images[image as usize]
+}
+
+/// Several images by their indices, with their mounts.
 #[derive(Drop)]
 pub(crate) struct Several<'s, T> {
-    pub(crate) images: &'s [T],
-    pub(crate) mounts: &'s [Mount],
+    pub(crate) images: &'s Vec<T>,
+    pub(crate) mounts: &'s ArrayVec<Mount, 7>,
 }
 
 impl<'s, T: Viewed> Served for Several<'s, T> {
     ghost Spot = { GraftNode };
-    ghost view = { λ s. graft_view (map T.image s.images.now) s.mounts.now };
+    ghost view = { λ s. graft_view (map T.image s.images.now.items) s.mounts.now.items };
 }
 
 impl<'s, 'a, T: TreeImage<'a>> Images<'a, T> for Several<'s, T> {
     fn image(&self, image: u32) -> &T {
-        &self.images[image as usize]
+        image_of(self.images.as_slice(), image)
     }
 }

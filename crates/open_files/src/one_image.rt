@@ -2,7 +2,7 @@
 //! generic over the image can make them, whatever its size is.
 ghost use Rattle.std.specs.Prelude.{◌≡◌, ◌≤◌, ℕ, true, length, take, drop, Option, Some, None, Ok, Err, MatchResult, MatchOption, option_map};
 ghost use Rattle.rom_tree.specs.Tree.{Node, levels};
-ghost use Rattle.open_files.specs.Calls.{Of, Named, answer, viewed};
+ghost use Rattle.open_files.specs.Calls.{Of, Named, answer, give, viewed};
 ghost use Rattle.open_files.specs.Machine.{Table, image_calls};
 ghost use Rattle.open_files.specs.Slots.{image_view, are_sound, table_of, unlabelled, lent_by, named_by, LeadsOn};
 
@@ -21,7 +21,7 @@ use rom_tree::types::{Entry, NodeId, Piece, Stat};
 /// Those of `path_walk::walk`.
 pub fn lookup<'a, T: TreeImage<'a>>(image: &mut T, path: &[u8]) -> Result<NodeId, CallError>
     requires { levels (T.image image.old).tree ≤ 65 }
-    ensures reply { (t : Table Node) → (image_calls (T.image image.old)).lookup t path.now
+    ensures reply { (n : ℕ) (t : Table Node) → (image_calls n (T.image image.old)).lookup t path.now
         ≡ answer (viewed (unlabelled (λ n. n.0)) result) t }
     ensures stays { T.image image.new ≡ T.image image.old }
 {
@@ -36,7 +36,7 @@ pub fn lookup<'a, T: TreeImage<'a>>(image: &mut T, path: &[u8]) -> Result<NodeId
 /// Those of `path_walk::walk`.
 pub fn stat<'a, T: TreeImage<'a>>(image: &mut T, path: &[u8]) -> Result<Stat, CallError>
     requires { levels (T.image image.old).tree ≤ 65 }
-    ensures reply { (t : Table Node) → (image_calls (T.image image.old)).stat t path.now
+    ensures reply { (n : ℕ) (t : Table Node) → (image_calls n (T.image image.old)).stat t path.now
         ≡ answer (viewed (unlabelled (λ s. s)) result) t }
     ensures stays { T.image image.new ≡ T.image image.old }
 {
@@ -52,7 +52,7 @@ pub fn stat<'a, T: TreeImage<'a>>(image: &mut T, path: &[u8]) -> Result<Stat, Ca
 /// Those of `path_walk::walk`.
 pub fn lstat<'a, T: TreeImage<'a>>(image: &mut T, path: &[u8]) -> Result<Stat, CallError>
     requires { levels (T.image image.old).tree ≤ 65 }
-    ensures reply { (t : Table Node) → (image_calls (T.image image.old)).lstat t path.now
+    ensures reply { (n : ℕ) (t : Table Node) → (image_calls n (T.image image.old)).lstat t path.now
         ≡ answer (viewed (unlabelled (λ s. s)) result) t }
     ensures stays { T.image image.new ≡ T.image image.old }
 {
@@ -67,7 +67,7 @@ pub fn lstat<'a, T: TreeImage<'a>>(image: &mut T, path: &[u8]) -> Result<Stat, C
 /// Those of `path_walk::walk`, then `Einval` where the node is no link.
 pub fn readlink<'a, T: TreeImage<'a>>(image: &mut T, path: &[u8]) -> Result<Piece<'a>, CallError>
     requires { levels (T.image image.old).tree ≤ 65 }
-    ensures reply { (t : Table Node) → (image_calls (T.image image.old)).readlink t path.now
+    ensures reply { (n : ℕ) (t : Table Node) → (image_calls n (T.image image.old)).readlink t path.now
         ≡ answer (viewed (unlabelled lent_by) result) t }
     ensures stays { T.image image.new ≡ T.image image.old }
 {
@@ -91,7 +91,7 @@ pub fn open<'a, T: TreeImage<'a>, const N: usize>(
     requires deep { levels (T.image image.old).tree ≤ 65 }
     requires narrow { N ≤ 65536 }
     requires sound { are_sound (image_view (T.image image.old)) slots.old.slots ≡ true }
-    ensures reply { (image_calls (T.image image.old)).open_path (table_of (image_view (T.image image.old)) slots.old.slots) path.now
+    ensures reply { (image_calls N (T.image image.old)).open_path (table_of (image_view (T.image image.old)) slots.old.slots) path.now
         ≡ answer (viewed (λ d. d.0) result) (table_of (image_view (T.image image.old)) slots.new.slots) }
     ensures sound { are_sound (image_view (T.image image.old)) slots.new.slots ≡ true }
     ensures stays { T.image image.new ≡ T.image image.old }
@@ -111,7 +111,7 @@ pub fn fstat<'a, T: TreeImage<'a>, const N: usize>(
     fd: Fd,
 ) -> Result<Stat, CallError>
     requires { are_sound (image_view (T.image image.now)) slots.now.slots ≡ true }
-    ensures { (image_calls (T.image image.now)).fstat (table_of (image_view (T.image image.now)) slots.now.slots)
+    ensures { (image_calls N (T.image image.now)).fstat (table_of (image_view (T.image image.now)) slots.now.slots)
         fd.0 ≡ answer (viewed (unlabelled (λ s. s)) result)
         (table_of (image_view (T.image image.now)) slots.now.slots) }
 {
@@ -133,7 +133,7 @@ pub fn read<'a, T: TreeImage<'a>, const N: usize>(
     buf: &mut [u8],
 ) -> Result<usize, CallError>
     requires { are_sound (image_view (T.image image.now)) slots.old.slots ≡ true }
-    ensures reply { (image_calls (T.image image.now)).read_bytes (table_of (image_view (T.image image.now)) slots.old.slots)
+    ensures reply { (image_calls N (T.image image.now)).read_bytes (table_of (image_view (T.image image.now)) slots.old.slots)
         fd.0 (length buf.old) ≡ answer (viewed (λ n. take n buf.new) result)
         (table_of (image_view (T.image image.now)) slots.new.slots) }
     ensures rest { MatchResult result (λ n. drop n buf.new ≡ drop n buf.old)
@@ -158,7 +158,7 @@ pub fn lend<'a, T: TreeImage<'a>, const N: usize>(
     max: u64,
 ) -> Result<Piece<'a>, CallError>
     requires { are_sound (image_view (T.image image.now)) slots.old.slots ≡ true }
-    ensures reply { (image_calls (T.image image.now)).lend_piece (table_of (image_view (T.image image.now)) slots.old.slots)
+    ensures reply { (image_calls N (T.image image.now)).lend_piece (table_of (image_view (T.image image.now)) slots.old.slots)
         fd.0 max ≡ answer (viewed (unlabelled lent_by) result)
         (table_of (image_view (T.image image.now)) slots.new.slots) }
     ensures sound { are_sound (image_view (T.image image.now)) slots.new.slots ≡ true }
@@ -182,7 +182,7 @@ pub fn map<'a, T: TreeImage<'a>, const N: usize>(
     len: u64,
 ) -> Result<Piece<'a>, CallError>
     requires { are_sound (image_view (T.image image.now)) slots.now.slots ≡ true }
-    ensures { (image_calls (T.image image.now)).map_piece (table_of (image_view (T.image image.now)) slots.now.slots)
+    ensures { (image_calls N (T.image image.now)).map_piece (table_of (image_view (T.image image.now)) slots.now.slots)
         fd.0 off len ≡ answer (viewed (unlabelled lent_by) result)
         (table_of (image_view (T.image image.now)) slots.now.slots) }
 {
@@ -202,7 +202,7 @@ pub fn seek<'a, T: TreeImage<'a>, const N: usize>(
     position: u64,
 ) -> Result<(), CallError>
     requires { are_sound (image_view (T.image image.now)) slots.old.slots ≡ true }
-    ensures reply { (image_calls (T.image image.now)).seek_to (table_of (image_view (T.image image.now)) slots.old.slots)
+    ensures reply { (image_calls N (T.image image.now)).seek_to (table_of (image_view (T.image image.now)) slots.old.slots)
         fd.0 position ≡ answer result
         (table_of (image_view (T.image image.now)) slots.new.slots) }
     ensures sound { are_sound (image_view (T.image image.now)) slots.new.slots ≡ true }
@@ -222,7 +222,7 @@ pub fn readdir<'a, T: TreeImage<'a>, const N: usize>(
     fd: Fd,
 ) -> Result<Option<Entry<'a>>, CallError>
     requires { are_sound (image_view (T.image image.now)) slots.old.slots ≡ true }
-    ensures reply { (image_calls (T.image image.now)).readdir (table_of (image_view (T.image image.now)) slots.old.slots)
+    ensures reply { (image_calls N (T.image image.now)).readdir (table_of (image_view (T.image image.now)) slots.old.slots)
         fd.0 ≡ answer (viewed (option_map {U = Of Named} (unlabelled named_by)) result)
         (table_of (image_view (T.image image.now)) slots.new.slots) }
     ensures cursor { MatchResult result (λ r. MatchOption r (Unit {0})
@@ -247,7 +247,7 @@ pub fn rewind<'a, T: TreeImage<'a>, const N: usize>(
     fd: Fd,
 ) -> Result<(), CallError>
     requires { are_sound (image_view (T.image image.now)) slots.old.slots ≡ true }
-    ensures reply { (image_calls (T.image image.now)).rewind (table_of (image_view (T.image image.now)) slots.old.slots)
+    ensures reply { (image_calls N (T.image image.now)).rewind (table_of (image_view (T.image image.now)) slots.old.slots)
         fd.0 ≡ answer result
         (table_of (image_view (T.image image.now)) slots.new.slots) }
     ensures sound { are_sound (image_view (T.image image.now)) slots.new.slots ≡ true }
@@ -266,10 +266,19 @@ pub fn close<'a, T: TreeImage<'a>, const N: usize>(
     fd: Fd,
 ) -> Result<(), CallError>
     requires { are_sound (image_view (T.image image.now)) slots.old.slots ≡ true }
-    ensures reply { (image_calls (T.image image.now)).close (table_of (image_view (T.image image.now)) slots.old.slots)
+    ensures reply { (image_calls N (T.image image.now)).close (table_of (image_view (T.image image.now)) slots.old.slots)
         fd.0 ≡ answer result
         (table_of (image_view (T.image image.now)) slots.new.slots) }
     ensures sound { are_sound (image_view (T.image image.now)) slots.new.slots ≡ true }
 {
     calls::close(&One { image }, slots, fd)
+}
+
+/// Closes all that is open.
+pub fn close_all<'a, T: TreeImage<'a>, const N: usize>(image: &T, slots: &mut Slots<N>)
+    ensures reply { (t : Table Node) → (image_calls N (T.image image.now)).close_all t
+        ≡ give tt (table_of (image_view (T.image image.now)) slots.new.slots) }
+    ensures sound { are_sound (image_view (T.image image.now)) slots.new.slots ≡ true }
+{
+    *slots = Slots::new();
 }

@@ -7,8 +7,8 @@ use Rattle.open_files.specs.Machine.{Table, walked}
 use Rattle.open_files.proofs.one_image.lookup.Goals as goal
 
 pub returns-clause-reply : goal.returns-clause-reply
-returns-clause-reply g c = λ t.
+returns-clause-reply g c = λ n t.
     let m : Image = g.T.Viewed.image c.args.image.now in
     let w = c.in_ok-node.ensures.leads in
     ap (walked {R = Of ℕ} t (λ x. give (None, ino_of x) t)) w.1
-    ∙ ap (λ (n : ℕ). answer {R = Of ℕ} (Ok (None, n)) t) (node_number m c.in_ok-node.node.0 w.0 w.2)
+    ∙ ap (λ (z : ℕ). answer {R = Of ℕ} (Ok (None, z)) t) (node_number m c.in_ok-node.node.0 w.0 w.2)
