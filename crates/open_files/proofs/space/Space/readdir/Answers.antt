@@ -1,6 +1,6 @@
 use Rattle.std.proofs.Common.{◌≡◌, ℕ, ◌<◌, ◌≤◌, List, [], ◌∷◌, Option, Some, None, Bool, true, false, Result, Ok, Err, refl, sym, ap, ◌∙◌, subst, arith, rules, length, get_or, map, take}
 use Rattle.std.proofs.lemmas.List.{length-map}
-use Rattle.std.specs.Prelude.{option_map, ◌||◌}
+use Rattle.std.specs.Prelude.{option_map, ◌||◌, MatchResult, MatchOption}
 use Rattle.rom_tree.specs.declared.types.NodeId.{NodeId}
 use Rattle.rom_tree.specs.declared.types.Stat.{Stat}
 use Rattle.rom_tree.specs.declared.types.Piece.{Piece}
@@ -16,11 +16,11 @@ use Rattle.open_files.specs.declared.slot.Fd.{Fd}
 use Rattle.open_files.specs.Errors.{error_of}
 use Rattle.open_files.specs.Calls.{Answer, answer, give, Of, Lent, Named, viewed}
 use Rattle.open_files.specs.Machine.{Table, walked, read_link, open_place}
-use Rattle.open_files.specs.Slots.{View, graft_view, are_sound, table_of, calls_of, labelled, lent_by, named_by}
+use Rattle.open_files.specs.Slots.{View, graft_view, are_sound, table_of, calls_of, labelled, lent_by, named_by, LeadsOn}
 use Rattle.open_files.specs.Sessions.{Sessions, space_calls}
 use Rattle.open_files.specs.Space.{slots_at, all_sound, space_state}
 use Rattle.open_files.proofs.Tables.{refused}
-use Rattle.open_files.proofs.Sessions.{sound_at, slots_index, all_sound_set, own_sets, own_stays, same_state, looked_up}
+use Rattle.open_files.proofs.Sessions.{sound_at, slots_index, all_sound_set, own_sets, own_stays, same_state, looked_up, at_same}
 use Rattle.open_files.proofs.space.Space.readdir.Goals as goal
 
 pub readdir-requires : goal.readdir-requires
@@ -65,3 +65,16 @@ returns-clause-reply g c =
     let P : List (Option OpenNode) → Type 0 = λ z. are_sound v z ≡ true in
     let h : are_sound v (get_or ts k d).slots ≡ true = subst P q (sound_at n ms us (map (λ t. t.slots) ts) k c.args.self.now.sound) in
     own_sets (λ t. t.slots) n ms us ts k d c.readdir.new.slots (λ t. (calls_of n v).readdir t c.args.fd.0) (viewed (option_map {U = Of Named} (labelled (λ i. Some i) named_by)) c.readdir.result) l c.readdir.ensures.reply
+
+pub returns-clause-cursor : goal.returns-clause-cursor
+returns-clause-cursor g c =
+    let f = g.T.Viewed.image in
+    let ms : List Image = map f c.args.self.now.images.items in
+    let us : List Mount = c.args.self.now.mounts.items in
+    let n : ℕ = g.row.N in
+    let k : ℕ = c.args.session in
+    let v : View GraftNode = graft_view ms us in
+    let ts = c.args.self.now.tables in
+    let l : k < length ts = (let e = c.args.self.now.sessions in omega (arith, e, c.requires.session)) in
+    let E : List (Option OpenNode) → Type 0 = λ z. MatchResult c.readdir.result (λ r. MatchOption r (Unit {0}) (λ e. LeadsOn v (table_of v z) c.args.fd.0 e.0 e.1.cursor.0)) (λ e. Unit {0}) in
+    subst E (sym (at_same (λ t. t.slots) n ts k c.readdir.new.slots l)) c.readdir.ensures.cursor

@@ -1,0 +1,51 @@
+use Rattle.std.proofs.Common.{◌≡◌, ℕ, ◌<◌, ◌≤◌, List, [], ◌∷◌, Option, Some, None, Bool, true, false, Result, Ok, Err, refl, sym, ap, ◌∙◌, subst, arith, rules, length, get_or, map, take}
+use Rattle.std.proofs.lemmas.List.{length-map}
+use Rattle.std.specs.Prelude.{option_map, ◌||◌}
+use Rattle.rom_tree.specs.declared.types.NodeId.{NodeId}
+use Rattle.rom_tree.specs.declared.types.Stat.{Stat}
+use Rattle.rom_tree.specs.declared.types.Piece.{Piece}
+use Rattle.rom_tree.specs.declared.types.Entry.{Entry}
+use Rattle.rom_tree.specs.Tree.{ino_of, is_directory, is_regular, is_link}
+use Rattle.rom_tree.specs.Image.{Image, stat_of}
+use Rattle.path_walk.specs.declared.mount.Mount.{Mount}
+use Rattle.path_walk.specs.Resolution.{resolution}
+use Rattle.path_walk.specs.Graft.{GraftNode, graft, bytes_in}
+use Rattle.open_files.specs.declared.error.CallError.{CallError}
+use Rattle.open_files.specs.declared.slot.OpenNode.{OpenNode}
+use Rattle.open_files.specs.declared.slot.Fd.{Fd}
+use Rattle.open_files.specs.Errors.{error_of}
+use Rattle.open_files.specs.Calls.{Answer, answer, give, Of, Lent, Named, viewed}
+use Rattle.open_files.specs.Machine.{Table, walked, read_link, open_place}
+use Rattle.open_files.specs.Slots.{View, graft_view, are_sound, table_of, calls_of, labelled, lent_by, named_by}
+use Rattle.open_files.specs.Sessions.{Sessions, space_calls}
+use Rattle.open_files.specs.Space.{slots_at, all_sound, space_state}
+use Rattle.open_files.proofs.Tables.{refused}
+use Rattle.open_files.proofs.Sessions.{sound_at, slots_index, all_sound_set, own_sets, own_stays, same_state, looked_up}
+use Rattle.open_files.proofs.space.Space.close_all.Goals as goal
+use Rattle.open_files.proofs.Tables.{table-replicate, stand-replicate}
+use Rattle.open_files.specs.Machine.{no_files}
+use Rattle.open_files.specs.Slots.{stands}
+
+pub invariant_of-self-clause-sound : goal.invariant_of-self-clause-sound
+invariant_of-self-clause-sound g c =
+    let f = g.T.Viewed.image in
+    let ms : List Image = map f c.args.self.now.images.items in
+    let us : List Mount = c.args.self.now.mounts.items in
+    let n : ℕ = g.row.N in
+    let k : ℕ = c.args.session in
+    let v : View GraftNode = graft_view ms us in
+    let P : List (Option OpenNode) → Type 0 = λ z. are_sound v z ≡ true in
+    all_sound_set (λ t. t.slots) ms us c.args.self.now.tables k c.new.result c.args.self.now.sound (subst P (sym c.new.ensures.blank) (stand-replicate (stands v) n))
+
+pub returns-clause-reply : goal.returns-clause-reply
+returns-clause-reply g c =
+    let f = g.T.Viewed.image in
+    let ms : List Image = map f c.args.self.now.images.items in
+    let us : List Mount = c.args.self.now.mounts.items in
+    let n : ℕ = g.row.N in
+    let k : ℕ = c.args.session in
+    let v : View GraftNode = graft_view ms us in
+    let ts = c.args.self.now.tables in
+    let l : k < length ts = (let e = c.args.self.now.sessions in omega (arith, e, c.requires)) in
+    let e : table_of v c.new.result.slots ≡ no_files n = ap (table_of v) c.new.ensures.blank ∙ table-replicate (stands v) n in
+    own_sets (λ t. t.slots) n ms us ts k c.new.result c.new.result (λ t. (calls_of n v).close_all t) (Ok tt) l (ap (λ (z : Table GraftNode). give tt z) (sym e))
