@@ -1,5 +1,5 @@
 -- Bytes copied into a buffer.
-use Rattle.std.proofs.Common.{◌≡◌, ℕ, zero, suc, ◌+◌, ◌-◌, ◌<◌, ◌≤◌, List, [], ◌∷◌, ◌++◌, length, take, drop, map, refl, sym, ap, ◌∙◌, subst, arith, append_assoc, length-append, length-take, length-drop, min, Some}
+use Rattle.std.proofs.Common.{◌≡◌, ℕ, zero, suc, ◌+◌, ◌≤◌, List, [], ◌∷◌, ◌++◌, length, take, drop, refl, sym, ap, ◌∙◌, arith, append_assoc, length-append, length-take, length-drop, Some}
 use Rattle.std.proofs.lemmas.List.{length-map}
 use Rattle.std.specs.Prelude.{slice_index}
 use Rattle.rom_tree.specs.declared.types.Run.{Run}
@@ -57,10 +57,10 @@ copy_step b ps old first text new at done count o l t n e =
     let d : length B ≡ done = length-map (take done (drop at ps)) (λ (p : ℕ). slice_index b p) ∙ (length-take done (drop at ps) ∙ omega (arith, l)) in
     let a : take done old ≡ B = ap (take done) o ∙ take_front B (drop done first) done d in
     let f : drop (done + length text) old ≡ drop (done + count) first =
-        ap (λ (v : ℕ). drop (done + v) old) n ∙ (drop_add done count old ∙ (ap (drop count) (ap (drop done) o ∙ drop_front B (drop done first) done d) ∙ sym (drop_add done count first))) in
+    ap (λ (v : ℕ). drop (done + v) old) n ∙ (drop_add done count old ∙ (ap (drop count) (ap (drop done) o ∙ drop_front B (drop done first) done d) ∙ sym (drop_add done count first))) in
     let w : B ++ text ≡ bytes_of b (take (done + count) (drop at ps)) =
-        ap (λ (v : List ℕ). B ++ v) (t ∙ ap (λ (v : List ℕ). bytes_of b (take count v)) (drop_add at done ps))
-        ∙ (sym (map_append b (take done (drop at ps)) (take count (drop done (drop at ps)))) ∙ ap (bytes_of b) (sym (take_add done count (drop at ps)))) in
+    ap (λ (v : List ℕ). B ++ v) (t ∙ ap (λ (v : List ℕ). bytes_of b (take count v)) (drop_add at done ps))
+    ∙ (sym (map_append b (take done (drop at ps)) (take count (drop done (drop at ps)))) ∙ ap (bytes_of b) (sym (take_add done count (drop at ps)))) in
     e ∙ (ap (λ (v : List ℕ). v ++ (text ++ drop (done + length text) old)) a
     ∙ (ap (λ (v : List ℕ). B ++ (text ++ v)) f
     ∙ (sym (append_assoc B text (drop (done + count) first)) ∙ ap (λ (v : List ℕ). v ++ drop (done + count) first) w)))

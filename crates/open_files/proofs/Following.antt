@@ -1,17 +1,15 @@
 -- Places that follow one another.
-use Rattle.std.proofs.Common.{◌≡◌, ℕ, zero, suc, ◌+◌, ◌-◌, ◌<◌, ◌≤◌, Bool, true, false, List, [], ◌∷◌, length, get_or, take, drop, map, refl, sym, ap, ◌∙◌, subst, rules, arith, length-take, length-drop, ◌==◌, eq-eqb, nat_lt, tests, add-zero, min, Option, Some, None, IsSome, Ok, Err}
-use Rattle.std.specs.Prelude.{if◌then◌else◌, slice_index}
+use Rattle.std.proofs.Common.{◌≡◌, ℕ, zero, suc, ◌+◌, ◌-◌, ◌<◌, ◌≤◌, true, false, List, [], ◌∷◌, length, get_or, take, drop, map, refl, sym, ap, ◌∙◌, subst, rules, arith, length-take, length-drop, ◌==◌, eq-eqb, nat_lt, tests, add-zero, min, Option, Some, None, IsSome, Ok, Err}
+use Rattle.std.specs.Prelude.{slice_index}
 use Rattle.std.proofs.lemmas.Bool.{false_from_ne_true, eqb-true}
 use Rattle.std.proofs.lemmas.List.{get_or-take, get_or-drop}
 use Rattle.rom_tree.specs.Tree.{Node, places_of}
 use Rattle.rom_tree.specs.Image.{Image, image_node}
-use Rattle.rom_tree.specs.declared.types.Run.{Run}
 use Rattle.rom_tree.proofs.Rows.{row_bytes, row_end}
-use Rattle.open_files.specs.declared.error.CallError.{CallError}
 use Rattle.open_files.specs.declared.error.CallError.TheVariants.{Einval, Erange}
-use Rattle.open_files.specs.Calls.{Of, Lent}
+use Rattle.open_files.specs.Calls.{Lent}
 use Rattle.open_files.specs.Lending.{consecutive_from, first_place, consecutive, lent, lent_of, IsLongest}
-use Rattle.open_files.specs.Machine.{Outcome, map_within, map_places}
+use Rattle.open_files.specs.Machine.{map_within, map_places}
 
 -- the front from p on has the first len places
 pub consecutive-is : (p : ℕ) (qs : List ℕ) (len : ℕ) → len ≤ length qs → ((k : ℕ) → k < len → get_or qs k 0 ≡ p + k) → (len < length qs → get_or qs len 0 ≡ p + len → ⊥) → consecutive_from p qs ≡ take len qs
@@ -34,12 +32,12 @@ le_by a b h = search (rules, tests)
 pub front_more : (ps : List ℕ) (at place len add q : ℕ) → ((k : ℕ) → k < len → slice_index ps (at + k) ≡ place + k) → ((k : ℕ) → k < add → slice_index ps (at + len + k) ≡ q + k) → q ≡ place + len → (k : ℕ) → k < len + add → slice_index ps (at + k) ≡ place + k
 front_more ps at place len add q r s e k l =
     elim (nat_lt k len) as (λ v. nat_lt k len ≡ v → slice_index ps (at + k) ≡ place + k) [
-      true ↦ λ t. r k (lt_by k len t)
-    | false ↦ λ t.
-        let b : len ≤ k = le_by k len t in
-        let a : at + len + (k - len) ≡ at + k = omega arith in
-        let w : k - len < add = omega arith in
-        ap (slice_index ps) (sym a) ∙ (s (k - len) w ∙ omega arith)
+      | true ↦ λ t. r k (lt_by k len t)
+      | false ↦ λ t.
+          let b : len ≤ k = le_by k len t in
+          let a : at + len + (k - len) ≡ at + k = omega arith in
+          let w : k - len < add = omega arith in
+          ap (slice_index ps) (sym a) ∙ (s (k - len) w ∙ omega arith)
     ] refl
 
 pub record HasSome {A : Type 0} (o : Option A) : Type 0 where
@@ -99,8 +97,8 @@ module _ (ps : List ℕ) (at most : ℕ) where
       let p : first_place (take most (drop at ps)) ≡ place = first_get (take most (drop at ps)) ∙ (next_get 0 s ∙ (h.row 0 (omega arith) ∙ add-zero place)) in
       ap (λ (v : ℕ). consecutive_from v (take most (drop at ps))) p
       ∙ consecutive-is place (take most (drop at ps)) (suc n) (omega arith)
-        (λ k l. let lm : k < most = omega arith in next_get k lm ∙ h.row k l)
-        (λ l e. let lm : suc n < most = omega arith in h.ends lm (omega arith) (sym (next_get (suc n) lm) ∙ e))
+      (λ k l. let lm : k < most = omega arith in next_get k lm ∙ h.row k l)
+      (λ l e. let lm : suc n < most = omega arith in h.ends lm (omega arith) (sym (next_get (suc n) lm) ∙ e))
 
   pub front_length : (place len : ℕ) → IsLongest ps at most place len → length (consecutive (take most (drop at ps))) ≡ len
   front_length place len h =

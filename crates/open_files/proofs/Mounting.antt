@@ -1,16 +1,16 @@
 -- One mount more, and one less.
-use Rattle.std.proofs.Common.{◌≡◌, ℕ, zero, suc, ◌+◌, ◌≤◌, ◌<◌, Bool, true, false, List, [], ◌∷◌, ◌++◌, length, Option, Some, None, refl, sym, ap, ◌∙◌, nat_lt, rules, tests, arith, ◌==◌, eqb, eq-eqb, get_or}
+use Rattle.std.proofs.Common.{◌≡◌, ℕ, zero, suc, ◌+◌, ◌≤◌, ◌<◌, Bool, true, false, List, [], ◌∷◌, ◌++◌, length, Some, None, refl, sym, ap, ◌∙◌, nat_lt, rules, tests, arith, ◌==◌, eqb, eq-eqb, get_or}
 use Rattle.std.proofs.lemmas.Bool.{false≢true, eqb-true, false_from_ne_true}
 use Rattle.std.proofs.lemmas.Map.Steps.{length-le_from_distinct_below}
 use Rattle.std.proofs.lemmas.Map.Keys.{IsDistinct-cons}
 use Rattle.std.specs.List.{IsDistinct, AllByRecursion, list_any, position, position_or_len, remove}
 use Rattle.std.proofs.lemmas.List.Quantifiers.{position-Some}
 use Rattle.std.specs.Prelude.{not, ◌&&◌, ◌||◌, if◌then◌else◌, cond, find}
-use Rattle.rom_tree.specs.Tree.{Node, is_directory, ino_of}
+use Rattle.rom_tree.specs.Tree.{is_directory, ino_of}
 use Rattle.rom_tree.specs.Image.{Image}
 use Rattle.path_walk.specs.declared.mount.Mount.{Mount}
 use Rattle.path_walk.specs.Resolution.{resolution}
-use Rattle.path_walk.specs.Graft.{GraftNode, Names, graft, covers, tree_in, node_in, is_image, is_mount, is_apart, are_apart, are_mounts, is_directory_node}
+use Rattle.path_walk.specs.Graft.{GraftNode, Names, graft, covers, tree_in, node_in, is_mount, is_apart, are_apart, are_mounts, is_directory_node}
 use Rattle.path_walk.specs.Trails.{IsMember, first, later}
 use Rattle.path_walk.proofs.Mounts.{and_left, and_right, good_mount}
 use Rattle.path_walk.proofs.GraftNodes.{none_some, node_in-number, node_below}
@@ -46,8 +46,8 @@ covers_turned u v h = false_from_ne_true (covers v.on v.dir.0 u) (λ t.
 find_first : (p : Mount → Bool) (v : Mount) (us : List Mount) → find p (v ∷ us) ≡ None → (p v ≡ false) × (find p us ≡ None)
 find_first p v us h =
     elim (p v) as (λ w. p v ≡ w → (if w then Some v else find p us) ≡ None → (p v ≡ false) × (find p us ≡ None)) [
-      true ↦ λ e k. absurd (none_some v (sym k))
-    | false ↦ λ e k. (e, k)
+      | true ↦ λ e k. absurd (none_some v (sym k))
+      | false ↦ λ e k. (e, k)
     ] refl h
 
 apart_push : (v u : Mount) (us : List Mount) → are_apart v us ≡ true → is_apart v u ≡ true → are_apart v (us ++ u ∷ []) ≡ true
@@ -114,8 +114,8 @@ mounts_room ms us i h w s l m =
     let z : (0 == i) ≡ false = false_from_ne_true (0 == i) (λ t. absurd (omega (arith, s, eqb-true 0 i t))) in
     let d : IsDistinct eqb (0 ∷ i ∷ images_of us) = IsDistinct-cons eqb 0 (i ∷ images_of us) (z, away 0 us (none_at_zero ms us (λ u n. (good_mount ms us u h n).some))) (IsDistinct-cons eqb i (images_of us) (away i us m) (images_distinct ms us h)) in
     let k = length-le_from_distinct_below (0 ∷ i ∷ images_of us) (length ms) d (λ q e.
-        or_elim (q == 0) (list_any (eqb q) (i ∷ images_of us)) e (λ t. omega (arith, l, eqb-true q 0 t))
-        (λ t. or_elim (q == i) (list_any (eqb q) (images_of us)) t (λ t. omega (arith, l, eqb-true q i t)) (λ t. images_below ms us q (λ u n. (good_mount ms us u h n).image) t))) in
+    or_elim (q == 0) (list_any (eqb q) (i ∷ images_of us)) e (λ t. omega (arith, l, eqb-true q 0 t))
+    (λ t. or_elim (q == i) (list_any (eqb q) (images_of us)) t (λ t. omega (arith, l, eqb-true q i t)) (λ t. images_below ms us q (λ u n. (good_mount ms us u h n).image) t))) in
     omega (arith, k, w, images_length us)
 
 -- the mount that is added
@@ -154,8 +154,8 @@ mount_none : (j : ℕ) (us : List Mount) → length us ≤ position_or_len (λ u
 mount_none j [] e = refl
 mount_none j (u ∷ us) e =
     elim (u.image == j) as (λ w. (u.image == j) ≡ w → suc (length us) ≤ cond (not w) (1 + position_or_len (λ u. u.image == j) us) 0 → (w || is_mounted j us) ≡ false) [
-      true ↦ λ q k. absurd (omega (arith, k))
-    | false ↦ λ q k. mount_none j us (omega (arith, k))
+      | true ↦ λ q k. absurd (omega (arith, k))
+      | false ↦ λ q k. mount_none j us (omega (arith, k))
     ] refl e
 
 le_by : (a b : ℕ) → nat_lt a b ≡ false → b ≤ a
@@ -164,8 +164,8 @@ le_by a b h = search (rules, tests)
 past : (a b : ℕ) → None ≡ cond (nat_lt a b) (Some a) None → b ≤ a
 past a b e =
     elim (nat_lt a b) as (λ w. nat_lt a b ≡ w → None ≡ cond w (Some a) None → b ≤ a) [
-      true ↦ λ q k. absurd (none_some a k)
-    | false ↦ λ q k. le_by a b q
+      | true ↦ λ q k. absurd (none_some a k)
+      | false ↦ λ q k. le_by a b q
     ] refl e
 
 pub index_none : (j : ℕ) (us : List Mount) → None ≡ position (λ u. u.image == j) us → is_mounted j us ≡ false
@@ -189,8 +189,8 @@ apart_without : (v : Mount) (j : ℕ) (us : List Mount) → are_apart v us ≡ t
 apart_without v j [] h = h
 apart_without v j (u ∷ us) h =
     elim (u.image == j) as (λ w. are_apart v (if w then us else u ∷ without j us) ≡ true) [
-      true ↦ and_right (is_apart v u) (are_apart v us) h
-    | false ↦ and_both (is_apart v u) (are_apart v (without j us)) (and_left (is_apart v u) (are_apart v us) h) (apart_without v j us (and_right (is_apart v u) (are_apart v us) h))
+      | true ↦ and_right (is_apart v u) (are_apart v us) h
+      | false ↦ and_both (is_apart v u) (are_apart v (without j us)) (and_left (is_apart v u) (are_apart v us) h) (apart_without v j us (and_right (is_apart v u) (are_apart v us) h))
     ]
 
 pub mounts_without : (ms : List Image) (j : ℕ) (us : List Mount) → are_mounts ms us ≡ true → are_mounts ms (without j us) ≡ true
@@ -199,9 +199,9 @@ mounts_without ms j [] h = h
 mounts_without ms j (u ∷ us) h =
     let a = and_right (is_mount ms u) (are_apart u us && are_mounts ms us) h in
     elim (u.image == j) as (λ w. are_mounts ms (if w then us else u ∷ without j us) ≡ true) [
-      true ↦ and_right (are_apart u us) (are_mounts ms us) a
-    | false ↦ and_both (is_mount ms u) (are_apart u (without j us) && are_mounts ms (without j us)) (and_left (is_mount ms u) (are_apart u us && are_mounts ms us) h)
-        (and_both (are_apart u (without j us)) (are_mounts ms (without j us)) (apart_without u j us (and_left (are_apart u us) (are_mounts ms us) a)) (mounts_without ms j us (and_right (are_apart u us) (are_mounts ms us) a)))
+      | true ↦ and_right (are_apart u us) (are_mounts ms us) a
+      | false ↦ and_both (is_mount ms u) (are_apart u (without j us) && are_mounts ms (without j us)) (and_left (is_mount ms u) (are_apart u us && are_mounts ms us) h)
+          (and_both (are_apart u (without j us)) (are_mounts ms (without j us)) (apart_without u j us (and_left (are_apart u us) (are_mounts ms us) a)) (mounts_without ms j us (and_right (are_apart u us) (are_mounts ms us) a)))
     ]
 
 module _ (ms : List Image) (us : List Mount) (i : ℕ) (l : i < length ms) where

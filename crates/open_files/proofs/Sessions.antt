@@ -1,8 +1,8 @@
 -- The slots of sessions, and the calls of one session.
-use Rattle.std.proofs.Common.{◌≡◌, ℕ, zero, suc, ◌<◌, Bool, true, false, List, [], ◌∷◌, length, get_or, map, Option, Some, None, Result, Ok, Err, refl, sym, ap, ◌∙◌, subst, arith, replicate, ◌==◌, eq-eqb}
+use Rattle.std.proofs.Common.{◌≡◌, ℕ, zero, suc, ◌<◌, true, false, List, [], ◌∷◌, length, get_or, map, Option, Some, None, Result, Ok, Err, refl, sym, ap, ◌∙◌, arith, replicate, ◌==◌, eq-eqb}
 use Rattle.std.proofs.Math.Path.{fun_ext}
-use Rattle.std.specs.Prelude.{slice_set, ◌&&◌, if◌then◌else◌, MatchResult}
-use Rattle.std.proofs.lemmas.Bool.{false≢true, eqb-true, false_from_ne_true}
+use Rattle.std.specs.Prelude.{slice_set, if◌then◌else◌, MatchResult}
+use Rattle.std.proofs.lemmas.Bool.{false≢true, eqb-true}
 use Rattle.rom_tree.specs.declared.types.NodeId.{NodeId}
 use Rattle.rom_tree.specs.Tree.{ino_of}
 use Rattle.rom_tree.specs.Image.{Image}
@@ -15,8 +15,8 @@ use Rattle.open_files.specs.declared.error.CallError.{CallError}
 use Rattle.open_files.specs.declared.slot.OpenNode.{OpenNode}
 use Rattle.open_files.specs.Calls.{Answer, answer, give, Of, viewed}
 use Rattle.open_files.specs.Errors.{error_of}
-use Rattle.open_files.specs.Machine.{Table, no_files, walked}
-use Rattle.open_files.specs.Slots.{View, graft_view, graft_node, stands, are_sound, all_stand, table_of, table_by, labelled}
+use Rattle.open_files.specs.Machine.{Table, walked}
+use Rattle.open_files.specs.Slots.{graft_view, graft_node, stands, are_sound, table_of, labelled}
 use Rattle.open_files.specs.Sessions.{Sessions, own_answer, no_sessions}
 use Rattle.open_files.specs.Space.{slots_at, all_sound, space_state}
 use Rattle.open_files.proofs.Standing.{by_map}
@@ -65,8 +65,8 @@ module _ {S : Type 0} (f : S → List (Option OpenNode)) where
   slots_set : {R : Type 0} (g : List (Option OpenNode) → R) (n : ℕ) (ts : List S) (k : ℕ) (z : S) → k < length ts → (j : ℕ) → g (slots_at n (map f (slice_set ts k z)) j) ≡ (if j == k then g (f z) else g (slots_at n (map f ts) j))
   slots_set {R} g n ts k z l j =
       elim (j == k) as (λ w. (j == k) ≡ w → g (slots_at n (map f (slice_set ts k z)) j) ≡ (if w then g (f z) else g (slots_at n (map f ts) j))) [
-        true ↦ λ e. ap (λ (v : ℕ). g (slots_at n (map f (slice_set ts k z)) v)) (eqb-true j k e) ∙ ap g (at_same n ts k z l)
-      | false ↦ λ e. ap g (at_other n ts k j z (λ q. false≢true (sym e ∙ eq-eqb j k q)))
+        | true ↦ λ e. ap (λ (v : ℕ). g (slots_at n (map f (slice_set ts k z)) v)) (eqb-true j k e) ∙ ap g (at_same n ts k z l)
+        | false ↦ λ e. ap g (at_other n ts k j z (λ q. false≢true (sym e ∙ eq-eqb j k q)))
       ] refl
 
   pub all_sound_set : (ms : List Image) (us : List Mount) (ts : List S) (k : ℕ) (z : S) → all_sound ms us (map f ts) ≡ true → are_sound (graft_view ms us) (f z) ≡ true → all_sound ms us (map f (slice_set ts k z)) ≡ true
@@ -91,8 +91,8 @@ same_number j k e = eqb-true j k e
 own_same : {A : Type 0} (g : ℕ → A) (k j : ℕ) → (if j == k then g k else g j) ≡ g j
 own_same g k j =
     elim (j == k) as (λ w. (j == k) ≡ w → (if w then g k else g j) ≡ g j) [
-      true ↦ λ e. ap g (sym (same_number j k e))
-    | false ↦ λ e. refl
+      | true ↦ λ e. ap g (sym (same_number j k e))
+      | false ↦ λ e. refl
     ] refl
 
 -- a session's answer that leaves its slots
@@ -131,7 +131,7 @@ eight_at n v e (suc (suc (suc (suc (suc (suc (suc (suc k)))))))) = refl
 pub eight_empty : (n : ℕ) (ms : List Image) (us : List Mount) (v : List (Option OpenNode)) → us ≡ [] → v ≡ replicate n None → space_state n ms us (v ∷ v ∷ v ∷ v ∷ v ∷ v ∷ v ∷ v ∷ []) ≡ no_sessions n
 eight_empty n ms us v e h =
     let q : (k : ℕ) → table_of (graft_view ms us) (slots_at n (v ∷ v ∷ v ∷ v ∷ v ∷ v ∷ v ∷ v ∷ []) k) ≡ replicate n None
-        = λ k. ap (λ z. table_of (graft_view ms us) z) (eight_at n v h k) ∙ table-replicate (stands (graft_view ms us)) n in
+    = λ k. ap (λ z. table_of (graft_view ms us) z) (eight_at n v h k) ∙ table-replicate (stands (graft_view ms us)) n in
     ap (λ (o : ℕ → Table GraftNode). record { shared = us; own = o }) (fun_ext q) ∙ ap (λ (z : List Mount). record { shared = z; own = λ k. replicate n None }) e
 
 -- A call on a state, by parts of it that are equal.

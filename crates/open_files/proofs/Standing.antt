@@ -56,7 +56,7 @@ module _ {F : Type 0} where
   there_is v s None o n h = absurd (none_some o h)
   there_is v s (Some x) o n h =
       let b : IsBy (is_directory (v.names.node x)) (is_regular (v.names.node x)) s.position x (v.index s.image s.node.0 s.position) o
-          = by_is (is_directory (v.names.node x)) (is_regular (v.names.node x)) s.position x (v.index s.image s.node.0 s.position) o h in
+      = by_is (is_directory (v.names.node x)) (is_regular (v.names.node x)) s.position x (v.index s.image s.node.0 s.position) o h in
       let e : is_directory (v.names.node o.place) ≡ is_directory (v.names.node x) = ap (λ (y : F). is_directory (v.names.node y)) b.place in
       record {
         place = n ∙ ap (λ (y : F). Some y) (sym b.place);

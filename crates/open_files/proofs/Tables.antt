@@ -1,6 +1,6 @@
 -- The table that slots stand for, and the calls on it.
-use Rattle.std.proofs.Common.{◌≡◌, ℕ, zero, suc, ◌<◌, Bool, true, false, List, [], ◌∷◌, length, get_or, map, Option, Some, None, Result, Ok, Err, refl, sym, ap, ◌∙◌, subst, arith, replicate}
-use Rattle.std.specs.Prelude.{slice_get, slice_set, option_and_then, is_some, ◌&&◌, if◌then◌else◌, position, is_none, IsErrAnd, MatchResult}
+use Rattle.std.proofs.Common.{◌≡◌, ℕ, zero, suc, ◌<◌, Bool, true, false, List, [], ◌∷◌, length, get_or, Option, Some, None, Result, Ok, Err, refl, sym, ap, ◌∙◌, subst, arith, replicate}
+use Rattle.std.specs.Prelude.{slice_get, slice_set, option_and_then, is_some, ◌&&◌, position, is_none, IsErrAnd, MatchResult}
 use Rattle.std.specs.List.{position_or_len}
 use Rattle.std.proofs.lemmas.Bool.{false≢true}
 use Rattle.rom_tree.specs.Tree.{ino_of, is_directory, entries_of, entry_at}
@@ -10,7 +10,7 @@ use Rattle.path_walk.proofs.Mounts.{and_left, and_right}
 use Rattle.open_files.specs.declared.error.CallError.{CallError}
 use Rattle.open_files.specs.declared.error.CallError.TheVariants.{Ebadf, Enxio, Emfile}
 use Rattle.open_files.specs.declared.slot.OpenNode.{OpenNode}
-use Rattle.open_files.specs.Calls.{Answer, answer, refuse, give, Of, Named}
+use Rattle.open_files.specs.Calls.{answer, refuse, give, Of, Named}
 use Rattle.open_files.specs.Machine.{Open, Table, Outcome, open_at, put, opened, on_open, after, closed, lowest_free, open_free, open_place, directory_only, next_entry, readdir_on}
 use Rattle.open_files.specs.Slots.{View, IsImage, stands, moved, Moves, LeadsOn, is_open, all_stand, table_by, are_sound, table_of}
 use Rattle.open_files.proofs.Standing.{none_some, IsOpen, is_open as opened_is}
@@ -203,7 +203,7 @@ module _ {F : Type 0} (v : View F) where
       let j : IsOpen v new o = opened_is v new o a in
       let q : moved k.what w.0 ≡ o = (let z : Some (moved k.what w.0) ≡ Some o = sym w.2 ∙ a in cc) in
       let d : is_directory (v.names.node o.place) ≡ true = ap (λ (z : Open F). is_directory (v.names.node z.place)) (sym q)
-          ∙ on_directory (is_directory (v.names.node k.what.place)) (next_entry (v.number k.what.place) k.what.position (entry_at (entries_of (v.names.node k.what.place)) k.what.position)) (r, w.0) w.1 in
+      ∙ on_directory (is_directory (v.names.node k.what.place)) (next_entry (v.number k.what.place) k.what.position (entry_at (entries_of (v.names.node k.what.place)) k.what.position)) (r, w.0) w.1 in
       let P : ℕ → Type 0 = λ z. IsImage v z m in
       let b : ino_of (v.names.node o.place) ≡ new.node.0 = node_number m new.node.0 (v.names.node o.place) ((subst P (sym w.3) i).node new.node.0 o.place j.place) in
       ap (λ (z : ℕ). v.index new.image z new.position) b ∙ j.directory d

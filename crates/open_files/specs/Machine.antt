@@ -1,7 +1,7 @@
 -- The machine of open files: a table of what is open at each number, and what each call answers and makes of
 -- the table, with its refusals in their order. After POSIX.1-2017, open(), read(), lseek(), fstat(), stat(),
 -- readlink(), readdir(), rewinddir() and close(). `lend` and `map` are this project's own.
-use Rattle.std.specs.Prelude.{ℕ, ◌+◌, ◌==◌, nat_lt, Bool, true, false, ◌||◌, List, length, slice_get, slice_set, take, drop, map, Option, Some, None, is_none, position, replicate, option_and_then, Result, Ok, Err, if◌then◌else◌}
+use Rattle.std.specs.Prelude.{ℕ, ◌+◌, ◌==◌, nat_lt, Bool, true, false, ◌||◌, List, length, slice_get, slice_set, take, drop, Option, Some, None, is_none, position, replicate, option_and_then, Result, Ok, Err, if◌then◌else◌}
 use Rattle.rom_tree.specs.declared.types.Stat.{Stat}
 use Rattle.rom_tree.specs.Tree.{Node, ino_of, places_of, entries_of, entry_at, is_directory, is_regular, is_link}
 use Rattle.rom_tree.specs.Image.{Image, stat_of}
@@ -44,7 +44,7 @@ read_on b n x p =
 abbrev pub lend_on : Option ℕ → List ℕ → ℕ → Node → ℕ → Outcome (Of Lent)
 lend_on i b n x p =
     file_only (is_directory x)
-      (Ok ((i, lent b (consecutive (next_places x p n))), p + length (consecutive (next_places x p n))))
+    (Ok ((i, lent b (consecutive (next_places x p n))), p + length (consecutive (next_places x p n))))
 
 -- just `len` bytes from byte `off` on
 abbrev pub map_places : Option ℕ → List ℕ → ℕ → List ℕ → ℕ → Outcome (Of Lent)

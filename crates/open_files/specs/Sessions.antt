@@ -1,14 +1,12 @@
 -- Several images with mounts, and sessions that have tables of their own. (This project's own, after Linux's
 -- mount(2) and umount(2).)
-use Rattle.std.specs.Prelude.{◌≡◌, ℕ, ◌==◌, nat_lt, Bool, true, false, ◌||◌, not, List, [], ◌∷◌, ◌++◌, length, Option, Some, Result, Ok, Err, if◌then◌else◌}
-use Rattle.rom_tree.specs.declared.types.NodeId.{NodeId}
+use Rattle.std.specs.Prelude.{ℕ, ◌==◌, nat_lt, Bool, true, false, ◌||◌, not, List, [], ◌∷◌, ◌++◌, length, Some, Result, Ok, Err, if◌then◌else◌}
 use Rattle.rom_tree.specs.Tree.{ino_of, is_directory}
 use Rattle.rom_tree.specs.Image.{Image}
 use Rattle.path_walk.specs.declared.error.WalkError.{WalkError}
 use Rattle.path_walk.specs.declared.mount.Mount.{Mount}
 use Rattle.path_walk.specs.Resolution.{resolution}
 use Rattle.path_walk.specs.Graft.{GraftNode, graft, tree_in}
-use Rattle.open_files.specs.declared.error.CallError.{CallError}
 use Rattle.open_files.specs.declared.error.CallError.TheVariants.{Enotdir, Einval, Enodev, Ebusy}
 use Rattle.open_files.specs.Errors.{error_of}
 use Rattle.open_files.specs.Calls.{Answer, answer, refuse, give, Calls}

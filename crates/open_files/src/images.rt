@@ -32,6 +32,7 @@ pub(crate) struct One<'s, T> {
 
 impl<'s, T: Viewed> Served for One<'s, T> {
     ghost Spot = { Node };
+
     ghost view = { λ s. image_view (T.image s.image.now) };
 }
 
@@ -58,6 +59,7 @@ pub(crate) struct Several<'s, T> {
 
 impl<'s, T: Viewed> Served for Several<'s, T> {
     ghost Spot = { GraftNode };
+
     ghost view = { λ s. graft_view (map T.image s.images.now.items) s.mounts.now.items };
 }
 

@@ -273,7 +273,13 @@ impl<'a, T: TreeImage<'a>, const N: usize> Space<'a, T, N> {
     /// In this order: `Ebadf` where nothing is open there, `Eisdir` where it is a directory, `Einval`
     /// where `len` is 0 or the range does not end within the file, `Erange` where the bytes do not
     /// follow one another in the image.
-    pub fn map(&self, session: u32, fd: Fd, off: u64, len: u64) -> Result<(u32, Piece<'a>), CallError>
+    pub fn map(
+        &self,
+        session: u32,
+        fd: Fd,
+        off: u64,
+        len: u64,
+    ) -> Result<(u32, Piece<'a>), CallError>
         requires session { session < 8 }
         ensures { (space_calls N (map T.image self.now.images.items) session).map_piece
             (space_state N (map T.image self.now.images.items) self.now.mounts.items

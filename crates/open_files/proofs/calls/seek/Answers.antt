@@ -1,18 +1,13 @@
-use Rattle.std.proofs.Common.{◌≡◌, ℕ, length, List, Option, Some, None, Result, Ok, Err, Bool, true, refl, sym, ap, ◌∙◌, subst, take}
-use Rattle.std.specs.Prelude.{option_map, MatchOption}
-use Rattle.rom_tree.specs.declared.types.Stat.{Stat}
-use Rattle.rom_tree.specs.declared.types.Piece.{Piece}
-use Rattle.rom_tree.specs.declared.types.Entry.{Entry}
-use Rattle.rom_tree.specs.Tree.{Node, ino_of}
-use Rattle.rom_tree.specs.Image.{Image, stat_of}
+use Rattle.std.proofs.Common.{◌≡◌, ℕ, List, Option, Some, Result, Ok, Err, refl, sym, ap, ◌∙◌}
+use Rattle.rom_tree.specs.Tree.{Node}
+use Rattle.rom_tree.specs.Image.{Image}
 use Rattle.open_files.specs.declared.error.CallError.{CallError}
-use Rattle.open_files.specs.declared.error.CallError.TheVariants.{Ebadf}
 use Rattle.open_files.specs.declared.slot.OpenNode.{OpenNode}
-use Rattle.open_files.specs.Calls.{Of, Lent, Named, answer, viewed}
-use Rattle.open_files.specs.Machine.{Open, Table, Outcome, open_at, on_open, fstat_on, seek_on, rewind_on, read_on, lend_on, map_on, readdir_on}
-use Rattle.open_files.specs.Slots.{View, IsImage, Moves, image_view, stands, moved, are_sound, table_of, labelled, lent_by, named_by}
-use Rattle.open_files.proofs.Standing.{in_image, stands_in_image, has_place, in_view, moves_in_view}
-use Rattle.open_files.proofs.Tables.{HasOpen, has_open, refused, call_none, call_stays, call_refused, call_moves, moves_sound, close_none, close_some, close_sound, leads_on}
+use Rattle.open_files.specs.Calls.{answer}
+use Rattle.open_files.specs.Machine.{Outcome, seek_on}
+use Rattle.open_files.specs.Slots.{View, IsImage, image_view, stands, table_of}
+use Rattle.open_files.proofs.Standing.{in_image, stands_in_image, has_place, moves_in_view}
+use Rattle.open_files.proofs.Tables.{HasOpen, has_open, refused, call_none, call_refused, call_moves, moves_sound}
 use Rattle.open_files.proofs.calls.seek.Goals as goal
 
 pub returns-in_err-opened-clause-reply : goal.returns-in_err-opened-clause-reply

@@ -1,7 +1,7 @@
-use Rattle.std.proofs.Common.{◌≡◌, ℕ, ◌+◌, ◌-◌, ◌<◌, ◌≤◌, Some, sym, ap, ◌∙◌, refl, arith, length}
+use Rattle.std.proofs.Common.{◌≡◌, ◌+◌, ap, ◌∙◌, arith, length}
 use Rattle.rom_tree.specs.declared.types.Stat.{Stat}
 use Rattle.rom_tree.specs.Tree.{Node, places_of}
-use Rattle.rom_tree.specs.Image.{Image, image_node, IsRun, stat_of}
+use Rattle.rom_tree.specs.Image.{Image, image_node, IsRun}
 use Rattle.open_files.proofs.Following.{front_more, has_some, HasSome}
 use Rattle.open_files.proofs.lent.longest_run.Goals as goal
 

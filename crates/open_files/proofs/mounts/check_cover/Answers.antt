@@ -1,4 +1,4 @@
-use Rattle.std.proofs.Common.{◌≡◌, ℕ, ◌==◌, true, false, refl, sym, ◌∙◌, ap, eq-eqb, arith}
+use Rattle.std.proofs.Common.{◌≡◌, ◌==◌, true, sym, ◌∙◌, eq-eqb, arith}
 use Rattle.std.proofs.lemmas.Bool.{false_from_ne_true, eqb-true}
 use Rattle.rom_tree.specs.Tree.{ino_of, is_directory}
 use Rattle.rom_tree.proofs.Named.{node_number}

@@ -1,4 +1,4 @@
-use Rattle.std.proofs.Common.{◌≡◌, ℕ, drop}
+use Rattle.std.proofs.Common.{◌≡◌, drop}
 use Rattle.open_files.specs.Sessions.{has_mount}
 use Rattle.open_files.proofs.mounts.has_mount_in.Given as goal
 

@@ -1,4 +1,4 @@
-use Rattle.std.proofs.Common.{◌≡◌, ℕ, drop}
+use Rattle.std.proofs.Common.{◌≡◌, drop}
 use Rattle.open_files.specs.Sessions.{is_mounted}
 use Rattle.open_files.proofs.mounts.is_mounted_in.Given as goal
 

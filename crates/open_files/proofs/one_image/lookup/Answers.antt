@@ -1,9 +1,9 @@
-use Rattle.std.proofs.Common.{◌≡◌, ℕ, Option, None, Ok, Some, ap, ◌∙◌}
-use Rattle.rom_tree.specs.Tree.{Node, ino_of}
+use Rattle.std.proofs.Common.{ℕ, None, Ok, ap, ◌∙◌}
+use Rattle.rom_tree.specs.Tree.{ino_of}
 use Rattle.rom_tree.specs.Image.{Image}
 use Rattle.rom_tree.proofs.Named.{node_number}
 use Rattle.open_files.specs.Calls.{Of, answer, give}
-use Rattle.open_files.specs.Machine.{Table, walked}
+use Rattle.open_files.specs.Machine.{walked}
 use Rattle.open_files.proofs.one_image.lookup.Goals as goal
 
 pub returns-clause-reply : goal.returns-clause-reply

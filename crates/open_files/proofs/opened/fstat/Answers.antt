@@ -1,16 +1,11 @@
-use Rattle.std.proofs.Common.{◌≡◌, ℕ, ◌+◌, ◌-◌, ◌<◌, ◌≤◌, List, [], ◌∷◌, ◌++◌, Option, Some, None, Bool, true, false, refl, sym, ap, ◌∙◌, subst, arith, rules, length, take, drop, map, min, Ok, Err}
-use Rattle.rom_tree.specs.declared.types.Stat.{Stat}
-use Rattle.rom_tree.specs.Tree.{Node, is_directory, is_regular, places_of, entries_of, entry_at}
-use Rattle.rom_tree.specs.Image.{Image, image_node, HasNode, stat_of, IsEntry}
-use Rattle.rom_tree.proofs.Named.{has_node, has_directory, some_is}
+use Rattle.std.proofs.Common.{refl}
+use Rattle.rom_tree.specs.Tree.{Node}
+use Rattle.rom_tree.specs.Image.{Image}
+use Rattle.rom_tree.proofs.Named.{has_node}
 use Rattle.open_files.specs.declared.slot.OpenNode.{OpenNode}
-use Rattle.open_files.specs.Calls.{Of, Lent, Named}
-use Rattle.open_files.specs.Lending.{lent, lent_of, bytes_of, consecutive, next_places, IsLongest}
-use Rattle.open_files.specs.Machine.{Open, Outcome, named, file_only, directory_only, next_entry, seek_on, rewind_on, read_on, lend_on, map_on, map_within, readdir_on}
-use Rattle.open_files.specs.Slots.{image_view, stands, moved, lent_by, named_by}
-use Rattle.open_files.proofs.Following.{front_length, front_lent, longest_end, map_none, map_past, map_apart, map_whole}
-use Rattle.open_files.proofs.Copies.{copied_front, copied_rest}
-use Rattle.open_files.proofs.Standing.{IsOpen, is_open, open_file, open_directory}
+use Rattle.open_files.specs.Machine.{Open}
+use Rattle.open_files.specs.Slots.{image_view}
+use Rattle.open_files.proofs.Standing.{IsOpen, is_open}
 use Rattle.open_files.proofs.opened.fstat.Goals as goal
 
 pub stat-requires : goal.stat-requires

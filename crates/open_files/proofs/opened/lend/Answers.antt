@@ -1,16 +1,14 @@
-use Rattle.std.proofs.Common.{◌≡◌, ℕ, ◌+◌, ◌-◌, ◌<◌, ◌≤◌, List, [], ◌∷◌, ◌++◌, Option, Some, None, Bool, true, false, refl, sym, ap, ◌∙◌, subst, arith, rules, length, take, drop, map, min, Ok, Err}
-use Rattle.rom_tree.specs.declared.types.Stat.{Stat}
-use Rattle.rom_tree.specs.Tree.{Node, is_directory, is_regular, places_of, entries_of, entry_at}
-use Rattle.rom_tree.specs.Image.{Image, image_node, HasNode, stat_of, IsEntry}
-use Rattle.rom_tree.proofs.Named.{has_node, has_directory, some_is}
+use Rattle.std.proofs.Common.{◌≡◌, ℕ, ◌+◌, ◌≤◌, List, Bool, false, refl, sym, ap, ◌∙◌, arith, rules, length, take, drop, Ok}
+use Rattle.rom_tree.specs.Tree.{Node, is_directory, places_of}
+use Rattle.rom_tree.specs.Image.{Image}
+use Rattle.rom_tree.proofs.Named.{has_node}
 use Rattle.open_files.specs.declared.slot.OpenNode.{OpenNode}
-use Rattle.open_files.specs.Calls.{Of, Lent, Named}
-use Rattle.open_files.specs.Lending.{lent, lent_of, bytes_of, consecutive, next_places, IsLongest}
-use Rattle.open_files.specs.Machine.{Open, Outcome, named, file_only, directory_only, next_entry, seek_on, rewind_on, read_on, lend_on, map_on, map_within, readdir_on}
-use Rattle.open_files.specs.Slots.{image_view, stands, moved, lent_by, named_by}
-use Rattle.open_files.proofs.Following.{front_length, front_lent, longest_end, map_none, map_past, map_apart, map_whole}
-use Rattle.open_files.proofs.Copies.{copied_front, copied_rest}
-use Rattle.open_files.proofs.Standing.{IsOpen, is_open, open_file, open_directory}
+use Rattle.open_files.specs.Calls.{Of, Lent}
+use Rattle.open_files.specs.Lending.{lent, lent_of, consecutive, next_places, IsLongest}
+use Rattle.open_files.specs.Machine.{Open, Outcome, file_only}
+use Rattle.open_files.specs.Slots.{image_view}
+use Rattle.open_files.proofs.Following.{front_length, front_lent, longest_end}
+use Rattle.open_files.proofs.Standing.{IsOpen, is_open, open_file}
 use Rattle.open_files.proofs.opened.lend.Goals as goal
 
 pub is_directory_at-requires : goal.is_directory_at-requires
@@ -76,10 +74,13 @@ returns g c = λ o j e.
     let w : p + n ≤ length m.bytes = longest_end m s.node.0 x s.position c.args.max p n i.place r in
     let l : consecutive (next_places x o.position c.args.max) ≡ consecutive (next_places x s.position c.args.max) = ap (λ (v : ℕ). consecutive (next_places x v c.args.max)) q in
     let y : lent m.bytes (consecutive (next_places x o.position c.args.max)) ≡ lent_of p c.bytes_at.result.now =
-        ap (lent m.bytes) l ∙ (front_lent (places_of x) s.position c.args.max m.bytes p n r w ∙ ap (lent_of p) (sym (c.bytes_at.ensures ∙ ap (λ (v : List ℕ). take n (drop p v)) c.bytes-bytes.ensures))) in
+    ap (lent m.bytes) l ∙ (front_lent (places_of x) s.position c.args.max m.bytes p n r w ∙ ap (lent_of p) (sym (c.bytes_at.ensures ∙ ap (λ (v : List ℕ). take n (drop p v)) c.bytes-bytes.ensures))) in
     let z : o.position + length (consecutive (next_places x o.position c.args.max)) ≡ s.position + n = omega (arith, q, ap length l, front_length (places_of x) s.position c.args.max p n r) in
-    let ok : Lent → ℕ → Outcome (Of Lent) = λ v w. Ok ((j, v), w) in
-    (s.position + n,
-    ap (λ (v : Bool). file_only {R = Of Lent} v (Ok ((j, lent m.bytes (consecutive (next_places x o.position c.args.max))), o.position + length (consecutive (next_places x o.position c.args.max))))) d
-    ∙ (ap (λ (v : Lent). ok v (o.position + length (consecutive (next_places x o.position c.args.max)))) y ∙ ap (λ (v : ℕ). ok (lent_of p c.bytes_at.result.now) v) z),
-    open_file (image_view m) u x i.place d (i.regular d), refl, refl)
+    let ok : Lent → ℕ → Outcome (Of Lent) = λ v w. Ok ((j, v), w) in (
+      s.position + n,
+      ap (λ (v : Bool). file_only {R = Of Lent} v (Ok ((j, lent m.bytes (consecutive (next_places x o.position c.args.max))), o.position + length (consecutive (next_places x o.position c.args.max))))) d
+          ∙ (ap (λ (v : Lent). ok v (o.position + length (consecutive (next_places x o.position c.args.max)))) y ∙ ap (λ (v : ℕ). ok (lent_of p c.bytes_at.result.now) v) z),
+      open_file (image_view m) u x i.place d (i.regular d),
+      refl,
+      refl,
+    )

@@ -1,16 +1,12 @@
-use Rattle.std.proofs.Common.{◌≡◌, ℕ, ◌+◌, ◌-◌, ◌<◌, ◌≤◌, List, [], ◌∷◌, ◌++◌, Option, Some, None, Bool, true, false, refl, sym, ap, ◌∙◌, subst, arith, rules, length, take, drop, map, min, Ok, Err}
-use Rattle.rom_tree.specs.declared.types.Stat.{Stat}
-use Rattle.rom_tree.specs.Tree.{Node, is_directory, is_regular, places_of, entries_of, entry_at}
-use Rattle.rom_tree.specs.Image.{Image, image_node, HasNode, stat_of, IsEntry}
+use Rattle.std.proofs.Common.{◌≡◌, ℕ, ◌+◌, Option, Some, Bool, true, refl, sym, ap, ◌∙◌, Ok}
+use Rattle.rom_tree.specs.Tree.{Node, is_directory, entries_of, entry_at}
+use Rattle.rom_tree.specs.Image.{Image, IsEntry}
 use Rattle.rom_tree.proofs.Named.{has_node, has_directory, some_is}
 use Rattle.open_files.specs.declared.slot.OpenNode.{OpenNode}
-use Rattle.open_files.specs.Calls.{Of, Lent, Named}
-use Rattle.open_files.specs.Lending.{lent, lent_of, bytes_of, consecutive, next_places, IsLongest}
-use Rattle.open_files.specs.Machine.{Open, Outcome, named, file_only, directory_only, next_entry, seek_on, rewind_on, read_on, lend_on, map_on, map_within, readdir_on}
-use Rattle.open_files.specs.Slots.{image_view, stands, moved, lent_by, named_by}
-use Rattle.open_files.proofs.Following.{front_length, front_lent, longest_end, map_none, map_past, map_apart, map_whole}
-use Rattle.open_files.proofs.Copies.{copied_front, copied_rest}
-use Rattle.open_files.proofs.Standing.{IsOpen, is_open, open_file, open_directory}
+use Rattle.open_files.specs.Calls.{Of, Named}
+use Rattle.open_files.specs.Machine.{Open, Outcome, named, directory_only, next_entry}
+use Rattle.open_files.specs.Slots.{image_view}
+use Rattle.open_files.proofs.Standing.{IsOpen, is_open, open_directory}
 use Rattle.open_files.proofs.opened.readdir.Goals as goal
 
 pub is_directory_at-requires : goal.is_directory_at-requires
@@ -60,6 +56,10 @@ returns-clause-moves g c = λ o j e.
     let k : m.cursor_index s.node.0 s.position ≡ Some o.position = i.directory d in
     let n : IsEntry m s.node.0 (entries_of x) o.position c.in-Some.entry.name.now c.in-Some.entry.node.0 c.in-Some.entry.cursor.0 = c.in-Some.ensures x o.position i.place k in
     let u : OpenNode = record { image = s.image; node = s.node; position = c.in-Some.entry.cursor.0 } in
-    let ok : ℕ → Outcome (Option (Of Named)) = λ v. Ok (Some (j, named c.in-Some.entry.name.now v), o.position + 1) in
-    (o.position + 1, ap (λ (v : Bool). directory_only {R = Option (Of Named)} v (next_entry j o.position (entry_at (entries_of x) o.position))) d ∙ (ap (next_entry j o.position) n.at ∙ ap ok n.number),
-    open_directory (image_view m) u x (o.position + 1) i.place d n.next, refl, refl)
+    let ok : ℕ → Outcome (Option (Of Named)) = λ v. Ok (Some (j, named c.in-Some.entry.name.now v), o.position + 1) in (
+      o.position + 1,
+      ap (λ (v : Bool). directory_only {R = Option (Of Named)} v (next_entry j o.position (entry_at (entries_of x) o.position))) d ∙ (ap (next_entry j o.position) n.at ∙ ap ok n.number),
+      open_directory (image_view m) u x (o.position + 1) i.place d n.next,
+      refl,
+      refl,
+    )

@@ -1,5 +1,4 @@
-use Rattle.std.proofs.Common.{◌≡◌, sym, ap, ◌∙◌}
-use Rattle.rom_tree.specs.declared.types.Stat.{Stat}
+use Rattle.std.proofs.Common.{sym, ap, ◌∙◌}
 use Rattle.rom_tree.specs.Image.{Image}
 use Rattle.open_files.specs.Calls.{Of, Lent, answer, viewed}
 use Rattle.open_files.specs.Slots.{image_view, table_of, unlabelled, lent_by}

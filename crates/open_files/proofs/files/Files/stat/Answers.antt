@@ -1,8 +1,8 @@
-use Rattle.std.proofs.Common.{◌≡◌, sym, ap, ◌∙◌}
+use Rattle.std.proofs.Common.{sym, ap, ◌∙◌}
 use Rattle.rom_tree.specs.declared.types.Stat.{Stat}
 use Rattle.rom_tree.specs.Image.{Image}
-use Rattle.open_files.specs.Calls.{Of, Lent, answer, viewed}
-use Rattle.open_files.specs.Slots.{image_view, table_of, unlabelled, lent_by}
+use Rattle.open_files.specs.Calls.{Of, answer, viewed}
+use Rattle.open_files.specs.Slots.{image_view, table_of, unlabelled}
 use Rattle.open_files.proofs.files.Files.stat.Goals as goal
 
 pub returns-clause-reply : goal.returns-clause-reply

@@ -1,4 +1,4 @@
-use Rattle.std.proofs.Common.{◌≡◌, ℕ, ◌<◌, length, get_or, ap, ◌∙◌, arith}
+use Rattle.std.proofs.Common.{◌≡◌, ◌<◌, length, get_or, ap, ◌∙◌, arith}
 use Rattle.open_files.proofs.Standing.{place_below, image_in}
 use Rattle.open_files.proofs.images.SeveralImages.image.Goals as goal
 

@@ -1,26 +1,17 @@
-use Rattle.std.proofs.Common.{◌≡◌, ℕ, ◌<◌, ◌≤◌, List, [], ◌∷◌, Option, Some, None, Bool, true, false, Result, Ok, Err, refl, sym, ap, ◌∙◌, subst, arith, rules, length, get_or, map, take}
-use Rattle.std.proofs.lemmas.List.{length-map}
-use Rattle.std.specs.Prelude.{option_map, ◌||◌}
-use Rattle.rom_tree.specs.declared.types.NodeId.{NodeId}
+use Rattle.std.proofs.Common.{◌≡◌, ℕ, List, Option, Some, false, Result, Ok, Err, sym, ap, ◌∙◌, subst, map}
 use Rattle.rom_tree.specs.declared.types.Stat.{Stat}
-use Rattle.rom_tree.specs.declared.types.Piece.{Piece}
-use Rattle.rom_tree.specs.declared.types.Entry.{Entry}
-use Rattle.rom_tree.specs.Tree.{ino_of, is_directory, is_regular, is_link}
 use Rattle.rom_tree.specs.Image.{Image, stat_of}
 use Rattle.path_walk.specs.declared.mount.Mount.{Mount}
 use Rattle.path_walk.specs.Resolution.{resolution}
-use Rattle.path_walk.specs.Graft.{GraftNode, graft, bytes_in}
+use Rattle.path_walk.specs.Graft.{GraftNode, graft}
 use Rattle.open_files.specs.declared.error.CallError.{CallError}
 use Rattle.open_files.specs.declared.slot.OpenNode.{OpenNode}
-use Rattle.open_files.specs.declared.slot.Fd.{Fd}
-use Rattle.open_files.specs.Errors.{error_of}
-use Rattle.open_files.specs.Calls.{Answer, answer, give, Of, Lent, Named, viewed}
-use Rattle.open_files.specs.Machine.{Table, walked, read_link, open_place}
-use Rattle.open_files.specs.Slots.{View, graft_view, are_sound, table_of, calls_of, labelled, lent_by, named_by}
-use Rattle.open_files.specs.Sessions.{Sessions, space_calls}
-use Rattle.open_files.specs.Space.{slots_at, all_sound, space_state}
+use Rattle.open_files.specs.Calls.{Answer, answer, give, Of, viewed}
+use Rattle.open_files.specs.Machine.{Table, walked}
+use Rattle.open_files.specs.Slots.{View, graft_view, table_of, labelled}
+use Rattle.open_files.specs.Space.{slots_at}
 use Rattle.open_files.proofs.Tables.{refused}
-use Rattle.open_files.proofs.Sessions.{sound_at, slots_index, all_sound_set, own_sets, own_stays, same_state, looked_up}
+use Rattle.open_files.proofs.Sessions.{own_stays}
 use Rattle.open_files.proofs.space.Space.lstat.Goals as goal
 
 pub returns-in_err-image-clause-reply : goal.returns-in_err-image-clause-reply
@@ -43,7 +34,7 @@ returns-in_err-image-clause-reply g c =
     let F : GraftNode → Answer (Table GraftNode) (Of Stat) = λ x. give (Some x.image, stat_of x.node) t in
     let r = refused c.from_residual.result c.in_err-image.field-0.0 c.from_residual.ensures.1 in
     let p : walked t F (resolution (graft ms us) c.args.path.now false) ≡ answer (viewed (labelled (λ i. Some i) (λ s. s)) c.from_residual.result) t =
-        ap (walked t F) w.1 ∙ (ap (λ (e : CallError). answer {R = Of Stat} (Err e) t) (sym w.2) ∙ ap (λ (z : Result (ℕ × Stat) CallError). answer (viewed (labelled (λ i. Some i) (λ s. s)) z) t) (sym r)) in
+    ap (walked t F) w.1 ∙ (ap (λ (e : CallError). answer {R = Of Stat} (Err e) t) (sym w.2) ∙ ap (λ (z : Result (ℕ × Stat) CallError). answer (viewed (labelled (λ i. Some i) (λ s. s)) z) t) (sym r)) in
     own_stays n ms ms' us us' tss tss' k (walked t F (resolution (graft ms us) c.args.path.now false)) (viewed (labelled (λ i. Some i) (λ s. s)) c.from_residual.result) em eu et p
 
 pub returns-clause-reply : goal.returns-clause-reply
@@ -69,5 +60,5 @@ returns-clause-reply g c =
     let F : GraftNode → Answer (Table GraftNode) (Of Stat) = λ x. give (Some x.image, stat_of x.node) t in
     let r : Result (Of Stat) CallError = Ok (labelled (λ i. Some i) (λ z. z) c.stat.result) in
     let p : walked t F (resolution (graft ms us) c.args.path.now false) ≡ answer r t =
-        ap (walked t F) w.1 ∙ ap (λ (z : Of Stat). answer (Ok z) t) (sym (c.stat.ensures s e)) in
+    ap (walked t F) w.1 ∙ ap (λ (z : Of Stat). answer (Ok z) t) (sym (c.stat.ensures s e)) in
     own_stays n ms ms' us us' tss tss' k (walked t F (resolution (graft ms us) c.args.path.now false)) r em eu et p

@@ -1,30 +1,20 @@
-use Rattle.std.proofs.Common.{◌≡◌, ℕ, ◌<◌, ◌≤◌, List, [], ◌∷◌, Option, Some, None, Bool, true, false, Result, Ok, Err, refl, sym, ap, ◌∙◌, subst, arith, rules, length, get_or, map, take}
+use Rattle.std.proofs.Common.{◌≡◌, ℕ, ◌<◌, List, [], ◌∷◌, Option, Some, true, false, Result, refl, sym, ap, ◌∙◌, subst, arith, length, get_or, map}
 use Rattle.std.proofs.lemmas.List.{length-map}
-use Rattle.std.specs.Prelude.{option_map, ◌||◌}
-use Rattle.rom_tree.specs.declared.types.NodeId.{NodeId}
-use Rattle.rom_tree.specs.declared.types.Stat.{Stat}
-use Rattle.rom_tree.specs.declared.types.Piece.{Piece}
-use Rattle.rom_tree.specs.declared.types.Entry.{Entry}
-use Rattle.rom_tree.specs.Tree.{ino_of, is_directory, is_regular, is_link}
-use Rattle.rom_tree.specs.Image.{Image, stat_of}
+use Rattle.rom_tree.specs.Tree.{ino_of, is_directory}
+use Rattle.rom_tree.specs.Image.{Image}
 use Rattle.path_walk.specs.declared.mount.Mount.{Mount}
-use Rattle.path_walk.specs.Resolution.{resolution}
-use Rattle.path_walk.specs.Graft.{GraftNode, graft, bytes_in}
+use Rattle.path_walk.specs.Graft.{GraftNode}
 use Rattle.open_files.specs.declared.error.CallError.{CallError}
 use Rattle.open_files.specs.declared.slot.OpenNode.{OpenNode}
-use Rattle.open_files.specs.declared.slot.Fd.{Fd}
-use Rattle.open_files.specs.Errors.{error_of}
-use Rattle.open_files.specs.Calls.{Answer, answer, give, Of, Lent, Named, viewed}
-use Rattle.open_files.specs.Machine.{Table, walked, read_link, open_place}
-use Rattle.open_files.specs.Slots.{View, graft_view, are_sound, table_of, calls_of, labelled, lent_by, named_by}
-use Rattle.open_files.specs.Sessions.{Sessions, space_calls}
-use Rattle.open_files.specs.Space.{slots_at, all_sound, space_state}
+use Rattle.open_files.specs.Calls.{answer, give}
+use Rattle.open_files.specs.Machine.{Table}
+use Rattle.open_files.specs.Slots.{View, graft_view}
+use Rattle.open_files.specs.Sessions.{Sessions}
+use Rattle.open_files.specs.Space.{space_state}
 use Rattle.open_files.proofs.Tables.{refused}
-use Rattle.open_files.proofs.Sessions.{sound_at, slots_index, all_sound_set, own_sets, own_stays, same_state, looked_up}
+use Rattle.open_files.proofs.Sessions.{same_state}
 use Rattle.open_files.proofs.space.Space.mount.Goals as goal
-use Rattle.std.specs.List.{remove}
-use Rattle.open_files.specs.Calls.{refuse}
-use Rattle.open_files.specs.Sessions.{is_mounted, has_mount, without, mount_over, mount_at_place, mounting, unmounting, shared_answer}
+use Rattle.open_files.specs.Sessions.{is_mounted, mount_over, mount_at_place, mounting, shared_answer}
 use Rattle.path_walk.specs.Graft.{Names, are_mounts, tree_in, covers}
 use Rattle.std.proofs.Common.{◌==◌, ◌++◌, lit<}
 use Rattle.std.specs.Prelude.{find}
@@ -121,7 +111,7 @@ returns-in_err-check_cover-clause-reply g c =
     let im : is_mounted i us ≡ false = ap (is_mounted i) (sym c.as_slice.ensures.value) ∙ (sym c.is_mounted_in.ensures ∙ c.if-is_mounted_in.false) in
     let tr : tree_in ms s.image ≡ (f y).tree = ap (tree_in ms) (sym nm.image) ∙ (ap (λ (z : List Image). tree_in z on) (sym em) ∙ (map_tree f xs' on y b ∙ ap (λ z. (f z).tree) (sym ey))) in
     let g0 : mounting ms us i c.args.path.now ≡ mount_over us i s (is_directory s.node) (ino_of s.node == ino_of (tree_in ms s.image))
-        = mounting_goes ms us i c.args.path.now il iz im ∙ ap (mount_at_place ms us i) w.1 in
+    = mounting_goes ms us i c.args.path.now il iz im ∙ ap (mount_at_place ms us i) w.1 in
     let e : CallError = c.in_err-check_cover.field-0.0 in
     let r = refused c.from_residual-in_err-check_cover.result e c.from_residual-in_err-check_cover.ensures.1 in
     ap (shared_answer S) (g0 ∙ (ap (λ z. mount_over us i s (is_directory s.node) (ino_of s.node == ino_of z)) tr ∙ c.in_err-check_cover.ensures s.node q us i s))
@@ -192,7 +182,7 @@ invariant_of-self-clause-mounted g c =
     let im : is_mounted i us ≡ false = ap (is_mounted i) (sym c.as_slice.ensures.value) ∙ (sym c.is_mounted_in.ensures ∙ c.if-is_mounted_in.false) in
     let tr : tree_in ms s.image ≡ (f y).tree = ap (tree_in ms) (sym nm.image) ∙ (ap (λ (z : List Image). tree_in z on) (sym em) ∙ (map_tree f xs' on y b ∙ ap (λ z. (f z).tree) (sym ey))) in
     let g0 : mounting ms us i c.args.path.now ≡ mount_over us i s (is_directory s.node) (ino_of s.node == ino_of (tree_in ms s.image))
-        = mounting_goes ms us i c.args.path.now il iz im ∙ ap (mount_at_place ms us i) w.1 in
+    = mounting_goes ms us i c.args.path.now il iz im ∙ ap (mount_at_place ms us i) w.1 in
     let t = c.in_ok-check_cover.ensures s.node q in
     let d : is_directory s.node ≡ true = t.0 in
     let r : (ino_of s.node == ino_of (tree_in ms s.image)) ≡ false = ap (λ z. ino_of s.node == ino_of z) tr ∙ t.1 in
@@ -200,8 +190,8 @@ invariant_of-self-clause-mounted g c =
     let P : List Mount → Type 0 = λ z. are_mounts ms' z ≡ true in
     let r' : (ino_of s.node == ino_of (tree_in ms' s.image)) ≡ false = ap (λ (z : List Image). ino_of s.node == ino_of (tree_in z s.image)) em ∙ r in
     subst P (sym c.push.ensures.items)
-      (mounts_push ms' us' u c.walk.new.self.mounted (new_mount ms' u s nm' iz (omega (arith, il, ap length em)) d r')
-      (ap (is_mounted i) eu ∙ im) (ap (λ (z : List Mount). find (covers on c.in_ok-on.dir.0) z) eu ∙ w.3))
+    (mounts_push ms' us' u c.walk.new.self.mounted (new_mount ms' u s nm' iz (omega (arith, il, ap length em)) d r')
+    (ap (is_mounted i) eu ∙ im) (ap (λ (z : List Mount). find (covers on c.in_ok-on.dir.0) z) eu ∙ w.3))
 
 pub invariant_of-self-clause-sound : goal.invariant_of-self-clause-sound
 invariant_of-self-clause-sound g c =
@@ -240,7 +230,7 @@ returns-clause-reply g c =
     let im : is_mounted i us ≡ false = ap (is_mounted i) (sym c.as_slice.ensures.value) ∙ (sym c.is_mounted_in.ensures ∙ c.if-is_mounted_in.false) in
     let tr : tree_in ms s.image ≡ (f y).tree = ap (tree_in ms) (sym nm.image) ∙ (ap (λ (z : List Image). tree_in z on) (sym em) ∙ (map_tree f xs' on y b ∙ ap (λ z. (f z).tree) (sym ey))) in
     let g0 : mounting ms us i c.args.path.now ≡ mount_over us i s (is_directory s.node) (ino_of s.node == ino_of (tree_in ms s.image))
-        = mounting_goes ms us i c.args.path.now il iz im ∙ ap (mount_at_place ms us i) w.1 in
+    = mounting_goes ms us i c.args.path.now il iz im ∙ ap (mount_at_place ms us i) w.1 in
     let t = c.in_ok-check_cover.ensures s.node q in
     let d : is_directory s.node ≡ true = t.0 in
     let r : (ino_of s.node == ino_of (tree_in ms s.image)) ≡ false = ap (λ z. ino_of s.node == ino_of z) tr ∙ t.1 in

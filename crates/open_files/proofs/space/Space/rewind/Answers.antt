@@ -1,26 +1,11 @@
-use Rattle.std.proofs.Common.{◌≡◌, ℕ, ◌<◌, ◌≤◌, List, [], ◌∷◌, Option, Some, None, Bool, true, false, Result, Ok, Err, refl, sym, ap, ◌∙◌, subst, arith, rules, length, get_or, map, take}
-use Rattle.std.proofs.lemmas.List.{length-map}
-use Rattle.std.specs.Prelude.{option_map, ◌||◌}
-use Rattle.rom_tree.specs.declared.types.NodeId.{NodeId}
-use Rattle.rom_tree.specs.declared.types.Stat.{Stat}
-use Rattle.rom_tree.specs.declared.types.Piece.{Piece}
-use Rattle.rom_tree.specs.declared.types.Entry.{Entry}
-use Rattle.rom_tree.specs.Tree.{ino_of, is_directory, is_regular, is_link}
-use Rattle.rom_tree.specs.Image.{Image, stat_of}
+use Rattle.std.proofs.Common.{◌≡◌, ℕ, ◌<◌, List, Option, true, subst, arith, rules, length, get_or, map}
+use Rattle.rom_tree.specs.Image.{Image}
 use Rattle.path_walk.specs.declared.mount.Mount.{Mount}
-use Rattle.path_walk.specs.Resolution.{resolution}
-use Rattle.path_walk.specs.Graft.{GraftNode, graft, bytes_in}
-use Rattle.open_files.specs.declared.error.CallError.{CallError}
+use Rattle.path_walk.specs.Graft.{GraftNode}
 use Rattle.open_files.specs.declared.slot.OpenNode.{OpenNode}
-use Rattle.open_files.specs.declared.slot.Fd.{Fd}
-use Rattle.open_files.specs.Errors.{error_of}
-use Rattle.open_files.specs.Calls.{Answer, answer, give, Of, Lent, Named, viewed}
-use Rattle.open_files.specs.Machine.{Table, walked, read_link, open_place}
-use Rattle.open_files.specs.Slots.{View, graft_view, are_sound, table_of, calls_of, labelled, lent_by, named_by}
-use Rattle.open_files.specs.Sessions.{Sessions, space_calls}
-use Rattle.open_files.specs.Space.{slots_at, all_sound, space_state}
-use Rattle.open_files.proofs.Tables.{refused}
-use Rattle.open_files.proofs.Sessions.{sound_at, slots_index, all_sound_set, own_sets, own_stays, same_state, looked_up}
+use Rattle.open_files.specs.Slots.{View, graft_view, are_sound, calls_of}
+use Rattle.open_files.specs.Space.{slots_at}
+use Rattle.open_files.proofs.Sessions.{sound_at, slots_index, all_sound_set, own_sets}
 use Rattle.open_files.proofs.space.Space.rewind.Goals as goal
 
 pub rewind-requires : goal.rewind-requires
