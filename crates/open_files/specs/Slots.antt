@@ -90,7 +90,9 @@ module _ {F : Type 0} where
   -- A call on what is open gave this outcome: the reply, and what now stands in the code. A refusal leaves
   -- it as it was.
   abbrev pub Moves : {R : Type 0} → View F → Open F → OpenNode → OpenNode → Outcome R → Result R CallError → Type 0
-  Moves v o old new outcome (Ok r) = (q : ℕ) × (outcome ≡ Ok (r, q)) × (stands v new ≡ Some (moved o q)) × (new.image ≡ old.image) × (new.node ≡ old.node)
+  Moves v o old new outcome (Ok r) =
+      (q : ℕ) × (outcome ≡ Ok (r, q)) × (stands v new ≡ Some (moved o q)) × (new.image ≡ old.image)
+      × (new.node ≡ old.node)
   Moves v o old new outcome (Err e) = (outcome ≡ Err e) × (new ≡ old)
 
   abbrev pub is_open : (OpenNode → Option (Open F)) → Option OpenNode → Bool

@@ -19,5 +19,6 @@ all_sound ms us [] = true
 all_sound ms us (t ∷ ts) = are_sound (graft_view ms us) t && all_sound ms us ts
 
 -- the mounts, and the table of each session
-abbrev pub space_state : ℕ → List Image → List Mount → List (List (Option OpenNode)) → Sessions (List Mount) (Table GraftNode)
+abbrev pub space_state : ℕ → List Image → List Mount → List (List (Option OpenNode))
+    → Sessions (List Mount) (Table GraftNode)
 space_state n ms us ts = record { shared = us; own = λ k. table_of (graft_view ms us) (slots_at n ts k) }

@@ -59,7 +59,8 @@ pub(crate) fn open<'a, T: TreeImage<'a>, I: Images<'a, T>, const N: usize>(
     requires narrow { N ≤ 65536 }
     ensures reply { (x : I.Spot) → (I.view images.now).place image node.0 ≡ Some x
         → open_place (table_of (I.view images.now) slots.old.slots) x
-        (is_directory ((I.view images.now).names.node x) || is_regular ((I.view images.now).names.node x))
+        (is_directory ((I.view images.now).names.node x) || is_regular
+        ((I.view images.now).names.node x))
         ≡ answer (viewed (λ d. d.0) result) (table_of (I.view images.now) slots.new.slots) }
     ensures sound { are_sound (I.view images.now) slots.new.slots ≡ true }
 {
@@ -85,7 +86,8 @@ pub(crate) fn fstat<'a, T: TreeImage<'a>, I: Images<'a, T>, const N: usize>(
     fd: Fd,
 ) -> Result<(u32, Stat), CallError>
     requires { are_sound (I.view images.now) slots.now.slots ≡ true }
-    ensures { (calls_of N (I.view images.now)).fstat (table_of (I.view images.now) slots.now.slots) fd.0
+    ensures { (calls_of N (I.view images.now)).fstat (table_of (I.view images.now) slots.now.slots)
+        fd.0
         ≡ answer (viewed (labelled (I.view images.now).label (λ s. s)) result)
         (table_of (I.view images.now) slots.now.slots) }
 {
@@ -102,7 +104,8 @@ pub(crate) fn seek<'a, T: TreeImage<'a>, I: Images<'a, T>, const N: usize>(
     position: u64,
 ) -> Result<(), CallError>
     requires { are_sound (I.view images.now) slots.old.slots ≡ true }
-    ensures reply { (calls_of N (I.view images.now)).seek_to (table_of (I.view images.now) slots.old.slots)
+    ensures reply { (calls_of N (I.view images.now)).seek_to
+        (table_of (I.view images.now) slots.old.slots)
         fd.0 position ≡ answer result (table_of (I.view images.now) slots.new.slots) }
     ensures sound { are_sound (I.view images.now) slots.new.slots ≡ true }
 {
@@ -119,7 +122,8 @@ pub(crate) fn rewind<'a, T: TreeImage<'a>, I: Images<'a, T>, const N: usize>(
     fd: Fd,
 ) -> Result<(), CallError>
     requires { are_sound (I.view images.now) slots.old.slots ≡ true }
-    ensures reply { (calls_of N (I.view images.now)).rewind (table_of (I.view images.now) slots.old.slots)
+    ensures reply { (calls_of N (I.view images.now)).rewind
+        (table_of (I.view images.now) slots.old.slots)
         fd.0 ≡ answer result (table_of (I.view images.now) slots.new.slots) }
     ensures sound { are_sound (I.view images.now) slots.new.slots ≡ true }
 {
@@ -139,7 +143,8 @@ pub(crate) fn read<'a, T: TreeImage<'a>, I: Images<'a, T>, const N: usize>(
     requires { are_sound (I.view images.now) slots.old.slots ≡ true }
     ensures reply { (calls_of N (I.view images.now)).read_bytes
         (table_of (I.view images.now) slots.old.slots) fd.0 (length buf.old)
-        ≡ answer (viewed (λ n. take n buf.new) result) (table_of (I.view images.now) slots.new.slots) }
+        ≡ answer (viewed (λ n. take n buf.new) result)
+        (table_of (I.view images.now) slots.new.slots) }
     ensures rest { MatchResult result (λ n. drop n buf.new ≡ drop n buf.old)
         (λ e. buf.new ≡ buf.old) }
     ensures sound { are_sound (I.view images.now) slots.new.slots ≡ true }
@@ -198,10 +203,12 @@ pub(crate) fn readdir<'a, T: TreeImage<'a>, I: Images<'a, T>, const N: usize>(
     requires { are_sound (I.view images.now) slots.old.slots ≡ true }
     ensures reply { (calls_of N (I.view images.now)).readdir
         (table_of (I.view images.now) slots.old.slots) fd.0
-        ≡ answer (viewed (option_map {U = Of Named} (labelled (I.view images.now).label named_by)) result)
+        ≡ answer (viewed (option_map {U = Of Named} (labelled (I.view images.now).label named_by))
+        result)
         (table_of (I.view images.now) slots.new.slots) }
     ensures cursor { MatchResult result (λ r. MatchOption r (Unit {0})
-        (λ e. LeadsOn (I.view images.now) (table_of (I.view images.now) slots.new.slots) fd.0 e.0 e.1.cursor.0))
+        (λ e. LeadsOn (I.view images.now) (table_of (I.view images.now) slots.new.slots)
+        fd.0 e.0 e.1.cursor.0))
         (λ e. Unit {0}) }
     ensures sound { are_sound (I.view images.now) slots.new.slots ≡ true }
 {
@@ -221,7 +228,8 @@ pub(crate) fn close<'a, T: TreeImage<'a>, I: Images<'a, T>, const N: usize>(
     fd: Fd,
 ) -> Result<(), CallError>
     requires { are_sound (I.view images.now) slots.old.slots ≡ true }
-    ensures reply { (calls_of N (I.view images.now)).close (table_of (I.view images.now) slots.old.slots)
+    ensures reply { (calls_of N (I.view images.now)).close
+        (table_of (I.view images.now) slots.old.slots)
         fd.0 ≡ answer result (table_of (I.view images.now) slots.new.slots) }
     ensures sound { are_sound (I.view images.now) slots.new.slots ≡ true }
 {

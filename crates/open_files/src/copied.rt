@@ -29,7 +29,8 @@ pub(crate) fn copy_bytes<'a, T: TreeImage<'a>>(
     ensures count { (x : Node) → image_node (T.image image.now) node.0 ≡ Some x
         → result ≡ length (take (length buf.old) (drop at (places_of x))) }
     ensures bytes { (x : Node) → image_node (T.image image.now) node.0 ≡ Some x
-        → buf.new ≡ bytes_of (T.image image.now).bytes (take (length buf.old) (drop at (places_of x)))
+        → buf.new
+        ≡ bytes_of (T.image image.now).bytes (take (length buf.old) (drop at (places_of x)))
         ++ drop result buf.old }
     ensures fits { at + result < 2 ^ 64 }
 {

@@ -1,5 +1,5 @@
-//! The calls on one image and on what is open in it, each over references to the two. So code that is
-//! generic over the image can make them, whatever its size is.
+//! The calls on one image and on what is open in it, each over references to the two. So code that
+//! is generic over the image can make them, whatever the size of the image's type.
 ghost use Rattle.std.specs.Prelude.{◌≡◌, ◌≤◌, ℕ, true, length, take, drop, Option, Some, None, Ok, Err, MatchResult, MatchOption, option_map};
 ghost use Rattle.rom_tree.specs.Tree.{Node, levels};
 ghost use Rattle.open_files.specs.Calls.{Of, Named, answer, give, viewed};
@@ -21,7 +21,8 @@ use rom_tree::types::{Entry, NodeId, Piece, Stat};
 /// Those of `path_walk::walk`.
 pub fn lookup<'a, T: TreeImage<'a>>(image: &mut T, path: &[u8]) -> Result<NodeId, CallError>
     requires { levels (T.image image.old).tree ≤ 65 }
-    ensures reply { (n : ℕ) (t : Table Node) → (image_calls n (T.image image.old)).lookup t path.now
+    ensures reply { (n : ℕ) (t : Table Node)
+        → (image_calls n (T.image image.old)).lookup t path.now
         ≡ answer (viewed (unlabelled (λ n. n.0)) result) t }
     ensures stays { T.image image.new ≡ T.image image.old }
 {
@@ -36,7 +37,8 @@ pub fn lookup<'a, T: TreeImage<'a>>(image: &mut T, path: &[u8]) -> Result<NodeId
 /// Those of `path_walk::walk`.
 pub fn stat<'a, T: TreeImage<'a>>(image: &mut T, path: &[u8]) -> Result<Stat, CallError>
     requires { levels (T.image image.old).tree ≤ 65 }
-    ensures reply { (n : ℕ) (t : Table Node) → (image_calls n (T.image image.old)).stat t path.now
+    ensures reply { (n : ℕ) (t : Table Node)
+        → (image_calls n (T.image image.old)).stat t path.now
         ≡ answer (viewed (unlabelled (λ s. s)) result) t }
     ensures stays { T.image image.new ≡ T.image image.old }
 {
@@ -52,7 +54,8 @@ pub fn stat<'a, T: TreeImage<'a>>(image: &mut T, path: &[u8]) -> Result<Stat, Ca
 /// Those of `path_walk::walk`.
 pub fn lstat<'a, T: TreeImage<'a>>(image: &mut T, path: &[u8]) -> Result<Stat, CallError>
     requires { levels (T.image image.old).tree ≤ 65 }
-    ensures reply { (n : ℕ) (t : Table Node) → (image_calls n (T.image image.old)).lstat t path.now
+    ensures reply { (n : ℕ) (t : Table Node)
+        → (image_calls n (T.image image.old)).lstat t path.now
         ≡ answer (viewed (unlabelled (λ s. s)) result) t }
     ensures stays { T.image image.new ≡ T.image image.old }
 {
@@ -67,7 +70,8 @@ pub fn lstat<'a, T: TreeImage<'a>>(image: &mut T, path: &[u8]) -> Result<Stat, C
 /// Those of `path_walk::walk`, then `Einval` where the node is no link.
 pub fn readlink<'a, T: TreeImage<'a>>(image: &mut T, path: &[u8]) -> Result<Piece<'a>, CallError>
     requires { levels (T.image image.old).tree ≤ 65 }
-    ensures reply { (n : ℕ) (t : Table Node) → (image_calls n (T.image image.old)).readlink t path.now
+    ensures reply { (n : ℕ) (t : Table Node)
+        → (image_calls n (T.image image.old)).readlink t path.now
         ≡ answer (viewed (unlabelled lent_by) result) t }
     ensures stays { T.image image.new ≡ T.image image.old }
 {
@@ -81,8 +85,8 @@ pub fn readlink<'a, T: TreeImage<'a>>(image: &mut T, path: &[u8]) -> Result<Piec
 ///
 /// # Errors
 ///
-/// Those of `path_walk::walk`, then `Enxio` where the node is neither, then `Emfile` where N are
-/// open.
+/// Those of `path_walk::walk`, then `Enxio` where the node is neither, then `Emfile` where N
+/// numbers are taken.
 pub fn open<'a, T: TreeImage<'a>, const N: usize>(
     image: &mut T,
     slots: &mut Slots<N>,
@@ -91,8 +95,10 @@ pub fn open<'a, T: TreeImage<'a>, const N: usize>(
     requires deep { levels (T.image image.old).tree ≤ 65 }
     requires narrow { N ≤ 65536 }
     requires sound { are_sound (image_view (T.image image.old)) slots.old.slots ≡ true }
-    ensures reply { (image_calls N (T.image image.old)).open_path (table_of (image_view (T.image image.old)) slots.old.slots) path.now
-        ≡ answer (viewed (λ d. d.0) result) (table_of (image_view (T.image image.old)) slots.new.slots) }
+    ensures reply { (image_calls N (T.image image.old)).open_path
+        (table_of (image_view (T.image image.old)) slots.old.slots) path.now
+        ≡ answer (viewed (λ d. d.0) result)
+        (table_of (image_view (T.image image.old)) slots.new.slots) }
     ensures sound { are_sound (image_view (T.image image.old)) slots.new.slots ≡ true }
     ensures stays { T.image image.new ≡ T.image image.old }
 {
@@ -111,8 +117,9 @@ pub fn fstat<'a, T: TreeImage<'a>, const N: usize>(
     fd: Fd,
 ) -> Result<Stat, CallError>
     requires { are_sound (image_view (T.image image.now)) slots.now.slots ≡ true }
-    ensures { (image_calls N (T.image image.now)).fstat (table_of (image_view (T.image image.now)) slots.now.slots)
-        fd.0 ≡ answer (viewed (unlabelled (λ s. s)) result)
+    ensures { (image_calls N (T.image image.now)).fstat
+        (table_of (image_view (T.image image.now)) slots.now.slots) fd.0
+        ≡ answer (viewed (unlabelled (λ s. s)) result)
         (table_of (image_view (T.image image.now)) slots.now.slots) }
 {
     let (_, stat) = calls::fstat(&One { image }, slots, fd)?;
@@ -133,8 +140,9 @@ pub fn read<'a, T: TreeImage<'a>, const N: usize>(
     buf: &mut [u8],
 ) -> Result<usize, CallError>
     requires { are_sound (image_view (T.image image.now)) slots.old.slots ≡ true }
-    ensures reply { (image_calls N (T.image image.now)).read_bytes (table_of (image_view (T.image image.now)) slots.old.slots)
-        fd.0 (length buf.old) ≡ answer (viewed (λ n. take n buf.new) result)
+    ensures reply { (image_calls N (T.image image.now)).read_bytes
+        (table_of (image_view (T.image image.now)) slots.old.slots) fd.0 (length buf.old)
+        ≡ answer (viewed (λ n. take n buf.new) result)
         (table_of (image_view (T.image image.now)) slots.new.slots) }
     ensures rest { MatchResult result (λ n. drop n buf.new ≡ drop n buf.old)
         (λ e. buf.new ≡ buf.old) }
@@ -158,8 +166,9 @@ pub fn lend<'a, T: TreeImage<'a>, const N: usize>(
     max: u64,
 ) -> Result<Piece<'a>, CallError>
     requires { are_sound (image_view (T.image image.now)) slots.old.slots ≡ true }
-    ensures reply { (image_calls N (T.image image.now)).lend_piece (table_of (image_view (T.image image.now)) slots.old.slots)
-        fd.0 max ≡ answer (viewed (unlabelled lent_by) result)
+    ensures reply { (image_calls N (T.image image.now)).lend_piece
+        (table_of (image_view (T.image image.now)) slots.old.slots) fd.0 max
+        ≡ answer (viewed (unlabelled lent_by) result)
         (table_of (image_view (T.image image.now)) slots.new.slots) }
     ensures sound { are_sound (image_view (T.image image.now)) slots.new.slots ≡ true }
 {
@@ -171,9 +180,9 @@ pub fn lend<'a, T: TreeImage<'a>, const N: usize>(
 ///
 /// # Errors
 ///
-/// In this order: `Ebadf` where nothing is open there, `Eisdir` where it is a directory, `Einval`
-/// where `len` is 0 or the range does not end within the file, `Erange` where the bytes do not
-/// follow one another in the image.
+/// In this order: `Ebadf` where nothing is open there, `Eisdir` where it is a directory,
+/// `Einval` where `len` is 0 or the range does not end within the file, `Erange` where the bytes
+/// do not follow one another in the image.
 pub fn map<'a, T: TreeImage<'a>, const N: usize>(
     image: &T,
     slots: &Slots<N>,
@@ -182,8 +191,9 @@ pub fn map<'a, T: TreeImage<'a>, const N: usize>(
     len: u64,
 ) -> Result<Piece<'a>, CallError>
     requires { are_sound (image_view (T.image image.now)) slots.now.slots ≡ true }
-    ensures { (image_calls N (T.image image.now)).map_piece (table_of (image_view (T.image image.now)) slots.now.slots)
-        fd.0 off len ≡ answer (viewed (unlabelled lent_by) result)
+    ensures { (image_calls N (T.image image.now)).map_piece
+        (table_of (image_view (T.image image.now)) slots.now.slots) fd.0 off len
+        ≡ answer (viewed (unlabelled lent_by) result)
         (table_of (image_view (T.image image.now)) slots.now.slots) }
 {
     let (_, piece) = calls::map(&One { image }, slots, fd, off, len)?;
@@ -202,16 +212,16 @@ pub fn seek<'a, T: TreeImage<'a>, const N: usize>(
     position: u64,
 ) -> Result<(), CallError>
     requires { are_sound (image_view (T.image image.now)) slots.old.slots ≡ true }
-    ensures reply { (image_calls N (T.image image.now)).seek_to (table_of (image_view (T.image image.now)) slots.old.slots)
-        fd.0 position ≡ answer result
-        (table_of (image_view (T.image image.now)) slots.new.slots) }
+    ensures reply { (image_calls N (T.image image.now)).seek_to
+        (table_of (image_view (T.image image.now)) slots.old.slots) fd.0 position
+        ≡ answer result (table_of (image_view (T.image image.now)) slots.new.slots) }
     ensures sound { are_sound (image_view (T.image image.now)) slots.new.slots ≡ true }
 {
     calls::seek(&One { image }, slots, fd, position)
 }
 
-/// The next entry of an open directory, without `.` and `..`; `None` at the end, again and again.
-/// The entry's cursor stands one entry further, where the descriptor then stands.
+/// The next entry of an open directory, without `.` and `..`; `None` at the end, again and
+/// again. The entry's cursor stands one entry further, where the descriptor then stands.
 ///
 /// # Errors
 ///
@@ -222,12 +232,14 @@ pub fn readdir<'a, T: TreeImage<'a>, const N: usize>(
     fd: Fd,
 ) -> Result<Option<Entry<'a>>, CallError>
     requires { are_sound (image_view (T.image image.now)) slots.old.slots ≡ true }
-    ensures reply { (image_calls N (T.image image.now)).readdir (table_of (image_view (T.image image.now)) slots.old.slots)
-        fd.0 ≡ answer (viewed (option_map {U = Of Named} (unlabelled named_by)) result)
+    ensures reply { (image_calls N (T.image image.now)).readdir
+        (table_of (image_view (T.image image.now)) slots.old.slots) fd.0
+        ≡ answer (viewed (option_map {U = Of Named} (unlabelled named_by)) result)
         (table_of (image_view (T.image image.now)) slots.new.slots) }
     ensures cursor { MatchResult result (λ r. MatchOption r (Unit {0})
-        (λ e. LeadsOn (image_view (T.image image.now)) (table_of (image_view (T.image image.now)) slots.new.slots)
-        fd.0 0 e.cursor.0)) (λ e. Unit {0}) }
+        (λ e. LeadsOn (image_view (T.image image.now))
+        (table_of (image_view (T.image image.now)) slots.new.slots) fd.0 0 e.cursor.0))
+        (λ e. Unit {0}) }
     ensures sound { are_sound (image_view (T.image image.now)) slots.new.slots ≡ true }
 {
     match calls::readdir(&One { image }, slots, fd)? {
@@ -247,9 +259,9 @@ pub fn rewind<'a, T: TreeImage<'a>, const N: usize>(
     fd: Fd,
 ) -> Result<(), CallError>
     requires { are_sound (image_view (T.image image.now)) slots.old.slots ≡ true }
-    ensures reply { (image_calls N (T.image image.now)).rewind (table_of (image_view (T.image image.now)) slots.old.slots)
-        fd.0 ≡ answer result
-        (table_of (image_view (T.image image.now)) slots.new.slots) }
+    ensures reply { (image_calls N (T.image image.now)).rewind
+        (table_of (image_view (T.image image.now)) slots.old.slots) fd.0
+        ≡ answer result (table_of (image_view (T.image image.now)) slots.new.slots) }
     ensures sound { are_sound (image_view (T.image image.now)) slots.new.slots ≡ true }
 {
     calls::rewind(&One { image }, slots, fd)
@@ -266,9 +278,9 @@ pub fn close<'a, T: TreeImage<'a>, const N: usize>(
     fd: Fd,
 ) -> Result<(), CallError>
     requires { are_sound (image_view (T.image image.now)) slots.old.slots ≡ true }
-    ensures reply { (image_calls N (T.image image.now)).close (table_of (image_view (T.image image.now)) slots.old.slots)
-        fd.0 ≡ answer result
-        (table_of (image_view (T.image image.now)) slots.new.slots) }
+    ensures reply { (image_calls N (T.image image.now)).close
+        (table_of (image_view (T.image image.now)) slots.old.slots) fd.0
+        ≡ answer result (table_of (image_view (T.image image.now)) slots.new.slots) }
     ensures sound { are_sound (image_view (T.image image.now)) slots.new.slots ≡ true }
 {
     calls::close(&One { image }, slots, fd)

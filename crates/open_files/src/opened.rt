@@ -112,7 +112,8 @@ pub(crate) fn map<'a, T: TreeImage<'a>>(
     len: u64,
 ) -> Result<Piece<'a>, CallError>
     requires { (o : Open Node) × (stands (image_view (T.image image.now)) opened ≡ Some o) }
-    ensures { (o : Open Node) (i : Option ℕ) → stands (image_view (T.image image.now)) opened ≡ Some o
+    ensures { (o : Open Node) (i : Option ℕ) → stands (image_view (T.image image.now)) opened
+        ≡ Some o
         → MatchResult result
         (λ p. map_on i (T.image image.now).bytes off len o.place o.position
         ≡ Ok ((i, lent_by p), o.position))

@@ -23,8 +23,8 @@ use rom_tree::types::{Entry, NodeId, Piece, Stat};
 use std::marker::PhantomData;
 
 /// Up to eight images, what is mounted where, and eight sessions, each with open files of its own,
-/// whose numbers lie below N. Mounts are seen by all sessions. What is said of a node comes with the
-/// number of its image. What is lent is part of an image's bytes, and outlives later calls, the
+/// whose numbers lie below N. Mounts are seen by all sessions. What is said of a node comes with
+/// the number of its image. What is lent is part of an image's bytes, and outlives later calls, the
 /// descriptor and the value itself. No call takes memory, unless a look-up in an image does.
 #[derive(Drop)]
 pub struct Space<'a, T: Viewed, const N: usize> {
@@ -37,13 +37,14 @@ pub struct Space<'a, T: Viewed, const N: usize> {
     ghost few: { length images.items ≤ 8 },
     ghost shallow: { AreShallow (map T.image images.items) },
     ghost mounted: { are_mounts (map T.image images.items) mounts.items ≡ true },
-    ghost sound: { all_sound (map T.image images.items) mounts.items (map (λ t. t.slots) tables) ≡ true },
+    ghost sound: { all_sound (map T.image images.items) mounts.items (map (λ t. t.slots) tables)
+        ≡ true },
     ghost narrow: { N ≤ 65536 },
 }
 
 impl<'a, T: TreeImage<'a>, const N: usize> Space<'a, T, N> {
-    /// Nothing is mounted, and nothing is open. There are 1 to 8 images, whose directories may lie 64
-    /// deep, and N is at most 65,536.
+    /// Nothing is mounted, and nothing is open. There are 1 to 8 images, whose directories may lie
+    /// 64 deep, and N is at most 65,536.
     pub fn new(images: Vec<T>) -> Self
         requires narrow { N ≤ 65536 }
         requires some { 0 < length images.items }
@@ -66,13 +67,14 @@ impl<'a, T: TreeImage<'a>, const N: usize> Space<'a, T, N> {
     fn walk(&mut self, path: &[u8], follow_last: bool) -> Result<(u32, NodeId), CallError>
         ensures leads { MatchResult result
             (λ p. (s : GraftNode)
-            × (resolution (graft (map T.image self.old.images.items) self.old.mounts.items) path.now
-            follow_last ≡ Ok s)
-            × ((graft_view (map T.image self.old.images.items) self.old.mounts.items).place p.0 p.1.0 ≡ Some s)
+            × (resolution (graft (map T.image self.old.images.items) self.old.mounts.items)
+            path.now follow_last ≡ Ok s)
+            × ((graft_view (map T.image self.old.images.items) self.old.mounts.items).place
+            p.0 p.1.0 ≡ Some s)
             × IsUncovered self.old.mounts.items p.0 p.1.0)
             (λ e. (w : WalkError)
-            × (resolution (graft (map T.image self.old.images.items) self.old.mounts.items) path.now
-            follow_last ≡ Err w) × (e ≡ error_of w)) }
+            × (resolution (graft (map T.image self.old.images.items) self.old.mounts.items)
+            path.now follow_last ≡ Err w) × (e ≡ error_of w)) }
         ensures images { map T.image self.new.images.items ≡ map T.image self.old.images.items }
         ensures mounts { self.new.mounts ≡ self.old.mounts }
         ensures tables { self.new.tables ≡ self.old.tables }
@@ -96,7 +98,8 @@ impl<'a, T: TreeImage<'a>, const N: usize> Space<'a, T, N> {
         ensures reply { (space_calls N (map T.image self.old.images.items) session).lookup
             (space_state N (map T.image self.old.images.items) self.old.mounts.items
             (map (λ t. t.slots) self.old.tables)) path.now
-            ≡ answer (viewed (labelled (λ i. Some i) (λ n. n.0)) result) (space_state N (map T.image self.new.images.items) self.new.mounts.items
+            ≡ answer (viewed (labelled (λ i. Some i) (λ n. n.0)) result)
+            (space_state N (map T.image self.new.images.items) self.new.mounts.items
             (map (λ t. t.slots) self.new.tables)) }
         ensures images { map T.image self.new.images.items ≡ map T.image self.old.images.items }
     {
@@ -113,7 +116,8 @@ impl<'a, T: TreeImage<'a>, const N: usize> Space<'a, T, N> {
         ensures reply { (space_calls N (map T.image self.old.images.items) session).stat
             (space_state N (map T.image self.old.images.items) self.old.mounts.items
             (map (λ t. t.slots) self.old.tables)) path.now
-            ≡ answer (viewed (labelled (λ i. Some i) (λ s. s)) result) (space_state N (map T.image self.new.images.items) self.new.mounts.items
+            ≡ answer (viewed (labelled (λ i. Some i) (λ s. s)) result)
+            (space_state N (map T.image self.new.images.items) self.new.mounts.items
             (map (λ t. t.slots) self.new.tables)) }
         ensures images { map T.image self.new.images.items ≡ map T.image self.old.images.items }
     {
@@ -136,7 +140,8 @@ impl<'a, T: TreeImage<'a>, const N: usize> Space<'a, T, N> {
         ensures reply { (space_calls N (map T.image self.old.images.items) session).lstat
             (space_state N (map T.image self.old.images.items) self.old.mounts.items
             (map (λ t. t.slots) self.old.tables)) path.now
-            ≡ answer (viewed (labelled (λ i. Some i) (λ s. s)) result) (space_state N (map T.image self.new.images.items) self.new.mounts.items
+            ≡ answer (viewed (labelled (λ i. Some i) (λ s. s)) result)
+            (space_state N (map T.image self.new.images.items) self.new.mounts.items
             (map (λ t. t.slots) self.new.tables)) }
         ensures images { map T.image self.new.images.items ≡ map T.image self.old.images.items }
     {
@@ -158,7 +163,8 @@ impl<'a, T: TreeImage<'a>, const N: usize> Space<'a, T, N> {
         ensures reply { (space_calls N (map T.image self.old.images.items) session).readlink
             (space_state N (map T.image self.old.images.items) self.old.mounts.items
             (map (λ t. t.slots) self.old.tables)) path.now
-            ≡ answer (viewed (labelled (λ i. Some i) lent_by) result) (space_state N (map T.image self.new.images.items) self.new.mounts.items
+            ≡ answer (viewed (labelled (λ i. Some i) lent_by) result)
+            (space_state N (map T.image self.new.images.items) self.new.mounts.items
             (map (λ t. t.slots) self.new.tables)) }
         ensures images { map T.image self.new.images.items ≡ map T.image self.old.images.items }
     {
@@ -175,14 +181,15 @@ impl<'a, T: TreeImage<'a>, const N: usize> Space<'a, T, N> {
     ///
     /// # Errors
     ///
-    /// Those of `path_walk::walk`, then `Enxio` where the node is neither, then `Emfile` where N are
-    /// open.
+    /// Those of `path_walk::walk`, then `Enxio` where the node is neither, then `Emfile` where N
+    /// numbers are taken.
     pub fn open(&mut self, session: u32, path: &[u8]) -> Result<Fd, CallError>
         requires session { session < 8 }
         ensures reply { (space_calls N (map T.image self.old.images.items) session).open_path
             (space_state N (map T.image self.old.images.items) self.old.mounts.items
             (map (λ t. t.slots) self.old.tables)) path.now
-            ≡ answer (viewed (λ d. d.0) result) (space_state N (map T.image self.new.images.items) self.new.mounts.items
+            ≡ answer (viewed (λ d. d.0) result)
+            (space_state N (map T.image self.new.images.items) self.new.mounts.items
             (map (λ t. t.slots) self.new.tables)) }
         ensures images { map T.image self.new.images.items ≡ map T.image self.old.images.items }
     {
@@ -205,7 +212,8 @@ impl<'a, T: TreeImage<'a>, const N: usize> Space<'a, T, N> {
         ensures { (space_calls N (map T.image self.now.images.items) session).fstat
             (space_state N (map T.image self.now.images.items) self.now.mounts.items
             (map (λ t. t.slots) self.now.tables)) fd.0
-            ≡ answer (viewed (labelled (λ i. Some i) (λ s. s)) result) (space_state N (map T.image self.now.images.items) self.now.mounts.items
+            ≡ answer (viewed (labelled (λ i. Some i) (λ s. s)) result)
+            (space_state N (map T.image self.now.images.items) self.now.mounts.items
             (map (λ t. t.slots) self.now.tables)) }
     {
         let images = Several {
@@ -227,7 +235,8 @@ impl<'a, T: TreeImage<'a>, const N: usize> Space<'a, T, N> {
         ensures reply { (space_calls N (map T.image self.old.images.items) session).read_bytes
             (space_state N (map T.image self.old.images.items) self.old.mounts.items
             (map (λ t. t.slots) self.old.tables)) fd.0 (length buf.old)
-            ≡ answer (viewed (λ n. take n buf.new) result) (space_state N (map T.image self.new.images.items) self.new.mounts.items
+            ≡ answer (viewed (λ n. take n buf.new) result)
+            (space_state N (map T.image self.new.images.items) self.new.mounts.items
             (map (λ t. t.slots) self.new.tables)) }
         ensures rest { MatchResult result (λ n. drop n buf.new ≡ drop n buf.old)
             (λ e. buf.new ≡ buf.old) }
@@ -254,7 +263,8 @@ impl<'a, T: TreeImage<'a>, const N: usize> Space<'a, T, N> {
         ensures reply { (space_calls N (map T.image self.old.images.items) session).lend_piece
             (space_state N (map T.image self.old.images.items) self.old.mounts.items
             (map (λ t. t.slots) self.old.tables)) fd.0 max
-            ≡ answer (viewed (labelled (λ i. Some i) lent_by) result) (space_state N (map T.image self.new.images.items) self.new.mounts.items
+            ≡ answer (viewed (labelled (λ i. Some i) lent_by) result)
+            (space_state N (map T.image self.new.images.items) self.new.mounts.items
             (map (λ t. t.slots) self.new.tables)) }
         ensures images { map T.image self.new.images.items ≡ map T.image self.old.images.items }
     {
@@ -270,9 +280,9 @@ impl<'a, T: TreeImage<'a>, const N: usize> Space<'a, T, N> {
     ///
     /// # Errors
     ///
-    /// In this order: `Ebadf` where nothing is open there, `Eisdir` where it is a directory, `Einval`
-    /// where `len` is 0 or the range does not end within the file, `Erange` where the bytes do not
-    /// follow one another in the image.
+    /// In this order: `Ebadf` where nothing is open there, `Eisdir` where it is a directory,
+    /// `Einval` where `len` is 0 or the range does not end within the file, `Erange` where the
+    /// bytes do not follow one another in the image.
     pub fn map(
         &self,
         session: u32,
@@ -284,7 +294,8 @@ impl<'a, T: TreeImage<'a>, const N: usize> Space<'a, T, N> {
         ensures { (space_calls N (map T.image self.now.images.items) session).map_piece
             (space_state N (map T.image self.now.images.items) self.now.mounts.items
             (map (λ t. t.slots) self.now.tables)) fd.0 off len
-            ≡ answer (viewed (labelled (λ i. Some i) lent_by) result) (space_state N (map T.image self.now.images.items) self.now.mounts.items
+            ≡ answer (viewed (labelled (λ i. Some i) lent_by) result)
+            (space_state N (map T.image self.now.images.items) self.now.mounts.items
             (map (λ t. t.slots) self.now.tables)) }
     {
         let images = Several {
@@ -304,7 +315,8 @@ impl<'a, T: TreeImage<'a>, const N: usize> Space<'a, T, N> {
         ensures reply { (space_calls N (map T.image self.old.images.items) session).seek_to
             (space_state N (map T.image self.old.images.items) self.old.mounts.items
             (map (λ t. t.slots) self.old.tables)) fd.0 position
-            ≡ answer result (space_state N (map T.image self.new.images.items) self.new.mounts.items
+            ≡ answer result
+            (space_state N (map T.image self.new.images.items) self.new.mounts.items
             (map (λ t. t.slots) self.new.tables)) }
         ensures images { map T.image self.new.images.items ≡ map T.image self.old.images.items }
     {
@@ -316,8 +328,8 @@ impl<'a, T: TreeImage<'a>, const N: usize> Space<'a, T, N> {
         calls::seek(&images, &mut tables[session as usize], fd, position)
     }
 
-    /// The next entry of an open directory, without `.` and `..`; `None` at the end, again and again.
-    /// The entry's cursor stands one entry further, where the descriptor then stands.
+    /// The next entry of an open directory, without `.` and `..`; `None` at the end, again and
+    /// again. The entry's cursor stands one entry further, where the descriptor then stands.
     ///
     /// # Errors
     ///
@@ -327,7 +339,8 @@ impl<'a, T: TreeImage<'a>, const N: usize> Space<'a, T, N> {
         ensures reply { (space_calls N (map T.image self.old.images.items) session).readdir
             (space_state N (map T.image self.old.images.items) self.old.mounts.items
             (map (λ t. t.slots) self.old.tables)) fd.0
-            ≡ answer (viewed (option_map {U = Of Named} (labelled (λ i. Some i) named_by)) result) (space_state N (map T.image self.new.images.items) self.new.mounts.items
+            ≡ answer (viewed (option_map {U = Of Named} (labelled (λ i. Some i) named_by)) result)
+            (space_state N (map T.image self.new.images.items) self.new.mounts.items
             (map (λ t. t.slots) self.new.tables)) }
         ensures cursor { MatchResult result (λ r. MatchOption r (Unit {0})
             (λ e. LeadsOn (graft_view (map T.image self.new.images.items) self.new.mounts.items)
@@ -354,7 +367,8 @@ impl<'a, T: TreeImage<'a>, const N: usize> Space<'a, T, N> {
         ensures reply { (space_calls N (map T.image self.old.images.items) session).rewind
             (space_state N (map T.image self.old.images.items) self.old.mounts.items
             (map (λ t. t.slots) self.old.tables)) fd.0
-            ≡ answer result (space_state N (map T.image self.new.images.items) self.new.mounts.items
+            ≡ answer result
+            (space_state N (map T.image self.new.images.items) self.new.mounts.items
             (map (λ t. t.slots) self.new.tables)) }
         ensures images { map T.image self.new.images.items ≡ map T.image self.old.images.items }
     {
@@ -376,7 +390,8 @@ impl<'a, T: TreeImage<'a>, const N: usize> Space<'a, T, N> {
         ensures reply { (space_calls N (map T.image self.old.images.items) session).close
             (space_state N (map T.image self.old.images.items) self.old.mounts.items
             (map (λ t. t.slots) self.old.tables)) fd.0
-            ≡ answer result (space_state N (map T.image self.new.images.items) self.new.mounts.items
+            ≡ answer result
+            (space_state N (map T.image self.new.images.items) self.new.mounts.items
             (map (λ t. t.slots) self.new.tables)) }
         ensures images { map T.image self.new.images.items ≡ map T.image self.old.images.items }
     {
@@ -402,8 +417,8 @@ impl<'a, T: TreeImage<'a>, const N: usize> Space<'a, T, N> {
         tables[session as usize] = Slots::new();
     }
 
-    /// Puts the root of an image over the directory that a path leads to; a link in the last place is
-    /// followed. All sessions see it, and what they have open stays.
+    /// Puts the root of an image over the directory that a path leads to; a link in the last place
+    /// is followed. All sessions see it, and what they have open stays.
     ///
     /// # Errors
     ///
@@ -415,7 +430,8 @@ impl<'a, T: TreeImage<'a>, const N: usize> Space<'a, T, N> {
         ensures reply { (space_calls N (map T.image self.old.images.items) session).mount_at
             (space_state N (map T.image self.old.images.items) self.old.mounts.items
             (map (λ t. t.slots) self.old.tables)) image path.now
-            ≡ answer result (space_state N (map T.image self.new.images.items) self.new.mounts.items
+            ≡ answer result
+            (space_state N (map T.image self.new.images.items) self.new.mounts.items
             (map (λ t. t.slots) self.new.tables)) }
         ensures images { map T.image self.new.images.items ≡ map T.image self.old.images.items }
     {
@@ -442,7 +458,8 @@ impl<'a, T: TreeImage<'a>, const N: usize> Space<'a, T, N> {
         ensures reply { (space_calls N (map T.image self.old.images.items) session).unmount
             (space_state N (map T.image self.old.images.items) self.old.mounts.items
             (map (λ t. t.slots) self.old.tables)) image
-            ≡ answer result (space_state N (map T.image self.new.images.items) self.new.mounts.items
+            ≡ answer result
+            (space_state N (map T.image self.new.images.items) self.new.mounts.items
             (map (λ t. t.slots) self.new.tables)) }
         ensures images { map T.image self.new.images.items ≡ map T.image self.old.images.items }
     {
