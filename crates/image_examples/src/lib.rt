@@ -1,4 +1,5 @@
-//! Small images, byte by byte, and what the crates that check them and walk in them answer.
+//! Small images, byte by byte, and what the crates that check them, walk in them and open their
+//! files answer.
 //!
 //! The bytes are those that the documents of the formats give (Linux
 //! Documentation/filesystems/romfs.rst and cramfs.rst), laid out by hand. The tests stand here and
@@ -9,6 +10,13 @@ mod images;
 #[cfg(test)]
 mod mounted;
 #[cfg(test)]
+mod opened;
+#[cfg(test)]
+mod sessions;
+#[cfg(test)]
 mod walked;
 
-pub use images::{HELLO, LINK_AND_DEVICE, LINK_CHAIN, LINKS_AND_DOTS};
+pub use images::{
+    ADJOINING_BLOCKS, EMPTY_CRAMFS, HELLO, LINK_AND_DEVICE, LINK_CHAIN, LINKS_AND_DOTS,
+    SPLIT_BLOCKS, WHOLE_BLOCKS,
+};

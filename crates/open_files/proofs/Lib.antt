@@ -1,0 +1,6 @@
+pub mod Following
+pub mod Copies
+pub mod Standing
+pub mod Tables
+pub mod Sessions
+pub mod Mounting

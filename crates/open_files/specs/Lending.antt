@@ -1,0 +1,42 @@
+-- What is lent of a file: bytes of the image itself, whose places follow one another. (This project's own.)
+use Rattle.std.specs.Prelude.{◌≡◌, ℕ, suc, ◌+◌, ◌==◌, ◌≤◌, ◌<◌, ◌^◌, List, [], ◌∷◌, length, take, drop, map, slice_index, if◌then◌else◌}
+use Rattle.rom_tree.specs.Tree.{Node, places_of}
+use Rattle.open_files.specs.Calls.{Lent}
+
+abbrev pub first_place : List ℕ → ℕ
+first_place [] = 0
+first_place (p ∷ ps) = p
+
+-- the longest front in which each place is one more than the one before, and the first is p
+abbrev pub consecutive_from : ℕ → List ℕ → List ℕ
+consecutive_from p [] = []
+consecutive_from p (q ∷ qs) = if q == p then q ∷ consecutive_from (suc p) qs else []
+
+-- the longest front in which each place is one more than the one before
+unfoldable pub consecutive : List ℕ → List ℕ
+consecutive ps = consecutive_from (first_place ps) ps
+
+abbrev pub bytes_of : List ℕ → List ℕ → List ℕ
+bytes_of b ps = map (λ p. slice_index b p) ps
+
+abbrev pub lent_of : ℕ → List ℕ → Lent
+lent_of p bs = record { place = p; bytes = bs }
+
+-- the bytes at some places and the first of these, which is 0 where there are none
+abbrev pub lent : List ℕ → List ℕ → Lent
+lent b ps = lent_of (first_place ps) (bytes_of b ps)
+
+-- the places of the next n bytes of a file from a position
+abbrev pub next_places : Node → ℕ → ℕ → List ℕ
+next_places x p n = take n (drop p (places_of x))
+
+-- From byte `at` on, the longest consecutive front of at most `most` places has `len` of them and begins
+-- at `place`, which is 0 where it is empty.
+pub record IsLongest (ps : List ℕ) (at most place len : ℕ) : Type 0 where
+  pub within : 0 < len → at + len ≤ length ps
+  pub fits : len ≤ most
+  pub row : (k : ℕ) → k < len → slice_index ps (at + k) ≡ place + k
+  pub ends : len < most → at + len < length ps → slice_index ps (at + len) ≡ place + len → ⊥
+  pub some : len < most → at + len < length ps → 0 < len
+  pub small : at + len < 2 ^ 64
+  pub none : len ≡ 0 → place ≡ 0

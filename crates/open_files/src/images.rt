@@ -1,0 +1,70 @@
+//! One image or several, by their numbers.
+ghost use Rattle.std.specs.Prelude.{◌≡◌, ◌<◌, length, map, slice_index_or};
+ghost use Rattle.rom_tree.specs.Tree.{Node};
+ghost use Rattle.path_walk.specs.Graft.{GraftNode};
+ghost use Rattle.open_files.specs.Slots.{View, IsImage, HasPlace, image_view, graft_view};
+
+use arrayvec::ArrayVec;
+use path_walk::Mount;
+use rom_tree::image::{TreeImage, Viewed};
+
+/// What is served as images.
+pub(crate) trait Served {
+    // The places to which names lead.
+    ghost Spot: { Type 0 };
+    // Where names lead, and what numbers stand for.
+    ghost view: { Self → View Self.Spot };
+}
+
+/// Images that are reached by their numbers.
+pub(crate) trait Images<'a, T: TreeImage<'a>>: Served {
+    /// The image of a number.
+    fn image(&self, image: u32) -> &T
+        requires { HasPlace (Self.view self.now) image }
+        ensures { IsImage (Self.view self.now) image (T.image result.now) };
+}
+
+/// One image, whatever the number.
+#[derive(Drop)]
+pub(crate) struct One<'s, T> {
+    pub(crate) image: &'s T,
+}
+
+impl<'s, T: Viewed> Served for One<'s, T> {
+    ghost Spot = { Node };
+
+    ghost view = { λ s. image_view (T.image s.image.now) };
+}
+
+impl<'s, 'a, T: TreeImage<'a>> Images<'a, T> for One<'s, T> {
+    fn image(&self, _image: u32) -> &T {
+        self.image
+    }
+}
+
+/// The image of a number.
+pub(crate) fn image_of<'s, T>(images: &'s [T], image: u32) -> &'s T
+    requires { image < length images.now }
+    ensures { result.now ≡ slice_index_or images.now image result.now }
+{
+    &images[image as usize]
+}
+
+/// Several images by their indices, with their mounts.
+#[derive(Drop)]
+pub(crate) struct Several<'s, T> {
+    pub(crate) images: &'s Vec<T>,
+    pub(crate) mounts: &'s ArrayVec<Mount, 7>,
+}
+
+impl<'s, T: Viewed> Served for Several<'s, T> {
+    ghost Spot = { GraftNode };
+
+    ghost view = { λ s. graft_view (map T.image s.images.now.items) s.mounts.now.items };
+}
+
+impl<'s, 'a, T: TreeImage<'a>> Images<'a, T> for Several<'s, T> {
+    fn image(&self, image: u32) -> &T {
+        image_of(self.images.as_slice(), image)
+    }
+}

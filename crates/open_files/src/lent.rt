@@ -1,0 +1,81 @@
+//! What is lent of a file.
+ghost use Rattle.std.specs.Prelude.{◌≡◌, ◌+◌, ◌<◌, ◌≤◌, ℕ, Some, length, true, min, take, drop, ◌||◌};
+ghost use Rattle.rom_tree.specs.Tree.{Node, places_of, is_directory, is_regular};
+ghost use Rattle.rom_tree.specs.Image.{image_node, HasNode, HasLink};
+ghost use Rattle.open_files.specs.Lending.{lent, IsLongest};
+ghost use Rattle.open_files.specs.Slots.{lent_by};
+
+use rom_tree::image::{TreeImage, is_directory_at, is_regular_at, link_text};
+use rom_tree::types::{NodeId, Piece};
+
+/// Where byte `at` lies, and how many of at most `most` bytes from there follow one another.
+pub(crate) fn longest_run<'a, T: TreeImage<'a>>(
+    image: &T,
+    node: NodeId,
+    at: u64,
+    most: u64,
+) -> (u32, u64)
+    requires { HasNode (T.image image.now) node.0 }
+    ensures { (x : Node) → image_node (T.image image.now) node.0 ≡ Some x
+        → IsLongest (places_of x) at most result.0 result.1 }
+{
+    if most == 0 {
+        return (0, 0);
+    }
+    let Some(first) = image.run(node, at) else {
+        return (0, 0);
+    };
+    let size = u64::from(image.stat(node).size);
+    let place = first.place;
+    let mut len = lesser(u64::from(first.len), most);
+    while len < most && len < size - at {
+        let Some(run) = image.run(node, at + len) else {
+            return (place, len);
+        };
+        if u64::from(run.place) != u64::from(place) + len {
+            return (place, len);
+        }
+        len += lesser(u64::from(run.len), most - len);
+    }
+    (place, len)
+}
+
+/// The lesser of two numbers.
+pub(crate) fn lesser(a: u64, b: u64) -> u64
+    ensures { result ≡ min a b }
+{
+    if a < b { a } else { b }
+}
+
+/// Whether a node can be opened.
+pub(crate) fn is_openable<'a, T: TreeImage<'a>>(image: &T, node: NodeId) -> bool
+    requires { HasNode (T.image image.now) node.0 }
+    ensures { (x : Node) → image_node (T.image image.now) node.0 ≡ Some x
+        → result ≡ is_directory x || is_regular x }
+{
+    is_directory_at(image, node) || is_regular_at(image, node)
+}
+
+/// So many bytes from a place on.
+pub(crate) fn bytes_at<'a>(bytes: &'a [u8], place: u32, len: u64) -> &'a [u8]
+    requires { place + len ≤ length bytes.now }
+    ensures { result.now ≡ take len (drop place bytes.now) }
+{
+    &bytes[place as usize..place as usize + len as usize]
+}
+
+/// A link's text, and where it lies.
+pub(crate) fn link_piece<'a, T: TreeImage<'a>>(image: &T, node: NodeId) -> Piece<'a>
+    requires { HasLink (T.image image.now) node.0 }
+    ensures { (x : Node) → image_node (T.image image.now) node.0 ≡ Some x
+        → lent (T.image image.now).bytes (places_of x) ≡ lent_by result }
+{
+    let bytes = link_text(image, node);
+    match image.run(node, 0) {
+        Some(run) => Piece {
+            place: run.place,
+            bytes,
+        },
+        None => Piece { place: 0, bytes },
+    }
+}

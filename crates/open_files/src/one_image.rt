@@ -1,0 +1,296 @@
+//! The calls on one image and on what is open in it, each over references to the two. So code that
+//! is generic over the image can make them, whatever the size of the image's type.
+ghost use Rattle.std.specs.Prelude.{◌≡◌, ◌≤◌, ℕ, true, length, take, drop, Option, Some, None, Ok, Err, MatchResult, MatchOption, option_map};
+ghost use Rattle.rom_tree.specs.Tree.{Node, levels};
+ghost use Rattle.open_files.specs.Calls.{Of, Named, answer, give, viewed};
+ghost use Rattle.open_files.specs.Machine.{Table, image_calls};
+ghost use Rattle.open_files.specs.Slots.{image_view, are_sound, table_of, unlabelled, lent_by, named_by, LeadsOn};
+
+use crate::calls;
+use crate::error::CallError;
+use crate::images::One;
+use crate::slot::{Fd, Slots};
+use path_walk::walk;
+use rom_tree::image::TreeImage;
+use rom_tree::types::{Entry, NodeId, Piece, Stat};
+
+/// The node that a path leads to; a link in the last place is followed.
+///
+/// # Errors
+///
+/// Those of `path_walk::walk`.
+pub fn lookup<'a, T: TreeImage<'a>>(image: &mut T, path: &[u8]) -> Result<NodeId, CallError>
+    requires { levels (T.image image.old).tree ≤ 65 }
+    ensures reply { (n : ℕ) (t : Table Node)
+        → (image_calls n (T.image image.old)).lookup t path.now
+        ≡ answer (viewed (unlabelled (λ n. n.0)) result) t }
+    ensures stays { T.image image.new ≡ T.image image.old }
+{
+    let node = walk(image, path, true)?;
+    Ok(node)
+}
+
+/// The kind and numbers of the node that a path leads to; a link in the last place is followed.
+///
+/// # Errors
+///
+/// Those of `path_walk::walk`.
+pub fn stat<'a, T: TreeImage<'a>>(image: &mut T, path: &[u8]) -> Result<Stat, CallError>
+    requires { levels (T.image image.old).tree ≤ 65 }
+    ensures reply { (n : ℕ) (t : Table Node)
+        → (image_calls n (T.image image.old)).stat t path.now
+        ≡ answer (viewed (unlabelled (λ s. s)) result) t }
+    ensures stays { T.image image.new ≡ T.image image.old }
+{
+    let node = walk(image, path, true)?;
+    Ok(image.stat(node))
+}
+
+/// The kind and numbers of the node that a path leads to; a link in the last place is not
+/// followed.
+///
+/// # Errors
+///
+/// Those of `path_walk::walk`.
+pub fn lstat<'a, T: TreeImage<'a>>(image: &mut T, path: &[u8]) -> Result<Stat, CallError>
+    requires { levels (T.image image.old).tree ≤ 65 }
+    ensures reply { (n : ℕ) (t : Table Node)
+        → (image_calls n (T.image image.old)).lstat t path.now
+        ≡ answer (viewed (unlabelled (λ s. s)) result) t }
+    ensures stays { T.image image.new ≡ T.image image.old }
+{
+    let node = walk(image, path, false)?;
+    Ok(image.stat(node))
+}
+
+/// The text of the symbolic link that a path leads to, and where it lies.
+///
+/// # Errors
+///
+/// Those of `path_walk::walk`, then `Einval` where the node is no link.
+pub fn readlink<'a, T: TreeImage<'a>>(image: &mut T, path: &[u8]) -> Result<Piece<'a>, CallError>
+    requires { levels (T.image image.old).tree ≤ 65 }
+    ensures reply { (n : ℕ) (t : Table Node)
+        → (image_calls n (T.image image.old)).readlink t path.now
+        ≡ answer (viewed (unlabelled lent_by) result) t }
+    ensures stays { T.image image.new ≡ T.image image.old }
+{
+    let node = walk(image, path, false)?;
+    let (_, piece) = calls::readlink(&One { image: &*image }, 0, node)?;
+    Ok(piece)
+}
+
+/// Opens the directory or regular file that a path leads to, at the lowest free number below N
+/// and at its first byte or entry; a link in the last place is followed.
+///
+/// # Errors
+///
+/// Those of `path_walk::walk`, then `Enxio` where the node is neither, then `Emfile` where N
+/// numbers are taken.
+pub fn open<'a, T: TreeImage<'a>, const N: usize>(
+    image: &mut T,
+    slots: &mut Slots<N>,
+    path: &[u8],
+) -> Result<Fd, CallError>
+    requires deep { levels (T.image image.old).tree ≤ 65 }
+    requires narrow { N ≤ 65536 }
+    requires sound { are_sound (image_view (T.image image.old)) slots.old.slots ≡ true }
+    ensures reply { (image_calls N (T.image image.old)).open_path
+        (table_of (image_view (T.image image.old)) slots.old.slots) path.now
+        ≡ answer (viewed (λ d. d.0) result)
+        (table_of (image_view (T.image image.old)) slots.new.slots) }
+    ensures sound { are_sound (image_view (T.image image.old)) slots.new.slots ≡ true }
+    ensures stays { T.image image.new ≡ T.image image.old }
+{
+    let node = walk(image, path, true)?;
+    calls::open(&One { image: &*image }, slots, 0, node)
+}
+
+/// The kind and numbers of what is open at a number.
+///
+/// # Errors
+///
+/// `Ebadf` where nothing is open there.
+pub fn fstat<'a, T: TreeImage<'a>, const N: usize>(
+    image: &T,
+    slots: &Slots<N>,
+    fd: Fd,
+) -> Result<Stat, CallError>
+    requires { are_sound (image_view (T.image image.now)) slots.now.slots ≡ true }
+    ensures { (image_calls N (T.image image.now)).fstat
+        (table_of (image_view (T.image image.now)) slots.now.slots) fd.0
+        ≡ answer (viewed (unlabelled (λ s. s)) result)
+        (table_of (image_view (T.image image.now)) slots.now.slots) }
+{
+    let (_, stat) = calls::fstat(&One { image }, slots, fd)?;
+    Ok(stat)
+}
+
+/// Copies the next bytes of an open file to the front of a buffer, and gives their number: the
+/// lesser of the buffer's length and of what is left. The position moves by it. The rest of the
+/// buffer stays, and so does the whole of it after a refusal.
+///
+/// # Errors
+///
+/// `Ebadf` where nothing is open there, `Eisdir` where it is a directory.
+pub fn read<'a, T: TreeImage<'a>, const N: usize>(
+    image: &T,
+    slots: &mut Slots<N>,
+    fd: Fd,
+    buf: &mut [u8],
+) -> Result<usize, CallError>
+    requires { are_sound (image_view (T.image image.now)) slots.old.slots ≡ true }
+    ensures reply { (image_calls N (T.image image.now)).read_bytes
+        (table_of (image_view (T.image image.now)) slots.old.slots) fd.0 (length buf.old)
+        ≡ answer (viewed (λ n. take n buf.new) result)
+        (table_of (image_view (T.image image.now)) slots.new.slots) }
+    ensures rest { MatchResult result (λ n. drop n buf.new ≡ drop n buf.old)
+        (λ e. buf.new ≡ buf.old) }
+    ensures sound { are_sound (image_view (T.image image.now)) slots.new.slots ≡ true }
+{
+    calls::read(&One { image }, slots, fd, buf)
+}
+
+/// Lends the next bytes of an open file: as many of at most `max` as follow one another in the
+/// image, also over the end of a block where the next one adjoins. The position moves by their
+/// number. The piece is part of the image's bytes and outlives the descriptor; an empty one has
+/// place 0.
+///
+/// # Errors
+///
+/// `Ebadf` where nothing is open there, `Eisdir` where it is a directory.
+pub fn lend<'a, T: TreeImage<'a>, const N: usize>(
+    image: &T,
+    slots: &mut Slots<N>,
+    fd: Fd,
+    max: u64,
+) -> Result<Piece<'a>, CallError>
+    requires { are_sound (image_view (T.image image.now)) slots.old.slots ≡ true }
+    ensures reply { (image_calls N (T.image image.now)).lend_piece
+        (table_of (image_view (T.image image.now)) slots.old.slots) fd.0 max
+        ≡ answer (viewed (unlabelled lent_by) result)
+        (table_of (image_view (T.image image.now)) slots.new.slots) }
+    ensures sound { are_sound (image_view (T.image image.now)) slots.new.slots ≡ true }
+{
+    let (_, piece) = calls::lend(&One { image }, slots, fd, max)?;
+    Ok(piece)
+}
+
+/// Lends just the `len` bytes of an open file from byte `off` on, whatever the position is.
+///
+/// # Errors
+///
+/// In this order: `Ebadf` where nothing is open there, `Eisdir` where it is a directory,
+/// `Einval` where `len` is 0 or the range does not end within the file, `Erange` where the bytes
+/// do not follow one another in the image.
+pub fn map<'a, T: TreeImage<'a>, const N: usize>(
+    image: &T,
+    slots: &Slots<N>,
+    fd: Fd,
+    off: u64,
+    len: u64,
+) -> Result<Piece<'a>, CallError>
+    requires { are_sound (image_view (T.image image.now)) slots.now.slots ≡ true }
+    ensures { (image_calls N (T.image image.now)).map_piece
+        (table_of (image_view (T.image image.now)) slots.now.slots) fd.0 off len
+        ≡ answer (viewed (unlabelled lent_by) result)
+        (table_of (image_view (T.image image.now)) slots.now.slots) }
+{
+    let (_, piece) = calls::map(&One { image }, slots, fd, off, len)?;
+    Ok(piece)
+}
+
+/// Sets the position of an open file, which may be past its end.
+///
+/// # Errors
+///
+/// `Ebadf` where nothing is open there, `Eisdir` where it is a directory.
+pub fn seek<'a, T: TreeImage<'a>, const N: usize>(
+    image: &T,
+    slots: &mut Slots<N>,
+    fd: Fd,
+    position: u64,
+) -> Result<(), CallError>
+    requires { are_sound (image_view (T.image image.now)) slots.old.slots ≡ true }
+    ensures reply { (image_calls N (T.image image.now)).seek_to
+        (table_of (image_view (T.image image.now)) slots.old.slots) fd.0 position
+        ≡ answer result (table_of (image_view (T.image image.now)) slots.new.slots) }
+    ensures sound { are_sound (image_view (T.image image.now)) slots.new.slots ≡ true }
+{
+    calls::seek(&One { image }, slots, fd, position)
+}
+
+/// The next entry of an open directory, without `.` and `..`; `None` at the end, again and
+/// again. The entry's cursor stands one entry further, where the descriptor then stands.
+///
+/// # Errors
+///
+/// `Ebadf` where nothing is open there, `Enotdir` where it is a file.
+pub fn readdir<'a, T: TreeImage<'a>, const N: usize>(
+    image: &T,
+    slots: &mut Slots<N>,
+    fd: Fd,
+) -> Result<Option<Entry<'a>>, CallError>
+    requires { are_sound (image_view (T.image image.now)) slots.old.slots ≡ true }
+    ensures reply { (image_calls N (T.image image.now)).readdir
+        (table_of (image_view (T.image image.now)) slots.old.slots) fd.0
+        ≡ answer (viewed (option_map {U = Of Named} (unlabelled named_by)) result)
+        (table_of (image_view (T.image image.now)) slots.new.slots) }
+    ensures cursor { MatchResult result (λ r. MatchOption r (Unit {0})
+        (λ e. LeadsOn (image_view (T.image image.now))
+        (table_of (image_view (T.image image.now)) slots.new.slots) fd.0 0 e.cursor.0))
+        (λ e. Unit {0}) }
+    ensures sound { are_sound (image_view (T.image image.now)) slots.new.slots ≡ true }
+{
+    match calls::readdir(&One { image }, slots, fd)? {
+        None => Ok(None),
+        Some((_, entry)) => Ok(Some(entry)),
+    }
+}
+
+/// Sets an open directory back to its first entry.
+///
+/// # Errors
+///
+/// `Ebadf` where nothing is open there, `Enotdir` where it is a file.
+pub fn rewind<'a, T: TreeImage<'a>, const N: usize>(
+    image: &T,
+    slots: &mut Slots<N>,
+    fd: Fd,
+) -> Result<(), CallError>
+    requires { are_sound (image_view (T.image image.now)) slots.old.slots ≡ true }
+    ensures reply { (image_calls N (T.image image.now)).rewind
+        (table_of (image_view (T.image image.now)) slots.old.slots) fd.0
+        ≡ answer result (table_of (image_view (T.image image.now)) slots.new.slots) }
+    ensures sound { are_sound (image_view (T.image image.now)) slots.new.slots ≡ true }
+{
+    calls::rewind(&One { image }, slots, fd)
+}
+
+/// Closes a number, which is then free. What was lent stays.
+///
+/// # Errors
+///
+/// `Ebadf` where nothing is open there.
+pub fn close<'a, T: TreeImage<'a>, const N: usize>(
+    image: &T,
+    slots: &mut Slots<N>,
+    fd: Fd,
+) -> Result<(), CallError>
+    requires { are_sound (image_view (T.image image.now)) slots.old.slots ≡ true }
+    ensures reply { (image_calls N (T.image image.now)).close
+        (table_of (image_view (T.image image.now)) slots.old.slots) fd.0
+        ≡ answer result (table_of (image_view (T.image image.now)) slots.new.slots) }
+    ensures sound { are_sound (image_view (T.image image.now)) slots.new.slots ≡ true }
+{
+    calls::close(&One { image }, slots, fd)
+}
+
+/// Closes all that is open.
+pub fn close_all<'a, T: TreeImage<'a>, const N: usize>(image: &T, slots: &mut Slots<N>)
+    ensures reply { (t : Table Node) → (image_calls N (T.image image.now)).close_all t
+        ≡ give tt (table_of (image_view (T.image image.now)) slots.new.slots) }
+    ensures sound { are_sound (image_view (T.image image.now)) slots.new.slots ≡ true }
+{
+    *slots = Slots::new();
+}

@@ -1,0 +1,71 @@
+//! What is kept of open files.
+ghost use Rattle.std.specs.Prelude.{◌≡◌, ◌<◌, ℕ, MatchOption, MatchResult, Option, Some, None, true, slice_index_or, slice_set, position, is_none, replicate};
+ghost use Rattle.rom_tree.specs.Image.{Image};
+ghost use Rattle.open_files.specs.Machine.{no_files};
+ghost use Rattle.open_files.specs.Slots.{image_view, are_sound, table_of};
+ghost use Rattle.open_files.specs.declared.error.CallError.TheVariants.{Ebadf};
+
+use crate::error::CallError;
+use rom_tree::types::NodeId;
+
+/// The number of an open directory or file.
+#[derive(Clone, Copy, Debug, PartialEq, Eq)]
+pub struct Fd(pub u32);
+
+/// An open node of the image of a number. The position is a cursor in a directory, and the number
+/// of a byte in a regular file.
+#[derive(Clone, Copy, Debug)]
+pub(crate) struct OpenNode {
+    pub(crate) image: u32,
+    pub(crate) node: NodeId,
+    pub(crate) position: u64,
+}
+
+/// What is open at the numbers below N.
+#[derive(Clone, Copy, Debug)]
+pub struct Slots<const N: usize> {
+    slots: [Option<OpenNode>; N],
+}
+
+impl<const N: usize> Slots<N> {
+    /// Nothing is open.
+    pub fn new() -> Self
+        ensures blank { result.slots ≡ replicate N None }
+        ensures empty { (m : Image) → table_of (image_view m) result.slots ≡ no_files N }
+        ensures sound { (m : Image) → are_sound (image_view m) result.slots ≡ true }
+    {
+        Slots { slots: [None; N] }
+    }
+
+    /// What is open at a number.
+    pub(crate) fn get(&self, fd: Fd) -> Result<OpenNode, CallError>
+        ensures slot { MatchResult result (λ s. slice_index_or self.now.slots fd.0 None ≡ Some s)
+            (λ e. (slice_index_or self.now.slots fd.0 None ≡ None) × (e ≡ Ebadf)) }
+        ensures within { MatchResult result (λ s. fd.0 < N) (λ e. Unit {0}) }
+    {
+        let i = fd.0 as usize;
+        if i >= N {
+            return Err(CallError::Ebadf);
+        }
+        match self.slots[i] {
+            Some(open) => Ok(open),
+            None => Err(CallError::Ebadf),
+        }
+    }
+
+    /// Opens or closes a number.
+    pub(crate) fn set(&mut self, i: usize, slot: Option<OpenNode>)
+        requires { i < N }
+        ensures { self.new.slots ≡ slice_set self.old.slots i slot }
+    {
+        self.slots[i] = slot;
+    }
+
+    /// The lowest number at which nothing is open.
+    pub(crate) fn free(&self) -> Option<usize>
+        ensures first { result ≡ position is_none self.now.slots }
+        ensures within { MatchOption result (Unit {0}) (λ i. i < N) }
+    {
+        self.slots.iter().position(|slot| slot.is_none())
+    }
+}

@@ -1,0 +1,66 @@
+use crate::{CallError, Fd, Files, Slots, Space, one_image};
+use rom_tree::types::{Cursor, NodeId};
+use rom_tree_examples::sample::Sample;
+use std::test::Fail;
+
+#[test]
+fn numbers_and_names(rt: HostRuntime) -> Result<(), Fail> {
+    for (error, number, name, shown) in [
+        (CallError::Enoent, 1, "ENOENT", "1 ENOENT"),
+        (CallError::Enotdir, 2, "ENOTDIR", "2 ENOTDIR"),
+        (CallError::Eloop, 3, "ELOOP", "3 ELOOP"),
+        (CallError::Enametoolong, 4, "ENAMETOOLONG", "4 ENAMETOOLONG"),
+        (CallError::Einval, 5, "EINVAL", "5 EINVAL"),
+        (CallError::Ebadf, 6, "EBADF", "6 EBADF"),
+        (CallError::Eisdir, 7, "EISDIR", "7 EISDIR"),
+        (CallError::Enxio, 8, "ENXIO", "8 ENXIO"),
+        (CallError::Emfile, 9, "EMFILE", "9 EMFILE"),
+        (CallError::Erange, 10, "ERANGE", "10 ERANGE"),
+        (CallError::Enodev, 11, "ENODEV", "11 ENODEV"),
+        (CallError::Ebusy, 12, "EBUSY", "12 EBUSY"),
+    ] {
+        assert_eq!(rt; error.number(), number);
+        assert_eq!(rt; error.name(), name);
+        assert_eq!(rt; error.to_string(rt.alloc())?.as_str(), shown);
+    }
+    Ok(())
+}
+
+#[test]
+fn files_of_the_sample(rt: HostRuntime) -> Result<(), Fail> {
+    let mut files: Files<'static, Sample, 2> = Files::new(Sample);
+    assert_eq!(rt; files.lookup(b"/bin/sh"), Ok(NodeId(3)));
+    assert_eq!(rt; files.open(b"/disk"), Err(CallError::Enxio));
+    assert_eq!(rt; files.open(b"/bin"), Ok(Fd(0)));
+    let cursor = match files.readdir(Fd(0)) {
+        Ok(Some(entry)) => entry.cursor,
+        _ => Cursor::START,
+    };
+    assert_eq!(rt; cursor == Cursor::START, false);
+    assert_eq!(rt; files.close(Fd(0)), Ok(()));
+    Ok(())
+}
+
+#[test]
+fn one_sample(rt: HostRuntime) -> Result<(), Fail> {
+    let mut image = Sample;
+    let mut slots: Slots<1> = Slots::new();
+    assert_eq!(rt; one_image::open(&mut image, &mut slots, b"/bin/sh"), Ok(Fd(0)));
+    assert_eq!(rt; one_image::seek(&image, &mut slots, Fd(0), 1), Ok(()));
+    one_image::close_all(&image, &mut slots);
+    assert_eq!(rt; one_image::close(&image, &mut slots, Fd(0)), Err(CallError::Ebadf));
+    Ok(())
+}
+
+#[test]
+fn mounted_samples(rt: HostRuntime) -> Result<(), Fail> {
+    let mut images = Vec::new(rt.alloc());
+    images.push(Sample)?;
+    images.push(Sample)?;
+    let mut space: Space<'static, Sample, 1> = Space::new(images);
+    assert_eq!(rt; space.mount(0, 1, b"/bin"), Ok(()));
+    assert_eq!(rt; space.lookup(1, b"/bin/bin/sh"), Ok((1, NodeId(3))));
+    assert_eq!(rt; space.umount(1, 1), Ok(()));
+    assert_eq!(rt; space.lookup(1, b"/bin/sh"), Ok((0, NodeId(3))));
+    Ok(())
+}
