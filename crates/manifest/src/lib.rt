@@ -1,0 +1,17 @@
+//! The manifest: a text that says what an image is to hold, line by line.
+//!
+//! `specs/Grammar.antt` is its grammar, a function from the bytes of a text to its lines or to its
+//! first fault, and docs/MANIFEST.md explains it by an example. Proved: `parse` is that function, on
+//! all bytes, where memory is not refused.
+#![tactic(auto)]
+
+mod error;
+mod fields;
+mod line;
+mod names;
+mod path;
+mod text;
+
+pub use error::{ManifestError, name};
+pub use line::{Line, Word};
+pub use names::Name;
