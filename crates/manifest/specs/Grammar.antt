@@ -3,12 +3,13 @@
 -- fields up to the group.)
 use Rattle.std.specs.Prelude.{◌≡◌, ℕ, ◌+◌, ◌==◌, ◌||◌, ◌&&◌, not, Bool, true, false, if◌then◌else◌, List, [], ◌∷◌, reverse, codes, Option, Some, None, Result, Ok, Err}
 use Rattle.std.specs.List.{list_any}
-use Rattle.std.specs.Option.{is_some}
+use Rattle.std.specs.Option.{is_some, option_map}
 use Rattle.std.specs.Str.{bytes_eq}
 use Rattle.percent_encoding.specs.Percent.{percent_decode}
 use Rattle.manifest.specs.Texts.{pieces, is_empty, octal, decimal, is_bad}
 use Rattle.manifest.specs.Paths.{names_of, is_bad_path, parent_of}
 use Rattle.manifest.specs.Lines.{Manifest, is_dir, is_file, is_hard, is_same, line_at, led, filed}
+use Rattle.manifest.specs.declared.numbers.Numbers.{Numbers}
 use Rattle.manifest.specs.declared.line.Line.{Line}
 use Rattle.manifest.specs.declared.line.Word.{Word}
 use Rattle.manifest.specs.declared.line.Word.TheVariants.{Dir, File, Slink, Block, Character, Fifo, Socket, Hard, Same}
@@ -123,24 +124,32 @@ volume_field (w ∷ []) = None
 volume_field (w ∷ name ∷ []) = if bytes_eq w (codes "volume") then Some name else None
 volume_field (w ∷ name ∷ m ∷ more) = None
 
--- a line with its numbers, if it has them all, and its texts decoded
-abbrev pub with_numbers : ℕ → Fields → Option ℕ → Option ℕ → Option ℕ → Option ℕ → Option ℕ → Option ℕ → Option Line
-with_numbers n f (Some mode) (Some uid) (Some gid) (Some align) (Some major) (Some minor) = Some (record {
+abbrev pub all_numbers : Option ℕ → Option ℕ → Option ℕ → Option ℕ → Option ℕ → Option ℕ → Option Numbers
+all_numbers (Some mode) (Some uid) (Some gid) (Some align) (Some major) (Some minor) =
+    Some (record { mode = mode; uid = uid; gid = gid; align = align; major = major; minor = minor })
+all_numbers _ _ _ _ _ _ = None
+
+-- the numbers of a line, if each of its texts for one is a number
+unfoldable pub numbers_of : Fields → Option Numbers
+numbers_of f = all_numbers (octal f.mode) (decimal f.uid) (decimal f.gid) (decimal f.align) (decimal f.major) (decimal f.minor)
+
+-- a line with its numbers, and its texts decoded
+abbrev pub with_numbers : ℕ → Fields → Numbers → Line
+with_numbers n f numbers = record {
   number = n;
   word = f.word;
   path = percent_decode f.path;
-  mode = mode;
-  uid = uid;
-  gid = gid;
-  align = align;
-  major = major;
-  minor = minor;
+  mode = numbers.mode;
+  uid = numbers.uid;
+  gid = numbers.gid;
+  align = numbers.align;
+  major = numbers.major;
+  minor = numbers.minor;
   text = percent_decode f.text;
-})
-with_numbers n f _ _ _ _ _ _ = None
+}
 
-unfoldable pub line_of : ℕ → Fields → Option Line
-line_of n f = with_numbers n f (octal f.mode) (decimal f.uid) (decimal f.gid) (decimal f.align) (decimal f.major) (decimal f.minor)
+abbrev pub line_of : ℕ → Fields → Option Line
+line_of n f = option_map (with_numbers n f) (numbers_of f)
 
 -- a TARGET that is too long or has a zero byte, or an OLD that is no path or the root's
 abbrev pub is_bad_text : Word → List ℕ → Bool

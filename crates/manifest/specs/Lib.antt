@@ -4,3 +4,4 @@ pub mod Lines
 pub mod Errors
 pub mod Grammar
 pub mod Views
+pub mod Reading

@@ -9,7 +9,9 @@ mod error;
 mod fields;
 mod line;
 mod names;
+mod numbers;
 mod path;
+mod reader;
 mod text;
 
 pub use error::{ManifestError, name};
