@@ -1,3 +1,4 @@
 pub mod Digits
 pub mod Parents
 pub mod Pieces
+pub mod Reached

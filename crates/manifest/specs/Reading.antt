@@ -37,6 +37,24 @@ reached_by l contents = if is_dir l.word then Directory else (if contents then R
 abbrev pub reached : List Line → List ℕ → Option Reached
 reached latest path = option_map (λ l. reached_by l (is_some (filed latest path))) (line_at latest path)
 
+abbrev pub to_directory : Option Reached → Bool
+to_directory None = false
+to_directory (Some Directory) = true
+to_directory (Some RegularFile) = false
+to_directory (Some Other) = false
+
+abbrev pub to_regular_file : Option Reached → Bool
+to_regular_file None = false
+to_regular_file (Some Directory) = false
+to_regular_file (Some RegularFile) = true
+to_regular_file (Some Other) = false
+
+abbrev pub to_no_directory : Option Reached → Bool
+to_no_directory None = false
+to_no_directory (Some Directory) = false
+to_no_directory (Some RegularFile) = true
+to_no_directory (Some Other) = true
+
 -- whether a line behind these has contents
 abbrev pub has_contents : List Line → Line → Bool
 has_contents latest l = if is_hard l.word || is_same l.word then is_some (filed latest l.text) else is_file l.word
@@ -50,6 +68,11 @@ pub record IsKept (r : Reader) : Type 0 where
   pub paths : (path : List ℕ) → found r path ≡ reached (reverse r.lines.items) path
   pub targets : (path : List ℕ) → is_target (led (reverse r.lines.items) path) ≡ is_no_directory (line_at (reverse r.lines.items) path)
   pub sources : r.sources.items ≡ sources_of r.lines.items
+
+-- one more line was read
+pub record Adds (old new : Reader) (l : Line) : Type 0 where
+  pub seen : seen new ≡ record { latest = l ∷ reverse old.lines.items; volume = old.volume; volume_line = old.volume_line }
+  pub kept : IsKept new
 
 -- what reading one line gave
 abbrev pub Reads : Reader → Result Unit ManifestError → Result Seen Fault → Type 0

@@ -1,4 +1,7 @@
 //! One line of a manifest.
+ghost use Rattle.std.specs.Prelude.{◌≡◌};
+ghost use Rattle.manifest.specs.Lines.{is_dir, is_file};
+
 use crate::names::Name;
 
 /// What a line makes. `Block` and `Character` are the two kinds of `nod`, `Fifo` is `pipe`, and
@@ -23,6 +26,20 @@ pub enum Word {
     Hard,
     /// A regular file of its own, with the contents of the one at an earlier path.
     Same,
+}
+
+impl Word {
+    pub(crate) fn is_dir(self) -> bool
+        ensures { result ≡ is_dir self }
+    {
+        matches!(self, Word::Dir)
+    }
+
+    pub(crate) fn is_file(self) -> bool
+        ensures { result ≡ is_file self }
+    {
+        matches!(self, Word::File)
+    }
 }
 
 /// One line. What its word lacks is 0 or empty.
