@@ -9,15 +9,15 @@ use Rattle.manifest.specs.Texts.{is_digit, digits_from, below}
 -- a number is not below a limit, and so are those that more digits make of it
 too_large : (most n : ℕ) → (cond (nat_lt n most) (Some n) None ≡ None) → most ≤ n
 too_large most n h = elim (nat_lt n most) as (λ t. nat_lt n most ≡ t → cond t (Some n) None ≡ None → most ≤ n) [
-    | true ↦ λ e h. absurd (cc)
-    | false ↦ λ e h. ltb-false n most e
-  ] refl h
+  | true ↦ λ e h. absurd (cc)
+  | false ↦ λ e h. ltb-false n most e
+] refl h
 
 stays_large : (most base n : ℕ) (bs : List ℕ) → 1 ≤ base → most ≤ n → below most (digits_from base n bs) ≡ None
 stays_large most base n [] one h = elim (nat_lt n most) as (λ t. nat_lt n most ≡ t → cond t (Some n) None ≡ None) [
-    | true ↦ λ e. absurd (omega (arith, ltb-true n most e, h))
-    | false ↦ λ e. refl
-  ] refl
+  | true ↦ λ e. absurd (omega (arith, ltb-true n most e, h))
+  | false ↦ λ e. refl
+] refl
 stays_large most base n (b ∷ bs) one h =
     elim (is_digit base b) as (λ t. below most (cond t (digits_from base (n * base + (b - 48)) bs) None) ≡ None) [
       | true ↦ stays_large most base (n * base + (b - 48)) bs one (grown n base h one)
@@ -31,9 +31,9 @@ stays_large most base n (b ∷ bs) one h =
 pub digit_step : (base n b d : ℕ) (bs : List ℕ) → cond (is_digit base b) (Some (b - 48)) None ≡ Some d
     → digits_from base n (b ∷ bs) ≡ digits_from base (n * base + d) bs
 digit_step base n b d bs h = elim (is_digit base b) as (λ t. cond t (Some (b - 48)) None ≡ Some d → cond t (digits_from base (n * base + (b - 48)) bs) None ≡ digits_from base (n * base + d) bs) [
-    | true ↦ λ e. ap (λ (x : ℕ). digits_from base (n * base + x) bs) (some_injective e)
-    | false ↦ λ e. absurd (cc)
-  ] h
+  | true ↦ λ e. ap (λ (x : ℕ). digits_from base (n * base + x) bs) (some_injective e)
+  | false ↦ λ e. absurd (cc)
+] h
   where
     some_injective : {x y : ℕ} → Some x ≡ Some y → x ≡ y
     some_injective e = cc
@@ -46,9 +46,9 @@ below_small most n h = rw (lt-ltb n most h) refl
 
 worth : (base b : ℕ) → is_digit base b ≡ true → b - 48 + 1 ≤ base
 worth base b e = elim (nat_lt b 48) as (λ t. nat_lt b 48 ≡ t → not t && nat_lt b (48 + base) ≡ true → b - 48 + 1 ≤ base) [
-    | true ↦ λ u v. absurd (cc)
-    | false ↦ λ u v. omega (arith, ltb-false b 48 u, ltb-true b (48 + base) v)
-  ] refl e
+  | true ↦ λ u v. absurd (cc)
+  | false ↦ λ u v. omega (arith, ltb-false b 48 u, ltb-true b (48 + base) v)
+] refl e
 
 -- so many digits are below that power of the base
 stays_small : (most base n : ℕ) (bs : List ℕ) → (n + 1) * base ^ length bs ≤ most → below most (digits_from base n bs) ≡ digits_from base n bs

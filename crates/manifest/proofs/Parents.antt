@@ -55,33 +55,33 @@ before_last bs zero h p = sym (ap (λ (ps : List (List ℕ)). path_of (but_last 
 before_last bs (suc j) h p =
     let b = drop (j + 1) bs in
     let whole : bs ≡ take j bs ++ 47 ∷ b =
-        sym (take-append-drop j bs) ∙ ap (λ (y : List ℕ). take j bs ++ y) (drop_more bs j 0 (omega (arith, h.high)) ∙ ap (λ (x : ℕ). x ∷ b) (eqb-true (get_or bs j 0) 47 p)) in
+    sym (take-append-drop j bs) ∙ ap (λ (y : List ℕ). take j bs ++ y) (drop_more bs j 0 (omega (arith, h.high)) ∙ ap (λ (x : ℕ). x ∷ b) (eqb-true (get_or bs j 0) 47 p)) in
     let last : pieces 47 b ≡ b ∷ [] =
-        cut_none 47 b (λ k d l e. h.after (suc (j + 1 + k)) (omega arith) (omega (arith, l, length-drop (j + 1) bs, h.high)) (ap (λ (x : ℕ). eqb x 47) (sym (get_or-drop (j + 1) bs k 0)) ∙ e)) in
+    cut_none 47 b (λ k d l e. h.after (suc (j + 1 + k)) (omega arith) (omega (arith, l, length-drop (j + 1) bs, h.high)) (ap (λ (x : ℕ). eqb x 47) (sym (get_or-drop (j + 1) bs k 0)) ∙ e)) in
     sym (ap (λ (ps : List (List ℕ)). path_of (but_last ps)) (ap (pieces 47) whole ∙ pieces_apart (take j bs) b ∙ ap (λ (ps : List (List ℕ)). pieces 47 (take j bs) ++ ps) last)
-      ∙ ap path_of (but_last-push (pieces 47 (take j bs)) b) ∙ path_of-pieces (take j bs))
+    ∙ ap path_of (but_last-push (pieces 47 (take j bs)) b) ∙ path_of-pieces (take j bs))
 
 behind : (bs : List ℕ) → is_some (names_behind bs) ≡ true → parent_of (names_behind bs) ≡ path_of (but_last (pieces 47 bs))
 behind [] h = refl
 behind (b ∷ bs) h = elim (list_any is_bad_name (pieces 47 (b ∷ bs))) as (λ t. is_some (cond t None (Some (pieces 47 (b ∷ bs)))) ≡ true → parent_of (cond t None (Some (pieces 47 (b ∷ bs)))) ≡ path_of (but_last (pieces 47 (b ∷ bs)))) [
-    | true ↦ λ e. absurd (cc)
-    | false ↦ λ e. refl
-  ] h
+  | true ↦ λ e. absurd (cc)
+  | false ↦ λ e. refl
+] h
 
 -- a path begins with a slash
 starts : (path : List ℕ) → is_some (names_from path) ≡ true → (bs : List ℕ) × (path ≡ 47 ∷ bs) × (names_from path ≡ names_behind bs)
 starts [] h = absurd (cc)
 starts (b ∷ bs) h = elim (eqb b 47) as (λ t. eqb b 47 ≡ t → is_some (cond t (names_behind bs) None) ≡ true → (cs : List ℕ) × (b ∷ bs ≡ 47 ∷ cs) × (cond t (names_behind bs) None ≡ names_behind cs)) [
-    | true ↦ λ e f. (bs, ap (λ (x : ℕ). x ∷ bs) (eqb-true b 47 e), refl)
-    | false ↦ λ e f. absurd (cc)
-  ] refl h
+  | true ↦ λ e f. (bs, ap (λ (x : ℕ). x ∷ bs) (eqb-true b 47 e), refl)
+  | false ↦ λ e f. absurd (cc)
+] refl h
 
 is_path : (path : List ℕ) → is_some (names_of path) ≡ true → names_of path ≡ names_from path
 unfolding names_of
 is_path path h = elim (is_bad 4095 path) as (λ t. is_some (cond t None (names_from path)) ≡ true → cond t None (names_from path) ≡ names_from path) [
-    | true ↦ λ e. absurd (cc)
-    | false ↦ λ e. refl
-  ] h
+  | true ↦ λ e. absurd (cc)
+  | false ↦ λ e. refl
+] h
 
 pub parent_is : (path : List ℕ) (i : ℕ) → is_some (names_of path) ≡ true → NoneAfter (Passes (is_byte 47) path) 0 (length path) i → Passes (is_byte 47) path i
     → take i path ≡ parent_of (names_of path)
@@ -89,7 +89,7 @@ parent_is path i h n p =
     let same = is_path path h in
     let s = starts path (ap is_some (sym same) ∙ h) in
     let at : take i (47 ∷ s.0) ≡ path_of (but_last (pieces 47 s.0)) =
-        before_last s.0 i (subst (λ (x : List ℕ). NoneAfter (Passes (is_byte 47) x) 0 (length x) i) s.1 n) (subst (λ (x : List ℕ). Passes (is_byte 47) x i) s.1 p) in
+    before_last s.0 i (subst (λ (x : List ℕ). NoneAfter (Passes (is_byte 47) x) 0 (length x) i) s.1 n) (subst (λ (x : List ℕ). Passes (is_byte 47) x i) s.1 p) in
     ap (take i) s.1 ∙ at ∙ sym (behind s.0 (ap is_some (sym s.2 ∙ sym same) ∙ h)) ∙ ap parent_of (sym s.2 ∙ sym same)
 
 -- so there is a slash

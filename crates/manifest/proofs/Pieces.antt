@@ -20,10 +20,10 @@ pub cut_some : (c i : ℕ) (xs : List ℕ) → NoneBefore (Passes (is_byte c) xs
 cut_some c i xs h p =
     let high = h.high in
     let front : All (λ x. eqb x c ≡ false) (take i xs) = λ k d l.
-        let m : k < i = omega (arith, length-take i xs) in
-        not_true (eqb (get_or (take i xs) k d) c)
-        (λ e. h.before k (omega arith) m (ap (λ (x : ℕ). eqb x c) (get_or_default xs k 0 d (omega arith) ∙ sym (get_or-take i xs k d m)) ∙ e)) in
+    let m : k < i = omega (arith, length-take i xs) in
+    not_true (eqb (get_or (take i xs) k d) c)
+    (λ e. h.before k (omega arith) m (ap (λ (x : ℕ). eqb x c) (get_or_default xs k 0 d (omega arith) ∙ sym (get_or-take i xs k d m)) ∙ e)) in
     let whole : xs ≡ take i xs ++ get_or xs i 0 ∷ drop (i + 1) xs =
-        sym (take-append-drop i xs) ∙ ap (λ (y : List ℕ). take i xs ++ y) (drop_more xs i 0 high) in
+    sym (take-append-drop i xs) ∙ ap (λ (y : List ℕ). take i xs ++ y) (drop_more xs i 0 high) in
     ap (pieces c) whole ∙ slice_split_at (λ b. eqb b c) (take i xs) (get_or xs i 0) (drop (i + 1) xs) front p
     ∙ ap (λ (y : List ℕ). take i xs ∷ pieces c y) (sym (take_rest xs (i + 1)))

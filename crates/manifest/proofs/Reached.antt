@@ -32,16 +32,16 @@ filed_dir (l ∷ ls) path m h d =
 
     no_contents : (w : Word) → is_dir w ≡ true → cond (is_hard w || is_same w) (filed ls l.text) (cond (is_file w) (Some l) None) ≡ None
     no_contents w e = elim w as (λ v. is_dir v ≡ true → cond (is_hard v || is_same v) (filed ls l.text) (cond (is_file v) (Some l) None) ≡ None) [
-        | Dir ↦ λ f. refl
-        | File ↦ λ f. absurd (cc)
-        | Slink ↦ λ f. absurd (cc)
-        | Block ↦ λ f. absurd (cc)
-        | Character ↦ λ f. absurd (cc)
-        | Fifo ↦ λ f. absurd (cc)
-        | Socket ↦ λ f. absurd (cc)
-        | Hard ↦ λ f. absurd (cc)
-        | Same ↦ λ f. absurd (cc)
-      ] e
+      | Dir ↦ λ f. refl
+      | File ↦ λ f. absurd (cc)
+      | Slink ↦ λ f. absurd (cc)
+      | Block ↦ λ f. absurd (cc)
+      | Character ↦ λ f. absurd (cc)
+      | Fifo ↦ λ f. absurd (cc)
+      | Socket ↦ λ f. absurd (cc)
+      | Hard ↦ λ f. absurd (cc)
+      | Same ↦ λ f. absurd (cc)
+    ] e
 
 directory_by : (l : Line) (b : Bool) → is_dir l.word ≡ to_directory (Some (reached_by l b))
 directory_by l b = by (is_dir l.word) b

@@ -8,7 +8,7 @@ use Rattle.std.specs.Str.{bytes_eq}
 use Rattle.percent_encoding.specs.Percent.{percent_decode}
 use Rattle.manifest.specs.Texts.{pieces, is_empty, octal, decimal, is_bad}
 use Rattle.manifest.specs.Paths.{names_of, is_bad_path, parent_of}
-use Rattle.manifest.specs.Lines.{Manifest, is_dir, is_file, is_hard, is_same, line_at, led, filed}
+use Rattle.manifest.specs.Lines.{ManifestLines, is_dir, is_file, is_hard, is_same, line_at, led, filed}
 use Rattle.manifest.specs.declared.numbers.Numbers.{Numbers}
 use Rattle.manifest.specs.declared.line.Line.{Line}
 use Rattle.manifest.specs.declared.line.Word.{Word}
@@ -246,7 +246,7 @@ read_lines s n [] = Ok s
 read_lines s n (l ∷ ls) =
     if is_skipped l then read_lines s (n + 1) ls else and_then (read s n l) (λ t. read_lines t (n + 1) ls)
 
-abbrev pub as_manifest : Result Seen Fault → Result Manifest Fault
+abbrev pub as_manifest : Result Seen Fault → Result ManifestLines Fault
 as_manifest (Ok s) = Ok (record { lines = reverse s.latest; volume = s.volume; volume_line = s.volume_line })
 as_manifest (Err e) = Err e
 
@@ -255,5 +255,9 @@ nothing_read = record { latest = []; volume = []; volume_line = 0 }
 
 -- A text is a manifest, or has a first fault: that of its first faulty line, and there the one of the least number.
 -- Lines end with a line feed; the piece behind the last one is an empty line, or a line that lacks it.
-unfoldable pub manifest_of : List ℕ → Result Manifest Fault
+unfoldable pub manifest_of : List ℕ → Result ManifestLines Fault
 manifest_of text = as_manifest (read_lines nothing_read 1 (pieces 10 text))
+
+-- some text says this
+abbrev pub IsManifest : ManifestLines → Type 0
+IsManifest m = (text : List ℕ) × (manifest_of text ≡ Ok m)

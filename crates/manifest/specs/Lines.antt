@@ -6,7 +6,7 @@ use Rattle.manifest.specs.declared.line.Word.{Word}
 use Rattle.manifest.specs.declared.line.Word.TheVariants.{Dir, File, Slink, Block, Character, Fifo, Socket, Hard, Same}
 
 -- A manifest: its lines in order, and the volume's name with the number of its line, 0 where there is none.
-pub record Manifest : Type 0 where
+pub record ManifestLines : Type 0 where
   pub lines : List Line
   pub volume : List ℕ
   pub volume_line : ℕ

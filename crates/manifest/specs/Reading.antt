@@ -1,10 +1,11 @@
 -- What the reader of a manifest keeps between two lines, in the words of the grammar.
-use Rattle.std.specs.Prelude.{◌≡◌, ℕ, ◌||◌, Bool, true, false, if◌then◌else◌, List, [], ◌∷◌, map, reverse, Option, Some, None, Result, Ok, Err}
+use Rattle.std.specs.Prelude.{◌≡◌, ℕ, ◌||◌, Bool, true, false, if◌then◌else◌, List, [], ◌∷◌, map, reverse, Option, Some, None, Result, Ok, Err, Vec}
 use Rattle.std.specs.Option.{is_some, option_map}
 use Rattle.std.specs.Ordering.{nat_cmp}
 use Rattle.std.specs.Cmp.Lexicographic.{slice_cmp}
-use Rattle.std.specs.BTreeMap.{get_by}
-use Rattle.manifest.specs.Lines.{Manifest, is_dir, is_file, is_hard, is_same, line_at, led, filed, sources_of}
+use Rattle.std.specs.BTreeMap.{get_by, BTreeMap}
+use Rattle.std.specs.Str.{bytes_eq}
+use Rattle.manifest.specs.Lines.{is_dir, is_file, is_hard, is_same, line_at, led, filed, sources_of}
 use Rattle.manifest.specs.Grammar.{Fault, Seen, is_dir_line, is_target}
 use Rattle.manifest.specs.declared.line.Line.{Line}
 use Rattle.manifest.specs.declared.error.ManifestError.{ManifestError}
@@ -26,8 +27,13 @@ Gives (Err e) read = Fails e read
 abbrev pub seen : Reader → Seen
 seen r = record { latest = reverse r.lines.items; volume = r.volume; volume_line = r.volume_line }
 
-abbrev pub found : Reader → List ℕ → Option Reached
-found r path = get_by (λ k. slice_cmp nat_cmp path k.items) r.paths
+-- what the map has at a path
+abbrev pub found : {A : Type 0} → BTreeMap (Vec ℕ A) Reached → List ℕ → Option Reached
+found m path = get_by (λ k. slice_cmp nat_cmp path k.items) m
+
+-- the map has this at a path now, and at others what it had
+abbrev pub HasMore : {A : Type 0} → List ℕ → Reached → BTreeMap (Vec ℕ A) Reached → BTreeMap (Vec ℕ A) Reached → Type 0
+HasMore path reached old new = (q : List ℕ) → found new q ≡ (if bytes_eq path q then Some reached else found old q)
 
 -- what a line leads to, by its word and by whether that has contents
 abbrev pub reached_by : Line → Bool → Reached
@@ -65,7 +71,7 @@ is_no_directory (Some l) = if is_dir l.word then false else true
 
 -- the map has what each path leads to, each `hard` line leads to no directory, and the sources are those of the lines
 pub record IsKept (r : Reader) : Type 0 where
-  pub paths : (path : List ℕ) → found r path ≡ reached (reverse r.lines.items) path
+  pub paths : (path : List ℕ) → found r.paths path ≡ reached (reverse r.lines.items) path
   pub targets : (path : List ℕ) → is_target (led (reverse r.lines.items) path) ≡ is_no_directory (line_at (reverse r.lines.items) path)
   pub sources : r.sources.items ≡ sources_of r.lines.items
 

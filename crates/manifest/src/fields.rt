@@ -14,7 +14,9 @@ use arrayvec::ArrayVec;
 const FIELDS_MAX: usize = 8;
 
 const NO_MODE: &[u8] = b"0000";
+
 const ZERO: &[u8] = b"0";
+
 const NOTHING: &[u8] = b"";
 
 /// The texts of a line's fields. Those that its word lacks are zeros or empty.
@@ -61,13 +63,7 @@ pub fn volume<'a>(fields: &[&'a [u8]]) -> Option<&'a [u8]>
 }
 
 /// The fields of a line with these, whose word has no others.
-fn plain<'a>(
-    word: Word,
-    path: &'a [u8],
-    mode: &'a [u8],
-    uid: &'a [u8],
-    gid: &'a [u8],
-) -> Fields<'a>
+fn plain<'a>(word: Word, path: &'a [u8], mode: &'a [u8], uid: &'a [u8], gid: &'a [u8]) -> Fields<'a>
     ensures { fields_view result ≡ grammar.plain_fields word path.now mode.now uid.now gid.now grammar.zero_text [] }
 {
     Fields {

@@ -12,8 +12,10 @@ mod names;
 mod numbers;
 mod path;
 mod reader;
+mod reading;
 mod text;
 
 pub use error::{ManifestError, name};
 pub use line::{Line, Word};
 pub use names::Name;
+pub use reading::{Manifest, parse};

@@ -1,9 +1,10 @@
 //! What has been read of a manifest, and one more line of it.
-ghost use Rattle.std.specs.Prelude.{◌≡◌, true, is_some, reverse, None, OnOk};
+ghost use Rattle.std.specs.Prelude.{◌≡◌, ◌++◌, ◌∷◌, [], true, is_some, reverse, None, OnOk};
 ghost use Rattle.manifest.specs.Grammar as grammar;
 ghost use Rattle.manifest.specs.Paths.{names_of, parent_of};
-ghost use Rattle.manifest.specs.Reading.{Adds, IsKept, Reads, seen, reached, has_contents, reached_by};
+ghost use Rattle.manifest.specs.Reading.{Adds, HasMore, IsKept, Reads, seen, reached, has_contents, reached_by};
 ghost use Rattle.manifest.specs.Reading.{to_directory, to_regular_file, to_no_directory};
+ghost use Rattle.manifest.specs.Lines.{sources_of};
 ghost use Rattle.manifest.specs.Views.{fields_view};
 ghost use Rattle.manifest.specs.declared.error.ManifestError.TheVariants.{Bad};
 
@@ -84,6 +85,31 @@ fn bad(line: u64, number: u32) -> ManifestError
     ensures { result ≡ Bad line number }
 {
     ManifestError::Bad { line, number }
+}
+
+/// Puts a path into the map with what it leads to.
+fn note_path(
+    alloc: Global,
+    paths: &mut BTreeMap<Vec<u8>, Reached>,
+    path: &[u8],
+    reached: Reached,
+) -> Result<(), OutOfMemory>
+    ensures { OnOk result (HasMore path.now reached paths.old paths.new) }
+{
+    let key = path.to_vec(alloc)?;
+    paths.insert(key, reached)?;
+    Ok(())
+}
+
+/// Puts the source of a `file` line behind the others.
+fn note_source(alloc: Global, sources: &mut Vec<Name>, line: &Line) -> Result<(), OutOfMemory>
+    ensures { OnOk result (sources.new.items ≡ sources.old.items ++ sources_of (line.now ∷ [])) }
+{
+    if line.word.is_file() {
+        let source = line.text.as_bytes().to_vec(alloc)?;
+        sources.push(source.into())?;
+    }
+    Ok(())
 }
 
 impl Reader {
@@ -195,12 +221,8 @@ impl Reader {
         ensures { OnOk result (Adds self.old self.new line) }
     {
         let reached = self.leads_to(&line);
-        let path = line.path.as_bytes().to_vec(alloc)?;
-        self.paths.insert(path, reached)?;
-        if line.word.is_file() {
-            let source = line.text.as_bytes().to_vec(alloc)?;
-            self.sources.push(source.into())?;
-        }
+        note_path(alloc, &mut self.paths, line.path.as_bytes(), reached)?;
+        note_source(alloc, &mut self.sources, &line)?;
         self.lines.push(line)?;
         Ok(())
     }
@@ -222,7 +244,12 @@ impl Reader {
     }
 
     /// Takes in a line of these fields.
-    fn read_fields(&mut self, alloc: Global, number: u64, fields: &Fields) -> Result<(), ManifestError>
+    fn read_fields(
+        &mut self,
+        alloc: Global,
+        number: u64,
+        fields: &Fields,
+    ) -> Result<(), ManifestError>
         requires { IsKept self.old }
         ensures { Reads self.new result (grammar.read_numbers (seen self.old) number (grammar.line_of number (fields_view fields.now))) }
     {
