@@ -11,7 +11,7 @@ use Rattle.manifest.specs.declared.reader.Reader.{Reader}
 use Rattle.manifest.specs.Paths.{names_of, is_bad_path, parent_of}
 use Rattle.manifest.specs.Lines.{is_dir, is_hard, is_same, is_file, line_at, led, filed, sources_of}
 use Rattle.manifest.specs.Grammar.{is_target, has_target, has_parent, fault_of, is_bad_text, is_align}
-use Rattle.manifest.specs.Reading.{IsKept, Adds, HasMore, found, reached, reached_by, has_contents, is_no_directory}
+use Rattle.manifest.specs.Reading.{IsKept, Adds, HasMore, reached, reached_by, has_contents, is_no_directory}
 
 some_by : {X : Type 0} (a b : Bool) (o : Option X) (x : X) → is_some (cond a o (cond b (Some x) None)) ≡ cond a (is_some o) b
 some_by true b o x = refl

@@ -1,7 +1,6 @@
 -- A map whose keys are byte vectors, looked up by bytes: what a change at some bytes leaves at others.
-use Rattle.std.proofs.Common.{◌≡◌, ℕ, Bool, true, false, cond, List, Option, Vec, refl, sym, ap, subst, ◌∙◌, ◌⊎◌, nat_cmp, is_eq}
+use Rattle.std.proofs.Common.{◌≡◌, ℕ, Bool, true, false, cond, List, Option, Vec, sym, subst, ◌∙◌, nat_cmp, is_eq}
 use mathlib.Core.Logic.{⊎_elim}
-use Rattle.std.specs.Ordering.{eq_by_cmp}
 use Rattle.std.specs.Cmp.{eq_by_cmp_equiv}
 use Rattle.std.specs.Cmp.Lexicographic.{slice_cmp, bytes_decides, nat_list_cmp_total, nat_list_eq_equiv}
 use Rattle.std.specs.Str.{bytes_eq}

@@ -4,3 +4,4 @@ pub mod Keys
 pub mod Parents
 pub mod Pieces
 pub mod Reached
+pub mod Whole

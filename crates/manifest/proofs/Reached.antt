@@ -1,13 +1,13 @@
 -- What the map tells of a path is what the lines do.
-use Rattle.std.proofs.Common.{◌≡◌, ◌≢◌, ℕ, Bool, true, false, not, ◌||◌, cond, if◌then◌else◌, List, [], ◌∷◌, ◌++◌, Option, None, Some, refl, sym, ap, subst, ◌∙◌}
+use Rattle.std.proofs.Common.{◌≡◌, ℕ, Bool, true, false, ◌||◌, cond, List, [], ◌∷◌, Option, None, Some, refl, ap, ◌∙◌}
 use Rattle.std.specs.Option.{is_some, option_map}
 use Rattle.std.specs.Str.{bytes_eq}
 use Rattle.manifest.specs.declared.line.Line.{Line}
 use Rattle.manifest.specs.declared.line.Word.{Word}
 use Rattle.manifest.specs.declared.line.Word.TheVariants.{Dir, File, Slink, Block, Character, Fifo, Socket, Hard, Same}
 use Rattle.manifest.specs.declared.reader.Reached.TheVariants.{Directory, RegularFile, Other}
-use Rattle.manifest.specs.Lines.{is_dir, is_hard, is_same, is_file, line_at, led, filed}
-use Rattle.manifest.specs.Grammar.{is_dir_line, is_target}
+use Rattle.manifest.specs.Lines.{is_dir, is_hard, is_same, is_file, line_at, filed}
+use Rattle.manifest.specs.Grammar.{is_dir_line}
 use Rattle.manifest.specs.Reading.{reached, reached_by, to_directory, to_regular_file, to_no_directory, is_no_directory}
 
 -- where no line has a path, it leads to no `file` line, and neither does that of a `dir`

@@ -8,7 +8,7 @@ use Rattle.std.specs.Str.{bytes_eq}
 use Rattle.percent_encoding.specs.Percent.{percent_decode}
 use Rattle.manifest.specs.Texts.{pieces, is_empty, octal, decimal, is_bad}
 use Rattle.manifest.specs.Paths.{names_of, is_bad_path, parent_of}
-use Rattle.manifest.specs.Lines.{ManifestLines, is_dir, is_file, is_hard, is_same, line_at, led, filed}
+use Rattle.manifest.specs.Lines.{ManifestLines, is_dir, is_file, line_at, led, filed}
 use Rattle.manifest.specs.declared.numbers.Numbers.{Numbers}
 use Rattle.manifest.specs.declared.line.Line.{Line}
 use Rattle.manifest.specs.declared.line.Word.{Word}

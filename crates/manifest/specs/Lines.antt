@@ -3,7 +3,7 @@ use Rattle.std.specs.Prelude.{ℕ, ◌||◌, Bool, true, false, if◌then◌else
 use Rattle.std.specs.Str.{bytes_eq}
 use Rattle.manifest.specs.declared.line.Line.{Line}
 use Rattle.manifest.specs.declared.line.Word.{Word}
-use Rattle.manifest.specs.declared.line.Word.TheVariants.{Dir, File, Slink, Block, Character, Fifo, Socket, Hard, Same}
+use Rattle.manifest.specs.declared.line.Word.TheVariants.{Dir, File, Hard, Same}
 
 -- A manifest: its lines in order, and the volume's name with the number of its line, 0 where there is none.
 pub record ManifestLines : Type 0 where

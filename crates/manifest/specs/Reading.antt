@@ -1,12 +1,12 @@
 -- What the reader of a manifest keeps between two lines, in the words of the grammar.
-use Rattle.std.specs.Prelude.{◌≡◌, ℕ, ◌||◌, Bool, true, false, if◌then◌else◌, List, [], ◌∷◌, map, reverse, Option, Some, None, Result, Ok, Err, Vec}
+use Rattle.std.specs.Prelude.{◌≡◌, ℕ, ◌||◌, Bool, true, false, if◌then◌else◌, List, ◌∷◌, reverse, Option, Some, None, Result, Ok, Err, Vec}
 use Rattle.std.specs.Option.{is_some, option_map}
 use Rattle.std.specs.Ordering.{nat_cmp}
 use Rattle.std.specs.Cmp.Lexicographic.{slice_cmp}
 use Rattle.std.specs.BTreeMap.{get_by, BTreeMap}
 use Rattle.std.specs.Str.{bytes_eq}
 use Rattle.manifest.specs.Lines.{is_dir, is_file, is_hard, is_same, line_at, led, filed, sources_of}
-use Rattle.manifest.specs.Grammar.{Fault, Seen, is_dir_line, is_target}
+use Rattle.manifest.specs.Grammar.{Fault, Seen, is_target}
 use Rattle.manifest.specs.declared.line.Line.{Line}
 use Rattle.manifest.specs.declared.error.ManifestError.{ManifestError}
 use Rattle.manifest.specs.declared.error.ManifestError.TheVariants as error

@@ -5,7 +5,7 @@
 //! all bytes, where memory is not refused.
 #![tactic(auto)]
 
-mod error;
+pub mod error;
 mod fields;
 mod line;
 mod names;
@@ -13,6 +13,8 @@ mod numbers;
 mod path;
 mod reader;
 mod reading;
+#[cfg(test)]
+mod tests;
 mod text;
 
 pub use error::{ManifestError, name};

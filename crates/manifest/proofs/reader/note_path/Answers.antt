@@ -1,4 +1,4 @@
-use Rattle.std.proofs.Common.{ap, ◌≡◌, ◌∙◌, refl, sym, subst, cond, Some}
+use Rattle.std.proofs.Common.{ap, ◌∙◌, cond, Some}
 use Rattle.std.specs.Str.{bytes_eq}
 use Rattle.manifest.specs.Reading.{found}
 use Rattle.manifest.proofs.Keys.{has_more}

@@ -1,4 +1,4 @@
-use Rattle.std.proofs.Common.{ap, ◌≡◌, ◌+◌, ℕ, List, drop, refl, sym, ◌∙◌, ◌^◌, arith}
+use Rattle.std.proofs.Common.{ap, ◌+◌, ℕ, List, drop, sym, ◌∙◌, ◌^◌, arith}
 use Rattle.std.proofs.lemmas.List.{at_drop_more, at_drop_all}
 use Rattle.manifest.specs.Texts.{below, digits_from}
 use Rattle.manifest.proofs.Digits.{digit_step, ends_large, below_small}
