@@ -35,7 +35,7 @@ last_test false false false true e v w x y z h = absurd (cc)
 last_test false false false false true v w x y z h = refl
 last_test false false false false false v w x y z h = absurd (cc)
 
-sound_target : (ls : List Line) (l : Line) → fault_of ls l ≡ None → has_target ls l.word l.text ≡ true
+pub sound_target : (ls : List Line) (l : Line) → fault_of ls l ≡ None → has_target ls l.word l.text ≡ true
 unfolding fault_of
 sound_target ls l h =
     last_test
@@ -63,7 +63,7 @@ target_by ls l h = by l.word refl h
     by Hard e f = f
     by Same e f = ap not (ap is_dir e)
 
-more_targets : (ls : List Line) (l : Line) → fault_of ls l ≡ None → ((q : List ℕ) → is_target (led ls q) ≡ is_no_directory (line_at ls q))
+pub more_targets : (ls : List Line) (l : Line) → fault_of ls l ≡ None → ((q : List ℕ) → is_target (led ls q) ≡ is_no_directory (line_at ls q))
     → (q : List ℕ) → is_target (led (l ∷ ls) q) ≡ is_no_directory (line_at (l ∷ ls) q)
 more_targets ls l s h q =
     elim (bytes_eq l.path q) as (λ t. is_target (cond t (cond (is_hard l.word) (led ls l.text) (Some l)) (led ls q)) ≡ is_no_directory (cond t (Some l) (line_at ls q))) [

@@ -40,11 +40,11 @@ but_last-push [] n = refl
 but_last-push (m ∷ []) n = refl
 but_last-push (m ∷ k ∷ ns) n = ap (λ (x : List (List ℕ)). m ∷ x) (but_last-push (k ∷ ns) n)
 
-path_of-joined : (n : List ℕ) (ns : List (List ℕ)) → path_of (n ∷ ns) ≡ 47 ∷ join_with_byte 47 (n ∷ ns)
+pub path_of-joined : (n : List ℕ) (ns : List (List ℕ)) → path_of (n ∷ ns) ≡ 47 ∷ join_with_byte 47 (n ∷ ns)
 path_of-joined n [] = ap (λ (x : List ℕ). 47 ∷ x) (append-nil n)
 path_of-joined n (m ∷ ns) = ap (λ (x : List ℕ). 47 ∷ (n ++ x)) (path_of-joined m ns)
 
-path_of-pieces : (bs : List ℕ) → path_of (pieces 47 bs) ≡ 47 ∷ bs
+pub path_of-pieces : (bs : List ℕ) → path_of (pieces 47 bs) ≡ 47 ∷ bs
 path_of-pieces bs = let h = pieces_some 47 bs in
     ap path_of h.2 ∙ path_of-joined h.0 h.1 ∙ ap (λ (x : List (List ℕ)). 47 ∷ join_with_byte 47 x) (sym h.2) ∙ ap (λ (x : List ℕ). 47 ∷ x) (join_with_byte-slice_split 47 bs)
 
@@ -69,14 +69,14 @@ behind (b ∷ bs) h = elim (list_any is_bad_name (pieces 47 (b ∷ bs))) as (λ 
 ] h
 
 -- a path begins with a slash
-starts : (path : List ℕ) → is_some (names_from path) ≡ true → (bs : List ℕ) × (path ≡ 47 ∷ bs) × (names_from path ≡ names_behind bs)
+pub starts : (path : List ℕ) → is_some (names_from path) ≡ true → (bs : List ℕ) × (path ≡ 47 ∷ bs) × (names_from path ≡ names_behind bs)
 starts [] h = absurd (cc)
 starts (b ∷ bs) h = elim (eqb b 47) as (λ t. eqb b 47 ≡ t → is_some (cond t (names_behind bs) None) ≡ true → (cs : List ℕ) × (b ∷ bs ≡ 47 ∷ cs) × (cond t (names_behind bs) None ≡ names_behind cs)) [
   | true ↦ λ e f. (bs, ap (λ (x : ℕ). x ∷ bs) (eqb-true b 47 e), refl)
   | false ↦ λ e f. absurd (cc)
 ] refl h
 
-is_path : (path : List ℕ) → is_some (names_of path) ≡ true → names_of path ≡ names_from path
+pub is_path : (path : List ℕ) → is_some (names_of path) ≡ true → names_of path ≡ names_from path
 unfolding names_of
 is_path path h = elim (is_bad 4095 path) as (λ t. is_some (cond t None (names_from path)) ≡ true → cond t None (names_from path) ≡ names_from path) [
   | true ↦ λ e. absurd (cc)

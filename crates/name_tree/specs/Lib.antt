@@ -1,0 +1,3 @@
+pub mod Names
+pub mod Tree
+pub mod Shape
