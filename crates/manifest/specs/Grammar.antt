@@ -131,7 +131,8 @@ all_numbers _ _ _ _ _ _ = None
 
 -- the numbers of a line, if each of its texts for one is a number
 unfoldable pub numbers_of : Fields → Option Numbers
-numbers_of f = all_numbers (octal f.mode) (decimal f.uid) (decimal f.gid) (decimal f.align) (decimal f.major) (decimal f.minor)
+numbers_of f =
+    all_numbers (octal f.mode) (decimal f.uid) (decimal f.gid) (decimal f.align) (decimal f.major) (decimal f.minor)
 
 -- a line with its numbers, and its texts decoded
 abbrev pub with_numbers : ℕ → Fields → Numbers → Line

@@ -72,12 +72,14 @@ is_no_directory (Some l) = if is_dir l.word then false else true
 -- the map has what each path leads to, each `hard` line leads to no directory, and the sources are those of the lines
 pub record IsKept (r : Reader) : Type 0 where
   pub paths : (path : List ℕ) → found r.paths path ≡ reached (reverse r.lines.items) path
-  pub targets : (path : List ℕ) → is_target (led (reverse r.lines.items) path) ≡ is_no_directory (line_at (reverse r.lines.items) path)
+  pub targets : (path : List ℕ)
+      → is_target (led (reverse r.lines.items) path) ≡ is_no_directory (line_at (reverse r.lines.items) path)
   pub sources : r.sources.items ≡ sources_of r.lines.items
 
 -- one more line was read
 pub record Adds (old new : Reader) (l : Line) : Type 0 where
-  pub seen : seen new ≡ record { latest = l ∷ reverse old.lines.items; volume = old.volume; volume_line = old.volume_line }
+  pub seen : seen new
+      ≡ record { latest = l ∷ reverse old.lines.items; volume = old.volume; volume_line = old.volume_line }
   pub kept : IsKept new
 
 -- what reading one line gave

@@ -1,5 +1,5 @@
-//! Why a text is no manifest. The numbers and names are this project's own, and docs/MANIFEST.md has
-//! them in words.
+//! Why a text is no manifest. The numbers and names are this project's own, and docs/MANIFEST.md
+//! has them in words.
 ghost use Rattle.std.specs.Prelude.{◌≡◌};
 ghost use Rattle.manifest.specs.Errors.{name_of_fault};
 

@@ -148,7 +148,8 @@ fn seven<'a>(
     align: &'a [u8],
     source: &'a [u8],
 ) -> Option<Fields<'a>>
-    ensures { option_map fields_view result ≡ grammar.seven_fields word.now path.now mode.now uid.now gid.now align.now source.now }
+    ensures { option_map fields_view result
+        ≡ grammar.seven_fields word.now path.now mode.now uid.now gid.now align.now source.now }
 {
     if word != b"file".as_slice() {
         return None;
@@ -184,7 +185,8 @@ fn eight<'a>(
     major: &'a [u8],
     minor: &'a [u8],
 ) -> Option<Fields<'a>>
-    ensures { option_map fields_view result ≡ grammar.eight_fields word.now path.now mode.now uid.now gid.now letter.now major.now minor.now }
+    ensures { option_map fields_view result
+        ≡ grammar.eight_fields word.now path.now mode.now uid.now gid.now letter.now major.now minor.now }
 {
     if word != b"nod".as_slice() {
         return None;

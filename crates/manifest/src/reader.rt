@@ -251,7 +251,8 @@ impl Reader {
         fields: &Fields,
     ) -> Result<(), ManifestError>
         requires { IsKept self.old }
-        ensures { Reads self.new result (grammar.read_numbers (seen self.old) number (grammar.line_of number (fields_view fields.now))) }
+        ensures { Reads self.new result
+            (grammar.read_numbers (seen self.old) number (grammar.line_of number (fields_view fields.now))) }
     {
         let Some(line) = line_of(alloc, number, fields)? else {
             return Err(bad(number, BAD_NUMBER));

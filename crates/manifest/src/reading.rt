@@ -12,8 +12,8 @@ use crate::text::{cut, is_skipped};
 use std::alloc::Global;
 use std::marker::Model;
 
-/// The lines of a text in order, and the name of the volume. A contract sees both with the number of
-/// the `volume` line.
+/// The lines of a text in order, and the name of the volume. A contract sees both with the number
+/// of the `volume` line.
 #[derive(Debug, Drop)]
 pub struct Manifest {
     lines: Vec<Line>,
@@ -31,7 +31,8 @@ impl Model for Manifest {
 
     ghost view = { λ m. record { lines = m.lines.items; volume = m.volume; volume_line = m.volume_line } };
 
-    ghost invariant = { λ m. (m.sources.items ≡ sources_of m.lines.items) × IsManifest (record { lines = m.lines.items; volume = m.volume; volume_line = m.volume_line }) };
+    ghost invariant = { λ m. (m.sources.items ≡ sources_of m.lines.items)
+        × IsManifest (record { lines = m.lines.items; volume = m.volume; volume_line = m.volume_line }) };
 }
 
 impl Manifest {
@@ -58,7 +59,8 @@ impl Manifest {
         self.volume_line
     }
 
-    /// The source of each `file` line, in the order of the lines. What two of them name stands twice.
+    /// The source of each `file` line, in the order of the lines. What two of them name stands
+    /// twice.
     pub fn sources(&self) -> &[Name]
         ensures { result.now ≡ sources_of self.now.lines }
     {
@@ -66,8 +68,13 @@ impl Manifest {
     }
 }
 
-/// Reads a manifest. A text that is none has its first faulty line named, and there the fault of the
-/// least number. A text of n lines takes time in n log n.
+/// Reads a manifest. Of a text that is none, the first faulty line is answered, and there the fault
+/// of the least number. A text of n lines takes time in n log n.
+///
+/// # Errors
+///
+/// `Bad` exactly where the grammar gives that fault, unless memory was refused first;
+/// `OutOfMemory` where it was.
 #[tactic(auto, unfolding(crate::specs::Grammar::manifest_of))]
 pub fn parse(alloc: Global, text: &[u8]) -> Result<Manifest, ManifestError>
     ensures { Gives result (manifest_of text.now) }

@@ -1,6 +1,7 @@
 //! Texts cut at a byte, and the numbers that texts of digits stand for.
 ghost use Rattle.std.specs.List.{list_any};
-ghost use Rattle.std.specs.Prelude.{if◌then◌else◌, ◌==◌, ◌-◌, ◌*◌, Some, None, ◌≡◌, ◌∷◌, ◌+◌, ◌<◌, ◌≤◌, ◌^◌, length, IfSome, IfOk};
+ghost use Rattle.std.specs.Prelude.{◌≡◌, ◌==◌, ◌<◌, ◌≤◌, ◌∷◌, ◌+◌, ◌-◌, ◌*◌, ◌^◌, if◌then◌else◌, length};
+ghost use Rattle.std.specs.Prelude.{Some, None, IfSome, IfOk};
 ghost use Rattle.percent_encoding.specs.Percent.{percent_decode};
 ghost use Rattle.manifest.specs.Texts.{pieces, pieces_after, is_digit, digits_from, octal, below, decimal, is_bad};
 ghost use Rattle.manifest.specs.Grammar.{is_skipped};

@@ -47,12 +47,15 @@ pub record Named : Type 0 where
   pub inode : Inode
   pub own : Names
 
+abbrev pub with_names : Inode → Names → Named
+with_names i n = record { inode = i; own = n }
+
 -- what a name of a list names
 abbrev pub find_name : Names → List ℕ → Option Named
 find_name nothing m = None
-find_name (leaf name i after) m = if bytes_eq name m then Some (record { inode = i; own = nothing }) else find_name after m
-find_name (link name i after) m = if bytes_eq name m then Some (record { inode = i; own = nothing }) else find_name after m
-find_name (folder name i own after) m = if bytes_eq name m then Some (record { inode = i; own = own }) else find_name after m
+find_name (leaf name i after) m = if bytes_eq name m then Some (with_names i nothing) else find_name after m
+find_name (link name i after) m = if bytes_eq name m then Some (with_names i nothing) else find_name after m
+find_name (folder name i own after) m = if bytes_eq name m then Some (with_names i own) else find_name after m
 
 -- what the names on a path lead to
 abbrev pub node_under : List (List ℕ) → Node → Option Node
@@ -67,7 +70,7 @@ file_under (m ∷ ms) x = option_and_then (λ y. file_under ms y) (find_name x.o
 -- where they are of one line.
 pub record HasShape (image : List ℕ) (t : Node) (contents : List (List ℕ)) (root : Inode) (n : Names) : Type 0 where
   pub values : (q : List (List ℕ))
-      → option_map (node_value image) (node_under q t) ≡ option_map (file_value contents) (file_under q (record { inode = root; own = n }))
+      → option_map (node_value image) (node_under q t) ≡ option_map (file_value contents) (file_under q (with_names root n))
   pub shared : (p q : List (List ℕ)) (x y : Node) (i j : Inode) → node_under p t ≡ Some x → node_under q t ≡ Some y
-      → file_under p (record { inode = root; own = n }) ≡ Some i → file_under q (record { inode = root; own = n }) ≡ Some j
+      → file_under p (with_names root n) ≡ Some i → file_under q (with_names root n) ≡ Some j
       → (ino_of x ≡ ino_of y) ↔ (i.line ≡ j.line)

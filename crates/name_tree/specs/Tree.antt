@@ -36,7 +36,7 @@ plain l kind align size fill = record {
 abbrev pub with_contents : List Line → List ℕ → Line → Option Line → Inode
 with_contents lines sizes l None = plain l kind.Regular 4 0 no_bytes
 with_contents lines sizes l (Some o) =
-    plain l kind.Regular o.align (get_or sizes (sources_before o.number lines) 0) (source (sources_before o.number lines))
+    let k = sources_before o.number lines in plain l kind.Regular o.align (get_or sizes k 0) (source k)
 
 -- the file that a line makes; a `hard` line makes none
 abbrev pub inode_by : List Line → List ℕ → Word → Line → Inode
