@@ -1,6 +1,5 @@
--- The grammar of a manifest: what its lines say, or its first fault. (This project's own; `dir`, `file`, `slink`,
--- `nod`, `pipe` and `sock` are words of gen_init_cpio, Linux usr/gen_init_cpio.c, and so is the order of their
--- fields up to the group.)
+-- The grammar of a manifest: what its lines say, or its first fault. (This project's own, but for the words `dir`,
+-- `file`, `slink`, `nod`, `pipe` and `sock`, which are those of gen_init_cpio, Linux usr/gen_init_cpio.c.)
 use Rattle.std.specs.Prelude.{◌≡◌, ℕ, ◌+◌, ◌==◌, ◌||◌, ◌&&◌, not, Bool, true, false, if◌then◌else◌, List, [], ◌∷◌, reverse, codes, Option, Some, None, Result, Ok, Err}
 use Rattle.std.specs.List.{list_any}
 use Rattle.std.specs.Option.{is_some, option_map}
