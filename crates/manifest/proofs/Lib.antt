@@ -1,0 +1,9 @@
+pub mod Adding
+pub mod Checked
+pub mod Digits
+pub mod Keys
+pub mod Named
+pub mod Parents
+pub mod Pieces
+pub mod Reached
+pub mod Whole

@@ -1,0 +1,99 @@
+//! A manifest that was read, and the reading of one.
+ghost use Rattle.std.specs.Prelude.{◌≡◌};
+ghost use Rattle.manifest.specs.Grammar.{manifest_of, IsManifest};
+ghost use Rattle.manifest.specs.Lines.{sources_of};
+ghost use Rattle.manifest.specs.Reading.{Gives};
+
+use crate::error::ManifestError;
+use crate::line::Line;
+use crate::names::Name;
+use crate::reader::Reader;
+use crate::text::{cut, is_skipped};
+use std::alloc::Global;
+use std::marker::Model;
+
+/// The lines of a text in order, and the name of the volume. A contract sees both with the number
+/// of the `volume` line.
+#[derive(Debug, Drop)]
+pub struct Manifest {
+    lines: Vec<Line>,
+    sources: Vec<Name>,
+    volume: Name,
+    volume_line: u64,
+}
+
+impl Model for Manifest {
+    ghost use Rattle.std.specs.Prelude.{◌≡◌};
+    ghost use Rattle.manifest.specs.Lines.{ManifestLines, sources_of};
+    ghost use Rattle.manifest.specs.Grammar.{IsManifest};
+
+    ghost Value = { ManifestLines };
+
+    ghost view = { λ m. record { lines = m.lines.items; volume = m.volume; volume_line = m.volume_line } };
+
+    ghost invariant = { λ m. (m.sources.items ≡ sources_of m.lines.items)
+        × IsManifest (record { lines = m.lines.items; volume = m.volume; volume_line = m.volume_line }) };
+}
+
+impl Manifest {
+    /// The lines, in the order of the text. They are those of some text: so paths are paths, each
+    /// parent comes before what it holds, and what `hard` and `same` name comes before them.
+    pub fn lines(&self) -> &[Line]
+        ensures lines { result.now ≡ self.now.lines }
+        ensures of_text { IsManifest self.now }
+    {
+        self.lines.as_slice()
+    }
+
+    /// The name of the volume, empty where no line names it.
+    pub fn volume(&self) -> &[u8]
+        ensures { result.now ≡ self.now.volume }
+    {
+        self.volume.as_bytes()
+    }
+
+    /// The number of the `volume` line, and 0 where there is none.
+    pub fn volume_line(&self) -> u64
+        ensures { result ≡ self.now.volume_line }
+    {
+        self.volume_line
+    }
+
+    /// The source of each `file` line, in the order of the lines. What two of them name stands
+    /// twice.
+    pub fn sources(&self) -> &[Name]
+        ensures { result.now ≡ sources_of self.now.lines }
+    {
+        self.sources.as_slice()
+    }
+}
+
+/// Reads a manifest. Of a text that is none, the first faulty line is answered, and there the fault
+/// of the least number. A text of n lines takes time in n log n.
+///
+/// # Errors
+///
+/// `Bad` exactly where the grammar gives that fault, unless memory was refused first;
+/// `OutOfMemory` where it was.
+#[tactic(auto, unfolding(crate::specs::Grammar::manifest_of))]
+pub fn parse(alloc: Global, text: &[u8]) -> Result<Manifest, ManifestError>
+    ensures { Gives result (manifest_of text.now) }
+{
+    let mut reader = Reader::new(alloc);
+    let mut rest = Some(text);
+    let mut number = 0u64;
+    while let Some(bytes) = rest {
+        let (line, more) = cut(bytes, b'\n');
+        number += 1;
+        if !is_skipped(line) {
+            reader.read(alloc, number, line)?;
+        }
+        rest = more;
+    }
+    Ok(Manifest {
+        lines: reader.lines,
+        sources: reader.sources,
+        volume: reader.volume,
+        volume_line: reader.volume_line,
+    })
+}

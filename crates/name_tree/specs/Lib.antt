@@ -1,0 +1,4 @@
+pub mod Names
+pub mod Tree
+pub mod Shape
+pub mod Example
