@@ -1,4 +1,5 @@
 -- The tree of a checked image as a function of its accessible bytes b, in which there are no more than k records.
+-- (This project's own.)
 use Rattle.std.specs.Prelude.{◌≡◌, ℕ, zero, suc, ◌+◌, ◌^◌, ◌<◌, ◌≤◌, nat_lt, Bool, true, false, if◌then◌else◌, ◌==◌, List, length, Option, Some, None}
 use Rattle.record_walk.specs.Forest.{Forest, none, at, count, stands_in}
 use Rattle.rom_tree.specs.Tree.{Node, depth}

@@ -18,6 +18,7 @@ use Rattle.cramfs_format.specs.Inode.{block_count, block_start}
 use Rattle.cramfs_format.specs.Tree.{data_from}
 use Rattle.cramfs_image.specs.declared.overlap.File.{File}
 use Rattle.cramfs_image.specs.Files.{spans_of, FileLies, whole_end, whole_blocks, file_added, AddsFiles}
+
 -- y stands in the list
 abbrev pub Member : Span → List Span → Type 0
 Member z xs = Has (λ (y : Span). y ≡ z) xs

@@ -13,6 +13,7 @@ use Rattle.cramfs_format.specs.declared.order.Order.{Order}
 use Rattle.cramfs_format.specs.Inode.{name_of}
 use Rattle.cramfs_image.specs.Phases.{last_name, name_seen}
 use Rattle.cramfs_image.proofs.Naming.{last_push}
+
 -- the map has the last name of each list among the rows
 pub record HaveLast (o : Order) (b : List ℕ) (m : BTreeMap ℕ (Bor (List ℕ))) (rows : List Row) : Type 0 where
   pub tells : (d : ℕ) → name_seen (get nat_cmp m d) ≡ last_name o b d None rows

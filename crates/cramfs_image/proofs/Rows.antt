@@ -18,6 +18,7 @@ use Rattle.cramfs_image.specs.Phases.{IsRecord}
 use Rattle.cramfs_image.specs.Files.{list_part, file_part, spans_of, FileLies, AddsFiles}
 use Rattle.cramfs_image.proofs.Repeats.{Same, same_self, same_drop, same_least, IsRepeat}
 use Rattle.cramfs_image.proofs.Blocks.{Member, all_spans_shareable}
+
 -- one member more
 flat_push : {X Y : Type 0} (g : X → List Y) (xs : List X) (x : X) → flat_map g (xs ++ x ∷ []) ≡ flat_map g xs ++ g x
 flat_push g [] x = append-nil (g x)

@@ -1,4 +1,4 @@
--- What a check answers.
+-- What a check answers. (This project's own.)
 use Rattle.std.specs.Prelude.{◌≡◌, ℕ, List, length}
 use Rattle.rom_tree.specs.Tree.{depth}
 use Rattle.rom_tree.specs.Image.{Image}

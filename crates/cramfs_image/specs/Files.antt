@@ -1,4 +1,4 @@
--- Files by their block pointers, and what is added of them to the extents.
+-- Files by their block pointers, and what is added of them to the extents. (This project's own.)
 use Rattle.std.specs.Prelude.{◌≡◌, ℕ, ◌+◌, ◌-◌, ◌*◌, ◌/◌, ◌%◌, ◌<◌, ◌≤◌, ◌^◌, ◌==◌, max, true, List, [], ◌∷◌, ◌++◌, length, if◌then◌else◌}
 use Rattle.std.specs.List.{All, Contains, AllByRecursion as Every}
 use Rattle.rom_fields.specs.declared.span.Span.{Span}
@@ -11,6 +11,7 @@ use Rattle.cramfs_format.specs.declared.order.Order.{Order}
 use Rattle.cramfs_format.specs.Inode.{type_of, size_of, offset_of, has_data, block_count, block_start, block_len}
 use Rattle.cramfs_format.specs.Tree.{data_from}
 use Rattle.cramfs_image.specs.declared.overlap.File.{File}
+
 -- the list of a directory
 abbrev pub list_part : Order → List ℕ → Row → List Span
 list_part o b x = if type_of o b x.offset == 4 then added ListOf (offset_of o b x.offset) (size_of o b x.offset) else []

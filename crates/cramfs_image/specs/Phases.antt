@@ -1,4 +1,4 @@
--- What the phases of the check look for: at one record, and among the records of a forest.
+-- What the phases of the check look for: at one record, and among the records of a forest. (This project's own.)
 use Rattle.std.specs.Borrow.{Bor}
 use Rattle.std.specs.Prelude.{◌≡◌, ℕ, ◌+◌, ◌*◌, ◌<◌, ◌≤◌, ◌⊎◌, ◌==◌, Bool, true, false, if◌then◌else◌, List, [], ◌∷◌, ◌++◌, length, drop, Option, None, Some, IsSomeAnd}
 use Rattle.std.specs.List.{Any}

@@ -93,7 +93,11 @@ impl Records for Accessible<'_> {
         if let Some(fault) = fault_of(self, known, x) {
             return Err(fault);
         }
-        let own = edge_to(at, self.offset_at(at as usize), self.list_end_at(at as usize));
+        let own = edge_to(
+            at,
+            self.offset_at(at as usize),
+            self.list_end_at(at as usize),
+        );
         let end = if x.source == 0 {
             0
         } else {

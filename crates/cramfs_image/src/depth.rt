@@ -10,8 +10,8 @@ ghost use Rattle.record_walk.specs.Sweep.{IsLeastRowFault};
 ghost use Rattle.cramfs_image.specs.Phases.{IsTooDeep, IsShallow};
 
 use crate::accessible::Accessible;
-use record_walk::reference::Row;
 use record_walk::least::lesser_fault;
+use record_walk::reference::Row;
 use rom_faults::Fault;
 use rom_faults::fault::TOO_DEEP;
 use rom_tree::dots::is_dots;

@@ -61,10 +61,7 @@ impl<'a> TreeImage<'a> for Cramfs<'a> {
                 return true;
             }
             stack.push((b.end_at(at as usize) as u32, list.1));
-            stack.push((
-                b.offset_at(at as usize),
-                b.list_end_at(at as usize),
-            ));
+            stack.push((b.offset_at(at as usize), b.list_end_at(at as usize)));
         }
         false
     }

@@ -11,11 +11,11 @@ ghost use Rattle.record_walk.specs.Listed.{AreNames};
 ghost use Rattle.record_walk.specs.Sweep.{IsLeastRowFault};
 ghost use Rattle.cramfs_image.specs.Phases.{TellsEarlier, last_name, name_seen, IsUnsorted, IsNameFault, IsWellNamed};
 
-use crate::depth::is_other;
 use crate::accessible::Accessible;
+use crate::depth::is_other;
+use record_walk::least::lesser_fault;
 use record_walk::listed::{ListedName, repeats};
 use record_walk::reference::Row;
-use record_walk::least::lesser_fault;
 use rom_faults::Fault;
 use rom_faults::fault::{DOT, DUPLICATE_NAME, UNSORTED};
 use rom_fields::memory::OutOfMemory;
@@ -111,7 +111,11 @@ fn names_of<'a>(
 }
 
 /// The least fault of a name among the rows other than the root's.
-pub fn least_name_fault(alloc: Global, b: &Accessible<'_>, rows: &[Row]) -> Result<Option<Fault>, OutOfMemory>
+pub fn least_name_fault(
+    alloc: Global,
+    b: &Accessible<'_>,
+    rows: &[Row],
+) -> Result<Option<Fault>, OutOfMemory>
     requires good { All (λ x. IsGood b.now.order b.now.bytes.now x.offset) rows.now }
     ensures { IfOk result (IsLeastRowFault (IsWellNamed b.now.order b.now.bytes.now) (IsNameFault b.now.order b.now.bytes.now) rows.now) }
 {

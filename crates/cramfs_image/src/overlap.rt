@@ -27,7 +27,12 @@ pub struct File {
 }
 
 /// Adds the whole blocks of some pointers from `at` on.
-fn add_blocks(extents: &mut Extents, b: &Accessible<'_>, at: u32, count: u32) -> Result<(), OutOfMemory>
+fn add_blocks(
+    extents: &mut Extents,
+    b: &Accessible<'_>,
+    at: u32,
+    count: u32,
+) -> Result<(), OutOfMemory>
     requires small { at + 4 * count < 2 ^ 32 }
     requires pointers { (i : ℕ) → i < count → at + 4 * i + 4 ≤ length b.now.bytes.now }
     requires blocks { (i : ℕ) → i < count → block_start (word_of b.now.order b.now.bytes.now (at + 4 * i)) + 4096 < 2 ^ 32 }
@@ -42,7 +47,12 @@ fn add_blocks(extents: &mut Extents, b: &Accessible<'_>, at: u32, count: u32) ->
 
 /// Adds the block pointers and the blocks of a file, but for the whole blocks of pointers before
 /// `done`. It gives up to where whole blocks are there then.
-fn add_file(extents: &mut Extents, b: &Accessible<'_>, file: File, done: u32) -> Result<u32, OutOfMemory>
+fn add_file(
+    extents: &mut Extents,
+    b: &Accessible<'_>,
+    file: File,
+    done: u32,
+) -> Result<u32, OutOfMemory>
     requires lies { FileLies b.now.order b.now.bytes.now file }
     requires aligned { done % 4 ≡ 0 }
     requires low { done < 2 ^ 29 }
@@ -111,7 +121,11 @@ fn add_row(
 
 /// The least place where two extents of the image overlap. They are no more than the words of the
 /// image and three for each row.
-pub fn least_overlap(alloc: Global, b: &Accessible<'_>, rows: &[Row]) -> Result<Option<u32>, OutOfMemory>
+pub fn least_overlap(
+    alloc: Global,
+    b: &Accessible<'_>,
+    rows: &[Row],
+) -> Result<Option<u32>, OutOfMemory>
     requires records { All (λ x. IsRecord b.now.order b.now.bytes.now x.offset) rows.now }
     ensures { IfOk result (IsLeastOf (OverlapsAt (extents_of b.now.order b.now.bytes.now rows.now))) }
 {

@@ -2,7 +2,7 @@
 --
 -- A remainder is that of a polynomial, whose highest powers come first. x^300 + x^155 + x^117 + x^89 + 1 is a
 -- multiple of the CRC's, and so is the same in x^8. So a byte may be added (xor) to the bytes 145, 183, 211 and 300
--- later, and then be taken as zero.
+-- later, and then be taken as zero. (This project's own.)
 use Rattle.std.specs.Prelude.{◌≡◌, ℕ, zero, suc, ◌-◌, ◌*◌, ◌≤◌, List, ◌++◌, length, drop}
 use Rattle.std.specs.Int.Bits.{bit_xor}
 use Rattle.crc.specs.Crc.{after_bit, after_bytes}

@@ -1,4 +1,4 @@
--- An image of either format, as the layers above see it.
+-- An image of either format, as the layers above see it. (This project's own.)
 use Rattle.std.specs.Prelude.{ℕ, List, Option}
 use Rattle.rom_tree.specs.declared.types.Run.{Run}
 use Rattle.rom_tree.specs.Image.{Image}

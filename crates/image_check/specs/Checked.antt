@@ -1,4 +1,5 @@
 -- What the check of an image of either format answers. The formats are told apart by their first bytes.
+-- (This project's own.)
 use Rattle.std.specs.Prelude.{◌≡◌, ℕ, ◌≤◌, ◌⊎◌, List, length, take, if◌then◌else◌, nat_lt}
 use Rattle.rom_tree.specs.Tree.{Node}
 use Rattle.rom_tree.specs.Image.{Image}

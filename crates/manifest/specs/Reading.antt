@@ -1,4 +1,4 @@
--- What the reader of a manifest keeps between two lines, in the words of the grammar.
+-- What the reader of a manifest keeps between two lines, in the words of the grammar. (This project's own.)
 use Rattle.std.specs.Prelude.{◌≡◌, ℕ, ◌||◌, Bool, true, false, if◌then◌else◌, List, ◌∷◌, reverse, Option, Some, None, Result, Ok, Err, Vec}
 use Rattle.std.specs.Option.{is_some, option_map}
 use Rattle.std.specs.Ordering.{nat_cmp}

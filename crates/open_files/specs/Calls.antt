@@ -1,4 +1,5 @@
 -- The calls on open files, and what they answer. S are the states: what is open, and what is mounted.
+-- (This project's own.)
 use Rattle.std.specs.Prelude.{ℕ, List, Option, Result, Ok, Err}
 use Rattle.rom_tree.specs.declared.types.Stat.{Stat}
 use Rattle.open_files.specs.declared.error.CallError.{CallError}

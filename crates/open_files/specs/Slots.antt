@@ -1,4 +1,4 @@
--- What the numbers that the code keeps stand for.
+-- What the numbers that the code keeps stand for. (This project's own.)
 use Rattle.std.specs.Prelude.{◌≡◌, ℕ, zero, suc, Bool, true, false, ◌&&◌, List, [], ◌∷◌, Option, Some, None, is_some, option_map, option_and_then, Result, Ok, Err}
 use Rattle.rom_tree.specs.declared.types.Piece.{Piece}
 use Rattle.rom_tree.specs.declared.types.Entry.{Entry}

@@ -1,4 +1,4 @@
--- What several images, mounts and the slots of sessions stand for.
+-- What several images, mounts and the slots of sessions stand for. (This project's own.)
 use Rattle.std.specs.Prelude.{ℕ, zero, suc, Bool, true, ◌&&◌, List, [], ◌∷◌, Option, None, replicate}
 use Rattle.rom_tree.specs.Image.{Image}
 use Rattle.path_walk.specs.declared.mount.Mount.{Mount}

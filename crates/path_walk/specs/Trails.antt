@@ -1,4 +1,5 @@
 -- What the variables of a walk stand for: places, their stack, and the texts that are still to be read.
+-- (This project's own.)
 use Rattle.std.specs.Prelude.{◌≡◌, ℕ, suc, ◌+◌, ◌*◌, ◌≤◌, ◌<◌, Bool, true, List, [], ◌∷◌, ◌++◌, length, Option, Some, None, Result, Ok, Err, MatchResult}
 use Rattle.std.specs.Borrow.{Bor}
 use base.Fml.{GName}

@@ -1,4 +1,4 @@
--- What the check of an image answers, by the faults of its format.
+-- What the check of an image answers, by the faults of its format. (This project's own.)
 use Rattle.rom_faults.specs.declared.error.CheckError.{CheckError}
 use Rattle.rom_faults.specs.declared.error.CheckError.TheVariants.{OutOfMemory, Fault as FaultAnswer}
 use Rattle.rom_faults.specs.declared.fault.Fault.{Fault}

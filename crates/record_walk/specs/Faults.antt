@@ -1,4 +1,4 @@
--- The faults that references and records make, without any forest or order of visiting.
+-- The faults that references and records make, without any forest or order of visiting. (This project's own.)
 use Rattle.std.specs.Prelude.{◌≡◌, ◌≢◌, ℕ, ◌+◌, ◌<◌, ◌≤◌, List, length, Some, ◌⊎◌, Option, IfSome, IsSomeAnd}
 use Rattle.std.specs.List.{AllByRecursion as Every}
 use Rattle.record_walk.specs.declared.reference.Reference.{Reference}

@@ -1,5 +1,5 @@
 -- What refers to what in an image. A format says it once, by this record, and both the forest of
--- records and the faults of references are stated over it.
+-- records and the faults of references are stated over it. (This project's own.)
 use Rattle.std.specs.Prelude.{◌≡◌, ◌≢◌, ℕ, Bool, true, false, Option, IsSome, ◌⊎◌}
 use Rattle.record_walk.specs.declared.reference.Reference.{Reference}
 

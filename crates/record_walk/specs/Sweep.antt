@@ -1,4 +1,4 @@
--- A sweep over the rows of a forest, which notes the fault at the least offset.
+-- A sweep over the rows of a forest, which notes the fault at the least offset. (This project's own.)
 use Rattle.std.specs.Prelude.{◌≡◌, ℕ, ◌≤◌, List, ◌∷◌, ◌++◌, Option, None, IfSome, IsSomeAnd}
 use Rattle.rom_faults.specs.declared.fault.Fault.{Fault}
 use Rattle.record_walk.specs.declared.reference.Row.{Row}

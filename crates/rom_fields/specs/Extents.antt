@@ -1,4 +1,5 @@
 -- Extents: runs of bytes, each with what it belongs to, and the places where two of them overlap.
+-- (This project's own.)
 use Rattle.std.specs.Prelude.{◌≡◌, ℕ, zero, suc, ◌+◌, ◌<◌, ◌≤◌, ◌⊎◌, max, Bool, true, false, List, [], ◌∷◌, Option, IfSome, IsSomeAnd}
 use Rattle.rom_fields.specs.declared.span.Extent.{Extent}
 use Rattle.rom_fields.specs.declared.span.Extent.TheVariants.{Super, Record, List as ListOf, Table, Data}

@@ -1,4 +1,4 @@
--- How the count of a reader's or writer's failures moves. It stops at 2^64 - 1.
+-- How the count of a reader's or writer's failures moves. It stops at 2^64 - 1. (This project's own.)
 use Rattle.std.specs.Prelude.{ℕ, ◌+◌, ◌-◌, ◌^◌, ◌<◌, ◌≤◌, ◌≡◌, ◌⊎◌, min, if◌then◌else◌, ◌==◌, ◌&&◌, nat_lt, Result, Ok, Err, MatchResult}
 
 -- one more failure

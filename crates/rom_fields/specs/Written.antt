@@ -1,4 +1,4 @@
--- What was appended to a writer that may tell its bytes, and how texts join.
+-- What was appended to a writer that may tell its bytes, and how texts join. (This project's own.)
 use Rattle.std.specs.Prelude.{◌≡◌, ℕ, Bool, MatchBool, List, ◌++◌, Option, Result, MatchResult}
 use Rattle.std.specs.Io.KnownBytes.{Appends}
 use Rattle.rom_fields.specs.Failures.{Rose}

@@ -1,4 +1,4 @@
--- What the check of an image answers, by the trees that its format gives.
+-- What the check of an image answers, by the trees that its format gives. (This project's own.)
 use Rattle.rom_tree.specs.Tree.{Node}
 use Rattle.rom_faults.specs.declared.error.CheckError.{CheckError}
 use Rattle.rom_faults.specs.declared.error.CheckError.TheVariants.{OutOfMemory, Fault}

@@ -1,4 +1,5 @@
 -- What a stack of open directories has still to list. The last frame is that of the deepest directory.
+-- (This project's own.)
 use Rattle.std.specs.Prelude.{◌≡◌, ◌<◌, ℕ, suc, ◌+◌, ◌*◌, ◌≤◌, List, [], ◌∷◌, ◌++◌, length, Option, Some, None}
 use Rattle.std.specs.Borrow.{Bor}
 use Rattle.rom_fields.specs.Texts.{escaped}

@@ -1,4 +1,4 @@
--- What an image is to the layers above, and the answers of its calls.
+-- What an image is to the layers above, and the answers of its calls. (This project's own.)
 use Rattle.std.specs.Prelude.{◌≡◌, ℕ, ◌+◌, ◌≤◌, ◌<◌, true, false, List, length, slice_index, Option, Some, None, MatchOption, IsSomeAnd, IsSome, map, if◌then◌else◌}
 use Rattle.std.specs.Str.{bytes_eq}
 use Rattle.rom_tree.specs.declared.types.Stat.{Stat}

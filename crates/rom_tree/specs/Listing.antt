@@ -1,4 +1,4 @@
--- The list of a tree: a line for each name of a node, in preorder.
+-- The list of a tree: a line for each name of a node, in preorder. (This project's own.)
 use Rattle.std.specs.Prelude.{ℕ, List, [], ◌∷◌, ◌++◌, decimal, if◌then◌else◌}
 use Rattle.rom_fields.specs.Texts.{octal, escaped}
 use Rattle.rom_tree.specs.declared.types.Kind.{Kind}

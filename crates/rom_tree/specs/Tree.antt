@@ -1,5 +1,5 @@
 -- A tree of files: a node has its attributes and a body, and a directory's body is a list of names
--- with nodes.
+-- with nodes. (This project's own.)
 use Rattle.std.specs.Prelude.{◌≡◌, ℕ, zero, suc, ◌+◌, max, ◌==◌, Bool, true, false, List, [], ◌∷◌, ◌++◌, find, Option, Some, None}
 use Rattle.rom_tree.specs.declared.types.Kind.{Kind}
 use Rattle.rom_tree.specs.declared.types.Kind.TheVariants.{Directory, Regular, Symlink, Block, Character, Socket, Fifo}

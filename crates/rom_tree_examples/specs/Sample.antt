@@ -1,4 +1,4 @@
--- A small tree with a node of each kind.
+-- A small tree with a node of each kind. (This project's own.)
 use Rattle.std.specs.Prelude.{◌≡◌, ℕ, List, [], ◌∷◌, Option, MatchOption}
 use Rattle.rom_tree.specs.declared.types.Run.{Run}
 use Rattle.rom_tree.specs.Tree.{Node, node, directory, regular, symlink, block, character, socket, fifo, Entries, no_entries, entry, Attributes, row_from}

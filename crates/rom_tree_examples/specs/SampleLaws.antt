@@ -1,4 +1,4 @@
--- The laws of the sample, and what its numbers name.
+-- The laws of the sample, and what its numbers name. (This project's own.)
 use Rattle.std.proofs.Common.{◌≡◌, ℕ, ◌+◌, ◌<◌, ◌≤◌, true, false, [], length, Some, refl, arith}
 use Rattle.std.specs.Prelude.{slice_index}
 use Rattle.rom_tree.specs.Tree.{Node, is_device, attributes_of, row_from, ino_of, is_link, places_of, nodes, node_at, IsIn, here, there, IsCoherent}

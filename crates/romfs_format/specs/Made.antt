@@ -1,4 +1,5 @@
 -- The tree of a checked image as a function of its bytes: b are the accessible ones, the root is at r, and there are no more than k records.
+-- (This project's own.)
 use Rattle.std.specs.Prelude.{◌≡◌, ◌≢◌, ℕ, zero, suc, ◌-◌, ◌^◌, ◌<◌, ◌≤◌, nat_lt, Bool, true, false, if◌then◌else◌, ◌==◌, List, length, Option, Some, None}
 use Rattle.romfs_format.specs.Record.{next_of, first_of, type_of, name_of, IsSound}
 use Rattle.record_walk.specs.Forest.{Forest, none, at, count, stands_in}

@@ -1,5 +1,6 @@
 -- What refers to what in a romfs image: a directory to the first record of its list, by its spec; a record to the one
 -- after it, by its next; the superblock to the root. A hard link's target is no reference.
+-- (Linux Documentation/filesystems/romfs.rst.)
 use Rattle.std.specs.Prelude.{◌≡◌, ℕ, Bool, true, if◌then◌else◌, ◌==◌, Option, None, Some, List}
 use Rattle.record_walk.specs.declared.reference.Reference.{Reference}
 use Rattle.record_walk.specs.References.{References}

@@ -1,5 +1,6 @@
 -- What is wrong with a romfs image as a whole. The tests stand in this order, and the first that fails is the image's
 -- fault: 2 Short and 3 Magic at 0, 4 Size at 8, 5 Sum at 12, 9 Root at 16 or at the root.
+-- (Linux Documentation/filesystems/romfs.rst.)
 use Rattle.std.specs.Prelude.{◌≡◌, ◌≢◌, ℕ, ◌+◌, ◌<◌, ◌≤◌, min, List, length, take, drop}
 use Rattle.rom_fields.specs.Words.{words_sum}
 use Rattle.rom_faults.specs.declared.fault.Fault.{Fault}

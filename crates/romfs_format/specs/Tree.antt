@@ -1,4 +1,5 @@
 -- The tree that a romfs image's bytes give, as a relation.
+-- (Linux Documentation/filesystems/romfs.rst. What is refused is this project's own.)
 use Rattle.std.specs.Prelude.{◌++◌, ◌≡◌, ◌≢◌, ℕ, zero, suc, ◌+◌, ◌-◌, ◌/◌, ◌%◌, ◌<◌, ◌≤◌, min, Bool, true, false, if◌then◌else◌, ◌==◌, List, [], ◌∷◌, length, take, drop, Option, Some, None}
 use Rattle.std.specs.List.{All, AllPairs, flat_map, list_any}
 use Rattle.rom_fields.specs.Words.{word_be, words_sum}
@@ -60,7 +61,8 @@ follow b all zero p = if type_of b p == 0 then None else Some p
 follow b all (suc n) p =
     if type_of b p == 0 then (if list_any (λ (x : Row). x.offset == spec_offset_of b p) all then follow b all n (spec_offset_of b p) else None) else Some p
 
--- where the record at p leads over at most n hard links, whatever stands there
+-- Where the record at p leads over at most n hard links, whatever stands there. In a tree it agrees with `follow`, which
+-- is defined only where each link leads to a record: a node is to be made of the bytes alone, with no list of records.
 unfoldable pub led : ℕ → List ℕ → ℕ → ℕ
 led zero b p = p
 led (suc n) b p = if type_of b (led n b p) == 0 then spec_offset_of b (led n b p) else led n b p

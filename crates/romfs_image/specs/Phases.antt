@@ -1,4 +1,4 @@
--- What the later phases of the check look for among the records of a forest.
+-- What the later phases of the check look for among the records of a forest. (This project's own.)
 use Rattle.std.specs.Prelude.{◌≡◌, ◌≢◌, ℕ, ◌<◌, ◌≤◌, ◌==◌, Bool, true, false, length, slice_index, List, ◌∷◌, ◌++◌, None, Some}
 use Rattle.std.specs.List.{Any, list_any}
 use Rattle.rom_faults.specs.declared.fault.Fault.{Fault}

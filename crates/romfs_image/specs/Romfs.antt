@@ -1,4 +1,4 @@
--- What a checked romfs image is to the layers above.
+-- What a checked romfs image is to the layers above. (This project's own.)
 use Rattle.std.proofs.Common.{◌≡◌, ℕ, ◌≤◌, List, length, Some, refl}
 use Rattle.std.specs.Prelude.{◌-◌, Option, MatchOption}
 use Rattle.rom_tree.specs.declared.types.Run.{Run}

@@ -13,9 +13,9 @@ ghost use Rattle.romfs_image.specs.Phases.{AreOffsets, TellsRepeated, IsNameFaul
 
 use crate::accessible::Accessible;
 use crate::rows::{led_to, offsets_of};
+use record_walk::least::lesser_fault;
 use record_walk::listed::{ListedName, repeats};
 use record_walk::reference::Row;
-use record_walk::least::lesser_fault;
 use rom_faults::Fault;
 use rom_faults::fault::{DOT, DUPLICATE_NAME, HARD_LINK};
 use rom_fields::memory::OutOfMemory;

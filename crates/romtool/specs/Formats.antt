@@ -1,4 +1,4 @@
--- The name of a checked image's format.
+-- The name of a checked image's format. (This project's own.)
 use Rattle.std.specs.Prelude.{ℕ, List, codes}
 use Rattle.cramfs_format.specs.declared.order.Order.{Order}
 use Rattle.cramfs_format.specs.declared.order.Order.TheVariants.{Little, Big}
