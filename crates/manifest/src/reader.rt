@@ -21,12 +21,13 @@ use rom_fields::memory::OutOfMemory;
 use std::alloc::Global;
 use std::collections::BTreeMap;
 
+/// The alignments that a `file` line may ask for, in bytes.
 const ALIGNMENTS: [u32; 15] = [
     4, 8, 16, 32, 64, 128, 256, 512, 1024, 2048, 4096, 8192, 16384, 32768, 65536,
 ];
 
 /// What the path of an earlier line leads to.
-#[derive(Clone, Copy, PartialEq, Eq)]
+#[derive(Clone, Copy)]
 pub enum Reached {
     Directory,
     RegularFile,
@@ -63,24 +64,28 @@ fn is_bad_text(line: &Line) -> bool
     }
 }
 
+/// Whether a path leads to a directory.
 fn is_directory(reached: Option<Reached>) -> bool
     ensures { result ≡ to_directory reached }
 {
     matches!(reached, Some(Reached::Directory))
 }
 
+/// Whether a path leads to a regular file.
 fn is_regular_file(reached: Option<Reached>) -> bool
     ensures { result ≡ to_regular_file reached }
 {
     matches!(reached, Some(Reached::RegularFile))
 }
 
+/// Whether a path leads to a file that is no directory.
 fn is_no_directory(reached: Option<Reached>) -> bool
     ensures { result ≡ to_no_directory reached }
 {
     matches!(reached, Some(Reached::RegularFile | Reached::Other))
 }
 
+/// A fault as an answer.
 fn bad(line: u64, number: u32) -> ManifestError
     ensures { result ≡ Bad line number }
 {

@@ -1,5 +1,5 @@
 use crate::error::{BAD_ALIGN, BAD_NUMBER, BAD_PATH, BAD_TARGET, BAD_WORD, EXISTS, NO_PARENT};
-use crate::{Line, ManifestError, Word, name, parse};
+use crate::{Line, ManifestError, Name, Word, name, parse};
 use rom_fields::memory::OutOfMemory;
 use std::alloc::{AllocError, Global};
 use std::test::Fail;
@@ -136,6 +136,13 @@ fn sources_stand_in_order(rt: HostRuntime) -> Result<(), Fail> {
     for (source, want) in sources.iter().zip([b"two", b"one", b"two"]) {
         assert_eq!(rt; source.as_bytes(), want.as_slice());
     }
+    Ok(())
+}
+
+#[test]
+fn a_name_gives_its_bytes_back(rt: HostRuntime) -> Result<(), Fail> {
+    let name: Name = b"a b".to_vec(rt.alloc())?.into();
+    assert_eq!(rt; name.into_bytes().as_slice(), b"a b".as_slice());
     Ok(())
 }
 
