@@ -175,6 +175,14 @@ pub const EMPTY_CRAMFS: &[u8; 76] = b"\
     \0\0\0\0\0\0\0\0\0\0\0\0\0\0\0\0\
     \xed\x41\0\0\0\0\0\0\0\0\0\0";
 
+/// The same image in big-endian order.
+pub const EMPTY_BIG_CRAMFS: &[u8; 76] = b"\
+    \x28\xcd\x3d\x45\0\0\0\0\0\0\x08\x02\0\0\0\0\
+    Compressed ROMFS\
+    \0\0\0\0\0\0\0\0\0\0\0\0\0\0\0\0\
+    \0\0\0\0\0\0\0\0\0\0\0\0\0\0\0\0\
+    \x41\xed\0\0\0\0\0\0\0\0\0\0";
+
 /// The front of a cramfs image with the file `f` at 76: 4096 bytes `a` at 4096, as many `b` at
 /// 12288, and `c` at 16384.
 pub const SPLIT_BLOCKS: &[u8; 104] = b"\

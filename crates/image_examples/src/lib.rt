@@ -6,6 +6,8 @@
 //! not in the crates below, since they go through several of them.
 #![tactic(auto)]
 
+#[cfg(test)]
+mod checked;
 mod images;
 #[cfg(test)]
 mod mounted;
@@ -17,6 +19,6 @@ mod sessions;
 mod walked;
 
 pub use images::{
-    ADJOINING_BLOCKS, EMPTY_CRAMFS, HELLO, LINK_AND_DEVICE, LINK_CHAIN, LINKS_AND_DOTS,
-    SPLIT_BLOCKS, WHOLE_BLOCKS,
+    ADJOINING_BLOCKS, EMPTY_BIG_CRAMFS, EMPTY_CRAMFS, HELLO, LINK_AND_DEVICE, LINK_CHAIN,
+    LINKS_AND_DOTS, SPLIT_BLOCKS, WHOLE_BLOCKS,
 };
