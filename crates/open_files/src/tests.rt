@@ -45,10 +45,16 @@ fn files_of_the_sample(rt: HostRuntime) -> Result<(), Fail> {
 fn one_sample(rt: HostRuntime) -> Result<(), Fail> {
     let mut image = Sample;
     let mut slots: Slots<1> = Slots::new();
-    assert_eq!(rt; one_image::open(&mut image, &mut slots, b"/bin/sh"), Ok(Fd(0)));
+    assert_eq!(rt;
+        one_image::open(&mut image, &mut slots, b"/bin/sh"),
+        Ok(Fd(0))
+    );
     assert_eq!(rt; one_image::seek(&image, &mut slots, Fd(0), 1), Ok(()));
     one_image::close_all(&image, &mut slots);
-    assert_eq!(rt; one_image::close(&image, &mut slots, Fd(0)), Err(CallError::Ebadf));
+    assert_eq!(rt;
+        one_image::close(&image, &mut slots, Fd(0)),
+        Err(CallError::Ebadf)
+    );
     Ok(())
 }
 
