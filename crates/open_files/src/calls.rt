@@ -20,8 +20,8 @@ pub(crate) fn stat<'a, T: TreeImage<'a>, I: Images<'a, T>>(
     image: u32,
     node: NodeId,
 ) -> (u32, Stat)
-    requires { (x : I.Spot) × ((I.view images.now).place image node.0 ≡ Some x) }
-    ensures { (x : I.Spot) → (I.view images.now).place image node.0 ≡ Some x
+    requires { (x : I.Place) × ((I.view images.now).place image node.0 ≡ Some x) }
+    ensures { (x : I.Place) → (I.view images.now).place image node.0 ≡ Some x
         → labelled (I.view images.now).label (λ s. s) result
         ≡ ((I.view images.now).number x, stat_of ((I.view images.now).names.node x)) }
 {
@@ -34,8 +34,8 @@ pub(crate) fn readlink<'a, T: TreeImage<'a>, I: Images<'a, T>>(
     image: u32,
     node: NodeId,
 ) -> Result<(u32, Piece<'a>), CallError>
-    requires { (x : I.Spot) × ((I.view images.now).place image node.0 ≡ Some x) }
-    ensures { (x : I.Spot) (t : Table I.Spot) → (I.view images.now).place image node.0 ≡ Some x
+    requires { (x : I.Place) × ((I.view images.now).place image node.0 ≡ Some x) }
+    ensures { (x : I.Place) (t : Table I.Place) → (I.view images.now).place image node.0 ≡ Some x
         → read_link ((I.view images.now).number x) ((I.view images.now).names.bytes x) t
         ((I.view images.now).names.node x) (is_link ((I.view images.now).names.node x))
         ≡ answer (viewed (labelled (I.view images.now).label lent_by) result) t }
@@ -54,10 +54,10 @@ pub(crate) fn open<'a, T: TreeImage<'a>, I: Images<'a, T>, const N: usize>(
     image: u32,
     node: NodeId,
 ) -> Result<Fd, CallError>
-    requires place { (x : I.Spot) × ((I.view images.now).place image node.0 ≡ Some x) }
+    requires place { (x : I.Place) × ((I.view images.now).place image node.0 ≡ Some x) }
     requires sound { are_sound (I.view images.now) slots.old.slots ≡ true }
     requires narrow { N ≤ 65536 }
-    ensures reply { (x : I.Spot) → (I.view images.now).place image node.0 ≡ Some x
+    ensures reply { (x : I.Place) → (I.view images.now).place image node.0 ≡ Some x
         → open_place (table_of (I.view images.now) slots.old.slots) x
         (is_directory ((I.view images.now).names.node x) || is_regular
         ((I.view images.now).names.node x))

@@ -11,9 +11,9 @@ use rom_tree::image::{TreeImage, Viewed};
 /// What is served as images.
 pub(crate) trait Served {
     // The places to which names lead.
-    ghost Spot: { Type 0 };
+    ghost Place: { Type 0 };
     // Where names lead, and what numbers stand for.
-    ghost view: { Self → View Self.Spot };
+    ghost view: { Self → View Self.Place };
 }
 
 /// Images that are reached by their numbers.
@@ -31,7 +31,7 @@ pub(crate) struct One<'s, T> {
 }
 
 impl<'s, T: Viewed> Served for One<'s, T> {
-    ghost Spot = { Node };
+    ghost Place = { Node };
 
     ghost view = { λ s. image_view (T.image s.image.now) };
 }
@@ -58,7 +58,7 @@ pub(crate) struct Several<'s, T> {
 }
 
 impl<'s, T: Viewed> Served for Several<'s, T> {
-    ghost Spot = { GraftNode };
+    ghost Place = { GraftNode };
 
     ghost view = { λ s. graft_view (map T.image s.images.now.items) s.mounts.now.items };
 }

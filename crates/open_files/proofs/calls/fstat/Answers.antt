@@ -13,7 +13,7 @@ use Rattle.open_files.proofs.calls.fstat.Goals as goal
 
 pub returns-in_err-opened : goal.returns-in_err-opened
 returns-in_err-opened g c =
-    let v : View g.I.Served.Spot = g.I.Served.view c.args.images.now in
+    let v : View g.I.Served.Place = g.I.Served.view c.args.images.now in
     let slots : List (Option OpenNode) = c.args.slots.now.slots in
     let f : Option ℕ → List ℕ → Node → ℕ → Outcome (Of Stat) = λ i b x p. fstat_on i x p in
     let h : Result (ℕ × Stat) CallError → Result (Of Stat) CallError = λ r. viewed (labelled v.label (λ s. s)) r in
@@ -22,7 +22,7 @@ returns-in_err-opened g c =
 
 pub image-requires : goal.image-requires
 image-requires g c κs =
-    let v : View g.I.Served.Spot = g.I.Served.view c.args.images.now in
+    let v : View g.I.Served.Place = g.I.Served.view c.args.images.now in
     let slots : List (Option OpenNode) = c.args.slots.now.slots in
     let s : OpenNode = c.in_ok-opened.opened in
     let k : HasOpen v slots c.args.fd.0 s = has_open v slots c.args.fd.0 s c.requires c.in_ok-opened.ensures.slot in
@@ -30,7 +30,7 @@ image-requires g c κs =
 
 pub fstat-stat-requires : goal.fstat-stat-requires
 fstat-stat-requires g c κs =
-    let v : View g.I.Served.Spot = g.I.Served.view c.args.images.now in
+    let v : View g.I.Served.Place = g.I.Served.view c.args.images.now in
     let slots : List (Option OpenNode) = c.args.slots.now.slots in
     let s : OpenNode = c.in_ok-opened.opened in
     let k : HasOpen v slots c.args.fd.0 s = has_open v slots c.args.fd.0 s c.requires c.in_ok-opened.ensures.slot in
@@ -41,7 +41,7 @@ fstat-stat-requires g c κs =
 
 pub returns : goal.returns
 returns g c =
-    let v : View g.I.Served.Spot = g.I.Served.view c.args.images.now in
+    let v : View g.I.Served.Place = g.I.Served.view c.args.images.now in
     let slots : List (Option OpenNode) = c.args.slots.now.slots in
     let f : Option ℕ → List ℕ → Node → ℕ → Outcome (Of Stat) = λ i b x p. fstat_on i x p in
     let h : Result (ℕ × Stat) CallError → Result (Of Stat) CallError = λ r. viewed (labelled v.label (λ s. s)) r in

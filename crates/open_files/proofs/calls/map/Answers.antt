@@ -13,7 +13,7 @@ use Rattle.open_files.proofs.calls.map.Goals as goal
 
 pub returns-in_err-opened : goal.returns-in_err-opened
 returns-in_err-opened g c =
-    let v : View g.I.Served.Spot = g.I.Served.view c.args.images.now in
+    let v : View g.I.Served.Place = g.I.Served.view c.args.images.now in
     let slots : List (Option OpenNode) = c.args.slots.now.slots in
     let f : Option ℕ → List ℕ → Node → ℕ → Outcome (Of Lent) = λ i b x p. map_on i b c.args.off c.args.len x p in
     let h : Result (ℕ × Piece) CallError → Result (Of Lent) CallError = λ r. viewed (labelled v.label lent_by) r in
@@ -22,7 +22,7 @@ returns-in_err-opened g c =
 
 pub image-requires : goal.image-requires
 image-requires g c κs =
-    let v : View g.I.Served.Spot = g.I.Served.view c.args.images.now in
+    let v : View g.I.Served.Place = g.I.Served.view c.args.images.now in
     let slots : List (Option OpenNode) = c.args.slots.now.slots in
     let s : OpenNode = c.in_ok-opened.opened in
     let k : HasOpen v slots c.args.fd.0 s = has_open v slots c.args.fd.0 s c.requires c.in_ok-opened.ensures.slot in
@@ -30,7 +30,7 @@ image-requires g c κs =
 
 pub map-requires : goal.map-requires
 map-requires g c κs =
-    let v : View g.I.Served.Spot = g.I.Served.view c.args.images.now in
+    let v : View g.I.Served.Place = g.I.Served.view c.args.images.now in
     let slots : List (Option OpenNode) = c.args.slots.now.slots in
     let s : OpenNode = c.in_ok-opened.opened in
     let k : HasOpen v slots c.args.fd.0 s = has_open v slots c.args.fd.0 s c.requires c.in_ok-opened.ensures.slot in
@@ -41,7 +41,7 @@ map-requires g c κs =
 
 pub returns-in_err-piece : goal.returns-in_err-piece
 returns-in_err-piece g c =
-    let v : View g.I.Served.Spot = g.I.Served.view c.args.images.now in
+    let v : View g.I.Served.Place = g.I.Served.view c.args.images.now in
     let slots : List (Option OpenNode) = c.args.slots.now.slots in
     let f : Option ℕ → List ℕ → Node → ℕ → Outcome (Of Lent) = λ i b x p. map_on i b c.args.off c.args.len x p in
     let h : Result (ℕ × Piece) CallError → Result (Of Lent) CallError = λ r. viewed (labelled v.label lent_by) r in
@@ -56,7 +56,7 @@ returns-in_err-piece g c =
 
 pub returns : goal.returns
 returns g c =
-    let v : View g.I.Served.Spot = g.I.Served.view c.args.images.now in
+    let v : View g.I.Served.Place = g.I.Served.view c.args.images.now in
     let slots : List (Option OpenNode) = c.args.slots.now.slots in
     let f : Option ℕ → List ℕ → Node → ℕ → Outcome (Of Lent) = λ i b x p. map_on i b c.args.off c.args.len x p in
     let h : Result (ℕ × Piece) CallError → Result (Of Lent) CallError = λ r. viewed (labelled v.label lent_by) r in

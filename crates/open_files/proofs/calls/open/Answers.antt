@@ -16,13 +16,13 @@ is_openable-requires g c κs =
 
 pub returns-in_default-clause-reply : goal.returns-in_default-clause-reply
 returns-in_default-clause-reply g c = λ x e.
-    let v : View g.I.Served.Spot = g.I.Served.view c.args.images.now in
+    let v : View g.I.Served.Place = g.I.Served.view c.args.images.now in
     let b : true ≡ (is_directory (v.names.node x) || is_regular (v.names.node x)) = sym c.if-not-is_openable.false ∙ c.is_openable.ensures (v.names.node x) (c.image.ensures.node c.args.node.0 x e) in
     open_full v c.args.slots.now.slots x (is_directory (v.names.node x) || is_regular (v.names.node x)) c.requires.sound (sym b) c.in_default.ensures.first
 
 pub returns-clause-reply : goal.returns-clause-reply
 returns-clause-reply g c = λ x e.
-    let v : View g.I.Served.Spot = g.I.Served.view c.args.images.now in
+    let v : View g.I.Served.Place = g.I.Served.view c.args.images.now in
     let m : Image = g.T.Viewed.image c.image.result.now in
     let i : IsImage v c.args.image m = c.image.ensures in
     let b : true ≡ (is_directory (v.names.node x) || is_regular (v.names.node x)) = sym c.if-not-is_openable.false ∙ c.is_openable.ensures (v.names.node x) (i.node c.args.node.0 x e) in
@@ -32,7 +32,7 @@ returns-clause-reply g c = λ x e.
 
 pub returns-clause-sound : goal.returns-clause-sound
 returns-clause-sound g c =
-    let v : View g.I.Served.Spot = g.I.Served.view c.args.images.now in
+    let v : View g.I.Served.Place = g.I.Served.view c.args.images.now in
     let m : Image = g.T.Viewed.image c.image.result.now in
     let i : IsImage v c.args.image m = c.image.ensures in
     let x = c.requires.place.0 in

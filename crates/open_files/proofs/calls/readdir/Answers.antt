@@ -14,7 +14,7 @@ use Rattle.open_files.proofs.calls.readdir.Goals as goal
 
 pub returns-in_err-opened-clause-reply : goal.returns-in_err-opened-clause-reply
 returns-in_err-opened-clause-reply g c =
-    let v : View g.I.Served.Spot = g.I.Served.view c.args.images.now in
+    let v : View g.I.Served.Place = g.I.Served.view c.args.images.now in
     let slots : List (Option OpenNode) = c.args.slots.now.slots in
     let f : Option ℕ → List ℕ → Node → ℕ → Outcome (Option (Of Named)) = λ i b x p. readdir_on i x p in
     let h : Result (Option (ℕ × Entry)) CallError → Result (Option (Of Named)) CallError = λ r. viewed (option_map (labelled v.label named_by)) r in
@@ -23,7 +23,7 @@ returns-in_err-opened-clause-reply g c =
 
 pub image-requires : goal.image-requires
 image-requires g c κs =
-    let v : View g.I.Served.Spot = g.I.Served.view c.args.images.now in
+    let v : View g.I.Served.Place = g.I.Served.view c.args.images.now in
     let slots : List (Option OpenNode) = c.args.slots.now.slots in
     let s : OpenNode = c.in_ok-opened.opened in
     let k : HasOpen v slots c.args.fd.0 s = has_open v slots c.args.fd.0 s c.requires c.in_ok-opened.ensures.slot in
@@ -31,7 +31,7 @@ image-requires g c κs =
 
 pub readdir-requires : goal.readdir-requires
 readdir-requires g c κs =
-    let v : View g.I.Served.Spot = g.I.Served.view c.args.images.now in
+    let v : View g.I.Served.Place = g.I.Served.view c.args.images.now in
     let slots : List (Option OpenNode) = c.args.slots.now.slots in
     let s : OpenNode = c.in_ok-opened.opened in
     let k : HasOpen v slots c.args.fd.0 s = has_open v slots c.args.fd.0 s c.requires c.in_ok-opened.ensures.slot in
@@ -42,7 +42,7 @@ readdir-requires g c κs =
 
 pub returns-in_err-entry-clause-reply : goal.returns-in_err-entry-clause-reply
 returns-in_err-entry-clause-reply g c =
-    let v : View g.I.Served.Spot = g.I.Served.view c.args.images.now in
+    let v : View g.I.Served.Place = g.I.Served.view c.args.images.now in
     let slots : List (Option OpenNode) = c.args.slots.now.slots in
     let f : Option ℕ → List ℕ → Node → ℕ → Outcome (Option (Of Named)) = λ i b x p. readdir_on i x p in
     let h : Result (Option (ℕ × Entry)) CallError → Result (Option (Of Named)) CallError = λ r. viewed (option_map (labelled v.label named_by)) r in
@@ -58,7 +58,7 @@ returns-in_err-entry-clause-reply g c =
 
 pub returns-in-None-clause-reply : goal.returns-in-None-clause-reply
 returns-in-None-clause-reply g c =
-    let v : View g.I.Served.Spot = g.I.Served.view c.args.images.now in
+    let v : View g.I.Served.Place = g.I.Served.view c.args.images.now in
     let slots : List (Option OpenNode) = c.args.slots.now.slots in
     let f : Option ℕ → List ℕ → Node → ℕ → Outcome (Option (Of Named)) = λ i b x p. readdir_on i x p in
     let h : Result (Option (ℕ × Entry)) CallError → Result (Option (Of Named)) CallError = λ r. viewed (option_map (labelled v.label named_by)) r in
@@ -72,7 +72,7 @@ returns-in-None-clause-reply g c =
 
 pub returns-in-None-clause-sound : goal.returns-in-None-clause-sound
 returns-in-None-clause-sound g c =
-    let v : View g.I.Served.Spot = g.I.Served.view c.args.images.now in
+    let v : View g.I.Served.Place = g.I.Served.view c.args.images.now in
     let slots : List (Option OpenNode) = c.args.slots.now.slots in
     let f : Option ℕ → List ℕ → Node → ℕ → Outcome (Option (Of Named)) = λ i b x p. readdir_on i x p in
     let h : Result (Option (ℕ × Entry)) CallError → Result (Option (Of Named)) CallError = λ r. viewed (option_map (labelled v.label named_by)) r in
@@ -86,7 +86,7 @@ returns-in-None-clause-sound g c =
 
 pub returns-in-Some-clause-reply : goal.returns-in-Some-clause-reply
 returns-in-Some-clause-reply g c =
-    let v : View g.I.Served.Spot = g.I.Served.view c.args.images.now in
+    let v : View g.I.Served.Place = g.I.Served.view c.args.images.now in
     let slots : List (Option OpenNode) = c.args.slots.now.slots in
     let f : Option ℕ → List ℕ → Node → ℕ → Outcome (Option (Of Named)) = λ i b x p. readdir_on i x p in
     let h : Result (Option (ℕ × Entry)) CallError → Result (Option (Of Named)) CallError = λ r. viewed (option_map (labelled v.label named_by)) r in
@@ -100,7 +100,7 @@ returns-in-Some-clause-reply g c =
 
 pub returns-in-Some-clause-sound : goal.returns-in-Some-clause-sound
 returns-in-Some-clause-sound g c =
-    let v : View g.I.Served.Spot = g.I.Served.view c.args.images.now in
+    let v : View g.I.Served.Place = g.I.Served.view c.args.images.now in
     let slots : List (Option OpenNode) = c.args.slots.now.slots in
     let f : Option ℕ → List ℕ → Node → ℕ → Outcome (Option (Of Named)) = λ i b x p. readdir_on i x p in
     let h : Result (Option (ℕ × Entry)) CallError → Result (Option (Of Named)) CallError = λ r. viewed (option_map (labelled v.label named_by)) r in
@@ -114,7 +114,7 @@ returns-in-Some-clause-sound g c =
 
 pub returns-in-Some-clause-cursor : goal.returns-in-Some-clause-cursor
 returns-in-Some-clause-cursor g c =
-    let v : View g.I.Served.Spot = g.I.Served.view c.args.images.now in
+    let v : View g.I.Served.Place = g.I.Served.view c.args.images.now in
     let slots : List (Option OpenNode) = c.args.slots.now.slots in
     let f : Option ℕ → List ℕ → Node → ℕ → Outcome (Option (Of Named)) = λ i b x p. readdir_on i x p in
     let s : OpenNode = c.in_ok-opened.opened in

@@ -12,7 +12,7 @@ use Rattle.open_files.proofs.calls.seek.Goals as goal
 
 pub returns-in_err-opened-clause-reply : goal.returns-in_err-opened-clause-reply
 returns-in_err-opened-clause-reply g c =
-    let v : View g.I.Served.Spot = g.I.Served.view c.args.images.now in
+    let v : View g.I.Served.Place = g.I.Served.view c.args.images.now in
     let slots : List (Option OpenNode) = c.args.slots.now.slots in
     let f : Option ℕ → List ℕ → Node → ℕ → Outcome (Unit {0}) = λ i b x p. seek_on c.args.position x p in
     let h : Result (Unit {0}) CallError → Result (Unit {0}) CallError = λ r. r in
@@ -21,7 +21,7 @@ returns-in_err-opened-clause-reply g c =
 
 pub image-requires : goal.image-requires
 image-requires g c κs =
-    let v : View g.I.Served.Spot = g.I.Served.view c.args.images.now in
+    let v : View g.I.Served.Place = g.I.Served.view c.args.images.now in
     let slots : List (Option OpenNode) = c.args.slots.now.slots in
     let s : OpenNode = c.in_ok-opened.opened in
     let k : HasOpen v slots c.args.fd.0 s = has_open v slots c.args.fd.0 s c.requires c.in_ok-opened.ensures.slot in
@@ -29,7 +29,7 @@ image-requires g c κs =
 
 pub seek-requires : goal.seek-requires
 seek-requires g c κs =
-    let v : View g.I.Served.Spot = g.I.Served.view c.args.images.now in
+    let v : View g.I.Served.Place = g.I.Served.view c.args.images.now in
     let slots : List (Option OpenNode) = c.args.slots.now.slots in
     let s : OpenNode = c.in_ok-opened.opened in
     let k : HasOpen v slots c.args.fd.0 s = has_open v slots c.args.fd.0 s c.requires c.in_ok-opened.ensures.slot in
@@ -40,7 +40,7 @@ seek-requires g c κs =
 
 pub returns-in_err-seek-clause-reply : goal.returns-in_err-seek-clause-reply
 returns-in_err-seek-clause-reply g c =
-    let v : View g.I.Served.Spot = g.I.Served.view c.args.images.now in
+    let v : View g.I.Served.Place = g.I.Served.view c.args.images.now in
     let slots : List (Option OpenNode) = c.args.slots.now.slots in
     let f : Option ℕ → List ℕ → Node → ℕ → Outcome (Unit {0}) = λ i b x p. seek_on c.args.position x p in
     let h : Result (Unit {0}) CallError → Result (Unit {0}) CallError = λ r. r in
@@ -56,7 +56,7 @@ returns-in_err-seek-clause-reply g c =
 
 pub returns-clause-reply : goal.returns-clause-reply
 returns-clause-reply g c =
-    let v : View g.I.Served.Spot = g.I.Served.view c.args.images.now in
+    let v : View g.I.Served.Place = g.I.Served.view c.args.images.now in
     let slots : List (Option OpenNode) = c.args.slots.now.slots in
     let f : Option ℕ → List ℕ → Node → ℕ → Outcome (Unit {0}) = λ i b x p. seek_on c.args.position x p in
     let h : Result (Unit {0}) CallError → Result (Unit {0}) CallError = λ r. r in
@@ -70,7 +70,7 @@ returns-clause-reply g c =
 
 pub returns-clause-sound : goal.returns-clause-sound
 returns-clause-sound g c =
-    let v : View g.I.Served.Spot = g.I.Served.view c.args.images.now in
+    let v : View g.I.Served.Place = g.I.Served.view c.args.images.now in
     let slots : List (Option OpenNode) = c.args.slots.now.slots in
     let f : Option ℕ → List ℕ → Node → ℕ → Outcome (Unit {0}) = λ i b x p. seek_on c.args.position x p in
     let h : Result (Unit {0}) CallError → Result (Unit {0}) CallError = λ r. r in
