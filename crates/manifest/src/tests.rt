@@ -80,6 +80,23 @@ const REFUSED: [(&[u8], u64, u32); 60] = [
     (b"hard /b a\n", 1, BAD_PATH),
 ];
 
+/// Texts that are manifests, each with the number of its lines.
+const TAKEN: [(&[u8], usize); 7] = [
+    (b"", 0),
+    (b"# one\n\n# two", 0),
+    (
+        b"dir /a 0755 0 0\nfile /a/b 0644 0 0 65536 s\ndir / 0700 0 0\n",
+        3,
+    ),
+    (b"dir /a 0755 0 0\ndir /a%2Fb 0755 4294967295 0\n", 2),
+    (
+        b"file /a 0644 0 0 4 s\nhard /b /a\nhard /c /b\nsame /d 0600 0 0 /c\n",
+        4,
+    ),
+    (b"slink /l 0777 0 0 x\nhard /h /l\n", 2),
+    (b"pipe /%zz 0644 0 0\npipe /... 0644 0 0\n", 2),
+];
+
 /// A line's number, word, path and text.
 const LINES: [(u64, Word, &[u8], &[u8]); 11] = [
     (3, Word::Dir, b"/", b""),
@@ -143,6 +160,15 @@ fn sources_stand_in_order(rt: HostRuntime) -> Result<(), Fail> {
 fn a_name_gives_its_bytes_back(rt: HostRuntime) -> Result<(), Fail> {
     let name: Name = b"a b".to_vec(rt.alloc())?.into();
     assert_eq!(rt; name.into_bytes().as_slice(), b"a b".as_slice());
+    Ok(())
+}
+
+#[test]
+fn manifests(rt: HostRuntime) -> Result<(), Fail> {
+    for (text, count) in TAKEN {
+        let manifest = parse(rt.alloc(), text)?;
+        assert_eq!(rt; manifest.lines().len(), count, "{text:?}");
+    }
     Ok(())
 }
 

@@ -12,8 +12,10 @@ use Rattle.manifest.specs.Lines.{ManifestLines, is_dir, line_at, led}
 use Rattle.manifest.specs.Grammar.{IsManifest, fault_of, has_parent, is_dir_line}
 use Rattle.manifest.proofs.Checked.{AreChecked, checked_lines, sound_place, leads}
 use Rattle.manifest.proofs.Named.{path_with_names, parent_named}
+use Rattle.rom_tree.specs.Tree.{Node}
+use Rattle.name_tree.specs.Meant.{IsMeant}
 use Rattle.name_tree.specs.Names.{Inode, Names, nothing}
-use Rattle.name_tree.specs.Shape.{file_under}
+use Rattle.name_tree.specs.Shape.{HasShape, file_value, file_under}
 use Rattle.name_tree.specs.Tree.{what_by, put_line, grown, tree_of, root_of, file_at, file_named, inode_of, names_eq, is_named}
 use Rattle.name_tree.proofs.Found.{Found, found, found_as, file_of, is_a_folder, is_parent, put_at_found}
 
@@ -250,3 +252,10 @@ law_of_names m sizes (k ∷ ks) h =
     ∙ tree_found m.lines sizes c.latest c.checked (have_files m sizes c.latest c.reversed c.checked) k ks)
     ∙ files_of m.lines sizes (line_named c.latest (k ∷ ks))
     ∙ ap (option_and_then (λ l. file_at m.lines sizes l.path)) (sym (line_alone c.latest c.checked k ks) ∙ ap (λ ls. line_named ls (k ∷ ks)) (sym c.reversed))
+
+pub meant : (image : List ℕ) (t : Node) (contents : List (List ℕ)) (m : ManifestLines) (sizes : List ℕ) → IsManifest m
+    → HasShape image t contents (root_of m.lines sizes) (tree_of m.lines sizes) → IsMeant image t contents m sizes
+meant image t contents m sizes h s = record {
+  values = λ q. s.values q ∙ ap (option_map (file_value contents)) (law_of_names m sizes q h);
+  shared = λ p q x y i j a b c d. s.shared p q x y i j a b (law_of_names m sizes p h ∙ c) (law_of_names m sizes q h ∙ d);
+}
