@@ -1,0 +1,111 @@
+#!/usr/bin/env python3
+"""Checks two small crates beside those of the repository, which lend a part of a file.
+
+    outlives.py
+
+In the one the image's bytes are the caller's, and it is proved. In the other they are gone when it
+returns, so that the part would outlive them: the borrow checker refuses it. (A must-fail edit cannot say
+so, for those reach the prover, and the borrow checker comes before it.)
+The last line is `N passed, M failed`, with `, K skipped` where `rt` is missing.
+"""
+
+import os
+import shutil
+import subprocess
+import sys
+import tempfile
+
+from harness import HERE, Counts
+
+TOP = os.path.join(HERE, "..")
+USED = ["rom_fields", "rom_faults", "rom_tree", "image_check", "open_files"]
+PROVED = "logic=proved"
+# The function's parameter, where its bytes come from, and what `rt check` says of it.
+CRATES = {
+    "part_of_bytes_that_stay": (", bytes: &'a [u8]", "", PROVED),
+    "part_of_bytes_that_are_gone": (
+        "",
+        "    let gone = [0u8; 144];\n    let bytes = gone.as_slice();\n",
+        "error[borrow-e0515]",
+    ),
+}
+SOURCE = """//! A part of a file in an image.
+#![tactic(auto)]
+
+use image_check::check;
+use open_files::Files;
+use rom_tree::types::{Limits, Piece};
+use std::alloc::Global;
+
+/// The first bytes of the file `a`.
+pub fn lent<'a>(alloc: Global%s) -> Option<Piece<'a>> {
+%s    let Ok(image) = check(alloc, bytes, Limits::usual()) else {
+        return None;
+    };
+    let mut files: Files<_, 4> = Files::new(image);
+    let Ok(fd) = files.open(b"/a") else {
+        return None;
+    };
+    let Ok(piece) = files.lend(fd, 5) else {
+        return None;
+    };
+    Some(piece)
+}
+"""
+
+
+def crates_and_uses():
+    """The crates of the repository, each with the libraries that it uses."""
+    with open(os.path.join(TOP, "crates.txt"), encoding="utf-8") as file:
+        lines = [line.split(":") for line in file if ":" in line and not line.startswith("#")]
+    return {name.strip(): uses.split() for name, uses in lines}
+
+
+def all_used(crates):
+    """The crates that these stand on, with all below them."""
+    out, left = [], list(USED)
+    while left:
+        name = left.pop()
+        if name in crates and name not in out:
+            out.append(name)
+            left += crates[name]
+    return out
+
+
+def lay_out(top):
+    """A repository of the crates that are used, with what was proved of them, and of the two."""
+    crates = crates_and_uses()
+    lines = []
+    for name in all_used(crates):
+        shutil.copytree(os.path.join(TOP, "crates", name), os.path.join(top, "crates", name))
+        lines.append("%s: %s\n" % (name, " ".join(crates[name])))
+    for name, (parameter, start, _) in CRATES.items():
+        os.makedirs(os.path.join(top, "crates", name, "src"))
+        with open(os.path.join(top, "crates", name, "src", "lib.rt"), "w", encoding="utf-8") as file:
+            file.write(SOURCE % (parameter, start))
+        lines.append("%s: %s\n" % (name, " ".join(USED)))
+    shutil.copy(os.path.join(TOP, "HANDLES"), top)
+    with open(os.path.join(top, "crates.txt"), "w", encoding="utf-8") as file:
+        file.writelines(lines)
+
+
+def main():
+    counts = Counts()
+    if not shutil.which("rt"):
+        counts.skips("outlives: rt is missing")
+        return counts.close()
+    with tempfile.TemporaryDirectory(prefix="romtool-") as top:
+        lay_out(top)
+        for name, (_, _, said) in CRATES.items():
+            folder = os.path.join(top, "crates", name)
+            done = subprocess.run(["rt", "check"], cwd=folder, capture_output=True, text=True)
+            told = done.stdout + done.stderr
+            if said in told and (done.returncode == 0) == (said == PROVED):
+                counts.passes()
+            else:
+                counts.fails(name, told.splitlines()[-20:])
+    return counts.close()
+
+
+if __name__ == "__main__":
+    sys.exit(main())
