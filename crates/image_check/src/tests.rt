@@ -82,6 +82,10 @@ fn neither_format(rt: HostRuntime) -> Result<(), Fail> {
     );
     assert_eq!(rt;
         check(rt.alloc(), &[0x28, 0xcd, 0x3d, 0x45, 0, 0, 0, 0], usual).err(),
+        Some(short)
+    );
+    assert_eq!(rt;
+        check(rt.alloc(), &[0x28, 0xcd, 0x3d, 0x46, 0, 0, 0, 0], usual).err(),
         Some(magic)
     );
     Ok(())
