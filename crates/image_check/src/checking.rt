@@ -45,10 +45,11 @@ fn is_cramfs(bytes: &[u8]) -> bool
 }
 
 /// The image of these bytes, where they hold the tree of a romfs image, or of a cramfs image in
-/// either byte order, within the limits (a depth limit above 64 counts as 64), which is where they have no fault of the
-/// format that their first bytes name; else the least of these faults, by phases. Bytes that name no
-/// format have fault 2 where they are fewer than 8, else fault 3, at 0. `OutOfMemory` where memory is
-/// refused; what it takes, and in what time, the formats' own checks say.
+/// either byte order, within the limits (a depth limit above 64 counts as 64), which is where they
+/// have no fault of the format that their first bytes name; else the least of these faults, by
+/// phases. Bytes that name no format have fault 2 where they are fewer than 8, else fault 3, at 0.
+/// `OutOfMemory` where memory is refused; what it takes, and in what time, the formats' own checks
+/// say.
 pub fn check<'a>(alloc: Global, bytes: &'a [u8], limits: Limits) -> Result<AnyImage<'a>, CheckError>
     ensures ok { IfOk result (λ v. Shows bytes.now limits (any_view v) (report_of v)) }
     ensures fault { IfErr result (IsRefused bytes.now limits) }

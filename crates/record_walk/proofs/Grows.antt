@@ -1,4 +1,4 @@
--- How the references that a walk has still to look at stand to the rows that it will find.
+-- How the references that a traversal has still to look at stand to the rows that it will find.
 use Rattle.std.proofs.Common.{◌≡◌, ◌+◌, ℕ, List, [], ◌∷◌, ◌++◌, refl, sym, ap, ◌∙◌, append_assoc, reverse, None, Some}
 use Rattle.std.proofs.lemmas.List.{append-nil, reverse-append}
 use Rattle.record_walk.specs.declared.reference.Reference.{Reference}

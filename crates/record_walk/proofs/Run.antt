@@ -27,7 +27,7 @@ pub live_some : (t : Option ℕ) → IsSome t → (p : ℕ) × (t ≡ Some p)
 live_some None h = absurd (false≢true h)
 live_some (Some p) h = (p, refl)
 
--- what a walk would do, for at most n steps
+-- what a traversal would do, for at most n steps
 run : (n : ℕ) {g : References} {Sound : Reference → Type 0} (most : ℕ) → AreLawful g Sound → IsClean g Sound most → (count : ℕ) (found : List Row) (pending : List Pending)
     → Whole g Sound Faultless most found pending count None None → 2 * (most - count) + length pending ≤ n → (f : Forest) × IsForest g Sound most f
 run n most lawful clean count found [] w fuel = let d = whole_done w refl refl in (d.0, d.2)

@@ -1,4 +1,4 @@
--- The references that a walk has looked at, and those that it has still to look at.
+-- The references that a traversal has looked at, and those that it has still to look at.
 use Rattle.std.proofs.Common.{◌≡◌, ◌≢◌, ℕ, Bool, true, false, List, [], ◌∷◌, ◌++◌, ◌⊎◌, inl, inr, refl, sym, subst, ◌∙◌, append_assoc, Option, None, Some, IsSome}
 use Rattle.std.proofs.lemmas.List.{append-nil}
 use Rattle.std.proofs.lemmas.Bool.{true≢false, false≢true}

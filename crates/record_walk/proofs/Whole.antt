@@ -1,4 +1,4 @@
--- All that a walk keeps, and what each of its steps makes of it.
+-- All that a traversal keeps, and what each of its steps makes of it.
 use Rattle.std.proofs.Common.{◌≡◌, ◌≢◌, ◌+◌, ◌<◌, ◌≤◌, ℕ, true, false, List, [], ◌∷◌, ◌++◌, length, ◌⊎◌, inl, inr, refl, sym, ap, subst, ◌∙◌, arith, length-append, Option, Some, None, IfSome, reverse}
 use Rattle.std.proofs.lemmas.List.{nil_from_length}
 use Rattle.std.proofs.lemmas.Bool.{false≢true}

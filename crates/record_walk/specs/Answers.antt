@@ -14,7 +14,7 @@ abbrev pub AnswersLeast : (Fault → Type 0) → (Fault → Type 0) → CheckErr
 AnswersLeast Whole Least OutOfMemory = IsNone Whole
 AnswersLeast Whole Least (FaultAnswer number at) = Least (record { number = number; at = at })
 
--- a refusal of the walk as an answer of the check: 1 TooMany at 0, a record's fault, 20 Twice
+-- a refusal of the traversal as an answer of the check: 1 TooMany at 0, a record's fault, 20 Twice
 abbrev pub traversal_answer : TraversalError → CheckError
 traversal_answer NoMemory = OutOfMemory
 traversal_answer TooMany = FaultAnswer TOO_MANY 0

@@ -1,4 +1,4 @@
--- The lesser of what a walk has noted and what it meets. (This project's own.)
+-- The lesser of what a traversal has noted and what it meets. (This project's own.)
 use Rattle.std.specs.Prelude.{ℕ, Option, None, Some, nat_lt, nat_le, ◌==◌, ◌||◌, ◌&&◌, if◌then◌else◌}
 use Rattle.rom_faults.specs.declared.fault.Fault.{Fault}
 

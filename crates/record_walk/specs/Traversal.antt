@@ -1,4 +1,4 @@
--- What a refusal of the walk says. (This project's own.)
+-- What a refusal of the traversal says. (This project's own.)
 use Rattle.std.specs.Prelude.{ℕ}
 use Rattle.record_walk.specs.declared.reference.Reference.{Reference}
 use Rattle.rom_faults.specs.declared.fault.Fault.{Fault}

@@ -1,4 +1,4 @@
-//! What a walk met, as a check of an image answers it.
+//! What a traversal met, as a check of an image answers it.
 ghost use Rattle.std.specs.Prelude.{◌≡◌};
 ghost use Rattle.record_walk.specs.Answers.{traversal_answer};
 
@@ -6,7 +6,7 @@ use crate::traversal::TraversalError;
 use rom_faults::CheckError;
 use rom_faults::fault::{TOO_MANY, TWICE};
 
-/// A refusal of the walk is answered by fault 1 at 0 where there are too many references, by a
+/// A refusal of the traversal is answered by fault 1 at 0 where there are too many references, by a
 /// record's own fault, and by fault 20 at a record to which two references lead.
 impl From<TraversalError> for CheckError {
     ghost from_gives = { λ error answer. answer ≡ traversal_answer error };

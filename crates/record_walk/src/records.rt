@@ -1,4 +1,4 @@
-//! The records of an image as a walk sees them.
+//! The records of an image as a traversal sees them.
 ghost use Rattle.std.specs.Prelude.{◌≡◌, ℕ, Option, Some, IfOk, IfErr};
 ghost use Rattle.record_walk.specs.declared.reference.Reference.{Reference};
 ghost use Rattle.rom_faults.specs.declared.fault.Fault.{Fault};

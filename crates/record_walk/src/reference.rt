@@ -25,7 +25,7 @@ pub struct Edges {
     pub after: Edge,
 }
 
-/// A record that a walk met: its offset, the reference that led there, the directory in whose
+/// A record that a traversal met: its offset, the reference that led there, the directory in whose
 /// list it stands, that directory's own directory, and how many names lead to it from the root.
 #[derive(Clone, Copy, Debug, PartialEq, Eq)]
 pub struct Row {

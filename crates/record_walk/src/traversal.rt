@@ -1,4 +1,4 @@
-//! The walk over the records of an image, from its root.
+//! The traversal of the records of an image, from its root.
 ghost use Rattle.std.specs.Prelude.{◌≡◌, ◌≢◌, ◌+◌, ◌^◌, ◌<◌, ◌≤◌, ℕ, Some, IfOk, IfErr, OnOk, List, [], ◌∷◌, ◌++◌};
 ghost use Rattle.rom_faults.specs.declared.fault.Fault.{Fault};
 ghost use Rattle.record_walk.specs.declared.traversal.TraversalError.TheVariants.{OutOfMemory};
@@ -16,7 +16,7 @@ use rom_faults::Fault;
 use std::alloc::{AllocFailed, Global};
 use std::collections::BTreeSet;
 
-/// Why a walk gave no records.
+/// Why a traversal gave no records.
 #[derive(Debug, Drop)]
 pub enum TraversalError {
     /// A growth was refused.
@@ -111,7 +111,7 @@ fn after_of(next: Pending, after: Edge) -> Pending
     }
 }
 
-/// What a walk begins with, where the record at `root` has these edges: the root's row, its
+/// What a traversal begins with, where the record at `root` has these edges: the root's row, its
 /// offset, and what follows from the superblock's reference.
 fn start(
     alloc: Global,
@@ -184,7 +184,7 @@ pub fn traverse<R: Records>(
     }
 }
 
-/// As `walk`, where the root is the sound record at `root` with these edges.
+/// As `traverse`, where the root is the sound record at `root` with these edges.
 fn traverse_below<R: Records>(
     alloc: Global,
     records: &R,
