@@ -57,11 +57,13 @@ pub record HasDepthFault (o : Order) (b : List ℕ) (most : ℕ) (e : Fault) : T
 -- link; none is empty
 pub data IsExtent (o : Order) (b : List ℕ) (s : Span) : Type 0 where
   superblock : s ≡ record { kind = Super; start = 0; len = 76 } → IsExtent o b s
-  list_of : {p : ℕ} → IsReached o b p → type_of o b p ≡ 4 → 0 < size_of o b p → s ≡ record { kind = ListOf; start = offset_of o b p; len = size_of o b p } → IsExtent o b s
+  list_of : {p : ℕ} → IsReached o b p → type_of o b p ≡ 4 → 0 < size_of o b p
+      → s ≡ record { kind = ListOf; start = offset_of o b p; len = size_of o b p } → IsExtent o b s
   table_of : {p : ℕ} → IsReached o b p → IsTrue (has_data (type_of o b p)) → 0 < size_of o b p
       → s ≡ record { kind = Table; start = offset_of o b p; len = 4 * block_count (size_of o b p) } → IsExtent o b s
   block_of : {p i : ℕ} → IsReached o b p → IsTrue (has_data (type_of o b p)) → i < block_count (size_of o b p)
-      → s ≡ record { kind = Data; start = block_start (word o b (offset_of o b p + 4 * i)); len = min 4096 (size_of o b p - 4096 * i) } → IsExtent o b s
+      → s ≡ record { kind = Data; start = block_start (word o b (offset_of o b p + 4 * i));
+      len = min 4096 (size_of o b p - 4096 * i) } → IsExtent o b s
 
 -- 22 Overlap at the greater start of two that overlap
 pub record HasExtentFault (o : Order) (b : List ℕ) (e : Fault) : Type 0 where
@@ -74,12 +76,15 @@ pub record HasExtentFault (o : Order) (b : List ℕ) (e : Fault) : Type 0 where
   pub at : e.at ≡ max one.start other.start
   pub number : e.number ≡ OVERLAP
 
--- 23 DupName, 24 Dot, 26 Unsorted, at an entry of a list; the last at a name that precedes the one before it, only where
--- the superblock says that lists are sorted
+-- 23 DupName, 24 Dot, 26 Unsorted, at an entry of a list; the last at a name that precedes the one before it, only
+-- where the superblock says that lists are sorted
 pub data HasNameFault (o : Order) (b : List ℕ) (e : Fault) : Type 0 where
-  repeated : {d p : ℕ} → ComesAfter o b d p e.at → name_of o b p ≡ name_of o b e.at → e.number ≡ DUPLICATE_NAME → HasNameFault o b e
-  dots : {d : ℕ} → IsListed o b d e.at → (name_of o b e.at ≡ dot) ⊎ (name_of o b e.at ≡ dot_dot) → e.number ≡ DOT → HasNameFault o b e
-  unsorted : {d p : ℕ} → is_sorted o b ≡ true → ComesNext o b d p e.at → precedes (name_of o b e.at) (name_of o b p) ≡ true → e.number ≡ UNSORTED → HasNameFault o b e
+  repeated : {d p : ℕ} → ComesAfter o b d p e.at → name_of o b p ≡ name_of o b e.at → e.number ≡ DUPLICATE_NAME
+      → HasNameFault o b e
+  dots : {d : ℕ} → IsListed o b d e.at → (name_of o b e.at ≡ dot) ⊎ (name_of o b e.at ≡ dot_dot) → e.number ≡ DOT
+      → HasNameFault o b e
+  unsorted : {d p : ℕ} → is_sorted o b ≡ true → ComesNext o b d p e.at
+      → precedes (name_of o b e.at) (name_of o b p) ≡ true → e.number ≡ UNSORTED → HasNameFault o b e
 
 -- 20 Twice at a record to which two references lead
 abbrev pub HasTwiceFault : Order → List ℕ → Fault → Type 0
@@ -107,12 +112,18 @@ pub record HasNoFault (o : Order) (bytes : List ℕ) (most deepest : ℕ) : Type
 pub data IsLeastPhaseFault (o : Order) (b : List ℕ) (deepest : ℕ) (e : Fault) : Type 0 where
   record_fault : IsLeastFault (HasReachedFault o b) e → IsLeastPhaseFault o b deepest e
   twice_fault : IsNone (HasReachedFault o b) → IsLeastFault (HasTwiceFault o b) e → IsLeastPhaseFault o b deepest e
-  depth_fault : IsNone (HasReachedFault o b) → IsNone (HasTwiceFault o b) → IsLeastFault (HasDepthFault o b (min deepest 64)) e → IsLeastPhaseFault o b deepest e
-  extent_fault : IsNone (HasReachedFault o b) → IsNone (HasTwiceFault o b) → IsNone (HasDepthFault o b (min deepest 64)) → IsLeastFault (HasExtentFault o b) e → IsLeastPhaseFault o b deepest e
-  name_fault : IsNone (HasReachedFault o b) → IsNone (HasTwiceFault o b) → IsNone (HasDepthFault o b (min deepest 64)) → IsNone (HasExtentFault o b) → IsLeastFault (HasNameFault o b) e → IsLeastPhaseFault o b deepest e
+  depth_fault : IsNone (HasReachedFault o b) → IsNone (HasTwiceFault o b)
+      → IsLeastFault (HasDepthFault o b (min deepest 64)) e → IsLeastPhaseFault o b deepest e
+  extent_fault : IsNone (HasReachedFault o b) → IsNone (HasTwiceFault o b)
+      → IsNone (HasDepthFault o b (min deepest 64)) → IsLeastFault (HasExtentFault o b) e
+      → IsLeastPhaseFault o b deepest e
+  name_fault : IsNone (HasReachedFault o b) → IsNone (HasTwiceFault o b) → IsNone (HasDepthFault o b (min deepest 64))
+      → IsNone (HasExtentFault o b) → IsLeastFault (HasNameFault o b) e → IsLeastPhaseFault o b deepest e
 
 -- The least fault of an image: the image's as a whole; else 1 TooMany at 0; else that of the first phase after it.
 pub data IsLeastImageFault (o : Order) (bytes : List ℕ) (most deepest : ℕ) (e : Fault) : Type 0 where
   whole : HasImageFault o bytes e → IsLeastImageFault o bytes most deepest e
-  many : IsNone (HasImageFault o bytes) → HasTooMany o (accessible o bytes) most → e ≡ record { number = TOO_MANY; at = 0 } → IsLeastImageFault o bytes most deepest e
-  phase : IsNone (HasImageFault o bytes) → (HasTooMany o (accessible o bytes) most → ⊥) → IsLeastPhaseFault o (accessible o bytes) deepest e → IsLeastImageFault o bytes most deepest e
+  many : IsNone (HasImageFault o bytes) → HasTooMany o (accessible o bytes) most
+      → e ≡ record { number = TOO_MANY; at = 0 } → IsLeastImageFault o bytes most deepest e
+  phase : IsNone (HasImageFault o bytes) → (HasTooMany o (accessible o bytes) most → ⊥)
+      → IsLeastPhaseFault o (accessible o bytes) deepest e → IsLeastImageFault o bytes most deepest e

@@ -129,7 +129,8 @@ pub record HasBody (o : Order) (b : List ℕ) (p : ℕ) : Type 0 where
   pub link_size : HasLinkSize o b p
   pub list : ListLies o b p
   pub table : TableLies o b p
-  pub plain : has_data (type_of o b p) ≡ true → (i : ℕ) → i < block_count (size_of o b p) → IsPlain o b (pointer_of o b p i)
+  pub plain : has_data (type_of o b p) ≡ true → (i : ℕ) → i < block_count (size_of o b p)
+      → IsPlain o b (pointer_of o b p i)
   pub blocks : has_data (type_of o b p) ≡ true → (i : ℕ) → i < block_count (size_of o b p) → BlockLies o b p i
 
 -- the inode at p and its name end where their list ends at e, or before
@@ -150,18 +151,24 @@ pub record IsSound (o : Order) (b : List ℕ) (e p : ℕ) : Type 0 where
 
 -- the faults of what the inode at p describes: 14 Kind, 15 LinkSize, 11 Bounds, 16 BlockKind
 pub data HasBodyFault (o : Order) (b : List ℕ) (p : ℕ) : Fault → Type 0 where
-  other_kind : {f : Fault} → f ≡ record { number = KIND; at = p } → is_kind (type_of o b p) ≡ false → HasBodyFault o b p f
-  link_size : {f : Fault} → f ≡ record { number = LINK_SIZE; at = p } → type_of o b p ≡ 10 → (size_of o b p ≡ 0) ⊎ (4095 < size_of o b p) → HasBodyFault o b p f
+  other_kind : {f : Fault} → f ≡ record { number = KIND; at = p } → is_kind (type_of o b p) ≡ false
+      → HasBodyFault o b p f
+  link_size : {f : Fault} → f ≡ record { number = LINK_SIZE; at = p } → type_of o b p ≡ 10
+      → (size_of o b p ≡ 0) ⊎ (4095 < size_of o b p) → HasBodyFault o b p f
   list_outside : {f : Fault} → f ≡ record { number = BOUNDS; at = p } → (ListLies o b p → ⊥) → HasBodyFault o b p f
   table_outside : {f : Fault} → f ≡ record { number = BOUNDS; at = p } → (TableLies o b p → ⊥) → HasBodyFault o b p f
-  other_block : {f : Fault} (i : ℕ) → f ≡ record { number = BLOCK_KIND; at = pointer_place o b p i } → has_data (type_of o b p) ≡ true → TableLies o b p
+  other_block : {f : Fault} (i : ℕ) → f ≡ record { number = BLOCK_KIND; at = pointer_place o b p i }
+      → has_data (type_of o b p) ≡ true → TableLies o b p
       → i < block_count (size_of o b p) → (IsPlain o b (pointer_of o b p i) → ⊥) → HasBodyFault o b p f
-  block_outside : {f : Fault} (i : ℕ) → f ≡ record { number = BOUNDS; at = pointer_place o b p i } → has_data (type_of o b p) ≡ true → TableLies o b p
-      → i < block_count (size_of o b p) → IsPlain o b (pointer_of o b p i) → (BlockLies o b p i → ⊥) → HasBodyFault o b p f
+  block_outside : {f : Fault} (i : ℕ) → f ≡ record { number = BOUNDS; at = pointer_place o b p i }
+      → has_data (type_of o b p) ≡ true → TableLies o b p
+      → i < block_count (size_of o b p) → IsPlain o b (pointer_of o b p i) → (BlockLies o b p i → ⊥)
+      → HasBodyFault o b p f
 
 -- The faults of the entry at p of a list that ends at e. One that does not fit, 17 ListEnd, has no other fault (this
 -- project's own). 13 is BadName.
 pub data HasEntryFault (o : Order) (b : List ℕ) (e p : ℕ) : Fault → Type 0 where
   past_end : {f : Fault} → f ≡ record { number = LIST_END; at = p } → (Fits o b e p → ⊥) → HasEntryFault o b e p f
-  bad_name : {f : Fault} → f ≡ record { number = BAD_NAME; at = p } → Fits o b e p → (IsName (name_of o b p) → ⊥) → HasEntryFault o b e p f
+  bad_name : {f : Fault} → f ≡ record { number = BAD_NAME; at = p } → Fits o b e p → (IsName (name_of o b p) → ⊥)
+      → HasEntryFault o b e p f
   bad_body : {f : Fault} → Fits o b e p → HasBodyFault o b p f → HasEntryFault o b e p f

@@ -11,12 +11,14 @@ use Rattle.cramfs_format.specs.Tree.{node_of, entries_at}
 -- from q on a list that ends at e stands in b: records one after the other, each with its own list
 abbrev pub StandsAt : Order → List ℕ → ℕ → ℕ → Forest → Type 0
 StandsAt o b e q none = e ≤ q
-StandsAt o b e q (at p own after) = (q < e) × (p ≡ q) × StandsAt o b (list_end o b p) (list_start o b p) own × StandsAt o b e (end_of o b p) after
+StandsAt o b e q (at p own after) =
+    (q < e) × (p ≡ q) × StandsAt o b (list_end o b p) (list_start o b p) own × StandsAt o b e (end_of o b p) after
 
 -- what stands from q on to the end e, to at most n records deep
 abbrev pub grow : ℕ → Order → List ℕ → ℕ → ℕ → Forest
 grow zero o b e q = none
-grow (suc n) o b e q = if nat_lt q e then at q (grow n o b (list_end o b q) (list_start o b q)) (grow n o b e (end_of o b q)) else none
+grow (suc n) o b e q =
+    if nat_lt q e then at q (grow n o b (list_end o b q) (list_start o b q)) (grow n o b e (end_of o b q)) else none
 
 -- the list of the directory at p
 unfoldable pub list_at : Order → List ℕ → ℕ → ℕ → Forest
@@ -30,7 +32,8 @@ made o b k p = node_of o b p (entries_at o b (list_at o b k p))
 abbrev pub ends_within : ℕ → Order → List ℕ → ℕ → ℕ → Bool
 ends_within zero o b e q = if nat_lt q e then false else true
 ends_within (suc k) o b e q =
-    if nat_lt q e then (if ends_within k o b (list_end o b q) (list_start o b q) then ends_within k o b e (end_of o b q) else false) else true
+    if nat_lt q e then (if ends_within k o b (list_end o b q) (list_start o b q)
+        then ends_within k o b e (end_of o b q) else false) else true
 
 -- what is known of a record: it lies among the bytes, and so does what it describes
 pub record IsGood (o : Order) (b : List ℕ) (p : ℕ) : Type 0 where
@@ -46,7 +49,8 @@ pub record IsCramfs (o : Order) (b : List ℕ) (k : ℕ) : Type 0 where
   pub root : HasBody o b root_place
   pub within : ends_within k o b (list_end o b root_place) (list_start o b root_place) ≡ true
   pub few : count (grow k o b (list_end o b root_place) (list_start o b root_place)) ≤ k
-  pub good : (p : ℕ) → stands_in (grow k o b (list_end o b root_place) (list_start o b root_place)) p ≡ true → IsGood o b p
+  pub good : (p : ℕ) → stands_in (grow k o b (list_end o b root_place) (list_start o b root_place)) p ≡ true
+      → IsGood o b p
   pub shallow : depth (made o b k root_place) ≤ 64
 
 -- one entry more

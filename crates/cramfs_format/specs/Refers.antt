@@ -16,7 +16,8 @@ root_place = 64
 -- source is the superblock.
 unfoldable pub reference_target : Order → List ℕ → Reference → Option ℕ
 reference_target o b x =
-    if x.source == 0 then (if x.which == root_place then Some root_place else None) else (if nat_lt x.which (list_end o b x.source) then Some x.which else None)
+    if x.source == 0 then (if x.which == root_place then Some root_place else None)
+        else (if nat_lt x.which (list_end o b x.source) then Some x.which else None)
 
 -- the references of the image whose accessible bytes are b
 abbrev pub references : Order → List ℕ → References
@@ -35,5 +36,6 @@ pub record LeadsToSound (o : Order) (b : List ℕ) (x : Reference) : Type 0 wher
 
 -- the record that x leads to has this fault; the root, a directory, can only have a list that does not lie where it may
 pub data LeadsToFault (o : Order) (b : List ℕ) (x : Reference) (f : Fault) : Type 0 where
-  root_list : x.source ≡ 0 → f ≡ record { number = BOUNDS; at = x.which } → (ListLies o b x.which → ⊥) → LeadsToFault o b x f
+  root_list : x.source ≡ 0 → f ≡ record { number = BOUNDS; at = x.which } → (ListLies o b x.which → ⊥)
+      → LeadsToFault o b x f
   of_entry : x.source ≢ 0 → HasEntryFault o b (list_end o b x.source) x.which f → LeadsToFault o b x f

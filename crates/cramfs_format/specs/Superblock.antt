@@ -66,7 +66,8 @@ HasSignature b = take 16 (drop 16 b) ≡ signature
 -- where the flag says so; one at 0 is empty
 pub record HasRoot (o : Order) (b : List ℕ) : Type 0 where
   pub directory : type_of o b root_place ≡ 4
-  pub begins : is_shifted o b ≡ false → (offset_of o b root_place ≡ 0) ⊎ ((offset_of o b root_place ≡ 76) ⊎ (offset_of o b root_place ≡ 588))
+  pub begins : is_shifted o b ≡ false → (offset_of o b root_place ≡ 0)
+      ⊎ ((offset_of o b root_place ≡ 76) ⊎ (offset_of o b root_place ≡ 588))
   pub empty : offset_of o b root_place ≡ 0 → size_of o b root_place ≡ 0
 
 -- The superblock is well formed, and b are the accessible bytes.
@@ -82,12 +83,19 @@ pub record IsSuperblock (o : Order) (bytes b : List ℕ) : Type 0 where
 
 pub data HasImageFault (o : Order) (bytes : List ℕ) : Fault → Type 0 where
   short : {e : Fault} → length bytes < 76 → e ≡ record { number = SHORT; at = 0 } → HasImageFault o bytes e
-  no_magic : {e : Fault} → 76 ≤ length bytes → word o bytes 0 ≢ magic → e ≡ record { number = MAGIC; at = 0 } → HasImageFault o bytes e
-  bad_size : {e : Fault} → 76 ≤ length bytes → word o bytes 0 ≡ magic → (HasSize o bytes → ⊥) → e ≡ record { number = SIZE; at = 4 } → HasImageFault o bytes e
-  bad_flags : {e : Fault} → 76 ≤ length bytes → word o bytes 0 ≡ magic → HasSize o bytes → (HasFlags o (accessible o bytes) → ⊥) → e ≡ record { number = FLAGS; at = 8 } → HasImageFault o bytes e
-  bad_crc : {e : Fault} → 76 ≤ length bytes → word o bytes 0 ≡ magic → HasSize o bytes → HasFlags o (accessible o bytes) → (HasCrc o (accessible o bytes) → ⊥)
+  no_magic : {e : Fault} → 76 ≤ length bytes → word o bytes 0 ≢ magic → e ≡ record { number = MAGIC; at = 0 }
+      → HasImageFault o bytes e
+  bad_size : {e : Fault} → 76 ≤ length bytes → word o bytes 0 ≡ magic → (HasSize o bytes → ⊥)
+      → e ≡ record { number = SIZE; at = 4 } → HasImageFault o bytes e
+  bad_flags : {e : Fault} → 76 ≤ length bytes → word o bytes 0 ≡ magic → HasSize o bytes
+      → (HasFlags o (accessible o bytes) → ⊥) → e ≡ record { number = FLAGS; at = 8 } → HasImageFault o bytes e
+  bad_crc : {e : Fault} → 76 ≤ length bytes → word o bytes 0 ≡ magic → HasSize o bytes
+      → HasFlags o (accessible o bytes) → (HasCrc o (accessible o bytes) → ⊥)
       → e ≡ record { number = CRC; at = 32 } → HasImageFault o bytes e
-  unsigned : {e : Fault} → 76 ≤ length bytes → word o bytes 0 ≡ magic → HasSize o bytes → HasFlags o (accessible o bytes) → HasCrc o (accessible o bytes)
+  unsigned : {e : Fault} → 76 ≤ length bytes → word o bytes 0 ≡ magic → HasSize o bytes
+      → HasFlags o (accessible o bytes) → HasCrc o (accessible o bytes)
       → (HasSignature (accessible o bytes) → ⊥) → e ≡ record { number = SIGNATURE; at = 16 } → HasImageFault o bytes e
-  bad_root : {e : Fault} → 76 ≤ length bytes → word o bytes 0 ≡ magic → HasSize o bytes → HasFlags o (accessible o bytes) → HasCrc o (accessible o bytes)
-      → HasSignature (accessible o bytes) → (HasRoot o (accessible o bytes) → ⊥) → e ≡ record { number = ROOT; at = root_place } → HasImageFault o bytes e
+  bad_root : {e : Fault} → 76 ≤ length bytes → word o bytes 0 ≡ magic → HasSize o bytes
+      → HasFlags o (accessible o bytes) → HasCrc o (accessible o bytes)
+      → HasSignature (accessible o bytes) → (HasRoot o (accessible o bytes) → ⊥)
+      → e ≡ record { number = ROOT; at = root_place } → HasImageFault o bytes e

@@ -18,11 +18,13 @@ use Rattle.cramfs_format.specs.Superblock.{IsSuperblock}
 
 -- the types of inodes by what they are
 abbrev pub kind_numbers : KindNumbers
-kind_numbers = record { of_directory = 4; of_regular = 8; of_symlink = 10; of_block = 6; of_character = 2; of_socket = 12 }
+kind_numbers =
+    record { of_directory = 4; of_regular = 8; of_symlink = 10; of_block = 6; of_character = 2; of_socket = 12 }
 
 -- one of seven things by the type of an inode
 abbrev pub by_type : {A : Type 0} → ℕ → A → A → A → A → A → A → A → A
-by_type t directory' regular' symlink' block' character' socket' fifo' = by_kind kind_numbers t directory' regular' symlink' block' character' socket' fifo'
+by_type t directory' regular' symlink' block' character' socket' fifo' =
+    by_kind kind_numbers t directory' regular' symlink' block' character' socket' fifo'
 
 abbrev pub kind_named : ℕ → Kind
 kind_named t = kind_by kind_numbers t
@@ -30,7 +32,8 @@ kind_named t = kind_by kind_numbers t
 -- the places of the bytes in k blocks one after the other, `size` bytes in all: their pointers stand from q on
 abbrev pub blocks_from : Order → List ℕ → ℕ → ℕ → ℕ → List ℕ
 blocks_from o b zero q size = []
-blocks_from o b (suc k) q size = row_from (block_start (word o b q)) (min 4096 size) ++ blocks_from o b k (q + 4) (size - 4096)
+blocks_from o b (suc k) q size =
+    row_from (block_start (word o b q)) (min 4096 size) ++ blocks_from o b k (q + 4) (size - 4096)
 
 -- the places of a file's or link's data
 unfoldable pub places_at : Order → List ℕ → ℕ → List ℕ
@@ -71,11 +74,13 @@ tree_of o b f = node_of o b root_place (entries_at o b (below_root f))
 -- the extents of k blocks of `size` bytes in all, their pointers from q on
 abbrev pub data_from : Order → List ℕ → ℕ → ℕ → ℕ → List Span
 data_from o b zero q size = []
-data_from o b (suc k) q size = added Data (block_start (word o b q)) (min 4096 size) ++ data_from o b k (q + 4) (size - 4096)
+data_from o b (suc k) q size =
+    added Data (block_start (word o b q)) (min 4096 size) ++ data_from o b k (q + 4) (size - 4096)
 
 -- the extents of a file or a link: its block pointers and its blocks
 unfoldable pub file_extents : Order → List ℕ → ℕ → List Span
-file_extents o b p = added Table (offset_of o b p) (4 * block_count (size_of o b p)) ++ data_from o b (block_count (size_of o b p)) (offset_of o b p) (size_of o b p)
+file_extents o b p = added Table (offset_of o b p) (4 * block_count (size_of o b p))
+    ++ data_from o b (block_count (size_of o b p)) (offset_of o b p) (size_of o b p)
 
 -- what a record takes beside its place in a list: a directory its own list, a file or a link its pointers and blocks
 abbrev pub row_extents : Order → List ℕ → Row → List Span

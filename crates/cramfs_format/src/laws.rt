@@ -9,16 +9,20 @@ ghost use Rattle.cramfs_format.specs.Tree.{CramfsTree, IsTree, tree_of};
 ghost use Rattle.cramfs_format.specs.Made.{IsCramfs, made};
 ghost use Rattle.rom_tree.specs.Tree.{Node};
 
-/// An image has at most one tree, in whatever byte order and under whatever limits; and the order is
-/// that in which it begins with the magic.
+/// An image has at most one tree, in whatever byte order and under whatever limits; and the order
+/// is that in which it begins with the magic.
 pub fn one_tree()
-    ensures tree { (o p : Order) (bytes : List ℕ) (m n d e : ℕ) (t u : Node) → CramfsTree o bytes m d t → CramfsTree p bytes n e u → t ≡ u }
-    ensures order { (o : Order) (bytes : List ℕ) (m d : ℕ) (t : Node) → CramfsTree o bytes m d t → o ≡ order_of bytes }
+    ensures tree { (o p : Order) (bytes : List ℕ) (m n d e : ℕ) (t u : Node)
+        → CramfsTree o bytes m d t → CramfsTree p bytes n e u → t ≡ u }
+    ensures order { (o : Order) (bytes : List ℕ) (m d : ℕ) (t : Node) → CramfsTree o bytes m d t
+        → o ≡ order_of bytes }
 {}
 
 /// The tree of an image is a function of its bytes and the number of its records; and what a reader
 /// needs to know of the records holds.
 pub fn made_of_bytes()
-    ensures { (o : Order) (b : List ℕ) (most deepest : ℕ) (f : Forest) → IsTree o b most deepest f → 76 ≤ length b → length b < 2 ^ 32 → type_of o b root_place ≡ 4
-        → IsCramfs o b (length (all_rows (references o b) f)) × (tree_of o b f ≡ made o b (length (all_rows (references o b) f)) root_place) }
+    ensures { (o : Order) (b : List ℕ) (most deepest : ℕ) (f : Forest) → IsTree o b most deepest f
+        → 76 ≤ length b → length b < 2 ^ 32 → type_of o b root_place ≡ 4
+        → IsCramfs o b (length (all_rows (references o b) f))
+        × (tree_of o b f ≡ made o b (length (all_rows (references o b) f)) root_place) }
 {}

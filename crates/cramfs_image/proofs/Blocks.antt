@@ -103,7 +103,8 @@ file_rest o b f l =
 abbrev pub no_file : File
 no_file = record { table = 0; size = 0 }
 
--- Of the first i files the extents are there, and those of the whole blocks of all pointers from the later tables up to `done`.
+-- Of the first i files the extents are there, and those of the whole blocks of all pointers from the later tables up to
+-- `done`.
 pub record Done (o : Order) (b : List ℕ) (files : List File) (i : ℕ) (base es : List Span) (done : ℕ) : Type 0 where
   pub more : List Span
   pub is : es ≡ base ++ more

@@ -18,7 +18,8 @@ list_part o b x = if type_of o b x.offset == 4 then added ListOf (offset_of o b 
 
 -- the row as a file or a link, if it is one
 abbrev pub file_part : Order → List ℕ → Row → List File
-file_part o b x = if has_data (type_of o b x.offset) then record { table = offset_of o b x.offset; size = size_of o b x.offset } ∷ [] else []
+file_part o b x = if has_data (type_of o b x.offset) then
+    record { table = offset_of o b x.offset; size = size_of o b x.offset } ∷ [] else []
 
 -- the extents of a file: its block pointers and its blocks
 abbrev pub spans_of : Order → List ℕ → File → List Span
@@ -30,7 +31,8 @@ pub record FileLies (o : Order) (b : List ℕ) (f : File) : Type 0 where
   pub low : f.table < 2 ^ 28
   pub small : f.size < 2 ^ 24
   pub table : 0 < f.size → f.table + 4 * block_count f.size ≤ length b
-  pub blocks : (i : ℕ) → i < block_count f.size → block_start (word o b (f.table + 4 * i)) + block_len f.size i ≤ length b
+  pub blocks : (i : ℕ) → i < block_count f.size
+      → block_start (word o b (f.table + 4 * i)) + block_len f.size i ≤ length b
 
 -- where the pointers to whole blocks end
 abbrev pub whole_end : ℕ → ℕ → ℕ
@@ -44,7 +46,8 @@ whole_blocks o b n q = data_from o b n q (4096 * n)
 abbrev pub file_added : Order → List ℕ → ℕ → ℕ → ℕ → List Span
 file_added o b table size done =
     added Table table (4 * block_count size)
-    ++ (whole_blocks o b ((whole_end table size - max table done) / 4) (max table done) ++ added Data (block_start (word o b (whole_end table size))) (size % 4096))
+    ++ (whole_blocks o b ((whole_end table size - max table done) / 4) (max table done)
+        ++ added Data (block_start (word o b (whole_end table size))) (size % 4096))
 
 -- the extents of the files were added, if not each as often as a file has it
 pub record AddsFiles (o : Order) (b : List ℕ) (files : List File) (old new : List Span) : Type 0 where

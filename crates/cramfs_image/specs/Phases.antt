@@ -18,7 +18,8 @@ pub data IsFaultAt (o : Order) (b : List ℕ) (p : ℕ) : ℕ → Type 0 where
   table_outside : {n : ℕ} → n ≡ BOUNDS → (TableLies o b p → ⊥) → IsFaultAt o b p n
   bad_name : {n : ℕ} → n ≡ BAD_NAME → (IsName (name_of o b p) → ⊥) → IsFaultAt o b p n
   other_kind : {n : ℕ} → n ≡ KIND → is_kind (type_of o b p) ≡ false → IsFaultAt o b p n
-  link_size : {n : ℕ} → n ≡ LINK_SIZE → type_of o b p ≡ 10 → (size_of o b p ≡ 0) ⊎ (4095 < size_of o b p) → IsFaultAt o b p n
+  link_size : {n : ℕ} → n ≡ LINK_SIZE → type_of o b p ≡ 10 → (size_of o b p ≡ 0) ⊎ (4095 < size_of o b p)
+      → IsFaultAt o b p n
 
 -- the n-th word is the pointer of a whole block that is read where it stands
 abbrev pub IsWhole : Order → List ℕ → ℕ → Type 0
@@ -26,10 +27,13 @@ IsWhole o b n = IsPlain o b (word o b (4 * n)) × Lies b (block_start (word o b 
 
 -- the faults that stand at block pointers of the inode at p: 16 BlockKind, 11 Bounds
 pub data IsPointerFault (o : Order) (b : List ℕ) (p : ℕ) (f : Fault) : Type 0 where
-  other_block : (i : ℕ) → f ≡ record { number = BLOCK_KIND; at = pointer_place o b p i } → has_data (type_of o b p) ≡ true → TableLies o b p
+  other_block : (i : ℕ) → f ≡ record { number = BLOCK_KIND; at = pointer_place o b p i }
+      → has_data (type_of o b p) ≡ true → TableLies o b p
       → i < block_count (size_of o b p) → (IsPlain o b (pointer_of o b p i) → ⊥) → IsPointerFault o b p f
-  block_outside : (i : ℕ) → f ≡ record { number = BOUNDS; at = pointer_place o b p i } → has_data (type_of o b p) ≡ true → TableLies o b p
-      → i < block_count (size_of o b p) → IsPlain o b (pointer_of o b p i) → (BlockLies o b p i → ⊥) → IsPointerFault o b p f
+  block_outside : (i : ℕ) → f ≡ record { number = BOUNDS; at = pointer_place o b p i }
+      → has_data (type_of o b p) ≡ true → TableLies o b p
+      → i < block_count (size_of o b p) → IsPlain o b (pointer_of o b p i) → (BlockLies o b p i → ⊥)
+      → IsPointerFault o b p f
 
 -- what can be read of a record: it lies among the bytes, and so does what it describes
 pub record IsRecord (o : Order) (b : List ℕ) (p : ℕ) : Type 0 where
@@ -45,7 +49,8 @@ IsShallow o b most before x = IsNoDot o b x → x.depth ≤ most
 
 -- an earlier row of the same list has the same name
 abbrev pub Repeats : Order → List ℕ → List Row → Row → Type 0
-Repeats o b before x = Any (λ (y : Row). (y.directory ≡ x.directory) × (name_of o b y.offset ≡ name_of o b x.offset)) before
+Repeats o b before x =
+    Any (λ (y : Row). (y.directory ≡ x.directory) × (name_of o b y.offset ≡ name_of o b x.offset)) before
 
 -- the name of the last of the rows that stands in the list of this directory
 abbrev pub last_name : Order → List ℕ → ℕ → Option (List ℕ) → List Row → Option (List ℕ)
@@ -59,10 +64,12 @@ name_seen (Some x) = Some x.now
 
 -- it comes before the name of the row just before it in its list, and lists are sorted
 abbrev pub IsUnsorted : Order → List ℕ → List Row → Row → Type 0
-IsUnsorted o b before x = (is_sorted o b ≡ true) × IsSomeAnd (last_name o b x.directory None before) (λ name. precedes (name_of o b x.offset) name ≡ true)
+IsUnsorted o b before x = (is_sorted o b ≡ true) × IsSomeAnd (last_name o b x.directory None before)
+    (λ name. precedes (name_of o b x.offset) name ≡ true)
 
 -- what is known of the rows before x: whether one of its list has its name, and the last name there
-pub record TellsEarlier (o : Order) (b : List ℕ) (before : List Row) (x : Row) (repeated : Bool) (last : Option (Bor (List ℕ))) : Type 0 where
+pub record TellsEarlier (o : Order) (b : List ℕ) (before : List Row) (x : Row) (repeated : Bool)
+    (last : Option (Bor (List ℕ))) : Type 0 where
   pub old : repeated ≡ true → Repeats o b before x
   pub new : repeated ≡ false → Repeats o b before x → ⊥
   pub last_is : name_seen last ≡ last_name o b x.directory None before
@@ -80,13 +87,19 @@ pub record IsWellNamed (o : Order) (b : List ℕ) (before : List Row) (x : Row) 
 
 -- no entry too deep, no overlap, and each name in its place; the root's row is the first
 pub record AreWell (o : Order) (b : List ℕ) (most : ℕ) (all : List Row) : Type 0 where
-  pub shallow : (before : List Row) (x : Row) (after : List Row) → drop 1 all ≡ before ++ x ∷ after → IsShallow o b most before x
+  pub shallow : (before : List Row) (x : Row) (after : List Row) → drop 1 all ≡ before ++ x ∷ after
+      → IsShallow o b most before x
   pub apart : (p : ℕ) → OverlapsAt (extents_of o b all) p → ⊥
-  pub named : (before : List Row) (x : Row) (after : List Row) → drop 1 all ≡ before ++ x ∷ after → IsWellNamed o b before x
+  pub named : (before : List Row) (x : Row) (after : List Row) → drop 1 all ≡ before ++ x ∷ after
+      → IsWellNamed o b before x
 
 -- the least fault of the first of these phases that has one
 pub data IsLaterFault (o : Order) (b : List ℕ) (most : ℕ) (all : List Row) (e : Fault) : Type 0 where
-  of_depth : IsLeastRowFault (IsShallow o b most) (IsTooDeep o b most) (drop 1 all) (Some e) → IsLaterFault o b most all e
-  of_overlap : IsLeastRowFault (IsShallow o b most) (IsTooDeep o b most) (drop 1 all) None → {p : ℕ} → IsLeastOf (OverlapsAt (extents_of o b all)) (Some p) → e ≡ record { number = OVERLAP; at = p } → IsLaterFault o b most all e
-  of_name : IsLeastRowFault (IsShallow o b most) (IsTooDeep o b most) (drop 1 all) None → IsLeastOf (OverlapsAt (extents_of o b all)) None
+  of_depth : IsLeastRowFault (IsShallow o b most) (IsTooDeep o b most) (drop 1 all) (Some e)
+      → IsLaterFault o b most all e
+  of_overlap : IsLeastRowFault (IsShallow o b most) (IsTooDeep o b most) (drop 1 all) None → {p : ℕ}
+      → IsLeastOf (OverlapsAt (extents_of o b all)) (Some p) → e ≡ record { number = OVERLAP; at = p }
+      → IsLaterFault o b most all e
+  of_name : IsLeastRowFault (IsShallow o b most) (IsTooDeep o b most) (drop 1 all) None
+      → IsLeastOf (OverlapsAt (extents_of o b all)) None
       → IsLeastRowFault (IsWellNamed o b) (IsNameFault o b) (drop 1 all) (Some e) → IsLaterFault o b most all e

@@ -1,4 +1,5 @@
-//! The accessible bytes of an image in their byte order, and its records as the traversal reads them.
+//! The accessible bytes of an image in their byte order, and its records as the traversal reads
+//! them.
 ghost use Rattle.std.specs.Prelude.{◌≡◌, ◌≢◌, ◌+◌, ◌<◌, ◌≤◌, ◌^◌, length, nat_lt, Some, None, if◌then◌else◌};
 ghost use Rattle.record_walk.specs.Faults.{IsLeastFault, IsLeastFaultOf};
 ghost use Rattle.cramfs_format.specs.Inode.{list_end};
@@ -41,7 +42,8 @@ fn fault_of(b: &Accessible<'_>, known: &mut Known, x: Reference) -> Option<Fault
     requires known { AreKnown (IsWhole b.now.order b.now.bytes.now) known.old }
     requires root { x.source ≡ 0 → x.which + 12 ≤ length b.now.bytes.now }
     requires source { x.source ≢ 0 → x.source + 12 ≤ length b.now.bytes.now }
-    requires end { x.source ≢ 0 → list_end b.now.order b.now.bytes.now x.source ≤ length b.now.bytes.now }
+    requires end { x.source ≢ 0 → list_end b.now.order b.now.bytes.now x.source
+        ≤ length b.now.bytes.now }
     ensures known { AreKnown (IsWhole b.now.order b.now.bytes.now) known.new }
     ensures least { IsLeastFaultOf (LeadsToFault b.now.order b.now.bytes.now x) result }
 {

@@ -37,7 +37,8 @@ fn is_too_deep(b: &Accessible<'_>, row: Row, most: u32) -> bool
 /// The least fault of an entry deeper than `most`, among rows other than the root's.
 pub fn least_too_deep(b: &Accessible<'_>, rows: &[Row], most: u32) -> Option<Fault>
     requires good { All (λ x. IsGood b.now.order b.now.bytes.now x.offset) rows.now }
-    ensures { IsLeastRowFault (IsShallow b.now.order b.now.bytes.now most) (IsTooDeep b.now.order b.now.bytes.now most) rows.now result }
+    ensures { IsLeastRowFault (IsShallow b.now.order b.now.bytes.now most)
+        (IsTooDeep b.now.order b.now.bytes.now most) rows.now result }
 {
     let mut noted: Option<Fault> = None;
     'rows: for row in rows {

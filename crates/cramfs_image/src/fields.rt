@@ -74,7 +74,8 @@ impl<'a> Accessible<'a> {
     }
 
     /// Where a list or the block pointers begin.
-    #[tactic(auto, unfolding(cramfs_format::specs::Inode::offset_of, cramfs_format::specs::Inode::list_start))]
+    #[tactic(auto, unfolding(cramfs_format::specs::Inode::offset_of,
+        cramfs_format::specs::Inode::list_start))]
     pub fn offset_at(&self, at: usize) -> u32
         requires { at + 12 ≤ length self.now.bytes.now }
         ensures offset { result ≡ offset_of self.now.order self.now.bytes.now at }
@@ -123,7 +124,8 @@ impl<'a> Accessible<'a> {
     /// How many bytes of contents a file or a link has; 0 for all else.
     pub fn file_len(&self, at: usize) -> u32
         requires { at + 12 ≤ length self.now.bytes.now }
-        ensures { result ≡ (if has_data (type_of self.now.order self.now.bytes.now at) then size_of self.now.order self.now.bytes.now at else 0) }
+        ensures { result ≡ (if has_data (type_of self.now.order self.now.bytes.now at)
+            then size_of self.now.order self.now.bytes.now at else 0) }
     {
         let kind = self.type_at(at);
         if kind == 8 || kind == 10 {

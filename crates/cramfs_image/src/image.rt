@@ -27,7 +27,8 @@ pub struct Cramfs<'a> {
 }
 
 impl Viewed for Cramfs<'_> {
-    ghost image = { λ s. cramfs_view s.accessible.order s.all.now s.accessible.bytes.now s.references s.sound s.within };
+    ghost image = { λ s. cramfs_view s.accessible.order s.all.now s.accessible.bytes.now
+        s.references s.sound s.within };
 }
 
 impl<'a> TreeImage<'a> for Cramfs<'a> {
@@ -106,8 +107,10 @@ impl<'a> TreeImage<'a> for Cramfs<'a> {
     /// The report stays as it is.
     fn lookup(&mut self, d: NodeId, name: &[u8]) -> Option<NodeId>
         requires { HasDirectory (⟦<Cramfs<'a> as Viewed>⟧.image self.old) d.0 }
-        ensures stays { ⟦<Cramfs<'a> as Viewed>⟧.image self.new ≡ ⟦<Cramfs<'a> as Viewed>⟧.image self.old }
-        ensures found { (x : Node) → image_node (⟦<Cramfs<'a> as Viewed>⟧.image self.old) d.0 ≡ Some x
+        ensures stays { ⟦<Cramfs<'a> as Viewed>⟧.image self.new
+            ≡ ⟦<Cramfs<'a> as Viewed>⟧.image self.old }
+        ensures found { (x : Node) → image_node (⟦<Cramfs<'a> as Viewed>⟧.image self.old) d.0
+            ≡ Some x
             → MatchOption result (find_entry (entries_of x) name.now ≡ None)
             (λ n. (y : Node) × (find_entry (entries_of x) name.now ≡ Some y) × (ino_of y ≡ n.0)) }
         ensures report { report_of self.new ≡ report_of self.old }
@@ -128,9 +131,11 @@ impl<'a> TreeImage<'a> for Cramfs<'a> {
         requires { HasNode (⟦<Cramfs<'a> as Viewed>⟧.image self.now) n.0 }
         ensures row { (x : Node) → image_node (⟦<Cramfs<'a> as Viewed>⟧.image self.now) n.0 ≡ Some x
             → GivesRun (places_of x) off result }
-        ensures whole { (x : Node) → image_node (⟦<Cramfs<'a> as Viewed>⟧.image self.now) n.0 ≡ Some x
+        ensures whole { (x : Node) → image_node (⟦<Cramfs<'a> as Viewed>⟧.image self.now) n.0
+            ≡ Some x
             → GivesWhole x off result }
-        ensures block { (x : Node) → image_node (⟦<Cramfs<'a> as Viewed>⟧.image self.now) n.0 ≡ Some x
+        ensures block { (x : Node) → image_node (⟦<Cramfs<'a> as Viewed>⟧.image self.now) n.0
+            ≡ Some x
             → GivesBlock (places_of x) off result }
     {
         let at = n.0 as usize;
@@ -169,7 +174,8 @@ impl<'a> Cramfs<'a> {
         requires few { length rows.now < 2 ^ 32 }
         requires tree { (f : Forest) × (rows.now ≡ all_rows (references b.order b.bytes.now) f)
             × IsTree b.order b.bytes.now limits.references limits.depth f }
-        ensures shows { Shows b.entry.order all.now limits (⟦<Cramfs<'a> as Viewed>⟧.image result) (report_of result) }
+        ensures shows { Shows b.entry.order all.now limits (⟦<Cramfs<'a> as Viewed>⟧.image result)
+            (report_of result) }
         ensures order { order_in result ≡ b.entry.order }
     {
         let depth = greatest_depth(rows);

@@ -54,8 +54,12 @@ fn has_sorted_lists(b: &Accessible<'_>) -> bool
 /// Whether a name comes before that of the row just before it in its list, where lists are sorted.
 fn is_unsorted(b: &Accessible<'_>, last: Option<&[u8]>, row: Row) -> bool
     requires row { IsGood b.now.order b.now.bytes.now row.offset }
-    ensures unsorted { (before : List Row) → name_seen last.entry ≡ last_name b.now.order b.now.bytes.now row.directory None before → OnTrue result (IsUnsorted b.now.order b.now.bytes.now before row) }
-    ensures sorted { (before : List Row) → name_seen last.entry ≡ last_name b.now.order b.now.bytes.now row.directory None before → OnFalse result (IsUnsorted b.now.order b.now.bytes.now before row → ⊥) }
+    ensures unsorted { (before : List Row) → name_seen last.entry
+        ≡ last_name b.now.order b.now.bytes.now row.directory None before
+        → OnTrue result (IsUnsorted b.now.order b.now.bytes.now before row) }
+    ensures sorted { (before : List Row) → name_seen last.entry
+        ≡ last_name b.now.order b.now.bytes.now row.directory None before
+        → OnFalse result (IsUnsorted b.now.order b.now.bytes.now before row → ⊥) }
 {
     if !has_sorted_lists(b) {
         return false;
@@ -73,8 +77,10 @@ fn is_unsorted(b: &Accessible<'_>, last: Option<&[u8]>, row: Row) -> bool
 /// them has the name in its list, and `last` is the name just before it there.
 fn name_fault(b: &Accessible<'_>, row: Row, repeated: bool, last: Option<&[u8]>) -> Option<u32>
     requires row { IsGood b.now.order b.now.bytes.now row.offset }
-    ensures well { (before : List Row) → TellsEarlier b.now.order b.now.bytes.now before row repeated last.entry → IfNone result (IsWellNamed b.now.order b.now.bytes.now before row) }
-    ensures fault { (before : List Row) → TellsEarlier b.now.order b.now.bytes.now before row repeated last.entry
+    ensures well { (before : List Row) → TellsEarlier b.now.order b.now.bytes.now before row
+        repeated last.entry → IfNone result (IsWellNamed b.now.order b.now.bytes.now before row) }
+    ensures fault { (before : List Row) → TellsEarlier b.now.order b.now.bytes.now before row
+        repeated last.entry
         → IfSome result (λ n. IsLeast (IsNameFault b.now.order b.now.bytes.now before row) n) }
 {
     if repeated {
@@ -117,7 +123,8 @@ pub fn least_name_fault(
     rows: &[Row],
 ) -> Result<Option<Fault>, OutOfMemory>
     requires good { All (λ x. IsGood b.now.order b.now.bytes.now x.offset) rows.now }
-    ensures { IfOk result (IsLeastRowFault (IsWellNamed b.now.order b.now.bytes.now) (IsNameFault b.now.order b.now.bytes.now) rows.now) }
+    ensures { IfOk result (IsLeastRowFault (IsWellNamed b.now.order b.now.bytes.now)
+        (IsNameFault b.now.order b.now.bytes.now) rows.now) }
 {
     let repeated = repeats(alloc, names_of(alloc, b, rows)?)?;
     let mut last_names: BTreeMap<u32, &[u8], Global> = BTreeMap::new(alloc);

@@ -35,8 +35,10 @@ fn add_blocks(
 ) -> Result<(), OutOfMemory>
     requires small { at + 4 * count < 2 ^ 32 }
     requires pointers { (i : ℕ) → i < count → at + 4 * i + 4 ≤ length b.now.bytes.now }
-    requires blocks { (i : ℕ) → i < count → block_start (word_of b.now.order b.now.bytes.now (at + 4 * i)) + 4096 < 2 ^ 32 }
-    ensures { OnOk result (extents.new ≡ extents.old ++ whole_blocks b.now.order b.now.bytes.now count at) }
+    requires blocks { (i : ℕ) → i < count
+        → block_start (word_of b.now.order b.now.bytes.now (at + 4 * i)) + 4096 < 2 ^ 32 }
+    ensures { OnOk result (extents.new ≡ extents.old
+        ++ whole_blocks b.now.order b.now.bytes.now count at) }
 {
     'pointers: for i in 0..count {
         let pointer = b.word((at + 4 * i) as usize);
@@ -56,7 +58,8 @@ fn add_file(
     requires lies { FileLies b.now.order b.now.bytes.now file }
     requires aligned { done % 4 ≡ 0 }
     requires low { done < 2 ^ 29 }
-    ensures extents { OnOk result (extents.new ≡ extents.old ++ file_added b.now.order b.now.bytes.now file.table file.size done) }
+    ensures extents { OnOk result (extents.new ≡ extents.old
+        ++ file_added b.now.order b.now.bytes.now file.table file.size done) }
     ensures done { IfOk result (λ d. d ≡ max done (whole_end file.table file.size)) }
 {
     let end = file.table + 4 * (file.size / 4_096);
@@ -75,7 +78,8 @@ fn add_file(
 fn add_files(extents: &mut Extents, b: &Accessible<'_>, files: &[File]) -> Result<(), OutOfMemory>
     requires lie { All (FileLies b.now.order b.now.bytes.now) files.now }
     requires sorted { IsNonDecreasingBy (λ (f : File). f.table) files.now }
-    ensures { OnOk result (AddsFiles b.now.order b.now.bytes.now files.now extents.old extents.new) }
+    ensures { OnOk result (AddsFiles b.now.order b.now.bytes.now files.now extents.old
+        extents.new) }
 {
     let mut done: u32 = 0;
     'files: for file in files {
@@ -88,7 +92,8 @@ fn add_files(extents: &mut Extents, b: &Accessible<'_>, files: &[File]) -> Resul
 fn file_at(b: &Accessible<'_>, at: usize) -> File
     requires record { IsRecord b.now.order b.now.bytes.now at }
     requires contents { has_data (type_of b.now.order b.now.bytes.now at) ≡ true }
-    ensures value { result ≡ record { table = offset_of b.now.order b.now.bytes.now at; size = size_of b.now.order b.now.bytes.now at } }
+    ensures value { result ≡ record { table = offset_of b.now.order b.now.bytes.now at;
+        size = size_of b.now.order b.now.bytes.now at } }
     ensures lies { FileLies b.now.order b.now.bytes.now result }
 {
     File {
@@ -105,9 +110,12 @@ fn add_row(
     row: Row,
 ) -> Result<(), OutOfMemory>
     requires record { IsRecord b.now.order b.now.bytes.now row.offset }
-    ensures extents { OnOk result (extents.new ≡ extents.old ++ list_part b.now.order b.now.bytes.now row) }
-    ensures files { OnOk result (files.new.items ≡ files.old.items ++ file_part b.now.order b.now.bytes.now row) }
-    ensures lie { Every (FileLies b.now.order b.now.bytes.now) (file_part b.now.order b.now.bytes.now row) }
+    ensures extents { OnOk result (extents.new ≡ extents.old
+        ++ list_part b.now.order b.now.bytes.now row) }
+    ensures files { OnOk result (files.new.items ≡ files.old.items
+        ++ file_part b.now.order b.now.bytes.now row) }
+    ensures lie { Every (FileLies b.now.order b.now.bytes.now)
+        (file_part b.now.order b.now.bytes.now row) }
 {
     let at = row.offset as usize;
     if b.type_at(at) == 4 {
@@ -127,7 +135,8 @@ pub fn least_overlap(
     rows: &[Row],
 ) -> Result<Option<u32>, OutOfMemory>
     requires records { All (λ x. IsRecord b.now.order b.now.bytes.now x.offset) rows.now }
-    ensures { IfOk result (IsLeastOf (OverlapsAt (extents_of b.now.order b.now.bytes.now rows.now))) }
+    ensures { IfOk result (IsLeastOf (OverlapsAt
+        (extents_of b.now.order b.now.bytes.now rows.now))) }
 {
     let mut extents = Extents::new(alloc);
     let mut files: Vec<File> = Vec::new(alloc);

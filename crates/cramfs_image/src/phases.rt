@@ -33,7 +33,8 @@ pub fn later_fault(
     requires records { All (λ x. IsRecord b.now.order b.now.bytes.now x.offset) rows.now }
     requires good { All (λ x. IsGood b.now.order b.now.bytes.now x.offset) (drop 1 rows.now) }
     requires some { 1 ≤ length rows.now }
-    ensures { IfOk result (λ o. MatchOption o (AreWell b.now.order b.now.bytes.now most rows.now) (IsLaterFault b.now.order b.now.bytes.now most rows.now)) }
+    ensures { IfOk result (λ o. MatchOption o (AreWell b.now.order b.now.bytes.now most rows.now)
+        (IsLaterFault b.now.order b.now.bytes.now most rows.now)) }
 {
     let below = below_root(rows);
     if let Some(fault) = least_too_deep(b, below, most) {

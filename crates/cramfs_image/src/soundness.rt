@@ -88,7 +88,8 @@ fn has_link_size(b: &Accessible<'_>, at: usize) -> bool
     requires { at + 12 ≤ length b.now.bytes.now }
     ensures fits { OnTrue result (HasLinkSize b.now.order b.now.bytes.now at) }
     ensures link { OnFalse result (type_of b.now.order b.now.bytes.now at ≡ 10) }
-    ensures size { OnFalse result ((size_of b.now.order b.now.bytes.now at ≡ 0) ⊎ (4095 < size_of b.now.order b.now.bytes.now at)) }
+    ensures size { OnFalse result ((size_of b.now.order b.now.bytes.now at ≡ 0)
+        ⊎ (4095 < size_of b.now.order b.now.bytes.now at)) }
 {
     if b.type_at(at) == 10 {
         let size = b.size_at(at);
@@ -151,8 +152,8 @@ fn is_whole(b: &Accessible<'_>, number: u32) -> bool
 /// are as soon looked at as looked up.
 const WORTH_KNOWING: u32 = 16;
 
-/// Up to where the words from `first` to `end`, counted in words, are pointers of whole blocks; it may
-/// be further. What is known is not looked at again.
+/// Up to where the words from `first` to `end`, counted in words, are pointers of whole blocks; it
+/// may be further. What is known is not looked at again.
 fn whole_up_to(b: &Accessible<'_>, known: &mut Known, first: u32, end: u32) -> u32
     requires words { 4 * end ≤ length b.now.bytes.now }
     requires known { AreKnown (IsWhole b.now.order b.now.bytes.now) known.old }
@@ -185,8 +186,10 @@ fn whole_pointers(b: &Accessible<'_>, known: &mut Known, table: u32, count: u32)
     requires known { AreKnown (IsWhole b.now.order b.now.bytes.now) known.old }
     ensures known { AreKnown (IsWhole b.now.order b.now.bytes.now) known.new }
     ensures few { result ≤ count }
-    ensures whole { (i : ℕ) → i < result → IsPlain b.now.order b.now.bytes.now (word_of b.now.order b.now.bytes.now (table + 4 * i))
-        × Lies b.now.bytes.now (block_start (word_of b.now.order b.now.bytes.now (table + 4 * i))) 4096 }
+    ensures whole { (i : ℕ) → i < result → IsPlain b.now.order b.now.bytes.now
+        (word_of b.now.order b.now.bytes.now (table + 4 * i))
+        × Lies b.now.bytes.now (block_start (word_of b.now.order b.now.bytes.now (table + 4 * i)))
+        4096 }
 {
     if count == 0 {
         return 0;

@@ -1,4 +1,5 @@
-//! The superblock of an image: which bytes are accessible, and what is wrong with the image as a whole.
+//! The superblock of an image: which bytes are accessible, and what is wrong with the image as a
+//! whole.
 ghost use Rattle.std.specs.Prelude.{◌≡◌, ◌≢◌, ◌≤◌, ◌<◌, ◌^◌, ◌↔◌, IsTrue, length, IfOk, IfErr, IfSome, SomeIff, option_copied};
 ghost use Rattle.std.specs.Bool.{OnTrue, OnFalse};
 ghost use Rattle.crc.specs.Crc.{crc_of};
@@ -41,7 +42,8 @@ fn order_at(bytes: &[u8]) -> Order
 #[tactic(auto, unfolding(cramfs_format::specs::Superblock::accessible_size))]
 fn accessible_bytes<'a>(order: Order, bytes: &'a [u8]) -> Option<&'a [u8]>
     requires { 76 ≤ length bytes.now }
-    ensures part { SomeIff (option_copied result) (HasSize order bytes.now) (accessible order bytes.now) }
+    ensures part { SomeIff (option_copied result) (HasSize order bytes.now)
+        (accessible order bytes.now) }
     ensures small { IfSome result (λ b. length b.now < 2 ^ 32) }
     ensures long { IfSome result (λ b. 76 ≤ length b.now) }
 {
@@ -107,8 +109,8 @@ fn has_root(b: &Accessible<'_>) -> bool
     true
 }
 
-/// The accessible bytes in this byte order, or the first fault of the image as a whole in that order,
-/// from its magic on.
+/// The accessible bytes in this byte order, or the first fault of the image as a whole in that
+/// order, from its magic on.
 fn read_in_order<'a>(order: Order, bytes: &'a [u8]) -> Result<Accessible<'a>, Fault>
     requires { 76 ≤ length bytes.now }
     ensures order { IfOk result (λ b. b.order ≡ order) }
@@ -155,8 +157,8 @@ fn read_in_order<'a>(order: Order, bytes: &'a [u8]) -> Result<Accessible<'a>, Fa
     Ok(b)
 }
 
-/// The accessible bytes in the order in which the image begins, or the first fault of the image as a
-/// whole: 2 Short, 3 Magic, 4 Size, 6 Flags, 7 Crc, 8 Signature, 9 Root.
+/// The accessible bytes in the order in which the image begins, or the first fault of the image as
+/// a whole: 2 Short, 3 Magic, 4 Size, 6 Flags, 7 Crc, 8 Signature, 9 Root.
 pub fn read_superblock<'a>(bytes: &'a [u8]) -> Result<Accessible<'a>, Fault>
     ensures order { IfOk result (λ b. b.order ≡ order_of bytes.now) }
     ensures ok { IfOk result (λ b. IsSuperblock b.order bytes.now b.bytes.now) }

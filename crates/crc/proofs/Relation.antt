@@ -1,5 +1,5 @@
--- x^300 is x^155 + x^117 + x^89 + 1 modulo the polynomial, and so are their eighth powers: a byte does to the remainder what
--- it does from 145, 183, 211 and 300 bytes later together.
+-- x^300 is x^155 + x^117 + x^89 + 1 modulo the polynomial, and so are their eighth powers: a byte does to the remainder
+-- what it does from 145, 183, 211 and 300 bytes later together.
 use Rattle.std.proofs.Common.{◌≡◌, ℕ, zero, suc, ◌+◌, ◌-◌, ◌*◌, ◌^◌, ◌<◌, ◌≤◌, inl, inr, refl, sym, ap, ◌∙◌, arith, subst, add-one}
 use Rattle.std.specs.Int.Bits.{bit_xor}
 use Rattle.std.proofs.lemmas.Nat.{xor_block, pow-add, pow_pos}

@@ -31,7 +31,8 @@ BeginsCramfs all = (4 ≤ length all) × (word (order_of all) all 0 ≡ cramfs_m
 
 -- t is the tree that one of the formats gives these bytes, under these limits
 abbrev pub HasTree : List ℕ → Limits → Node → Type 0
-HasTree all limits t = RomfsTree all limits.references limits.depth t ⊎ ((o : Order) × CramfsTree o all limits.references limits.depth t)
+HasTree all limits t =
+    RomfsTree all limits.references limits.depth t ⊎ ((o : Order) × CramfsTree o all limits.references limits.depth t)
 
 -- The image m shows the tree that one of the formats gives these bytes.
 pub data Shows (all : List ℕ) (limits : Limits) (m : Image) (report : Report) : Type 0 where
@@ -54,7 +55,8 @@ HasFormat all (Cramfs s) = BeginsCramfs all × (order_in s ≡ order_of all)
 -- The bytes begin as an image of one of the formats does, and have none of its faults.
 pub data IsFaultless (all : List ℕ) (limits : Limits) : Type 0 where
   no_romfs_fault : BeginsRomfs all → HasNoRomfsFault all limits.references limits.depth → IsFaultless all limits
-  no_cramfs_fault : BeginsCramfs all → HasNoCramfsFault (order_of all) all limits.references limits.depth → IsFaultless all limits
+  no_cramfs_fault : BeginsCramfs all → HasNoCramfsFault (order_of all) all limits.references limits.depth
+      → IsFaultless all limits
 
 -- The fault is the least one of the format that the first bytes name, or that of bytes which name none.
 pub data IsLeastFault (all : List ℕ) (limits : Limits) (e : CheckError) : Type 0 where

@@ -79,9 +79,12 @@ impl<'a> TreeImage<'a> for AnyImage<'a> {
     /// It has the rest of the file (romfs), or of the block of 4096 bytes (cramfs).
     fn run(&self, n: NodeId, off: u64) -> Option<Run>
         requires { HasNode (any_view self.now) n.0 }
-        ensures row { (x : Node) → image_node (any_view self.now) n.0 ≡ Some x → GivesRun (places_of x) off result }
-        ensures whole { (x : Node) → image_node (any_view self.now) n.0 ≡ Some x → GivesWhole x off result }
-        ensures part { (x : Node) → image_node (any_view self.now) n.0 ≡ Some x → GivesPart self.now (places_of x) off result }
+        ensures row { (x : Node) → image_node (any_view self.now) n.0 ≡ Some x
+            → GivesRun (places_of x) off result }
+        ensures whole { (x : Node) → image_node (any_view self.now) n.0 ≡ Some x
+            → GivesWhole x off result }
+        ensures part { (x : Node) → image_node (any_view self.now) n.0 ≡ Some x
+            → GivesPart self.now (places_of x) off result }
     {
         match self {
             AnyImage::Romfs(image) => image.run(n, off),

@@ -57,7 +57,8 @@ pub fn check<'a>(alloc: Global, bytes: &'a [u8], limits: Limits) -> Result<AnyIm
     ensures shallow { IfOk result (λ v. levels (any_view v).tree ≤ 65) }
     ensures clean { IfOk result (λ v. IsFaultless bytes.now limits) }
     ensures least { IfErr result (IsLeastFault bytes.now limits) }
-    ensures neither { (BeginsRomfs bytes.now → ⊥) → (BeginsCramfs bytes.now → ⊥) → result ≡ Err (neither bytes.now) }
+    ensures neither { (BeginsRomfs bytes.now → ⊥) → (BeginsCramfs bytes.now → ⊥)
+        → result ≡ Err (neither bytes.now) }
 {
     if is_romfs(bytes) {
         let image = Romfs::check(alloc, bytes, limits)?;

@@ -6,7 +6,8 @@ ghost use Rattle.image_check.specs.Checked.{HasTree, IsFaultless};
 
 /// Bytes have at most one tree, of whichever format and under whatever limits.
 pub fn one_tree()
-    ensures { (all : List ℕ) (limits others : Limits) (t u : Node) → HasTree all limits t → HasTree all others u → t ≡ u }
+    ensures { (all : List ℕ) (limits others : Limits) (t u : Node) → HasTree all limits t
+        → HasTree all others u → t ≡ u }
 {
     romfs_format::laws::one_tree();
     cramfs_format::laws::one_tree();
@@ -14,8 +15,10 @@ pub fn one_tree()
 
 /// Bytes have no fault exactly where a tree stands.
 pub fn exact()
-    ensures tree { (all : List ℕ) (limits : Limits) (t : Node) → HasTree all limits t → IsFaultless all limits }
-    ensures faultless { (all : List ℕ) (limits : Limits) → IsFaultless all limits → (t : Node) × HasTree all limits t }
+    ensures tree { (all : List ℕ) (limits : Limits) (t : Node) → HasTree all limits t
+        → IsFaultless all limits }
+    ensures faultless { (all : List ℕ) (limits : Limits) → IsFaultless all limits
+        → (t : Node) × HasTree all limits t }
 {
     romfs_image::laws::exact();
     cramfs_image::laws::exact();

@@ -2,8 +2,8 @@
 //!
 //! `check` looks at the first bytes, which name a format (Linux Documentation/filesystems/romfs.rst
 //! and cramfs.rst). Proved: it gives an image only where its bytes hold a tree of files of one of
-//! the two formats and have no fault, and a fault only where they hold none of either, the least one;
-//! and each call on the image answers from that tree (`rom_tree::image::TreeImage`).
+//! the two formats and have no fault, and a fault only where they hold none of either, the least
+//! one; and each call on the image answers from that tree (`rom_tree::image::TreeImage`).
 #![tactic(auto)]
 
 pub mod any;

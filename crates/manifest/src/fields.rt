@@ -37,7 +37,8 @@ pub struct Fields<'a> {
 pub fn split(line: &[u8]) -> Option<ArrayVec<&[u8], FIELDS_MAX>>
     ensures some { IfSome result (λ fields. texts fields.items ≡ pieces 32 line.now) }
     ensures whole { IfSome result (λ _. list_any is_empty (pieces 32 line.now) ≡ false) }
-    ensures none { IfNone result ((list_any is_empty (pieces 32 line.now) ≡ true) ⊎ (8 < length (pieces 32 line.now))) }
+    ensures none { IfNone result ((list_any is_empty (pieces 32 line.now) ≡ true)
+        ⊎ (8 < length (pieces 32 line.now))) }
 {
     let mut fields = ArrayVec::new();
     let mut rest = Some(line);
@@ -64,7 +65,8 @@ pub fn volume<'a>(fields: &[&'a [u8]]) -> Option<&'a [u8]>
 
 /// The fields of a line with these, whose word has no others.
 fn plain<'a>(word: Word, path: &'a [u8], mode: &'a [u8], uid: &'a [u8], gid: &'a [u8]) -> Fields<'a>
-    ensures { fields_view result ≡ grammar.plain_fields word path.now mode.now uid.now gid.now grammar.zero_text [] }
+    ensures { fields_view result ≡ grammar.plain_fields word path.now mode.now uid.now gid.now
+        grammar.zero_text [] }
 {
     Fields {
         word,
@@ -100,7 +102,8 @@ fn five<'a>(
     uid: &'a [u8],
     gid: &'a [u8],
 ) -> Option<Fields<'a>>
-    ensures { option_map fields_view result ≡ grammar.five_fields word.now path.now mode.now uid.now gid.now }
+    ensures { option_map fields_view result ≡ grammar.five_fields word.now path.now mode.now
+        uid.now gid.now }
 {
     let word = if word == b"dir".as_slice() {
         Word::Dir
@@ -123,7 +126,8 @@ fn six<'a>(
     gid: &'a [u8],
     text: &'a [u8],
 ) -> Option<Fields<'a>>
-    ensures { option_map fields_view result ≡ grammar.six_fields word.now path.now mode.now uid.now gid.now text.now }
+    ensures { option_map fields_view result ≡ grammar.six_fields word.now path.now mode.now uid.now
+        gid.now text.now }
 {
     let word = if word == b"slink".as_slice() {
         Word::Slink
@@ -186,7 +190,8 @@ fn eight<'a>(
     minor: &'a [u8],
 ) -> Option<Fields<'a>>
     ensures { option_map fields_view result
-        ≡ grammar.eight_fields word.now path.now mode.now uid.now gid.now letter.now major.now minor.now }
+        ≡ grammar.eight_fields word.now path.now mode.now uid.now gid.now letter.now major.now
+            minor.now }
 {
     if word != b"nod".as_slice() {
         return None;

@@ -145,7 +145,8 @@ impl Reader {
     fn has_parent(&self, path: &[u8]) -> bool
         requires kept { IsKept self.now }
         requires path { is_some (names_of path.now) ≡ true }
-        ensures { result ≡ grammar.has_parent (reverse self.now.lines.items) (parent_of (names_of path.now)) }
+        ensures { result ≡ grammar.has_parent (reverse self.now.lines.items)
+            (parent_of (names_of path.now)) }
     {
         let parent = parent(path);
         parent.is_empty() || is_directory(self.reached(parent))
@@ -155,7 +156,8 @@ impl Reader {
     #[tactic(auto, using(crate::proofs::Reached::no_directory_is, crate::proofs::Reached::file_is))]
     fn has_target(&self, line: &Line) -> bool
         requires { IsKept self.now }
-        ensures { result ≡ grammar.has_target (reverse self.now.lines.items) line.now.word line.now.text }
+        ensures { result ≡ grammar.has_target
+            (reverse self.now.lines.items) line.now.word line.now.text }
     {
         let old = line.text.as_bytes();
         match line.word {
@@ -167,7 +169,8 @@ impl Reader {
     }
 
     /// The least fault of a line, from `BAD_PATH` on.
-    #[tactic(auto, using(crate::proofs::Reached::stands_is), unfolding(crate::specs::Grammar::fault_of))]
+    #[tactic(auto, using(crate::proofs::Reached::stands_is),
+        unfolding(crate::specs::Grammar::fault_of))]
     fn fault(&self, line: &Line) -> Option<u32>
         requires { IsKept self.now }
         ensures { result ≡ grammar.fault_of (reverse self.now.lines.items) line.now }
@@ -208,7 +211,8 @@ impl Reader {
     /// What a line's path leads to.
     fn leads_to(&self, line: &Line) -> Reached
         requires { IsKept self.now }
-        ensures { result ≡ reached_by line.now (has_contents (reverse self.now.lines.items) line.now) }
+        ensures { result ≡ reached_by line.now
+            (has_contents (reverse self.now.lines.items) line.now) }
     {
         if line.word.is_dir() {
             Reached::Directory
@@ -257,7 +261,8 @@ impl Reader {
     ) -> Result<(), ManifestError>
         requires { IsKept self.old }
         ensures { Reads self.new result
-            (grammar.read_numbers (seen self.old) number (grammar.line_of number (fields_view fields.now))) }
+            (grammar.read_numbers (seen self.old) number
+                (grammar.line_of number (fields_view fields.now))) }
     {
         let Some(line) = line_of(alloc, number, fields)? else {
             return Err(bad(number, BAD_NUMBER));

@@ -9,7 +9,8 @@ use Rattle.name_tree.specs.Tree.{tree_of}
 
 abbrev pub example : List ℕ
 example =
-    codes "dir /d 0755 0 0" ++ (10 ∷ (codes "file /b 0644 0 0 16 s" ++ (10 ∷ (codes "hard /d/c /b" ++ (10 ∷ codes "same /a 0600 1 2 /d/c")))))
+    codes "dir /d 0755 0 0" ++ (10 ∷ (codes "file /b 0644 0 0 16 s"
+        ++ (10 ∷ (codes "hard /d/c /b" ++ (10 ∷ codes "same /a 0600 1 2 /d/c")))))
 
 -- the names of a text, where its sources have these sizes
 abbrev pub names_by : List ℕ → Result ManifestLines Fault → Names
@@ -31,8 +32,8 @@ example_file line kind mode uid gid align size fill = record {
   fill = fill;
 }
 
--- Its names, where the source has 5 bytes. Lists are in order; `/d/c` names the file of line 2, and `/a` is a file of its
--- own with the same contents. A mode is octal in the text.
+-- Its names, where the source has 5 bytes. Lists are in order; `/d/c` names the file of line 2, and `/a` is a file of
+-- its own with the same contents. A mode is octal in the text.
 abbrev pub example_names : Names
 example_names =
     leaf (codes "a") (example_file 4 Regular 384 1 2 16 5 (source 0))

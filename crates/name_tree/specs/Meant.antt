@@ -9,8 +9,10 @@ use Rattle.name_tree.specs.Tree.{file_named}
 
 -- The tree t of an image is what a manifest means, where its sources have these contents and sizes: at each path stands
 -- the file of the line with its names, and one node at two paths exactly where one line is behind both.
-pub record IsMeant (image : List ℕ) (t : Node) (contents : List (List ℕ)) (m : ManifestLines) (sizes : List ℕ) : Type 0 where
+pub record IsMeant (image : List ℕ) (t : Node) (contents : List (List ℕ)) (m : ManifestLines)
+    (sizes : List ℕ) : Type 0 where
   pub values : (q : List (List ℕ))
       → option_map (node_value image) (node_under q t) ≡ option_map (file_value contents) (file_named m.lines sizes q)
   pub shared : (p q : List (List ℕ)) (x y : Node) (i j : Inode) → node_under p t ≡ Some x → node_under q t ≡ Some y
-      → file_named m.lines sizes p ≡ Some i → file_named m.lines sizes q ≡ Some j → (ino_of x ≡ ino_of y) ↔ (i.line ≡ j.line)
+      → file_named m.lines sizes p ≡ Some i → file_named m.lines sizes q ≡ Some j
+      → (ino_of x ≡ ino_of y) ↔ (i.line ≡ j.line)

@@ -70,7 +70,8 @@ file_under (m ∷ ms) x = option_and_then (λ y. file_under ms y) (find_name x.o
 -- where they are of one line.
 pub record HasShape (image : List ℕ) (t : Node) (contents : List (List ℕ)) (root : Inode) (n : Names) : Type 0 where
   pub values : (q : List (List ℕ))
-      → option_map (node_value image) (node_under q t) ≡ option_map (file_value contents) (file_under q (with_names root n))
+      → option_map (node_value image) (node_under q t)
+      ≡ option_map (file_value contents) (file_under q (with_names root n))
   pub shared : (p q : List (List ℕ)) (x y : Node) (i j : Inode) → node_under p t ≡ Some x → node_under q t ≡ Some y
       → file_under p (with_names root n) ≡ Some i → file_under q (with_names root n) ≡ Some j
       → (ino_of x ≡ ino_of y) ↔ (i.line ≡ j.line)

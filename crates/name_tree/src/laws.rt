@@ -12,7 +12,8 @@ ghost use Rattle.name_tree.specs.Tree.{tree_of, root_of, file_named};
 /// with just these names, no names to the root, and a list that no line has to nothing.
 pub fn names_lead_to_files()
     ensures { (m : ManifestLines) (sizes : List ℕ) (q : List (List ℕ)) → IsManifest m
-        → file_under q (with_names (root_of m.lines sizes) (tree_of m.lines sizes)) ≡ file_named m.lines sizes q }
+        → file_under q (with_names (root_of m.lines sizes) (tree_of m.lines sizes))
+        ≡ file_named m.lines sizes q }
 {}
 
 /// The names of a small manifest, where its source has five bytes: a further name of a file, and a
@@ -23,6 +24,8 @@ pub fn names_of_an_example()
 
 /// A tree that has the shape of a manifest's names is what the manifest means.
 pub fn shape_is_meant()
-    ensures { (image : List ℕ) (t : Node) (contents : List (List ℕ)) (m : ManifestLines) (sizes : List ℕ) → IsManifest m
-        → HasShape image t contents (root_of m.lines sizes) (tree_of m.lines sizes) → IsMeant image t contents m sizes }
+    ensures { (image : List ℕ) (t : Node) (contents : List (List ℕ)) (m : ManifestLines)
+        (sizes : List ℕ) → IsManifest m
+        → HasShape image t contents (root_of m.lines sizes) (tree_of m.lines sizes)
+        → IsMeant image t contents m sizes }
 {}

@@ -51,7 +51,8 @@ crossing p d xs ys n own_out after_p cross own_inside after_inside =
           elsewhere d y.directory ys ys (λ i. w.1 (w.2 ∙ sym i)) (every_weaker (λ (z : Row). v.0.offset ≢ z.offset) (λ (z : Row). z.offset ≢ y.directory) (λ z m i. m (v.2 ∙ sym i)) ys v.1) after_inside
     ]) xs own_inside
 
--- What holds of the first reference of a list, and with one to a sound record of the one after it, holds of each row of the list.
+-- What holds of the first reference of a list, and with one to a sound record of the one after it, holds of each row of
+-- the list.
 module _ (g : References) (Sound : Reference → Type 0) (C : Reference → Type 0) (closed : (x y : Reference) → C x → Sound x → g.after x ≡ y → IsLive g y → C y) where
   pub along : (x : Reference) (directory parent depth : ℕ) (f : Forest) → Stands g x f → (IsLive g x → C x) → Every (λ (y : Row). Sound y.reference) (rows g x directory parent depth f)
       → Every (λ (y : Row). y.offset ≢ directory) (rows g x directory parent depth f) → Every (λ (y : Row). y.directory ≡ directory → C y.reference) (rows g x directory parent depth f)

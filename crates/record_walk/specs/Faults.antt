@@ -12,7 +12,8 @@ TooMany g Sound most =
     (xs : List Reference) × Pairs (λ x y. x ≢ y) xs × Every (Reached g Sound) xs × (most < length xs)
 
 -- a record that a reached reference leads to has this fault
-pub record HasFault (g : References) (Sound : Reference → Type 0) (Faulty : Reference → Fault → Type 0) (e : Fault) : Type 0 where
+pub record HasFault (g : References) (Sound : Reference → Type 0) (Faulty : Reference → Fault → Type 0)
+    (e : Fault) : Type 0 where
   pub reference : Reference
   pub reached : Reached g Sound reference
   pub faulty : Faulty reference e
@@ -56,13 +57,17 @@ pub record IsClean (g : References) (Sound : Reference → Type 0) (most : ℕ) 
   pub sound : (x : Reference) → Reached g Sound x → Sound x
   pub once : (q : ℕ) → Twice g Sound q → ⊥
 
--- x is a reference in the list of the directory at d. What follows the superblock's reference is in the root's own list.
+-- x is a reference in the list of the directory at d. What follows the superblock's reference is in the root's own
+-- list.
 pub data InList (g : References) (Sound : Reference → Type 0) : ℕ → Reference → Type 0 where
-  first : {d : ℕ} {x y : Reference} → Reached g Sound x → Sound x → g.target x ≡ Some d → g.own x ≡ y → IsLive g y → InList g Sound d y
+  first : {d : ℕ} {x y : Reference} → Reached g Sound x → Sound x → g.target x ≡ Some d → g.own x ≡ y → IsLive g y
+      → InList g Sound d y
   next : {d : ℕ} {x y : Reference} → InList g Sound d x → Sound x → g.after x ≡ y → IsLive g y → InList g Sound d y
-  beside_root : {d : ℕ} {y : Reference} → Sound g.top → g.target g.top ≡ Some d → g.after g.top ≡ y → IsLive g y → InList g Sound d y
+  beside_root : {d : ℕ} {y : Reference} → Sound g.top → g.target g.top ≡ Some d → g.after g.top ≡ y → IsLive g y
+      → InList g Sound d y
 
 -- n names lead from the root to the record at p
 pub data HasDepth (g : References) (Sound : Reference → Type 0) : ℕ → ℕ → Type 0 where
   root : {r : ℕ} → g.target g.top ≡ Some r → HasDepth g Sound r 0
-  below : {d p n : ℕ} {x : Reference} → HasDepth g Sound d n → InList g Sound d x → g.target x ≡ Some p → g.target g.top ≢ Some p → HasDepth g Sound p (n + 1)
+  below : {d p n : ℕ} {x : Reference} → HasDepth g Sound d n → InList g Sound d x → g.target x ≡ Some p
+      → g.target g.top ≢ Some p → HasDepth g Sound p (n + 1)

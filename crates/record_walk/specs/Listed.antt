@@ -26,4 +26,5 @@ pub record AreNames (name : ℕ → List ℕ) (rows : List Row) (xs : List Liste
   pub count : length xs ≡ length rows
   pub numbered : AreNumbered xs
   pub list : (i : ℕ) (d : ListedName) (e : Row) → i < length rows → (get_or xs i d).list ≡ (get_or rows i e).directory
-  pub named : (i : ℕ) (d : ListedName) (e : Row) → i < length rows → (get_or xs i d).name.now ≡ name (get_or rows i e).offset
+  pub named : (i : ℕ) (d : ListedName) (e : Row) → i < length rows
+      → (get_or xs i d).name.now ≡ name (get_or rows i e).offset

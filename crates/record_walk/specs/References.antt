@@ -36,7 +36,10 @@ pub data Reached (g : References) (Sound : Reference → Type 0) : Reference →
 pub record AreLawful (g : References) (Sound : Reference → Type 0) : Type 0 where
   pub starts : IsLive g g.top
   pub only_top : (x : Reference) (k : Bool) → Reached g Sound x → Sound x → IsLive g (edge g k x) → edge g k x ≢ g.top
-  pub own_joined : (x y : Reference) → Reached g Sound x → Reached g Sound y → Sound x → Sound y → g.target x ≡ g.target y → g.own x ≡ g.own y
-  pub after_joined : g.chained ≡ true → (x y : Reference) → Reached g Sound x → Reached g Sound y → Sound x → Sound y → g.target x ≡ g.target y → g.after x ≡ g.after y
-  pub apart : (x y : Reference) (k l : Bool) → Reached g Sound x → Reached g Sound y → Sound x → Sound y → IsLive g (edge g k x) → edge g k x ≡ edge g l y
+  pub own_joined : (x y : Reference) → Reached g Sound x → Reached g Sound y → Sound x → Sound y
+      → g.target x ≡ g.target y → g.own x ≡ g.own y
+  pub after_joined : g.chained ≡ true → (x y : Reference) → Reached g Sound x → Reached g Sound y → Sound x → Sound y
+      → g.target x ≡ g.target y → g.after x ≡ g.after y
+  pub apart : (x y : Reference) (k l : Bool) → Reached g Sound x → Reached g Sound y → Sound x → Sound y
+      → IsLive g (edge g k x) → edge g k x ≡ edge g l y
       → (k ≡ l) × ((x ≡ y) ⊎ ((g.target x ≡ g.target y) × ((k ≡ true) ⊎ (g.chained ≡ true))))

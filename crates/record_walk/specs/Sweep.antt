@@ -14,7 +14,9 @@ pub record StandsAtRow (P : List Row → Row → ℕ → Type 0) (xs : List Row)
   pub number : IsLeast (P before row) e.number
 
 -- The fault at the least offset of those of the rows, or none where each row is well (C).
-pub record IsLeastRowFault (C : List Row → Row → Type 0) (P : List Row → Row → ℕ → Type 0) (xs : List Row) (o : Option Fault) : Type 0 where
+pub record IsLeastRowFault (C : List Row → Row → Type 0) (P : List Row → Row → ℕ → Type 0) (xs : List Row)
+    (o : Option Fault) : Type 0 where
   pub clean : o ≡ None → (before : List Row) (x : Row) (after : List Row) → xs ≡ before ++ x ∷ after → C before x
   pub noted : IfSome o (StandsAtRow P xs)
-  pub least : (before : List Row) (x : Row) (after : List Row) (n : ℕ) → xs ≡ before ++ x ∷ after → P before x n → IsSomeAnd o (λ e. e.at ≤ x.offset)
+  pub least : (before : List Row) (x : Row) (after : List Row) (n : ℕ) → xs ≡ before ++ x ∷ after → P before x n
+      → IsSomeAnd o (λ e. e.at ≤ x.offset)

@@ -16,7 +16,8 @@ place (Some p) = p
 
 -- the root stands at 1
 abbrev pub table_target : List ℕ → List ℕ → Reference → Option ℕ
-table_target own after x = if x.which == 0 then Some 1 else (if x.which == 1 then offset (get_or own x.source 0) else offset (get_or after x.source 0))
+table_target own after x = if x.which == 0 then Some 1
+    else (if x.which == 1 then offset (get_or own x.source 0) else offset (get_or after x.source 0))
 
 abbrev pub table_references : List ℕ → List ℕ → References
 table_references own after = record {

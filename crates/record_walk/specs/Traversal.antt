@@ -8,7 +8,8 @@ use Rattle.record_walk.specs.References.{References, Reached}
 use Rattle.record_walk.specs.Faults.{TooMany, HasFault, Twice, IsLeast, IsLeastFault}
 
 -- the first of the three phases that has a fault, and the least fault in it
-abbrev pub IsLeastRefusal : References → (Reference → Type 0) → (Reference → Fault → Type 0) → ℕ → TraversalError → Type 0
+abbrev pub IsLeastRefusal : References → (Reference → Type 0) → (Reference → Fault → Type 0) → ℕ → TraversalError
+    → Type 0
 IsLeastRefusal g Sound Faulty most OutOfMemory = Unit {0}
 IsLeastRefusal g Sound Faulty most TooManyRefusal = TooMany g Sound most
 IsLeastRefusal g Sound Faulty most (Record e) = (TooMany g Sound most → ⊥) × IsLeastFault (HasFault g Sound Faulty) e

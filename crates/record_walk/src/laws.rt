@@ -9,13 +9,15 @@ use crate::records::Records;
 
 /// From one reference on at most one forest stands.
 pub fn one_forest()
-    ensures { (g : References) (x : Reference) (e f : Forest) → Stands g x e → Stands g x f → e ≡ f }
+    ensures { (g : References) (x : Reference) (e f : Forest) → Stands g x e → Stands g x f
+        → e ≡ f }
 {}
 
 /// References and records have no fault exactly where the records are those of a finite forest.
 pub fn exact<R: Records>(records: &R)
     requires { AreLawful (R.references records.now) (R.sound records.now) }
-    ensures forest { (most : ℕ) (f : Forest) → IsForest (R.references records.now) (R.sound records.now) most f
+    ensures forest { (most : ℕ) (f : Forest)
+        → IsForest (R.references records.now) (R.sound records.now) most f
         → IsClean (R.references records.now) (R.sound records.now) most }
     ensures clean { (most : ℕ) → IsClean (R.references records.now) (R.sound records.now) most
         → (f : Forest) × IsForest (R.references records.now) (R.sound records.now) most f }

@@ -44,9 +44,11 @@ pub trait Records {
         ensures ok { IfOk result (λ n. sound self.now x) }
         ensures faultless { IfOk result (λ n. (e : Fault) → faulty self.now x e → ⊥) }
         ensures own { IfOk result (λ n. n.own.reference ≡ (references self.now).own x) }
-        ensures own_target { IfOk result (λ n. n.own.target ≡ (references self.now).target n.own.reference) }
+        ensures own_target { IfOk result (λ n. n.own.target
+            ≡ (references self.now).target n.own.reference) }
         ensures after { IfOk result (λ n. n.after.reference ≡ (references self.now).after x) }
-        ensures after_target { IfOk result (λ n. n.after.target ≡ (references self.now).target n.after.reference) }
+        ensures after_target { IfOk result (λ n. n.after.target
+            ≡ (references self.now).target n.after.reference) }
         ensures err { IfErr result (λ e. IsLeastFault (faulty self.now x) e) }
         ensures unsound { IfErr result (λ e. sound self.now x → ⊥) };
 }

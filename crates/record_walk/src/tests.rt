@@ -2,7 +2,7 @@ ghost use Rattle.std.specs.Prelude.{◌≡◌, Some};
 ghost use Rattle.record_walk.specs.Table.{offset, table_references, table_sound, table_faulty};
 
 use crate::known::Known;
-use crate::least::lesser_fault;
+use crate::least::{lesser_fault, lesser_of_both};
 use crate::records::Records;
 use crate::reference::{Edge, Edges, Reference, Row};
 use crate::traversal::{TraversalError, traverse};
@@ -10,7 +10,8 @@ use rom_faults::{CheckError, Fault};
 use std::alloc::Global;
 use std::test::Fail;
 
-/// Records in two tables, the root at 1: where the own list of each begins, and what comes after it.
+/// Records in two tables, the root at 1: where the own list of each begins, and what comes after
+/// it.
 #[derive(Drop)]
 struct Table {
     own: [u32; 8],
@@ -215,5 +216,19 @@ fn refusals_as_answers(rt: HostRuntime) -> Result<(), Fail> {
             CheckError::OutOfMemory
         )
     );
+    Ok(())
+}
+
+#[test]
+fn the_lesser_of_two_faults(rt: HostRuntime) -> Result<(), Fail> {
+    let first = Fault { number: 12, at: 32 };
+    let second = Fault { number: 10, at: 64 };
+    let beside = Fault { number: 10, at: 32 };
+    assert_eq!(rt; lesser_of_both(None, None), None);
+    assert_eq!(rt; lesser_of_both(Some(first), None), Some(first));
+    assert_eq!(rt; lesser_of_both(None, Some(second)), Some(second));
+    assert_eq!(rt; lesser_of_both(Some(second), Some(first)), Some(first));
+    assert_eq!(rt; lesser_of_both(Some(first), Some(second)), Some(first));
+    assert_eq!(rt; lesser_of_both(Some(first), Some(beside)), Some(beside));
     Ok(())
 }

@@ -50,7 +50,8 @@ fn lesser_offset(noted: Option<u32>, at: u32) -> Option<u32>
 
 /// The root's row.
 fn root_row(reference: Reference, root: u32) -> Row
-    ensures { result ≡ record { offset = root; reference = reference; directory = root; parent = root; depth = 0 } }
+    ensures { result ≡ record { offset = root; reference = reference; directory = root;
+        parent = root; depth = 0 } }
 {
     Row {
         offset: root,
@@ -75,7 +76,8 @@ fn below_root(edge: Edge, root: u32) -> Pending
 
 /// The row of the record at `at`, to which `next` leads.
 fn row_of(next: Pending, at: u32) -> Row
-    ensures { result ≡ record { offset = at; reference = next.edge.reference; directory = next.directory; parent = next.parent; depth = next.depth } }
+    ensures { result ≡ record { offset = at; reference = next.edge.reference;
+        directory = next.directory; parent = next.parent; depth = next.depth } }
 {
     Row {
         offset: at,
@@ -89,7 +91,8 @@ fn row_of(next: Pending, at: u32) -> Row
 /// The own list of the record at `at`, to which `next` leads.
 fn own_of(next: Pending, at: u32, own: Edge) -> Pending
     requires { next.depth + 1 < 2 ^ 32 }
-    ensures { result ≡ record { edge = own; directory = at; parent = next.directory; depth = next.depth + 1 } }
+    ensures { result ≡ record { edge = own; directory = at; parent = next.directory;
+        depth = next.depth + 1 } }
 {
     Pending {
         edge: own,
@@ -101,7 +104,8 @@ fn own_of(next: Pending, at: u32, own: Edge) -> Pending
 
 /// What comes after the record to which `next` leads: it stands in the same list.
 fn after_of(next: Pending, after: Edge) -> Pending
-    ensures { result ≡ record { edge = after; directory = next.directory; parent = next.parent; depth = next.depth } }
+    ensures { result ≡ record { edge = after; directory = next.directory; parent = next.parent;
+        depth = next.depth } }
 {
     Pending {
         edge: after,
@@ -119,9 +123,12 @@ fn start(
     root: u32,
     edges: Edges,
 ) -> Result<(Vec<Row>, BTreeSet<u32, Global>, Vec<Pending>), TraversalError>
-    ensures rows { IfOk result (λ s. s.0.items ≡ record { offset = root; reference = top; directory = root; parent = root; depth = 0 } ∷ []) }
+    ensures rows { IfOk result (λ s. s.0.items
+        ≡ record { offset = root; reference = top; directory = root; parent = root; depth = 0 }
+        ∷ []) }
     ensures visited { IfOk result (λ s. s.1.keys ≡ root ∷ []) }
-    ensures stack { IfOk result (λ s. s.2.items ≡ record { edge = edges.after; directory = root; parent = root; depth = 1 }
+    ensures stack { IfOk result (λ s. s.2.items
+        ≡ record { edge = edges.after; directory = root; parent = root; depth = 1 }
         ∷ record { edge = edges.own; directory = root; parent = root; depth = 1 } ∷ []) }
     ensures refused { IfErr result (λ e. e ≡ OutOfMemory) }
 {
@@ -145,10 +152,13 @@ fn enter(
 ) -> Result<(), TraversalError>
     requires { next.depth + 1 < 2 ^ 32 }
     ensures rows { OnOk result (rows.new.items ≡ rows.old.items
-        ++ record { offset = at; reference = next.edge.reference; directory = next.directory; parent = next.parent; depth = next.depth } ∷ []) }
+        ++ record { offset = at; reference = next.edge.reference; directory = next.directory;
+            parent = next.parent; depth = next.depth } ∷ []) }
     ensures stack { OnOk result (stack.new.items ≡ (stack.old.items
-        ++ record { edge = edges.after; directory = next.directory; parent = next.parent; depth = next.depth } ∷ [])
-        ++ record { edge = edges.own; directory = at; parent = next.directory; depth = next.depth + 1 } ∷ []) }
+        ++ record { edge = edges.after; directory = next.directory; parent = next.parent;
+            depth = next.depth } ∷ [])
+        ++ record { edge = edges.own; directory = at; parent = next.directory;
+            depth = next.depth + 1 } ∷ []) }
     ensures refused { IfErr result (λ e. e ≡ OutOfMemory) }
 {
     rows.push(row_of(next, at))?;
@@ -168,7 +178,8 @@ pub fn traverse<R: Records>(
     requires { AreLawful (R.references records.now) (R.sound records.now) }
     ensures ok { IfOk result (λ v. (f : Forest) × (v.items ≡ all_rows (R.references records.now) f)
         × IsForest (R.references records.now) (R.sound records.now) most f) }
-    ensures fault { IfErr result (IsLeastRefusal (R.references records.now) (R.sound records.now) (R.faulty records.now) most) }
+    ensures fault { IfErr result (IsLeastRefusal (R.references records.now) (R.sound records.now)
+        (R.faulty records.now) most) }
 {
     if most == 0 {
         return Err(TraversalError::TooMany);
@@ -199,13 +210,17 @@ fn traverse_below<R: Records>(
     requires root { (R.references records.now).target (R.references records.now).top ≡ Some root }
     requires sound { R.sound records.now (R.references records.now).top }
     requires faultless { (e : Fault) → R.faulty records.now (R.references records.now).top e → ⊥ }
-    requires own { edges.own.reference ≡ (R.references records.now).own (R.references records.now).top }
+    requires own { edges.own.reference ≡ (R.references records.now).own
+        (R.references records.now).top }
     requires own_target { edges.own.target ≡ (R.references records.now).target edges.own.reference }
-    requires after { edges.after.reference ≡ (R.references records.now).after (R.references records.now).top }
-    requires after_target { edges.after.target ≡ (R.references records.now).target edges.after.reference }
+    requires after { edges.after.reference ≡ (R.references records.now).after
+        (R.references records.now).top }
+    requires after_target { edges.after.target
+        ≡ (R.references records.now).target edges.after.reference }
     ensures ok { IfOk result (λ v. (f : Forest) × (v.items ≡ all_rows (R.references records.now) f)
         × IsForest (R.references records.now) (R.sound records.now) most f) }
-    ensures fault { IfErr result (IsLeastRefusal (R.references records.now) (R.sound records.now) (R.faulty records.now) most) }
+    ensures fault { IfErr result (IsLeastRefusal (R.references records.now) (R.sound records.now)
+        (R.faulty records.now) most) }
 {
     let mut known = known;
     let (mut rows, mut visited, mut stack) = start(alloc, records.top().reference, root, edges)?;

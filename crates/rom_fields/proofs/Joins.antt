@@ -111,3 +111,7 @@ said_front o p f text e h = let P : Bool → Type 0 = λ v. Said o.contents (sin
 pub said_rose : (o p : Output) (f : Bool) (text : List ℕ) → f ≡ true → Puts (sink o false) (sink p f) text → Rose o.failures p.failures
 unfolding Counted
 said_rose o p f text e h = let P : Bool → Type 0 = λ v. Counted o.failures (sink p v) in let q : Counted o.failures (sink p true) = subst P e (h.counted o.failures refl) in q
+
+pub said_quiet : (o p : Output) (f : Bool) (text : List ℕ) → f ≡ false → Puts (sink o false) (sink p f) text → p.failures ≡ o.failures
+unfolding Counted
+said_quiet o p f text e h = let P : Bool → Type 0 = λ v. Counted o.failures (sink p v) in let q : Counted o.failures (sink p false) = subst P e (h.counted o.failures refl) in q

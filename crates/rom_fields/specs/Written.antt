@@ -11,7 +11,8 @@ AppendsPrefix old new text = (front : List ℕ) × (rest : List ℕ) × Appends 
 abbrev pub WritesText : {T E : Type 0} → Option (List ℕ) → Option (List ℕ) → Result T E → List ℕ → Type 0
 WritesText old new r text = MatchResult r (λ _. Appends old new text) (λ _. AppendsPrefix old new text)
 
--- What is known of a writer: the bytes that it holds, where it tells them, and how many of its writes and flushes failed.
+-- What is known of a writer: the bytes that it holds, where it tells them, and how many of its writes and flushes
+-- failed.
 pub record Output : Type 0 where
   pub contents : Option (List ℕ)
   pub failures : ℕ

@@ -36,8 +36,10 @@ pub trait ByteWrite {
     /// Takes a prefix of the bytes, and says how many.
     fn write(&mut self, b: &[u8]) -> Result<usize, Failed>
         ensures bound { WritesAtMost result b.now }
-        ensures bytes { WriteAppends (output self.old).contents (output self.new).contents result b.now }
-        ensures count { (output self.new).failures ≡ after_write (output self.old).failures (length b.now) result };
+        ensures bytes { WriteAppends (output self.old).contents
+            (output self.new).contents result b.now }
+        ensures count { (output self.new).failures
+            ≡ after_write (output self.old).failures (length b.now) result };
 
     /// Hands on what was taken and is still held back.
     fn flush(&mut self) -> Result<(), Failed>

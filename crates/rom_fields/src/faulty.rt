@@ -65,7 +65,8 @@ impl<X: ByteRead> ByteRead for Faulty<X> {
 
     fn read(&mut self, buf: &mut [u8]) -> Result<usize, Failed>
         ensures bound { ReadsAtMost result buf.new }
-        ensures bytes { ReadConsumes (X.remaining self.old.inner) (X.remaining self.new.inner) result buf.new }
+        ensures bytes { ReadConsumes (X.remaining self.old.inner)
+            (X.remaining self.new.inner) result buf.new }
         ensures count { self.new.failures ≡ after_read self.old.failures result }
         ensures limit { IfOk result (λ n. n ≤ self.old.most) }
         ensures spent { self.old.calls ≡ 0 → IsErr result }
@@ -89,7 +90,8 @@ impl<X: ByteWrite> ByteWrite for Faulty<X> {
 
     fn write(&mut self, b: &[u8]) -> Result<usize, Failed>
         ensures bound { WritesAtMost result b.now }
-        ensures bytes { WriteAppends (X.output self.old.inner).contents (X.output self.new.inner).contents result b.now }
+        ensures bytes { WriteAppends (X.output self.old.inner).contents
+            (X.output self.new.inner).contents result b.now }
         ensures count { self.new.failures ≡ after_write self.old.failures (length b.now) result }
         ensures limit { IfOk result (λ n. n ≤ self.old.most) }
         ensures spent { self.old.calls ≡ 0 → IsErr result }
@@ -113,7 +115,8 @@ impl<X: ByteWrite> ByteWrite for Faulty<X> {
     }
 
     fn flush(&mut self) -> Result<(), Failed>
-        ensures bytes { Keeps (X.output self.old.inner).contents (X.output self.new.inner).contents }
+        ensures bytes { Keeps (X.output self.old.inner).contents
+            (X.output self.new.inner).contents }
         ensures count { self.new.failures ≡ after_read self.old.failures result }
         ensures spent { self.old.calls ≡ 0 → IsErr result }
         ensures calls { self.new.calls ≡ self.old.calls - 1 }

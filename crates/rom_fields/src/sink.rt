@@ -5,8 +5,8 @@ ghost use Rattle.rom_fields.specs.Written.{WritesText, Puts, sink};
 
 use crate::bytes::{ByteWrite, Failed};
 
-/// Writes all of the bytes. A write that takes none of them is a failure. After an error a prefix of
-/// them was written.
+/// Writes all of the bytes. A write that takes none of them is a failure. After an error a prefix
+/// of them was written.
 pub fn write_whole<W: ByteWrite>(w: &mut W, b: &[u8]) -> Result<(), Failed>
     ensures text { WritesText (W.output w.old).contents (W.output w.new).contents result b.now }
     ensures count { Counts (W.output w.old).failures (W.output w.new).failures result }

@@ -12,7 +12,8 @@ const ESCAPED: AsciiSet = ascii_set!(CONTROLS.add(b' ').add(b'%'));
 
 /// Puts a number in decimal digits.
 pub fn put_decimal<W: ByteWrite>(w: &mut W, failed: &mut bool, n: u32)
-    ensures { Puts (sink (W.output w.old) failed.old) (sink (W.output w.new) failed.new) (decimal n) }
+    ensures { Puts (sink (W.output w.old) failed.old) (sink (W.output w.new) failed.new)
+        (decimal n) }
 {
     let mut buffer = Buffer::new();
     put(w, failed, buffer.format(n).as_bytes());
@@ -20,7 +21,8 @@ pub fn put_decimal<W: ByteWrite>(w: &mut W, failed: &mut bool, n: u32)
 
 /// Puts the last four octal digits of a mode.
 pub fn put_octal<W: ByteWrite>(w: &mut W, failed: &mut bool, mode: u32)
-    ensures { Puts (sink (W.output w.old) failed.old) (sink (W.output w.new) failed.new) (octal mode) }
+    ensures { Puts (sink (W.output w.old) failed.old) (sink (W.output w.new) failed.new)
+        (octal mode) }
 {
     let digits = [
         48 + (mode / 512 % 8) as u8,
@@ -34,7 +36,8 @@ pub fn put_octal<W: ByteWrite>(w: &mut W, failed: &mut bool, mode: u32)
 /// Puts a name with each byte that is no visible ASCII character, and each `%`, escaped as `%` and
 /// two upper-case hexadecimal digits.
 pub fn put_escaped<W: ByteWrite>(w: &mut W, failed: &mut bool, name: &[u8])
-    ensures { Puts (sink (W.output w.old) failed.old) (sink (W.output w.new) failed.new) (escaped name.now) }
+    ensures { Puts (sink (W.output w.old) failed.old) (sink (W.output w.new) failed.new)
+        (escaped name.now) }
 {
     for piece in percent_encode(name, ESCAPED) {
         put(w, failed, piece.as_bytes());

@@ -30,7 +30,8 @@ path_text path (f ∷ fs) = path_text (path ++ name_text f.name) fs
 -- the lines that are still to come, those of the last frame first
 unfoldable pub pending : Image → List ℕ → List Frame → List ℕ
 pending m path [] = []
-pending m path (f ∷ fs) = pending m (path ++ name_text f.name) fs ++ entries_lines m.bytes (path ++ name_text f.name) (left m f)
+pending m path (f ∷ fs) =
+    pending m (path ++ name_text f.name) fs ++ entries_lines m.bytes (path ++ name_text f.name) (left m f)
 
 abbrev pub levels_at : Option Node → ℕ
 levels_at None = 0

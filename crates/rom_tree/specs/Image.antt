@@ -16,11 +16,14 @@ pub record Image : Type 0 where
   -- a list begins at cursor 0
   pub starts : (d : ℕ) → cursor_index d 0 ≡ Some 0
   -- what is no device has 0 for the numbers of one
-  pub devices : (x : Node) → IsIn x (nodes tree) → is_device x ≡ false → ((attributes_of x).major ≡ 0) × ((attributes_of x).minor ≡ 0)
+  pub devices : (x : Node) → IsIn x (nodes tree) → is_device x ≡ false
+      → ((attributes_of x).major ≡ 0) × ((attributes_of x).minor ≡ 0)
   -- a link has a text of 1 to 4095 bytes
-  pub links : (x : Node) → IsIn x (nodes tree) → is_link x ≡ true → (0 < length (places_of x)) × (length (places_of x) ≤ 4095)
+  pub links : (x : Node) → IsIn x (nodes tree) → is_link x ≡ true
+      → (0 < length (places_of x)) × (length (places_of x) ≤ 4095)
   -- each byte of a file or a link is one of the image
-  pub placed : (x : Node) → IsIn x (nodes tree) → (k : ℕ) → k < length (places_of x) → slice_index (places_of x) k < length bytes
+  pub placed : (x : Node) → IsIn x (nodes tree) → (k : ℕ) → k < length (places_of x)
+      → slice_index (places_of x) k < length bytes
 
 -- the node of a number
 abbrev pub image_node : Image → ℕ → Option Node

@@ -48,7 +48,8 @@ unfoldable mutual
 
   pub entries_lines : List ℕ → List ℕ → Entries → List ℕ
   entries_lines b path no_entries = []
-  entries_lines b path (entry name x es) = line b (below path name) x ++ (node_lines b (below path name) x ++ entries_lines b path es)
+  entries_lines b path (entry name x es) =
+      line b (below path name) x ++ (node_lines b (below path name) x ++ entries_lines b path es)
 
 -- the root's line, and those below it
 unfoldable pub list_text : List ℕ → Node → List ℕ

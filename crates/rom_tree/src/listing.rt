@@ -2,7 +2,7 @@
 ghost use Rattle.std.specs.Prelude.{◌<◌, ◌≤◌, ℕ, List, OnOk, OnErr};
 ghost use Rattle.std.specs.Io.KnownBytes.{Appends};
 ghost use Rattle.arrayvec.specs.ArrayVec.{array_vec_len};
-ghost use Rattle.rom_fields.specs.Failures.{Rose};
+ghost use Rattle.rom_fields.specs.Failures.{Counts};
 ghost use Rattle.rom_fields.specs.Written.{AppendsPrefix, Puts, sink};
 ghost use Rattle.rom_tree.specs.Tree.{levels};
 ghost use Rattle.rom_tree.specs.Listing.{list_text};
@@ -70,7 +70,7 @@ pub fn list<'a, T: TreeImage<'a>, W: ByteWrite>(image: &T, w: &mut W) -> Result<
         (list_text (T.image image.now).bytes (T.image image.now).tree)) }
     ensures err { OnErr result (AppendsPrefix (W.output w.old).contents (W.output w.new).contents
         (list_text (T.image image.now).bytes (T.image image.now).tree)) }
-    ensures fault { OnErr result (Rose (W.output w.old).failures (W.output w.new).failures) }
+    ensures count { Counts (W.output w.old).failures (W.output w.new).failures result }
 {
     let mut failed = false;
     let root = image.root();

@@ -65,7 +65,8 @@ pub struct Piece<'a> {
 }
 
 /// How much of an image a check follows: at most `references` references to records, the
-/// superblock's among them, and at most `depth` names on the way to an entry (above 64 counts as 64).
+/// superblock's among them, and at most `depth` names on the way to an entry (above 64 counts as
+/// 64).
 #[derive(Clone, Copy, Debug, PartialEq, Eq)]
 pub struct Limits {
     pub references: u32,

@@ -3,6 +3,7 @@ use rom_faults::CheckError;
 use rom_fields::bytes::Plain;
 use rom_fields::faulty::Faulty;
 use rom_fields::memory::OutOfMemory;
+use rom_tree::dots::{is_dot, is_dot_dot, is_dots};
 use rom_tree::image::{TreeImage, is_directory_at, is_link_at, is_regular_at, link_text};
 use rom_tree::list;
 use rom_tree::types::{Cursor, Kind, Limits, ListError, NodeId};
@@ -102,5 +103,18 @@ fn limits_and_messages(rt: HostRuntime) -> Result<(), Fail> {
     assert_eq!(rt; memory.to_string(rt.alloc())?.as_str(), "out of memory");
     let write = ListError::WriteFault;
     assert_eq!(rt; write.to_string(rt.alloc())?.as_str(), "a write failed");
+    Ok(())
+}
+
+#[test]
+fn dots_name_a_directory_or_its_parent(rt: HostRuntime) -> Result<(), Fail> {
+    let names: [&[u8]; 5] = [b"", b".", b"..", b"...", b".a"];
+    let here = [false, true, false, false, false];
+    let above = [false, false, true, false, false];
+    for i in 0..5 {
+        assert_eq!(rt; is_dot(names[i]), here[i], "at {i}");
+        assert_eq!(rt; is_dot_dot(names[i]), above[i], "at {i}");
+        assert_eq!(rt; is_dots(names[i]), here[i] || above[i], "at {i}");
+    }
     Ok(())
 }

@@ -24,7 +24,8 @@ pub record IsReached (b : List ℕ) (r p : ℕ) : Type 0 where
 
 -- the record at p stands in the list of the directory at d; the root too, where it heads its own list
 pub data IsListed (b : List ℕ) (r : ℕ) : ℕ → ℕ → Type 0 where
-  entry : {d p : ℕ} {x : Reference} → InList (references b r) (LeadsToSound b r) d x → reference_offset b r x ≡ p → IsListed b r d p
+  entry : {d p : ℕ} {x : Reference} → InList (references b r) (LeadsToSound b r) d x → reference_offset b r x ≡ p
+      → IsListed b r d p
   itself : {d p : ℕ} → heads_itself b r ≡ true → d ≡ r → p ≡ r → IsListed b r d p
 
 -- q comes after p in the list of the directory at d
@@ -35,7 +36,8 @@ pub data ComesAfter (b : List ℕ) (r d p : ℕ) : ℕ → Type 0 where
 -- following the record at p leads to q: over at most n hard links, each to a reached record
 pub data Leads (b : List ℕ) (r : ℕ) : ℕ → ℕ → ℕ → Type 0 where
   here : {n p : ℕ} → type_of b p ≢ 0 → Leads b r n p p
-  link : {n p q : ℕ} → type_of b p ≡ 0 → IsReached b r (spec_offset_of b p) → Leads b r n (spec_offset_of b p) q → Leads b r (suc n) p q
+  link : {n p q : ℕ} → type_of b p ≡ 0 → IsReached b r (spec_offset_of b p) → Leads b r n (spec_offset_of b p) q
+      → Leads b r (suc n) p q
 
 -- 21 TooDeep at an entry to which more than `most` names lead
 pub record HasDepthFault (b : List ℕ) (r most : ℕ) (e : Fault) : Type 0 where
@@ -52,7 +54,8 @@ pub record HasDepthFault (b : List ℕ) (r most : ℕ) (e : Fault) : Type 0 wher
 pub data IsExtent (b : List ℕ) (r : ℕ) (s : Span) : Type 0 where
   superblock : s ≡ record { kind = Super; start = 0; len = r } → IsExtent b r s
   record_at : {p : ℕ} → IsReached b r p → s ≡ record { kind = Record; start = p; len = end_of b p - p } → IsExtent b r s
-  data_of : {p : ℕ} → IsReached b r p → IsTrue (has_data (type_of b p)) → 0 < size_of b p → s ≡ record { kind = Data; start = end_of b p; len = size_of b p } → IsExtent b r s
+  data_of : {p : ℕ} → IsReached b r p → IsTrue (has_data (type_of b p)) → 0 < size_of b p
+      → s ≡ record { kind = Data; start = end_of b p; len = size_of b p } → IsExtent b r s
 
 -- 22 Overlap at the greater start of two that overlap
 pub record HasExtentFault (b : List ℕ) (r : ℕ) (e : Fault) : Type 0 where
@@ -72,9 +75,12 @@ pub data IsParent (b : List ℕ) (r : ℕ) : ℕ → ℕ → Type 0 where
 
 -- 23 DupName, 24 Dot, 25 HardLink, at a record of the list of d; in the first, p stands before it
 pub data HasNameFault (b : List ℕ) (r : ℕ) (e : Fault) : Type 0 where
-  repeated : {d p : ℕ} → ComesAfter b r d p e.at → name_of b p ≡ name_of b e.at → e.number ≡ DUPLICATE_NAME → HasNameFault b r e
-  here_astray : {d : ℕ} → IsListed b r d e.at → name_of b e.at ≡ dot → (Leads b r 8 e.at d → ⊥) → e.number ≡ DOT → HasNameFault b r e
-  above_astray : {d u : ℕ} → IsListed b r d e.at → IsParent b r d u → name_of b e.at ≡ dot_dot → (Leads b r 8 e.at u → ⊥) → e.number ≡ DOT → HasNameFault b r e
+  repeated : {d p : ℕ} → ComesAfter b r d p e.at → name_of b p ≡ name_of b e.at → e.number ≡ DUPLICATE_NAME
+      → HasNameFault b r e
+  here_astray : {d : ℕ} → IsListed b r d e.at → name_of b e.at ≡ dot → (Leads b r 8 e.at d → ⊥) → e.number ≡ DOT
+      → HasNameFault b r e
+  above_astray : {d u : ℕ} → IsListed b r d e.at → IsParent b r d u → name_of b e.at ≡ dot_dot
+      → (Leads b r 8 e.at u → ⊥) → e.number ≡ DOT → HasNameFault b r e
   root_renamed : heads_itself b r ≡ true → e.at ≡ r → name_of b r ≢ dot → e.number ≡ DOT → HasNameFault b r e
   link_astray : {d : ℕ} → IsListed b r d e.at → is_dots (name_of b e.at) ≡ false → type_of b e.at ≡ 0
       → ((q : ℕ) → Leads b r 8 e.at q → type_of b q ≢ 1 → ⊥) → e.number ≡ HARD_LINK → HasNameFault b r e
@@ -105,12 +111,19 @@ pub record HasNoFault (bytes : List ℕ) (most deepest : ℕ) : Type 0 where
 pub data IsLeastPhaseFault (b : List ℕ) (r deepest : ℕ) (e : Fault) : Type 0 where
   record_fault : IsLeastFault (HasReachedFault b r) e → IsLeastPhaseFault b r deepest e
   twice_fault : IsNone (HasReachedFault b r) → IsLeastFault (HasTwiceFault b r) e → IsLeastPhaseFault b r deepest e
-  depth_fault : IsNone (HasReachedFault b r) → IsNone (HasTwiceFault b r) → IsLeastFault (HasDepthFault b r (min deepest 64)) e → IsLeastPhaseFault b r deepest e
-  extent_fault : IsNone (HasReachedFault b r) → IsNone (HasTwiceFault b r) → IsNone (HasDepthFault b r (min deepest 64)) → IsLeastFault (HasExtentFault b r) e → IsLeastPhaseFault b r deepest e
-  name_fault : IsNone (HasReachedFault b r) → IsNone (HasTwiceFault b r) → IsNone (HasDepthFault b r (min deepest 64)) → IsNone (HasExtentFault b r) → IsLeastFault (HasNameFault b r) e → IsLeastPhaseFault b r deepest e
+  depth_fault : IsNone (HasReachedFault b r) → IsNone (HasTwiceFault b r)
+      → IsLeastFault (HasDepthFault b r (min deepest 64)) e → IsLeastPhaseFault b r deepest e
+  extent_fault : IsNone (HasReachedFault b r) → IsNone (HasTwiceFault b r)
+      → IsNone (HasDepthFault b r (min deepest 64)) → IsLeastFault (HasExtentFault b r) e
+      → IsLeastPhaseFault b r deepest e
+  name_fault : IsNone (HasReachedFault b r) → IsNone (HasTwiceFault b r) → IsNone (HasDepthFault b r (min deepest 64))
+      → IsNone (HasExtentFault b r) → IsLeastFault (HasNameFault b r) e → IsLeastPhaseFault b r deepest e
 
 -- The least fault of an image: the image's as a whole; else 1 TooMany at 0; else that of the first phase after it.
 pub data IsLeastImageFault (bytes : List ℕ) (most deepest : ℕ) (e : Fault) : Type 0 where
   whole : HasImageFault bytes e → IsLeastImageFault bytes most deepest e
-  many : IsNone (HasImageFault bytes) → HasTooMany (accessible bytes) (root_of (accessible bytes)) most → e ≡ record { number = TOO_MANY; at = 0 } → IsLeastImageFault bytes most deepest e
-  phase : IsNone (HasImageFault bytes) → (HasTooMany (accessible bytes) (root_of (accessible bytes)) most → ⊥) → IsLeastPhaseFault (accessible bytes) (root_of (accessible bytes)) deepest e → IsLeastImageFault bytes most deepest e
+  many : IsNone (HasImageFault bytes) → HasTooMany (accessible bytes) (root_of (accessible bytes)) most
+      → e ≡ record { number = TOO_MANY; at = 0 } → IsLeastImageFault bytes most deepest e
+  phase : IsNone (HasImageFault bytes) → (HasTooMany (accessible bytes) (root_of (accessible bytes)) most → ⊥)
+      → IsLeastPhaseFault (accessible bytes) (root_of (accessible bytes)) deepest e
+      → IsLeastImageFault bytes most deepest e

@@ -1,5 +1,5 @@
--- The tree of a checked image as a function of its bytes: b are the accessible ones, the root is at r, and there are no more than k records.
--- (This project's own.)
+-- The tree of a checked image as a function of its bytes: b are the accessible ones, the root is at r, and there are no
+-- more than k records. (This project's own.)
 use Rattle.std.specs.Prelude.{◌≡◌, ◌≢◌, ℕ, zero, suc, ◌-◌, ◌^◌, ◌<◌, ◌≤◌, nat_lt, Bool, true, false, if◌then◌else◌, ◌==◌, List, length, Option, Some, None}
 use Rattle.romfs_format.specs.Record.{next_of, first_of, type_of, name_of, IsSound}
 use Rattle.record_walk.specs.Forest.{Forest, none, at, count, stands_in}
@@ -37,7 +37,8 @@ made b r k p = node_of b p (entries_at b (list_at b r k p))
 -- whether the list at q and all below it end within k records
 abbrev pub ends_within : ℕ → List ℕ → ℕ → Bool
 ends_within zero b q = q == 0
-ends_within (suc k) b q = if q == 0 then true else (if ends_within k b (first_of b q) then ends_within k b (next_of b q) else false)
+ends_within (suc k) b q =
+    if q == 0 then true else (if ends_within k b (first_of b q) then ends_within k b (next_of b q) else false)
 
 -- what is known of a record below the root
 pub record IsGood (b : List ℕ) (r p : ℕ) : Type 0 where
@@ -68,4 +69,5 @@ index_at b none q = if q == 0 then Some 0 else None
 index_at b (at p own after) q = if p == q then Some 0 else bump (is_dots (name_of b p)) (index_at b after q)
 
 unfoldable pub cursor_of : List ℕ → ℕ → ℕ → ℕ → ℕ → Option ℕ
-cursor_of b r k d c = if c == 0 then Some 0 else (if nat_lt c (2 ^ 32) then None else index_at b (list_at b r k d) (c - 2 ^ 32))
+cursor_of b r k d c =
+    if c == 0 then Some 0 else (if nat_lt c (2 ^ 32) then None else index_at b (list_at b r k d) (c - 2 ^ 32))

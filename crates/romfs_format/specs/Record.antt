@@ -84,8 +84,11 @@ pub data HasRecordFault (b : List ℕ) (r p : ℕ) : ℕ → Type 0 where
   outside : {n : ℕ} → n ≡ BOUNDS → (HeaderLies b r p → ⊥) → HasRecordFault b r p n
   name_unended : {n : ℕ} → n ≡ BAD_NAME → HeaderLies b r p → (NameEnds b p → ⊥) → HasRecordFault b r p n
   end_outside : {n : ℕ} → n ≡ BOUNDS → HeaderLies b r p → NameEnds b p → length b < end_of b p → HasRecordFault b r p n
-  data_outside : {n : ℕ} → n ≡ BOUNDS → IsWhole b r p → IsTrue (has_data (type_of b p)) → length b < end_of b p + size_of b p → HasRecordFault b r p n
-  bad_sum : {n : ℕ} → n ≡ HEADER_SUM → IsWhole b r p → words_sum (part_of b p (end_of b p - p)) ≢ 0 → HasRecordFault b r p n
+  data_outside : {n : ℕ} → n ≡ BOUNDS → IsWhole b r p → IsTrue (has_data (type_of b p))
+      → length b < end_of b p + size_of b p → HasRecordFault b r p n
+  bad_sum : {n : ℕ} → n ≡ HEADER_SUM → IsWhole b r p → words_sum (part_of b p (end_of b p - p)) ≢ 0
+      → HasRecordFault b r p n
   empty_name : {n : ℕ} → n ≡ BAD_NAME → IsWhole b r p → length (name_of b p) ≡ 0 → HasRecordFault b r p n
   slash : {n : ℕ} → n ≡ BAD_NAME → IsWhole b r p → Contains (name_of b p) 47 → HasRecordFault b r p n
-  link_size : {n : ℕ} → n ≡ LINK_SIZE → IsWhole b r p → type_of b p ≡ 3 → (size_of b p ≡ 0) ⊎ (4095 < size_of b p) → HasRecordFault b r p n
+  link_size : {n : ℕ} → n ≡ LINK_SIZE → IsWhole b r p → type_of b p ≡ 3 → (size_of b p ≡ 0) ⊎ (4095 < size_of b p)
+      → HasRecordFault b r p n

@@ -22,7 +22,8 @@ following b r p = if p == r then (if heads_itself b r then next_of b r else 0) e
 -- the offset that a reference holds, 0 where it leads to no record: the superblock's (source 0) is the root, a record's
 -- first (which 0) its list, its other the record after it
 unfoldable pub reference_offset : List ℕ → ℕ → Reference → ℕ
-reference_offset b r x = if x.source == 0 then r else (if x.which == 0 then list_of b r x.source else following b r x.source)
+reference_offset b r x =
+    if x.source == 0 then r else (if x.which == 0 then list_of b r x.source else following b r x.source)
 
 abbrev pub some_offset : ℕ → Option ℕ
 some_offset q = if q == 0 then None else Some q

@@ -25,9 +25,15 @@ HasRoot b = (16 + length (before_zero (drop 16 b)) < length b) × (root_of b + 3
 
 pub data HasImageFault (bytes : List ℕ) : Fault → Type 0 where
   short : {e : Fault} → length bytes < 32 → e ≡ record { number = SHORT; at = 0 } → HasImageFault bytes e
-  no_magic : {e : Fault} → 32 ≤ length bytes → take 8 bytes ≢ magic → e ≡ record { number = MAGIC; at = 0 } → HasImageFault bytes e
-  bad_size : {e : Fault} → 32 ≤ length bytes → take 8 bytes ≡ magic → (HasSize bytes → ⊥) → e ≡ record { number = SIZE; at = 8 } → HasImageFault bytes e
-  bad_sum : {e : Fault} → 32 ≤ length bytes → take 8 bytes ≡ magic → HasSize bytes → (HasSum (accessible bytes) → ⊥) → e ≡ record { number = SUM; at = 12 } → HasImageFault bytes e
-  no_root : {e : Fault} → 32 ≤ length bytes → take 8 bytes ≡ magic → HasSize bytes → HasSum (accessible bytes) → (HasRoot (accessible bytes) → ⊥) → e ≡ record { number = ROOT; at = 16 } → HasImageFault bytes e
-  root_kind : {e : Fault} → 32 ≤ length bytes → take 8 bytes ≡ magic → HasSize bytes → HasSum (accessible bytes) → HasRoot (accessible bytes)
-      → type_of (accessible bytes) (root_of (accessible bytes)) ≢ 1 → e ≡ record { number = ROOT; at = root_of (accessible bytes) } → HasImageFault bytes e
+  no_magic : {e : Fault} → 32 ≤ length bytes → take 8 bytes ≢ magic → e ≡ record { number = MAGIC; at = 0 }
+      → HasImageFault bytes e
+  bad_size : {e : Fault} → 32 ≤ length bytes → take 8 bytes ≡ magic → (HasSize bytes → ⊥)
+      → e ≡ record { number = SIZE; at = 8 } → HasImageFault bytes e
+  bad_sum : {e : Fault} → 32 ≤ length bytes → take 8 bytes ≡ magic → HasSize bytes → (HasSum (accessible bytes) → ⊥)
+      → e ≡ record { number = SUM; at = 12 } → HasImageFault bytes e
+  no_root : {e : Fault} → 32 ≤ length bytes → take 8 bytes ≡ magic → HasSize bytes → HasSum (accessible bytes)
+      → (HasRoot (accessible bytes) → ⊥) → e ≡ record { number = ROOT; at = 16 } → HasImageFault bytes e
+  root_kind : {e : Fault} → 32 ≤ length bytes → take 8 bytes ≡ magic → HasSize bytes → HasSum (accessible bytes)
+      → HasRoot (accessible bytes)
+      → type_of (accessible bytes) (root_of (accessible bytes)) ≢ 1
+      → e ≡ record { number = ROOT; at = root_of (accessible bytes) } → HasImageFault bytes e

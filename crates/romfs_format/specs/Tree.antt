@@ -17,18 +17,21 @@ use Rattle.rom_tree.specs.Tree.{Node, node, Body, Entries, no_entries, entry, At
 
 -- the types of records by what they are
 abbrev pub kind_numbers : KindNumbers
-kind_numbers = record { of_directory = 1; of_regular = 2; of_symlink = 3; of_block = 4; of_character = 5; of_socket = 6 }
+kind_numbers =
+    record { of_directory = 1; of_regular = 2; of_symlink = 3; of_block = 4; of_character = 5; of_socket = 6 }
 
 -- one of seven things by the type of a record that is no hard link
 abbrev pub by_type : {A : Type 0} → ℕ → A → A → A → A → A → A → A → A
-by_type t directory' regular' symlink' block' character' socket' fifo' = by_kind kind_numbers t directory' regular' symlink' block' character' socket' fifo'
+by_type t directory' regular' symlink' block' character' socket' fifo' =
+    by_kind kind_numbers t directory' regular' symlink' block' character' socket' fifo'
 
 abbrev pub kind_named : ℕ → Kind
 kind_named t = kind_by kind_numbers t
 
 -- the modes are this project's own: romfs stores none but "executable", bit 3 of the mode
 abbrev pub mode_named : ℕ → Bool → ℕ
-mode_named t executable = by_type t (if executable then 493 else 420) (if executable then 493 else 420) 511 384 384 420 420
+mode_named t executable =
+    by_type t (if executable then 493 else 420) (if executable then 493 else 420) 511 384 384 420 420
 
 -- the places of a file's or link's data, right behind the record
 unfoldable pub places_at : List ℕ → ℕ → List ℕ
@@ -59,10 +62,12 @@ node_of b p es = node (attributes_at b p) (body_named (type_of b p) (places_at b
 unfoldable pub follow : List ℕ → List Row → ℕ → ℕ → Option ℕ
 follow b all zero p = if type_of b p == 0 then None else Some p
 follow b all (suc n) p =
-    if type_of b p == 0 then (if list_any (λ (x : Row). x.offset == spec_offset_of b p) all then follow b all n (spec_offset_of b p) else None) else Some p
+    if type_of b p == 0 then (if list_any (λ (x : Row). x.offset == spec_offset_of b p) all
+        then follow b all n (spec_offset_of b p) else None) else Some p
 
--- Where the record at p leads over at most n hard links, whatever stands there. In a tree it agrees with `follow`, which
--- is defined only where each link leads to a record: a node is to be made of the bytes alone, with no list of records.
+-- Where the record at p leads over at most n hard links, whatever stands there. In a tree it agrees with `follow`,
+-- which is defined only where each link leads to a record: a node is to be made of the bytes alone, with no list of
+-- records.
 unfoldable pub led : ℕ → List ℕ → ℕ → ℕ
 led zero b p = p
 led (suc n) b p = if type_of b (led n b p) == 0 then spec_offset_of b (led n b p) else led n b p
@@ -71,7 +76,8 @@ led (suc n) b p = if type_of b (led n b p) == 0 then spec_offset_of b (led n b p
 abbrev pub entries_at : List ℕ → Forest → Entries
 entries_at b none = no_entries
 entries_at b (at p own after) =
-    if is_dots (name_of b p) then entries_at b after else entry (name_of b p) (node_of b (led 8 b p) (entries_at b own)) (entries_at b after)
+    if is_dots (name_of b p) then entries_at b after else entry (name_of b p)
+        (node_of b (led 8 b p) (entries_at b own)) (entries_at b after)
 
 -- what stands in the root's list besides the root itself
 abbrev pub below_root : List ℕ → ℕ → Forest → Forest
@@ -96,7 +102,8 @@ extents_of b r xs = added Super 0 r ++ flat_map (row_extents b) xs
 pub record LeadsWell (b : List ℕ) (all : List Row) (x : Row) : Type 0 where
   pub here : name_of b x.offset ≡ dot → follow b all 8 x.offset ≡ Some x.directory
   pub above : name_of b x.offset ≡ dot_dot → follow b all 8 x.offset ≡ Some x.parent
-  pub link : is_dots (name_of b x.offset) ≡ false → type_of b x.offset ≡ 0 → (q : ℕ) × (follow b all 8 x.offset ≡ Some q) × (type_of b q ≢ 1)
+  pub link : is_dots (name_of b x.offset) ≡ false → type_of b x.offset ≡ 0
+      → (q : ℕ) × (follow b all 8 x.offset ≡ Some q) × (type_of b q ≢ 1)
 
 -- the rows that stand in lists: the root's too, where it heads its own list
 unfoldable pub listed_rows : List ℕ → ℕ → List Row → List Row

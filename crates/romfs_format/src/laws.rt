@@ -9,12 +9,15 @@ ghost use Rattle.rom_tree.specs.Tree.{Node};
 
 /// An image has at most one tree, under whatever limits.
 pub fn one_tree()
-    ensures { (bytes : List ℕ) (m n d e : ℕ) (t u : Node) → RomfsTree bytes m d t → RomfsTree bytes n e u → t ≡ u }
+    ensures { (bytes : List ℕ) (m n d e : ℕ) (t u : Node) → RomfsTree bytes m d t
+        → RomfsTree bytes n e u → t ≡ u }
 {}
 
 /// The tree of an image is a function of its bytes, its root's offset and the number of its
 /// records; and what a reader needs to know of the records holds.
 pub fn made_of_bytes()
-    ensures { (b : List ℕ) (r most deepest : ℕ) (f : Forest) → r ≢ 0 → IsTree b r most deepest f → length b < 2 ^ 32 → type_of b r ≡ 1
-        → IsRomfs b r (length (all_rows (references b r) f)) × (tree_of b r f ≡ made b r (length (all_rows (references b r) f)) r) }
+    ensures { (b : List ℕ) (r most deepest : ℕ) (f : Forest) → r ≢ 0 → IsTree b r most deepest f
+        → length b < 2 ^ 32 → type_of b r ≡ 1
+        → IsRomfs b r (length (all_rows (references b r) f))
+        × (tree_of b r f ≡ made b r (length (all_rows (references b r) f)) r) }
 {}

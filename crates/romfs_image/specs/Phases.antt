@@ -34,8 +34,10 @@ pub record TellsRepeated (b : List ℕ) (before : List Row) (x : Row) (repeated 
 -- 23 DupName, 24 Dot, 25 HardLink
 pub data IsNameFault (b : List ℕ) (r : ℕ) (all before : List Row) (x : Row) : ℕ → Type 0 where
   repeated : {n : ℕ} → n ≡ DUPLICATE_NAME → Repeats b before x → IsNameFault b r all before x n
-  here_astray : {n : ℕ} → n ≡ DOT → name_of b x.offset ≡ dot → follow b all 8 x.offset ≢ Some x.directory → IsNameFault b r all before x n
-  above_astray : {n : ℕ} → n ≡ DOT → name_of b x.offset ≡ dot_dot → follow b all 8 x.offset ≢ Some x.parent → IsNameFault b r all before x n
+  here_astray : {n : ℕ} → n ≡ DOT → name_of b x.offset ≡ dot → follow b all 8 x.offset ≢ Some x.directory
+      → IsNameFault b r all before x n
+  above_astray : {n : ℕ} → n ≡ DOT → name_of b x.offset ≡ dot_dot → follow b all 8 x.offset ≢ Some x.parent
+      → IsNameFault b r all before x n
   root_renamed : {n : ℕ} → n ≡ DOT → x.offset ≡ r → name_of b x.offset ≢ dot → IsNameFault b r all before x n
   link_astray : {n : ℕ} → n ≡ HARD_LINK → is_dots (name_of b x.offset) ≡ false → type_of b x.offset ≡ 0
       → ((q : ℕ) → follow b all 8 x.offset ≡ Some q → type_of b q ≢ 1 → ⊥) → IsNameFault b r all before x n
@@ -49,11 +51,16 @@ pub record IsWellNamed (b : List ℕ) (r : ℕ) (all before : List Row) (x : Row
 pub record AreWell (b : List ℕ) (r most : ℕ) (all : List Row) : Type 0 where
   pub shallow : (before : List Row) (x : Row) (after : List Row) → all ≡ before ++ x ∷ after → IsShallow b most before x
   pub apart : (p : ℕ) → OverlapsAt (extents_of b r all) p → ⊥
-  pub named : (before : List Row) (x : Row) (after : List Row) → listed_rows b r all ≡ before ++ x ∷ after → IsWellNamed b r all before x
+  pub named : (before : List Row) (x : Row) (after : List Row) → listed_rows b r all ≡ before ++ x ∷ after
+      → IsWellNamed b r all before x
 
 -- the least fault of the first of these phases that has one
 pub data IsLaterFault (b : List ℕ) (r most : ℕ) (all : List Row) (e : Fault) : Type 0 where
   deep : IsLeastRowFault (IsShallow b most) (IsTooDeep b most) all (Some e) → IsLaterFault b r most all e
-  overlap : IsLeastRowFault (IsShallow b most) (IsTooDeep b most) all None → {p : ℕ} → IsLeastOf (OverlapsAt (extents_of b r all)) (Some p) → e ≡ record { number = OVERLAP; at = p } → IsLaterFault b r most all e
-  name : IsLeastRowFault (IsShallow b most) (IsTooDeep b most) all None → IsLeastOf (OverlapsAt (extents_of b r all)) None
-      → IsLeastRowFault (IsWellNamed b r all) (IsNameFault b r all) (listed_rows b r all) (Some e) → IsLaterFault b r most all e
+  overlap : IsLeastRowFault (IsShallow b most) (IsTooDeep b most) all None → {p : ℕ}
+      → IsLeastOf (OverlapsAt (extents_of b r all)) (Some p) → e ≡ record { number = OVERLAP; at = p }
+      → IsLaterFault b r most all e
+  name : IsLeastRowFault (IsShallow b most) (IsTooDeep b most) all None
+      → IsLeastOf (OverlapsAt (extents_of b r all)) None
+      → IsLeastRowFault (IsWellNamed b r all) (IsNameFault b r all) (listed_rows b r all) (Some e)
+      → IsLaterFault b r most all e

@@ -1,5 +1,5 @@
-//! The accessible bytes of an image with the place of its root, and its records as the traversal reads
-//! them.
+//! The accessible bytes of an image with the place of its root, and its records as the traversal
+//! reads them.
 ghost use Rattle.std.specs.Prelude.{◌≡◌, ◌≢◌, ◌+◌, ◌<◌, ◌≤◌, ◌^◌, length};
 ghost use Rattle.romfs_format.specs.Refers.{references, LeadsToSound, LeadsToFault, some_offset, list_of, following, reference_offset};
 
@@ -28,7 +28,8 @@ fn some(offset: u32) -> Option<u32>
 
 impl Accessible<'_> {
     /// Where the list of the record at `at` begins; that the root heads its own is no reference.
-    #[tactic(auto, unfolding(romfs_format::specs::Refers::list_of, romfs_format::specs::Refers::heads_itself))]
+    #[tactic(auto, unfolding(romfs_format::specs::Refers::list_of,
+        romfs_format::specs::Refers::heads_itself))]
     fn list_at(&self, at: u32) -> u32
         requires { at + 16 ≤ length self.now.bytes.now }
         ensures { result ≡ list_of self.now.bytes.now self.now.root at }
@@ -42,7 +43,8 @@ impl Accessible<'_> {
     }
 
     /// The record after that at `at`.
-    #[tactic(auto, unfolding(romfs_format::specs::Refers::following, romfs_format::specs::Refers::heads_itself))]
+    #[tactic(auto, unfolding(romfs_format::specs::Refers::following,
+        romfs_format::specs::Refers::heads_itself))]
     fn record_after(&self, at: u32) -> u32
         requires { at + 16 ≤ length self.now.bytes.now }
         ensures { result ≡ following self.now.bytes.now self.now.root at }

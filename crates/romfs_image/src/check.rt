@@ -24,7 +24,8 @@ impl<'a> Romfs<'a> {
     /// It looks at no more than `limits.references` references and one more. Of r records it takes
     /// time as r log r and memory for some 120 bytes a record. `OutOfMemory` where that is refused.
     pub fn check(alloc: Global, bytes: &'a [u8], limits: Limits) -> Result<Romfs<'a>, CheckError>
-        ensures ok { IfOk result (λ v. Shows bytes.now limits (⟦<Romfs<'a> as Viewed>⟧.image v) (report_of v)) }
+        ensures ok { IfOk result (λ v. Shows bytes.now limits (⟦<Romfs<'a> as Viewed>⟧.image v)
+            (report_of v)) }
         ensures shallow { IfOk result (λ v. levels (⟦<Romfs<'a> as Viewed>⟧.image v).tree ≤ 65) }
         ensures clean { IfOk result (λ v. HasNoFault bytes.now limits.references limits.depth) }
         ensures fault { IfErr result (IsRefused bytes.now limits) }

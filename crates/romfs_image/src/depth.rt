@@ -27,7 +27,8 @@ fn is_too_deep(b: &Accessible<'_>, row: Row, most: u32) -> bool
     requires { IsSound b.now.bytes.now b.now.root row.offset }
     ensures entry { OnTrue result (is_dots (name_of b.now.bytes.now row.offset) ≡ false) }
     ensures deep { OnTrue result (most < row.depth) }
-    ensures shallow { OnFalse result (is_dots (name_of b.now.bytes.now row.offset) ≡ false → row.depth ≤ most) }
+    ensures shallow { OnFalse result (is_dots (name_of b.now.bytes.now row.offset) ≡ false
+        → row.depth ≤ most) }
 {
     row.depth > most && is_entry(b, row)
 }
@@ -35,7 +36,8 @@ fn is_too_deep(b: &Accessible<'_>, row: Row, most: u32) -> bool
 /// The least fault of an entry deeper than `most`.
 pub fn least_too_deep(b: &Accessible<'_>, rows: &[Row], most: u32) -> Option<Fault>
     requires { All (λ x. IsSound b.now.bytes.now b.now.root x.offset) rows.now }
-    ensures { IsLeastRowFault (IsShallow b.now.bytes.now most) (IsTooDeep b.now.bytes.now most) rows.now result }
+    ensures { IsLeastRowFault (IsShallow b.now.bytes.now most)
+        (IsTooDeep b.now.bytes.now most) rows.now result }
 {
     let mut noted: Option<Fault> = None;
     'rows: for row in rows {
@@ -53,8 +55,10 @@ pub fn least_too_deep(b: &Accessible<'_>, rows: &[Row], most: u32) -> Option<Fau
 /// The greatest depth of an entry, 0 where there is none.
 pub fn greatest_depth(b: &Accessible<'_>, rows: &[Row]) -> u32
     requires { All (λ x. IsSound b.now.bytes.now b.now.root x.offset) rows.now }
-    ensures bound { All (λ x. is_dots (name_of b.now.bytes.now x.offset) ≡ false → x.depth ≤ result) rows.now }
-    ensures reached { (result ≡ 0) ⊎ Any (λ x. (is_dots (name_of b.now.bytes.now x.offset) ≡ false) × (x.depth ≡ result)) rows.now }
+    ensures bound { All (λ x. is_dots (name_of b.now.bytes.now x.offset) ≡ false
+        → x.depth ≤ result) rows.now }
+    ensures reached { (result ≡ 0) ⊎ Any (λ x. (is_dots (name_of b.now.bytes.now x.offset) ≡ false)
+        × (x.depth ≡ result)) rows.now }
 {
     let mut deepest: u32 = 0;
     'rows: for row in rows {

@@ -21,7 +21,8 @@ pub fn word(b: &[u8], at: usize) -> u32
 
 /// How long the name at `at` is, where a zero ends it within 256 bytes.
 pub fn name_len(b: &[u8], at: usize) -> Option<usize>
-    ensures { SomeIff result ((at + length (before_zero (drop at b.now)) < length b.now) × (length (before_zero (drop at b.now)) < 256))
+    ensures { SomeIff result ((at + length (before_zero (drop at b.now)) < length b.now)
+        × (length (before_zero (drop at b.now)) < 256))
         (length (before_zero (drop at b.now))) }
 {
     let len = b.len();
@@ -114,7 +115,8 @@ impl<'a> Accessible<'a> {
     }
 
     /// Where the list of a directory begins; 0 where there is none.
-    #[tactic(auto, unfolding(romfs_format::specs::Made::begins, romfs_format::specs::Made::start_of, romfs_format::specs::Refers::heads_itself))]
+    #[tactic(auto, unfolding(romfs_format::specs::Made::begins,
+        romfs_format::specs::Made::start_of, romfs_format::specs::Refers::heads_itself))]
     pub fn list_start(&self, at: u32) -> u32
         requires { IsSound self.now.bytes.now self.now.root at }
         ensures { result ≡ begins self.now.bytes.now self.now.root at }
@@ -129,7 +131,8 @@ impl<'a> Accessible<'a> {
 
     /// Where a record leads over hard links.
     pub fn led_at(&self, at: u32) -> u32
-        requires { (n : ℕ) → n ≤ 8 → IsSound self.now.bytes.now self.now.root (led n self.now.bytes.now at) }
+        requires { (n : ℕ) → n ≤ 8 → IsSound self.now.bytes.now self.now.root
+            (led n self.now.bytes.now at) }
         ensures { result ≡ led 8 self.now.bytes.now at }
     {
         let mut p = at;

@@ -27,7 +27,8 @@ pub struct Romfs<'a> {
 }
 
 impl Viewed for Romfs<'_> {
-    ghost image = { λ s. romfs_view s.all.now s.accessible.bytes.now s.accessible.root s.references s.sound s.within };
+    ghost image = { λ s. romfs_view s.all.now s.accessible.bytes.now s.accessible.root s.references
+        s.sound s.within };
 }
 
 impl<'a> TreeImage<'a> for Romfs<'a> {
@@ -109,8 +110,10 @@ impl<'a> TreeImage<'a> for Romfs<'a> {
     /// The report stays as it is.
     fn lookup(&mut self, d: NodeId, name: &[u8]) -> Option<NodeId>
         requires { HasDirectory (⟦<Romfs<'a> as Viewed>⟧.image self.old) d.0 }
-        ensures stays { ⟦<Romfs<'a> as Viewed>⟧.image self.new ≡ ⟦<Romfs<'a> as Viewed>⟧.image self.old }
-        ensures found { (x : Node) → image_node (⟦<Romfs<'a> as Viewed>⟧.image self.old) d.0 ≡ Some x
+        ensures stays { ⟦<Romfs<'a> as Viewed>⟧.image self.new
+            ≡ ⟦<Romfs<'a> as Viewed>⟧.image self.old }
+        ensures found { (x : Node) → image_node (⟦<Romfs<'a> as Viewed>⟧.image self.old) d.0
+            ≡ Some x
             → MatchOption result (find_entry (entries_of x) name.now ≡ None)
             (λ n. (y : Node) × (find_entry (entries_of x) name.now ≡ Some y) × (ino_of y ≡ n.0)) }
         ensures report { report_of self.new ≡ report_of self.old }
@@ -131,7 +134,8 @@ impl<'a> TreeImage<'a> for Romfs<'a> {
         requires { HasNode (⟦<Romfs<'a> as Viewed>⟧.image self.now) n.0 }
         ensures row { (x : Node) → image_node (⟦<Romfs<'a> as Viewed>⟧.image self.now) n.0 ≡ Some x
             → GivesRun (places_of x) off result }
-        ensures whole { (x : Node) → image_node (⟦<Romfs<'a> as Viewed>⟧.image self.now) n.0 ≡ Some x
+        ensures whole { (x : Node) → image_node (⟦<Romfs<'a> as Viewed>⟧.image self.now) n.0
+            ≡ Some x
             → GivesWhole x off result }
         ensures rest { (x : Node) → image_node (⟦<Romfs<'a> as Viewed>⟧.image self.now) n.0 ≡ Some x
             → GivesRest (places_of x) off result }

@@ -32,15 +32,20 @@ fn leads(led: Option<u32>, to: u32) -> bool
     }
 }
 
-/// Whether `.` or `..` leads elsewhere than it is to, or the root heads its list under another name.
+/// Whether `.` or `..` leads elsewhere than it is to, or the root heads its list under another
+/// name.
 fn is_astray(b: &Accessible<'_>, all: &[Row], offsets: &[u32], row: Row) -> bool
     requires all { All (λ x. IsSound b.now.bytes.now b.now.root x.offset) all.now }
     requires offsets { AreOffsets all.now offsets.now }
     requires row { IsSound b.now.bytes.now b.now.root row.offset }
-    ensures astray { OnTrue result ((before : List Row) → IsNameFault b.now.bytes.now b.now.root all.now before row 24) }
-    ensures here { OnFalse result (name_of b.now.bytes.now row.offset ≡ dot → follow b.now.bytes.now all.now 8 row.offset ≡ Some row.directory) }
-    ensures above { OnFalse result (name_of b.now.bytes.now row.offset ≡ dot_dot → follow b.now.bytes.now all.now 8 row.offset ≡ Some row.parent) }
-    ensures root { OnFalse result (row.offset ≡ b.now.root → name_of b.now.bytes.now row.offset ≡ dot) }
+    ensures astray { OnTrue result ((before : List Row)
+        → IsNameFault b.now.bytes.now b.now.root all.now before row 24) }
+    ensures here { OnFalse result (name_of b.now.bytes.now row.offset ≡ dot
+        → follow b.now.bytes.now all.now 8 row.offset ≡ Some row.directory) }
+    ensures above { OnFalse result (name_of b.now.bytes.now row.offset ≡ dot_dot
+        → follow b.now.bytes.now all.now 8 row.offset ≡ Some row.parent) }
+    ensures root { OnFalse result (row.offset ≡ b.now.root
+        → name_of b.now.bytes.now row.offset ≡ dot) }
 {
     let name = b.name_at(row.offset);
     if is_dot(name) {
@@ -66,9 +71,12 @@ fn is_link_astray(b: &Accessible<'_>, all: &[Row], offsets: &[u32], row: Row) ->
     requires all { All (λ x. IsSound b.now.bytes.now b.now.root x.offset) all.now }
     requires offsets { AreOffsets all.now offsets.now }
     requires row { IsSound b.now.bytes.now b.now.root row.offset }
-    ensures astray { OnTrue result ((before : List Row) → IsNameFault b.now.bytes.now b.now.root all.now before row 25) }
-    ensures leads { OnFalse result (is_dots (name_of b.now.bytes.now row.offset) ≡ false → type_of b.now.bytes.now row.offset ≡ 0
-        → (q : ℕ) × (follow b.now.bytes.now all.now 8 row.offset ≡ Some q) × (type_of b.now.bytes.now q ≢ 1)) }
+    ensures astray { OnTrue result ((before : List Row)
+        → IsNameFault b.now.bytes.now b.now.root all.now before row 25) }
+    ensures leads { OnFalse result (is_dots (name_of b.now.bytes.now row.offset) ≡ false
+        → type_of b.now.bytes.now row.offset ≡ 0
+        → (q : ℕ) × (follow b.now.bytes.now all.now 8 row.offset ≡ Some q)
+        × (type_of b.now.bytes.now q ≢ 1)) }
 {
     if is_dots(b.name_at(row.offset)) {
         return false;
@@ -99,9 +107,11 @@ fn name_fault(
     requires all { All (λ x. IsSound b.now.bytes.now b.now.root x.offset) all.now }
     requires offsets { AreOffsets all.now offsets.now }
     requires row { IsSound b.now.bytes.now b.now.root row.offset }
-    ensures well { (before : List Row) → TellsRepeated b.now.bytes.now before row repeated → IfNone result (IsWellNamed b.now.bytes.now b.now.root all.now before row) }
+    ensures well { (before : List Row) → TellsRepeated b.now.bytes.now before row repeated
+        → IfNone result (IsWellNamed b.now.bytes.now b.now.root all.now before row) }
     ensures fault { (before : List Row) → TellsRepeated b.now.bytes.now before row repeated
-        → IfSome result (λ n. IsLeast (IsNameFault b.now.bytes.now b.now.root all.now before row) n) }
+        → IfSome result (λ n. IsLeast (IsNameFault b.now.bytes.now b.now.root all.now before row)
+        n) }
 {
     if repeated {
         return Some(DUPLICATE_NAME);
@@ -136,7 +146,8 @@ fn names_of<'a>(
     Ok(names)
 }
 
-/// The least fault of a name among the rows that stand in lists; `all` are those of the whole image.
+/// The least fault of a name among the rows that stand in lists; `all` are those of the whole
+/// image.
 pub fn least_name_fault(
     alloc: Global,
     b: &Accessible<'_>,
@@ -145,7 +156,8 @@ pub fn least_name_fault(
 ) -> Result<Option<Fault>, OutOfMemory>
     requires all { All (λ x. IsSound b.now.bytes.now b.now.root x.offset) all.now }
     requires listed { All (λ x. IsSound b.now.bytes.now b.now.root x.offset) listed.now }
-    ensures { IfOk result (IsLeastRowFault (IsWellNamed b.now.bytes.now b.now.root all.now) (IsNameFault b.now.bytes.now b.now.root all.now) listed.now) }
+    ensures { IfOk result (IsLeastRowFault (IsWellNamed b.now.bytes.now b.now.root all.now)
+        (IsNameFault b.now.bytes.now b.now.root all.now) listed.now) }
 {
     let offsets = offsets_of(alloc, all)?;
     let repeated = repeats(alloc, names_of(alloc, b, listed)?)?;

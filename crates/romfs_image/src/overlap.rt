@@ -33,7 +33,8 @@ pub fn least_overlap(
     rows: &[Row],
 ) -> Result<Option<u32>, OutOfMemory>
     requires sound { All (λ x. IsSound b.now.bytes.now b.now.root x.offset) rows.now }
-    ensures { IfOk result (IsLeastOf (OverlapsAt (extents_of b.now.bytes.now b.now.root rows.now))) }
+    ensures { IfOk result (IsLeastOf (OverlapsAt
+        (extents_of b.now.bytes.now b.now.root rows.now))) }
 {
     let mut extents = Extents::new(alloc);
     extents.add(Extent::Super, 0, b.root)?;

@@ -16,7 +16,8 @@ use rom_fields::memory::OutOfMemory;
 use std::alloc::Global;
 
 /// The rows that stand in lists: all, where the root heads its own list, else all but the root's.
-#[tactic(auto, unfolding(romfs_format::specs::Tree::listed_rows, romfs_format::specs::Refers::heads_itself))]
+#[tactic(auto, unfolding(romfs_format::specs::Tree::listed_rows,
+    romfs_format::specs::Refers::heads_itself))]
 fn listed<'a>(b: &Accessible<'_>, rows: &'a [Row]) -> &'a [Row]
     requires some { 1 ≤ length rows.now }
     ensures { result.now ≡ listed_rows b.now.bytes.now b.now.root rows.now }
@@ -38,7 +39,8 @@ pub fn later_fault(
 ) -> Result<Option<Fault>, OutOfMemory>
     requires sound { All (λ x. IsSound b.now.bytes.now b.now.root x.offset) rows.now }
     requires some { 1 ≤ length rows.now }
-    ensures { IfOk result (λ o. MatchOption o (AreWell b.now.bytes.now b.now.root most rows.now) (IsLaterFault b.now.bytes.now b.now.root most rows.now)) }
+    ensures { IfOk result (λ o. MatchOption o (AreWell b.now.bytes.now b.now.root most rows.now)
+        (IsLaterFault b.now.bytes.now b.now.root most rows.now)) }
 {
     if let Some(fault) = least_too_deep(b, rows, most) {
         return Ok(Some(fault));

@@ -43,8 +43,10 @@ pub fn whole_record(b: &Accessible<'_>, at: usize) -> Result<Whole, u32>
 fn data_lie(b: &Accessible<'_>, at: usize, end: usize) -> bool
     requires header { at + 16 ≤ length b.now.bytes.now }
     requires end { end ≤ length b.now.bytes.now }
-    ensures lie { OnTrue result (IsTrue (has_data (type_of b.now.bytes.now at)) → end + size_of b.now.bytes.now at ≤ length b.now.bytes.now) }
-    ensures outside { OnFalse result (IsTrue (has_data (type_of b.now.bytes.now at)) × (length b.now.bytes.now < end + size_of b.now.bytes.now at)) }
+    ensures lie { OnTrue result (IsTrue (has_data (type_of b.now.bytes.now at))
+        → end + size_of b.now.bytes.now at ≤ length b.now.bytes.now) }
+    ensures outside { OnFalse result (IsTrue (has_data (type_of b.now.bytes.now at))
+        × (length b.now.bytes.now < end + size_of b.now.bytes.now at)) }
 {
     let kind = b.type_at(at);
     if kind == 2 || kind == 3 {
@@ -77,7 +79,8 @@ fn has_name(b: &Accessible<'_>, at: usize, len: usize) -> bool
     requires fits { at + 16 + len < length b.now.bytes.now }
     ensures some { OnTrue result (0 < length (name_of b.now.bytes.now at)) }
     ensures no_slash { OnTrue result (Contains (name_of b.now.bytes.now at) 47 → ⊥) }
-    ensures other { OnFalse result ((length (name_of b.now.bytes.now at) ≡ 0) ⊎ Contains (name_of b.now.bytes.now at) 47) }
+    ensures other { OnFalse result ((length (name_of b.now.bytes.now at) ≡ 0)
+        ⊎ Contains (name_of b.now.bytes.now at) 47) }
 {
     let name = &b.bytes[at + 16..at + 16 + len];
     if name.is_empty() {
@@ -92,9 +95,11 @@ fn has_name(b: &Accessible<'_>, at: usize, len: usize) -> bool
 /// Whether the size of a symbolic link is that of a text: 1 to 4,095 bytes.
 fn has_link_size(b: &Accessible<'_>, at: usize) -> bool
     requires { at + 16 ≤ length b.now.bytes.now }
-    ensures fits { OnTrue result (type_of b.now.bytes.now at ≡ 3 → (1 ≤ size_of b.now.bytes.now at) × (size_of b.now.bytes.now at ≤ 4095)) }
+    ensures fits { OnTrue result (type_of b.now.bytes.now at ≡ 3
+        → (1 ≤ size_of b.now.bytes.now at) × (size_of b.now.bytes.now at ≤ 4095)) }
     ensures link { OnFalse result (type_of b.now.bytes.now at ≡ 3) }
-    ensures size { OnFalse result ((size_of b.now.bytes.now at ≡ 0) ⊎ (4095 < size_of b.now.bytes.now at)) }
+    ensures size { OnFalse result ((size_of b.now.bytes.now at ≡ 0)
+        ⊎ (4095 < size_of b.now.bytes.now at)) }
 {
     if b.type_at(at) == 3 {
         let size = b.size_at(at);

@@ -45,7 +45,8 @@ fn has_sum(b: &[u8]) -> bool
 /// How many bytes stand from `at` before the first zero, where there is a zero.
 fn zero_after(b: &[u8], at: usize) -> Option<usize>
     requires { at ≤ length b.now }
-    ensures { SomeIff result (at + length (before_zero (drop at b.now)) < length b.now) (length (before_zero (drop at b.now))) }
+    ensures { SomeIff result (at + length (before_zero (drop at b.now)) < length b.now)
+        (length (before_zero (drop at b.now))) }
 {
     let found = memchr(0, &b[at..]);
     found
@@ -67,8 +68,8 @@ fn root_offset(b: &[u8]) -> Option<u32>
     Some(root as u32)
 }
 
-/// The accessible bytes with the place of the root, or the first fault of the image as a whole: 2 Short, 3 Magic, 4 Size,
-/// 5 Sum, 9 Root.
+/// The accessible bytes with the place of the root, or the first fault of the image as a whole: 2
+/// Short, 3 Magic, 4 Size, 5 Sum, 9 Root.
 pub fn read_superblock<'a>(bytes: &'a [u8]) -> Result<Accessible<'a>, Fault>
     ensures ok { IfOk result (λ b. IsSuperblock bytes.now b.bytes.now b.root) }
     ensures fault { IfErr result (HasImageFault bytes.now) }

@@ -1,4 +1,1 @@
-pub mod Answers
-pub mod Hello
-pub mod Formats
 pub mod Words

@@ -1,9 +1,9 @@
 //! The program: its words, its files and its standard streams.
 ghost use Rattle.std.specs.Prelude.{◌≡◌, ◌≤◌};
 
-use crate::hello::hello;
-use crate::printing::{FAULT, complain, print};
 use crate::words::{Request, WordsError, read};
+use rom_commands::hello::hello;
+use rom_commands::printing::{FAULT, complain, print};
 use rom_fields::bytes::Plain;
 use std::io::BufWriter;
 use std::{env, fs, io};

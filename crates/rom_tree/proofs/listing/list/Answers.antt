@@ -2,7 +2,7 @@ use Rattle.std.proofs.Common.{true, false, ◌≡◌, Some, None, refl, sym, ap,
 use Rattle.std.specs.Io.KnownBytes.{Appends}
 use Rattle.std.proofs.lemmas.Bool.{eqb-true}
 use Rattle.rom_fields.specs.Written.{Puts, sink, AppendsPrefix}
-use Rattle.rom_fields.proofs.Joins.{chain, said_ok, said_front, said_rose, front_first}
+use Rattle.rom_fields.proofs.Joins.{chain, said_ok, said_front, said_rose, said_quiet, front_first}
 use Rattle.rom_tree.specs.Image.{Image, image_node, HasDirectory}
 use Rattle.rom_tree.specs.Listing.{line, list_text}
 use Rattle.rom_tree.specs.Frames.{AreFrames, pending}
@@ -66,8 +66,8 @@ returns-clause-err g c = let m : Image = g.T.Viewed.image c.args.image.now in le
     let P : List ℕ → Type 0 = λ v. AppendsPrefix (g.W.ByteWrite.output c.args.w.now).contents (g.W.ByteWrite.output c.loop-failed.w).contents v in
     subst P i.rest (front_first (g.W.ByteWrite.output c.args.w.now).contents (g.W.ByteWrite.output c.loop-failed.w).contents i.done (pending m [] c.loop-failed.stack.items) (said_front (g.W.ByteWrite.output c.args.w.now) (g.W.ByteWrite.output c.loop-failed.w) c.loop-failed.failed i.done c.loop-failed-test.false i.puts))
 
-pub returns-clause-fault : goal.returns-clause-fault
-returns-clause-fault g c = let i = c.loop-failed.invariant in said_rose (g.W.ByteWrite.output c.args.w.now) (g.W.ByteWrite.output c.loop-failed.w) c.loop-failed.failed i.done c.loop-failed-test.false i.puts
+pub returns-clause-count : goal.returns-clause-count
+returns-clause-count g c = let i = c.loop-failed.invariant in said_rose (g.W.ByteWrite.output c.args.w.now) (g.W.ByteWrite.output c.loop-failed.w) c.loop-failed.failed i.done c.loop-failed-test.false i.puts
 
 empty_by : (xs : List Frame) → (length xs == 0) ≡ true → xs ≡ []
 empty_by [] h = refl
@@ -79,3 +79,6 @@ returns-then-is_empty-clause-ok g c = let m : Image = g.T.Viewed.image c.args.im
     let e : i.done ≡ list_text m.bytes m.tree = sym (append-nil i.done) ∙ (ap (λ (v : List ℕ). i.done ++ v) (sym (ap (pending m []) n ∙ pending-nil m [])) ∙ i.rest) in
     let P : List ℕ → Type 0 = λ v. Appends (g.W.ByteWrite.output c.args.w.now).contents (g.W.ByteWrite.output c.loop-failed.w).contents v in
     subst P e (said_ok (g.W.ByteWrite.output c.args.w.now) (g.W.ByteWrite.output c.loop-failed.w) c.loop-failed.failed i.done c.loop-failed-test.true i.puts)
+
+pub returns-then-is_empty-clause-count : goal.returns-then-is_empty-clause-count
+returns-then-is_empty-clause-count g c = let i = c.loop-failed.invariant in said_quiet (g.W.ByteWrite.output c.args.w.now) (g.W.ByteWrite.output c.loop-failed.w) c.loop-failed.failed i.done c.loop-failed-test.true i.puts

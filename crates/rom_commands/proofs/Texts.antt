@@ -1,0 +1,37 @@
+-- What is printed of an image, from what its check found.
+use Rattle.std.proofs.Common.{◌≡◌, ℕ, Bool, List, refl, ap, ◌∙◌, subst}
+use Rattle.rom_faults.specs.declared.error.CheckError.TheVariants.{Fault}
+use Rattle.rom_tree.specs.declared.types.Limits.{Limits}
+use Rattle.image_check.specs.declared.any.AnyImage.{AnyImage}
+use Rattle.image_check.specs.declared.any.AnyImage.TheVariants.{Romfs, Cramfs}
+use Rattle.image_check.specs.Any.{any_view, report_of}
+use Rattle.image_check.specs.Checked.{Shows, IsRefused, HasFormat, IsFaultless, IsLeastFault}
+use Rattle.rom_commands.specs.Formats.{cramfs_name, format_of}
+use Rattle.rom_commands.specs.Answers.{romfs, cramfs, IsFormatName, IsSoundText, IsFaultText, sound_text, fault_line, usual_limits}
+
+-- the format that the first bytes name is the image's
+format_named : (bytes : List ℕ) (v : AnyImage) → HasFormat bytes v → IsFormatName bytes (format_of v)
+format_named bytes (Romfs s) h = romfs h refl
+format_named bytes (Cramfs s) h = cramfs h.0 (ap cramfs_name h.1)
+
+-- limits of these numbers are the usual ones
+pub usual : (l : Limits) → l.references ≡ 1048576 → l.depth ≡ 64 → l ≡ usual_limits
+usual l r d =
+    let by_references : ℕ → Limits = λ n. record { references = n; depth = l.depth } in
+    let by_depth : ℕ → Limits = λ n. record { references = 1048576; depth = n } in
+    ap by_references r ∙ ap by_depth d
+
+-- what is printed of a sound image
+pub sound : (bytes : List ℕ) (listed : Bool) (l : Limits) (v : AnyImage) → l ≡ usual_limits → Shows bytes l (any_view v) (report_of v) → HasFormat bytes v → IsFaultless bytes l
+    → IsSoundText bytes listed (sound_text listed (any_view v) (format_of v) (report_of v))
+sound bytes listed l v e h f k =
+    let P : Limits → Type 0 = λ u. Shows bytes u (any_view v) (report_of v) in
+    let Q : Limits → Type 0 = λ u. IsFaultless bytes u in
+    record { image = any_view v; format = format_of v; report = report_of v; shows = subst P e h; named = format_named bytes v f; clean = subst Q e k; same = refl }
+
+-- what is printed of an image with a fault
+pub faulty : (bytes : List ℕ) (l : Limits) (number at : ℕ) → l ≡ usual_limits → IsRefused bytes l (Fault number at) → IsLeastFault bytes l (Fault number at) → IsFaultText bytes (fault_line number at)
+faulty bytes l number at e h k =
+    let P : Limits → Type 0 = λ v. IsRefused bytes v (Fault number at) in
+    let Q : Limits → Type 0 = λ v. IsLeastFault bytes v (Fault number at) in
+    record { number = number; at = at; refused = subst P e h; least = subst Q e k; same = refl }
