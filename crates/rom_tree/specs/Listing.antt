@@ -21,13 +21,16 @@ kind_letter Fifo = 112
 abbrev pub target_text : List ℕ → Node → List ℕ
 target_text b x = if is_link x then 32 ∷ escaped (contents_of b x) else []
 
--- INO KIND MODE UID GID SIZE MAJOR MINOR PATH, what follows the path, and a line feed
-unfoldable pub stat_line : List ℕ → List ℕ → Stat → List ℕ
-stat_line path target s =
+-- INO KIND MODE UID GID SIZE MAJOR MINOR
+unfoldable pub stat_text : Stat → List ℕ
+stat_text s =
     decimal s.ino ++ (32 ∷ kind_letter s.kind ∷ 32 ∷ [] ++ (octal s.mode
     ++ (32 ∷ [] ++ (decimal s.uid ++ (32 ∷ [] ++ (decimal s.gid ++ (32 ∷ [] ++ (decimal s.size
-    ++ (32 ∷ [] ++ (decimal s.major ++ (32 ∷ [] ++ (decimal s.minor ++ (32 ∷ [] ++ (path
-    ++ (target ++ 10 ∷ [])))))))))))))))
+    ++ (32 ∷ [] ++ (decimal s.major ++ (32 ∷ [] ++ decimal s.minor)))))))))))
+
+-- these, PATH, what follows the path, and a line feed
+unfoldable pub stat_line : List ℕ → List ℕ → Stat → List ℕ
+stat_line path target s = stat_text s ++ (32 ∷ [] ++ (path ++ (target ++ 10 ∷ [])))
 
 -- a node's line, where the image has these bytes
 unfoldable pub line : List ℕ → List ℕ → Node → List ℕ

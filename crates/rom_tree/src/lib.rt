@@ -16,6 +16,7 @@ pub mod listing;
 pub mod types;
 
 pub use image::{TreeImage, Viewed};
+pub use line::put_stat;
 pub use listing::list;
 pub use rom_faults::CheckError;
 pub use types::{Cursor, Entry, Kind, Limits, ListError, NodeId, Piece, Report, Run, Stat};

@@ -3,12 +3,12 @@ ghost use Rattle.std.specs.Prelude.{◌≡◌, [], Some};
 ghost use Rattle.rom_fields.specs.Written.{Puts, sink};
 ghost use Rattle.rom_tree.specs.Tree.{Node};
 ghost use Rattle.rom_tree.specs.Image.{image_node, HasNode};
-ghost use Rattle.rom_tree.specs.Listing.{kind_letter, line, target_text};
+ghost use Rattle.rom_tree.specs.Listing.{kind_letter, stat_text, line, target_text};
 ghost use Rattle.rom_tree.specs.Frames.{line_path, name_text, path_text};
 
 use crate::frame::Frame;
 use crate::image::{TreeImage, is_link_at, link_text};
-use crate::types::{Kind, NodeId};
+use crate::types::{Kind, NodeId, Stat};
 use rom_fields::bytes::ByteWrite;
 use rom_fields::sink::put;
 use rom_fields::text::{put_decimal, put_escaped, put_octal};
@@ -86,6 +86,28 @@ fn letter_of(kind: Kind) -> u8
     }
 }
 
+/// Puts a node's numbers, `INO KIND MODE UID GID SIZE MAJOR MINOR`. KIND is the letter of a list,
+/// MODE has four octal digits, and the other numbers are decimal.
+pub fn put_stat<W: ByteWrite>(w: &mut W, failed: &mut bool, stat: Stat)
+    ensures { Puts (sink (W.output w.old) failed.old)
+        (sink (W.output w.new) failed.new) (stat_text stat) }
+{
+    put_decimal(w, failed, stat.ino);
+    let letter = letter_of(stat.kind);
+    put(w, failed, &[b' ', letter, b' ']);
+    put_octal(w, failed, stat.mode);
+    put(w, failed, b" ");
+    put_decimal(w, failed, stat.uid);
+    put(w, failed, b" ");
+    put_decimal(w, failed, stat.gid);
+    put(w, failed, b" ");
+    put_decimal(w, failed, stat.size);
+    put(w, failed, b" ");
+    put_decimal(w, failed, stat.major);
+    put(w, failed, b" ");
+    put_decimal(w, failed, stat.minor);
+}
+
 /// Puts the line of a node of this name in the last of some frames. The root has no name.
 pub fn put_line<'a, T: TreeImage<'a>, W: ByteWrite>(
     image: &T,
@@ -101,21 +123,7 @@ pub fn put_line<'a, T: TreeImage<'a>, W: ByteWrite>(
         (sink (W.output w.new) failed.new)
         (line (T.image image.now).bytes (line_path frames.now name.entry) x) }
 {
-    let stat = image.stat(n);
-    put_decimal(w, failed, stat.ino);
-    let letter = letter_of(stat.kind);
-    put(w, failed, &[b' ', letter, b' ']);
-    put_octal(w, failed, stat.mode);
-    put(w, failed, b" ");
-    put_decimal(w, failed, stat.uid);
-    put(w, failed, b" ");
-    put_decimal(w, failed, stat.gid);
-    put(w, failed, b" ");
-    put_decimal(w, failed, stat.size);
-    put(w, failed, b" ");
-    put_decimal(w, failed, stat.major);
-    put(w, failed, b" ");
-    put_decimal(w, failed, stat.minor);
+    put_stat(w, failed, image.stat(n));
     put(w, failed, b" ");
     put_line_path(w, failed, frames, name);
     put_target(image, w, failed, n);

@@ -1,0 +1,4 @@
+pub mod Cutting
+pub mod Numerals
+pub mod Decoding
+pub mod Hexadecimal

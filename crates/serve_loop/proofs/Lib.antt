@@ -1,0 +1,5 @@
+pub mod Runs
+pub mod Flushed
+pub mod Joined
+pub mod Apart
+pub mod Agree

@@ -1,0 +1,3 @@
+pub mod Got
+pub mod Served
+pub mod Views

@@ -1,0 +1,121 @@
+-- What a server of lines writes for an input, and how much of the input it uses. (This project's own.)
+use Rattle.std.specs.Prelude.{◌≡◌, ℕ, ◌-◌, Bool, if◌then◌else◌, ◌==◌, List, [], ◌∷◌, ◌++◌, Option, length, take, IfSome}
+use Rattle.std.specs.Io.KnownBytes.{Appends, Consumes}
+
+-- Lines.
+
+abbrev pub line_feed : ℕ
+line_feed = 10
+
+-- a last line without a line feed counts where it is not empty
+abbrev pub last_line : List ℕ → List (List ℕ)
+last_line [] = []
+last_line (b ∷ line) = (b ∷ line) ∷ []
+
+-- the lines of a text before which `line` stands
+unfoldable pub lines_after : List ℕ → List ℕ → List (List ℕ)
+lines_after line [] = last_line line
+lines_after line (b ∷ x) =
+    if b == line_feed then line ∷ lines_after [] x else lines_after (line ++ b ∷ []) x
+
+-- a text cut at line feeds
+abbrev pub lines_of : List ℕ → List (List ℕ)
+lines_of x = lines_after [] x
+
+-- the same without a last line that has no line feed
+unfoldable pub whole_lines_after : List ℕ → List ℕ → List (List ℕ)
+whole_lines_after line [] = []
+whole_lines_after line (b ∷ x) =
+    if b == line_feed then line ∷ whole_lines_after [] x else whole_lines_after (line ++ b ∷ []) x
+
+-- lines as a text, each with a line feed
+abbrev pub joined : List (List ℕ) → List ℕ
+joined [] = []
+joined (l ∷ ls) = l ++ line_feed ∷ joined ls
+
+-- Replies.
+
+-- A machine of lines, with states S: the text of the reply to a line, the state after it, and whether the line
+-- ends the serving.
+pub record Machine (S : Type 0) : Type 0 where
+  pub reply : S → List ℕ → List ℕ
+  pub next : S → List ℕ → S
+  pub ends : List ℕ → Bool
+
+-- a line and the text of its reply
+pub record Exchange : Type 0 where
+  pub line : List ℕ
+  pub reply : List ℕ
+
+abbrev pub replies_text : List Exchange → List ℕ
+replies_text [] = []
+replies_text (e ∷ es) = e.reply ++ replies_text es
+
+module _ {S : Type 0} where
+  -- lines with their replies, up to and with the first line that ends the serving
+  unfoldable pub exchanges : Machine S → S → List (List ℕ) → List Exchange
+  exchanges m s [] = []
+  exchanges m s (l ∷ ls) =
+      record { line = l; reply = m.reply s l } ∷ (if m.ends l then [] else exchanges m (m.next s l) ls)
+
+  -- the replies to the lines of x, where `line` stands before x
+  abbrev pub served_after : Machine S → S → List ℕ → List ℕ → List ℕ
+  served_after m s line x = replies_text (exchanges m s (lines_after line x))
+
+  -- what is written for the input x
+  abbrev pub served : Machine S → S → List ℕ → List ℕ
+  served m s x = served_after m s [] x
+
+  -- the replies to those lines that end with a line feed
+  abbrev pub finished_after : Machine S → S → List ℕ → List ℕ → List ℕ
+  finished_after m s line x = replies_text (exchanges m s (whole_lines_after line x))
+
+  abbrev pub finished : Machine S → S → List ℕ → List ℕ
+  finished m s x = finished_after m s [] x
+
+  -- x up to and with the line feed of the first line that ends the serving, where `line` stands before x
+  unfoldable pub used_after : Machine S → List ℕ → List ℕ → List ℕ
+  used_after m line [] = []
+  used_after m line (b ∷ x) =
+      b ∷ (if b == line_feed
+      then (if m.ends line then [] else used_after m [] x)
+      else used_after m (line ++ b ∷ []) x)
+
+  -- what is read of the input x
+  abbrev pub used : Machine S → List ℕ → List ℕ
+  used m x = used_after m [] x
+
+-- What serving did: a reader had r₀ and has r, a writer held w₀ and holds w.
+
+abbrev pub but_last : List ℕ → List ℕ
+but_last y = take (length y - 1) y
+
+abbrev pub IsFront : List ℕ → List ℕ → Type 0
+IsFront front whole = (rest : List ℕ) × (whole ≡ front ++ rest)
+
+module _ {S : Type 0} where
+  -- what is used of the input was read, and the replies were written
+  abbrev pub Serves : Machine S → S → (r₀ r w₀ w : Option (List ℕ)) → Type 0
+  Serves m s r₀ r w₀ w = IfSome r₀ (λ x. Consumes r₀ r (used m x) × Appends w₀ w (served m s x))
+
+  -- y was read, and just the replies to those of its lines that end with a line feed were written
+  abbrev pub Finishes : Machine S → S → (r₀ r w₀ w : Option (List ℕ)) → List ℕ → Type 0
+  Finishes m s r₀ r w₀ w y = Consumes r₀ r y × Appends w₀ w (finished m s y)
+
+  -- Some y was read, and a prefix of the replies to it was written. It holds the replies to all lines but the
+  -- last: to those whose line feed stands before the last byte of y.
+  abbrev pub Breaks : Machine S → S → (r₀ r w₀ w : Option (List ℕ)) → Type 0
+  Breaks m s r₀ r w₀ w =
+      (y : List ℕ) × (out : List ℕ) × Consumes r₀ r y × Appends w₀ w out
+      × IsFront out (served m s y) × IsFront (finished m s (but_last y)) out
+
+  -- no more than 8,192 bytes of a line matter
+  pub record ForgetsLong (m : Machine S) : Type 0 where
+    pub reply : (s : S) (line : List ℕ) → m.reply s (take 8192 line) ≡ m.reply s line
+    pub next : (s : S) (line : List ℕ) → m.next s (take 8192 line) ≡ m.next s line
+    pub ends : (line : List ℕ) → m.ends (take 8192 line) ≡ m.ends line
+
+  -- the reply to a last line without a line feed
+  abbrev pub last_reply : Machine S → S → List ℕ → List ℕ
+  last_reply m s [] = []
+  last_reply m s (b ∷ line) = m.reply s (b ∷ line)
