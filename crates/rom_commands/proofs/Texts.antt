@@ -7,7 +7,7 @@ use Rattle.image_check.specs.declared.any.AnyImage.TheVariants.{Romfs, Cramfs}
 use Rattle.image_check.specs.Any.{any_view, report_of}
 use Rattle.image_check.specs.Checked.{Shows, IsRefused, HasFormat, IsFaultless, IsLeastFault}
 use Rattle.rom_commands.specs.Formats.{cramfs_name, format_of}
-use Rattle.rom_commands.specs.Answers.{romfs, cramfs, IsFormatName, IsSoundText, IsFaultText, sound_text, fault_line, usual_limits}
+use Rattle.rom_commands.specs.Answers.{romfs, cramfs, Holds, IsFormatName, IsSoundText, IsFaultText, HasFault, sound_text, fault_line, usual_limits}
 
 -- the format that the first bytes name is the image's
 format_named : (bytes : List ℕ) (v : AnyImage) → HasFormat bytes v → IsFormatName bytes (format_of v)
@@ -21,17 +21,27 @@ usual l r d =
     let by_depth : ℕ → Limits = λ n. record { references = 1048576; depth = n } in
     ap by_references r ∙ ap by_depth d
 
+-- a checked image is the one that its bytes hold
+pub held : (bytes : List ℕ) (l : Limits) (v : AnyImage) → l ≡ usual_limits → Shows bytes l (any_view v) (report_of v) → IsFaultless bytes l → Holds bytes (any_view v)
+held bytes l v e h k =
+    let P : Limits → Type 0 = λ u. Shows bytes u (any_view v) (report_of v) in
+    let Q : Limits → Type 0 = λ u. IsFaultless bytes u in
+    record { report = report_of v; shows = subst P e h; clean = subst Q e k }
+
 -- what is printed of a sound image
 pub sound : (bytes : List ℕ) (listed : Bool) (l : Limits) (v : AnyImage) → l ≡ usual_limits → Shows bytes l (any_view v) (report_of v) → HasFormat bytes v → IsFaultless bytes l
     → IsSoundText bytes listed (sound_text listed (any_view v) (format_of v) (report_of v))
+unfolding held
 sound bytes listed l v e h f k =
-    let P : Limits → Type 0 = λ u. Shows bytes u (any_view v) (report_of v) in
-    let Q : Limits → Type 0 = λ u. IsFaultless bytes u in
-    record { image = any_view v; format = format_of v; report = report_of v; shows = subst P e h; named = format_named bytes v f; clean = subst Q e k; same = refl }
+    record { image = any_view v; format = format_of v; held = held bytes l v e h k; named = format_named bytes v f; same = refl }
+
+-- the fault that a check found
+pub fault_of : (bytes : List ℕ) (l : Limits) (number at : ℕ) → l ≡ usual_limits → IsRefused bytes l (Fault number at) → IsLeastFault bytes l (Fault number at) → HasFault bytes number at
+fault_of bytes l number at e h k =
+    let P : Limits → Type 0 = λ v. IsRefused bytes v (Fault number at) in
+    let Q : Limits → Type 0 = λ v. IsLeastFault bytes v (Fault number at) in
+    record { refused = subst P e h; least = subst Q e k }
 
 -- what is printed of an image with a fault
 pub faulty : (bytes : List ℕ) (l : Limits) (number at : ℕ) → l ≡ usual_limits → IsRefused bytes l (Fault number at) → IsLeastFault bytes l (Fault number at) → IsFaultText bytes (fault_line number at)
-faulty bytes l number at e h k =
-    let P : Limits → Type 0 = λ v. IsRefused bytes v (Fault number at) in
-    let Q : Limits → Type 0 = λ v. IsLeastFault bytes v (Fault number at) in
-    record { number = number; at = at; refused = subst P e h; least = subst Q e k; same = refl }
+faulty bytes l number at e h k = record { number = number; at = at; fault = fault_of bytes l number at e h k; same = refl }

@@ -15,10 +15,14 @@ use Rattle.image_check.specs.Checked.{Shows, IsRefused, BeginsRomfs, BeginsCramf
 use Rattle.rom_commands.specs.declared.shown.Outcome.{Outcome}
 use Rattle.rom_commands.specs.declared.shown.Outcome.TheVariants.{Done, Refused, Memory, WriteFault}
 
--- fault NUMBER NAME at OFFSET, and a line feed
+-- fault NUMBER NAME at OFFSET
+abbrev pub fault_text : ℕ → ℕ → List ℕ
+fault_text n at =
+    codes "fault " ++ (decimal n ++ (codes " " ++ (name_of_fault n ++ (codes " at " ++ decimal at))))
+
+-- and a line feed
 unfoldable pub fault_line : ℕ → ℕ → List ℕ
-fault_line n at =
-    codes "fault " ++ (decimal n ++ (codes " " ++ (name_of_fault n ++ (codes " at " ++ (decimal at ++ codes "\n")))))
+fault_line n at = fault_text n at ++ codes "\n"
 
 -- the name of the format that the first bytes name: cramfs in big-endian order has a name of its own
 pub data IsFormatName (bytes : List ℕ) : List ℕ → Type 0 where
@@ -39,22 +43,30 @@ sound_text listed m format report =
 abbrev pub usual_limits : Limits
 usual_limits = record { references = 1048576; depth = 64 }
 
+-- m is the image that these bytes hold: its tree is the one that their format gives them, and they have no fault
+pub record Holds (bytes : List ℕ) (m : Image) : Type 0 where
+  pub report : Report
+  pub shows : Shows bytes usual_limits m report
+  pub clean : IsFaultless bytes usual_limits
+
 -- the text is what is printed of a sound image that has these bytes
 pub record IsSoundText (bytes : List ℕ) (listed : Bool) (text : List ℕ) : Type 0 where
   pub image : Image
   pub format : List ℕ
-  pub report : Report
-  pub shows : Shows bytes usual_limits image report
+  pub held : Holds bytes image
   pub named : IsFormatName bytes format
-  pub clean : IsFaultless bytes usual_limits
-  pub same : text ≡ sound_text listed image format report
+  pub same : text ≡ sound_text listed image format held.report
 
--- the text is the line of a fault of these bytes, which hold no tree
+-- this is the least fault of these bytes, which hold no tree
+pub record HasFault (bytes : List ℕ) (number at : ℕ) : Type 0 where
+  pub refused : IsRefused bytes usual_limits (Fault number at)
+  pub least : IsLeastFault bytes usual_limits (Fault number at)
+
+-- the text is the line of the fault of these bytes
 pub record IsFaultText (bytes text : List ℕ) : Type 0 where
   pub number : ℕ
   pub at : ℕ
-  pub refused : IsRefused bytes usual_limits (Fault number at)
-  pub least : IsLeastFault bytes usual_limits (Fault number at)
+  pub fault : HasFault bytes number at
   pub same : text ≡ fault_line number at
 
 -- what was written of the image that has these bytes, by how it ended

@@ -1,16 +1,16 @@
-//! The line of a fault.
+//! The text of a fault.
 ghost use Rattle.rom_fields.specs.Written.{Puts, sink};
-ghost use Rattle.rom_commands.specs.Answers.{fault_line};
+ghost use Rattle.rom_commands.specs.Answers.{fault_text};
 
 use rom_faults::name;
 use rom_fields::bytes::ByteWrite;
 use rom_fields::sink::put;
 use rom_fields::text::put_decimal;
 
-/// Puts the line `fault NUMBER NAME at OFFSET`.
+/// Puts `fault NUMBER NAME at OFFSET`.
 pub fn put_fault<W: ByteWrite>(w: &mut W, failed: &mut bool, number: u32, at: u32)
     ensures { Puts (sink (W.output w.old) failed.old)
-        (sink (W.output w.new) failed.new) (fault_line number at) }
+        (sink (W.output w.new) failed.new) (fault_text number at) }
 {
     put(w, failed, b"fault ");
     put_decimal(w, failed, number);
@@ -18,5 +18,4 @@ pub fn put_fault<W: ByteWrite>(w: &mut W, failed: &mut bool, number: u32, at: u3
     put(w, failed, name(number).as_bytes());
     put(w, failed, b" at ");
     put_decimal(w, failed, at);
-    put(w, failed, b"\n");
 }

@@ -51,6 +51,7 @@ fn write_fault_line<W: ByteWrite>(w: &mut W, number: u32, at: u32) -> Result<(),
 {
     let mut failed = false;
     put_fault(w, &mut failed, number, at);
+    put(w, &mut failed, b"\n");
     if failed { Err(Failed) } else { Ok(()) }
 }
 
