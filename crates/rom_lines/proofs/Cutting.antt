@@ -1,5 +1,5 @@
 -- A text cut at its first space.
-use Rattle.std.proofs.Common.{◌≡◌, ◌≢◌, ◌+◌, ◌-◌, ◌<◌, ◌≤◌, ℕ, Bool, true, false, eqb, List, [], ◌∷◌, ◌++◌, length, take, drop, get_or, refl, sym, ap, subst, ◌∙◌, arith, get_or-take, length-take, cond, Option, Some, None, nat_le}
+use Rattle.std.proofs.Common.{◌≡◌, ◌+◌, ◌-◌, ◌<◌, ◌≤◌, ℕ, Bool, true, false, eqb, List, [], ◌∷◌, ◌++◌, length, take, drop, get_or, refl, sym, ap, ◌∙◌, arith, get_or-take, length-take, cond, Option, Some, nat_le}
 use Rattle.std.proofs.lemmas.List.{take-append-drop, drop_more, take_rest, get_or_default}
 use Rattle.std.proofs.lemmas.List.Splits.{slice_split_none, slice_split_at}
 use Rattle.std.specs.List.{All}
@@ -21,8 +21,8 @@ pub cut_some : (i : ℕ) (xs : List ℕ) → NoneBefore (Passes (is_byte 32) xs)
 cut_some i xs h p =
     let high = h.high in
     let front : All (λ x. eqb x 32 ≡ false) (take i xs) = λ k d l.
-        let m : k < i = omega (arith, length-take i xs) in
-        not_true (eqb (get_or (take i xs) k d) 32) (λ e. h.before k (omega arith) m (ap (λ (x : ℕ). eqb x 32) (get_or_default xs k 0 d (omega arith) ∙ sym (get_or-take i xs k d m)) ∙ e)) in
+    let m : k < i = omega (arith, length-take i xs) in
+    not_true (eqb (get_or (take i xs) k d) 32) (λ e. h.before k (omega arith) m (ap (λ (x : ℕ). eqb x 32) (get_or_default xs k 0 d (omega arith) ∙ sym (get_or-take i xs k d m)) ∙ e)) in
     let whole : xs ≡ take i xs ++ get_or xs i 0 ∷ drop (i + 1) xs = sym (take-append-drop i xs) ∙ ap (λ (y : List ℕ). take i xs ++ y) (drop_more xs i 0 high) in
     ap fields whole ∙ slice_split_at (λ b. eqb b 32) (take i xs) (get_or xs i 0) (drop (i + 1) xs) front p
     ∙ ap (λ (y : List ℕ). take i xs ∷ fields y) (sym (take_rest xs (i + 1)))

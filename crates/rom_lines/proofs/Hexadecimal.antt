@@ -1,8 +1,6 @@
 -- Hexadecimal text, piece by piece.
-use Rattle.std.proofs.Common.{◌≡◌, ℕ, List, [], ◌∷◌, ◌++◌, ◌∙◌, ap, sym, refl, length, take, drop, slice_index, ◌/◌, ◌%◌, ◌*◌, ◌<◌, arith}
-use Rattle.std.proofs.Math.Seq.{take-append_seam}
+use Rattle.std.proofs.Common.{◌≡◌, ℕ, List, [], ◌∷◌, ◌++◌, ◌∙◌, ap, sym, refl, length, take, drop, slice_index, ◌/◌, ◌%◌, ◌<◌, arith}
 use Rattle.std.proofs.lemmas.List.{take-append-drop}
-use Rattle.hex.proofs.HexLemmas.{length-encode_with}
 use Rattle.hex.specs.Hex.{encode_lower, encode_with, lower_digits}
 use Rattle.rom_lines.specs.Texts.{hex_text}
 

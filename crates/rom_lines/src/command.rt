@@ -3,10 +3,10 @@ ghost use Rattle.std.specs.Prelude.{◌≡◌, ◌≤◌, ℕ, List, length, Opt
 ghost use Rattle.rom_lines.specs.Commands.{Line, line_of, call_of, fields_left, one_field, two_fields, three_fields, number as number_then};
 ghost use Rattle.rom_lines.specs.Reading.{line_by, one_by, two_by, three_by, number_by, numbers_by, three_numbers_by, is_small_line};
 
+use crate::bad::Bad;
 use crate::field::{cut, number};
 use crate::path_text::PathText;
 use crate::word::{FdCall, PathCall, Word, word_of};
-use crate::bad::Bad;
 
 /// What a line asks for.
 #[derive(Clone, Copy, Debug)]

@@ -54,12 +54,7 @@ fn put_image<W: ByteWrite>(w: &mut W, failed: &mut bool, image: Option<u32>)
 }
 
 /// Puts a piece of an image: its place, its length, and its bytes as hexadecimal digits.
-fn put_piece<'r, W: ByteWrite>(
-    w: &mut W,
-    failed: &mut bool,
-    image: Option<u32>,
-    piece: Piece<'r>,
-)
+fn put_piece<'r, W: ByteWrite>(w: &mut W, failed: &mut bool, image: Option<u32>, piece: Piece<'r>)
     ensures { Puts (sink (W.output w.old) failed.old) (sink (W.output w.new) failed.new)
         (piece_text image piece.entry.place piece.entry.bytes.now) }
 {

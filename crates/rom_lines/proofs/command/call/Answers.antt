@@ -1,6 +1,6 @@
-use Rattle.std.proofs.Common.{◌≡◌, ◌∙◌, ap, List, ℕ}
+use Rattle.std.proofs.Common.{◌∙◌, ap}
 use Rattle.rom_lines.specs.declared.word.Word.{Word}
-use Rattle.rom_lines.specs.Commands.{Line, asks, on_fd, read, lend, seek, map_part, quit, umount, at_most, call_of, fields_left}
+use Rattle.rom_lines.specs.Commands.{asks, on_fd, read, lend, seek, map_part, quit, umount, at_most, call_of, fields_left}
 use Rattle.rom_lines.proofs.Cutting.{some_fields, over, within}
 use Rattle.rom_lines.proofs.command.call.Goals as goal
 

@@ -1,4 +1,4 @@
-use Rattle.std.proofs.Common.{◌≡◌, ◌<◌, ◌++◌, ◌∙◌, [], List, ℕ, length, ap, sym, subst, append_assoc, append-nil, arith, rules, true, false}
+use Rattle.std.proofs.Common.{◌≡◌, ◌<◌, ◌++◌, ◌∙◌, [], List, ℕ, length, ap, sym, subst, append_assoc, append-nil, arith, rules}
 use Rattle.std.proofs.lemmas.Grind.{common_steps}
 use Rattle.rom_fields.specs.Written.{Puts, sink}
 use Rattle.rom_fields.proofs.Joins.{chain}

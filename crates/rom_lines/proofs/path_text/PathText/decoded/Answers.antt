@@ -1,6 +1,5 @@
-use Rattle.std.proofs.Common.{rules, ◌++◌, ◌≡◌, ◌∙◌, ap, sym, subst, List, ℕ, []}
+use Rattle.std.proofs.Common.{rules, ◌++◌, ◌≡◌, ◌∙◌, ap, sym, List, ℕ}
 use Rattle.std.specs.Str.{bytes_eq}
-use Rattle.rom_lines.specs.Commands.{path_of}
 use Rattle.rom_lines.proofs.Decoding.{room_left, path_of-dash, path_of-text}
 use Rattle.percent_encoding.specs.Percent.{percent_decode}
 use Rattle.percent_encoding.specs.Iter.{decoded_bytes}

@@ -1,0 +1,173 @@
+//! Commands, obeyed over open files of any kind.
+ghost use Rattle.std.specs.Prelude.{◌≡◌, ◌<◌, length, take};
+ghost use Rattle.rom_fields.specs.Written.{Puts, sink};
+ghost use Rattle.rom_lines.specs.Commands.{on_path, on_fd, read, quit, line_of};
+ghost use Rattle.rom_lines.specs.Reading.{call_by, is_small};
+ghost use Rattle.rom_lines.specs.Replies.{reply_text};
+ghost use Rattle.rom_serve.specs.Obeyed.{says, obeyed, answered};
+
+use crate::calls::OpenCalls;
+use crate::replies::{
+    descriptor_reply, done_reply, entry_reply, node_reply, piece_reply, stat_reply,
+};
+use open_files::Fd;
+use rom_fields::bytes::ByteWrite;
+use rom_lines::{Command, FdCall, PathCall, Reply, put_reply, read_line};
+
+/// What is asked about a path.
+fn path_reply<'a, C: OpenCalls<'a>>(
+    calls: &mut C,
+    session: u32,
+    call: PathCall,
+    path: &[u8],
+) -> Reply<'a>
+    requires { session < 8 }
+    ensures reply { obeyed (C.calls calls.old session) (C.state calls.old) (on_path call path.now)
+        ≡ says (reply_text result) (C.state calls.new) }
+    ensures stays { C.calls calls.new ≡ C.calls calls.old }
+{
+    match call {
+        PathCall::Lookup => node_reply(calls.lookup(session, path)),
+        PathCall::Stat => stat_reply(calls.stat(session, path)),
+        PathCall::Lstat => stat_reply(calls.lstat(session, path)),
+        PathCall::Readlink => piece_reply(calls.readlink(session, path)),
+        PathCall::Open => descriptor_reply(calls.open(session, path)),
+    }
+}
+
+/// What is asked of a descriptor alone.
+fn fd_reply<'a, C: OpenCalls<'a>>(calls: &mut C, session: u32, call: FdCall, fd: u32) -> Reply<'a>
+    requires { session < 8 }
+    ensures reply { obeyed (C.calls calls.old session) (C.state calls.old) (on_fd call fd)
+        ≡ says (reply_text result) (C.state calls.new) }
+    ensures stays { C.calls calls.new ≡ C.calls calls.old }
+{
+    match call {
+        FdCall::Fstat => stat_reply(calls.fstat(session, Fd(fd))),
+        FdCall::Readdir => entry_reply(calls.readdir(session, Fd(fd))),
+        FdCall::Rewind => done_reply(calls.rewind(session, Fd(fd))),
+        FdCall::Close => done_reply(calls.close(session, Fd(fd))),
+    }
+}
+
+/// Closes all that a session has open.
+fn quit_reply<'a, C: OpenCalls<'a>>(calls: &mut C, session: u32) -> Reply<'a>
+    requires { session < 8 }
+    ensures reply { obeyed (C.calls calls.old session) (C.state calls.old) quit
+        ≡ says (reply_text result) (C.state calls.new) }
+    ensures stays { C.calls calls.new ≡ C.calls calls.old }
+{
+    calls.close_all(session);
+    Reply::Done
+}
+
+/// Reads as many bytes as the buffer has, and puts the reply.
+fn put_read<'a, C: OpenCalls<'a>, W: ByteWrite>(
+    calls: &mut C,
+    session: u32,
+    fd: u32,
+    buf: &mut [u8],
+    w: &mut W,
+    failed: &mut bool,
+)
+    requires { session < 8 }
+    ensures text { Puts (sink (W.output w.old) failed.old) (sink (W.output w.new) failed.new)
+        (obeyed (C.calls calls.old session) (C.state calls.old) (read fd (length buf.old))).text }
+    ensures step { C.state calls.new
+        ≡ (obeyed (C.calls calls.old session) (C.state calls.old) (read fd (length buf.old))).state }
+    ensures stays { C.calls calls.new ≡ C.calls calls.old }
+{
+    match calls.read(session, Fd(fd), buf) {
+        Ok(n) => put_reply(w, failed, Reply::Bytes(front(buf, n))),
+        Err(error) => put_reply(w, failed, Reply::Refused(error)),
+    }
+}
+
+/// The first `n` bytes of a buffer, or all of them.
+fn front(buf: &[u8], n: usize) -> &[u8]
+    ensures { result.now ≡ take n buf.now }
+{
+    &buf[..n.min(buf.len())]
+}
+
+/// Obeys a command, and puts the reply.
+fn put_obeyed<'a, C: OpenCalls<'a>, W: ByteWrite>(
+    calls: &mut C,
+    session: u32,
+    command: Command<'_>,
+    w: &mut W,
+    failed: &mut bool,
+)
+    requires session { session < 8 }
+    requires small { is_small command }
+    ensures text { Puts (sink (W.output w.old) failed.old) (sink (W.output w.new) failed.new)
+        (obeyed (C.calls calls.old session) (C.state calls.old) (call_by command.entry)).text }
+    ensures step { C.state calls.new
+        ≡ (obeyed (C.calls calls.old session) (C.state calls.old) (call_by command.entry)).state }
+    ensures stays { C.calls calls.new ≡ C.calls calls.old }
+{
+    match command {
+        Command::Path(call, path) => {
+            let path = path.decoded();
+            put_reply(w, failed, path_reply(calls, session, call, path.as_slice()));
+        }
+        Command::Fd(call, fd) => put_reply(w, failed, fd_reply(calls, session, call, fd)),
+        Command::Read(fd, len) => {
+            let mut room = [0u8; 4096];
+            put_read(calls, session, fd, &mut room[..len as usize], w, failed);
+        }
+        Command::Lend(fd, max) => {
+            put_reply(
+                w,
+                failed,
+                piece_reply(calls.lend(session, Fd(fd), u64::from(max))),
+            );
+        }
+        Command::Seek(fd, position) => {
+            put_reply(
+                w,
+                failed,
+                done_reply(calls.seek(session, Fd(fd), u64::from(position))),
+            );
+        }
+        Command::Map(fd, off, len) => {
+            let piece = calls.map(session, Fd(fd), u64::from(off), u64::from(len));
+            put_reply(w, failed, piece_reply(piece));
+        }
+        Command::Quit => put_reply(w, failed, quit_reply(calls, session)),
+        Command::Mount(image, path) => {
+            let path = path.decoded();
+            put_reply(
+                w,
+                failed,
+                done_reply(calls.mount(session, image, path.as_slice())),
+            );
+        }
+        Command::Umount(image) => {
+            put_reply(w, failed, done_reply(calls.umount(session, image)));
+        }
+    }
+}
+
+/// Answers what a line asks for that names no session. `mounts` says whether `mount` and `umount`
+/// are words.
+pub(crate) fn put_answer<'a, C: OpenCalls<'a>, W: ByteWrite>(
+    calls: &mut C,
+    session: u32,
+    line: &[u8],
+    mounts: bool,
+    w: &mut W,
+    failed: &mut bool,
+)
+    requires { session < 8 }
+    ensures text { Puts (sink (W.output w.old) failed.old) (sink (W.output w.new) failed.new)
+        (answered (C.calls calls.old session) (C.state calls.old) (line_of mounts line.now)).text }
+    ensures step { C.state calls.new
+        ≡ (answered (C.calls calls.old session) (C.state calls.old) (line_of mounts line.now)).state }
+    ensures stays { C.calls calls.new ≡ C.calls calls.old }
+{
+    match read_line(line, mounts) {
+        Err(bad) => put_reply(w, failed, Reply::Bad(bad)),
+        Ok(command) => put_obeyed(calls, session, command, w, failed),
+    }
+}

@@ -1,0 +1,140 @@
+//! Serving lines over images.
+ghost use Rattle.std.specs.Prelude.{◌≡◌, ◌≤◌, ◌<◌, ◌^◌, ℕ, List, length, map, Err, OnOk};
+ghost use Rattle.rom_fields.specs.Failures.{Rose};
+ghost use Rattle.rom_tree.specs.Tree.{levels};
+ghost use Rattle.path_walk.specs.Graft.{AreShallow};
+ghost use Rattle.open_files.specs.Machine.{no_files};
+ghost use Rattle.open_files.specs.Sessions.{no_sessions};
+ghost use Rattle.serve_loop.specs.Served.{Serves, Finishes, Breaks};
+ghost use Rattle.serve_loop.specs.declared.error.ServeError.TheVariants.{ReadFault, WriteFault, TooManyReads};
+ghost use Rattle.rom_serve.specs.Machines.{image_machine, space_machine};
+
+use crate::alone::Alone;
+use crate::among::Among;
+use crate::single::Single;
+use open_files::{Slots, Space};
+use rom_fields::bytes::{ByteRead, ByteWrite};
+use rom_tree::image::TreeImage;
+use serve_loop::{ServeError, serve_lines};
+use std::marker::PhantomData;
+
+/// Answers the lines of `r` on `w` over an image, up to `quit` or to the end of the input, with 64
+/// descriptors. It reads one byte a call, at most 2^40 times, and writes each reply whole and
+/// flushes it before it reads on. Directories of the image may lie 64 deep. No memory is taken.
+///
+/// # Errors
+///
+/// `ReadFault` where a read failed, `TooManyReads` where 2^40 bytes were read and the input had not
+/// ended: just the replies to those lines were written that end with a line feed. `WriteFault` where
+/// a write or a flush failed, or a write took no byte: a prefix of the replies was written, which
+/// holds the replies to all lines but the last.
+pub fn serve<'a, T: TreeImage<'a>, R: ByteRead, W: ByteWrite>(
+    image: T,
+    r: &mut R,
+    w: &mut W,
+) -> Result<(), ServeError>
+    requires { levels (T.image image).tree ≤ 65 }
+    ensures ok { OnOk result (Serves (image_machine (T.image image)) (no_files 64)
+        (R.remaining r.old) (R.remaining r.new)
+        (W.output w.old).contents (W.output w.new).contents) }
+    ensures quiet { OnOk result ((R.failures r.new ≡ R.failures r.old)
+        × ((W.output w.new).failures ≡ (W.output w.old).failures)) }
+    ensures read_fault { result ≡ Err ReadFault → Rose (R.failures r.old) (R.failures r.new)
+        × ((y : List ℕ) × Finishes (image_machine (T.image image)) (no_files 64)
+        (R.remaining r.old) (R.remaining r.new)
+        (W.output w.old).contents (W.output w.new).contents y) }
+    ensures write_fault { result ≡ Err WriteFault
+        → Rose (W.output w.old).failures (W.output w.new).failures
+        × Breaks (image_machine (T.image image)) (no_files 64)
+        (R.remaining r.old) (R.remaining r.new)
+        (W.output w.old).contents (W.output w.new).contents }
+    ensures too_many { result ≡ Err TooManyReads → (y : List ℕ) × (length y ≡ 2 ^ 40)
+        × Finishes (image_machine (T.image image)) (no_files 64)
+        (R.remaining r.old) (R.remaining r.new)
+        (W.output w.old).contents (W.output w.new).contents y }
+{
+    serve_bounded(image, r, w, 1 << 40)
+}
+
+/// The same, with at most `reads` reads. A read that gives no byte counts, too.
+///
+/// # Errors
+///
+/// Those of `serve`, with `reads` in place of 2^40.
+pub fn serve_bounded<'a, T: TreeImage<'a>, R: ByteRead, W: ByteWrite>(
+    mut image: T,
+    r: &mut R,
+    w: &mut W,
+    reads: u64,
+) -> Result<(), ServeError>
+    requires { levels (T.image image).tree ≤ 65 }
+    ensures ok { OnOk result (Serves (image_machine (T.image image)) (no_files 64)
+        (R.remaining r.old) (R.remaining r.new)
+        (W.output w.old).contents (W.output w.new).contents) }
+    ensures quiet { OnOk result ((R.failures r.new ≡ R.failures r.old)
+        × ((W.output w.new).failures ≡ (W.output w.old).failures)) }
+    ensures read_fault { result ≡ Err ReadFault → Rose (R.failures r.old) (R.failures r.new)
+        × ((y : List ℕ) × Finishes (image_machine (T.image image)) (no_files 64)
+        (R.remaining r.old) (R.remaining r.new)
+        (W.output w.old).contents (W.output w.new).contents y) }
+    ensures write_fault { result ≡ Err WriteFault
+        → Rose (W.output w.old).failures (W.output w.new).failures
+        × Breaks (image_machine (T.image image)) (no_files 64)
+        (R.remaining r.old) (R.remaining r.new)
+        (W.output w.old).contents (W.output w.new).contents }
+    ensures too_many { result ≡ Err TooManyReads → (y : List ℕ) × (length y ≡ reads)
+        × Finishes (image_machine (T.image image)) (no_files 64)
+        (R.remaining r.old) (R.remaining r.new)
+        (W.output w.old).contents (W.output w.new).contents y }
+{
+    let mut machine = Alone {
+        calls: Single {
+            image: &mut image,
+            slots: Slots::new(),
+        },
+        borrows: PhantomData,
+    };
+    serve_lines(&mut machine, r, w, reads)
+}
+
+/// Answers the lines of up to eight sessions of `r` on `w`, up to the end of the input, over 1 to 8
+/// images that the lines mount in one another, with 64 descriptors for each session. Otherwise as
+/// `serve`.
+///
+/// # Errors
+///
+/// Those of `serve`.
+pub fn serve_space<'a, T: TreeImage<'a>, R: ByteRead, W: ByteWrite>(
+    images: Vec<T>,
+    r: &mut R,
+    w: &mut W,
+) -> Result<(), ServeError>
+    requires some { 0 < length images.items }
+    requires few { length images.items ≤ 8 }
+    requires shallow { AreShallow (map T.image images.items) }
+    ensures ok { OnOk result (Serves (space_machine (map T.image images.items)) (no_sessions 64)
+        (R.remaining r.old) (R.remaining r.new)
+        (W.output w.old).contents (W.output w.new).contents) }
+    ensures quiet { OnOk result ((R.failures r.new ≡ R.failures r.old)
+        × ((W.output w.new).failures ≡ (W.output w.old).failures)) }
+    ensures read_fault { result ≡ Err ReadFault → Rose (R.failures r.old) (R.failures r.new)
+        × ((y : List ℕ) × Finishes (space_machine (map T.image images.items)) (no_sessions 64)
+        (R.remaining r.old) (R.remaining r.new)
+        (W.output w.old).contents (W.output w.new).contents y) }
+    ensures write_fault { result ≡ Err WriteFault
+        → Rose (W.output w.old).failures (W.output w.new).failures
+        × Breaks (space_machine (map T.image images.items)) (no_sessions 64)
+        (R.remaining r.old) (R.remaining r.new)
+        (W.output w.old).contents (W.output w.new).contents }
+    ensures too_many { result ≡ Err TooManyReads → (y : List ℕ) × (length y ≡ 2 ^ 40)
+        × Finishes (space_machine (map T.image images.items)) (no_sessions 64)
+        (R.remaining r.old) (R.remaining r.new)
+        (W.output w.old).contents (W.output w.new).contents y }
+{
+    let calls: Space<'a, T, 64> = Space::new(images);
+    let mut machine = Among {
+        calls,
+        borrows: PhantomData,
+    };
+    serve_lines(&mut machine, r, w, 1 << 40)
+}
