@@ -1,2 +1,4 @@
-pub mod Texts
+pub mod Endings
+pub mod Holding
 pub mod Printed
+pub mod Texts

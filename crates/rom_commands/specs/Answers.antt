@@ -73,13 +73,13 @@ pub record IsFaultText (bytes text : List ℕ) : Type 0 where
 abbrev pub Ends : List ℕ → Bool → Output → Output → Outcome → Type 0
 Ends bytes listed old new Done =
     (text : List ℕ) × IsSoundText bytes listed text × Appends old.contents new.contents text
-        × (new.failures ≡ old.failures)
+    × (new.failures ≡ old.failures)
 Ends bytes listed old new Refused =
     (text : List ℕ) × IsFaultText bytes text × Appends old.contents new.contents text × (new.failures ≡ old.failures)
 Ends bytes listed old new Memory = new ≡ old
 Ends bytes listed old new WriteFault =
     (text : List ℕ) × (IsSoundText bytes listed text ⊎ IsFaultText bytes text)
-        × AppendsPrefix old.contents new.contents text × Rose old.failures new.failures
+    × AppendsPrefix old.contents new.contents text × Rose old.failures new.failures
 
 -- the status with which the program ends
 abbrev pub status_of : Outcome → ℕ

@@ -1,3 +1,5 @@
 pub mod Answers
 pub mod Formats
 pub mod Hello
+pub mod Serving
+pub mod Refused

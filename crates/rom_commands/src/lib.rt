@@ -8,6 +8,8 @@
 mod fault;
 pub mod hello;
 pub mod printing;
+pub mod serving;
+pub mod several;
 pub mod shown;
 #[cfg(test)]
 mod tests;

@@ -44,7 +44,7 @@ pub fn status(outcome: Outcome) -> u8
 }
 
 /// Writes the line of a fault.
-fn write_fault_line<W: ByteWrite>(w: &mut W, number: u32, at: u32) -> Result<(), Failed>
+pub(crate) fn write_fault_line<W: ByteWrite>(w: &mut W, number: u32, at: u32) -> Result<(), Failed>
     ensures text { WritesText (W.output w.old).contents (W.output w.new).contents result
         (fault_line number at) }
     ensures count { Counts (W.output w.old).failures (W.output w.new).failures result }

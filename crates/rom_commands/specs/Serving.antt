@@ -1,0 +1,129 @@
+-- What serving images does with their bytes and with the streams, and how it ends: the lines of a reader are
+-- answered from the trees that the bytes hold. (This project's own.)
+use Rattle.std.specs.Prelude.{◌≡◌, ℕ, ◌^◌, ◌⊎◌, List, [], ◌∷◌, ◌++◌, length, codes, decimal, Option, Result, Ok, Err}
+use Rattle.std.specs.Io.KnownBytes.{Appends}
+use Rattle.rom_fields.specs.declared.bytes.Failed.{Failed}
+use Rattle.rom_fields.specs.Failures.{Rose}
+use Rattle.rom_fields.specs.Written.{AppendsPrefix, Output}
+use Rattle.rom_tree.specs.Image.{Image}
+use Rattle.open_files.specs.Machine.{no_files}
+use Rattle.open_files.specs.Sessions.{no_sessions}
+use Rattle.serve_loop.specs.Served.{Machine, Serves, Finishes, Breaks}
+use Rattle.serve_loop.specs.declared.error.ServeError.{ServeError}
+use Rattle.serve_loop.specs.declared.error.ServeError.TheVariants as serve
+use Rattle.rom_serve.specs.Machines.{image_machine, space_machine}
+use Rattle.rom_commands.specs.Answers.{Holds, HasFault, IsFaultText, fault_text}
+use Rattle.rom_commands.specs.declared.serving.Serving.{Serving}
+use Rattle.rom_commands.specs.declared.serving.Serving.TheVariants.{Served, Refused, Memory, ReadFault, WriteFault, TooManyReads}
+
+-- a reader: the bytes that its reads will give, where it tells them, and how many of its reads failed
+pub record Input : Type 0 where
+  pub remaining : Option (List ℕ)
+  pub failures : ℕ
+
+abbrev pub input_of : Option (List ℕ) → ℕ → Input
+input_of remaining failures = record { remaining = remaining; failures = failures }
+
+-- how the answering of lines ended, and how the writing of a fault's line
+abbrev pub serving_of : Result (Unit {0}) ServeError → Serving
+serving_of (Ok _) = Served
+serving_of (Err serve.ReadFault) = ReadFault
+serving_of (Err serve.WriteFault) = WriteFault
+serving_of (Err serve.TooManyReads) = TooManyReads
+
+abbrev pub refusal_of : Result (Unit {0}) Failed → Serving
+refusal_of (Ok _) = Refused
+refusal_of (Err _) = WriteFault
+
+-- Lines were answered by the machine m from its state s on: what was read and written, by how it ended. A reader
+-- was r₀ and is r, a writer was w₀ and is w.
+abbrev pub Answers : {S : Type 0} → Machine S → S → Input → Input → Output → Output → Serving → Type 0
+Answers m s r₀ r w₀ w Served =
+    Serves m s r₀.remaining r.remaining w₀.contents w.contents
+    × (r.failures ≡ r₀.failures) × (w.failures ≡ w₀.failures)
+Answers m s r₀ r w₀ w ReadFault =
+    Rose r₀.failures r.failures
+    × ((y : List ℕ) × Finishes m s r₀.remaining r.remaining w₀.contents w.contents y)
+Answers m s r₀ r w₀ w WriteFault =
+    Rose w₀.failures w.failures × Breaks m s r₀.remaining r.remaining w₀.contents w.contents
+Answers m s r₀ r w₀ w TooManyReads =
+    (y : List ℕ) × (length y ≡ 2 ^ 40) × Finishes m s r₀.remaining r.remaining w₀.contents w.contents y
+Answers m s r₀ r w₀ w Refused = ⊥
+Answers m s r₀ r w₀ w Memory = ⊥
+
+-- No line was answered, and nothing was read: a text of a fault was written, or memory was refused.
+abbrev pub Refuses : (List ℕ → Type 0) → Input → Input → Output → Output → Serving → Type 0
+Refuses IsText r₀ r w₀ w Refused =
+    (r ≡ r₀) × ((text : List ℕ) × IsText text × Appends w₀.contents w.contents text)
+    × (w.failures ≡ w₀.failures)
+Refuses IsText r₀ r w₀ w WriteFault =
+    (r ≡ r₀) × ((text : List ℕ) × IsText text × AppendsPrefix w₀.contents w.contents text)
+    × Rose w₀.failures w.failures
+Refuses IsText r₀ r w₀ w Memory = (r ≡ r₀) × (w ≡ w₀)
+Refuses IsText r₀ r w₀ w Served = ⊥
+Refuses IsText r₀ r w₀ w ReadFault = ⊥
+Refuses IsText r₀ r w₀ w TooManyReads = ⊥
+
+-- The bytes hold an image, and lines were answered from its tree, nothing of it open at first; or they were
+-- refused.
+abbrev pub ServingEnds : List ℕ → Input → Input → Output → Output → Serving → Type 0
+ServingEnds bytes r₀ r w₀ w o =
+    ((m : Image) × Holds bytes m × Answers (image_machine m) (no_files 64) r₀ r w₀ w o)
+    ⊎ Refuses (IsFaultText bytes) r₀ r w₀ w o
+
+-- Several images.
+
+-- each of the bytes hold the image at their number
+abbrev pub HoldAll : List (List ℕ) → List Image → Type 0
+HoldAll [] [] = Unit {0}
+HoldAll (b ∷ bs) (m ∷ ms) = Holds b m × HoldAll bs ms
+HoldAll [] (m ∷ ms) = ⊥
+HoldAll (b ∷ bs) [] = ⊥
+
+-- fault NUMBER NAME at OFFSET in IMAGE, and a line feed
+unfoldable pub fault_in_line : ℕ → ℕ → ℕ → List ℕ
+fault_in_line n at image = fault_text n at ++ (codes " in " ++ (decimal image ++ codes "\n"))
+
+-- this is the fault of the first of the bytes that hold no image; they have this number
+pub record HasFirstFault (all : List (List ℕ)) (number at image : ℕ) : Type 0 where
+  pub before : List (List ℕ)
+  pub bytes : List ℕ
+  pub after : List (List ℕ)
+  pub split : all ≡ before ++ bytes ∷ after
+  pub images : List Image
+  pub held : HoldAll before images
+  pub counted : image ≡ length before
+  pub fault : HasFault bytes number at
+
+-- the text is the line of this fault
+pub record IsFirstFaultText (all : List (List ℕ)) (text : List ℕ) : Type 0 where
+  pub number : ℕ
+  pub at : ℕ
+  pub image : ℕ
+  pub first : HasFirstFault all number at image
+  pub same : text ≡ fault_in_line number at image
+
+-- All of the bytes hold images, and lines were answered from their trees with sessions, nothing mounted or open at
+-- first; or they were refused.
+abbrev pub SpaceEnds : List (List ℕ) → Input → Input → Output → Output → Serving → Type 0
+SpaceEnds all r₀ r w₀ w o =
+    ((ms : List Image) × HoldAll all ms × Answers (space_machine ms) (no_sessions 64) r₀ r w₀ w o)
+    ⊎ Refuses (IsFirstFaultText all) r₀ r w₀ w o
+
+-- the status with which the program ends
+abbrev pub serving_status : Serving → ℕ
+serving_status Served = 0
+serving_status Refused = 1
+serving_status Memory = 3
+serving_status ReadFault = 3
+serving_status WriteFault = 3
+serving_status TooManyReads = 3
+
+-- what standard error says of how the serving ended
+abbrev pub serving_complaint : Serving → List ℕ
+serving_complaint Served = []
+serving_complaint Refused = []
+serving_complaint Memory = codes "memory\n"
+serving_complaint ReadFault = codes "read fault\n"
+serving_complaint WriteFault = codes "write fault\n"
+serving_complaint TooManyReads = codes "too many reads\n"

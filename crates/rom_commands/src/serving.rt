@@ -1,0 +1,142 @@
+//! Serving images to lines, and how it ends.
+ghost use Rattle.std.specs.Prelude.{◌≡◌, ◌≤◌, ◌<◌, ℕ, length, map};
+ghost use Rattle.rom_fields.specs.Failures.{Counts};
+ghost use Rattle.rom_fields.specs.Written.{WritesText};
+ghost use Rattle.rom_commands.specs.Answers.{Prints, fault_line};
+ghost use Rattle.rom_commands.specs.Serving.{input_of, serving_of, refusal_of, ServingEnds, serving_status, serving_complaint};
+
+use crate::shown::write_fault_line;
+use image_check::check;
+use rom_faults::CheckError;
+use rom_fields::bytes::{ByteRead, ByteWrite, Failed};
+use rom_fields::sink::put;
+use rom_serve::{ServeError, serve};
+use rom_tree::types::Limits;
+use std::alloc::Global;
+
+/// How the serving of images ended.
+#[derive(Debug, Clone, Copy, PartialEq, Eq)]
+pub enum Serving {
+    /// The input ended, or a line ended the serving. All replies were written.
+    Served,
+    /// An image has a fault, whose line was written.
+    Refused,
+    /// Memory was refused. Nothing was read or written.
+    Memory,
+    /// A read failed.
+    ReadFault,
+    /// A write or a flush failed.
+    WriteFault,
+    /// 2^40 bytes were read, and the input had not ended.
+    TooManyReads,
+}
+
+/// The status with which the program ends.
+pub fn status(serving: Serving) -> u8
+    ensures value { result ≡ serving_status serving }
+    ensures small { result ≤ 3 }
+{
+    match serving {
+        Serving::Served => 0,
+        Serving::Refused => 1,
+        Serving::Memory | Serving::ReadFault | Serving::WriteFault | Serving::TooManyReads => 3,
+    }
+}
+
+/// What standard error says of it.
+fn complaint(serving: Serving) -> &'static [u8]
+    ensures { result.now ≡ serving_complaint serving }
+{
+    match serving {
+        Serving::Served | Serving::Refused => b"",
+        Serving::Memory => b"memory\n",
+        Serving::ReadFault => b"read fault\n",
+        Serving::WriteFault => b"write fault\n",
+        Serving::TooManyReads => b"too many reads\n",
+    }
+}
+
+/// How the answering of lines ended.
+pub(crate) fn ended(served: Result<(), ServeError>) -> Serving
+    ensures { result ≡ serving_of served }
+{
+    match served {
+        Ok(()) => Serving::Served,
+        Err(ServeError::ReadFault) => Serving::ReadFault,
+        Err(ServeError::WriteFault) => Serving::WriteFault,
+        Err(ServeError::TooManyReads) => Serving::TooManyReads,
+    }
+}
+
+/// How the writing of a fault's line ended.
+pub(crate) fn refused(written: Result<(), Failed>) -> Serving
+    ensures { result ≡ refusal_of written }
+{
+    match written {
+        Ok(()) => Serving::Refused,
+        Err(Failed) => Serving::WriteFault,
+    }
+}
+
+/// Writes the line of a fault, and flushes it.
+fn tell_fault<W: ByteWrite>(w: &mut W, number: u32, at: u32) -> Result<(), Failed>
+    ensures text { WritesText (W.output w.old).contents (W.output w.new).contents result
+        (fault_line number at) }
+    ensures count { Counts (W.output w.old).failures (W.output w.new).failures result }
+{
+    write_fault_line(w, number, at)?;
+    w.flush()
+}
+
+/// Checks an image under the usual limits, and answers the lines of `r` from its tree on `w`, as
+/// `rom_serve::serve` does. Of an image with a fault the line of the fault is written.
+pub fn serve_image<R: ByteRead, W: ByteWrite>(
+    alloc: Global,
+    bytes: &[u8],
+    r: &mut R,
+    w: &mut W,
+) -> Serving
+    ensures { ServingEnds bytes.now
+        (input_of (R.remaining r.old) (R.failures r.old))
+        (input_of (R.remaining r.new) (R.failures r.new))
+        (W.output w.old) (W.output w.new) result }
+{
+    match check(alloc, bytes, Limits::usual()) {
+        Ok(image) => ended(serve(image, r, w)),
+        Err(CheckError::Fault { number, at }) => refused(tell_fault(w, number, at)),
+        Err(CheckError::OutOfMemory) => Serving::Memory,
+    }
+}
+
+/// Says on `err` how serving ended, where it did not end well, and gives the status.
+pub(crate) fn conclude<E: ByteWrite>(serving: Serving, err: &mut E) -> u8
+    ensures value { result ≡ serving_status serving }
+    ensures small { result ≤ 3 }
+    ensures said { Prints (E.output err.old) (E.output err.new) (serving_complaint serving) }
+{
+    let mut failed = false;
+    put(err, &mut failed, complaint(serving));
+    status(serving)
+}
+
+/// Serves an image as `serve_image` does, says on `err` what went wrong, and gives the status: 0
+/// where all replies were written, 1 where the image has a fault, 3 where memory was refused or a
+/// stream failed.
+pub fn serve_on<R: ByteRead, W: ByteWrite, E: ByteWrite>(
+    alloc: Global,
+    bytes: &[u8],
+    r: &mut R,
+    w: &mut W,
+    err: &mut E,
+) -> u8
+    ensures small { result ≤ 3 }
+    ensures ends { (o : Serving) × (result ≡ serving_status o)
+        × ServingEnds bytes.now
+        (input_of (R.remaining r.old) (R.failures r.old))
+        (input_of (R.remaining r.new) (R.failures r.new))
+        (W.output w.old) (W.output w.new) o
+        × Prints (E.output err.old) (E.output err.new) (serving_complaint o) }
+{
+    let serving = serve_image(alloc, bytes, r, w);
+    conclude(serving, err)
+}

@@ -1,0 +1,149 @@
+//! Serving several images to the lines of sessions.
+ghost use Rattle.std.specs.Prelude.{◌≡◌, ◌≤◌, ◌<◌, ℕ, length, map, IfOk, IfErr};
+ghost use Rattle.rom_fields.specs.Failures.{Counts};
+ghost use Rattle.rom_fields.specs.Written.{WritesText};
+ghost use Rattle.path_walk.specs.Graft.{AreShallow};
+ghost use Rattle.image_check.specs.Any.{any_view};
+ghost use Rattle.rom_tree.specs.Tree.{levels};
+ghost use Rattle.rom_commands.specs.Answers.{Holds, Prints};
+ghost use Rattle.rom_commands.specs.Serving.{input_of, fault_in_line, HoldAll, SpaceEnds, serving_status, serving_complaint};
+ghost use Rattle.rom_commands.specs.declared.serving.Serving.{Serving};
+ghost use Rattle.rom_commands.specs.Refused.{IsFaultAt, IsFirst};
+
+use crate::fault::put_fault;
+use crate::serving::{Serving, conclude, ended, refused};
+use image_check::{AnyImage, check};
+use rom_faults::CheckError;
+use rom_fields::bytes::{ByteRead, ByteWrite, Failed};
+use rom_fields::sink::put;
+use rom_fields::text::put_decimal;
+use rom_serve::serve_space;
+use rom_tree::types::Limits;
+use std::alloc::Global;
+
+/// Why some bytes are not all images.
+#[derive(Debug, Clone, Copy, PartialEq, Eq)]
+enum NoImage {
+    /// Memory was refused.
+    OutOfMemory,
+    /// The first of them that are none, and their fault.
+    Fault {
+        /// The fault's number.
+        number: u32,
+        /// Its offset.
+        at: u32,
+        /// Which of the bytes have it, from 0 on.
+        image: u32,
+    },
+}
+
+/// Checks the image at number `image`, under the usual limits.
+fn checked<'a>(alloc: Global, bytes: &'a [u8], image: u32) -> Result<AnyImage<'a>, NoImage>
+    ensures held { IfOk result (λ v. Holds bytes.now (any_view v)) }
+    ensures shallow { IfOk result (λ v. levels (any_view v).tree ≤ 65) }
+    ensures fault { IfErr result (IsFaultAt bytes.now image) }
+{
+    match check(alloc, bytes, Limits::usual()) {
+        Ok(checked) => Ok(checked),
+        Err(CheckError::Fault { number, at }) => Err(NoImage::Fault { number, at, image }),
+        Err(CheckError::OutOfMemory) => Err(NoImage::OutOfMemory),
+    }
+}
+
+/// The images that some files hold.
+fn check_all<'a>(alloc: Global, files: &'a [Vec<u8>]) -> Result<Vec<AnyImage<'a>>, NoImage>
+    requires { length files.now ≤ 8 }
+    ensures held { IfOk result (λ v. HoldAll (map (λ f. f.items) files.now) (map any_view v.items)) }
+    ensures shallow { IfOk result (λ v. AreShallow (map any_view v.items)) }
+    ensures fault { IfErr result (IsFirst (map (λ f. f.items) files.now)) }
+{
+    let mut images = Vec::new(alloc);
+    let mut rest = files;
+    while let [file, others @ ..] = rest {
+        let image = match checked(alloc, file.as_slice(), images.len() as u32) {
+            Ok(image) => image,
+            Err(e) => return Err(e),
+        };
+        match images.push(image) {
+            Ok(()) => {}
+            Err(_) => return Err(NoImage::OutOfMemory),
+        }
+        rest = others;
+    }
+    Ok(images)
+}
+
+/// Writes the line of the fault of one of several images.
+fn write_fault_in_line<W: ByteWrite>(
+    w: &mut W,
+    number: u32,
+    at: u32,
+    image: u32,
+) -> Result<(), Failed>
+    ensures text { WritesText (W.output w.old).contents (W.output w.new).contents result
+        (fault_in_line number at image) }
+    ensures count { Counts (W.output w.old).failures (W.output w.new).failures result }
+{
+    let mut failed = false;
+    put_fault(w, &mut failed, number, at);
+    put(w, &mut failed, b" in ");
+    put_decimal(w, &mut failed, image);
+    put(w, &mut failed, b"\n");
+    if failed { Err(Failed) } else { Ok(()) }
+}
+
+/// Writes the line, and flushes it.
+fn tell_fault_in<W: ByteWrite>(w: &mut W, number: u32, at: u32, image: u32) -> Result<(), Failed>
+    ensures text { WritesText (W.output w.old).contents (W.output w.new).contents result
+        (fault_in_line number at image) }
+    ensures count { Counts (W.output w.old).failures (W.output w.new).failures result }
+{
+    write_fault_in_line(w, number, at, image)?;
+    w.flush()
+}
+
+/// Checks 1 to 8 images under the usual limits, and answers the lines of `r` from their trees on
+/// `w`, as `rom_serve::serve_space` does. Of the first image with a fault the line of the fault is
+/// written, with the image's number.
+pub fn serve_images<R: ByteRead, W: ByteWrite>(
+    alloc: Global,
+    files: &[Vec<u8>],
+    r: &mut R,
+    w: &mut W,
+) -> Serving
+    requires some { 0 < length files.now }
+    requires few { length files.now ≤ 8 }
+    ensures { SpaceEnds (map (λ f. f.items) files.now)
+        (input_of (R.remaining r.old) (R.failures r.old))
+        (input_of (R.remaining r.new) (R.failures r.new))
+        (W.output w.old) (W.output w.new) result }
+{
+    match check_all(alloc, files) {
+        Ok(images) => ended(serve_space(images, r, w)),
+        Err(NoImage::Fault { number, at, image }) => refused(tell_fault_in(w, number, at, image)),
+        Err(NoImage::OutOfMemory) => Serving::Memory,
+    }
+}
+
+/// Serves several images as `serve_images` does, says on `err` what went wrong, and gives the
+/// status, as `serving::serve_on` does.
+pub fn serve_several_on<R: ByteRead, W: ByteWrite, E: ByteWrite>(
+    alloc: Global,
+    files: &[Vec<u8>],
+    r: &mut R,
+    w: &mut W,
+    err: &mut E,
+) -> u8
+    requires some { 0 < length files.now }
+    requires few { length files.now ≤ 8 }
+    ensures small { result ≤ 3 }
+    ensures ends { (o : Serving) × (result ≡ serving_status o)
+        × SpaceEnds (map (λ f. f.items) files.now)
+        (input_of (R.remaining r.old) (R.failures r.old))
+        (input_of (R.remaining r.new) (R.failures r.new))
+        (W.output w.old) (W.output w.new) o
+        × Prints (E.output err.old) (E.output err.new) (serving_complaint o) }
+{
+    let serving = serve_images(alloc, files, r, w);
+    conclude(serving, err)
+}
