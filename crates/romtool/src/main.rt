@@ -1,8 +1,10 @@
-//! `romtool` checks and lists images of read-only file systems.
+//! `romtool` checks, lists and serves images of read-only file systems.
 //!
 //! `romtool check IMAGE` says whether a file holds a sound image, and `romtool list IMAGE` lists
-//! its tree. Without words the example image `hello` is checked and listed. What is printed of an
-//! image is proved in `rom_commands`. The reading of words and files is only tested.
+//! its tree. `romtool serve IMAGE` answers lines from that tree, and `romtool space IMAGE..` from
+//! the trees of several images, with sessions. Without words the example image `hello` is checked
+//! and listed. What is printed and answered is proved in `rom_commands`. The reading of words and
+//! files is only tested.
 #![tactic(auto)]
 
 mod program;
