@@ -10,6 +10,7 @@ mod alone;
 mod among;
 mod calls;
 mod commands;
+pub mod laws;
 mod replies;
 pub mod serving;
 mod several;

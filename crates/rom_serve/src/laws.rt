@@ -1,0 +1,35 @@
+//! Laws of several sessions over several images.
+ghost use Rattle.std.specs.Prelude.{◌≡◌, ℕ, List, None};
+ghost use Rattle.rom_tree.specs.Image.{Image};
+ghost use Rattle.path_walk.specs.declared.mount.Mount.{Mount};
+ghost use Rattle.path_walk.specs.Graft.{GraftNode};
+ghost use Rattle.open_files.specs.Machine.{Table};
+ghost use Rattle.open_files.specs.Sessions.{Sessions};
+ghost use Rattle.serve_loop.specs.Served.{used};
+ghost use Rattle.serve_loop.specs.Views.{SeesItsView, LeavesOwn};
+ghost use Rattle.rom_serve.specs.Machines.{space_machine, session_of};
+ghost use Rattle.rom_serve.specs.SessionLines.{space_lines};
+
+/// Among the replies to an input, those of one session are the ones that it gets where its view
+/// alone is the input: its own lines, and the `mount` and `umount` lines of all sessions.
+pub fn views()
+    ensures { (ms : List Image) (s : Sessions (List Mount) (Table GraftNode))
+        → SeesItsView (space_lines ms) s }
+{}
+
+/// `mount` and `umount` leave what each session has open as it was, so that what is open goes on
+/// giving its node's bytes and entries.
+pub fn mounts_leave_tables()
+    ensures { (ms : List Image) → LeavesOwn (space_lines ms) }
+{}
+
+/// A line that names no session changes nothing.
+pub fn unnamed_lines()
+    ensures { (ms : List Image) (s : Sessions (List Mount) (Table GraftNode)) (l : List ℕ)
+        → session_of l ≡ None → (space_machine ms).next s l ≡ s }
+{}
+
+/// No line ends the serving of several images: all of the input is used.
+pub fn all_used()
+    ensures { (ms : List Image) (x : List ℕ) → used (space_machine ms) x ≡ x }
+{}
