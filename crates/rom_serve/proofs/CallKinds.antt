@@ -1,6 +1,5 @@
 -- Calls of a session, by what they change.
-use Rattle.std.proofs.Common.{◌≡◌, ℕ, Bool, true, false, cond, List, refl, sym, ap, ◌∙◌, ◌==◌, arith}
-use Rattle.std.proofs.lemmas.Bool.Decides.{nat_tests}
+use Rattle.std.proofs.Common.{◌≡◌, ℕ, Bool, true, false, cond, List, refl, sym, ap, ◌∙◌, ◌==◌}
 use Rattle.std.proofs.lemmas.Bool.{true≢false}
 use Rattle.open_files.specs.Sessions.{Sessions, Parts, with_own, session_calls}
 use Rattle.rom_lines.specs.declared.word.PathCall.TheVariants as path_call

@@ -1,22 +1,21 @@
 -- Calls on files of other images than one that is not mounted.
-use Rattle.std.proofs.Common.{◌≡◌, ℕ, zero, suc, ◌<◌, ◌==◌, Bool, true, false, cond, List, [], ◌∷◌, Option, Some, None, Result, Ok, Err, refl, sym, ap, ◌∙◌, length, replicate}
+use Rattle.std.proofs.Common.{◌≡◌, ℕ, zero, suc, ◌<◌, Bool, true, false, List, [], ◌∷◌, Option, Some, None, Result, Ok, Err, refl, ap, ◌∙◌, replicate}
 use Rattle.std.specs.Prelude.{slice_set, slice_get, option_and_then, ◌||◌}
-use Rattle.rom_tree.specs.Tree.{Node, ino_of, is_directory, is_regular, is_link, entries_of, entry_at}
+use Rattle.rom_tree.specs.Tree.{Node, ino_of, is_directory, is_regular, is_link}
 use Rattle.rom_tree.specs.Image.{Image, stat_of}
 use Rattle.path_walk.specs.declared.error.WalkError.{WalkError}
 use Rattle.path_walk.specs.declared.mount.Mount.{Mount}
 use Rattle.path_walk.specs.Resolution.{resolution}
 use Rattle.path_walk.specs.Graft.{GraftNode, bytes_in, graft}
-use Rattle.open_files.specs.declared.error.CallError.TheVariants.{Enxio}
-use Rattle.open_files.specs.Calls.{Answer, refuse, give, Calls, Of}
-use Rattle.open_files.specs.Machine.{Outcome, Open, Table, open_at, put, walked, after, opened, closed, open_free, open_place, lowest_free, read_link, no_files, calls_over, fstat_on, read_on, lend_on, map_on, seek_on, readdir_on, rewind_on}
+use Rattle.open_files.specs.Calls.{Answer, give, Calls}
+use Rattle.open_files.specs.Machine.{Outcome, Open, Table, open_at, put, walked, after, opened, closed, open_free, open_place, lowest_free, read_link, calls_over, fstat_on, read_on, lend_on, map_on, seek_on, readdir_on, rewind_on}
 use Rattle.open_files.specs.Sessions.{is_mounted}
 use Rattle.rom_lines.specs.Texts.{descriptor_text, bytes_text}
 use Rattle.rom_lines.specs.declared.word.PathCall.TheVariants as path_call
 use Rattle.rom_lines.specs.declared.word.FdCall.TheVariants as fd_call
 use Rattle.rom_lines.specs.Commands.{Call, on_path, on_fd, read, lend, seek, map_part, quit, mount, umount}
-use Rattle.rom_serve.specs.Obeyed.{Said, said, obeyed, of_node, of_stat, of_piece, of_entry, of_done}
-use Rattle.rom_serve.proofs.OtherImage.{Fine, of_both, bytes_other, leads_same, leads_fine}
+use Rattle.rom_serve.specs.Obeyed.{said, obeyed, of_node, of_stat, of_piece}
+use Rattle.rom_serve.proofs.OtherImage.{Fine, bytes_other, leads_same, leads_fine}
 
 -- what is open is of other images than i
 abbrev pub IsOther : ℕ → Option (Open GraftNode) → Type 0

@@ -1,5 +1,5 @@
 -- Several images of which one, that is not mounted, is another.
-use Rattle.std.proofs.Common.{◌≡◌, ℕ, zero, suc, ◌<◌, ◌==◌, Bool, true, false, cond, List, [], ◌∷◌, ◌++◌, Option, Some, None, Result, Ok, Err, refl, sym, ap, ◌∙◌, subst, arith, length, nat_lt}
+use Rattle.std.proofs.Common.{◌≡◌, ℕ, zero, suc, ◌<◌, ◌==◌, Bool, true, false, cond, List, [], ◌∷◌, ◌++◌, Option, Some, None, Result, Ok, Err, refl, ap, ◌∙◌, subst, arith, length, nat_lt}
 use Rattle.std.specs.Prelude.{slice_set, option_map, find, ◌||◌, not}
 use Rattle.std.proofs.lemmas.Bool.{true≢false}
 use Rattle.std.proofs.lemmas.Bool.Decides.{nat_tests}
@@ -11,9 +11,8 @@ use Rattle.path_walk.specs.declared.mount.Mount.{Mount}
 use Rattle.path_walk.specs.Resolution.{resolution}
 use Rattle.path_walk.specs.Graft.{GraftNode, tree_in, bytes_in, covers, over, shown, graft}
 use Rattle.open_files.specs.Calls.{Answer, refuse, give}
-use Rattle.open_files.specs.Errors.{error_of}
 use Rattle.open_files.specs.Sessions.{is_mounted, has_mount, without, mount_over, mount_at_place, mounting, unmounting}
-use Rattle.open_files.specs.declared.error.CallError.TheVariants.{Enotdir, Einval, Enodev, Ebusy}
+use Rattle.open_files.specs.declared.error.CallError.TheVariants.{Einval, Enodev, Ebusy}
 use Rattle.rom_serve.proofs.SameWalk.{walk_same, walk_fine}
 
 pub neither : (a b : Bool) → (a || b) ≡ false → (a ≡ false) × (b ≡ false)

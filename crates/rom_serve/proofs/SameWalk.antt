@@ -1,8 +1,7 @@
 -- Paths lead alike in two namespaces that are alike at fine places, where no name leads from a fine place to
 -- another.
-use Rattle.std.proofs.Common.{◌≡◌, ℕ, Bool, List, Option, Some, None, Result, Ok, Err, refl, sym, ap, ◌∙◌, subst}
+use Rattle.std.proofs.Common.{◌≡◌, ℕ, Bool, List, Option, Some, None, Result, Ok, Err, refl, sym, ◌∙◌, subst}
 use Rattle.std.specs.Prelude.{option_map}
-use Rattle.rom_tree.specs.Tree.{Node}
 use Rattle.path_walk.specs.declared.error.WalkError.{WalkError}
 use Rattle.path_walk.specs.Resolution.{Namespace, resolution}
 use Rattle.path_walk.proofs.Alike.{lift_result, walk_lift, ok_by}
@@ -13,7 +12,6 @@ module _ {F : Type 0} (Fine : F → Type 0) (a b : Namespace F)
     (entry : (x : F) (n : List ℕ) → Fine x → b.entry x n ≡ a.entry x n)
     (stays : (x : F) (n : List ℕ) (y : F) → Fine x → a.entry x n ≡ Some y → Fine y)
     (root : Fine a.root) (same_root : b.root ≡ a.root) where
-
   FinePlace : Type 0
   FinePlace = (x : F) × Fine x
 

@@ -1,5 +1,5 @@
 -- An image that no line mounts may be any other.
-use Rattle.std.proofs.Common.{◌≡◌, ℕ, ◌<◌, Bool, true, false, cond, List, drop, Option, Some, None, refl, sym, ap, ◌∙◌, subst, ◌==◌}
+use Rattle.std.proofs.Common.{◌≡◌, ℕ, ◌<◌, true, false, List, drop, Option, Some, None, refl, sym, ap, ◌∙◌, subst, ◌==◌}
 use Rattle.std.specs.Prelude.{slice_set}
 use Rattle.rom_tree.specs.Image.{Image}
 use Rattle.path_walk.specs.declared.mount.Mount.{Mount}
@@ -7,13 +7,13 @@ use Rattle.path_walk.specs.Graft.{GraftNode}
 use Rattle.open_files.specs.Calls.{Answer}
 use Rattle.open_files.specs.Machine.{Table}
 use Rattle.open_files.specs.Sessions.{Sessions, with_own, shared_answer, graft_parts, space_calls, is_mounted, no_sessions}
-use Rattle.rom_lines.specs.Commands.{Call, on_path, on_fd, read, lend, seek, map_part, quit, mount, umount, Line, asks, is_bad, line_of}
+use Rattle.rom_lines.specs.Commands.{Call, Line, asks, is_bad, line_of}
 use Rattle.serve_loop.specs.Served.{exchanges, lines_of}
-use Rattle.serve_loop.specs.Views.{AgreeOn, AllFine}
+use Rattle.serve_loop.specs.Views.{AgreeOn}
 use Rattle.serve_loop.proofs.Agree.{same_replies}
 use Rattle.rom_serve.specs.Obeyed.{Said, says, said, of_done, obeyed, answered}
 use Rattle.rom_serve.specs.Machines.{space_machine, session_of, answered_by, prefixed}
-use Rattle.rom_serve.specs.SessionLines.{is_mount_call, mounts_call, mounts, mounts_of, NeverMounts}
+use Rattle.rom_serve.specs.SessionLines.{mounts_call, mounts, mounts_of, NeverMounts}
 use Rattle.rom_serve.proofs.CallKinds.{by_kind, lifted}
 use Rattle.rom_serve.proofs.OtherImage.{of_both, mounting_other, unmounting_other, mounting_free, unmounting_free}
 use Rattle.rom_serve.proofs.OtherCalls.{AreOther, none_other, obeyed_same, obeyed_other}
