@@ -32,7 +32,8 @@ abbrev pub two_by : (List ℕ → List ℕ → Line) → Option (Bor (List ℕ) 
 two_by line None = is_bad bad.Line
 two_by line (Some p) = line p.0.now p.1.now
 
-abbrev pub three_by : (List ℕ → List ℕ → List ℕ → Line) → Option (Bor (List ℕ) × Bor (List ℕ) × Bor (List ℕ)) → Line
+abbrev pub three_by : (List ℕ → List ℕ → List ℕ → Line) → Option (Bor (List ℕ) × Bor (List ℕ) × Bor (List ℕ))
+    → Line
 three_by line None = is_bad bad.Line
 three_by line (Some p) = line p.0.now p.1.now p.2.now
 

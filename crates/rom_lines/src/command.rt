@@ -10,6 +10,9 @@ use crate::path_text::PathText;
 use crate::word::{FdCall, PathCall, Word, word_of};
 use open_files::Fd;
 
+/// How many bytes one `read` may ask for.
+const MOST_READ: u32 = 4096;
+
 /// What a line asks for, with its numbers and the text of its path.
 #[derive(Clone, Copy, Debug)]
 pub enum Command<'l> {
@@ -158,7 +161,7 @@ fn read_call<'l>(rest: Option<&'l [u8]>) -> Result<Command<'l>, Bad>
     match two_numbers(rest) {
         Err(bad) => Err(bad),
         Ok((fd, len)) => {
-            if len > 4096 {
+            if len > MOST_READ {
                 return Err(Bad::Number);
             }
             Ok(Command::Read(Fd(fd), len))

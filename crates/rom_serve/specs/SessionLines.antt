@@ -25,7 +25,8 @@ is_mount_of line None = false
 is_mount_of line (Some k) = is_mount (line_of true (drop 2 line))
 
 -- sessions that share something
-abbrev pub session_lines : {Shared Own : Type 0} → Parts Shared Own → SessionMachine (Sessions Shared Own) Shared Own
+abbrev pub session_lines : {Shared Own : Type 0} → Parts Shared Own
+    → SessionMachine (Sessions Shared Own) Shared Own
 session_lines p = record {
   machine = lines_among (session_calls p);
   session = session_of;
@@ -35,7 +36,8 @@ session_lines p = record {
 }
 
 -- those over several images: the mounts are shared
-abbrev pub space_lines : List Image → SessionMachine (Sessions (List Mount) (Table GraftNode)) (List Mount) (Table GraftNode)
+abbrev pub space_lines : List Image
+    → SessionMachine (Sessions (List Mount) (Table GraftNode)) (List Mount) (Table GraftNode)
 space_lines ms = session_lines (graft_parts 64 ms)
 
 -- `mount` of image i

@@ -16,6 +16,8 @@ mod replies;
 pub mod serving;
 mod several;
 mod single;
+#[cfg(test)]
+mod tests;
 
 pub use serve_loop::ServeError;
 pub use serving::{serve, serve_bounded, serve_space};

@@ -6,12 +6,12 @@ use Rattle.rom_lines.proofs.command.read_call.Goals as goal
 pub returns-in-Err-clause-asks : goal.returns-in-Err-clause-asks
 returns-in-Err-clause-asks c = c.in-Err.ensures (λ fd len. at_most 4096 len (asks (read fd len)))
 
-pub returns-then-len-gt4096-clause-asks : goal.returns-then-len-gt4096-clause-asks
-returns-then-len-gt4096-clause-asks c =
+pub returns-then-len-gt-MOST_READ-clause-asks : goal.returns-then-len-gt-MOST_READ-clause-asks
+returns-then-len-gt-MOST_READ-clause-asks c =
     c.in-Ok.ensures (λ fd len. at_most 4096 len (asks (read fd len)))
-    ∙ over c.in-Ok.fd c.in-Ok.len (asks (read c.in-Ok.fd c.in-Ok.len)) c.if-len-gt4096.true
+    ∙ over c.in-Ok.fd c.in-Ok.len (asks (read c.in-Ok.fd c.in-Ok.len)) c.if-len-gt-MOST_READ.true
 
-pub returns-else-len-gt4096-clause-asks : goal.returns-else-len-gt4096-clause-asks
-returns-else-len-gt4096-clause-asks c =
+pub returns-else-len-gt-MOST_READ-clause-asks : goal.returns-else-len-gt-MOST_READ-clause-asks
+returns-else-len-gt-MOST_READ-clause-asks c =
     c.in-Ok.ensures (λ fd len. at_most 4096 len (asks (read fd len)))
-    ∙ within c.in-Ok.fd c.in-Ok.len (asks (read c.in-Ok.fd c.in-Ok.len)) c.if-len-gt4096.false
+    ∙ within c.in-Ok.fd c.in-Ok.len (asks (read c.in-Ok.fd c.in-Ok.len)) c.if-len-gt-MOST_READ.false
