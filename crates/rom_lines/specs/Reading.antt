@@ -10,11 +10,11 @@ use Rattle.rom_lines.specs.Commands.{Call, on_path, on_fd, read, lend, seek, map
 -- the call of a command
 abbrev pub call_by : Command → Call
 call_by (command.Path c p) = on_path c (path_of p.text.now)
-call_by (command.Fd c fd) = on_fd c fd
-call_by (command.Read fd n) = read fd n
-call_by (command.Lend fd n) = lend fd n
-call_by (command.Seek fd o) = seek fd o
-call_by (command.Map fd o n) = map_part fd o n
+call_by (command.Fd c fd) = on_fd c fd.0
+call_by (command.Read fd n) = read fd.0 n
+call_by (command.Lend fd n) = lend fd.0 n
+call_by (command.Seek fd o) = seek fd.0 o
+call_by (command.Map fd o n) = map_part fd.0 o n
 call_by command.Quit = quit
 call_by (command.Mount i p) = mount i (path_of p.text.now)
 call_by (command.Umount i) = umount i
@@ -32,7 +32,8 @@ abbrev pub two_by : (List ℕ → List ℕ → Line) → Option (Bor (List ℕ) 
 two_by line None = is_bad bad.Line
 two_by line (Some p) = line p.0.now p.1.now
 
-abbrev pub three_by : (List ℕ → List ℕ → List ℕ → Line) → Option (Bor (List ℕ) × Bor (List ℕ) × Bor (List ℕ)) → Line
+abbrev pub three_by : (List ℕ → List ℕ → List ℕ → Line) → Option (Bor (List ℕ) × Bor (List ℕ) × Bor (List ℕ))
+    → Line
 three_by line None = is_bad bad.Line
 three_by line (Some p) = line p.0.now p.1.now p.2.now
 

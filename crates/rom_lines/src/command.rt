@@ -1,31 +1,46 @@
 //! What a line asks for.
 ghost use Rattle.std.specs.Prelude.{◌≡◌, ◌≤◌, ℕ, List, length, Option, IfSome};
 ghost use Rattle.rom_lines.specs.Commands.{Line, line_of, call_of, fields_left, one_field, two_fields, three_fields, number as number_then};
+ghost use Rattle.rom_lines.specs.declared.word.Word.TheVariants.{Read};
 ghost use Rattle.rom_lines.specs.Reading.{line_by, one_by, two_by, three_by, number_by, numbers_by, three_numbers_by, is_small_line};
 
 use crate::bad::Bad;
 use crate::field::{cut, number};
 use crate::path_text::PathText;
 use crate::word::{FdCall, PathCall, Word, word_of};
+use open_files::Fd;
 
-/// What a line asks for.
+/// How many bytes one `read` may ask for.
+const MOST_READ: u32 = 4096;
+
+/// What a line asks for, with its numbers and the text of its path.
 #[derive(Clone, Copy, Debug)]
 pub enum Command<'l> {
+    /// `lookup`, `stat`, `lstat`, `readlink` or `open`, and a path.
     Path(PathCall, PathText<'l>),
-    Fd(FdCall, u32),
-    Read(u32, u32),
-    Lend(u32, u32),
-    Seek(u32, u32),
-    Map(u32, u32, u32),
+    /// `fstat`, `readdir`, `rewind` or `close`, and a descriptor.
+    Fd(FdCall, Fd),
+    /// A descriptor, and how many bytes: at most 4,096.
+    Read(Fd, u32),
+    /// A descriptor, and how many bytes at most.
+    Lend(Fd, u32),
+    /// A descriptor, and its new position.
+    Seek(Fd, u32),
+    /// A descriptor, the first byte, and how many bytes.
+    Map(Fd, u32, u32),
+    /// All that is open is closed.
     Quit,
+    /// The number of an image, and the path of the directory that it is to cover.
     Mount(u32, PathText<'l>),
+    /// The number of an image.
     Umount(u32),
 }
 
 /// The one field that is left, where it is not empty.
 fn one<'l>(rest: Option<&'l [u8]>) -> Option<&'l [u8]>
     requires { IfSome rest (λ r. length r.now ≤ 8191) }
-    ensures field { (line : List ℕ → Line) → one_field line (fields_left rest.entry) ≡ one_by line result }
+    ensures field { (line : List ℕ → Line)
+        → one_field line (fields_left rest.entry) ≡ one_by line result }
     ensures short { IfSome result (λ f. length f.now ≤ 8191) }
 {
     let Some(text) = rest else {
@@ -45,7 +60,8 @@ fn one<'l>(rest: Option<&'l [u8]>) -> Option<&'l [u8]>
 /// The two fields that are left, where they are not empty.
 fn two<'l>(rest: Option<&'l [u8]>) -> Option<(&'l [u8], &'l [u8])>
     requires { IfSome rest (λ r. length r.now ≤ 8191) }
-    ensures fields { (line : List ℕ → List ℕ → Line) → two_fields line (fields_left rest.entry) ≡ two_by line result }
+    ensures fields { (line : List ℕ → List ℕ → Line)
+        → two_fields line (fields_left rest.entry) ≡ two_by line result }
     ensures short { IfSome result (λ p. length p.1.now ≤ 8191) }
 {
     let Some(text) = rest else {
@@ -64,7 +80,8 @@ fn two<'l>(rest: Option<&'l [u8]>) -> Option<(&'l [u8], &'l [u8])>
 /// The three fields that are left, where they are not empty.
 fn three<'l>(rest: Option<&'l [u8]>) -> Option<(&'l [u8], &'l [u8], &'l [u8])>
     requires { IfSome rest (λ r. length r.now ≤ 8191) }
-    ensures { (line : List ℕ → List ℕ → List ℕ → Line) → three_fields line (fields_left rest.entry) ≡ three_by line result }
+    ensures { (line : List ℕ → List ℕ → List ℕ → Line)
+        → three_fields line (fields_left rest.entry) ≡ three_by line result }
 {
     let Some(text) = rest else {
         return None;
@@ -82,7 +99,8 @@ fn three<'l>(rest: Option<&'l [u8]>) -> Option<(&'l [u8], &'l [u8], &'l [u8])>
 /// The one number that is left.
 fn one_number(rest: Option<&[u8]>) -> Result<u32, Bad>
     requires { IfSome rest (λ r. length r.now ≤ 8191) }
-    ensures { (line : ℕ → Line) → one_field (λ f. number_then f line) (fields_left rest.entry) ≡ number_by line result }
+    ensures { (line : ℕ → Line)
+        → one_field (λ f. number_then f line) (fields_left rest.entry) ≡ number_by line result }
 {
     let Some(field) = one(rest) else {
         return Err(Bad::Line);
@@ -96,7 +114,9 @@ fn one_number(rest: Option<&[u8]>) -> Result<u32, Bad>
 /// The two numbers that are left.
 fn two_numbers(rest: Option<&[u8]>) -> Result<(u32, u32), Bad>
     requires { IfSome rest (λ r. length r.now ≤ 8191) }
-    ensures { (line : ℕ → ℕ → Line) → two_fields (λ f g. number_then f (λ n. number_then g (λ m. line n m))) (fields_left rest.entry) ≡ numbers_by line result }
+    ensures { (line : ℕ → ℕ → Line)
+        → two_fields (λ f g. number_then f (λ n. number_then g (λ m. line n m)))
+        (fields_left rest.entry) ≡ numbers_by line result }
 {
     let Some((first, second)) = two(rest) else {
         return Err(Bad::Line);
@@ -113,7 +133,9 @@ fn two_numbers(rest: Option<&[u8]>) -> Result<(u32, u32), Bad>
 /// The three numbers that are left.
 fn three_numbers(rest: Option<&[u8]>) -> Result<(u32, u32, u32), Bad>
     requires { IfSome rest (λ r. length r.now ≤ 8191) }
-    ensures { (line : ℕ → ℕ → ℕ → Line) → three_fields (λ f g h. number_then f (λ n. number_then g (λ m. number_then h (λ k. line n m k)))) (fields_left rest.entry) ≡ three_numbers_by line result }
+    ensures { (line : ℕ → ℕ → ℕ → Line)
+        → three_fields (λ f g h. number_then f (λ n. number_then g (λ m. number_then h
+        (λ k. line n m k)))) (fields_left rest.entry) ≡ three_numbers_by line result }
 {
     let Some((first, second, third)) = three(rest) else {
         return Err(Bad::Line);
@@ -130,7 +152,24 @@ fn three_numbers(rest: Option<&[u8]>) -> Result<(u32, u32, u32), Bad>
     Ok((n, m, k))
 }
 
-/// What a word and the fields after it ask for.
+/// What the fields behind `read` ask for.
+fn read_call<'l>(rest: Option<&'l [u8]>) -> Result<Command<'l>, Bad>
+    requires { IfSome rest (λ r. length r.now ≤ 8191) }
+    ensures asks { call_of Read (fields_left rest.entry) ≡ line_by result }
+    ensures small { is_small_line result }
+{
+    match two_numbers(rest) {
+        Err(bad) => Err(bad),
+        Ok((fd, len)) => {
+            if len > MOST_READ {
+                return Err(Bad::Number);
+            }
+            Ok(Command::Read(Fd(fd), len))
+        }
+    }
+}
+
+/// What a word and the fields behind it ask for.
 fn call<'l>(word: Word, rest: Option<&'l [u8]>) -> Result<Command<'l>, Bad>
     requires { IfSome rest (λ r. length r.now ≤ 8191) }
     ensures asks { call_of word (fields_left rest.entry) ≡ line_by result }
@@ -143,28 +182,20 @@ fn call<'l>(word: Word, rest: Option<&'l [u8]>) -> Result<Command<'l>, Bad>
         },
         Word::Fd(fd_call) => match one_number(rest) {
             Err(bad) => Err(bad),
-            Ok(fd) => Ok(Command::Fd(fd_call, fd)),
+            Ok(fd) => Ok(Command::Fd(fd_call, Fd(fd))),
         },
-        Word::Read => match two_numbers(rest) {
-            Err(bad) => Err(bad),
-            Ok((fd, len)) => {
-                if len > 4096 {
-                    return Err(Bad::Number);
-                }
-                Ok(Command::Read(fd, len))
-            }
-        },
+        Word::Read => read_call(rest),
         Word::Lend => match two_numbers(rest) {
             Err(bad) => Err(bad),
-            Ok((fd, len)) => Ok(Command::Lend(fd, len)),
+            Ok((fd, len)) => Ok(Command::Lend(Fd(fd), len)),
         },
         Word::Seek => match two_numbers(rest) {
             Err(bad) => Err(bad),
-            Ok((fd, off)) => Ok(Command::Seek(fd, off)),
+            Ok((fd, position)) => Ok(Command::Seek(Fd(fd), position)),
         },
         Word::Map => match three_numbers(rest) {
             Err(bad) => Err(bad),
-            Ok((fd, off, len)) => Ok(Command::Map(fd, off, len)),
+            Ok((fd, off, len)) => Ok(Command::Map(Fd(fd), off, len)),
         },
         Word::Quit => match rest {
             None => Ok(Command::Quit),
@@ -184,8 +215,15 @@ fn call<'l>(word: Word, rest: Option<&'l [u8]>) -> Result<Command<'l>, Bad>
     }
 }
 
+/// What a line, which is given without its line feed, asks for. `mounts` says whether `mount` and
+/// `umount` are words. A `read` asks for at most 4,096 bytes.
+///
+/// # Errors
+///
+/// In this order: `Bad::Line` where the line has more than 8,191 bytes, `Bad::Command` where its
+/// first field is no word, `Bad::Line` where it has more or fewer fields than its word has, or an
+/// empty one, `Bad::Number` where a number is none. Never `Bad::Session`.
 #[tactic(auto, unfolding(crate::specs::Commands::line_of))]
-/// What a line asks for. `mounts` says whether `mount` and `umount` are words.
 pub fn read_line<'l>(line: &'l [u8], mounts: bool) -> Result<Command<'l>, Bad>
     ensures asks { line_of mounts line.now ≡ line_by result }
     ensures small { is_small_line result }

@@ -5,8 +5,8 @@ ghost use Rattle.rom_lines.specs.Commands.{fields, fields_left, number_of};
 use itoa::Buffer;
 use memchr::memchr;
 
-/// The first field of a text, and what follows the space after it.
-pub fn cut(text: &[u8]) -> (&[u8], Option<&[u8]>)
+/// The first field of a text, and what follows the space behind it.
+pub(crate) fn cut(text: &[u8]) -> (&[u8], Option<&[u8]>)
     ensures fields { fields text.now ≡ result.0.now ∷ fields_left result.1 }
     ensures first { length result.0.now ≤ length text.now }
     ensures rest { IfSome result.1 (λ r. length r.now ≤ length text.now) }
@@ -17,8 +17,8 @@ pub fn cut(text: &[u8]) -> (&[u8], Option<&[u8]>)
     }
 }
 
-/// The number that a field spells.
-pub fn number(field: &[u8]) -> Option<u32>
+/// The number that a field is: decimal, without leading zeros, at most 4,294,967,295.
+pub(crate) fn number(field: &[u8]) -> Option<u32>
     ensures { result ≡ number_of field.now }
 {
     let Ok(s) = std::str::from_utf8(field) else {

@@ -8,7 +8,8 @@ use rom_fields::sink::put;
 
 /// Puts a length in decimal digits.
 pub(crate) fn put_length<W: ByteWrite>(w: &mut W, failed: &mut bool, n: usize)
-    ensures { Puts (sink (W.output w.old) failed.old) (sink (W.output w.new) failed.new) (decimal n) }
+    ensures { Puts (sink (W.output w.old) failed.old) (sink (W.output w.new) failed.new)
+        (decimal n) }
 {
     let mut buffer = Buffer::new();
     put(w, failed, buffer.format(n).as_bytes());

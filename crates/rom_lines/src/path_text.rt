@@ -16,6 +16,7 @@ pub struct PathText<'l> {
 }
 
 impl<'l> PathText<'l> {
+    /// Of a field, as it stands in its line.
     pub fn new(text: &'l [u8]) -> PathText<'l>
         requires { length text.now ≤ 8191 }
         ensures { result.text ≡ text.entry }
@@ -23,7 +24,8 @@ impl<'l> PathText<'l> {
         PathText { text }
     }
 
-    /// The path that is meant. `-` alone is the empty one.
+    /// The path that is meant: each `%` with two hexadecimal digits behind it is one byte, and `-`
+    /// alone is the empty path.
     pub fn decoded(self) -> Path
         ensures { result.items ≡ path_of self.entry.text.now }
     {

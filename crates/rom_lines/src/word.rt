@@ -21,9 +21,9 @@ pub enum FdCall {
     Close,
 }
 
-/// The first field of a line.
+/// What the first field of a line says.
 #[derive(Clone, Copy, Debug, PartialEq, Eq)]
-pub enum Word {
+pub(crate) enum Word {
     Path(PathCall),
     Fd(FdCall),
     Read,
@@ -35,8 +35,8 @@ pub enum Word {
     Umount,
 }
 
-/// The word of a first field. `mounts` says whether `mount` and `umount` are words.
-pub fn word_of(text: &[u8], mounts: bool) -> Option<Word>
+/// The word that a first field is. `mounts` says whether `mount` and `umount` are words.
+pub(crate) fn word_of(text: &[u8], mounts: bool) -> Option<Word>
     ensures { result ≡ named mounts text.now }
 {
     if text == b"lookup".as_slice() {

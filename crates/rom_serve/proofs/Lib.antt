@@ -1,1 +1,7 @@
 pub mod LongLines
+pub mod CallKinds
+pub mod Separate
+pub mod SameWalk
+pub mod OtherImage
+pub mod OtherCalls
+pub mod Untouched

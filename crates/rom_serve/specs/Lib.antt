@@ -1,2 +1,3 @@
 pub mod Obeyed
 pub mod Machines
+pub mod SessionLines

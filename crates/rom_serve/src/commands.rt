@@ -36,17 +36,17 @@ fn path_reply<'a, C: OpenCalls<'a>>(
 }
 
 /// What is asked of a descriptor alone.
-fn fd_reply<'a, C: OpenCalls<'a>>(calls: &mut C, session: u32, call: FdCall, fd: u32) -> Reply<'a>
+fn fd_reply<'a, C: OpenCalls<'a>>(calls: &mut C, session: u32, call: FdCall, fd: Fd) -> Reply<'a>
     requires { session < 8 }
-    ensures reply { obeyed (C.calls calls.old session) (C.state calls.old) (on_fd call fd)
+    ensures reply { obeyed (C.calls calls.old session) (C.state calls.old) (on_fd call fd.0)
         ≡ says (reply_text result) (C.state calls.new) }
     ensures stays { C.calls calls.new ≡ C.calls calls.old }
 {
     match call {
-        FdCall::Fstat => stat_reply(calls.fstat(session, Fd(fd))),
-        FdCall::Readdir => entry_reply(calls.readdir(session, Fd(fd))),
-        FdCall::Rewind => done_reply(calls.rewind(session, Fd(fd))),
-        FdCall::Close => done_reply(calls.close(session, Fd(fd))),
+        FdCall::Fstat => stat_reply(calls.fstat(session, fd)),
+        FdCall::Readdir => entry_reply(calls.readdir(session, fd)),
+        FdCall::Rewind => done_reply(calls.rewind(session, fd)),
+        FdCall::Close => done_reply(calls.close(session, fd)),
     }
 }
 
@@ -65,19 +65,20 @@ fn quit_reply<'a, C: OpenCalls<'a>>(calls: &mut C, session: u32) -> Reply<'a>
 fn put_read<'a, C: OpenCalls<'a>, W: ByteWrite>(
     calls: &mut C,
     session: u32,
-    fd: u32,
+    fd: Fd,
     buf: &mut [u8],
     w: &mut W,
     failed: &mut bool,
 )
     requires { session < 8 }
     ensures text { Puts (sink (W.output w.old) failed.old) (sink (W.output w.new) failed.new)
-        (obeyed (C.calls calls.old session) (C.state calls.old) (read fd (length buf.old))).text }
+        (obeyed (C.calls calls.old session) (C.state calls.old) (read fd.0 (length buf.old))).text }
     ensures step { C.state calls.new
-        ≡ (obeyed (C.calls calls.old session) (C.state calls.old) (read fd (length buf.old))).state }
+        ≡ (obeyed (C.calls calls.old session) (C.state calls.old)
+        (read fd.0 (length buf.old))).state }
     ensures stays { C.calls calls.new ≡ C.calls calls.old }
 {
-    match calls.read(session, Fd(fd), buf) {
+    match calls.read(session, fd, buf) {
         Ok(n) => put_reply(w, failed, Reply::Bytes(front(buf, n))),
         Err(error) => put_reply(w, failed, Reply::Refused(error)),
     }
@@ -120,18 +121,18 @@ fn put_obeyed<'a, C: OpenCalls<'a>, W: ByteWrite>(
             put_reply(
                 w,
                 failed,
-                piece_reply(calls.lend(session, Fd(fd), u64::from(max))),
+                piece_reply(calls.lend(session, fd, u64::from(max))),
             );
         }
         Command::Seek(fd, position) => {
             put_reply(
                 w,
                 failed,
-                done_reply(calls.seek(session, Fd(fd), u64::from(position))),
+                done_reply(calls.seek(session, fd, u64::from(position))),
             );
         }
         Command::Map(fd, off, len) => {
-            let piece = calls.map(session, Fd(fd), u64::from(off), u64::from(len));
+            let piece = calls.map(session, fd, u64::from(off), u64::from(len));
             put_reply(w, failed, piece_reply(piece));
         }
         Command::Quit => put_reply(w, failed, quit_reply(calls, session)),
@@ -163,7 +164,8 @@ pub(crate) fn put_answer<'a, C: OpenCalls<'a>, W: ByteWrite>(
     ensures text { Puts (sink (W.output w.old) failed.old) (sink (W.output w.new) failed.new)
         (answered (C.calls calls.old session) (C.state calls.old) (line_of mounts line.now)).text }
     ensures step { C.state calls.new
-        ≡ (answered (C.calls calls.old session) (C.state calls.old) (line_of mounts line.now)).state }
+        ≡ (answered (C.calls calls.old session) (C.state calls.old)
+        (line_of mounts line.now)).state }
     ensures stays { C.calls calls.new ≡ C.calls calls.old }
 {
     match read_line(line, mounts) {

@@ -1,19 +1,23 @@
 //! A server of lines over read-only file system images.
 //!
 //! `specs/Machines.antt` says what each line is answered: over one image, and over several images
-//! with eight sessions. Proved: `serve`, `serve_bounded` and `serve_space` write just these replies,
-//! each of them whole and flushed before the next byte is read, and say why they ended early.
-//! No memory is taken.
+//! with eight sessions. Proved: `serve`, `serve_bounded` and `serve_space` write just these
+//! replies, each of them whole before the next byte is read, and say why they ended early; no
+//! failed write or flush is passed over. That each reply is flushed is shown by tests. `laws` has
+//! what holds of the replies of several sessions. No memory is taken.
 #![tactic(auto)]
 
 mod alone;
 mod among;
 mod calls;
 mod commands;
+pub mod laws;
 mod replies;
 pub mod serving;
 mod several;
 mod single;
+#[cfg(test)]
+mod tests;
 
 pub use serve_loop::ServeError;
 pub use serving::{serve, serve_bounded, serve_space};

@@ -25,9 +25,9 @@ use std::marker::PhantomData;
 /// # Errors
 ///
 /// `ReadFault` where a read failed, `TooManyReads` where 2^40 bytes were read and the input had not
-/// ended: just the replies to those lines were written that end with a line feed. `WriteFault` where
-/// a write or a flush failed, or a write took no byte: a prefix of the replies was written, which
-/// holds the replies to all lines but the last.
+/// ended: just the replies to those lines were written that end with a line feed. `WriteFault`
+/// where a write or a flush failed, or a write took no byte: a prefix of the replies was written,
+/// which holds the replies to all lines but the last.
 pub fn serve<'a, T: TreeImage<'a>, R: ByteRead, W: ByteWrite>(
     image: T,
     r: &mut R,

@@ -1,9 +1,10 @@
 //! Serving lines from a reader to a writer, whatever answers them.
 //!
 //! `specs/Served.antt` says how an input is cut into lines, what a machine of lines replies to
-//! them, and how much of the input is used. Proved: `serve::serve_lines` writes just these
-//! replies, each of them flushed before the next byte is read, and says which of reader, writer
-//! and count of reads ended it early. `specs/Views.antt` says what one of several sessions sees.
+//! them, and how much of the input is used. Proved: `serve_lines` writes just these replies, each
+//! of them whole before the next byte is read, and says which of reader, writer and count of reads
+//! ended it early; no failed write or flush is passed over. `specs/Views.antt` says what one of
+//! several sessions sees.
 #![tactic(auto)]
 
 pub mod error;

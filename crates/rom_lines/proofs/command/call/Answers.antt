@@ -1,7 +1,7 @@
 use Rattle.std.proofs.Common.{◌∙◌, ap}
 use Rattle.rom_lines.specs.declared.word.Word.{Word}
-use Rattle.rom_lines.specs.Commands.{asks, on_fd, read, lend, seek, map_part, quit, umount, at_most, call_of, fields_left}
-use Rattle.rom_lines.proofs.Cutting.{some_fields, over, within}
+use Rattle.rom_lines.specs.Commands.{asks, on_fd, lend, seek, map_part, quit, umount, call_of, fields_left}
+use Rattle.rom_lines.proofs.Cutting.{some_fields}
 use Rattle.rom_lines.proofs.command.call.Goals as goal
 
 pub returns-in-Err-clause-asks : goal.returns-in-Err-clause-asks
@@ -11,25 +11,16 @@ pub returns-in-Ok-clause-asks : goal.returns-in-Ok-clause-asks
 returns-in-Ok-clause-asks c = ap (λ (w : Word). call_of w (fields_left c.args.rest)) c.in-Fd.is ∙ c.in-Ok.ensures (λ fd. asks (on_fd c.in-Fd.fd_call fd))
 
 pub returns-in-Err-two_numbers-clause-asks : goal.returns-in-Err-two_numbers-clause-asks
-returns-in-Err-two_numbers-clause-asks c = ap (λ (w : Word). call_of w (fields_left c.args.rest)) c.in-Read.is ∙ c.in-Err-two_numbers.ensures (λ fd len. at_most 4096 len (asks (read fd len)))
+returns-in-Err-two_numbers-clause-asks c = ap (λ (w : Word). call_of w (fields_left c.args.rest)) c.in-Lend.is ∙ c.in-Err-two_numbers.ensures (λ fd len. asks (lend fd len))
 
-pub returns-then-len-gt4096-clause-asks : goal.returns-then-len-gt4096-clause-asks
-returns-then-len-gt4096-clause-asks c = ap (λ (w : Word). call_of w (fields_left c.args.rest)) c.in-Read.is ∙ c.in-Ok-two_numbers.ensures (λ fd len. at_most 4096 len (asks (read fd len))) ∙ over c.in-Ok-two_numbers.fd c.in-Ok-two_numbers.len (asks (read c.in-Ok-two_numbers.fd c.in-Ok-two_numbers.len)) c.if-len-gt4096.true
-
-pub returns-else-len-gt4096-clause-asks : goal.returns-else-len-gt4096-clause-asks
-returns-else-len-gt4096-clause-asks c = ap (λ (w : Word). call_of w (fields_left c.args.rest)) c.in-Read.is ∙ c.in-Ok-two_numbers.ensures (λ fd len. at_most 4096 len (asks (read fd len))) ∙ within c.in-Ok-two_numbers.fd c.in-Ok-two_numbers.len (asks (read c.in-Ok-two_numbers.fd c.in-Ok-two_numbers.len)) c.if-len-gt4096.false
+pub returns-in-Ok-two_numbers-clause-asks : goal.returns-in-Ok-two_numbers-clause-asks
+returns-in-Ok-two_numbers-clause-asks c = ap (λ (w : Word). call_of w (fields_left c.args.rest)) c.in-Lend.is ∙ c.in-Ok-two_numbers.ensures (λ fd len. asks (lend fd len))
 
 pub returns-in-Err-two_numbers-2-clause-asks : goal.returns-in-Err-two_numbers-2-clause-asks
-returns-in-Err-two_numbers-2-clause-asks c = ap (λ (w : Word). call_of w (fields_left c.args.rest)) c.in-Lend.is ∙ c.in-Err-two_numbers-2.ensures (λ fd len. asks (lend fd len))
+returns-in-Err-two_numbers-2-clause-asks c = ap (λ (w : Word). call_of w (fields_left c.args.rest)) c.in-Seek.is ∙ c.in-Err-two_numbers-2.ensures (λ fd off. asks (seek fd off))
 
 pub returns-in-Ok-two_numbers-2-clause-asks : goal.returns-in-Ok-two_numbers-2-clause-asks
-returns-in-Ok-two_numbers-2-clause-asks c = ap (λ (w : Word). call_of w (fields_left c.args.rest)) c.in-Lend.is ∙ c.in-Ok-two_numbers-2.ensures (λ fd len. asks (lend fd len))
-
-pub returns-in-Err-two_numbers-3-clause-asks : goal.returns-in-Err-two_numbers-3-clause-asks
-returns-in-Err-two_numbers-3-clause-asks c = ap (λ (w : Word). call_of w (fields_left c.args.rest)) c.in-Seek.is ∙ c.in-Err-two_numbers-3.ensures (λ fd off. asks (seek fd off))
-
-pub returns-in-Ok-two_numbers-3-clause-asks : goal.returns-in-Ok-two_numbers-3-clause-asks
-returns-in-Ok-two_numbers-3-clause-asks c = ap (λ (w : Word). call_of w (fields_left c.args.rest)) c.in-Seek.is ∙ c.in-Ok-two_numbers-3.ensures (λ fd off. asks (seek fd off))
+returns-in-Ok-two_numbers-2-clause-asks c = ap (λ (w : Word). call_of w (fields_left c.args.rest)) c.in-Seek.is ∙ c.in-Ok-two_numbers-2.ensures (λ fd off. asks (seek fd off))
 
 pub returns-in-Err-three_numbers-clause-asks : goal.returns-in-Err-three_numbers-clause-asks
 returns-in-Err-three_numbers-clause-asks c = ap (λ (w : Word). call_of w (fields_left c.args.rest)) c.in-Map.is ∙ c.in-Err-three_numbers.ensures (λ fd off len. asks (map_part fd off len))
