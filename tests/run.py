@@ -19,6 +19,8 @@ own, and has
 A run has
     words    the words after the program's name
     in       the bytes of its standard input (nothing where missing)
+    in_from  what its standard input is in place of bytes: `unreadable`, a folder, of which no byte can be read
+    left     how many bytes of its standard input are left unread (not compared where missing)
     out      the bytes of its standard output (not compared where missing)
     out_to   where its standard output goes, and `out` is missing: `full`, a device that takes nothing;
              `closed`, nowhere; `no reader`, a pipe that nobody reads
@@ -150,8 +152,23 @@ def output_for(out_to):
     return None if out_to == "closed" else subprocess.PIPE
 
 
+def input_for(run, top):
+    """What a run has as its standard input: a new descriptor."""
+    if run.get("in_from") == "unreadable":
+        return os.open(top, os.O_RDONLY)
+    with tempfile.TemporaryFile() as file:
+        file.write(bytes_of(run.get("in", "")))
+        file.seek(0)
+        return os.dup(file.fileno())
+
+
+def left_of(descriptor):
+    """How many bytes of a file stand after its position."""
+    return os.fstat(descriptor).st_size - os.lseek(descriptor, 0, os.SEEK_CUR)
+
+
 def started(binary, run, top, environment=None):
-    """The finished program; its environment has what is told, too."""
+    """The finished program, with what is `left` of its input; its environment has what is told, too."""
     words = [os.fsencode(binary)] + [bytes_of(word) for word in run["words"]]
     limit, out_to = run.get("memory"), run.get("out_to")
 
@@ -161,14 +178,17 @@ def started(binary, run, top, environment=None):
         if out_to == "closed":
             os.close(1)
 
-    out = output_for(out_to)
+    given, out = input_for(run, top), output_for(out_to)
     try:
-        return subprocess.run(
-            words, cwd=top, input=bytes_of(run.get("in", "")), stdout=out, stderr=subprocess.PIPE,
+        done = subprocess.run(
+            words, cwd=top, stdin=given, stdout=out, stderr=subprocess.PIPE,
             timeout=SECONDS, preexec_fn=prepare if limit or out_to == "closed" else None,
             env={**os.environ, **(environment or {})},
         )  # fmt: skip
+        done.left = left_of(given)
+        return done
     finally:
+        os.close(given)
         if out_to in ("full", "no reader"):
             os.close(out)
 
@@ -204,6 +224,8 @@ def wrong_in(binary, run, top):
         if wanted is not None and got != bytes_of(wanted):
             wrong.append("%s     %r" % (key, got[:400]))
             wrong.append("expected %r" % bytes_of(wanted)[:400])
+    if "left" in run and done.left != run["left"]:
+        wrong.append("%d bytes of its input were left, expected %d" % (done.left, run["left"]))
     for name, told in run.get("written", {}).items():
         wrong += wrong_file(top, name, bytes_of(told))
     there = [name for name in run.get("absent", []) if os.path.lexists(os.path.join(top, name))]
