@@ -42,7 +42,11 @@ fn lines_of_one_image(rt: HostRuntime) -> Result<(), Fail> {
             bad number\nerr EBADF\n",
         ),
         (b"lookup /\nquit\nlookup /\n", 9, b"ok 1\nok\n"),
-        (b"lookup -\nlookup %2D\nmount 1 /bin\n", 0, b"err ENOENT\nerr EINVAL\nbad command\n"),
+        (
+            b"lookup -\nlookup %2D\nmount 1 /bin\n",
+            0,
+            b"err ENOENT\nerr EINVAL\nbad command\n",
+        ),
         (
             b"stat /bin/sh\nlstat /a%20b%25\nreadlink /a%20b%25\nopen /\nreaddir 0\nreaddir 0\nread 0 1",
             0,

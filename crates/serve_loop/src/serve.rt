@@ -12,6 +12,9 @@ use crate::one_byte::{Got, read_byte};
 use arrayvec::ArrayVec;
 use rom_fields::bytes::{ByteRead, ByteWrite, Failed};
 
+/// Ends a line.
+const LINE_FEED: u8 = b'\n';
+
 /// The front of a line whose end was not read yet.
 type Line = ArrayVec<u8, 8192>;
 
@@ -110,7 +113,7 @@ pub fn serve_lines<M: LineMachine, R: ByteRead, W: ByteWrite>(
             }
             Got::Fault => return Err(ServeError::ReadFault),
         };
-        if b != b'\n' {
+        if b != LINE_FEED {
             keep(&mut line, b);
             continue;
         }

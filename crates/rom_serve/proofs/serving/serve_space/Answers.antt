@@ -1,4 +1,4 @@
-use Rattle.std.proofs.Common.{◌≡◌, List, map, subst, ap, Err}
+use Rattle.std.proofs.Common.{◌≡◌, ◌^◌, ℕ, List, length, map, subst, ap, Err}
 use Rattle.std.specs.Prelude.{OnOk}
 use Rattle.rom_fields.specs.Failures.{Rose}
 use Rattle.rom_tree.specs.Image.{Image}
@@ -6,8 +6,8 @@ use Rattle.path_walk.specs.declared.mount.Mount.{Mount}
 use Rattle.path_walk.specs.Graft.{GraftNode}
 use Rattle.open_files.specs.Machine.{Table}
 use Rattle.open_files.specs.Sessions.{Sessions, space_calls, no_sessions}
-use Rattle.serve_loop.specs.declared.error.ServeError.TheVariants.{WriteFault}
-use Rattle.serve_loop.specs.Served.{Serves, Breaks}
+use Rattle.serve_loop.specs.declared.error.ServeError.TheVariants.{ReadFault, WriteFault, TooManyReads}
+use Rattle.serve_loop.specs.Served.{Serves, Finishes, Breaks}
 use Rattle.rom_serve.specs.Machines.{space_machine}
 use Rattle.rom_serve.proofs.LongLines.{among_long}
 use Rattle.rom_serve.proofs.serving.serve_space.Goals as goal
@@ -36,3 +36,27 @@ returns-clause-write_fault g c =
     ((g.W.ByteWrite.output c.args.w.now).contents) ((g.W.ByteWrite.output c.serve_lines.new.w).contents) in
     subst (λ ms. P ms (no_sessions 64)) same
     (subst (P (map g.T.Viewed.image c.new-calls.result.images.items)) c.new-calls.ensures.empty c.serve_lines.ensures.write_fault)
+
+pub returns-clause-read_fault : goal.returns-clause-read_fault
+returns-clause-read_fault g c =
+    let same : map g.T.Viewed.image c.new-calls.result.images.items ≡ map g.T.Viewed.image c.args.images.items =
+    ap (λ v. map g.T.Viewed.image v.items) c.new-calls.ensures.images in
+    let P : List Image → Sessions (List Mount) (Table GraftNode) → Type 0 = λ ms s. c.serve_lines.result ≡ Err ReadFault
+    → Rose (g.R.ByteRead.failures c.args.r.now) (g.R.ByteRead.failures c.serve_lines.new.r)
+    × ((y : List ℕ) × Finishes (space_machine ms) s
+    (g.R.ByteRead.remaining c.args.r.now) (g.R.ByteRead.remaining c.serve_lines.new.r)
+    ((g.W.ByteWrite.output c.args.w.now).contents) ((g.W.ByteWrite.output c.serve_lines.new.w).contents) y) in
+    subst (λ ms. P ms (no_sessions 64)) same
+    (subst (P (map g.T.Viewed.image c.new-calls.result.images.items)) c.new-calls.ensures.empty c.serve_lines.ensures.read_fault)
+
+pub returns-clause-too_many : goal.returns-clause-too_many
+returns-clause-too_many g c =
+    let same : map g.T.Viewed.image c.new-calls.result.images.items ≡ map g.T.Viewed.image c.args.images.items =
+    ap (λ v. map g.T.Viewed.image v.items) c.new-calls.ensures.images in
+    let P : List Image → Sessions (List Mount) (Table GraftNode) → Type 0 = λ ms s. c.serve_lines.result ≡ Err TooManyReads
+    → (y : List ℕ) × (length y ≡ 2 ^ 40)
+    × Finishes (space_machine ms) s
+    (g.R.ByteRead.remaining c.args.r.now) (g.R.ByteRead.remaining c.serve_lines.new.r)
+    ((g.W.ByteWrite.output c.args.w.now).contents) ((g.W.ByteWrite.output c.serve_lines.new.w).contents) y in
+    subst (λ ms. P ms (no_sessions 64)) same
+    (subst (P (map g.T.Viewed.image c.new-calls.result.images.items)) c.new-calls.ensures.empty c.serve_lines.ensures.too_many)

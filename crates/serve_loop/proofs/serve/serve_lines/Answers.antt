@@ -26,9 +26,9 @@ returns-in-Fault-clause-read_fault g c = λ _. (
   run-fails _ c.requires _ _ _ _ _ _ _ _ _ c.loop.invariant.runs c.in-Fault.ensures.0,
 )
 
-pub loop-preserved-then-b-ne10 : goal.loop-preserved-then-b-ne10
-loop-preserved-then-b-ne10 g c = record {
-  runs = run-goes_on _ c.requires _ _ _ _ _ _ _ _ _ _ _ c.loop.invariant.runs c.in-Byte.ensures.0 c.if-b-ne10.true c.keep.ensures;
+pub loop-preserved-then-b-ne-LINE_FEED : goal.loop-preserved-then-b-ne-LINE_FEED
+loop-preserved-then-b-ne-LINE_FEED g c = record {
+  runs = run-goes_on _ c.requires _ _ _ _ _ _ _ _ _ _ _ c.loop.invariant.runs c.in-Byte.ensures.0 c.if-b-ne-LINE_FEED.true c.keep.ensures;
   same = c.loop.invariant.same;
   read = c.in-Byte.ensures.1 ∙ c.loop.invariant.read;
   wrote = c.loop.invariant.wrote;
@@ -38,17 +38,17 @@ pub returns-in-Err-answer_line-clause-write_fault :
     goal.returns-in-Err-answer_line-clause-write_fault
 returns-in-Err-answer_line-clause-write_fault g c = λ _. (
   rose-from _ _ _ c.loop.invariant.wrote c.in-Err-answer_line.ensures.count,
-  run-breaks _ c.requires _ _ _ _ _ _ _ _ _ _ _ _ c.loop.invariant.same c.loop.invariant.runs c.in-Byte.ensures.0 c.if-b-ne10.false c.in-Err-answer_line.ensures.text,
+  run-breaks _ c.requires _ _ _ _ _ _ _ _ _ _ _ _ c.loop.invariant.same c.loop.invariant.runs c.in-Byte.ensures.0 c.if-b-ne-LINE_FEED.false c.in-Err-answer_line.ensures.text,
 )
 
 pub returns-then-last-clause-ok : goal.returns-then-last-clause-ok
 returns-then-last-clause-ok g c =
-    run-quits _ c.requires _ _ _ _ _ _ _ _ _ _ _ _ _ c.loop.invariant.same c.loop.invariant.runs c.in-Byte.ensures.0 c.if-b-ne10.false
+    run-quits _ c.requires _ _ _ _ _ _ _ _ _ _ _ _ _ c.loop.invariant.same c.loop.invariant.runs c.in-Byte.ensures.0 c.if-b-ne-LINE_FEED.false
     (c.is_last-last.ensures ∙ ap (λ (t : List ℕ). (g.M.LineMachine.machine c.loop.m).ends t) c.as_slice.ensures.value) c.if-last.true c.in-Ok-answer_line.ensures.text
 
 pub loop-preserved : goal.loop-preserved
 loop-preserved g c = record {
-  runs = run-answers _ c.requires _ _ _ _ _ _ _ _ _ _ _ _ _ _ _ c.loop.invariant.same c.loop.invariant.runs c.in-Byte.ensures.0 c.if-b-ne10.false
+  runs = run-answers _ c.requires _ _ _ _ _ _ _ _ _ _ _ _ _ _ _ c.loop.invariant.same c.loop.invariant.runs c.in-Byte.ensures.0 c.if-b-ne-LINE_FEED.false
       (c.is_last-last.ensures ∙ ap (λ (t : List ℕ). (g.M.LineMachine.machine c.loop.m).ends t) c.as_slice.ensures.value) c.if-last.false c.in-Ok-answer_line.ensures.text
       c.in-Ok-answer_line.ensures.step c.clear.ensures;
   same = c.in-Ok-answer_line.ensures.stays ∙ c.loop.invariant.same;
