@@ -91,7 +91,7 @@ nil_of : (xs ys : List ℕ) → xs ++ ys ≡ [] → xs ≡ []
 nil_of [] ys e = refl
 nil_of (x ∷ xs) ys e = absurd (cc)
 
-moved : (b more : List ℕ) (q : ℕ) (bytes : List ℕ) → HasAt b q bytes → HasAt (b ++ more) q bytes
+pub moved : (b more : List ℕ) (q : ℕ) (bytes : List ℕ) → HasAt b q bytes → HasAt (b ++ more) q bytes
 moved b more q bytes (back, e) = elim (cases_lt (length b) q) [
   | inl l ↦ let z : bytes ≡ [] = nil_of bytes back (sym e ∙ drop_all q b (omega arith)) in (drop q (b ++ more), ap (λ (xs : List ℕ). xs ++ drop q (b ++ more)) (sym z))
   | inr l ↦ HasAt-front b more q bytes (omega arith) (back, e)

@@ -1,0 +1,5 @@
+pub mod Layout
+pub mod Reads
+pub mod Wells
+pub mod Forest
+pub mod Planned
