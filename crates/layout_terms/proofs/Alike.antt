@@ -33,21 +33,22 @@ alike_some R o k x y a e f = subst (λ u. Alike R (Some x) u) f (subst (λ u. Al
 -- two members are one, or stand apart in both
 pub same_both : (xs : List Placed) (x y : Placed) → Pairs (λ (u v : Placed). u.place ≢ v.place) xs → Pairs (λ (u v : Placed). u.inode.line ≢ v.inode.line) xs → Has (λ u. u ≡ x) xs → Has (λ u. u ≡ y) xs
     → (x.place ≡ y.place) ↔ (x.inode.line ≡ y.inode.line)
-same_both xs x y p l h k =
-    (λ e. elim (pairs_pick (λ (u v : Placed). u.place ≢ v.place) (λ u. u ≡ x) (λ u. u ≡ y) xs p h k) [
-      | inl s ↦ ap (λ (u : Placed). u.inode.line) (sym s.1 ∙ s.2)
-      | inr s ↦ elim s.4 [
-        | inl n ↦ absurd (n (ap (λ (u : Placed). u.place) s.2 ∙ e ∙ sym (ap (λ (u : Placed). u.place) s.3)))
-        | inr n ↦ absurd (n (ap (λ (u : Placed). u.place) s.3 ∙ sym e ∙ sym (ap (λ (u : Placed). u.place) s.2)))
-      ]
-    ],
-    λ e. elim (pairs_pick (λ (u v : Placed). u.inode.line ≢ v.inode.line) (λ u. u ≡ x) (λ u. u ≡ y) xs l h k) [
-      | inl s ↦ ap (λ (u : Placed). u.place) (sym s.1 ∙ s.2)
-      | inr s ↦ elim s.4 [
-        | inl n ↦ absurd (n (ap (λ (u : Placed). u.inode.line) s.2 ∙ e ∙ sym (ap (λ (u : Placed). u.inode.line) s.3)))
-        | inr n ↦ absurd (n (ap (λ (u : Placed). u.inode.line) s.3 ∙ sym e ∙ sym (ap (λ (u : Placed). u.inode.line) s.2)))
-      ]
-    ])
+same_both xs x y p l h k = (
+  λ e. elim (pairs_pick (λ (u v : Placed). u.place ≢ v.place) (λ u. u ≡ x) (λ u. u ≡ y) xs p h k) [
+    | inl s ↦ ap (λ (u : Placed). u.inode.line) (sym s.1 ∙ s.2)
+    | inr s ↦ elim s.4 [
+      | inl n ↦ absurd (n (ap (λ (u : Placed). u.place) s.2 ∙ e ∙ sym (ap (λ (u : Placed). u.place) s.3)))
+      | inr n ↦ absurd (n (ap (λ (u : Placed). u.place) s.3 ∙ sym e ∙ sym (ap (λ (u : Placed). u.place) s.2)))
+    ]
+  ],
+  λ e. elim (pairs_pick (λ (u v : Placed). u.inode.line ≢ v.inode.line) (λ u. u ≡ x) (λ u. u ≡ y) xs l h k) [
+    | inl s ↦ ap (λ (u : Placed). u.place) (sym s.1 ∙ s.2)
+    | inr s ↦ elim s.4 [
+      | inl n ↦ absurd (n (ap (λ (u : Placed). u.inode.line) s.2 ∙ e ∙ sym (ap (λ (u : Placed). u.inode.line) s.3)))
+      | inr n ↦ absurd (n (ap (λ (u : Placed). u.inode.line) s.3 ∙ sym e ∙ sym (ap (λ (u : Placed). u.inode.line) s.2)))
+    ]
+  ],
+)
 
 pub every_unmap : {X Y : Type 0} (f : X → Y) (P : Y → Type 0) → (xs : List X) → Every P (map f xs) → Every (λ x. P (f x)) xs
 every_unmap f P [] h = tt
