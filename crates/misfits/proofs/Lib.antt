@@ -1,0 +1,4 @@
+mod Least
+mod Decided
+mod Examples
+mod Stands
