@@ -1,4 +1,7 @@
 mod Least
 mod Decided
+mod Orders
+mod Written
+mod Sorted
 mod Examples
 mod Stands
