@@ -3,5 +3,7 @@ mod Decided
 mod Orders
 mod Written
 mod Sorted
+mod Led
+mod Grown
 mod Examples
 mod Stands
