@@ -5,5 +5,9 @@ mod Written
 mod Sorted
 mod Led
 mod Grown
+mod Plain
+mod Aligned
+mod InRomfs
+mod InCramfs
 mod Examples
 mod Stands
