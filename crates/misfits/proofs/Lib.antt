@@ -7,7 +7,9 @@ mod Led
 mod Grown
 mod Plain
 mod Aligned
+mod Known
 mod InRomfs
 mod InCramfs
+mod PlannedRomfs
 mod Examples
 mod Stands
