@@ -144,6 +144,7 @@ pub record IsImage (o : Order) (b : List ℕ) (root : Inode) (n : Names) (cs : L
   pub super : IsSuperblock o b b
   pub holds : Holds o b cs root n
   pub read : ReadsEntry o b 64 [] root (list_len n) (root_offset n)
+  pub long : length b ≡ size_of n
 
 pub is_image : (o : Order) (volume : List ℕ) (root : Inode) (n : Names) (cs : List (List ℕ)) → IsPlanned volume root n cs → IsImage o (layout o volume root n cs) root n cs
 unfolding layout with_part size_of accessible_size HasCrc superblock
@@ -229,6 +230,7 @@ is_image o volume root n cs h =
       };
       holds = holds;
       read = read;
+      long = lb;
     }
 
 pub has_tree : (o : Order) (volume : List ℕ) (root : Inode) (n : Names) (cs : List (List ℕ)) → IsPlanned volume root n cs → CramfsTree o (layout o volume root n cs) (2 ^ 20) 64 (tree_of o (layout o volume root n cs) (all_spots n))
@@ -242,3 +244,6 @@ has_tree o volume root n cs h =
       whole = is_tree o b cs root n (2 ^ 20) 64 i.holds h.few (let k = h.shallow in omega arith);
       same = refl;
     }
+
+pub has_length : (o : Order) (volume : List ℕ) (root : Inode) (n : Names) (cs : List (List ℕ)) → IsPlanned volume root n cs → length (layout o volume root n cs) ≡ size_of n
+has_length o volume root n cs h = (is_image o volume root n cs h).long

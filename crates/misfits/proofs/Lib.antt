@@ -11,5 +11,7 @@ mod Known
 mod InRomfs
 mod InCramfs
 mod PlannedRomfs
+mod PlannedCramfs
+mod Fitting
 mod Examples
 mod Stands

@@ -1,7 +1,7 @@
 -- A planned volume, laid out, is a romfs image.
 use Rattle.std.proofs.Common.{◌≡◌, ◌≢◌, ℕ, ◌+◌, ◌-◌, ◌%◌, ◌^◌, ◌≤◌, min, true, false, eqb, if◌then◌else◌, List, [], ◌∷◌, ◌++◌, length, take, drop, replicate, refl, sym, ap, subst, ◌∙◌, arith, inl, inr, length-append}
 use Rattle.std.proofs.lemmas.Bool.{cases_lt}
-use Rattle.std.proofs.lemmas.List.{length-take, length-drop, take_at, take_all}
+use Rattle.std.proofs.lemmas.List.{length-replicate, length-take, length-drop, take_at, take_all}
 use Rattle.std.specs.List.{AllByRecursion as Every}
 use Rattle.byteorder.specs.Endian.{big_bytes, big_number}
 use Rattle.byteorder.specs.Numbers.{big_number-reads_back}
@@ -23,6 +23,7 @@ use Rattle.romfs_layout.specs.Wells.{AreWell}
 use Rattle.romfs_layout.specs.Forest.{all_offsets}
 use Rattle.romfs_layout.specs.Planned.{IsPlanned}
 use Rattle.image_parts.proofs.Parts.{HasParts-laid, length-laid, laid_keeps}
+use Rattle.image_parts.proofs.Padding.{pad-after}
 use Rattle.romfs_layout.proofs.ReadBack.{length-header, length-padded_name, name_of-has, all_read}
 use Rattle.image_parts.proofs.Sealed.{HasAt-sealed, words_sum-sealed}
 use Rattle.romfs_layout.proofs.Places.{ends_after, first_even, first_within}
@@ -215,3 +216,14 @@ has_tree volume root n cs h =
       whole = t.0;
       same = sym t.1;
     }
+
+pub has_length : (volume : List ℕ) (root : Inode) (n : Names) (cs : List (List ℕ)) → IsPlanned volume root n cs → length (layout volume root n cs) ≡ pad (full_size_of (root_at volume) n) 1024
+unfolding layout
+has_length volume root n cs h =
+    let r = root_at volume in
+    let size = full_size_of r n in
+    let b = image_of volume size cs (all_headers r root n) in
+    let zeros = replicate {A = ℕ} (pad size 1024 - size) 0 in
+    let e = (is_image volume root n cs h).size in
+    let up = pad-after size 1024 (omega arith) in
+    omega (arith, length-append b zeros, length-replicate {A = ℕ} (pad size 1024 - size) 0, e, up)

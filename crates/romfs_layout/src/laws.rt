@@ -1,10 +1,11 @@
 //! Laws about the layout of a romfs image.
-ghost use Rattle.std.specs.Prelude.{List, ℕ, ◌^◌};
+ghost use Rattle.std.specs.Prelude.{◌≡◌, List, ℕ, ◌^◌, length};
+ghost use Rattle.image_parts.specs.Padding.{pad};
 ghost use Rattle.name_tree.specs.Names.{Inode, Names};
 ghost use Rattle.name_tree.specs.Shape.{HasShape};
 ghost use Rattle.rom_tree.specs.Tree.{Node};
 ghost use Rattle.romfs_format.specs.Tree.{RomfsTree};
-ghost use Rattle.romfs_layout.specs.Layout.{layout};
+ghost use Rattle.romfs_layout.specs.Layout.{layout, full_size_of, root_at};
 ghost use Rattle.romfs_layout.specs.Planned.{IsPlanned};
 
 /// The layout of a planned volume is a romfs image, within the usual limits, and its tree has the
@@ -14,4 +15,11 @@ pub fn layout_has_tree()
         → IsPlanned volume root n contents
         → (t : Node) × RomfsTree (layout volume root n contents) (2 ^ 20) 64 t
         × HasShape (layout volume root n contents) t contents root n }
+{}
+
+/// How long it is depends on the names and sizes alone.
+pub fn layout_length()
+    ensures { (volume : List ℕ) (root : Inode) (n : Names) (contents : List (List ℕ))
+        → IsPlanned volume root n contents
+        → length (layout volume root n contents) ≡ pad (full_size_of (root_at volume) n) 1024 }
 {}
