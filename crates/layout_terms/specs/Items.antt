@@ -53,7 +53,7 @@ abbrev pub in_order : List Section → List Section
 in_order [] = []
 in_order (s ∷ ss) = put_section s (in_order ss)
 
--- the sections stand one after the other, none before `at`, and none is empty
-abbrev pub SectionsRise : ℕ → List Section → Type 0
-SectionsRise at [] = Unit {0}
-SectionsRise at (s ∷ ss) = (at ≤ s.place) × (0 < s.len) × SectionsRise (s.place + s.len) ss
+-- the sections stand one after the other, none before `at`, none is empty, and the last ends at `end` or before
+abbrev pub SectionsRise : ℕ → ℕ → List Section → Type 0
+SectionsRise at end [] = at ≤ end
+SectionsRise at end (s ∷ ss) = (at ≤ s.place) × (0 < s.len) × SectionsRise (s.place + s.len) end ss

@@ -12,5 +12,6 @@ pub mod Image
 pub mod Values
 pub mod Paths
 pub mod Shaped
+pub mod Sectioned
 mod Examples
 mod Hello

@@ -5,6 +5,8 @@ ghost use Rattle.name_tree.specs.Names.{Inode, Names};
 ghost use Rattle.name_tree.specs.Shape.{HasShape};
 ghost use Rattle.rom_tree.specs.Tree.{Node};
 ghost use Rattle.romfs_format.specs.Tree.{RomfsTree};
+ghost use Rattle.layout_terms.specs.Items.{SectionsRise};
+ghost use Rattle.romfs_layout.specs.Items.{items_of, sections_of};
 ghost use Rattle.romfs_layout.specs.Layout.{layout, full_size_of, root_at};
 ghost use Rattle.romfs_layout.specs.Planned.{IsPlanned};
 
@@ -22,4 +24,12 @@ pub fn layout_length()
     ensures { (volume : List ℕ) (root : Inode) (n : Names) (contents : List (List ℕ))
         → IsPlanned volume root n contents
         → length (layout volume root n contents) ≡ pad (full_size_of (root_at volume) n) 1024 }
+{}
+
+/// The sections of a planned volume stand one after the other, none is empty, and the last ends
+/// within the accessible bytes.
+pub fn sections_rise()
+    ensures { (volume : List ℕ) (root : Inode) (n : Names) (contents : List (List ℕ))
+        → IsPlanned volume root n contents
+        → SectionsRise 0 (full_size_of (root_at volume) n) (sections_of volume (items_of volume root n)) }
 {}
