@@ -53,7 +53,7 @@ file_row o b x n = elim (eqb_tells (type_of o b x.offset) 4) [
 ]
 
 -- what holds of a list and of a file's extents holds of all extents of a row
-row_every : (P : Span → Type 0) (o : Order) (b : List ℕ) (x : Row) → (type_of o b x.offset ≡ 4 → 0 < size_of o b x.offset → P (record { kind = ListOf; start = offset_of o b x.offset; len = size_of o b x.offset }))
+pub row_every : (P : Span → Type 0) (o : Order) (b : List ℕ) (x : Row) → (type_of o b x.offset ≡ 4 → 0 < size_of o b x.offset → P (record { kind = ListOf; start = offset_of o b x.offset; len = size_of o b x.offset }))
     → (has_data (type_of o b x.offset) ≡ true → Every P (file_extents o b x.offset)) → Every P (row_extents o b x)
 row_every P o b x f g = elim (eqb_tells (type_of o b x.offset) 4) [
   | inl e ↦ subst (Every P) (sym (list_row o b x e.1)) (every_join P (added ListOf (offset_of o b x.offset) (size_of o b x.offset)) [] (every_added P ListOf (offset_of o b x.offset) (size_of o b x.offset) (f e.1)) tt)
@@ -97,7 +97,7 @@ super_apart o b y s (of_list a l i) e = let z : Super ≡ ListOf = ap (λ (v : S
 super_apart o b y s (of_file k) e = subst IsShareable (sym e) k
 
 -- no two extents of an image are one but tables and data
-extents_pairs : (o : Order) (b : List ℕ) (all : List Row) → Pairs (ListsApart o b) all → Pairs NotTwin (extents_of o b all)
+pub extents_pairs : (o : Order) (b : List ℕ) (all : List Row) → Pairs (ListsApart o b) all → Pairs NotTwin (extents_of o b all)
 extents_pairs o b all apart =
     pairs_join NotTwin (added Super 0 76) (flat_map (row_extents o b) all) (pairs_added NotTwin Super 0 76)
     (pairs_flat NotTwin (ListsApart o b) (row_extents o b) (row_pairs o b) (rows_apart o b) all apart)

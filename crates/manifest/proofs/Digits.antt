@@ -50,7 +50,7 @@ worth base b e = elim (nat_lt b 48) as (λ t. nat_lt b 48 ≡ t → not t && nat
 ] refl e
 
 -- so many digits are below that power of the base
-stays_small : (most base n : ℕ) (bs : List ℕ) → (n + 1) * base ^ length bs ≤ most → below most (digits_from base n bs) ≡ digits_from base n bs
+pub stays_small : (most base n : ℕ) (bs : List ℕ) → (n + 1) * base ^ length bs ≤ most → below most (digits_from base n bs) ≡ digits_from base n bs
 stays_small most base n [] h = below_small most n (omega (arith, h, ap (λ (x : ℕ). (n + 1) * x) (pow-zero base) ∙ mul-one (n + 1)))
 stays_small most base n (b ∷ bs) h =
     elim (is_digit base b) as (λ t. is_digit base b ≡ t → below most (cond t (digits_from base (n * base + (b - 48)) bs) None) ≡ cond t (digits_from base (n * base + (b - 48)) bs) None) [

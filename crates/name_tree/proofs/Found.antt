@@ -80,7 +80,7 @@ nothing_below : (ks : List (List ℕ)) → found ks nothing ≡ None
 nothing_below [] = refl
 nothing_below (k ∷ ks) = refl
 
-not_here : {X : Type 0} (b : Bool) (x : X) (o : Option X) → cond b (Some x) o ≡ None → (b ≡ false) × (o ≡ None)
+pub not_here : {X : Type 0} (b : Bool) (x : X) (o : Option X) → cond b (Some x) o ≡ None → (b ≡ false) × (o ≡ None)
 not_here true x o h = absurd (cc)
 not_here false x o h = (refl, h)
 
@@ -148,7 +148,7 @@ is_parent [] n = true
 is_parent (p ∷ ps) n = is_a_folder (found (p ∷ ps) n)
 
 -- past a file that is no directory
-past_file : (name m : List ℕ) (ps : List (List ℕ)) (i : Inode) (o : Option Found) → is_a_folder (cond (bytes_eq name m) (last_or ps (a_file false i) None) o) ≡ true → (bytes_eq name m ≡ false) × (is_a_folder o ≡ true)
+pub past_file : (name m : List ℕ) (ps : List (List ℕ)) (i : Inode) (o : Option Found) → is_a_folder (cond (bytes_eq name m) (last_or ps (a_file false i) None) o) ≡ true → (bytes_eq name m ≡ false) × (is_a_folder o ≡ true)
 past_file name m ps i o h = by (bytes_eq name m) ps h
   where
     by : (b : Bool) (ps : List (List ℕ)) → is_a_folder (cond b (last_or ps (a_file false i) None) o) ≡ true → (b ≡ false) × (is_a_folder o ≡ true)
@@ -156,7 +156,7 @@ past_file name m ps i o h = by (bytes_eq name m) ps h
     by true (p ∷ ps) h = absurd (cc)
     by false ps h = (refl, h)
 
-own_parent : (ps : List (List ℕ)) (i : Inode) (own : Names) → is_a_folder (last_or ps (a_file true i) (found ps own)) ≡ true → is_parent ps own ≡ true
+pub own_parent : (ps : List (List ℕ)) (i : Inode) (own : Names) → is_a_folder (last_or ps (a_file true i) (found ps own)) ≡ true → is_parent ps own ≡ true
 own_parent [] i own h = refl
 own_parent (p ∷ ps) i own h = h
 

@@ -59,7 +59,7 @@ same_test l k ks h = by (bytes_eq l.path (path_of (k ∷ ks))) refl
     by true e = ap (is_named (k ∷ ks)) (ap names_of ((bytes_decides l.path (path_of (k ∷ ks))).0 e) ∙ h) ∙ names_same (k ∷ ks)
     by false e = other (names_of l.path) refl e
 
-abbrev line_named : List Line → List (List ℕ) → Option Line
+abbrev pub line_named : List Line → List (List ℕ) → Option Line
 line_named ls q = find (λ l. is_named q (names_of l.path)) ls
 
 line_named_is : (ls : List Line) (k : List ℕ) (ks : List (List ℕ)) → names_of (path_of (k ∷ ks)) ≡ Some (k ∷ ks) → line_named ls (k ∷ ks) ≡ line_at ls (path_of (k ∷ ks))
@@ -68,11 +68,11 @@ line_named_is (l ∷ ls) k ks h =
     ap (λ (b : Bool). cond b (Some l) (line_named ls (k ∷ ks))) (same_test l k ks h)
     ∙ ap (λ (o : Option Line). cond (bytes_eq l.path (path_of (k ∷ ks))) (Some l) o) (line_named_is ls k ks h)
 
-abbrev as_found : List Line → List ℕ → Line → Option Found
+abbrev pub as_found : List Line → List ℕ → Line → Option Found
 as_found all sizes l = option_map (λ i. record { is_folder = is_dir l.word; inode = i }) (file_at all sizes l.path)
 
 -- what a list of names leads to by the lines, from the last to the first
-abbrev found_by : List Line → List ℕ → List Line → List (List ℕ) → Option Found
+abbrev pub found_by : List Line → List ℕ → List Line → List (List ℕ) → Option Found
 found_by all sizes ls q = option_and_then (as_found all sizes) (line_named ls q)
 
 no_line : (o : Option Line) → is_some o ≡ false → o ≡ None
@@ -80,7 +80,7 @@ no_line None h = refl
 no_line (Some l) h = absurd (cc)
 
 -- the line of a path that stood before has its names
-none_named : (ls : List Line) (path m : List ℕ) (ms : List (List ℕ)) → names_of path ≡ Some (m ∷ ms) → is_some (line_at ls path) ≡ false → line_named ls (m ∷ ms) ≡ None
+pub none_named : (ls : List Line) (path m : List ℕ) (ms : List (List ℕ)) → names_of path ≡ Some (m ∷ ms) → is_some (line_at ls path) ≡ false → line_named ls (m ∷ ms) ≡ None
 none_named ls path m ms h e =
     let same = (path_with_names path m ms h).joined in
     line_named_is ls m ms (ap names_of (sym same) ∙ h) ∙ ap (line_at ls) (sym same) ∙ no_line (line_at ls path) e
@@ -96,7 +96,7 @@ line_has_path (l ∷ ls) q d h = elim (bytes_eq l.path q) as (λ t. bytes_eq l.p
     injective e = cc
 
 -- each path of these lines has a file
-abbrev HaveFiles : List Line → List ℕ → List Line → Type 0
+abbrev pub HaveFiles : List Line → List ℕ → List Line → Type 0
 HaveFiles all sizes ls = (q : List ℕ) → is_some (line_at ls q) ≡ true → is_some (file_at all sizes q) ≡ true
 
 -- a `dir` line is found as a directory
@@ -116,10 +116,10 @@ grown-push : (all : List Line) (sizes : List ℕ) (xs : List Line) (l : Line) (n
 grown-push all sizes [] l n = refl
 grown-push all sizes (x ∷ xs) l n = grown-push all sizes xs l (put_line x (file_at all sizes x.path) (names_of x.path) n)
 
-abbrev grown_by : List Line → List ℕ → List Line → Names
+abbrev pub grown_by : List Line → List ℕ → List Line → Names
 grown_by all sizes ls = grown all sizes (reverse ls) nothing
 
-one_more : (all : List Line) (sizes : List ℕ) (l : Line) (ls : List Line) → grown_by all sizes (l ∷ ls) ≡ put_line l (file_at all sizes l.path) (names_of l.path) (grown_by all sizes ls)
+pub one_more : (all : List Line) (sizes : List ℕ) (l : Line) (ls : List Line) → grown_by all sizes (l ∷ ls) ≡ put_line l (file_at all sizes l.path) (names_of l.path) (grown_by all sizes ls)
 one_more all sizes l ls = ap (λ xs. grown all sizes xs nothing) (reverse-append (l ∷ []) ls) ∙ grown-push all sizes (reverse ls) l nothing
 
 -- how the word says what is put
@@ -135,7 +135,7 @@ put_as Hard i = refl
 put_as Same i = refl
 
 -- the directory of a line without a fault is there
-parent_there : (all : List Line) (sizes : List ℕ) (l : Line) (ls : List Line) (m : List ℕ) (ms : List (List ℕ)) (n : Names) → fault_of ls l ≡ None → HaveFiles all sizes ls
+pub parent_there : (all : List Line) (sizes : List ℕ) (l : Line) (ls : List Line) (m : List ℕ) (ms : List (List ℕ)) (n : Names) → fault_of ls l ≡ None → HaveFiles all sizes ls
     → names_of l.path ≡ Some (m ∷ ms) → ((k : List ℕ) (ks : List (List ℕ)) → found (k ∷ ks) n ≡ found_by all sizes ls (k ∷ ks)) → is_parent (but_last (m ∷ ms)) n ≡ true
 parent_there all sizes l ls m ms n s f h same = by (but_last (m ∷ ms)) refl
   where
@@ -169,18 +169,18 @@ step all sizes l ls n s f g same k ks = by (file_at all sizes l.path) (names_of 
         ∙ chosen (bytes_eq m k && names_eq ms ks) i (found (k ∷ ks) n) e (same k ks)
 
 -- of fewer lines each path has a file too
-fewer : (all : List Line) (sizes : List ℕ) (l : Line) (ls : List Line) → HaveFiles all sizes (l ∷ ls) → HaveFiles all sizes ls
+pub fewer : (all : List Line) (sizes : List ℕ) (l : Line) (ls : List Line) → HaveFiles all sizes (l ∷ ls) → HaveFiles all sizes ls
 fewer all sizes l ls f q h = f q (by (bytes_eq l.path q))
   where
     by : (b : Bool) → is_some (cond b (Some l) (line_at ls q)) ≡ true
     by true = refl
     by false = h
 
-own_file : (all : List Line) (sizes : List ℕ) (l : Line) (ls : List Line) → HaveFiles all sizes (l ∷ ls) → is_some (file_at all sizes l.path) ≡ true
+pub own_file : (all : List Line) (sizes : List ℕ) (l : Line) (ls : List Line) → HaveFiles all sizes (l ∷ ls) → is_some (file_at all sizes l.path) ≡ true
 own_file all sizes l ls f = f l.path (ap (λ (b : Bool). is_some (cond b (Some l) (line_at ls l.path))) ((bytes_decides l.path l.path).1 refl))
 
 -- what names lead to is what the lines say
-tree_found : (all : List Line) (sizes : List ℕ) (ls : List Line) → AreChecked ls → HaveFiles all sizes ls
+pub tree_found : (all : List Line) (sizes : List ℕ) (ls : List Line) → AreChecked ls → HaveFiles all sizes ls
     → (k : List ℕ) (ks : List (List ℕ)) → found (k ∷ ks) (grown_by all sizes ls) ≡ found_by all sizes ls (k ∷ ks)
 tree_found all sizes [] c f k ks = refl
 tree_found all sizes (l ∷ ls) c f k ks =
@@ -231,7 +231,7 @@ files_of all sizes (Some l) = by (file_at all sizes l.path)
     by None = refl
     by (Some i) = refl
 
-have_files : (m : ManifestLines) (sizes : List ℕ) (latest : List Line) → m.lines ≡ reverse latest → AreChecked latest → HaveFiles m.lines sizes latest
+pub have_files : (m : ManifestLines) (sizes : List ℕ) (latest : List Line) → m.lines ≡ reverse latest → AreChecked latest → HaveFiles m.lines sizes latest
 unfolding file_at
 have_files m sizes latest e c q h =
     let same : reverse m.lines ≡ latest = ap reverse e ∙ reverse-reverse latest in

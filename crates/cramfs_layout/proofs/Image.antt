@@ -1,0 +1,249 @@
+-- A planned volume, laid out, is a cramfs image.
+use Rattle.std.proofs.Common.{◌≡◌, ℕ, zero, suc, ◌+◌, ◌-◌, ◌/◌, ◌%◌, ◌^◌, ◌<◌, ◌≤◌, true, false, eqb, if◌then◌else◌, ◌⊎◌, List, [], ◌∷◌, ◌++◌, length, take, drop, replicate, refl, sym, ap, subst, ◌∙◌, arith, inl, inr, length-append}
+use Rattle.std.proofs.lemmas.List.{take_all, length-replicate, append-nil, drop-drop}
+use Rattle.std.proofs.lemmas.Nat.{xor_lt, div-add-mod', mod_below}
+use Rattle.std.specs.Int.Bits.{bit_xor}
+use Rattle.cramfs_format.specs.Order.{word}
+use Rattle.cramfs_format.specs.declared.order.Order.{Order}
+use Rattle.cramfs_format.specs.declared.order.Order.TheVariants.{Little, Big}
+use Rattle.cramfs_format.specs.Inode.{type_of, has_kinds}
+use Rattle.cramfs_format.specs.Superblock.{magic, signature, without_crc, HasCrc, accessible_size, IsSuperblock}
+use Rattle.crc.specs.Crc.{crc_of, after_bit, after_bits, after_bytes, polynomial}
+use Rattle.cramfs_format.specs.Tree.{CramfsTree, tree_of}
+use Rattle.image_parts.specs.Parts.{Part, end_of_part, with_part, laid, Rises, end_of_parts, HasAt, HasParts}
+use Rattle.name_tree.specs.Names.{Inode, Names, nothing, leaf, link, folder}
+use Rattle.image_parts.specs.Parts.{part}
+use Rattle.image_parts.specs.Padding.{pad}
+use Rattle.image_parts.proofs.Parts.{HasParts-laid, length-laid, laid_keeps}
+use Rattle.image_parts.proofs.Parts.{HasAt-before, HasAt-after, HasAt-moved}
+use Rattle.cramfs_layout.specs.Layout.{word_bytes, entry_bytes, list_len, list_bytes, root_offset, count, first_state, after_names, parts, flags, size_of, superblock, with_crc, layout, type_bits}
+use Rattle.cramfs_layout.specs.Reads.{IsEntry, ReadsEntry}
+use Rattle.cramfs_layout.specs.Planned.{IsPlanned}
+use Rattle.cramfs_layout.proofs.Entries.{length-entry, length-word, word_has, entry_reads}
+use Rattle.cramfs_layout.proofs.Stored.{all_read, names_onward}
+use Rattle.cramfs_layout.proofs.Whole.{Holds, all_spots, is_tree, root_placed}
+use Rattle.cramfs_layout.proofs.Super.{front, behind, before_crc, after_crc, no_crc, signed, drop_crc, length-list, parts_are}
+
+bit_small : (c x : ℕ) → c < 2 ^ 32 → after_bit c x < 2 ^ 32
+unfolding after_bit
+bit_small c x h = elim (eqb (c % 2) x) as (λ t. (if t then c / 2 else bit_xor (c / 2) polynomial) < 2 ^ 32) [ true ↦ omega arith | false ↦ xor_lt 32 (c / 2) polynomial (omega arith) (omega arith) ]
+
+bits_small : (n c x : ℕ) → c < 2 ^ 32 → after_bits n c x < 2 ^ 32
+bits_small zero c x h = h
+bits_small (suc n) c x h = bits_small n (after_bit c (x % 2)) (x / 2) (bit_small c (x % 2) h)
+
+bytes_small : (c : ℕ) (xs : List ℕ) → c < 2 ^ 32 → after_bytes c xs < 2 ^ 32
+bytes_small c [] h = h
+bytes_small c (x ∷ xs) h = bytes_small (after_bits 8 c x) xs (bits_small 8 c x h)
+
+crc_small : (xs : List ℕ) → crc_of xs < 2 ^ 32
+unfolding crc_of
+crc_small xs = xor_lt 32 (after_bytes (2 ^ 32 - 1) xs) (2 ^ 32 - 1) (bytes_small (2 ^ 32 - 1) xs (omega arith)) (omega arith)
+
+-- what an image of this form says in its superblock
+record Says (o : Order) (b : List ℕ) (size w : ℕ) : Type 0 where
+  begins : word o b 0 ≡ magic
+  size_is : word o b 4 ≡ size
+  flags_are : word o b 8 ≡ flags
+  crc_is : word o b 32 ≡ w
+
+front_says : (o : Order) (b : List ℕ) (size w : ℕ) (back : List ℕ) → b ≡ front o size (word_bytes o w ++ back) → size < 2 ^ 32 → w < 2 ^ 32 → Says o b size w
+front_says o b size w back e small low =
+    let t4 = word_bytes o 0 ++ (signature ++ (word_bytes o w ++ back)) in
+    let t3 = word_bytes o flags ++ t4 in
+    let t2 = word_bytes o size ++ t3 in
+    let h0 : HasAt b 0 (word_bytes o magic ++ t2) = ([], e ∙ sym (append-nil (word_bytes o magic ++ t2))) in
+    let l1 = length-word o magic in
+    let l2 = length-word o size in
+    let l3 = length-word o flags in
+    let l4 = length-word o 0 in
+    let h4 = HasAt-moved b (0 + length (word_bytes o magic)) 4 t2 (omega (arith, l1)) (HasAt-after b 0 (word_bytes o magic) t2 h0) in
+    let h8 = HasAt-moved b (4 + length (word_bytes o size)) 8 t3 (omega (arith, l2)) (HasAt-after b 4 (word_bytes o size) t3 h4) in
+    let h12 = HasAt-moved b (8 + length (word_bytes o flags)) 12 t4 (omega (arith, l3)) (HasAt-after b 8 (word_bytes o flags) t4 h8) in
+    let h16 = HasAt-moved b (12 + length (word_bytes o 0)) 16 (signature ++ (word_bytes o w ++ back)) (omega (arith, l4)) (HasAt-after b 12 (word_bytes o 0) (signature ++ (word_bytes o w ++ back)) h12) in
+    let h32 : HasAt b 32 (word_bytes o w ++ back) = HasAt-moved b (16 + length signature) 32 (word_bytes o w ++ back) refl (HasAt-after b 16 signature (word_bytes o w ++ back) h16) in
+    record {
+      begins = word_has o b 0 magic t2 (omega arith) h0;
+      size_is = word_has o b 4 size t3 small h4;
+      flags_are = word_has o b 8 flags t4 (omega arith) h8;
+      crc_is = word_has o b 32 w back low h32;
+    }
+
+-- behind the crc the parts are as they were laid
+moved_by : (o : Order) (size w v : ℕ) (back : List ℕ) (p : ℕ) (bytes : List ℕ) → 36 ≤ p → HasAt (front o size (word_bytes o v ++ back)) p bytes → HasAt (front o size (word_bytes o w ++ back)) p bytes
+moved_by o size w v back p bytes l (more, e) =
+    let a = front o size (word_bytes o w ++ back) in
+    let c = front o size (word_bytes o v ++ back) in
+    let k : p ≡ 36 + (p - 36) = omega arith in
+    let same : drop p a ≡ drop p c = ap (λ (q : ℕ). drop q a) k ∙ sym (drop-drop (p - 36) 36 a) ∙ ap (drop (p - 36)) (drop_crc o size w back ∙ sym (drop_crc o size v back)) ∙ drop-drop (p - 36) 36 c ∙ ap (λ (q : ℕ). drop q c) (sym k) in
+    (more, same ∙ e)
+
+parts_moved : (o : Order) (size w v : ℕ) (back : List ℕ) (from : ℕ) (ps : List Part) → 36 ≤ from → Rises from ps → HasParts (front o size (word_bytes o v ++ back)) ps → HasParts (front o size (word_bytes o w ++ back)) ps
+parts_moved o size w v back from [] l r h = tt
+parts_moved o size w v back from (p ∷ ps) l r h =
+    let a = r.0 in
+    (moved_by o size w v back p.place p.bytes (omega arith) h.0, parts_moved o size w v back (end_of_part p) ps (omega arith) r.1 h.1)
+
+parts_front : (b : List ℕ) (ps qs : List Part) → HasParts b (ps ++ qs) → HasParts b ps
+parts_front b [] qs h = tt
+parts_front b (p ∷ ps) qs h = (h.0, parts_front b ps qs h.1)
+
+rises_end : (from to size : ℕ) (ps : List Part) → Rises from ps → end_of_parts from ps ≡ to → to ≤ size → Rises from (ps ++ part size [] ∷ []) × (end_of_parts from (ps ++ part size [] ∷ []) ≡ size)
+rises_end from to size [] r e l = ((omega (arith, e), tt), omega arith)
+rises_end from to size (p ∷ ps) r e l = let k = rises_end (end_of_part p) to size ps r.1 e l in ((r.0, k.0), k.1)
+
+root_begins : (n : Names) → (root_offset n ≡ 0) ⊎ (root_offset n ≡ 76)
+root_begins nothing = inl refl
+root_begins (leaf name i after) = inr refl
+root_begins (link name i after) = inr refl
+root_begins (folder name i own after) = inr refl
+
+root_small : (n : Names) (high : ℕ) → 76 ≤ high → high ≤ 2 ^ 28 → (root_offset n < 2 ^ 28) × (root_offset n % 4 ≡ 0)
+root_small nothing high l m = (omega arith, refl)
+root_small (leaf name i after) high l m = (omega arith, refl)
+root_small (link name i after) high l m = (omega arith, refl)
+root_small (folder name i own after) high l m = (omega arith, refl)
+
+padded : (n k : ℕ) → n ≤ pad n 4096
+padded n k = omega (arith, div-add-mod' (n + 4095) 4096, mod_below (n + 4095) 4096 (omega arith))
+
+length_super : (o : Order) (volume : List ℕ) (root : Inode) (n : Names) → length volume ≤ 16 → length (superblock o volume root n) ≡ 76
+unfolding superblock
+length_super Little volume root n l =
+    let entry = entry_bytes Little [] root (list_len n) (root_offset n) in
+    let zeros = replicate {A = ℕ} (16 - length volume) 0 in
+    omega (arith, length-append volume (zeros ++ entry), length-append zeros entry, length-replicate {A = ℕ} (16 - length volume) 0, length-entry Little [] root (list_len n) (root_offset n))
+length_super Big volume root n l =
+    let entry = entry_bytes Big [] root (list_len n) (root_offset n) in
+    let zeros = replicate {A = ℕ} (16 - length volume) 0 in
+    omega (arith, length-append volume (zeros ++ entry), length-append zeros entry, length-replicate {A = ℕ} (16 - length volume) 0, length-entry Big [] root (list_len n) (root_offset n))
+
+length_front : (o : Order) (size w : ℕ) (back : List ℕ) → length (front o size (word_bytes o w ++ back)) ≡ 36 + length back
+length_front Little size w back = omega arith
+length_front Big size w back = omega arith
+
+root_at : (o : Order) (b volume : List ℕ) (root : Inode) (n : Names) (more : List ℕ) → length volume ≤ 16 → HasAt b 36 (behind o volume root n more) → HasAt b 64 (entry_bytes o [] root (list_len n) (root_offset n))
+root_at o b volume root n more l h =
+    let entry = entry_bytes o [] root (list_len n) (root_offset n) in
+    let zeros = replicate {A = ℕ} (16 - length volume) 0 in
+    let named = volume ++ (zeros ++ entry) in
+    let w2 = word_bytes o (size_of n / 4096) in
+    let w3 = word_bytes o (count n + 1) in
+    let l1 = length-word o 0 in
+    let l2 = length-word o (size_of n / 4096) in
+    let l3 = length-word o (count n + 1) in
+    let lz = length-replicate {A = ℕ} (16 - length volume) 0 in
+    let h40 = HasAt-moved b (36 + length (word_bytes o 0)) 40 (w2 ++ (w3 ++ (named ++ more))) (omega (arith, l1)) (HasAt-after b 36 (word_bytes o 0) (w2 ++ (w3 ++ (named ++ more))) h) in
+    let h44 = HasAt-moved b (40 + length w2) 44 (w3 ++ (named ++ more)) (omega (arith, l2)) (HasAt-after b 40 w2 (w3 ++ (named ++ more)) h40) in
+    let h48 = HasAt-moved b (44 + length w3) 48 (named ++ more) (omega (arith, l3)) (HasAt-after b 44 w3 (named ++ more) h44) in
+    let hv = HasAt-after b 48 volume (zeros ++ entry) (HasAt-before b 48 named more h48) in
+    HasAt-moved b (48 + length volume + length zeros) 64 entry (omega (arith, lz)) (HasAt-after b (48 + length volume) zeros entry hv)
+
+-- what the bytes of a planned volume are
+pub record IsImage (o : Order) (b : List ℕ) (root : Inode) (n : Names) (cs : List (List ℕ)) : Type 0 where
+  pub super : IsSuperblock o b b
+  pub holds : Holds o b cs root n
+  pub read : ReadsEntry o b 64 [] root (list_len n) (root_offset n)
+  pub long : length b ≡ size_of n
+
+pub is_image : (o : Order) (volume : List ℕ) (root : Inode) (n : Names) (cs : List (List ℕ)) → IsPlanned volume root n cs → IsImage o (layout o volume root n cs) root n cs
+unfolding layout with_part size_of accessible_size HasCrc superblock
+is_image o volume root n cs h =
+    let s = first_state n in
+    let high = (after_names s n).at in
+    let size = size_of n in
+    let room = h.room in
+    let short = h.short in
+    let sb = superblock o volume root n in
+    let entry = entry_bytes o [] root (list_len n) (root_offset n) in
+    let list = part 76 (list_bytes o s n) in
+    let rest = parts o cs s n in
+    let end = part size [] ∷ [] in
+    let u = laid [] (part 0 sb ∷ list ∷ (rest ++ end)) in
+    let low = names_onward cs s n h.well in
+    let up : high ≤ size = padded high 0 in
+    let lsb = length_super o volume root n short in
+    let ll = length-list o s n in
+    let are = parts_are o cs s n h.well in
+    let behind_list : s.at ≡ end_of_part list = omega (arith, ll) in
+    let are' = rises_end s.at high size rest are.rises are.ends_at up in
+    let tail_rises = subst (λ (v : ℕ). Rises v (rest ++ end)) behind_list are'.0 in
+    let rises : Rises 0 (part 0 sb ∷ list ∷ (rest ++ end)) = (omega arith, (omega (arith, lsb), tail_rises)) in
+    let lu : length u ≡ size = length-laid [] (part 0 sb ∷ list ∷ (rest ++ end)) rises ∙ ap (λ (v : ℕ). end_of_parts v (rest ++ end)) (sym behind_list) ∙ are'.1 in
+    let keeps = laid_keeps sb (list ∷ (rest ++ end)) in
+    let back = behind o volume root n keeps.0 in
+    let form : u ≡ front o size (word_bytes o 0 ++ back) = keeps.1 ∙ before_crc o volume root n keeps.0 in
+    let w = crc_of (front o size (word_bytes o 0 ++ back)) in
+    let b = with_crc o u in
+    let bform : b ≡ front o size (word_bytes o w ++ back) = ap (with_crc o) form ∙ after_crc o size back in
+    let lb : length b ≡ size = ap length bform ∙ length_front o size w back ∙ sym (length_front o size 0 back) ∙ ap length (sym form) ∙ lu in
+    let says = front_says o b size w back bform (omega arith) (crc_small (front o size (word_bytes o 0 ++ back))) in
+    let laid_parts = (HasParts-laid [] (part 0 sb ∷ list ∷ (rest ++ end)) rises).1 in
+    let moved = parts_moved o size w 0 back 76 (list ∷ (rest ++ end)) (omega arith) (omega arith, tail_rises) (subst (λ (x : List ℕ). HasParts x (list ∷ (rest ++ end))) form laid_parts) in
+    let has = subst (λ (x : List ℕ). HasParts x (list ∷ (rest ++ end))) (sym bform) moved in
+    let own = parts_front b rest end has.1 in
+    let has36 : HasAt b 36 back = ([], ap (drop 36) bform ∙ drop_crc o size w back ∙ sym (append-nil back)) in
+    let has64 = root_at o b volume root n keeps.0 short has36 in
+    let small = root_small n high (omega (arith, low)) (omega (arith, up, room)) in
+    let entry_ok : IsEntry [] root (list_len n) (root_offset n) = record {
+      mode = h.folder.mode;
+      uid = h.folder.owner.0;
+      size_small = h.folder.small;
+      gid = h.folder.owner.1;
+      short = omega arith;
+      offset_small = small.0;
+      offset_even = small.1;
+      no_zero = tt;
+    } in
+    let read = entry_reads o b 64 [] root (list_len n) (root_offset n) entry_ok has64 in
+    let kind : type_of o b 64 ≡ 4 = read.type ∙ ap type_bits h.folder.kind in
+    let holds : Holds o b cs root n = record {
+      flag = ap has_kinds says.flags_are;
+      kind = kind;
+      offset_is = read.offset_is;
+      size_is = read.size_is;
+      well = h.well;
+      reads = (all_read o b cs high 76 s n h.well (omega arith) (omega arith) (omega (arith, up, room)) tt has.0 own).all;
+      has = own;
+      within = omega (arith, up, lb);
+      room = omega (arith, up, room);
+    } in
+    let access : accessible_size o b ≡ size = rw (says.flags_are, says.size_is) refl in
+    let sizes = says.size_is in
+    let marks = says.flags_are in
+    let offset_is = read.offset_is in
+    let size_is = read.size_is in
+    record {
+      super = record {
+        long = omega (arith, lb, low, up);
+        begins = says.begins;
+        size = λ _. (omega (arith, sizes, low, up), omega (arith, sizes, lb));
+        cut = sym (take_all (accessible_size o b) b (omega (arith, access, lb)));
+        flags = omega (arith, marks);
+        crc = λ _. says.crc_is ∙ ap crc_of (sym (ap without_crc bform ∙ no_crc o size w back));
+        signed = ap (λ (x : List ℕ). take 16 (drop 16 x)) bform ∙ signed o size (word_bytes o w ++ back);
+        root = record {
+          directory = kind;
+          begins = λ _. elim (root_begins n) [ inl z ↦ inl (read.offset_is ∙ z) | inr z ↦ inr (inl (read.offset_is ∙ z)) ];
+          empty = λ z. elim (root_placed n) [ inl y ↦ read.size_is ∙ ap list_len y | inr y ↦ absurd (omega (arith, z, y, offset_is)) ];
+        };
+      };
+      holds = holds;
+      read = read;
+      long = lb;
+    }
+
+pub has_tree : (o : Order) (volume : List ℕ) (root : Inode) (n : Names) (cs : List (List ℕ)) → IsPlanned volume root n cs → CramfsTree o (layout o volume root n cs) (2 ^ 20) 64 (tree_of o (layout o volume root n cs) (all_spots n))
+has_tree o volume root n cs h =
+    let b = layout o volume root n cs in
+    let i = is_image o volume root n cs h in
+    record {
+      b = b;
+      super = i.super;
+      forest = all_spots n;
+      whole = is_tree o b cs root n (2 ^ 20) 64 i.holds h.few (let k = h.shallow in omega arith);
+      same = refl;
+    }
+
+pub has_length : (o : Order) (volume : List ℕ) (root : Inode) (n : Names) (cs : List (List ℕ)) → IsPlanned volume root n cs → length (layout o volume root n cs) ≡ size_of n
+has_length o volume root n cs h = (is_image o volume root n cs h).long

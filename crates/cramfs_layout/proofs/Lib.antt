@@ -1,0 +1,16 @@
+mod Hello
+pub mod Entries
+pub mod Stored
+pub mod Stands
+pub mod Named
+pub mod Sound
+pub mod Bodies
+pub mod Extents
+pub mod Known
+pub mod Whole
+pub mod Super
+pub mod Image
+pub mod Values
+pub mod Paths
+pub mod Shaped
+mod Examples

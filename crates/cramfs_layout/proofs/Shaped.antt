@@ -1,0 +1,92 @@
+-- The tree of a planned volume has the shape of its names.
+use Rattle.std.proofs.Common.{◌↔◌, ◌≡◌, ◌≢◌, ℕ, ◌+◌, ◌^◌, ◌≤◌, List, ◌∷◌, refl, sym, ap, subst, ◌∙◌, arith, inl, inr}
+use Rattle.std.specs.List.{AllByRecursion as Every}
+use Rattle.rom_tree.specs.Tree.{Node, Entries, ino_of}
+use Rattle.record_walk.specs.declared.reference.Row.{Row}
+use Rattle.record_walk.specs.Forest.{rows}
+use Rattle.record_walk.specs.Members.{Has, Pairs}
+use Rattle.record_walk.proofs.Lists.{every_weaker, every_of, every_map, pairs_map, pairs_weaker}
+use Rattle.cramfs_format.specs.declared.order.Order.{Order}
+use Rattle.cramfs_format.specs.Refers.{references}
+use Rattle.cramfs_format.specs.Tree.{node_of, attributes_at, tree_of, entries_at}
+use Rattle.name_tree.specs.Names.{Inode, Names}
+use Rattle.layout_terms.specs.Files.{Placed}
+use Rattle.name_tree.specs.Shape.{Named, node_value, file_value, node_under, file_under, HasShape}
+use Rattle.layout_terms.proofs.Alike.{every_unmap, pairs_unmap}
+use Rattle.layout_terms.proofs.Alike.{alike_map, alike_some, same_both}
+use Rattle.cramfs_layout.specs.Layout.{list_len, first_state, after_names, layout}
+use Rattle.cramfs_layout.specs.Planned.{IsPlanned}
+use Rattle.cramfs_layout.specs.Forest.{spots}
+use Rattle.cramfs_layout.proofs.Named.{Located, located, Apart, all_apart}
+use Rattle.cramfs_layout.proofs.Whole.{all_spots}
+use Rattle.cramfs_layout.proofs.Image.{is_image}
+use Rattle.cramfs_layout.proofs.Values.{IsAt, file_is, folder_is}
+use Rattle.cramfs_layout.proofs.Paths.{placed, placed_files, placed_rows, IsGood, a_file, a_folder, IsShown, IsEnd, path_alike, entries_one}
+
+ino_at : (o : Order) (b : List ℕ) (p : ℕ) (es : Entries) → ino_of (node_of o b p es) ≡ p
+unfolding node_of attributes_at
+ino_at o b p es = refl
+
+-- two nodes have one number exactly where they have one place
+same_nodes : (o : Order) (b : List ℕ) (x y : Node) (p q : ℕ) (es fs : Entries) (A : Type 0) → x ≡ node_of o b p es → y ≡ node_of o b q fs → (p ≡ q) ↔ A → (ino_of x ≡ ino_of y) ↔ A
+same_nodes o b x y p q es fs A e f both =
+    let n1 : ino_of x ≡ p = ap ino_of e ∙ ino_at o b p es in
+    let n2 : ino_of y ≡ q = ap ino_of f ∙ ino_at o b q fs in
+    (λ z. both.0 (sym n1 ∙ z ∙ n2), λ a. n1 ∙ both.1 a ∙ sym n2)
+
+good_value : (o : Order) (b : List ℕ) (cs : List (List ℕ)) (high : ℕ) (i : Inode) (p : ℕ) (es : Entries) → high ≤ 2 ^ 28 → IsGood cs i → IsAt o b cs high i p → node_value b (node_of o b p es) ≡ file_value cs i
+good_value o b cs high i p es top (a_file f) a = file_is o b cs high i p es top f a
+good_value o b cs high i p es top (a_folder f) a = folder_is o b cs high i p es f.kind f.numbers f.bytes a
+
+pub has_shape : (o : Order) (volume : List ℕ) (root : Inode) (n : Names) (cs : List (List ℕ)) → IsPlanned volume root n cs → HasShape (layout o volume root n cs) (tree_of o (layout o volume root n cs) (all_spots n)) cs root n
+unfolding tree_of
+has_shape o volume root n cs h =
+    let b = layout o volume root n cs in
+    let i = is_image o volume root n cs h in
+    let held = i.holds in
+    let s = first_state n in
+    let high = (after_names s n).at in
+    let xs = placed 76 s n in
+    let first : Placed = record { inode = root; place = 64 } in
+    let all = first ∷ xs in
+    let Q : Placed → Type 0 = λ x. Has (λ u. u ≡ x) all in
+    let es = entries_at o b (spots 76 s n) in
+    let t = node_of o b 64 es in
+    let m : Named = record { inode = root; own = n } in
+    let top : IsShown o b cs high Q t m = record {
+      place = 64;
+      l = 76;
+      s = s;
+      entries = es;
+      is = refl;
+      list = entries_one o b 64 es held.kind;
+      good = a_folder h.folder;
+      here = record { type = i.read.type; mode = i.read.mode; uid = i.read.uid; gid = i.read.gid; size_is = λ z. absurd (z h.folder.kind); content = λ z. absurd (z h.folder.kind) };
+      known = inl refl;
+      reads = held.reads;
+      inner = every_of Q xs (λ x k. inr k);
+      well = h.well;
+    } in
+    let value : (x : Node) (j : Inode) → IsEnd o b cs high Q x j → node_value b x ≡ file_value cs j = λ x j k. ap (node_value b) k.is ∙ good_value o b cs high j k.place k.entries held.room k.good k.here in
+    let x1 = (references o b).own (references o b).top in
+    let ys = rows (references o b) x1 64 64 1 (spots 76 s n) in
+    let same = placed_rows o b cs x1 64 64 1 76 s n h.well in
+    let found = located o b cs high x1 64 64 1 76 s n h.well held.reads (omega arith) in
+    let apart = all_apart o b cs high x1 64 64 1 76 s n h.well held.reads (omega arith) (omega arith) in
+    let far : Every (λ (x : Placed). 64 ≢ x.place) xs = every_unmap (λ (x : Placed). x.place) (λ p. 64 ≢ p) xs (subst (Every (λ p. 64 ≢ p)) (sym same) (every_map (λ (y : Row). y.offset) (λ p. 64 ≢ p) ys
+    (every_weaker (Located o b 64 76 (76 + list_len n) s.at high n) (λ (y : Row). 64 ≢ y.offset) (λ y k z. elim k [ inl w ↦ let u = w.0 in absurd (omega (arith, z)) | inr w ↦ let u = w.0 in absurd (omega (arith, z)) ]) ys found))) in
+    let places : Pairs (λ (u w : Placed). u.place ≢ w.place) all = (
+      far,
+      pairs_unmap (λ (x : Placed). x.place) (λ p q. p ≢ q) xs (subst (Pairs (λ p q. p ≢ q)) (sym same) (pairs_map (λ (y : Row). y.offset) (λ p q. p ≢ q) ys
+          (pairs_weaker (Apart o b) (λ (y z : Row). y.offset ≢ z.offset) (λ y z k. k.0) ys apart))),
+    ) in
+    let lines : Pairs (λ (u w : Placed). u.inode.line ≢ w.inode.line) all =
+    pairs_unmap (λ (x : Placed). x.inode) (λ (i j : Inode). i.line ≢ j.line) all (subst (Pairs (λ (i j : Inode). i.line ≢ j.line)) (ap (λ (js : List Inode). root ∷ js) (sym (placed_files 76 s n))) h.lines) in
+    record {
+      values = λ q. alike_map (IsEnd o b cs high Q) (node_value b) (file_value cs) value (node_under q t) (file_under q m) (path_alike o b cs high Q q t m top);
+      shared = λ p q x y j k a e f g.
+          let u = alike_some (IsEnd o b cs high Q) (node_under p t) (file_under p m) x j (path_alike o b cs high Q p t m top) a f in
+          let w = alike_some (IsEnd o b cs high Q) (node_under q t) (file_under q m) y k (path_alike o b cs high Q q t m top) e g in
+          let both = same_both all (record { inode = j; place = u.place }) (record { inode = k; place = w.place }) places lines u.known w.known in
+          same_nodes o b x y u.place w.place u.entries w.entries (j.line ≡ k.line) u.is w.is both;
+    }

@@ -1,0 +1,13 @@
+-- The places of a layout's entries, as a forest of records. (This project's own.)
+use Rattle.std.specs.Prelude.{ℕ, ◌+◌}
+use Rattle.record_walk.specs.Forest.{Forest, none, at}
+use Rattle.name_tree.specs.Names.{Names, nothing, leaf, link, folder}
+use Rattle.cramfs_layout.specs.Layout.{entry_len, pad4, State, after_file, after_list, after_names}
+
+-- where the entries of a list from l on stand, and those below them, placed after s
+abbrev pub spots : ℕ → State → Names → Forest
+spots l s nothing = none
+spots l s (leaf name i rest) = at l none (spots (l + entry_len name) (after_file s i) rest)
+spots l s (link name i rest) = at l none (spots (l + entry_len name) (after_file s i) rest)
+spots l s (folder name i own rest) =
+    at l (spots (pad4 s.at) (after_list s own) own) (spots (l + entry_len name) (after_names (after_list s own) own) rest)

@@ -1,0 +1,25 @@
+//! Laws about the layout of a cramfs image.
+ghost use Rattle.std.specs.Prelude.{◌≡◌, List, ℕ, ◌^◌, length};
+ghost use Rattle.cramfs_format.specs.declared.order.Order.{Order};
+ghost use Rattle.cramfs_format.specs.Tree.{CramfsTree};
+ghost use Rattle.cramfs_layout.specs.Layout.{layout, size_of};
+ghost use Rattle.cramfs_layout.specs.Planned.{IsPlanned};
+ghost use Rattle.name_tree.specs.Names.{Inode, Names};
+ghost use Rattle.name_tree.specs.Shape.{HasShape};
+ghost use Rattle.rom_tree.specs.Tree.{Node};
+
+/// The layout of a planned volume is a cramfs image in either byte order, within the usual limits,
+/// and its tree has the shape of the volume's names.
+pub fn layout_has_tree()
+    ensures { (o : Order) (volume : List ℕ) (root : Inode) (n : Names) (contents : List (List ℕ))
+        → IsPlanned volume root n contents
+        → (t : Node) × CramfsTree o (layout o volume root n contents) (2 ^ 20) 64 t
+        × HasShape (layout o volume root n contents) t contents root n }
+{}
+
+/// How long it is depends on the names and sizes alone.
+pub fn layout_length()
+    ensures { (o : Order) (volume : List ℕ) (root : Inode) (n : Names) (contents : List (List ℕ))
+        → IsPlanned volume root n contents
+        → length (layout o volume root n contents) ≡ size_of n }
+{}

@@ -1,0 +1,6 @@
+pub mod Parts
+pub mod Padding
+pub mod Laid
+pub mod Words
+pub mod Sealed
+pub mod Climbs

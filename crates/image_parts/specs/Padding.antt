@@ -1,0 +1,6 @@
+-- Numbers brought up to a multiple. (This project's own.)
+use Rattle.std.specs.Prelude.{ℕ, ◌+◌, ◌-◌, ◌*◌, ◌/◌}
+
+-- the least multiple of k that is at least n
+abbrev pub pad : ℕ → ℕ → ℕ
+pad n k = (n + (k - 1)) / k * k

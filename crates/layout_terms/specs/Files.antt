@@ -1,0 +1,25 @@
+-- The files of names, and the places at which they stand. (This project's own.)
+use Rattle.std.specs.Prelude.{ℕ, suc, max, List, [], ◌∷◌, ◌++◌}
+use Rattle.name_tree.specs.Names.{Inode, Names, nothing, leaf, link, folder}
+
+-- the files, each once
+abbrev pub files : Names → List Inode
+files nothing = []
+files (leaf name i after) = i ∷ files after
+files (link name i after) = files after
+files (folder name i own after) = i ∷ files own ++ files after
+
+-- the greatest number of names on the way to a file
+abbrev pub height : Names → ℕ
+height nothing = 0
+height (leaf name i after) = max 1 (height after)
+height (link name i after) = max 1 (height after)
+height (folder name i own after) = max (suc (height own)) (height after)
+
+-- a file and where its record stands
+pub record Placed : Type 0 where
+  pub inode : Inode
+  pub place : ℕ
+
+abbrev pub at_place : Inode → ℕ → Placed
+at_place i place = record { inode = i; place = place }

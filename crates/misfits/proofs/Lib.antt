@@ -1,0 +1,17 @@
+mod Least
+mod Decided
+mod Orders
+mod Written
+mod Sorted
+mod Led
+mod Grown
+mod Plain
+mod Aligned
+mod Known
+mod InRomfs
+mod InCramfs
+mod PlannedRomfs
+mod PlannedCramfs
+mod Fitting
+mod Examples
+mod Stands

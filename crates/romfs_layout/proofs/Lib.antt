@@ -1,0 +1,17 @@
+pub mod Places
+pub mod ReadBack
+pub mod Headers
+pub mod Stands
+pub mod Apart
+pub mod Named
+pub mod Leads
+pub mod Files
+pub mod Entries
+pub mod Whole
+pub mod Image
+pub mod Values
+pub mod Paths
+pub mod Shaped
+pub mod Sectioned
+mod Examples
+mod Hello

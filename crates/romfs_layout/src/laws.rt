@@ -1,0 +1,35 @@
+//! Laws about the layout of a romfs image.
+ghost use Rattle.std.specs.Prelude.{◌≡◌, List, ℕ, ◌^◌, length};
+ghost use Rattle.image_parts.specs.Padding.{pad};
+ghost use Rattle.name_tree.specs.Names.{Inode, Names};
+ghost use Rattle.name_tree.specs.Shape.{HasShape};
+ghost use Rattle.rom_tree.specs.Tree.{Node};
+ghost use Rattle.romfs_format.specs.Tree.{RomfsTree};
+ghost use Rattle.layout_terms.specs.Items.{SectionsRise};
+ghost use Rattle.romfs_layout.specs.Items.{items_of, sections_of};
+ghost use Rattle.romfs_layout.specs.Layout.{layout, full_size_of, root_at};
+ghost use Rattle.romfs_layout.specs.Planned.{IsPlanned};
+
+/// The layout of a planned volume is a romfs image, within the usual limits, and its tree has the
+/// shape of the volume's names.
+pub fn layout_has_tree()
+    ensures { (volume : List ℕ) (root : Inode) (n : Names) (contents : List (List ℕ))
+        → IsPlanned volume root n contents
+        → (t : Node) × RomfsTree (layout volume root n contents) (2 ^ 20) 64 t
+        × HasShape (layout volume root n contents) t contents root n }
+{}
+
+/// How long it is depends on the names and sizes alone.
+pub fn layout_length()
+    ensures { (volume : List ℕ) (root : Inode) (n : Names) (contents : List (List ℕ))
+        → IsPlanned volume root n contents
+        → length (layout volume root n contents) ≡ pad (full_size_of (root_at volume) n) 1024 }
+{}
+
+/// The sections of a planned volume stand one after the other, none is empty, and the last ends
+/// within the accessible bytes.
+pub fn sections_rise()
+    ensures { (volume : List ℕ) (root : Inode) (n : Names) (contents : List (List ℕ))
+        → IsPlanned volume root n contents
+        → SectionsRise 0 (full_size_of (root_at volume) n) (sections_of volume (items_of volume root n)) }
+{}
