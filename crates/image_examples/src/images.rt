@@ -182,35 +182,3 @@ pub const EMPTY_BIG_CRAMFS: &[u8; 76] = b"\
     \0\0\0\0\0\0\0\0\0\0\0\0\0\0\0\0\
     \0\0\0\0\0\0\0\0\0\0\0\0\0\0\0\0\
     \x41\xed\0\0\0\0\0\0\0\0\0\0";
-
-/// The front of a cramfs image with the file `f` at 76: 4096 bytes `a` at 4096, as many `b` at
-/// 12288, and `c` at 16384.
-pub const SPLIT_BLOCKS: &[u8; 104] = b"\
-    \x45\x3d\xcd\x28\0\0\0\0\x02\x08\0\0\0\0\0\0\
-    Compressed ROMFS\
-    \0\0\0\0\0\0\0\0\0\0\0\0\0\0\0\0\
-    \0\0\0\0\0\0\0\0\0\0\0\0\0\0\0\0\
-    \xed\x41\0\0\x10\0\0\0\xc0\x04\0\0\
-    \xa4\x81\0\0\x01\x20\0\0\xc1\x05\0\0f\0\0\0\
-    \0\x04\0\xc0\0\x0c\0\xc0\0\x10\0\xc0";
-
-/// The same without the `c`: the last block is full.
-pub const WHOLE_BLOCKS: &[u8; 100] = b"\
-    \x45\x3d\xcd\x28\0\0\0\0\x02\x08\0\0\0\0\0\0\
-    Compressed ROMFS\
-    \0\0\0\0\0\0\0\0\0\0\0\0\0\0\0\0\
-    \0\0\0\0\0\0\0\0\0\0\0\0\0\0\0\0\
-    \xed\x41\0\0\x10\0\0\0\xc0\x04\0\0\
-    \xa4\x81\0\0\0\x20\0\0\xc1\x05\0\0f\0\0\0\
-    \0\x04\0\xc0\0\x0c\0\xc0";
-
-/// The front of a cramfs image with the file `f` at 76, whose blocks adjoin: 4096 bytes `a` at
-/// 4096, as many `b` at 8192, and `c` at 12288.
-pub const ADJOINING_BLOCKS: &[u8; 104] = b"\
-    \x45\x3d\xcd\x28\0\0\0\0\x02\x08\0\0\0\0\0\0\
-    Compressed ROMFS\
-    \0\0\0\0\0\0\0\0\0\0\0\0\0\0\0\0\
-    \0\0\0\0\0\0\0\0\0\0\0\0\0\0\0\0\
-    \xed\x41\0\0\x10\0\0\0\xc0\x04\0\0\
-    \xa4\x81\0\0\x01\x20\0\0\xc1\x05\0\0f\0\0\0\
-    \0\x04\0\xc0\0\x08\0\xc0\0\x0c\0\xc0";

@@ -1,7 +1,5 @@
 //! Open files of one image.
-use crate::images::{
-    ADJOINING_BLOCKS, EMPTY_CRAMFS, HELLO, LINK_AND_DEVICE, SPLIT_BLOCKS, WHOLE_BLOCKS,
-};
+use crate::images::{HELLO, LINK_AND_DEVICE};
 use image_check::check;
 use open_files::{CallError, Fd, Files};
 use rom_tree::types::{Cursor, Entry, Kind, Limits, NodeId, Piece, Stat};
@@ -12,14 +10,6 @@ use std::test::Fail;
 fn lent<'a>(piece: Result<Piece<'a>, CallError>) -> Result<(u32, &'a [u8]), CallError> {
     match piece {
         Ok(piece) => Ok((piece.place, piece.bytes)),
-        Err(error) => Err(error),
-    }
-}
-
-/// A piece's place, length, and first byte.
-fn front<'a>(piece: Result<Piece<'a>, CallError>) -> Result<(u32, usize, Option<u8>), CallError> {
-    match piece {
-        Ok(piece) => Ok((piece.place, piece.bytes.len(), piece.bytes.first().copied())),
         Err(error) => Err(error),
     }
 }
@@ -120,116 +110,6 @@ fn a_directory(rt: HostRuntime) -> Result<(), Fail> {
     assert_eq!(rt; files.open(b"/d"), Ok(Fd(1)));
     assert_eq!(rt; files.open(b"/n"), Err(CallError::Enxio));
     assert_eq!(rt; files.open(b"/d"), Err(CallError::Emfile));
-    Ok(())
-}
-
-#[test]
-fn an_empty_directory(rt: HostRuntime) -> Result<(), Fail> {
-    let image = check(rt.alloc(), EMPTY_CRAMFS, Limits::usual())?;
-    let mut files: Files<_, 1> = Files::new(image);
-    assert_eq!(rt; files.open(b"/"), Ok(Fd(0)));
-    assert_eq!(rt; listed(files.readdir(Fd(0))), Ok(None));
-    assert_eq!(rt; listed(files.readdir(Fd(0))), Ok(None));
-    Ok(())
-}
-
-#[test]
-fn blocks_apart(rt: HostRuntime) -> Result<(), Fail> {
-    let mut bytes = Vec::new(rt.alloc());
-    bytes.extend_from_slice(SPLIT_BLOCKS)?;
-    bytes.resize(4096, 0)?;
-    bytes.resize(8192, b'a')?;
-    bytes.resize(12288, 0)?;
-    bytes.resize(16384, b'b')?;
-    bytes.push(b'c')?;
-    let image = check(rt.alloc(), &bytes, Limits::usual())?;
-    let mut files: Files<_, 1> = Files::new(image);
-    assert_eq!(rt; files.open(b"/f"), Ok(Fd(0)));
-    assert_eq!(rt;
-        lent(files.map(Fd(0), 4094, 2)),
-        Ok((8190, b"aa".as_slice()))
-    );
-    assert_eq!(rt; lent(files.map(Fd(0), 4095, 2)), Err(CallError::Erange));
-    assert_eq!(rt;
-        lent(files.map(Fd(0), 8191, 2)),
-        Ok((16383, b"bc".as_slice()))
-    );
-    assert_eq!(rt; lent(files.map(Fd(0), 0, 8193)), Err(CallError::Erange));
-    assert_eq!(rt; lent(files.map(Fd(0), 8193, 1)), Err(CallError::Einval));
-    assert_eq!(rt;
-        front(files.lend(Fd(0), 10_000)),
-        Ok((4096, 4096, Some(b'a')))
-    );
-    assert_eq!(rt;
-        front(files.lend(Fd(0), 10_000)),
-        Ok((12288, 4097, Some(b'b')))
-    );
-    assert_eq!(rt; front(files.lend(Fd(0), 10_000)), Ok((0, 0, None)));
-    // One count over both blocks.
-    let mut room = [0; 4];
-    assert_eq!(rt; files.seek(Fd(0), 4094), Ok(()));
-    assert_eq!(rt; files.read(Fd(0), &mut room), Ok(4));
-    assert_eq!(rt; room, *b"aabb");
-    Ok(())
-}
-
-#[test]
-fn a_full_last_block(rt: HostRuntime) -> Result<(), Fail> {
-    let mut bytes = Vec::new(rt.alloc());
-    bytes.extend_from_slice(WHOLE_BLOCKS)?;
-    bytes.resize(4096, 0)?;
-    bytes.resize(8192, b'a')?;
-    bytes.resize(12288, 0)?;
-    bytes.resize(16384, b'b')?;
-    let image = check(rt.alloc(), &bytes, Limits::usual())?;
-    let mut files: Files<_, 1> = Files::new(image);
-    assert_eq!(rt; files.open(b"/f"), Ok(Fd(0)));
-    assert_eq!(rt;
-        front(files.lend(Fd(0), 10_000)),
-        Ok((4096, 4096, Some(b'a')))
-    );
-    assert_eq!(rt;
-        front(files.lend(Fd(0), 10_000)),
-        Ok((12288, 4096, Some(b'b')))
-    );
-    assert_eq!(rt; front(files.lend(Fd(0), 10_000)), Ok((0, 0, None)));
-    Ok(())
-}
-
-#[test]
-fn blocks_that_adjoin(rt: HostRuntime) -> Result<(), Fail> {
-    let mut bytes = Vec::new(rt.alloc());
-    bytes.extend_from_slice(ADJOINING_BLOCKS)?;
-    bytes.resize(4096, 0)?;
-    bytes.resize(8192, b'a')?;
-    bytes.resize(12288, b'b')?;
-    bytes.push(b'c')?;
-    let image = check(rt.alloc(), &bytes, Limits::usual())?;
-    let mut files: Files<_, 1> = Files::new(image);
-    assert_eq!(rt; files.open(b"/f"), Ok(Fd(0)));
-    assert_eq!(rt;
-        front(files.map(Fd(0), 0, 8193)),
-        Ok((4096, 8193, Some(b'a')))
-    );
-    assert_eq!(rt;
-        front(files.lend(Fd(0), 10_000)),
-        Ok((4096, 8193, Some(b'a')))
-    );
-    Ok(())
-}
-
-#[test]
-fn all_numbers_taken(rt: HostRuntime) -> Result<(), Fail> {
-    let image = check(rt.alloc(), HELLO, Limits::usual())?;
-    let mut files: Files<_, 64> = Files::new(image);
-    for i in 0..64 {
-        assert_eq!(rt; files.open(b"/a"), Ok(Fd(i)));
-    }
-    assert_eq!(rt; files.open(b"/a"), Err(CallError::Emfile));
-    assert_eq!(rt; files.close(Fd(40)), Ok(()));
-    assert_eq!(rt; files.close(Fd(3)), Ok(()));
-    assert_eq!(rt; files.open(b"/a"), Ok(Fd(3)));
-    assert_eq!(rt; files.open(b"/a"), Ok(Fd(40)));
     Ok(())
 }
 

@@ -44,39 +44,3 @@ fn two_images(rt: HostRuntime) -> Result<(), Fail> {
     Ok(())
 }
 
-#[test]
-fn three_images(rt: HostRuntime) -> Result<(), Fail> {
-    let first = check(rt.alloc(), LINK_AND_DEVICE, Limits::usual())?;
-    let second = check(rt.alloc(), LINK_AND_DEVICE, Limits::usual())?;
-    let third = check(rt.alloc(), HELLO, Limits::usual())?;
-    let mut images: Vec<AnyImage<'_>> = Vec::new(rt.alloc());
-    images.push(first)?;
-    images.push(second)?;
-    images.push(third)?;
-    let mut space: Space<_, 1> = Space::new(images);
-    assert_eq!(rt; space.mount(0, 1, b"/d"), Ok(()));
-    assert_eq!(rt; space.mount(0, 2, b"/d/d"), Ok(()));
-    assert_eq!(rt; space.lookup(0, b"/d/d/a"), Ok((2, NodeId(96))));
-    assert_eq!(rt; lent(space.readlink(0, b"/d/d/a")), Err(CallError::Einval));
-    assert_eq!(rt; space.open(0, b"/d/n"), Err(CallError::Enxio));
-    assert_eq!(rt; space.open(0, b"/d/d"), Ok(Fd(0)));
-    assert_eq!(rt; space.open(0, b"/d/d/a"), Err(CallError::Emfile));
-    assert_eq!(rt; space.open(7, b"/d/d/a"), Ok(Fd(0)));
-    assert_eq!(rt; space.umount(0, 1), Err(CallError::Ebusy));
-    assert_eq!(rt;
-        lent(space.map(7, Fd(0), 1, 4)),
-        Ok((2, 129, b"ello".as_slice()))
-    );
-    let mut room = [b'.'; 2];
-    assert_eq!(rt; space.read(7, Fd(0), &mut room), Ok(2));
-    assert_eq!(rt; room, *b"he");
-    assert_eq!(rt; space.seek(7, Fd(0), 4), Ok(()));
-    assert_eq!(rt;
-        lent(space.lend(7, Fd(0), 4)),
-        Ok((2, 132, b"o".as_slice()))
-    );
-    assert_eq!(rt; space.rewind(7, Fd(0)), Err(CallError::Enotdir));
-    assert_eq!(rt; space.close(7, Fd(0)), Ok(()));
-    assert_eq!(rt; space.close(7, Fd(0)), Err(CallError::Ebadf));
-    Ok(())
-}
