@@ -62,8 +62,11 @@ pub data IsExtent (o : Order) (b : List ℕ) (s : Span) : Type 0 where
   table_of : {p : ℕ} → IsReached o b p → IsTrue (has_data (type_of o b p)) → 0 < size_of o b p
       → s ≡ record { kind = Table; start = offset_of o b p; len = 4 * block_count (size_of o b p) } → IsExtent o b s
   block_of : {p i : ℕ} → IsReached o b p → IsTrue (has_data (type_of o b p)) → i < block_count (size_of o b p)
-      → s ≡ record { kind = Data; start = block_start (word o b (offset_of o b p + 4 * i));
-      len = min 4096 (size_of o b p - 4096 * i) } → IsExtent o b s
+      → s ≡ record {
+        kind = Data;
+        start = block_start (word o b (offset_of o b p + 4 * i));
+        len = min 4096 (size_of o b p - 4096 * i);
+      } → IsExtent o b s
 
 -- 22 Overlap at the greater start of two that overlap
 pub record HasExtentFault (o : Order) (b : List ℕ) (e : Fault) : Type 0 where

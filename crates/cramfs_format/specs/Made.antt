@@ -33,7 +33,7 @@ abbrev pub ends_within : ℕ → Order → List ℕ → ℕ → ℕ → Bool
 ends_within zero o b e q = if nat_lt q e then false else true
 ends_within (suc k) o b e q =
     if nat_lt q e then (if ends_within k o b (list_end o b q) (list_start o b q)
-        then ends_within k o b e (end_of o b q) else false) else true
+    then ends_within k o b e (end_of o b q) else false) else true
 
 -- what is known of a record: it lies among the bytes, and so does what it describes
 pub record IsGood (o : Order) (b : List ℕ) (p : ℕ) : Type 0 where

@@ -17,7 +17,7 @@ root_place = 64
 unfoldable pub reference_target : Order → List ℕ → Reference → Option ℕ
 reference_target o b x =
     if x.source == 0 then (if x.which == root_place then Some root_place else None)
-        else (if nat_lt x.which (list_end o b x.source) then Some x.which else None)
+    else (if nat_lt x.which (list_end o b x.source) then Some x.which else None)
 
 -- the references of the image whose accessible bytes are b
 abbrev pub references : Order → List ℕ → References

@@ -16,8 +16,7 @@ pub enum Order {
 
 impl Order {
     /// The word whose first byte is at `at`.
-    #[tactic(auto, unfolding(crate::specs::Order::word, rom_fields::specs::Words::word_le,
-        rom_fields::specs::Words::word_be))]
+    #[tactic(auto, unfolding(crate::specs::Order::word, rom_fields::specs::Words::word_le, rom_fields::specs::Words::word_be))]
     pub fn word(self, b: &[u8], at: usize) -> u32
         requires { at + 4 ≤ length b.now }
         ensures { result ≡ word_of self b.now at }

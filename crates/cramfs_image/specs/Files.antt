@@ -47,7 +47,7 @@ abbrev pub file_added : Order → List ℕ → ℕ → ℕ → ℕ → List Span
 file_added o b table size done =
     added Table table (4 * block_count size)
     ++ (whole_blocks o b ((whole_end table size - max table done) / 4) (max table done)
-        ++ added Data (block_start (word o b (whole_end table size))) (size % 4096))
+    ++ added Data (block_start (word o b (whole_end table size))) (size % 4096))
 
 -- the extents of the files were added, if not each as often as a file has it
 pub record AddsFiles (o : Order) (b : List ℕ) (files : List File) (old new : List Span) : Type 0 where

@@ -74,8 +74,7 @@ impl<'a> Accessible<'a> {
     }
 
     /// Where a list or the block pointers begin.
-    #[tactic(auto, unfolding(cramfs_format::specs::Inode::offset_of,
-        cramfs_format::specs::Inode::list_start))]
+    #[tactic(auto, unfolding(cramfs_format::specs::Inode::offset_of, cramfs_format::specs::Inode::list_start))]
     pub fn offset_at(&self, at: usize) -> u32
         requires { at + 12 ≤ length self.now.bytes.now }
         ensures offset { result ≡ offset_of self.now.order self.now.bytes.now at }

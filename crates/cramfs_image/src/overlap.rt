@@ -92,8 +92,10 @@ fn add_files(extents: &mut Extents, b: &Accessible<'_>, files: &[File]) -> Resul
 fn file_at(b: &Accessible<'_>, at: usize) -> File
     requires record { IsRecord b.now.order b.now.bytes.now at }
     requires contents { has_data (type_of b.now.order b.now.bytes.now at) ≡ true }
-    ensures value { result ≡ record { table = offset_of b.now.order b.now.bytes.now at;
-        size = size_of b.now.order b.now.bytes.now at } }
+    ensures value { result ≡ record {
+      table = offset_of b.now.order b.now.bytes.now at;
+      size = size_of b.now.order b.now.bytes.now at;
+    } }
     ensures lies { FileLies b.now.order b.now.bytes.now result }
 {
     File {

@@ -43,4 +43,3 @@ fn two_images(rt: HostRuntime) -> Result<(), Fail> {
     assert_eq!(rt; space.fstat(1, Fd(0)), Err(CallError::Ebadf));
     Ok(())
 }
-

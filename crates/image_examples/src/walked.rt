@@ -67,4 +67,3 @@ fn components_and_refusals(rt: HostRuntime) -> Result<(), Fail> {
     }
     Ok(())
 }
-

@@ -191,7 +191,7 @@ fn eight<'a>(
 ) -> Option<Fields<'a>>
     ensures { option_map fields_view result
         ≡ grammar.eight_fields word.now path.now mode.now uid.now gid.now letter.now major.now
-            minor.now }
+        minor.now }
 {
     if word != b"nod".as_slice() {
         return None;

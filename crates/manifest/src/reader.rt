@@ -169,8 +169,7 @@ impl Reader {
     }
 
     /// The least fault of a line, from `BAD_PATH` on.
-    #[tactic(auto, using(crate::proofs::Reached::stands_is),
-        unfolding(crate::specs::Grammar::fault_of))]
+    #[tactic(auto, using(crate::proofs::Reached::stands_is), unfolding(crate::specs::Grammar::fault_of))]
     fn fault(&self, line: &Line) -> Option<u32>
         requires { IsKept self.now }
         ensures { result ≡ grammar.fault_of (reverse self.now.lines.items) line.now }
@@ -262,7 +261,7 @@ impl Reader {
         requires { IsKept self.old }
         ensures { Reads self.new result
             (grammar.read_numbers (seen self.old) number
-                (grammar.line_of number (fields_view fields.now))) }
+            (grammar.line_of number (fields_view fields.now))) }
     {
         let Some(line) = line_of(alloc, number, fields)? else {
             return Err(bad(number, BAD_NUMBER));

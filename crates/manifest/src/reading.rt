@@ -29,12 +29,14 @@ impl Model for Manifest {
 
     ghost Value = { ManifestLines };
 
-    ghost view =
-        { λ m. record { lines = m.lines.items; volume = m.volume; volume_line = m.volume_line } };
+    ghost view = { λ m. record { lines = m.lines.items; volume = m.volume; volume_line = m.volume_line } };
 
     ghost invariant = { λ m. (m.sources.items ≡ sources_of m.lines.items)
-        × IsManifest (record { lines = m.lines.items; volume = m.volume;
-        volume_line = m.volume_line }) };
+        × IsManifest (record {
+          lines = m.lines.items;
+          volume = m.volume;
+          volume_line = m.volume_line;
+        }) };
 }
 
 impl Manifest {

@@ -183,7 +183,7 @@ lines_are f m sizes (l ∷ ls) =
     let n = name_len (names_of l.path) in
     let one = number_is f m sizes l (is_hard l.word) (bad_attribute f i) (is_large f i.size) (is_long f n) (has_no_links f) refl (attribute_decides f i) (large_decides f i.size) (long_decides f n) (links_decides f) in
     least_joined {P = OfLine f m sizes l} {Q = λ e. Has (λ l. OfLine f m sizes l e) ls} {R = λ e. OfLine f m sizes l e ⊎ Has (λ l. OfLine f m sizes l e) ls} (λ e x. inl x) (λ e x. inr x) (λ e x. x)
-        (at_line l.number (number_of_line f m sizes l)) (of_lines f m sizes ls) (line_is f m sizes l (number_of_line f m sizes l) one) (lines_are f m sizes ls)
+    (at_line l.number (number_of_line f m sizes l)) (of_lines f m sizes ls) (line_is f m sizes l (number_of_line f m sizes l) one) (lines_are f m sizes ls)
 
 abbrev OfVolume : Format → ManifestLines → Fault → Type 0
 OfVolume f m e = IsLongVolume f (length m.volume) × (e ≡ fault 3 m.volume_line)
@@ -202,7 +202,7 @@ least_line f m sizes = lesser_of_both (of_lines f m sizes m.lines) (volume_by (i
 least_line_is : (f : Format) (m : ManifestLines) (sizes : List ℕ) → IsLeastFaultOf (HasLineMisfit f m sizes) (least_line f m sizes)
 least_line_is f m sizes =
     least_joined {P = λ e. Has (λ l. OfLine f m sizes l e) m.lines} {Q = OfVolume f m} {R = HasLineMisfit f m sizes} (λ e x. of_line x) (λ e x. of_volume x.0 x.1) either
-        (of_lines f m sizes m.lines) (volume_by (is_long_volume f (length m.volume)) m.volume_line) (lines_are f m sizes m.lines) (volume_is f m (is_long_volume f (length m.volume)) (volume_decides f (length m.volume)))
+    (of_lines f m sizes m.lines) (volume_by (is_long_volume f (length m.volume)) m.volume_line) (lines_are f m sizes m.lines) (volume_is f m (is_long_volume f (length m.volume)) (volume_decides f (length m.volume)))
   where
     either : (e : Fault) → HasLineMisfit f m sizes e → Has (λ l. OfLine f m sizes l e) m.lines ⊎ OfVolume f m e
     either e (of_line x) = inl x
@@ -238,8 +238,8 @@ whole_decides : (f : Format) (m : ManifestLines) (sizes : List ℕ) → Decides 
 whole_decides f m sizes =
     let n = tree_of m.lines sizes in
     let d = Decides-or (nat_lt (2 ^ 28) (len_of f m sizes)) (has_long_lists f n || (nat_lt 64 (height n) || nat_lt (2 ^ 20) (references_of f m sizes))) (Decides-ltb (2 ^ 28) (len_of f m sizes))
-      (Decides-or (has_long_lists f n) (nat_lt 64 (height n) || nat_lt (2 ^ 20) (references_of f m sizes)) (long_lists_decides f n)
-      (Decides-or (nat_lt 64 (height n)) (nat_lt (2 ^ 20) (references_of f m sizes)) (Decides-ltb 64 (height n)) (Decides-ltb (2 ^ 20) (references_of f m sizes)))) in
+    (Decides-or (has_long_lists f n) (nat_lt 64 (height n) || nat_lt (2 ^ 20) (references_of f m sizes)) (long_lists_decides f n)
+    (Decides-or (nat_lt 64 (height n)) (nat_lt (2 ^ 20) (references_of f m sizes)) (Decides-ltb 64 (height n)) (Decides-ltb (2 ^ 20) (references_of f m sizes)))) in
     (λ e. to (d.0 e), λ h. d.1 (from h))
   where
     to : (2 ^ 28 < len_of f m sizes) ⊎ (HasLongLists f (tree_of m.lines sizes) ⊎ ((64 < height (tree_of m.lines sizes)) ⊎ (2 ^ 20 < references_of f m sizes))) → HasWholeMisfit f m sizes

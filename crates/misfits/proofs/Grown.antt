@@ -158,9 +158,11 @@ module _ (P : List ℕ → What → Type 0) (all : List Line) (sizes : List ℕ)
             owned = subst (λ is. Every (IsOwned (l ∷ ls)) is) new (every_put (IsOwned (l ∷ ls)) xs ys h.inode (owned_later l ls (xs ++ ys) owned) (inl (number, (m, ms, e))));
             apart = subst (λ is. Pairs (λ (i : Inode) (j : Inode). i.line ≢ j.line) is) new
                 (pairs_more (λ (i : Inode) (j : Inode). i.line ≢ j.line) (λ i j d z. d (sym z)) xs ys h.inode (subst (λ is. Pairs (λ (i : Inode) (j : Inode). i.line ≢ j.line) is) old g.apart) (new_line l ls h.inode (xs ++ ys) number far owned));
-            there = (λ z k. subst (λ is. Has (λ (i : Inode). i ≡ inode_of all sizes l) is) new (has_here (λ (i : Inode). i ≡ inode_of all sizes l) xs ys h.inode (h.own t)),
-                every_weaker (λ (k : Line). is_hard k.word ≡ false → IsNamed k → Has (λ (i : Inode). i ≡ inode_of all sizes k) (files n)) (λ (k : Line). is_hard k.word ≡ false → IsNamed k → Has (λ (i : Inode). i ≡ inode_of all sizes k) (files (put_at (what_by l.word h.inode) (m ∷ ms) n)))
-                (λ k f a c. subst (λ is. Has (λ (i : Inode). i ≡ inode_of all sizes k) is) new (has_put (λ (i : Inode). i ≡ inode_of all sizes k) xs ys h.inode (subst (λ is. Has (λ (i : Inode). i ≡ inode_of all sizes k) is) old (f a c)))) ls g.there);
+            there = (
+              λ z k. subst (λ is. Has (λ (i : Inode). i ≡ inode_of all sizes l) is) new (has_here (λ (i : Inode). i ≡ inode_of all sizes l) xs ys h.inode (h.own t)),
+              every_weaker (λ (k : Line). is_hard k.word ≡ false → IsNamed k → Has (λ (i : Inode). i ≡ inode_of all sizes k) (files n)) (λ (k : Line). is_hard k.word ≡ false → IsNamed k → Has (λ (i : Inode). i ≡ inode_of all sizes k) (files (put_at (what_by l.word h.inode) (m ∷ ms) n)))
+                  (λ k f a c. subst (λ is. Has (λ (i : Inode). i ≡ inode_of all sizes k) is) new (has_put (λ (i : Inode). i ≡ inode_of all sizes k) xs ys h.inode (subst (λ is. Has (λ (i : Inode). i ≡ inode_of all sizes k) is) old (f a c)))) ls g.there,
+            );
           }
 
   -- one line more

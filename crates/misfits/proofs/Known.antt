@@ -69,21 +69,23 @@ known f m sizes h n =
     let back : reverse m.lines ≡ c.latest = ap reverse c.reversed ∙ reverse-reverse c.latest in
     let same : w.0 ≡ c.latest = sym (ap reverse w.1.reversed ∙ reverse-reverse w.0) ∙ back in
     let v : IsWritten m c.latest = subst (IsWritten m) same w.1 in
-    let faultless = all_faultless c.latest c.checked in
-    (c.latest, record {
-      reversed = c.reversed;
-      back = back;
-      checked = c.checked;
-      have = have_files m sizes c.latest c.reversed c.checked;
-      lines = v.lines;
-      numbered = v.numbered;
-      apart = v.apart;
-      faultless = faultless;
-      fit = every_reverse (Fits f m sizes) c.latest (subst (Every (Fits f m sizes)) c.reversed (lines_fit f m sizes n));
-      files = every_weaker (LedIn c.latest) (HasFile m.lines sizes c.latest) (λ l k. has_file m.lines sizes c.latest l back k) c.latest (all_led c.latest c.checked);
-      aligned = subst (Every (λ (k : Line). is_file k.word ≡ true → IsAligned k.align)) (sym back) (every_weaker IsFaultless (λ (k : Line). is_file k.word ≡ true → IsAligned k.align) (λ k x e. is_aligned k.align (x.align e)) c.latest faultless);
-      volume = v.volume;
-    })
+    let faultless = all_faultless c.latest c.checked in (
+      c.latest,
+      record {
+        reversed = c.reversed;
+        back = back;
+        checked = c.checked;
+        have = have_files m sizes c.latest c.reversed c.checked;
+        lines = v.lines;
+        numbered = v.numbered;
+        apart = v.apart;
+        faultless = faultless;
+        fit = every_reverse (Fits f m sizes) c.latest (subst (Every (Fits f m sizes)) c.reversed (lines_fit f m sizes n));
+        files = every_weaker (LedIn c.latest) (HasFile m.lines sizes c.latest) (λ l k. has_file m.lines sizes c.latest l back k) c.latest (all_led c.latest c.checked);
+        aligned = subst (Every (λ (k : Line). is_file k.word ≡ true → IsAligned k.align)) (sym back) (every_weaker IsFaultless (λ (k : Line). is_file k.word ≡ true → IsAligned k.align) (λ k x e. is_aligned k.align (x.align e)) c.latest faultless);
+        volume = v.volume;
+      },
+    )
 
 -- a line that is no `dir` is not about the root
 pub named_file : (l : Line) → IsFaultless l → is_dir l.word ≡ false → IsNamed l

@@ -260,11 +260,13 @@ written m text h = by (read_lines nothing_read 1 (pieces 10 text)) refl h
     by (Err e) same g = absurd (cc)
     by (Ok s) same g =
         let k = (by_lines nothing_read s 1 (pieces 10 text) (omega arith) (record { lines = tt; numbered = tt; apart = tt; volume = refl }) same).1 in
-        let e = injective g in
-        (s.latest, record {
-          reversed = ap (λ (x : ManifestLines). x.lines) (sym e);
-          lines = k.lines;
-          numbered = every_weaker (λ (l : Line). (0 < l.number) × (l.number < _)) (λ (l : Line). 0 < l.number) (λ l x. x.0) s.latest k.numbered;
-          apart = k.apart;
-          volume = subst (λ (x : ManifestLines). is_bad 255 x.volume ≡ false) e k.volume;
-        })
+        let e = injective g in (
+          s.latest,
+          record {
+            reversed = ap (λ (x : ManifestLines). x.lines) (sym e);
+            lines = k.lines;
+            numbered = every_weaker (λ (l : Line). (0 < l.number) × (l.number < _)) (λ (l : Line). 0 < l.number) (λ l x. x.0) s.latest k.numbered;
+            apart = k.apart;
+            volume = subst (λ (x : ManifestLines). is_bad 255 x.volume ≡ false) e k.volume;
+          },
+        )

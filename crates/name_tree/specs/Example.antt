@@ -10,7 +10,7 @@ use Rattle.name_tree.specs.Tree.{tree_of}
 abbrev pub example : List ℕ
 example =
     codes "dir /d 0755 0 0" ++ (10 ∷ (codes "file /b 0644 0 0 16 s"
-        ++ (10 ∷ (codes "hard /d/c /b" ++ (10 ∷ codes "same /a 0600 1 2 /d/c")))))
+    ++ (10 ∷ (codes "hard /d/c /b" ++ (10 ∷ codes "same /a 0600 1 2 /d/c")))))
 
 -- the names of a text, where its sources have these sizes
 abbrev pub names_by : List ℕ → Result ManifestLines Fault → Names

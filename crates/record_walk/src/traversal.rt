@@ -50,8 +50,13 @@ fn lesser_offset(noted: Option<u32>, at: u32) -> Option<u32>
 
 /// The root's row.
 fn root_row(reference: Reference, root: u32) -> Row
-    ensures { result ≡ record { offset = root; reference = reference; directory = root;
-        parent = root; depth = 0 } }
+    ensures { result ≡ record {
+      offset = root;
+      reference = reference;
+      directory = root;
+      parent = root;
+      depth = 0;
+    } }
 {
     Row {
         offset: root,
@@ -76,8 +81,13 @@ fn below_root(edge: Edge, root: u32) -> Pending
 
 /// The row of the record at `at`, to which `next` leads.
 fn row_of(next: Pending, at: u32) -> Row
-    ensures { result ≡ record { offset = at; reference = next.edge.reference;
-        directory = next.directory; parent = next.parent; depth = next.depth } }
+    ensures { result ≡ record {
+      offset = at;
+      reference = next.edge.reference;
+      directory = next.directory;
+      parent = next.parent;
+      depth = next.depth;
+    } }
 {
     Row {
         offset: at,
@@ -91,8 +101,12 @@ fn row_of(next: Pending, at: u32) -> Row
 /// The own list of the record at `at`, to which `next` leads.
 fn own_of(next: Pending, at: u32, own: Edge) -> Pending
     requires { next.depth + 1 < 2 ^ 32 }
-    ensures { result ≡ record { edge = own; directory = at; parent = next.directory;
-        depth = next.depth + 1 } }
+    ensures { result ≡ record {
+      edge = own;
+      directory = at;
+      parent = next.directory;
+      depth = next.depth + 1;
+    } }
 {
     Pending {
         edge: own,
@@ -104,8 +118,12 @@ fn own_of(next: Pending, at: u32, own: Edge) -> Pending
 
 /// What comes after the record to which `next` leads: it stands in the same list.
 fn after_of(next: Pending, after: Edge) -> Pending
-    ensures { result ≡ record { edge = after; directory = next.directory; parent = next.parent;
-        depth = next.depth } }
+    ensures { result ≡ record {
+      edge = after;
+      directory = next.directory;
+      parent = next.parent;
+      depth = next.depth;
+    } }
 {
     Pending {
         edge: after,
@@ -152,13 +170,26 @@ fn enter(
 ) -> Result<(), TraversalError>
     requires { next.depth + 1 < 2 ^ 32 }
     ensures rows { OnOk result (rows.new.items ≡ rows.old.items
-        ++ record { offset = at; reference = next.edge.reference; directory = next.directory;
-            parent = next.parent; depth = next.depth } ∷ []) }
+        ++ record {
+          offset = at;
+          reference = next.edge.reference;
+          directory = next.directory;
+          parent = next.parent;
+          depth = next.depth;
+        } ∷ []) }
     ensures stack { OnOk result (stack.new.items ≡ (stack.old.items
-        ++ record { edge = edges.after; directory = next.directory; parent = next.parent;
-            depth = next.depth } ∷ [])
-        ++ record { edge = edges.own; directory = at; parent = next.directory;
-            depth = next.depth + 1 } ∷ []) }
+        ++ record {
+          edge = edges.after;
+          directory = next.directory;
+          parent = next.parent;
+          depth = next.depth;
+        } ∷ [])
+        ++ record {
+          edge = edges.own;
+          directory = at;
+          parent = next.directory;
+          depth = next.depth + 1;
+        } ∷ []) }
     ensures refused { IfErr result (λ e. e ≡ OutOfMemory) }
 {
     rows.push(row_of(next, at))?;

@@ -53,7 +53,8 @@ fn checked<'a>(alloc: Global, bytes: &'a [u8], image: u32) -> Result<AnyImage<'a
 /// The images that some files hold.
 fn check_all<'a>(alloc: Global, files: &'a [Vec<u8>]) -> Result<Vec<AnyImage<'a>>, NoImage>
     requires { length files.now ≤ 8 }
-    ensures held { IfOk result (λ v. HoldAll (map (λ f. f.items) files.now) (map any_view v.items)) }
+    ensures held { IfOk result (λ v.
+        HoldAll (map (λ f. f.items) files.now) (map any_view v.items)) }
     ensures shallow { IfOk result (λ v. AreShallow (map any_view v.items)) }
     ensures fault { IfErr result (IsFirst (map (λ f. f.items) files.now)) }
 {

@@ -39,7 +39,7 @@ pub trait TreeImage<'a>: Viewed {
             → (Self.image self.now).cursor_index d.0 c.0 ≡ Some i
             → MatchOption result (entry_at (entries_of x) i ≡ None)
             (λ e. IsEntry (Self.image self.now) d.0
-                (entries_of x) i e.name.now e.node.0 e.cursor.0) };
+            (entries_of x) i e.name.now e.node.0 e.cursor.0) };
 
     /// The node of the entry with just this name. `None` where the directory has no such entry.
     /// The image stays as it is.

@@ -17,8 +17,16 @@ impl Viewed for Sample {
 }
 
 fn plain(ino: u32, kind: Kind, mode: u32, size: u32) -> Stat
-    ensures { result ≡ record { ino = ino; kind = kind; mode = mode; uid = 1000; gid = 100;
-        size = size; major = 0; minor = 0 } }
+    ensures { result ≡ record {
+      ino = ino;
+      kind = kind;
+      mode = mode;
+      uid = 1000;
+      gid = 100;
+      size = size;
+      major = 0;
+      minor = 0;
+    } }
 {
     Stat {
         ino,
@@ -33,8 +41,16 @@ fn plain(ino: u32, kind: Kind, mode: u32, size: u32) -> Stat
 }
 
 fn device(ino: u32, kind: Kind, mode: u32, major: u32, minor: u32) -> Stat
-    ensures { result ≡ record { ino = ino; kind = kind; mode = mode; uid = 1000; gid = 100;
-        size = 0; major = major; minor = minor } }
+    ensures { result ≡ record {
+      ino = ino;
+      kind = kind;
+      mode = mode;
+      uid = 1000;
+      gid = 100;
+      size = 0;
+      major = major;
+      minor = minor;
+    } }
 {
     Stat {
         ino,

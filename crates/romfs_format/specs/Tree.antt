@@ -63,7 +63,7 @@ unfoldable pub follow : List ℕ → List Row → ℕ → ℕ → Option ℕ
 follow b all zero p = if type_of b p == 0 then None else Some p
 follow b all (suc n) p =
     if type_of b p == 0 then (if list_any (λ (x : Row). x.offset == spec_offset_of b p) all
-        then follow b all n (spec_offset_of b p) else None) else Some p
+    then follow b all n (spec_offset_of b p) else None) else Some p
 
 -- Where the record at p leads over at most n hard links, whatever stands there. In a tree it agrees with `follow`,
 -- which is defined only where each link leads to a record: a node is to be made of the bytes alone, with no list of
@@ -77,7 +77,7 @@ abbrev pub entries_at : List ℕ → Forest → Entries
 entries_at b none = no_entries
 entries_at b (at p own after) =
     if is_dots (name_of b p) then entries_at b after else entry (name_of b p)
-        (node_of b (led 8 b p) (entries_at b own)) (entries_at b after)
+    (node_of b (led 8 b p) (entries_at b own)) (entries_at b after)
 
 -- what stands in the root's list besides the root itself
 abbrev pub below_root : List ℕ → ℕ → Forest → Forest

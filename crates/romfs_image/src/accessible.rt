@@ -28,8 +28,7 @@ fn some(offset: u32) -> Option<u32>
 
 impl Accessible<'_> {
     /// Where the list of the record at `at` begins; that the root heads its own is no reference.
-    #[tactic(auto, unfolding(romfs_format::specs::Refers::list_of,
-        romfs_format::specs::Refers::heads_itself))]
+    #[tactic(auto, unfolding(romfs_format::specs::Refers::list_of, romfs_format::specs::Refers::heads_itself))]
     fn list_at(&self, at: u32) -> u32
         requires { at + 16 ≤ length self.now.bytes.now }
         ensures { result ≡ list_of self.now.bytes.now self.now.root at }
@@ -43,8 +42,7 @@ impl Accessible<'_> {
     }
 
     /// The record after that at `at`.
-    #[tactic(auto, unfolding(romfs_format::specs::Refers::following,
-        romfs_format::specs::Refers::heads_itself))]
+    #[tactic(auto, unfolding(romfs_format::specs::Refers::following, romfs_format::specs::Refers::heads_itself))]
     fn record_after(&self, at: u32) -> u32
         requires { at + 16 ≤ length self.now.bytes.now }
         ensures { result ≡ following self.now.bytes.now self.now.root at }

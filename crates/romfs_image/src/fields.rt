@@ -115,8 +115,7 @@ impl<'a> Accessible<'a> {
     }
 
     /// Where the list of a directory begins; 0 where there is none.
-    #[tactic(auto, unfolding(romfs_format::specs::Made::begins,
-        romfs_format::specs::Made::start_of, romfs_format::specs::Refers::heads_itself))]
+    #[tactic(auto, unfolding(romfs_format::specs::Made::begins, romfs_format::specs::Made::start_of, romfs_format::specs::Refers::heads_itself))]
     pub fn list_start(&self, at: u32) -> u32
         requires { IsSound self.now.bytes.now self.now.root at }
         ensures { result ≡ begins self.now.bytes.now self.now.root at }

@@ -16,8 +16,7 @@ use rom_fields::memory::OutOfMemory;
 use std::alloc::Global;
 
 /// The rows that stand in lists: all, where the root heads its own list, else all but the root's.
-#[tactic(auto, unfolding(romfs_format::specs::Tree::listed_rows,
-    romfs_format::specs::Refers::heads_itself))]
+#[tactic(auto, unfolding(romfs_format::specs::Tree::listed_rows, romfs_format::specs::Refers::heads_itself))]
 fn listed<'a>(b: &Accessible<'_>, rows: &'a [Row]) -> &'a [Row]
     requires some { 1 ≤ length rows.now }
     ensures { result.now ≡ listed_rows b.now.bytes.now b.now.root rows.now }
