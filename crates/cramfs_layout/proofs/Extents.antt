@@ -70,7 +70,7 @@ file_climbs cs s i fresh to more h c =
     subst (λ (xs : List Span). Climbs s.at to xs) (sym (append_assoc (added TableOf (pad4 s.at) (4 * n)) bs more))
     (climbs_added TableOf s.at (pad4 s.at) (4 * n) to (bs ++ more) (omega arith) (climbs_later (pad4 s.at + 4 * n) (data_of s.at i) to (bs ++ more) d0 (blocks_climb n (data_of s.at i) i.size to more (omega arith) c)))
 
-climbs_join : (from mid to : ℕ) (xs ys : List Span) → Climbs from mid xs → Climbs mid to ys → Climbs from to (xs ++ ys)
+pub climbs_join : (from mid to : ℕ) (xs ys : List Span) → Climbs from mid xs → Climbs mid to ys → Climbs from to (xs ++ ys)
 climbs_join from mid to [] ys h k = climbs_later from mid to ys h k
 climbs_join from mid to (x ∷ xs) ys h k = (h.0, climbs_join (x.start + x.len) mid to xs ys h.1 k)
 

@@ -1,7 +1,7 @@
 -- A planned volume, laid out, is a cramfs image.
 use Rattle.std.proofs.Common.{◌≡◌, ℕ, zero, suc, ◌+◌, ◌-◌, ◌/◌, ◌%◌, ◌^◌, ◌<◌, ◌≤◌, true, false, eqb, if◌then◌else◌, ◌⊎◌, List, [], ◌∷◌, ◌++◌, length, take, drop, replicate, refl, sym, ap, subst, ◌∙◌, arith, inl, inr, length-append}
 use Rattle.std.proofs.lemmas.List.{take_all, length-replicate, append-nil, drop-drop}
-use Rattle.std.proofs.lemmas.Nat.{xor_lt, div-add-mod', mod_below}
+use Rattle.std.proofs.lemmas.Nat.{xor_lt}
 use Rattle.std.specs.Int.Bits.{bit_xor}
 use Rattle.cramfs_format.specs.Order.{word}
 use Rattle.cramfs_format.specs.declared.order.Order.{Order}
@@ -13,7 +13,7 @@ use Rattle.cramfs_format.specs.Tree.{CramfsTree, tree_of}
 use Rattle.image_parts.specs.Parts.{Part, end_of_part, with_part, laid, Rises, end_of_parts, HasAt, HasParts}
 use Rattle.name_tree.specs.Names.{Inode, Names, nothing, leaf, link, folder}
 use Rattle.image_parts.specs.Parts.{part}
-use Rattle.image_parts.specs.Padding.{pad}
+use Rattle.image_parts.proofs.Padding.{pad-after}
 use Rattle.image_parts.proofs.Parts.{HasParts-laid, length-laid, laid_keeps}
 use Rattle.image_parts.proofs.Parts.{HasAt-before, HasAt-after, HasAt-moved}
 use Rattle.cramfs_layout.specs.Layout.{word_bytes, entry_bytes, list_len, list_bytes, root_offset, count, first_state, after_names, parts, flags, size_of, superblock, with_crc, layout, type_bits}
@@ -104,9 +104,6 @@ root_small (leaf name i after) high l m = (omega arith, refl)
 root_small (link name i after) high l m = (omega arith, refl)
 root_small (folder name i own after) high l m = (omega arith, refl)
 
-padded : (n k : ℕ) → n ≤ pad n 4096
-padded n k = omega (arith, div-add-mod' (n + 4095) 4096, mod_below (n + 4095) 4096 (omega arith))
-
 length_super : (o : Order) (volume : List ℕ) (root : Inode) (n : Names) → length volume ≤ 16 → length (superblock o volume root n) ≡ 76
 unfolding superblock
 length_super Little volume root n l =
@@ -161,7 +158,7 @@ is_image o volume root n cs h =
     let end = part size [] ∷ [] in
     let u = laid [] (part 0 sb ∷ list ∷ (rest ++ end)) in
     let low = names_onward cs s n h.well in
-    let up : high ≤ size = padded high 0 in
+    let up : high ≤ size = pad-after high 4096 (omega arith) in
     let lsb = length_super o volume root n short in
     let ll = length-list o s n in
     let are = parts_are o cs s n h.well in

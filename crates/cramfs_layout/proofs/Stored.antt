@@ -2,7 +2,6 @@
 use Rattle.std.proofs.Common.{◌≡◌, ℕ, ◌+◌, ◌-◌, ◌*◌, ◌/◌, ◌%◌, ◌^◌, ◌<◌, ◌≤◌, List, [], ◌∷◌, ◌++◌, length, refl, sym, ap, subst, ◌∙◌, arith, inl, inr, Some, None}
 use Rattle.std.proofs.lemmas.Bool.{ne_eqb}
 use Rattle.std.proofs.lemmas.Bool.Decides.{eqb_tells}
-use Rattle.std.proofs.lemmas.Nat.{div-add-mod', mod_below}
 use Rattle.std.specs.List.{AllByRecursion as Every}
 use Rattle.rom_tree.specs.declared.types.Kind.{Kind}
 use Rattle.rom_tree.specs.declared.types.Kind.TheVariants.{Directory, Regular, Symlink, Block, Character, Socket, Fifo}
@@ -11,14 +10,12 @@ use Rattle.cramfs_format.specs.Inode.{block_count}
 use Rattle.image_parts.specs.Parts.{Part, HasAt, HasParts}
 use Rattle.name_tree.specs.Names.{Fill, no_bytes, text, source, Inode, Names, nothing, leaf, link, folder, bytes_of}
 use Rattle.image_parts.specs.Padding.{pad}
+use Rattle.image_parts.proofs.Padding.{pad-after}
 use Rattle.image_parts.proofs.Parts.{HasAt-before, HasAt-after, HasAt-moved}
 use Rattle.cramfs_layout.specs.Layout.{pad4, size_by, entry_len, entry_bytes, list_len, State, Table, table_with, Kept, nowhere, shared, fresh, kept, kept_by, kept_with, data_of, with_table, table_by, after_by, after_file, after_list, after_names, list_offset, list_bytes, pointers, file_parts, parts}
 use Rattle.cramfs_layout.specs.Reads.{IsEntry}
 use Rattle.cramfs_layout.specs.Wells.{FitsKind, IsFile, AreWell, IsStored, AreStored, AllRead}
 use Rattle.cramfs_layout.proofs.Entries.{length-entry, entry_reads}
-
-pad-after : (n k : ℕ) → 0 < k → n ≤ pad n k
-pad-after n k h = omega (arith, div-add-mod' (n + (k - 1)) k, mod_below (n + (k - 1)) k h)
 
 times4 : (x m : ℕ) → (x * (4 * m)) % 4 ≡ 0
 times4 x m = omega arith

@@ -13,5 +13,6 @@ mod InCramfs
 mod PlannedRomfs
 mod PlannedCramfs
 mod Fitting
+mod Sourced
 mod Examples
 mod Stands
