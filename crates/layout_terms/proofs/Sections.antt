@@ -9,6 +9,10 @@ pub rise_later : (from up end : ℕ) (ss : List Section) → from ≤ up → Sec
 rise_later from up end [] h k = omega arith
 rise_later from up end (s ∷ ss) h k = let l = k.0 in (omega arith, k.1, k.2)
 
+pub rise_wider : (from end top : ℕ) (ss : List Section) → end ≤ top → SectionsRise from end ss → SectionsRise from top ss
+rise_wider from end top [] h k = omega arith
+rise_wider from end top (s ∷ ss) h k = (k.0, k.1, rise_wider (s.place + s.len) end top ss h k.2)
+
 -- one ends before the other begins
 abbrev pub AreApart : Section → Section → Type 0
 AreApart x y = (x.place + x.len ≤ y.place) ⊎ (y.place + y.len ≤ x.place)

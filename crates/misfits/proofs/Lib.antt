@@ -14,5 +14,6 @@ mod PlannedRomfs
 mod PlannedCramfs
 mod Fitting
 mod Sourced
+mod Sectioned
 mod Examples
 mod Stands
