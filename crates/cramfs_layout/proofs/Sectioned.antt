@@ -51,7 +51,8 @@ climbs_follow from to [] c = tt
 climbs_follow from to (x ∷ xs) c = (climbs_low (x.start + x.len) to xs c.1, climbs_follow (x.start + x.len) to xs c.1)
 
 -- sections of different regions stand apart
-apart_by : (V : List Span) (D E : Span → Type 0) (x y : Section) → Pairs Follows V → ((b : Span) → D b → E b → ⊥) → Within V D x → Within V E y → AreApart x y
+apart_by : (V : List Span) (D E : Span → Type 0) (x y : Section) → Pairs Follows V → ((b : Span) → D b → E b → ⊥)
+    → Within V D x → Within V E y → AreApart x y
 apart_by V D E x y p n a b = elim (pairs_pick Follows (λ b. D b × (b.start ≤ x.place) × (x.place + x.len ≤ b.start + b.len)) (λ b. E b × (b.start ≤ y.place) × (y.place + y.len ≤ b.start + b.len)) V p a b) [
   | inl s ↦ absurd (n s.0 s.1.0 s.2.0)
   | inr s ↦
@@ -75,7 +76,8 @@ or_false true b h = absurd (cc)
 or_false false b h = (refl, h)
 
 -- with fewer earlier items, and from further down
-belongs_later : (V : List Span) (from up : ℕ) (earlier : List Item) (i : Item) (x : Section) → from ≤ up → Belongs V up (i ∷ earlier) x → Belongs V from earlier x
+belongs_later : (V : List Span) (from up : ℕ) (earlier : List Item) (i : Item) (x : Section) → from ≤ up
+    → Belongs V up (i ∷ earlier) x → Belongs V from earlier x
 belongs_later V from up earlier i x l (in_list a n w) = in_list (omega arith) n w
 belongs_later V from up earlier i x l (in_table t e n w) = in_table t (or_false (i.table == t) (has_table earlier t) e).1 n w
 
@@ -110,10 +112,12 @@ some_pointers : (n : ℕ) → n ≢ 0 → 0 < 4 * block_count n
 some_pointers zero z = absurd (z refl)
 some_pointers (suc n) z = omega arith
 
-bytes_within : (V : List Span) (t d len : ℕ) → StandsFor V t d len → Has (λ b. OfTable t b × (b.start ≤ d) × (d + len ≤ b.start + b.len)) V
+bytes_within : (V : List Span) (t d len : ℕ) → StandsFor V t d len
+    → Has (λ b. OfTable t b × (b.start ≤ d) × (d + len ≤ b.start + b.len)) V
 bytes_within V t d len s = has_weaker (Stands t d len) (λ (b : Span). OfTable t b × (b.start ≤ d) × (d + len ≤ b.start + b.len)) (λ b k. let q = k.1 in let u = k.2 in ((k.0, k.1), omega (arith, q), k.3)) V s
 
-bytes_own : (V : List Span) (index t d len : ℕ) (f : Fill) → len ≢ 0 → StandsFor V t d len → Every (OwnOf V t) (fill_section index d len f)
+bytes_own : (V : List Span) (index t d len : ℕ) (f : Fill) → len ≢ 0 → StandsFor V t d len
+    → Every (OwnOf V t) (fill_section index d len f)
 bytes_own V index t d len no_bytes n s = tt
 bytes_own V index t d len (text x) n s = ((positive len n, bytes_within V t d len s), tt)
 bytes_own V index t d len (source j) n s = ((positive len n, bytes_within V t d len s), tt)
@@ -124,12 +128,14 @@ alone_apart index start len (text x) = (tt, tt)
 alone_apart index start len (source k) = (tt, tt)
 
 -- the table stands before the bytes
-table_before : (index start len place size : ℕ) (f : Fill) → place + size ≤ start → Every (AreApart (section place size (table_of index))) (fill_section index start len f)
+table_before : (index start len place size : ℕ) (f : Fill) → place + size ≤ start
+    → Every (AreApart (section place size (table_of index))) (fill_section index start len f)
 table_before index start len place size no_bytes l = tt
 table_before index start len place size (text x) l = (inl l, tt)
 table_before index start len place size (source k) l = (inl l, tt)
 
-own_sections : (V : List Span) (index : ℕ) (earlier : List Item) (t d len : ℕ) (f : Fill) (b : Bool) → len ≢ 0 → StandsFor V t d len → has_table earlier t ≡ b
+own_sections : (V : List Span) (index : ℕ) (earlier : List Item) (t d len : ℕ) (f : Fill) (b : Bool) → len ≢ 0
+    → StandsFor V t d len → has_table earlier t ≡ b
     → TableSound V earlier t (if b then [] else section t (4 * block_count len) (table_of index) ∷ fill_section index d len f)
 own_sections V index earlier t d len f true n s e = record { own = tt; none = inl refl; apart = tt }
 own_sections V index earlier t d len f false n s e =
@@ -141,7 +147,8 @@ own_sections V index earlier t d len f false n s e =
     }
 
 -- the table and the bytes of an item, where no earlier item has the table
-tables_sound : (V : List Span) (index : ℕ) (earlier : List Item) (i : Item) → IsTabled V i → TableSound V earlier i.table (table_sections earlier index i)
+tables_sound : (V : List Span) (index : ℕ) (earlier : List Item) (i : Item) → IsTabled V i
+    → TableSound V earlier i.table (table_sections earlier index i)
 tables_sound V index earlier i h = elim (i.len == 0) as (λ c. (i.len == 0) ≡ c → TableSound V earlier i.table (if c || has_table earlier i.table then [] else section i.table (4 * block_count i.len) (table_of index) ∷ (if c then [] else fill_section index i.start i.len i.fill))) [
   | true ↦ λ e. record { own = tt; none = inl refl; apart = tt }
   | false ↦ λ e. let n = other_table i.len 0 e in own_sections V index earlier i.table i.start i.len i.fill (has_table earlier i.table) n (h n) refl
@@ -150,19 +157,22 @@ tables_sound V index earlier i h = elim (i.len == 0) as (λ c. (i.len == 0) ≡ 
 nothing_every : (P : Section → Type 0) (ss : List Section) → ss ≡ [] → Every P ss
 nothing_every P ss e = subst (Every P) (sym e) tt
 
-tables_belong : (V : List Span) (from : ℕ) (earlier : List Item) (t : ℕ) (ss : List Section) → TableSound V earlier t ss → Every (Belongs V from earlier) ss
+tables_belong : (V : List Span) (from : ℕ) (earlier : List Item) (t : ℕ) (ss : List Section)
+    → TableSound V earlier t ss → Every (Belongs V from earlier) ss
 tables_belong V from earlier t ss s = elim s.none [
   | inl e ↦ nothing_every (Belongs V from earlier) ss e
   | inr e ↦ every_weaker (OwnOf V t) (Belongs V from earlier) (λ x k. in_table t e k.0 k.1) ss s.own
 ]
 
 -- a record, and a section that belongs behind it
-record_apart : (V : List Span) (up : ℕ) (earlier : List Item) (x y : Section) → Pairs Follows V → x.place + x.len ≤ up → Within V OfList x → Belongs V up earlier y → AreApart x y
+record_apart : (V : List Span) (up : ℕ) (earlier : List Item) (x y : Section) → Pairs Follows V → x.place + x.len ≤ up
+    → Within V OfList x → Belongs V up earlier y → AreApart x y
 record_apart V up earlier x y p l w (in_list a n v) = inl (omega arith)
 record_apart V up earlier x y p l w (in_table t e n v) = apart_by V OfList (OfTable t) x y p (λ b c d. no_kind (sym c ∙ d.0)) w v
 
 -- a section of an item's table, and one that belongs behind that item
-own_apart : (V : List Span) (up : ℕ) (earlier : List Item) (i : Item) (x y : Section) → Pairs Follows V → OwnOf V i.table x → Belongs V up (i ∷ earlier) y → AreApart x y
+own_apart : (V : List Span) (up : ℕ) (earlier : List Item) (i : Item) (x y : Section) → Pairs Follows V
+    → OwnOf V i.table x → Belongs V up (i ∷ earlier) y → AreApart x y
 own_apart V up earlier i x y p o (in_list a n v) = apart_by V (OfTable i.table) OfList x y p (λ b c d. no_kind (sym d ∙ c.0)) o.1 v
 own_apart V up earlier i x y p o (in_table t e n v) =
     let n' = other_table i.table t (or_false (i.table == t) (has_table earlier t) e).0 in
@@ -172,7 +182,8 @@ record Sound (V : List Span) (from : ℕ) (earlier : List Item) (ss : List Secti
   belong : Every (Belongs V from earlier) ss
   apart : Pairs AreApart ss
 
-all_sound : (V : List Span) (from to index : ℕ) (earlier is : List Item) → Pairs Follows V → Places from to is → Every (IsListed V) is → Every (IsTabled V) is → Sound V from earlier (sections_from earlier index is)
+all_sound : (V : List Span) (from to index : ℕ) (earlier is : List Item) → Pairs Follows V → Places from to is
+    → Every (IsListed V) is → Every (IsTabled V) is → Sound V from earlier (sections_from earlier index is)
 all_sound V from to index earlier [] p a l t = record { belong = tt; apart = tt }
 all_sound V from to index earlier (i ∷ is) p a l t =
     let up = i.place + entry_len i.name in
@@ -183,18 +194,23 @@ all_sound V from to index earlier (i ∷ is) p a l t =
     let mine = tables_sound V index earlier i t.0 in
     let more = all_sound V up to (index + 1) (i ∷ earlier) is p a.1 l.1 t.1 in
     record {
-      belong = (in_list low (omega arith) l.0,
-          every_join (Belongs V from earlier) own rest (tables_belong V from earlier i.table own mine)
-          (every_weaker (Belongs V up (i ∷ earlier)) (Belongs V from earlier) (λ x k. belongs_later V from up earlier i x (omega arith) k) rest more.belong));
-      apart = (every_join (AreApart rec) own rest
-          (every_weaker (OwnOf V i.table) (AreApart rec) (λ x k. apart_by V OfList (OfTable i.table) rec x p (λ b c d. no_kind (sym c ∙ d.0)) l.0 k.1) own mine.own)
-          (every_weaker (Belongs V up (i ∷ earlier)) (AreApart rec) (λ x k. record_apart V up (i ∷ earlier) rec x p (omega arith) l.0 k) rest more.belong),
-          pairs_join AreApart own rest mine.apart more.apart
-          (every_weaker (OwnOf V i.table) (λ x. Every (AreApart x) rest) (λ x o. every_weaker (Belongs V up (i ∷ earlier)) (AreApart x) (λ y k. own_apart V up earlier i x y p o k) rest more.belong) own mine.own));
+      belong = (
+        in_list low (omega arith) l.0,
+        every_join (Belongs V from earlier) own rest (tables_belong V from earlier i.table own mine)
+            (every_weaker (Belongs V up (i ∷ earlier)) (Belongs V from earlier) (λ x k. belongs_later V from up earlier i x (omega arith) k) rest more.belong),
+      );
+      apart = (
+        every_join (AreApart rec) own rest
+            (every_weaker (OwnOf V i.table) (AreApart rec) (λ x k. apart_by V OfList (OfTable i.table) rec x p (λ b c d. no_kind (sym c ∙ d.0)) l.0 k.1) own mine.own)
+            (every_weaker (Belongs V up (i ∷ earlier)) (AreApart rec) (λ x k. record_apart V up (i ∷ earlier) rec x p (omega arith) l.0 k) rest more.belong),
+        pairs_join AreApart own rest mine.apart more.apart
+            (every_weaker (OwnOf V i.table) (λ x. Every (AreApart x) rest) (λ x o. every_weaker (Belongs V up (i ∷ earlier)) (AreApart x) (λ y k. own_apart V up earlier i x y p o k) rest more.belong) own mine.own),
+      );
     }
 
 -- what lies within regions lies between their ends
-between : (V : List Span) (low high : ℕ) (D : Span → Type 0) (x : Section) → Every (λ b. low ≤ b.start) V → Every (λ b. b.start + b.len ≤ high) V → 0 < x.len → Within V D x → LiesIn low high x
+between : (V : List Span) (low high : ℕ) (D : Span → Type 0) (x : Section) → Every (λ b. low ≤ b.start) V
+    → Every (λ b. b.start + b.len ≤ high) V → 0 < x.len → Within V D x → LiesIn low high x
 between V low high D x a c n w =
     let s = has_every (λ (b : Span). (low ≤ b.start) × (b.start + b.len ≤ high)) (λ (b : Span). D b × (b.start ≤ x.place) × (x.place + x.len ≤ b.start + b.len)) V (every_both (λ (b : Span). low ≤ b.start) (λ (b : Span). b.start + b.len ≤ high) V a c) w in
     let s1 = s.1.0 in
@@ -203,11 +219,13 @@ between V low high D x a c n w =
     let s4 = s.2.2 in
     (omega arith, n, omega arith)
 
-lies : (V : List Span) (low high from : ℕ) (earlier : List Item) (x : Section) → Every (λ b. low ≤ b.start) V → Every (λ b. b.start + b.len ≤ high) V → Belongs V from earlier x → LiesIn low high x
+lies : (V : List Span) (low high from : ℕ) (earlier : List Item) (x : Section) → Every (λ b. low ≤ b.start) V
+    → Every (λ b. b.start + b.len ≤ high) V → Belongs V from earlier x → LiesIn low high x
 lies V low high from earlier x a c (in_list l n w) = between V low high OfList x a c n w
 lies V low high from earlier x a c (in_table t e n w) = between V low high (OfTable t) x a c n w
 
-pub rise : (o : Order) (volume : List ℕ) (root : Inode) (n : Names) (cs : List (List ℕ)) (A : ℕ → ℕ) → IsPlanned volume root n cs → AreAlignedBy A n → SectionsRise 0 (size_of n) (sections_of (items_of o root n))
+pub rise : (o : Order) (volume : List ℕ) (root : Inode) (n : Names) (cs : List (List ℕ)) (A : ℕ → ℕ)
+    → IsPlanned volume root n cs → AreAlignedBy A n → SectionsRise 0 (size_of n) (sections_of (items_of o root n))
 unfolding size_of
 rise o volume root n cs A h al =
     let s = first_state n in

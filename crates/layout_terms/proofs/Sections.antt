@@ -9,7 +9,8 @@ pub rise_later : (from up end : ℕ) (ss : List Section) → from ≤ up → Sec
 rise_later from up end [] h k = omega arith
 rise_later from up end (s ∷ ss) h k = let l = k.0 in (omega arith, k.1, k.2)
 
-pub rise_wider : (from end top : ℕ) (ss : List Section) → end ≤ top → SectionsRise from end ss → SectionsRise from top ss
+pub rise_wider : (from end top : ℕ) (ss : List Section) → end ≤ top → SectionsRise from end ss
+    → SectionsRise from top ss
 rise_wider from end top [] h k = omega arith
 rise_wider from end top (s ∷ ss) h k = (k.0, k.1, rise_wider (s.place + s.len) end top ss h k.2)
 
@@ -21,7 +22,8 @@ AreApart x y = (x.place + x.len ≤ y.place) ⊎ (y.place + y.len ≤ x.place)
 abbrev pub LiesIn : ℕ → ℕ → Section → Type 0
 LiesIn from end s = (from ≤ s.place) × (0 < s.len) × (s.place + s.len ≤ end)
 
-put_rises : (s : Section) (ts : List Section) (from end : ℕ) → LiesIn from end s → Every (AreApart s) ts → SectionsRise from end ts → SectionsRise from end (put_section s ts)
+put_rises : (s : Section) (ts : List Section) (from end : ℕ) → LiesIn from end s → Every (AreApart s) ts
+    → SectionsRise from end ts → SectionsRise from end (put_section s ts)
 put_rises s [] from end l a r = (l.0, l.1, l.2)
 put_rises s (t ∷ ts) from end l a r = elim (nat_lt s.place t.place) as (λ b. nat_lt s.place t.place ≡ b → SectionsRise from end (cond b (s ∷ t ∷ ts) (t ∷ put_section s ts))) [
   | true ↦ λ e.
@@ -48,6 +50,7 @@ order_every P [] h = tt
 order_every P (s ∷ ss) h = put_every P s (in_order ss) h.0 (order_every P ss h.1)
 
 -- sections that stand apart rise where they are in order
-pub order_rises : (from end : ℕ) (ss : List Section) → from ≤ end → Every (LiesIn from end) ss → Pairs AreApart ss → SectionsRise from end (in_order ss)
+pub order_rises : (from end : ℕ) (ss : List Section) → from ≤ end → Every (LiesIn from end) ss → Pairs AreApart ss
+    → SectionsRise from end (in_order ss)
 order_rises from end [] l h a = l
 order_rises from end (s ∷ ss) l h a = put_rises s (in_order ss) from end h.0 (order_every (AreApart s) ss a.0) (order_rises from end ss l h.1 a.1)

@@ -29,23 +29,52 @@ aligned f s n p e q g = record { fours = f; some_fours = p; of_four = e; sixteen
 
 pub is_aligned : (n : ℕ) → is_align n ≡ true → IsAligned n
 is_aligned n h =
-    one_of n (4 ∷ 8 ∷ 16 ∷ 32 ∷ 64 ∷ 128 ∷ 256 ∷ 512 ∷ 1024 ∷ 2048 ∷ 4096 ∷ 8192 ∷ 16384 ∷ 32768 ∷ 65536 ∷ []) h
-    (four_aligned,
-    (aligned 2 1 8 (omega arith) refl (omega arith) refl,
-    (aligned 4 1 16 (omega arith) refl (omega arith) refl,
-    (aligned 8 2 32 (omega arith) refl (omega arith) refl,
-    (aligned 16 4 64 (omega arith) refl (omega arith) refl,
-    (aligned 32 8 128 (omega arith) refl (omega arith) refl,
-    (aligned 64 16 256 (omega arith) refl (omega arith) refl,
-    (aligned 128 32 512 (omega arith) refl (omega arith) refl,
-    (aligned 256 64 1024 (omega arith) refl (omega arith) refl,
-    (aligned 512 128 2048 (omega arith) refl (omega arith) refl,
-    (aligned 1024 256 4096 (omega arith) refl (omega arith) refl,
-    (aligned 2048 512 8192 (omega arith) refl (omega arith) refl,
-    (aligned 4096 1024 16384 (omega arith) refl (omega arith) refl,
-    (aligned 8192 2048 32768 (omega arith) refl (omega arith) refl,
-    (aligned 16384 4096 65536 (omega arith) refl (omega arith) refl,
-    tt)))))))))))))))
+    one_of n (4 ∷ 8 ∷ 16 ∷ 32 ∷ 64 ∷ 128 ∷ 256 ∷ 512 ∷ 1024 ∷ 2048 ∷ 4096 ∷ 8192 ∷ 16384 ∷ 32768 ∷ 65536 ∷ []) h (
+      four_aligned,
+      (
+        aligned 2 1 8 (omega arith) refl (omega arith) refl,
+        (
+          aligned 4 1 16 (omega arith) refl (omega arith) refl,
+          (
+            aligned 8 2 32 (omega arith) refl (omega arith) refl,
+            (
+              aligned 16 4 64 (omega arith) refl (omega arith) refl,
+              (
+                aligned 32 8 128 (omega arith) refl (omega arith) refl,
+                (
+                  aligned 64 16 256 (omega arith) refl (omega arith) refl,
+                  (
+                    aligned 128 32 512 (omega arith) refl (omega arith) refl,
+                    (
+                      aligned 256 64 1024 (omega arith) refl (omega arith) refl,
+                      (
+                        aligned 512 128 2048 (omega arith) refl (omega arith) refl,
+                        (
+                          aligned 1024 256 4096 (omega arith) refl (omega arith) refl,
+                          (
+                            aligned 2048 512 8192 (omega arith) refl (omega arith) refl,
+                            (
+                              aligned 4096 1024 16384 (omega arith) refl (omega arith) refl,
+                              (
+                                aligned 8192 2048 32768 (omega arith) refl (omega arith) refl,
+                                (
+                                  aligned 16384 4096 65536 (omega arith) refl (omega arith) refl,
+                                  tt,
+                                ),
+                              ),
+                            ),
+                          ),
+                        ),
+                      ),
+                    ),
+                  ),
+                ),
+              ),
+            ),
+          ),
+        ),
+      ),
+    )
 
 -- how long the contents of a source are
 pub size_is : (cs : List (List ℕ)) (k : ℕ) → length (get_or cs k []) ≡ get_or (map length cs) k 0

@@ -28,7 +28,8 @@ abbrev length_by : Format → List ℕ → Result ManifestLines grammar.Fault �
 length_by f sizes (Ok m) = len_of f m sizes
 length_by f sizes (Err e) = 0
 
-tells : (f : Format) (sizes : List ℕ) (r : Result ManifestLines grammar.Fault) (o : Option Fault) → least_by f sizes r ≡ Some o → Tells f sizes r o
+tells : (f : Format) (sizes : List ℕ) (r : Result ManifestLines grammar.Fault) (o : Option Fault)
+    → least_by f sizes r ≡ Some o → Tells f sizes r o
 tells f sizes (Ok m) o e = subst (Told f m sizes) (same e) (told f m sizes)
   where
     same : {u v : Option Fault} → Some u ≡ Some v → u ≡ v

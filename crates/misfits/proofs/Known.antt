@@ -62,28 +62,31 @@ pub record IsKnown (f : Format) (m : ManifestLines) (sizes : List ℕ) (latest :
   pub aligned : Every (λ k. is_file k.word ≡ true → IsAligned k.align) (reverse m.lines)
   pub volume : is_bad 255 m.volume ≡ false
 
-pub known : (f : Format) (m : ManifestLines) (sizes : List ℕ) → IsManifest m → HasNoMisfit f m sizes → (latest : List Line) × IsKnown f m sizes latest
+pub known : (f : Format) (m : ManifestLines) (sizes : List ℕ) → IsManifest m → HasNoMisfit f m sizes
+    → (latest : List Line) × IsKnown f m sizes latest
 known f m sizes h n =
     let c = checked_lines m h.0 h.1 in
     let w = written m h.0 h.1 in
     let back : reverse m.lines ≡ c.latest = ap reverse c.reversed ∙ reverse-reverse c.latest in
     let same : w.0 ≡ c.latest = sym (ap reverse w.1.reversed ∙ reverse-reverse w.0) ∙ back in
     let v : IsWritten m c.latest = subst (IsWritten m) same w.1 in
-    let faultless = all_faultless c.latest c.checked in
-    (c.latest, record {
-      reversed = c.reversed;
-      back = back;
-      checked = c.checked;
-      have = have_files m sizes c.latest c.reversed c.checked;
-      lines = v.lines;
-      numbered = v.numbered;
-      apart = v.apart;
-      faultless = faultless;
-      fit = every_reverse (Fits f m sizes) c.latest (subst (Every (Fits f m sizes)) c.reversed (lines_fit f m sizes n));
-      files = every_weaker (LedIn c.latest) (HasFile m.lines sizes c.latest) (λ l k. has_file m.lines sizes c.latest l back k) c.latest (all_led c.latest c.checked);
-      aligned = subst (Every (λ (k : Line). is_file k.word ≡ true → IsAligned k.align)) (sym back) (every_weaker IsFaultless (λ (k : Line). is_file k.word ≡ true → IsAligned k.align) (λ k x e. is_aligned k.align (x.align e)) c.latest faultless);
-      volume = v.volume;
-    })
+    let faultless = all_faultless c.latest c.checked in (
+      c.latest,
+      record {
+        reversed = c.reversed;
+        back = back;
+        checked = c.checked;
+        have = have_files m sizes c.latest c.reversed c.checked;
+        lines = v.lines;
+        numbered = v.numbered;
+        apart = v.apart;
+        faultless = faultless;
+        fit = every_reverse (Fits f m sizes) c.latest (subst (Every (Fits f m sizes)) c.reversed (lines_fit f m sizes n));
+        files = every_weaker (LedIn c.latest) (HasFile m.lines sizes c.latest) (λ l k. has_file m.lines sizes c.latest l back k) c.latest (all_led c.latest c.checked);
+        aligned = subst (Every (λ (k : Line). is_file k.word ≡ true → IsAligned k.align)) (sym back) (every_weaker IsFaultless (λ (k : Line). is_file k.word ≡ true → IsAligned k.align) (λ k x e. is_aligned k.align (x.align e)) c.latest faultless);
+        volume = v.volume;
+      },
+    )
 
 -- a line that is no `dir` is not about the root
 pub named_file : (l : Line) → IsFaultless l → is_dir l.word ≡ false → IsNamed l
@@ -102,7 +105,8 @@ unfolding names_of
 root_names = refl
 
 -- the root's path leads to a `dir` line about the root, if to any
-root_led : (ls : List Line) (k : Line) → Every IsFaultless ls → led ls (47 ∷ []) ≡ Some k → (is_dir k.word ≡ true) × (names_of k.path ≡ Some [])
+root_led : (ls : List Line) (k : Line) → Every IsFaultless ls → led ls (47 ∷ []) ≡ Some k
+    → (is_dir k.word ≡ true) × (names_of k.path ≡ Some [])
 root_led [] k h e = absurd (cc)
 root_led (l ∷ ls) k h e = elim (bytes_eq l.path (47 ∷ [])) as (λ t. bytes_eq l.path (47 ∷ []) ≡ t → cond t (cond (is_hard l.word) (led ls l.text) (Some l)) (led ls (47 ∷ [])) ≡ Some k → (is_dir k.word ≡ true) × (names_of k.path ≡ Some [])) [
   | true ↦ λ p g.
@@ -136,9 +140,11 @@ root_led (l ∷ ls) k h e = elim (bytes_eq l.path (47 ∷ [])) as (λ t. bytes_e
 -- the root is that of no line, or of a `dir` line about it
 pub data RootIs (m : ManifestLines) (sizes : List ℕ) (latest : List Line) : Type 0 where
   bare : root_of m.lines sizes ≡ bare_root → RootIs m sizes latest
-  by_line : (k : Line) → root_of m.lines sizes ≡ inode_of m.lines sizes k → Has (λ x. x ≡ k) latest → is_dir k.word ≡ true → names_of k.path ≡ Some [] → RootIs m sizes latest
+  by_line : (k : Line) → root_of m.lines sizes ≡ inode_of m.lines sizes k → Has (λ x. x ≡ k) latest
+      → is_dir k.word ≡ true → names_of k.path ≡ Some [] → RootIs m sizes latest
 
-pub root_is : (m : ManifestLines) (sizes : List ℕ) (latest : List Line) → reverse m.lines ≡ latest → Every IsFaultless latest → RootIs m sizes latest
+pub root_is : (m : ManifestLines) (sizes : List ℕ) (latest : List Line) → reverse m.lines ≡ latest
+    → Every IsFaultless latest → RootIs m sizes latest
 unfolding root_of file_at
 root_is m sizes latest back h = by (led latest (47 ∷ [])) refl
   where
@@ -152,7 +158,8 @@ root_is m sizes latest back h = by (led latest (47 ∷ [])) refl
         by_line k (ap (λ (o : Option Line). or_else bare_root (option_map (inode_of m.lines sizes) o)) (at_root ∙ e)) (led_member latest (47 ∷ []) k e).0 r.0 r.1
 
 -- no file below the root is of its line
-pub root_apart : (m : ManifestLines) (sizes : List ℕ) (latest : List Line) (is : List Inode) → RootIs m sizes latest → Every (λ l. 0 < l.number) latest → Pairs (λ l k. l.number ≢ k.number) latest
+pub root_apart : (m : ManifestLines) (sizes : List ℕ) (latest : List Line) (is : List Inode) → RootIs m sizes latest
+    → Every (λ l. 0 < l.number) latest → Pairs (λ l k. l.number ≢ k.number) latest
     → Every (IsOwned latest) is → Every (λ j. (root_of m.lines sizes).line ≢ j.line) is
 root_apart m sizes latest is (bare e) pos apart owned = every_weaker (IsOwned latest) (λ j. (root_of m.lines sizes).line ≢ j.line) differ is owned
   where

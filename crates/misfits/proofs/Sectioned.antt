@@ -24,7 +24,8 @@ unfolding zeros
 lengths [] = refl
 lengths (n ∷ ns) = ap (λ (k : ℕ). k ∷ map length (map (λ n. replicate {A = ℕ} n 0) ns)) (length-replicate {A = ℕ} n 0) ∙ ap (λ (xs : List ℕ). n ∷ xs) (lengths ns)
 
-of_contents : (f : Format) (m : ManifestLines) (cs : List (List ℕ)) → IsManifest m → HasNoMisfit f m (map length cs) → SectionsRise 0 (len_of f m (map length cs)) (sections_of f m (map length cs))
+of_contents : (f : Format) (m : ManifestLines) (cs : List (List ℕ)) → IsManifest m → HasNoMisfit f m (map length cs)
+    → SectionsRise 0 (len_of f m (map length cs)) (sections_of f m (map length cs))
 of_contents romfs m cs h n =
     let sizes = map length cs in
     let t = tree_of m.lines sizes in
@@ -34,7 +35,8 @@ of_contents (cramfs o) m cs h n =
     let sizes = map length cs in
     in_cramfs.rise o m.volume (root_of m.lines sizes) (tree_of m.lines sizes) cs (align_of m.lines) (fitting (cramfs o) m cs h n) (sourced (cramfs o) m sizes h n)
 
-pub rise : (f : Format) (m : ManifestLines) (sizes : List ℕ) → IsManifest m → HasNoMisfit f m sizes → SectionsRise 0 (len_of f m sizes) (sections_of f m sizes)
+pub rise : (f : Format) (m : ManifestLines) (sizes : List ℕ) → IsManifest m → HasNoMisfit f m sizes
+    → SectionsRise 0 (len_of f m sizes) (sections_of f m sizes)
 rise f m sizes h n =
     let e = lengths sizes in
     subst (λ (xs : List ℕ). SectionsRise 0 (len_of f m xs) (sections_of f m xs)) e (of_contents f m (zeros sizes) h (subst (HasNoMisfit f m) (sym e) n))

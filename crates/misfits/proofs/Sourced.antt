@@ -23,7 +23,8 @@ use Rattle.misfits.proofs.Grown.{Gives, grown_is}
 use Rattle.misfits.proofs.Known.{known}
 
 -- more lines stand before a later one
-grows : (a b : ℕ) (l : Bool) (n : ℕ) (x y : ℕ) → a ≤ b → x ≤ y → (if l && nat_lt n a then x + 1 else x) ≤ (if l && nat_lt n b then y + 1 else y)
+grows : (a b : ℕ) (l : Bool) (n : ℕ) (x y : ℕ) → a ≤ b → x ≤ y
+    → (if l && nat_lt n a then x + 1 else x) ≤ (if l && nat_lt n b then y + 1 else y)
 grows a b false n x y h k = k
 grows a b true n x y h k = elim (nat_lt n a) as (λ t. nat_lt n a ≡ t → (if t then x + 1 else x) ≤ (if nat_lt n b then y + 1 else y)) [
   | true ↦ λ e. let l = ltb-true n a e in rw (lt-ltb n b (omega arith)) (omega arith)
@@ -35,13 +36,15 @@ sources_grow a b [] h = omega arith
 sources_grow a b (l ∷ ls) h = grows a b (is_file l.word) l.number (sources_before a ls) (sources_before b ls) h (sources_grow a b ls h)
 
 -- a `file` line stands before what comes after it
-steps : (a b : ℕ) (l : Bool) (n : ℕ) (x y : ℕ) → a ≤ b → x < y → (if l && nat_lt n a then x + 1 else x) < (if l && nat_lt n b then y + 1 else y)
+steps : (a b : ℕ) (l : Bool) (n : ℕ) (x y : ℕ) → a ≤ b → x < y
+    → (if l && nat_lt n a then x + 1 else x) < (if l && nat_lt n b then y + 1 else y)
 steps a b l n x y h k = let g = grows a b l n (x + 1) y h (omega arith) in elim l as (λ v. (if v && nat_lt n a then (x + 1) + 1 else x + 1) ≤ (if v && nat_lt n b then y + 1 else y) → (if v && nat_lt n a then x + 1 else x) < (if v && nat_lt n b then y + 1 else y)) [
   | true ↦ λ z. elim (nat_lt n a) as (λ t. (if t then (x + 1) + 1 else x + 1) ≤ (if nat_lt n b then y + 1 else y) → (if t then x + 1 else x) < (if nat_lt n b then y + 1 else y)) [ true ↦ λ w. omega arith | false ↦ λ w. omega arith ] z
   | false ↦ λ z. k
 ] g
 
-sources_less : (b : ℕ) (x : Line) (ls : List Line) → Has (λ l. l ≡ x) ls → is_file x.word ≡ true → x.number < b → sources_before x.number ls < sources_before b ls
+sources_less : (b : ℕ) (x : Line) (ls : List Line) → Has (λ l. l ≡ x) ls → is_file x.word ≡ true → x.number < b
+    → sources_before x.number ls < sources_before b ls
 sources_less b x [] h f l = absurd h
 sources_less b x (y ∷ ls) (inl e) f l =
     let w : is_file y.word ≡ true = ap (λ (z : Line). is_file z.word) e ∙ f in
@@ -51,7 +54,8 @@ sources_less b x (y ∷ ls) (inl e) f l =
 sources_less b x (y ∷ ls) (inr h) f l = steps x.number b (is_file y.word) y.number (sources_before x.number ls) (sources_before b ls) (omega arith) (sources_less b x ls h f l)
 
 -- two `file` lines behind which as many stand are one
-same_number : (x y : Line) (ls : List Line) → Has (λ l. l ≡ x) ls → Has (λ l. l ≡ y) ls → is_file x.word ≡ true → is_file y.word ≡ true → sources_before x.number ls ≡ sources_before y.number ls → x.number ≡ y.number
+same_number : (x y : Line) (ls : List Line) → Has (λ l. l ≡ x) ls → Has (λ l. l ≡ y) ls → is_file x.word ≡ true
+    → is_file y.word ≡ true → sources_before x.number ls ≡ sources_before y.number ls → x.number ≡ y.number
 same_number x y ls h k f g e = elim (cases_lt x.number y.number) [
   | inl l ↦ let s = sources_less y.number x ls h f l in absurd (omega (arith, e))
   | inr l ↦ elim (cases_lt y.number x.number) [
@@ -71,7 +75,8 @@ align_or (Some y) = y.align
 abbrev pub align_of : List Line → ℕ → ℕ
 align_of all k = align_or (find (is_of all k) all)
 
-finds : (p : Line → Bool) (ls : List Line) (x : Line) → Has (λ l. l ≡ x) ls → p x ≡ true → (y : Line) × (find p ls ≡ Some y) × Has (λ l. l ≡ y) ls × (p y ≡ true)
+finds : (p : Line → Bool) (ls : List Line) (x : Line) → Has (λ l. l ≡ x) ls → p x ≡ true
+    → (y : Line) × (find p ls ≡ Some y) × Has (λ l. l ≡ y) ls × (p y ≡ true)
 finds p [] x h e = absurd h
 finds p (l ∷ ls) x h e = elim (p l) as (λ t. p l ≡ t → (y : Line) × (cond t (Some l) (find p ls) ≡ Some y) × Has (λ z. z ≡ y) (l ∷ ls) × (p y ≡ true)) [
   | true ↦ λ g. (l, refl, inl refl, g)
@@ -85,7 +90,8 @@ both_true : (a b : Bool) → (a && b) ≡ true → (a ≡ true) × (b ≡ true)
 both_true true b h = (refl, h)
 both_true false b h = absurd (cc)
 
-align_is : (all : List Line) (x : Line) → Pairs (λ l k. l.number ≢ k.number) all → Has (λ l. l ≡ x) all → is_file x.word ≡ true → align_of all (sources_before x.number all) ≡ x.align
+align_is : (all : List Line) (x : Line) → Pairs (λ l k. l.number ≢ k.number) all → Has (λ l. l ≡ x) all
+    → is_file x.word ≡ true → align_of all (sources_before x.number all) ≡ x.align
 align_is all x p h f =
     let k = sources_before x.number all in
     let test : is_of all k x ≡ true = rw (f, eq-eqb k k refl) refl in
@@ -116,12 +122,15 @@ aligned_by all (folder name i own after) h = (aligned_by all own h.1, aligned_by
 same_source : {j k : ℕ} → source j ≡ source k → j ≡ k
 same_source e = cc
 
-contents_sourced : (all : List Line) (sizes : List ℕ) (l : Line) (o : Option Line) → Pairs (λ l k. l.number ≢ k.number) all → ((x : Line) → o ≡ Some x → Has (λ y. y ≡ x) all × (is_file x.word ≡ true))
+contents_sourced : (all : List Line) (sizes : List ℕ) (l : Line) (o : Option Line)
+    → Pairs (λ l k. l.number ≢ k.number) all
+    → ((x : Line) → o ≡ Some x → Has (λ y. y ≡ x) all × (is_file x.word ≡ true))
     → (k : ℕ) → (with_contents all sizes l o).fill ≡ source k → (with_contents all sizes l o).align ≡ align_of all k
 contents_sourced all sizes l None p h k e = absurd (cc)
 contents_sourced all sizes l (Some x) p h k e = let m = h x refl in sym (align_is all x p m.0 m.1) ∙ ap (align_of all) (same_source e)
 
-inode_sourced : (all : List Line) (sizes : List ℕ) (l : Line) (w : Word) → Pairs (λ l k. l.number ≢ k.number) all → ((x : Line) → filed (reverse all) l.path ≡ Some x → Has (λ y. y ≡ x) all × (is_file x.word ≡ true))
+inode_sourced : (all : List Line) (sizes : List ℕ) (l : Line) (w : Word) → Pairs (λ l k. l.number ≢ k.number) all
+    → ((x : Line) → filed (reverse all) l.path ≡ Some x → Has (λ y. y ≡ x) all × (is_file x.word ≡ true))
     → (k : ℕ) → (inode_by all sizes w l).fill ≡ source k → (inode_by all sizes w l).align ≡ align_of all k
 inode_sourced all sizes l Dir p h k e = absurd (cc)
 inode_sourced all sizes l File p h k e = contents_sourced all sizes l (filed (reverse all) l.path) p h k e
@@ -145,7 +154,8 @@ has_reverse : {X : Type 0} (P : X → Type 0) (xs : List X) → Has P xs → Has
 has_reverse P [] h = absurd h
 has_reverse P (x ∷ xs) h = subst (Has P) (sym (reverse-append (x ∷ []) xs)) (has_push P (reverse xs) x (elim h [ inl p ↦ inr p | inr k ↦ inl (has_reverse P xs k) ]))
 
-pairs_end : {X : Type 0} (R : X → X → Type 0) → (xs : List X) (x : X) → Pairs R xs → Every (λ y. R y x) xs → Pairs R (xs ++ x ∷ [])
+pairs_end : {X : Type 0} (R : X → X → Type 0) → (xs : List X) (x : X) → Pairs R xs → Every (λ y. R y x) xs
+    → Pairs R (xs ++ x ∷ [])
 pairs_end R [] x p e = (tt, tt)
 pairs_end R (y ∷ ys) x p e = (every_join (R y) ys (x ∷ []) p.0 (e.0, tt), pairs_end R ys x p.1 e.1)
 
@@ -153,21 +163,26 @@ every_back : {X : Type 0} (P : X → Type 0) (xs : List X) → Every P xs → Ev
 every_back P [] h = tt
 every_back P (x ∷ xs) h = subst (Every P) (sym (reverse-append (x ∷ []) xs)) (every_join P (reverse xs) (x ∷ []) (every_back P xs h.1) (h.0, tt))
 
-pairs_reverse : {X : Type 0} (R : X → X → Type 0) → ((x y : X) → R x y → R y x) → (xs : List X) → Pairs R xs → Pairs R (reverse xs)
+pairs_reverse : {X : Type 0} (R : X → X → Type 0) → ((x y : X) → R x y → R y x) → (xs : List X) → Pairs R xs
+    → Pairs R (reverse xs)
 pairs_reverse R flip [] p = tt
 pairs_reverse R flip (x ∷ xs) p = subst (Pairs R) (sym (reverse-append (x ∷ []) xs)) (pairs_end R (reverse xs) x (pairs_reverse R flip xs p.1) (every_weaker (R x) (λ y. R y x) (λ y r. flip x y r) (reverse xs) (every_back (R x) xs p.0)))
 
-leaf_sourced : (m : ManifestLines) (sizes : List ℕ) (latest : List Line) → reverse m.lines ≡ latest → m.lines ≡ reverse latest → Pairs (λ l k. l.number ≢ k.number) m.lines → (l : Line) (file : HasFile m.lines sizes latest l)
+leaf_sourced : (m : ManifestLines) (sizes : List ℕ) (latest : List Line) → reverse m.lines ≡ latest
+    → m.lines ≡ reverse latest → Pairs (λ l k. l.number ≢ k.number) m.lines
+    → (l : Line) (file : HasFile m.lines sizes latest l)
     → is_hard l.word ≡ false → (k : ℕ) → file.inode.fill ≡ source k → file.inode.align ≡ align_of m.lines k
 unfolding inode_of
 leaf_sourced m sizes latest back front apart l file h k e =
     let own = file.own h in
     let found : (x : Line) → filed (reverse m.lines) l.path ≡ Some x → Has (λ y. y ≡ x) m.lines × (is_file x.word ≡ true) = λ x g.
-      let r = filed_member (reverse m.lines) l.path x g in
-      (subst (Has (λ y. y ≡ x)) (sym front) (has_reverse (λ y. y ≡ x) latest (subst (Has (λ y. y ≡ x)) back r.0)), r.1) in
+    let r = filed_member (reverse m.lines) l.path x g in
+    (subst (Has (λ y. y ≡ x)) (sym front) (has_reverse (λ y. y ≡ x) latest (subst (Has (λ y. y ≡ x)) back r.0)), r.1) in
     ap (λ (i : Inode). i.align) own ∙ inode_sourced m.lines sizes l l.word apart found k (sym (ap (λ (i : Inode). i.fill) own) ∙ e)
 
-sourced_by : (m : ManifestLines) (sizes : List ℕ) (latest : List Line) → reverse m.lines ≡ latest → m.lines ≡ reverse latest → Pairs (λ l k. l.number ≢ k.number) m.lines → (l : Line) (file : HasFile m.lines sizes latest l) (name : List ℕ)
+sourced_by : (m : ManifestLines) (sizes : List ℕ) (latest : List Line) → reverse m.lines ≡ latest
+    → m.lines ≡ reverse latest → Pairs (λ l k. l.number ≢ k.number) m.lines
+    → (l : Line) (file : HasFile m.lines sizes latest l) (name : List ℕ)
     → (w : Word) → l.word ≡ w → IsSourced m.lines name (what_by w file.inode)
 sourced_by m sizes latest back front apart l file name Dir e = tt
 sourced_by m sizes latest back front apart l file name File e = leaf_sourced m sizes latest back front apart l file (ap is_hard e)
@@ -179,7 +194,8 @@ sourced_by m sizes latest back front apart l file name Socket e = leaf_sourced m
 sourced_by m sizes latest back front apart l file name Hard e = tt
 sourced_by m sizes latest back front apart l file name Same e = leaf_sourced m sizes latest back front apart l file (ap is_hard e)
 
-pub sourced : (f : Format) (m : ManifestLines) (sizes : List ℕ) → IsManifest m → HasNoMisfit f m sizes → AreAlignedBy (align_of m.lines) (tree_of m.lines sizes)
+pub sourced : (f : Format) (m : ManifestLines) (sizes : List ℕ) → IsManifest m → HasNoMisfit f m sizes
+    → AreAlignedBy (align_of m.lines) (tree_of m.lines sizes)
 unfolding tree_of
 sourced f m sizes h none =
     let k = known f m sizes h none in
