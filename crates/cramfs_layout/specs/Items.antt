@@ -1,4 +1,5 @@
--- The items of a cramfs layout, one for each inode in the order of their places, and its sections. (This project's own.)
+-- The items of a cramfs layout, one for each inode in the order of their places, and its sections. (This project's
+-- own.)
 use Rattle.std.specs.Prelude.{◌≡◌, ℕ, ◌+◌, ◌*◌, ◌==◌, ◌||◌, Bool, if◌then◌else◌, List, [], ◌∷◌, ◌++◌}
 use Rattle.std.specs.List.{list_any}
 use Rattle.cramfs_format.specs.declared.order.Order.{Order}

@@ -64,7 +64,8 @@ unfolding with_part
 gap-with_part out p i h k =
     let z = replicate (p.place - length out) 0 in
     let n : i - length out < length z = simp length-replicate (omega arith) in
-    get_or-append_right out (z ++ p.bytes) (length out) i 0 refl h ∙ get_or_append_left z p.bytes 0 (i - length out) n ∙ get_or-replicate (p.place - length out) (i - length out) 0 0 (omega arith)
+    let m : i - length out < p.place - length out = omega arith in
+    get_or-append_right out (z ++ p.bytes) (length out) i 0 refl h ∙ get_or_append_left z p.bytes 0 (i - length out) n ∙ get_or-replicate (p.place - length out) (i - length out) 0 0 m
 
 -- past the bytes so far, and outside the parts, all is zero
 pub zero_outside : (out : List ℕ) (ps : List Part) (i : ℕ) → Rises (length out) ps → AllByRecursion (IsOutside i) ps
