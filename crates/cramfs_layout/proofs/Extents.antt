@@ -92,7 +92,7 @@ spans_climb cs s (folder name i own rest) h =
 abbrev pub AreDisjoint : Span → Span → Type 0
 AreDisjoint x y = (p : ℕ) → x.start ≤ p → p < x.start + x.len → y.start ≤ p → p < y.start + y.len → ⊥
 
-climbs_from : (from to : ℕ) (xs : List Span) → Climbs from to xs → Every (λ (y : Span). from ≤ y.start) xs
+pub climbs_from : (from to : ℕ) (xs : List Span) → Climbs from to xs → Every (λ (y : Span). from ≤ y.start) xs
 climbs_from from to [] c = tt
 climbs_from from to (x ∷ xs) c = let a = c.0 in (a, every_weaker (λ (y : Span). x.start + x.len ≤ y.start) (λ (y : Span). from ≤ y.start) (λ y l. omega arith) xs (climbs_from (x.start + x.len) to xs c.1))
 

@@ -17,6 +17,7 @@ use Rattle.cramfs_layout.specs.Layout.{entry_len, list_len, size_of, after_names
 use Rattle.cramfs_layout.specs.Items.{AreAlignedBy, entries, below, items_of, has_table, table_sections, sections_from, sections_of}
 use Rattle.cramfs_layout.specs.Planned.{IsPlanned}
 use Rattle.image_parts.proofs.Padding.{pad-after}
+use Rattle.cramfs_layout.proofs.Extents.{climbs_from}
 use Rattle.cramfs_layout.proofs.Stored.{names_onward}
 use Rattle.cramfs_layout.proofs.Regions.{regions, regions_climb, Places, places_join, entries_place, below_place, IsListed, IsAmong, own_listed, below_listed, StandsFor, IsTabled, all_tabled}
 
@@ -34,10 +35,6 @@ OfTable t b = (b.kind ≡ TableOf) × (b.start ≡ t)
 abbrev Follows : Span → Span → Type 0
 Follows x y = x.start + x.len ≤ y.start
 
-climbs_low : (from to : ℕ) (V : List Span) → Climbs from to V → Every (λ y. from ≤ y.start) V
-climbs_low from to [] c = tt
-climbs_low from to (x ∷ xs) c = let a = c.0 in (a, every_weaker (λ (y : Span). x.start + x.len ≤ y.start) (λ (y : Span). from ≤ y.start) (λ y l. omega arith) xs (climbs_low (x.start + x.len) to xs c.1))
-
 climbs_top : (from to : ℕ) (V : List Span) → Climbs from to V → from ≤ to
 climbs_top from to [] c = c
 climbs_top from to (x ∷ xs) c = let a = c.0 in let b = climbs_top (x.start + x.len) to xs c.1 in omega arith
@@ -48,7 +45,7 @@ climbs_high from to (x ∷ xs) c = (climbs_top (x.start + x.len) to xs c.1, clim
 
 climbs_follow : (from to : ℕ) (V : List Span) → Climbs from to V → Pairs Follows V
 climbs_follow from to [] c = tt
-climbs_follow from to (x ∷ xs) c = (climbs_low (x.start + x.len) to xs c.1, climbs_follow (x.start + x.len) to xs c.1)
+climbs_follow from to (x ∷ xs) c = (climbs_from (x.start + x.len) to xs c.1, climbs_follow (x.start + x.len) to xs c.1)
 
 -- sections of different regions stand apart
 apart_by : (V : List Span) (D E : Span → Type 0) (x y : Section) → Pairs Follows V → ((b : Span) → D b → E b → ⊥)
@@ -245,6 +242,6 @@ rise o volume root n cs A h al =
     let tabled = every_join (IsTabled V) es bs t.here t.under in
     let sound = all_sound V 76 end 1 [] (es ++ bs) follow places listed tabled in
     let ss = sections_from [] 1 (es ++ bs) in
-    let inside = every_weaker (Belongs V 76 []) (LiesIn 76 (size_of n)) (λ x k. lies V 76 (size_of n) 76 [] x (climbs_low 76 end V climbs) (every_weaker (λ (b : Span). b.start + b.len ≤ end) (λ (b : Span). b.start + b.len ≤ size_of n) (λ b l. omega arith) V (climbs_high 76 end V climbs)) k) ss sound.belong in
+    let inside = every_weaker (Belongs V 76 []) (LiesIn 76 (size_of n)) (λ x k. lies V 76 (size_of n) 76 [] x (climbs_from 76 end V climbs) (every_weaker (λ (b : Span). b.start + b.len ≤ end) (λ (b : Span). b.start + b.len ≤ size_of n) (λ b l. omega arith) V (climbs_high 76 end V climbs)) k) ss sound.belong in
     let low = names_onward cs s n h.well in
     (omega arith, omega arith, order_rises 76 (size_of n) ss (omega arith) inside sound.apart)

@@ -62,9 +62,10 @@ HasAt-inside b place front bytes back (more, e) =
 pub gap-with_part : (out : List ℕ) (p : Part) (i : ℕ) → length out ≤ i → i < p.place → get_or (with_part out p) i 0 ≡ 0
 unfolding with_part
 gap-with_part out p i h k =
-    let z = replicate (p.place - length out) 0 in
-    let n : i - length out < length z = simp length-replicate (omega arith) in
+    let z = replicate {A = ℕ} (p.place - length out) 0 in
+    let len : length z ≡ p.place - length out = length-replicate {A = ℕ} (p.place - length out) 0 in
     let m : i - length out < p.place - length out = omega arith in
+    let n : i - length out < length z = omega (arith, m, len) in
     get_or-append_right out (z ++ p.bytes) (length out) i 0 refl h ∙ get_or_append_left z p.bytes 0 (i - length out) n ∙ get_or-replicate (p.place - length out) (i - length out) 0 0 m
 
 -- past the bytes so far, and outside the parts, all is zero

@@ -9,8 +9,6 @@ use Rattle.rom_faults.specs.declared.fault.Fault.{Fault}
 use Rattle.record_walk.specs.Members.{Has, Pairs}
 use Rattle.record_walk.proofs.Lists.{every_weaker, every_of, every_left, every_right, has_every, has_weaker, pairs_pick}
 use Rattle.manifest.specs.declared.line.Line.{Line}
-use Rattle.manifest.specs.declared.line.Word.{Word}
-use Rattle.manifest.specs.declared.line.Word.TheVariants.{Dir, File, Slink, Block, Character, Fifo, Socket, Hard, Same}
 use Rattle.manifest.specs.Paths.{names_of, is_bad_path}
 use Rattle.manifest.specs.Texts.{is_bad}
 use Rattle.manifest.specs.Grammar.{IsManifest}
@@ -19,6 +17,7 @@ use Rattle.manifest.proofs.Checked.{AreChecked, checked_lines}
 use Rattle.name_tree.specs.Names.{Inode}
 use Rattle.name_tree.specs.Tree.{inode_of, file_at, root_of, bare_root, or_else}
 use Rattle.name_tree.proofs.Law.{HaveFiles, have_files}
+use Rattle.misfits.proofs.Bools.{same_some, dir_not_hard}
 use Rattle.misfits.specs.Format.{Format}
 use Rattle.misfits.specs.Misfit.{HasMisfit, of_line, HasNoMisfit}
 use Rattle.misfits.proofs.Written.{IsLine, IsWritten, written}
@@ -112,7 +111,7 @@ root_led (l ∷ ls) k h e = elim (bytes_eq l.path (47 ∷ [])) as (λ t. bytes_e
   | true ↦ λ p g.
       let names : names_of l.path ≡ Some [] = ap names_of ((bytes_decides l.path (47 ∷ [])).0 p) ∙ root_names in
       let dir : is_dir l.word ≡ true = is_true (is_dir l.word) (sym (ap (is_bad_path (is_dir l.word)) names) ∙ h.0.path) in
-      let same : l ≡ k = same_some (sym (ap (λ (b : Bool). cond b (led ls l.text) (Some l)) (not_hard l.word dir)) ∙ g) in
+      let same : l ≡ k = same_some (sym (ap (λ (b : Bool). cond b (led ls l.text) (Some l)) (dir_not_hard l.word dir)) ∙ g) in
       (subst (λ (x : Line). is_dir x.word ≡ true) same dir, subst (λ (x : Line). names_of x.path ≡ Some []) same names)
   | false ↦ λ p g. root_led ls k h.1 g
 ] refl e
@@ -120,22 +119,6 @@ root_led (l ∷ ls) k h e = elim (bytes_eq l.path (47 ∷ [])) as (λ t. bytes_e
     is_true : (b : Bool) → not b ≡ false → b ≡ true
     is_true true e = refl
     is_true false e = absurd (cc)
-
-    same_some : {x y : Line} → Some x ≡ Some y → x ≡ y
-    same_some e = cc
-
-    not_hard : (w : Word) → is_dir w ≡ true → is_hard w ≡ false
-    not_hard w d = elim w as (λ v. is_dir v ≡ true → is_hard v ≡ false) [
-      | Dir ↦ λ e. refl
-      | File ↦ λ e. refl
-      | Slink ↦ λ e. refl
-      | Block ↦ λ e. refl
-      | Character ↦ λ e. refl
-      | Fifo ↦ λ e. refl
-      | Socket ↦ λ e. refl
-      | Hard ↦ λ e. absurd (cc)
-      | Same ↦ λ e. refl
-    ] d
 
 -- the root is that of no line, or of a `dir` line about it
 pub data RootIs (m : ManifestLines) (sizes : List ℕ) (latest : List Line) : Type 0 where

@@ -15,11 +15,9 @@ use Rattle.manifest.specs.Lines.{is_dir, is_file, is_hard, is_same, line_at, led
 use Rattle.manifest.specs.Grammar.{fault_of, is_bad_text, is_align, has_parent, has_target, is_target}
 use Rattle.manifest.proofs.Adding.{sound_target}
 use Rattle.manifest.proofs.Checked.{AreChecked, sound_place}
+use Rattle.misfits.proofs.Bools.{same_some}
 use Rattle.name_tree.specs.Names.{Inode}
 use Rattle.name_tree.specs.Tree.{inode_of, file_at}
-
-same_some : {X : Type 0} {x y : X} → Some x ≡ Some y → x ≡ y
-same_some e = cc
 
 -- a line that a path leads to is one of the lines, and no `hard` line
 pub led_member : (ls : List Line) (p : List ℕ) (k : Line) → led ls p ≡ Some k

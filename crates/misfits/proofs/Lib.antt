@@ -1,3 +1,4 @@
+mod Bools
 mod Least
 mod Decided
 mod Orders

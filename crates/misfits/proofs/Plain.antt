@@ -1,5 +1,5 @@
 -- The last name of a path can stand in a list.
-use Rattle.std.proofs.Common.{◌≡◌, ◌≢◌, ℕ, ◌<◌, ◌≤◌, ◌||◌, ◌==◌, nat_lt, Bool, true, false, cond, List, [], ◌∷◌, ◌++◌, length, Some, refl, ap, subst, ◌∙◌, arith}
+use Rattle.std.proofs.Common.{◌≡◌, ◌≢◌, ℕ, ◌<◌, ◌≤◌, ◌==◌, nat_lt, Bool, true, false, cond, List, [], ◌∷◌, ◌++◌, length, Some, refl, ap, subst, ◌∙◌, arith}
 use Rattle.std.proofs.lemmas.Bool.{eqb-true, ltb-false}
 use Rattle.std.proofs.lemmas.List.Elements.{All-contains, All-from_recursion}
 use Rattle.std.specs.Cmp.Lexicographic.{bytes_decides}
@@ -11,12 +11,9 @@ use Rattle.manifest.specs.Texts.{is_bad}
 use Rattle.manifest.specs.Paths.{names_of, path_of, is_bad_name}
 use Rattle.manifest.proofs.Named.{path_with_names, has_slash}
 use Rattle.layout_terms.specs.Lists.{IsName}
+use Rattle.misfits.proofs.Bools.{or_false}
 use Rattle.misfits.specs.Misfit.{last_len}
 use Rattle.misfits.proofs.Sorted.{last_of}
-
-or_false : (a b : Bool) → (a || b) ≡ false → (a ≡ false) × (b ≡ false)
-or_false true b h = absurd (cc)
-or_false false b h = (refl, h)
 
 -- what no name has, the last one has not
 last_free : (f : List ℕ → Bool) (m : List ℕ) (ms : List (List ℕ)) → list_any f (m ∷ ms) ≡ false

@@ -13,6 +13,7 @@ use Rattle.name_tree.specs.Tree.{What, a_leaf, a_link, a_folder, what_by, inode_
 use Rattle.name_tree.proofs.Law.{grown_by}
 use Rattle.layout_terms.specs.Files.{files, height}
 use Rattle.cramfs_format.proofs.Orders.{never_self}
+use Rattle.misfits.proofs.Bools.{dir_not_hard}
 use Rattle.misfits.specs.Format.{cramfs, references_of}
 use Rattle.misfits.specs.Misfit.{attribute, HasNoMisfit, long, deep, many}
 use Rattle.misfits.proofs.Sorted.{Before, last_of, AreSorted, HoldAll}
@@ -114,20 +115,7 @@ module _ (o : Order) (m : ManifestLines) (cs : List (List ℕ)) (latest : List L
   folder_is : (own : Names) → list_len own < 2 ^ 24 → RootIs m (map length cs) latest
       → IsFolder (root_of m.lines (map length cs)) own
   folder_is own t (bare e) = subst (λ i. IsFolder i own) (sym e) (bare_made own t)
-  folder_is own t (by_line k e here d names) = subst (λ i. IsFolder i own) (sym e) (own_folder k here d (not_hard k.word d) own t)
-    where
-      not_hard : (v : Word) → is_dir v ≡ true → is_hard v ≡ false
-      not_hard v d = elim v as (λ x. is_dir x ≡ true → is_hard x ≡ false) [
-        | Dir ↦ λ e. refl
-        | File ↦ λ e. refl
-        | Slink ↦ λ e. refl
-        | Block ↦ λ e. refl
-        | Character ↦ λ e. refl
-        | Fifo ↦ λ e. refl
-        | Socket ↦ λ e. refl
-        | Hard ↦ λ e. absurd (cc)
-        | Same ↦ λ e. refl
-      ] d
+  folder_is own t (by_line k e here d names) = subst (λ i. IsFolder i own) (sym e) (own_folder k here d (dir_not_hard k.word d) own t)
 
   tree_is : grown_by m.lines (map length cs) latest ≡ tree_of m.lines (map length cs)
   unfolding tree_of

@@ -21,6 +21,7 @@ use Rattle.romfs_layout.specs.Layout.{root_at, full_size_of, all_headers}
 use Rattle.romfs_layout.specs.Items.{item_of}
 use Rattle.romfs_layout.specs.Wells.{IsFile, IsFolder, AreWell, AreLinks, file_of}
 use Rattle.romfs_layout.specs.Planned.{IsPlanned}
+use Rattle.misfits.proofs.Bools.{dir_not_hard}
 use Rattle.misfits.specs.Format.{romfs}
 use Rattle.misfits.specs.Misfit.{HasBadAttribute, attribute, HasNoMisfit, long, deep, many}
 use Rattle.misfits.proofs.Sorted.{AreSorted, HoldAll}
@@ -121,20 +122,7 @@ module _ (m : ManifestLines) (cs : List (List ℕ)) (latest : List Line) (w : Is
 
   folder_is : RootIs m (map length cs) latest → IsFolder (root_of m.lines (map length cs))
   folder_is (bare e) = subst IsFolder (sym e) bare_made
-  folder_is (by_line k e here d names) = subst IsFolder (sym e) (own_folder k here d (not_hard k.word d))
-    where
-      not_hard : (v : Word) → is_dir v ≡ true → is_hard v ≡ false
-      not_hard v d = elim v as (λ x. is_dir x ≡ true → is_hard x ≡ false) [
-        | Dir ↦ λ e. refl
-        | File ↦ λ e. refl
-        | Slink ↦ λ e. refl
-        | Block ↦ λ e. refl
-        | Character ↦ λ e. refl
-        | Fifo ↦ λ e. refl
-        | Socket ↦ λ e. refl
-        | Hard ↦ λ e. absurd (cc)
-        | Same ↦ λ e. refl
-      ] d
+  folder_is (by_line k e here d names) = subst IsFolder (sym e) (own_folder k here d (dir_not_hard k.word d))
 
   tree_is : grown_by m.lines (map length cs) latest ≡ tree_of m.lines (map length cs)
   unfolding tree_of

@@ -5,7 +5,7 @@ use Rattle.std.proofs.lemmas.Bool.Decides.{eqb_tells}
 use Rattle.std.proofs.lemmas.List.{reverse-append}
 use Rattle.std.specs.List.{AllByRecursion as Every}
 use Rattle.record_walk.specs.Members.{Has, Pairs}
-use Rattle.record_walk.proofs.Lists.{every_of, every_join, every_weaker, pairs_pick}
+use Rattle.record_walk.proofs.Lists.{pairs_push, every_of, every_join, every_weaker, pairs_pick}
 use Rattle.manifest.specs.declared.line.Line.{Line}
 use Rattle.manifest.specs.declared.line.Word.{Word}
 use Rattle.manifest.specs.declared.line.Word.TheVariants.{Dir, File, Slink, Block, Character, Fifo, Socket, Hard, Same}
@@ -154,11 +154,6 @@ has_reverse : {X : Type 0} (P : X → Type 0) (xs : List X) → Has P xs → Has
 has_reverse P [] h = absurd h
 has_reverse P (x ∷ xs) h = subst (Has P) (sym (reverse-append (x ∷ []) xs)) (has_push P (reverse xs) x (elim h [ inl p ↦ inr p | inr k ↦ inl (has_reverse P xs k) ]))
 
-pairs_end : {X : Type 0} (R : X → X → Type 0) → (xs : List X) (x : X) → Pairs R xs → Every (λ y. R y x) xs
-    → Pairs R (xs ++ x ∷ [])
-pairs_end R [] x p e = (tt, tt)
-pairs_end R (y ∷ ys) x p e = (every_join (R y) ys (x ∷ []) p.0 (e.0, tt), pairs_end R ys x p.1 e.1)
-
 every_back : {X : Type 0} (P : X → Type 0) (xs : List X) → Every P xs → Every P (reverse xs)
 every_back P [] h = tt
 every_back P (x ∷ xs) h = subst (Every P) (sym (reverse-append (x ∷ []) xs)) (every_join P (reverse xs) (x ∷ []) (every_back P xs h.1) (h.0, tt))
@@ -166,7 +161,7 @@ every_back P (x ∷ xs) h = subst (Every P) (sym (reverse-append (x ∷ []) xs))
 pairs_reverse : {X : Type 0} (R : X → X → Type 0) → ((x y : X) → R x y → R y x) → (xs : List X) → Pairs R xs
     → Pairs R (reverse xs)
 pairs_reverse R flip [] p = tt
-pairs_reverse R flip (x ∷ xs) p = subst (Pairs R) (sym (reverse-append (x ∷ []) xs)) (pairs_end R (reverse xs) x (pairs_reverse R flip xs p.1) (every_weaker (R x) (λ y. R y x) (λ y r. flip x y r) (reverse xs) (every_back (R x) xs p.0)))
+pairs_reverse R flip (x ∷ xs) p = subst (Pairs R) (sym (reverse-append (x ∷ []) xs)) (pairs_push R (reverse xs) x (pairs_reverse R flip xs p.1) (every_weaker (R x) (λ y. R y x) (λ y r. flip x y r) (reverse xs) (every_back (R x) xs p.0)))
 
 leaf_sourced : (m : ManifestLines) (sizes : List ℕ) (latest : List Line) → reverse m.lines ≡ latest
     → m.lines ≡ reverse latest → Pairs (λ l k. l.number ≢ k.number) m.lines

@@ -1,5 +1,5 @@
 -- What each line of a manifest has, whatever stands before it.
-use Rattle.std.proofs.Common.{◌≡◌, ◌≢◌, ℕ, ◌+◌, ◌*◌, ◌<◌, ◌==◌, ◌||◌, nat_lt, Bool, true, false, cond, List, [], ◌∷◌, length, reverse, codes, Option, None, Some, Result, Ok, Err, ◌⊎◌, inl, inr, refl, sym, ap, subst, ◌∙◌, arith}
+use Rattle.std.proofs.Common.{◌≡◌, ◌≢◌, ℕ, ◌+◌, ◌*◌, ◌<◌, ◌==◌, nat_lt, Bool, true, false, cond, List, [], ◌∷◌, length, reverse, codes, Option, None, Some, Result, Ok, Err, ◌⊎◌, inl, inr, refl, sym, ap, subst, ◌∙◌, arith}
 use Rattle.std.proofs.lemmas.Bool.{ltb-true}
 use Rattle.std.proofs.lemmas.Bool.Decides.{eqb_tells}
 use Rattle.std.specs.List.{list_any, AllByRecursion as Every}
@@ -17,6 +17,7 @@ use Rattle.manifest.specs.declared.error.TheConstants.{BAD_WORD, BAD_PATH, EXIST
 use Rattle.manifest.specs.Texts.{pieces, is_empty, is_bad, octal, decimal, digits_from, below}
 use Rattle.manifest.specs.Lines.{ManifestLines}
 use Rattle.manifest.specs.Grammar.{Fault, Fields, Seen, manifest_of, read_lines, read, read_by, read_volume, read_fields, read_numbers, with_line, with_numbers, numbers_of, all_numbers, line_of, fields_of, volume_field, three_fields, five_fields, six_fields, seven_fields, eight_fields, device, device_word, plain_fields, no_mode, zero_text, fault, fault_of, is_skipped, and_then, as_manifest, nothing_read}
+use Rattle.misfits.proofs.Bools.{true_is_not_false, same_some, or_false}
 use Rattle.manifest.proofs.Digits.{stays_small}
 
 abbrev pub is_device : Word → Bool
@@ -37,16 +38,6 @@ pub record IsLine (l : Line) : Type 0 where
 record FieldsFit (f : Fields) : Type 0 where
   numbers : is_device f.word ≡ false → (f.major ≡ zero_text) × (f.minor ≡ zero_text)
   text : is_slink f.word ≡ true → is_empty f.text ≡ false
-
-true_is_not_false : (b : Bool) → b ≡ true → b ≡ false → ⊥
-true_is_not_false b h g = cc
-
-same_some : {X : Type 0} {x y : X} → Some x ≡ Some y → x ≡ y
-same_some e = cc
-
-or_false : (a b : Bool) → (a || b) ≡ false → (a ≡ false) × (b ≡ false)
-or_false true b h = absurd (cc)
-or_false false b h = (refl, h)
 
 -- fields of a line that is no device, and no link or with a text
 plain_fit : (w : Word) (path mode uid gid align text : List ℕ) → (is_slink w ≡ true → is_empty text ≡ false)
