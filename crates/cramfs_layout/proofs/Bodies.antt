@@ -23,7 +23,9 @@ use Rattle.cramfs_layout.proofs.Stands.{empty, at_place, is_placed, folder_list}
 use Rattle.cramfs_layout.proofs.Sound.{IsTable, table_is}
 
 -- a file with data, or a link
-data_body : (o : Order) (b : List ℕ) (p size t : ℕ) → is_kind (type_of o b p) ≡ true → type_of o b p ≢ 4 → (type_of o b p ≡ 10 → (1 ≤ size) × (size ≤ 4095)) → size_of o b p ≡ size → offset_of o b p ≡ t → (0 < size → IsTable o b t size) → has_kinds (word o b 8) ≡ true → HasBody o b p
+data_body : (o : Order) (b : List ℕ) (p size t : ℕ) → is_kind (type_of o b p) ≡ true → type_of o b p ≢ 4
+    → (type_of o b p ≡ 10 → (1 ≤ size) × (size ≤ 4095)) → size_of o b p ≡ size → offset_of o b p ≡ t
+    → (0 < size → IsTable o b t size) → has_kinds (word o b 8) ≡ true → HasBody o b p
 unfolding pointer_place
 data_body o b p size t kind other sized s e table flag = record {
   kind = kind;
@@ -40,7 +42,8 @@ data_body o b p size t kind other sized s e table flag = record {
 }
 
 -- one without
-bare_body : (o : Order) (b : List ℕ) (p : ℕ) → is_kind (type_of o b p) ≡ true → type_of o b p ≢ 4 → type_of o b p ≢ 10 → has_data (type_of o b p) ≡ false → HasBody o b p
+bare_body : (o : Order) (b : List ℕ) (p : ℕ) → is_kind (type_of o b p) ≡ true → type_of o b p ≢ 4 → type_of o b p ≢ 10
+    → has_data (type_of o b p) ≡ false → HasBody o b p
 bare_body o b p kind other sized bare = record {
   kind = kind;
   link_size = λ z. absurd (sized z);
@@ -50,7 +53,9 @@ bare_body o b p kind other sized bare = record {
   blocks = λ z. absurd (false≢true (sym bare ∙ z));
 }
 
-body_by : (k : Kind) (o : Order) (b : List ℕ) (p t : ℕ) (i : Inode) → FitsKind k i → type_of o b p ≡ type_bits k → size_of o b p ≡ size_by k i → offset_of o b p ≡ t → (0 < i.size → IsTable o b t i.size) → has_kinds (word o b 8) ≡ true → HasBody o b p
+body_by : (k : Kind) (o : Order) (b : List ℕ) (p t : ℕ) (i : Inode) → FitsKind k i → type_of o b p ≡ type_bits k
+    → size_of o b p ≡ size_by k i → offset_of o b p ≡ t → (0 < i.size → IsTable o b t i.size)
+    → has_kinds (word o b 8) ≡ true → HasBody o b p
 body_by Directory o b p t i h ty s e table flag = absurd h
 body_by Regular o b p t i h ty s e table flag = data_body o b p i.size t (rw ty refl) (λ z. absurd (omega (arith, ty, z))) (λ z. absurd (omega (arith, ty, z))) s e table flag
 body_by Symlink o b p t i h ty s e table flag = data_body o b p i.size t (rw ty refl) (λ z. absurd (omega (arith, ty, z))) (λ z. (h.2, h.3)) s e table flag
@@ -59,7 +64,8 @@ body_by Character o b p t i h ty s e table flag = bare_body o b p (rw ty refl) (
 body_by Socket o b p t i h ty s e table flag = bare_body o b p (rw ty refl) (λ z. absurd (omega (arith, ty, z))) (λ z. absurd (omega (arith, ty, z))) (rw ty refl)
 body_by Fifo o b p t i h ty s e table flag = bare_body o b p (rw ty refl) (λ z. absurd (omega (arith, ty, z))) (λ z. absurd (omega (arith, ty, z))) (rw ty refl)
 
-folder_body : (o : Order) (b : List ℕ) (p offset size : ℕ) → type_of o b p ≡ 4 → offset_of o b p ≡ offset → size_of o b p ≡ size → (0 < size → (76 ≤ offset) × (offset + size ≤ length b)) → HasBody o b p
+folder_body : (o : Order) (b : List ℕ) (p offset size : ℕ) → type_of o b p ≡ 4 → offset_of o b p ≡ offset
+    → size_of o b p ≡ size → (0 < size → (76 ≤ offset) × (offset + size ≤ length b)) → HasBody o b p
 folder_body o b p offset size ty e s lies = record {
   kind = rw ty refl;
   link_size = λ z. absurd (omega (arith, ty, z));
@@ -74,12 +80,15 @@ folder_body o b p offset size ty e s lies = record {
 every_contains : (xs : List ℕ) → Every (λ x. x ≢ 0) xs → Contains xs 0 → ⊥
 every_contains xs h c = All-contains (λ x. x ≢ 0) xs 0 (All-from_recursion (λ x. x ≢ 0) xs h) c refl
 
-is_name : (o : Order) (b : List ℕ) (p : ℕ) (name : List ℕ) → name_of o b p ≡ name → IsWritten name → IsName (name_of o b p)
+is_name : (o : Order) (b : List ℕ) (p : ℕ) (name : List ℕ) → name_of o b p ≡ name → IsWritten name
+    → IsName (name_of o b p)
 is_name o b p name e w = subst IsName (sym e) (record { some = w.named; no_zero = every_contains name w.no_zero; no_slash = w.no_slash })
 
 -- each row of a list is sound, where the reference to it is the pair of directory and place
-pub all_sound : (o : Order) (b : List ℕ) (cs : List (List ℕ)) (high : ℕ) (x : Reference) (d up depth l : ℕ) (s : State) (n : Names) → AreWell cs n → AllRead o b cs high l s n → has_kinds (word o b 8) ≡ true
-    → high ≤ length b → high ≤ 2 ^ 28 → (after_names s n).at ≤ high → 76 ≤ s.at → x.source ≡ d → x.which ≡ l → d ≢ 0 → 0 < l → list_end o b d ≡ l + list_len n
+pub all_sound : (o : Order) (b : List ℕ) (cs : List (List ℕ)) (high : ℕ) (x : Reference) (d up depth l : ℕ) (s : State) (n : Names)
+    → AreWell cs n → AllRead o b cs high l s n → has_kinds (word o b 8) ≡ true
+    → high ≤ length b → high ≤ 2 ^ 28 → (after_names s n).at ≤ high → 76 ≤ s.at → x.source ≡ d → x.which ≡ l → d ≢ 0
+    → 0 < l → list_end o b d ≡ l + list_len n
     → Every (λ (y : Row). LeadsToSound o b y.reference) (rows (references o b) x d up depth (spots l s n))
 unfolding list_start
 all_sound o b cs high x d up depth l s nothing h r flag within top fits low xs xw live pos e = tt

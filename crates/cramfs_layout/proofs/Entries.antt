@@ -19,7 +19,8 @@ use Rattle.cramfs_layout.specs.Layout.{word_bytes, packed, pad4, type_bits, entr
 use Rattle.cramfs_layout.specs.Reads.{IsEntry, ReadsEntry}
 
 -- a word that stands at a place is read there
-pub word_has : (o : Order) (b : List ℕ) (p x : ℕ) (more : List ℕ) → x < 2 ^ 32 → HasAt b p (word_bytes o x ++ more) → word o b p ≡ x
+pub word_has : (o : Order) (b : List ℕ) (p x : ℕ) (more : List ℕ) → x < 2 ^ 32 → HasAt b p (word_bytes o x ++ more)
+    → word o b p ≡ x
 unfolding word word_be word_le
 word_has Little b p x more h (back, e) = ap (little_number 4) (e ∙ append_assoc (little_bytes 4 x) more back) ∙ little_number-reads_back 4 x (more ++ back) (omega arith)
 word_has Big b p x more h (back, e) = ap (big_number 4) (e ∙ append_assoc (big_bytes 4 x) more back) ∙ big_number-reads_back 4 x (more ++ back) (omega arith)
@@ -29,15 +30,18 @@ length-word Little x = refl
 length-word Big x = refl
 
 -- the two fields of a packed word
-packed16 : (o : Order) (x y : ℕ) → x < 2 ^ 16 → y < 2 ^ 16 → (packed o 16 x y < 2 ^ 32) × (first_field o 16 (packed o 16 x y) ≡ x) × (field_after o 16 (packed o 16 x y) ≡ y)
+packed16 : (o : Order) (x y : ℕ) → x < 2 ^ 16 → y < 2 ^ 16
+    → (packed o 16 x y < 2 ^ 32) × (first_field o 16 (packed o 16 x y) ≡ x) × (field_after o 16 (packed o 16 x y) ≡ y)
 packed16 Little x y h k = (omega arith, omega arith, omega arith)
 packed16 Big x y h k = (omega arith, omega arith, omega arith)
 
-packed24 : (o : Order) (x y : ℕ) → x < 2 ^ 24 → y < 2 ^ 8 → (packed o 24 x y < 2 ^ 32) × (first_field o 24 (packed o 24 x y) ≡ x) × (field_after o 24 (packed o 24 x y) ≡ y)
+packed24 : (o : Order) (x y : ℕ) → x < 2 ^ 24 → y < 2 ^ 8
+    → (packed o 24 x y < 2 ^ 32) × (first_field o 24 (packed o 24 x y) ≡ x) × (field_after o 24 (packed o 24 x y) ≡ y)
 packed24 Little x y h k = (omega arith, omega arith, omega arith)
 packed24 Big x y h k = (omega arith, omega arith, omega arith)
 
-packed6 : (o : Order) (x y : ℕ) → x < 2 ^ 6 → y < 2 ^ 26 → (packed o 6 x y < 2 ^ 32) × (first_field o 6 (packed o 6 x y) ≡ x) × (field_after o 6 (packed o 6 x y) ≡ y)
+packed6 : (o : Order) (x y : ℕ) → x < 2 ^ 6 → y < 2 ^ 26
+    → (packed o 6 x y < 2 ^ 32) × (first_field o 6 (packed o 6 x y) ≡ x) × (field_after o 6 (packed o 6 x y) ≡ y)
 packed6 Little x y h k = (omega arith, omega arith, omega arith)
 packed6 Big x y h k = (omega arith, omega arith, omega arith)
 
@@ -59,12 +63,14 @@ kind_small Character = omega arith
 kind_small Socket = omega arith
 kind_small Fifo = omega arith
 
-pub length-entry : (o : Order) (name : List ℕ) (i : Inode) (size offset : ℕ) → length (entry_bytes o name i size offset) ≡ entry_len name
+pub length-entry : (o : Order) (name : List ℕ) (i : Inode) (size offset : ℕ)
+    → length (entry_bytes o name i size offset) ≡ entry_len name
 unfolding entry_bytes
 length-entry Little name i size offset = omega (arith, length-append name (replicate (pad4 (length name) - length name) 0), length-replicate {A = ℕ} (pad4 (length name) - length name) 0)
 length-entry Big name i size offset = omega (arith, length-append name (replicate (pad4 (length name) - length name) 0), length-replicate {A = ℕ} (pad4 (length name) - length name) 0)
 
-pub entry_reads : (o : Order) (b : List ℕ) (p : ℕ) (name : List ℕ) (i : Inode) (size offset : ℕ) → IsEntry name i size offset → HasAt b p (entry_bytes o name i size offset) → ReadsEntry o b p name i size offset
+pub entry_reads : (o : Order) (b : List ℕ) (p : ℕ) (name : List ℕ) (i : Inode) (size offset : ℕ)
+    → IsEntry name i size offset → HasAt b p (entry_bytes o name i size offset) → ReadsEntry o b p name i size offset
 unfolding entry_bytes type_of mode_of uid_of size_of gid_of offset_of name_of name_room end_of
 entry_reads o b p name i size offset h has =
     let mode = type_bits i.kind * 4096 + i.mode in

@@ -28,7 +28,8 @@ blocks_none : (k place : ℕ) → blocks k place 0 ≡ []
 blocks_none zero place = refl
 blocks_none (suc k) place = blocks_none k (place + 4096)
 
-blocks_climb : (k place size to : ℕ) (more : List Span) → size ≤ 4096 * k → Climbs (place + size) to more → Climbs place to (blocks k place size ++ more)
+blocks_climb : (k place size to : ℕ) (more : List Span) → size ≤ 4096 * k → Climbs (place + size) to more
+    → Climbs place to (blocks k place size ++ more)
 blocks_climb zero place size to more l c = climbs_later place (place + size) to more (omega arith) c
 blocks_climb (suc k) place size to more l c =
     let m = min 4096 size in
@@ -59,7 +60,8 @@ spans s (leaf name i rest) = file_spans (kept s.tables i) s i ++ spans (after_fi
 spans s (link name i rest) = file_spans (kept s.tables i) s i ++ spans (after_file s i) rest
 spans s (folder name i own rest) = added ListOf (pad4 s.at) (list_len own) ++ (spans (after_list s own) own ++ spans (after_names (after_list s own) own) rest)
 
-file_climbs : (cs : List (List ℕ)) (s : State) (i : Inode) (k : Kept) (to : ℕ) (more : List Span) → IsFile cs i → Climbs (after_by k s i).at to more → Climbs s.at to (file_spans k s i ++ more)
+file_climbs : (cs : List (List ℕ)) (s : State) (i : Inode) (k : Kept) (to : ℕ) (more : List Span) → IsFile cs i
+    → Climbs (after_by k s i).at to more → Climbs s.at to (file_spans k s i ++ more)
 file_climbs cs s i nowhere to more h c = c
 file_climbs cs s i (shared t) to more h c = c
 file_climbs cs s i fresh to more h c =
@@ -70,11 +72,13 @@ file_climbs cs s i fresh to more h c =
     subst (λ (xs : List Span). Climbs s.at to xs) (sym (append_assoc (added TableOf (pad4 s.at) (4 * n)) bs more))
     (climbs_added TableOf s.at (pad4 s.at) (4 * n) to (bs ++ more) (omega arith) (climbs_later (pad4 s.at + 4 * n) (data_of s.at i) to (bs ++ more) d0 (blocks_climb n (data_of s.at i) i.size to more (omega arith) c)))
 
-climbs_join : (from mid to : ℕ) (xs ys : List Span) → Climbs from mid xs → Climbs mid to ys → Climbs from to (xs ++ ys)
+pub climbs_join : (from mid to : ℕ) (xs ys : List Span) → Climbs from mid xs → Climbs mid to ys
+    → Climbs from to (xs ++ ys)
 climbs_join from mid to [] ys h k = climbs_later from mid to ys h k
 climbs_join from mid to (x ∷ xs) ys h k = (h.0, climbs_join (x.start + x.len) mid to xs ys h.1 k)
 
-pub spans_climb : (cs : List (List ℕ)) (s : State) (n : Names) → AreWell cs n → Climbs s.at (after_names s n).at (spans s n)
+pub spans_climb : (cs : List (List ℕ)) (s : State) (n : Names) → AreWell cs n
+    → Climbs s.at (after_names s n).at (spans s n)
 spans_climb cs s nothing h = omega arith
 spans_climb cs s (leaf name i rest) h = file_climbs cs s i (kept s.tables i) (after_names (after_file s i) rest).at (spans (after_file s i) rest) h.1 (spans_climb cs (after_file s i) rest h.2)
 spans_climb cs s (link name i rest) h = absurd h
@@ -88,7 +92,7 @@ spans_climb cs s (folder name i own rest) h =
 abbrev pub AreDisjoint : Span → Span → Type 0
 AreDisjoint x y = (p : ℕ) → x.start ≤ p → p < x.start + x.len → y.start ≤ p → p < y.start + y.len → ⊥
 
-climbs_from : (from to : ℕ) (xs : List Span) → Climbs from to xs → Every (λ (y : Span). from ≤ y.start) xs
+pub climbs_from : (from to : ℕ) (xs : List Span) → Climbs from to xs → Every (λ (y : Span). from ≤ y.start) xs
 climbs_from from to [] c = tt
 climbs_from from to (x ∷ xs) c = let a = c.0 in (a, every_weaker (λ (y : Span). x.start + x.len ≤ y.start) (λ (y : Span). from ≤ y.start) (λ y l. omega arith) xs (climbs_from (x.start + x.len) to xs c.1))
 
@@ -97,7 +101,9 @@ climbs_disjoint from to [] c = tt
 climbs_disjoint from to (x ∷ xs) c = (every_weaker (λ (y : Span). x.start + x.len ≤ y.start) (AreDisjoint x) (λ y l p a u v w. omega arith) xs (climbs_from (x.start + x.len) to xs c.1), climbs_disjoint (x.start + x.len) to xs c.1)
 
 -- extents that are all among disjoint ones, and not one but where they may be, do not overlap
-pub no_overlap : (o : Order) (b : List ℕ) (all : List Row) (ps : List Span) (p : ℕ) → Pairs (ListsApart o b) all → Pairs AreDisjoint ps → Every (λ e. Has (λ z. z ≡ e) ps) (extents_of o b all) → OverlapsAt (extents_of o b all) p → ⊥
+pub no_overlap : (o : Order) (b : List ℕ) (all : List Row) (ps : List Span) (p : ℕ) → Pairs (ListsApart o b) all
+    → Pairs AreDisjoint ps → Every (λ e. Has (λ z. z ≡ e) ps) (extents_of o b all) → OverlapsAt (extents_of o b all) p
+    → ⊥
 no_overlap o b all ps p lists apart among over =
     let k = overlaps_in (extents_of o b all) p (extents_pairs o b all lists) over in
     let one = has_of (λ e. Has (λ z. z ≡ e) ps) (extents_of o b all) k.one k.one_in among in

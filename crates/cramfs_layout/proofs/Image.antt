@@ -1,7 +1,7 @@
 -- A planned volume, laid out, is a cramfs image.
 use Rattle.std.proofs.Common.{◌≡◌, ℕ, zero, suc, ◌+◌, ◌-◌, ◌/◌, ◌%◌, ◌^◌, ◌<◌, ◌≤◌, true, false, eqb, if◌then◌else◌, ◌⊎◌, List, [], ◌∷◌, ◌++◌, length, take, drop, replicate, refl, sym, ap, subst, ◌∙◌, arith, inl, inr, length-append}
 use Rattle.std.proofs.lemmas.List.{take_all, length-replicate, append-nil, drop-drop}
-use Rattle.std.proofs.lemmas.Nat.{xor_lt, div-add-mod', mod_below}
+use Rattle.std.proofs.lemmas.Nat.{xor_lt}
 use Rattle.std.specs.Int.Bits.{bit_xor}
 use Rattle.cramfs_format.specs.Order.{word}
 use Rattle.cramfs_format.specs.declared.order.Order.{Order}
@@ -13,7 +13,7 @@ use Rattle.cramfs_format.specs.Tree.{CramfsTree, tree_of}
 use Rattle.image_parts.specs.Parts.{Part, end_of_part, with_part, laid, Rises, end_of_parts, HasAt, HasParts}
 use Rattle.name_tree.specs.Names.{Inode, Names, nothing, leaf, link, folder}
 use Rattle.image_parts.specs.Parts.{part}
-use Rattle.image_parts.specs.Padding.{pad}
+use Rattle.image_parts.proofs.Padding.{pad-after}
 use Rattle.image_parts.proofs.Parts.{HasParts-laid, length-laid, laid_keeps}
 use Rattle.image_parts.proofs.Parts.{HasAt-before, HasAt-after, HasAt-moved}
 use Rattle.cramfs_layout.specs.Layout.{word_bytes, entry_bytes, list_len, list_bytes, root_offset, count, first_state, after_names, parts, flags, size_of, superblock, with_crc, layout, type_bits}
@@ -47,7 +47,8 @@ record Says (o : Order) (b : List ℕ) (size w : ℕ) : Type 0 where
   flags_are : word o b 8 ≡ flags
   crc_is : word o b 32 ≡ w
 
-front_says : (o : Order) (b : List ℕ) (size w : ℕ) (back : List ℕ) → b ≡ front o size (word_bytes o w ++ back) → size < 2 ^ 32 → w < 2 ^ 32 → Says o b size w
+front_says : (o : Order) (b : List ℕ) (size w : ℕ) (back : List ℕ) → b ≡ front o size (word_bytes o w ++ back)
+    → size < 2 ^ 32 → w < 2 ^ 32 → Says o b size w
 front_says o b size w back e small low =
     let t4 = word_bytes o 0 ++ (signature ++ (word_bytes o w ++ back)) in
     let t3 = word_bytes o flags ++ t4 in
@@ -70,7 +71,8 @@ front_says o b size w back e small low =
     }
 
 -- behind the crc the parts are as they were laid
-moved_by : (o : Order) (size w v : ℕ) (back : List ℕ) (p : ℕ) (bytes : List ℕ) → 36 ≤ p → HasAt (front o size (word_bytes o v ++ back)) p bytes → HasAt (front o size (word_bytes o w ++ back)) p bytes
+moved_by : (o : Order) (size w v : ℕ) (back : List ℕ) (p : ℕ) (bytes : List ℕ) → 36 ≤ p
+    → HasAt (front o size (word_bytes o v ++ back)) p bytes → HasAt (front o size (word_bytes o w ++ back)) p bytes
 moved_by o size w v back p bytes l (more, e) =
     let a = front o size (word_bytes o w ++ back) in
     let c = front o size (word_bytes o v ++ back) in
@@ -78,7 +80,8 @@ moved_by o size w v back p bytes l (more, e) =
     let same : drop p a ≡ drop p c = ap (λ (q : ℕ). drop q a) k ∙ sym (drop-drop (p - 36) 36 a) ∙ ap (drop (p - 36)) (drop_crc o size w back ∙ sym (drop_crc o size v back)) ∙ drop-drop (p - 36) 36 c ∙ ap (λ (q : ℕ). drop q c) (sym k) in
     (more, same ∙ e)
 
-parts_moved : (o : Order) (size w v : ℕ) (back : List ℕ) (from : ℕ) (ps : List Part) → 36 ≤ from → Rises from ps → HasParts (front o size (word_bytes o v ++ back)) ps → HasParts (front o size (word_bytes o w ++ back)) ps
+parts_moved : (o : Order) (size w v : ℕ) (back : List ℕ) (from : ℕ) (ps : List Part) → 36 ≤ from → Rises from ps
+    → HasParts (front o size (word_bytes o v ++ back)) ps → HasParts (front o size (word_bytes o w ++ back)) ps
 parts_moved o size w v back from [] l r h = tt
 parts_moved o size w v back from (p ∷ ps) l r h =
     let a = r.0 in
@@ -88,7 +91,8 @@ parts_front : (b : List ℕ) (ps qs : List Part) → HasParts b (ps ++ qs) → H
 parts_front b [] qs h = tt
 parts_front b (p ∷ ps) qs h = (h.0, parts_front b ps qs h.1)
 
-rises_end : (from to size : ℕ) (ps : List Part) → Rises from ps → end_of_parts from ps ≡ to → to ≤ size → Rises from (ps ++ part size [] ∷ []) × (end_of_parts from (ps ++ part size [] ∷ []) ≡ size)
+rises_end : (from to size : ℕ) (ps : List Part) → Rises from ps → end_of_parts from ps ≡ to → to ≤ size
+    → Rises from (ps ++ part size [] ∷ []) × (end_of_parts from (ps ++ part size [] ∷ []) ≡ size)
 rises_end from to size [] r e l = ((omega (arith, e), tt), omega arith)
 rises_end from to size (p ∷ ps) r e l = let k = rises_end (end_of_part p) to size ps r.1 e l in ((r.0, k.0), k.1)
 
@@ -104,10 +108,8 @@ root_small (leaf name i after) high l m = (omega arith, refl)
 root_small (link name i after) high l m = (omega arith, refl)
 root_small (folder name i own after) high l m = (omega arith, refl)
 
-padded : (n k : ℕ) → n ≤ pad n 4096
-padded n k = omega (arith, div-add-mod' (n + 4095) 4096, mod_below (n + 4095) 4096 (omega arith))
-
-length_super : (o : Order) (volume : List ℕ) (root : Inode) (n : Names) → length volume ≤ 16 → length (superblock o volume root n) ≡ 76
+length_super : (o : Order) (volume : List ℕ) (root : Inode) (n : Names) → length volume ≤ 16
+    → length (superblock o volume root n) ≡ 76
 unfolding superblock
 length_super Little volume root n l =
     let entry = entry_bytes Little [] root (list_len n) (root_offset n) in
@@ -118,11 +120,13 @@ length_super Big volume root n l =
     let zeros = replicate {A = ℕ} (16 - length volume) 0 in
     omega (arith, length-append volume (zeros ++ entry), length-append zeros entry, length-replicate {A = ℕ} (16 - length volume) 0, length-entry Big [] root (list_len n) (root_offset n))
 
-length_front : (o : Order) (size w : ℕ) (back : List ℕ) → length (front o size (word_bytes o w ++ back)) ≡ 36 + length back
+length_front : (o : Order) (size w : ℕ) (back : List ℕ)
+    → length (front o size (word_bytes o w ++ back)) ≡ 36 + length back
 length_front Little size w back = omega arith
 length_front Big size w back = omega arith
 
-root_at : (o : Order) (b volume : List ℕ) (root : Inode) (n : Names) (more : List ℕ) → length volume ≤ 16 → HasAt b 36 (behind o volume root n more) → HasAt b 64 (entry_bytes o [] root (list_len n) (root_offset n))
+root_at : (o : Order) (b volume : List ℕ) (root : Inode) (n : Names) (more : List ℕ) → length volume ≤ 16
+    → HasAt b 36 (behind o volume root n more) → HasAt b 64 (entry_bytes o [] root (list_len n) (root_offset n))
 root_at o b volume root n more l h =
     let entry = entry_bytes o [] root (list_len n) (root_offset n) in
     let zeros = replicate {A = ℕ} (16 - length volume) 0 in
@@ -146,7 +150,8 @@ pub record IsImage (o : Order) (b : List ℕ) (root : Inode) (n : Names) (cs : L
   pub read : ReadsEntry o b 64 [] root (list_len n) (root_offset n)
   pub long : length b ≡ size_of n
 
-pub is_image : (o : Order) (volume : List ℕ) (root : Inode) (n : Names) (cs : List (List ℕ)) → IsPlanned volume root n cs → IsImage o (layout o volume root n cs) root n cs
+pub is_image : (o : Order) (volume : List ℕ) (root : Inode) (n : Names) (cs : List (List ℕ))
+    → IsPlanned volume root n cs → IsImage o (layout o volume root n cs) root n cs
 unfolding layout with_part size_of accessible_size HasCrc superblock
 is_image o volume root n cs h =
     let s = first_state n in
@@ -161,7 +166,7 @@ is_image o volume root n cs h =
     let end = part size [] ∷ [] in
     let u = laid [] (part 0 sb ∷ list ∷ (rest ++ end)) in
     let low = names_onward cs s n h.well in
-    let up : high ≤ size = padded high 0 in
+    let up : high ≤ size = pad-after high 4096 (omega arith) in
     let lsb = length_super o volume root n short in
     let ll = length-list o s n in
     let are = parts_are o cs s n h.well in
@@ -233,7 +238,9 @@ is_image o volume root n cs h =
       long = lb;
     }
 
-pub has_tree : (o : Order) (volume : List ℕ) (root : Inode) (n : Names) (cs : List (List ℕ)) → IsPlanned volume root n cs → CramfsTree o (layout o volume root n cs) (2 ^ 20) 64 (tree_of o (layout o volume root n cs) (all_spots n))
+pub has_tree : (o : Order) (volume : List ℕ) (root : Inode) (n : Names) (cs : List (List ℕ))
+    → IsPlanned volume root n cs
+    → CramfsTree o (layout o volume root n cs) (2 ^ 20) 64 (tree_of o (layout o volume root n cs) (all_spots n))
 has_tree o volume root n cs h =
     let b = layout o volume root n cs in
     let i = is_image o volume root n cs h in
@@ -245,5 +252,6 @@ has_tree o volume root n cs h =
       same = refl;
     }
 
-pub has_length : (o : Order) (volume : List ℕ) (root : Inode) (n : Names) (cs : List (List ℕ)) → IsPlanned volume root n cs → length (layout o volume root n cs) ≡ size_of n
+pub has_length : (o : Order) (volume : List ℕ) (root : Inode) (n : Names) (cs : List (List ℕ))
+    → IsPlanned volume root n cs → length (layout o volume root n cs) ≡ size_of n
 has_length o volume root n cs h = (is_image o volume root n cs h).long

@@ -34,14 +34,17 @@ use Rattle.cramfs_layout.proofs.Extents.{blocks, file_spans, spans}
 abbrev pub HasListIn : Order → List ℕ → ℕ → ℕ → Row → Type 0
 HasListIn o b from to y = type_of o b y.offset ≡ 4 → 0 < size_of o b y.offset → (from ≤ offset_of o b y.offset) × (offset_of o b y.offset < to)
 
-lists_wider : (o : Order) (b : List ℕ) (from to low high : ℕ) (y : Row) → low ≤ from → to ≤ high → HasListIn o b from to y → HasListIn o b low high y
+lists_wider : (o : Order) (b : List ℕ) (from to low high : ℕ) (y : Row) → low ≤ from → to ≤ high
+    → HasListIn o b from to y → HasListIn o b low high y
 lists_wider o b from to low high y l m h t s = let k = h t s in let u = k.0 in let v = k.1 in (omega arith, omega arith)
 
 -- the list of a folder
-own_list : (o : Order) (b : List ℕ) (p : ℕ) (s : State) (own : Names) → offset_of o b p ≡ list_offset s.at own → size_of o b p ≡ list_len own → 0 < size_of o b p → offset_of o b p ≡ pad4 s.at
+own_list : (o : Order) (b : List ℕ) (p : ℕ) (s : State) (own : Names) → offset_of o b p ≡ list_offset s.at own
+    → size_of o b p ≡ list_len own → 0 < size_of o b p → offset_of o b p ≡ pad4 s.at
 own_list o b p s own e f l = elim (is_placed s.at own) [ empty z ↦ let y : list_len own ≡ 0 = ap list_len z in absurd (omega (arith, f, l, y)) | at_place z ↦ e ∙ z ]
 
-pub lists_in : (o : Order) (b : List ℕ) (cs : List (List ℕ)) (high : ℕ) (x : Reference) (d up depth l : ℕ) (s : State) (n : Names) → AreWell cs n → AllRead o b cs high l s n
+pub lists_in : (o : Order) (b : List ℕ) (cs : List (List ℕ)) (high : ℕ) (x : Reference) (d up depth l : ℕ) (s : State) (n : Names)
+    → AreWell cs n → AllRead o b cs high l s n
     → Every (HasListIn o b s.at (after_names s n).at) (rows (references o b) x d up depth (spots l s n))
 lists_in o b cs high x d up depth l s nothing h r = tt
 lists_in o b cs high x d up depth l s (leaf name i rest) h r =
@@ -68,7 +71,8 @@ lists_in o b cs high x d up depth l s (folder name i own rest) h r =
           (every_weaker (HasListIn o b s'.at t) (HasListIn o b s.at t) (λ y k. lists_wider o b s'.at t s.at t y (omega (arith, a)) (omega arith) k) rest_rows (lists_in o b cs high (g.after x) d up depth (l + entry_len name) s' rest h.3 r.2)),
     )
 
-pub lists_apart : (o : Order) (b : List ℕ) (cs : List (List ℕ)) (high : ℕ) (x : Reference) (d up depth l : ℕ) (s : State) (n : Names) → AreWell cs n → AllRead o b cs high l s n
+pub lists_apart : (o : Order) (b : List ℕ) (cs : List (List ℕ)) (high : ℕ) (x : Reference) (d up depth l : ℕ) (s : State) (n : Names)
+    → AreWell cs n → AllRead o b cs high l s n
     → Pairs (ListsApart o b) (rows (references o b) x d up depth (spots l s n))
 lists_apart o b cs high x d up depth l s nothing h r = tt
 lists_apart o b cs high x d up depth l s (leaf name i rest) h r =
@@ -101,7 +105,8 @@ lists_apart o b cs high x d up depth l s (folder name i own rest) h r =
 abbrev pub table_spans : Order → List ℕ → ℕ → ℕ → List Span
 table_spans o b t size = added TableOf t (4 * block_count size) ++ data_from o b (block_count size) t size
 
-data_is : (o : Order) (b : List ℕ) (k q p size : ℕ) → ((i : ℕ) → i < k → block_start (word o b (q + 4 * i)) ≡ p + 4096 * i) → data_from o b k q size ≡ blocks k p size
+data_is : (o : Order) (b : List ℕ) (k q p size : ℕ)
+    → ((i : ℕ) → i < k → block_start (word o b (q + 4 * i)) ≡ p + 4096 * i) → data_from o b k q size ≡ blocks k p size
 data_is o b zero q p size f = refl
 data_is o b (suc k) q p size f =
     let e : q + 4 * 0 ≡ q = omega arith in
@@ -113,12 +118,16 @@ data_is o b (suc k) q p size f =
 abbrev pub TableKnown : Order → List ℕ → List (List ℕ) → (Span → Type 0) → Table → Type 0
 TableKnown o b cs Q x = Every Q (table_spans o b x.place (length (bytes_of cs (source x.source))))
 
-known_more : (P : Table → Type 0) (o : Order) (b : List ℕ) (cs : List (List ℕ)) (Q : Span → Type 0) (p : ℕ) (f : Fill) (ts : List Table) → Every Q (table_spans o b p (length (bytes_of cs f))) → Every (TableKnown o b cs Q) ts → Every (TableKnown o b cs Q) (with_table f p ts)
+known_more : (P : Table → Type 0) (o : Order) (b : List ℕ) (cs : List (List ℕ)) (Q : Span → Type 0) (p : ℕ) (f : Fill) (ts : List Table)
+    → Every Q (table_spans o b p (length (bytes_of cs f))) → Every (TableKnown o b cs Q) ts
+    → Every (TableKnown o b cs Q) (with_table f p ts)
 known_more P o b cs Q p no_bytes ts h k = k
 known_more P o b cs Q p (text x) ts h k = k
 known_more P o b cs Q p (source n) ts h k = (h, k)
 
-file_known : (o : Order) (b : List ℕ) (cs : List (List ℕ)) (Q : Span → Type 0) (s : State) (i : Inode) (k : Kept) → IsFile cs i → kept s.tables i ≡ k → (after_by k s i).at ≤ 2 ^ 28 → HasParts b (file_parts o cs k s i) → Every Q (file_spans k s i) → Every (TableKnown o b cs Q) s.tables
+file_known : (o : Order) (b : List ℕ) (cs : List (List ℕ)) (Q : Span → Type 0) (s : State) (i : Inode) (k : Kept)
+    → IsFile cs i → kept s.tables i ≡ k → (after_by k s i).at ≤ 2 ^ 28 → HasParts b (file_parts o cs k s i)
+    → Every Q (file_spans k s i) → Every (TableKnown o b cs Q) s.tables
     → Every Q (table_spans o b (table_by k s.at) i.size) × Every (TableKnown o b cs Q) (after_by k s i).tables
 unfolding kept
 file_known o b cs Q s i nowhere h e fits has q st = (
@@ -163,7 +172,9 @@ sized_by Socket i e = refl
 sized_by Fifo i e = refl
 
 -- the extents of a row are known
-file_row : (o : Order) (b : List ℕ) (cs : List (List ℕ)) (Q : Span → Type 0) (y : Row) (name : List ℕ) (i : Inode) (t : ℕ) → IsFile cs i → ReadsEntry o b y.offset name i (size_by i.kind i) t → Every Q (table_spans o b t i.size) → Every Q (row_extents o b y)
+file_row : (o : Order) (b : List ℕ) (cs : List (List ℕ)) (Q : Span → Type 0) (y : Row) (name : List ℕ) (i : Inode) (t : ℕ)
+    → IsFile cs i → ReadsEntry o b y.offset name i (size_by i.kind i) t → Every Q (table_spans o b t i.size)
+    → Every Q (row_extents o b y)
 unfolding file_extents
 file_row o b cs Q y name i t h r q = row_every Q o b y (λ z. absurd (type_by i.kind i h.kind (sym r.type ∙ z)))
     (λ z. let s : size_of o b y.offset ≡ i.size = r.size_is ∙ sized_by i.kind i (ap has_data (sym r.type) ∙ z) in
@@ -179,8 +190,10 @@ pub added_known : (Q : Span → Type 0) (p n v w : ℕ) → v ≡ p → w ≡ n 
 added_known Q p zero v w e f z q = absurd (omega (arith, f, z))
 added_known Q p (suc n) v w e f z q = subst (λ (m : ℕ). Q (record { kind = ListOf; start = m; len = w })) (sym e) (subst (λ (m : ℕ). Q (record { kind = ListOf; start = p; len = m })) (sym f) q.0)
 
-pub known : (o : Order) (b : List ℕ) (cs : List (List ℕ)) (Q : Span → Type 0) (high : ℕ) (x : Reference) (d up depth l : ℕ) (s : State) (n : Names) → AreWell cs n → AllRead o b cs high l s n → (after_names s n).at ≤ 2 ^ 28 → HasParts b (parts o cs s n)
-    → Every Q (spans s n) → Every (TableKnown o b cs Q) s.tables → AreKnown o b cs Q (rows (references o b) x d up depth (spots l s n)) (after_names s n).tables
+pub known : (o : Order) (b : List ℕ) (cs : List (List ℕ)) (Q : Span → Type 0) (high : ℕ) (x : Reference) (d up depth l : ℕ) (s : State) (n : Names)
+    → AreWell cs n → AllRead o b cs high l s n → (after_names s n).at ≤ 2 ^ 28 → HasParts b (parts o cs s n)
+    → Every Q (spans s n) → Every (TableKnown o b cs Q) s.tables
+    → AreKnown o b cs Q (rows (references o b) x d up depth (spots l s n)) (after_names s n).tables
 known o b cs Q high x d up depth l s nothing h r fits has q st = record { rows_known = tt; tables = st }
 known o b cs Q high x d up depth l s (leaf name i rest) h r fits has q st =
     let g = references o b in

@@ -13,4 +13,6 @@ pub mod Image
 pub mod Values
 pub mod Paths
 pub mod Shaped
+pub mod Regions
+pub mod Sectioned
 mod Examples

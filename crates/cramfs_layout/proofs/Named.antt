@@ -30,16 +30,21 @@ wider : (l e s t l' s' p : ℕ) → l ≤ l' → s ≤ s' → InRanges l' e s' t
 wider l e s t l' s' p a c (inl h) = let u = h.0 in inl (omega arith, h.1)
 wider l e s t l' s' p a c (inr h) = let u = h.0 in inr (omega arith, h.1)
 
-later : (o : Order) (b : List ℕ) (d l e s t l' s' : ℕ) (n rest : Names) (y : Row) → ((m : List ℕ) → StandsIn m rest → StandsIn m n) → l ≤ l' → s ≤ s' → Located o b d l' e s' t rest y → Located o b d l e s t n y
+later : (o : Order) (b : List ℕ) (d l e s t l' s' : ℕ) (n rest : Names) (y : Row)
+    → ((m : List ℕ) → StandsIn m rest → StandsIn m n) → l ≤ l' → s ≤ s' → Located o b d l' e s' t rest y
+    → Located o b d l e s t n y
 later o b d l e s t l' s' n rest y f a c (inl h) = let u = h.0 in inl (omega arith, h.1, h.2, f (name_of o b y.offset) h.3)
 later o b d l e s t l' s' n rest y f a c (inr h) = let u = h.0 in inr (omega arith, h.1, wider l e s t l' s' y.directory a c h.2)
 
 -- a row below an entry at l
-inner : (o : Order) (b : List ℕ) (l q e s t high : ℕ) (own : Names) (y : Row) → Located o b l q e e s own y → q ≤ e → e ≤ s → t ≤ q → s ≤ high → (t ≤ y.offset) × (y.offset < high) × ((y.directory ≡ l) ⊎ ((t ≤ y.directory) × (y.directory < high)))
+inner : (o : Order) (b : List ℕ) (l q e s t high : ℕ) (own : Names) (y : Row) → Located o b l q e e s own y → q ≤ e
+    → e ≤ s → t ≤ q → s ≤ high
+    → (t ≤ y.offset) × (y.offset < high) × ((y.directory ≡ l) ⊎ ((t ≤ y.directory) × (y.directory < high)))
 inner o b l q e s t high own y (inl h) a c f g = let u = h.0 in let v = h.1 in (omega arith, omega arith, inl h.2)
 inner o b l q e s t high own y (inr h) a c f g = let u = h.0 in let v = h.1 in (omega arith, omega arith, inr (elim h.2 [ inl k ↦ let x = k.0 in let z = k.1 in (omega arith, omega arith) | inr k ↦ let x = k.0 in let z = k.1 in (omega arith, omega arith) ]))
 
-pub located : (o : Order) (b : List ℕ) (cs : List (List ℕ)) (high : ℕ) (x : Reference) (d up depth l : ℕ) (s : State) (n : Names) → AreWell cs n → AllRead o b cs high l s n → l + list_len n ≤ s.at
+pub located : (o : Order) (b : List ℕ) (cs : List (List ℕ)) (high : ℕ) (x : Reference) (d up depth l : ℕ) (s : State) (n : Names)
+    → AreWell cs n → AllRead o b cs high l s n → l + list_len n ≤ s.at
     → Every (Located o b d l (l + list_len n) s.at (after_names s n).at n) (rows (references o b) x d up depth (spots l s n))
 located o b cs high x d up depth l s nothing h r m = tt
 located o b cs high x d up depth l s (leaf name i rest) h r m =
@@ -82,7 +87,9 @@ located o b cs high x d up depth l s (folder name i own rest) h r m =
 abbrev pub Apart : Order → List ℕ → Row → Row → Type 0
 Apart o b x y = (x.offset ≢ y.offset) × NamesRise o b x y
 
-head_apart : (o : Order) (b : List ℕ) (x y : Row) (d l l' e s t : ℕ) (rest : Names) → x.offset ≡ l → x.directory ≡ d → l < l' → l' ≤ e → e ≤ s → d < l → ((m : List ℕ) → StandsIn m rest → precedes (name_of o b x.offset) m ≡ true) → Located o b d l' e s t rest y → Apart o b x y
+head_apart : (o : Order) (b : List ℕ) (x y : Row) (d l l' e s t : ℕ) (rest : Names) → x.offset ≡ l → x.directory ≡ d
+    → l < l' → l' ≤ e → e ≤ s → d < l → ((m : List ℕ) → StandsIn m rest → precedes (name_of o b x.offset) m ≡ true)
+    → Located o b d l' e s t rest y → Apart o b x y
 head_apart o b x y d l l' e s t rest f g a c w z up (inl h) = let u = h.0 in ((λ q. absurd (omega (arith, f, q))), λ _. up (name_of o b y.offset) h.3)
 head_apart o b x y d l l' e s t rest f g a c w z up (inr h) =
     let u = h.0 in (
@@ -91,12 +98,16 @@ head_apart o b x y d l l' e s t rest f g a c w z up (inr h) =
     )
 
 -- a head before the rows below it, and those before the rows behind it
-below_apart : (o : Order) (b : List ℕ) (x y : Row) (d l t high : ℕ) → x.offset ≡ l → x.directory ≡ d → d < l → l < t → (t ≤ y.offset) × (y.offset < high) × ((y.directory ≡ l) ⊎ ((t ≤ y.directory) × (y.directory < high))) → Apart o b x y
+below_apart : (o : Order) (b : List ℕ) (x y : Row) (d l t high : ℕ) → x.offset ≡ l → x.directory ≡ d → d < l → l < t
+    → (t ≤ y.offset) × (y.offset < high) × ((y.directory ≡ l) ⊎ ((t ≤ y.directory) × (y.directory < high)))
+    → Apart o b x y
 below_apart o b x y d l t high f g a c h =
     let u = h.0 in
     ((λ q. absurd (omega (arith, f, q))), λ q. absurd (elim h.2 [ inl k ↦ omega (arith, g, q, k) | inr k ↦ let v = k.0 in omega (arith, g, q) ]))
 
-cross_apart : (o : Order) (b : List ℕ) (x y : Row) (d l l' e t high top : ℕ) (rest : Names) → d < l → l < l' → l' ≤ e → e ≤ t → t ≤ high → (t ≤ x.offset) × (x.offset < high) × ((x.directory ≡ l) ⊎ ((t ≤ x.directory) × (x.directory < high)))
+cross_apart : (o : Order) (b : List ℕ) (x y : Row) (d l l' e t high top : ℕ) (rest : Names) → d < l → l < l' → l' ≤ e
+    → e ≤ t → t ≤ high
+    → (t ≤ x.offset) × (x.offset < high) × ((x.directory ≡ l) ⊎ ((t ≤ x.directory) × (x.directory < high)))
     → Located o b d l' e high top rest y → Apart o b x y
 cross_apart o b x y d l l' e t high top rest a c f g w h (inl k) =
     let u = h.0 in let v = k.1 in let j = k.2 in
@@ -110,7 +121,8 @@ cross_apart o b x y d l l' e t high top rest a c f g w h (inr k) =
       ]),
     )
 
-pub all_apart : (o : Order) (b : List ℕ) (cs : List (List ℕ)) (high : ℕ) (x : Reference) (d up depth l : ℕ) (s : State) (n : Names) → AreWell cs n → AllRead o b cs high l s n → l + list_len n ≤ s.at → d < l
+pub all_apart : (o : Order) (b : List ℕ) (cs : List (List ℕ)) (high : ℕ) (x : Reference) (d up depth l : ℕ) (s : State) (n : Names)
+    → AreWell cs n → AllRead o b cs high l s n → l + list_len n ≤ s.at → d < l
     → Pairs (Apart o b) (rows (references o b) x d up depth (spots l s n))
 all_apart o b cs high x d up depth l s nothing h r m low = tt
 all_apart o b cs high x d up depth l s (leaf name i rest) h r m low =

@@ -25,7 +25,8 @@ use Rattle.cramfs_layout.specs.Wells.{IsFile, IsFolder, AreWell, IsStored, AllRe
 use Rattle.cramfs_layout.specs.Forest.{spots}
 use Rattle.cramfs_layout.proofs.Values.{IsAt}
 
-pub entries_one : (o : Order) (b : List ℕ) (p : ℕ) (es : Entries) → type_of o b p ≡ 4 → entries_of (node_of o b p es) ≡ es
+pub entries_one : (o : Order) (b : List ℕ) (p : ℕ) (es : Entries) → type_of o b p ≡ 4
+    → entries_of (node_of o b p es) ≡ es
 unfolding node_of
 entries_one o b p es t =
     let ps = places_at o b p in
@@ -59,7 +60,9 @@ placed_files l s (folder name i own rest) =
     ap (λ (is : List Inode). i ∷ is) (map-append (λ (x : Placed). x.inode) (placed (pad4 s.at) s1 own) (placed (l + entry_len name) s' rest)
     ∙ ap (λ (is : List Inode). is ++ map (λ (x : Placed). x.inode) (placed (l + entry_len name) s' rest)) (placed_files (pad4 s.at) s1 own) ∙ ap (λ (is : List Inode). files own ++ is) (placed_files (l + entry_len name) s' rest))
 
-pub placed_rows : (o : Order) (b : List ℕ) (cs : List (List ℕ)) (x : Reference) (d up depth l : ℕ) (s : State) (n : Names) → AreWell cs n → map (λ (y : Placed). y.place) (placed l s n) ≡ map (λ (y : Row). y.offset) (rows (references o b) x d up depth (spots l s n))
+pub placed_rows : (o : Order) (b : List ℕ) (cs : List (List ℕ)) (x : Reference) (d up depth l : ℕ) (s : State) (n : Names)
+    → AreWell cs n
+    → map (λ (y : Placed). y.place) (placed l s n) ≡ map (λ (y : Row). y.offset) (rows (references o b) x d up depth (spots l s n))
 placed_rows o b cs x d up depth l s nothing h = refl
 placed_rows o b cs x d up depth l s (leaf name i rest) h = ap (λ (ys : List ℕ). l ∷ ys) (placed_rows o b cs ((references o b).after x) d up depth (l + entry_len name) (after_file s i) rest h.2)
 placed_rows o b cs x d up depth l s (link name i rest) h = absurd h
@@ -102,7 +105,8 @@ pub record IsEnd (o : Order) (b : List ℕ) (cs : List (List ℕ)) (high : ℕ) 
   pub here : IsAt o b cs high i place
   pub known : Q (record { inode = i; place = place })
 
-pub find_alike : (o : Order) (b : List ℕ) (cs : List (List ℕ)) (high : ℕ) (Q : Placed → Type 0) (m : List ℕ) (l : ℕ) (s : State) (n : Names) → AreWell cs n → AllRead o b cs high l s n → Every Q (placed l s n)
+pub find_alike : (o : Order) (b : List ℕ) (cs : List (List ℕ)) (high : ℕ) (Q : Placed → Type 0) (m : List ℕ) (l : ℕ) (s : State) (n : Names)
+    → AreWell cs n → AllRead o b cs high l s n → Every Q (placed l s n)
     → Alike (IsShown o b cs high Q) (find_entry (entries_at o b (spots l s n)) m) (find_name n m)
 find_alike o b cs high Q m l s nothing h r q = tt
 find_alike o b cs high Q m l s (leaf name i rest) h r q =
@@ -154,7 +158,8 @@ find_alike o b cs high Q m l s (folder name i own rest) h r q =
     ] in
     subst (λ (k : List ℕ). Alike (IsShown o b cs high Q) (if bytes_eq k m then Some x else find_entry es m) (if bytes_eq name m then Some (record { inode = i; own = own }) else find_name rest m)) (sym r.0.name_is) go
 
-pub path_alike : (o : Order) (b : List ℕ) (cs : List (List ℕ)) (high : ℕ) (Q : Placed → Type 0) (q : List (List ℕ)) (x : Node) (m : Named) → IsShown o b cs high Q x m → Alike (IsEnd o b cs high Q) (node_under q x) (file_under q m)
+pub path_alike : (o : Order) (b : List ℕ) (cs : List (List ℕ)) (high : ℕ) (Q : Placed → Type 0) (q : List (List ℕ)) (x : Node) (m : Named)
+    → IsShown o b cs high Q x m → Alike (IsEnd o b cs high Q) (node_under q x) (file_under q m)
 path_alike o b cs high Q [] x m h = record { place = h.place; entries = h.entries; is = h.is; good = h.good; here = h.here; known = h.known }
 path_alike o b cs high Q (n ∷ ns) x m h =
     let found = find_alike o b cs high Q n h.l h.s m.own h.well h.reads h.inner in

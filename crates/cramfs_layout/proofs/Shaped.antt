@@ -28,17 +28,21 @@ unfolding node_of attributes_at
 ino_at o b p es = refl
 
 -- two nodes have one number exactly where they have one place
-same_nodes : (o : Order) (b : List ℕ) (x y : Node) (p q : ℕ) (es fs : Entries) (A : Type 0) → x ≡ node_of o b p es → y ≡ node_of o b q fs → (p ≡ q) ↔ A → (ino_of x ≡ ino_of y) ↔ A
+same_nodes : (o : Order) (b : List ℕ) (x y : Node) (p q : ℕ) (es fs : Entries) (A : Type 0) → x ≡ node_of o b p es
+    → y ≡ node_of o b q fs → (p ≡ q) ↔ A → (ino_of x ≡ ino_of y) ↔ A
 same_nodes o b x y p q es fs A e f both =
     let n1 : ino_of x ≡ p = ap ino_of e ∙ ino_at o b p es in
     let n2 : ino_of y ≡ q = ap ino_of f ∙ ino_at o b q fs in
     (λ z. both.0 (sym n1 ∙ z ∙ n2), λ a. n1 ∙ both.1 a ∙ sym n2)
 
-good_value : (o : Order) (b : List ℕ) (cs : List (List ℕ)) (high : ℕ) (i : Inode) (p : ℕ) (es : Entries) → high ≤ 2 ^ 28 → IsGood cs i → IsAt o b cs high i p → node_value b (node_of o b p es) ≡ file_value cs i
+good_value : (o : Order) (b : List ℕ) (cs : List (List ℕ)) (high : ℕ) (i : Inode) (p : ℕ) (es : Entries)
+    → high ≤ 2 ^ 28 → IsGood cs i → IsAt o b cs high i p → node_value b (node_of o b p es) ≡ file_value cs i
 good_value o b cs high i p es top (a_file f) a = file_is o b cs high i p es top f a
 good_value o b cs high i p es top (a_folder f) a = folder_is o b cs high i p es f.kind f.numbers f.bytes a
 
-pub has_shape : (o : Order) (volume : List ℕ) (root : Inode) (n : Names) (cs : List (List ℕ)) → IsPlanned volume root n cs → HasShape (layout o volume root n cs) (tree_of o (layout o volume root n cs) (all_spots n)) cs root n
+pub has_shape : (o : Order) (volume : List ℕ) (root : Inode) (n : Names) (cs : List (List ℕ))
+    → IsPlanned volume root n cs
+    → HasShape (layout o volume root n cs) (tree_of o (layout o volume root n cs) (all_spots n)) cs root n
 unfolding tree_of
 has_shape o volume root n cs h =
     let b = layout o volume root n cs in

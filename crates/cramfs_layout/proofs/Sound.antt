@@ -10,7 +10,8 @@ use Rattle.cramfs_layout.specs.Wells.{IsStored}
 use Rattle.cramfs_layout.proofs.Entries.{word_has, length-word}
 
 -- the i-th of n pointers
-pub pointer_at : (o : Order) (b : List ℕ) (t place n i : ℕ) → place + 4096 * n < 2 ^ 28 + 4096 → i < n → HasAt b t (pointers o place n) → word o b (t + 4 * i) ≡ 3 * 2 ^ 30 + (place + 4096 * i) / 4
+pub pointer_at : (o : Order) (b : List ℕ) (t place n i : ℕ) → place + 4096 * n < 2 ^ 28 + 4096 → i < n
+    → HasAt b t (pointers o place n) → word o b (t + 4 * i) ≡ 3 * 2 ^ 30 + (place + 4096 * i) / 4
 pointer_at o b t place zero i h l has = absurd (omega arith)
 pointer_at o b t place (suc n) zero h l has =
     let r = word_has o b t (3 * 2 ^ 30 + place / 4) (pointers o (place + 4096) n) (omega arith) has in
@@ -27,7 +28,8 @@ pointer_at o b t place (suc n) (suc i) h l has =
     rw (e, f) r
 
 -- what a pointer of a layout says
-pub pointer_says : (w place : ℕ) → w ≡ 3 * 2 ^ 30 + place / 4 → place < 2 ^ 28 → place % 4 ≡ 0 → (is_direct w ≡ true) × (block_start w ≡ place)
+pub pointer_says : (w place : ℕ) → w ≡ 3 * 2 ^ 30 + place / 4 → place < 2 ^ 28 → place % 4 ≡ 0
+    → (is_direct w ≡ true) × (block_start w ≡ place)
 pointer_says w place e l even =
     let a : w / 2 ^ 31 % 2 ≡ 1 = omega (arith, e) in
     let c : w / 2 ^ 30 % 2 ≡ 1 = omega (arith, e) in
@@ -37,10 +39,12 @@ pointer_says w place e l even =
 pub record IsTable (o : Order) (b : List ℕ) (t size : ℕ) : Type 0 where
   pub place : ℕ
   pub table : (76 ≤ t) × (t + 4 * block_count size ≤ length b)
-  pub each : (i : ℕ) → i < block_count size → (is_direct (word o b (t + 4 * i)) ≡ true) × (block_start (word o b (t + 4 * i)) ≡ place + 4096 * i)
+  pub each : (i : ℕ) → i < block_count size
+      → (is_direct (word o b (t + 4 * i)) ≡ true) × (block_start (word o b (t + 4 * i)) ≡ place + 4096 * i)
   pub blocks : (76 ≤ place) × (place + size ≤ length b)
 
-pub table_is : (o : Order) (b bytes : List ℕ) (high t : ℕ) → high ≤ length b → high ≤ 2 ^ 28 → 0 < length bytes → IsStored o b bytes high t → IsTable o b t (length bytes)
+pub table_is : (o : Order) (b bytes : List ℕ) (high t : ℕ) → high ≤ length b → high ≤ 2 ^ 28 → 0 < length bytes
+    → IsStored o b bytes high t → IsTable o b t (length bytes)
 table_is o b bytes high t l top some st =
     let low = st.low in
     let behind = st.behind in

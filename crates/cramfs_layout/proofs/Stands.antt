@@ -23,11 +23,13 @@ type_by Character i h = λ e. absurd (omega arith)
 type_by Socket i h = λ e. absurd (omega arith)
 type_by Fifo i h = λ e. absurd (omega arith)
 
-pub file_list : (o : Order) (b : List ℕ) (cs : List (List ℕ)) (p : ℕ) (i : Inode) → IsFile cs i → type_of o b p ≡ type_bits i.kind → list_end o b p ≡ 0
+pub file_list : (o : Order) (b : List ℕ) (cs : List (List ℕ)) (p : ℕ) (i : Inode) → IsFile cs i
+    → type_of o b p ≡ type_bits i.kind → list_end o b p ≡ 0
 unfolding list_end
 file_list o b cs p i h t = rw (ne_eqb (type_of o b p) 4 (λ z. type_by i.kind i h.kind (sym t ∙ z))) refl
 
-pub folder_list : (o : Order) (b : List ℕ) (p offset size : ℕ) → type_of o b p ≡ 4 → offset_of o b p ≡ offset → size_of o b p ≡ size → list_end o b p ≡ offset + size
+pub folder_list : (o : Order) (b : List ℕ) (p offset size : ℕ) → type_of o b p ≡ 4 → offset_of o b p ≡ offset
+    → size_of o b p ≡ size → list_end o b p ≡ offset + size
 unfolding list_end
 folder_list o b p offset size t e f = rw (eq-eqb (type_of o b p) 4 t, e, f) refl
 
@@ -50,7 +52,8 @@ is_placed from (leaf name i after) = at_place refl
 is_placed from (link name i after) = at_place refl
 is_placed from (folder name i own after) = at_place refl
 
-pub stands : (o : Order) (b : List ℕ) (cs : List (List ℕ)) (high d l : ℕ) (s : State) (n : Names) → AreWell cs n → AllRead o b cs high l s n → d ≢ 0 → 0 < l → 0 < s.at → list_end o b d ≡ l + list_len n
+pub stands : (o : Order) (b : List ℕ) (cs : List (List ℕ)) (high d l : ℕ) (s : State) (n : Names) → AreWell cs n
+    → AllRead o b cs high l s n → d ≢ 0 → 0 < l → 0 < s.at → list_end o b d ≡ l + list_len n
     → Stands (references o b) (record { source = d; which = l }) (spots l s n)
 unfolding list_start
 stands o b cs high d l s nothing h r live pos up e = target_none o b d l live (omega (arith, e))

@@ -2,7 +2,6 @@
 use Rattle.std.proofs.Common.{◌≡◌, ℕ, ◌+◌, ◌-◌, ◌*◌, ◌/◌, ◌%◌, ◌^◌, ◌<◌, ◌≤◌, List, [], ◌∷◌, ◌++◌, length, refl, sym, ap, subst, ◌∙◌, arith, inl, inr, Some, None}
 use Rattle.std.proofs.lemmas.Bool.{ne_eqb}
 use Rattle.std.proofs.lemmas.Bool.Decides.{eqb_tells}
-use Rattle.std.proofs.lemmas.Nat.{div-add-mod', mod_below}
 use Rattle.std.specs.List.{AllByRecursion as Every}
 use Rattle.rom_tree.specs.declared.types.Kind.{Kind}
 use Rattle.rom_tree.specs.declared.types.Kind.TheVariants.{Directory, Regular, Symlink, Block, Character, Socket, Fifo}
@@ -11,14 +10,12 @@ use Rattle.cramfs_format.specs.Inode.{block_count}
 use Rattle.image_parts.specs.Parts.{Part, HasAt, HasParts}
 use Rattle.name_tree.specs.Names.{Fill, no_bytes, text, source, Inode, Names, nothing, leaf, link, folder, bytes_of}
 use Rattle.image_parts.specs.Padding.{pad}
+use Rattle.image_parts.proofs.Padding.{pad-after}
 use Rattle.image_parts.proofs.Parts.{HasAt-before, HasAt-after, HasAt-moved}
 use Rattle.cramfs_layout.specs.Layout.{pad4, size_by, entry_len, entry_bytes, list_len, State, Table, table_with, Kept, nowhere, shared, fresh, kept, kept_by, kept_with, data_of, with_table, table_by, after_by, after_file, after_list, after_names, list_offset, list_bytes, pointers, file_parts, parts}
 use Rattle.cramfs_layout.specs.Reads.{IsEntry}
 use Rattle.cramfs_layout.specs.Wells.{FitsKind, IsFile, AreWell, IsStored, AreStored, AllRead}
 use Rattle.cramfs_layout.proofs.Entries.{length-entry, entry_reads}
-
-pad-after : (n k : ℕ) → 0 < k → n ≤ pad n k
-pad-after n k h = omega (arith, div-add-mod' (n + (k - 1)) k, mod_below (n + (k - 1)) k h)
 
 times4 : (x m : ℕ) → (x * (4 * m)) % 4 ≡ 0
 times4 x m = omega arith
@@ -27,14 +24,16 @@ pad_even : (n k m : ℕ) → k ≡ 4 * m → pad n k % 4 ≡ 0
 pad_even n k m h = let x = (n + (k - 1)) / k in ap (λ (z : ℕ). (x * z) % 4) h ∙ times4 x m
 
 -- where data begin: behind the table, at a multiple of 4
-pub data_after : (cs : List (List ℕ)) (from : ℕ) (i : Inode) → IsFile cs i → (pad4 from + 4 * block_count i.size ≤ data_of from i) × (data_of from i % 4 ≡ 0)
+pub data_after : (cs : List (List ℕ)) (from : ℕ) (i : Inode) → IsFile cs i
+    → (pad4 from + 4 * block_count i.size ≤ data_of from i) × (data_of from i % 4 ≡ 0)
 unfolding data_of
 data_after cs from i h =
     let k : 0 < i.align = let s = h.some in let a = h.aligned in omega (arith, a) in
     (pad-after (pad4 from + 4 * block_count i.size) i.align k, pad_even (pad4 from + 4 * block_count i.size) i.align h.fours h.aligned)
 
 -- the ways to keep a file
-pub shared_by : (ts : List Table) (f : Fill) (t : ℕ) → kept_by ts f ≡ shared t → (k : ℕ) × (f ≡ source k) × (table_with ts k ≡ Some t)
+pub shared_by : (ts : List Table) (f : Fill) (t : ℕ) → kept_by ts f ≡ shared t
+    → (k : ℕ) × (f ≡ source k) × (table_with ts k ≡ Some t)
 shared_by ts no_bytes t e = absurd (cc)
 shared_by ts (text x) t e = absurd (cc)
 shared_by ts (source k) t e = (k, refl, elim (table_with ts k) as (λ o. kept_with o ≡ shared t → o ≡ Some t) [ None ↦ λ z. absurd (cc) | Some u ↦ λ z. cc ] e)
@@ -57,12 +56,16 @@ record IsKept (o : Order) (b : List ℕ) (cs : List (List ℕ)) (high : ℕ) (s 
   tables : AreStored o b cs high (after_by k s i).tables
   onward : s.at ≤ (after_by k s i).at
 
-tables_more : (o : Order) (b : List ℕ) (cs : List (List ℕ)) (high place : ℕ) (f : Fill) (ts : List Table) → IsStored o b (bytes_of cs f) high place → AreStored o b cs high ts → AreStored o b cs high (with_table f place ts)
+tables_more : (o : Order) (b : List ℕ) (cs : List (List ℕ)) (high place : ℕ) (f : Fill) (ts : List Table)
+    → IsStored o b (bytes_of cs f) high place → AreStored o b cs high ts
+    → AreStored o b cs high (with_table f place ts)
 tables_more o b cs high place no_bytes ts h k = k
 tables_more o b cs high place (text x) ts h k = k
 tables_more o b cs high place (source n) ts h k = (h, k)
 
-kept_one : (o : Order) (b : List ℕ) (cs : List (List ℕ)) (high : ℕ) (s : State) (i : Inode) (k : Kept) → IsFile cs i → kept s.tables i ≡ k → 76 ≤ s.at → (after_by k s i).at ≤ high → AreStored o b cs high s.tables → HasParts b (file_parts o cs k s i)
+kept_one : (o : Order) (b : List ℕ) (cs : List (List ℕ)) (high : ℕ) (s : State) (i : Inode) (k : Kept) → IsFile cs i
+    → kept s.tables i ≡ k → 76 ≤ s.at → (after_by k s i).at ≤ high → AreStored o b cs high s.tables
+    → HasParts b (file_parts o cs k s i)
     → IsKept o b cs high s i k
 unfolding kept
 kept_one o b cs high s i nowhere h e low fits st has = record {
@@ -126,7 +129,9 @@ names_onward cs s (folder name i own rest) h =
     omega (arith, a, e)
 
 -- the table of a file fits an inode
-table_small : (o : Order) (b : List ℕ) (cs : List (List ℕ)) (high : ℕ) (s : State) (i : Inode) (k : Kept) → IsFile cs i → kept s.tables i ≡ k → IsKept o b cs high s i k → high ≤ 2 ^ 28 → (table_by k s.at < 2 ^ 28) × (table_by k s.at % 4 ≡ 0)
+table_small : (o : Order) (b : List ℕ) (cs : List (List ℕ)) (high : ℕ) (s : State) (i : Inode) (k : Kept)
+    → IsFile cs i → kept s.tables i ≡ k → IsKept o b cs high s i k → high ≤ 2 ^ 28
+    → (table_by k s.at < 2 ^ 28) × (table_by k s.at % 4 ≡ 0)
 unfolding kept
 table_small o b cs high s i nowhere h e w l = (omega arith, refl)
 table_small o b cs high s i (shared t) h e w l = elim (eqb_tells i.size 0) [
@@ -160,7 +165,8 @@ size_small Character i h l = let a = h.0 in let c = h.1 in omega arith
 size_small Socket i h l = l
 size_small Fifo i h l = l
 
-list_small : (from high : ℕ) (own : Names) → pad4 from + list_len own ≤ high → high ≤ 2 ^ 28 → (list_offset from own < 2 ^ 28) × (list_offset from own % 4 ≡ 0)
+list_small : (from high : ℕ) (own : Names) → pad4 from + list_len own ≤ high → high ≤ 2 ^ 28
+    → (list_offset from own < 2 ^ 28) × (list_offset from own % 4 ≡ 0)
 list_small from high nothing h l = (omega arith, refl)
 list_small from high (leaf name i after) h l = (omega arith, omega arith)
 list_small from high (link name i after) h l = (omega arith, omega arith)
@@ -170,7 +176,8 @@ pub record Read (o : Order) (b : List ℕ) (cs : List (List ℕ)) (high l : ℕ)
   pub all : AllRead o b cs high l s n
   pub tables : AreStored o b cs high (after_names s n).tables
 
-pub all_read : (o : Order) (b : List ℕ) (cs : List (List ℕ)) (high l : ℕ) (s : State) (n : Names) → AreWell cs n → 76 ≤ s.at → (after_names s n).at ≤ high → high ≤ 2 ^ 28 → AreStored o b cs high s.tables
+pub all_read : (o : Order) (b : List ℕ) (cs : List (List ℕ)) (high l : ℕ) (s : State) (n : Names) → AreWell cs n
+    → 76 ≤ s.at → (after_names s n).at ≤ high → high ≤ 2 ^ 28 → AreStored o b cs high s.tables
     → HasAt b l (list_bytes o s n) → HasParts b (parts o cs s n) → Read o b cs high l s n
 all_read o b cs high l s nothing h low fits top st list has = record { all = tt; tables = st }
 all_read o b cs high l s (leaf name i rest) h low fits top st list has =

@@ -21,17 +21,20 @@ abbrev pub behind : Order → List ℕ → Inode → Names → List ℕ → List
 behind o volume root n more =
     word_bytes o 0 ++ (word_bytes o (size_of n / 4096) ++ (word_bytes o (count n + 1) ++ ((volume ++ (replicate (16 - length volume) 0 ++ entry_bytes o [] root (list_len n) (root_offset n))) ++ more)))
 
-pub before_crc : (o : Order) (volume : List ℕ) (root : Inode) (n : Names) (more : List ℕ) → superblock o volume root n ++ more ≡ front o (size_of n) (word_bytes o 0 ++ behind o volume root n more)
+pub before_crc : (o : Order) (volume : List ℕ) (root : Inode) (n : Names) (more : List ℕ)
+    → superblock o volume root n ++ more ≡ front o (size_of n) (word_bytes o 0 ++ behind o volume root n more)
 unfolding superblock
 before_crc Little volume root n more = refl
 before_crc Big volume root n more = refl
 
-pub after_crc : (o : Order) (size : ℕ) (back : List ℕ) → with_crc o (front o size (word_bytes o 0 ++ back)) ≡ front o size (word_bytes o (crc_of (front o size (word_bytes o 0 ++ back))) ++ back)
+pub after_crc : (o : Order) (size : ℕ) (back : List ℕ)
+    → with_crc o (front o size (word_bytes o 0 ++ back)) ≡ front o size (word_bytes o (crc_of (front o size (word_bytes o 0 ++ back))) ++ back)
 unfolding with_crc
 after_crc Little size back = refl
 after_crc Big size back = refl
 
-pub no_crc : (o : Order) (size w : ℕ) (back : List ℕ) → without_crc (front o size (word_bytes o w ++ back)) ≡ front o size (word_bytes o 0 ++ back)
+pub no_crc : (o : Order) (size w : ℕ) (back : List ℕ)
+    → without_crc (front o size (word_bytes o w ++ back)) ≡ front o size (word_bytes o 0 ++ back)
 no_crc Little size w back = refl
 no_crc Big size w back = refl
 
@@ -68,13 +71,15 @@ pub record AreParts (from to : ℕ) (ps : List Part) : Type 0 where
   pub rises : Rises from ps
   pub ends_at : end_of_parts from ps ≡ to
 
-parts_join : (from mid to : ℕ) (ps qs : List Part) → AreParts from mid ps → AreParts mid to qs → AreParts from to (ps ++ qs)
+parts_join : (from mid to : ℕ) (ps qs : List Part) → AreParts from mid ps → AreParts mid to qs
+    → AreParts from to (ps ++ qs)
 parts_join from mid to [] qs a c = subst (λ (v : ℕ). AreParts v to qs) (sym a.ends_at) c
 parts_join from mid to (p ∷ ps) qs a c =
     let r = parts_join (end_of_part p) mid to ps qs (record { rises = a.rises.1; ends_at = a.ends_at }) c in
     record { rises = (a.rises.0, r.rises); ends_at = r.ends_at }
 
-file_parts_are : (o : Order) (cs : List (List ℕ)) (s : State) (i : Inode) (k : Kept) → IsFile cs i → AreParts s.at (after_by k s i).at (file_parts o cs k s i)
+file_parts_are : (o : Order) (cs : List (List ℕ)) (s : State) (i : Inode) (k : Kept) → IsFile cs i
+    → AreParts s.at (after_by k s i).at (file_parts o cs k s i)
 file_parts_are o cs s i nowhere h = record { rises = tt; ends_at = refl }
 file_parts_are o cs s i (shared t) h = record { rises = tt; ends_at = refl }
 file_parts_are o cs s i fresh h =
@@ -83,7 +88,8 @@ file_parts_are o cs s i fresh h =
     let c = h.bytes in
     record { rises = (omega arith, (omega (arith, d, l), tt)); ends_at = omega (arith, c) }
 
-pub parts_are : (o : Order) (cs : List (List ℕ)) (s : State) (n : Names) → AreWell cs n → AreParts s.at (after_names s n).at (parts o cs s n)
+pub parts_are : (o : Order) (cs : List (List ℕ)) (s : State) (n : Names) → AreWell cs n
+    → AreParts s.at (after_names s n).at (parts o cs s n)
 parts_are o cs s nothing h = record { rises = tt; ends_at = refl }
 parts_are o cs s (leaf name i rest) h =
     let s' = after_file s i in

@@ -18,11 +18,13 @@ use Rattle.cramfs_layout.specs.Layout.{type_bits, size_by}
 use Rattle.cramfs_layout.specs.Wells.{FitsKind, IsFile, IsStored}
 use Rattle.cramfs_layout.proofs.Sound.{pointer_at, pointer_says}
 
-same_value : (x y : Value) → x.kind ≡ y.kind → x.mode ≡ y.mode → x.uid ≡ y.uid → x.gid ≡ y.gid → x.major ≡ y.major → x.minor ≡ y.minor → x.bytes ≡ y.bytes → x ≡ y
+same_value : (x y : Value) → x.kind ≡ y.kind → x.mode ≡ y.mode → x.uid ≡ y.uid → x.gid ≡ y.gid → x.major ≡ y.major
+    → x.minor ≡ y.minor → x.bytes ≡ y.bytes → x ≡ y
 same_value x y a c d e f g h = λ t. record { kind = a t; mode = c t; uid = d t; gid = e t; major = f t; minor = g t; bytes = h t }
 
 -- the bytes from a place on
-row_bytes : (v : List ℕ) (p : ℕ) (bytes : List ℕ) → HasAt v p bytes → map (λ q. get_or v q 0) (row_from p (length bytes)) ≡ bytes
+row_bytes : (v : List ℕ) (p : ℕ) (bytes : List ℕ) → HasAt v p bytes
+    → map (λ q. get_or v q 0) (row_from p (length bytes)) ≡ bytes
 row_bytes v p [] h = refl
 row_bytes v p (x ∷ xs) (back, e) =
     let here : get_or v p 0 ≡ x = ap (λ (q : ℕ). get_or v q 0) (let z : p ≡ p + 0 = omega arith in z) ∙ sym (get_or-drop p v 0 0) ∙ ap (λ (ys : List ℕ). get_or ys 0 0) e in
@@ -38,7 +40,9 @@ row_join p (suc a) c =
     ap (λ (q : ℕ). p ∷ (row_from (p + 1) a ++ row_from q c)) e ∙ ap (λ (xs : List ℕ). p ∷ xs) (row_join (p + 1) a c) ∙ ap (row_from p) f
 
 -- blocks without gaps are one run of places
-one_run : (o : Order) (b : List ℕ) (k q p size : ℕ) → size ≤ 4096 * k → ((i : ℕ) → i < k → block_start (word o b (q + 4 * i)) ≡ p + 4096 * i) → blocks_from o b k q size ≡ row_from p size
+one_run : (o : Order) (b : List ℕ) (k q p size : ℕ) → size ≤ 4096 * k
+    → ((i : ℕ) → i < k → block_start (word o b (q + 4 * i)) ≡ p + 4096 * i)
+    → blocks_from o b k q size ≡ row_from p size
 one_run o b zero q p size l f = let z : 0 ≡ size = omega arith in ap (row_from p) z
 one_run o b (suc k) q p size l f =
     let e : q + 4 * 0 ≡ q = omega arith in
@@ -60,7 +64,8 @@ pub record IsAt (o : Order) (b : List ℕ) (cs : List (List ℕ)) (high : ℕ) (
   pub size_is : i.kind ≢ Directory → size_of o b p ≡ size_by i.kind i
   pub content : i.kind ≢ Directory → 0 < i.size → IsStored o b (bytes_of cs i.fill) high (offset_of o b p)
 
-numbers_by : (k : Kind) (i : Inode) (w : ℕ) → FitsKind k i → w ≡ size_by k i → (by_type (type_bits k) 0 0 0 (w / 256) (w / 256) 0 0 ≡ i.major) × (by_type (type_bits k) 0 0 0 (w % 256) (w % 256) 0 0 ≡ i.minor)
+numbers_by : (k : Kind) (i : Inode) (w : ℕ) → FitsKind k i → w ≡ size_by k i
+    → (by_type (type_bits k) 0 0 0 (w / 256) (w / 256) 0 0 ≡ i.major) × (by_type (type_bits k) 0 0 0 (w % 256) (w % 256) 0 0 ≡ i.minor)
 numbers_by Directory i w h e = absurd h
 numbers_by Regular i w h e = (sym h.0, sym h.1)
 numbers_by Symlink i w h e = (sym h.0, sym h.1)
@@ -78,7 +83,9 @@ named_by Character = refl
 named_by Socket = refl
 named_by Fifo = refl
 
-bytes_by : (k : Kind) (cs : List (List ℕ)) (i : Inode) (v ps : List ℕ) → FitsKind k i → (size_by k i ≡ i.size → map (λ q. get_or v q 0) ps ≡ bytes_of cs i.fill) → map (λ q. get_or v q 0) (by_type (type_bits k) [] ps ps [] [] [] []) ≡ bytes_of cs i.fill
+bytes_by : (k : Kind) (cs : List (List ℕ)) (i : Inode) (v ps : List ℕ) → FitsKind k i
+    → (size_by k i ≡ i.size → map (λ q. get_or v q 0) ps ≡ bytes_of cs i.fill)
+    → map (λ q. get_or v q 0) (by_type (type_bits k) [] ps ps [] [] [] []) ≡ bytes_of cs i.fill
 bytes_by Directory cs i v ps h e = absurd h
 bytes_by Regular cs i v ps h e = e refl
 bytes_by Symlink cs i v ps h e = e refl
@@ -97,7 +104,9 @@ not_directory Socket i h = λ e. absurd (let n = ap type_bits e in omega (arith,
 not_directory Fifo i h = λ e. absurd (let n = ap type_bits e in omega (arith, n))
 
 -- the bytes of a stored file
-stored_bytes : (o : Order) (b bytes : List ℕ) (high t size : ℕ) → high ≤ 2 ^ 28 → length bytes ≡ size → (0 < size → IsStored o b bytes high t) → map (λ q. get_or b q 0) (blocks_from o b (block_count size) t size) ≡ bytes
+stored_bytes : (o : Order) (b bytes : List ℕ) (high t size : ℕ) → high ≤ 2 ^ 28 → length bytes ≡ size
+    → (0 < size → IsStored o b bytes high t)
+    → map (λ q. get_or b q 0) (blocks_from o b (block_count size) t size) ≡ bytes
 stored_bytes o b bytes high t zero top l f = ap (map (λ q. get_or b q 0)) (one_run o b 0 t 0 0 (omega arith) (λ i m. absurd (omega arith))) ∙ sym (nil_by bytes l)
   where
     nil_by : (xs : List ℕ) → length xs ≡ 0 → xs ≡ []
@@ -111,7 +120,8 @@ stored_bytes o b bytes high t (suc n) top l f =
     let run = one_run o b k t st.place (length bytes) (omega arith) (λ i m. (pointer_says (word o b (t + 4 * i)) (st.place + 4096 * i) (pointer_at o b t st.place k i (omega arith) m st.table) (omega arith) (omega arith)).1) in
     subst (λ (m : ℕ). map (λ q. get_or b q 0) (blocks_from o b (block_count m) t m) ≡ bytes) l (ap (map (λ q. get_or b q 0)) run ∙ row_bytes b st.place bytes st.content)
 
-pub file_is : (o : Order) (b : List ℕ) (cs : List (List ℕ)) (high : ℕ) (i : Inode) (p : ℕ) (es : Entries) → high ≤ 2 ^ 28 → IsFile cs i → IsAt o b cs high i p → node_value b (node_of o b p es) ≡ file_value cs i
+pub file_is : (o : Order) (b : List ℕ) (cs : List (List ℕ)) (high : ℕ) (i : Inode) (p : ℕ) (es : Entries)
+    → high ≤ 2 ^ 28 → IsFile cs i → IsAt o b cs high i p → node_value b (node_of o b p es) ≡ file_value cs i
 unfolding node_value file_value node_of attributes_at places_at
 file_is o b cs high i p es top h a =
     let t = a.type in
@@ -126,7 +136,9 @@ file_is o b cs high i p es top h a =
     (ap (map (λ q. get_or b q 0)) (body_places_is kind_numbers (type_of o b p) ps es) ∙ ap (λ (k : ℕ). map (λ q. get_or b q 0) (by_type k [] ps ps [] [] [] [])) t
     ∙ bytes_by i.kind cs i b ps h.kind (λ e. subst (λ (m : ℕ). map (λ q. get_or b q 0) (blocks_from o b (block_count m) (offset_of o b p) m) ≡ bytes_of cs i.fill) (sym (s ∙ e)) (stored_bytes o b (bytes_of cs i.fill) high (offset_of o b p) i.size top h.bytes (a.content other))))
 
-pub folder_is : (o : Order) (b : List ℕ) (cs : List (List ℕ)) (high : ℕ) (i : Inode) (p : ℕ) (es : Entries) → i.kind ≡ Directory → (i.major ≡ 0) × (i.minor ≡ 0) → i.fill ≡ no_bytes → IsAt o b cs high i p → node_value b (node_of o b p es) ≡ file_value cs i
+pub folder_is : (o : Order) (b : List ℕ) (cs : List (List ℕ)) (high : ℕ) (i : Inode) (p : ℕ) (es : Entries)
+    → i.kind ≡ Directory → (i.major ≡ 0) × (i.minor ≡ 0) → i.fill ≡ no_bytes → IsAt o b cs high i p
+    → node_value b (node_of o b p es) ≡ file_value cs i
 unfolding node_value file_value node_of attributes_at places_at
 folder_is o b cs high i p es kind numbers none a =
     let t : type_of o b p ≡ 4 = a.type ∙ ap type_bits kind in

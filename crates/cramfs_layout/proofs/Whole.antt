@@ -45,10 +45,12 @@ precedes_self (x ∷ xs) = rw (le-ltb x x (omega arith), eq-eqb x x refl) (prece
 differ_by : (o : Order) (b : List ℕ) (x y : Row) → NamesRise o b x y → NamesDiffer (name_of o b) x y
 differ_by o b x y r = λ d e. absurd (false≢true (sym (precedes_self (name_of o b y.offset)) ∙ (ap (λ (m : List ℕ). precedes m (name_of o b y.offset)) (sym e) ∙ r d)))
 
-no_dot_by : (o : Order) (b : List ℕ) (y : Row) (name : List ℕ) → name_of o b y.offset ≡ name → is_dots name ≡ false → IsNoDot o b y
+no_dot_by : (o : Order) (b : List ℕ) (y : Row) (name : List ℕ) → name_of o b y.offset ≡ name → is_dots name ≡ false
+    → IsNoDot o b y
 no_dot_by o b y name e d = record { here = λ z. absurd (false≢true (sym d ∙ ap is_dots (sym e ∙ z))); above = λ z. absurd (false≢true (sym d ∙ ap is_dots (sym e ∙ z))) }
 
-no_dots : (o : Order) (b : List ℕ) (cs : List (List ℕ)) (high : ℕ) (x : Reference) (d up deep l : ℕ) (s : State) (n : Names) → AreWell cs n → AllRead o b cs high l s n → Every (IsNoDot o b) (rows (references o b) x d up deep (spots l s n))
+no_dots : (o : Order) (b : List ℕ) (cs : List (List ℕ)) (high : ℕ) (x : Reference) (d up deep l : ℕ) (s : State) (n : Names)
+    → AreWell cs n → AllRead o b cs high l s n → Every (IsNoDot o b) (rows (references o b) x d up deep (spots l s n))
 no_dots o b cs high x d up deep l s nothing h r = tt
 no_dots o b cs high x d up deep l s (leaf name i rest) h r =
     let g = references o b in
@@ -62,7 +64,8 @@ no_dots o b cs high x d up deep l s (folder name i own rest) h r =
           (no_dots o b cs high (g.own x) l d (deep + 1) (pad4 s.at) s1 own h.2 r.1) (no_dots o b cs high (g.after x) d up deep (l + entry_len name) (after_names s1 own) rest h.3 r.2),
     )
 
-row_count : (o : Order) (b : List ℕ) (x : Reference) (d up deep l : ℕ) (s : State) (n : Names) → length (rows (references o b) x d up deep (spots l s n)) ≡ count n
+row_count : (o : Order) (b : List ℕ) (x : Reference) (d up deep l : ℕ) (s : State) (n : Names)
+    → length (rows (references o b) x d up deep (spots l s n)) ≡ count n
 row_count o b x d up deep l s nothing = refl
 row_count o b x d up deep l s (leaf name i rest) = ap suc (row_count o b ((references o b).after x) d up deep (l + entry_len name) (after_file s i) rest)
 row_count o b x d up deep l s (link name i rest) = ap suc (row_count o b ((references o b).after x) d up deep (l + entry_len name) (after_file s i) rest)
@@ -86,7 +89,8 @@ node_depth o b p es =
       | inr k ↦ let f = e ∙ by_kind_rest kind_numbers t (entries_depth es) 0 k.1 in omega (arith, f)
     ]
 
-spots_depth : (o : Order) (b : List ℕ) (l : ℕ) (s : State) (n : Names) → entries_depth (entries_at o b (spots l s n)) ≤ height n
+spots_depth : (o : Order) (b : List ℕ) (l : ℕ) (s : State) (n : Names)
+    → entries_depth (entries_at o b (spots l s n)) ≤ height n
 spots_depth o b l s nothing = omega arith
 spots_depth o b l s (leaf name i rest) =
     let d = node_depth o b l (entries_at o b none) in
@@ -134,7 +138,8 @@ root_alive : ◌≡◌ {A = ℕ} 64 0 → ⊥
 root_alive z = absurd (omega (arith, z))
 
 -- the root's list is known
-root_known : (o : Order) (b : List ℕ) (cs : List (List ℕ)) (root : Inode) (n : Names) → Holds o b cs root n → (Q : Span → Type 0) → Every Q (added ListOf 76 (list_len n))
+root_known : (o : Order) (b : List ℕ) (cs : List (List ℕ)) (root : Inode) (n : Names) → Holds o b cs root n
+    → (Q : Span → Type 0) → Every Q (added ListOf 76 (list_len n))
     → Every Q (row_extents o b (record { offset = 64; reference = (references o b).top; directory = 64; parent = 64; depth = 0 }))
 root_known o b cs root n h Q q = row_every Q o b (record { offset = 64; reference = (references o b).top; directory = 64; parent = 64; depth = 0 })
     (λ _ z. elim (root_placed n) [
@@ -146,7 +151,8 @@ root_known o b cs root n h Q q = row_every Q o b (record { offset = 64; referenc
 abbrev pub all_spots : Names → Forest
 all_spots n = at 64 (spots 76 (first_state n) n) none
 
-pub is_tree : (o : Order) (b : List ℕ) (cs : List (List ℕ)) (root : Inode) (n : Names) (most deepest : ℕ) → Holds o b cs root n → suc (count n) ≤ most → height n ≤ min deepest 64
+pub is_tree : (o : Order) (b : List ℕ) (cs : List (List ℕ)) (root : Inode) (n : Names) (most deepest : ℕ)
+    → Holds o b cs root n → suc (count n) ≤ most → height n ≤ min deepest 64
     → IsTree o b most deepest (all_spots n)
 unfolding list_start end_of tree_of
 is_tree o b cs root n most deepest h few shallow =

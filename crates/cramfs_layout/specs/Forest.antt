@@ -10,4 +10,5 @@ spots l s nothing = none
 spots l s (leaf name i rest) = at l none (spots (l + entry_len name) (after_file s i) rest)
 spots l s (link name i rest) = at l none (spots (l + entry_len name) (after_file s i) rest)
 spots l s (folder name i own rest) =
-    at l (spots (pad4 s.at) (after_list s own) own) (spots (l + entry_len name) (after_names (after_list s own) own) rest)
+    at l (spots (pad4 s.at) (after_list s own) own)
+    (spots (l + entry_len name) (after_names (after_list s own) own) rest)

@@ -1,10 +1,11 @@
--- The items of a cramfs layout, one for each inode in the order of their places, and its sections. (This project's own.)
-use Rattle.std.specs.Prelude.{ℕ, ◌+◌, ◌*◌, ◌==◌, ◌||◌, Bool, if◌then◌else◌, List, [], ◌∷◌, ◌++◌}
+-- The items of a cramfs layout, one for each inode in the order of their places, and its sections. (This project's
+-- own.)
+use Rattle.std.specs.Prelude.{◌≡◌, ℕ, ◌+◌, ◌*◌, ◌==◌, ◌||◌, Bool, if◌then◌else◌, List, [], ◌∷◌, ◌++◌}
 use Rattle.std.specs.List.{list_any}
 use Rattle.cramfs_format.specs.declared.order.Order.{Order}
 use Rattle.cramfs_format.specs.Inode.{block_count}
 use Rattle.cramfs_format.specs.Refers.{root_place}
-use Rattle.name_tree.specs.Names.{Fill, no_bytes, Inode, Names, nothing, leaf, link, folder}
+use Rattle.name_tree.specs.Names.{Fill, no_bytes, source, Inode, Names, nothing, leaf, link, folder}
 use Rattle.layout_terms.specs.Items.{Item, Section, section, super, record_of, table_of, bytes_section, in_order}
 use Rattle.cramfs_layout.specs.Layout.{first_word, second_word, third_word, pad4, size_by, entry_len, list_len, State, Kept, nowhere, shared, fresh, kept, data_of, table_by, after_file, after_list, after_names, list_offset, first_state, root_offset}
 
@@ -81,3 +82,10 @@ sections_from earlier index (i ∷ is) =
 abbrev pub sections_of : List Item → List Section
 sections_of [] = section 0 76 super ∷ []
 sections_of (root ∷ is) = section 0 76 super ∷ in_order (sections_from [] 1 is)
+
+-- files with the contents of one source ask for one alignment, which A tells
+abbrev pub AreAlignedBy : (ℕ → ℕ) → Names → Type 0
+AreAlignedBy A nothing = Unit {0}
+AreAlignedBy A (leaf name i after) = ((k : ℕ) → i.fill ≡ source k → i.align ≡ A k) × AreAlignedBy A after
+AreAlignedBy A (link name i after) = AreAlignedBy A after
+AreAlignedBy A (folder name i own after) = AreAlignedBy A own × AreAlignedBy A after

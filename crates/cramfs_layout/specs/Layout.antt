@@ -1,9 +1,9 @@
 -- The layout of a cramfs image in a byte order: where its lists, tables and blocks stand, and its bytes (Linux
--- include/uapi/linux/cramfs_fs.h and Documentation/filesystems/cramfs.rst; the order, and that places are the least, are
--- this project's own). The root's list comes first, then for each of its entries in the order of names what that has: a
--- directory its list, and then in the same way what the entries of that have; a file or a link its table of block
--- pointers, and its blocks without gaps. Files with the contents of one source have one table and one run of blocks, which
--- stand where the first of them in this order has them. What is empty has no place.
+-- include/uapi/linux/cramfs_fs.h and Documentation/filesystems/cramfs.rst; the order, and that places are the least,
+-- are this project's own). The root's list comes first, then for each of its entries in the order of names what that
+-- has: a directory its list, and then in the same way what the entries of that have; a file or a link its table of
+-- block pointers, and its blocks without gaps. Files with the contents of one source have one table and one run of
+-- blocks, which stand where the first of them in this order has them. What is empty has no place.
 use Rattle.std.specs.Prelude.{ℕ, zero, suc, ◌+◌, ◌-◌, ◌*◌, ◌/◌, ◌^◌, if◌then◌else◌, ◌==◌, List, [], ◌∷◌, ◌++◌, length, replicate, take, drop, Option, Some, None}
 use Rattle.byteorder.specs.Endian.{big_bytes, little_bytes}
 use Rattle.rom_tree.specs.declared.types.Kind.{Kind}
@@ -212,8 +212,8 @@ root_offset (folder name i own after) = 76
 abbrev pub flags : ℕ
 flags = 2051
 
--- The superblock, without its crc: magic, size, flags, future, signature, crc, edition, blocks, files, the volume's name,
--- and the root's inode, which has no name.
+-- The superblock, without its crc: magic, size, flags, future, signature, crc, edition, blocks, files, the volume's
+-- name, and the root's inode, which has no name.
 unfoldable pub superblock : Order → List ℕ → Inode → Names → List ℕ
 superblock o volume root n =
     word_bytes o magic ++ (word_bytes o (size_of n) ++ (word_bytes o flags ++ (word_bytes o 0 ++ (signature

@@ -1,5 +1,5 @@
--- A volume that can be laid out as a cramfs image. (This project's own; 2^20 references and 64 names are the usual limits
--- of a check.)
+-- A volume that can be laid out as a cramfs image. (This project's own; 2^20 references and 64 names are the usual
+-- limits of a check.)
 use Rattle.std.specs.Prelude.{◌≢◌, ◌∷◌, ℕ, suc, ◌^◌, ◌≤◌, List, length}
 use Rattle.record_walk.specs.Members.{Pairs}
 use Rattle.name_tree.specs.Names.{Inode, Names}

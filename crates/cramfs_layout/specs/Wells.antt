@@ -53,7 +53,8 @@ abbrev pub AreWell : List (List ℕ) → Names → Type 0
 AreWell contents nothing = Unit {0}
 AreWell contents (leaf name i after) = IsName name after × IsFile contents i × AreWell contents after
 AreWell contents (link name i after) = ⊥
-AreWell contents (folder name i own after) = IsName name after × IsFolder i own × AreWell contents own × AreWell contents after
+AreWell contents (folder name i own after) =
+    IsName name after × IsFolder i own × AreWell contents own × AreWell contents after
 
 -- at t stands a table of blocks that hold these bytes, all of it behind the superblock and before `high`
 pub record IsStored (o : Order) (b bytes : List ℕ) (high t : ℕ) : Type 0 where
@@ -68,7 +69,8 @@ pub record IsStored (o : Order) (b bytes : List ℕ) (high t : ℕ) : Type 0 whe
 
 -- each table of a source is stored
 abbrev pub AreStored : Order → List ℕ → List (List ℕ) → ℕ → List Table → Type 0
-AreStored o b contents high ts = Every (λ (x : Table). IsStored o b (bytes_of contents (source x.source)) high x.place) ts
+AreStored o b contents high ts =
+    Every (λ (x : Table). IsStored o b (bytes_of contents (source x.source)) high x.place) ts
 
 -- the entries of a list from l on, and what they have, read as laid after s
 abbrev pub AllRead : Order → List ℕ → List (List ℕ) → ℕ → ℕ → State → Names → Type 0

@@ -2,8 +2,10 @@
 ghost use Rattle.std.specs.Prelude.{◌≡◌, List, ℕ, ◌^◌, length};
 ghost use Rattle.cramfs_format.specs.declared.order.Order.{Order};
 ghost use Rattle.cramfs_format.specs.Tree.{CramfsTree};
+ghost use Rattle.cramfs_layout.specs.Items.{AreAlignedBy, items_of, sections_of};
 ghost use Rattle.cramfs_layout.specs.Layout.{layout, size_of};
 ghost use Rattle.cramfs_layout.specs.Planned.{IsPlanned};
+ghost use Rattle.layout_terms.specs.Items.{SectionsRise};
 ghost use Rattle.name_tree.specs.Names.{Inode, Names};
 ghost use Rattle.name_tree.specs.Shape.{HasShape};
 ghost use Rattle.rom_tree.specs.Tree.{Node};
@@ -22,4 +24,12 @@ pub fn layout_length()
     ensures { (o : Order) (volume : List ℕ) (root : Inode) (n : Names) (contents : List (List ℕ))
         → IsPlanned volume root n contents
         → length (layout o volume root n contents) ≡ size_of n }
+{}
+
+/// The sections of a planned volume stand one after the other, none is empty, and the last ends
+/// within the image, where files with the contents of one source ask for one alignment.
+pub fn sections_rise()
+    ensures { (o : Order) (volume : List ℕ) (root : Inode) (n : Names) (contents : List (List ℕ)) (align : ℕ → ℕ)
+        → IsPlanned volume root n contents → AreAlignedBy align n
+        → SectionsRise 0 (size_of n) (sections_of (items_of o root n)) }
 {}

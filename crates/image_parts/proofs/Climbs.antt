@@ -13,11 +13,13 @@ pub climbs_later : (from up to : ℕ) (ss : List Span) → from ≤ up → Climb
 climbs_later from up to [] h k = omega arith
 climbs_later from up to (s ∷ ss) h k = let l = k.0 in (omega arith, k.1)
 
-pub climbs_added : (k : Extent) (from s n to : ℕ) (ss : List Span) → from ≤ s → Climbs (s + n) to ss → Climbs from to (added k s n ++ ss)
+pub climbs_added : (k : Extent) (from s n to : ℕ) (ss : List Span) → from ≤ s → Climbs (s + n) to ss
+    → Climbs from to (added k s n ++ ss)
 climbs_added k from s zero to ss h c = climbs_later from (s + 0) to ss (omega arith) c
 climbs_added k from s (suc n) to ss h c = (h, c)
 
-no_meeting : (x : Span) (from to : ℕ) (ss : List Span) (p : ℕ) → x.start + x.len ≤ from → Climbs from to ss → MeetsAt x ss p → ⊥
+no_meeting : (x : Span) (from to : ℕ) (ss : List Span) (p : ℕ) → x.start + x.len ≤ from → Climbs from to ss
+    → MeetsAt x ss p → ⊥
 no_meeting x from to [] p l c m = m
 no_meeting x from to (s ∷ ss) p l c (inl o) = let a = c.0 in let u = o.0.0.1.1 in let v = o.0.0.2.0 in omega arith
 no_meeting x from to (s ∷ ss) p l c (inr m) = let a = c.0 in no_meeting x (s.start + s.len) to ss p (omega arith) c.1 m

@@ -3,7 +3,8 @@ use Rattle.std.proofs.Common.{◌≡◌, ℕ, ◌-◌, List, [], ◌∷◌, ◌+
 use Rattle.std.proofs.lemmas.List.{length-replicate}
 use Rattle.image_parts.specs.Parts.{Part, end_of_part, with_part, laid, bytes_from, Rises}
 
-laid_at : (ps : List Part) (out : List ℕ) (at : ℕ) → at ≡ length out → Rises at ps → laid out ps ≡ out ++ bytes_from at ps
+laid_at : (ps : List Part) (out : List ℕ) (at : ℕ) → at ≡ length out → Rises at ps
+    → laid out ps ≡ out ++ bytes_from at ps
 unfolding with_part
 laid_at [] out at e h = sym (append-nil out)
 laid_at (p ∷ ps) out at e h =
@@ -15,5 +16,6 @@ laid_at (p ∷ ps) out at e h =
     ∙ ap (λ (v : List ℕ). out ++ v) (append_assoc gap p.bytes (bytes_from (end_of_part p) ps))
     ∙ ap (λ (k : ℕ). out ++ (replicate (p.place - k) 0 ++ (p.bytes ++ bytes_from (end_of_part p) ps))) (sym e)
 
-pub laid_from : (out : List ℕ) (ps : List Part) → Rises (length out) ps → laid out ps ≡ out ++ bytes_from (length out) ps
+pub laid_from : (out : List ℕ) (ps : List Part) → Rises (length out) ps
+    → laid out ps ≡ out ++ bytes_from (length out) ps
 laid_from out ps h = laid_at ps out (length out) refl h

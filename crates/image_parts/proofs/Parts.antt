@@ -18,7 +18,8 @@ laid_keeps out (p ∷ ps) =
     let pad = replicate (p.place - length out) 0 ++ p.bytes in
     (pad ++ r.0, r.1 ∙ append_assoc out pad r.0)
 
-pub length-laid : (out : List ℕ) (ps : List Part) → Rises (length out) ps → length (laid out ps) ≡ end_of_parts (length out) ps
+pub length-laid : (out : List ℕ) (ps : List Part) → Rises (length out) ps
+    → length (laid out ps) ≡ end_of_parts (length out) ps
 length-laid out [] h = refl
 length-laid out (p ∷ ps) h =
     let e = length-with_part out p h.0 in
@@ -29,7 +30,8 @@ laid-append out [] qs = refl
 laid-append out (p ∷ ps) qs = laid-append (with_part out p) ps qs
 
 -- what stands in the front stands in the whole
-pub HasAt-front : (front more : List ℕ) (place : ℕ) (bytes : List ℕ) → place ≤ length front → HasAt front place bytes → HasAt (front ++ more) place bytes
+pub HasAt-front : (front more : List ℕ) (place : ℕ) (bytes : List ℕ) → place ≤ length front → HasAt front place bytes
+    → HasAt (front ++ more) place bytes
 HasAt-front front more place bytes h (back, e) =
     (back ++ more, drop-append-le place front more h ∙ ap (λ (x : List ℕ). x ++ more) e ∙ append_assoc bytes back more)
 
@@ -51,7 +53,8 @@ HasParts-laid out (p ∷ ps) h =
     (subst (λ (x : List ℕ). HasAt x p.place p.bytes) (sym k.1) here, HasParts-laid (with_part out p) ps up)
 
 -- a range inside a part
-pub HasAt-inside : (b : List ℕ) (place : ℕ) (front bytes back : List ℕ) → HasAt b place (front ++ (bytes ++ back)) → HasAt b (place + length front) bytes
+pub HasAt-inside : (b : List ℕ) (place : ℕ) (front bytes back : List ℕ) → HasAt b place (front ++ (bytes ++ back))
+    → HasAt b (place + length front) bytes
 HasAt-inside b place front bytes back (more, e) =
     (back ++ more, sym (drop-drop (length front) place b) ∙ ap (λ (x : List ℕ). drop (length front) x) (e ∙ append_assoc front (bytes ++ back) more) ∙ drop_at front ((bytes ++ back) ++ more) (length front) refl ∙ append_assoc bytes back more)
 
@@ -59,12 +62,15 @@ HasAt-inside b place front bytes back (more, e) =
 pub gap-with_part : (out : List ℕ) (p : Part) (i : ℕ) → length out ≤ i → i < p.place → get_or (with_part out p) i 0 ≡ 0
 unfolding with_part
 gap-with_part out p i h k =
-    let z = replicate (p.place - length out) 0 in
-    let n : i - length out < length z = simp length-replicate (omega arith) in
-    get_or-append_right out (z ++ p.bytes) (length out) i 0 refl h ∙ get_or_append_left z p.bytes 0 (i - length out) n ∙ get_or-replicate (p.place - length out) (i - length out) 0 0 (omega arith)
+    let z = replicate {A = ℕ} (p.place - length out) 0 in
+    let len : length z ≡ p.place - length out = length-replicate {A = ℕ} (p.place - length out) 0 in
+    let m : i - length out < p.place - length out = omega arith in
+    let n : i - length out < length z = omega (arith, m, len) in
+    get_or-append_right out (z ++ p.bytes) (length out) i 0 refl h ∙ get_or_append_left z p.bytes 0 (i - length out) n ∙ get_or-replicate (p.place - length out) (i - length out) 0 0 m
 
 -- past the bytes so far, and outside the parts, all is zero
-pub zero_outside : (out : List ℕ) (ps : List Part) (i : ℕ) → Rises (length out) ps → AllByRecursion (IsOutside i) ps → length out ≤ i → get_or (laid out ps) i 0 ≡ 0
+pub zero_outside : (out : List ℕ) (ps : List Part) (i : ℕ) → Rises (length out) ps → AllByRecursion (IsOutside i) ps
+    → length out ≤ i → get_or (laid out ps) i 0 ≡ 0
 zero_outside out [] i h far past = get_or_past out i 0 past
 zero_outside out (p ∷ ps) i h far past =
     let e = length-with_part out p h.0 in
@@ -79,7 +85,8 @@ zero_outside out (p ∷ ps) i h far past =
 pub HasAt-before : (b : List ℕ) (p : ℕ) (front back : List ℕ) → HasAt b p (front ++ back) → HasAt b p front
 HasAt-before b p front back (more, e) = (back ++ more, e ∙ append_assoc front back more)
 
-pub HasAt-after : (b : List ℕ) (p : ℕ) (front back : List ℕ) → HasAt b p (front ++ back) → HasAt b (p + length front) back
+pub HasAt-after : (b : List ℕ) (p : ℕ) (front back : List ℕ) → HasAt b p (front ++ back)
+    → HasAt b (p + length front) back
 HasAt-after b p front back (more, e) =
     (more, sym (drop-drop (length front) p b) ∙ ap (λ (x : List ℕ). drop (length front) x) (e ∙ append_assoc front back more) ∙ drop_at front (back ++ more) (length front) refl)
 

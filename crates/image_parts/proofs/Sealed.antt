@@ -19,16 +19,19 @@ drop-sealed b p h k =
     ap (λ (q : ℕ). drop q (take 12 b ++ (w ++ drop 16 b))) e ∙ sym (drop-drop (p - 16) 16 (take 12 b ++ (w ++ drop 16 b)))
     ∙ ap (λ (x : List ℕ). drop (p - 16) (drop 16 x)) (sym (append_assoc (take 12 b) w (drop 16 b))) ∙ ap (drop (p - 16)) s ∙ drop-drop (p - 16) 16 b ∙ ap (λ (q : ℕ). drop q b) (sym e)
 
-pub HasAt-sealed : (b : List ℕ) (p : ℕ) (bytes : List ℕ) → 16 ≤ length b → 16 ≤ p → HasAt b p bytes → HasAt (sealed b) p bytes
+pub HasAt-sealed : (b : List ℕ) (p : ℕ) (bytes : List ℕ) → 16 ≤ length b → 16 ≤ p → HasAt b p bytes
+    → HasAt (sealed b) p bytes
 HasAt-sealed b p bytes h k (back, e) = (back, drop-sealed b p h k ∙ e)
 
-take_over : (front word back : List ℕ) (n : ℕ) → length front ≡ 12 → length word ≡ 4 → take (16 + n) (front ++ (word ++ back)) ≡ front ++ (word ++ take n back)
+take_over : (front word back : List ℕ) (n : ℕ) → length front ≡ 12 → length word ≡ 4
+    → take (16 + n) (front ++ (word ++ back)) ≡ front ++ (word ++ take n back)
 take_over front word back n h k =
     let l : 16 + n ≡ length (front ++ word) + n = omega (arith, length-append front word) in
     ap (take (16 + n)) (sym (append_assoc front word back)) ∙ ap (λ (q : ℕ). take q ((front ++ word) ++ back)) l ∙ take-append-add (front ++ word) back n ∙ append_assoc front word (take n back)
 
 -- the words from the front, with a zero word at 12
-total_around : (b : List ℕ) (n : ℕ) → 16 ≤ length b → HasAt b 12 (big_bytes 4 0) → words_total (take (16 + n) b) ≡ words_total (take 12 b) + words_total (take n (drop 16 b))
+total_around : (b : List ℕ) (n : ℕ) → 16 ≤ length b → HasAt b 12 (big_bytes 4 0)
+    → words_total (take (16 + n) b) ≡ words_total (take 12 b) + words_total (take n (drop 16 b))
 total_around b n h (back, e) =
     let z = big_bytes 4 0 in
     let front = take 12 b in

@@ -7,7 +7,8 @@ use Rattle.rom_fields.specs.Words.{word_be, words_total, words_sum}
 use Rattle.image_parts.specs.Sums.{balance, balanced}
 
 -- the sum of whole words in front, and of what follows
-pub words_total-append : (k : ℕ) (a b : List ℕ) → length a ≡ 4 * k → words_total (a ++ b) ≡ words_total a + words_total b
+pub words_total-append : (k : ℕ) (a b : List ℕ) → length a ≡ 4 * k
+    → words_total (a ++ b) ≡ words_total a + words_total b
 words_total-append k [] b h = omega arith
 words_total-append k (a ∷ []) b h = absurd (omega arith)
 words_total-append k (a ∷ c ∷ []) b h = absurd (omega arith)
@@ -26,7 +27,8 @@ unfolding balance
 balance_fits n = omega arith
 
 -- the total of a word alone
-pub words_total-word : (x : ℕ) (back : List ℕ) → x < 256 ^ 4 → words_total (big_bytes 4 x ++ back) ≡ x + words_total back
+pub words_total-word : (x : ℕ) (back : List ℕ) → x < 256 ^ 4
+    → words_total (big_bytes 4 x ++ back) ≡ x + words_total back
 words_total-word x back h =
     let e = big_number-reads_back 4 x [] h in
     ap (λ (n : ℕ). n + words_total back) e
@@ -41,6 +43,7 @@ words_sum-balanced k front back h =
     rw s (balance_is (words_total front + words_total back))
 
 -- a word that stands at a place is read there
-pub word_be-has : (b : List ℕ) (p x : ℕ) (more : List ℕ) → x < 256 ^ 4 → HasAt b p (big_bytes 4 x ++ more) → word_be b p ≡ x
+pub word_be-has : (b : List ℕ) (p x : ℕ) (more : List ℕ) → x < 256 ^ 4 → HasAt b p (big_bytes 4 x ++ more)
+    → word_be b p ≡ x
 unfolding word_be
 word_be-has b p x more h (back, e) = ap (big_number 4) (e ∙ append_assoc (big_bytes 4 x) more back) ∙ big_number-reads_back 4 x (more ++ back) h

@@ -1,5 +1,5 @@
--- What a planned image consists of: one item for each romfs header or cramfs inode, and sections, which are the bytes that
--- stand together. (This project's own.)
+-- What a planned image consists of: one item for each romfs header or cramfs inode, and sections, which are the bytes
+-- that stand together. (This project's own.)
 use Rattle.std.specs.Prelude.{ℕ, ◌+◌, ◌==◌, ◌<◌, ◌≤◌, if◌then◌else◌, nat_lt, List, [], ◌∷◌}
 use Rattle.name_tree.specs.Names.{Fill, no_bytes, text, source}
 

@@ -102,8 +102,10 @@ abbrev LeastNumber : (ℕ → Type 0) → Option ℕ → Type 0
 LeastNumber P None = (k : ℕ) → P k → ⊥
 LeastNumber P (Some n) = P n × ((k : ℕ) → P k → n ≤ k)
 
-number_is : (f : Format) (m : ManifestLines) (sizes : List ℕ) (l : Line) (h a b c d : Bool) → is_hard l.word ≡ h → Decides a (HasBadAttribute f (inode_of m.lines sizes l))
-    → Decides b (IsLarge f (inode_of m.lines sizes l).size) → Decides c (IsLong f (name_len (names_of l.path))) → Decides d (HasNoLinks f) → LeastNumber (HasMisfit f m sizes l) (number_by h a b c d)
+number_is : (f : Format) (m : ManifestLines) (sizes : List ℕ) (l : Line) (h a b c d : Bool) → is_hard l.word ≡ h
+    → Decides a (HasBadAttribute f (inode_of m.lines sizes l))
+    → Decides b (IsLarge f (inode_of m.lines sizes l).size) → Decides c (IsLong f (name_len (names_of l.path)))
+    → Decides d (HasNoLinks f) → LeastNumber (HasMisfit f m sizes l) (number_by h a b c d)
 number_is f m sizes l false true b c d e p q r s = (attribute refl e (p.0 refl), λ k x. positive k x)
   where
     positive : (k : ℕ) → HasMisfit f m sizes l k → 1 ≤ k
@@ -168,7 +170,8 @@ abbrev at_line : ℕ → Option ℕ → Option Fault
 at_line n None = None
 at_line n (Some k) = Some (fault k n)
 
-line_is : (f : Format) (m : ManifestLines) (sizes : List ℕ) (l : Line) (o : Option ℕ) → LeastNumber (HasMisfit f m sizes l) o → IsLeastFaultOf (OfLine f m sizes l) (at_line l.number o)
+line_is : (f : Format) (m : ManifestLines) (sizes : List ℕ) (l : Line) (o : Option ℕ)
+    → LeastNumber (HasMisfit f m sizes l) o → IsLeastFaultOf (OfLine f m sizes l) (at_line l.number o)
 line_is f m sizes l None h = record { here = tt; least = λ d x. h d.number x.1 }
 line_is f m sizes l (Some k) h = record { here = (refl, h.0); least = λ d x. inr (sym x.0, h.1 d.number x.1) }
 
@@ -176,7 +179,8 @@ abbrev pub of_lines : Format → ManifestLines → List ℕ → List Line → Op
 of_lines f m sizes [] = None
 of_lines f m sizes (l ∷ ls) = lesser_of_both (at_line l.number (number_of_line f m sizes l)) (of_lines f m sizes ls)
 
-lines_are : (f : Format) (m : ManifestLines) (sizes : List ℕ) (ls : List Line) → IsLeastFaultOf (λ e. Has (λ l. OfLine f m sizes l e) ls) (of_lines f m sizes ls)
+lines_are : (f : Format) (m : ManifestLines) (sizes : List ℕ) (ls : List Line)
+    → IsLeastFaultOf (λ e. Has (λ l. OfLine f m sizes l e) ls) (of_lines f m sizes ls)
 lines_are f m sizes [] = record { here = tt; least = λ d x. absurd x }
 lines_are f m sizes (l ∷ ls) =
     let i = inode_of m.lines sizes l in
@@ -192,14 +196,16 @@ abbrev volume_by : Bool → ℕ → Option Fault
 volume_by true n = Some (fault 3 n)
 volume_by false n = None
 
-volume_is : (f : Format) (m : ManifestLines) (b : Bool) → Decides b (IsLongVolume f (length m.volume)) → IsLeastFaultOf (OfVolume f m) (volume_by b m.volume_line)
+volume_is : (f : Format) (m : ManifestLines) (b : Bool) → Decides b (IsLongVolume f (length m.volume))
+    → IsLeastFaultOf (OfVolume f m) (volume_by b m.volume_line)
 volume_is f m true h = record { here = (h.0 refl, refl); least = λ d x. inr (ap (λ (e : Fault). e.at) (sym x.1), let n = ap (λ (e : Fault). e.number) x.1 in omega (arith, n)) }
 volume_is f m false h = record { here = tt; least = λ d x. let z : false ≡ true = h.1 x.0 in absurd (cc) }
 
 abbrev pub least_line : Format → ManifestLines → List ℕ → Option Fault
 least_line f m sizes = lesser_of_both (of_lines f m sizes m.lines) (volume_by (is_long_volume f (length m.volume)) m.volume_line)
 
-least_line_is : (f : Format) (m : ManifestLines) (sizes : List ℕ) → IsLeastFaultOf (HasLineMisfit f m sizes) (least_line f m sizes)
+least_line_is : (f : Format) (m : ManifestLines) (sizes : List ℕ)
+    → IsLeastFaultOf (HasLineMisfit f m sizes) (least_line f m sizes)
 least_line_is f m sizes =
     least_joined {P = λ e. Has (λ l. OfLine f m sizes l e) m.lines} {Q = OfVolume f m} {R = HasLineMisfit f m sizes} (λ e x. of_line x) (λ e x. of_volume x.0 x.1) either
     (of_lines f m sizes m.lines) (volume_by (is_long_volume f (length m.volume)) m.volume_line) (lines_are f m sizes m.lines) (volume_is f m (is_long_volume f (length m.volume)) (volume_decides f (length m.volume)))
@@ -234,7 +240,8 @@ abbrev pub whole_test : Format → ManifestLines → List ℕ → Bool
 whole_test f m sizes =
     nat_lt (2 ^ 28) (len_of f m sizes) || (has_long_lists f (tree_of m.lines sizes) || (nat_lt 64 (height (tree_of m.lines sizes)) || nat_lt (2 ^ 20) (references_of f m sizes)))
 
-whole_decides : (f : Format) (m : ManifestLines) (sizes : List ℕ) → Decides (whole_test f m sizes) (HasWholeMisfit f m sizes)
+whole_decides : (f : Format) (m : ManifestLines) (sizes : List ℕ)
+    → Decides (whole_test f m sizes) (HasWholeMisfit f m sizes)
 whole_decides f m sizes =
     let n = tree_of m.lines sizes in
     let d = Decides-or (nat_lt (2 ^ 28) (len_of f m sizes)) (has_long_lists f n || (nat_lt 64 (height n) || nat_lt (2 ^ 20) (references_of f m sizes))) (Decides-ltb (2 ^ 28) (len_of f m sizes))
@@ -242,13 +249,15 @@ whole_decides f m sizes =
     (Decides-or (nat_lt 64 (height n)) (nat_lt (2 ^ 20) (references_of f m sizes)) (Decides-ltb 64 (height n)) (Decides-ltb (2 ^ 20) (references_of f m sizes)))) in
     (λ e. to (d.0 e), λ h. d.1 (from h))
   where
-    to : (2 ^ 28 < len_of f m sizes) ⊎ (HasLongLists f (tree_of m.lines sizes) ⊎ ((64 < height (tree_of m.lines sizes)) ⊎ (2 ^ 20 < references_of f m sizes))) → HasWholeMisfit f m sizes
+    to : (2 ^ 28 < len_of f m sizes) ⊎ (HasLongLists f (tree_of m.lines sizes) ⊎ ((64 < height (tree_of m.lines sizes)) ⊎ (2 ^ 20 < references_of f m sizes)))
+        → HasWholeMisfit f m sizes
     to (inl x) = long x
     to (inr (inl x)) = long_list x
     to (inr (inr (inl x))) = deep x
     to (inr (inr (inr x))) = many x
 
-    from : HasWholeMisfit f m sizes → (2 ^ 28 < len_of f m sizes) ⊎ (HasLongLists f (tree_of m.lines sizes) ⊎ ((64 < height (tree_of m.lines sizes)) ⊎ (2 ^ 20 < references_of f m sizes)))
+    from : HasWholeMisfit f m sizes
+        → (2 ^ 28 < len_of f m sizes) ⊎ (HasLongLists f (tree_of m.lines sizes) ⊎ ((64 < height (tree_of m.lines sizes)) ⊎ (2 ^ 20 < references_of f m sizes)))
     from (long x) = inl x
     from (long_list x) = inr (inl x)
     from (deep x) = inr (inr (inl x))
@@ -273,12 +282,14 @@ Told f m sizes (Some e) = IsLeastMisfit f m sizes e
 pub told : (f : Format) (m : ManifestLines) (sizes : List ℕ) → Told f m sizes (least_misfit f m sizes)
 told f m sizes = by (least_line f m sizes) (whole_test f m sizes) (least_line_is f m sizes) (whole_decides f m sizes)
   where
-    by : (o : Option Fault) (b : Bool) → IsLeastFaultOf (HasLineMisfit f m sizes) o → Decides b (HasWholeMisfit f m sizes) → Told f m sizes (else_whole o b)
+    by : (o : Option Fault) (b : Bool) → IsLeastFaultOf (HasLineMisfit f m sizes) o
+        → Decides b (HasWholeMisfit f m sizes) → Told f m sizes (else_whole o b)
     by (Some e) b h d = line_misfit (record { here = h.here; least = λ c x. h.least c x })
     by None true h d = whole_misfit (λ e x. h.least e x) (d.0 refl) refl
     by None false h d = record { lines = λ e x. h.least e x; whole = λ x. let z : false ≡ true = d.1 x in absurd (cc) }
 
-pub answered : (f : Format) (m : ManifestLines) (sizes : List ℕ) → MatchOption (least_misfit f m sizes) (HasNoMisfit f m sizes) (IsLeastMisfit f m sizes)
+pub answered : (f : Format) (m : ManifestLines) (sizes : List ℕ)
+    → MatchOption (least_misfit f m sizes) (HasNoMisfit f m sizes) (IsLeastMisfit f m sizes)
 answered f m sizes = by (least_misfit f m sizes) (told f m sizes)
   where
     by : (o : Option Fault) → Told f m sizes o → MatchOption o (HasNoMisfit f m sizes) (IsLeastMisfit f m sizes)

@@ -1,5 +1,5 @@
 -- Manifests that fit, and misfits of others, by computing.
-use Rattle.std.proofs.Common.{◌≡◌, ℕ, List, [], ◌∷◌, ◌++◌, replicate, refl, subst, codes, Option, Some, None, Result, Ok, Err}
+use Rattle.std.proofs.Common.{◌≡◌, ℕ, zero, suc, List, [], ◌∷◌, ◌++◌, replicate, refl, subst, codes, Option, Some, None, Result, Ok, Err}
 use Rattle.percent_encoding.specs.Percent.{percent_decode}
 use Rattle.rom_faults.specs.declared.fault.Fault.{Fault}
 use Rattle.manifest.specs.Texts.{octal, decimal}
@@ -176,3 +176,25 @@ line_before_whole = tells romfs (268435456 ∷ []) (manifest_of (lines (codes "f
 line_before_volume : Tells (cramfs Little) [] (manifest_of (lines (codes "dir /d 0755 65536 0" ∷ codes "volume seventeen_letters" ∷ []))) (Some (fault ATTRIBUTE 1))
 unfolding lines manifest_of read numbers_of fault_of octal decimal names_of is_bad_name percent_decode tree_of root_of file_at inode_of place_of data_align device_of code_of size_of kept data_of
 line_before_volume = tells (cramfs Little) [] (manifest_of (lines (codes "dir /d 0755 65536 0" ∷ codes "volume seventeen_letters" ∷ []))) (Some (fault ATTRIBUTE 1)) refl
+
+-- directories of the name `d`, each in the one before
+path_of_ds : ℕ → List ℕ
+path_of_ds zero = []
+path_of_ds (suc n) = 47 ∷ 100 ∷ path_of_ds n
+
+dirs : ℕ → ℕ → List (List ℕ)
+dirs deep zero = []
+dirs deep (suc n) = (codes "dir " ++ (path_of_ds deep ++ codes " 0755 0 0")) ∷ dirs (suc deep) n
+
+-- 64 directories in one another fit, and 65 are too deep as a whole
+deepest : Tells romfs [] (manifest_of (lines (dirs 1 64))) None
+unfolding lines dirs path_of_ds manifest_of read numbers_of fault_of octal decimal names_of is_bad_name percent_decode tree_of root_of file_at inode_of place_of data_align device_of code_of size_of kept data_of
+deepest = tells romfs [] (manifest_of (lines (dirs 1 64))) None refl
+
+too_deep : Tells romfs [] (manifest_of (lines (dirs 1 65))) (Some (fault TOO_LARGE 0))
+unfolding lines dirs path_of_ds manifest_of read numbers_of fault_of octal decimal names_of is_bad_name percent_decode tree_of root_of file_at inode_of place_of data_align device_of code_of size_of kept data_of
+too_deep = tells romfs [] (manifest_of (lines (dirs 1 65))) (Some (fault TOO_LARGE 0)) refl
+
+too_deep_in_cramfs : Tells (cramfs Little) [] (manifest_of (lines (dirs 1 65))) (Some (fault TOO_LARGE 0))
+unfolding lines dirs path_of_ds manifest_of read numbers_of fault_of octal decimal names_of is_bad_name percent_decode tree_of root_of file_at inode_of place_of data_align device_of code_of size_of kept data_of
+too_deep_in_cramfs = tells (cramfs Little) [] (manifest_of (lines (dirs 1 65))) (Some (fault TOO_LARGE 0)) refl

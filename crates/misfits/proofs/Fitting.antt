@@ -7,6 +7,7 @@ use Rattle.misfits.specs.Misfit.{HasNoMisfit}
 use Rattle.misfits.proofs.PlannedRomfs as in_romfs
 use Rattle.misfits.proofs.PlannedCramfs as in_cramfs
 
-pub fitting : (f : Format) (m : ManifestLines) (cs : List (List ℕ)) → IsManifest m → HasNoMisfit f m (map length cs) → IsPlannedBy f m cs
+pub fitting : (f : Format) (m : ManifestLines) (cs : List (List ℕ)) → IsManifest m → HasNoMisfit f m (map length cs)
+    → IsPlannedBy f m cs
 fitting romfs m cs h n = in_romfs.planned m cs h n
 fitting (cramfs o) m cs h n = in_cramfs.planned o m cs h n

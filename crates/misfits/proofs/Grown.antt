@@ -60,7 +60,8 @@ inode_line all sizes l = by l.word
 abbrev OneMore : Inode → List Inode → List Inode → Type 0
 OneMore i old new = (xs ys : List Inode) × (old ≡ xs ++ ys) × (new ≡ xs ++ i ∷ ys)
 
-file_more : (w : Word) (i : Inode) (old new : List Inode) → is_hard w ≡ false → MoreFiles (what_by w i) old new → OneMore i old new
+file_more : (w : Word) (i : Inode) (old new : List Inode) → is_hard w ≡ false → MoreFiles (what_by w i) old new
+    → OneMore i old new
 file_more Dir i old new h m = m
 file_more File i old new h m = m
 file_more Slink i old new h m = m
@@ -71,7 +72,8 @@ file_more Socket i old new h m = m
 file_more Hard i old new h m = absurd (cc)
 file_more Same i old new h m = m
 
-link_more : (w : Word) (i : Inode) (old new : List Inode) → is_hard w ≡ true → MoreFiles (what_by w i) old new → old ≡ new
+link_more : (w : Word) (i : Inode) (old new : List Inode) → is_hard w ≡ true → MoreFiles (what_by w i) old new
+    → old ≡ new
 link_more Dir i old new h m = absurd (cc)
 link_more File i old new h m = absurd (cc)
 link_more Slink i old new h m = absurd (cc)
@@ -83,7 +85,8 @@ link_more Hard i old new h m = m
 link_more Same i old new h m = absurd (cc)
 
 -- one more among members that differ from it
-pairs_more : {X : Type 0} (R : X → X → Type 0) → ((x y : X) → R x y → R y x) → (xs ys : List X) (x : X) → Pairs R (xs ++ ys) → Every (R x) (xs ++ ys) → Pairs R (xs ++ x ∷ ys)
+pairs_more : {X : Type 0} (R : X → X → Type 0) → ((x y : X) → R x y → R y x) → (xs ys : List X) (x : X)
+    → Pairs R (xs ++ ys) → Every (R x) (xs ++ ys) → Pairs R (xs ++ x ∷ ys)
 pairs_more R flip [] ys x h e = (e, h)
 pairs_more R flip (z ∷ zs) ys x h e = (every_put (R z) zs ys x h.0 (flip x z e.0), pairs_more R flip zs ys x h.1 e.1)
 
@@ -95,7 +98,8 @@ owned_later : (l : Line) (ls : List Line) (is : List Inode) → Every (IsOwned l
 owned_later l ls is h = every_weaker (IsOwned ls) (IsOwned (l ∷ ls)) (λ i k. inr k) is h
 
 -- a file of a line differs from those of others, by their numbers
-new_line : (l : Line) (ls : List Line) (i : Inode) (is : List Inode) → i.line ≡ l.number → Every (λ k. l.number ≢ k.number) ls → Every (IsOwned ls) is → Every (λ j. i.line ≢ j.line) is
+new_line : (l : Line) (ls : List Line) (i : Inode) (is : List Inode) → i.line ≡ l.number
+    → Every (λ k. l.number ≢ k.number) ls → Every (IsOwned ls) is → Every (λ j. i.line ≢ j.line) is
 new_line l ls i is e far owned = every_weaker (IsOwned ls) (λ j. i.line ≢ j.line) differ is owned
   where
     differ : (j : Inode) → IsOwned ls j → i.line ≢ j.line
@@ -109,7 +113,8 @@ not_named r (Some ns) h e = cc
 
 module _ (P : List ℕ → What → Type 0) (all : List Line) (sizes : List ℕ) (latest : List Line) where
   -- a line about the root adds nothing
-  root_line : (l : Line) (ls : List Line) (n : Names) → names_of l.path ≡ Some [] → IsGrown P all sizes ls n → IsGrown P all sizes (l ∷ ls) n
+  root_line : (l : Line) (ls : List Line) (n : Names) → names_of l.path ≡ Some [] → IsGrown P all sizes ls n
+      → IsGrown P all sizes (l ∷ ls) n
   root_line l ls n e g = record {
     sorted = g.sorted;
     hold = g.hold;
@@ -121,8 +126,10 @@ module _ (P : List ℕ → What → Type 0) (all : List Line) (sizes : List ℕ)
     different m ms z = cc
 
   -- a line with this file and these names
-  named_line : (l : Line) (ls : List Line) (n : Names) (h : HasFile all sizes latest l) (m : List ℕ) (ms : List (List ℕ)) → names_of l.path ≡ Some (m ∷ ms) → P (last_of m ms) (what_by l.word h.inode)
-      → Every (λ k. l.number ≢ k.number) ls → is_parent (but_last (m ∷ ms)) n ≡ true → found (m ∷ ms) n ≡ None → IsGrown P all sizes ls n → IsGrown P all sizes (l ∷ ls) (put_at (what_by l.word h.inode) (m ∷ ms) n)
+  named_line : (l : Line) (ls : List Line) (n : Names) (h : HasFile all sizes latest l) (m : List ℕ) (ms : List (List ℕ))
+      → names_of l.path ≡ Some (m ∷ ms) → P (last_of m ms) (what_by l.word h.inode)
+      → Every (λ k. l.number ≢ k.number) ls → is_parent (but_last (m ∷ ms)) n ≡ true → found (m ∷ ms) n ≡ None
+      → IsGrown P all sizes ls n → IsGrown P all sizes (l ∷ ls) (put_at (what_by l.word h.inode) (m ∷ ms) n)
   named_line l ls n h m ms e p far parent none g = by (is_hard l.word) refl
     where
       w : What
@@ -166,18 +173,22 @@ module _ (P : List ℕ → What → Type 0) (all : List Line) (sizes : List ℕ)
           }
 
   -- one line more
-  line_more : (l : Line) (ls : List Line) (n : Names) (h : HasFile all sizes latest l) → fault_of ls l ≡ None → IsFaultless l → Gives P all sizes latest l → Every (λ k. l.number ≢ k.number) ls → HaveFiles all sizes ls
-      → ((k : List ℕ) (ks : List (List ℕ)) → found (k ∷ ks) n ≡ found_by all sizes ls (k ∷ ks)) → IsGrown P all sizes ls n → IsGrown P all sizes (l ∷ ls) (put_line l (Some h.inode) (names_of l.path) n)
+  line_more : (l : Line) (ls : List Line) (n : Names) (h : HasFile all sizes latest l) → fault_of ls l ≡ None
+      → IsFaultless l → Gives P all sizes latest l → Every (λ k. l.number ≢ k.number) ls → HaveFiles all sizes ls
+      → ((k : List ℕ) (ks : List (List ℕ)) → found (k ∷ ks) n ≡ found_by all sizes ls (k ∷ ks))
+      → IsGrown P all sizes ls n → IsGrown P all sizes (l ∷ ls) (put_line l (Some h.inode) (names_of l.path) n)
   line_more l ls n h f clean gives far files same g = by (names_of l.path) refl
     where
-      by : (o : Option (List (List ℕ))) → names_of l.path ≡ o → IsGrown P all sizes (l ∷ ls) (put_line l (Some h.inode) o n)
+      by : (o : Option (List (List ℕ))) → names_of l.path ≡ o
+          → IsGrown P all sizes (l ∷ ls) (put_line l (Some h.inode) o n)
       by None e = absurd (not_named (is_dir l.word) (names_of l.path) clean.path e)
       by (Some []) e = root_line l ls n e g
       by (Some (m ∷ ms)) e = named_line l ls n h m ms e (gives h m ms e) far (parent_there all sizes l ls m ms n f files e same)
           (same m ms ∙ ap (option_and_then (as_found all sizes)) (none_named ls l.path m ms e (sound_place ls l f).1)) g
 
   -- the names of lines, from the last to the first
-  pub grown_is : (ls : List Line) → AreChecked ls → HaveFiles all sizes ls → Pairs (λ l k. l.number ≢ k.number) ls → Every (HasFile all sizes latest) ls → Every IsFaultless ls → Every (Gives P all sizes latest) ls
+  pub grown_is : (ls : List Line) → AreChecked ls → HaveFiles all sizes ls → Pairs (λ l k. l.number ≢ k.number) ls
+      → Every (HasFile all sizes latest) ls → Every IsFaultless ls → Every (Gives P all sizes latest) ls
       → IsGrown P all sizes ls (grown_by all sizes ls)
   grown_is [] c f p h s g = record { sorted = tt; hold = tt; owned = tt; apart = tt; there = tt }
   grown_is (l ∷ ls) c f p h s g =

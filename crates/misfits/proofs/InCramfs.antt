@@ -34,7 +34,8 @@ sayable o i h =
     let b = below_by 255 i.minor (λ l. h (inr (inr (inr l)))) in
     record { owner = (omega arith, omega arith); major = omega arith; minor = omega arith }
 
-file_is : (cs : List (List ℕ)) (i : Inode) → IsSayable i → i.mode < 4096 → (2 ^ 24 ≤ i.size → ⊥) → FitsKind i.kind i → length (bytes_of cs i.fill) ≡ i.size → IsAligned i.align → IsFile cs i
+file_is : (cs : List (List ℕ)) (i : Inode) → IsSayable i → i.mode < 4096 → (2 ^ 24 ≤ i.size → ⊥) → FitsKind i.kind i
+    → length (bytes_of cs i.fill) ≡ i.size → IsAligned i.align → IsFile cs i
 file_is cs i s m t k e a = record { kind = k; mode = m; owner = s.owner; bytes = e; small = under_by (2 ^ 24) i.size t; fours = a.fours; some = a.some_fours; aligned = a.of_four }
 
 -- each alignment of a `file` line is one
@@ -42,8 +43,11 @@ abbrev pub AreAligned : List Line → Type 0
 AreAligned ls = Every (λ k. is_file k.word ≡ true → IsAligned k.align) ls
 
 module _ (o : Order) where
-  contents_are : (cs : List (List ℕ)) (all : List Line) (l : Line) (x : Option Line) → AreAligned (reverse all) → filed (reverse all) l.path ≡ x → (l.major ≡ 0) × (l.minor ≡ 0) → l.mode < 4096
-      → (HasBadAttribute (cramfs o) (with_contents all (map length cs) l x) → ⊥) → (2 ^ 24 ≤ (with_contents all (map length cs) l x).size → ⊥) → IsFile cs (with_contents all (map length cs) l x)
+  contents_are : (cs : List (List ℕ)) (all : List Line) (l : Line) (x : Option Line) → AreAligned (reverse all)
+      → filed (reverse all) l.path ≡ x → (l.major ≡ 0) × (l.minor ≡ 0) → l.mode < 4096
+      → (HasBadAttribute (cramfs o) (with_contents all (map length cs) l x) → ⊥)
+      → (2 ^ 24 ≤ (with_contents all (map length cs) l x).size → ⊥)
+      → IsFile cs (with_contents all (map length cs) l x)
   contents_are cs all l None a e z m h t = file_is cs (plain l kind.Regular 4 0 no_bytes) (sayable o (plain l kind.Regular 4 0 no_bytes) h) m t z refl four_aligned
   contents_are cs all l (Some x) a e z m h t =
       let k = sources_before x.number all in
@@ -51,8 +55,10 @@ module _ (o : Order) where
       let f = filed_member (reverse all) l.path x e in
       file_is cs i (sayable o i h) m t z (size_is cs k) (has_of (λ (y : Line). is_file y.word ≡ true → IsAligned y.align) (reverse all) x f.0 a f.1)
 
-  made_by : (cs : List (List ℕ)) (all : List Line) (l : Line) (w : Word) → l.word ≡ w → is_hard w ≡ false → is_dir w ≡ false → AreAligned (reverse all) → IsLine l → IsFaultless l
-      → (HasBadAttribute (cramfs o) (inode_by all (map length cs) w l) → ⊥) → (2 ^ 24 ≤ (inode_by all (map length cs) w l).size → ⊥) → IsFile cs (inode_by all (map length cs) w l)
+  made_by : (cs : List (List ℕ)) (all : List Line) (l : Line) (w : Word) → l.word ≡ w → is_hard w ≡ false
+      → is_dir w ≡ false → AreAligned (reverse all) → IsLine l → IsFaultless l
+      → (HasBadAttribute (cramfs o) (inode_by all (map length cs) w l) → ⊥)
+      → (2 ^ 24 ≤ (inode_by all (map length cs) w l).size → ⊥) → IsFile cs (inode_by all (map length cs) w l)
   made_by cs all l Dir e h d a i f b t = absurd (cc)
   made_by cs all l Hard e h d a i f b t = absurd (cc)
   made_by cs all l File e h d a i f b t = contents_are cs all l (filed (reverse all) l.path) a refl (i.numbers (ap is_device e)) i.mode b t
@@ -68,12 +74,16 @@ module _ (o : Order) where
   made_by cs all l Fifo e h d a i f b t = let n = plain l kind.Fifo 4 0 no_bytes in let z = i.numbers (ap is_device e) in file_is cs n (sayable o n b) i.mode t (z.0, z.1, refl) refl four_aligned
   made_by cs all l Socket e h d a i f b t = let n = plain l kind.Socket 4 0 no_bytes in let z = i.numbers (ap is_device e) in file_is cs n (sayable o n b) i.mode t (z.0, z.1, refl) refl four_aligned
 
-  pub file_made : (cs : List (List ℕ)) (all : List Line) (l : Line) → is_hard l.word ≡ false → is_dir l.word ≡ false → AreAligned (reverse all) → IsLine l → IsFaultless l
-      → (HasBadAttribute (cramfs o) (inode_of all (map length cs) l) → ⊥) → (2 ^ 24 ≤ (inode_of all (map length cs) l).size → ⊥) → IsFile cs (inode_of all (map length cs) l)
+  pub file_made : (cs : List (List ℕ)) (all : List Line) (l : Line) → is_hard l.word ≡ false → is_dir l.word ≡ false
+      → AreAligned (reverse all) → IsLine l → IsFaultless l
+      → (HasBadAttribute (cramfs o) (inode_of all (map length cs) l) → ⊥)
+      → (2 ^ 24 ≤ (inode_of all (map length cs) l).size → ⊥) → IsFile cs (inode_of all (map length cs) l)
   unfolding inode_of
   file_made cs all l h d a i f b t = made_by cs all l l.word refl h d a i f b t
 
-  folder_by : (all : List Line) (sizes : List ℕ) (l : Line) (own : Names) (w : Word) → l.word ≡ w → is_dir w ≡ true → IsLine l → (HasBadAttribute (cramfs o) (inode_by all sizes w l) → ⊥) → list_len own < 2 ^ 24 → IsFolder (inode_by all sizes w l) own
+  folder_by : (all : List Line) (sizes : List ℕ) (l : Line) (own : Names) (w : Word) → l.word ≡ w → is_dir w ≡ true
+      → IsLine l → (HasBadAttribute (cramfs o) (inode_by all sizes w l) → ⊥) → list_len own < 2 ^ 24
+      → IsFolder (inode_by all sizes w l) own
   folder_by all sizes l own Dir e d i b t =
       let n = plain l kind.Directory 4 0 no_bytes in
       let s = sayable o n b in
@@ -87,7 +97,9 @@ module _ (o : Order) where
   folder_by all sizes l own Hard e d i b t = absurd (cc)
   folder_by all sizes l own Same e d i b t = absurd (cc)
 
-  pub folder_made : (all : List Line) (sizes : List ℕ) (l : Line) (own : Names) → is_dir l.word ≡ true → IsLine l → (HasBadAttribute (cramfs o) (inode_of all sizes l) → ⊥) → list_len own < 2 ^ 24 → IsFolder (inode_of all sizes l) own
+  pub folder_made : (all : List Line) (sizes : List ℕ) (l : Line) (own : Names) → is_dir l.word ≡ true → IsLine l
+      → (HasBadAttribute (cramfs o) (inode_of all sizes l) → ⊥) → list_len own < 2 ^ 24
+      → IsFolder (inode_of all sizes l) own
   unfolding inode_of
   folder_made all sizes l own d i b t = folder_by all sizes l own l.word refl d i b t
 

@@ -42,7 +42,8 @@ data_aligned : (i : Inode) → IsAligned i.align → (k : ℕ) × (0 < k) × (da
 unfolding data_align
 data_aligned i h = elim (i.size == 0) as (λ t. (k : ℕ) × (0 < k) × ((if t then 16 else max 16 i.align) ≡ 16 * k)) [ true ↦ (1, omega arith, refl) | false ↦ (h.sixteens, h.some, h.of_sixteen) ]
 
-file_is : (cs : List (List ℕ)) (i : Inode) → IsSayable i → FitsKind i.kind i → length (bytes_of cs i.fill) ≡ i.size → IsAligned i.align → IsFile cs i
+file_is : (cs : List (List ℕ)) (i : Inode) → IsSayable i → FitsKind i.kind i → length (bytes_of cs i.fill) ≡ i.size
+    → IsAligned i.align → IsFile cs i
 file_is cs i s k e a =
     let d = data_aligned i a in
     record { kind = k; mode = s.mode; owner = s.owner; bytes = e; sixteens = d.0; some = d.1; aligned = d.2 }
@@ -51,8 +52,10 @@ file_is cs i s k e a =
 abbrev pub AreAligned : List Line → Type 0
 AreAligned ls = Every (λ k. is_file k.word ≡ true → IsAligned k.align) ls
 
-contents_are : (cs : List (List ℕ)) (all : List Line) (l : Line) (o : Option Line) → AreAligned (reverse all) → filed (reverse all) l.path ≡ o → (l.major ≡ 0) × (l.minor ≡ 0)
-    → (HasBadAttribute romfs (with_contents all (map length cs) l o) → ⊥) → IsFile cs (with_contents all (map length cs) l o)
+contents_are : (cs : List (List ℕ)) (all : List Line) (l : Line) (o : Option Line) → AreAligned (reverse all)
+    → filed (reverse all) l.path ≡ o → (l.major ≡ 0) × (l.minor ≡ 0)
+    → (HasBadAttribute romfs (with_contents all (map length cs) l o) → ⊥)
+    → IsFile cs (with_contents all (map length cs) l o)
 contents_are cs all l None a e z h = file_is cs (plain l kind.Regular 4 0 no_bytes) (sayable (plain l kind.Regular 4 0 no_bytes) h) z refl four_aligned
 contents_are cs all l (Some x) a e z h =
     let k = sources_before x.number all in
@@ -60,7 +63,8 @@ contents_are cs all l (Some x) a e z h =
     let m = filed_member (reverse all) l.path x e in
     file_is cs i (sayable i h) z (size_is cs k) (has_of (λ (y : Line). is_file y.word ≡ true → IsAligned y.align) (reverse all) x m.0 a m.1)
 
-made_by : (cs : List (List ℕ)) (all : List Line) (l : Line) (w : Word) → l.word ≡ w → is_hard w ≡ false → is_dir w ≡ false → AreAligned (reverse all) → IsLine l → IsFaultless l
+made_by : (cs : List (List ℕ)) (all : List Line) (l : Line) (w : Word) → l.word ≡ w → is_hard w ≡ false
+    → is_dir w ≡ false → AreAligned (reverse all) → IsLine l → IsFaultless l
     → (HasBadAttribute romfs (inode_by all (map length cs) w l) → ⊥) → IsFile cs (inode_by all (map length cs) w l)
 made_by cs all l Dir e h d a i f b = absurd (cc)
 made_by cs all l Hard e h d a i f b = absurd (cc)
@@ -77,12 +81,14 @@ made_by cs all l Character e h d a i f b = let n = plain l kind.Character 4 0 no
 made_by cs all l Fifo e h d a i f b = let n = plain l kind.Fifo 4 0 no_bytes in let z = i.numbers (ap is_device e) in file_is cs n (sayable n b) (z.0, z.1, refl) refl four_aligned
 made_by cs all l Socket e h d a i f b = let n = plain l kind.Socket 4 0 no_bytes in let z = i.numbers (ap is_device e) in file_is cs n (sayable n b) (z.0, z.1, refl) refl four_aligned
 
-pub file_made : (cs : List (List ℕ)) (all : List Line) (l : Line) → is_hard l.word ≡ false → is_dir l.word ≡ false → AreAligned (reverse all) → IsLine l → IsFaultless l
+pub file_made : (cs : List (List ℕ)) (all : List Line) (l : Line) → is_hard l.word ≡ false → is_dir l.word ≡ false
+    → AreAligned (reverse all) → IsLine l → IsFaultless l
     → (HasBadAttribute romfs (inode_of all (map length cs) l) → ⊥) → IsFile cs (inode_of all (map length cs) l)
 unfolding inode_of
 file_made cs all l h d a i f b = made_by cs all l l.word refl h d a i f b
 
-folder_by : (all : List Line) (sizes : List ℕ) (l : Line) (w : Word) → l.word ≡ w → is_dir w ≡ true → IsLine l → (HasBadAttribute romfs (inode_by all sizes w l) → ⊥) → IsFolder (inode_by all sizes w l)
+folder_by : (all : List Line) (sizes : List ℕ) (l : Line) (w : Word) → l.word ≡ w → is_dir w ≡ true → IsLine l
+    → (HasBadAttribute romfs (inode_by all sizes w l) → ⊥) → IsFolder (inode_by all sizes w l)
 folder_by all sizes l Dir e d i b =
     let n = plain l kind.Directory 4 0 no_bytes in
     let s = sayable n b in
@@ -96,7 +102,8 @@ folder_by all sizes l Socket e d i b = absurd (cc)
 folder_by all sizes l Hard e d i b = absurd (cc)
 folder_by all sizes l Same e d i b = absurd (cc)
 
-pub folder_made : (all : List Line) (sizes : List ℕ) (l : Line) → is_dir l.word ≡ true → IsLine l → (HasBadAttribute romfs (inode_of all sizes l) → ⊥) → IsFolder (inode_of all sizes l)
+pub folder_made : (all : List Line) (sizes : List ℕ) (l : Line) → is_dir l.word ≡ true → IsLine l
+    → (HasBadAttribute romfs (inode_of all sizes l) → ⊥) → IsFolder (inode_of all sizes l)
 unfolding inode_of
 folder_made all sizes l d i b = folder_by all sizes l l.word refl d i b
 

@@ -9,8 +9,6 @@ use Rattle.rom_faults.specs.declared.fault.Fault.{Fault}
 use Rattle.record_walk.specs.Members.{Has, Pairs}
 use Rattle.record_walk.proofs.Lists.{every_weaker, every_of, every_left, every_right, has_every, has_weaker, pairs_pick}
 use Rattle.manifest.specs.declared.line.Line.{Line}
-use Rattle.manifest.specs.declared.line.Word.{Word}
-use Rattle.manifest.specs.declared.line.Word.TheVariants.{Dir, File, Slink, Block, Character, Fifo, Socket, Hard, Same}
 use Rattle.manifest.specs.Paths.{names_of, is_bad_path}
 use Rattle.manifest.specs.Texts.{is_bad}
 use Rattle.manifest.specs.Grammar.{IsManifest}
@@ -19,6 +17,7 @@ use Rattle.manifest.proofs.Checked.{AreChecked, checked_lines}
 use Rattle.name_tree.specs.Names.{Inode}
 use Rattle.name_tree.specs.Tree.{inode_of, file_at, root_of, bare_root, or_else}
 use Rattle.name_tree.proofs.Law.{HaveFiles, have_files}
+use Rattle.misfits.proofs.Bools.{same_some, dir_not_hard}
 use Rattle.misfits.specs.Format.{Format}
 use Rattle.misfits.specs.Misfit.{HasMisfit, of_line, HasNoMisfit}
 use Rattle.misfits.proofs.Written.{IsLine, IsWritten, written}
@@ -62,7 +61,8 @@ pub record IsKnown (f : Format) (m : ManifestLines) (sizes : List ℕ) (latest :
   pub aligned : Every (λ k. is_file k.word ≡ true → IsAligned k.align) (reverse m.lines)
   pub volume : is_bad 255 m.volume ≡ false
 
-pub known : (f : Format) (m : ManifestLines) (sizes : List ℕ) → IsManifest m → HasNoMisfit f m sizes → (latest : List Line) × IsKnown f m sizes latest
+pub known : (f : Format) (m : ManifestLines) (sizes : List ℕ) → IsManifest m → HasNoMisfit f m sizes
+    → (latest : List Line) × IsKnown f m sizes latest
 known f m sizes h n =
     let c = checked_lines m h.0 h.1 in
     let w = written m h.0 h.1 in
@@ -104,13 +104,14 @@ unfolding names_of
 root_names = refl
 
 -- the root's path leads to a `dir` line about the root, if to any
-root_led : (ls : List Line) (k : Line) → Every IsFaultless ls → led ls (47 ∷ []) ≡ Some k → (is_dir k.word ≡ true) × (names_of k.path ≡ Some [])
+root_led : (ls : List Line) (k : Line) → Every IsFaultless ls → led ls (47 ∷ []) ≡ Some k
+    → (is_dir k.word ≡ true) × (names_of k.path ≡ Some [])
 root_led [] k h e = absurd (cc)
 root_led (l ∷ ls) k h e = elim (bytes_eq l.path (47 ∷ [])) as (λ t. bytes_eq l.path (47 ∷ []) ≡ t → cond t (cond (is_hard l.word) (led ls l.text) (Some l)) (led ls (47 ∷ [])) ≡ Some k → (is_dir k.word ≡ true) × (names_of k.path ≡ Some [])) [
   | true ↦ λ p g.
       let names : names_of l.path ≡ Some [] = ap names_of ((bytes_decides l.path (47 ∷ [])).0 p) ∙ root_names in
       let dir : is_dir l.word ≡ true = is_true (is_dir l.word) (sym (ap (is_bad_path (is_dir l.word)) names) ∙ h.0.path) in
-      let same : l ≡ k = same_some (sym (ap (λ (b : Bool). cond b (led ls l.text) (Some l)) (not_hard l.word dir)) ∙ g) in
+      let same : l ≡ k = same_some (sym (ap (λ (b : Bool). cond b (led ls l.text) (Some l)) (dir_not_hard l.word dir)) ∙ g) in
       (subst (λ (x : Line). is_dir x.word ≡ true) same dir, subst (λ (x : Line). names_of x.path ≡ Some []) same names)
   | false ↦ λ p g. root_led ls k h.1 g
 ] refl e
@@ -119,28 +120,14 @@ root_led (l ∷ ls) k h e = elim (bytes_eq l.path (47 ∷ [])) as (λ t. bytes_e
     is_true true e = refl
     is_true false e = absurd (cc)
 
-    same_some : {x y : Line} → Some x ≡ Some y → x ≡ y
-    same_some e = cc
-
-    not_hard : (w : Word) → is_dir w ≡ true → is_hard w ≡ false
-    not_hard w d = elim w as (λ v. is_dir v ≡ true → is_hard v ≡ false) [
-      | Dir ↦ λ e. refl
-      | File ↦ λ e. refl
-      | Slink ↦ λ e. refl
-      | Block ↦ λ e. refl
-      | Character ↦ λ e. refl
-      | Fifo ↦ λ e. refl
-      | Socket ↦ λ e. refl
-      | Hard ↦ λ e. absurd (cc)
-      | Same ↦ λ e. refl
-    ] d
-
 -- the root is that of no line, or of a `dir` line about it
 pub data RootIs (m : ManifestLines) (sizes : List ℕ) (latest : List Line) : Type 0 where
   bare : root_of m.lines sizes ≡ bare_root → RootIs m sizes latest
-  by_line : (k : Line) → root_of m.lines sizes ≡ inode_of m.lines sizes k → Has (λ x. x ≡ k) latest → is_dir k.word ≡ true → names_of k.path ≡ Some [] → RootIs m sizes latest
+  by_line : (k : Line) → root_of m.lines sizes ≡ inode_of m.lines sizes k → Has (λ x. x ≡ k) latest
+      → is_dir k.word ≡ true → names_of k.path ≡ Some [] → RootIs m sizes latest
 
-pub root_is : (m : ManifestLines) (sizes : List ℕ) (latest : List Line) → reverse m.lines ≡ latest → Every IsFaultless latest → RootIs m sizes latest
+pub root_is : (m : ManifestLines) (sizes : List ℕ) (latest : List Line) → reverse m.lines ≡ latest
+    → Every IsFaultless latest → RootIs m sizes latest
 unfolding root_of file_at
 root_is m sizes latest back h = by (led latest (47 ∷ [])) refl
   where
@@ -154,7 +141,8 @@ root_is m sizes latest back h = by (led latest (47 ∷ [])) refl
         by_line k (ap (λ (o : Option Line). or_else bare_root (option_map (inode_of m.lines sizes) o)) (at_root ∙ e)) (led_member latest (47 ∷ []) k e).0 r.0 r.1
 
 -- no file below the root is of its line
-pub root_apart : (m : ManifestLines) (sizes : List ℕ) (latest : List Line) (is : List Inode) → RootIs m sizes latest → Every (λ l. 0 < l.number) latest → Pairs (λ l k. l.number ≢ k.number) latest
+pub root_apart : (m : ManifestLines) (sizes : List ℕ) (latest : List Line) (is : List Inode) → RootIs m sizes latest
+    → Every (λ l. 0 < l.number) latest → Pairs (λ l k. l.number ≢ k.number) latest
     → Every (IsOwned latest) is → Every (λ j. (root_of m.lines sizes).line ≢ j.line) is
 root_apart m sizes latest is (bare e) pos apart owned = every_weaker (IsOwned latest) (λ j. (root_of m.lines sizes).line ≢ j.line) differ is owned
   where

@@ -15,14 +15,13 @@ use Rattle.manifest.specs.Lines.{is_dir, is_file, is_hard, is_same, line_at, led
 use Rattle.manifest.specs.Grammar.{fault_of, is_bad_text, is_align, has_parent, has_target, is_target}
 use Rattle.manifest.proofs.Adding.{sound_target}
 use Rattle.manifest.proofs.Checked.{AreChecked, sound_place}
+use Rattle.misfits.proofs.Bools.{same_some}
 use Rattle.name_tree.specs.Names.{Inode}
 use Rattle.name_tree.specs.Tree.{inode_of, file_at}
 
-same_some : {X : Type 0} {x y : X} → Some x ≡ Some y → x ≡ y
-same_some e = cc
-
 -- a line that a path leads to is one of the lines, and no `hard` line
-pub led_member : (ls : List Line) (p : List ℕ) (k : Line) → led ls p ≡ Some k → Has (λ x. x ≡ k) ls × (is_hard k.word ≡ false)
+pub led_member : (ls : List Line) (p : List ℕ) (k : Line) → led ls p ≡ Some k
+    → Has (λ x. x ≡ k) ls × (is_hard k.word ≡ false)
 led_member [] p k e = absurd (cc)
 led_member (l ∷ ls) p k e = elim (bytes_eq l.path p) as (λ t. cond t (cond (is_hard l.word) (led ls l.text) (Some l)) (led ls p) ≡ Some k → Has (λ x. x ≡ k) (l ∷ ls) × (is_hard k.word ≡ false)) [
   | true ↦ λ g. elim (is_hard l.word) as (λ h. is_hard l.word ≡ h → cond h (led ls l.text) (Some l) ≡ Some k → Has (λ x. x ≡ k) (l ∷ ls) × (is_hard k.word ≡ false)) [
@@ -32,7 +31,8 @@ led_member (l ∷ ls) p k e = elim (bytes_eq l.path p) as (λ t. cond t (cond (i
   | false ↦ λ g. let r = led_member ls p k g in (inr r.0, r.1)
 ] e
 
-pub filed_member : (ls : List Line) (p : List ℕ) (k : Line) → filed ls p ≡ Some k → Has (λ x. x ≡ k) ls × (is_file k.word ≡ true)
+pub filed_member : (ls : List Line) (p : List ℕ) (k : Line) → filed ls p ≡ Some k
+    → Has (λ x. x ≡ k) ls × (is_file k.word ≡ true)
 filed_member [] p k e = absurd (cc)
 filed_member (l ∷ ls) p k e = elim (bytes_eq l.path p) as (λ t. cond t (cond (is_hard l.word || is_same l.word) (filed ls l.text) (cond (is_file l.word) (Some l) None)) (filed ls p) ≡ Some k → Has (λ x. x ≡ k) (l ∷ ls) × (is_file k.word ≡ true)) [
   | true ↦ λ g. elim (is_hard l.word || is_same l.word) as (λ h. cond h (filed ls l.text) (cond (is_file l.word) (Some l) None) ≡ Some k → Has (λ x. x ≡ k) (l ∷ ls) × (is_file k.word ≡ true)) [
@@ -48,7 +48,8 @@ filed_member (l ∷ ls) p k e = elim (bytes_eq l.path p) as (λ t. cond t (cond 
 -- where the path of a line leads
 pub record LedIn (all : List Line) (l : Line) : Type 0 where
   pub own : is_hard l.word ≡ false → led all l.path ≡ Some l
-  pub other : is_hard l.word ≡ true → (k : Line) × (led all l.path ≡ Some k) × Has (λ x. x ≡ k) all × (is_hard k.word ≡ false) × (is_dir k.word ≡ false)
+  pub other : is_hard l.word ≡ true
+      → (k : Line) × (led all l.path ≡ Some k) × Has (λ x. x ≡ k) all × (is_hard k.word ≡ false) × (is_dir k.word ≡ false)
 
 no_path : (ls : List Line) (p : List ℕ) → is_some (line_at ls p) ≡ false → Every (λ k. bytes_eq k.path p ≡ false) ls
 no_path [] p h = tt
@@ -58,7 +59,8 @@ no_path (l ∷ ls) p h = elim (bytes_eq l.path p) as (λ t. bytes_eq l.path p �
 ] refl h
 
 -- a `hard` line's text leads to a line that makes a file
-hard_target : (ls : List Line) (l : Line) → is_hard l.word ≡ true → has_target ls l.word l.text ≡ true → is_target (led ls l.text) ≡ true
+hard_target : (ls : List Line) (l : Line) → is_hard l.word ≡ true → has_target ls l.word l.text ≡ true
+    → is_target (led ls l.text) ≡ true
 hard_target ls l h g = by l.word h g
   where
     by : (w : Word) → is_hard w ≡ true → has_target ls w l.text ≡ true → is_target (led ls l.text) ≡ true
@@ -83,7 +85,8 @@ all_led (l ∷ ls) c = (here, every_weaker (λ k. LedIn ls k × (bytes_eq k.path
     self : bytes_eq l.path l.path ≡ true
     self = (bytes_decides l.path l.path).1 refl
 
-    target : (o : Option Line) → led ls l.text ≡ o → is_target o ≡ true → led (l ∷ ls) l.path ≡ o → (k : Line) × (led (l ∷ ls) l.path ≡ Some k) × Has (λ x. x ≡ k) (l ∷ ls) × (is_hard k.word ≡ false) × (is_dir k.word ≡ false)
+    target : (o : Option Line) → led ls l.text ≡ o → is_target o ≡ true → led (l ∷ ls) l.path ≡ o
+        → (k : Line) × (led (l ∷ ls) l.path ≡ Some k) × Has (λ x. x ≡ k) (l ∷ ls) × (is_hard k.word ≡ false) × (is_dir k.word ≡ false)
     target None e t g = absurd (cc)
     target (Some k) e t g = let r = led_member ls l.text k e in (k, g, inr r.0, r.1, not_false (is_dir k.word) t)
 
@@ -110,8 +113,10 @@ unfolding fault_of
 faultless ls l h =
     by (is_bad_path (is_dir l.word) (names_of l.path)) (is_bad_text l.word l.text) (not (has_parent ls (parent_of (names_of l.path)))) (is_some (line_at ls l.path)) (is_file l.word) (is_align l.align) _ refl refl refl refl h
   where
-    by : (a b c d e f : Bool) (o : Option ℕ) → is_bad_path (is_dir l.word) (names_of l.path) ≡ a → is_bad_text l.word l.text ≡ b → is_file l.word ≡ e → is_align l.align ≡ f
-        → cond (a || b) (Some BAD_PATH) (cond c (Some NO_PARENT) (cond d (Some EXISTS) (cond (e && not f) (Some BAD_ALIGN) o))) ≡ None → IsFaultless l
+    by : (a b c d e f : Bool) (o : Option ℕ) → is_bad_path (is_dir l.word) (names_of l.path) ≡ a
+        → is_bad_text l.word l.text ≡ b → is_file l.word ≡ e → is_align l.align ≡ f
+        → cond (a || b) (Some BAD_PATH) (cond c (Some NO_PARENT) (cond d (Some EXISTS) (cond (e && not f) (Some BAD_ALIGN) o))) ≡ None
+        → IsFaultless l
     by true b c d e f o p q r s g = absurd (cc)
     by false true c d e f o p q r s g = absurd (cc)
     by false false true d e f o p q r s g = absurd (cc)
@@ -129,9 +134,11 @@ pub record HasFile (all : List Line) (sizes : List ℕ) (latest : List Line) (l 
   pub inode : Inode
   pub is : file_at all sizes l.path ≡ Some inode
   pub own : is_hard l.word ≡ false → inode ≡ inode_of all sizes l
-  pub other : is_hard l.word ≡ true → (k : Line) × (inode ≡ inode_of all sizes k) × Has (λ x. x ≡ k) latest × (is_hard k.word ≡ false) × (is_dir k.word ≡ false)
+  pub other : is_hard l.word ≡ true
+      → (k : Line) × (inode ≡ inode_of all sizes k) × Has (λ x. x ≡ k) latest × (is_hard k.word ≡ false) × (is_dir k.word ≡ false)
 
-pub has_file : (all : List Line) (sizes : List ℕ) (latest : List Line) (l : Line) → reverse all ≡ latest → LedIn latest l → HasFile all sizes latest l
+pub has_file : (all : List Line) (sizes : List ℕ) (latest : List Line) (l : Line) → reverse all ≡ latest
+    → LedIn latest l → HasFile all sizes latest l
 unfolding file_at
 has_file all sizes latest l e h = by (is_hard l.word) refl
   where

@@ -1,3 +1,4 @@
+mod Bools
 mod Least
 mod Decided
 mod Orders
@@ -13,5 +14,7 @@ mod InCramfs
 mod PlannedRomfs
 mod PlannedCramfs
 mod Fitting
+mod Sourced
+mod Sectioned
 mod Examples
 mod Stands

@@ -1,5 +1,5 @@
 -- The last name of a path can stand in a list.
-use Rattle.std.proofs.Common.{◌≡◌, ◌≢◌, ℕ, ◌<◌, ◌≤◌, ◌||◌, ◌==◌, nat_lt, Bool, true, false, cond, List, [], ◌∷◌, ◌++◌, length, Some, refl, ap, subst, ◌∙◌, arith}
+use Rattle.std.proofs.Common.{◌≡◌, ◌≢◌, ℕ, ◌<◌, ◌≤◌, ◌==◌, nat_lt, Bool, true, false, cond, List, [], ◌∷◌, ◌++◌, length, Some, refl, ap, subst, ◌∙◌, arith}
 use Rattle.std.proofs.lemmas.Bool.{eqb-true, ltb-false}
 use Rattle.std.proofs.lemmas.List.Elements.{All-contains, All-from_recursion}
 use Rattle.std.specs.Cmp.Lexicographic.{bytes_decides}
@@ -11,15 +11,13 @@ use Rattle.manifest.specs.Texts.{is_bad}
 use Rattle.manifest.specs.Paths.{names_of, path_of, is_bad_name}
 use Rattle.manifest.proofs.Named.{path_with_names, has_slash}
 use Rattle.layout_terms.specs.Lists.{IsName}
+use Rattle.misfits.proofs.Bools.{or_false}
 use Rattle.misfits.specs.Misfit.{last_len}
 use Rattle.misfits.proofs.Sorted.{last_of}
 
-or_false : (a b : Bool) → (a || b) ≡ false → (a ≡ false) × (b ≡ false)
-or_false true b h = absurd (cc)
-or_false false b h = (refl, h)
-
 -- what no name has, the last one has not
-last_free : (f : List ℕ → Bool) (m : List ℕ) (ms : List (List ℕ)) → list_any f (m ∷ ms) ≡ false → f (last_of m ms) ≡ false
+last_free : (f : List ℕ → Bool) (m : List ℕ) (ms : List (List ℕ)) → list_any f (m ∷ ms) ≡ false
+    → f (last_of m ms) ≡ false
 last_free f m [] h = (or_false (f m) false h).0
 last_free f m (x ∷ xs) h = last_free f x xs (or_false (f m) (list_any f (x ∷ xs)) h).1
 
@@ -31,7 +29,8 @@ has_zero : List ℕ → Bool
 has_zero n = list_any (λ b. b == 0) n
 
 -- a path without a zero byte has names without one
-any_parts : (f : ℕ → Bool) (xs ys : List ℕ) → list_any f (xs ++ ys) ≡ false → (list_any f xs ≡ false) × (list_any f ys ≡ false)
+any_parts : (f : ℕ → Bool) (xs ys : List ℕ) → list_any f (xs ++ ys) ≡ false
+    → (list_any f xs ≡ false) × (list_any f ys ≡ false)
 any_parts f [] ys h = (refl, h)
 any_parts f (x ∷ xs) ys h =
     let s = or_false (f x) (list_any f (xs ++ ys)) h in
@@ -104,7 +103,8 @@ is_plain n bad slash zero =
     some [] e = absurd (cc)
     some (x ∷ xs) e = omega arith
 
-pub last_plain : (path : List ℕ) (m : List ℕ) (ms : List (List ℕ)) → names_of path ≡ Some (m ∷ ms) → IsPlain (last_of m ms)
+pub last_plain : (path : List ℕ) (m : List ℕ) (ms : List (List ℕ)) → names_of path ≡ Some (m ∷ ms)
+    → IsPlain (last_of m ms)
 unfolding has_zero
 last_plain path m ms h =
     let k = path_with_names path m ms h in

@@ -13,6 +13,7 @@ use Rattle.name_tree.specs.Tree.{What, a_leaf, a_link, a_folder, what_by, inode_
 use Rattle.name_tree.proofs.Law.{grown_by}
 use Rattle.layout_terms.specs.Files.{files, height}
 use Rattle.cramfs_format.proofs.Orders.{never_self}
+use Rattle.misfits.proofs.Bools.{dir_not_hard}
 use Rattle.misfits.specs.Format.{cramfs, references_of}
 use Rattle.misfits.specs.Misfit.{attribute, HasNoMisfit, long, deep, many}
 use Rattle.misfits.proofs.Sorted.{Before, last_of, AreSorted, HoldAll}
@@ -54,7 +55,8 @@ well cs (folder name i own after) s t h =
     (is_name name after h.0.0 h.0.1 s.0, h.0.2 own (under_by (2 ^ 24) (list_len own) (λ l. t (inl l))), well cs own s.1 (λ l. t (inr (inl l))) h.1, well cs after s.2 (λ l. t (inr (inr l))) h.2)
 
 -- as many items as entries, and the root's
-items_count : (o : Order) (l : ℕ) (s : State) (n : Names) → length (items.entries o l s n) + length (items.below o s n) ≡ count n
+items_count : (o : Order) (l : ℕ) (s : State) (n : Names)
+    → length (items.entries o l s n) + length (items.below o s n) ≡ count n
 items_count o l s nothing = refl
 items_count o l s (leaf name i rest) = let h = items_count o (l + entry_len name) (after_file s i) rest in omega (arith, h)
 items_count o l s (link name i rest) = let h = items_count o (l + entry_len name) (after_file s i) rest in omega (arith, h)
@@ -71,18 +73,22 @@ module _ (o : Order) (m : ManifestLines) (cs : List (List ℕ)) (latest : List L
   fits : (l : Line) → Has (λ x. x ≡ l) latest → Fits (cramfs o) m (map length cs) l
   fits l here = has_of (Fits (cramfs o) m (map length cs)) latest l here w.fit
 
-  own_file : (l : Line) → Has (λ x. x ≡ l) latest → is_hard l.word ≡ false → is_dir l.word ≡ false → IsFile cs (inode_of m.lines (map length cs) l)
+  own_file : (l : Line) → Has (λ x. x ≡ l) latest → is_hard l.word ≡ false → is_dir l.word ≡ false
+      → IsFile cs (inode_of m.lines (map length cs) l)
   own_file l here h d =
       file_made o cs m.lines l h d w.aligned (has_of IsLine latest l here w.lines) (has_of IsFaultless latest l here w.faultless)
       (λ b. fits l here 1 (attribute refl h b)) (λ t. fits l here 2 (large refl t))
 
-  own_folder : (l : Line) → Has (λ x. x ≡ l) latest → is_dir l.word ≡ true → is_hard l.word ≡ false → (own : Names) → list_len own < 2 ^ 24 → IsFolder (inode_of m.lines (map length cs) l) own
+  own_folder : (l : Line) → Has (λ x. x ≡ l) latest → is_dir l.word ≡ true → is_hard l.word ≡ false → (own : Names)
+      → list_len own < 2 ^ 24 → IsFolder (inode_of m.lines (map length cs) l) own
   own_folder l here d h own t = folder_made o m.lines (map length cs) l own d (has_of IsLine latest l here w.lines) (λ b. fits l here 1 (attribute refl h b)) t
 
-  fit_leaf : (l : Line) → Has (λ x. x ≡ l) latest → (f : HasFile m.lines (map length cs) latest l) → is_hard l.word ≡ false → is_dir l.word ≡ false → IsFile cs f.inode
+  fit_leaf : (l : Line) → Has (λ x. x ≡ l) latest → (f : HasFile m.lines (map length cs) latest l)
+      → is_hard l.word ≡ false → is_dir l.word ≡ false → IsFile cs f.inode
   fit_leaf l here f h d = subst (IsFile cs) (sym (f.own h)) (own_file l here h d)
 
-  fit : (l : Line) → Has (λ x. x ≡ l) latest → (f : HasFile m.lines (map length cs) latest l) (v : Word) → l.word ≡ v → IsFit cs (what_by v f.inode)
+  fit : (l : Line) → Has (λ x. x ≡ l) latest → (f : HasFile m.lines (map length cs) latest l) (v : Word) → l.word ≡ v
+      → IsFit cs (what_by v f.inode)
   fit l here f Dir e = λ own t. subst (λ i. IsFolder i own) (sym (f.own (ap is_hard e))) (own_folder l here (ap is_dir e) (ap is_hard e) own t)
   fit l here f File e = fit_leaf l here f (ap is_hard e) (ap is_dir e)
   fit l here f Slink e = fit_leaf l here f (ap is_hard e) (ap is_dir e)
@@ -94,7 +100,8 @@ module _ (o : Order) (m : ManifestLines) (cs : List (List ℕ)) (latest : List L
   fit l here f Same e = fit_leaf l here f (ap is_hard e) (ap is_dir e)
 
   -- the last name of a line's path is short
-  short_name : (l : Line) → Has (λ x. x ≡ l) latest → (n : List ℕ) (ns : List (List ℕ)) → names_of l.path ≡ Some (n ∷ ns) → length (last_of n ns) ≤ 252
+  short_name : (l : Line) → Has (λ x. x ≡ l) latest → (n : List ℕ) (ns : List (List ℕ))
+      → names_of l.path ≡ Some (n ∷ ns) → length (last_of n ns) ≤ 252
   short_name l here n ns e =
       let s = below_by 252 (name_len (names_of l.path)) (λ t. fits l here 3 (long_name refl t)) in
       let k : name_len (names_of l.path) ≡ length (last_of n ns) = ap name_len e ∙ last_length n ns in
@@ -105,28 +112,18 @@ module _ (o : Order) (m : ManifestLines) (cs : List (List ℕ)) (latest : List L
       grown_is (IsFine cs) m.lines (map length cs) latest latest w.checked w.have w.apart w.files w.faultless
       (every_of (Gives (IsFine cs) m.lines (map length cs) latest) latest (λ l here f n ns e. (last_plain l.path n ns e, short_name l here n ns e, fit l here f l.word refl)))
 
-  folder_is : (own : Names) → list_len own < 2 ^ 24 → RootIs m (map length cs) latest → IsFolder (root_of m.lines (map length cs)) own
+  folder_is : (own : Names) → list_len own < 2 ^ 24 → RootIs m (map length cs) latest
+      → IsFolder (root_of m.lines (map length cs)) own
   folder_is own t (bare e) = subst (λ i. IsFolder i own) (sym e) (bare_made own t)
-  folder_is own t (by_line k e here d names) = subst (λ i. IsFolder i own) (sym e) (own_folder k here d (not_hard k.word d) own t)
-    where
-      not_hard : (v : Word) → is_dir v ≡ true → is_hard v ≡ false
-      not_hard v d = elim v as (λ x. is_dir x ≡ true → is_hard x ≡ false) [
-        | Dir ↦ λ e. refl
-        | File ↦ λ e. refl
-        | Slink ↦ λ e. refl
-        | Block ↦ λ e. refl
-        | Character ↦ λ e. refl
-        | Fifo ↦ λ e. refl
-        | Socket ↦ λ e. refl
-        | Hard ↦ λ e. absurd (cc)
-        | Same ↦ λ e. refl
-      ] d
+  folder_is own t (by_line k e here d names) = subst (λ i. IsFolder i own) (sym e) (own_folder k here d (dir_not_hard k.word d) own t)
 
   tree_is : grown_by m.lines (map length cs) latest ≡ tree_of m.lines (map length cs)
   unfolding tree_of
   tree_is = ap (λ (ls : List Line). grown m.lines (map length cs) ls nothing) (sym w.reversed)
 
-pub planned : (o : Order) (m : ManifestLines) (cs : List (List ℕ)) → IsManifest m → HasNoMisfit (cramfs o) m (map length cs) → IsPlanned m.volume (root_of m.lines (map length cs)) (tree_of m.lines (map length cs)) cs
+pub planned : (o : Order) (m : ManifestLines) (cs : List (List ℕ)) → IsManifest m
+    → HasNoMisfit (cramfs o) m (map length cs)
+    → IsPlanned m.volume (root_of m.lines (map length cs)) (tree_of m.lines (map length cs)) cs
 planned o m cs h none =
     let sizes = map length cs in
     let k = known (cramfs o) m sizes h none in

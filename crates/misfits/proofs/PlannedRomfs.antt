@@ -21,6 +21,7 @@ use Rattle.romfs_layout.specs.Layout.{root_at, full_size_of, all_headers}
 use Rattle.romfs_layout.specs.Items.{item_of}
 use Rattle.romfs_layout.specs.Wells.{IsFile, IsFolder, AreWell, AreLinks, file_of}
 use Rattle.romfs_layout.specs.Planned.{IsPlanned}
+use Rattle.misfits.proofs.Bools.{dir_not_hard}
 use Rattle.misfits.specs.Format.{romfs}
 use Rattle.misfits.specs.Misfit.{HasBadAttribute, attribute, HasNoMisfit, long, deep, many}
 use Rattle.misfits.proofs.Sorted.{AreSorted, HoldAll}
@@ -45,7 +46,8 @@ abbrev IsFine : List (List ℕ) → List Line → List Line → List ℕ → Wha
 IsFine cs all latest name w = IsPlain name × IsFit cs all latest w
 
 -- what holds of names in order is what romfs asks of them
-well : (cs : List (List ℕ)) (all latest : List Line) (n : Names) → AreSorted n → HoldAll (IsFine cs all latest) n → AreWell cs n
+well : (cs : List (List ℕ)) (all latest : List Line) (n : Names) → AreSorted n → HoldAll (IsFine cs all latest) n
+    → AreWell cs n
 well cs all latest nothing s h = tt
 well cs all latest (leaf name i after) s h =
     (record { written = h.0.0.name; no_dots = h.0.0.no_dots; alone = λ k. never_self name (s.0 name k) }, h.0.1, well cs all latest after s.1 h.1)
@@ -55,7 +57,8 @@ well cs all latest (folder name i own after) s h =
     (record { written = h.0.0.name; no_dots = h.0.0.no_dots; alone = λ k. never_self name (s.0 name k) }, h.0.1, well cs all latest own s.1 h.1, well cs all latest after s.2 h.2)
 
 -- of files of different lines each is found by its line
-file_found : (xs : List Inode) (i : Inode) → Pairs (λ i j. i.line ≢ j.line) xs → Has (λ j. j ≡ i) xs → file_of xs i.line ≡ Some i
+file_found : (xs : List Inode) (i : Inode) → Pairs (λ i j. i.line ≢ j.line) xs → Has (λ j. j ≡ i) xs
+    → file_of xs i.line ≡ Some i
 file_found [] i p h = absurd h
 file_found (x ∷ xs) i p (inl e) = rw (eq-eqb x.line i.line (ap (λ (j : Inode). j.line) e)) (ap Some e)
 file_found (x ∷ xs) i p (inr h) =
@@ -63,7 +66,8 @@ file_found (x ∷ xs) i p (inr h) =
     rw (ne_eqb x.line i.line n) (file_found xs i p.1 h)
 
 links : (cs : List (List ℕ)) (all latest : List Line) (is : List Inode) (n : Names) → Pairs (λ i j. i.line ≢ j.line) is
-    → Every (λ l. is_hard l.word ≡ false → IsNamed l → Has (λ i. i ≡ inode_of all (map length cs) l) is) latest → HoldAll (IsFine cs all latest) n → AreLinks is n
+    → Every (λ l. is_hard l.word ≡ false → IsNamed l → Has (λ i. i ≡ inode_of all (map length cs) l) is) latest
+    → HoldAll (IsFine cs all latest) n → AreLinks is n
 links cs all latest is nothing p t h = tt
 links cs all latest is (leaf name i after) p t h = links cs all latest is after p t h.1
 links cs all latest is (link name i after) p t h =
@@ -73,28 +77,34 @@ links cs all latest is (link name i after) p t h =
 links cs all latest is (folder name i own after) p t h = (links cs all latest is own p t h.1, links cs all latest is after p t h.2)
 
 -- no bad attribute, where nothing misfits
-sayable : (m : ManifestLines) (sizes : List ℕ) (l : Line) → Fits romfs m sizes l → is_hard l.word ≡ false → HasBadAttribute romfs (inode_of m.lines sizes l) → ⊥
+sayable : (m : ManifestLines) (sizes : List ℕ) (l : Line) → Fits romfs m sizes l → is_hard l.word ≡ false
+    → HasBadAttribute romfs (inode_of m.lines sizes l) → ⊥
 sayable m sizes l h n b = h 1 (attribute refl n b)
 
 module _ (m : ManifestLines) (cs : List (List ℕ)) (latest : List Line) (w : IsKnown romfs m (map length cs) latest) where
-  own_file : (l : Line) → Has (λ x. x ≡ l) latest → is_hard l.word ≡ false → is_dir l.word ≡ false → IsFile cs (inode_of m.lines (map length cs) l)
+  own_file : (l : Line) → Has (λ x. x ≡ l) latest → is_hard l.word ≡ false → is_dir l.word ≡ false
+      → IsFile cs (inode_of m.lines (map length cs) l)
   own_file l here h d =
       file_made cs m.lines l h d w.aligned (has_of IsLine latest l here w.lines) (has_of IsFaultless latest l here w.faultless)
       (sayable m (map length cs) l (has_of (Fits romfs m (map length cs)) latest l here w.fit) h)
 
-  own_folder : (l : Line) → Has (λ x. x ≡ l) latest → is_dir l.word ≡ true → is_hard l.word ≡ false → IsFolder (inode_of m.lines (map length cs) l)
+  own_folder : (l : Line) → Has (λ x. x ≡ l) latest → is_dir l.word ≡ true → is_hard l.word ≡ false
+      → IsFolder (inode_of m.lines (map length cs) l)
   own_folder l here d h =
       folder_made m.lines (map length cs) l d (has_of IsLine latest l here w.lines) (sayable m (map length cs) l (has_of (Fits romfs m (map length cs)) latest l here w.fit) h)
 
-  fit_leaf : (l : Line) → Has (λ x. x ≡ l) latest → (f : HasFile m.lines (map length cs) latest l) → is_hard l.word ≡ false → is_dir l.word ≡ false → IsFile cs f.inode
+  fit_leaf : (l : Line) → Has (λ x. x ≡ l) latest → (f : HasFile m.lines (map length cs) latest l)
+      → is_hard l.word ≡ false → is_dir l.word ≡ false → IsFile cs f.inode
   fit_leaf l here f h d = subst (IsFile cs) (sym (f.own h)) (own_file l here h d)
 
-  fit_link : (l : Line) (f : HasFile m.lines (map length cs) latest l) → is_hard l.word ≡ true → IsFile cs f.inode × IsTarget m.lines (map length cs) latest f.inode
+  fit_link : (l : Line) (f : HasFile m.lines (map length cs) latest l) → is_hard l.word ≡ true
+      → IsFile cs f.inode × IsTarget m.lines (map length cs) latest f.inode
   fit_link l f h =
       let k = f.other h in
       (subst (IsFile cs) (sym k.1) (own_file k.0 k.2 k.3 k.4), (k.0, k.1, k.2, k.3, named_file k.0 (has_of IsFaultless latest k.0 k.2 w.faultless) k.4))
 
-  fit : (l : Line) → Has (λ x. x ≡ l) latest → (f : HasFile m.lines (map length cs) latest l) (v : Word) → l.word ≡ v → IsFit cs m.lines latest (what_by v f.inode)
+  fit : (l : Line) → Has (λ x. x ≡ l) latest → (f : HasFile m.lines (map length cs) latest l) (v : Word) → l.word ≡ v
+      → IsFit cs m.lines latest (what_by v f.inode)
   fit l here f Dir e = subst IsFolder (sym (f.own (ap is_hard e))) (own_folder l here (ap is_dir e) (ap is_hard e))
   fit l here f File e = fit_leaf l here f (ap is_hard e) (ap is_dir e)
   fit l here f Slink e = fit_leaf l here f (ap is_hard e) (ap is_dir e)
@@ -112,26 +122,14 @@ module _ (m : ManifestLines) (cs : List (List ℕ)) (latest : List Line) (w : Is
 
   folder_is : RootIs m (map length cs) latest → IsFolder (root_of m.lines (map length cs))
   folder_is (bare e) = subst IsFolder (sym e) bare_made
-  folder_is (by_line k e here d names) = subst IsFolder (sym e) (own_folder k here d (not_hard k.word d))
-    where
-      not_hard : (v : Word) → is_dir v ≡ true → is_hard v ≡ false
-      not_hard v d = elim v as (λ x. is_dir x ≡ true → is_hard x ≡ false) [
-        | Dir ↦ λ e. refl
-        | File ↦ λ e. refl
-        | Slink ↦ λ e. refl
-        | Block ↦ λ e. refl
-        | Character ↦ λ e. refl
-        | Fifo ↦ λ e. refl
-        | Socket ↦ λ e. refl
-        | Hard ↦ λ e. absurd (cc)
-        | Same ↦ λ e. refl
-      ] d
+  folder_is (by_line k e here d names) = subst IsFolder (sym e) (own_folder k here d (dir_not_hard k.word d))
 
   tree_is : grown_by m.lines (map length cs) latest ≡ tree_of m.lines (map length cs)
   unfolding tree_of
   tree_is = ap (λ (ls : List Line). grown m.lines (map length cs) ls nothing) (sym w.reversed)
 
-pub planned : (m : ManifestLines) (cs : List (List ℕ)) → IsManifest m → HasNoMisfit romfs m (map length cs) → IsPlanned m.volume (root_of m.lines (map length cs)) (tree_of m.lines (map length cs)) cs
+pub planned : (m : ManifestLines) (cs : List (List ℕ)) → IsManifest m → HasNoMisfit romfs m (map length cs)
+    → IsPlanned m.volume (root_of m.lines (map length cs)) (tree_of m.lines (map length cs)) cs
 planned m cs h none =
     let sizes = map length cs in
     let k = known romfs m sizes h none in

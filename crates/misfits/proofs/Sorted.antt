@@ -71,7 +71,8 @@ put_files w name (folder m i own after) = elim (is_before name m) as (λ t. More
 ]
 
 -- a path more, in a directory that is there
-pub put_at_files : (w : What) (m : List ℕ) (ms : List (List ℕ)) (n : Names) → is_parent (but_last (m ∷ ms)) n ≡ true → MoreFiles w (files n) (files (put_at w (m ∷ ms) n))
+pub put_at_files : (w : What) (m : List ℕ) (ms : List (List ℕ)) (n : Names) → is_parent (but_last (m ∷ ms)) n ≡ true
+    → MoreFiles w (files n) (files (put_at w (m ∷ ms) n))
 put_at_files w m [] n p = put_files w m n
 put_at_files w m (x ∷ xs) nothing p = absurd (cc)
 put_at_files w m (x ∷ xs) (leaf name i after) p =
@@ -114,7 +115,8 @@ module _ (P : List ℕ → What → Type 0) where
     | false ↦ (h.0, h.1, put_hold w name after p h.2)
   ]
 
-  pub put_at_hold : (w : What) (m : List ℕ) (ms : List (List ℕ)) (n : Names) → P (last_of m ms) w → HoldAll P n → HoldAll P (put_at w (m ∷ ms) n)
+  pub put_at_hold : (w : What) (m : List ℕ) (ms : List (List ℕ)) (n : Names) → P (last_of m ms) w → HoldAll P n
+      → HoldAll P (put_at w (m ∷ ms) n)
   put_at_hold w m [] n p h = put_hold w m n p h
   put_at_hold w m (x ∷ xs) nothing p h = tt
   put_at_hold w m (x ∷ xs) (leaf name i after) p h = (h.0, put_at_hold w m (x ∷ xs) after p h.1)
@@ -146,7 +148,8 @@ put_stands w name x (folder m i own after) s = elim (is_before name m) as (λ t.
 ] s
 
 -- a path of several names changes no list on the way but its last
-deep_stands : (w : What) (m x : List ℕ) (xs : List (List ℕ)) (y : List ℕ) (n : Names) → StandsIn y (put_at w (m ∷ x ∷ xs) n) → StandsIn y n
+deep_stands : (w : What) (m x : List ℕ) (xs : List (List ℕ)) (y : List ℕ) (n : Names)
+    → StandsIn y (put_at w (m ∷ x ∷ xs) n) → StandsIn y n
 deep_stands w m x xs y nothing s = s
 deep_stands w m x xs y (leaf name i after) (inl e) = inl e
 deep_stands w m x xs y (leaf name i after) (inr s) = inr (deep_stands w m x xs y after s)
@@ -163,12 +166,14 @@ named_sorted (a_link i) name n b h = (b, h)
 named_sorted (a_folder i) name n b h = (b, tt, h)
 
 -- before the first name of a sorted list, so before all
-all_before : (name m : List ℕ) (after : Names) → is_before name m ≡ true → Before m after → (x : List ℕ) → (x ≡ m) ⊎ StandsIn x after → precedes name x ≡ true
+all_before : (name m : List ℕ) (after : Names) → is_before name m ≡ true → Before m after → (x : List ℕ)
+    → (x ≡ m) ⊎ StandsIn x after → precedes name x ≡ true
 all_before name m after e b x (inl s) = subst (λ y. precedes name y ≡ true) (sym s) (sym (same_order name m) ∙ e)
 all_before name m after e b x (inr s) = precedes_on name m x (sym (same_order name m) ∙ e) (b x s)
 
 -- not before the first name, nor the same, so behind it
-before_more : (w : What) (name m : List ℕ) (after : Names) → is_before name m ≡ false → bytes_eq m name ≡ false → Before m after → Before m (put w name after)
+before_more : (w : What) (name m : List ℕ) (after : Names) → is_before name m ≡ false → bytes_eq m name ≡ false
+    → Before m after → Before m (put w name after)
 before_more w name m after e n b x s = elim (put_stands w name x after s) [
   | inl k ↦ subst (λ y. precedes m y ≡ true) (sym k) (elim (one_first m name (λ z. other (bytes_eq m name) ((bytes_decides m name).1 z) n)) [ inl p ↦ p | inr p ↦ absurd (other (precedes name m) p (sym (same_order name m) ∙ e)) ])
   | inr k ↦ b x k
@@ -176,7 +181,8 @@ before_more w name m after e n b x s = elim (put_stands w name x after s) [
   other : (t : Bool) → t ≡ true → t ≡ false → ⊥
   other t g h = cc
 
-put_sorted : (w : What) (name : List ℕ) (n : Names) → found (name ∷ []) n ≡ None → AreSorted n → AreSorted (put w name n)
+put_sorted : (w : What) (name : List ℕ) (n : Names) → found (name ∷ []) n ≡ None → AreSorted n
+    → AreSorted (put w name n)
 put_sorted w name nothing f h = named_sorted w name nothing (λ m s. absurd s) tt
 put_sorted w name (leaf m i after) f h =
     let s = not_here (bytes_eq m name) _ (found (name ∷ []) after) f in
@@ -197,7 +203,8 @@ put_sorted w name (folder m i own after) f h =
       | false ↦ λ e. (before_more w name m after e s.0 h.0, h.1, put_sorted w name after s.1 h.2)
     ] refl
 
-pub put_at_sorted : (w : What) (m : List ℕ) (ms : List (List ℕ)) (n : Names) → is_parent (but_last (m ∷ ms)) n ≡ true → found (m ∷ ms) n ≡ None → AreSorted n → AreSorted (put_at w (m ∷ ms) n)
+pub put_at_sorted : (w : What) (m : List ℕ) (ms : List (List ℕ)) (n : Names) → is_parent (but_last (m ∷ ms)) n ≡ true
+    → found (m ∷ ms) n ≡ None → AreSorted n → AreSorted (put_at w (m ∷ ms) n)
 put_at_sorted w m [] n p f h = put_sorted w m n f h
 put_at_sorted w m (x ∷ xs) nothing p f h = tt
 put_at_sorted w m (x ∷ xs) (leaf name i after) p f h =

@@ -1,5 +1,5 @@
 -- What each line of a manifest has, whatever stands before it.
-use Rattle.std.proofs.Common.{◌≡◌, ◌≢◌, ℕ, ◌+◌, ◌*◌, ◌<◌, ◌==◌, ◌||◌, nat_lt, Bool, true, false, cond, List, [], ◌∷◌, length, reverse, codes, Option, None, Some, Result, Ok, Err, ◌⊎◌, inl, inr, refl, sym, ap, subst, ◌∙◌, arith}
+use Rattle.std.proofs.Common.{◌≡◌, ◌≢◌, ℕ, ◌+◌, ◌*◌, ◌<◌, ◌==◌, nat_lt, Bool, true, false, cond, List, [], ◌∷◌, length, reverse, codes, Option, None, Some, Result, Ok, Err, ◌⊎◌, inl, inr, refl, sym, ap, subst, ◌∙◌, arith}
 use Rattle.std.proofs.lemmas.Bool.{ltb-true}
 use Rattle.std.proofs.lemmas.Bool.Decides.{eqb_tells}
 use Rattle.std.specs.List.{list_any, AllByRecursion as Every}
@@ -17,6 +17,7 @@ use Rattle.manifest.specs.declared.error.TheConstants.{BAD_WORD, BAD_PATH, EXIST
 use Rattle.manifest.specs.Texts.{pieces, is_empty, is_bad, octal, decimal, digits_from, below}
 use Rattle.manifest.specs.Lines.{ManifestLines}
 use Rattle.manifest.specs.Grammar.{Fault, Fields, Seen, manifest_of, read_lines, read, read_by, read_volume, read_fields, read_numbers, with_line, with_numbers, numbers_of, all_numbers, line_of, fields_of, volume_field, three_fields, five_fields, six_fields, seven_fields, eight_fields, device, device_word, plain_fields, no_mode, zero_text, fault, fault_of, is_skipped, and_then, as_manifest, nothing_read}
+use Rattle.misfits.proofs.Bools.{true_is_not_false, same_some, or_false}
 use Rattle.manifest.proofs.Digits.{stays_small}
 
 abbrev pub is_device : Word → Bool
@@ -38,22 +39,14 @@ record FieldsFit (f : Fields) : Type 0 where
   numbers : is_device f.word ≡ false → (f.major ≡ zero_text) × (f.minor ≡ zero_text)
   text : is_slink f.word ≡ true → is_empty f.text ≡ false
 
-true_is_not_false : (b : Bool) → b ≡ true → b ≡ false → ⊥
-true_is_not_false b h g = cc
-
-same_some : {X : Type 0} {x y : X} → Some x ≡ Some y → x ≡ y
-same_some e = cc
-
-or_false : (a b : Bool) → (a || b) ≡ false → (a ≡ false) × (b ≡ false)
-or_false true b h = absurd (cc)
-or_false false b h = (refl, h)
-
 -- fields of a line that is no device, and no link or with a text
-plain_fit : (w : Word) (path mode uid gid align text : List ℕ) → (is_slink w ≡ true → is_empty text ≡ false) → FieldsFit (plain_fields w path mode uid gid align text)
+plain_fit : (w : Word) (path mode uid gid align text : List ℕ) → (is_slink w ≡ true → is_empty text ≡ false)
+    → FieldsFit (plain_fields w path mode uid gid align text)
 plain_fit w path mode uid gid align text h = record { numbers = λ _. (refl, refl); text = h }
 
 -- a choice between fields, and what all of them have
-fit_by : (b : Bool) (g f : Fields) (o : Option Fields) → FieldsFit g → (o ≡ Some f → FieldsFit f) → cond b (Some g) o ≡ Some f → FieldsFit f
+fit_by : (b : Bool) (g f : Fields) (o : Option Fields) → FieldsFit g → (o ≡ Some f → FieldsFit f)
+    → cond b (Some g) o ≡ Some f → FieldsFit f
 fit_by true g f o h k e = subst FieldsFit (same_some e) h
 fit_by false g f o h k e = k e
 
@@ -77,7 +70,9 @@ six_fit w a b c d t f s e =
 seven_fit : (w a b c d g t : List ℕ) (f : Fields) → seven_fields w a b c d g t ≡ Some f → FieldsFit f
 seven_fit w a b c d g t f e = fit_by (bytes_eq w (codes "file")) (plain_fields File a b c d g t) f None (plain_fit File a b c d g t (λ z. absurd (cc))) (no_fields f) e
 
-device_fit : (o : Option Word) (a b c d g h : List ℕ) (f : Fields) → ((w : Word) → o ≡ Some w → (is_device w ≡ true) × (is_slink w ≡ false)) → device o a b c d g h ≡ Some f → FieldsFit f
+device_fit : (o : Option Word) (a b c d g h : List ℕ) (f : Fields)
+    → ((w : Word) → o ≡ Some w → (is_device w ≡ true) × (is_slink w ≡ false)) → device o a b c d g h ≡ Some f
+    → FieldsFit f
 device_fit None a b c d g h f k e = absurd (cc)
 device_fit (Some w) a b c d g h f k e =
     let s = k w refl in
@@ -86,7 +81,8 @@ device_fit (Some w) a b c d g h f k e =
 letter_fit : (x : List ℕ) (w : Word) → device_word x ≡ Some w → (is_device w ≡ true) × (is_slink w ≡ false)
 letter_fit x w e = by (bytes_eq x (codes "b")) (bytes_eq x (codes "c")) e
   where
-    by : (a b : Bool) → cond a (Some Block) (cond b (Some Character) None) ≡ Some w → (is_device w ≡ true) × (is_slink w ≡ false)
+    by : (a b : Bool) → cond a (Some Block) (cond b (Some Character) None) ≡ Some w
+        → (is_device w ≡ true) × (is_slink w ≡ false)
     by true b h = let s : Block ≡ w = same_some h in (ap is_device (sym s), ap is_slink (sym s))
     by false true h = let s : Character ≡ w = same_some h in (ap is_device (sym s), ap is_slink (sym s))
     by false false h = absurd (cc)
@@ -117,7 +113,8 @@ fields_fit (w ∷ a ∷ b ∷ c ∷ d ∷ x ∷ g ∷ t ∷ []) f h e = eight_fi
 fields_fit (w ∷ a ∷ b ∷ c ∷ d ∷ x ∷ g ∷ t ∷ u ∷ more) f h e = absurd (cc)
 
 -- numbers that are all there
-all_there : (a b c d e g : Option ℕ) (k : Numbers) → all_numbers a b c d e g ≡ Some k → (a ≡ Some k.mode) × (e ≡ Some k.major) × (g ≡ Some k.minor)
+all_there : (a b c d e g : Option ℕ) (k : Numbers) → all_numbers a b c d e g ≡ Some k
+    → (a ≡ Some k.mode) × (e ≡ Some k.major) × (g ≡ Some k.minor)
 all_there (Some a) (Some b) (Some c) (Some d) (Some e) (Some g) k h =
     let s = same_some h in (ap (λ (x : Numbers). Some x.mode) s, ap (λ (x : Numbers). Some x.major) s, ap (λ (x : Numbers). Some x.minor) s)
 all_there None b c d e g k h = absurd (cc)
@@ -192,7 +189,8 @@ later n s h = record {
   volume = h.volume;
 }
 
-by_line : (s t : Seen) (n : ℕ) (l : Line) (o : Option ℕ) → 0 < n → IsLine l → l.number ≡ n → IsRead n s → with_line s n l o ≡ Ok t → IsRead (n + 1) t
+by_line : (s t : Seen) (n : ℕ) (l : Line) (o : Option ℕ) → 0 < n → IsLine l → l.number ≡ n → IsRead n s
+    → with_line s n l o ≡ Ok t → IsRead (n + 1) t
 by_line s t n l (Some k) pos i e h g = absurd (cc)
 by_line s t n l None pos i e h g =
     let up = later n s h in
@@ -203,7 +201,8 @@ by_line s t n l None pos i e h g =
       volume = h.volume;
     })
 
-by_fields : (s t : Seen) (n : ℕ) (o : Option Fields) → 0 < n → ((f : Fields) → o ≡ Some f → FieldsFit f) → IsRead n s → read_fields s n o ≡ Ok t → IsRead (n + 1) t
+by_fields : (s t : Seen) (n : ℕ) (o : Option Fields) → 0 < n → ((f : Fields) → o ≡ Some f → FieldsFit f) → IsRead n s
+    → read_fields s n o ≡ Ok t → IsRead (n + 1) t
 by_fields s t n None pos k h g = absurd (cc)
 by_fields s t n (Some f) pos k h g = by (line_of n f) refl g
   where
@@ -223,12 +222,14 @@ by_read : (s t : Seen) (n : ℕ) (line : List ℕ) → 0 < n → IsRead n s → 
 unfolding read
 by_read s t n line pos h g = by (list_any is_empty (pieces 32 line)) (volume_field (pieces 32 line)) refl g
   where
-    by : (b : Bool) (o : Option (List ℕ)) → list_any is_empty (pieces 32 line) ≡ b → cond b (fault n BAD_WORD) (read_by s n (pieces 32 line) o) ≡ Ok t → IsRead (n + 1) t
+    by : (b : Bool) (o : Option (List ℕ)) → list_any is_empty (pieces 32 line) ≡ b
+        → cond b (fault n BAD_WORD) (read_by s n (pieces 32 line) o) ≡ Ok t → IsRead (n + 1) t
     by true o e x = absurd (cc)
     by false (Some name) e x = by_volume s t n (percent_decode name) h x
     by false None e x = by_fields s t n (fields_of (pieces 32 line)) pos (λ f k. fields_fit (pieces 32 line) f e k) h x
 
-by_lines : (s t : Seen) (n : ℕ) (ls : List (List ℕ)) → 0 < n → IsRead n s → read_lines s n ls ≡ Ok t → (k : ℕ) × IsRead k t
+by_lines : (s t : Seen) (n : ℕ) (ls : List (List ℕ)) → 0 < n → IsRead n s → read_lines s n ls ≡ Ok t
+    → (k : ℕ) × IsRead k t
 by_lines s t n [] pos h g = (n, subst (IsRead n) (same_ok g) h)
 by_lines s t n (l ∷ ls) pos h g =
     elim (is_skipped l) as (λ b. cond b (read_lines s (n + 1) ls) (and_then (read s n l) (λ u. read_lines u (n + 1) ls)) ≡ Ok t → (k : ℕ) × IsRead k t) [
@@ -256,7 +257,8 @@ written m text h = by (read_lines nothing_read 1 (pieces 10 text)) refl h
     injective : {x y : ManifestLines} → ◌≡◌ {A = Result ManifestLines Fault} (Ok x) (Ok y) → x ≡ y
     injective e = cc
 
-    by : (r : Result Seen Fault) → read_lines nothing_read 1 (pieces 10 text) ≡ r → as_manifest r ≡ Ok m → (latest : List Line) × IsWritten m latest
+    by : (r : Result Seen Fault) → read_lines nothing_read 1 (pieces 10 text) ≡ r → as_manifest r ≡ Ok m
+        → (latest : List Line) × IsWritten m latest
     by (Err e) same g = absurd (cc)
     by (Ok s) same g =
         let k = (by_lines nothing_read s 1 (pieces 10 text) (omega arith) (record { lines = tt; numbered = tt; apart = tt; volume = refl }) same).1 in

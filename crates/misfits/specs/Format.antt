@@ -52,6 +52,8 @@ HasTree (cramfs o) bytes t = CramfsTree o bytes (2 ^ 20) 64 t
 -- its volume can be laid out
 abbrev pub IsPlannedBy : Format → ManifestLines → List (List ℕ) → Type 0
 IsPlannedBy romfs m contents =
-    of_romfs_planned.IsPlanned m.volume (root_of m.lines (map length contents)) (tree_of m.lines (map length contents)) contents
+    of_romfs_planned.IsPlanned m.volume (root_of m.lines (map length contents)) (tree_of m.lines (map length contents))
+    contents
 IsPlannedBy (cramfs o) m contents =
-    of_cramfs_planned.IsPlanned m.volume (root_of m.lines (map length contents)) (tree_of m.lines (map length contents)) contents
+    of_cramfs_planned.IsPlanned m.volume (root_of m.lines (map length contents)) (tree_of m.lines (map length contents))
+    contents

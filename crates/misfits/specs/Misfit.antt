@@ -66,7 +66,8 @@ HasNoLinks (cramfs o) = Unit {0}
 
 -- one line does not fit; a `hard` line has no attributes of its own
 pub data HasMisfit (f : Format) (m : ManifestLines) (sizes : List ℕ) (l : Line) : ℕ → Type 0 where
-  attribute : {k : ℕ} → k ≡ ATTRIBUTE → is_hard l.word ≡ false → HasBadAttribute f (inode_of m.lines sizes l) → HasMisfit f m sizes l k
+  attribute : {k : ℕ} → k ≡ ATTRIBUTE → is_hard l.word ≡ false → HasBadAttribute f (inode_of m.lines sizes l)
+      → HasMisfit f m sizes l k
   large : {k : ℕ} → k ≡ TOO_LARGE → IsLarge f (inode_of m.lines sizes l).size → HasMisfit f m sizes l k
   long_name : {k : ℕ} → k ≡ NAME_TOO_LONG → IsLong f (name_len (names_of l.path)) → HasMisfit f m sizes l k
   hard_link : {k : ℕ} → k ≡ HARD_LINK → is_hard l.word ≡ true → HasNoLinks f → HasMisfit f m sizes l k
@@ -74,7 +75,8 @@ pub data HasMisfit (f : Format) (m : ManifestLines) (sizes : List ℕ) (l : Line
 -- some line, or that of the volume, does not fit: a misfit stands `at` the number of its line
 pub data HasLineMisfit (f : Format) (m : ManifestLines) (sizes : List ℕ) (e : Fault) : Type 0 where
   of_line : Has (λ l. (e.at ≡ l.number) × HasMisfit f m sizes l e.number) m.lines → HasLineMisfit f m sizes e
-  of_volume : IsLongVolume f (length m.volume) → e ≡ record { number = NAME_TOO_LONG; at = m.volume_line } → HasLineMisfit f m sizes e
+  of_volume : IsLongVolume f (length m.volume) → e ≡ record { number = NAME_TOO_LONG; at = m.volume_line }
+      → HasLineMisfit f m sizes e
 
 -- the list of a directory has 2 ^ 24 bytes or more
 abbrev pub HasLongList : Names → Type 0
@@ -97,7 +99,8 @@ pub data HasWholeMisfit (f : Format) (m : ManifestLines) (sizes : List ℕ) : Ty
 -- The least misfit: of the lines, by line and then by number; where they have none, the whole is too large, at line 0.
 pub data IsLeastMisfit (f : Format) (m : ManifestLines) (sizes : List ℕ) (e : Fault) : Type 0 where
   line_misfit : IsLeastFault (HasLineMisfit f m sizes) e → IsLeastMisfit f m sizes e
-  whole_misfit : IsNone (HasLineMisfit f m sizes) → HasWholeMisfit f m sizes → e ≡ record { number = TOO_LARGE; at = 0 } → IsLeastMisfit f m sizes e
+  whole_misfit : IsNone (HasLineMisfit f m sizes) → HasWholeMisfit f m sizes → e ≡ record { number = TOO_LARGE; at = 0 }
+      → IsLeastMisfit f m sizes e
 
 -- the manifest fits
 pub record HasNoMisfit (f : Format) (m : ManifestLines) (sizes : List ℕ) : Type 0 where

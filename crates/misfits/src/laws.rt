@@ -1,8 +1,9 @@
 //! Laws about what of a manifest fits a format.
 ghost use Rattle.std.specs.Prelude.{◌≡◌, List, ℕ, Option, MatchOption, map, length};
+ghost use Rattle.layout_terms.specs.Items.{SectionsRise};
 ghost use Rattle.manifest.specs.Grammar.{IsManifest};
 ghost use Rattle.manifest.specs.Lines.{ManifestLines};
-ghost use Rattle.misfits.specs.Format.{Format, HasTree, IsPlannedBy, layout_of, len_of};
+ghost use Rattle.misfits.specs.Format.{Format, HasTree, IsPlannedBy, layout_of, len_of, sections_of};
 ghost use Rattle.misfits.specs.Misfit.{IsLeastMisfit, HasNoMisfit};
 ghost use Rattle.name_tree.specs.Meant.{IsMeant};
 ghost use Rattle.rom_faults.specs.declared.fault.Fault.{Fault};
@@ -42,3 +43,10 @@ pub fn layout_is_meant()
     cramfs_layout::laws::layout_length();
     fitting_is_planned();
 }
+
+/// The sections of a manifest that fits stand one after the other, none is empty, and the last ends
+/// within the image.
+pub fn sections_rise()
+    ensures { (f : Format) (m : ManifestLines) (sizes : List ℕ) → IsManifest m → HasNoMisfit f m sizes
+        → SectionsRise 0 (len_of f m sizes) (sections_of f m sizes) }
+{}

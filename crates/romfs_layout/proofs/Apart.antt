@@ -25,7 +25,8 @@ ascend_end from to [] h = h
 ascend_end from to (i ∷ is) h = let a = h.0 in let e = ascend_end (i.place + record_len i.name + i.size) to is h.1 in omega arith
 
 -- each ends within
-pub ascend_high : (from to : ℕ) (is : List Header) → Ascend from to is → Every (λ i. i.place + record_len i.name + i.size ≤ to) is
+pub ascend_high : (from to : ℕ) (is : List Header) → Ascend from to is
+    → Every (λ i. i.place + record_len i.name + i.size ≤ to) is
 ascend_high from to [] h = tt
 ascend_high from to (i ∷ is) h = (ascend_end (i.place + record_len i.name + i.size) to is h.1, ascend_high (i.place + record_len i.name + i.size) to is h.1)
 
@@ -39,11 +40,13 @@ places_rise from to (i ∷ is) h =
 abbrev pub taken : List ℕ → ℕ → List Span
 taken b p = added Record p (end_of b p - p) ++ (if has_data (type_of b p) then added Data (end_of b p) (size_of b p) else [])
 
-climbs_data : (t : Bool) (e s to : ℕ) (ss : List Span) → Climbs (e + s) to ss → Climbs e to ((if t then added Data e s else []) ++ ss)
+climbs_data : (t : Bool) (e s to : ℕ) (ss : List Span) → Climbs (e + s) to ss
+    → Climbs e to ((if t then added Data e s else []) ++ ss)
 climbs_data true e s to ss c = climbs_added Data e e s to ss (omega arith) c
 climbs_data false e s to ss c = climbs_later e (e + s) to ss (omega arith) c
 
-pub climbs_headers : (b : List ℕ) (cs : List (List ℕ)) (from to : ℕ) (is : List Header) → Every (Reads b cs) is → Ascend from to is → Climbs from to (flat_map (taken b) (map (λ (i : Header). i.place) is))
+pub climbs_headers : (b : List ℕ) (cs : List (List ℕ)) (from to : ℕ) (is : List Header) → Every (Reads b cs) is
+    → Ascend from to is → Climbs from to (flat_map (taken b) (map (λ (i : Header). i.place) is))
 climbs_headers b cs from to [] r a = a
 climbs_headers b cs from to (i ∷ is) r a =
     let p = i.place in
@@ -58,11 +61,13 @@ climbs_headers b cs from to (i ∷ is) r a =
     let all = climbs_added Record from p (end_of b p - p) to (bytes ++ rest) a.0 (subst (λ (v : ℕ). Climbs v to (bytes ++ rest)) w here) in
     subst (λ (ss : List Span). Climbs from to ss) (sym (append_assoc (added Record p (end_of b p - p)) bytes rest)) all
 
-pub taken_rows : (b : List ℕ) (xs : List Row) → flat_map (row_extents b) xs ≡ flat_map (taken b) (map (λ (y : Row). y.offset) xs)
+pub taken_rows : (b : List ℕ) (xs : List Row)
+    → flat_map (row_extents b) xs ≡ flat_map (taken b) (map (λ (y : Row). y.offset) xs)
 taken_rows b [] = refl
 taken_rows b (x ∷ xs) = ap (λ (ss : List Span). taken b x.offset ++ ss) (taken_rows b xs)
 
-pub apart : (b : List ℕ) (cs : List (List ℕ)) (r to : ℕ) (is : List Header) (xs : List Row) (p : ℕ) → Every (Reads b cs) is → Ascend r to is → map (λ (y : Row). y.offset) xs ≡ map (λ (i : Header). i.place) is
+pub apart : (b : List ℕ) (cs : List (List ℕ)) (r to : ℕ) (is : List Header) (xs : List Row) (p : ℕ)
+    → Every (Reads b cs) is → Ascend r to is → map (λ (y : Row). y.offset) xs ≡ map (λ (i : Header). i.place) is
     → OverlapsAt (added Super 0 r ++ flat_map (row_extents b) xs) p → ⊥
 apart b cs r to is xs p reads a e o =
     let c = climbs_headers b cs r to is reads a in

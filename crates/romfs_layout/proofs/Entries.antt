@@ -32,7 +32,8 @@ made_of b at' from (folder name i own after) =
     let h = header_end from name in
     entry name (node_of b (pad16 from) (made_of b at' (h + 64) own)) (made_of b at' (ends (h + 64) own) after)
 
-pub led_once : (n : ℕ) (b : List ℕ) (p q : ℕ) → type_of b p ≡ 0 → spec_offset_of b p ≡ q → type_of b q ≢ 0 → led (suc n) b p ≡ q
+pub led_once : (n : ℕ) (b : List ℕ) (p q : ℕ) → type_of b p ≡ 0 → spec_offset_of b p ≡ q → type_of b q ≢ 0
+    → led (suc n) b p ≡ q
 unfolding led
 led_once zero b p q t e live = rw (eq-eqb (type_of b p) 0 t) e
 led_once (suc n) b p q t e live =
@@ -40,14 +41,18 @@ led_once (suc n) b p q t e live =
     rw (ih, ne_eqb (type_of b q) 0 live) refl
 
 -- a record that is no entry, and one that is
-pub skip : (b : List ℕ) (p : ℕ) (own after : Forest) → is_dots (name_of b p) ≡ true → entries_at b (at p own after) ≡ entries_at b after
+pub skip : (b : List ℕ) (p : ℕ) (own after : Forest) → is_dots (name_of b p) ≡ true
+    → entries_at b (at p own after) ≡ entries_at b after
 skip b p own after d = rw d refl
 
-take_entry : (b : List ℕ) (p q : ℕ) (name : List ℕ) (own after : Forest) (es fs : Entries) → name_of b p ≡ name → is_dots name ≡ false → led 8 b p ≡ q → entries_at b own ≡ es → entries_at b after ≡ fs
+take_entry : (b : List ℕ) (p q : ℕ) (name : List ℕ) (own after : Forest) (es fs : Entries) → name_of b p ≡ name
+    → is_dots name ≡ false → led 8 b p ≡ q → entries_at b own ≡ es → entries_at b after ≡ fs
     → entries_at b (at p own after) ≡ entry name (node_of b q es) fs
 take_entry b p q name own after es fs n d l e f = rw (n, d, l, e, f) refl
 
-pub entries_is : (b : List ℕ) (cs : List (List ℕ)) (all : List Row) (at' : ℕ → ℕ) (dir from : ℕ) (n : Names) → AreWell cs n → AreLed b all at' n → Every (Reads b cs) (headers at' dir from n) → entries_at b (offsets from n) ≡ made_of b at' from n
+pub entries_is : (b : List ℕ) (cs : List (List ℕ)) (all : List Row) (at' : ℕ → ℕ) (dir from : ℕ) (n : Names)
+    → AreWell cs n → AreLed b all at' n → Every (Reads b cs) (headers at' dir from n)
+    → entries_at b (offsets from n) ≡ made_of b at' from n
 entries_is b cs all at' dir from nothing h led reads = refl
 entries_is b cs all at' dir from (leaf name i after) h led reads =
     let p = place_of from name i in

@@ -30,7 +30,8 @@ pub record IsAt (b : List ℕ) (cs : List (List ℕ)) (i : Inode) (p : ℕ) : Ty
   pub numbers : i.kind ≢ Directory → word_be b (p + 4) ≡ device_of i
   pub content : i.kind ≢ Directory → HasAt b (end_of b p) (bytes_of cs i.fill)
 
-mode_by : (k : Kind) (m q word : ℕ) → word ≡ q + (number_of k + mode_bit k m) → q % 16 ≡ 0 → mode_named (number_of k) (eqb (word / 8 % 2) 1) ≡ mode_named (number_of k) (eqb m runnable)
+mode_by : (k : Kind) (m q word : ℕ) → word ≡ q + (number_of k + mode_bit k m) → q % 16 ≡ 0
+    → mode_named (number_of k) (eqb (word / 8 % 2) 1) ≡ mode_named (number_of k) (eqb m runnable)
 mode_by Directory m q word e even = elim (eqb m runnable) as (λ t. word ≡ q + (1 + (if t then 8 else 0)) → mode_named 1 (eqb (word / 8 % 2) 1) ≡ mode_named 1 t) [
   | true ↦ λ w. let x : word / 8 % 2 ≡ 1 = omega (arith, w, even) in rw x refl
   | false ↦ λ w. let x : word / 8 % 2 ≡ 0 = omega (arith, w, even) in rw x refl
@@ -45,7 +46,8 @@ mode_by Character m q word e even = refl
 mode_by Socket m q word e even = refl
 mode_by Fifo m q word e even = refl
 
-pub mode_is : (b : List ℕ) (i : Inode) (p q : ℕ) → HasMode i → word_be b p ≡ q + code_of i → q % 16 ≡ 0 → mode_named (number_of i.kind) (executable b p) ≡ i.mode
+pub mode_is : (b : List ℕ) (i : Inode) (p q : ℕ) → HasMode i → word_be b p ≡ q + code_of i → q % 16 ≡ 0
+    → mode_named (number_of i.kind) (executable b p) ≡ i.mode
 unfolding code_of
 mode_is b i p q h e even = mode_by i.kind i.mode q (word_be b p) e even ∙ h
 
@@ -65,7 +67,9 @@ file_kind cs i h = not_directory i.kind i h.kind
 abbrev pub AtPlace : List ℕ → List (List ℕ) → (ℕ → Type 0) → Placed → Type 0
 AtPlace b cs Q x = IsAt b cs x.inode x.place × Q x.place
 
-pub files_at : (b : List ℕ) (cs : List (List ℕ)) (Q : ℕ → Type 0) (at' : ℕ → ℕ) (dir from : ℕ) (n : Names) → AreWell cs n → Every (Reads b cs) (headers at' dir from n) → Every (λ (i : Header). Q i.place) (headers at' dir from n)
+pub files_at : (b : List ℕ) (cs : List (List ℕ)) (Q : ℕ → Type 0) (at' : ℕ → ℕ) (dir from : ℕ) (n : Names)
+    → AreWell cs n → Every (Reads b cs) (headers at' dir from n)
+    → Every (λ (i : Header). Q i.place) (headers at' dir from n)
     → Every (AtPlace b cs Q) (placed from n)
 files_at b cs Q at' dir from nothing h reads k = tt
 files_at b cs Q at' dir from (leaf name i after) h reads k =
@@ -132,7 +136,9 @@ with_line P (x ∷ xs) line i h e =
       | false ↦ λ z. with_line P xs line i h.1 z
     ] e
 
-pub led_by : (b : List ℕ) (cs : List (List ℕ)) (all : List Row) (xs : List Placed) (n : Names) → AreWell cs n → AreLinks (map (λ (x : Placed). x.inode) xs) n → Every (AtPlace b cs (IsListed all)) xs → AreLed b all (place_with xs) n
+pub led_by : (b : List ℕ) (cs : List (List ℕ)) (all : List Row) (xs : List Placed) (n : Names) → AreWell cs n
+    → AreLinks (map (λ (x : Placed). x.inode) xs) n → Every (AtPlace b cs (IsListed all)) xs
+    → AreLed b all (place_with xs) n
 led_by b cs all xs nothing h l a = tt
 led_by b cs all xs (leaf name i after) h l a = led_by b cs all xs after h.2 l a
 led_by b cs all xs (link name i after) h l a =

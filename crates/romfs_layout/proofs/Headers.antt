@@ -36,7 +36,8 @@ unfolding code_of
 code_is i = let c = code_by i.kind i.mode in record { small = c.0; kind = c.1 }
 
 -- the numbers of a device fit a word, and a link's text has a length
-fits_by : (k : Kind) (i : Inode) → FitsKind k i → (i.major * 65536 + i.minor < 2 ^ 32) × (number_of k ≡ 3 → (1 ≤ i.size) × (i.size ≤ 4095))
+fits_by : (k : Kind) (i : Inode) → FitsKind k i
+    → (i.major * 65536 + i.minor < 2 ^ 32) × (number_of k ≡ 3 → (1 ≤ i.size) × (i.size ≤ 4095))
 fits_by Directory i h = absurd h
 fits_by Regular i h = let a = h.0 in let c = h.1 in (omega arith, λ e. absurd (omega arith))
 fits_by Symlink i h = let a = h.0 in let c = h.1 in (omega arith, λ e. (h.2, h.3))
@@ -65,7 +66,8 @@ pub dots_name : IsName dot_dot
 dots_name = record { named = omega arith; short = omega arith; no_zero = search rules; no_slash = dots_slash }
 
 -- an item without data
-pub alone_header : (cs : List (List ℕ)) (i : Header) → i.fill ≡ no_bytes → i.size ≡ 0 → i.next < 2 ^ 32 → i.spec < 2 ^ 32 → IsName i.name → i.next % 8 ≢ 3 → IsHeader cs i
+pub alone_header : (cs : List (List ℕ)) (i : Header) → i.fill ≡ no_bytes → i.size ≡ 0 → i.next < 2 ^ 32
+    → i.spec < 2 ^ 32 → IsName i.name → i.next % 8 ≢ 3 → IsHeader cs i
 alone_header cs i fill size next spec name other = record {
   next = next;
   spec = spec;
@@ -76,7 +78,8 @@ alone_header cs i fill size next spec name other = record {
 }
 
 -- each item can be written
-pub headers_well : (cs : List (List ℕ)) (at : ℕ → ℕ) (dir from : ℕ) (n : Names) → ((k : ℕ) → at k < 2 ^ 32) → AreWell cs n → dir < 2 ^ 32 → ends from n + 64 < 2 ^ 32 → Every (IsHeader cs) (headers at dir from n)
+pub headers_well : (cs : List (List ℕ)) (at : ℕ → ℕ) (dir from : ℕ) (n : Names) → ((k : ℕ) → at k < 2 ^ 32)
+    → AreWell cs n → dir < 2 ^ 32 → ends from n + 64 < 2 ^ 32 → Every (IsHeader cs) (headers at dir from n)
 headers_well cs at dir from nothing up h low fits = tt
 headers_well cs at dir from (leaf name i after) up h low fits =
     let q = leaf_end from name i in
@@ -138,11 +141,13 @@ pub ascend_later : (from up to : ℕ) (is : List Header) → from ≤ up → Asc
 ascend_later from up to [] h k = omega arith
 ascend_later from up to (i ∷ is) h k = let l = k.0 in (omega arith, k.1)
 
-pub ascend_join : (from mid to : ℕ) (is js : List Header) → Ascend from mid is → Ascend mid to js → Ascend from to (is ++ js)
+pub ascend_join : (from mid to : ℕ) (is js : List Header) → Ascend from mid is → Ascend mid to js
+    → Ascend from to (is ++ js)
 ascend_join from mid to [] js h k = ascend_later from mid to js h k
 ascend_join from mid to (i ∷ is) js h k = (h.0, ascend_join (i.place + record_len i.name + i.size) mid to is js h.1 k)
 
-pub headers_ascend : (cs : List (List ℕ)) (at : ℕ → ℕ) (dir from : ℕ) (n : Names) → AreWell cs n → Ascend from (ends from n) (headers at dir from n)
+pub headers_ascend : (cs : List (List ℕ)) (at : ℕ → ℕ) (dir from : ℕ) (n : Names) → AreWell cs n
+    → Ascend from (ends from n) (headers at dir from n)
 headers_ascend cs at dir from nothing h = omega arith
 headers_ascend cs at dir from (leaf name i after) h = (place_after cs from name i h.1, headers_ascend cs at dir (leaf_end from name i) after h.2)
 headers_ascend cs at dir from (link name i after) h =

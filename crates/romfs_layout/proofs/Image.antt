@@ -33,7 +33,8 @@ use Rattle.romfs_layout.proofs.Entries.{made_of}
 use Rattle.romfs_layout.proofs.Whole.{Holds, all_ascend, is_tree}
 
 -- each file stands before the end
-placed_low : (cs : List (List ℕ)) (from to : ℕ) (n : Names) → AreWell cs n → ends from n ≤ to → Every (λ (x : Placed). x.place ≤ to) (placed from n)
+placed_low : (cs : List (List ℕ)) (from to : ℕ) (n : Names) → AreWell cs n → ends from n ≤ to
+    → Every (λ (x : Placed). x.place ≤ to) (placed from n)
 placed_low cs from to nothing h l = tt
 placed_low cs from to (leaf name i after) h l =
     let e = ends_after cs (leaf_end from name i) after h.2 in
@@ -55,7 +56,8 @@ record AreParts (from size : ℕ) (ps : List Part) : Type 0 where
   rises : Rises from ps
   ends_at : end_of_parts from ps ≡ size
 
-parts_rise : (cs : List (List ℕ)) (from to size : ℕ) (is : List Header) → Every (IsHeader cs) is → Ascend from to is → to ≤ size → AreParts from size (parts cs is ++ part size [] ∷ [])
+parts_rise : (cs : List (List ℕ)) (from to size : ℕ) (is : List Header) → Every (IsHeader cs) is → Ascend from to is
+    → to ≤ size → AreParts from size (parts cs is ++ part size [] ∷ [])
 parts_rise cs from to size [] w a l = record { rises = (omega arith, tt); ends_at = omega arith }
 parts_rise cs from to size (i ∷ is) w a l =
     let q = i.place + record_len i.name in
@@ -67,13 +69,15 @@ parts_rise cs from to size (i ∷ is) w a l =
     record { rises = (a.0, (omega (arith, len), later'.rises)); ends_at = later'.ends_at }
 
 -- the seal changes no part behind it
-parts_sealed : (b : List ℕ) (from : ℕ) (ps : List Part) → 16 ≤ length b → 16 ≤ from → Rises from ps → HasParts b ps → HasParts (sealed b) ps
+parts_sealed : (b : List ℕ) (from : ℕ) (ps : List Part) → 16 ≤ length b → 16 ≤ from → Rises from ps → HasParts b ps
+    → HasParts (sealed b) ps
 parts_sealed b from [] l m r h = tt
 parts_sealed b from (p ∷ ps) l m r h =
     let a = r.0 in
     (HasAt-sealed b p.place p.bytes l (omega arith) h.0, parts_sealed b (end_of_part p) ps l (omega arith) r.1 h.1)
 
-parts_front : (cs : List (List ℕ)) (b : List ℕ) (is : List Header) (ps : List Part) → HasParts b (parts cs is ++ ps) → HasParts b (parts cs is)
+parts_front : (cs : List (List ℕ)) (b : List ℕ) (is : List Header) (ps : List Part) → HasParts b (parts cs is ++ ps)
+    → HasParts b (parts cs is)
 parts_front cs b [] ps h = tt
 parts_front cs b (i ∷ is) ps h = (h.0, (h.1.0, parts_front cs b is ps h.1.1))
 
@@ -84,7 +88,8 @@ length-sealed b h =
     omega (arith, length-append (take 12 b) (w ++ drop 16 b), length-append w (drop 16 b), length-take 12 b, length-drop 16 b)
 
 -- what an image with this superblock begins with
-sealed_begins : (size : ℕ) (volume more : List ℕ) → (back : List ℕ) × (sealed (superblock size volume ++ more) ≡ magic ++ (big_bytes 4 size ++ back))
+sealed_begins : (size : ℕ) (volume more : List ℕ)
+    → (back : List ℕ) × (sealed (superblock size volume ++ more) ≡ magic ++ (big_bytes 4 size ++ back))
 unfolding sealed
 sealed_begins size volume more = (_, refl)
 
@@ -100,7 +105,8 @@ pub record IsImage (volume : List ℕ) (root : Inode) (n : Names) (cs : List (Li
   pub name : before_zero (drop 16 b) ≡ volume
   pub holds : Holds b (root_at volume) cs root n
 
-planned_headers : (volume : List ℕ) (root : Inode) (n : Names) (cs : List (List ℕ)) → IsPlanned volume root n cs → Every (IsHeader cs) (all_headers (root_at volume) root n)
+planned_headers : (volume : List ℕ) (root : Inode) (n : Names) (cs : List (List ℕ)) → IsPlanned volume root n cs
+    → Every (IsHeader cs) (all_headers (root_at volume) root n)
 planned_headers volume root n cs h =
     let r = root_at volume in
     let xs = placed (r + 64) n in
@@ -130,7 +136,8 @@ sum_at b e = elim (cases_lt 512 (length b)) [
   | inr l ↦ let m : take (min 512 (length b)) b ≡ take 512 b = take_all (min 512 (length b)) b (omega arith) ∙ sym (take_all 512 b (omega arith)) in ap words_sum m ∙ e
 ]
 
-pub is_image : (volume : List ℕ) (root : Inode) (n : Names) (cs : List (List ℕ)) → IsPlanned volume root n cs → IsImage volume root n cs (image_of volume (full_size_of (root_at volume) n) cs (all_headers (root_at volume) root n))
+pub is_image : (volume : List ℕ) (root : Inode) (n : Names) (cs : List (List ℕ)) → IsPlanned volume root n cs
+    → IsImage volume root n cs (image_of volume (full_size_of (root_at volume) n) cs (all_headers (root_at volume) root n))
 unfolding image_of with_part
 is_image volume root n cs h =
     let r = root_at volume in
@@ -217,7 +224,8 @@ has_tree volume root n cs h =
       same = sym t.1;
     }
 
-pub has_length : (volume : List ℕ) (root : Inode) (n : Names) (cs : List (List ℕ)) → IsPlanned volume root n cs → length (layout volume root n cs) ≡ pad (full_size_of (root_at volume) n) 1024
+pub has_length : (volume : List ℕ) (root : Inode) (n : Names) (cs : List (List ℕ)) → IsPlanned volume root n cs
+    → length (layout volume root n cs) ≡ pad (full_size_of (root_at volume) n) 1024
 unfolding layout
 has_length volume root n cs h =
     let r = root_at volume in

@@ -37,33 +37,40 @@ AreLed b all at' (leaf name i after) = AreLed b all at' after
 AreLed b all at' (link name i after) = IsTarget b all (at' i.line) × (type_of b (at' i.line) ≢ 1) × AreLed b all at' after
 AreLed b all at' (folder name i own after) = AreLed b all at' own × AreLed b all at' after
 
-pub follow_once : (b : List ℕ) (all : List Row) (p q : ℕ) → type_of b p ≡ 0 → spec_offset_of b p ≡ q → IsTarget b all q → follow b all 8 p ≡ Some q
+pub follow_once : (b : List ℕ) (all : List Row) (p q : ℕ) → type_of b p ≡ 0 → spec_offset_of b p ≡ q
+    → IsTarget b all q → follow b all 8 p ≡ Some q
 unfolding follow
 follow_once b all p q t e k = rw (eq-eqb (type_of b p) 0 t, e, k.listed, ne_eqb (type_of b q) 0 k.live) refl
 
-plain_leads : (b : List ℕ) (all : List Row) (x : Row) → is_dots (name_of b x.offset) ≡ false → type_of b x.offset ≢ 0 → LeadsWell b all x
+plain_leads : (b : List ℕ) (all : List Row) (x : Row) → is_dots (name_of b x.offset) ≡ false → type_of b x.offset ≢ 0
+    → LeadsWell b all x
 plain_leads b all x d t = record {
   here = λ e. absurd (false≢true (sym d ∙ ap is_dots e));
   above = λ e. absurd (false≢true (sym d ∙ ap is_dots e));
   link = λ _ z. absurd (t z);
 }
 
-pub dot_leads : (b : List ℕ) (all : List Row) (x : Row) → name_of b x.offset ≡ dot → follow b all 8 x.offset ≡ Some x.directory → LeadsWell b all x
+pub dot_leads : (b : List ℕ) (all : List Row) (x : Row) → name_of b x.offset ≡ dot
+    → follow b all 8 x.offset ≡ Some x.directory → LeadsWell b all x
 dot_leads b all x d f = record {
   here = λ e. f;
   above = λ e. absurd (dot_is_not (sym d ∙ e));
   link = λ e _. absurd (false≢true (sym e ∙ ap is_dots d));
 }
 
-pub dots_leads : (b : List ℕ) (all : List Row) (x : Row) → name_of b x.offset ≡ dot_dot → follow b all 8 x.offset ≡ Some x.parent → LeadsWell b all x
+pub dots_leads : (b : List ℕ) (all : List Row) (x : Row) → name_of b x.offset ≡ dot_dot
+    → follow b all 8 x.offset ≡ Some x.parent → LeadsWell b all x
 dots_leads b all x d f = record {
   here = λ e. absurd (dot_is_not (sym e ∙ d));
   above = λ e. f;
   link = λ e _. absurd (false≢true (sym e ∙ ap is_dots d));
 }
 
-pub leads : (b : List ℕ) (r : ℕ) (cs : List (List ℕ)) (at' : ℕ → ℕ) (all : List Row) (x : Reference) (dir up depth from : ℕ) (n : Names) → AreWell cs n → AreLed b all at' n → IsTarget b all dir
-    → Every (Reads b cs) (headers at' dir from n) → Every (λ (i : Header). IsListed all i.place) (headers at' dir from n) → Every (LeadsWell b all) (rows (references b r) x dir up depth (offsets from n))
+pub leads : (b : List ℕ) (r : ℕ) (cs : List (List ℕ)) (at' : ℕ → ℕ) (all : List Row) (x : Reference) (dir up depth from : ℕ) (n : Names)
+    → AreWell cs n → AreLed b all at' n → IsTarget b all dir
+    → Every (Reads b cs) (headers at' dir from n)
+    → Every (λ (i : Header). IsListed all i.place) (headers at' dir from n)
+    → Every (LeadsWell b all) (rows (references b r) x dir up depth (offsets from n))
 leads b r cs at' all x dir up depth from nothing h led d reads listed = tt
 leads b r cs at' all x dir up depth from (leaf name i after) h led d reads listed =
     let g = references b r in

@@ -22,7 +22,8 @@ use Rattle.romfs_layout.proofs.Places.{place_after, ends_after}
 use Rattle.romfs_layout.proofs.Headers.{Ascend}
 
 -- an item that was read back is a sound record
-pub sound_by : (b : List ℕ) (cs : List (List ℕ)) (r : ℕ) (i : Header) → Reads b cs i → IsHeader cs i → r ≤ i.place → i.place + record_len i.name + i.size ≤ length b → IsSound b r i.place
+pub sound_by : (b : List ℕ) (cs : List (List ℕ)) (r : ℕ) (i : Header) → Reads b cs i → IsHeader cs i → r ≤ i.place
+    → i.place + record_len i.name + i.size ≤ length b → IsSound b r i.place
 unfolding type_of
 sound_by b cs r i reads w low fits =
     let p = i.place in
@@ -46,7 +47,8 @@ sound_by b cs r i reads w low fits =
       link_size = λ q. let l = w.link (ap (λ (x : ℕ). x % 8) (sym reads.word) ∙ q) in (omega (arith, s, l.0), omega (arith, s, l.1));
     }
 
-pub all_sound : (b : List ℕ) (cs : List (List ℕ)) (r from to : ℕ) (is : List Header) → Every (Reads b cs) is → Every (IsHeader cs) is → r ≤ from → Ascend from to is → to ≤ length b → Every (λ i. IsSound b r i.place) is
+pub all_sound : (b : List ℕ) (cs : List (List ℕ)) (r from to : ℕ) (is : List Header) → Every (Reads b cs) is
+    → Every (IsHeader cs) is → r ≤ from → Ascend from to is → to ≤ length b → Every (λ i. IsSound b r i.place) is
 all_sound b cs r from to [] reads w low a fits = tt
 all_sound b cs r from to (i ∷ is) reads w low a fits =
     let l = a.0 in
@@ -62,15 +64,19 @@ all_sound b cs r from to (i ∷ is) reads w low a fits =
 abbrev pub Located : List ℕ → ℕ → ℕ → Names → Row → Type 0
 Located b dir from n y = ((y.directory ≡ dir) × StandsIn (name_of b y.offset) n) ⊎ ((from ≤ y.directory) × (y.directory < ends from n))
 
-later_located : (b : List ℕ) (dir from q : ℕ) (n after : Names) (y : Row) → ((m : List ℕ) → StandsIn m after → StandsIn m n) → from ≤ q → ends q after ≡ ends from n → Located b dir q after y → Located b dir from n y
+later_located : (b : List ℕ) (dir from q : ℕ) (n after : Names) (y : Row)
+    → ((m : List ℕ) → StandsIn m after → StandsIn m n) → from ≤ q → ends q after ≡ ends from n
+    → Located b dir q after y → Located b dir from n y
 later_located b dir from q n after y s l e (inl h) = inl (h.0, s (name_of b y.offset) h.1)
 later_located b dir from q n after y s l e (inr h) = let u = h.0 in let v = h.1 in inr (omega arith, omega (arith, e))
 
-inner_located : (b : List ℕ) (dir from low high : ℕ) (n : Names) (y : Row) → low ≤ dir → dir < high → low ≤ from → ends from n ≤ high → Located b dir from n y → (low ≤ y.directory) × (y.directory < high)
+inner_located : (b : List ℕ) (dir from low high : ℕ) (n : Names) (y : Row) → low ≤ dir → dir < high → low ≤ from
+    → ends from n ≤ high → Located b dir from n y → (low ≤ y.directory) × (y.directory < high)
 inner_located b dir from low high n y l k m o (inl h) = let e = h.0 in (omega (arith, e), omega (arith, e))
 inner_located b dir from low high n y l k m o (inr h) = let u = h.0 in let v = h.1 in (omega arith, omega arith)
 
-pub located : (b : List ℕ) (r : ℕ) (cs : List (List ℕ)) (at' : ℕ → ℕ) (x : Reference) (dir up depth from : ℕ) (n : Names) → AreWell cs n → Every (Reads b cs) (headers at' dir from n)
+pub located : (b : List ℕ) (r : ℕ) (cs : List (List ℕ)) (at' : ℕ → ℕ) (x : Reference) (dir up depth from : ℕ) (n : Names)
+    → AreWell cs n → Every (Reads b cs) (headers at' dir from n)
     → Every (Located b dir from n) (rows (references b r) x dir up depth (offsets from n))
 located b r cs at' x dir up depth from nothing h reads = tt
 located b r cs at' x dir up depth from (leaf name i after) h reads =
@@ -120,7 +126,8 @@ no_name cs m (folder name i own after) d h (inl e) = false≢true (sym h.0.no_do
 no_name cs m (folder name i own after) d h (inr s) = no_name cs m after d h.3 s
 
 -- a head before rows that are located behind it
-pub head_differs : (b : List ℕ) (x y : Row) (dir q : ℕ) (after : Names) → x.directory ≡ dir → dir < q → (StandsIn (name_of b x.offset) after → ⊥) → Located b dir q after y → NamesDiffer (name_of b) x y
+pub head_differs : (b : List ℕ) (x y : Row) (dir q : ℕ) (after : Names) → x.directory ≡ dir → dir < q
+    → (StandsIn (name_of b x.offset) after → ⊥) → Located b dir q after y → NamesDiffer (name_of b) x y
 head_differs b x y dir q after e l alone (inl h) = λ same eq. alone (subst (λ (m : List ℕ). StandsIn m after) (sym eq) h.1)
 head_differs b x y dir q after e l alone (inr h) = λ same eq. let u = h.0 in absurd (omega (arith, e, same))
 
@@ -129,14 +136,16 @@ apart_differs : (b : List ℕ) (x y : Row) → x.directory ≢ y.directory → N
 apart_differs b x y n = λ same eq. absurd (n same)
 
 -- a row inside a directory, and one behind it
-cross_differs : (b : List ℕ) (x y : Row) (dir q high : ℕ) (after : Names) → dir < x.directory → x.directory < q → Located b dir q after y → NamesDiffer (name_of b) x y
+cross_differs : (b : List ℕ) (x y : Row) (dir q high : ℕ) (after : Names) → dir < x.directory → x.directory < q
+    → Located b dir q after y → NamesDiffer (name_of b) x y
 cross_differs b x y dir q high after l k (inl h) = λ same eq. let e = h.0 in absurd (omega (arith, e, same))
 cross_differs b x y dir q high after l k (inr h) = λ same eq. let u = h.0 in absurd (omega (arith, same))
 
 pub dot_is_not : dot ≡ dot_dot → ⊥
 dot_is_not e = absurd (let n : length dot ≡ length dot_dot = ap length e in omega (arith, n))
 
-pub names_differ : (b : List ℕ) (r : ℕ) (cs : List (List ℕ)) (at' : ℕ → ℕ) (x : Reference) (dir up depth from : ℕ) (n : Names) → AreWell cs n → dir < from → Every (Reads b cs) (headers at' dir from n)
+pub names_differ : (b : List ℕ) (r : ℕ) (cs : List (List ℕ)) (at' : ℕ → ℕ) (x : Reference) (dir up depth from : ℕ) (n : Names)
+    → AreWell cs n → dir < from → Every (Reads b cs) (headers at' dir from n)
     → Pairs (NamesDiffer (name_of b)) (rows (references b r) x dir up depth (offsets from n))
 names_differ b r cs at' x dir up depth from nothing h low reads = tt
 names_differ b r cs at' x dir up depth from (leaf name i after) h low reads =

@@ -46,7 +46,8 @@ LinksAt b cs Q at' (leaf name i after) = LinksAt b cs Q at' after
 LinksAt b cs Q at' (link name i after) = KnownAt b cs Q (record { inode = i; place = at' i.line }) × LinksAt b cs Q at' after
 LinksAt b cs Q at' (folder name i own after) = LinksAt b cs Q at' own × LinksAt b cs Q at' after
 
-pub links_at : (b : List ℕ) (cs : List (List ℕ)) (Q : Placed → Type 0) (xs : List Placed) (n : Names) → AreLinks (map (λ (x : Placed). x.inode) xs) n → Every (KnownAt b cs Q) xs → LinksAt b cs Q (place_with xs) n
+pub links_at : (b : List ℕ) (cs : List (List ℕ)) (Q : Placed → Type 0) (xs : List Placed) (n : Names)
+    → AreLinks (map (λ (x : Placed). x.inode) xs) n → Every (KnownAt b cs Q) xs → LinksAt b cs Q (place_with xs) n
 links_at b cs Q xs nothing l a = tt
 links_at b cs Q xs (leaf name i after) l a = links_at b cs Q xs after l a
 links_at b cs Q xs (link name i after) l a = (with_line (KnownAt b cs Q) xs i.line i a l.0, links_at b cs Q xs after l.1 a)
@@ -67,7 +68,8 @@ pub record IsShown (b : List ℕ) (cs : List (List ℕ)) (Q : Placed → Type 0)
 alone_shown : (b : List ℕ) (cs : List (List ℕ)) (Q : Placed → Type 0) (at' : ℕ → ℕ) (p : ℕ) (i : Inode) → KnownAt b cs Q (record { inode = i; place = p }) → IsShown b cs Q at' (node_of b p no_entries) (record { inode = i; own = nothing })
 alone_shown b cs Q at' p i k = record { place = p; from = 0; entries = no_entries; is = refl; list = entries_none b p; known = k; inner = tt; links = tt; well = tt }
 
-pub find_alike : (b : List ℕ) (cs : List (List ℕ)) (Q : Placed → Type 0) (at' : ℕ → ℕ) (m : List ℕ) (from : ℕ) (n : Names) → AreWell cs n → Every (KnownAt b cs Q) (placed from n) → LinksAt b cs Q at' n
+pub find_alike : (b : List ℕ) (cs : List (List ℕ)) (Q : Placed → Type 0) (at' : ℕ → ℕ) (m : List ℕ) (from : ℕ) (n : Names)
+    → AreWell cs n → Every (KnownAt b cs Q) (placed from n) → LinksAt b cs Q at' n
     → Alike (IsShown b cs Q at') (find_entry (made_of b at' from n) m) (find_name n m)
 find_alike b cs Q at' m from nothing h k l = tt
 find_alike b cs Q at' m from (leaf name i after) h k l =
@@ -105,7 +107,8 @@ pub record IsEnd (b : List ℕ) (cs : List (List ℕ)) (Q : Placed → Type 0) (
   pub is : x ≡ node_of b place entries
   pub known : KnownAt b cs Q (record { inode = i; place = place })
 
-pub path_alike : (b : List ℕ) (cs : List (List ℕ)) (Q : Placed → Type 0) (at' : ℕ → ℕ) (q : List (List ℕ)) (x : Node) (m : Named) → IsShown b cs Q at' x m → Alike (IsEnd b cs Q) (node_under q x) (file_under q m)
+pub path_alike : (b : List ℕ) (cs : List (List ℕ)) (Q : Placed → Type 0) (at' : ℕ → ℕ) (q : List (List ℕ)) (x : Node) (m : Named)
+    → IsShown b cs Q at' x m → Alike (IsEnd b cs Q) (node_under q x) (file_under q m)
 path_alike b cs Q at' [] x m h = record { place = h.place; entries = h.entries; is = h.is; known = h.known }
 path_alike b cs Q at' (n ∷ ns) x m h =
     let found = find_alike b cs Q at' n h.from m.own h.well h.inner h.links in

@@ -10,7 +10,8 @@ use Rattle.image_parts.specs.Padding.{pad}
 times16 : (x m : ℕ) → (x * (16 * m)) % 16 ≡ 0
 times16 x m = omega arith
 
-pub place_after : (cs : List (List ℕ)) (from : ℕ) (name : List ℕ) (i : Inode) → IsFile cs i → from ≤ place_of from name i
+pub place_after : (cs : List (List ℕ)) (from : ℕ) (name : List ℕ) (i : Inode) → IsFile cs i
+    → from ≤ place_of from name i
 unfolding place_of
 place_after cs from name i h =
     let a : 0 < data_align i = rw h.aligned (let s = h.some in omega arith) in
@@ -23,7 +24,8 @@ pad_even n k m h = let x = (n + (k - 1)) / k in ap (λ (z : ℕ). (x * z) % 16) 
 sub_even : (h l : ℕ) → h % 16 ≡ 0 → l % 16 ≡ 0 → l ≤ h → (h - l) % 16 ≡ 0
 sub_even h l p q r = omega arith
 
-pub place_even : (cs : List (List ℕ)) (from : ℕ) (name : List ℕ) (i : Inode) → IsFile cs i → place_of from name i % 16 ≡ 0
+pub place_even : (cs : List (List ℕ)) (from : ℕ) (name : List ℕ) (i : Inode) → IsFile cs i
+    → place_of from name i % 16 ≡ 0
 unfolding place_of
 place_even cs from name i h =
     let a : 0 < data_align i = rw h.aligned (let s = h.some in omega arith) in

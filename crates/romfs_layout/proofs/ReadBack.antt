@@ -34,7 +34,8 @@ unfolding header_bytes balanced
 length-header next spec size name = let e = length-padded_name name in omega (arith, e)
 
 -- the name stands before its zeros
-pub name_of-has : (b : List ℕ) (p : ℕ) (name : List ℕ) → AllByRecursion (λ x. x ≢ 0) name → HasAt b (p + 16) (padded_name name) → name_of b p ≡ name
+pub name_of-has : (b : List ℕ) (p : ℕ) (name : List ℕ) → AllByRecursion (λ x. x ≢ 0) name
+    → HasAt b (p + 16) (padded_name name) → name_of b p ≡ name
 unfolding name_of padded_name
 name_of-has b p name h (more, e) =
     let k = pad16 (length name + 1) - length name in
@@ -43,7 +44,9 @@ name_of-has b p name h (more, e) =
     ap before_zero s ∙ before_zero_ended name (replicate (k - 1) 0 ++ more) h
 
 -- an item that was laid is read back
-pub header_reads : (b : List ℕ) (contents : List (List ℕ)) (i : Header) → IsHeader contents i → HasAt b i.place (header_bytes i.next i.spec i.size i.name) → HasAt b (i.place + record_len i.name) (bytes_of contents i.fill) → Reads b contents i
+pub header_reads : (b : List ℕ) (contents : List (List ℕ)) (i : Header) → IsHeader contents i
+    → HasAt b i.place (header_bytes i.next i.spec i.size i.name)
+    → HasAt b (i.place + record_len i.name) (bytes_of contents i.fill) → Reads b contents i
 unfolding header_bytes balanced size_of end_of
 header_reads b contents i w has laid =
     let p = i.place in
@@ -71,6 +74,7 @@ header_reads b contents i w has laid =
       content = laid;
     }
 
-pub all_read : (b : List ℕ) (contents : List (List ℕ)) (is : List Header) → AllByRecursion (IsHeader contents) is → HasParts b (parts contents is) → AllByRecursion (Reads b contents) is
+pub all_read : (b : List ℕ) (contents : List (List ℕ)) (is : List Header) → AllByRecursion (IsHeader contents) is
+    → HasParts b (parts contents is) → AllByRecursion (Reads b contents) is
 all_read b contents [] w has = tt
 all_read b contents (i ∷ is) w has = (header_reads b contents i w.0 has.0 has.1.0, all_read b contents is w.1 has.1.1)

@@ -37,12 +37,14 @@ data_behind at dir from (folder name i own after) =
     )
 
 -- the bytes of an item, and what stands behind them
-bytes_rise : (index from start len end : ℕ) (f : Fill) (ss : List Section) → from ≤ start → 0 < len → SectionsRise (start + len) end ss → SectionsRise from end (fill_section index start len f ++ ss)
+bytes_rise : (index from start len end : ℕ) (f : Fill) (ss : List Section) → from ≤ start → 0 < len
+    → SectionsRise (start + len) end ss → SectionsRise from end (fill_section index start len f ++ ss)
 bytes_rise index from start len end no_bytes ss h l r = rise_later from (start + len) end ss (omega arith) r
 bytes_rise index from start len end (text t) ss h l r = (h, l, r)
 bytes_rise index from start len end (source k) ss h l r = (h, l, r)
 
-sections_rise : (index from end : ℕ) (hs : List Header) → Ascend from end hs → Every DataBehind hs → SectionsRise from end (sections_from index (map item_of hs))
+sections_rise : (index from end : ℕ) (hs : List Header) → Ascend from end hs → Every DataBehind hs
+    → SectionsRise from end (sections_from index (map item_of hs))
 sections_rise index from end [] a d = a
 sections_rise index from end (h ∷ hs) a d =
     let q = h.place + record_len h.name in
@@ -66,7 +68,8 @@ ascend_end : (from to end : ℕ) (hs : List Header) → to ≤ end → Ascend fr
 ascend_end from to end [] h a = omega arith
 ascend_end from to end (x ∷ xs) h a = (a.0, ascend_end (x.place + record_len x.name + x.size) to end xs h a.1)
 
-pub rise : (volume : List ℕ) (root : Inode) (n : Names) (cs : List (List ℕ)) → IsPlanned volume root n cs → SectionsRise 0 (full_size_of (root_at volume) n) (sections_of volume (items_of volume root n))
+pub rise : (volume : List ℕ) (root : Inode) (n : Names) (cs : List (List ℕ)) → IsPlanned volume root n cs
+    → SectionsRise 0 (full_size_of (root_at volume) n) (sections_of volume (items_of volume root n))
 rise volume root n cs h =
     let r = root_at volume in
     let at = place_with (placed (r + 64) n) in

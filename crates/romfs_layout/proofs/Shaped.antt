@@ -28,7 +28,8 @@ use Rattle.romfs_layout.proofs.Paths.{KnownAt, IsShown, IsEnd, links_at, path_al
 abbrev IsGood : List (List ℕ) → Inode → Type 0
 IsGood cs i = IsFile cs i ⊎ IsFolder i
 
-good_files : (cs : List (List ℕ)) (from : ℕ) (n : Names) → AreWell cs n → Every (λ (x : Placed). IsGood cs x.inode) (placed from n)
+good_files : (cs : List (List ℕ)) (from : ℕ) (n : Names) → AreWell cs n
+    → Every (λ (x : Placed). IsGood cs x.inode) (placed from n)
 good_files cs from nothing h = tt
 good_files cs from (leaf name i after) h = (inl h.1, good_files cs (leaf_end from name i) after h.2)
 good_files cs from (link name i after) h = good_files cs (header_end from name) after h.2
@@ -42,7 +43,8 @@ record AreApart (from to : ℕ) (xs : List Placed) : Type 0 where
   within : Every (λ (x : Placed). (from ≤ x.place) × (x.place < to)) xs
   apart : Pairs (λ (x y : Placed). x.place ≢ y.place) xs
 
-apart_join : (from mid to : ℕ) (xs ys : List Placed) → from ≤ mid → mid ≤ to → AreApart from mid xs → AreApart mid to ys → AreApart from to (xs ++ ys)
+apart_join : (from mid to : ℕ) (xs ys : List Placed) → from ≤ mid → mid ≤ to → AreApart from mid xs
+    → AreApart mid to ys → AreApart from to (xs ++ ys)
 apart_join from mid to xs ys l m a c = record {
   within = every_join (λ (x : Placed). (from ≤ x.place) × (x.place < to)) xs ys
       (every_weaker (λ (x : Placed). (from ≤ x.place) × (x.place < mid)) (λ (x : Placed). (from ≤ x.place) × (x.place < to)) (λ x k. let u = k.1 in (k.0, omega arith)) xs a.within)
@@ -79,7 +81,8 @@ unfolding node_of attributes_at
 ino_at b p es = refl
 
 -- two nodes have one number exactly where they have one place
-same_nodes : (b : List ℕ) (x y : Node) (p q : ℕ) (es fs : Entries) (A : Type 0) → x ≡ node_of b p es → y ≡ node_of b q fs → (p ≡ q) ↔ A → (ino_of x ≡ ino_of y) ↔ A
+same_nodes : (b : List ℕ) (x y : Node) (p q : ℕ) (es fs : Entries) (A : Type 0) → x ≡ node_of b p es
+    → y ≡ node_of b q fs → (p ≡ q) ↔ A → (ino_of x ≡ ino_of y) ↔ A
 same_nodes b x y p q es fs A e f both =
     let n1 : ino_of x ≡ p = ap ino_of e ∙ ino_at b p es in
     let n2 : ino_of y ≡ q = ap ino_of f ∙ ino_at b q fs in

@@ -58,7 +58,8 @@ pub number_is : (cs : List (List ℕ)) (i : Inode) → IsFile cs i → (number_o
 number_is cs i h = number_by i.kind i h.kind
 
 -- the list that is placed from `from` on stands there
-pub stands_at : (b : List ℕ) (cs : List (List ℕ)) (at' : ℕ → ℕ) (dir from : ℕ) (n : Names) → AreWell cs n → 0 < from → Every (Reads b cs) (headers at' dir from n) → StandsAt b (first_place from n) (offsets from n)
+pub stands_at : (b : List ℕ) (cs : List (List ℕ)) (at' : ℕ → ℕ) (dir from : ℕ) (n : Names) → AreWell cs n → 0 < from
+    → Every (Reads b cs) (headers at' dir from n) → StandsAt b (first_place from n) (offsets from n)
 stands_at b cs at' dir from nothing h pos r = refl
 stands_at b cs at' dir from (leaf name i after) h pos r =
     let p = place_of from name i in
@@ -95,7 +96,8 @@ stands_at b cs at' dir from (folder name i own after) h pos r =
     (omega arith, refl, subst (λ (x : ℕ). StandsAt b x (at he none (at (he + 32) none (offsets (he + 64) own)))) (sym f) list1, subst (λ (x : ℕ). StandsAt b x (offsets q after)) (sym s.next) later)
 
 -- what stands for offsets away from the root stands for the references
-pub stands_for : (b : List ℕ) (r : ℕ) (x : Reference) (f : Forest) → StandsAt b (reference_offset b r x) f → Everywhere (λ p. p ≢ r) f → Stands (references b r) x f
+pub stands_for : (b : List ℕ) (r : ℕ) (x : Reference) (f : Forest) → StandsAt b (reference_offset b r x) f
+    → Everywhere (λ p. p ≢ r) f → Stands (references b r) x f
 stands_for b r x none s o = rw (eq-eqb (reference_offset b r x) 0 s) refl
 stands_for b r x (at p own after) s o =
     let q = reference_offset b r x in
@@ -109,7 +111,8 @@ stands_for b r x (at p own after) s o =
     )
 
 -- the offsets of the rows, of the forest, and of the headers are the same
-pub rows_in_row : (b : List ℕ) (r : ℕ) (x : Reference) (directory parent depth : ℕ) (f : Forest) → map (λ (y : Row). y.offset) (rows (references b r) x directory parent depth f) ≡ in_row f
+pub rows_in_row : (b : List ℕ) (r : ℕ) (x : Reference) (directory parent depth : ℕ) (f : Forest)
+    → map (λ (y : Row). y.offset) (rows (references b r) x directory parent depth f) ≡ in_row f
 rows_in_row b r x directory parent depth none = refl
 rows_in_row b r x directory parent depth (at p own after) =
     let g = references b r in
@@ -118,7 +121,8 @@ rows_in_row b r x directory parent depth (at p own after) =
     let both = map-append (λ (y : Row). y.offset) (rows g (g.own x) p directory (depth + 1) own) (rows g (g.after x) directory parent depth after) in
     ap (λ (ys : List ℕ). p ∷ ys) (both ∙ ap (λ (ys : List ℕ). ys ++ map (λ (y : Row). y.offset) (rows g (g.after x) directory parent depth after)) left ∙ ap (λ (ys : List ℕ). in_row own ++ ys) right)
 
-pub all_in_row : (b : List ℕ) (r : ℕ) (f : Forest) → map (λ (y : Row). y.offset) (all_rows (references b r) f) ≡ in_row f
+pub all_in_row : (b : List ℕ) (r : ℕ) (f : Forest)
+    → map (λ (y : Row). y.offset) (all_rows (references b r) f) ≡ in_row f
 all_in_row b r none = refl
 all_in_row b r (at p own after) =
     let g = references b r in
@@ -127,7 +131,8 @@ all_in_row b r (at p own after) =
     let both = map-append (λ (y : Row). y.offset) (rows g (g.own g.top) p p 1 own) (rows g (g.after g.top) p p 1 after) in
     ap (λ (ys : List ℕ). p ∷ ys) (both ∙ ap (λ (ys : List ℕ). ys ++ map (λ (y : Row). y.offset) (rows g (g.after g.top) p p 1 after)) left ∙ ap (λ (ys : List ℕ). in_row own ++ ys) right)
 
-pub headers_in_row : (at' : ℕ → ℕ) (dir from : ℕ) (n : Names) → map (λ (i : Header). i.place) (headers at' dir from n) ≡ in_row (offsets from n)
+pub headers_in_row : (at' : ℕ → ℕ) (dir from : ℕ) (n : Names)
+    → map (λ (i : Header). i.place) (headers at' dir from n) ≡ in_row (offsets from n)
 headers_in_row at' dir from nothing = refl
 headers_in_row at' dir from (leaf name i after) = ap (λ (ys : List ℕ). place_of from name i ∷ ys) (headers_in_row at' dir (leaf_end from name i) after)
 headers_in_row at' dir from (link name i after) = ap (λ (ys : List ℕ). pad16 from ∷ ys) (headers_in_row at' dir (header_end from name) after)

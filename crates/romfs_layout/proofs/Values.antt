@@ -16,11 +16,13 @@ use Rattle.romfs_layout.specs.Wells.{FitsKind, IsFile, IsFolder}
 use Rattle.name_tree.specs.Shape.{Value, node_value, file_value}
 use Rattle.romfs_layout.proofs.Files.{IsAt, file_kind}
 
-same_value : (x y : Value) → x.kind ≡ y.kind → x.mode ≡ y.mode → x.uid ≡ y.uid → x.gid ≡ y.gid → x.major ≡ y.major → x.minor ≡ y.minor → x.bytes ≡ y.bytes → x ≡ y
+same_value : (x y : Value) → x.kind ≡ y.kind → x.mode ≡ y.mode → x.uid ≡ y.uid → x.gid ≡ y.gid → x.major ≡ y.major
+    → x.minor ≡ y.minor → x.bytes ≡ y.bytes → x ≡ y
 same_value x y a c d e f g h = λ t. record { kind = a t; mode = c t; uid = d t; gid = e t; major = f t; minor = g t; bytes = h t }
 
 -- the bytes from a place on
-row_bytes : (v : List ℕ) (p : ℕ) (bytes : List ℕ) → HasAt v p bytes → map (λ q. get_or v q 0) (row_from p (length bytes)) ≡ bytes
+row_bytes : (v : List ℕ) (p : ℕ) (bytes : List ℕ) → HasAt v p bytes
+    → map (λ q. get_or v q 0) (row_from p (length bytes)) ≡ bytes
 row_bytes v p [] h = refl
 row_bytes v p (x ∷ xs) (back, e) =
     let here : get_or v p 0 ≡ x = ap (λ (q : ℕ). get_or v q 0) (let z : p ≡ p + 0 = omega arith in z) ∙ sym (get_or-drop p v 0 0) ∙ ap (λ (ys : List ℕ). get_or ys 0 0) e in
@@ -29,7 +31,8 @@ row_bytes v p (x ∷ xs) (back, e) =
     cc
 
 -- the numbers of a device
-numbers_by : (k : Kind) (i : Inode) (w : ℕ) → FitsKind k i → w ≡ i.major * 65536 + i.minor → (by_type (number_of k) 0 0 0 (w / 65536) (w / 65536) 0 0 ≡ i.major) × (by_type (number_of k) 0 0 0 (w % 65536) (w % 65536) 0 0 ≡ i.minor)
+numbers_by : (k : Kind) (i : Inode) (w : ℕ) → FitsKind k i → w ≡ i.major * 65536 + i.minor
+    → (by_type (number_of k) 0 0 0 (w / 65536) (w / 65536) 0 0 ≡ i.major) × (by_type (number_of k) 0 0 0 (w % 65536) (w % 65536) 0 0 ≡ i.minor)
 numbers_by Directory i w h e = absurd h
 numbers_by Regular i w h e = (sym h.0, sym h.1)
 numbers_by Symlink i w h e = (sym h.0, sym h.1)
@@ -48,7 +51,9 @@ named_by Socket = refl
 named_by Fifo = refl
 
 -- the bytes that a file of a kind has
-bytes_by : (k : Kind) (cs : List (List ℕ)) (i : Inode) (v ps : List ℕ) → FitsKind k i → map (λ q. get_or v q 0) ps ≡ bytes_of cs i.fill → map (λ q. get_or v q 0) (by_type (number_of k) [] ps ps [] [] [] []) ≡ bytes_of cs i.fill
+bytes_by : (k : Kind) (cs : List (List ℕ)) (i : Inode) (v ps : List ℕ) → FitsKind k i
+    → map (λ q. get_or v q 0) ps ≡ bytes_of cs i.fill
+    → map (λ q. get_or v q 0) (by_type (number_of k) [] ps ps [] [] [] []) ≡ bytes_of cs i.fill
 bytes_by Directory cs i v ps h e = absurd h
 bytes_by Regular cs i v ps h e = e
 bytes_by Symlink cs i v ps h e = e
@@ -57,7 +62,9 @@ bytes_by Character cs i v ps h e = sym (ap (bytes_of cs) h.2)
 bytes_by Socket cs i v ps h e = sym (ap (bytes_of cs) h.2)
 bytes_by Fifo cs i v ps h e = sym (ap (bytes_of cs) h.2)
 
-pub file_is : (v b : List ℕ) (cs : List (List ℕ)) (i : Inode) (p : ℕ) (es : Entries) → ((q : ℕ) (bytes : List ℕ) → HasAt b q bytes → HasAt v q bytes) → IsFile cs i → IsAt b cs i p → node_value v (node_of b p es) ≡ file_value cs i
+pub file_is : (v b : List ℕ) (cs : List (List ℕ)) (i : Inode) (p : ℕ) (es : Entries)
+    → ((q : ℕ) (bytes : List ℕ) → HasAt b q bytes → HasAt v q bytes) → IsFile cs i → IsAt b cs i p
+    → node_value v (node_of b p es) ≡ file_value cs i
 unfolding node_value file_value node_of attributes_at places_at device_of
 file_is v b cs i p es moved h a =
     let t = a.kind in
@@ -74,7 +81,8 @@ file_is v b cs i p es moved h a =
     (ap (λ (k : ℕ). by_type k 0 0 0 (word_be b (p + 4) % 65536) (word_be b (p + 4) % 65536) 0 0) t ∙ numbers.1)
     (ap (map (λ q. get_or v q 0)) (body_places_is kind_numbers (type_of b p) ps es) ∙ ap (λ (k : ℕ). map (λ q. get_or v q 0) (by_type k [] ps ps [] [] [] [])) t ∙ bytes_by i.kind cs i v ps h.kind row)
 
-pub folder_is : (v b : List ℕ) (cs : List (List ℕ)) (i : Inode) (p : ℕ) (es : Entries) → IsFolder i → IsAt b cs i p → node_value v (node_of b p es) ≡ file_value cs i
+pub folder_is : (v b : List ℕ) (cs : List (List ℕ)) (i : Inode) (p : ℕ) (es : Entries) → IsFolder i → IsAt b cs i p
+    → node_value v (node_of b p es) ≡ file_value cs i
 unfolding node_value file_value node_of attributes_at places_at
 folder_is v b cs i p es h a =
     let t : type_of b p ≡ 1 = a.kind ∙ ap number_of h.kind in

@@ -46,12 +46,14 @@ pub record Holds (b : List ℕ) (r : ℕ) (cs : List (List ℕ)) (root : Inode) 
   pub reads : Every (Reads b cs) (all_headers r root n)
   pub within : ends (r + 64) n ≤ length b
 
-pub all_ascend : (r : ℕ) (cs : List (List ℕ)) (root : Inode) (n : Names) → AreWell cs n → Ascend r (ends (r + 64) n) (all_headers r root n)
+pub all_ascend : (r : ℕ) (cs : List (List ℕ)) (root : Inode) (n : Names) → AreWell cs n
+    → Ascend r (ends (r + 64) n) (all_headers r root n)
 all_ascend r cs root n h =
     let at' = place_with (placed (r + 64) n) in
     (omega arith, (omega arith, ascend_later (r + 32 + 32 + 0) (r + 64) (ends (r + 64) n) (headers at' r (r + 64) n) (omega arith) (headers_ascend cs at' r (r + 64) n h)))
 
-all_items_in_row : (r : ℕ) (root : Inode) (n : Names) → map (λ (i : Header). i.place) (all_headers r root n) ≡ in_row (all_offsets r n)
+all_items_in_row : (r : ℕ) (root : Inode) (n : Names)
+    → map (λ (i : Header). i.place) (all_headers r root n) ≡ in_row (all_offsets r n)
 all_items_in_row r root n = ap (λ (ys : List ℕ). r ∷ (r + 32) ∷ ys) (headers_in_row (place_with (placed (r + 64) n)) r (r + 64) n)
 
 -- P of each offset in a row is P everywhere
@@ -68,7 +70,8 @@ listed_self [] = tt
 listed_self (x ∷ xs) = (rw (eq-eqb x.offset x.offset refl) refl, every_weaker (λ (y : Row). IsListed xs y.offset) (λ (y : Row). IsListed (x ∷ xs) y.offset) (λ y h. listed_more x xs y.offset h) xs (listed_self xs))
 
 -- the forest of a layout makes a tree
-pub is_tree : (b : List ℕ) (r : ℕ) (cs : List (List ℕ)) (root : Inode) (n : Names) (most deepest : ℕ) → Holds b r cs root n → length (all_headers r root n) ≤ most → height n ≤ min deepest 64
+pub is_tree : (b : List ℕ) (r : ℕ) (cs : List (List ℕ)) (root : Inode) (n : Names) (most deepest : ℕ)
+    → Holds b r cs root n → length (all_headers r root n) ≤ most → height n ≤ min deepest 64
     → IsTree b r most deepest (all_offsets r n) × (tree_of b r (all_offsets r n) ≡ node_of b r (made_of b (place_with (placed (r + 64) n)) (r + 64) n)) × (heads_itself b r ≡ true)
 unfolding heads_itself listed_rows tree_of
 is_tree b r cs root n most deepest h few shallow =

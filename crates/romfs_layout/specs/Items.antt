@@ -1,4 +1,5 @@
--- The items of a romfs layout, one for each header in the order of their places, and its sections. (This project's own.)
+-- The items of a romfs layout, one for each header in the order of their places, and its sections. (This project's
+-- own.)
 use Rattle.std.specs.Prelude.{ℕ, ◌+◌, List, [], ◌∷◌, ◌++◌, map}
 use Rattle.name_tree.specs.Names.{Inode, Names}
 use Rattle.layout_terms.specs.Items.{Item, Section, section, super, record_of, bytes_section}

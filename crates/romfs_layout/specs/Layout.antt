@@ -1,7 +1,7 @@
 -- The layout of a romfs image: where its headers and data stand, and its bytes (Linux
--- Documentation/filesystems/romfs.rst; the order, and that places are the least, are this project's own). Children stand
--- in the order of their names. A header is followed by its file's bytes, or by the list of its directory: the hard links
--- `.` to its header and `..` to that of its parent, and its children. The root heads its own list.
+-- Documentation/filesystems/romfs.rst; the order, and that places are the least, are this project's own). Children
+-- stand in the order of their names. A header is followed by its file's bytes, or by the list of its directory: the
+-- hard links `.` to its header and `..` to that of its parent, and its children. The root heads its own list.
 use Rattle.std.specs.Prelude.{ℕ, ◌+◌, ◌-◌, ◌*◌, max, if◌then◌else◌, ◌==◌, List, [], ◌∷◌, ◌++◌, length, replicate}
 use Rattle.byteorder.specs.Endian.{big_bytes}
 use Rattle.rom_tree.specs.declared.types.Kind.{Kind}
@@ -15,8 +15,8 @@ use Rattle.image_parts.specs.Sums.{balanced, sealed}
 use Rattle.name_tree.specs.Names.{Fill, no_bytes, Inode, Names, nothing, leaf, link, folder, bytes_of}
 use Rattle.layout_terms.specs.Files.{Placed, at_place}
 
--- One header: its place, its words next (with the mode), spec and size, its name, and its data: where they begin, 0 where
--- there are none, and which.
+-- One header: its place, its words next (with the mode), spec and size, its name, and its data: where they begin, 0
+-- where there are none, and which.
 pub record Header : Type 0 where
   pub place : ℕ
   pub next : ℕ
@@ -121,7 +121,8 @@ header_alone place next spec name = record {
   fill = no_bytes;
 }
 
--- The headers of a list that is placed from `from` on, in the directory at `dir`; `at` says where the header of a line stands.
+-- The headers of a list that is placed from `from` on, in the directory at `dir`; `at` says where the header of a
+-- line stands.
 abbrev pub headers : (ℕ → ℕ) → ℕ → ℕ → Names → List Header
 headers at dir from nothing = []
 headers at dir from (leaf name i after) =
@@ -152,7 +153,8 @@ padded_name name = name ++ replicate (pad16 (length name + 1) - length name) 0
 
 -- a header: next, spec, size, the word that brings its sum to 0, and the name
 unfoldable pub header_bytes : ℕ → ℕ → ℕ → List ℕ → List ℕ
-header_bytes next spec size name = balanced (big_bytes 4 next ++ (big_bytes 4 spec ++ big_bytes 4 size)) (padded_name name)
+header_bytes next spec size name =
+    balanced (big_bytes 4 next ++ (big_bytes 4 spec ++ big_bytes 4 size)) (padded_name name)
 
 -- each header, and its data right behind it
 abbrev pub parts : List (List ℕ) → List Header → List Part
@@ -181,8 +183,8 @@ full_size_of r n = pad16 (ends (r + 64) n)
 abbrev pub superblock : ℕ → List ℕ → List ℕ
 superblock size volume = magic ++ (big_bytes 4 size ++ (big_bytes 4 0 ++ padded_name volume))
 
--- The accessible bytes: the superblock and the headers with their data, `size` in all, and in the superblock the word that
--- brings its sum to 0.
+-- The accessible bytes: the superblock and the headers with their data, `size` in all, and in the superblock the word
+-- that brings its sum to 0.
 unfoldable pub image_of : List ℕ → ℕ → List (List ℕ) → List Header → List ℕ
 image_of volume size contents is =
     sealed (laid [] (part 0 (superblock size volume) ∷ (parts contents is ++ part size [] ∷ [])))

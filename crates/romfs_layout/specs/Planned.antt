@@ -1,5 +1,5 @@
--- A volume that can be laid out as a romfs image. (This project's own; 2^20 references and 64 names are the usual limits
--- of a check.)
+-- A volume that can be laid out as a romfs image. (This project's own; 2^20 references and 64 names are the usual
+-- limits of a check.)
 use Rattle.std.specs.Prelude.{◌≢◌, ℕ, ◌+◌, ◌^◌, ◌<◌, ◌≤◌, List, ◌∷◌, length}
 use Rattle.std.specs.List.{AllByRecursion as Every}
 use Rattle.record_walk.specs.Members.{Pairs}

@@ -45,7 +45,8 @@ abbrev pub AreWell : List (List ℕ) → Names → Type 0
 AreWell contents nothing = Unit {0}
 AreWell contents (leaf name i after) = IsFree name after × IsFile contents i × AreWell contents after
 AreWell contents (link name i after) = IsFree name after × IsFile contents i × AreWell contents after
-AreWell contents (folder name i own after) = IsFree name after × IsFolder i × AreWell contents own × AreWell contents after
+AreWell contents (folder name i own after) =
+    IsFree name after × IsFolder i × AreWell contents own × AreWell contents after
 
 -- the file of a line
 abbrev pub file_of : List Inode → ℕ → Option Inode
