@@ -176,7 +176,7 @@ fewer all sizes l ls f q h = f q (by (bytes_eq l.path q))
     by true = refl
     by false = h
 
-pub own_file : (all : List Line) (sizes : List ℕ) (l : Line) (ls : List Line) → HaveFiles all sizes (l ∷ ls) → is_some (file_at all sizes l.path) ≡ true
+own_file : (all : List Line) (sizes : List ℕ) (l : Line) (ls : List Line) → HaveFiles all sizes (l ∷ ls) → is_some (file_at all sizes l.path) ≡ true
 own_file all sizes l ls f = f l.path (ap (λ (b : Bool). is_some (cond b (Some l) (line_at ls l.path))) ((bytes_decides l.path l.path).1 refl))
 
 -- what names lead to is what the lines say
