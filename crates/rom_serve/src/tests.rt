@@ -122,7 +122,7 @@ fn the_first_failures(rt: HostRuntime) -> Result<(), Fail> {
     // All pass; the first flush fails; so does the second write; each write takes no byte.
     for (calls, most, left, text) in [
         (u64::MAX, 1, 0, b"ok 1\nok 1\n".as_slice()),
-        (3, 100, 11, b"ok 1\n"),
+        (1, 100, 11, b"ok 1\n"),
         (1, 3, 11, b"ok "),
         (9, 0, 11, b""),
     ] {
