@@ -30,7 +30,8 @@ fn keep(line: &mut Line, b: u8)
     line.push(b);
 }
 
-/// Writes the reply to a line through a buffer, flushes it, and says in `ended` whether this failed.
+/// Writes the reply to a line through a buffer, and flushes it. `ended` then says whether this
+/// failed.
 fn answer_through<'w, M: LineMachine, W: ByteWrite, K: Lent>(
     m: &mut M,
     line: &Line,
