@@ -103,8 +103,8 @@ pub(crate) struct Reached<'w, W> {
     pub(crate) w: &'w mut W,
 }
 
-/// A writer that takes texts into a buffer first, and hands them on where the buffer has no room and
-/// at a flush. The writer behind it holds what it held at first, and more.
+/// A writer that takes texts into a buffer first, and hands them on where the buffer has no room
+/// and at a flush. The writer behind it holds what it held at first, and more.
 #[derive(Drop)]
 pub(crate) struct Buffered<'w, W: ByteWrite, K: Lent> {
     pub(crate) reached: Reached<'w, W>,
