@@ -20,7 +20,8 @@ use std::marker::PhantomData;
 
 /// Answers the lines of `r` on `w` over an image, up to `quit` or to the end of the input, with 64
 /// descriptors. It reads one byte a call, at most 2^40 times, and writes each reply whole and
-/// flushes it before it reads on. Directories of the image may lie 64 deep. No memory is taken.
+/// flushes it before it reads on, in one write for each 4,096 bytes of it. Directories of the image
+/// may lie 64 deep. No memory is taken.
 ///
 /// # Errors
 ///

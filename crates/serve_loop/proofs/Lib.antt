@@ -3,3 +3,4 @@ pub mod Flushed
 pub mod Joined
 pub mod Apart
 pub mod Agree
+pub mod Buffering

@@ -1,3 +1,4 @@
 pub mod Got
 pub mod Served
 pub mod Views
+pub mod Starts

@@ -7,6 +7,7 @@
 //! several sessions sees.
 #![tactic(auto)]
 
+mod buffered;
 pub mod error;
 pub mod laws;
 pub mod machine;

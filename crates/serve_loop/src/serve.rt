@@ -6,11 +6,13 @@ ghost use Rattle.rom_fields.specs.Written.{WritesText, AppendsPrefix};
 ghost use Rattle.serve_loop.specs.Served.{Serves, Finishes, Breaks, ForgetsLong, last_reply};
 ghost use Rattle.serve_loop.specs.declared.error.ServeError.TheVariants.{ReadFault, WriteFault, TooManyReads};
 
+use crate::buffered::{Buffered, Lent, Reached};
 use crate::error::ServeError;
 use crate::machine::LineMachine;
 use crate::one_byte::{Got, read_byte};
 use arrayvec::ArrayVec;
 use rom_fields::bytes::{ByteRead, ByteWrite, Failed};
+use std::marker::{Brand, PhantomData};
 
 /// Ends a line.
 const LINE_FEED: u8 = b'\n';
@@ -28,6 +30,43 @@ fn keep(line: &mut Line, b: u8)
     line.push(b);
 }
 
+/// Writes the reply to a line through a buffer, and flushes it. `ended` then says whether this
+/// failed.
+fn answer_through<'w, M: LineMachine, W: ByteWrite, K: Lent>(
+    m: &mut M,
+    line: &Line,
+    reached: Reached<'w, W>,
+    ended: &mut Result<(), Failed>,
+) -> Reached<'w, W>
+    requires loan { reached.w.ghost_name ≡ K.loan }
+    requires start { (W.output reached.w.now).contents ≡ K.start }
+    ensures loan { result.w.ghost_name ≡ reached.entry.w.ghost_name }
+    ensures text { WritesText (W.output reached.entry.w.now).contents
+        (W.output result.w.now).contents ended.new
+        ((M.machine m.old).reply (M.state m.old) line.now.items) }
+    ensures count { Counts (W.output reached.entry.w.now).failures
+        (W.output result.w.now).failures ended.new }
+    ensures step { M.state m.new ≡ (M.machine m.old).next (M.state m.old) line.now.items }
+    ensures stays { M.machine m.new ≡ M.machine m.old }
+{
+    let mut out: Buffered<'w, W, K> = Buffered {
+        reached,
+        held: ArrayVec::new(),
+        sent: 0,
+        lent: PhantomData,
+    };
+    let mut failed = false;
+    m.answer(line.as_slice(), &mut out, &mut failed);
+    if failed {
+        *ended = Err(Failed);
+        let Buffered { reached, .. } = out;
+        return reached;
+    }
+    *ended = out.flush();
+    let Buffered { reached, .. } = out;
+    reached
+}
+
 /// Writes the reply to a line, and flushes it.
 fn answer_line<M: LineMachine, W: ByteWrite>(
     m: &mut M,
@@ -40,12 +79,10 @@ fn answer_line<M: LineMachine, W: ByteWrite>(
     ensures step { M.state m.new ≡ (M.machine m.old).next (M.state m.old) line.now.items }
     ensures stays { M.machine m.new ≡ M.machine m.old }
 {
-    let mut failed = false;
-    m.answer(line.as_slice(), w, &mut failed);
-    if failed {
-        return Err(Failed);
-    }
-    w.flush()
+    let mut reached = Reached { w };
+    let mut answered = Ok(());
+    reached = answer_through::<M, W, Brand>(m, line, reached, &mut answered);
+    answered
 }
 
 /// Writes the reply to what stands in a last line without a line feed, if anything does.
@@ -69,7 +106,8 @@ fn answer_last<M: LineMachine, W: ByteWrite>(
 
 /// Answers the lines of `r` on `w`, up to the end of the input or to the first line that ends the
 /// serving. It reads one byte a call, at most `reads` times, and keeps 8,192 bytes of a line. Each
-/// reply is written whole and flushed before the next byte is read.
+/// reply is written whole and flushed before the next byte is read, in one write for each 4,096
+/// bytes of it.
 ///
 /// # Errors
 ///
