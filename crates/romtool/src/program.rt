@@ -81,14 +81,11 @@ fn serve(rt: &HostRuntime, name: &str) -> u8
         Ok(bytes) => bytes,
         Err(status) => return status,
     };
-    let Ok(out) = BufWriter::new(rt.alloc(), io::writer(rt)) else {
-        return memory(rt);
-    };
     serve_on(
         rt.alloc(),
         &bytes,
         &mut Plain::new(rt.reader()),
-        &mut Plain::new(out),
+        &mut Plain::new(io::writer(rt)),
         &mut Plain::new(rt.stderr()),
     )
 }
@@ -122,14 +119,11 @@ fn space(rt: &HostRuntime, names: &[&str]) -> u8
     if files.is_empty() || files.len() > 8 {
         return usage(rt);
     }
-    let Ok(out) = BufWriter::new(rt.alloc(), io::writer(rt)) else {
-        return memory(rt);
-    };
     serve_several_on(
         rt.alloc(),
         &files,
         &mut Plain::new(rt.reader()),
-        &mut Plain::new(out),
+        &mut Plain::new(io::writer(rt)),
         &mut Plain::new(rt.stderr()),
     )
 }
