@@ -1,8 +1,8 @@
 mod Bools
-mod Least
-mod Decided
+pub mod Least
+pub mod Decided
 mod Orders
-mod Written
+pub mod Written
 mod Sorted
 mod Led
 mod Grown

@@ -8,7 +8,7 @@ use Rattle.std.specs.Str.{bytes_eq}
 use Rattle.std.specs.Char.{digit_value}
 use Rattle.percent_encoding.specs.Percent.{percent_decode, is_escape}
 use Rattle.record_walk.specs.Members.{Pairs}
-use Rattle.record_walk.proofs.Lists.{every_weaker}
+use Rattle.record_walk.proofs.Lists.{every_weaker, pairs_weaker}
 use Rattle.manifest.specs.declared.line.Line.{Line}
 use Rattle.manifest.specs.declared.line.Word.{Word}
 use Rattle.manifest.specs.declared.line.Word.TheVariants.{Dir, File, Slink, Block, Character, Fifo, Socket, Hard, Same}
@@ -175,7 +175,7 @@ line_fits n f l h e = by (numbers_of f) refl e
 pub record IsRead (n : ℕ) (s : Seen) : Type 0 where
   pub lines : Every IsLine s.latest
   pub numbered : Every (λ l. (0 < l.number) × (l.number < n)) s.latest
-  pub apart : Pairs (λ l k. l.number ≢ k.number) s.latest
+  pub rises : Pairs (λ l k. k.number < l.number) s.latest
   pub volume : is_bad 255 s.volume ≡ false
 
 same_ok : {s t : Seen} → ◌≡◌ {A = Result Seen Fault} (Ok s) (Ok t) → s ≡ t
@@ -185,7 +185,7 @@ later : (n : ℕ) (s : Seen) → IsRead n s → IsRead (n + 1) s
 later n s h = record {
   lines = h.lines;
   numbered = every_weaker (λ (l : Line). (0 < l.number) × (l.number < n)) (λ (l : Line). (0 < l.number) × (l.number < n + 1)) (λ l k. let a = k.0 in let b = k.1 in (a, omega arith)) s.latest h.numbered;
-  apart = h.apart;
+  rises = h.rises;
   volume = h.volume;
 }
 
@@ -197,7 +197,7 @@ by_line s t n l None pos i e h g =
     subst (IsRead (n + 1)) (same_ok g) (record {
       lines = (i, h.lines);
       numbered = ((omega (arith, e, pos), omega (arith, e)), up.numbered);
-      apart = (every_weaker (λ (k : Line). (0 < k.number) × (k.number < n)) (λ (k : Line). l.number ≢ k.number) (λ k x z. let u = x.1 in absurd (omega (arith, e, z))) s.latest h.numbered, h.apart);
+      rises = (every_weaker (λ (k : Line). (0 < k.number) × (k.number < n)) (λ (k : Line). k.number < l.number) (λ k x. let u = x.1 in omega (arith, e, u)) s.latest h.numbered, h.rises);
       volume = h.volume;
     })
 
@@ -215,7 +215,7 @@ by_volume s t n name h g = by (is_bad 255 name) (s.volume_line == 0) refl g
   where
     by : (a b : Bool) → is_bad 255 name ≡ a → cond a (fault n BAD_PATH) (cond b (Ok (record { latest = s.latest; volume = name; volume_line = n })) (fault n EXISTS)) ≡ Ok t → IsRead (n + 1) t
     by true b e x = absurd (cc)
-    by false true e x = let up = later n s h in subst (IsRead (n + 1)) (same_ok x) (record { lines = h.lines; numbered = up.numbered; apart = h.apart; volume = e })
+    by false true e x = let up = later n s h in subst (IsRead (n + 1)) (same_ok x) (record { lines = h.lines; numbered = up.numbered; rises = h.rises; volume = e })
     by false false e x = absurd (cc)
 
 by_read : (s t : Seen) (n : ℕ) (line : List ℕ) → 0 < n → IsRead n s → read s n line ≡ Ok t → IsRead (n + 1) t
@@ -247,6 +247,7 @@ pub record IsWritten (m : ManifestLines) (latest : List Line) : Type 0 where
   pub reversed : m.lines ≡ reverse latest
   pub lines : Every IsLine latest
   pub numbered : Every (λ l. 0 < l.number) latest
+  pub rises : Pairs (λ l k. k.number < l.number) latest
   pub apart : Pairs (λ l k. l.number ≢ k.number) latest
   pub volume : is_bad 255 m.volume ≡ false
 
@@ -261,14 +262,15 @@ written m text h = by (read_lines nothing_read 1 (pieces 10 text)) refl h
         → (latest : List Line) × IsWritten m latest
     by (Err e) same g = absurd (cc)
     by (Ok s) same g =
-        let k = (by_lines nothing_read s 1 (pieces 10 text) (omega arith) (record { lines = tt; numbered = tt; apart = tt; volume = refl }) same).1 in
+        let k = (by_lines nothing_read s 1 (pieces 10 text) (omega arith) (record { lines = tt; numbered = tt; rises = tt; volume = refl }) same).1 in
         let e = injective g in (
           s.latest,
           record {
             reversed = ap (λ (x : ManifestLines). x.lines) (sym e);
             lines = k.lines;
             numbered = every_weaker (λ (l : Line). (0 < l.number) × (l.number < _)) (λ (l : Line). 0 < l.number) (λ l x. x.0) s.latest k.numbered;
-            apart = k.apart;
+            rises = k.rises;
+            apart = pairs_weaker (λ (l : Line) (k : Line). k.number < l.number) (λ (l : Line) (k : Line). l.number ≢ k.number) (λ l k r e. omega (arith, r, e)) s.latest k.rises;
             volume = subst (λ (x : ManifestLines). is_bad 255 x.volume ≡ false) e k.volume;
           },
         )
