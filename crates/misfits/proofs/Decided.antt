@@ -166,7 +166,7 @@ number_is f m sizes l true a false false false e p q r s = λ k x. none k x
 abbrev OfLine : Format → ManifestLines → List ℕ → Line → Fault → Type 0
 OfLine f m sizes l e = (e.at ≡ l.number) × HasMisfit f m sizes l e.number
 
-abbrev at_line : ℕ → Option ℕ → Option Fault
+abbrev pub at_line : ℕ → Option ℕ → Option Fault
 at_line n None = None
 at_line n (Some k) = Some (fault k n)
 
@@ -192,7 +192,7 @@ lines_are f m sizes (l ∷ ls) =
 abbrev OfVolume : Format → ManifestLines → Fault → Type 0
 OfVolume f m e = IsLongVolume f (length m.volume) × (e ≡ fault 3 m.volume_line)
 
-abbrev volume_by : Bool → ℕ → Option Fault
+abbrev pub volume_by : Bool → ℕ → Option Fault
 volume_by true n = Some (fault 3 n)
 volume_by false n = None
 
@@ -204,7 +204,7 @@ volume_is f m false h = record { here = tt; least = λ d x. let z : false ≡ tr
 abbrev pub least_line : Format → ManifestLines → List ℕ → Option Fault
 least_line f m sizes = lesser_of_both (of_lines f m sizes m.lines) (volume_by (is_long_volume f (length m.volume)) m.volume_line)
 
-least_line_is : (f : Format) (m : ManifestLines) (sizes : List ℕ)
+pub least_line_is : (f : Format) (m : ManifestLines) (sizes : List ℕ)
     → IsLeastFaultOf (HasLineMisfit f m sizes) (least_line f m sizes)
 least_line_is f m sizes =
     least_joined {P = λ e. Has (λ l. OfLine f m sizes l e) m.lines} {Q = OfVolume f m} {R = HasLineMisfit f m sizes} (λ e x. of_line x) (λ e x. of_volume x.0 x.1) either
@@ -240,7 +240,7 @@ abbrev pub whole_test : Format → ManifestLines → List ℕ → Bool
 whole_test f m sizes =
     nat_lt (2 ^ 28) (len_of f m sizes) || (has_long_lists f (tree_of m.lines sizes) || (nat_lt 64 (height (tree_of m.lines sizes)) || nat_lt (2 ^ 20) (references_of f m sizes)))
 
-whole_decides : (f : Format) (m : ManifestLines) (sizes : List ℕ)
+pub whole_decides : (f : Format) (m : ManifestLines) (sizes : List ℕ)
     → Decides (whole_test f m sizes) (HasWholeMisfit f m sizes)
 whole_decides f m sizes =
     let n = tree_of m.lines sizes in

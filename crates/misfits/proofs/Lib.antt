@@ -4,7 +4,7 @@ pub mod Decided
 mod Orders
 pub mod Written
 mod Sorted
-mod Led
+pub mod Led
 mod Grown
 mod Plain
 mod Aligned

@@ -19,7 +19,7 @@ use Rattle.plan_files.specs.declared.files.Contents.{Contents}
 use Rattle.plan_files.specs.Files.{contents_of, own_file, own_contents, flat, noted, HasMore, Knows}
 
 -- lines are in the order of their numbers
-abbrev Rise : List Line → Type 0
+abbrev pub Rise : List Line → Type 0
 Rise ls = Pairs (λ l k. l.number < k.number) ls
 
 turned : (ls : List Line) → Pairs (λ l k. k.number < l.number) ls → Rise (reverse ls)

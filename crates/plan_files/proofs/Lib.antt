@@ -1,1 +1,1 @@
-mod Knowing
+pub mod Knowing

@@ -1,0 +1,4 @@
+mod Names
+mod Numbers
+mod Firsts
+mod Paths

@@ -1,0 +1,12 @@
+use Rattle.std.proofs.Common.{◌≡◌, drop, List, ℕ}
+use Rattle.misfits.proofs.Decided.{of_lines}
+use Rattle.plan_files.specs.Files.{IsOf}
+use Rattle.plan_misfits.specs.Formats.{format_of}
+use Rattle.plan_misfits.proofs.least.first_of_lines.Given as goal
+
+abbrev pub invariant-loop-line : goal.invariant-loop-line
+invariant-loop-line l = record {
+  all : l.all ≡ l.m.lines;
+  rest : (sizes : List ℕ) → IsOf l.m.lines sizes l.files
+      → of_lines (format_of l.format) l.m sizes l.m.lines ≡ of_lines (format_of l.format) l.m sizes (drop l.line-index l.m.lines);
+}

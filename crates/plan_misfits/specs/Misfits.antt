@@ -1,0 +1,43 @@
+-- What the misfits of a line are told by. (This project's own.)
+use Rattle.std.specs.Prelude.{ℕ, length, Option, Some, None}
+use Rattle.rom_faults.specs.declared.fault.Fault.{Fault}
+use Rattle.rom_tree.specs.declared.types.Kind.{Kind}
+use Rattle.rom_tree.specs.declared.types.Kind.TheVariants as kind
+use Rattle.manifest.specs.declared.line.Line.{Line}
+use Rattle.manifest.specs.declared.line.Word.{Word}
+use Rattle.manifest.specs.declared.line.Word.TheVariants.{Dir, File, Slink, Block, Character, Fifo, Socket, Hard, Same}
+use Rattle.name_tree.specs.Names.{no_bytes, Inode}
+use Rattle.name_tree.specs.Tree.{plain}
+use Rattle.plan_files.specs.declared.files.Contents.{Contents}
+use Rattle.plan_misfits.specs.declared.misfit.Misfit.{Misfit}
+
+-- what a word makes; a `hard` line makes nothing, and stands for a regular file here
+abbrev pub kind_by : Word → Kind
+kind_by Dir = kind.Directory
+kind_by File = kind.Regular
+kind_by Slink = kind.Symlink
+kind_by Block = kind.Block
+kind_by Character = kind.Character
+kind_by Fifo = kind.Fifo
+kind_by Socket = kind.Socket
+kind_by Hard = kind.Regular
+kind_by Same = kind.Regular
+
+-- a line's kind and attributes, without its bytes
+abbrev pub without_bytes : Line → Inode
+without_bytes l = plain l (kind_by l.word) 4 0 no_bytes
+
+abbrev pub size_or : Option Contents → ℕ
+size_or None = 0
+size_or (Some c) = c.size
+
+-- how many bytes the file of a line has, where its path leads to these contents
+abbrev pub size_by : Word → Line → Option Contents → ℕ
+size_by Slink l o = length l.text
+size_by File l o = size_or o
+size_by Same l o = size_or o
+size_by _ l o = 0
+
+-- a misfit as a fault, which stands at the number of its line
+abbrev pub misfit_fault : Misfit → Fault
+misfit_fault e = record { number = e.number; at = e.line }

@@ -1,0 +1,12 @@
+//! The formats in which a manifest can be laid out.
+
+/// A format of an image.
+#[derive(Clone, Copy, Debug, PartialEq, Eq)]
+pub enum Format {
+    /// romfs.
+    Romfs,
+    /// cramfs for machines whose words begin with their lowest byte.
+    Cramfs,
+    /// cramfs for machines whose words begin with their highest byte.
+    CramfsBig,
+}

@@ -1,0 +1,81 @@
+//! The least misfit of the lines of a manifest.
+ghost use Rattle.std.specs.Prelude.{◌≡◌, List, ℕ, Some, length};
+ghost use Rattle.std.specs.Option.{option_map};
+ghost use Rattle.misfits.proofs.Decided as decided;
+ghost use Rattle.misfits.specs.Misfit.{HasLineMisfit};
+ghost use Rattle.plan_files.specs.Files.{IsOf};
+ghost use Rattle.plan_misfits.specs.Formats.{format_of};
+ghost use Rattle.plan_misfits.specs.Misfits.{misfit_fault};
+ghost use Rattle.record_walk.specs.Faults.{IsLeastFaultOf};
+ghost use Rattle.record_walk.specs.Lesser.{lesser_of_both};
+
+use crate::format::Format;
+use crate::lines::{is_long_volume, number_of_line};
+use crate::misfit::{Misfit, NAME_TOO_LONG};
+use manifest::Manifest;
+use plan_files::Files;
+
+/// The misfit of the first line that does not fit.
+fn first_of_lines(format: Format, m: &Manifest, files: &Files) -> Option<Misfit>
+    ensures { (sizes : List ℕ) → IsOf m.now.lines sizes files.now → option_map misfit_fault result
+        ≡ decided.of_lines (format_of format) m.now sizes m.now.lines }
+{
+    let all = m.lines();
+    for line in all {
+        if let Some(number) = number_of_line(format, files, line) {
+            return Some(Misfit {
+                line: line.number,
+                number,
+            });
+        }
+    }
+    None
+}
+
+/// The misfit of the volume's name.
+fn of_volume(format: Format, m: &Manifest) -> Option<Misfit>
+    ensures { option_map misfit_fault result ≡ decided.volume_by
+        (decided.is_long_volume (format_of format) (length m.now.volume)) m.now.volume_line }
+{
+    if is_long_volume(format, m.volume().len()) {
+        Some(Misfit {
+            line: m.volume_line(),
+            number: NAME_TOO_LONG,
+        })
+    } else {
+        None
+    }
+}
+
+/// The lesser of two misfits, by line and then by number.
+fn lesser(one: Misfit, other: Misfit) -> Misfit
+    ensures { Some (misfit_fault result)
+        ≡ lesser_of_both (Some (misfit_fault one)) (Some (misfit_fault other)) }
+{
+    let before = one.line < other.line;
+    let beside = one.line == other.line && one.number <= other.number;
+    if before || beside { one } else { other }
+}
+
+/// The lesser of two misfits, where there are two.
+fn lesser_of_both(one: Option<Misfit>, other: Option<Misfit>) -> Option<Misfit>
+    ensures { option_map misfit_fault result
+        ≡ lesser_of_both (option_map misfit_fault one) (option_map misfit_fault other) }
+{
+    match (one, other) {
+        (None, None) => None,
+        (None, Some(misfit)) => Some(misfit),
+        (Some(misfit), None) => Some(misfit),
+        (Some(one), Some(other)) => Some(lesser(one, other)),
+    }
+}
+
+/// The least misfit of a manifest's lines and its volume, by line and then by number, where its
+/// sources have the sizes that `files` was made with.
+pub fn least_of_lines(format: Format, m: &Manifest, files: &Files) -> Option<Misfit>
+    ensures { (sizes : List ℕ) → IsOf m.now.lines sizes files.now
+        → IsLeastFaultOf (HasLineMisfit (format_of format) m.now sizes)
+        (option_map misfit_fault result) }
+{
+    lesser_of_both(first_of_lines(format, m, files), of_volume(format, m))
+}
