@@ -1,0 +1,17 @@
+//! The plan of an image: from a manifest and the sizes of its sources to the places of all that the
+//! image holds, or the least misfit.
+//!
+//! `misfits` says what does not fit and what the layout is; `specs/Plans.antt` says it of a `Plan`.
+//! Nothing is written, and no content is read.
+#![tactic(auto)]
+
+pub mod error;
+pub mod item;
+pub mod plan;
+pub mod section;
+
+pub use error::{PlanError, name};
+pub use item::{Fill, Item};
+pub use plan::Plan;
+pub use plan_misfits::Format;
+pub use section::{Body, Section};

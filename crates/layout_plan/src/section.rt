@@ -1,0 +1,24 @@
+//! Bytes of a planned image that stand together.
+
+/// What a section holds. Items are counted from 0 on.
+#[derive(Clone, Copy, Debug, PartialEq, Eq)]
+pub enum Body {
+    /// The superblock, in cramfs with the root's inode.
+    Super,
+    /// The header or inode of an item, with its name.
+    Record { item: usize },
+    /// The block pointers of an item.
+    Table { item: usize },
+    /// The text of an item that is a link.
+    Text { item: usize },
+    /// The contents of a source.
+    Content { file: usize },
+}
+
+/// A section: where it stands, how many bytes it has, and what they are.
+#[derive(Clone, Copy, Debug, PartialEq, Eq)]
+pub struct Section {
+    pub place: u32,
+    pub len: u32,
+    pub body: Body,
+}
