@@ -1,0 +1,11 @@
+use Rattle.std.proofs.Common.{◌≡◌, length, drop, replicate, ℕ}
+use Rattle.std.specs.Prelude.{reverse}
+use Rattle.romfs_rows.specs.Passes.{heads_of, places_of}
+use Rattle.romfs_rows.proofs.passes.linked.Given as goal
+
+abbrev pub invariant-loop-i : goal.invariant-loop-i
+invariant-loop-i l = record {
+  many : length l.heads ≡ 66;
+  heads : l.heads ≡ heads_of (replicate {A = ℕ} 66 0) (drop l.i l.rows) (drop l.i l.places);
+  found : reverse l.found.items ≡ places_of (replicate {A = ℕ} 66 0) (drop l.i l.rows) (drop l.i l.places);
+}
