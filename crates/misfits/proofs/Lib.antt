@@ -1,12 +1,12 @@
 mod Bools
 pub mod Least
 pub mod Decided
-mod Orders
+pub mod Orders
 pub mod Written
-mod Sorted
+pub mod Sorted
 pub mod Led
 mod Grown
-mod Plain
+pub mod Plain
 mod Aligned
 mod Known
 mod InRomfs

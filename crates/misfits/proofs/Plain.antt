@@ -117,3 +117,16 @@ pub good_text : (most : ℕ) (t : List ℕ) → is_bad most t ≡ false → (len
 good_text most t h =
     let s = or_false (nat_lt most (length t)) (list_any (λ b. b == 0) t) h in
     (ltb-false most (length t) s.0, none_passes 0 t s.1)
+
+every_no_zero : (ns : List (List ℕ)) → list_any has_zero ns ≡ false → Every (λ n. Every (λ x. x ≢ 0) n) ns
+unfolding has_zero
+every_no_zero [] h = tt
+every_no_zero (n ∷ ns) h = let s = or_false (has_zero n) (list_any has_zero ns) h in (none_passes 0 n s.0, every_no_zero ns s.1)
+
+-- no name of a path has a zero byte
+pub names_no_zero : (path : List ℕ) (m : List ℕ) (ms : List (List ℕ)) → names_of path ≡ Some (m ∷ ms)
+    → Every (λ n. Every (λ x. x ≢ 0) n) (m ∷ ms)
+names_no_zero path m ms h =
+    let k = path_with_names path m ms h in
+    let z = (or_false (nat_lt 4095 (length path)) (list_any (λ b. b == 0) path) k.good).1 in
+    every_no_zero (m ∷ ms) (zero_free (m ∷ ms) (subst (λ (p : List ℕ). list_any (λ b. b == 0) p ≡ false) k.joined z))
