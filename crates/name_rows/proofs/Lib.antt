@@ -1,3 +1,4 @@
 pub mod Keys
 pub mod Putting
 pub mod Rows
+pub mod Order

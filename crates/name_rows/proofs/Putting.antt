@@ -22,13 +22,13 @@ abbrev pub HaveNoZeros : Names → Type 0
 HaveNoZeros n = HoldAll (λ name w. HasNoZero name) n
 
 -- an entry at a name of the directory at k, or below it
-abbrev Under : List ℕ → List ℕ → Entry → Type 0
+abbrev pub Under : List ℕ → List ℕ → Entry → Type 0
 Under k m e = (r : List ℕ) × IsTail r × (e.key ≡ k ++ 0 ∷ (m ++ r))
 
-abbrev Through : List ℕ → Names → Entry → Type 0
+abbrev pub Through : List ℕ → Names → Entry → Type 0
 Through k n e = (m : List ℕ) × StandsIn m n × Under k m e
 
-own_key : (k m : List ℕ) → k ++ 0 ∷ m ≡ k ++ 0 ∷ (m ++ [])
+pub own_key : (k m : List ℕ) → k ++ 0 ∷ m ≡ k ++ 0 ∷ (m ++ [])
 own_key k m = ap (λ (x : List ℕ). k ++ 0 ∷ x) (sym (append-nil m))
 
 head_under : (k m : List ℕ) (w : What) → Under k m (entry (k ++ 0 ∷ m) w)
@@ -37,7 +37,7 @@ head_under k m w = ([], ends, own_key k m)
 below_under : (k m : List ℕ) (own : Names) (e : Entry) → Through (k ++ 0 ∷ m) own e → Under k m e
 below_under k m own e (x, s, (r, t, g)) = (0 ∷ (x ++ r), goes_on (x ++ r), g ∙ append_assoc k (0 ∷ m) (0 ∷ (x ++ r)))
 
-through : (k : List ℕ) (n : Names) → Every (Through k n) (entries k n)
+pub through : (k : List ℕ) (n : Names) → Every (Through k n) (entries k n)
 through k nothing = tt
 through k (leaf name i after) =
     ((name, inl refl, head_under k name (a_leaf i)), every_weaker (Through k after) (Through k (leaf name i after)) (λ e h. (h.0, inr h.1, h.2)) (entries k after) (through k after))
@@ -50,7 +50,7 @@ through k (folder name i own after) = (
       (every_weaker (Through k after) (Through k (folder name i own after)) (λ e h. (h.0, inr h.1, h.2)) (entries k after) (through k after)),
 )
 
-own_under : (k m : List ℕ) (own : Names) → Every (Under k m) (entries (k ++ 0 ∷ m) own)
+pub own_under : (k m : List ℕ) (own : Names) → Every (Under k m) (entries (k ++ 0 ∷ m) own)
 own_under k m own = every_weaker (Through (k ++ 0 ∷ m) own) (Under k m) (λ e h. below_under k m own e h) (entries (k ++ 0 ∷ m) own) (through (k ++ 0 ∷ m) own)
 
 no_zero_in : (m : List ℕ) (n : Names) → HaveNoZeros n → StandsIn m n → HasNoZero m
@@ -69,7 +69,7 @@ under_before k m name s e z h (r, t, g) =
     ap (precedes (k ++ 0 ∷ (name ++ s))) g ∙ not_back (k ++ 0 ∷ (m ++ r)) (k ++ 0 ∷ (name ++ s)) (ways_rise k m name r s t z h)
 
 -- the entries of greater names stand behind it
-all_behind : (k name s : List ℕ) (n : Names) → IsTail s → HaveNoZeros n → Before name n
+pub all_behind : (k name s : List ℕ) (n : Names) → IsTail s → HaveNoZeros n → Before name n
     → Every (λ e. precedes (k ++ 0 ∷ (name ++ s)) e.key ≡ true) (entries k n)
 all_behind k name s n t z b =
     every_weaker (Through k n) (λ (e : Entry). precedes (k ++ 0 ∷ (name ++ s)) e.key ≡ true)

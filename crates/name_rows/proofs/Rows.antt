@@ -14,8 +14,9 @@ use Rattle.name_tree.proofs.Found.{found}
 use Rattle.name_tree.proofs.Law.{as_found, found_by, HaveFiles, have_files, grown_by, one_more, tree_found, parent_there, none_named, fewer}
 use Rattle.misfits.proofs.Plain.{names_no_zero}
 use Rattle.misfits.proofs.Sorted.{AreSorted, put_at_sorted, put_at_hold, last_of}
-use Rattle.name_rows.specs.Entries.{entries, entries_by, entries_of, put_line_entry}
+use Rattle.name_rows.specs.Entries.{entries, entries_by, entries_of, put_line_entry, Rise}
 use Rattle.name_rows.proofs.Keys.{HasNoZero}
+use Rattle.name_rows.proofs.Order.{tree_rises}
 use Rattle.name_rows.proofs.Putting.{HaveNoZeros, put_at_entries}
 
 -- names have these entries as their row
@@ -63,11 +64,21 @@ is_row all sizes (l ∷ ls) c f =
     subst (λ (n : Names). IsRow n all sizes (l ∷ ls)) (sym (one_more all sizes l ls))
     (row_more all sizes l ls (grown_by all sizes ls) c.0 fs (tree_found all sizes ls c.1 fs) (is_row all sizes ls c.1 fs))
 
-pub tree_row : (m : ManifestLines) (sizes : List ℕ) → IsManifest m
-    → entries [] (tree_of m.lines sizes) ≡ entries_of m.lines sizes
+-- and what follows for the tree of all lines
+tree_is : (m : ManifestLines) (sizes : List ℕ) → IsManifest m
+    → IsRow (tree_of m.lines sizes) m.lines sizes (reverse m.lines)
 unfolding tree_of
-tree_row m sizes h =
+tree_is m sizes h =
     let c = checked_lines m h.0 h.1 in
     let back : reverse m.lines ≡ c.latest = ap reverse c.reversed ∙ reverse-reverse c.latest in
-    let r = (is_row m.lines sizes c.latest c.checked (have_files m sizes c.latest c.reversed c.checked)).row in
-    ap (λ (ls : List Line). entries [] (grown m.lines sizes ls nothing)) c.reversed ∙ r ∙ ap (entries_by m.lines sizes) (sym back)
+    let r = is_row m.lines sizes c.latest c.checked (have_files m sizes c.latest c.reversed c.checked) in
+    let same : grown m.lines sizes m.lines nothing ≡ grown_by m.lines sizes c.latest = ap (λ (ls : List Line). grown m.lines sizes ls nothing) c.reversed in
+    subst (λ (n : Names). IsRow n m.lines sizes (reverse m.lines)) (sym same) (subst (λ (ls : List Line). IsRow (grown_by m.lines sizes c.latest) m.lines sizes ls) (sym back) r)
+
+pub tree_row : (m : ManifestLines) (sizes : List ℕ) → IsManifest m
+    → entries [] (tree_of m.lines sizes) ≡ entries_of m.lines sizes
+tree_row m sizes h = (tree_is m sizes h).row
+
+pub row_rises : (m : ManifestLines) (sizes : List ℕ) → IsManifest m → Rise (entries_of m.lines sizes)
+row_rises m sizes h =
+    let r = tree_is m sizes h in subst Rise r.row (tree_rises [] (tree_of m.lines sizes) r.clean r.sorted)

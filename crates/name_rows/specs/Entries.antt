@@ -1,6 +1,7 @@
 -- The names of a tree in a row, each with the way to it: a directory stands before what it holds, and lists are in the
 -- order of their names. (This project's own.)
-use Rattle.std.specs.Prelude.{ℕ, if◌then◌else◌, List, [], ◌∷◌, ◌++◌, reverse, Option, Some, None}
+use Rattle.std.specs.Prelude.{◌≡◌, ℕ, true, if◌then◌else◌, List, [], ◌∷◌, ◌++◌, reverse, Option, Some, None}
+use Rattle.record_walk.specs.Members.{Has, Pairs}
 use Rattle.cramfs_format.specs.Tree.{precedes}
 use Rattle.manifest.specs.declared.line.Line.{Line}
 use Rattle.manifest.specs.Paths.{names_of}
@@ -52,3 +53,11 @@ entries_by all sizes (l ∷ ls) =
 -- the entries of all lines
 abbrev pub entries_of : List Line → List ℕ → List Entry
 entries_of lines sizes = entries_by lines sizes (reverse lines)
+
+-- each entry stands before those after it
+abbrev pub Rise : List Entry → Type 0
+Rise es = Pairs (λ a b. precedes a.key b.key ≡ true) es
+
+-- the entry is one of these
+abbrev pub Holds : List Entry → Entry → Type 0
+Holds es e = Has (λ d. d ≡ e) es

@@ -2,12 +2,22 @@
 ghost use Rattle.std.specs.Prelude.{◌≡◌, [], ℕ, List};
 ghost use Rattle.manifest.specs.Grammar.{IsManifest};
 ghost use Rattle.manifest.specs.Lines.{ManifestLines};
-ghost use Rattle.name_rows.specs.Entries.{entries, entries_of};
+ghost use Rattle.name_rows.specs.Entries.{Entry, Holds, Rise, entries, entries_of};
 ghost use Rattle.name_tree.specs.Tree.{tree_of};
 
 /// The row of a manifest's tree has the entries of its lines, put one by one in the order of the
-/// ways to them.
+/// ways to them, and each stands before those after it.
 pub fn lines_make_the_row()
-    ensures { (m : ManifestLines) (sizes : List ℕ) → IsManifest m
+    ensures row { (m : ManifestLines) (sizes : List ℕ) → IsManifest m
         → entries [] (tree_of m.lines sizes) ≡ entries_of m.lines sizes }
+    ensures rises { (m : ManifestLines) (sizes : List ℕ) → IsManifest m
+        → Rise (entries_of m.lines sizes) }
+{}
+
+/// Rows in order that hold the same entries are one, so that it does not matter how entries were
+/// brought into order.
+pub fn order_is_one()
+    ensures { (one other : List Entry) → Rise one → Rise other
+        → ((e : Entry) → Holds one e → Holds other e)
+        → ((e : Entry) → Holds other e → Holds one e) → one ≡ other }
 {}
