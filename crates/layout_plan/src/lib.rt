@@ -7,11 +7,11 @@
 
 pub mod error;
 pub mod item;
-pub mod plan;
+pub mod planned;
 pub mod section;
 
 pub use error::{PlanError, name};
 pub use item::{Fill, Item};
-pub use plan::Plan;
 pub use plan_misfits::Format;
+pub use planned::Plan;
 pub use section::{Body, Section};

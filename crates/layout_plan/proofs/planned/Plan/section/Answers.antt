@@ -1,7 +1,7 @@
 use Rattle.std.proofs.Common.{ap, ◌∙◌, arith, Some}
 use Rattle.layout_plan.specs.Plans.{Planned, section_view, section_at}
 use Rattle.layout_plan.proofs.Places.{section_some, section_none}
-use Rattle.layout_plan.proofs.plan.Plan.section.Goals as goal
+use Rattle.layout_plan.proofs.planned.Plan.section.Goals as goal
 
 pub returns-then-i-len : goal.returns-then-i-len
 returns-then-i-len c =
