@@ -1,0 +1,4 @@
+pub mod Sources
+pub mod Segments
+pub mod Outcomes
+pub mod Steps
