@@ -13,11 +13,11 @@ pub struct Small;
 
 impl Layout for Small {
     ghost form = { λ _. record {
-        head = λ v. 109 ∷ 105 ∷ 110 ∷ 105 ∷ little_bytes 4 v;
-        start = 8;
-        segments = fixed 12 (97 ∷ 98 ∷ 99 ∷ []) ∷ content 20 5 0 ∷ [];
-        end = 32;
-        sizes = 5 ∷ [];
+      head = λ v. 109 ∷ 105 ∷ 110 ∷ 105 ∷ little_bytes 4 v;
+      start = 8;
+      segments = fixed 12 (97 ∷ 98 ∷ 99 ∷ []) ∷ content 20 5 0 ∷ [];
+      end = 32;
+      sizes = 5 ∷ [];
     } };
 
     fn files(&self) -> usize {

@@ -1,3 +1,5 @@
+ghost use Rattle.std.specs.Prelude.{◌≡◌, length};
+
 use crate::crc32::Crc32;
 use crate::fault::{SizeDiffers, StreamError};
 use crate::slices::Slices;
@@ -5,7 +7,7 @@ use crate::small::Small;
 use crate::sources::{SourceFailed, Sources};
 use crate::stream::stream;
 use crate::write::write;
-use rom_fields::bytes::Plain;
+use rom_fields::bytes::{ByteWrite, Plain};
 use rom_fields::contents::Contents;
 use rom_fields::faulty::Faulty;
 use std::test::Fail;
@@ -56,7 +58,7 @@ impl Sources for Turning {
     }
 }
 
-fn turning(turn: u64, fail: u64) -> Turning {
+fn one_file(turn: u64, fail: u64) -> Turning {
     Turning {
         turn,
         fail,
@@ -65,30 +67,23 @@ fn turning(turn: u64, fail: u64) -> Turning {
     }
 }
 
+/// Streams the small image with these contents.
+fn from_memory<W: ByteWrite>(contents: &Contents<'_>, w: &mut W) -> Result<(), StreamError>
+    requires { length contents.now ≡ 1 }
+{
+    stream::<Small, Slices<'_>, W, Crc32>(&Small, &mut Slices::new(contents), w)
+}
+
 #[test]
 fn streamed(rt: HostRuntime) -> Result<(), Fail> {
     let mut contents = Contents::new(rt.alloc());
     contents.add(b"hello")?;
     let mut w = Plain::new(Vec::new(rt.alloc()));
-    assert_eq!(rt;
-        stream::<Small, Slices<'_>, Plain<Vec<u8>>, Crc32>(
-            &Small,
-            &mut Slices::new(&contents),
-            &mut w
-        ),
-        Ok(())
-    );
+    assert_eq!(rt; from_memory(&contents, &mut w), Ok(()));
     let held: Vec<u8> = w.into_inner();
     assert_eq!(rt; held.as_slice(), IMAGE.as_slice());
     let mut bytewise = Faulty::new(Plain::new(Vec::new(rt.alloc())), 100, 1);
-    assert_eq!(rt;
-        stream::<Small, Slices<'_>, Faulty<Plain<Vec<u8>>>, Crc32>(
-            &Small,
-            &mut Slices::new(&contents),
-            &mut bytewise
-        ),
-        Ok(())
-    );
+    assert_eq!(rt; from_memory(&contents, &mut bytewise), Ok(()));
     let held: Vec<u8> = bytewise.into_inner().into_inner();
     assert_eq!(rt; held.as_slice(), IMAGE.as_slice());
     Ok(())
@@ -100,14 +95,9 @@ fn every_write_fails_in_turn(rt: HostRuntime) -> Result<(), Fail> {
     contents.add(b"hello")?;
     for calls in 0..16u64 {
         let mut w = Faulty::new(Plain::new(Vec::new(rt.alloc())), calls, 3);
-        let r = stream::<Small, Slices<'_>, Faulty<Plain<Vec<u8>>>, Crc32>(
-            &Small,
-            &mut Slices::new(&contents),
-            &mut w,
-        );
+        let r = from_memory(&contents, &mut w);
         let held: Vec<u8> = w.into_inner().into_inner();
-        let n = held.len();
-        assert_eq!(rt; held.as_slice(), &IMAGE[..n]);
+        assert_eq!(rt; IMAGE.as_slice().get(..held.len()), Some(held.as_slice()));
         // 8, 4, 3, 5, 5 and 7 bytes by at most 3 are 13 writes, and then comes the flush
         assert_eq!(rt;
             r,
@@ -127,7 +117,7 @@ fn sizes_differ(rt: HostRuntime) -> Result<(), Fail> {
     longer.add(b"hello!")?;
     let mut w = Plain::new(Vec::new(rt.alloc()));
     assert_eq!(rt;
-        stream::<Small, Slices<'_>, Plain<Vec<u8>>, Crc32>(&Small, &mut Slices::new(&longer), &mut w),
+        from_memory(&longer, &mut w),
         Err(StreamError::SizeDiffers { file: 0 })
     );
     let held: Vec<u8> = w.into_inner();
@@ -140,7 +130,10 @@ fn sizes_differ(rt: HostRuntime) -> Result<(), Fail> {
     assert_eq!(rt; buffer.as_slice(), [255u8; 32].as_slice());
     let mut contents = Contents::new(rt.alloc());
     contents.add(b"hello")?;
-    assert_eq!(rt; write::<Small, Crc32>(&Small, &contents, &mut buffer), Ok(()));
+    assert_eq!(rt;
+        write::<Small, Crc32>(&Small, &contents, &mut buffer),
+        Ok(())
+    );
     assert_eq!(rt; buffer.as_slice(), IMAGE.as_slice());
     Ok(())
 }
@@ -149,7 +142,7 @@ fn sizes_differ(rt: HostRuntime) -> Result<(), Fail> {
 fn sources_change_or_fail(rt: HostRuntime) -> Result<(), Fail> {
     for turn in 0..6u64 {
         let mut w = Plain::new(Vec::new(rt.alloc()));
-        let mut sources = turning(turn, 99);
+        let mut sources = one_file(turn, 99);
         let r = stream::<Small, Turning, Plain<Vec<u8>>, Crc32>(&Small, &mut sources, &mut w);
         // the first pass makes two reads, and each later one makes one
         assert_eq!(rt;
@@ -163,7 +156,7 @@ fn sources_change_or_fail(rt: HostRuntime) -> Result<(), Fail> {
     }
     for fail in 0..4u64 {
         let mut w = Plain::new(Vec::new(rt.alloc()));
-        let mut sources = turning(99, fail);
+        let mut sources = one_file(99, fail);
         let r = stream::<Small, Turning, Plain<Vec<u8>>, Crc32>(&Small, &mut sources, &mut w);
         assert_eq!(rt; r, Err(StreamError::SourceFault { file: 0 }));
     }
