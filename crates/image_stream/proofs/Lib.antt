@@ -4,3 +4,4 @@ pub mod Zeros
 pub mod Images
 pub mod Streams
 pub mod Puts
+pub mod Laid

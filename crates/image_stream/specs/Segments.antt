@@ -1,6 +1,7 @@
 -- An image before the contents of its files are known: a superblock, segments at their places behind it, and zeros
 -- everywhere else. (This project's own.)
 use Rattle.std.specs.Prelude.{◌≡◌, ℕ, ◌+◌, ◌-◌, ◌<◌, ◌≤◌, ◌^◌, List, [], ◌∷◌, ◌++◌, length, take, get_or, replicate, Option, Some, None}
+use Rattle.image_parts.specs.Parts.{Part, part}
 use Rattle.image_stream.specs.declared.outline.Outline.{Outline}
 use Rattle.image_stream.specs.Sources.{content_of, Told}
 
@@ -30,6 +31,10 @@ outline (content at size file) = record { place = at; len = size; source = Some 
 abbrev pub bytes_of : List (List ℕ) → Segment → List ℕ
 bytes_of cs (fixed at bytes) = bytes
 bytes_of cs (content at size file) = take size (content_of cs file)
+
+-- a segment as a part of the image
+abbrev pub segment_part : List (List ℕ) → Segment → Part
+segment_part cs p = part (place p) (bytes_of cs p)
 
 -- bytes that may stand for a segment: its own where they are known, and else any, but as many
 abbrev pub IsBody : Option (List (List ℕ)) → Segment → List ℕ → Type 0

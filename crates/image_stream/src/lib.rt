@@ -10,6 +10,7 @@
 pub mod check;
 pub mod crc32;
 pub mod fault;
+pub mod laws;
 pub mod layout;
 pub mod measure;
 pub mod nowhere;

@@ -1,9 +1,10 @@
 //! An image in three passes through one buffer.
-ghost use Rattle.std.specs.Prelude.{◌≡◌, ◌+◌, ◌<◌, ◌≤◌, ◌^◌, ◌++◌, ℕ, List, length, get_or, OnOk, OnErr, IfErr};
+ghost use Rattle.std.specs.Prelude.{◌≡◌, ◌≢◌, ◌+◌, ◌<◌, ◌≤◌, ◌^◌, ◌++◌, ℕ, List, length, get_or, OnOk, OnErr, IfErr};
 ghost use Rattle.std.specs.Io.KnownBytes.{Appends};
 ghost use Rattle.rom_fields.specs.Failures.{Counts};
 ghost use Rattle.rom_fields.specs.Written.{WritesText, AppendsPrefix};
 ghost use Rattle.image_stream.specs.Sources.{Told};
+ghost use Rattle.image_stream.specs.declared.fault.StreamError.TheVariants.{Changed};
 ghost use Rattle.image_stream.specs.Segments.{IsLaidOut, image_of};
 ghost use Rattle.image_stream.specs.Outcomes.{AreSized, IsStreamFault, IsWritten};
 
@@ -41,6 +42,18 @@ fn write_head<L: Layout, W: ByteWrite>(
     let head = &mut buffer[..layout.head_len()];
     layout.fill_head(stored, head);
     write_whole(w, head)
+}
+
+/// Compares the check value that was stored with that of what was written.
+fn confirm<C: Check>(written: &C, stored: u32) -> Result<(), StreamError>
+    ensures ok { OnOk result ((xs : List ℕ) → C.Is written.now xs → stored ≡ C.stored xs) }
+    ensures err { IfErr result (λ e. (e ≡ Changed)
+        × ((xs : List ℕ) → C.Is written.now xs → stored ≢ C.stored xs)) }
+{
+    if written.value() != stored {
+        return Err(StreamError::Changed);
+    }
+    Ok(())
 }
 
 /// Writes an image through one buffer of 4,096 bytes, without memory, and flushes the writer. Reads
@@ -100,8 +113,9 @@ pub fn stream<L: Layout, S: Sources, W: ByteWrite, C: Check>(
         Ok(()) => {}
         Err(Failed) => return Err(StreamError::WriteFault),
     }
-    if again.value() != stored {
-        return Err(StreamError::Changed);
+    match confirm(&again, stored) {
+        Ok(()) => {}
+        Err(e) => return Err(e),
     }
     Ok(())
 }

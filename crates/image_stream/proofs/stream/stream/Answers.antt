@@ -1,8 +1,11 @@
-use Rattle.std.proofs.Common.{Option, ◌≡◌, ℕ, List, ◌++◌, sym, ap, ◌∙◌, subst}
+use Rattle.std.proofs.Common.{Option, [], ◌≡◌, ℕ, List, ◌++◌, sym, ap, ◌∙◌, subst}
 use Rattle.rom_fields.specs.Failures.{Rose}
 use Rattle.std.specs.Io.KnownBytes.{Appends}
 use Rattle.rom_fields.proofs.Joins.{front_all, appends_join, appends_keep}
 use Rattle.image_stream.specs.Segments.{image_from, IsImage}
+use Rattle.image_stream.specs.declared.fault.StreamError.{StreamError}
+use Rattle.image_stream.specs.declared.fault.StreamError.TheVariants.{Changed}
+use Rattle.image_stream.specs.Outcomes.{IsStreamFault}
 use Rattle.image_stream.proofs.Streams.{image_known, value_of, front_head, front_image, whole_image, size_fault, pass_fault, nowhere_fault}
 use Rattle.image_stream.proofs.stream.stream.Goals as goal
 
@@ -61,8 +64,8 @@ returns-in-Err-flush-clause-front g c = λ cs is.
     front_all _ _ _ (whole_image (L.form c.args.layout.now).head g.C.Check.stored c.value-stored.result image right _ _ _ _ c.in-Ok-write_head.ensures.text
     (subst A (image_known _ cs _ _ _ _ (c.walk.ensures.told ∙ c.measure_all.ensures.told ∙ is) two.are) two.written) c.flush.ensures.bytes)
 
-pub returns-then-value-stored-clause-front : goal.returns-then-value-stored-clause-front
-returns-then-value-stored-clause-front g c = λ cs is.
+pub returns-in-Err-confirm-clause-front : goal.returns-in-Err-confirm-clause-front
+returns-in-Err-confirm-clause-front g c = λ cs is.
     let L = g.L.Layout in
     let one = c.in-Ok-walk.ensures.ok in
     let two = c.in-Ok-walk-2.ensures.ok in
@@ -75,28 +78,32 @@ returns-then-value-stored-clause-front g c = λ cs is.
     front_all _ _ _ (whole_image (L.form c.args.layout.now).head g.C.Check.stored c.value-stored.result image right _ _ _ _ c.in-Ok-write_head.ensures.text
     (subst A (image_known _ cs _ _ _ _ (c.walk.ensures.told ∙ c.measure_all.ensures.told ∙ is) two.are) two.written) c.flush.ensures.bytes)
 
-pub returns-then-value-stored-clause-fault : goal.returns-then-value-stored-clause-fault
-returns-then-value-stored-clause-fault g c =
+pub returns-in-Err-confirm-clause-fault : goal.returns-in-Err-confirm-clause-fault
+returns-in-Err-confirm-clause-fault g c =
     let told = g.S.Sources.told c.args.sources.now in
     let f = g.L.Layout.form c.args.layout.now in
     let one = c.in-Ok-walk.ensures.ok in
     let two = c.in-Ok-walk-2.ensures.ok in
     let S = g.C.Check.stored in
+    let err = c.in-Err-confirm.ensures.err in
     let v = value_of _ _ _ (f.head 0) S c.value-stored.result c.start-first.ensures c.add_head.ensures one c.value-stored.ensures in
-    let w = value_of _ _ _ (f.head 0) S c.value.result c.start-first.ensures c.add_head.ensures two c.value.ensures in
-    let T : Option (List (List ℕ)) → Type 0 = λ t. IsImage t f.start f.segments f.end two.bytes in (
+    let again = two.added (f.head 0) (c.add_head.ensures [] c.start-first.ensures) in
+    let T : Option (List (List ℕ)) → Type 0 = λ t. IsImage t f.start f.segments f.end two.bytes in
+    let E : StreamError → Type 0 = λ e. IsStreamFault told f S (g.S.Sources.reads c.args.sources.now) (g.S.Sources.reads c.walk-2.new.sources) (g.W.ByteWrite.output c.args.w.now) (g.W.ByteWrite.output c.flush.new.self) e in
+    let changed : E Changed = (
       record {
         rest = two.bytes;
         stands = subst T (c.walk.ensures.told ∙ c.measure_all.ensures.told) two.are;
         value = c.value-stored.result;
-        differs = λ e. c.if-value-stored.true (w ∙ sym e);
+        differs = err.1 (f.head 0 ++ two.bytes) again;
         written = appends_keep _ _ _ _ (appends_join _ _ _ _ _ c.in-Ok-write_head.ensures.text two.written) c.flush.ensures.bytes;
       },
       λ cs is.
           let first = image_known _ cs _ _ _ _ (c.measure_all.ensures.told ∙ is) one.are in
           let second = image_known _ cs _ _ _ _ (c.walk.ensures.told ∙ c.measure_all.ensures.told ∙ is) two.are in
-          c.if-value-stored.true (w ∙ ap (λ (x : List ℕ). S (f.head 0 ++ x)) (second ∙ sym first) ∙ sym v),
-    )
+          err.1 (f.head 0 ++ two.bytes) again (v ∙ ap (λ (x : List ℕ). S (f.head 0 ++ x)) (first ∙ sym second)),
+    ) in
+    subst E (sym err.0) changed
 
 pub returns-clause-whole : goal.returns-clause-whole
 returns-clause-whole g c = λ cs is.
