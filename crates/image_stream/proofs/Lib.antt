@@ -5,3 +5,5 @@ pub mod Images
 pub mod Streams
 pub mod Puts
 pub mod Laid
+pub mod Weights
+pub mod ByWords

@@ -24,13 +24,15 @@ pub record IsLeastWrong (sizes : List ℕ) (file : ℕ) (cs : List (List ℕ)) :
 
 -- Whatever the sources told, a whole image was appended: of these contents where they are told, and else of some
 -- contents of the planned sizes, with the check value of just these bytes.
-pub record IsWritten (told : Option (List (List ℕ))) (f : Form) (stored : List ℕ → ℕ) (old new : Option (List ℕ)) : Type 0 where
+pub record IsWritten (told : Option (List (List ℕ))) (f : Form) (stored : List ℕ → ℕ)
+    (old new : Option (List ℕ)) : Type 0 where
   pub rest : List ℕ
   pub stands : IsImage told f.start f.segments f.end rest
   pub written : Appends old new (checked f.head stored rest)
 
 -- a whole image was appended, but with a check value that is not that of its bytes
-pub record IsMisstored (told : Option (List (List ℕ))) (f : Form) (stored : List ℕ → ℕ) (old new : Option (List ℕ)) : Type 0 where
+pub record IsMisstored (told : Option (List (List ℕ))) (f : Form) (stored : List ℕ → ℕ)
+    (old new : Option (List ℕ)) : Type 0 where
   pub rest : List ℕ
   pub stands : IsImage told f.start f.segments f.end rest
   pub value : ℕ
@@ -41,7 +43,8 @@ pub record IsMisstored (told : Option (List (List ℕ))) (f : Form) (stored : Li
 -- written: a file is the first of another size, and nothing was written; a read of a file failed, and those before it
 -- have their sizes; the writer failed; or what was read changed, so that the check value is wrong, which no sources do
 -- that tell their bytes.
-abbrev pub IsStreamFault : Option (List (List ℕ)) → Form → (List ℕ → ℕ) → Reads → Reads → Output → Output → StreamError → Type 0
+abbrev pub IsStreamFault : Option (List (List ℕ)) → Form → (List ℕ → ℕ) → Reads → Reads → Output → Output → StreamError
+    → Type 0
 IsStreamFault told f stored r r' w w' (SizeDiffers file) =
     (file < length f.sizes) × Told told (λ cs. IsLeastWrong f.sizes file cs × (w'.contents ≡ w.contents))
 IsStreamFault told f stored r r' w w' (SourceFault file) =

@@ -5,7 +5,7 @@ use Rattle.image_parts.specs.Parts.{Part, part}
 use Rattle.image_stream.specs.declared.outline.Outline.{Outline}
 use Rattle.image_stream.specs.Sources.{content_of, Told}
 
--- a place and the bytes that stand there; or a place, a length, and the file of whose contents as many bytes stand there
+-- a place and the bytes that stand there; or a place, a length, and the file whose first bytes stand there, so many
 pub data Segment : Type 0 where
   fixed : ℕ → List ℕ → Segment
   content : ℕ → ℕ → ℕ → Segment
@@ -66,8 +66,8 @@ abbrev pub HasSource : List ℕ → Segment → Type 0
 HasSource sizes (fixed at bytes) = Unit {0}
 HasSource sizes (content at size file) = (file < length sizes) × (size ≡ get_or sizes file 0)
 
--- the superblock, by the check value that it stores, and its length; what stands behind it, and the length of the image;
--- the size of each file
+-- the superblock, by the check value that it stores, and its length; what stands behind it, and the length of the
+-- image; the size of each file
 pub record Form : Type 0 where
   pub head : ℕ → List ℕ
   pub start : ℕ
@@ -75,8 +75,8 @@ pub record Form : Type 0 where
   pub end : ℕ
   pub sizes : List ℕ
 
--- An image that can be written: its segments rise behind the superblock, which has at most 4,096 bytes; and it is shorter
--- than 2^32 bytes, as each file is.
+-- An image that can be written: its segments rise behind the superblock, which has at most 4,096 bytes; and it is
+-- shorter than 2^32 bytes, as each file is.
 pub record IsLaidOut (f : Form) : Type 0 where
   pub rises : SegmentsRise f.start f.segments f.end
   pub files : (i : ℕ) → i < length f.segments → HasSource f.sizes (segment_at f.segments i)

@@ -10,8 +10,8 @@ content_of cs file = get_or cs file []
 abbrev pub Told : Option (List (List ℕ)) → (List (List ℕ) → Type 0) → Type 0
 Told told P = (cs : List (List ℕ)) → told ≡ Some cs → P cs
 
--- A read of n bytes at `at` gives the next n bytes of the file's contents; none only at their end or behind it, or where
--- there is no room for any.
+-- A read of n bytes at `at` gives the next n bytes of the file's contents; none only at their end or behind it, or
+-- where there is no room for any.
 abbrev pub ReadsAt : {E : Type 0} → Option (List (List ℕ)) → ℕ → ℕ → Result ℕ E → List ℕ → Type 0
 ReadsAt told file at r buf =
     MatchResult r (λ n. Told told (λ cs. (take n buf ≡ take n (drop at (content_of cs file)))

@@ -28,11 +28,12 @@ pub record IsNext (told : Option (List (List ℕ))) (at : ℕ) (p : Segment) (xs
   pub all : xs ≡ zeros (place p - at) ++ body
 
 -- xs goes before what stands from `at` on in the segments ps, the rest of those of the image
-pub record IsDone (told : Option (List (List ℕ))) (start : ℕ) (segments : List Segment) (end at : ℕ) (ps : List Segment) (xs : List ℕ) : Type 0 where
+pub record IsDone (told : Option (List (List ℕ))) (start : ℕ) (segments : List Segment) (end at : ℕ)
+    (ps : List Segment) (xs : List ℕ) : Type 0 where
   pub more : (rest : List ℕ) → IsImage told at ps end rest → IsImage told start segments end (xs ++ rest)
   pub known : Told told (λ cs. xs ++ image_from cs at ps end ≡ image_from cs start segments end)
 
--- bytes with this property went out, to the writer and into a check value
+-- Bytes with this property went out, to the writer and into a check value
 pub record Gone (P : List ℕ → Type 0) (old new : Option (List ℕ)) (Was Is : List ℕ → Type 0) : Type 0 where
   pub bytes : List ℕ
   pub are : P bytes
@@ -62,7 +63,8 @@ IsLeastFault told sizes r r' Changed = ⊥
 
 -- a fault while segments go out
 abbrev pub IsFault : Option (List (List ℕ)) → List ℕ → Reads → Reads → ℕ → ℕ → StreamError → Type 0
-IsFault told sizes r r' w w' (SizeDiffers f) = (f < length sizes) × Told told (λ cs. length (content_of cs f) < get_or sizes f 0)
+IsFault told sizes r r' w w' (SizeDiffers f) =
+    (f < length sizes) × Told told (λ cs. length (content_of cs f) < get_or sizes f 0)
 IsFault told sizes r r' w w' (SourceFault f) = (f < length sizes) × FailedAt f r r'
 IsFault told sizes r r' w w' WriteFault = Rose w w'
 IsFault told sizes r r' w w' Changed = ⊥

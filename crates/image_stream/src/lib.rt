@@ -23,4 +23,5 @@ pub mod sources;
 pub mod stream;
 #[cfg(test)]
 mod tests;
+pub mod word_sum;
 pub mod write;

@@ -68,7 +68,8 @@ fn piece<L: Layout, S: Sources>(
     requires words { len (segment_at (L.form layout.now).segments i) % 4 ≡ 0
         → length out.old % 4 ≡ 0 }
     requires small { len (segment_at (L.form layout.now).segments i) < 2 ^ 32 }
-    requires file { HasSource (L.form layout.now).sizes (segment_at (L.form layout.now).segments i) }
+    requires file { HasSource (L.form layout.now).sizes
+        (segment_at (L.form layout.now).segments i) }
     requires files { S.files sources.old ≡ length (L.form layout.now).sizes }
     ensures told { S.told sources.new ≡ S.told sources.old }
     ensures files { S.files sources.new ≡ S.files sources.old }
@@ -98,7 +99,8 @@ pub fn copy_segment<L: Layout, S: Sources, W: ByteWrite, C: Check>(
 ) -> Result<(), StreamError>
     requires index { i < length (L.form layout.now).segments }
     requires small { len (segment_at (L.form layout.now).segments i) < 2 ^ 32 }
-    requires file { HasSource (L.form layout.now).sizes (segment_at (L.form layout.now).segments i) }
+    requires file { HasSource (L.form layout.now).sizes
+        (segment_at (L.form layout.now).segments i) }
     requires files { S.files sources.old ≡ length (L.form layout.now).sizes }
     requires room { 0 < length buffer.old }
     requires words { length buffer.old % 4 ≡ 0 }
@@ -188,7 +190,8 @@ fn next_segment<L: Layout, S: Sources, W: ByteWrite, C: Check>(
     requires after { at ≤ place (segment_at (L.form layout.now).segments i) }
     requires small { place (segment_at (L.form layout.now).segments i)
         + len (segment_at (L.form layout.now).segments i) < 2 ^ 32 }
-    requires file { HasSource (L.form layout.now).sizes (segment_at (L.form layout.now).segments i) }
+    requires file { HasSource (L.form layout.now).sizes
+        (segment_at (L.form layout.now).segments i) }
     requires files { S.files sources.old ≡ length (L.form layout.now).sizes }
     requires room { 0 < length buffer.old }
     requires words { length buffer.old % 4 ≡ 0 }

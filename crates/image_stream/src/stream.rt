@@ -21,7 +21,8 @@ use rom_fields::sink::write_whole;
 /// Adds the superblock that stores no value.
 fn add_head<L: Layout, C: Check>(layout: &L, check: &mut C, buffer: &mut [u8])
     requires { (L.form layout.now).start ≤ length buffer.old }
-    ensures { (xs : List ℕ) → C.Is check.old xs → C.Is check.new (xs ++ (L.form layout.now).head 0) }
+    ensures { (xs : List ℕ) → C.Is check.old xs
+        → C.Is check.new (xs ++ (L.form layout.now).head 0) }
 {
     let head = &mut buffer[..layout.head_len()];
     layout.fill_head(0, head);
@@ -36,7 +37,8 @@ fn write_head<L: Layout, W: ByteWrite>(
     buffer: &mut [u8],
 ) -> Result<(), Failed>
     requires { (L.form layout.now).start ≤ length buffer.old }
-    ensures text { WritesText (W.output w.old).contents (W.output w.new).contents result ((L.form layout.now).head stored) }
+    ensures text { WritesText (W.output w.old).contents (W.output w.new).contents result
+        ((L.form layout.now).head stored) }
     ensures count { Counts (W.output w.old).failures (W.output w.new).failures result }
 {
     let head = &mut buffer[..layout.head_len()];
@@ -61,8 +63,8 @@ fn confirm<C: Check>(written: &C, stored: u32) -> Result<(), StreamError>
 /// further; for the check value, in the order of their places; and once more so for what is
 /// written. Until then nothing was written.
 ///
-/// At `Ok` just the image was written, whatever the sources told. After an error a prefix of it was,
-/// where the sources tell their contents.
+/// At `Ok` just the image was written, whatever the sources told. After an error a prefix of it
+/// was, where the sources tell their contents.
 pub fn stream<L: Layout, S: Sources, W: ByteWrite, C: Check>(
     layout: &L,
     sources: &mut S,

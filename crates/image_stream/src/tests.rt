@@ -17,8 +17,8 @@ const IMAGE: [u8; 32] = [
     108, 111, 0, 0, 0, 0, 0, 0, 0,
 ];
 
-/// One file, five bytes of one letter, which is another one after so many reads; and each read fails
-/// after so many.
+/// One file, five bytes of one letter, which is another one after so many reads; and each read
+/// fails after so many.
 #[derive(Drop)]
 struct Turning {
     turn: u64,

@@ -35,7 +35,8 @@ fn fill_segment<L: Layout>(layout: &L, contents: &Contents<'_>, i: usize, out: &
     requires index { i < length (L.form layout.now).segments }
     requires room { length out.old ≡ len (segment_at (L.form layout.now).segments i) }
     requires count { length contents.now ≡ length (L.form layout.now).sizes }
-    requires file { HasSource (L.form layout.now).sizes (segment_at (L.form layout.now).segments i) }
+    requires file { HasSource (L.form layout.now).sizes
+        (segment_at (L.form layout.now).segments i) }
     requires sized { AreSized (L.form layout.now).sizes contents.now }
     ensures { out.new ≡ bytes_of contents.now (segment_at (L.form layout.now).segments i) }
 {
@@ -71,7 +72,8 @@ fn put_segment<L: Layout>(
     requires is { segment ≡ outline (segment_at (L.form layout.now).segments i) }
     requires room { segment.place + segment.len ≤ length out.old }
     requires count { length contents.now ≡ length (L.form layout.now).sizes }
-    requires file { HasSource (L.form layout.now).sizes (segment_at (L.form layout.now).segments i) }
+    requires file { HasSource (L.form layout.now).sizes
+        (segment_at (L.form layout.now).segments i) }
     requires sized { AreSized (L.form layout.now).sizes contents.now }
     ensures { out.new ≡ take segment.place out.old ++ (bytes_of contents.now
         (segment_at (L.form layout.now).segments i) ++ drop (segment.place + segment.len) out.old) }
@@ -84,7 +86,8 @@ fn put_segment<L: Layout>(
 /// Puts the superblock.
 fn put_head<L: Layout>(layout: &L, stored: u32, out: &mut [u8])
     requires { (L.form layout.now).start ≤ length out.old }
-    ensures put { out.new ≡ (L.form layout.now).head stored ++ drop (L.form layout.now).start out.old }
+    ensures put { out.new ≡ (L.form layout.now).head stored
+        ++ drop (L.form layout.now).start out.old }
     ensures length { length ((L.form layout.now).head stored) ≡ (L.form layout.now).start }
 {
     let start = layout.head_len();
@@ -104,7 +107,8 @@ fn put_next<L: Layout>(
     requires room { place (segment_at (L.form layout.now).segments i)
         + len (segment_at (L.form layout.now).segments i) ≤ length out.old }
     requires count { length contents.now ≡ length (L.form layout.now).sizes }
-    requires file { HasSource (L.form layout.now).sizes (segment_at (L.form layout.now).segments i) }
+    requires file { HasSource (L.form layout.now).sizes
+        (segment_at (L.form layout.now).segments i) }
     requires sized { AreSized (L.form layout.now).sizes contents.now }
     ensures end { result ≡ place (segment_at (L.form layout.now).segments i)
         + len (segment_at (L.form layout.now).segments i) }
