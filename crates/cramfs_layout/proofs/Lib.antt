@@ -15,4 +15,5 @@ pub mod Paths
 pub mod Shaped
 pub mod Regions
 pub mod Sectioned
+pub mod Composed
 mod Examples
