@@ -1,28 +1,21 @@
 -- The records of items stand at their places.
-use Rattle.std.proofs.Common.{ℕ, ◌+◌, List, [], ◌∷◌, ◌++◌, length, ap}
+use Rattle.std.proofs.Common.{ℕ, ◌+◌, List, ◌++◌, length, ap}
 use Rattle.std.specs.List.{AllByRecursion as Every}
 use Rattle.record_walk.proofs.Lists.{every_join}
 use Rattle.cramfs_format.specs.declared.order.Order.{Order}
-use Rattle.image_parts.specs.Parts.{Part, HasAt, HasParts}
+use Rattle.image_parts.specs.Parts.{HasAt, HasParts}
 use Rattle.image_parts.proofs.Parts.{HasAt-before, HasAt-after, HasAt-moved}
 use Rattle.name_tree.specs.Names.{Inode, Names, nothing, leaf, link, folder}
 use Rattle.layout_terms.specs.Items.{Item}
 use Rattle.cramfs_layout.specs.Layout.{size_by, entry_len, entry_bytes, list_bytes, list_len, list_offset, State, kept, table_by, pad4, file_parts, parts, after_file, after_list, after_names}
 use Rattle.cramfs_layout.specs.Items.{entries, below}
 use Rattle.cramfs_layout.specs.Composed.{written}
+use Rattle.cramfs_layout.proofs.Stored.{parts_both}
 use Rattle.cramfs_layout.proofs.Entries.{length-entry}
 
 -- the record of an item stands at its place
 abbrev pub Stands : Order → List ℕ → Item → Type 0
 Stands o b i = HasAt b i.place (written o i)
-
-parts_behind : (b : List ℕ) (ps qs : List Part) → HasParts b (ps ++ qs) → HasParts b qs
-parts_behind b [] qs h = h
-parts_behind b (p ∷ ps) qs h = parts_behind b ps qs h.1
-
-parts_before : (b : List ℕ) (ps qs : List Part) → HasParts b (ps ++ qs) → HasParts b ps
-parts_before b [] qs h = tt
-parts_before b (p ∷ ps) qs h = (h.0, parts_before b ps qs h.1)
 
 -- what stands behind the first record of a list
 list_later : (o : Order) (b : List ℕ) (l : ℕ) (name : List ℕ) (i : Inode) (size offset : ℕ) (rest : List ℕ)
@@ -60,12 +53,12 @@ entries_stand o b l s (folder name i own rest) h =
 pub below_stand : (o : Order) (b : List ℕ) (cs : List (List ℕ)) (s : State) (n : Names) → HasParts b (parts o cs s n)
     → Every (Stands o b) (below o s n)
 below_stand o b cs s nothing h = tt
-below_stand o b cs s (leaf name i rest) h = below_stand o b cs (after_file s i) rest (parts_behind b (file_parts o cs (kept s.tables i) s i) (parts o cs (after_file s i) rest) h)
-below_stand o b cs s (link name i rest) h = below_stand o b cs (after_file s i) rest (parts_behind b (file_parts o cs (kept s.tables i) s i) (parts o cs (after_file s i) rest) h)
+below_stand o b cs s (leaf name i rest) h = below_stand o b cs (after_file s i) rest (parts_both b (file_parts o cs (kept s.tables i) s i) (parts o cs (after_file s i) rest) h).1
+below_stand o b cs s (link name i rest) h = below_stand o b cs (after_file s i) rest (parts_both b (file_parts o cs (kept s.tables i) s i) (parts o cs (after_file s i) rest) h).1
 below_stand o b cs s (folder name i own rest) h =
     let s1 = after_list s own in
     let s2 = after_names s1 own in
     let mine = parts o cs s1 own in
     let more = parts o cs s2 rest in
     every_join (Stands o b) (entries o (pad4 s.at) s1 own) (below o s1 own ++ below o s2 rest) (entries_stand o b (pad4 s.at) s1 own h.0)
-    (every_join (Stands o b) (below o s1 own) (below o s2 rest) (below_stand o b cs s1 own (parts_before b mine more h.1)) (below_stand o b cs s2 rest (parts_behind b mine more h.1)))
+    (every_join (Stands o b) (below o s1 own) (below o s2 rest) (below_stand o b cs s1 own (parts_both b mine more h.1).0) (below_stand o b cs s2 rest (parts_both b mine more h.1).1))

@@ -16,4 +16,5 @@ pub mod Shaped
 pub mod Regions
 pub mod Sectioned
 pub mod Composed
+pub mod Filled
 mod Examples
