@@ -17,4 +17,5 @@ pub mod Regions
 pub mod Sectioned
 pub mod Composed
 pub mod Filled
+pub mod Held
 mod Examples

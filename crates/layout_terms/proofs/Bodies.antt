@@ -1,8 +1,10 @@
--- Sections with their bytes are parts that rise.
-use Rattle.std.proofs.Common.{◌≡◌, ℕ, ◌+◌, ◌≤◌, List, [], ◌∷◌, ◌++◌, map, length, sym, subst, arith}
+-- Sections with their bytes are parts that rise; and the item of an index.
+use Rattle.std.proofs.Common.{get_or, drop, ap, ◌∙◌, ◌≡◌, ℕ, ◌+◌, ◌≤◌, List, [], ◌∷◌, ◌++◌, map, length, sym, subst, arith}
 use Rattle.std.specs.List.{AllByRecursion as Every}
 use Rattle.image_parts.specs.Parts.{Part, part, end_of_parts, Rises}
-use Rattle.layout_terms.specs.Items.{Section, SectionsRise}
+use Rattle.std.proofs.lemmas.List.{drop-drop, get_or-drop}
+use Rattle.layout_terms.specs.Bodies.{no_item, item_at}
+use Rattle.layout_terms.specs.Items.{Item, Section, SectionsRise}
 
 -- rising sections as parts, each with as many bytes as the section is long, and no bytes at the end of the image
 pub record AreAll (from size : ℕ) (ps : List Part) : Type 0 where
@@ -18,3 +20,12 @@ sections_are bytes from end size (s ∷ ss) l r n =
     let ps = map (λ (t : Section). part t.place (bytes t)) ss ++ part size [] ∷ [] in
     let here = subst (λ (k : ℕ). AreAll (s.place + k) size ps) (sym e) later in
     record { rises = (r.0, here.rises); ends_at = here.ends_at }
+
+-- the item of an index is the first of those from there on
+pub item_here : (all : List Item) (index : ℕ) (i : Item) (is : List Item) → drop index all ≡ i ∷ is → item_at all index ≡ i
+item_here all index i is e =
+    let z : index ≡ index + 0 = omega arith in
+    ap (λ (k : ℕ). get_or all k no_item) z ∙ sym (get_or-drop index all 0 no_item) ∙ ap (λ (v : List Item). get_or v 0 no_item) e
+
+pub items_later : (all : List Item) (index : ℕ) (i : Item) (is : List Item) → drop index all ≡ i ∷ is → drop (index + 1) all ≡ is
+items_later all index i is e = sym (drop-drop 1 index all) ∙ ap (drop 1) e

@@ -1,7 +1,6 @@
 -- An image composed of its sections is the layout.
 use Rattle.std.proofs.Common.{◌≡◌, ◌≢◌, ℕ, ◌+◌, ◌-◌, ◌==◌, true, false, if◌then◌else◌, List, [], ◌∷◌, ◌++◌, map, length, drop, replicate, get_or, refl, sym, ap, subst, ◌∙◌, arith, inl, inr, append-nil}
 use Rattle.std.proofs.lemmas.Bool.Decides.{eqb_tells}
-use Rattle.std.proofs.lemmas.List.{drop-drop, get_or-drop}
 use Rattle.std.specs.List.{AllByRecursion as Every}
 use Rattle.record_walk.proofs.Lists.{every_join}
 use Rattle.image_parts.specs.Padding.{pad}
@@ -10,7 +9,8 @@ use Rattle.image_parts.specs.Sums.{sealed}
 use Rattle.image_parts.proofs.Parts.{length-with_part}
 use Rattle.name_tree.specs.Names.{Fill, no_bytes, text, source, Inode, Names, bytes_of}
 use Rattle.layout_terms.specs.Items.{Item, Section, fill_section, bytes_section}
-use Rattle.layout_terms.specs.Bodies.{no_item, item_at, body_bytes}
+use Rattle.layout_terms.specs.Bodies.{item_at, body_bytes}
+use Rattle.layout_terms.proofs.Bodies.{item_here, items_later}
 use Rattle.romfs_layout.specs.Layout.{Header, record_len, all_headers, root_at, full_size_of, ends, place_with, placed, parts, superblock, header_bytes, image_of, layout}
 use Rattle.romfs_layout.specs.Items.{item_of, items_of, sections_from, sections_of}
 use Rattle.romfs_layout.specs.Composed.{written, romfs_part, composed}
@@ -32,15 +32,6 @@ unfolding with_part
 with_nothing out q e =
     let z : q - length out ≡ 0 = omega arith in
     ap (λ (k : ℕ). out ++ (replicate k 0 ++ [])) z ∙ append-nil out
-
--- the item of an index is the first of those from there on
-item_here : (all : List Item) (index : ℕ) (i : Item) (is : List Item) → drop index all ≡ i ∷ is → item_at all index ≡ i
-item_here all index i is e =
-    let z : index ≡ index + 0 = omega arith in
-    ap (λ (k : ℕ). get_or all k no_item) z ∙ sym (get_or-drop index all 0 no_item) ∙ ap (λ (v : List Item). get_or v 0 no_item) e
-
-items_later : (all : List Item) (index : ℕ) (i : Item) (is : List Item) → drop index all ≡ i ∷ is → drop (index + 1) all ≡ is
-items_later all index i is e = sym (drop-drop 1 index all) ∙ ap (drop 1) e
 
 module _ (volume : List ℕ) (size : ℕ) (cs : List (List ℕ)) (all : List Item) where
   -- the bytes of an item, behind its record
