@@ -15,4 +15,7 @@ pub mod Paths
 pub mod Shaped
 pub mod Regions
 pub mod Sectioned
+pub mod Composed
+pub mod Filled
+pub mod Held
 mod Examples

@@ -47,7 +47,7 @@ pub drop_crc : (o : Order) (size w : ℕ) (back : List ℕ) → drop 36 (front o
 drop_crc Little size w back = refl
 drop_crc Big size w back = refl
 
-length-pointers : (o : Order) (p n : ℕ) → length (pointers o p n) ≡ 4 * n
+pub length-pointers : (o : Order) (p n : ℕ) → length (pointers o p n) ≡ 4 * n
 length-pointers o p zero = refl
 length-pointers o p (suc n) =
     let w = word_bytes o (3 * 2 ^ 30 + p / 4) in

@@ -14,6 +14,14 @@ pub fn parts_stand()
     ensures zeros { (ps : List Part) (i : ℕ) → Rises 0 ps → Every (IsOutside i) ps → get_or (laid [] ps) i 0 ≡ 0 }
 {}
 
+/// Bytes that end with the last part, have each part at its place, and zeros in no part, are these
+/// parts, laid one after the other.
+pub fn parts_are_all()
+    ensures { (b : List ℕ) (ps : List Part) → Rises 0 ps → HasParts b ps
+        → length b ≡ end_of_parts 0 ps
+        → ((i : ℕ) → Every (IsOutside i) ps → get_or b i 0 ≡ 0) → b ≡ laid [] ps }
+{}
+
 /// Parts that are laid behind some bytes are what stands from the end of these on.
 pub fn laid_from_the_left()
     ensures { (out : List ℕ) (ps : List Part) → Rises (length out) ps → laid out ps ≡ out ++ bytes_from (length out) ps }

@@ -105,7 +105,7 @@ pub record IsImage (volume : List ℕ) (root : Inode) (n : Names) (cs : List (Li
   pub name : before_zero (drop 16 b) ≡ volume
   pub holds : Holds b (root_at volume) cs root n
 
-planned_headers : (volume : List ℕ) (root : Inode) (n : Names) (cs : List (List ℕ)) → IsPlanned volume root n cs
+pub planned_headers : (volume : List ℕ) (root : Inode) (n : Names) (cs : List (List ℕ)) → IsPlanned volume root n cs
     → Every (IsHeader cs) (all_headers (root_at volume) root n)
 planned_headers volume root n cs h =
     let r = root_at volume in

@@ -13,5 +13,6 @@ pub mod Values
 pub mod Paths
 pub mod Shaped
 pub mod Sectioned
+pub mod Composed
 mod Examples
 mod Hello

@@ -13,13 +13,13 @@ use Rattle.romfs_layout.specs.Planned.{IsPlanned}
 use Rattle.romfs_layout.proofs.Headers.{Ascend, ascend_later, headers_ascend}
 
 -- data stand right behind their header
-abbrev DataBehind : Header → Type 0
+abbrev pub DataBehind : Header → Type 0
 DataBehind h = h.size ≢ 0 → h.start ≡ h.place + record_len h.name
 
 behind : (size start : ℕ) → size ≢ 0 → (if size == 0 then 0 else start) ≡ start
 behind size start z = elim (eqb_tells size 0) [ inl t ↦ absurd (z t.1) | inr t ↦ rw t.0 refl ]
 
-data_behind : (at : ℕ → ℕ) (dir from : ℕ) (n : Names) → Every DataBehind (headers at dir from n)
+pub data_behind : (at : ℕ → ℕ) (dir from : ℕ) (n : Names) → Every DataBehind (headers at dir from n)
 data_behind at dir from nothing = tt
 data_behind at dir from (leaf name i after) = (behind i.size (data_of from name i), data_behind at dir (leaf_end from name i) after)
 data_behind at dir from (link name i after) = (λ z. absurd (z refl), data_behind at dir (header_end from name) after)
@@ -64,7 +64,7 @@ sections_rise index from end (h ∷ hs) a d =
       ] refl,
     )
 
-ascend_end : (from to end : ℕ) (hs : List Header) → to ≤ end → Ascend from to hs → Ascend from end hs
+pub ascend_end : (from to end : ℕ) (hs : List Header) → to ≤ end → Ascend from to hs → Ascend from end hs
 ascend_end from to end [] h a = omega arith
 ascend_end from to end (x ∷ xs) h a = (a.0, ascend_end (x.place + record_len x.name + x.size) to end xs h a.1)
 

@@ -1,11 +1,13 @@
 //! Laws about the layout of a romfs image.
 ghost use Rattle.std.specs.Prelude.{◌≡◌, List, ℕ, ◌^◌, length};
 ghost use Rattle.image_parts.specs.Padding.{pad};
+ghost use Rattle.std.specs.List.{AllByRecursion as Every};
 ghost use Rattle.name_tree.specs.Names.{Inode, Names};
 ghost use Rattle.name_tree.specs.Shape.{HasShape};
 ghost use Rattle.rom_tree.specs.Tree.{Node};
 ghost use Rattle.romfs_format.specs.Tree.{RomfsTree};
 ghost use Rattle.layout_terms.specs.Items.{SectionsRise};
+ghost use Rattle.romfs_layout.specs.Composed.{romfs_part, composed};
 ghost use Rattle.romfs_layout.specs.Items.{items_of, sections_of};
 ghost use Rattle.romfs_layout.specs.Layout.{layout, full_size_of, root_at};
 ghost use Rattle.romfs_layout.specs.Planned.{IsPlanned};
@@ -32,4 +34,17 @@ pub fn sections_rise()
     ensures { (volume : List ℕ) (root : Inode) (n : Names) (contents : List (List ℕ))
         → IsPlanned volume root n contents
         → SectionsRise 0 (full_size_of (root_at volume) n) (sections_of volume (items_of volume root n)) }
+{}
+
+/// The sections of a planned volume, with their bytes at their places and zeros between them, are
+/// its layout; and each section is as long as its bytes.
+pub fn sections_make_layout()
+    ensures bytes { (volume : List ℕ) (root : Inode) (n : Names) (contents : List (List ℕ))
+        → IsPlanned volume root n contents
+        → layout volume root n contents
+        ≡ composed volume (full_size_of (root_at volume) n) contents (items_of volume root n) }
+    ensures length { (volume : List ℕ) (root : Inode) (n : Names) (contents : List (List ℕ))
+        → IsPlanned volume root n contents
+        → Every (λ s. length (romfs_part volume (full_size_of (root_at volume) n) contents
+        (items_of volume root n) s).bytes ≡ s.len) (sections_of volume (items_of volume root n)) }
 {}

@@ -81,6 +81,7 @@ fn answer_line<M: LineMachine, W: ByteWrite>(
 {
     let mut reached = Reached { w };
     let mut answered = Ok(());
+    // The reference comes back: so it is known here what was written through it.
     reached = answer_through::<M, W, Brand>(m, line, reached, &mut answered);
     answered
 }

@@ -1,0 +1,9 @@
+pub mod Fills
+pub mod Fronts
+pub mod Zeros
+pub mod Images
+pub mod Streams
+pub mod Puts
+pub mod Laid
+pub mod Weights
+pub mod ByWords

@@ -1,0 +1,24 @@
+use Rattle.std.proofs.Common.{◌≡◌, ◌-◌, length, take, drop, ap, sym, ◌∙◌, arith, length-drop, length-take}
+use Rattle.std.proofs.lemmas.List.{drop-drop}
+use Rattle.image_stream.specs.Sources.{content_of}
+use Rattle.image_stream.proofs.Fills.{fill_step, length-put_rest}
+use Rattle.image_stream.proofs.pieces.read_exactly.Goals as goal
+
+pub loop-done-preserved : goal.loop-done-preserved
+loop-done-preserved g c =
+    let b = c.loop-done.buffer in
+    let d = c.loop-done.done in
+    let inv = c.loop-done.invariant in
+    let len : length c.read_at.new.buf ≡ length b - d = c.read_at.auto.buf ∙ length-take (length b - d) (drop d b) ∙ omega (arith, length-drop d b) in
+    let room = length-put_rest b c.read_at.new.buf d inv.within len in
+    record {
+      within = rw room (omega (arith, len, c.in-Ok.ensures.bound.0));
+      room = room ∙ inv.room;
+      told = c.read_at.ensures.told ∙ inv.told;
+      files = c.read_at.ensures.files ∙ inv.files;
+      quiet = c.in-Ok.ensures.count ∙ inv.quiet;
+      read = λ cs is.
+          let next = (c.in-Ok.ensures.bytes cs (inv.told ∙ is)).0 in
+          fill_step b c.read_at.new.buf (drop c.args.at (content_of cs c.args.file)) d c.in-Ok.n inv.within (inv.read cs is)
+          (next ∙ ap (take c.in-Ok.n) (sym (drop-drop d c.args.at (content_of cs c.args.file))));
+    }

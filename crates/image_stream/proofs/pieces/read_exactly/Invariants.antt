@@ -1,0 +1,16 @@
+use Rattle.std.proofs.Common.{length, ◌-◌, ◌≡◌, ◌≤◌, take, drop}
+use Rattle.image_stream.specs.Sources.{Told, content_of}
+use Rattle.image_stream.proofs.pieces.read_exactly.Given as goal
+
+abbrev pub invariant-loop-done : goal.invariant-loop-done
+invariant-loop-done g l = record {
+  within : l.done ≤ length l.buffer;
+  room : length l.buffer ≡ length l.initial.buffer;
+  told : g.S.Sources.told l.sources ≡ g.S.Sources.told l.initial.sources;
+  files : g.S.Sources.files l.sources ≡ g.S.Sources.files l.initial.sources;
+  quiet : g.S.Sources.reads l.sources ≡ g.S.Sources.reads l.initial.sources;
+  read : Told (g.S.Sources.told l.initial.sources) (λ cs. take l.done l.buffer ≡ take l.done (drop l.at (content_of cs l.file)));
+}
+
+abbrev pub decreases-loop-done : goal.decreases-loop-done
+decreases-loop-done g l = length l.buffer - l.done

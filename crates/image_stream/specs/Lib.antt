@@ -1,0 +1,5 @@
+pub mod Sources
+pub mod Segments
+pub mod Outcomes
+pub mod Steps
+pub mod WordSums

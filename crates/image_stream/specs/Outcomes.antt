@@ -1,0 +1,53 @@
+-- How the writing of an image ends. (This project's own.)
+use Rattle.std.specs.Prelude.{◌≡◌, ◌≢◌, ℕ, ◌<◌, List, ◌++◌, length, get_or, Option}
+use Rattle.std.specs.Io.KnownBytes.{Appends}
+use Rattle.rom_fields.specs.Failures.{Rose}
+use Rattle.rom_fields.specs.Written.{Output}
+use Rattle.image_stream.specs.declared.fault.StreamError.{StreamError}
+use Rattle.image_stream.specs.declared.fault.StreamError.TheVariants.{SizeDiffers, SourceFault, WriteFault, Changed}
+use Rattle.image_stream.specs.Sources.{content_of, Told, Reads, FailedAt}
+use Rattle.image_stream.specs.Segments.{Form, IsImage, checked}
+
+-- the contents of the first n files have the planned sizes
+abbrev pub FrontSized : List ℕ → ℕ → List (List ℕ) → Type 0
+FrontSized sizes n cs = (k : ℕ) → k < n → length (content_of cs k) ≡ get_or sizes k 0
+
+-- all have
+abbrev pub AreSized : List ℕ → List (List ℕ) → Type 0
+AreSized sizes cs = FrontSized sizes (length sizes) cs
+
+-- the file is the first of another size
+pub record IsLeastWrong (sizes : List ℕ) (file : ℕ) (cs : List (List ℕ)) : Type 0 where
+  pub within : file < length sizes
+  pub differs : length (content_of cs file) ≢ get_or sizes file 0
+  pub least : FrontSized sizes file cs
+
+-- Whatever the sources told, a whole image was appended: of these contents where they are told, and else of some
+-- contents of the planned sizes, with the check value of just these bytes.
+pub record IsWritten (told : Option (List (List ℕ))) (f : Form) (stored : List ℕ → ℕ)
+    (old new : Option (List ℕ)) : Type 0 where
+  pub rest : List ℕ
+  pub stands : IsImage told f.start f.segments f.end rest
+  pub written : Appends old new (checked f.head stored rest)
+
+-- a whole image was appended, but with a check value that is not that of its bytes
+pub record IsMisstored (told : Option (List (List ℕ))) (f : Form) (stored : List ℕ → ℕ)
+    (old new : Option (List ℕ)) : Type 0 where
+  pub rest : List ℕ
+  pub stands : IsImage told f.start f.segments f.end rest
+  pub value : ℕ
+  pub differs : value ≢ stored (f.head 0 ++ rest)
+  pub written : Appends old new (f.head value ++ rest)
+
+-- How a stream ends early, by what the sources tell, what was counted of reads and of the writer since, and what was
+-- written: a file is the first of another size, and nothing was written; a read of a file failed, and those before it
+-- have their sizes; the writer failed; or what was read changed, so that the check value is wrong, which no sources do
+-- that tell their bytes.
+abbrev pub IsStreamFault : Option (List (List ℕ)) → Form → (List ℕ → ℕ) → Reads → Reads → Output → Output → StreamError
+    → Type 0
+IsStreamFault told f stored r r' w w' (SizeDiffers file) =
+    (file < length f.sizes) × Told told (λ cs. IsLeastWrong f.sizes file cs × (w'.contents ≡ w.contents))
+IsStreamFault told f stored r r' w w' (SourceFault file) =
+    (file < length f.sizes) × FailedAt file r r' × Told told (FrontSized f.sizes file)
+IsStreamFault told f stored r r' w w' WriteFault = Rose w.failures w'.failures
+IsStreamFault told f stored r r' w w' Changed = IsMisstored told f stored w.contents w'.contents × Told told (λ cs. ⊥)

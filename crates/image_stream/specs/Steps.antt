@@ -1,0 +1,70 @@
+-- What the parts of a stream do: pieces of segments, and faults on the way. (This project's own.)
+use Rattle.std.specs.Prelude.{◌≡◌, ◌≢◌, ℕ, ◌-◌, ◌<◌, List, ◌++◌, length, take, drop, get_or, Option}
+use Rattle.std.specs.Io.KnownBytes.{Appends}
+use Rattle.rom_fields.specs.Failures.{Rose}
+use Rattle.image_stream.specs.declared.fault.StreamError.{StreamError}
+use Rattle.image_stream.specs.declared.fault.StreamError.TheVariants.{SizeDiffers, SourceFault, WriteFault, Changed}
+use Rattle.image_stream.specs.Sources.{content_of, Told, Reads, FailedAt}
+use Rattle.image_stream.specs.Segments.{Segment, fixed, content, place, bytes_of, zeros, IsBody, IsImage, image_from}
+use Rattle.image_stream.specs.Outcomes.{FrontSized, IsLeastWrong}
+
+-- bytes that may stand for the first k bytes of a segment
+abbrev pub IsFront : Option (List (List ℕ)) → Segment → ℕ → List ℕ → Type 0
+IsFront told (fixed p bs) k xs = xs ≡ take k bs
+IsFront told (content p n f) k xs = (length xs ≡ k) × Told told (λ cs. xs ≡ take k (content_of cs f))
+
+-- and for those from k on
+abbrev pub IsPiece : Option (List (List ℕ)) → Segment → ℕ → List ℕ → Type 0
+IsPiece told (fixed p bs) k xs = xs ≡ take (length xs) (drop k bs)
+IsPiece told (content p n f) k xs = Told told (λ cs. xs ≡ take (length xs) (drop k (content_of cs f)))
+
+-- the zeros from `at` up to a segment, and its bytes
+abbrev pub next_bytes : List (List ℕ) → ℕ → Segment → List ℕ
+next_bytes cs at p = zeros (place p - at) ++ bytes_of cs p
+
+pub record IsNext (told : Option (List (List ℕ))) (at : ℕ) (p : Segment) (xs : List ℕ) : Type 0 where
+  pub body : List ℕ
+  pub stands : IsBody told p body
+  pub all : xs ≡ zeros (place p - at) ++ body
+
+-- xs goes before what stands from `at` on in the segments ps, the rest of those of the image
+pub record IsDone (told : Option (List (List ℕ))) (start : ℕ) (segments : List Segment) (end at : ℕ)
+    (ps : List Segment) (xs : List ℕ) : Type 0 where
+  pub more : (rest : List ℕ) → IsImage told at ps end rest → IsImage told start segments end (xs ++ rest)
+  pub known : Told told (λ cs. xs ++ image_from cs at ps end ≡ image_from cs start segments end)
+
+-- Bytes with this property went out, to the writer and into a check value
+pub record Gone (P : List ℕ → Type 0) (old new : Option (List ℕ)) (Was Is : List ℕ → Type 0) : Type 0 where
+  pub bytes : List ℕ
+  pub are : P bytes
+  pub written : Appends old new bytes
+  pub added : (xs : List ℕ) → Was xs → Is (xs ++ bytes)
+
+-- a file ended before `end`, or a read of it failed
+abbrev pub IsReadFault : Option (List (List ℕ)) → ℕ → ℕ → Reads → Reads → StreamError → Type 0
+IsReadFault told file end r r' (SizeDiffers f) = (f ≡ file) × Told told (λ cs. length (content_of cs file) < end)
+IsReadFault told file end r r' (SourceFault f) = (f ≡ file) × FailedAt file r r'
+IsReadFault told file end r r' WriteFault = ⊥
+IsReadFault told file end r r' Changed = ⊥
+
+-- a file has another size, or a read of it failed
+abbrev pub IsSizeFault : Option (List (List ℕ)) → ℕ → ℕ → Reads → Reads → StreamError → Type 0
+IsSizeFault told file size r r' (SizeDiffers f) = (f ≡ file) × Told told (λ cs. length (content_of cs file) ≢ size)
+IsSizeFault told file size r r' (SourceFault f) = (f ≡ file) × FailedAt file r r'
+IsSizeFault told file size r r' WriteFault = ⊥
+IsSizeFault told file size r r' Changed = ⊥
+
+-- the first file of another size, or a file of which a read failed, where those before it have their sizes
+abbrev pub IsLeastFault : Option (List (List ℕ)) → List ℕ → Reads → Reads → StreamError → Type 0
+IsLeastFault told sizes r r' (SizeDiffers f) = (f < length sizes) × Told told (IsLeastWrong sizes f)
+IsLeastFault told sizes r r' (SourceFault f) = (f < length sizes) × FailedAt f r r' × Told told (FrontSized sizes f)
+IsLeastFault told sizes r r' WriteFault = ⊥
+IsLeastFault told sizes r r' Changed = ⊥
+
+-- a fault while segments go out
+abbrev pub IsFault : Option (List (List ℕ)) → List ℕ → Reads → Reads → ℕ → ℕ → StreamError → Type 0
+IsFault told sizes r r' w w' (SizeDiffers f) =
+    (f < length sizes) × Told told (λ cs. length (content_of cs f) < get_or sizes f 0)
+IsFault told sizes r r' w w' (SourceFault f) = (f < length sizes) × FailedAt f r r'
+IsFault told sizes r r' w w' WriteFault = Rose w w'
+IsFault told sizes r r' w w' Changed = ⊥

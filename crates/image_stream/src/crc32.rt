@@ -1,0 +1,31 @@
+//! CRC-32 as a check value, as cramfs stores it.
+ghost use Rattle.std.specs.Prelude.{◌≡◌};
+ghost use Rattle.crc.specs.Crc.{crc_of};
+
+use crate::check::Check;
+use crc::crc32_more;
+
+/// The CRC-32 of the bytes so far.
+#[derive(Clone, Copy)]
+pub struct Crc32 {
+    value: u32,
+}
+
+impl Check for Crc32 {
+    ghost Is = { λ s xs. s.value ≡ crc_of xs };
+
+    ghost stored = { crc_of };
+
+    #[tactic(auto, unfolding(crc::specs::Crc::crc_of))]
+    fn start() -> Crc32 {
+        Crc32 { value: 0 }
+    }
+
+    fn add(&mut self, bytes: &[u8]) {
+        self.value = crc32_more(self.value, bytes);
+    }
+
+    fn value(&self) -> u32 {
+        self.value
+    }
+}
