@@ -83,7 +83,7 @@ impl Plan {
     }
 
     /// The section of an index, and nothing past the last. Sections stand one after the other, none
-    /// is empty, and every byte of the image outside all of them is zero.
+    /// is empty.
     pub fn section(&self, i: usize) -> Option<Section>
         ensures { option_map section_view result ≡ section_at self.now.sections i }
     {
