@@ -1,50 +1,13 @@
 -- What a plan is to be: the items and the sections of a manifest's layout, in the words of the definitions. (This
 -- project's own.)
-use Rattle.std.specs.Prelude.{◌≡◌, ℕ, zero, suc, List, [], ◌∷◌, get_or, length, Option, Some, None}
-use Rattle.name_tree.specs.Names.{Fill, no_bytes, text, source}
-use Rattle.layout_terms.specs.Items.{Item, Section, Body, super, record_of, table_of, text_of, contents_of}
+use Rattle.std.specs.Prelude.{◌≡◌, ℕ, zero, suc, List, [], ◌∷◌, length, Option, Some, None}
+use Rattle.layout_terms.specs.Items.{Item, Section}
 use Rattle.manifest.specs.Grammar.{IsManifest}
 use Rattle.manifest.specs.Lines.{ManifestLines, sources_of}
 use Rattle.misfits.specs.Format.{Format, items_of, sections_of, len_of}
 use Rattle.misfits.specs.Misfit.{IsLeastMisfit, HasNoMisfit}
 use Rattle.layout_plan.specs.declared.error.PlanError.{PlanError}
 use Rattle.layout_plan.specs.declared.error.PlanError.TheVariants as error
-use Rattle.layout_plan.specs.declared.item.Item as code_item
-use Rattle.layout_plan.specs.declared.item.Fill as code_fill
-use Rattle.layout_plan.specs.declared.item.Fill.TheVariants as fill
-use Rattle.layout_plan.specs.declared.section.Section as code_section
-use Rattle.layout_plan.specs.declared.section.Body as code_body
-use Rattle.layout_plan.specs.declared.section.Body.TheVariants as body
-
--- an item of the code as one of the definitions
-abbrev pub fill_view : code_fill.Fill → Fill
-fill_view fill.Nothing = no_bytes
-fill_view (fill.Text t) = text t
-fill_view (fill.File k) = source k
-
-abbrev pub item_view : code_item.Item → Item
-item_view i = record {
-  place = i.place;
-  first = get_or i.words 0 0;
-  second = get_or i.words 1 0;
-  third = get_or i.words 2 0;
-  name = i.name;
-  table = i.table;
-  start = i.start;
-  len = i.len;
-  fill = fill_view i.fill;
-}
-
--- a section of the code as one of the definitions
-abbrev pub body_view : code_body.Body → Body
-body_view body.Super = super
-body_view (body.Record i) = record_of i
-body_view (body.Table i) = table_of i
-body_view (body.Text i) = text_of i
-body_view (body.Content k) = contents_of k
-
-abbrev pub section_view : code_section.Section → Section
-section_view s = record { place = s.place; len = s.len; body = body_view s.body }
 
 -- what a plan holds
 pub record Planned : Type 0 where

@@ -6,12 +6,9 @@
 #![tactic(auto)]
 
 pub mod error;
-pub mod item;
 pub mod planned;
-pub mod section;
 
 pub use error::{PlanError, name};
-pub use item::{Fill, Item};
+pub use plan_items::{Body, Fill, Item, Section};
 pub use plan_misfits::Format;
 pub use planned::Plan;
-pub use section::{Body, Section};

@@ -1,12 +1,12 @@
 //! The plan of an image.
 ghost use Rattle.std.specs.Prelude.{◌≡◌, map, length};
 ghost use Rattle.std.specs.Option.{option_map};
-ghost use Rattle.layout_plan.specs.Plans.{IsPlan, item_view, section_view, section_at};
+ghost use Rattle.layout_plan.specs.Plans.{IsPlan, section_at};
+ghost use Rattle.plan_items.specs.Views.{item_view, section_view};
 ghost use Rattle.plan_misfits.specs.Formats.{format_of};
 
-use crate::item::Item;
-use crate::section::Section;
 use manifest::Name;
+use plan_items::{Item, Section};
 use plan_misfits::Format;
 use std::marker::Model;
 
@@ -23,7 +23,8 @@ pub struct Plan {
 
 impl Model for Plan {
     ghost use Rattle.std.specs.Prelude.{map};
-    ghost use Rattle.layout_plan.specs.Plans.{IsPlan, Planned, item_view, section_view};
+    ghost use Rattle.layout_plan.specs.Plans.{IsPlan, Planned};
+    ghost use Rattle.plan_items.specs.Views.{item_view, section_view};
     ghost use Rattle.plan_misfits.specs.Formats.{format_of};
 
     ghost Value = { Planned };

@@ -1,0 +1,8 @@
+//! The names of a manifest in a row, each with what it names.
+//!
+//! `specs/Rows.antt` has the rows of a tree, and which of them one of the code stands for.
+#![tactic(auto)]
+
+pub mod row;
+
+pub use row::{Bytes, Inode, Row, What};
