@@ -1,2 +1,3 @@
 pub mod Lens
 pub mod Walking
+pub mod Sorting
