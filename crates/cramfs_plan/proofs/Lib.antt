@@ -1,4 +1,4 @@
-pub mod Lens
+pub mod Measuring
 pub mod Walking
 pub mod Sorting
 pub mod Small

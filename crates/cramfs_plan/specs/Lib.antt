@@ -1,3 +1,5 @@
 pub mod Passes
 pub mod Wholes
 pub mod Small
+pub mod Entries
+pub mod Bounds

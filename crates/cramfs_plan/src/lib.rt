@@ -1,2 +1,7 @@
 //! The layout of a cramfs image as items, from the rows of a manifest's names.
 #![tactic(auto)]
+
+pub mod entry;
+pub mod kept;
+pub mod lens;
+pub mod words;

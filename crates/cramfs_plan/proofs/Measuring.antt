@@ -1,12 +1,17 @@
 -- The pass backwards computes how long lists are.
-use Rattle.std.proofs.Common.{◌≡◌, ◌≢◌, ◌+◌, ◌<◌, ◌≤◌, ℕ, suc, List, [], ◌∷◌, ◌++◌, length, get_or, refl, sym, ap, ◌∙◌, arith}
+use Rattle.std.proofs.Common.{◌≡◌, ◌≢◌, ◌+◌, ◌*◌, ◌<◌, ◌≤◌, ℕ, zero, suc, List, [], ◌∷◌, ◌++◌, ◌^◌, ◌-◌, map, drop, replicate, length, get_or, refl, sym, ap, subst, ◌∙◌, arith, Fits, w64}
 use Rattle.std.proofs.Math.ListN.{set}
-use Rattle.std.proofs.lemmas.List.{set-set, set-get_or, get_or-set_same, get_or-set_other, length-set}
+use Rattle.std.proofs.lemmas.List.{set-set, set-get_or, get_or-set_same, get_or-set_other, length-set, length-map, length-drop}
+use Rattle.std.specs.List.{All, AllByRecursion as Every}
+use Rattle.std.proofs.lemmas.List.Elements.{recursion_from_All}
+use Rattle.record_walk.proofs.Lists.{every_weaker}
 use Rattle.name_tree.specs.Names.{Inode, Names, nothing, leaf, link, folder}
 use Rattle.name_tree.specs.Tree.{a_leaf, a_link, a_folder}
 use Rattle.layout_terms.specs.Files.{height}
 use Rattle.cramfs_layout.specs.Layout.{entry_len, list_len}
-use Rattle.plan_rows.specs.Rows.{Row, row, rows}
+use Rattle.plan_rows.specs.declared.row.Row as code
+use Rattle.plan_rows.specs.Rows.{Row, row, rows, row_view}
+use Rattle.cramfs_plan.specs.Bounds.{IsNarrow}
 use Rattle.cramfs_plan.specs.Passes.{lens_with, lens_of, own_lens, named_lens}
 
 lens_of-append : (lens : List ℕ) (rs qs : List Row) → lens_of lens (rs ++ qs) ≡ lens_of (lens_of lens qs) rs
@@ -106,3 +111,49 @@ measures d lens (folder name i own after) room zeros =
           ap (λ (g : List ℕ). get_or g (d + 1) 0 ∷ own_lens lens (rows (d + 1) own ++ rows d after)) lens2
           ∙ ap (λ (k : ℕ). k ∷ own_lens lens (rows (d + 1) own ++ rows d after)) b ∙ ap (λ (ls : List ℕ). y ∷ ls) own2;
     }
+
+-- of short names no list is longer than 300 bytes for each
+pub every_set : {X : Type 0} (P : X → Type 0) (xs : List X) (i : ℕ) (x : X) → Every P xs → P x → Every P (set xs i x)
+every_set P [] i x h p = tt
+every_set P (y ∷ ys) zero x h p = (p, h.1)
+every_set P (y ∷ ys) (suc i) x h p = (h.0, every_set P ys i x h.1 p)
+
+pub every_at : {X : Type 0} (P : X → Type 0) (xs : List X) (i : ℕ) (d : X) → Every P xs → P d → P (get_or xs i d)
+every_at P [] i d h p = p
+every_at P (y ∷ ys) zero d h p = h.0
+every_at P (y ∷ ys) (suc i) d h p = every_at P ys i d h.1 p
+
+pub lens_near : (lens : List ℕ) (rs : List Row) → Every (λ (r : Row). length r.name < 256) rs → Every (λ n. n ≡ 0) lens
+    → Every (λ n. n ≤ length rs * 300) (lens_of lens rs)
+lens_near lens [] h z = every_weaker (λ n. n ≡ 0) (λ n. n ≤ 0) (λ n e. omega (arith, e)) lens z
+lens_near lens (r ∷ rs) h z =
+    let more = every_weaker (λ n. n ≤ length rs * 300) (λ n. n ≤ suc (length rs) * 300) (λ n e. omega (arith, e)) (lens_of lens rs) (lens_near lens rs h.1 z) in
+    let at = every_at (λ n. n ≤ length rs * 300) (lens_of lens rs) r.depth 0 (lens_near lens rs h.1 z) (omega arith) in
+    let short = h.0 in
+    every_set (λ n. n ≤ suc (length rs) * 300) (set (lens_of lens rs) (r.depth + 1) 0) r.depth (get_or (lens_of lens rs) r.depth 0 + entry_len r.name)
+    (every_set (λ n. n ≤ suc (length rs) * 300) (lens_of lens rs) (r.depth + 1) 0 more (omega arith)) (omega (arith, at, short))
+
+narrow_rows : (rs : List code.Row) (i : ℕ) → Every IsNarrow rs → Every (λ (r : Row). length r.name < 256) (map row_view (drop i rs))
+narrow_rows [] zero h = tt
+narrow_rows [] (suc i) h = tt
+narrow_rows (r ∷ rs) zero h = (h.0.0, narrow_rows rs zero h.1)
+narrow_rows (r ∷ rs) (suc i) h = narrow_rows rs i h.1
+
+zeros : (n : ℕ) → Every (λ k. k ≡ 0) (replicate {A = ℕ} n 0)
+zeros zero = tt
+zeros (suc n) = (refl, zeros n)
+
+pub read_near : (rs : List code.Row) (lens : List ℕ) (i j d : ℕ) → All IsNarrow rs → length rs ≤ 2 ^ 20
+    → lens ≡ lens_of (replicate {A = ℕ} 66 0) (map row_view (drop i rs)) → d ≡ 0 → get_or lens j d ≤ 2 ^ 20 * 300
+read_near rs lens i j d h few e z =
+    let short = narrow_rows rs i (recursion_from_All IsNarrow rs h) in
+    let near = lens_near (replicate {A = ℕ} 66 0) (map row_view (drop i rs)) short (zeros 66) in
+    let all : Every (λ n. n ≤ length (map row_view (drop i rs)) * 300) lens = subst (Every (λ n. n ≤ length (map row_view (drop i rs)) * 300)) (sym e) near in
+    let at = every_at (λ n. n ≤ length (map row_view (drop i rs)) * 300) lens j d all (omega (arith, z)) in
+    let same = length-map (drop i rs) row_view in
+    let less = length-drop i rs in
+    omega (arith, at, same, less, few)
+
+pub longer_fits : (rs : List code.Row) (lens : List ℕ) (i j d more : ℕ) → All IsNarrow rs → length rs ≤ 2 ^ 20
+    → lens ≡ lens_of (replicate {A = ℕ} 66 0) (map row_view (drop i rs)) → d ≡ 0 → more < 300 → Fits w64 (get_or lens j d + more)
+longer_fits rs lens i j d more h few e z s = let near = read_near rs lens i j d h few e z in omega (arith, near, s)
