@@ -3,3 +3,4 @@ pub mod Walking
 pub mod Sorting
 pub mod Small
 pub mod Ordered
+pub mod Placing

@@ -1,5 +1,5 @@
 -- The entries of the code, in the words of the layout, and what the code knows on its way. (This project's own.)
-use Rattle.std.specs.Prelude.{◌≡◌, ℕ, ◌≤◌, List, [], get_or, Some}
+use Rattle.std.specs.Prelude.{◌≡◌, ℕ, ◌+◌, ◌≤◌, List, [], get_or, Some}
 use Rattle.std.specs.BTreeMap.{BTreeMap, get}
 use Rattle.std.specs.List.{AllByRecursion as Every}
 use Rattle.std.specs.Ordering.{nat_cmp}
@@ -13,7 +13,7 @@ use Rattle.cramfs_plan.specs.declared.entry.Entry as code_entry
 use Rattle.cramfs_plan.specs.declared.kept.Kept as code_kept
 use Rattle.cramfs_plan.specs.declared.kept.Kept.TheVariants as kept
 use Rattle.cramfs_plan.specs.declared.kept.Stored as code_stored
-use Rattle.cramfs_plan.specs.Passes.{Walk}
+use Rattle.cramfs_plan.specs.Passes.{offset_by}
 
 abbrev pub entry_view : code_entry.Entry → Item
 entry_view e = record {
@@ -48,6 +48,17 @@ stored_by k from i = record {
   start = start_by k from i;
   len = i.size;
   end = (after_by k (record { at = from; tables = [] }) i).at;
+}
+
+-- where the list of a directory stands, of this length
+abbrev pub listed_by : ℕ → ℕ → code_stored.Stored
+listed_by len from = record {
+  size = len;
+  offset = offset_by len from;
+  table = 0;
+  start = 0;
+  len = 0;
+  end = pad4 from + len;
 }
 
 -- the tables of sources after a file with these bytes that is kept so

@@ -3,3 +3,4 @@ pub mod Wholes
 pub mod Small
 pub mod Entries
 pub mod Bounds
+pub mod Placers

@@ -1,9 +1,12 @@
 //! Where the bytes of a file stand.
-ghost use Rattle.std.specs.Prelude.{◌≡◌, ◌+◌, ◌<◌, ◌≤◌, ◌^◌, ℕ, List, OnOk};
+ghost use Rattle.std.specs.Prelude.{◌≡◌, ◌+◌, ◌<◌, ◌≤◌, ◌^◌, ℕ, List, OnOk, IfOk};
+ghost use Rattle.cramfs_format.specs.declared.order.Order.{Order};
 ghost use Rattle.cramfs_format.specs.Inode.{block_count};
 ghost use Rattle.cramfs_layout.specs.Layout as layout;
-ghost use Rattle.cramfs_layout.specs.Layout.{Table};
-ghost use Rattle.cramfs_plan.specs.Entries.{kept_view, stored_by, tables_after, IsBelow, Knows, AreNear};
+ghost use Rattle.cramfs_layout.specs.Items.{file_item};
+ghost use Rattle.cramfs_layout.specs.Layout.{State, Table};
+ghost use Rattle.cramfs_plan.specs.Bounds.{IsPlaceable};
+ghost use Rattle.cramfs_plan.specs.Entries.{kept_view, stored_by, stored_item, listed_by, tables_after, IsBelow, Knows, AreNear};
 ghost use Rattle.plan_rows.specs.Rows.{bytes_view, inode_view};
 
 use crate::words::size_by;
@@ -78,6 +81,7 @@ pub fn stored_as(kept: Kept, at: u64, inode: &Inode<'_>) -> Stored
     requires few { inode.now.align ≤ 65536 }
     ensures stored { result ≡ stored_by (kept_view kept) at (inode_view inode.now) }
     ensures near { result.end ≤ at + 2 ^ 25 }
+    ensures small { (result.size < 2 ^ 41) × (result.offset < 2 ^ 52) }
 {
     let size = size_by(inode);
     match kept {
@@ -134,4 +138,50 @@ pub fn note_table(
         (Kept::Nowhere, _) | (Kept::Shared(_), _) => {}
     }
     Ok(())
+}
+
+/// Where the bytes of a file stand, if what was placed before ends at `at`. The table of a source
+/// is noted.
+pub fn stored_file(
+    tables: &mut BTreeMap<usize, u64>,
+    at: u64,
+    inode: &Inode<'_>,
+) -> Result<Stored, OutOfMemory>
+    requires near { at < 2 ^ 49 }
+    requires tables { AreNear (2 ^ 50) tables.old }
+    requires placeable { IsPlaceable inode.now }
+    ensures item { (s : State) → s.at ≡ at → Knows s.tables tables.old
+        → IfOk result (λ r. (o : Order) (l : ℕ) (name : List ℕ)
+        → stored_item o l name (inode_view inode.now) r (bytes_view inode.now.bytes)
+        ≡ file_item o l s name (inode_view inode.now)) }
+    ensures end { (s : State) → s.at ≡ at → Knows s.tables tables.old
+        → IfOk result (λ r. r.end ≡ (layout.after_file s (inode_view inode.now)).at) }
+    ensures knows { (s : State) → s.at ≡ at → Knows s.tables tables.old
+        → OnOk result (Knows (layout.after_file s (inode_view inode.now)).tables tables.new) }
+    ensures near { IfOk result (λ r. r.end ≤ at + 2 ^ 25) }
+    ensures small { IfOk result (λ r. (r.size < 2 ^ 41) × (r.offset < 2 ^ 52)) }
+    ensures tables { (near : ℕ) → AreNear near tables.old → at + 3 ≤ near
+        → OnOk result (AreNear near tables.new) }
+{
+    let kept = how_kept(tables, inode);
+    let stored = stored_as(kept, at, inode);
+    note_table(tables, kept, at, inode.bytes)?;
+    Ok(stored)
+}
+
+/// Where the list of a directory stands, of this length, if what was placed before ends at `at`.
+pub fn stored_list(at: u64, len: u64) -> Stored
+    requires near { at < 2 ^ 50 }
+    requires len { len < 2 ^ 50 }
+    ensures { result ≡ listed_by len at }
+{
+    let place = pad(at, 4);
+    Stored {
+        size: len,
+        offset: if len == 0 { 0 } else { place },
+        table: 0,
+        start: 0,
+        len: 0,
+        end: place + len,
+    }
 }

@@ -4,4 +4,5 @@
 pub mod entry;
 pub mod kept;
 pub mod lens;
+pub mod walk;
 pub mod words;
