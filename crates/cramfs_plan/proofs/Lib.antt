@@ -4,3 +4,4 @@ pub mod Sorting
 pub mod Small
 pub mod Ordered
 pub mod Placing
+pub mod Cutting

@@ -11,7 +11,7 @@ use Rattle.cramfs_layout.specs.Items.{entries, below, items_of, file_item}
 use Rattle.cramfs_layout.specs.Wells.{AreWell}
 use Rattle.cramfs_layout.proofs.Regions.{Places, places_join, entries_place, below_place}
 use Rattle.cramfs_plan.specs.Passes.{in_preorder}
-use Rattle.cramfs_plan.proofs.Sorting.{Rises}
+use Rattle.cramfs_plan.specs.Orders.{Rises}
 
 -- what stands last is brought to the front
 regroup : {X : Type 0} (a b c d : List X) → IsPermutation ((a ++ b) ++ (c ++ d)) (c ++ (a ++ (b ++ d)))

@@ -8,6 +8,7 @@ use Rattle.std.proofs.lemmas.List.Elements.{recursion_from_All, All-from_recursi
 use Rattle.std.proofs.lemmas.List.Sorted.{length_permutation, All-permutation, IsPermutation-refl, IsPermutation-cons, IsPermutation-trans, IsPermutation-middle, IsPermutation-keeps}
 use Rattle.record_walk.specs.Members.{Pairs}
 use Rattle.record_walk.proofs.Lists.{every_weaker}
+use Rattle.cramfs_plan.specs.Orders.{Rises}
 
 -- a relation holds along each permutation if it is reflexive and transitive, and goes under a head and over an exchange
 -- of two heads
@@ -61,10 +62,6 @@ module _ {X : Type 0} (p : X → Bool) where
   filter_none : (xs : List X) → Every (λ x. p x ≡ false) xs → filter p xs ≡ []
   filter_none [] h = refl
   filter_none (x ∷ xs) h = rw (h.0, filter_none xs h.1)
-
--- in the order of their numbers, and so that none stands twice
-abbrev pub Rises : {X : Type 0} → (X → ℕ) → List X → Type 0
-Rises key xs = Pairs (λ a b. key a < key b) xs
 
 abbrev pub Ascends : {X : Type 0} → (X → ℕ) → List X → Type 0
 Ascends key xs = Pairs (λ a b. key a ≤ key b) xs

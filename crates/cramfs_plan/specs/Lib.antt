@@ -4,3 +4,4 @@ pub mod Small
 pub mod Entries
 pub mod Bounds
 pub mod Placers
+pub mod Orders

@@ -2,6 +2,7 @@
 #![tactic(auto)]
 
 pub mod entry;
+pub mod items;
 pub mod kept;
 pub mod lens;
 pub mod walk;
