@@ -4,6 +4,8 @@
 pub mod entry;
 pub mod items;
 pub mod kept;
+pub mod layout;
 pub mod lens;
+pub mod sections;
 pub mod walk;
 pub mod words;
