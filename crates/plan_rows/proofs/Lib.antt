@@ -1,1 +1,5 @@
 pub mod Made
+pub mod Keying
+pub mod Ordered
+pub mod Ways
+pub mod Steps

@@ -1,10 +1,15 @@
 //! The names of a manifest in a row, each with what it names.
 //!
-//! `specs/Rows.antt` has the rows of a tree, and which of them one of the code stands for.
+//! `specs/Rows.antt` has the rows of a tree, and which of them one of the code stands for. The rows
+//! of lines are brought into order by the ways to their names (`specs/Keyed.antt`), whose order as
+//! bytes is that of a tree.
 #![tactic(auto)]
 
 pub mod inodes;
+mod keyed;
+mod order;
 pub mod row;
 
 pub use inodes::root;
+pub use order::rows;
 pub use row::{Bytes, Inode, Row, What};
