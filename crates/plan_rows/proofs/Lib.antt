@@ -3,3 +3,4 @@ pub mod Keying
 pub mod Ordered
 pub mod Ways
 pub mod Steps
+pub mod Fitting

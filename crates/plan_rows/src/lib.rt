@@ -7,6 +7,7 @@
 
 pub mod inodes;
 mod keyed;
+pub mod laws;
 mod order;
 pub mod row;
 
