@@ -1,4 +1,5 @@
--- The line and the contents that a path of a manifest leads to, where its sources have these sizes. (This project's own.)
+-- The line and the contents that a path of a manifest leads to, where its sources have these sizes. (This project's
+-- own.)
 use Rattle.std.specs.Prelude.{◌≡◌, ℕ, if◌then◌else◌, List, get_or, reverse, Option, Some, None, Vec}
 use Rattle.std.specs.List.{slice_get}
 use Rattle.std.specs.Option.{option_map}
@@ -54,7 +55,8 @@ Knows all sizes latest m = (path : List ℕ) → IsTarget all sizes latest path 
 abbrev pub own_contents : {A : Type 0} → BTreeMap (Vec ℕ A) Target → List ℕ → ℕ → Line → Option Contents
 own_contents m sizes source l =
     if is_same l.word then (or_nowhere (noted m l.text)).contents
-    else (if is_file l.word then Some (record { align = l.align; size = get_or sizes source 0; source = source }) else None)
+    else (if is_file l.word then Some (record { align = l.align; size = get_or sizes source 0; source = source })
+    else None)
 
 -- what the path of a line of this index leads to, where the map has what the paths before it do
 abbrev pub own_target : {A : Type 0} → BTreeMap (Vec ℕ A) Target → List ℕ → ℕ → ℕ → Line → Target

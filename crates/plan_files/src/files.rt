@@ -3,7 +3,8 @@ ghost use Rattle.std.specs.Prelude.{◌≡◌, true, ◌<◌, [], ◌∷◌, IfO
 ghost use Rattle.manifest.specs.Lines as lines;
 ghost use Rattle.manifest.specs.Lines.{led};
 ghost use Rattle.manifest.specs.declared.line.Line.{Line};
-ghost use Rattle.plan_files.specs.Files.{contents_at, own_target, or_nowhere, noted, HasMore, IsIndexOf, IsOf};
+ghost use Rattle.plan_files.specs.Files.{contents_at, noted, own_target, or_nowhere};
+ghost use Rattle.plan_files.specs.Files.{HasMore, IsIndexOf, IsOf};
 
 use manifest::{Line, Manifest, Word};
 use rom_fields::memory::OutOfMemory;

@@ -3,7 +3,8 @@ ghost use Rattle.std.specs.Prelude.{◌≡◌, OnOk, IfOk, ℕ, List};
 ghost use Rattle.name_tree.specs.Names as names;
 ghost use Rattle.name_tree.specs.Tree.{file_at, what_by};
 ghost use Rattle.plan_files.specs.Files.{IsOf};
-ghost use Rattle.plan_rows.specs.Keyed.{behind, count, keyed, listed, put_file, put_keyed, row_at, zeroed};
+ghost use Rattle.plan_rows.specs.Keyed.{behind, count, zeroed};
+ghost use Rattle.plan_rows.specs.Keyed.{keyed, listed, put_file, put_keyed, row_at};
 ghost use Rattle.plan_rows.specs.Rows.{inode_view, row_view, what_view};
 
 use crate::inodes::inode_at;
@@ -85,7 +86,8 @@ fn put_row<'a>(
     inode: Inode<'a>,
 ) -> Result<(), OutOfMemory>
     ensures { OnOk result (listed rows.new ≡ put_keyed (keyed (zeroed line.now.path)
-        (row_at line.now.path (what_by line.now.word (inode_view inode.entry)))) (listed rows.old)) }
+        (row_at line.now.path (what_by line.now.word (inode_view inode.entry))))
+        (listed rows.old)) }
 {
     let key = key_of(alloc, line.path.as_bytes())?;
     rows.insert(key, row_of(line, inode))?;
@@ -101,9 +103,11 @@ pub fn put_line<'a>(
     line: &'a Line,
 ) -> Result<(), OutOfMemory>
     ensures { (sizes : List ℕ) → IsOf m.now.lines sizes files.now → OnOk result
-        (listed rows.new ≡ put_file line.now (file_at m.now.lines sizes line.now.path) (listed rows.old)) }
+        (listed rows.new ≡ put_file line.now (file_at m.now.lines sizes line.now.path)
+        (listed rows.old)) }
 {
     let path = line.path.as_bytes();
+    // Only the root's path is a slash alone.
     if path.len() < 2 {
         return Ok(());
     }
