@@ -1,6 +1,7 @@
 //! The plan of a romfs image, from the names of a manifest in a row.
 #![tactic(auto)]
 
+pub mod headers;
 pub mod sectioned;
 pub mod size;
 
