@@ -46,6 +46,10 @@ headers_of at dirs (r ∷ rs) (p ∷ ps) =
     headers_by at (slice_index dirs r.depth) r.name r.what p
     ++ headers_of at (slice_set dirs (r.depth + 1) p.at) rs ps
 
+-- the root's, which heads its own list, and `..`
+abbrev pub root_headers : ℕ → ℕ → Inode → List Header
+root_headers r first i = header_alone r (r + 32 + code_of i) r dot ∷ header_alone (r + 32) first r dot_dot ∷ []
+
 -- the first place, 0 where there is none
 abbrev pub first_of : List Place → ℕ
 first_of [] = 0

@@ -6,9 +6,9 @@ ghost use Rattle.plan_rows.specs.Rows.{bytes_view, inode_view, row_view};
 ghost use Rattle.romfs_layout.specs.Items.{item_of};
 ghost use Rattle.romfs_layout.specs.Layout.{code_of, device_of, header_alone, place_with, mode_bit, number_of};
 ghost use Rattle.rom_tree.specs.Dots.{dot, dot_dot};
-ghost use Rattle.romfs_plan.specs.Headers.{leaf_header, folder_headers, headers_by, headers_of, noted, noted_by, placed_of, first_of, IsNear, IsFineWhat, IsFineRow};
+ghost use Rattle.romfs_plan.specs.Headers.{leaf_header, folder_headers, headers_by, root_headers, noted, IsNear, IsFineRow};
 
-use crate::sectioned::record_len;
+use crate::section_list::record_len;
 use manifest::Name;
 use plan_items::{Fill, Item};
 use plan_rows::{Bytes, Inode, Row, What};
@@ -148,6 +148,25 @@ fn push_folder(
     Ok(())
 }
 
+/// The headers of the root, which heads its own list, and `..`; the root's stands at `at`, and the
+/// first of its children's at `first`.
+pub fn push_root(
+    alloc: Global,
+    found: &mut Vec<Item>,
+    root: &Inode<'_>,
+    at: u32,
+    first: u32,
+) -> Result<(), OutOfMemory>
+    requires { at ≤ 2 ^ 28 }
+    ensures { OnOk result (map item_view found.new.items ≡ map item_view found.old.items
+        ++ map item_of (root_headers at first (inode_view root.now))) }
+{
+    let next = at + 32 + code_of(root);
+    found.push(header_alone(at, next, at, name_of(alloc, b".".as_slice())?))?;
+    found.push(header_alone(at + 32, first, at, name_of(alloc, b"..".as_slice())?))?;
+    Ok(())
+}
+
 /// Where the header of the file of a line stands.
 fn place_of(lines: &BTreeMap<u64, u32>, line: u64) -> u32
     ensures { result ≡ noted lines.now line }
@@ -159,7 +178,7 @@ fn place_of(lines: &BTreeMap<u64, u32>, line: u64) -> u32
 }
 
 /// The headers of a name in the directory at `dir`.
-fn push_row(
+pub fn push_row(
     alloc: Global,
     found: &mut Vec<Item>,
     row: &Row<'_>,

@@ -2,7 +2,7 @@ use Rattle.std.proofs.Common.{◌<◌, length}
 use Rattle.layout_terms.specs.Items.{Item}
 use Rattle.plan_items.specs.Views.{item_view}
 use Rattle.romfs_plan.proofs.Lists.{here}
-use Rattle.romfs_plan.proofs.sectioned.sections.Goals as goal
+use Rattle.romfs_plan.proofs.section_list.sections.Goals as goal
 
 pub record_section-requires : goal.record_section-requires
 record_section-requires c =
