@@ -97,7 +97,7 @@ pub all_fit : (rs : List CodeRow) → Every IsFitRow (map row_view rs) → deepe
 all_fit rs h k = All-from_recursion (λ r. IsRow (place_row (row_view r))) rs (each rs h k)
   where
     held_is : (n : ℕ) (d : ℕ) (w : What) → n < 256 → IsFitWhat w → d < 65 → IsRow (record { depth = d; name_len = n; holds = held w })
-    held_is n d (a_leaf i) s h k = (s, k, h.0)
+    held_is n d (a_leaf i) s h k = (s, k, h)
     held_is n d (a_link i) s h k = (s, k, tt)
     held_is n d (a_folder i) s h k = (s, k, tt)
 

@@ -1,5 +1,5 @@
--- The rows of names, with what of them tells how long a romfs image is. (This project's own; 2^28 bytes, 2^20 references
--- and 64 names are this project's limits.)
+-- The rows of names, with what of them tells how long a romfs image is. (This project's own; 2^28 bytes, 2^20
+-- references and 64 names are this project's limits.)
 use Rattle.std.specs.Prelude.{ℕ, ◌+◌, ◌^◌, ◌<◌, ◌≤◌, ◌||◌, nat_lt, Bool, false, max, List, [], ◌∷◌, length}
 use Rattle.image_parts.specs.Padding.{pad}
 use Rattle.name_tree.specs.Names.{Inode, Names}
@@ -39,7 +39,7 @@ deepest (r ∷ rs) = max r.depth (deepest rs)
 
 -- within the limits of a manifest's line
 abbrev pub IsFitWhat : What → Type 0
-IsFitWhat (a_leaf i) = (i.size ≤ 2 ^ 28) × (i.align ≤ 65536)
+IsFitWhat (a_leaf i) = i.size ≤ 2 ^ 28
 IsFitWhat (a_link i) = Unit {0}
 IsFitWhat (a_folder i) = Unit {0}
 

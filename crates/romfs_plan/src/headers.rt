@@ -188,8 +188,9 @@ pub fn push_row(
 ) -> Result<(), OutOfMemory>
     requires row { IsFineRow (row_view row.now) }
     requires near { IsNear place }
-    ensures { OnOk result (map item_view found.new.items ≡ map item_view found.old.items ++ map item_of
-        (headers_by (noted lines.now) dir (row_view row.now).name (row_view row.now).what place)) }
+    ensures { OnOk result (map item_view found.new.items ≡ map item_view found.old.items
+        ++ map item_of (headers_by (noted lines.now) dir row.now.name.now (row_view row.now).what
+        place)) }
 {
     match row.what {
         What::Leaf => found.push(leaf_header(alloc, row, place)?)?,

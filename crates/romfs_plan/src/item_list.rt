@@ -92,8 +92,9 @@ fn push_rows(
     requires rows { All (λ r. IsFineRow (row_view r)) rows.now }
     requires places { length places.now ≡ length rows.now }
     requires near { All IsNear places.now }
-    ensures { OnOk result (map item_view found.new.items ≡ map item_view found.old.items ++ map item_of
-        (headers_of (noted lines.now) (replicate 66 root) (map row_view rows.now) places.now)) }
+    ensures { OnOk result (map item_view found.new.items ≡ map item_view found.old.items
+        ++ map item_of (headers_of (noted lines.now) (replicate 66 root) (map row_view rows.now)
+        places.now)) }
 {
     let mut dirs = [root; DEPTHS];
     for i in 0..rows.len() {
@@ -123,8 +124,8 @@ pub fn items(
     root: &Inode<'_>,
     rows: &[Row<'_>],
 ) -> Result<Vec<Item>, OutOfMemory>
-    requires planned { (n : Names) × (contents : List (List ℕ)) × (map row_view rows.now ≡ rows_of 1 n)
-        × IsPlanned volume.now (inode_view root.now) n contents }
+    requires planned { (n : Names) × (contents : List (List ℕ))
+        × (map row_view rows.now ≡ rows_of 1 n) × IsPlanned volume.now (inode_view root.now) n contents }
     ensures { (n : Names) (contents : List (List ℕ)) → map row_view rows.now ≡ rows_of 1 n
         → IsPlanned volume.now (inode_view root.now) n contents
         → IfOk result (λ v. map item_view v.items ≡ items_of volume.now (inode_view root.now) n) }

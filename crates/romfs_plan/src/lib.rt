@@ -1,8 +1,8 @@
 //! The plan of a romfs image, from the names of a manifest in a row.
 //!
-//! `image_len` says how long the image is, and whether it is too large; `items` are its headers, and
-//! `sections` its bytes that stand together. Proved: they are those of the layout. The rows are gone
-//! over forwards and backwards, with no recursion.
+//! `image_len` says how long the image is, and whether it is too large; `items` are its headers,
+//! and `sections` its bytes that stand together. Proved: they are those of the layout. The rows are
+//! gone over forwards and backwards, with no recursion.
 #![tactic(auto)]
 
 mod headers;

@@ -55,8 +55,8 @@ fn bytes_section(index: usize, item: &Item) -> Option<Section>
     })
 }
 
-/// The sections of an image with these items, in the order of their places: the superblock, and each
-/// header with its bytes behind it.
+/// The sections of an image with these items, in the order of their places: the superblock, and
+/// each header with its bytes behind it.
 pub fn sections(alloc: Global, volume: &[u8], items: &[Item]) -> Result<Vec<Section>, OutOfMemory>
     requires volume { length volume.now < 256 }
     requires names { Every (λ i. length i.name < 256) (map item_view items.now) }
