@@ -9,6 +9,8 @@ mod headers;
 mod item_list;
 mod section_list;
 mod size;
+#[cfg(test)]
+mod tests;
 
 pub use item_list::items;
 pub use section_list::sections;
