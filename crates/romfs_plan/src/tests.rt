@@ -1,5 +1,5 @@
-use crate::{image_len, items};
-use plan_items::Item;
+use crate::{image_len, items, sections};
+use plan_items::{Body, Item, Section};
 use plan_rows::{Bytes, Inode, Row, What};
 use rom_tree::Kind;
 use std::test::Fail;
@@ -16,6 +16,19 @@ const WANTED: [Wanted; 7] = [
     (176, [208, 144, 0], b".", 0, 0),
     (208, [240, 32, 0], b"..", 0, 0),
     (240, [0, 96, 0], b"c", 0, 0),
+];
+
+/// Where its sections stand, how long they are, and what they hold.
+const SECTIONS: [(u32, u32, Body); 9] = [
+    (0, 32, Body::Super),
+    (32, 32, Body::Record { item: 0 }),
+    (64, 32, Body::Record { item: 1 }),
+    (96, 32, Body::Record { item: 2 }),
+    (128, 5, Body::Content { file: 0 }),
+    (144, 32, Body::Record { item: 3 }),
+    (176, 32, Body::Record { item: 4 }),
+    (208, 32, Body::Record { item: 5 }),
+    (240, 32, Body::Record { item: 6 }),
 ];
 
 fn is_item(item: &Item, want: Wanted) -> bool {
@@ -76,6 +89,11 @@ fn a_file_and_its_further_name(rt: HostRuntime) -> Result<(), Fail> {
     assert_eq!(rt; found.len(), WANTED.len());
     for (item, want) in found.iter().zip(WANTED) {
         assert!(rt; is_item(item, want), "{:?}", item.name.as_bytes());
+    }
+    let spans = sections(rt.alloc(), b"vol", &found)?;
+    assert_eq!(rt; spans.len(), SECTIONS.len());
+    for (span, (place, len, body)) in spans.iter().zip(SECTIONS) {
+        assert_eq!(rt; *span, Section { place, len, body });
     }
     Ok(())
 }
