@@ -22,7 +22,7 @@ use Rattle.romfs_rows.specs.Rows.{IsRow}
 use Rattle.romfs_rows.proofs.Passing.{computes}
 use Rattle.romfs_plan.specs.Headers.{IsNear, IsFineWhat, IsFineRow}
 use Rattle.romfs_plan.specs.Rows.{place_row, held}
-use Rattle.romfs_plan.proofs.Sizes.{counted, fewer, placed_rows}
+use Rattle.romfs_plan.proofs.Sizes.{counted, fewer, placed_rows, twice}
 
 numbers : (k : Kind) (i : Inode) → FitsKind k i → (i.major < 65536) × (i.minor < 65536)
 numbers Directory i h = absurd h
@@ -120,10 +120,6 @@ zeros : (n j : ℕ) → ◌≡◌ {A = ℕ} (get_or (replicate {A = ℕ} n 0) j 
 zeros zero j = refl
 zeros (suc n) zero = refl
 zeros (suc n) (suc j) = zeros n j
-
-twice : (qs : List CodeRow) → map (λ r. place_row (row_view r)) qs ≡ map place_row (map row_view qs)
-twice [] = refl
-twice (q ∷ qs) = ap (λ (ps : List PlaceRow). place_row (row_view q) ∷ ps) (twice qs)
 
 -- the places are those of the names
 pub places_are : (from : ℕ) (rs : List CodeRow) (n : Names) → map row_view rs ≡ rows 1 n → height n ≤ 64

@@ -81,15 +81,15 @@ deepened d (folder name i own after) =
 pub deepest_is : (n : Names) → deepest (rows 1 n) ≡ height n
 deepest_is n = let e = deepened 0 n in omega (arith, e)
 
+pub twice : (rs : List CodeRow) → map (λ r. place_row (row_view r)) rs ≡ map place_row (map row_view rs)
+twice [] = refl
+twice (r ∷ rs) = ap (λ (ps : List PlaceRow). place_row (row_view r) ∷ ps) (twice rs)
+
 -- all that the rows place ends where the names do
 pub end_is : (from : ℕ) (rs : List CodeRow) (n : Names) → map row_view rs ≡ rows 1 n
     → places_end from (map (λ r. place_row (row_view r)) rs) ≡ ends from n
 end_is from rs n e =
     ap (places_end from) (twice rs ∙ ap (map place_row) e ∙ placed_rows 1 n) ∙ rows_end_is 1 from n
-  where
-    twice : (qs : List CodeRow) → map (λ r. place_row (row_view r)) qs ≡ map place_row (map row_view qs)
-    twice [] = refl
-    twice (q ∷ qs) = ap (λ (ps : List PlaceRow). place_row (row_view q) ∷ ps) (twice qs)
 
 -- each row has its place
 pub all_fit : (rs : List CodeRow) → Every IsFitRow (map row_view rs) → deepest (map row_view rs) ≤ 64

@@ -48,7 +48,7 @@ fn row_places(alloc: Global, rows: &[Row<'_>], from: u64) -> Result<Vec<Place>, 
     places_of(alloc, &placing, from)
 }
 
-/// Notes where the header of a row stands, if it is the first of a file.
+/// Notes where the header of a file stands, if the row is no further name of one.
 fn note_row(lines: &mut BTreeMap<u64, u32>, row: &Row<'_>, at: u32) -> Result<(), OutOfMemory>
     ensures { OnOk result ((line : ℕ) → noted lines.new line
         ≡ noted_by (row_view row.now).what at (noted lines.old line) line) }
