@@ -16,6 +16,8 @@ pub record Planned : Type 0 where
   pub image_len : ℕ
   pub items : List Item
   pub sections : List Section
+  -- how many bytes each source is to have
+  pub sizes : List ℕ
 
 -- the plan of a manifest that fits, where its sources have these sizes
 pub record IsPlanOf (f : Format) (m : ManifestLines) (sizes : List ℕ) (p : Planned) : Type 0 where
@@ -25,6 +27,7 @@ pub record IsPlanOf (f : Format) (m : ManifestLines) (sizes : List ℕ) (p : Pla
   pub image_len : p.image_len ≡ len_of f m sizes
   pub items : p.items ≡ items_of f m sizes
   pub sections : p.sections ≡ sections_of f m sizes
+  pub of_sources : p.sizes ≡ sizes
 
 -- the plan of some manifest
 abbrev pub IsPlan : Planned → Type 0

@@ -7,8 +7,10 @@
 
 pub mod error;
 pub mod planned;
+pub mod planning;
 
 pub use error::{PlanError, name};
 pub use plan_items::{Body, Fill, Item, Section};
 pub use plan_misfits::Format;
 pub use planned::Plan;
+pub use planning::plan;

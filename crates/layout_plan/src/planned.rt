@@ -19,6 +19,7 @@ pub struct Plan {
     image_len: usize,
     items: Vec<Item>,
     sections: Vec<Section>,
+    sizes: Vec<u64>,
 }
 
 impl Model for Plan {
@@ -35,6 +36,7 @@ impl Model for Plan {
       image_len = p.image_len;
       items = map item_view p.items.items;
       sections = map section_view p.sections.items;
+      sizes = p.sizes.items;
     } };
 
     ghost invariant = { λ p. IsPlan (record {
@@ -43,6 +45,7 @@ impl Model for Plan {
       image_len = p.image_len;
       items = map item_view p.items.items;
       sections = map section_view p.sections.items;
+      sizes = p.sizes.items;
     }) };
 }
 
@@ -74,6 +77,13 @@ impl Plan {
         ensures { map item_view result.now ≡ self.now.items }
     {
         self.items.as_slice()
+    }
+
+    /// How many bytes each source is to have.
+    pub fn sizes(&self) -> &[u64]
+        ensures { result.now ≡ self.now.sizes }
+    {
+        self.sizes.as_slice()
     }
 
     /// How many sections the image has.

@@ -1,5 +1,5 @@
 //! Words of 32 bits in a slice of bytes, and parts of it.
-ghost use Rattle.std.specs.Prelude.{◌≡◌, ◌+◌, ◌*◌, ◌^◌, ◌<◌, ◌≤◌, ℕ, length, SomeIff, IsTrue, ◌↔◌, option_copied};
+ghost use Rattle.std.specs.Prelude.{◌≡◌, ◌+◌, ◌-◌, ◌*◌, ◌/◌, ◌^◌, ◌<◌, ◌≤◌, ℕ, length, SomeIff, IsTrue, ◌↔◌, option_copied};
 ghost use Rattle.std.specs.Bool.{OnTrue, OnFalse};
 ghost use Rattle.rom_fields.specs.Words.{word_be, with_word_be, word_le, with_word_le, words_sum, part_of};
 
@@ -75,9 +75,11 @@ pub fn word_sum(b: &[u8]) -> u32
 pub fn pad(n: u64, k: u64) -> u64
     requires low { 1 ≤ k }
     requires high { k ≤ 65536 }
-    requires small { n < 2 ^ 40 }
+    requires small { n < 2 ^ 60 }
+    ensures value { result ≡ (n + (k - 1)) / k * k }
     ensures multiple { (m : ℕ) × (result ≡ m * k) }
     ensures reaches { n ≤ result }
+    ensures near { result < n + k }
     ensures least { (m : ℕ) → n ≤ m * k → result ≤ m * k }
 {
     (n + (k - 1)) / k * k

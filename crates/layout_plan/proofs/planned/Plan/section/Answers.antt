@@ -1,5 +1,6 @@
 use Rattle.std.proofs.Common.{ap, ◌∙◌, arith, Some}
-use Rattle.layout_plan.specs.Plans.{Planned, section_view, section_at}
+use Rattle.plan_items.specs.Views.{section_view}
+use Rattle.layout_plan.specs.Plans.{Planned, section_at}
 use Rattle.layout_plan.proofs.Places.{section_some, section_none}
 use Rattle.layout_plan.proofs.planned.Plan.section.Goals as goal
 

@@ -1,0 +1,7 @@
+pub mod Measuring
+pub mod Walking
+pub mod Sorting
+pub mod Small
+pub mod Ordered
+pub mod Placing
+pub mod Cutting

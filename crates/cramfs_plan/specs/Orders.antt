@@ -1,0 +1,7 @@
+-- Lists in the order of a number of their members. (This project's own.)
+use Rattle.std.specs.Prelude.{ℕ, ◌<◌, List}
+use Rattle.record_walk.specs.Members.{Pairs}
+
+-- so that none stands twice
+abbrev pub Rises : {X : Type 0} → (X → ℕ) → List X → Type 0
+Rises key xs = Pairs (λ a b. key a < key b) xs

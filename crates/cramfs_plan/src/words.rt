@@ -1,0 +1,97 @@
+//! The three words of an inode, as `cramfs_layout` has them (Linux include/uapi/linux/cramfs_fs.h).
+//! They are counted in 64 bits; of what fits they have 32.
+ghost use Rattle.std.specs.Prelude.{◌≡◌, ◌+◌, ◌-◌, ◌*◌, ◌^◌, ◌<◌, ℕ, length};
+ghost use Rattle.cramfs_layout.specs.Layout as layout;
+ghost use Rattle.plan_rows.specs.Rows.{inode_view};
+
+use cramfs_format::order::Order;
+use plan_rows::Inode;
+use rom_fields::word::pad;
+use rom_tree::Kind;
+
+/// A word of two fields: `unit` is 2 to the bits of the first, and `other` 2 to those of the second.
+fn packed(order: Order, unit: u64, other: u64, first: u64, rest: u64) -> u64
+    requires first { first < 2 ^ 42 }
+    requires rest { rest < 2 ^ 60 }
+    requires big { first * other < 2 ^ 60 }
+    requires little { rest * unit < 2 ^ 60 }
+    ensures { (bits : ℕ) → unit ≡ 2 ^ bits → other ≡ 2 ^ (32 - bits)
+        → result ≡ layout.packed order bits first rest }
+{
+    match order {
+        Order::Little => first + rest * unit,
+        Order::Big => first * other + rest,
+    }
+}
+
+/// The file type, which is the upper four of the sixteen bits of the mode.
+fn type_bits(kind: Kind) -> u64
+    ensures bits { result ≡ layout.type_bits kind }
+    ensures small { result < 16 }
+{
+    match kind {
+        Kind::Directory => 4,
+        Kind::Regular => 8,
+        Kind::Symlink => 10,
+        Kind::Block => 6,
+        Kind::Character => 2,
+        Kind::Socket => 12,
+        Kind::Fifo => 1,
+    }
+}
+
+/// What the size field of a file holds: of a device its numbers.
+pub fn size_by(inode: &Inode<'_>) -> u64
+    requires { inode.now.size < 2 ^ 40 }
+    ensures size { result ≡ layout.size_by inode.now.kind (inode_view inode.now) }
+    ensures small { result < 2 ^ 41 }
+{
+    match inode.kind {
+        Kind::Block | Kind::Character => inode.major as u64 * 256 + inode.minor as u64,
+        Kind::Directory | Kind::Regular | Kind::Symlink => inode.size,
+        Kind::Socket | Kind::Fifo => inode.size,
+    }
+}
+
+/// The mode, and the owner.
+pub fn first_word(order: Order, inode: &Inode<'_>) -> u64
+    ensures { result ≡ layout.first_word order (inode_view inode.now) }
+{
+    let mode = type_bits(inode.kind) * 4096 + inode.mode as u64;
+    packed(order, 65_536, 65_536, mode, inode.uid as u64)
+}
+
+/// A size, and the group.
+pub fn second_word(order: Order, inode: &Inode<'_>, size: u64) -> u64
+    requires { size < 2 ^ 41 }
+    ensures { result ≡ layout.second_word order (inode_view inode.now) size }
+{
+    packed(order, 16_777_216, 256, size, inode.gid as u64)
+}
+
+/// How many bytes a name takes with its zeros.
+fn name_len(name: &[u8]) -> u64
+    requires { length name.now < 256 }
+    ensures len { result ≡ layout.pad4 (length name.now) }
+    ensures short { result < 260 }
+{
+    pad(name.len() as u64, 4)
+}
+
+/// The length of a name and an offset, both in units of 4 bytes.
+pub fn third_word(order: Order, name: &[u8], offset: u64) -> u64
+    requires short { length name.now < 256 }
+    requires near { offset < 2 ^ 52 }
+    ensures { result ≡ layout.third_word order name.now offset }
+{
+    packed(order, 64, 67_108_864, name_len(name) / 4, offset / 4)
+}
+
+/// How long an inode with its name is.
+pub fn entry_len(name: &[u8]) -> u64
+    requires { length name.now < 256 }
+    ensures len { result ≡ layout.entry_len name.now }
+    ensures short { result < 300 }
+{
+    12 + name_len(name)
+}
