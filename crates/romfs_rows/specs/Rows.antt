@@ -48,9 +48,9 @@ bytes_by Own = 64
 unfoldable pub row_end : ℕ → Row → ℕ
 row_end from r = row_place from r + header_len r.name_len + bytes_by r.holds
 
--- within the limits of a manifest that fits
+-- within the limits of an image
 abbrev pub AreBytes : Holds → Type 0
-AreBytes (Bytes size align) = (size ≤ 2 ^ 28) × (align ≤ 65536)
+AreBytes (Bytes size align) = size ≤ 2 ^ 28
 AreBytes Nothing = Unit {0}
 AreBytes Own = Unit {0}
 

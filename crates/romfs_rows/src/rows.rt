@@ -36,9 +36,9 @@ pub struct Place {
 }
 
 /// The least multiple of k that is at least n.
-fn padded(n: u64, k: u64) -> u64
+pub fn padded(n: u64, k: u64) -> u64
     requires some { 0 < k }
-    requires few { k ≤ 65536 }
+    requires few { k < 2 ^ 32 }
     requires small { n < 2 ^ 60 }
     ensures padded { result ≡ pad n k }
     ensures after { n ≤ result }
@@ -62,7 +62,7 @@ pub fn row_place(from: u64, row: Row) -> u64
     requires row { IsRow row }
     requires from { from < 2 ^ 56 }
     ensures place { result ≡ row_place from row }
-    ensures near { result < from + 2 ^ 17 }
+    ensures near { result < from + 2 ^ 33 }
 {
     let start = padded(from, 16);
     match row.holds {
@@ -81,7 +81,7 @@ pub fn row_end(from: u64, row: Row) -> u64
     requires row { IsRow row }
     requires from { from < 2 ^ 56 }
     ensures end { result ≡ row_end from row }
-    ensures near { result < from + 2 ^ 29 }
+    ensures near { result < from + 2 ^ 34 }
 {
     let bytes = match row.holds {
         Holds::Bytes(size, _) => size,

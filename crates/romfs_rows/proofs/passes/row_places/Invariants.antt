@@ -4,6 +4,6 @@ use Rattle.romfs_rows.proofs.passes.row_places.Given as goal
 
 abbrev pub invariant-loop-row : goal.invariant-loop-row
 invariant-loop-row l = record {
-  near : l.at ≤ l.from + l.row-index * 2 ^ 29;
+  near : l.at ≤ l.from + l.row-index * 2 ^ 34;
   found : l.found.items ++ places l.at (drop l.row-index l.rows) ≡ places l.from l.rows;
 }

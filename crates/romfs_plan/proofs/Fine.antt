@@ -1,0 +1,129 @@
+-- What is planned has places and words within their limits.
+use Rattle.std.proofs.Common.{◌≡◌, ◌+◌, ◌<◌, ◌≤◌, ◌^◌, ℕ, List, [], ◌∷◌, length, map, replicate, get_or, zero, suc, refl, sym, ap, subst, ◌∙◌, arith}
+use Rattle.std.proofs.lemmas.List.{length-map}
+use Rattle.std.proofs.lemmas.List.Elements.{All-from_recursion, All-map}
+use Rattle.std.specs.List.{All, AllByRecursion as Every}
+use Rattle.record_walk.proofs.Lists.{every_join}
+use Rattle.rom_tree.specs.declared.types.Kind.{Kind}
+use Rattle.rom_tree.specs.declared.types.Kind.TheVariants.{Directory, Regular, Symlink, Block, Character, Socket, Fifo}
+use Rattle.name_tree.specs.Names.{Inode, Names, nothing, leaf, link, folder}
+use Rattle.name_tree.specs.Tree.{What, a_leaf, a_link, a_folder}
+use Rattle.layout_terms.specs.Files.{height}
+use Rattle.romfs_layout.specs.Layout.{leaf_end, header_end, ends, root_at, placed, place_with}
+use Rattle.romfs_layout.specs.Planned.{IsPlanned}
+use Rattle.romfs_layout.specs.Wells.{FitsKind, AreWell}
+use Rattle.romfs_layout.proofs.Places.{ends_after, first_within}
+use Rattle.plan_rows.specs.Rows.{rows, row_view}
+use Rattle.plan_rows.specs.declared.row.Row.{Row as CodeRow}
+use Rattle.romfs_rows.specs.declared.rows.Place.{Place}
+use Rattle.romfs_rows.specs.declared.rows.Row.{Row as PlaceRow}
+use Rattle.romfs_rows.specs.Passes.{named_places, places, places_of}
+use Rattle.romfs_rows.specs.Rows.{IsRow}
+use Rattle.romfs_rows.proofs.Passing.{computes}
+use Rattle.romfs_plan.specs.Headers.{IsNear, IsFineWhat, IsFineRow}
+use Rattle.romfs_plan.specs.Rows.{place_row, held}
+use Rattle.romfs_plan.proofs.Sizes.{counted, fewer, placed_rows, twice}
+
+numbers : (k : Kind) (i : Inode) → FitsKind k i → (i.major < 65536) × (i.minor < 65536)
+numbers Directory i h = absurd h
+numbers Regular i h = (let a = h.0 in omega (arith, a), let b = h.1 in omega (arith, b))
+numbers Symlink i h = (let a = h.0 in omega (arith, a), let b = h.1 in omega (arith, b))
+numbers Block i h = (h.0, h.1)
+numbers Character i h = (h.0, h.1)
+numbers Socket i h = (let a = h.0 in omega (arith, a), let b = h.1 in omega (arith, b))
+numbers Fifo i h = (let a = h.0 in omega (arith, a), let b = h.1 in omega (arith, b))
+
+-- places within the image
+near : (cs : List (List ℕ)) (from : ℕ) (n : Names) → AreWell cs n → ends from n ≤ 2 ^ 28 → Every IsNear (named_places from n)
+near cs from nothing w room = tt
+near cs from (leaf name i after) w room =
+    let q = leaf_end from name i in
+    let a = ends_after cs q after w.2 in
+    let b = first_within cs q after w.2 in
+    ((omega (arith, room, a), omega (arith, room, b), omega arith), near cs q after w.2 room)
+near cs from (link name i after) w room =
+    let q = header_end from name in
+    let a = ends_after cs q after w.2 in
+    let b = first_within cs q after w.2 in
+    ((omega (arith, room, a), omega (arith, room, b), omega arith), near cs q after w.2 room)
+near cs from (folder name i own after) w room =
+    let h = header_end from name + 64 in
+    let q = ends h own in
+    let a = ends_after cs q after w.3 in
+    let b = first_within cs q after w.3 in
+    let c = ends_after cs h own w.2 in
+    let e = first_within cs h own w.2 in
+    let within : q ≤ 2 ^ 28 = omega (arith, room, a) in (
+      (omega (arith, room, a, c), omega (arith, room, b), omega (arith, room, a, e)),
+      every_join IsNear (named_places h own) (named_places q after) (near cs h own w.2 within) (near cs q after w.3 room),
+    )
+
+-- rows whose words fit
+fine : (cs : List (List ℕ)) (d from : ℕ) (n : Names) → AreWell cs n → d + height n ≤ 65 → ends from n ≤ 2 ^ 28 → Every IsFineRow (rows d n)
+fine cs d from nothing w low room = tt
+fine cs d from (leaf name i after) w low room =
+    let q = leaf_end from name i in
+    let a = ends_after cs q after w.2 in
+    let k = numbers i.kind i w.1.kind in
+    ((w.0.written.short, omega (arith, low), (omega (arith, room, a), k.0, k.1)), fine cs d q after w.2 (omega (arith, low)) room)
+fine cs d from (link name i after) w low room =
+    let q = header_end from name in
+    ((w.0.written.short, omega (arith, low), tt), fine cs d q after w.2 (omega (arith, low)) room)
+fine cs d from (folder name i own after) w low room =
+    let h = header_end from name + 64 in
+    let q = ends h own in
+    let a = ends_after cs q after w.3 in
+    let within : q ≤ 2 ^ 28 = omega (arith, room, a) in (
+      (w.0.written.short, omega (arith, low), tt),
+      every_join IsFineRow (rows (d + 1) own) (rows d after) (fine cs (d + 1) h own w.2 (omega (arith, low)) within) (fine cs d q after w.3 (omega (arith, low)) room),
+    )
+
+-- of planned names
+pub fine_rows : (volume : List ℕ) (root : Inode) (n : Names) (cs : List (List ℕ)) (rs : List CodeRow)
+    → map row_view rs ≡ rows 1 n → IsPlanned volume root n cs → Every IsFineRow (map row_view rs)
+fine_rows volume root n cs rs e p =
+    let s = p.shallow in
+    subst (Every IsFineRow) (sym e) (fine cs 1 (root_at volume + 64) n p.well (omega (arith, s)) p.room)
+
+pub near_places : (volume : List ℕ) (root : Inode) (n : Names) (cs : List (List ℕ)) (ps : List Place)
+    → IsPlanned volume root n cs → ps ≡ named_places (root_at volume + 64) n → All IsNear ps
+near_places volume root n cs ps p e =
+    subst (All IsNear) (sym e) (All-from_recursion IsNear (named_places (root_at volume + 64) n) (near cs (root_at volume + 64) n p.well p.room))
+
+pub few_rows : (volume : List ℕ) (root : Inode) (n : Names) (cs : List (List ℕ)) (rs : List CodeRow)
+    → map row_view rs ≡ rows 1 n → IsPlanned volume root n cs → length rs ≤ 2 ^ 20
+few_rows volume root n cs rs e p =
+    let r = root_at volume in
+    let a = counted (place_with (placed (r + 64) n)) 1 r (r + 64) n in
+    let b = fewer (rows 1 n) in
+    let c = sym (length-map rs row_view) ∙ ap length e in
+    let f = p.few in
+    omega (arith, a, b, c, f)
+
+every_map : {A B : Type 0} (P : B → Type 0) (f : A → B) (xs : List A) → Every P (map f xs) → Every (λ x. P (f x)) xs
+every_map P f [] h = tt
+every_map P f (x ∷ xs) h = (h.0, every_map P f xs h.1)
+
+pub each_fine : (rs : List CodeRow) → Every IsFineRow (map row_view rs) → All (λ r. IsFineRow (row_view r)) rs
+each_fine rs h = All-from_recursion (λ r. IsFineRow (row_view r)) rs (every_map IsFineRow row_view rs h)
+
+-- fine rows have their places
+pub each_placed : (rs : List CodeRow) → All (λ r. IsFineRow (row_view r)) rs → All IsRow (map (λ r. place_row (row_view r)) rs)
+each_placed rs h = All-map IsRow (λ r. place_row (row_view r)) rs (λ k d l. held_is (row_view (get_or rs k d)).what (h k d l))
+  where
+    held_is : {n d : ℕ} (w : What) → (n < 256) × (d < 65) × IsFineWhat w → IsRow (record { depth = d; name_len = n; holds = held w })
+    held_is (a_leaf i) h = (h.0, h.1, h.2.0)
+    held_is (a_link i) h = (h.0, h.1, tt)
+    held_is (a_folder i) h = (h.0, h.1, tt)
+
+zeros : (n j : ℕ) → ◌≡◌ {A = ℕ} (get_or (replicate {A = ℕ} n 0) j 0) 0
+zeros zero j = refl
+zeros (suc n) zero = refl
+zeros (suc n) (suc j) = zeros n j
+
+-- the places are those of the names
+pub places_are : (from : ℕ) (rs : List CodeRow) (n : Names) → map row_view rs ≡ rows 1 n → height n ≤ 64
+    → places_of (replicate 66 0) (map (λ r. place_row (row_view r)) rs) (places from (map (λ r. place_row (row_view r)) rs)) ≡ named_places from n
+places_are from rs n e low =
+    ap (λ (qs : List PlaceRow). places_of (replicate {A = ℕ} 66 0) qs (places from qs)) (twice rs ∙ ap (map place_row) e ∙ placed_rows 1 n)
+    ∙ (computes 1 from (replicate 66 0) n (omega (arith, low)) (λ j k. zeros 66 j)).places_are

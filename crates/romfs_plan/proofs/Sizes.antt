@@ -1,0 +1,151 @@
+-- The rows of names tell how long the image is, and whether it is too large.
+use Rattle.std.proofs.Common.{◌≡◌, ◌+◌, ◌<◌, ◌≤◌, ◌^◌, ◌||◌, ℕ, Bool, true, false, nat_lt, max, List, [], ◌∷◌, ◌++◌, length, map, refl, ap, ◌∙◌, arith}
+use Rattle.std.proofs.lemmas.Bool.{lt-ltb, le-ltb}
+use Rattle.std.proofs.lemmas.List.{map-append, length-append, length-map}
+use Rattle.std.proofs.lemmas.List.Elements.{All-from_recursion}
+use Rattle.std.specs.List.{All, AllByRecursion as Every}
+use Rattle.image_parts.specs.Padding.{pad}
+use Rattle.romfs_format.specs.Record.{pad16}
+use Rattle.name_tree.specs.Names.{Inode, Names, nothing, leaf, link, folder}
+use Rattle.name_tree.specs.Tree.{What, a_leaf, a_link, a_folder}
+use Rattle.layout_terms.specs.Files.{height}
+use Rattle.romfs_layout.specs.Layout.{root_at, full_size_of, headers, all_headers, leaf_end, header_end, ends, placed, place_with}
+use Rattle.romfs_layout.specs.Items.{item_of, items_of}
+use Rattle.plan_rows.specs.Rows.{Row, rows, row_view}
+use Rattle.plan_rows.specs.declared.row.Row.{Row as CodeRow}
+use Rattle.romfs_rows.specs.declared.rows.Row.{Row as PlaceRow}
+use Rattle.romfs_rows.specs.Passes.{places_end}
+use Rattle.romfs_rows.specs.Rows.{IsRow, rows as place_rows, leaf_row, link_row, folder_row}
+use Rattle.romfs_rows.proofs.Passing.{rows_end_is}
+use Rattle.romfs_plan.specs.Rows.{place_row, count_of, header_count, deepest, held, IsFitWhat, IsFitRow, too_large}
+
+-- the rows are those that the two passes go over
+pub placed_rows : (d : ℕ) (n : Names) → map place_row (rows d n) ≡ place_rows d n
+placed_rows d nothing = refl
+placed_rows d (leaf name i after) = ap (λ (rs : List PlaceRow). leaf_row d name i ∷ rs) (placed_rows d after)
+placed_rows d (link name i after) = ap (λ (rs : List PlaceRow). link_row d name ∷ rs) (placed_rows d after)
+placed_rows d (folder name i own after) =
+    let e = placed_rows (d + 1) own in
+    let f = placed_rows d after in
+    ap (λ (rs : List PlaceRow). folder_row d name ∷ rs)
+    (map-append place_row (rows (d + 1) own) (rows d after) ∙ ap (λ (rs : List PlaceRow). rs ++ map place_row (rows d after)) e ∙ ap (λ (rs : List PlaceRow). place_rows (d + 1) own ++ rs) f)
+
+header_count-append : (rs qs : List Row) → header_count (rs ++ qs) ≡ header_count rs + header_count qs
+header_count-append [] qs = omega arith
+header_count-append (r ∷ rs) qs = let e = header_count-append rs qs in omega (arith, e)
+
+-- each name has so many headers
+pub counted : (at : ℕ → ℕ) (d dir from : ℕ) (n : Names) → length (headers at dir from n) ≡ header_count (rows d n)
+counted at d dir from nothing = refl
+counted at d dir from (leaf name i after) = let e = counted at d dir (leaf_end from name i) after in omega (arith, e)
+counted at d dir from (link name i after) = let e = counted at d dir (header_end from name) after in omega (arith, e)
+counted at d dir from (folder name i own after) =
+    let h = header_end from name + 64 in
+    let e = counted at (d + 1) (pad16 from) h own in
+    let f = counted at d dir (ends h own) after in
+    let g = length-append (headers at (pad16 from) h own) (headers at dir (ends h own) after) in
+    let k = header_count-append (rows (d + 1) own) (rows d after) in
+    omega (arith, e, f, g, k)
+
+items_counted : (volume : List ℕ) (root : Inode) (n : Names) → length (items_of volume root n) ≡ 2 + header_count (rows 1 n)
+items_counted volume root n =
+    let r = root_at volume in
+    let e = counted (place_with (placed (r + 64) n)) 1 r (r + 64) n in
+    let l = length-map (all_headers r root n) item_of in
+    omega (arith, e, l)
+
+pub fewer : (rs : List Row) → length rs ≤ header_count rs
+fewer [] = omega arith
+fewer (r ∷ rs) = let e = fewer rs in let f = some r.what in omega (arith, e, f)
+  where
+    some : (w : What) → 1 ≤ count_of w
+    some (a_leaf i) = omega arith
+    some (a_link i) = omega arith
+    some (a_folder i) = omega arith
+
+deepest-append : (rs qs : List Row) → deepest (rs ++ qs) ≡ max (deepest rs) (deepest qs)
+deepest-append [] qs = omega arith
+deepest-append (r ∷ rs) qs = let e = deepest-append rs qs in omega (arith, e)
+
+deepened : (d : ℕ) (n : Names) → max d (deepest (rows (d + 1) n)) ≡ d + height n
+deepened d nothing = omega arith
+deepened d (leaf name i after) = let e = deepened d after in omega (arith, e)
+deepened d (link name i after) = let e = deepened d after in omega (arith, e)
+deepened d (folder name i own after) =
+    let e = deepened (d + 1) own in
+    let f = deepened d after in
+    let g = deepest-append (rows (d + 1 + 1) own) (rows (d + 1) after) in
+    omega (arith, e, f, g)
+
+-- the greatest depth is the height
+pub deepest_is : (n : Names) → deepest (rows 1 n) ≡ height n
+deepest_is n = let e = deepened 0 n in omega (arith, e)
+
+pub twice : (rs : List CodeRow) → map (λ r. place_row (row_view r)) rs ≡ map place_row (map row_view rs)
+twice [] = refl
+twice (r ∷ rs) = ap (λ (ps : List PlaceRow). place_row (row_view r) ∷ ps) (twice rs)
+
+-- all that the rows place ends where the names do
+pub end_is : (from : ℕ) (rs : List CodeRow) (n : Names) → map row_view rs ≡ rows 1 n
+    → places_end from (map (λ r. place_row (row_view r)) rs) ≡ ends from n
+end_is from rs n e =
+    ap (places_end from) (twice rs ∙ ap (map place_row) e ∙ placed_rows 1 n) ∙ rows_end_is 1 from n
+
+-- each row has its place
+pub all_fit : (rs : List CodeRow) → Every IsFitRow (map row_view rs) → deepest (map row_view rs) ≤ 64
+    → All (λ r. IsRow (place_row (row_view r))) rs
+all_fit rs h k = All-from_recursion (λ r. IsRow (place_row (row_view r))) rs (each rs h k)
+  where
+    held_is : (n : ℕ) (d : ℕ) (w : What) → n < 256 → IsFitWhat w → d < 65 → IsRow (record { depth = d; name_len = n; holds = held w })
+    held_is n d (a_leaf i) s h k = (s, k, h)
+    held_is n d (a_link i) s h k = (s, k, tt)
+    held_is n d (a_folder i) s h k = (s, k, tt)
+
+    each : (qs : List CodeRow) → Every IsFitRow (map row_view qs) → deepest (map row_view qs) ≤ 64
+        → Every (λ r. IsRow (place_row (row_view r))) qs
+    each [] h k = tt
+    each (q ∷ qs) h k =
+        let v = row_view q in
+        let here : v.depth < 65 = omega (arith, k) in
+        let rest : deepest (map row_view qs) ≤ 64 = omega (arith, k) in
+        (held_is (length v.name) v.depth v.what h.0.0 h.0.1 here, each qs h.1 rest)
+
+or_true : (b : Bool) → b || true ≡ true
+or_true true = refl
+or_true false = refl
+
+-- too many headers
+pub too_many : (volume : List ℕ) (root : Inode) (n : Names) → 2 ^ 20 < 2 + header_count (rows 1 n)
+    → too_large volume root n ≡ true
+too_many volume root n h =
+    let k = items_counted volume root n in
+    let e : nat_lt (2 ^ 20) (length (items_of volume root n)) ≡ true = lt-ltb (2 ^ 20) (length (items_of volume root n)) (omega (arith, h, k)) in
+    let a = nat_lt (2 ^ 28) (pad (full_size_of (root_at volume) n) 1024) in
+    let b = nat_lt 64 (height n) in
+    ap (λ (t : Bool). a || (false || (b || t))) e ∙ ap (λ (t : Bool). a || t) (or_true b) ∙ or_true a
+
+-- too many names lead to a file
+pub too_deep : (volume : List ℕ) (root : Inode) (n : Names) → 64 < deepest (rows 1 n) → too_large volume root n ≡ true
+too_deep volume root n h =
+    let k = deepest_is n in
+    let e : nat_lt 64 (height n) ≡ true = lt-ltb 64 (height n) (omega (arith, h, k)) in
+    let a = nat_lt (2 ^ 28) (pad (full_size_of (root_at volume) n) 1024) in
+    let c = nat_lt (2 ^ 20) (length (items_of volume root n)) in
+    ap (λ (t : Bool). a || (false || (t || c))) e ∙ or_true a
+
+pub too_long : (volume : List ℕ) (root : Inode) (n : Names) → 2 ^ 28 < pad (full_size_of (root_at volume) n) 1024
+    → too_large volume root n ≡ true
+too_long volume root n h =
+    let b = nat_lt 64 (height n) in
+    let c = nat_lt (2 ^ 20) (length (items_of volume root n)) in
+    ap (λ (t : Bool). t || (false || (b || c))) (lt-ltb (2 ^ 28) (pad (full_size_of (root_at volume) n) 1024) h)
+
+pub not_large : (volume : List ℕ) (root : Inode) (n : Names) → 2 + header_count (rows 1 n) ≤ 2 ^ 20
+    → deepest (rows 1 n) ≤ 64 → pad (full_size_of (root_at volume) n) 1024 ≤ 2 ^ 28 → too_large volume root n ≡ false
+not_large volume root n few shallow short =
+    let k = items_counted volume root n in
+    let l = deepest_is n in
+    let a = le-ltb (2 ^ 28) (pad (full_size_of (root_at volume) n) 1024) short in
+    let b : nat_lt 64 (height n) ≡ false = le-ltb 64 (height n) (omega (arith, shallow, l)) in
+    let c : nat_lt (2 ^ 20) (length (items_of volume root n)) ≡ false = le-ltb (2 ^ 20) (length (items_of volume root n)) (omega (arith, few, k)) in
+    rw (a, b, c) refl

@@ -1,0 +1,7 @@
+use Rattle.std.proofs.Common.{◌≡◌, max, drop, map}
+use Rattle.plan_rows.specs.Rows.{row_view}
+use Rattle.romfs_plan.specs.Rows.{deepest}
+use Rattle.romfs_plan.proofs.size.deepest.Given as goal
+
+abbrev pub invariant-loop-row : goal.invariant-loop-row
+invariant-loop-row l = max l.depth (deepest (map row_view (drop l.row-index l.rows))) ≡ deepest (map row_view l.rows)

@@ -1,0 +1,53 @@
+-- The rows of names, with what of them tells how long a romfs image is. (This project's own; 2^28 bytes, 2^20
+-- references and 64 names are this project's limits.)
+use Rattle.std.specs.Prelude.{ℕ, ◌+◌, ◌^◌, ◌<◌, ◌≤◌, ◌||◌, nat_lt, Bool, false, max, List, [], ◌∷◌, length}
+use Rattle.image_parts.specs.Padding.{pad}
+use Rattle.name_tree.specs.Names.{Inode, Names}
+use Rattle.name_tree.specs.Tree.{What, a_leaf, a_link, a_folder}
+use Rattle.layout_terms.specs.Files.{height}
+use Rattle.romfs_layout.specs.Layout.{root_at, full_size_of}
+use Rattle.romfs_layout.specs.Items.{items_of}
+use Rattle.plan_rows.specs.Rows.{Row}
+use Rattle.romfs_rows.specs.declared.rows.Row.{Row as PlaceRow}
+use Rattle.romfs_rows.specs.declared.rows.Holds.{Holds}
+use Rattle.romfs_rows.specs.declared.rows.Holds.TheVariants.{Bytes, Nothing, List as Own}
+
+-- what follows a header
+abbrev pub held : What → Holds
+held (a_leaf i) = Bytes i.size i.align
+held (a_link i) = Nothing
+held (a_folder i) = Own
+
+-- what of a row its header's place depends on
+abbrev pub place_row : Row → PlaceRow
+place_row r = record { depth = r.depth; name_len = length r.name; holds = held r.what }
+
+-- how many headers are written for what a name is: a directory's list begins with `.` and `..`
+abbrev pub count_of : What → ℕ
+count_of (a_leaf i) = 1
+count_of (a_link i) = 1
+count_of (a_folder i) = 3
+
+abbrev pub header_count : List Row → ℕ
+header_count [] = 0
+header_count (r ∷ rs) = count_of r.what + header_count rs
+
+-- the greatest depth
+abbrev pub deepest : List Row → ℕ
+deepest [] = 0
+deepest (r ∷ rs) = max r.depth (deepest rs)
+
+-- within the limits of a manifest's line
+abbrev pub IsFitWhat : What → Type 0
+IsFitWhat (a_leaf i) = i.size ≤ 2 ^ 28
+IsFitWhat (a_link i) = Unit {0}
+IsFitWhat (a_folder i) = Unit {0}
+
+abbrev pub IsFitRow : Row → Type 0
+IsFitRow r = (length r.name < 256) × IsFitWhat r.what
+
+-- the whole does not fit
+abbrev pub too_large : List ℕ → Inode → Names → Bool
+too_large volume root n =
+    nat_lt (2 ^ 28) (pad (full_size_of (root_at volume) n) 1024)
+    || (false || (nat_lt 64 (height n) || nat_lt (2 ^ 20) (length (items_of volume root n))))

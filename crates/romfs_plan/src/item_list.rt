@@ -1,0 +1,140 @@
+//! The items of a romfs image.
+ghost use Rattle.std.specs.Prelude.{◌≡◌, ◌+◌, ◌<◌, ◌≤◌, ◌^◌, ◌++◌, ℕ, List, IfOk, OnOk, length, map, replicate};
+ghost use Rattle.std.specs.List.{All};
+ghost use Rattle.layout_terms.specs.Files.{height};
+ghost use Rattle.name_tree.specs.Names.{Names};
+ghost use Rattle.plan_items.specs.Views.{item_view};
+ghost use Rattle.plan_rows.specs.Rows.{rows as rows_of, inode_view, row_view};
+ghost use Rattle.romfs_layout.specs.Items.{item_of, items_of};
+ghost use Rattle.romfs_layout.specs.Layout.{place_with};
+ghost use Rattle.romfs_layout.specs.Planned.{IsPlanned};
+ghost use Rattle.romfs_plan.specs.Headers.{root_headers, headers_of, noted, noted_by, placed_of, first_of, IsNear, IsFineRow};
+ghost use Rattle.romfs_plan.specs.Rows.{place_row};
+ghost use Rattle.romfs_rows.specs.Passes.{named_places};
+
+use crate::headers::{push_root, push_row};
+use crate::size::{place_row, root_at};
+use plan_items::Item;
+use plan_rows::{Inode, Row, What};
+use rom_fields::memory::OutOfMemory;
+use romfs_rows::{Place, places_of};
+use std::alloc::Global;
+use std::collections::BTreeMap;
+
+/// One more than the greatest depth of a row, and one for the list below it.
+const DEPTHS: usize = 66;
+
+/// What of each row its header's place depends on.
+fn place_rows(alloc: Global, rows: &[Row<'_>]) -> Result<Vec<romfs_rows::Row>, OutOfMemory>
+    ensures { IfOk result (λ v. v.items ≡ map (λ r. place_row (row_view r)) rows.now) }
+{
+    let mut found = Vec::new(alloc);
+    for row in rows {
+        found.push(place_row(row))?;
+    }
+    Ok(found)
+}
+
+/// Where the headers of rows stand, and what they lead on to, if what was placed before ends at
+/// `from`.
+fn row_places(alloc: Global, rows: &[Row<'_>], from: u64) -> Result<Vec<Place>, OutOfMemory>
+    requires rows { All (λ r. IsFineRow (row_view r)) rows.now }
+    requires few { length rows.now ≤ 2 ^ 20 }
+    requires from { from < 2 ^ 30 }
+    ensures { (n : Names) → map row_view rows.now ≡ rows_of 1 n → height n ≤ 64
+        → IfOk result (λ v. v.items ≡ named_places from n) }
+{
+    let placing = place_rows(alloc, rows)?;
+    places_of(alloc, &placing, from)
+}
+
+/// Notes where the header of a file stands, if the row is no further name of one.
+fn note_row(lines: &mut BTreeMap<u64, u32>, row: &Row<'_>, at: u32) -> Result<(), OutOfMemory>
+    ensures { OnOk result ((line : ℕ) → noted lines.new line
+        ≡ noted_by (row_view row.now).what at (noted lines.old line) line) }
+{
+    match row.what {
+        What::Leaf | What::Folder => {
+            lines.insert(row.inode.line, at)?;
+        }
+        What::Link => {}
+    }
+    Ok(())
+}
+
+/// Where the headers of the files of lines stand: of each file the first, in the order of rows.
+fn lines_of(
+    alloc: Global,
+    rows: &[Row<'_>],
+    places: &[Place],
+) -> Result<BTreeMap<u64, u32>, OutOfMemory>
+    requires places { length places.now ≡ length rows.now }
+    requires near { All IsNear places.now }
+    ensures { IfOk result (λ m. (line : ℕ) → noted m line
+        ≡ place_with (placed_of (map row_view rows.now) places.now) line) }
+{
+    let mut lines = BTreeMap::new(alloc);
+    for i in (0..rows.len()).rev() {
+        note_row(&mut lines, &rows[i], places[i].at as u32)?;
+    }
+    Ok(lines)
+}
+
+/// The headers of rows, where the root's header stands at `root`.
+fn push_rows(
+    alloc: Global,
+    found: &mut Vec<Item>,
+    rows: &[Row<'_>],
+    places: &[Place],
+    lines: &BTreeMap<u64, u32>,
+    root: u32,
+) -> Result<(), OutOfMemory>
+    requires rows { All (λ r. IsFineRow (row_view r)) rows.now }
+    requires places { length places.now ≡ length rows.now }
+    requires near { All IsNear places.now }
+    ensures { OnOk result (map item_view found.new.items ≡ map item_view found.old.items
+        ++ map item_of (headers_of (noted lines.now) (replicate 66 root) (map row_view rows.now)
+        places.now)) }
+{
+    let mut dirs = [root; DEPTHS];
+    for i in 0..rows.len() {
+        let row = &rows[i];
+        let place = places[i];
+        push_row(alloc, found, row, place, dirs[row.depth], lines)?;
+        dirs[row.depth + 1] = place.at as u32;
+    }
+    Ok(())
+}
+
+/// Where the first of places is, and 0 where there is none.
+fn first_of(places: &[Place]) -> u32
+    requires { All IsNear places.now }
+    ensures { result ≡ first_of places.now }
+{
+    match places.first() {
+        None => 0,
+        Some(place) => place.at as u32,
+    }
+}
+
+/// The items of the image of a volume, whose names below the root have these rows.
+pub fn items(
+    alloc: Global,
+    volume: &[u8],
+    root: &Inode<'_>,
+    rows: &[Row<'_>],
+) -> Result<Vec<Item>, OutOfMemory>
+    requires planned { (n : Names) × (contents : List (List ℕ))
+        × (map row_view rows.now ≡ rows_of 1 n) × IsPlanned volume.now (inode_view root.now) n contents }
+    ensures { (n : Names) (contents : List (List ℕ)) → map row_view rows.now ≡ rows_of 1 n
+        → IsPlanned volume.now (inode_view root.now) n contents
+        → IfOk result (λ v. map item_view v.items ≡ items_of volume.now (inode_view root.now) n) }
+{
+    let at = root_at(volume);
+    let places = row_places(alloc, rows, at + 64)?;
+    let lines = lines_of(alloc, rows, &places)?;
+    let mut found = Vec::new(alloc);
+    push_root(alloc, &mut found, root, at as u32, first_of(&places))?;
+    push_rows(alloc, &mut found, rows, &places, &lines, at as u32)?;
+    Ok(found)
+}

@@ -1,0 +1,124 @@
+//! How long a romfs image is.
+ghost use Rattle.std.specs.Prelude.{◌≡◌, ◌+◌, ◌*◌, ◌<◌, ◌≤◌, ◌^◌, if◌then◌else◌, Some, None, map, length};
+ghost use Rattle.std.specs.List.{All, AllByRecursion as Every};
+ghost use Rattle.image_parts.specs.Padding.{pad};
+ghost use Rattle.name_tree.specs.Names.{Inode, Names};
+ghost use Rattle.plan_rows.specs.Rows.{rows as rows_of, row_view};
+ghost use Rattle.romfs_layout.specs.Layout.{full_size_of, root_at};
+ghost use Rattle.romfs_plan.specs.Rows.{place_row, count_of, header_count, deepest, IsFitRow, too_large};
+ghost use Rattle.romfs_rows.specs.Passes.{places_end};
+ghost use Rattle.romfs_rows.specs.Rows.{IsRow};
+
+use plan_rows::{Row, What};
+use romfs_rows::Holds;
+use romfs_rows::rows::{padded, row_end};
+use std::cmp::max;
+
+/// The most headers of an image: 2^20, this project's limit of references.
+const MOST_HEADERS: usize = 1 << 20;
+
+/// The most names on the way to a file, this project's limit.
+const MOST_NAMES: usize = 64;
+
+/// The most bytes of an image: 2^28, this project's limit.
+const MOST_BYTES: u64 = 1 << 28;
+
+/// What of a row its header's place depends on.
+pub fn place_row(row: &Row<'_>) -> romfs_rows::Row
+    ensures { result ≡ place_row (row_view row.now) }
+{
+    let holds = match row.what {
+        What::Leaf => Holds::Bytes(row.inode.size, row.inode.align),
+        What::Link => Holds::Nothing,
+        What::Folder => Holds::List,
+    };
+    romfs_rows::Row {
+        depth: row.depth,
+        name_len: row.name.len(),
+        holds,
+    }
+}
+
+/// How many headers are written for a row.
+fn count_of(row: &Row<'_>) -> usize
+    ensures count { result ≡ count_of (row_view row.now).what }
+    ensures few { result ≤ 3 }
+{
+    match row.what {
+        What::Leaf | What::Link => 1,
+        What::Folder => 3,
+    }
+}
+
+/// How many headers are written for rows.
+fn header_count(rows: &[Row<'_>]) -> usize
+    requires { length rows.now ≤ 2 ^ 20 }
+    ensures count { result ≡ header_count (map row_view rows.now) }
+    ensures few { result ≤ 3 * 2 ^ 20 }
+{
+    let mut count = 0;
+    for row in rows {
+        count += count_of(row);
+    }
+    count
+}
+
+/// The greatest depth of a row.
+fn deepest(rows: &[Row<'_>]) -> usize
+    ensures { result ≡ deepest (map row_view rows.now) }
+{
+    let mut depth = 0;
+    for row in rows {
+        depth = max(depth, row.depth);
+    }
+    depth
+}
+
+/// Where all that rows place ends, if what was placed before ends at `from`.
+fn rows_end(rows: &[Row<'_>], from: u64) -> u64
+    requires rows { All (λ r. IsRow (place_row (row_view r))) rows.now }
+    requires few { length rows.now ≤ 2 ^ 20 }
+    requires from { from < 2 ^ 30 }
+    ensures end { result ≡ places_end from (map (λ r. place_row (row_view r)) rows.now) }
+    ensures near { result < 2 ^ 56 }
+{
+    let mut at = from;
+    for row in rows {
+        at = row_end(at, place_row(row));
+    }
+    at
+}
+
+/// Where the root's header stands, behind the superblock with the volume's name.
+pub fn root_at(volume: &[u8]) -> u64
+    requires { length volume.now < 256 }
+    ensures root { result ≡ root_at volume.now }
+    ensures near { result < 300 }
+{
+    16 + padded(volume.len() as u64 + 1, 16)
+}
+
+/// How many bytes the image of rows has, and nothing where it is too large: where it has more than
+/// 2^28 bytes or 2^20 headers, or more than 64 names lead to a file.
+pub fn image_len(volume: &[u8], rows: &[Row<'_>]) -> Option<usize>
+    requires volume { length volume.now < 256 }
+    requires fit { Every IsFitRow (map row_view rows.now) }
+    ensures { (root : Inode) (n : Names) → map row_view rows.now ≡ rows_of 1 n → result
+        ≡ (if too_large volume.now root n then None
+        else Some (pad (full_size_of (root_at volume.now) n) 1024)) }
+{
+    if rows.len() > MOST_HEADERS {
+        return None;
+    }
+    if header_count(rows) + 2 > MOST_HEADERS {
+        return None;
+    }
+    if deepest(rows) > MOST_NAMES {
+        return None;
+    }
+    let len = padded(padded(rows_end(rows, root_at(volume) + 64), 16), 1024);
+    if len > MOST_BYTES {
+        return None;
+    }
+    Some(len as usize)
+}
