@@ -6,3 +6,4 @@ pub mod Ordered
 pub mod Placing
 pub mod Cutting
 pub mod Sectioning
+pub mod Whole

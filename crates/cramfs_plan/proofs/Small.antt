@@ -54,7 +54,7 @@ size_small Socket i h l = l
 size_small Fifo i h l = l
 
 -- an item of small parts
-item_small : (o : Order) (place : ℕ) (name : List ℕ) (i : Inode) (size offset table start len : ℕ) (f : Fill)
+pub item_small : (o : Order) (place : ℕ) (name : List ℕ) (i : Inode) (size offset table start len : ℕ) (f : Fill)
     → place < 2 ^ 32 → length name ≤ 252 → i.mode < 4096 → i.uid < 2 ^ 16 → i.gid < 2 ^ 8 → size < 2 ^ 24
     → offset < 2 ^ 28 → table < 2 ^ 32 → start < 2 ^ 32 → len < 2 ^ 32
     → IsSmall (item_of o place name i size offset table start len f)
