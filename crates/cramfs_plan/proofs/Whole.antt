@@ -16,6 +16,8 @@ use Rattle.misfits.specs.Format.{cramfs}
 use Rattle.cramfs_layout.specs.Layout.{State, entry_len, list_len, pad4, first_state, after_file, after_list, after_names, size_of, root_offset}
 use Rattle.cramfs_layout.specs.Items.{item_of, items_of, entries, below}
 use Rattle.cramfs_layout.specs.Planned.{IsPlanned}
+use Rattle.cramfs_layout.specs.Wells.{AreWell}
+use Rattle.record_walk.proofs.Lists.{every_join}
 use Rattle.plan_rows.specs.declared.row.Row as code
 use Rattle.plan_rows.specs.declared.row.Inode as code_inode
 use Rattle.plan_rows.specs.declared.row.What as code_what
@@ -227,3 +229,27 @@ pub found_is : (o : Order) (rs : List Row) (n : Names) (root : ℕ) (lens : List
     → found ≡ walked o (first_walk root) rs lens → found ≡ in_preorder o 76 (first_state n) n
 found_is o rs n root lens found t r l e =
     e ∙ ap (λ (k : ℕ). walked o (first_walk k) rs lens) r ∙ ap (λ (ls : List ℕ). walked o (first_walk (list_len n)) rs ls) l ∙ t.items
+
+-- the names of items are short
+short_preorder : (o : Order) (cs : List (List ℕ)) (l : ℕ) (s : State) (n : Names) → AreWell cs n
+    → Every (λ (i : Item). length i.name < 256) (in_preorder o l s n)
+short_preorder o cs l s nothing h = tt
+short_preorder o cs l s (leaf name i rest) h = let k = h.0.1 in (omega (arith, k), short_preorder o cs (l + entry_len name) (after_file s i) rest h.2)
+short_preorder o cs l s (link name i rest) h = absurd h
+short_preorder o cs l s (folder name i own rest) h =
+    let s1 = after_list s own in
+    let k = h.0.1 in (
+      omega (arith, k),
+      every_join (λ (i : Item). length i.name < 256) (in_preorder o (pad4 s.at) s1 own) (in_preorder o (l + entry_len name) (after_names s1 own) rest)
+      (short_preorder o cs (pad4 s.at) s1 own h.2) (short_preorder o cs (l + entry_len name) (after_names s1 own) rest h.3),
+    )
+
+pub short_names : (o : Order) (volume : List ℕ) (root : Inode) (n : Names) (cs : List (List ℕ)) → IsPlanned volume root n cs
+    → Every (λ (i : Item). length i.name < 256) (items_of o root n)
+short_names o volume root n cs p =
+    let s = first_state n in
+    let r = item_of o root_place [] root (list_len n) (root_offset n) 0 0 0 no_bytes in
+    let short = short_preorder o cs 76 s n p.well in
+    recursion_from_All (λ (i : Item). length i.name < 256) (items_of o root n)
+    (All-permutation (λ (i : Item). length i.name < 256) (r ∷ in_preorder o 76 s n) (items_of o root n) (all_permute o r n)
+    (All-from_recursion (λ (i : Item). length i.name < 256) (r ∷ in_preorder o 76 s n) (omega arith, short)))

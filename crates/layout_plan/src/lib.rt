@@ -6,6 +6,7 @@
 #![tactic(auto)]
 
 pub mod error;
+mod laid;
 pub mod planned;
 pub mod planning;
 

@@ -12,8 +12,8 @@ use Rattle.cramfs_plan.specs.Passes.{first_walk, walked, after_rows, named_lens,
 use Rattle.cramfs_plan.specs.Wholes.{is_long_list, has_long_list}
 use Rattle.cramfs_plan.proofs.Ordered.{items_rise}
 use Rattle.cramfs_plan.proofs.Whole.{too_many, too_deep, too_long, long_lists, not_large, any_long, told, own_counted, all_rows, all_narrow, all_small, all_are, size_is, found_is}
-use Rattle.cramfs_plan.proofs.layout.layout.Goals as goal
-use Rattle.cramfs_plan.proofs.layout.layout.Goals.{then-rows-ge-MOST_ITEMS-via-then-rows-ge-MOST_ITEMS, then-rows-ge-MOST_ITEMS-via-else-rows-ge-MOST_ITEMS+then-deepest-gt-MOST_NAMES}
+use Rattle.cramfs_plan.proofs.laying.layout.Goals as goal
+use Rattle.cramfs_plan.proofs.laying.layout.Goals.{then-rows-ge-MOST_ITEMS-via-then-rows-ge-MOST_ITEMS, then-rows-ge-MOST_ITEMS-via-else-rows-ge-MOST_ITEMS+then-deepest-gt-MOST_NAMES}
 
 pub returns-then-rows-ge-MOST_ITEMS-clause-whole :
     goal.returns-then-rows-ge-MOST_ITEMS-clause-whole

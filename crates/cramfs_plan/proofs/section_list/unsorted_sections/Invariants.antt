@@ -3,7 +3,7 @@ use Rattle.layout_terms.specs.Items.{Item}
 use Rattle.plan_items.specs.Views.{item_view, section_view}
 use Rattle.cramfs_layout.specs.Items.{sections_from}
 use Rattle.cramfs_plan.specs.Tables.{HoldsTables, unsorted}
-use Rattle.cramfs_plan.proofs.sections.unsorted_sections.Given as goal
+use Rattle.cramfs_plan.proofs.section_list.unsorted_sections.Given as goal
 
 abbrev pub invariant-loop-i : goal.invariant-loop-i
 invariant-loop-i l = record {

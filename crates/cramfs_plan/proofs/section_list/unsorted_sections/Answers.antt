@@ -1,7 +1,7 @@
 use Rattle.std.proofs.Common.{◌∷◌, ap, not, ◌∙◌, map}
 use Rattle.plan_items.specs.Views.{item_view, section_view}
 use Rattle.cramfs_plan.proofs.Sectioning.{holds_more, short_at, item_at, item_done}
-use Rattle.cramfs_plan.proofs.sections.unsorted_sections.Goals as goal
+use Rattle.cramfs_plan.proofs.section_list.unsorted_sections.Goals as goal
 
 pub push_item-requires : goal.push_item-requires
 push_item-requires c =
