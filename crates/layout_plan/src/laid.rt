@@ -26,7 +26,7 @@ pub struct Laid {
 }
 
 /// The layout in romfs of a manifest whose lines fit, and nothing where the whole is too large.
-fn laid_romfs<'a>(
+fn place_romfs<'a>(
     alloc: Global,
     volume: &[u8],
     root: &Inode<'a>,
@@ -48,7 +48,7 @@ fn laid_romfs<'a>(
 }
 
 /// The same in cramfs.
-fn laid_cramfs<'a>(
+fn place_cramfs<'a>(
     alloc: Global,
     order: Order,
     volume: &[u8],
@@ -73,7 +73,7 @@ fn laid_cramfs<'a>(
 }
 
 /// The layout of a manifest whose lines fit, and nothing where the whole is too large.
-pub fn laid<'a>(
+pub fn place<'a>(
     alloc: Global,
     format: Format,
     volume: &[u8],
@@ -89,9 +89,9 @@ pub fn laid<'a>(
         × (map item_view l.items.items ≡ items_of (format_of format) m sizes))) }
 {
     match format {
-        Format::Romfs => laid_romfs(alloc, volume, root, rows),
-        Format::Cramfs => laid_cramfs(alloc, Order::Little, volume, root, rows),
-        Format::CramfsBig => laid_cramfs(alloc, Order::Big, volume, root, rows),
+        Format::Romfs => place_romfs(alloc, volume, root, rows),
+        Format::Cramfs => place_cramfs(alloc, Order::Little, volume, root, rows),
+        Format::CramfsBig => place_cramfs(alloc, Order::Big, volume, root, rows),
     }
 }
 

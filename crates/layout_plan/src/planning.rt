@@ -5,7 +5,7 @@ ghost use Rattle.manifest.specs.Lines.{sources_of};
 ghost use Rattle.plan_misfits.specs.Formats.{format_of};
 
 use crate::error::PlanError;
-use crate::laid::{Laid, laid, sections};
+use crate::laid::{Laid, place, sections};
 use crate::planned::Plan;
 use manifest::{Manifest, Name};
 use plan_files::Files;
@@ -52,7 +52,7 @@ pub fn plan(alloc: Global, m: &Manifest, sizes: &[u64], format: Format) -> Resul
     }
     let root = root(m, &files);
     let rows = rows(alloc, m, &files)?;
-    let Some(Laid { image_len, items }) = laid(alloc, format, m.volume(), &root, &rows)? else {
+    let Some(Laid { image_len, items }) = place(alloc, format, m.volume(), &root, &rows)? else {
         return Err(PlanError::Refused {
             line: 0,
             number: TOO_LARGE,
