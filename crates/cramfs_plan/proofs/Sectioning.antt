@@ -8,13 +8,13 @@ use Rattle.std.proofs.lemmas.Bool.{cases_lt, lt-ltb, le-ltb}
 use Rattle.std.proofs.lemmas.Bool.Decides.{eqb_tells}
 use Rattle.std.specs.BTreeMap.{is_at}
 use Rattle.std.proofs.lemmas.List.{append_assoc}
-use Rattle.std.proofs.lemmas.List.Sorted.{IsPermutation-refl, IsPermutation-cons, IsPermutation-trans, IsPermutation-middle, IsPermutation-sym, IsPermutation-map}
+use Rattle.std.proofs.lemmas.List.Sorted.{IsPermutation-refl, IsPermutation-cons, IsPermutation-trans, IsPermutation-middle, IsPermutation-map}
 use Rattle.cramfs_format.specs.Inode.{block_count}
-use Rattle.layout_terms.specs.Items.{Item, Section, section, super, record_of, table_of, bytes_section, put_section, in_order, SectionsRise}
+use Rattle.layout_terms.specs.Items.{Item, Section, section, record_of, table_of, bytes_section, put_section, in_order, SectionsRise}
 use Rattle.plan_items.specs.declared.section.Section as code
 use Rattle.plan_items.specs.declared.item.Item as code_item
 use Rattle.plan_items.specs.Views.{item_view, section_view}
-use Rattle.cramfs_layout.specs.Items.{has_table, table_sections, sections_from, sections_of}
+use Rattle.cramfs_layout.specs.Items.{has_table, sections_from, sections_of}
 use Rattle.cramfs_layout.specs.Layout.{entry_len}
 use Rattle.cramfs_plan.specs.Orders.{Rises}
 use Rattle.cramfs_plan.specs.Tables.{HoldsTables, own_sections, unsorted}

@@ -1,5 +1,5 @@
 -- What the two passes tell of a whole tree.
-use Rattle.std.proofs.Common.{◌≡◌, ◌≢◌, ◌+◌, ◌*◌, ◌<◌, ◌≤◌, ◌^◌, ◌==◌, ◌||◌, nat_lt, not, if◌then◌else◌, Bool, true, false, cond, ℕ, zero, suc, List, [], ◌∷◌, ◌++◌, map, length, get_or, replicate, refl, sym, ap, subst, ◌∙◌, arith, IsPermutation}
+use Rattle.std.proofs.Common.{◌≡◌, ◌≢◌, ◌+◌, ◌<◌, ◌≤◌, ◌^◌, ◌==◌, ◌||◌, nat_lt, if◌then◌else◌, Bool, true, false, ℕ, zero, suc, List, [], ◌∷◌, ◌++◌, map, length, get_or, replicate, refl, sym, ap, subst, ◌∙◌, arith, IsPermutation}
 use Rattle.std.specs.List.{All, AllByRecursion as Every, list_any}
 use Rattle.std.proofs.lemmas.Bool.{lt-ltb, le-ltb, ne_eqb}
 use Rattle.std.proofs.lemmas.List.{length-append}
@@ -14,7 +14,7 @@ use Rattle.layout_terms.specs.Files.{height}
 use Rattle.layout_terms.specs.Items.{Item}
 use Rattle.misfits.specs.Format.{cramfs}
 use Rattle.cramfs_layout.specs.Layout.{State, entry_len, list_len, pad4, first_state, after_file, after_list, after_names, size_of, root_offset}
-use Rattle.cramfs_layout.specs.Items.{item_of, items_of, entries, below}
+use Rattle.cramfs_layout.specs.Items.{item_of, items_of}
 use Rattle.cramfs_layout.specs.Planned.{IsPlanned}
 use Rattle.cramfs_layout.specs.Wells.{AreWell}
 use Rattle.record_walk.proofs.Lists.{every_join}
@@ -31,8 +31,8 @@ use Rattle.cramfs_plan.specs.Passes.{lens_of, own_lens, named_lens, first_walk, 
 use Rattle.cramfs_plan.specs.Small.{IsSmall}
 use Rattle.cramfs_plan.specs.Wholes.{is_long_list, has_long_list, too_large}
 use Rattle.cramfs_plan.proofs.Measuring.{measures}
-use Rattle.cramfs_plan.proofs.Walking.{walks, length-lens}
-use Rattle.cramfs_plan.proofs.Ordered.{all_permute, items_rise}
+use Rattle.cramfs_plan.proofs.Walking.{walks}
+use Rattle.cramfs_plan.proofs.Ordered.{all_permute}
 use Rattle.cramfs_plan.proofs.Small.{item_small, are_small}
 
 -- as many items as rows, and the root's
@@ -241,7 +241,7 @@ short_preorder o cs l s (folder name i own rest) h =
     let k = h.0.1 in (
       omega (arith, k),
       every_join (λ (i : Item). length i.name < 256) (in_preorder o (pad4 s.at) s1 own) (in_preorder o (l + entry_len name) (after_names s1 own) rest)
-      (short_preorder o cs (pad4 s.at) s1 own h.2) (short_preorder o cs (l + entry_len name) (after_names s1 own) rest h.3),
+          (short_preorder o cs (pad4 s.at) s1 own h.2) (short_preorder o cs (l + entry_len name) (after_names s1 own) rest h.3),
     )
 
 pub short_names : (o : Order) (volume : List ℕ) (root : Inode) (n : Names) (cs : List (List ℕ)) → IsPlanned volume root n cs

@@ -1,20 +1,18 @@
 -- From what a plan begins with to the plan of a manifest.
-use Rattle.std.proofs.Common.{◌≡◌, ◌<◌, ◌≤◌, ℕ, Bool, true, false, if◌then◌else◌, ◌⊎◌, inl, inr, List, map, length, Option, MatchOption, Some, None, refl, sym, ap, subst, ◌∙◌, arith}
+use Rattle.std.proofs.Common.{◌≡◌, ◌<◌, ℕ, Bool, true, false, if◌then◌else◌, ◌⊎◌, inl, inr, List, map, length, Option, Some, None, refl, sym, ap, subst, ◌∙◌, arith}
 use Rattle.std.specs.List.{AllByRecursion as Every}
-use Rattle.rom_faults.specs.declared.fault.Fault.{Fault}
 use Rattle.record_walk.specs.Faults.{IsNone, IsLeastFaultOf}
 use Rattle.cramfs_format.specs.declared.order.Order.{Order}
 use Rattle.cramfs_format.specs.declared.order.Order.TheVariants.{Little, Big}
 use Rattle.image_parts.specs.Padding.{pad}
 use Rattle.manifest.specs.Grammar.{IsManifest}
 use Rattle.manifest.specs.Lines.{ManifestLines}
-use Rattle.name_tree.specs.Names.{Inode, Names}
+use Rattle.name_tree.specs.Names.{Inode}
 use Rattle.name_tree.specs.Tree.{tree_of, root_of}
 use Rattle.layout_terms.specs.Items.{Item}
 use Rattle.romfs_layout.specs.Layout.{full_size_of, root_at}
 use Rattle.romfs_layout.specs.Items as romfs_items
 use Rattle.romfs_layout.specs.Planned as romfs_planned
-use Rattle.cramfs_layout.specs.Layout.{size_of}
 use Rattle.cramfs_layout.specs.Items as cramfs_items
 use Rattle.cramfs_layout.specs.Planned as cramfs_planned
 use Rattle.misfits.specs.Format.{Format, romfs, cramfs, len_of, items_of}
@@ -30,7 +28,7 @@ use Rattle.plan_misfits.specs.declared.misfit.Misfit.{Misfit}
 use Rattle.plan_misfits.specs.Misfits.{misfit_fault}
 use Rattle.plan_misfits.specs.Formats.{format_of}
 use Rattle.plan_rows.specs.Fits.{IsFit}
-use Rattle.plan_rows.specs.Rows.{Row, rows}
+use Rattle.plan_rows.specs.Rows.{Row}
 use Rattle.plan_rows.proofs.Fitting.{rows_fit}
 use Rattle.romfs_plan.specs.Rows as of_romfs
 use Rattle.romfs_plan.proofs.Short as romfs_short

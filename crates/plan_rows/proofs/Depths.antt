@@ -1,6 +1,6 @@
 -- The greatest depth of the rows of a tree is its height.
 use Rattle.std.proofs.Common.{◌≡◌, ◌+◌, ℕ, max, List, [], ◌∷◌, ◌++◌, arith}
-use Rattle.name_tree.specs.Names.{Inode, Names, nothing, leaf, link, folder}
+use Rattle.name_tree.specs.Names.{Names, nothing, leaf, link, folder}
 use Rattle.layout_terms.specs.Files.{height}
 use Rattle.plan_rows.specs.Rows.{Row, rows, deepest}
 

@@ -1,14 +1,11 @@
-use Rattle.std.proofs.Common.{◌≡◌, ◌+◌, ◌||◌, ◌≤◌, List, ℕ, map, length, replicate, get_or, sym, ap, subst, ◌∙◌, arith}
+use Rattle.std.proofs.Common.{◌≡◌, ◌||◌, ℕ, map, length, replicate, sym, ap, subst, ◌∙◌, arith}
 use Rattle.std.specs.List.{AllByRecursion as Every, list_any}
 use Rattle.std.proofs.lemmas.List.{length-map}
-use Rattle.image_parts.specs.Padding.{pad}
 use Rattle.misfits.specs.Format.{cramfs}
-use Rattle.name_tree.specs.Names.{Names}
 use Rattle.plan_rows.specs.Fits.{IsFit}
-use Rattle.plan_rows.specs.Rows.{deepest, rows, row_view, inode_view}
-use Rattle.cramfs_layout.specs.Layout.{list_len, first_state, after_names, size_of}
+use Rattle.plan_rows.specs.Rows.{deepest, row_view, inode_view}
+use Rattle.cramfs_layout.specs.Layout.{size_of}
 use Rattle.cramfs_layout.specs.Items.{items_of}
-use Rattle.cramfs_plan.specs.Passes.{first_walk, walked, after_rows, named_lens, in_preorder}
 use Rattle.cramfs_plan.specs.Wholes.{is_long_list, has_long_list}
 use Rattle.cramfs_plan.proofs.Ordered.{items_rise}
 use Rattle.cramfs_plan.proofs.Whole.{too_many, too_deep, too_long, long_lists, not_large, any_long, told, own_counted, all_rows, all_narrow, all_small, all_are, size_is, found_is}

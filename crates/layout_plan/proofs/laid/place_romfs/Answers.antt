@@ -1,4 +1,4 @@
-use Rattle.std.proofs.Common.{◌≡◌, map}
+use Rattle.std.proofs.Common.{map}
 use Rattle.misfits.specs.Format.{romfs}
 use Rattle.name_tree.specs.Tree.{tree_of}
 use Rattle.plan_rows.specs.Rows.{inode_view, row_view}
