@@ -1,0 +1,6 @@
+//! A romfs image from its plan.
+//!
+//! `specs/Form.antt` says what the image is made of; `misfits` says what its layout is.
+#![tactic(auto)]
+
+mod header;
