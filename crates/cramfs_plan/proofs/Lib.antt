@@ -5,3 +5,4 @@ pub mod Small
 pub mod Ordered
 pub mod Placing
 pub mod Cutting
+pub mod Sectioning

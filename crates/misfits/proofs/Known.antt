@@ -1,4 +1,4 @@
--- What is known of the lines of a manifest that fits a format.
+-- What is known of the lines of a manifest where none of them misfits a format.
 use Rattle.std.proofs.Common.{◌≡◌, ◌≢◌, ℕ, ◌<◌, not, Bool, true, false, inl, inr, cond, List, [], ◌∷◌, ◌++◌, reverse, Option, Some, None, refl, sym, ap, subst, ◌∙◌, arith}
 use Rattle.std.proofs.lemmas.List.{reverse-append, reverse-reverse}
 use Rattle.std.specs.Cmp.Lexicographic.{bytes_decides}
@@ -6,6 +6,7 @@ use Rattle.std.specs.List.{AllByRecursion as Every}
 use Rattle.std.specs.Option.{option_map}
 use Rattle.std.specs.Str.{bytes_eq}
 use Rattle.rom_faults.specs.declared.fault.Fault.{Fault}
+use Rattle.record_walk.specs.Faults.{IsNone}
 use Rattle.record_walk.specs.Members.{Has, Pairs}
 use Rattle.record_walk.proofs.Lists.{every_weaker, every_of, every_left, every_right, has_every, has_weaker, pairs_pick}
 use Rattle.manifest.specs.declared.line.Line.{Line}
@@ -19,7 +20,7 @@ use Rattle.name_tree.specs.Tree.{inode_of, file_at, root_of, bare_root, or_else}
 use Rattle.name_tree.proofs.Law.{HaveFiles, have_files}
 use Rattle.misfits.proofs.Bools.{same_some, dir_not_hard}
 use Rattle.misfits.specs.Format.{Format}
-use Rattle.misfits.specs.Misfit.{HasMisfit, of_line, HasNoMisfit}
+use Rattle.misfits.specs.Misfit.{HasMisfit, HasLineMisfit, of_line}
 use Rattle.misfits.proofs.Written.{IsLine, IsWritten, written}
 use Rattle.misfits.proofs.Led.{LedIn, all_led, led_member, IsFaultless, all_faultless, HasFile, has_file}
 use Rattle.misfits.proofs.Grown.{IsNamed, IsOwned, inode_line}
@@ -35,7 +36,8 @@ every_reverse P (x ∷ xs) h =
 abbrev pub Fits : Format → ManifestLines → List ℕ → Line → Type 0
 Fits f m sizes l = (k : ℕ) → HasMisfit f m sizes l k → ⊥
 
-lines_fit : (f : Format) (m : ManifestLines) (sizes : List ℕ) → HasNoMisfit f m sizes → Every (Fits f m sizes) m.lines
+lines_fit : (f : Format) (m : ManifestLines) (sizes : List ℕ) → IsNone (HasLineMisfit f m sizes)
+    → Every (Fits f m sizes) m.lines
 lines_fit f m sizes h = every_of (Fits f m sizes) m.lines none
   where
     fault : ℕ → ℕ → Fault
@@ -43,7 +45,7 @@ lines_fit f m sizes h = every_of (Fits f m sizes) m.lines none
 
     none : (l : Line) → Has (λ y. y ≡ l) m.lines → Fits f m sizes l
     none l here k x =
-        h.lines (record { number = k; at = l.number }) (of_line (has_weaker (λ y. y ≡ l) (λ y. (l.number ≡ y.number) × HasMisfit f m sizes y k)
+        h (record { number = k; at = l.number }) (of_line (has_weaker (λ y. y ≡ l) (λ y. (l.number ≡ y.number) × HasMisfit f m sizes y k)
         (λ y e. (ap (λ (z : Line). z.number) (sym e), subst (λ (z : Line). HasMisfit f m sizes z k) (sym e) x)) m.lines here))
 
 -- the lines of a manifest from the last to the first, and what is known of them
@@ -61,7 +63,7 @@ pub record IsKnown (f : Format) (m : ManifestLines) (sizes : List ℕ) (latest :
   pub aligned : Every (λ k. is_file k.word ≡ true → IsAligned k.align) (reverse m.lines)
   pub volume : is_bad 255 m.volume ≡ false
 
-pub known : (f : Format) (m : ManifestLines) (sizes : List ℕ) → IsManifest m → HasNoMisfit f m sizes
+pub known : (f : Format) (m : ManifestLines) (sizes : List ℕ) → IsManifest m → IsNone (HasLineMisfit f m sizes)
     → (latest : List Line) × IsKnown f m sizes latest
 known f m sizes h n =
     let c = checked_lines m h.0 h.1 in

@@ -5,10 +5,10 @@ pub mod Orders
 pub mod Written
 pub mod Sorted
 pub mod Led
-mod Grown
+pub mod Grown
 pub mod Plain
 mod Aligned
-mod Known
+pub mod Known
 mod InRomfs
 mod InCramfs
 mod PlannedRomfs

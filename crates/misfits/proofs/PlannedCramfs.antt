@@ -126,7 +126,7 @@ pub planned : (o : Order) (m : ManifestLines) (cs : List (List ℕ)) → IsManif
     → IsPlanned m.volume (root_of m.lines (map length cs)) (tree_of m.lines (map length cs)) cs
 planned o m cs h none =
     let sizes = map length cs in
-    let k = known (cramfs o) m sizes h none in
+    let k = known (cramfs o) m sizes h none.lines in
     let latest = k.0 in
     let w = k.1 in
     let n = tree_of m.lines sizes in

@@ -193,7 +193,7 @@ pub sourced : (f : Format) (m : ManifestLines) (sizes : List ℕ) → IsManifest
     → AreAlignedBy (align_of m.lines) (tree_of m.lines sizes)
 unfolding tree_of
 sourced f m sizes h none =
-    let k = known f m sizes h none in
+    let k = known f m sizes h none.lines in
     let latest = k.0 in
     let w = k.1 in
     let apart : Pairs (λ (l : Line) (k : Line). l.number ≢ k.number) m.lines = subst (Pairs (λ (l : Line) (k : Line). l.number ≢ k.number)) (sym w.reversed) (pairs_reverse (λ (l : Line) (k : Line). l.number ≢ k.number) (λ l k d z. d (sym z)) latest w.apart) in

@@ -2,21 +2,22 @@
 use Rattle.std.proofs.Common.{◌≡◌, ◌<◌, ◌≤◌, ◌+◌, ℕ, Bool, true, false, ◌&&◌, ◌||◌, nat_lt, cond, if◌then◌else◌, List, [], ◌∷◌, ◌++◌, length, map, filter, reverse, take, drop, get_or, suc, Option, Some, None, Vec, refl, sym, ap, subst, ◌∙◌, arith}
 use Rattle.std.proofs.lemmas.Bool.{lt-ltb, le-ltb}
 use Rattle.std.proofs.lemmas.List.{reverse-append, take_more, length-append}
+use Rattle.std.proofs.lemmas.Option.{slice_get-get_or}
 use Rattle.std.proofs.Math.Seq.{split_at}
 use Rattle.std.specs.BTreeMap.{BTreeMap}
-use Rattle.std.specs.List.{AllByRecursion as Every}
+use Rattle.std.specs.List.{AllByRecursion as Every, slice_get}
 use Rattle.std.specs.Option.{option_map}
 use Rattle.std.specs.Str.{bytes_eq}
 use Rattle.record_walk.specs.Members.{Pairs}
 use Rattle.record_walk.proofs.Lists.{every_weaker, every_join, pairs_push, pairs_cross, pairs_right}
 use Rattle.manifest.specs.declared.line.Line.{Line}
 use Rattle.manifest.specs.Grammar.{IsManifest}
-use Rattle.manifest.specs.Lines.{ManifestLines, is_file, is_hard, is_same, filed, sources_of}
+use Rattle.manifest.specs.Lines.{ManifestLines, is_file, is_hard, is_same, led, filed, sources_of}
 use Rattle.manifest.proofs.Adding.{sources-append}
 use Rattle.misfits.proofs.Written.{written}
 use Rattle.name_tree.specs.Tree.{sources_before}
-use Rattle.plan_files.specs.declared.files.Contents.{Contents}
-use Rattle.plan_files.specs.Files.{contents_of, own_file, own_contents, flat, noted, HasMore, Knows}
+use Rattle.plan_files.specs.declared.files.Target.{Target}
+use Rattle.plan_files.specs.Files.{contents_of, contents_in, own_contents, own_target, or_nowhere, noted, HasMore, IsIndexOf, IsTarget, Knows}
 
 -- lines are in the order of their numbers
 abbrev pub Rise : List Line → Type 0
@@ -71,24 +72,61 @@ source_below ls l rest f =
     let e = ap length (sources-append ls (l ∷ rest)) ∙ length-append (sources_of ls) (sources_of (l ∷ rest)) in
     omega (arith, n, e)
 
--- one more line
-pub knows_more : {A : Type 0} (all : List Line) (sizes : List ℕ) (latest : List Line) (l : Line) (source : ℕ)
-    (old new : BTreeMap (Vec ℕ A) (Option Contents)) → source ≡ sources_before l.number all → Knows all sizes latest old
-    → HasMore l.path (own_contents old sizes source l) old new → Knows all sizes (l ∷ latest) new
-knows_more all sizes latest l source old new e h more q =
-    ap flat (more q) ∙ elim (bytes_eq l.path q) as (λ t. flat (cond t (Some (own_contents old sizes source l)) (noted old q)) ≡ option_map (contents_of all sizes) (cond t (own_file latest l) (filed latest q))) [
-      | true ↦ own
-      | false ↦ h q
-    ]
-  where
-    own : own_contents old sizes source l ≡ option_map (contents_of all sizes) (own_file latest l)
-    own = elim (is_hard l.word || is_same l.word) as (λ t. cond t (flat (noted old l.text)) (cond (is_file l.word) (Some (record { align = l.align; size = get_or sizes source 0; source = source })) None) ≡ option_map (contents_of all sizes) (cond t (filed latest l.text) (cond (is_file l.word) (Some l) None))) [
-      | true ↦ h l.text
-      | false ↦ elim (is_file l.word) as (λ t. cond t (Some (record { align = l.align; size = get_or sizes source 0; source = source })) None ≡ option_map (contents_of all sizes) (cond t (Some l) None)) [
-        | true ↦ ap (λ (k : ℕ). Some (record { align = l.align; size = get_or sizes k 0; source = k })) e
-        | false ↦ refl
+-- the `file` line that a line behind these has its contents from
+abbrev own_file : List Line → Line → Option Line
+own_file latest l =
+    if is_hard l.word || is_same l.word then filed latest l.text else (if is_file l.word then Some l else None)
+
+-- what a path that the map does not have leads to
+pub nothing_known : (all : List Line) (sizes : List ℕ) (path : List ℕ) → IsTarget all sizes [] path (or_nowhere None)
+nothing_known all sizes path = record { line = refl; contents = refl }
+
+-- one more line, of this index
+module _ {A : Type 0} (all : List Line) (sizes : List ℕ) (latest : List Line) (l : Line) (source index : ℕ)
+    (old : BTreeMap (Vec ℕ A) Target) (e : source ≡ sources_before l.number all) (at : slice_get all index ≡ Some l)
+    (h : Knows all sizes latest old) where
+  -- what a `file` line has
+  own_source : (if is_file l.word then Some (record { align = l.align; size = get_or sizes source 0; source = source }) else None)
+      ≡ option_map (contents_of all sizes) (if is_file l.word then Some l else None)
+  own_source = elim (is_file l.word) as (λ t. cond t (Some (record { align = l.align; size = get_or sizes source 0; source = source })) None ≡ option_map (contents_of all sizes) (cond t (Some l) None)) [
+    | true ↦ ap (λ (k : ℕ). Some (record { align = l.align; size = get_or sizes k 0; source = k })) e
+    | false ↦ refl
+  ]
+
+  own_bytes : own_contents old sizes source l
+      ≡ option_map (contents_of all sizes) (if is_same l.word then filed latest l.text else (if is_file l.word then Some l else None))
+  own_bytes = elim (is_same l.word) as (λ t. cond t (or_nowhere (noted old l.text)).contents (cond (is_file l.word) (Some (record { align = l.align; size = get_or sizes source 0; source = source })) None) ≡ option_map (contents_of all sizes) (cond t (filed latest l.text) (cond (is_file l.word) (Some l) None))) [
+    | true ↦ (h l.text).contents
+    | false ↦ own_source
+  ]
+
+  own_line : IsIndexOf all (own_target old sizes source index l).line (if is_hard l.word then led latest l.text else Some l)
+  own_line = elim (is_hard l.word) as (λ t. IsIndexOf all (cond t (or_nowhere (noted old l.text)) (record { line = Some index; contents = own_contents old sizes source l })).line (cond t (led latest l.text) (Some l))) [
+    | true ↦ (h l.text).line
+    | false ↦ ap (λ (o : Option Line). Some o) at
+  ]
+
+  own_all : (own_target old sizes source index l).contents ≡ option_map (contents_of all sizes) (own_file latest l)
+  own_all = elim (is_hard l.word) as (λ t. (cond t (or_nowhere (noted old l.text)) (record { line = Some index; contents = own_contents old sizes source l })).contents ≡ option_map (contents_of all sizes) (cond (t || is_same l.word) (filed latest l.text) (cond (is_file l.word) (Some l) None))) [
+    | true ↦ (h l.text).contents
+    | false ↦ own_bytes
+  ]
+
+  pub knows_more : (new : BTreeMap (Vec ℕ A) Target) → HasMore l.path (own_target old sizes source index l) old new
+      → Knows all sizes (l ∷ latest) new
+  knows_more new more q = subst (λ (o : Option Target). IsTarget all sizes (l ∷ latest) q (or_nowhere o)) (sym (more q)) (record { line = line; contents = contents })
+    where
+      line : IsIndexOf all (or_nowhere (cond (bytes_eq l.path q) (Some (own_target old sizes source index l)) (noted old q))).line (led (l ∷ latest) q)
+      line = elim (bytes_eq l.path q) as (λ t. IsIndexOf all (or_nowhere (cond t (Some (own_target old sizes source index l)) (noted old q))).line (cond t (cond (is_hard l.word) (led latest l.text) (Some l)) (led latest q))) [
+        | true ↦ own_line
+        | false ↦ (h q).line
       ]
-    ]
+
+      contents : (or_nowhere (cond (bytes_eq l.path q) (Some (own_target old sizes source index l)) (noted old q))).contents ≡ contents_in all sizes (l ∷ latest) q
+      contents = elim (bytes_eq l.path q) as (λ t. (or_nowhere (cond t (Some (own_target old sizes source index l)) (noted old q))).contents ≡ option_map (contents_of all sizes) (cond t (own_file latest l) (filed latest q))) [
+        | true ↦ own_all
+        | false ↦ (h q).contents
+      ]
 
 -- at an index
 split : (ls : List Line) (i : ℕ) (d l : Line) → i < length ls → l ≡ get_or ls i d
@@ -105,6 +143,9 @@ pub below_at : (ls : List Line) (i : ℕ) (d l : Line) → i < length ls → l �
     → length (sources_of (take i ls)) < length (sources_of ls)
 below_at ls i d l h e f =
     subst (λ (ks : List Line). length (sources_of (take i ls)) < length (sources_of ks)) (sym (split ls i d l h e)) (source_below (take i ls) l (drop (suc i) ls) f)
+
+pub got : (ls : List Line) (i : ℕ) (d l : Line) → i < length ls → l ≡ get_or ls i d → slice_get ls i ≡ Some l
+got ls i d l h e = slice_get-get_or ls i d h ∙ ap (λ (x : Line). Some x) (sym e)
 
 taken : (ls : List Line) (i : ℕ) (d l : Line) → i < length ls → l ≡ get_or ls i d → take (i + 1) ls ≡ take i ls ++ l ∷ []
 taken ls i d l h e = take_more ls i d h ∙ ap (λ (k : Line). take i ls ++ k ∷ []) (sym e)

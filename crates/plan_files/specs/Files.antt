@@ -1,14 +1,17 @@
--- The contents that a path of a manifest leads to, where its sources have these sizes. (This project's own.)
-use Rattle.std.specs.Prelude.{◌≡◌, ℕ, if◌then◌else◌, ◌||◌, List, get_or, reverse, Option, Some, None, Vec}
+-- The line and the contents that a path of a manifest leads to, where its sources have these sizes. (This project's
+-- own.)
+use Rattle.std.specs.Prelude.{◌≡◌, ℕ, if◌then◌else◌, List, get_or, reverse, Option, Some, None, Vec}
+use Rattle.std.specs.List.{slice_get}
 use Rattle.std.specs.Option.{option_map}
 use Rattle.std.specs.Ordering.{nat_cmp}
 use Rattle.std.specs.Cmp.Lexicographic.{slice_cmp}
 use Rattle.std.specs.BTreeMap.{get_by, BTreeMap}
 use Rattle.std.specs.Str.{bytes_eq}
 use Rattle.manifest.specs.declared.line.Line.{Line}
-use Rattle.manifest.specs.Lines.{is_file, is_hard, is_same, filed}
+use Rattle.manifest.specs.Lines.{is_file, is_hard, is_same, filed, led}
 use Rattle.name_tree.specs.Tree.{sources_before}
 use Rattle.plan_files.specs.declared.files.Contents.{Contents}
+use Rattle.plan_files.specs.declared.files.Target.{Target}
 use Rattle.plan_files.specs.declared.files.Files.{Files}
 
 -- the contents of a `file` line: those of its source, aligned as it asks for
@@ -23,33 +26,43 @@ contents_in all sizes latest path = option_map (contents_of all sizes) (filed la
 abbrev pub contents_at : List Line → List ℕ → List ℕ → Option Contents
 contents_at lines sizes path = contents_in lines sizes (reverse lines) path
 
--- the `file` line that a line behind these has its contents from
-abbrev pub own_file : List Line → Line → Option Line
-own_file latest l =
-    if is_hard l.word || is_same l.word then filed latest l.text else (if is_file l.word then Some l else None)
+-- the index, if any, is that of the line, if any
+abbrev pub IsIndexOf : List Line → Option ℕ → Option Line → Type 0
+IsIndexOf lines k l = option_map (λ i. slice_get lines i) k ≡ option_map (λ x. Some x) l
 
-abbrev pub flat : {X : Type 0} → Option (Option X) → Option X
-flat None = None
-flat (Some o) = o
+-- what a path leads to among these lines
+pub record IsTarget (all : List Line) (sizes : List ℕ) (latest : List Line) (path : List ℕ) (t : Target) : Type 0 where
+  pub line : IsIndexOf all t.line (led latest path)
+  pub contents : t.contents ≡ contents_in all sizes latest path
+
+abbrev pub or_nowhere : Option Target → Target
+or_nowhere None = record { line = None; contents = None }
+or_nowhere (Some t) = t
 
 -- what the map has at a path
-abbrev pub noted : {A : Type 0} → BTreeMap (Vec ℕ A) (Option Contents) → List ℕ → Option (Option Contents)
+abbrev pub noted : {A : Type 0} → BTreeMap (Vec ℕ A) Target → List ℕ → Option Target
 noted m path = get_by (λ k. slice_cmp nat_cmp path k.items) m
 
 -- the map has this at a path now, and at others what it had
-abbrev pub HasMore : {A : Type 0} → List ℕ → Option Contents → BTreeMap (Vec ℕ A) (Option Contents)
-    → BTreeMap (Vec ℕ A) (Option Contents) → Type 0
-HasMore path o old new = (q : List ℕ) → noted new q ≡ (if bytes_eq path q then Some o else noted old q)
+abbrev pub HasMore : {A : Type 0} → List ℕ → Target → BTreeMap (Vec ℕ A) Target → BTreeMap (Vec ℕ A) Target → Type 0
+HasMore path t old new = (q : List ℕ) → noted new q ≡ (if bytes_eq path q then Some t else noted old q)
 
 -- the map tells of each path what these lines do
-abbrev pub Knows : {A : Type 0} → List Line → List ℕ → List Line → BTreeMap (Vec ℕ A) (Option Contents) → Type 0
-Knows all sizes latest m = (path : List ℕ) → flat (noted m path) ≡ contents_in all sizes latest path
+abbrev pub Knows : {A : Type 0} → List Line → List ℕ → List Line → BTreeMap (Vec ℕ A) Target → Type 0
+Knows all sizes latest m = (path : List ℕ) → IsTarget all sizes latest path (or_nowhere (noted m path))
 
--- what a line leads to, where the map has what the paths before it do and so many sources come before it
-abbrev pub own_contents : {A : Type 0} → BTreeMap (Vec ℕ A) (Option Contents) → List ℕ → ℕ → Line → Option Contents
+-- the contents of a line that is not `hard`, where so many sources come before it
+abbrev pub own_contents : {A : Type 0} → BTreeMap (Vec ℕ A) Target → List ℕ → ℕ → Line → Option Contents
 own_contents m sizes source l =
-    if is_hard l.word || is_same l.word then flat (noted m l.text)
-    else (if is_file l.word then Some (record { align = l.align; size = get_or sizes source 0; source = source }) else None)
+    if is_same l.word then (or_nowhere (noted m l.text)).contents
+    else (if is_file l.word then Some (record { align = l.align; size = get_or sizes source 0; source = source })
+    else None)
+
+-- what the path of a line of this index leads to, where the map has what the paths before it do
+abbrev pub own_target : {A : Type 0} → BTreeMap (Vec ℕ A) Target → List ℕ → ℕ → ℕ → Line → Target
+own_target m sizes source index l =
+    if is_hard l.word then or_nowhere (noted m l.text)
+    else record { line = Some index; contents = own_contents m sizes source l }
 
 -- what is known of the paths of a manifest
 abbrev pub IsOf : List Line → List ℕ → Files → Type 0

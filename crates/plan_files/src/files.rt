@@ -1,8 +1,10 @@
-//! The contents at each path of a manifest.
+//! The line and the contents at each path of a manifest.
 ghost use Rattle.std.specs.Prelude.{◌≡◌, true, ◌<◌, [], ◌∷◌, IfOk, OnOk, length, reverse, List, ℕ};
 ghost use Rattle.manifest.specs.Lines as lines;
+ghost use Rattle.manifest.specs.Lines.{led};
 ghost use Rattle.manifest.specs.declared.line.Line.{Line};
-ghost use Rattle.plan_files.specs.Files.{contents_at, own_contents, flat, noted, HasMore, IsOf};
+ghost use Rattle.plan_files.specs.Files.{contents_at, noted, own_target, or_nowhere};
+ghost use Rattle.plan_files.specs.Files.{HasMore, IsIndexOf, IsOf};
 
 use manifest::{Line, Manifest, Word};
 use rom_fields::memory::OutOfMemory;
@@ -20,10 +22,18 @@ pub struct Contents {
     pub source: usize,
 }
 
+/// What a path leads to.
+#[derive(Clone, Copy, Debug, PartialEq, Eq)]
+struct Target {
+    /// The index of a line.
+    line: Option<usize>,
+    contents: Option<Contents>,
+}
+
 /// What the paths of the lines that were read lead to.
 #[derive(Drop)]
 pub struct Files {
-    paths: BTreeMap<Vec<u8>, Option<Contents>>,
+    paths: BTreeMap<Vec<u8>, Target>,
 }
 
 /// Whether a line is a `file` line.
@@ -36,39 +46,44 @@ fn is_file(line: &Line) -> bool
 /// Puts a path into the map with what it leads to.
 fn note_path(
     alloc: Global,
-    paths: &mut BTreeMap<Vec<u8>, Option<Contents>>,
+    paths: &mut BTreeMap<Vec<u8>, Target>,
     path: &[u8],
-    contents: Option<Contents>,
+    target: Target,
 ) -> Result<(), OutOfMemory>
-    ensures { OnOk result (HasMore path.now contents paths.old paths.new) }
+    ensures { OnOk result (HasMore path.now target paths.old paths.new) }
 {
     let key = path.to_vec(alloc)?;
-    paths.insert(key, contents)?;
+    paths.insert(key, target)?;
     Ok(())
 }
 
 /// What a path leads to, and nothing where the map does not have it.
-fn leads_to(paths: &BTreeMap<Vec<u8>, Option<Contents>>, path: &[u8]) -> Option<Contents>
-    ensures { result ≡ flat (noted paths.now path.now) }
+fn leads_to(paths: &BTreeMap<Vec<u8>, Target>, path: &[u8]) -> Target
+    ensures { result ≡ or_nowhere (noted paths.now path.now) }
 {
     match paths.get(path) {
-        None => None,
-        Some(contents) => *contents,
+        None => Target {
+            line: None,
+            contents: None,
+        },
+        Some(target) => *target,
     }
 }
 
-/// What a line leads to, where so many sources come before it.
-fn own_contents(
-    paths: &BTreeMap<Vec<u8>, Option<Contents>>,
+/// What the path of a line of this index leads to, where so many sources come before it.
+fn own_target(
+    paths: &BTreeMap<Vec<u8>, Target>,
     sizes: &[u64],
     source: usize,
+    index: usize,
     line: &Line,
-) -> Option<Contents>
+) -> Target
     requires { lines.is_file line.now.word ≡ true → source < length sizes.now }
-    ensures { result ≡ own_contents paths.now sizes.now source line.now }
+    ensures { result ≡ own_target paths.now sizes.now source index line.now }
 {
-    match line.word {
-        Word::Hard | Word::Same => leads_to(paths, line.text.as_bytes()),
+    let contents = match line.word {
+        Word::Hard => return leads_to(paths, line.text.as_bytes()),
+        Word::Same => leads_to(paths, line.text.as_bytes()).contents,
         Word::File => Some(Contents {
             align: line.align,
             size: sizes[source],
@@ -76,6 +91,10 @@ fn own_contents(
         }),
         Word::Dir | Word::Slink | Word::Block => None,
         Word::Character | Word::Fifo | Word::Socket => None,
+    };
+    Target {
+        line: Some(index),
+        contents,
     }
 }
 
@@ -88,10 +107,12 @@ impl Files {
     {
         let mut paths = BTreeMap::new(alloc);
         let mut source = 0;
+        let mut index = 0;
         let all = m.lines();
         for line in all {
-            let contents = own_contents(&paths, sizes, source, line);
-            note_path(alloc, &mut paths, line.path.as_bytes(), contents)?;
+            let target = own_target(&paths, sizes, source, index, line);
+            note_path(alloc, &mut paths, line.path.as_bytes(), target)?;
+            index += 1;
             if is_file(line) {
                 source += 1;
             }
@@ -104,6 +125,14 @@ impl Files {
         ensures { (lines : List Line) (sizes : List ℕ) → IsOf lines sizes self.now
             → result ≡ contents_at lines sizes path.now }
     {
-        leads_to(&self.paths, path)
+        leads_to(&self.paths, path).contents
+    }
+
+    /// The index of the line that a path leads to, if it leads to one.
+    pub fn line(&self, path: &[u8]) -> Option<usize>
+        ensures { (lines : List Line) (sizes : List ℕ) → IsOf lines sizes self.now
+            → IsIndexOf lines result (led (reverse lines) path.now) }
+    {
+        leads_to(&self.paths, path).line
     }
 }

@@ -1,5 +1,5 @@
 -- What holds of the rows of a manifest whose lines fit a format. (This project's own.)
-use Rattle.std.specs.Prelude.{ℕ, ◌<◌, ◌≤◌, length}
+use Rattle.std.specs.Prelude.{◌<◌, ◌≤◌, length}
 use Rattle.name_tree.specs.Tree.{What, a_leaf, a_link, a_folder}
 use Rattle.misfits.specs.Format.{Format}
 use Rattle.misfits.specs.Misfit.{IsLarge, IsLong, HasNoLinks}

@@ -1,2 +1,4 @@
 pub mod Rows
 pub mod Fits
+pub mod Made
+pub mod Keyed

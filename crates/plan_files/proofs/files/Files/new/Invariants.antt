@@ -7,5 +7,6 @@ abbrev pub invariant-loop-line : goal.invariant-loop-line
 invariant-loop-line l = record {
   all : l.all ≡ l.m.lines;
   knows : Knows l.m.lines l.sizes (reverse (take l.line-index l.all)) l.paths;
+  index : l.index ≡ l.line-index;
   source : l.source ≡ length (sources_of (take l.line-index l.all));
 }
