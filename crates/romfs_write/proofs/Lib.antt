@@ -1,1 +1,6 @@
 pub mod Puts
+pub mod Sections
+pub mod Sources
+pub mod Facts
+pub mod Laid
+pub mod Means

@@ -3,4 +3,5 @@
 //! `specs/Form.antt` says what the image is made of; `misfits` says what its layout is.
 #![tactic(auto)]
 
+mod form;
 mod header;

@@ -1,0 +1,121 @@
+-- The image of a plan's form is the layout.
+use Rattle.std.proofs.Common.{◌≡◌, ℕ, ◌+◌, ◌-◌, ◌*◌, ◌/◌, ◌<◌, ◌≤◌, zero, suc, nat_lt, true, false, if◌then◌else◌, inl, inr, List, [], ◌∷◌, ◌++◌, map, length, take, drop, replicate, get_or, refl, sym, ap, subst, ◌∙◌, arith, append_assoc, append-nil, length-append}
+use Rattle.std.proofs.lemmas.List.{replicate-append-replicate, take_all, take-append-le, drop-append-le}
+use Rattle.std.specs.List.{AllByRecursion as Every}
+use Rattle.byteorder.specs.Endian.{big_bytes}
+use Rattle.rom_fields.specs.Words.{words_total}
+use Rattle.image_parts.specs.Padding.{pad}
+use Rattle.image_parts.specs.Parts.{Part, part, laid, with_part}
+use Rattle.image_parts.specs.Sums.{balance, sealed}
+use Rattle.image_parts.proofs.Parts.{laid-append, length-laid}
+use Rattle.image_parts.proofs.Padding.{pad-after}
+use Rattle.image_stream.specs.Segments.{Segment, Form, segment_part, image_from, image_of, IsLaidOut}
+use Rattle.image_stream.specs.Outcomes.{AreSized}
+use Rattle.image_stream.specs.WordSums.{weighted, weight, balance_of, term}
+use Rattle.image_stream.proofs.Laid.{image_laid}
+use Rattle.image_stream.proofs.ByWords.{weighted_words}
+use Rattle.name_tree.specs.Names.{Fill, text, bytes_of}
+use Rattle.layout_plan.specs.Plans.{Planned}
+use Rattle.layout_terms.specs.Items.{Item, Section, Body, super, record_of, table_of, text_of, contents_of, section, SectionsRise}
+use Rattle.layout_terms.specs.Bodies.{item_at, section_part}
+use Rattle.layout_terms.proofs.Bodies.{sections_are}
+use Rattle.romfs_format.specs.Record.{pad16}
+use Rattle.romfs_layout.specs.Layout.{root_at, superblock}
+use Rattle.romfs_layout.specs.Composed.{romfs_part, composed}
+use Rattle.romfs_layout.specs.Items.{sections_of, sections_from}
+use Rattle.romfs_write.specs.Form.{full_size, segment_by, segment_of, form_of, superblock_storing}
+use Rattle.romfs_write.specs.Known.{IsBody}
+use Rattle.romfs_write.proofs.Sections.{size_is}
+
+-- zeros count nothing
+no_term : (k : ℕ) → term k 0 ≡ 0
+no_term k = elim (nat_lt k 512) as (λ t. (if t then 0 * weight k else 0) ≡ 0) [ true ↦ omega arith | false ↦ refl ]
+
+none_weighted : (n k : ℕ) → weighted k (replicate n 0) ≡ 0
+none_weighted zero k = refl
+none_weighted (suc n) k = let h = none_weighted n (k + 1) in let t = no_term k in omega (arith, h, t)
+
+joined : (xs ys : List ℕ) (k : ℕ) → weighted k (xs ++ ys) ≡ weighted k xs + weighted (k + length xs) ys
+joined [] ys k = let e : k ≡ k + 0 = omega arith in ap (λ j. weighted j ys) e ∙ (let z : weighted (k + 0) ys ≡ 0 + weighted (k + 0) ys = omega arith in z)
+joined (x ∷ xs) ys k =
+    let h = joined xs ys (k + 1) in
+    let e : k + 1 + length xs ≡ k + length (x ∷ xs) = omega arith in
+    let t = ap (λ (j : ℕ). weighted j ys) e in
+    omega arith
+
+-- zeros behind whole words do not change the check value
+balance_before : (b : List ℕ) (n k : ℕ) → length b ≡ 4 * n
+    → balance_of (b ++ replicate k 0) ≡ balance (words_total (take 512 b))
+unfolding balance_of
+balance_before b n k e =
+    let z = none_weighted k (0 + length b) in
+    let j = joined b (replicate k 0) 0 in
+    let w : weighted 0 (b ++ replicate k 0) ≡ weighted 0 b = omega (arith, z, j) in
+    ap balance (w ∙ weighted_words b n e)
+
+-- zeros up to the end are zeros up to a place before it, and those from there
+extended : (l : List ℕ) (size end : ℕ) → length l ≤ size → size ≤ end
+    → l ++ (replicate (end - length l) 0 ++ []) ≡ (l ++ (replicate (size - length l) 0 ++ [])) ++ replicate (end - size) 0
+extended l size end h k =
+    let a = replicate {A = ℕ} (size - length l) 0 in
+    let c = replicate {A = ℕ} (end - size) 0 in
+    let n : end - length l ≡ (size - length l) + (end - size) = omega arith in
+    let e : replicate {A = ℕ} (end - length l) 0 ≡ a ++ c = ap (λ (m : ℕ). replicate m 0) n ∙ sym (replicate-append-replicate (size - length l) (end - size) 0) in
+    ap (λ (x : List ℕ). l ++ x) (append-nil (replicate (end - length l) 0) ∙ e) ∙ sym (append_assoc l a c)
+    ∙ ap (λ (x : List ℕ). (l ++ x) ++ c) (sym (append-nil a))
+
+-- the word put into an image, of which bytes with zeros behind them are all
+put_into : (b z rest : List ℕ) (size v : ℕ) (volume : List ℕ) → 16 ≤ length b → superblock_storing 0 size volume ++ rest ≡ b ++ z
+    → superblock_storing v size volume ++ rest ≡ (take 12 b ++ (big_bytes 4 v ++ drop 16 b)) ++ z
+put_into b z rest size v volume h e =
+    let front = take 12 b in
+    let w = big_bytes 4 v in
+    let x : superblock_storing v size volume ++ rest ≡ take 12 (superblock_storing 0 size volume ++ rest) ++ (w ++ drop 16 (superblock_storing 0 size volume ++ rest)) = refl in
+    x ∙ ap (λ (y : List ℕ). take 12 y ++ (w ++ drop 16 y)) e
+    ∙ ap (λ (y : List ℕ). y ++ (w ++ drop 16 (b ++ z))) (take-append-le 12 b z (omega arith))
+    ∙ ap (λ (y : List ℕ). front ++ (w ++ y)) (drop-append-le 16 b z (omega arith))
+    ∙ sym (append_assoc front (w ++ drop 16 b) z ∙ ap (λ (y : List ℕ). front ++ y) (append_assoc w (drop 16 b) z))
+
+module _ (volume : List ℕ) (size : ℕ) (cs : List (List ℕ)) (is : List Item) where
+  part_by : (at n : ℕ) (b : Body) → IsBody is (map length cs) n b
+      → segment_part cs (segment_by is at n b) ≡ romfs_part volume size cs is (section at n b)
+  part_by at n super h = absurd h
+  part_by at n (record_of k) h = refl
+  part_by at n (table_of k) h = absurd h
+  part_by at n (text_of k) h = ap (λ (f : Fill). part at (bytes_of [] f)) h.2 ∙ sym (ap (λ (f : Fill). part at (bytes_of cs f)) h.2)
+  part_by at n (contents_of k) h =
+      let e : length (get_or cs k []) ≡ n = size_is cs k ∙ h.1 in
+      ap (λ (b : List ℕ). part at b) (take_all n (get_or cs k []) (omega arith))
+
+  parts_by : (ss : List Section) → Every (λ s. IsBody is (map length cs) s.len s.body) ss
+      → map (segment_part cs) (map (segment_of is) ss) ≡ map (romfs_part volume size cs is) ss
+  parts_by [] h = refl
+  parts_by (s ∷ ss) h =
+      ap (λ (p : Part). p ∷ map (segment_part cs) (map (segment_of is) ss)) (part_by s.place s.len s.body h.0)
+      ∙ ap (λ (ps : List Part). romfs_part volume size cs is s ∷ ps) (parts_by ss h.1)
+
+  -- the image in which the superblock stores this word in place of its sum
+  image_is : (rest : List ℕ) (n : ℕ) → size ≡ 4 * n → 16 ≤ size
+      → SectionsRise 0 size (sections_of volume is)
+      → Every (λ s. length (romfs_part volume size cs is s).bytes ≡ s.len) (sections_of volume is)
+      → superblock_storing 0 size volume ++ rest ≡ laid [] (map (romfs_part volume size cs is) (sections_of volume is) ++ part (pad size 1024) [] ∷ [])
+      → superblock_storing (balance_of (superblock_storing 0 size volume ++ rest)) size volume ++ rest ≡ composed volume size cs is
+  unfolding composed with_part sealed
+  image_is rest n e low up long all =
+      let end = pad size 1024 in
+      let ps = map (romfs_part volume size cs is) (sections_of volume is) in
+      let b = laid [] (ps ++ part size [] ∷ []) in
+      let l = laid [] ps in
+      let are = sections_are (λ s. (romfs_part volume size cs is s).bytes) 0 size size (sections_of volume is) (omega arith) up long in
+      let lb : length b ≡ size = length-laid [] (ps ++ part size [] ∷ []) are.rises ∙ are.ends_at in
+      let split : b ≡ l ++ (replicate (size - length l) 0 ++ []) = laid-append [] ps (part size [] ∷ []) in
+      let split_end : laid [] (ps ++ part end [] ∷ []) ≡ l ++ (replicate (end - length l) 0 ++ []) = laid-append [] ps (part end [] ∷ []) in
+      let nl : length b ≡ length l + length (replicate {A = ℕ} (size - length l) 0 ++ []) = ap length split ∙ length-append l (replicate (size - length l) 0 ++ []) in
+      let within : length l ≤ size = omega arith in
+      let after : size ≤ end = pad-after size 1024 (omega arith) in
+      let z = replicate {A = ℕ} (end - size) 0 in
+      let whole : superblock_storing 0 size volume ++ rest ≡ b ++ z = all ∙ split_end ∙ extended l size end within after ∙ ap (λ (y : List ℕ). y ++ z) (sym split) in
+      let v : balance_of (superblock_storing 0 size volume ++ rest) ≡ balance (words_total (take 512 b)) = ap balance_of whole ∙ balance_before b n (end - size) (omega (arith, lb)) in
+      put_into b z rest size (balance_of (superblock_storing 0 size volume ++ rest)) volume (omega (arith, lb)) whole
+      ∙ ap (λ (k : ℕ). (take 12 b ++ (big_bytes 4 k ++ drop 16 b)) ++ z) v
+
