@@ -4,3 +4,4 @@ pub mod Sources
 pub mod Facts
 pub mod Laid
 pub mod Means
+pub mod Indexed

@@ -15,7 +15,7 @@ use Rattle.image_stream.specs.WordSums.{weighted, weight, balance_of, term}
 use Rattle.image_stream.proofs.Laid.{image_laid}
 use Rattle.image_stream.proofs.ByWords.{weighted_words}
 use Rattle.name_tree.specs.Names.{Fill, text, bytes_of}
-use Rattle.layout_plan.specs.Plans.{Planned}
+use Rattle.layout_plan.specs.Plans.{Planned, IsPlanOf}
 use Rattle.layout_terms.specs.Items.{Item, Section, Body, super, record_of, table_of, text_of, contents_of, section, SectionsRise}
 use Rattle.layout_terms.specs.Bodies.{item_at, section_part}
 use Rattle.layout_terms.proofs.Bodies.{sections_are}
@@ -23,8 +23,20 @@ use Rattle.romfs_format.specs.Record.{pad16}
 use Rattle.romfs_layout.specs.Layout.{root_at, superblock}
 use Rattle.romfs_layout.specs.Composed.{romfs_part, composed}
 use Rattle.romfs_layout.specs.Items.{sections_of, sections_from}
-use Rattle.romfs_write.specs.Form.{full_size, segment_by, segment_of, form_of, superblock_storing}
-use Rattle.romfs_write.specs.Known.{IsBody}
+use Rattle.romfs_write.specs.Form.{item_end, full_size, segment_by, segment_of, form_of, superblock_storing}
+use Rattle.romfs_write.specs.Known.{IsBody, IsRomfsPlan}
+use Rattle.std.specs.Prelude.{Result, Ok, Err, OnOk, OnErr}
+use Rattle.manifest.specs.Grammar.{IsManifest}
+use Rattle.manifest.specs.Lines.{ManifestLines}
+use Rattle.name_tree.specs.Tree.{tree_of, root_of}
+use Rattle.misfits.specs.Format.{romfs, layout_of}
+use Rattle.romfs_layout.specs.Items.{items_of}
+use Rattle.romfs_layout.specs.Planned.{IsPlanned}
+use Rattle.romfs_layout.proofs.ReadBack.{length-padded_name}
+use Rattle.romfs_layout.proofs.Composed.{is_composed, are_long}
+use Rattle.romfs_layout.proofs.Sectioned as in_romfs
+use Rattle.romfs_write.proofs.Facts.{Fitting, planned, planned_is, full_is}
+use Rattle.romfs_write.proofs.Laid.{laid_out}
 use Rattle.romfs_write.proofs.Sections.{size_is}
 
 -- zeros count nothing
@@ -119,3 +131,71 @@ module _ (volume : List ℕ) (size : ℕ) (cs : List (List ℕ)) (is : List Item
       put_into b z rest size (balance_of (superblock_storing 0 size volume ++ rest)) volume (omega (arith, lb)) whole
       ∙ ap (λ (k : ℕ). (take 12 b ++ (big_bytes 4 k ++ drop 16 b)) ++ z) v
 
+rise_low : (from end : ℕ) (ss : List Section) → SectionsRise from end ss → from ≤ end
+rise_low from end [] r = r
+rise_low from end (s ∷ ss) r = let l = rise_low (s.place + s.len) end ss r.2 in let k = r.0 in omega (arith, l, k)
+
+-- so is that of a manifest's plan
+planned_means : (m : ManifestLines) (cs : List (List ℕ))
+    → IsPlanned m.volume (root_of m.lines (map length cs)) (tree_of m.lines (map length cs)) cs
+    → IsRomfsPlan (planned m (map length cs))
+    → image_of (form_of (planned m (map length cs))) balance_of cs ≡ layout_of romfs m cs
+planned_means m cs h known =
+    let sizes = map length cs in
+    let p = planned m sizes in
+    let volume = m.volume in
+    let root = root_of m.lines sizes in
+    let n = tree_of m.lines sizes in
+    let is = items_of volume root n in
+    let ss = sections_from 0 is in
+    let size = full_size is in
+    let fs = full_is volume root n in
+    let f = form_of p in
+    let rest = image_from cs f.start f.segments f.end in
+    let rp = romfs_part volume size cs is in
+    let sb = superblock size volume in
+    let lp = length-padded_name volume in
+    let ls : length sb ≡ root_at volume = omega (arith, lp) in
+    let il = image_laid f cs (laid_out p known) (λ k l. size_is cs k) ls in
+    let all = il ∙ ap (λ (ps : List Part). laid [] (part 0 sb ∷ (ps ++ part f.end [] ∷ []))) (parts_by volume size cs is ss known.bodies)
+        ∙ ap (λ (k : ℕ). laid [] (part 0 sb ∷ (map rp ss ++ part k [] ∷ []))) known.end in
+    let up = subst (λ (k : ℕ). SectionsRise 0 k (sections_of volume is)) (sym fs) (in_romfs.rise volume root n cs h) in
+    let long = subst (λ (k : ℕ). Every (λ s. length (romfs_part volume k cs is s).bytes ≡ s.len) (sections_of volume is)) (sym fs) (are_long volume root n cs h) in
+    let low = rise_low (0 + root_at volume) size ss up.2 in
+    let x = item_end (item_at is (length is - 1)) in
+    image_is volume size cs is rest ((x + 15) / 16 * 4) (omega arith) (omega (arith, low)) up long all
+    ∙ ap (λ (k : ℕ). composed volume k cs is) fs ∙ sym (is_composed volume root n cs h)
+
+pub means : Fitting → (p : Planned) (m : ManifestLines) (cs : List (List ℕ)) → IsManifest m → IsRomfsPlan p
+    → IsPlanOf romfs m (map length cs) p → image_of (form_of p) balance_of cs ≡ layout_of romfs m cs
+means fitting p m cs hm known is =
+    let e = planned_is m (map length cs) p is in
+    subst (λ (q : Planned). image_of (form_of q) balance_of cs ≡ layout_of romfs m cs) (sym e)
+    (planned_means m cs (fitting romfs m cs hm is.fits) (subst IsRomfsPlan e known))
+
+-- contents of the planned sizes
+pub sizes_are : (sizes : List ℕ) (cs : List (List ℕ)) → length cs ≡ length sizes → AreSized sizes cs → map length cs ≡ sizes
+sizes_are [] [] n h = refl
+sizes_are [] (c ∷ cs) n h = absurd (omega arith)
+sizes_are (x ∷ xs) [] n h = absurd (omega arith)
+sizes_are (x ∷ xs) (c ∷ cs) n h =
+    ap (λ (k : ℕ). k ∷ map length cs) (h 0 (omega arith)) ∙ ap (λ (ks : List ℕ). x ∷ ks) (sizes_are xs cs (omega (arith, n)) (λ k l. h (suc k) (omega (arith, l))))
+
+pub sized_means : Fitting → (p : Planned) (m : ManifestLines) (sizes : List ℕ) (cs : List (List ℕ)) → IsManifest m → IsRomfsPlan p
+    → IsPlanOf romfs m sizes p → length cs ≡ length p.sizes → AreSized p.sizes cs
+    → (map length cs ≡ sizes) × (image_of (form_of p) balance_of cs ≡ layout_of romfs m cs)
+sized_means fitting p m sizes cs hm known is n sized =
+    let e : map length cs ≡ sizes = sizes_are p.sizes cs n sized ∙ is.of_sources in
+    (e, means fitting p m cs hm known (subst (λ (xs : List ℕ). IsPlanOf romfs m xs p) (sym e) is))
+
+pub ok_weaker : {A E : Type 0} {P Q : Type 0} (r : Result A E) → (P → Q) → OnOk r P → OnOk r Q
+ok_weaker (Ok a) f h = f h
+ok_weaker (Err e) f h = tt
+
+pub ok_both : {A E : Type 0} {P Q R : Type 0} (r : Result A E) → (P → Q → R) → OnOk r P → OnOk r Q → OnOk r R
+ok_both (Ok a) f h k = f h k
+ok_both (Err e) f h k = tt
+
+pub err_weaker : {A E : Type 0} {P Q : Type 0} (r : Result A E) → (P → Q) → OnErr r P → OnErr r Q
+err_weaker (Ok a) f h = tt
+err_weaker (Err e) f h = f h

@@ -1,5 +1,5 @@
 //! A plan as an image that can be written segment by segment.
-ghost use Rattle.std.specs.Prelude.{◌≡◌, ◌+◌, ◌<◌, ◌≤◌, ℕ, List, [], length, take, drop, get_or};
+ghost use Rattle.std.specs.Prelude.{◌≡◌, ◌+◌, ◌<◌, ◌≤◌, ◌^◌, ℕ, List, [], length, take, drop, get_or};
 ghost use Rattle.image_stream.specs.Segments.{fixed};
 ghost use Rattle.layout_terms.specs.Bodies.{item_at};
 ghost use Rattle.layout_terms.specs.Items.{section, super};
@@ -25,11 +25,12 @@ pub struct RomfsForm<'p> {
 }
 
 /// What is known of the plan of a romfs image.
-fn known(plan: &Plan)
+pub fn known(plan: &Plan)
     requires { plan.now.format ≡ romfs }
-    ensures { IsRomfsPlan plan.now }
+    ensures plan { IsRomfsPlan plan.now }
+    ensures count { length plan.now.sections < 2 ^ 64 }
 {
-    let _ = plan.image_len();
+    let _ = (plan.image_len(), plan.sections());
     misfits::laws::fitting_is_planned();
 }
 

@@ -5,3 +5,6 @@
 
 mod form;
 mod header;
+mod writing;
+
+pub use writing::{stream, write};
