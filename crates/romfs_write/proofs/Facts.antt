@@ -1,22 +1,20 @@
 -- What is known of a romfs plan.
-use Rattle.std.proofs.Common.{◌≡◌, ℕ, ◌+◌, ◌-◌, ◌^◌, ◌<◌, ◌≤◌, List, [], ◌∷◌, ◌++◌, map, length, drop, get_or, replicate, refl, sym, ap, subst, ◌∙◌, arith}
+use Rattle.std.proofs.Common.{◌≡◌, ℕ, ◌+◌, ◌-◌, ◌^◌, ◌<◌, List, [], ◌∷◌, ◌++◌, map, length, get_or, replicate, refl, sym, ap, subst, ◌∙◌, arith}
 use Rattle.std.proofs.lemmas.List.{length-replicate}
-use Rattle.std.specs.List.{AllByRecursion as Every}
 use Rattle.manifest.specs.Grammar.{IsManifest}
 use Rattle.manifest.specs.Lines.{ManifestLines, sources_of}
 use Rattle.name_tree.specs.Names.{Inode, Names, nothing, leaf, link, folder}
 use Rattle.name_tree.specs.Tree.{tree_of, root_of}
-use Rattle.rom_tree.specs.Dots.{dot, dot_dot}
 use Rattle.romfs_format.specs.Record.{pad16}
 use Rattle.image_parts.specs.Padding.{pad}
-use Rattle.layout_terms.specs.Items.{Item, Section, section, super, SectionsRise}
+use Rattle.layout_terms.specs.Items.{Item, Section, SectionsRise}
 use Rattle.layout_terms.specs.Bodies.{item_at}
 use Rattle.romfs_layout.specs.Layout.{Header, record_len, leaf_end, header_end, ends, headers, all_headers, place_with, placed, root_at, full_size_of}
 use Rattle.romfs_layout.specs.Items.{item_of, items_of, sections_from}
 use Rattle.romfs_layout.specs.Planned.{IsPlanned}
 use Rattle.romfs_layout.proofs.Image.{planned_headers}
 use Rattle.romfs_layout.proofs.Sectioned as in_romfs
-use Rattle.misfits.specs.Format.{Format, romfs, len_of, sections_of} 
+use Rattle.misfits.specs.Format.{Format, romfs, len_of, sections_of}
 use Rattle.misfits.specs.Format as of_format
 use Rattle.misfits.specs.Misfit.{HasNoMisfit}
 use Rattle.misfits.specs.Format.{IsPlannedBy}

@@ -1,11 +1,10 @@
 -- The form of a plan is laid out.
-use Rattle.std.proofs.Common.{◌≡◌, ℕ, zero, suc, ◌+◌, ◌^◌, ◌<◌, ◌≤◌, List, [], ◌∷◌, map, length, drop, get_or, refl, sym, ap, subst, ◌∙◌, arith}
+use Rattle.std.proofs.Common.{◌≡◌, ℕ, zero, suc, ◌+◌, ◌<◌, ◌≤◌, List, [], ◌∷◌, map, length, drop, refl, sym, ap, ◌∙◌, arith}
 use Rattle.std.specs.List.{AllByRecursion as Every}
 use Rattle.image_parts.proofs.Padding.{pad-after}
-use Rattle.image_stream.specs.Segments.{Segment, place, len, segment_at, SegmentsRise, HasSource, IsLaidOut}
+use Rattle.image_stream.specs.Segments.{place, len, segment_at, SegmentsRise, HasSource, IsLaidOut}
 use Rattle.name_tree.specs.Names.{Fill, bytes_of}
 use Rattle.layout_terms.specs.Items.{Item, Section, Body, super, record_of, table_of, text_of, contents_of, SectionsRise}
-use Rattle.layout_terms.specs.Bodies.{item_at}
 use Rattle.layout_plan.specs.Plans.{Planned}
 use Rattle.romfs_layout.specs.Layout.{root_at}
 use Rattle.romfs_write.specs.Form.{full_size, segment_by, segment_of, form_of}

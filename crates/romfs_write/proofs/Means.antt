@@ -1,5 +1,5 @@
 -- The image of a plan's form is the layout.
-use Rattle.std.proofs.Common.{◌≡◌, ℕ, ◌+◌, ◌-◌, ◌*◌, ◌/◌, ◌<◌, ◌≤◌, zero, suc, nat_lt, true, false, if◌then◌else◌, inl, inr, List, [], ◌∷◌, ◌++◌, map, length, take, drop, replicate, get_or, refl, sym, ap, subst, ◌∙◌, arith, append_assoc, append-nil, length-append}
+use Rattle.std.proofs.Common.{◌≡◌, ℕ, ◌+◌, ◌-◌, ◌*◌, ◌/◌, ◌≤◌, zero, suc, nat_lt, true, false, if◌then◌else◌, List, [], ◌∷◌, ◌++◌, map, length, take, drop, replicate, get_or, refl, sym, ap, subst, ◌∙◌, arith, append_assoc, append-nil, length-append}
 use Rattle.std.proofs.lemmas.List.{replicate-append-replicate, take_all, take-append-le, drop-append-le}
 use Rattle.std.specs.List.{AllByRecursion as Every}
 use Rattle.byteorder.specs.Endian.{big_bytes}
@@ -9,17 +9,16 @@ use Rattle.image_parts.specs.Parts.{Part, part, laid, with_part}
 use Rattle.image_parts.specs.Sums.{balance, sealed}
 use Rattle.image_parts.proofs.Parts.{laid-append, length-laid}
 use Rattle.image_parts.proofs.Padding.{pad-after}
-use Rattle.image_stream.specs.Segments.{Segment, Form, segment_part, image_from, image_of, IsLaidOut}
+use Rattle.image_stream.specs.Segments.{segment_part, image_from, image_of}
 use Rattle.image_stream.specs.Outcomes.{AreSized}
 use Rattle.image_stream.specs.WordSums.{weighted, weight, balance_of, term}
 use Rattle.image_stream.proofs.Laid.{image_laid}
 use Rattle.image_stream.proofs.ByWords.{weighted_words}
-use Rattle.name_tree.specs.Names.{Fill, text, bytes_of}
+use Rattle.name_tree.specs.Names.{Fill, bytes_of}
 use Rattle.layout_plan.specs.Plans.{Planned, IsPlanOf}
 use Rattle.layout_terms.specs.Items.{Item, Section, Body, super, record_of, table_of, text_of, contents_of, section, SectionsRise}
-use Rattle.layout_terms.specs.Bodies.{item_at, section_part}
+use Rattle.layout_terms.specs.Bodies.{item_at}
 use Rattle.layout_terms.proofs.Bodies.{sections_are}
-use Rattle.romfs_format.specs.Record.{pad16}
 use Rattle.romfs_layout.specs.Layout.{root_at, superblock}
 use Rattle.romfs_layout.specs.Composed.{romfs_part, composed}
 use Rattle.romfs_layout.specs.Items.{sections_of, sections_from}
@@ -158,7 +157,7 @@ planned_means m cs h known =
     let ls : length sb ≡ root_at volume = omega (arith, lp) in
     let il = image_laid f cs (laid_out p known) (λ k l. size_is cs k) ls in
     let all = il ∙ ap (λ (ps : List Part). laid [] (part 0 sb ∷ (ps ++ part f.end [] ∷ []))) (parts_by volume size cs is ss known.bodies)
-        ∙ ap (λ (k : ℕ). laid [] (part 0 sb ∷ (map rp ss ++ part k [] ∷ []))) known.end in
+    ∙ ap (λ (k : ℕ). laid [] (part 0 sb ∷ (map rp ss ++ part k [] ∷ []))) known.end in
     let up = subst (λ (k : ℕ). SectionsRise 0 k (sections_of volume is)) (sym fs) (in_romfs.rise volume root n cs h) in
     let long = subst (λ (k : ℕ). Every (λ s. length (romfs_part volume k cs is s).bytes ≡ s.len) (sections_of volume is)) (sym fs) (are_long volume root n cs h) in
     let low = rise_low (0 + root_at volume) size ss up.2 in

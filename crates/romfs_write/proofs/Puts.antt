@@ -1,5 +1,5 @@
 -- A header and a superblock that are written piece by piece.
-use Rattle.std.proofs.Common.{◌≡◌, ℕ, ◌+◌, ◌-◌, ◌^◌, ◌%◌, List, [], ◌∷◌, ◌++◌, length, drop, take, replicate, refl, sym, ap, ◌∙◌, arith, append_assoc, length-append}
+use Rattle.std.proofs.Common.{◌≡◌, ℕ, ◌+◌, ◌-◌, ◌^◌, ◌%◌, List, ◌++◌, length, drop, take, replicate, refl, sym, ap, ◌∙◌, arith, append_assoc, length-append}
 use Rattle.std.proofs.lemmas.List.{length-replicate, drop_at, take_at, replicate-append-replicate}
 use Rattle.byteorder.specs.Endian.{big_bytes}
 use Rattle.rom_fields.specs.Words.{words_total, words_sum}
@@ -28,7 +28,6 @@ balance_of front back h =
     let c = words_total-word 0 back (omega arith) in
     let s : words_total (front ++ (big_bytes 4 0 ++ back)) ≡ words_total front + words_total back = omega (arith, a, c) in
     ap (λ (n : ℕ). (2 ^ 32 - n % 2 ^ 32) % 2 ^ 32) s
-
 
 -- sixteen bytes for words, and room for a name
 room_is : (name : List ℕ) → let z = big_bytes 4 0 in

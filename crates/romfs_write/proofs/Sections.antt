@@ -1,11 +1,11 @@
 -- The sections of a romfs plan are headers, texts and contents of files.
-use Rattle.std.proofs.Common.{◌≡◌, ◌≢◌, ℕ, zero, suc, ◌+◌, ◌-◌, ◌<◌, ◌==◌, if◌then◌else◌, inl, inr, List, [], ◌∷◌, ◌++◌, map, length, drop, get_or, refl, sym, ap, subst, ◌∙◌, arith}
+use Rattle.std.proofs.Common.{◌≡◌, ◌≢◌, ℕ, zero, suc, ◌+◌, ◌<◌, ◌==◌, if◌then◌else◌, inl, inr, List, [], ◌∷◌, map, length, drop, get_or, refl, sym, ap, subst, ◌∙◌, arith}
 use Rattle.std.proofs.lemmas.Bool.Decides.{eqb_tells}
 use Rattle.std.proofs.lemmas.List.{length-drop}
 use Rattle.std.specs.List.{AllByRecursion as Every}
 use Rattle.record_walk.proofs.Lists.{every_join}
 use Rattle.name_tree.specs.Names.{Fill, no_bytes, text, source, bytes_of}
-use Rattle.layout_terms.specs.Items.{Item, Section, Body, super, record_of, table_of, text_of, contents_of, fill_section, bytes_section}
+use Rattle.layout_terms.specs.Items.{Item, Section, fill_section, bytes_section}
 use Rattle.layout_terms.specs.Bodies.{item_at}
 use Rattle.layout_terms.proofs.Bodies.{item_here, items_later}
 use Rattle.romfs_write.specs.Known.{IsBody}

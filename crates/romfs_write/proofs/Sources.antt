@@ -1,17 +1,16 @@
 -- The sizes of the sources of a manifest that fits.
-use Rattle.std.proofs.Common.{◌≡◌, ◌≢◌, ℕ, zero, suc, ◌+◌, ◌^◌, ◌<◌, ◌≤◌, ◌&&◌, ◌||◌, nat_lt, true, false, Bool, ◌⊎◌, if◌then◌else◌, inl, inr, List, [], ◌∷◌, ◌++◌, length, map, filter, reverse, get_or, Some, None, Option, refl, sym, ap, subst, ◌∙◌, arith}
+use Rattle.std.proofs.Common.{◌≡◌, ℕ, zero, suc, ◌+◌, ◌^◌, ◌<◌, ◌≤◌, ◌&&◌, ◌||◌, nat_lt, true, false, Bool, ◌⊎◌, if◌then◌else◌, inl, inr, List, [], ◌∷◌, ◌++◌, length, reverse, get_or, Some, None, Option, refl, sym, ap, subst, ◌∙◌, arith}
 use Rattle.std.proofs.lemmas.Bool.{lt-ltb, le-ltb, cases_lt}
 use Rattle.std.proofs.lemmas.List.{reverse-append}
 use Rattle.std.specs.List.{AllByRecursion as Every}
 use Rattle.std.specs.Str.{bytes_eq}
 use Rattle.record_walk.specs.Members.{Has, Pairs}
-use Rattle.record_walk.proofs.Lists.{every_weaker, every_join, pairs_push, has_of, has_weaker}
+use Rattle.record_walk.proofs.Lists.{every_weaker, every_join, pairs_push, has_of}
 use Rattle.manifest.specs.declared.line.Line.{Line}
 use Rattle.manifest.specs.declared.line.Word.{Word}
 use Rattle.manifest.specs.declared.line.Word.TheVariants.{Dir, File, Slink, Block, Character, Fifo, Socket, Hard, Same}
 use Rattle.manifest.specs.Lines.{ManifestLines, is_file, is_hard, is_same, led, filed, sources_of}
 use Rattle.manifest.specs.Grammar.{IsManifest}
-use Rattle.name_tree.specs.Names.{Inode}
 use Rattle.name_tree.specs.Tree.{sources_before, with_contents, inode_of, inode_by}
 use Rattle.misfits.specs.Format.{romfs}
 use Rattle.misfits.specs.Misfit.{HasNoMisfit, TOO_LARGE, large}
@@ -152,8 +151,8 @@ small_here m sizes h n k l =
     let to_file = led_filed latest x.0.path x.0 x.2 (in_line.own word.1) in
     let size = size_of_file m.lines sizes x.0 word.0 (subst (λ (ls : List Line). filed ls x.0.path ≡ Some x.0) (sym o.1.back) to_file) ∙ ap (λ (j : ℕ). get_or sizes j 0) x.3 in
     elim (cases_lt (2 ^ 28) (get_or sizes k 0)) [
-    | inl big ↦ absurd (fits TOO_LARGE (large refl (subst (λ (j : ℕ). 2 ^ 28 < j) (sym size) big)))
-    | inr low ↦ low
+      | inl big ↦ absurd (fits TOO_LARGE (large refl (subst (λ (j : ℕ). 2 ^ 28 < j) (sym size) big)))
+      | inr low ↦ low
     ]
 
 pub sizes_small : (m : ManifestLines) (sizes : List ℕ) → IsManifest m → length sizes ≡ length (sources_of m.lines)

@@ -1,5 +1,5 @@
 -- What a romfs image is made of, from its plan. (This project's own; the bytes are those of the layout.)
-use Rattle.std.specs.Prelude.{ℕ, ◌+◌, ◌-◌, List, [], ◌∷◌, ◌++◌, map, length, drop}
+use Rattle.std.specs.Prelude.{ℕ, ◌+◌, ◌-◌, List, [], ◌++◌, map, length, drop}
 use Rattle.byteorder.specs.Endian.{big_bytes}
 use Rattle.image_stream.specs.Segments.{Segment, fixed, content, Form}
 use Rattle.layout_plan.specs.Plans.{Planned}

@@ -25,11 +25,7 @@ use rom_fields::contents::Contents;
 /// # Errors
 ///
 /// The first file whose contents are not as long as was planned; the buffer is then as it was.
-pub fn write(
-    plan: &Plan,
-    contents: &Contents<'_>,
-    out: &mut [u8],
-) -> Result<(), SizeDiffers>
+pub fn write(plan: &Plan, contents: &Contents<'_>, out: &mut [u8]) -> Result<(), SizeDiffers>
     requires format { plan.now.format ≡ romfs }
     requires count { length contents.now ≡ length plan.now.sizes }
     requires room { length out.old ≡ plan.now.image_len }

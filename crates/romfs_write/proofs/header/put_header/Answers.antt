@@ -1,4 +1,4 @@
-use Rattle.std.proofs.Common.{◌≡◌, ap, ◌∙◌, ◌++◌, ◌+◌, ◌-◌, ◌^◌, ◌%◌, replicate, arith}
+use Rattle.std.proofs.Common.{ap, ◌∙◌, replicate, arith}
 use Rattle.romfs_write.proofs.Puts.{header_built}
 use Rattle.romfs_write.proofs.header.put_header.Goals as goal
 

@@ -1,4 +1,4 @@
-use Rattle.std.proofs.Common.{◌≡◌, ap, ◌∙◌, replicate}
+use Rattle.std.proofs.Common.{ap, ◌∙◌, replicate}
 use Rattle.romfs_write.proofs.Puts.{superblock_built}
 use Rattle.romfs_write.proofs.header.put_superblock.Goals as goal
 

@@ -1,4 +1,4 @@
-use Rattle.std.proofs.Common.{◌≡◌, ℕ, List, length, sym, ap, subst, ◌∙◌}
+use Rattle.std.proofs.Common.{length, sym, ap, subst, ◌∙◌}
 use Rattle.image_stream.specs.Segments.{IsLaidOut}
 use Rattle.layout_plan.specs.Plans.{Planned, IsPlanOf}
 use Rattle.misfits.specs.Format.{romfs}

@@ -1,4 +1,4 @@
-use Rattle.std.proofs.Common.{◌≡◌, ℕ, List, drop, get_or, Some, sym, ap, subst, ◌∙◌, arith}
+use Rattle.std.proofs.Common.{drop, sym, ap, subst, ◌∙◌, arith}
 use Rattle.std.proofs.lemmas.List.{length-drop}
 use Rattle.std.specs.Option.{option_map}
 use Rattle.layout_terms.specs.Items.{Section, section, super}

@@ -1,4 +1,4 @@
-use Rattle.std.proofs.Common.{ℕ, List, map, drop, sym, ap, ◌∙◌, arith}
+use Rattle.std.proofs.Common.{drop, sym, ap, ◌∙◌, arith}
 use Rattle.std.proofs.lemmas.List.{length-map}
 use Rattle.layout_terms.specs.Items.{section, super}
 use Rattle.romfs_write.specs.Form.{segment_of}
