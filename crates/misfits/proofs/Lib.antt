@@ -14,7 +14,7 @@ mod InCramfs
 mod PlannedRomfs
 mod PlannedCramfs
 pub mod Fitting
-mod Sourced
+pub mod Sourced
 pub mod Sectioned
 mod Examples
 mod Stands
