@@ -1,0 +1,49 @@
+-- What the build of an image answers. (This project's own.)
+use Rattle.std.specs.Prelude.{◌≡◌, ◌≢◌, ℕ, List, map, length, Result, Ok, Err}
+use Rattle.layout_plan.specs.declared.error.PlanError.{PlanError}
+use Rattle.layout_plan.specs.declared.error.PlanError.TheVariants as plan
+use Rattle.manifest.specs.Grammar.{manifest_of}
+use Rattle.manifest.specs.Lines.{ManifestLines, sources_of}
+use Rattle.manifest.specs.declared.error.ManifestError.{ManifestError}
+use Rattle.manifest.specs.declared.error.ManifestError.TheVariants as manifest
+use Rattle.misfits.specs.Format.{Format, HasTree, layout_of}
+use Rattle.misfits.specs.Misfit.{HasNoMisfit, IsLeastMisfit}
+use Rattle.name_tree.specs.Meant.{IsMeant}
+use Rattle.rom_tree.specs.Tree.{Node}
+use Rattle.image_build.specs.declared.error.BuildError.{BuildError}
+use Rattle.image_build.specs.declared.error.BuildError.TheVariants.{OutOfMemory, Manifest, Plan, Count}
+
+-- the text is this manifest, and there is one contents for each of its sources
+pub record IsGiven (text : List ℕ) (contents : List (List ℕ)) (m : ManifestLines) : Type 0 where
+  pub manifest : manifest_of text ≡ Ok m
+  pub count : length contents ≡ length (sources_of m.lines)
+
+-- the bytes are the layout of a manifest, and hold a tree, which is what the manifest means
+pub record IsImageOf (f : Format) (m : ManifestLines) (contents : List (List ℕ)) (bytes : List ℕ) : Type 0 where
+  pub layout : bytes ≡ layout_of f m contents
+  pub tree : Node
+  pub holds : HasTree f bytes tree
+  pub meant : IsMeant bytes tree contents m (map length contents)
+
+-- What a build answers: the image of a manifest that fits the format; else the first fault of a text that is no
+-- manifest, that there are more or fewer contents than sources, or the least misfit; or that memory was refused, which
+-- it may be at any call.
+abbrev pub Builds : Format → List ℕ → List (List ℕ) → Result (List ℕ) BuildError → Type 0
+Builds f text contents (Ok bytes) =
+    (m : ManifestLines) × IsGiven text contents m × HasNoMisfit f m (map length contents) × IsImageOf f m contents bytes
+Builds f text contents (Err OutOfMemory) = Unit {0}
+Builds f text contents (Err (Manifest line number)) = manifest_of text ≡ Err (record { line = line; number = number })
+Builds f text contents (Err Count) =
+    (m : ManifestLines) × (manifest_of text ≡ Ok m) × (length contents ≢ length (sources_of m.lines))
+Builds f text contents (Err (Plan line number)) =
+    (m : ManifestLines) × IsGiven text contents m
+    × IsLeastMisfit f m (map length contents) (record { number = number; at = line })
+
+-- the refusals of a manifest and of a plan as those of a build
+abbrev pub of_manifest : ManifestError → BuildError
+of_manifest manifest.OutOfMemory = OutOfMemory
+of_manifest (manifest.Bad line number) = Manifest line number
+
+abbrev pub of_plan : PlanError → BuildError
+of_plan plan.OutOfMemory = OutOfMemory
+of_plan (plan.Refused line number) = Plan line number

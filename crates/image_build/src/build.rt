@@ -1,0 +1,94 @@
+//! The builds.
+ghost use Rattle.std.specs.Prelude.{◌≡◌, map, length, IfOk, IfErr, Ok, Err};
+ghost use Rattle.image_build.specs.Builds.{Builds};
+ghost use Rattle.layout_plan.specs.Plans.{IsPlanOf};
+ghost use Rattle.manifest.specs.Grammar.{IsManifest};
+ghost use Rattle.manifest.specs.Lines.{ManifestLines};
+ghost use Rattle.misfits.specs.Format.{romfs, layout_of};
+ghost use Rattle.plan_misfits.specs.Formats.{format_of};
+
+use crate::error::BuildError;
+use layout_plan::{Format, Plan, plan};
+use manifest::parse;
+use rom_fields::contents::Contents;
+use rom_fields::memory::OutOfMemory;
+use std::alloc::Global;
+
+/// How long the contents are, in their order.
+fn sizes_of(alloc: Global, contents: &Contents<'_>) -> Result<Vec<u64>, OutOfMemory>
+    ensures { IfOk result (λ sizes. sizes.items ≡ map length contents.now) }
+{
+    let mut sizes = Vec::new(alloc);
+    for file in 0..contents.len() {
+        let Some(content) = contents.get(file) else {
+            unreachable!();
+        };
+        sizes.push(content.len() as u64)?;
+    }
+    Ok(sizes)
+}
+
+/// So many zeros.
+fn zeros(alloc: Global, len: usize) -> Result<Vec<u8>, OutOfMemory>
+    ensures { IfOk result (λ zeros. length zeros.items ≡ len) }
+{
+    let zeros = vec![in alloc; 0; len]?;
+    Ok(zeros)
+}
+
+/// Writes the image of a plan that was made for just these contents.
+fn fill(plan: &Plan, contents: &Contents<'_>, out: &mut [u8])
+    requires format { plan.now.format ≡ romfs }
+    requires sizes { plan.now.sizes ≡ map length contents.now }
+    requires room { length out.old ≡ plan.now.image_len }
+    ensures { (m : ManifestLines) → IsManifest m
+        → IsPlanOf plan.now.format m (map length contents.now) plan.now
+        → out.new ≡ layout_of plan.now.format m contents.now }
+{
+    if romfs_write::write(plan, contents, out).is_err() {
+        unreachable!();
+    }
+}
+
+/// The image of a manifest in this format.
+fn build(
+    alloc: Global,
+    format: Format,
+    manifest: &[u8],
+    contents: &Contents<'_>,
+) -> Result<Vec<u8>, BuildError>
+    requires { format_of format ≡ romfs }
+    ensures ok { IfOk result
+        (λ image. Builds (format_of format) manifest.now contents.now (Ok image.items)) }
+    ensures err { IfErr result
+        (λ e. Builds (format_of format) manifest.now contents.now (Err e)) }
+{
+    misfits::laws::layout_is_meant();
+    let manifest = parse(alloc, manifest)?;
+    if contents.len() != manifest.sources().len() {
+        return Err(BuildError::Count);
+    }
+    let sizes = sizes_of(alloc, contents)?;
+    let plan = plan(alloc, &manifest, &sizes, format)?;
+    let mut image = zeros(alloc, plan.image_len())?;
+    fill(&plan, contents, &mut image);
+    Ok(image)
+}
+
+/// The romfs image of a manifest, with these contents of its sources, in the order of the `file`
+/// lines. A check finds no fault in it.
+///
+/// # Errors
+///
+/// As `BuildError` says: the text is no manifest; then, there are fewer or more contents than
+/// sources; then, the manifest does not fit the format. `OutOfMemory` where memory was refused.
+pub fn build_romfs(
+    alloc: Global,
+    manifest: &[u8],
+    contents: &Contents<'_>,
+) -> Result<Vec<u8>, BuildError>
+    ensures ok { IfOk result (λ image. Builds romfs manifest.now contents.now (Ok image.items)) }
+    ensures err { IfErr result (λ e. Builds romfs manifest.now contents.now (Err e)) }
+{
+    build(alloc, Format::Romfs, manifest, contents)
+}

@@ -1,0 +1,14 @@
+//! An image from a manifest and the contents of its files, in one call.
+//!
+//! `specs/Builds.antt` says what a build answers, and the promises about all answers stand in
+//! `laws`: each text and contents have just one, and a check finds no fault in a built image.
+#![tactic(auto)]
+
+mod build;
+pub mod error;
+pub mod laws;
+#[cfg(test)]
+mod tests;
+
+pub use build::build_romfs;
+pub use error::BuildError;
