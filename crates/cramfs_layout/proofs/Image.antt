@@ -143,6 +143,43 @@ root_at o b volume root n more l h =
     let hv = HasAt-after b 48 volume (zeros ++ entry) (HasAt-before b 48 named more h48) in
     HasAt-moved b (48 + length volume + length zeros) 64 entry (omega (arith, lz)) (HasAt-after b (48 + length volume) zeros entry hv)
 
+-- the parts of a layout
+abbrev pub all_parts : Order → List ℕ → Inode → Names → List (List ℕ) → List Part
+all_parts o volume root n cs =
+    part 0 (superblock o volume root n) ∷ part 76 (list_bytes o (first_state n) n)
+    ∷ (parts o cs (first_state n) n ++ part (size_of n) [] ∷ [])
+
+-- they stand one after the other, up to the size of the image
+pub record AreLaid (o : Order) (volume : List ℕ) (root : Inode) (n : Names) (cs : List (List ℕ)) : Type 0 where
+  pub first : length (superblock o volume root n) ≡ 76
+  pub rises : Rises 0 (all_parts o volume root n cs)
+  pub long : length (laid [] (all_parts o volume root n cs)) ≡ size_of n
+
+pub are_laid : (o : Order) (volume : List ℕ) (root : Inode) (n : Names) (cs : List (List ℕ))
+    → IsPlanned volume root n cs → AreLaid o volume root n cs
+unfolding size_of
+are_laid o volume root n cs h =
+    let s = first_state n in
+    let high = (after_names s n).at in
+    let size = size_of n in
+    let list = part 76 (list_bytes o s n) in
+    let rest = parts o cs s n in
+    let end = part size [] ∷ [] in
+    let all = all_parts o volume root n cs in
+    let up : high ≤ size = pad-after high 4096 (omega arith) in
+    let lsb = length_super o volume root n h.short in
+    let ll = length-list o s n in
+    let are = parts_are o cs s n h.well in
+    let behind_list : s.at ≡ end_of_part list = omega (arith, ll) in
+    let are' = rises_end s.at high size rest are.rises are.ends_at up in
+    let tail_rises = subst (λ (v : ℕ). Rises v (rest ++ end)) behind_list are'.0 in
+    let rises : Rises 0 all = (omega arith, (omega (arith, lsb), tail_rises)) in
+    record {
+      first = lsb;
+      rises = rises;
+      long = length-laid [] all rises ∙ ap (λ (v : ℕ). end_of_parts v (rest ++ end)) (sym behind_list) ∙ are'.1;
+    }
+
 -- what the bytes of a planned volume are
 pub record IsImage (o : Order) (b : List ℕ) (root : Inode) (n : Names) (cs : List (List ℕ)) : Type 0 where
   pub super : IsSuperblock o b b
@@ -165,16 +202,10 @@ is_image o volume root n cs h =
     let rest = parts o cs s n in
     let end = part size [] ∷ [] in
     let u = laid [] (part 0 sb ∷ list ∷ (rest ++ end)) in
+    let are = are_laid o volume root n cs h in
     let low = names_onward cs s n h.well in
     let up : high ≤ size = pad-after high 4096 (omega arith) in
-    let lsb = length_super o volume root n short in
-    let ll = length-list o s n in
-    let are = parts_are o cs s n h.well in
-    let behind_list : s.at ≡ end_of_part list = omega (arith, ll) in
-    let are' = rises_end s.at high size rest are.rises are.ends_at up in
-    let tail_rises = subst (λ (v : ℕ). Rises v (rest ++ end)) behind_list are'.0 in
-    let rises : Rises 0 (part 0 sb ∷ list ∷ (rest ++ end)) = (omega arith, (omega (arith, lsb), tail_rises)) in
-    let lu : length u ≡ size = length-laid [] (part 0 sb ∷ list ∷ (rest ++ end)) rises ∙ ap (λ (v : ℕ). end_of_parts v (rest ++ end)) (sym behind_list) ∙ are'.1 in
+    let lu = are.long in
     let keeps = laid_keeps sb (list ∷ (rest ++ end)) in
     let back = behind o volume root n keeps.0 in
     let form : u ≡ front o size (word_bytes o 0 ++ back) = keeps.1 ∙ before_crc o volume root n keeps.0 in
@@ -183,8 +214,8 @@ is_image o volume root n cs h =
     let bform : b ≡ front o size (word_bytes o w ++ back) = ap (with_crc o) form ∙ after_crc o size back in
     let lb : length b ≡ size = ap length bform ∙ length_front o size w back ∙ sym (length_front o size 0 back) ∙ ap length (sym form) ∙ lu in
     let says = front_says o b size w back bform (omega arith) (crc_small (front o size (word_bytes o 0 ++ back))) in
-    let laid_parts = (HasParts-laid [] (part 0 sb ∷ list ∷ (rest ++ end)) rises).1 in
-    let moved = parts_moved o size w 0 back 76 (list ∷ (rest ++ end)) (omega arith) (omega arith, tail_rises) (subst (λ (x : List ℕ). HasParts x (list ∷ (rest ++ end))) form laid_parts) in
+    let laid_parts = (HasParts-laid [] (part 0 sb ∷ list ∷ (rest ++ end)) are.rises).1 in
+    let moved = parts_moved o size w 0 back 76 (list ∷ (rest ++ end)) (omega arith) (omega arith, are.rises.1.1) (subst (λ (x : List ℕ). HasParts x (list ∷ (rest ++ end))) form laid_parts) in
     let has = subst (λ (x : List ℕ). HasParts x (list ∷ (rest ++ end))) (sym bform) moved in
     let own = parts_front b rest end has.1 in
     let has36 : HasAt b 36 back = ([], ap (drop 36) bform ∙ drop_crc o size w back ∙ sym (append-nil back)) in

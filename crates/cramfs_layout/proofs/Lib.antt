@@ -13,9 +13,14 @@ pub mod Image
 pub mod Values
 pub mod Paths
 pub mod Shaped
+pub mod Tabled
 pub mod Regions
+pub mod Runs
+pub mod Shown
+pub mod Covered
 pub mod Sectioned
 pub mod Composed
 pub mod Filled
 pub mod Held
+pub mod Joined
 mod Examples

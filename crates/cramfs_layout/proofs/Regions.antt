@@ -1,6 +1,5 @@
 -- Where the items of a layout stand, with their tables and bytes.
-use Rattle.std.proofs.Common.{◌≡◌, ◌≢◌, ℕ, zero, suc, ◌+◌, ◌-◌, ◌*◌, ◌≤◌, List, [], ◌∷◌, ◌++◌, length, refl, sym, ap, subst, ◌∙◌, arith, inl, inr}
-use Rattle.std.proofs.lemmas.Bool.Decides.{eqb_tells}
+use Rattle.std.proofs.Common.{◌≡◌, ◌≢◌, ℕ, zero, suc, ◌+◌, ◌-◌, ◌*◌, ◌≤◌, List, [], ◌∷◌, ◌++◌, refl, sym, subst, arith, inl, inr}
 use Rattle.std.specs.List.{AllByRecursion as Every}
 use Rattle.rom_fields.specs.declared.span.Extent.TheVariants.{List as ListOf, Table as TableOf}
 use Rattle.rom_fields.specs.declared.span.Span.{Span}
@@ -9,15 +8,15 @@ use Rattle.record_walk.specs.Members.{Has}
 use Rattle.record_walk.proofs.Lists.{every_join, every_left, every_right}
 use Rattle.cramfs_format.specs.declared.order.Order.{Order}
 use Rattle.cramfs_format.specs.Inode.{block_count}
-use Rattle.image_parts.specs.Padding.{pad}
 use Rattle.image_parts.proofs.Climbs.{Climbs, climbs_added}
-use Rattle.name_tree.specs.Names.{Fill, no_bytes, text, source, Inode, Names, nothing, leaf, link, folder, bytes_of}
+use Rattle.name_tree.specs.Names.{Inode, Names, nothing, leaf, link, folder}
 use Rattle.layout_terms.specs.Items.{Item}
-use Rattle.cramfs_layout.specs.Layout.{pad4, entry_len, list_len, State, Table, Kept, nowhere, shared, fresh, kept, kept_by, data_of, with_table, after_by, after_file, after_list, after_names}
-use Rattle.cramfs_layout.specs.Items.{AreAlignedBy, kept_item, entries, below}
+use Rattle.cramfs_layout.specs.Layout.{pad4, entry_len, list_len, State, Kept, nowhere, shared, fresh, kept, data_of, after_by, after_file, after_list, after_names}
+use Rattle.cramfs_layout.specs.Items.{entries, below}
 use Rattle.cramfs_layout.specs.Wells.{IsFile, AreWell}
-use Rattle.cramfs_layout.proofs.Stored.{data_after, shared_by, none_by, stored_with, file_onward}
+use Rattle.cramfs_layout.proofs.Stored.{data_after, file_onward}
 use Rattle.cramfs_layout.proofs.Extents.{climbs_join}
+use Rattle.cramfs_layout.proofs.Tabled.{FileFresh, AllFresh}
 
 -- what is placed after s, in the layout's order: lists, and tables with their blocks
 abbrev pub file_region : Kept → State → Inode → List Span
@@ -142,94 +141,29 @@ below_listed o V s (folder name i own rest) h =
 abbrev pub StandsFor : List Span → ℕ → ℕ → ℕ → Type 0
 StandsFor V t d len = Has (λ b. (b.kind ≡ TableOf) × (b.start ≡ t) × (t + 4 * block_count len ≤ d) × (d + len ≤ b.start + b.len)) V
 
-abbrev pub IsTabled : List Span → Item → Type 0
-IsTabled V i = i.len ≢ 0 → StandsFor V i.table i.start i.len
-
-abbrev TableStands : List (List ℕ) → (ℕ → ℕ) → List Span → Table → Type 0
-TableStands cs A V x =
-    let len = length (bytes_of cs (source x.source)) in
-    len ≢ 0 → StandsFor V x.place (pad (pad4 x.place + 4 * block_count len) (A x.source)) len
-
 -- the region of a file that has its own table
 fresh_stands : (V : List Span) (t d len size : ℕ) → t + 4 * block_count size ≤ d → size ≢ 0 → d + size - t ≡ len
     → Every (IsAmong V) (added TableOf t len) → StandsFor V t d size
 fresh_stands V t d zero size l n e h = absurd (n (omega (arith, l, e)))
 fresh_stands V t d (suc k) size l n e h = has_as (λ (b : Span). (b.kind ≡ TableOf) × (b.start ≡ t) × (t + 4 * block_count size ≤ d) × (d + size ≤ b.start + b.len)) V (record { kind = TableOf; start = t; len = suc k }) h.0 (refl, refl, l, omega (arith, e, l))
 
-tables_more : (cs : List (List ℕ)) (A : ℕ → ℕ) (V : List Span) (f : Fill) (p : ℕ) (ts : List Table) → ((k : ℕ) → f ≡ source k → TableStands cs A V (record { source = k; place = p })) → Every (TableStands cs A V) ts → Every (TableStands cs A V) (with_table f p ts)
-tables_more cs A V no_bytes p ts h t = t
-tables_more cs A V (text x) p ts h t = t
-tables_more cs A V (source k) p ts h t = (h k refl, t)
+file_fresh : (cs : List (List ℕ)) (V : List Span) (s : State) (i : Inode) (k : Kept) → IsFile cs i
+    → Every (IsAmong V) (file_region k s i) → FileFresh (StandsFor V) s i k
+file_fresh cs V s i nowhere h r = tt
+file_fresh cs V s i (shared t) h r = tt
+file_fresh cs V s i fresh h r = λ n. fresh_stands V (pad4 s.at) (data_of s.at i) (data_of s.at i + i.size - pad4 s.at) i.size (data_after cs s.at i h).0 n refl r
 
--- the same file where it was told by its source
-same_stands : (V : List Span) (t d e n m : ℕ) → d ≡ e → n ≡ m → StandsFor V t d n → StandsFor V t e m
-same_stands V t d e n m p q h = subst (λ (x : ℕ). StandsFor V t e x) q (subst (λ (x : ℕ). StandsFor V t x n) p h)
-
-file_tabled : (o : Order) (cs : List (List ℕ)) (A : ℕ → ℕ) (V : List Span) (l : ℕ) (name : List ℕ) (s : State) (i : Inode) (k : Kept)
-    → IsFile cs i → ((j : ℕ) → i.fill ≡ source j → i.align ≡ A j) → kept s.tables i ≡ k
-    → Every (IsAmong V) (file_region k s i) → Every (TableStands cs A V) s.tables
-    → IsTabled V (kept_item o l s.at name i k) × Every (TableStands cs A V) (after_by k s i).tables
-unfolding kept data_of
-file_tabled o cs A V l name s i nowhere h al e r ts = (
-  (λ n. elim (eqb_tells i.size 0) [
-    | inl z ↦ absurd (n z.1)
-    | inr z ↦
-        let e' : kept_by s.tables i.fill ≡ nowhere = (rw z.0 at e) in
-        let m : length (bytes_of cs i.fill) ≡ 0 = ap (λ (f : Fill). length (bytes_of cs f)) (none_by s.tables i.fill e') in
-        absurd (n (sym h.bytes ∙ m))
-  ]),
-  ts,
-)
-file_tabled o cs A V l name s i (shared t) h al e r ts = (
-  (λ n. elim (eqb_tells i.size 0) [
-    | inl z ↦ absurd (n z.1)
-    | inr z ↦
-        let e' : kept_by s.tables i.fill ≡ shared t = (rw z.0 at e) in
-        let k = shared_by s.tables i.fill t e' in
-        let m : length (bytes_of cs (source k.0)) ≡ i.size = ap (λ (f : Fill). length (bytes_of cs f)) (sym k.1) ∙ h.bytes in
-        let stands = stored_with (TableStands cs A V) s.tables k.0 t ts k.2 (λ u. n (sym m ∙ u)) in
-        same_stands V t (pad (pad4 t + 4 * block_count (length (bytes_of cs (source k.0)))) (A k.0)) (pad (pad4 t + 4 * block_count i.size) i.align) (length (bytes_of cs (source k.0))) i.size
-        (ap (λ (v : ℕ). pad (pad4 t + 4 * block_count v) (A k.0)) m ∙ ap (λ (v : ℕ). pad (pad4 t + 4 * block_count i.size) v) (sym (al k.0 k.1))) m stands
-  ]),
-  ts,
-)
-file_tabled o cs A V l name s i fresh h al e r ts =
-    let d = (data_after cs s.at i h).0 in
-    let mine : i.size ≢ 0 → StandsFor V (pad4 s.at) (data_of s.at i) i.size = λ n. fresh_stands V (pad4 s.at) (data_of s.at i) (data_of s.at i + i.size - pad4 s.at) i.size d n refl r in
-    let twice : pad4 s.at ≡ pad4 (pad4 s.at) = omega arith in (
-      mine,
-      tables_more cs A V i.fill (pad4 s.at) s.tables (λ k f n.
-          let m : length (bytes_of cs (source k)) ≡ i.size = ap (λ (g : Fill). length (bytes_of cs g)) (sym f) ∙ h.bytes in
-          same_stands V (pad4 s.at) (data_of s.at i) (pad (pad4 (pad4 s.at) + 4 * block_count (length (bytes_of cs (source k)))) (A k)) i.size (length (bytes_of cs (source k)))
-          (ap (λ (v : ℕ). pad (v + 4 * block_count i.size) i.align) twice ∙ ap (λ (v : ℕ). pad (pad4 (pad4 s.at) + 4 * block_count v) i.align) (sym m) ∙ ap (λ (v : ℕ). pad (pad4 (pad4 s.at) + 4 * block_count (length (bytes_of cs (source k)))) v) (al k f))
-          (sym m) (mine (λ u. n (m ∙ u)))) ts,
-    )
-
--- what is known of the items of names, and of the tables after them
-pub record AreTabled (o : Order) (cs : List (List ℕ)) (A : ℕ → ℕ) (V : List Span) (l : ℕ) (s : State) (n : Names) : Type 0 where
-  pub here : Every (IsTabled V) (entries o l s n)
-  pub under : Every (IsTabled V) (below o s n)
-  pub tables : Every (TableStands cs A V) (after_names s n).tables
-
-pub all_tabled : (o : Order) (cs : List (List ℕ)) (A : ℕ → ℕ) (V : List Span) (l : ℕ) (s : State) (n : Names)
-    → AreWell cs n → AreAlignedBy A n → Every (IsAmong V) (regions s n) → Every (TableStands cs A V) s.tables
-    → AreTabled o cs A V l s n
-all_tabled o cs A V l s nothing h a r ts = record { here = tt; under = tt; tables = ts }
-all_tabled o cs A V l s (leaf name i rest) h a r ts =
+pub regions_fresh : (cs : List (List ℕ)) (V : List Span) (s : State) (n : Names) → AreWell cs n → Every (IsAmong V) (regions s n)
+    → AllFresh (StandsFor V) s n
+regions_fresh cs V s nothing h r = tt
+regions_fresh cs V s (leaf name i rest) h r =
     let k = kept s.tables i in
-    let one = file_tabled o cs A V l name s i k h.1 a.0 refl (every_left (IsAmong V) (file_region k s i) (regions (after_file s i) rest) r) ts in
-    let more = all_tabled o cs A V (l + entry_len name) (after_file s i) rest h.2 a.1 (every_right (IsAmong V) (file_region k s i) (regions (after_file s i) rest) r) one.1 in
-    record { here = (one.0, more.here); under = more.under; tables = more.tables }
-all_tabled o cs A V l s (link name i rest) h a r ts = absurd h
-all_tabled o cs A V l s (folder name i own rest) h a r ts =
+    let region = file_region k s i in
+    let more = regions (after_file s i) rest in
+    (file_fresh cs V s i k h.1 (every_left (IsAmong V) region more r), regions_fresh cs V (after_file s i) rest h.2 (every_right (IsAmong V) region more r))
+regions_fresh cs V s (link name i rest) h r = absurd h
+regions_fresh cs V s (folder name i own rest) h r =
     let s1 = after_list s own in
     let s2 = after_names s1 own in
-    let front = added ListOf (pad4 s.at) (list_len own) in
-    let both = every_right (IsAmong V) front (regions s1 own ++ regions s2 rest) r in
-    let mine = all_tabled o cs A V (pad4 s.at) s1 own h.2 a.0 (every_left (IsAmong V) (regions s1 own) (regions s2 rest) both) ts in
-    let more = all_tabled o cs A V (l + entry_len name) s2 rest h.3 a.1 (every_right (IsAmong V) (regions s1 own) (regions s2 rest) both) mine.tables in
-    record {
-      here = ((λ n. absurd (n refl)), more.here);
-      under = every_join (IsTabled V) (entries o (pad4 s.at) s1 own) (below o s1 own ++ below o s2 rest) mine.here (every_join (IsTabled V) (below o s1 own) (below o s2 rest) mine.under more.under);
-      tables = more.tables;
-    }
+    let both = every_right (IsAmong V) (added ListOf (pad4 s.at) (list_len own)) (regions s1 own ++ regions s2 rest) r in
+    (regions_fresh cs V s1 own h.2 (every_left (IsAmong V) (regions s1 own) (regions s2 rest) both), regions_fresh cs V s2 rest h.3 (every_right (IsAmong V) (regions s1 own) (regions s2 rest) both))

@@ -19,7 +19,8 @@ use Rattle.cramfs_layout.specs.Planned.{IsPlanned}
 use Rattle.image_parts.proofs.Padding.{pad-after}
 use Rattle.cramfs_layout.proofs.Extents.{climbs_from}
 use Rattle.cramfs_layout.proofs.Stored.{names_onward}
-use Rattle.cramfs_layout.proofs.Regions.{regions, regions_climb, Places, places_join, entries_place, below_place, IsListed, IsAmong, own_listed, below_listed, StandsFor, IsTabled, all_tabled}
+use Rattle.cramfs_layout.proofs.Regions.{regions, regions_climb, Places, places_join, entries_place, below_place, IsListed, IsAmong, own_listed, below_listed, StandsFor, regions_fresh}
+use Rattle.cramfs_layout.proofs.Tabled.{IsTabled, all_tabled}
 
 -- a section within one of some regions that are told by D
 abbrev Within : List Span → (Span → Type 0) → Section → Type 0
@@ -144,7 +145,7 @@ own_sections V index earlier t d len f false n s e =
     }
 
 -- the table and the bytes of an item, where no earlier item has the table
-tables_sound : (V : List Span) (index : ℕ) (earlier : List Item) (i : Item) → IsTabled V i
+tables_sound : (V : List Span) (index : ℕ) (earlier : List Item) (i : Item) → IsTabled (StandsFor V) i
     → TableSound V earlier i.table (table_sections earlier index i)
 tables_sound V index earlier i h = elim (i.len == 0) as (λ c. (i.len == 0) ≡ c → TableSound V earlier i.table (if c || has_table earlier i.table then [] else section i.table (4 * block_count i.len) (table_of index) ∷ (if c then [] else fill_section index i.start i.len i.fill))) [
   | true ↦ λ e. record { own = tt; none = inl refl; apart = tt }
@@ -180,7 +181,7 @@ record Sound (V : List Span) (from : ℕ) (earlier : List Item) (ss : List Secti
   apart : Pairs AreApart ss
 
 all_sound : (V : List Span) (from to index : ℕ) (earlier is : List Item) → Pairs Follows V → Places from to is
-    → Every (IsListed V) is → Every (IsTabled V) is → Sound V from earlier (sections_from earlier index is)
+    → Every (IsListed V) is → Every (IsTabled (StandsFor V)) is → Sound V from earlier (sections_from earlier index is)
 all_sound V from to index earlier [] p a l t = record { belong = tt; apart = tt }
 all_sound V from to index earlier (i ∷ is) p a l t =
     let up = i.place + entry_len i.name in
@@ -238,8 +239,8 @@ rise o volume root n cs A h al =
     let bs = below o s n in
     let places = places_join 76 s.at end es bs (entries_place o 76 s n) (below_place o cs s n h.well) in
     let listed = every_join (IsListed V) es bs (own_listed o V 76 (list_len n) s n refl front) (below_listed o V s n back) in
-    let t = all_tabled o cs A V 76 s n h.well al back tt in
-    let tabled = every_join (IsTabled V) es bs t.here t.under in
+    let t = all_tabled o cs A (StandsFor V) 76 s n h.well al (regions_fresh cs V s n h.well back) tt in
+    let tabled = every_join (IsTabled (StandsFor V)) es bs t.here t.under in
     let sound = all_sound V 76 end 1 [] (es ++ bs) follow places listed tabled in
     let ss = sections_from [] 1 (es ++ bs) in
     let inside = every_weaker (Belongs V 76 []) (LiesIn 76 (size_of n)) (λ x k. lies V 76 (size_of n) 76 [] x (climbs_from 76 end V climbs) (every_weaker (λ (b : Span). b.start + b.len ≤ end) (λ (b : Span). b.start + b.len ≤ size_of n) (λ b l. omega arith) V (climbs_high 76 end V climbs)) k) ss sound.belong in

@@ -1,9 +1,11 @@
 //! Laws about the layout of a cramfs image.
 ghost use Rattle.std.specs.Prelude.{◌≡◌, List, ℕ, ◌^◌, length};
+ghost use Rattle.std.specs.List.{AllByRecursion as Every};
 ghost use Rattle.cramfs_format.specs.declared.order.Order.{Order};
 ghost use Rattle.cramfs_format.specs.Tree.{CramfsTree};
+ghost use Rattle.cramfs_layout.specs.Composed.{cramfs_part, composed};
 ghost use Rattle.cramfs_layout.specs.Items.{AreAlignedBy, items_of, sections_of};
-ghost use Rattle.cramfs_layout.specs.Layout.{layout, size_of};
+ghost use Rattle.cramfs_layout.specs.Layout.{layout, size_of, superblock};
 ghost use Rattle.cramfs_layout.specs.Planned.{IsPlanned};
 ghost use Rattle.layout_terms.specs.Items.{SectionsRise};
 ghost use Rattle.name_tree.specs.Names.{Inode, Names};
@@ -32,4 +34,17 @@ pub fn sections_rise()
     ensures { (o : Order) (volume : List ℕ) (root : Inode) (n : Names) (contents : List (List ℕ)) (align : ℕ → ℕ)
         → IsPlanned volume root n contents → AreAlignedBy align n
         → SectionsRise 0 (size_of n) (sections_of (items_of o root n)) }
+{}
+
+/// The sections of such a volume, with their bytes at their places, zeros between them and the crc
+/// of the whole, are its layout; and each section is as long as its bytes.
+pub fn sections_make_layout()
+    ensures bytes { (o : Order) (volume : List ℕ) (root : Inode) (n : Names) (contents : List (List ℕ)) (align : ℕ → ℕ)
+        → IsPlanned volume root n contents → AreAlignedBy align n
+        → layout o volume root n contents
+        ≡ composed o (superblock o volume root n) (size_of n) contents (items_of o root n) }
+    ensures length { (o : Order) (volume : List ℕ) (root : Inode) (n : Names) (contents : List (List ℕ)) (align : ℕ → ℕ)
+        → IsPlanned volume root n contents → AreAlignedBy align n
+        → Every (λ s. length (cramfs_part o (superblock o volume root n) contents (items_of o root n) s).bytes ≡ s.len)
+        (sections_of (items_of o root n)) }
 {}

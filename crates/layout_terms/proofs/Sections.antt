@@ -45,7 +45,7 @@ put_every P s (t ∷ ts) p h = elim (nat_lt s.place t.place) as (λ b. Every P (
   | false ↦ (h.0, put_every P s ts p h.1)
 ]
 
-order_every : (P : Section → Type 0) (ss : List Section) → Every P ss → Every P (in_order ss)
+pub order_every : (P : Section → Type 0) (ss : List Section) → Every P ss → Every P (in_order ss)
 order_every P [] h = tt
 order_every P (s ∷ ss) h = put_every P s (in_order ss) h.0 (order_every P ss h.1)
 
@@ -54,3 +54,15 @@ pub order_rises : (from end : ℕ) (ss : List Section) → from ≤ end → Ever
     → SectionsRise from end (in_order ss)
 order_rises from end [] l h a = l
 order_rises from end (s ∷ ss) l h a = put_rises s (in_order ss) from end h.0 (order_every (AreApart s) ss a.0) (order_rises from end ss l h.1 a.1)
+
+put_back : (P : Section → Type 0) (s : Section) (ts : List Section) → Every P (put_section s ts) → P s × Every P ts
+put_back P s [] h = (h.0, tt)
+put_back P s (t ∷ ts) h = elim (nat_lt s.place t.place) as (λ b. Every P (cond b (s ∷ t ∷ ts) (t ∷ put_section s ts)) → P s × Every P (t ∷ ts)) [
+  | true ↦ λ k. (k.0, k.1)
+  | false ↦ λ k. let r = put_back P s ts k.1 in (r.0, (k.0, r.1))
+] h
+
+-- what holds of all in order holds of all
+pub order_back : (P : Section → Type 0) (ss : List Section) → Every P (in_order ss) → Every P ss
+order_back P [] h = tt
+order_back P (s ∷ ss) h = let r = put_back P s (in_order ss) h in (r.0, order_back P ss r.1)
