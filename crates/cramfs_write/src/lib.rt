@@ -1,0 +1,6 @@
+//! A cramfs image from its plan, in either byte order.
+//!
+//! `specs/Form.antt` says what the image is made of; `misfits` says what its layout is.
+#![tactic(auto)]
+
+mod record;
