@@ -97,7 +97,7 @@ length_super Big crc size files volume a b c l =
     let zeros = replicate {A = ℕ} (16 - length volume) 0 in
     omega (arith, length-append volume (zeros ++ words_bytes Big a b c), length-append zeros (words_bytes Big a b c), length-replicate {A = ℕ} (16 - length volume) 0)
 
-crc_stored : (o : Order) (crc size files : ℕ) (volume : List ℕ) (a b c : ℕ) (rest : List ℕ)
+pub crc_stored : (o : Order) (crc size files : ℕ) (volume : List ℕ) (a b c : ℕ) (rest : List ℕ)
     → crc_of (superblock_storing o 0 size files volume a b c ++ rest) ≡ crc
     → superblock_storing o crc size files volume a b c ++ rest ≡ with_crc o (superblock_storing o 0 size files volume a b c ++ rest)
 unfolding with_crc
