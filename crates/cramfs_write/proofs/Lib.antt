@@ -1,3 +1,4 @@
 pub mod Puts
 pub mod Laid
 pub mod Means
+pub mod Sections
