@@ -2,3 +2,4 @@ pub mod Puts
 pub mod Laid
 pub mod Means
 pub mod Sections
+pub mod Fits
