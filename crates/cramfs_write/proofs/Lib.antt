@@ -3,3 +3,4 @@ pub mod Laid
 pub mod Means
 pub mod Sections
 pub mod Fits
+pub mod Facts
