@@ -5,3 +5,5 @@ pub mod Small
 pub mod Ordered
 pub mod Placing
 pub mod Cutting
+pub mod Sectioning
+pub mod Whole

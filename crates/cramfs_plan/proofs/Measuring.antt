@@ -1,11 +1,11 @@
 -- The pass backwards computes how long lists are.
-use Rattle.std.proofs.Common.{◌≡◌, ◌≢◌, ◌+◌, ◌*◌, ◌<◌, ◌≤◌, ℕ, zero, suc, List, [], ◌∷◌, ◌++◌, ◌^◌, ◌-◌, map, drop, replicate, length, get_or, refl, sym, ap, subst, ◌∙◌, arith, Fits, w64}
+use Rattle.std.proofs.Common.{◌≡◌, ◌≢◌, ◌+◌, ◌*◌, ◌<◌, ◌≤◌, ℕ, zero, suc, List, [], ◌∷◌, ◌++◌, ◌^◌, map, drop, replicate, length, get_or, refl, sym, ap, subst, ◌∙◌, arith, Fits, w64}
 use Rattle.std.proofs.Math.ListN.{set}
 use Rattle.std.proofs.lemmas.List.{set-set, set-get_or, get_or-set_same, get_or-set_other, length-set, length-map, length-drop}
 use Rattle.std.specs.List.{All, AllByRecursion as Every}
 use Rattle.std.proofs.lemmas.List.Elements.{recursion_from_All}
 use Rattle.record_walk.proofs.Lists.{every_weaker}
-use Rattle.name_tree.specs.Names.{Inode, Names, nothing, leaf, link, folder}
+use Rattle.name_tree.specs.Names.{Names, nothing, leaf, link, folder}
 use Rattle.name_tree.specs.Tree.{a_leaf, a_link, a_folder}
 use Rattle.layout_terms.specs.Files.{height}
 use Rattle.cramfs_layout.specs.Layout.{entry_len, list_len}
@@ -51,11 +51,11 @@ single d lens r n at wide z later =
     let b : get_or h (d + 1) 0 ≡ 0 = get_or-set_other lens d (d + 1) x 0 ne ∙ z in
     let v : x + e ≡ get_or lens d 0 + (e + list_len n) = omega arith in (
       ap (λ (g : List ℕ). lens_with g r) later.lens_are ∙ ap (λ (k : ℕ). set (set h (k + 1) 0) k (get_or h k 0 + e)) at
-      ∙ ap (λ (k : ℕ). set (set h (d + 1) 0) d (k + e)) a ∙ ap (λ (k : ℕ). set (set h (d + 1) 0) d k) v
-      ∙ settle lens d x (get_or lens d 0 + (e + list_len n)) z,
+          ∙ ap (λ (k : ℕ). set (set h (d + 1) 0) d (k + e)) a ∙ ap (λ (k : ℕ). set (set h (d + 1) 0) d k) v
+          ∙ settle lens d x (get_or lens d 0 + (e + list_len n)) z,
       ap (λ (g : List ℕ). get_or g (r.depth + 1) 0 ∷ own_lens lens (rows d n)) later.lens_are
-      ∙ ap (λ (k : ℕ). get_or h (k + 1) 0 ∷ own_lens lens (rows d n)) at
-      ∙ ap (λ (k : ℕ). k ∷ own_lens lens (rows d n)) b ∙ ap (λ (ls : List ℕ). 0 ∷ ls) later.own_are,
+          ∙ ap (λ (k : ℕ). get_or h (k + 1) 0 ∷ own_lens lens (rows d n)) at
+          ∙ ap (λ (k : ℕ). k ∷ own_lens lens (rows d n)) b ∙ ap (λ (ls : List ℕ). 0 ∷ ls) later.own_are,
     )
 
 pub measures : (d : ℕ) (lens : List ℕ) (n : Names) → d + height n < length lens

@@ -1,13 +1,13 @@
 -- The items in the order of the names, sorted by their places, are those of the layout.
-use Rattle.std.proofs.Common.{◌≡◌, ℕ, ◌+◌, ◌<◌, ◌≤◌, List, [], ◌∷◌, ◌++◌, length, refl, ap, ◌∙◌, subst, arith, IsPermutation}
+use Rattle.std.proofs.Common.{ℕ, ◌+◌, ◌<◌, ◌≤◌, List, [], ◌∷◌, ◌++◌, ap, ◌∙◌, subst, arith, IsPermutation}
 use Rattle.std.specs.List.{AllByRecursion as Every}
 use Rattle.std.proofs.lemmas.List.{append_assoc}
 use Rattle.std.proofs.lemmas.List.Sorted.{IsPermutation-refl, IsPermutation-cons, IsPermutation-trans, IsPermutation-append, IsPermutation-append_comm}
 use Rattle.cramfs_format.specs.declared.order.Order.{Order}
 use Rattle.name_tree.specs.Names.{Inode, Names, nothing, leaf, link, folder}
 use Rattle.layout_terms.specs.Items.{Item}
-use Rattle.cramfs_layout.specs.Layout.{pad4, entry_len, list_len, State, first_state, after_file, after_list, after_names}
-use Rattle.cramfs_layout.specs.Items.{entries, below, items_of, file_item}
+use Rattle.cramfs_layout.specs.Layout.{pad4, entry_len, State, first_state, after_file, after_list, after_names}
+use Rattle.cramfs_layout.specs.Items.{entries, below, items_of}
 use Rattle.cramfs_layout.specs.Wells.{AreWell}
 use Rattle.cramfs_layout.proofs.Regions.{Places, places_join, entries_place, below_place}
 use Rattle.cramfs_plan.specs.Passes.{in_preorder}

@@ -5,8 +5,8 @@ use Rattle.std.specs.List.{AllByRecursion as Every}
 use Rattle.std.proofs.lemmas.List.{map-append, append_assoc}
 use Rattle.record_walk.proofs.Lists.{every_weaker}
 use Rattle.cramfs_format.specs.declared.order.Order.{Order}
-use Rattle.name_tree.specs.Names.{Inode, no_bytes}
-use Rattle.cramfs_layout.specs.Layout.{State, Table, Kept, nowhere, shared, fresh, kept, after_by, after_file}
+use Rattle.name_tree.specs.Names.{Inode}
+use Rattle.cramfs_layout.specs.Layout.{State, Kept, nowhere, shared, fresh, kept, after_by, after_file}
 use Rattle.cramfs_layout.specs.Items.{file_item}
 use Rattle.layout_terms.specs.Items.{Item}
 use Rattle.name_tree.specs.Tree.{What, a_leaf, a_link}

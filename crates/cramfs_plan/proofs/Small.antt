@@ -1,8 +1,7 @@
 -- The numbers of the items of a layout are below 2^32.
-use Rattle.std.proofs.Common.{◌≡◌, ◌≢◌, ℕ, ◌+◌, ◌-◌, ◌*◌, ◌/◌, ◌^◌, ◌<◌, ◌≤◌, List, [], ◌∷◌, ◌++◌, length, refl, sym, ap, subst, ◌∙◌, arith, inl, inr, Some, None}
-use Rattle.std.proofs.lemmas.Bool.{ne_eqb}
+use Rattle.std.proofs.Common.{◌≡◌, ℕ, ◌+◌, ◌-◌, ◌*◌, ◌/◌, ◌^◌, ◌<◌, ◌≤◌, List, length, refl, arith, inl, inr}
 use Rattle.std.proofs.lemmas.Bool.Decides.{eqb_tells}
-use Rattle.std.proofs.lemmas.Nat.{div-add-mod', mod_below}
+use Rattle.std.proofs.lemmas.Nat.{div-add-mod'}
 use Rattle.std.specs.List.{AllByRecursion as Every}
 use Rattle.record_walk.proofs.Lists.{every_join, every_left, every_right}
 use Rattle.rom_tree.specs.declared.types.Kind.{Kind}
@@ -12,13 +11,12 @@ use Rattle.cramfs_format.specs.declared.order.Order.TheVariants.{Little, Big}
 use Rattle.cramfs_format.specs.Inode.{block_count}
 use Rattle.image_parts.specs.Padding.{pad}
 use Rattle.name_tree.specs.Names.{Fill, no_bytes, text, source, Inode, Names, nothing, leaf, link, folder}
-use Rattle.layout_terms.specs.Items.{Item}
 use Rattle.misfits.specs.Format.{cramfs}
-use Rattle.cramfs_layout.specs.Layout.{packed, type_bits, first_word, second_word, third_word, pad4, size_by, entry_len, list_len, State, Table, Kept, nowhere, shared, fresh, kept, kept_by, data_of, with_table, table_by, after_by, after_file, after_list, after_names, list_offset}
-use Rattle.cramfs_layout.specs.Items.{item_of, start_by, kept_item, file_item}
-use Rattle.cramfs_layout.specs.Wells.{FitsKind, IsFile, IsFolder, AreWell}
-use Rattle.cramfs_layout.proofs.Stored.{data_after, shared_by, stored_with, file_onward, names_onward}
-use Rattle.plan_rows.specs.Rows.{Row, rows}
+use Rattle.cramfs_layout.specs.Layout.{packed, type_bits, pad4, size_by, entry_len, list_len, State, Table, Kept, nowhere, shared, fresh, kept, data_of, with_table, table_by, after_by, after_file, after_list, after_names, list_offset}
+use Rattle.cramfs_layout.specs.Items.{item_of, start_by}
+use Rattle.cramfs_layout.specs.Wells.{FitsKind, IsFile, AreWell}
+use Rattle.cramfs_layout.proofs.Stored.{data_after, shared_by, stored_with, names_onward}
+use Rattle.plan_rows.specs.Rows.{rows}
 use Rattle.plan_rows.specs.Fits.{IsFit}
 use Rattle.cramfs_plan.specs.Passes.{in_preorder}
 use Rattle.cramfs_plan.specs.Small.{IsSmall}
@@ -54,7 +52,7 @@ size_small Socket i h l = l
 size_small Fifo i h l = l
 
 -- an item of small parts
-item_small : (o : Order) (place : ℕ) (name : List ℕ) (i : Inode) (size offset table start len : ℕ) (f : Fill)
+pub item_small : (o : Order) (place : ℕ) (name : List ℕ) (i : Inode) (size offset table start len : ℕ) (f : Fill)
     → place < 2 ^ 32 → length name ≤ 252 → i.mode < 4096 → i.uid < 2 ^ 16 → i.gid < 2 ^ 8 → size < 2 ^ 24
     → offset < 2 ^ 28 → table < 2 ^ 32 → start < 2 ^ 32 → len < 2 ^ 32
     → IsSmall (item_of o place name i size offset table start len f)
@@ -140,7 +138,7 @@ are_small o cs d l s (leaf name i rest) h fit t low room =
     record {
       items = (
         item_small o l name i (size_by i.kind i) (table_by (kept s.tables i) s.at) (table_by (kept s.tables i) s.at) (start_by (kept s.tables i) s.at i) i.size i.fill
-        (omega (arith, low)) short f.mode f.owner.0 f.owner.1 (size_small i.kind i f.kind z) k.table (let q = k.table in omega (arith, q)) k.start (omega (arith, z)),
+            (omega (arith, low)) short f.mode f.owner.0 f.owner.1 (size_small i.kind i f.kind z) k.table (let q = k.table in omega (arith, q)) k.start (omega (arith, z)),
         more.items,
       );
       tables = more.tables;
@@ -159,7 +157,7 @@ are_small o cs d l s (folder name i own rest) h fit t low room =
     record {
       items = (
         item_small o l name i (list_len own) (list_offset s.at own) 0 0 0 no_bytes (omega (arith, low)) h.0.1 f.mode f.owner.0 f.owner.1
-        f.small (list_low s.at (2 ^ 28) own (omega (arith, b, c, room)) (omega arith)) (omega arith) (omega arith) (omega arith),
+            f.small (list_low s.at (2 ^ 28) own (omega (arith, b, c, room)) (omega arith)) (omega arith) (omega arith) (omega arith),
         every_join IsSmall (in_preorder o (pad4 s.at) s1 own) (in_preorder o (l + entry_len name) s2 rest) inner.items more.items,
       );
       tables = more.tables;

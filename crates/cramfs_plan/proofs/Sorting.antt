@@ -1,5 +1,5 @@
 -- A list in which no two have one number has one order by these numbers.
-use Rattle.std.proofs.Common.{◌≡◌, ◌<◌, ◌≤◌, ◌+◌, ℕ, zero, suc, Bool, true, false, not, nat_lt, cond, true≢false, List, [], ◌∷◌, ◌++◌, filter, length, get_or, refl, sym, ap, ap₂, ◌∙◌, subst, arith, IsPermutation}
+use Rattle.std.proofs.Common.{◌≡◌, ◌<◌, ◌≤◌, ℕ, zero, suc, Bool, true, false, not, nat_lt, cond, List, [], ◌∷◌, ◌++◌, filter, length, get_or, refl, ap, ap₂, ◌∙◌, subst, arith, IsPermutation}
 use Rattle.std.proofs.Math.ListN.{set}
 use Rattle.std.specs.List.{AllByRecursion as Every, swap}
 use Rattle.std.specs.List.Sorted.{IsNonDecreasingBy}

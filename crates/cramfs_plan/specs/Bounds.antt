@@ -1,5 +1,5 @@
 -- Rows that can be measured and placed. (This project's own.)
-use Rattle.std.specs.Prelude.{ℕ, ◌^◌, ◌<◌, ◌≤◌, length}
+use Rattle.std.specs.Prelude.{◌^◌, ◌<◌, ◌≤◌, length}
 use Rattle.plan_rows.specs.declared.row.Inode as code_inode
 use Rattle.plan_rows.specs.declared.row.Row as code_row
 use Rattle.plan_rows.specs.declared.row.What as code_what

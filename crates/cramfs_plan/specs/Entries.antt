@@ -1,12 +1,11 @@
 -- The entries of the code, in the words of the layout, and what the code knows on its way. (This project's own.)
 use Rattle.std.specs.Prelude.{◌≡◌, ℕ, ◌+◌, ◌≤◌, List, [], get_or, Some}
 use Rattle.std.specs.BTreeMap.{BTreeMap, get}
-use Rattle.std.specs.List.{AllByRecursion as Every}
 use Rattle.std.specs.Ordering.{nat_cmp}
 use Rattle.cramfs_format.specs.declared.order.Order.{Order}
 use Rattle.name_tree.specs.Names.{Fill, Inode}
 use Rattle.layout_terms.specs.Items.{Item}
-use Rattle.cramfs_layout.specs.Layout.{State, Table, Kept, nowhere, shared, fresh, pad4, with_table, table_with, table_by, size_by, after_by}
+use Rattle.cramfs_layout.specs.Layout.{Table, Kept, nowhere, shared, fresh, pad4, with_table, table_with, table_by, size_by, after_by}
 use Rattle.cramfs_layout.specs.Items.{item_of, start_by}
 use Rattle.plan_rows.specs.Rows.{bytes_view}
 use Rattle.cramfs_plan.specs.declared.entry.Entry as code_entry

@@ -5,3 +5,4 @@ pub mod Entries
 pub mod Bounds
 pub mod Placers
 pub mod Orders
+pub mod Tables

@@ -1,5 +1,5 @@
 -- Items whose numbers have 32 bits. (This project's own.)
-use Rattle.std.specs.Prelude.{ℕ, ◌^◌, ◌%◌, ◌<◌}
+use Rattle.std.specs.Prelude.{◌^◌, ◌%◌, ◌<◌}
 use Rattle.layout_terms.specs.Items.{Item}
 
 pub record IsSmall (i : Item) : Type 0 where

@@ -3,7 +3,6 @@ ghost use Rattle.std.specs.List.{All, AllByRecursion as Every};
 ghost use Rattle.std.specs.Prelude.{◌≡◌, ◌%◌, ◌^◌, List, map, IfOk, IsPermutation};
 ghost use Rattle.cramfs_format.specs.Refers.{root_place};
 ghost use Rattle.cramfs_layout.specs.Items.{item_of};
-
 ghost use Rattle.cramfs_plan.specs.Entries.{entry_view};
 ghost use Rattle.cramfs_plan.specs.Orders.{Rises};
 ghost use Rattle.cramfs_plan.specs.Small.{IsSmall, cut};

@@ -38,8 +38,5 @@ pub fn list_lens(alloc: Global, rows: &[Row<'_>]) -> Result<Lens, OutOfMemory>
         lens[row.depth] = longer;
     }
     own.reverse();
-    Ok(Lens {
-        root: lens[1],
-        own,
-    })
+    Ok(Lens { root: lens[1], own })
 }

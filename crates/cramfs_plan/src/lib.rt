@@ -1,11 +1,19 @@
-//! The layout of a cramfs image as items, from the rows of a manifest's names.
+//! The plan of a cramfs image, in either byte order, from the names of a manifest in a row.
+//!
+//! `layout` says how long the image is and gives its inodes as items, or says that the whole is too
+//! large; `sections` are its bytes that stand together. Proved: they are those of the layout
+//! (`cramfs_layout`). The rows are gone over backwards, for how long lists are, and forwards, for
+//! what stands where, with no recursion; items and sections are sorted by their places.
 #![tactic(auto)]
 
-pub mod entry;
-pub mod items;
-pub mod kept;
-pub mod layout;
-pub mod lens;
-pub mod sections;
-pub mod walk;
-pub mod words;
+mod entry;
+mod items;
+mod kept;
+mod laying;
+mod lens;
+mod section_list;
+mod walk;
+mod words;
+
+pub use laying::{Laid, layout};
+pub use section_list::sections;

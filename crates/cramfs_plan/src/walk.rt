@@ -20,7 +20,7 @@ use std::alloc::Global;
 use std::collections::BTreeMap;
 
 /// Where the root's list begins, behind the superblock and the root's inode.
-const ROOT_LIST: u64 = 76;
+pub const ROOT_LIST: u64 = 76;
 
 /// What is placed so far.
 #[derive(Drop)]

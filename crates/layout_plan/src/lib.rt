@@ -6,8 +6,11 @@
 #![tactic(auto)]
 
 pub mod error;
+mod laid;
 pub mod planned;
 pub mod planning;
+#[cfg(test)]
+mod tests;
 
 pub use error::{PlanError, name};
 pub use plan_items::{Body, Fill, Item, Section};

@@ -14,12 +14,12 @@ use std::marker::Model;
 /// layout's definitions.
 #[derive(Debug, Drop)]
 pub struct Plan {
-    format: Format,
-    volume: Name,
-    image_len: usize,
-    items: Vec<Item>,
-    sections: Vec<Section>,
-    sizes: Vec<u64>,
+    pub(crate) format: Format,
+    pub(crate) volume: Name,
+    pub(crate) image_len: usize,
+    pub(crate) items: Vec<Item>,
+    pub(crate) sections: Vec<Section>,
+    pub(crate) sizes: Vec<u64>,
 }
 
 impl Model for Plan {

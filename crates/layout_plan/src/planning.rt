@@ -5,10 +5,31 @@ ghost use Rattle.manifest.specs.Lines.{sources_of};
 ghost use Rattle.plan_misfits.specs.Formats.{format_of};
 
 use crate::error::PlanError;
+use crate::laid::{Laid, place, sections};
 use crate::planned::Plan;
-use manifest::Manifest;
-use plan_misfits::Format;
+use manifest::{Manifest, Name};
+use plan_files::Files;
+use plan_misfits::misfit::TOO_LARGE;
+use plan_misfits::{Format, least_of_lines};
+use plan_rows::{root, rows};
+use rom_fields::memory::OutOfMemory;
 use std::alloc::Global;
+
+/// A copy of a volume's name.
+fn volume_of(alloc: Global, m: &Manifest) -> Result<Name, OutOfMemory>
+    ensures { IfOk result (λ name. name ≡ m.now.volume) }
+{
+    let name = m.volume().to_vec(alloc)?;
+    Ok(name.into())
+}
+
+/// A copy of the sizes.
+fn copied(alloc: Global, sizes: &[u64]) -> Result<Vec<u64>, OutOfMemory>
+    ensures { IfOk result (λ copy. copy.items ≡ sizes.now) }
+{
+    let copy = sizes.to_vec(alloc)?;
+    Ok(copy)
+}
 
 /// The places of all that the image of a manifest holds in this format, where its sources have these
 /// sizes, one for each. No content is read. It takes time in n log n for n lines.
@@ -22,5 +43,30 @@ pub fn plan(alloc: Global, m: &Manifest, sizes: &[u64], format: Format) -> Resul
     ensures ok { IfOk result (IsPlanOf (format_of format) m.now sizes.now) }
     ensures err { IfErr result (IsRefusal (format_of format) m.now sizes.now) }
 {
-    Err(PlanError::OutOfMemory)
+    let files = Files::new(alloc, m, sizes)?;
+    if let Some(misfit) = least_of_lines(format, m, &files) {
+        return Err(PlanError::Refused {
+            line: misfit.line,
+            number: misfit.number,
+        });
+    }
+    let root = root(m, &files);
+    let rows = rows(alloc, m, &files)?;
+    let Some(Laid { image_len, items }) = place(alloc, format, m.volume(), &root, &rows)? else {
+        return Err(PlanError::Refused {
+            line: 0,
+            number: TOO_LARGE,
+        });
+    };
+    let sections = sections(alloc, format, m.volume(), &items)?;
+    let volume = volume_of(alloc, m)?;
+    let sizes = copied(alloc, sizes)?;
+    Ok(Plan {
+        format,
+        volume,
+        image_len,
+        items,
+        sections,
+        sizes,
+    })
 }

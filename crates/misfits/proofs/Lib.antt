@@ -13,8 +13,8 @@ mod InRomfs
 mod InCramfs
 mod PlannedRomfs
 mod PlannedCramfs
-mod Fitting
-mod Sourced
-mod Sectioned
+pub mod Fitting
+pub mod Sourced
+pub mod Sectioned
 mod Examples
 mod Stands

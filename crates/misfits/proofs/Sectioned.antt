@@ -10,7 +10,7 @@ use Rattle.layout_terms.proofs.Sections.{rise_wider}
 use Rattle.romfs_layout.specs.Layout.{root_at, full_size_of}
 use Rattle.romfs_layout.proofs.Sectioned as in_romfs
 use Rattle.cramfs_layout.proofs.Sectioned as in_cramfs
-use Rattle.misfits.specs.Format.{Format, romfs, cramfs, len_of, sections_of}
+use Rattle.misfits.specs.Format.{Format, romfs, cramfs, len_of, sections_of, IsPlannedBy}
 use Rattle.misfits.specs.Misfit.{HasNoMisfit}
 use Rattle.misfits.proofs.Fitting.{fitting}
 use Rattle.misfits.proofs.Sourced.{align_of, sourced}
@@ -40,3 +40,10 @@ pub rise : (f : Format) (m : ManifestLines) (sizes : List ℕ) → IsManifest m 
 rise f m sizes h n =
     let e = lengths sizes in
     subst (λ (xs : List ℕ). SectionsRise 0 (len_of f m xs) (sections_of f m xs)) e (of_contents f m (zeros sizes) h (subst (HasNoMisfit f m) (sym e) n))
+
+-- a manifest that fits can be laid out, whatever its sources of these sizes hold
+pub planned : (f : Format) (m : ManifestLines) (sizes : List ℕ) → IsManifest m → HasNoMisfit f m sizes
+    → (cs : List (List ℕ)) × (map length cs ≡ sizes) × IsPlannedBy f m cs
+planned f m sizes h n =
+    let e = lengths sizes in
+    (zeros sizes, e, fitting f m (zeros sizes) h (subst (HasNoMisfit f m) (sym e) n))

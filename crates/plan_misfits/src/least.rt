@@ -1,6 +1,7 @@
 //! The least misfit of the lines of a manifest.
 ghost use Rattle.std.specs.Prelude.{◌≡◌, List, ℕ, Some, length};
 ghost use Rattle.std.specs.Option.{option_map};
+ghost use Rattle.manifest.specs.Grammar.{IsManifest};
 ghost use Rattle.misfits.proofs.Decided as decided;
 ghost use Rattle.misfits.specs.Misfit.{HasLineMisfit};
 ghost use Rattle.plan_files.specs.Files.{IsOf};
@@ -17,8 +18,10 @@ use plan_files::Files;
 
 /// The misfit of the first line that does not fit.
 fn first_of_lines(format: Format, m: &Manifest, files: &Files) -> Option<Misfit>
-    ensures { (sizes : List ℕ) → IsOf m.now.lines sizes files.now → option_map misfit_fault result
+    ensures first { (sizes : List ℕ) → IsOf m.now.lines sizes files.now
+        → option_map misfit_fault result
         ≡ decided.of_lines (format_of format) m.now sizes m.now.lines }
+    ensures of_text { IsManifest m.now }
 {
     let all = m.lines();
     for line in all {
@@ -71,9 +74,10 @@ fn lesser_of_both(one: Option<Misfit>, other: Option<Misfit>) -> Option<Misfit>
 }
 
 /// The least misfit of a manifest's lines and its volume, by line and then by number, where its
-/// sources have the sizes that `files` was made with.
+/// sources have the sizes that `files` was made with. A manifest is that of some text.
 pub fn least_of_lines(format: Format, m: &Manifest, files: &Files) -> Option<Misfit>
-    ensures { (sizes : List ℕ) → IsOf m.now.lines sizes files.now
+    ensures of_text { IsManifest m.now }
+    ensures least { (sizes : List ℕ) → IsOf m.now.lines sizes files.now
         → IsLeastFaultOf (HasLineMisfit (format_of format) m.now sizes)
         (option_map misfit_fault result) }
 {

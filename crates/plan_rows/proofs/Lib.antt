@@ -4,3 +4,4 @@ pub mod Ordered
 pub mod Ways
 pub mod Steps
 pub mod Fitting
+pub mod Depths

@@ -1,6 +1,6 @@
 -- The names of a tree in a row, each with how many names lead to it and what it names. A directory stands before what it
 -- holds, and lists are in the order of their names. (This project's own.)
-use Rattle.std.specs.Prelude.{ℕ, ◌+◌, List, [], ◌∷◌, ◌++◌}
+use Rattle.std.specs.Prelude.{ℕ, ◌+◌, max, List, [], ◌∷◌, ◌++◌}
 use Rattle.name_tree.specs.Names.{Fill, no_bytes, text, source, Inode, Names, nothing, leaf, link, folder}
 use Rattle.name_tree.specs.Tree.{What, a_leaf, a_link, a_folder}
 use Rattle.plan_rows.specs.declared.row.Bytes as code_bytes
@@ -24,6 +24,11 @@ rows depth nothing = []
 rows depth (leaf name i after) = row depth name (a_leaf i) ∷ rows depth after
 rows depth (link name i after) = row depth name (a_link i) ∷ rows depth after
 rows depth (folder name i own after) = row depth name (a_folder i) ∷ (rows (depth + 1) own ++ rows depth after)
+
+-- the greatest depth
+abbrev pub deepest : List Row → ℕ
+deepest [] = 0
+deepest (r ∷ rs) = max r.depth (deepest rs)
 
 -- what the code has, in these words
 abbrev pub bytes_view : code_bytes.Bytes → Fill

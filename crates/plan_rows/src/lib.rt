@@ -6,6 +6,7 @@
 //! format where no line misfits it (`specs/Fits.antt`).
 #![tactic(auto)]
 
+pub mod depth;
 pub mod inodes;
 mod keyed;
 pub mod laws;
@@ -14,6 +15,7 @@ pub mod row;
 #[cfg(test)]
 mod tests;
 
+pub use depth::deepest;
 pub use inodes::root;
 pub use order::rows;
 pub use row::{Bytes, Inode, Row, What};

@@ -1,5 +1,5 @@
 -- The rows of names tell how long the image is, and whether it is too large.
-use Rattle.std.proofs.Common.{◌≡◌, ◌+◌, ◌<◌, ◌≤◌, ◌^◌, ◌||◌, ℕ, Bool, true, false, nat_lt, max, List, [], ◌∷◌, ◌++◌, length, map, refl, ap, ◌∙◌, arith}
+use Rattle.std.proofs.Common.{◌≡◌, ◌+◌, ◌<◌, ◌≤◌, ◌^◌, ◌||◌, ℕ, Bool, true, false, nat_lt, List, [], ◌∷◌, ◌++◌, length, map, refl, ap, ◌∙◌, arith}
 use Rattle.std.proofs.lemmas.Bool.{lt-ltb, le-ltb}
 use Rattle.std.proofs.lemmas.List.{map-append, length-append, length-map}
 use Rattle.std.proofs.lemmas.List.Elements.{All-from_recursion}
@@ -11,13 +11,14 @@ use Rattle.name_tree.specs.Tree.{What, a_leaf, a_link, a_folder}
 use Rattle.layout_terms.specs.Files.{height}
 use Rattle.romfs_layout.specs.Layout.{root_at, full_size_of, headers, all_headers, leaf_end, header_end, ends, placed, place_with}
 use Rattle.romfs_layout.specs.Items.{item_of, items_of}
-use Rattle.plan_rows.specs.Rows.{Row, rows, row_view}
+use Rattle.plan_rows.proofs.Depths.{deepest_is}
+use Rattle.plan_rows.specs.Rows.{Row, rows, deepest, row_view}
 use Rattle.plan_rows.specs.declared.row.Row.{Row as CodeRow}
 use Rattle.romfs_rows.specs.declared.rows.Row.{Row as PlaceRow}
 use Rattle.romfs_rows.specs.Passes.{places_end}
 use Rattle.romfs_rows.specs.Rows.{IsRow, rows as place_rows, leaf_row, link_row, folder_row}
 use Rattle.romfs_rows.proofs.Passing.{rows_end_is}
-use Rattle.romfs_plan.specs.Rows.{place_row, count_of, header_count, deepest, held, IsFitWhat, IsFitRow, too_large}
+use Rattle.romfs_plan.specs.Rows.{place_row, count_of, header_count, held, IsFitWhat, IsFitRow, too_large}
 
 -- the rows are those that the two passes go over
 pub placed_rows : (d : ℕ) (n : Names) → map place_row (rows d n) ≡ place_rows d n
@@ -62,24 +63,6 @@ fewer (r ∷ rs) = let e = fewer rs in let f = some r.what in omega (arith, e, f
     some (a_leaf i) = omega arith
     some (a_link i) = omega arith
     some (a_folder i) = omega arith
-
-deepest-append : (rs qs : List Row) → deepest (rs ++ qs) ≡ max (deepest rs) (deepest qs)
-deepest-append [] qs = omega arith
-deepest-append (r ∷ rs) qs = let e = deepest-append rs qs in omega (arith, e)
-
-deepened : (d : ℕ) (n : Names) → max d (deepest (rows (d + 1) n)) ≡ d + height n
-deepened d nothing = omega arith
-deepened d (leaf name i after) = let e = deepened d after in omega (arith, e)
-deepened d (link name i after) = let e = deepened d after in omega (arith, e)
-deepened d (folder name i own after) =
-    let e = deepened (d + 1) own in
-    let f = deepened d after in
-    let g = deepest-append (rows (d + 1 + 1) own) (rows (d + 1) after) in
-    omega (arith, e, f, g)
-
--- the greatest depth is the height
-pub deepest_is : (n : Names) → deepest (rows 1 n) ≡ height n
-deepest_is n = let e = deepened 0 n in omega (arith, e)
 
 pub twice : (rs : List CodeRow) → map (λ r. place_row (row_view r)) rs ≡ map place_row (map row_view rs)
 twice [] = refl

@@ -1,6 +1,6 @@
 -- The rows of names, with what of them tells how long a romfs image is. (This project's own; 2^28 bytes, 2^20
 -- references and 64 names are this project's limits.)
-use Rattle.std.specs.Prelude.{ℕ, ◌+◌, ◌^◌, ◌<◌, ◌≤◌, ◌||◌, nat_lt, Bool, false, max, List, [], ◌∷◌, length}
+use Rattle.std.specs.Prelude.{ℕ, ◌+◌, ◌^◌, ◌<◌, ◌≤◌, ◌||◌, nat_lt, Bool, false, List, [], ◌∷◌, length}
 use Rattle.image_parts.specs.Padding.{pad}
 use Rattle.name_tree.specs.Names.{Inode, Names}
 use Rattle.name_tree.specs.Tree.{What, a_leaf, a_link, a_folder}
@@ -31,11 +31,6 @@ count_of (a_folder i) = 3
 abbrev pub header_count : List Row → ℕ
 header_count [] = 0
 header_count (r ∷ rs) = count_of r.what + header_count rs
-
--- the greatest depth
-abbrev pub deepest : List Row → ℕ
-deepest [] = 0
-deepest (r ∷ rs) = max r.depth (deepest rs)
 
 -- within the limits of a manifest's line
 abbrev pub IsFitWhat : What → Type 0

@@ -5,14 +5,13 @@ ghost use Rattle.image_parts.specs.Padding.{pad};
 ghost use Rattle.name_tree.specs.Names.{Inode, Names};
 ghost use Rattle.plan_rows.specs.Rows.{rows as rows_of, row_view};
 ghost use Rattle.romfs_layout.specs.Layout.{full_size_of, root_at};
-ghost use Rattle.romfs_plan.specs.Rows.{place_row, count_of, header_count, deepest, IsFitRow, too_large};
+ghost use Rattle.romfs_plan.specs.Rows.{place_row, count_of, header_count, IsFitRow, too_large};
 ghost use Rattle.romfs_rows.specs.Passes.{places_end};
 ghost use Rattle.romfs_rows.specs.Rows.{IsRow};
 
-use plan_rows::{Row, What};
+use plan_rows::{Row, What, deepest};
 use romfs_rows::Holds;
 use romfs_rows::rows::{padded, row_end};
-use std::cmp::max;
 
 /// The most headers of an image: 2^20, this project's limit of references.
 const MOST_HEADERS: usize = 1 << 20;
@@ -61,17 +60,6 @@ fn header_count(rows: &[Row<'_>]) -> usize
         count += count_of(row);
     }
     count
-}
-
-/// The greatest depth of a row.
-fn deepest(rows: &[Row<'_>]) -> usize
-    ensures { result ≡ deepest (map row_view rows.now) }
-{
-    let mut depth = 0;
-    for row in rows {
-        depth = max(depth, row.depth);
-    }
-    depth
 }
 
 /// Where all that rows place ends, if what was placed before ends at `from`.

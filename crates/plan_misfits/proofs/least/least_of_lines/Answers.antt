@@ -5,7 +5,7 @@ use Rattle.misfits.proofs.Decided.{least_line_is}
 use Rattle.plan_misfits.specs.Formats.{format_of}
 use Rattle.plan_misfits.proofs.least.least_of_lines.Goals as goal
 
-pub returns : goal.returns
-returns c = λ sizes h.
-    let told = rw (c.first_of_lines.ensures sizes h, c.of_volume.ensures) at c.lesser_of_both.ensures in
+pub returns-clause-least : goal.returns-clause-least
+returns-clause-least c = λ sizes h.
+    let told = rw (c.first_of_lines.ensures.first sizes h, c.of_volume.ensures) at c.lesser_of_both.ensures in
     subst (IsLeastFaultOf (HasLineMisfit (format_of c.args.format) c.args.m.now sizes)) (sym told) (least_line_is (format_of c.args.format) c.args.m.now sizes)

@@ -1,9 +1,9 @@
 use Rattle.std.proofs.Common.{◌≡◌, ◌+◌, ℕ, map, Option, Some, None, refl, if◌then◌else◌, ap, ◌∙◌, arith, true, false, Bool}
 use Rattle.image_parts.specs.Padding.{pad}
-use Rattle.plan_rows.specs.Rows.{row_view}
+use Rattle.plan_rows.specs.Rows.{deepest, row_view}
 use Rattle.romfs_layout.specs.Layout.{ends}
 use Rattle.romfs_format.specs.Record.{pad16}
-use Rattle.romfs_plan.specs.Rows.{header_count, deepest}
+use Rattle.romfs_plan.specs.Rows.{header_count}
 use Rattle.romfs_plan.proofs.Sizes.{fewer, too_many, too_deep, too_long, not_large, end_is, all_fit}
 use Rattle.std.proofs.lemmas.List.{length-map}
 use Rattle.romfs_plan.proofs.size.image_len.Goals as goal

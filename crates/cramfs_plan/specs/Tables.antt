@@ -1,0 +1,23 @@
+-- The tables of the items so far, as the code holds them, and what the code adds for an item. (This project's own.)
+use Rattle.std.specs.Prelude.{◌≡◌, ℕ, ◌*◌, ◌==◌, ◌||◌, not, Bool, if◌then◌else◌, List, [], ◌∷◌, drop}
+use Rattle.std.specs.BTreeSet.{BTreeSet, contains}
+use Rattle.std.specs.Ordering.{nat_cmp}
+use Rattle.cramfs_format.specs.Inode.{block_count}
+use Rattle.layout_terms.specs.Items.{Item, Section, section, super, record_of, table_of, bytes_section}
+use Rattle.cramfs_layout.specs.Layout.{entry_len}
+use Rattle.cramfs_layout.specs.Items.{has_table, sections_from}
+
+-- the set has the tables of these items
+abbrev pub HoldsTables : List Item → BTreeSet ℕ → Type 0
+HoldsTables is seen = (t : ℕ) → contains nat_cmp seen t ≡ has_table is t
+
+-- the sections of the item of an index, whose table is new or not
+abbrev pub own_sections : Bool → ℕ → Item → List Section
+own_sections fresh index i =
+    section i.place (entry_len i.name) (record_of index)
+    ∷ (if (i.len == 0) || not fresh then []
+    else section i.table (4 * block_count i.len) (table_of index) ∷ bytes_section index i)
+
+-- the sections of items, before they are sorted
+abbrev pub unsorted : List Item → List Section
+unsorted is = section 0 76 super ∷ sections_from [] 1 (drop 1 is)

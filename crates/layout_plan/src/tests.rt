@@ -1,0 +1,170 @@
+use crate::{Body, Format, PlanError, plan};
+use manifest::parse;
+use std::alloc::{AllocError, Global};
+use std::test::Fail;
+
+/// The answer to a manifest: nothing where it has a plan, and else its refusal, as line and number.
+type Answer = Option<(u64, u32)>;
+
+/// Manifests with the sizes of their sources, and what each format answers: romfs, and cramfs in
+/// both orders.
+const ANSWERS: [(&[u8], &[u64], Answer, Answer); 20] = [
+    (b"", &[], None, None),
+    (b"file /a 0644 0 0 16 s", &[1 << 24], None, Some((1, 2))),
+    (b"file /a 0644 0 0 4 s", &[(1 << 24) - 1], None, None),
+    (
+        b"file /a 0644 0 0 16 s",
+        &[(1 << 28) + 1],
+        Some((1, 2)),
+        Some((1, 2)),
+    ),
+    (
+        b"file /a 0644 0 0 16 s",
+        &[1 << 28],
+        Some((0, 2)),
+        Some((1, 2)),
+    ),
+    (b"file /a 0644 5 0 16 s", &[0], Some((1, 1)), None),
+    (b"file /a 0644 0 5 16 s", &[0], Some((1, 1)), None),
+    (b"file /a 0600 0 0 16 s", &[0], Some((1, 1)), None),
+    (
+        b"file /a 0644 65536 0 4 s",
+        &[0],
+        Some((1, 1)),
+        Some((1, 1)),
+    ),
+    (b"file /a 0644 0 256 4 s", &[0], Some((1, 1)), Some((1, 1))),
+    (b"nod /n 0600 0 0 b 255 255", &[], None, None),
+    (b"nod /n 0600 0 0 b 256 0", &[], None, Some((1, 1))),
+    (
+        b"nod /n 0600 0 0 c 0 65536",
+        &[],
+        Some((1, 1)),
+        Some((1, 1)),
+    ),
+    (
+        b"file /a 0644 0 0 4 s\nhard /b /a",
+        &[0],
+        None,
+        Some((2, 4)),
+    ),
+    (
+        b"dir /d 0755 0 0\nfile /d/a 0644 0 0 4 s\nfile /d/b 0600 0 9 4 t",
+        &[1, 2],
+        Some((3, 1)),
+        None,
+    ),
+    (
+        b"file /z 0600 0 0 4 s\nfile /a 0644 5 0 4 t",
+        &[1, 2],
+        Some((1, 1)),
+        None,
+    ),
+    (
+        b"volume sixteen-letters-\npipe /p 0644 0 0",
+        &[],
+        None,
+        None,
+    ),
+    (
+        b"pipe /p 0644 0 0\nvolume seventeen-letters\ndir /d 0755 0 0",
+        &[],
+        None,
+        Some((2, 3)),
+    ),
+    (
+        b"pipe /nnnnnnnnnnnnnnnnnnnnnnnnnnnnnnnnnnnnnnnnnnnnnnnnnnnnnnnnnnnnnnnnnnnnnnnnnnnnnnnnnnnnnnnnnnnnnnnnnnnnnnnnnnnnnnnnnnnnnnnnnnnnnnnnnnnnnnnnnnnnnnnnnnnnnnnnnnnnnnnnnnnnnnnnnnnnnnnnnnnnnnnnnnnnnnnnnnnnnnnnnnnnnnnnnnnnnnnnnnnnnnnnnnnnnnnnnnnnnnnnnnnnnnnnnnnn 0644 0 0",
+        &[],
+        None,
+        None,
+    ),
+    (
+        b"pipe /nnnnnnnnnnnnnnnnnnnnnnnnnnnnnnnnnnnnnnnnnnnnnnnnnnnnnnnnnnnnnnnnnnnnnnnnnnnnnnnnnnnnnnnnnnnnnnnnnnnnnnnnnnnnnnnnnnnnnnnnnnnnnnnnnnnnnnnnnnnnnnnnnnnnnnnnnnnnnnnnnnnnnnnnnnnnnnnnnnnnnnnnnnnnnnnnnnnnnnnnnnnnnnnnnnnnnnnnnnnnnnnnnnnnnnnnnnnnnnnnnnnnnnnnnnnnn 0644 0 0",
+        &[],
+        None,
+        Some((1, 3)),
+    ),
+];
+
+fn answer(alloc: Global, text: &[u8], sizes: &[u64], format: Format) -> Result<Answer, Fail> {
+    let manifest = parse(alloc, text)?;
+    if manifest.sources().len() != sizes.len() {
+        return Ok(Some((0, 0)));
+    }
+    match plan(alloc, &manifest, sizes, format) {
+        Ok(_) => Ok(None),
+        Err(PlanError::Refused { line, number }) => Ok(Some((line, number))),
+        Err(PlanError::OutOfMemory) => Err(AllocError.into()),
+    }
+}
+
+#[test]
+fn least_misfits(rt: HostRuntime) -> Result<(), Fail> {
+    for (text, sizes, romfs, cramfs) in ANSWERS {
+        assert_eq!(rt; answer(rt.alloc(), text, sizes, Format::Romfs)?, romfs);
+        assert_eq!(rt; answer(rt.alloc(), text, sizes, Format::Cramfs)?, cramfs);
+        assert_eq!(rt; answer(rt.alloc(), text, sizes, Format::CramfsBig)?, cramfs);
+    }
+    Ok(())
+}
+
+/// What an item of an image is to be: its place, its words, its table, and its bytes.
+type Wanted = (u32, [u32; 3], u32, u32, u32);
+
+/// A file, the same contents once more, and a link in a directory.
+const TEXT: &[u8] =
+    b"dir /d 0755 0 0\nfile /d/f 0644 0 0 16 s\nsame /c 0644 0 0 /d/f\nslink /e 0777 0 0 to";
+
+/// Its items in cramfs, worked by hand: the root's list at 76 has `c`, `d` and `e`, 16 bytes each;
+/// the table and the bytes of `c` come first, then the list of `d`, and the bytes of `e`.
+const ITEMS: [Wanted; 5] = [
+    (64, [16_877, 48, 76 / 4 * 64], 0, 0, 0),
+    (76, [33_188, 5, 1 + 124 / 4 * 64], 124, 128, 5),
+    (92, [16_877, 16, 1 + 136 / 4 * 64], 0, 0, 0),
+    (108, [41_471, 2, 1 + 152 / 4 * 64], 152, 156, 2),
+    (136, [33_188, 5, 1 + 124 / 4 * 64], 124, 128, 5),
+];
+
+/// Where its sections stand, how long they are, and what they hold.
+const SECTIONS: [(u32, u32, Body); 9] = [
+    (0, 76, Body::Super),
+    (76, 16, Body::Record { item: 1 }),
+    (92, 16, Body::Record { item: 2 }),
+    (108, 16, Body::Record { item: 3 }),
+    (124, 4, Body::Table { item: 1 }),
+    (128, 5, Body::Content { file: 0 }),
+    (136, 16, Body::Record { item: 4 }),
+    (152, 4, Body::Table { item: 3 }),
+    (156, 2, Body::Text { item: 3 }),
+];
+
+#[test]
+fn shared_contents_in_cramfs(rt: HostRuntime) -> Result<(), Fail> {
+    let manifest = parse(rt.alloc(), TEXT)?;
+    assert_eq!(rt; manifest.sources().len(), 1);
+    let Ok(plan) = plan(rt.alloc(), &manifest, &[5], Format::Cramfs) else {
+        return Err(AllocError.into());
+    };
+    assert_eq!(rt; plan.image_len(), 4096);
+    assert_eq!(rt; plan.volume().len(), 0);
+    assert_eq!(rt; plan.sizes().len(), 1);
+    assert_eq!(rt; plan.items().len(), ITEMS.len());
+    for (item, want) in plan.items().iter().zip(ITEMS) {
+        assert_eq!(rt;
+            (item.place, item.words, item.table, item.start, item.len),
+            want
+        );
+    }
+    assert_eq!(rt; plan.sections(), SECTIONS.len());
+    for (i, (place, len, body)) in SECTIONS.iter().enumerate() {
+        let Some(section) = plan.section(i) else {
+            return Err(AllocError.into());
+        };
+        assert_eq!(rt;
+            (section.place, section.len, section.body),
+            (*place, *len, *body)
+        );
+    }
+    assert!(rt; plan.section(SECTIONS.len()).is_none());
+    Ok(())
+}

@@ -1,0 +1,12 @@
+//! A romfs image from its plan.
+//!
+//! `specs/Form.antt` says what the image is made of; `misfits` says what its layout is.
+#![tactic(auto)]
+
+mod form;
+mod header;
+#[cfg(test)]
+mod tests;
+mod writing;
+
+pub use writing::{stream, write};

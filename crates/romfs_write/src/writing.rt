@@ -1,0 +1,85 @@
+//! An image into a buffer, or through a writer.
+ghost use Rattle.std.specs.Prelude.{◌≡◌, ℕ, List, map, length, OnOk, OnErr, IfErr};
+ghost use Rattle.image_stream.specs.Outcomes.{AreSized, IsLeastWrong, IsStreamFault, IsWritten};
+ghost use Rattle.image_stream.specs.Sources.{Told};
+ghost use Rattle.image_stream.specs.WordSums.{balance_of};
+ghost use Rattle.layout_plan.specs.Plans.{IsPlanOf};
+ghost use Rattle.manifest.specs.Grammar.{IsManifest};
+ghost use Rattle.manifest.specs.Lines.{ManifestLines};
+ghost use Rattle.misfits.specs.Format.{romfs, layout_of};
+ghost use Rattle.rom_fields.specs.Written.{AppendsPrefix};
+ghost use Rattle.std.specs.Io.KnownBytes.{Appends};
+ghost use Rattle.romfs_write.specs.Form.{form_of};
+
+use crate::form::{RomfsForm, known};
+use image_stream::fault::{SizeDiffers, StreamError};
+use image_stream::sources::Sources;
+use image_stream::word_sum::WordSum;
+use layout_plan::Plan;
+use rom_fields::bytes::ByteWrite;
+use rom_fields::contents::Contents;
+
+/// Writes the image of a plan, with these contents of its files, into a buffer of its length,
+/// whatever the buffer held. It takes no memory.
+///
+/// # Errors
+///
+/// The first file whose contents are not as long as was planned; the buffer is then as it was.
+pub fn write(plan: &Plan, contents: &Contents<'_>, out: &mut [u8]) -> Result<(), SizeDiffers>
+    requires format { plan.now.format ≡ romfs }
+    requires count { length contents.now ≡ length plan.now.sizes }
+    requires room { length out.old ≡ plan.now.image_len }
+    ensures ok { (m : ManifestLines) (sizes : List ℕ) → IsManifest m
+        → IsPlanOf romfs m sizes plan.now
+        → OnOk result ((map length contents.now ≡ sizes)
+        × (out.new ≡ layout_of romfs m contents.now)) }
+    ensures err { IfErr result (λ e. IsLeastWrong plan.now.sizes e.file contents.now
+        × (out.new ≡ out.old)) }
+{
+    known(plan);
+    misfits::laws::fitting_is_planned();
+    let form = RomfsForm::new(plan);
+    image_stream::write::write::<RomfsForm<'_>, WordSum>(&form, contents, out)
+}
+
+/// Writes the image of a plan through one buffer of 4,096 bytes, without memory, and flushes the
+/// writer. The sources are read three times.
+///
+/// At `Ok` just the layout was written, where the sources tell their contents; else a whole image
+/// of some contents of the planned sizes, with the sum of just these bytes.
+///
+/// # Errors
+///
+/// As `StreamError` says. A prefix of the layout was written, where the sources tell contents of
+/// the planned sizes.
+pub fn stream<S: Sources, W: ByteWrite>(
+    plan: &Plan,
+    sources: &mut S,
+    w: &mut W,
+) -> Result<(), StreamError>
+    requires format { plan.now.format ≡ romfs }
+    requires files { S.files sources.old ≡ length plan.now.sizes }
+    ensures told { S.told sources.new ≡ S.told sources.old }
+    ensures files { S.files sources.new ≡ S.files sources.old }
+    ensures some { OnOk result (IsWritten (S.told sources.old) (form_of plan.now) balance_of
+        (W.output w.old).contents (W.output w.new).contents) }
+    ensures sized { OnOk result (Told (S.told sources.old) (AreSized plan.now.sizes)) }
+    ensures whole { (m : ManifestLines) (sizes : List ℕ) → IsManifest m
+        → IsPlanOf romfs m sizes plan.now
+        → OnOk result (Told (S.told sources.old) (λ cs. (map length cs ≡ sizes) × Appends
+        (W.output w.old).contents (W.output w.new).contents (layout_of romfs m cs))) }
+    ensures quiet { OnOk result ((S.reads sources.new ≡ S.reads sources.old)
+        × ((W.output w.new).failures ≡ (W.output w.old).failures)) }
+    ensures front { (m : ManifestLines) (sizes : List ℕ) → IsManifest m
+        → IsPlanOf romfs m sizes plan.now
+        → OnErr result (Told (S.told sources.old) (λ cs. map length cs ≡ sizes → AppendsPrefix
+        (W.output w.old).contents (W.output w.new).contents (layout_of romfs m cs))) }
+    ensures fault { IfErr result (IsStreamFault (S.told sources.old) (form_of plan.now) balance_of
+        (S.reads sources.old) (S.reads sources.new) (W.output w.old) (W.output w.new)) }
+{
+    known(plan);
+    misfits::laws::fitting_is_planned();
+    let _ = sources.count();
+    let form = RomfsForm::new(plan);
+    image_stream::stream::stream::<RomfsForm<'_>, S, W, WordSum>(&form, sources, w)
+}
