@@ -4,3 +4,4 @@ pub mod Means
 pub mod Sections
 pub mod Fits
 pub mod Facts
+pub mod Indexed

@@ -1,5 +1,5 @@
 -- The image of a plan's form is the layout.
-use Rattle.std.proofs.Common.{◌≡◌, ℕ, ◌+◌, List, [], ◌∷◌, ◌++◌, map, length, drop, refl, sym, ap, subst, ◌∙◌, arith, length-append}
+use Rattle.std.proofs.Common.{◌≡◌, ℕ, ◌+◌, List, [], ◌∷◌, ◌++◌, map, length, drop, get_or, refl, sym, ap, subst, ◌∙◌, arith, length-append}
 use Rattle.cramfs_format.specs.declared.order.Order.{Order}
 use Rattle.cramfs_format.specs.declared.order.Order.TheVariants.{Little, Big}
 use Rattle.crc.specs.Crc.{crc_of}
@@ -11,14 +11,19 @@ use Rattle.name_tree.specs.Names.{Inode, Names, nothing, leaf, link, folder}
 use Rattle.layout_plan.specs.Plans.{Planned, IsPlanOf}
 use Rattle.layout_terms.specs.Items.{Section, section, super}
 use Rattle.layout_terms.specs.Bodies.{item_at}
+use Rattle.manifest.specs.Grammar.{IsManifest}
 use Rattle.manifest.specs.Lines.{ManifestLines}
 use Rattle.name_tree.specs.Tree.{tree_of, root_of}
 use Rattle.misfits.specs.Format.{cramfs, layout_of}
+use Rattle.misfits.proofs.Sourced.{align_of, sourced}
 use Rattle.cramfs_layout.specs.Layout.{State, first_state, after_file, after_list, after_names, pad4, entry_len, entry_bytes, count, size_of, superblock, with_crc}
 use Rattle.cramfs_layout.specs.Items.{AreAlignedBy, entries, below, items_of, sections_of}
 use Rattle.cramfs_layout.specs.Composed.{cramfs_part, composed}
 use Rattle.cramfs_layout.specs.Planned.{IsPlanned}
 use Rattle.cramfs_layout.proofs.Joined.{is_composed}
+use Rattle.romfs_write.proofs.Facts.{Fitting}
+use Rattle.romfs_write.proofs.Means.{sizes_are}
+use Rattle.romfs_write.proofs.Sections.{size_is}
 use Rattle.cramfs_write.specs.Form.{superblock_storing, form_of}
 use Rattle.cramfs_write.specs.Known.{IsCramfsPlan}
 use Rattle.cramfs_write.proofs.Laid.{parts_by, laid_out, length_super, crc_stored}
@@ -98,7 +103,7 @@ planned_is o m sizes p h =
     λ j. record { format = f j; volume = v j; image_len = l j; items = i j; sections = s j; sizes = z j }
 
 -- the image of a plan of a manifest is its layout
-pub is_layout : (o : Order) (m : ManifestLines) (cs : List (List ℕ)) (p : Planned) (A : ℕ → ℕ)
+is_layout : (o : Order) (m : ManifestLines) (cs : List (List ℕ)) (p : Planned) (A : ℕ → ℕ)
     → AreAlignedBy A (tree_of m.lines (map length cs)) → IsPlanned m.volume (root_of m.lines (map length cs)) (tree_of m.lines (map length cs)) cs
     → IsPlanOf (cramfs o) m (map length cs) p → IsCramfsPlan p → AreSized p.sizes cs
     → image_of (form_of o p) crc_of cs ≡ layout_of (cramfs o) m cs
@@ -114,3 +119,25 @@ is_layout o m cs p A al h is k z =
     ap (λ (x : Planned). image_of (form_of o x) crc_of cs) e ∙ mine
     ∙ ap (λ (block : List ℕ). composed o block (size_of n) cs items) (super_is o m.volume root n)
     ∙ sym (is_composed o m.volume root n cs A h al)
+
+pub means : Fitting → (o : Order) (p : Planned) (m : ManifestLines) (cs : List (List ℕ)) → IsManifest m → IsCramfsPlan p
+    → IsPlanOf (cramfs o) m (map length cs) p → image_of (form_of o p) crc_of cs ≡ layout_of (cramfs o) m cs
+means fitting o p m cs hm known is =
+    let sizes = map length cs in
+    is_layout o m cs p (align_of m.lines) (sourced (cramfs o) m sizes hm is.fits) (fitting (cramfs o) m cs hm is.fits) is known
+    (λ k l. size_is cs k ∙ ap (λ (xs : List ℕ). get_or xs k 0) (sym is.of_sources))
+
+-- contents of the planned sizes
+pub sized_means : Fitting → (o : Order) (p : Planned) (m : ManifestLines) (sizes : List ℕ) (cs : List (List ℕ)) → IsManifest m
+    → IsCramfsPlan p → IsPlanOf (cramfs o) m sizes p → length cs ≡ length p.sizes → AreSized p.sizes cs
+    → (map length cs ≡ sizes) × (image_of (form_of o p) crc_of cs ≡ layout_of (cramfs o) m cs)
+sized_means fitting o p m sizes cs hm known is n sized =
+    let e : map length cs ≡ sizes = sizes_are p.sizes cs n sized ∙ is.of_sources in
+    (e, means fitting o p m cs hm known (subst (λ (xs : List ℕ). IsPlanOf (cramfs o) m xs p) (sym e) is))
+
+-- one byte order
+pub one_order : {o q : Order} → cramfs o ≡ cramfs q → o ≡ q
+one_order e = cc
+
+pub one_form : {o q : Order} {p r : Planned} → o ≡ q → p ≡ r → form_of o p ≡ form_of q r
+one_form e h = λ j. form_of (e j) (h j)

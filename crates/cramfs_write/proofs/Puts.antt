@@ -39,3 +39,15 @@ pointers_from o p n k m l =
 pub all_pointers : (o : Order) (p at n : ℕ) (out old : List ℕ) → at ≡ 4 * (length old / 4) → length old % 4 ≡ 0
     → length out ≡ length old → take at out ≡ pointers o p n → out ≡ pointers o p n
 all_pointers o p at n out old e z l h = sym (take_all at out (omega (arith, e, z, l))) ∙ h
+
+-- a part of a table
+pub table_filled : (o : Order) (p n from : ℕ) (old out : List ℕ) → from % 4 ≡ 0 → length old % 4 ≡ 0 → from + length old ≤ 4 * n
+    → out ≡ pointers o (p + 1024 * from) (length old / 4) → out ≡ take (length out) (drop from (pointers o p n))
+table_filled o p n from old out w z l h =
+    let k = from / 4 in
+    let m = length old / 4 in
+    let a : 4 * k ≡ from = omega (arith, w) in
+    let r : p + 1024 * from ≡ p + 4096 * k = omega (arith, w) in
+    let b : length out ≡ 4 * m = ap length h ∙ length-pointers o (p + 1024 * from) m in
+    h ∙ ap (λ (x : ℕ). pointers o x m) r ∙ pointers_from o p n k m (omega (arith, w, z, l))
+    ∙ ap (λ (x : ℕ). take x (drop (4 * k) (pointers o p n))) (sym b) ∙ ap (λ (x : ℕ). take (length out) (drop x (pointers o p n))) a

@@ -11,12 +11,8 @@ use Rattle.layout_terms.specs.Bodies.{item_at}
 use Rattle.layout_terms.proofs.Bodies.{item_here, items_later}
 use Rattle.cramfs_layout.specs.Layout.{entry_len}
 use Rattle.cramfs_layout.specs.Items.{has_table, table_sections, sections_from}
+use Rattle.romfs_write.proofs.Sections.{size_is}
 use Rattle.cramfs_write.specs.Known.{IsBody}
-
-size_is : (cs : List (List ℕ)) (k : ℕ) → length (get_or cs k []) ≡ get_or (map length cs) k 0
-size_is [] k = refl
-size_is (c ∷ cs) zero = refl
-size_is (c ∷ cs) (suc k) = size_is cs k
 
 inside : (xs : List ℕ) (k : ℕ) → get_or xs k 0 ≢ 0 → k < length xs
 inside [] k z = absurd (z refl)

@@ -3,4 +3,8 @@
 //! `specs/Form.antt` says what the image is made of; `misfits` says what its layout is.
 #![tactic(auto)]
 
+mod form;
 mod record;
+mod writing;
+
+pub use writing::{stream, write};
