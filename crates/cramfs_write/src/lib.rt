@@ -5,6 +5,8 @@
 
 mod form;
 mod record;
+#[cfg(test)]
+mod tests;
 mod writing;
 
 pub use writing::{stream, write};
