@@ -120,6 +120,7 @@ is_layout o m cs p A al h is k z =
     ∙ ap (λ (block : List ℕ). composed o block (size_of n) cs items) (super_is o m.volume root n)
     ∙ sym (is_composed o m.volume root n cs A h al)
 
+-- so is that of any plan of a manifest that fits
 pub means : Fitting → (o : Order) (p : Planned) (m : ManifestLines) (cs : List (List ℕ)) → IsManifest m → IsCramfsPlan p
     → IsPlanOf (cramfs o) m (map length cs) p → image_of (form_of o p) crc_of cs ≡ layout_of (cramfs o) m cs
 means fitting o p m cs hm known is =
@@ -139,5 +140,6 @@ sized_means fitting o p m sizes cs hm known is n sized =
 pub one_order : {o q : Order} → cramfs o ≡ cramfs q → o ≡ q
 one_order e = cc
 
+-- the form of one plan in one order
 pub one_form : {o q : Order} {p r : Planned} → o ≡ q → p ≡ r → form_of o p ≡ form_of q r
 one_form e h = λ j. form_of (e j) (h j)
