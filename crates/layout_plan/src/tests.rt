@@ -168,3 +168,80 @@ fn shared_contents_in_cramfs(rt: HostRuntime) -> Result<(), Fail> {
     assert!(rt; plan.section(SECTIONS.len()).is_none());
     Ok(())
 }
+
+/// A text of directories, each in the one before it.
+fn nested(alloc: Global, depth: u32) -> Result<String, Fail> {
+    let mut text = String::new(alloc);
+    let mut path = String::new(alloc);
+    for _ in 0..depth {
+        path.push_str("/d")?;
+        let line = format!(in alloc; "dir {path} 0755 0 0\n")?;
+        text.push_str(line.as_str())?;
+    }
+    Ok(text)
+}
+
+#[test]
+fn depth_of_64(rt: HostRuntime) -> Result<(), Fail> {
+    for (depth, want) in [(64, None), (65, Some((0, 2)))] {
+        let text = nested(rt.alloc(), depth)?;
+        for format in [Format::Romfs, Format::Cramfs, Format::CramfsBig] {
+            assert_eq!(rt; answer(rt.alloc(), text.as_bytes(), &[], format)?, want);
+        }
+    }
+    Ok(())
+}
+
+/// How many items the plan of a text has, which names no sources.
+fn item_count(alloc: Global, text: &[u8], format: Format) -> Result<usize, Fail> {
+    let manifest = parse(alloc, text)?;
+    if manifest.sources().len() != 0 {
+        return Ok(0);
+    }
+    match plan(alloc, &manifest, &[], format) {
+        Ok(plan) => Ok(plan.items().len()),
+        Err(_) => Ok(0),
+    }
+}
+
+/// 100,000 names in one list: the root, in romfs with `..`, and each of them.
+#[test]
+fn many_names_in_a_list(rt: HostRuntime) -> Result<(), Fail> {
+    let mut text = String::new(rt.alloc());
+    for i in 0..100000u32 {
+        let line = format!(in rt.alloc(); "pipe /{i} 0644 0 0\n")?;
+        text.push_str(line.as_str())?;
+    }
+    assert_eq!(rt;
+        item_count(rt.alloc(), text.as_bytes(), Format::Romfs)?,
+        100002
+    );
+    assert_eq!(rt;
+        item_count(rt.alloc(), text.as_bytes(), Format::Cramfs)?,
+        100001
+    );
+    Ok(())
+}
+
+/// 1,000 lists of 100 names.
+#[test]
+fn many_lists(rt: HostRuntime) -> Result<(), Fail> {
+    let mut text = String::new(rt.alloc());
+    for i in 0..1000u32 {
+        let line = format!(in rt.alloc(); "dir /{i} 0755 0 0\n")?;
+        text.push_str(line.as_str())?;
+        for j in 0..100u32 {
+            let line = format!(in rt.alloc(); "pipe /{i}/{j} 0644 0 0\n")?;
+            text.push_str(line.as_str())?;
+        }
+    }
+    assert_eq!(rt;
+        item_count(rt.alloc(), text.as_bytes(), Format::Romfs)?,
+        103002
+    );
+    assert_eq!(rt;
+        item_count(rt.alloc(), text.as_bytes(), Format::CramfsBig)?,
+        101001
+    );
+    Ok(())
+}

@@ -100,10 +100,10 @@ planned_is m sizes p h =
     same_plan p romfs m.volume (len_of romfs m sizes) (of_format.items_of romfs m sizes) (sections_of romfs m sizes) sizes h.format h.volume h.image_len h.items h.sections h.of_sources
 
 -- contents of given sizes
-zeros : List ℕ → List (List ℕ)
+pub zeros : List ℕ → List (List ℕ)
 zeros sizes = map (λ n. replicate n 0) sizes
 
-lengths : (sizes : List ℕ) → map length (zeros sizes) ≡ sizes
+pub lengths : (sizes : List ℕ) → map length (zeros sizes) ≡ sizes
 unfolding zeros
 lengths [] = refl
 lengths (n ∷ ns) = ap (λ (k : ℕ). k ∷ map length (map (λ n. replicate {A = ℕ} n 0) ns)) (length-replicate {A = ℕ} n 0) ∙ ap (λ (xs : List ℕ). n ∷ xs) (lengths ns)
@@ -141,7 +141,7 @@ known fitting m sizes h l n =
     let e = lengths sizes in
     let cs = zeros sizes in
     let n' = subst (HasNoMisfit romfs m) (sym e) n in
-    let sized = subst (λ (xs : List ℕ). (file : ℕ) → get_or xs file 0 < 2 ^ 32) (sym e) (sizes_small m sizes h l n) in
+    let sized = subst (λ (xs : List ℕ). (file : ℕ) → get_or xs file 0 < 2 ^ 32) (sym e) (sizes_small romfs m sizes h l n) in
     subst (λ (xs : List ℕ). IsRomfsPlan (planned m xs)) e (of_contents m cs (fitting romfs m cs h n') sized)
 
 pub plan_known : Fitting → (p : Planned) → IsPlan p → p.format ≡ romfs → IsRomfsPlan p

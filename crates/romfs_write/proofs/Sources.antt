@@ -12,8 +12,8 @@ use Rattle.manifest.specs.declared.line.Word.TheVariants.{Dir, File, Slink, Bloc
 use Rattle.manifest.specs.Lines.{ManifestLines, is_file, is_hard, is_same, led, filed, sources_of}
 use Rattle.manifest.specs.Grammar.{IsManifest}
 use Rattle.name_tree.specs.Tree.{sources_before, with_contents, inode_of, inode_by}
-use Rattle.misfits.specs.Format.{romfs}
-use Rattle.misfits.specs.Misfit.{HasNoMisfit, TOO_LARGE, large}
+use Rattle.misfits.specs.Format.{Format, romfs, cramfs}
+use Rattle.misfits.specs.Misfit.{HasNoMisfit, IsLarge, TOO_LARGE, large}
 use Rattle.misfits.proofs.Written.{written}
 use Rattle.misfits.proofs.Led.{LedIn, all_led}
 use Rattle.misfits.proofs.Known.{known, Fits}
@@ -136,28 +136,33 @@ unfolding inode_of
 size_of_file all sizes x e f =
     ap (λ (w : Word). (inode_by all sizes w x).size) e ∙ ap (λ (o : Option Line). (with_contents all sizes x o).size) f
 
-small_here : (m : ManifestLines) (sizes : List ℕ) → IsManifest m → HasNoMisfit romfs m sizes → (k : ℕ)
+-- what is larger than this is too large in each format
+large_in : (f : Format) (size : ℕ) → 2 ^ 28 < size → IsLarge f size
+large_in romfs size h = h
+large_in (cramfs o) size h = omega arith
+
+small_here : (f : Format) (m : ManifestLines) (sizes : List ℕ) → IsManifest m → HasNoMisfit f m sizes → (k : ℕ)
     → k < length (sources_of m.lines) → get_or sizes k 0 ≤ 2 ^ 28
-small_here m sizes h n k l =
-    let o = known romfs m sizes h n.lines in
+small_here f m sizes h n k l =
+    let o = known f m sizes h n.lines in
     let w = written m h.0 h.1 in
     let up : Rising m.lines = subst Rising (sym w.1.reversed) (pairs_back (λ (l : Line) (k : Line). k.number < l.number) (λ (l : Line) (k : Line). l.number < k.number) (λ x y r. r) w.0 w.1.rises) in
     let x = found m.lines up k l in
     let latest = o.0 in
     let here : Has (λ y. y ≡ x.0) latest = subst (Has (λ y. y ≡ x.0)) o.1.back (has_reverse (λ (y : Line). y ≡ x.0) m.lines x.1) in
-    let fits = has_of (Fits romfs m sizes) latest x.0 here o.1.fit in
+    let fits = has_of (Fits f m sizes) latest x.0 here o.1.fit in
     let in_line = has_of (LedIn latest) latest x.0 here (all_led latest o.1.checked) in
     let word = is_file_word x.0.word x.2 in
     let to_file = led_filed latest x.0.path x.0 x.2 (in_line.own word.1) in
     let size = size_of_file m.lines sizes x.0 word.0 (subst (λ (ls : List Line). filed ls x.0.path ≡ Some x.0) (sym o.1.back) to_file) ∙ ap (λ (j : ℕ). get_or sizes j 0) x.3 in
     elim (cases_lt (2 ^ 28) (get_or sizes k 0)) [
-      | inl big ↦ absurd (fits TOO_LARGE (large refl (subst (λ (j : ℕ). 2 ^ 28 < j) (sym size) big)))
+      | inl big ↦ absurd (fits TOO_LARGE (large refl (large_in f (inode_of m.lines sizes x.0).size (subst (λ (j : ℕ). 2 ^ 28 < j) (sym size) big))))
       | inr low ↦ low
     ]
 
-pub sizes_small : (m : ManifestLines) (sizes : List ℕ) → IsManifest m → length sizes ≡ length (sources_of m.lines)
-    → HasNoMisfit romfs m sizes → (file : ℕ) → get_or sizes file 0 < 2 ^ 32
-sizes_small m sizes h l n file = elim (cases_lt file (length sizes)) [
-  | inl low ↦ let s = small_here m sizes h n file (omega arith) in omega (arith, s)
+pub sizes_small : (f : Format) (m : ManifestLines) (sizes : List ℕ) → IsManifest m → length sizes ≡ length (sources_of m.lines)
+    → HasNoMisfit f m sizes → (file : ℕ) → get_or sizes file 0 < 2 ^ 32
+sizes_small f m sizes h l n file = elim (cases_lt file (length sizes)) [
+  | inl low ↦ let s = small_here f m sizes h n file (omega arith) in omega (arith, s)
   | inr high ↦ let z = past_end sizes file (omega (arith, high)) in omega (arith, z)
 ]

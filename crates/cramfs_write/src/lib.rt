@@ -1,0 +1,12 @@
+//! A cramfs image from its plan, in either byte order.
+//!
+//! `specs/Form.antt` says what the image is made of; `misfits` says what its layout is.
+#![tactic(auto)]
+
+mod form;
+mod record;
+#[cfg(test)]
+mod tests;
+mod writing;
+
+pub use writing::{stream, write};

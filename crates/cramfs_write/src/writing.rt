@@ -1,0 +1,90 @@
+//! An image into a buffer, or through a writer.
+ghost use Rattle.std.specs.Prelude.{◌≡◌, ℕ, List, map, length, OnOk, OnErr, IfErr};
+ghost use Rattle.cramfs_format.specs.declared.order.Order.{Order};
+ghost use Rattle.crc.specs.Crc.{crc_of};
+ghost use Rattle.image_stream.specs.Outcomes.{AreSized, IsLeastWrong, IsStreamFault, IsWritten};
+ghost use Rattle.image_stream.specs.Sources.{Told};
+ghost use Rattle.layout_plan.specs.Plans.{IsPlanOf};
+ghost use Rattle.manifest.specs.Grammar.{IsManifest};
+ghost use Rattle.manifest.specs.Lines.{ManifestLines};
+ghost use Rattle.misfits.specs.Format.{cramfs, layout_of};
+ghost use Rattle.rom_fields.specs.Written.{AppendsPrefix};
+ghost use Rattle.std.specs.Io.KnownBytes.{Appends};
+ghost use Rattle.cramfs_write.specs.Form.{form_of};
+
+use crate::form::{CramfsForm, known, order_of};
+use image_stream::crc32::Crc32;
+use image_stream::fault::{SizeDiffers, StreamError};
+use image_stream::sources::Sources;
+use layout_plan::Plan;
+use rom_fields::bytes::ByteWrite;
+use rom_fields::contents::Contents;
+
+/// Writes the image of a plan, with these contents of its files, into a buffer of its length,
+/// whatever the buffer held. It takes no memory.
+///
+/// # Errors
+///
+/// The first file whose contents are not as long as was planned; the buffer is then as it was.
+pub fn write(plan: &Plan, contents: &Contents<'_>, out: &mut [u8]) -> Result<(), SizeDiffers>
+    requires format { (o : Order) × (plan.now.format ≡ cramfs o) }
+    requires count { length contents.now ≡ length plan.now.sizes }
+    requires room { length out.old ≡ plan.now.image_len }
+    ensures ok { (o : Order) (m : ManifestLines) (sizes : List ℕ) → IsManifest m
+        → IsPlanOf (cramfs o) m sizes plan.now
+        → OnOk result ((map length contents.now ≡ sizes)
+        × (out.new ≡ layout_of (cramfs o) m contents.now)) }
+    ensures err { IfErr result (λ e. IsLeastWrong plan.now.sizes e.file contents.now
+        × (out.new ≡ out.old)) }
+{
+    let order = order_of(plan);
+    known(order, plan);
+    misfits::laws::fitting_is_planned();
+    let form = CramfsForm::new(plan, order);
+    image_stream::write::write::<CramfsForm<'_>, Crc32>(&form, contents, out)
+}
+
+/// Writes the image of a plan through one buffer of 4,096 bytes, without memory, and flushes the
+/// writer. The sources are read three times.
+///
+/// At `Ok` just the layout was written, where the sources tell their contents; else a whole image
+/// of some contents of the planned sizes, with the crc of just these bytes.
+///
+/// # Errors
+///
+/// As `StreamError` says. A prefix of the layout was written, where the sources tell contents of
+/// the planned sizes.
+pub fn stream<S: Sources, W: ByteWrite>(
+    plan: &Plan,
+    sources: &mut S,
+    w: &mut W,
+) -> Result<(), StreamError>
+    requires format { (o : Order) × (plan.now.format ≡ cramfs o) }
+    requires files { S.files sources.old ≡ length plan.now.sizes }
+    ensures told { S.told sources.new ≡ S.told sources.old }
+    ensures files { S.files sources.new ≡ S.files sources.old }
+    ensures some { (o : Order) → plan.now.format ≡ cramfs o
+        → OnOk result (IsWritten (S.told sources.old) (form_of o plan.now) crc_of
+        (W.output w.old).contents (W.output w.new).contents) }
+    ensures sized { OnOk result (Told (S.told sources.old) (AreSized plan.now.sizes)) }
+    ensures whole { (o : Order) (m : ManifestLines) (sizes : List ℕ) → IsManifest m
+        → IsPlanOf (cramfs o) m sizes plan.now
+        → OnOk result (Told (S.told sources.old) (λ cs. (map length cs ≡ sizes) × Appends
+        (W.output w.old).contents (W.output w.new).contents (layout_of (cramfs o) m cs))) }
+    ensures quiet { OnOk result ((S.reads sources.new ≡ S.reads sources.old)
+        × ((W.output w.new).failures ≡ (W.output w.old).failures)) }
+    ensures front { (o : Order) (m : ManifestLines) (sizes : List ℕ) → IsManifest m
+        → IsPlanOf (cramfs o) m sizes plan.now
+        → OnErr result (Told (S.told sources.old) (λ cs. map length cs ≡ sizes → AppendsPrefix
+        (W.output w.old).contents (W.output w.new).contents (layout_of (cramfs o) m cs))) }
+    ensures fault { (o : Order) → plan.now.format ≡ cramfs o
+        → IfErr result (IsStreamFault (S.told sources.old) (form_of o plan.now) crc_of
+        (S.reads sources.old) (S.reads sources.new) (W.output w.old) (W.output w.new)) }
+{
+    let order = order_of(plan);
+    known(order, plan);
+    misfits::laws::fitting_is_planned();
+    let _ = sources.count();
+    let form = CramfsForm::new(plan, order);
+    image_stream::stream::stream::<CramfsForm<'_>, S, W, Crc32>(&form, sources, w)
+}
