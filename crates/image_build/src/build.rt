@@ -1,10 +1,12 @@
 //! The builds.
 ghost use Rattle.std.specs.Prelude.{◌≡◌, map, length, IfOk, IfErr, Ok, Err};
+ghost use Rattle.cramfs_format.specs.declared.order.Order.{Order};
+ghost use Rattle.cramfs_format.specs.declared.order.Order.TheVariants.{Little, Big};
 ghost use Rattle.image_build.specs.Builds.{Builds};
 ghost use Rattle.layout_plan.specs.Plans.{IsPlanOf};
 ghost use Rattle.manifest.specs.Grammar.{IsManifest};
 ghost use Rattle.manifest.specs.Lines.{ManifestLines};
-ghost use Rattle.misfits.specs.Format.{romfs, layout_of};
+ghost use Rattle.misfits.specs.Format.{romfs, cramfs, layout_of};
 ghost use Rattle.plan_misfits.specs.Formats.{format_of};
 
 use crate::error::BuildError;
@@ -36,8 +38,8 @@ fn zeros(alloc: Global, len: usize) -> Result<Vec<u8>, OutOfMemory>
     Ok(zeros)
 }
 
-/// Writes the image of a plan that was made for just these contents.
-fn fill(plan: &Plan, contents: &Contents<'_>, out: &mut [u8])
+/// Writes the romfs image of a plan that was made for just these contents.
+fn fill_romfs(plan: &Plan, contents: &Contents<'_>, out: &mut [u8])
     requires format { plan.now.format ≡ romfs }
     requires sizes { plan.now.sizes ≡ map length contents.now }
     requires room { length out.old ≡ plan.now.image_len }
@@ -50,6 +52,34 @@ fn fill(plan: &Plan, contents: &Contents<'_>, out: &mut [u8])
     }
 }
 
+/// Writes the cramfs image of such a plan, in its byte order.
+fn fill_cramfs(plan: &Plan, contents: &Contents<'_>, out: &mut [u8])
+    requires format { (o : Order) × (plan.now.format ≡ cramfs o) }
+    requires sizes { plan.now.sizes ≡ map length contents.now }
+    requires room { length out.old ≡ plan.now.image_len }
+    ensures { (m : ManifestLines) → IsManifest m
+        → IsPlanOf plan.now.format m (map length contents.now) plan.now
+        → out.new ≡ layout_of plan.now.format m contents.now }
+{
+    if cramfs_write::write(plan, contents, out).is_err() {
+        unreachable!();
+    }
+}
+
+/// Writes the image of such a plan, in its format.
+fn fill(plan: &Plan, contents: &Contents<'_>, out: &mut [u8])
+    requires sizes { plan.now.sizes ≡ map length contents.now }
+    requires room { length out.old ≡ plan.now.image_len }
+    ensures { (m : ManifestLines) → IsManifest m
+        → IsPlanOf plan.now.format m (map length contents.now) plan.now
+        → out.new ≡ layout_of plan.now.format m contents.now }
+{
+    match plan.format() {
+        Format::Romfs => fill_romfs(plan, contents, out),
+        Format::Cramfs | Format::CramfsBig => fill_cramfs(plan, contents, out),
+    }
+}
+
 /// The image of a manifest in this format.
 fn build(
     alloc: Global,
@@ -57,7 +87,6 @@ fn build(
     manifest: &[u8],
     contents: &Contents<'_>,
 ) -> Result<Vec<u8>, BuildError>
-    requires { format_of format ≡ romfs }
     ensures ok { IfOk result
         (λ image. Builds (format_of format) manifest.now contents.now (Ok image.items)) }
     ensures err { IfErr result
@@ -76,7 +105,7 @@ fn build(
 }
 
 /// The romfs image of a manifest, with these contents of its sources, in the order of the `file`
-/// lines. A check finds no fault in it.
+/// lines. A check finds no fault in it, and what it holds is what the manifest means.
 ///
 /// # Errors
 ///
@@ -91,4 +120,39 @@ pub fn build_romfs(
     ensures err { IfErr result (λ e. Builds romfs manifest.now contents.now (Err e)) }
 {
     build(alloc, Format::Romfs, manifest, contents)
+}
+
+/// The cramfs image of a manifest, with the lowest byte of each word first; else as `build_romfs`.
+///
+/// # Errors
+///
+/// As `build_romfs`.
+pub fn build_cramfs(
+    alloc: Global,
+    manifest: &[u8],
+    contents: &Contents<'_>,
+) -> Result<Vec<u8>, BuildError>
+    ensures ok { IfOk result
+        (λ image. Builds (cramfs Little) manifest.now contents.now (Ok image.items)) }
+    ensures err { IfErr result (λ e. Builds (cramfs Little) manifest.now contents.now (Err e)) }
+{
+    build(alloc, Format::Cramfs, manifest, contents)
+}
+
+/// The cramfs image of a manifest, with the highest byte of each word first; else as
+/// `build_romfs`.
+///
+/// # Errors
+///
+/// As `build_romfs`.
+pub fn build_cramfs_big(
+    alloc: Global,
+    manifest: &[u8],
+    contents: &Contents<'_>,
+) -> Result<Vec<u8>, BuildError>
+    ensures ok { IfOk result
+        (λ image. Builds (cramfs Big) manifest.now contents.now (Ok image.items)) }
+    ensures err { IfErr result (λ e. Builds (cramfs Big) manifest.now contents.now (Err e)) }
+{
+    build(alloc, Format::CramfsBig, manifest, contents)
 }

@@ -10,5 +10,5 @@ pub mod laws;
 #[cfg(test)]
 mod tests;
 
-pub use build::build_romfs;
+pub use build::{build_cramfs, build_cramfs_big, build_romfs};
 pub use error::BuildError;

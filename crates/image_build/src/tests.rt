@@ -1,4 +1,5 @@
-use crate::{BuildError, build_romfs};
+use crate::{BuildError, build_cramfs, build_cramfs_big, build_romfs};
+use layout_plan::Format;
 use rom_fields::contents::Contents;
 use std::alloc::{AllocError, Global};
 use std::test::Fail;
@@ -6,68 +7,152 @@ use std::test::Fail;
 /// One file of five bytes.
 const TEXT: &[u8] = b"file /a 0644 0 0 4 hello.txt\n";
 
-/// Its image up to the last byte that is no zero: the superblock, the root, its `..`, the file, and
-/// the bytes. The sums are those of these words.
-const FRONT: &[u8] =
-    b"-rom1fs-\x00\x00\x00\x90\xc9\xc1\xb0\x6a\0\0\0\0\0\0\0\0\0\0\0\0\0\0\0\0\0\0\0\x49\0\0\0\x20\0\0\0\0\xd1\xff\xff\x97.\0\0\0\0\0\0\0\0\0\0\0\0\0\0\0\0\0\0\x60\0\0\0\x20\0\0\0\0\xd1\xd1\xff\x80..\0\0\0\0\0\0\0\0\0\0\0\0\0\0\0\0\0\x02\0\0\0\0\0\0\0\x05\x9e\xff\xff\xf9a\0\0\0\0\0\0\0\0\0\0\0\0\0\0\0hello";
+/// The front of its romfs image, worked by hand: the superblock, the root, its `..`, the file, and
+/// the bytes.
+const ROMFS: [&[u8]; 9] = [
+    b"-rom1fs-\x00\x00\x00\x90\xc9\xc1\xb0\x6a",
+    b"\x00\x00\x00\x00\x00\x00\x00\x00\x00\x00\x00\x00\x00\x00\x00\x00",
+    b"\x00\x00\x00\x49\x00\x00\x00\x20\x00\x00\x00\x00\xd1\xff\xff\x97",
+    b".\x00\x00\x00\x00\x00\x00\x00\x00\x00\x00\x00\x00\x00\x00\x00",
+    b"\x00\x00\x00\x60\x00\x00\x00\x20\x00\x00\x00\x00\xd1\xd1\xff\x80",
+    b"..\x00\x00\x00\x00\x00\x00\x00\x00\x00\x00\x00\x00\x00\x00",
+    b"\x00\x00\x00\x02\x00\x00\x00\x00\x00\x00\x00\x05\x9e\xff\xff\xf9",
+    b"a\x00\x00\x00\x00\x00\x00\x00\x00\x00\x00\x00\x00\x00\x00\x00",
+    b"hello",
+];
+
+/// That of its cramfs image: the superblock with the root's inode, the inode of the file, its
+/// table, and the bytes. The crc is that of another program.
+const LITTLE: [&[u8]; 9] = [
+    b"E=\xcd(\x00\x10\x00\x00\x03\x08\x00\x00\x00\x00\x00\x00",
+    b"Compressed ROMFS",
+    b"\x0c7}\xff\x00\x00\x00\x00\x01\x00\x00\x00\x02\x00\x00\x00",
+    b"\x00\x00\x00\x00\x00\x00\x00\x00\x00\x00\x00\x00\x00\x00\x00\x00",
+    b"\xedA\x00\x00\x10\x00\x00\x00\xc0\x04\x00\x00",
+    b"\xa4\x81\x00\x00\x05\x00\x00\x00\xc1\x05\x00\x00",
+    b"a\x00\x00\x00",
+    b"\x18\x00\x00\xc0",
+    b"hello",
+];
+
+/// The same with the highest byte and the first field of each word first.
+const BIG: [&[u8]; 9] = [
+    b"(\xcd=E\x00\x00\x10\x00\x00\x00\x08\x03\x00\x00\x00\x00",
+    b"Compressed ROMFS",
+    b"H\xe3sM\x00\x00\x00\x00\x00\x00\x00\x01\x00\x00\x00\x02",
+    b"\x00\x00\x00\x00\x00\x00\x00\x00\x00\x00\x00\x00\x00\x00\x00\x00",
+    b"A\xed\x00\x00\x00\x00\x10\x00\x00\x00\x00\x13",
+    b"\x81\xa4\x00\x00\x00\x00\x05\x00\x04\x00\x00\x17",
+    b"a\x00\x00\x00",
+    b"\xc0\x00\x00\x18",
+    b"hello",
+];
 
 /// Texts with the contents of their sources, and why they are refused: of two reasons the first.
-const REFUSED: [(&[u8], &[&[u8]], BuildError); 9] = [
+const REFUSED: [(&[u8], &[&[u8]], Format, BuildError); 11] = [
     (
         b"fly /a\n",
         &[],
+        Format::Romfs,
         BuildError::Manifest { line: 1, number: 1 },
     ),
     (
         b"fly /a\n",
         &[b"hello"],
+        Format::Cramfs,
         BuildError::Manifest { line: 1, number: 1 },
     ),
     (
         b"dir /d 0755 1 0\n\ndir /d 0755 0 0\n",
         &[],
+        Format::Romfs,
         BuildError::Manifest { line: 3, number: 5 },
     ),
-    (TEXT, &[], BuildError::Count),
-    (TEXT, &[b"hello", b"hello"], BuildError::Count),
-    (b"", &[b""], BuildError::Count),
-    (b"file /a 0644 5 0 4 s\n", &[], BuildError::Count),
+    (TEXT, &[], Format::Romfs, BuildError::Count),
+    (
+        TEXT,
+        &[b"hello", b"hello"],
+        Format::Cramfs,
+        BuildError::Count,
+    ),
+    (b"", &[b""], Format::CramfsBig, BuildError::Count),
+    (
+        b"file /a 0644 5 0 4 s\n",
+        &[],
+        Format::Romfs,
+        BuildError::Count,
+    ),
     (
         b"file /a 0644 5 0 4 s\n",
         &[b"hello"],
+        Format::Romfs,
         BuildError::Plan { line: 1, number: 1 },
     ),
     (
         b"dir /d 0755 0 0\nfile /d/a 0600 0 0 4 s\n",
         &[b"hello"],
+        Format::Romfs,
         BuildError::Plan { line: 2, number: 1 },
+    ),
+    (
+        b"file /a 0644 0 0 4 s\nhard /b /a\n",
+        &[b"hello"],
+        Format::Cramfs,
+        BuildError::Plan { line: 2, number: 4 },
+    ),
+    (
+        b"volume seventeen-letters\n",
+        &[],
+        Format::CramfsBig,
+        BuildError::Plan { line: 1, number: 3 },
     ),
 ];
 
-/// The romfs image of a text, with contents of its sources.
-fn built(alloc: Global, text: &[u8], all: &[&[u8]]) -> Result<Vec<u8>, BuildError> {
+/// The image of a text, with contents of its sources.
+fn built(alloc: Global, text: &[u8], all: &[&[u8]], format: Format) -> Result<Vec<u8>, BuildError> {
     let mut contents = Contents::new(alloc);
     for content in all {
         contents.add(*content)?;
     }
-    build_romfs(alloc, text, &contents)
+    match format {
+        Format::Romfs => build_romfs(alloc, text, &contents),
+        Format::Cramfs => build_cramfs(alloc, text, &contents),
+        Format::CramfsBig => build_cramfs_big(alloc, text, &contents),
+    }
+}
+
+/// Whether an image has this front, and so many zeros behind it.
+fn has_front(image: &[u8], front: &[&[u8]], zeros: usize) -> bool {
+    let mut rest = image;
+    for piece in front {
+        if rest.get(..piece.len()) != Some(*piece) {
+            return false;
+        }
+        rest = rest.get(piece.len()..).unwrap_or(&[]);
+    }
+    rest.len() == zeros && rest.iter().all(|byte| *byte == 0)
 }
 
 #[test]
 fn a_file_of_five_bytes(rt: HostRuntime) -> Result<(), Fail> {
-    let Ok(image) = built(rt.alloc(), TEXT, &[b"hello"]) else {
-        return Err(AllocError.into());
-    };
-    assert_eq!(rt; image.len(), 1024);
-    assert!(rt; image.starts_with(FRONT));
-    assert!(rt; image.iter().skip(FRONT.len()).all(|byte| *byte == 0));
+    let images: [(Format, &[&[u8]], usize); 3] = [
+        (Format::Romfs, &ROMFS, 1024 - 133),
+        (Format::Cramfs, &LITTLE, 4096 - 101),
+        (Format::CramfsBig, &BIG, 4096 - 101),
+    ];
+    for (format, front, zeros) in images {
+        let Ok(image) = built(rt.alloc(), TEXT, &[b"hello"], format) else {
+            return Err(AllocError.into());
+        };
+        assert!(rt; has_front(&image, front, zeros));
+    }
     Ok(())
 }
 
 #[test]
 fn refusals(rt: HostRuntime) -> Result<(), Fail> {
-    for (text, all, refusal) in REFUSED {
-        assert_eq!(rt; built(rt.alloc(), text, all).err(), Some(refusal));
+    for (text, all, format, refusal) in REFUSED {
+        assert_eq!(rt; built(rt.alloc(), text, all, format).err(), Some(refusal));
     }
     Ok(())
 }
