@@ -1,3 +1,4 @@
+pub mod Canvases
 pub mod Words
 pub mod Failures
 pub mod Written

@@ -8,6 +8,7 @@
 #![tactic(auto)]
 
 pub mod bytes;
+pub mod canvas;
 pub mod contents;
 pub mod extents;
 pub mod faulty;

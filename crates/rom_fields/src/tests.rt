@@ -1,4 +1,5 @@
 use crate::bytes::{ByteRead, ByteWrite, Failed, Plain};
+use crate::canvas::Canvas;
 use crate::extents::Extents;
 use crate::faulty::Faulty;
 use crate::sink::{put, write_whole};
@@ -144,5 +145,26 @@ fn overlaps(rt: HostRuntime) -> Result<(), Fail> {
     empty.add(Extent::Record, 4, 4)?;
     empty.add(Extent::Data, 6, 0)?;
     assert_eq!(rt; empty.first_overlap(), None);
+    Ok(())
+}
+
+#[test]
+fn windows_of_a_buffer(rt: HostRuntime) -> Result<(), Fail> {
+    let mut buffer = [9; 8];
+    let mut canvas = Canvas::new(&mut buffer);
+    if let Some(window) = canvas.take(2, 3) {
+        assert_eq!(rt; window.len(), 3);
+        window.fill(1);
+    }
+    assert!(rt; canvas.take(4, 1).is_none());
+    assert!(rt; canvas.take(5, 4).is_none());
+    assert!(rt; canvas.take(usize::MAX, 2).is_none());
+    if let Some(window) = canvas.take(6, 2) {
+        assert_eq!(rt; window.len(), 2);
+        window[1] = 2;
+    }
+    assert_eq!(rt; canvas.take(8, 0).map(|window| window.len()), Some(0));
+    assert!(rt; canvas.take(8, 1).is_none());
+    assert_eq!(rt; buffer, [9, 9, 1, 1, 1, 9, 9, 2]);
     Ok(())
 }

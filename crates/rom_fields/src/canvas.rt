@@ -1,0 +1,60 @@
+//! Windows into a buffer, none of which meets another.
+use std::marker::Model;
+use std::mem;
+
+/// A buffer from which windows are taken, each behind the one before.
+#[derive(Drop)]
+pub struct Canvas<'b> {
+    rest: &'b mut [u8],
+    at: usize,
+    end: usize,
+}
+
+impl<'b> Model for Canvas<'b> {
+    ghost use Rattle.std.specs.Prelude.{◌≡◌, ◌+◌, length};
+    ghost use Rattle.rom_fields.specs.Canvases.{Left};
+
+    ghost Value = { Left };
+
+    ghost view = { λ c. record { at = c.at; bytes = c.rest.now } };
+
+    ghost invariant = { λ c. c.at + length c.rest.now ≡ c.end };
+}
+
+impl<'b> Canvas<'b> {
+    ghost use Rattle.std.specs.Prelude.{◌≡◌, ◌↔◌, IsSome, IfSome, IfNone};
+    ghost use Rattle.rom_fields.specs.Canvases.{LiesIn, window, behind};
+
+    /// The whole buffer, of which nothing was taken.
+    pub fn new(buffer: &'b mut [u8]) -> Canvas<'b>
+        ensures at { result.at ≡ 0 }
+        ensures bytes { result.bytes ≡ buffer.old }
+    {
+        let end = buffer.len();
+        Canvas {
+            rest: buffer,
+            at: 0,
+            end,
+        }
+    }
+
+    /// The bytes from `start` on, `len` of them; nothing where some of them lie before the end of the
+    /// last window or behind the end of the buffer, and the canvas is then as it was.
+    pub fn take(&mut self, start: usize, len: usize) -> Option<&'b mut [u8]>
+        ensures some { IsSome result ↔ LiesIn self.old start len }
+        ensures window { IfSome result (λ w. w.now ≡ window self.old start len) }
+        ensures behind { IfSome result (λ w. self.new ≡ behind self.old start len) }
+        ensures none { IfNone result (self.new ≡ self.old) }
+    {
+        if start < self.at || self.end < start || self.end - start < len {
+            return None;
+        }
+        let gap = start - self.at;
+        let rest = mem::take(&mut self.rest);
+        let (_, rest) = rest.split_at_mut(gap);
+        let (window, rest) = rest.split_at_mut(len);
+        self.rest = rest;
+        self.at = start + len;
+        Some(window)
+    }
+}
