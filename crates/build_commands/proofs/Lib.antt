@@ -1,0 +1,2 @@
+mod Scans
+mod Served
