@@ -90,8 +90,8 @@ pub fn tell_bad_manifest<W: ByteWrite>(w: &mut W, line: u64, number: u32) -> Res
     w.flush()
 }
 
-/// Writes `plan LINE NUMBER NAME`: the manifest does not fit the format, and this is the line of its
-/// least misfit, 0 for the whole, and the misfit, as `PlanError` says. Flushes it.
+/// Writes `plan LINE NUMBER NAME`: the manifest does not fit the format, and this is the line of
+/// its least misfit, 0 for the whole, and the misfit, as `PlanError` says. Flushes it.
 ///
 /// # Errors
 ///

@@ -12,10 +12,10 @@ ghost use Rattle.rom_commands.specs.declared.serving.Serving.{Serving};
 ghost use Rattle.rom_fields.specs.Written.{Output};
 ghost use Rattle.rom_tree.specs.Tree.{Node};
 
-/// Of what `rom_commands::serving::serve_image` says, for all bytes: lines are answered from the one
-/// tree that the format gives the bytes, or the bytes are refused with their least fault, unread.
-/// And the image that was built from a manifest, in each format, is never refused: but for memory it
-/// is served, as the tree that the manifest means.
+/// What follows from the clause of `rom_commands::serving::serve_image`, for all bytes: lines are
+/// answered from the one tree that the format gives the bytes, or the bytes are refused with their
+/// least fault, and no line is read. And the image that was built from a manifest, in each format,
+/// is refused for memory alone: else it is served as the tree that the manifest means.
 pub fn headline()
     ensures accepted { (bytes : List ℕ) (r₀ r : Input) (w₀ w : Output) (o : Serving)
         → ServingEnds bytes r₀ r w₀ w o
