@@ -10,6 +10,7 @@ own, and has
     name     unique in its topic
     about    what it is about, in a few words (may be missing)
     large    true: it takes long, and refusals.py passes it over
+    once     true: its runs change what they read, and refusals.py passes it over
     no_root  true: it is skipped where root runs it
     folders  names of folders to make, with the folders above them
     files    name -> bytes; the folders of a name are made

@@ -19,14 +19,14 @@ fn put_number<W: ByteWrite>(w: &mut W, failed: &mut bool, n: u64)
 }
 
 /// Writes the line of a built image.
-fn write_built_line<W: ByteWrite>(w: &mut W, len: u32) -> Result<(), Failed>
+fn write_built_line<W: ByteWrite>(w: &mut W, len: u64) -> Result<(), Failed>
     ensures text { WritesText (W.output w.old).contents (W.output w.new).contents result
         (built_line len) }
     ensures count { Counts (W.output w.old).failures (W.output w.new).failures result }
 {
     let mut failed = false;
     put(w, &mut failed, b"ok ");
-    put_decimal(w, &mut failed, len);
+    put_number(w, &mut failed, len);
     put(w, &mut failed, b"\n");
     if failed { Err(Failed) } else { Ok(()) }
 }
@@ -60,7 +60,7 @@ fn write_refusal_line<W: ByteWrite>(
 /// # Errors
 ///
 /// A write or the flush failed; a prefix of the line was written.
-pub fn tell_built<W: ByteWrite>(w: &mut W, len: u32) -> Result<(), Failed>
+pub fn tell_built<W: ByteWrite>(w: &mut W, len: u64) -> Result<(), Failed>
     ensures text { WritesText (W.output w.old).contents (W.output w.new).contents result
         (built_line len) }
     ensures count { Counts (W.output w.old).failures (W.output w.new).failures result }

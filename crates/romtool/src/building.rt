@@ -7,7 +7,7 @@ use crate::progress::Progress;
 use crate::status::{Status, changed, file_fault, memory, refused, write_fault};
 use crate::target::Target;
 use build_commands::building::{tell_bad_manifest, tell_built, tell_misfit};
-use build_commands::building::stream;
+use image_build::stream;
 use image_stream::fault::StreamError;
 use layout_plan::{Format, Plan, PlanError, plan};
 use manifest::{Manifest, ManifestError, Name, parse};
@@ -118,7 +118,10 @@ fn write_image(rt: &HostRuntime, plan: &Plan, names: &[&str], out: &str) -> Resu
             return Err(refused(rt, out.as_bytes(), &e));
         }
     };
-    let bytes = plan.sizes().iter().fold(0, |sum: u64, size| sum.saturating_add(*size));
+    let bytes = plan
+        .sizes()
+        .iter()
+        .fold(0, |sum: u64, size| sum.saturating_add(*size));
     let mut disk = Disk::new(rt, names, Progress::new(rt, bytes));
     let streamed = stream(plan, &mut disk, &mut writer);
     disk.end();
@@ -134,13 +137,13 @@ fn write_image(rt: &HostRuntime, plan: &Plan, names: &[&str], out: &str) -> Resu
 
 /// Builds the image of a manifest in a format into the file `out`, from the files that the manifest
 /// names.
-fn build(rt: &HostRuntime, format: Format, manifest: &str, out: &str) -> Result<u32, Status> {
+fn build(rt: &HostRuntime, format: Format, manifest: &str, out: &str) -> Result<u64, Status> {
     let manifest = manifest_of(rt, manifest)?;
     let names = names_of(rt, manifest.sources())?;
     let sizes = sizes_of(rt, &names)?;
     let plan = planned(rt, format, &manifest, &sizes)?;
     write_image(rt, &plan, &names, out)?;
-    Ok((plan.image_len() % (1 << 32)) as u32)
+    Ok(plan.image_len() as u64)
 }
 
 /// Builds as `build` does, says what came of it, and how the command ended.

@@ -33,7 +33,11 @@ impl<'a> Progress<'a> {
     /// So many more bytes were read.
     pub fn add(&mut self, bytes: usize) {
         self.done = self.done.saturating_add(bytes as u64);
-        let percent = self.done.saturating_mul(100).checked_div(self.whole).unwrap_or(100);
+        let percent = self
+            .done
+            .saturating_mul(100)
+            .checked_div(self.whole)
+            .unwrap_or(100);
         if self.is_shown && percent > self.percent && percent < 100 {
             self.percent = percent;
             let _ = eprint!(self.rt; "\r{percent} %");

@@ -31,7 +31,11 @@ fn new_beside(rt: &HostRuntime, whole: &str) -> io::Result<Target> {
     let whole = String::from_str(rt.alloc(), whole)?;
     for k in 0..TRIES {
         let name = format!(in rt.alloc(); "{whole}.{k}.part")?;
-        match OpenOptions::new().write(true).create_new(true).open(rt, &name) {
+        match OpenOptions::new()
+            .write(true)
+            .create_new(true)
+            .open(rt, &name)
+        {
             Ok(file) => {
                 let beside = Some(Beside { name, whole });
                 return Ok(Target { file, beside });
