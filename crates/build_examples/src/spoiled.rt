@@ -1,5 +1,6 @@
 //! Sources that are not as they were.
 ghost use Rattle.std.specs.Prelude.{◌≡◌, ◌≤◌, length};
+
 use image_stream::sources::{SourceFailed, Sources};
 use rom_fields::contents::Contents;
 

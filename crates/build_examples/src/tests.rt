@@ -1,5 +1,3 @@
-ghost use Rattle.std.specs.Prelude.{◌≡◌, length};
-
 use crate::spoiled::{Fault, Spoiled};
 use image_build::{BuildError, build_cramfs, build_cramfs_big, build_romfs, stream};
 use image_check::check;
@@ -19,6 +17,9 @@ const FORMATS: [Format; 3] = [Format::Romfs, Format::Cramfs, Format::CramfsBig];
 
 /// Bytes of more than two blocks.
 const LARGE: &[u8; 9001] = &[b'q'; 9001];
+
+/// One fewer.
+const SHORTER: &[u8; 9000] = &[b'q'; 9000];
 
 /// Manifests with the contents of their sources, each of which fits all formats.
 const FITTING: [(&[u8], &[&[u8]]); 9] = [
@@ -82,12 +83,11 @@ fn planned(alloc: Global, text: &[u8], all: &[&[u8]], format: Format) -> Result<
     }
 }
 
+/// How a stream ended; nothing where there are more or fewer sources than the plan has.
+type Ended = Option<Result<(), StreamError>>;
+
 /// Streams a plan from sources, one for each of its own.
-fn streamed<S: Sources, W: ByteWrite>(
-    plan: &Plan,
-    sources: &mut S,
-    w: &mut W,
-) -> Option<Result<(), StreamError>> {
+fn streamed<S: Sources, W: ByteWrite>(plan: &Plan, sources: &mut S, w: &mut W) -> Ended {
     if sources.count() == plan.sizes().len() {
         Some(stream(plan, sources, w))
     } else {
@@ -95,23 +95,68 @@ fn streamed<S: Sources, W: ByteWrite>(
     }
 }
 
+/// Streams a plan from memory.
+fn from_memory<W: ByteWrite>(plan: &Plan, contents: &Contents<'_>, w: &mut W) -> Ended {
+    streamed(plan, &mut Slices::new(contents), w)
+}
+
+/// Streams a plan from sources with a fault after so many reads.
+fn from_spoiled<W: ByteWrite>(
+    plan: &Plan,
+    contents: &Contents<'_>,
+    fault: Fault,
+    sound: u64,
+    w: &mut W,
+) -> Ended {
+    streamed(plan, &mut Spoiled::new(contents, fault, sound), w)
+}
+
+/// Streams a plan from memory to a writer that takes so many calls, each of so many bytes at most:
+/// what the writer then holds, and how it ended.
+fn sent(
+    alloc: Global,
+    plan: &Plan,
+    all: &[&[u8]],
+    calls: u64,
+    most: usize,
+) -> Result<(Vec<u8>, Ended), Fail> {
+    let contents = contents_of(alloc, all)?;
+    let mut w = Faulty::new(Plain::new(Vec::new(alloc)), calls, most);
+    let ended = from_memory(plan, &contents, &mut w);
+    Ok((w.into_inner().into_inner(), ended))
+}
+
+/// The same from sources with a fault after so many reads, to a writer that takes all.
+fn spoiled(
+    alloc: Global,
+    plan: &Plan,
+    all: &[&[u8]],
+    fault: Fault,
+    sound: u64,
+) -> Result<(Vec<u8>, Ended), Fail> {
+    let contents = contents_of(alloc, all)?;
+    let mut w = Plain::new(Vec::new(alloc));
+    let ended = from_spoiled(plan, &contents, fault, sound, &mut w);
+    Ok((w.into_inner(), ended))
+}
+
+/// Whether the image begins with these bytes.
+fn has_front(image: &[u8], front: &[u8]) -> bool {
+    image.get(..front.len()) == Some(front)
+}
+
 #[test]
 fn images_are_accepted_and_streamed(rt: HostRuntime) -> Result<(), Fail> {
     for (text, all) in FITTING {
-        let contents = contents_of(rt.alloc(), all)?;
         for format in FORMATS {
             let image = built(rt.alloc(), text, all, format)?;
             assert!(rt; check(rt.alloc(), &image, Limits::usual()).is_ok());
             let plan = planned(rt.alloc(), text, all, format)?;
-            assert_eq!(rt; plan.image_len(), image.len());
-            let mut w = Plain::new(Vec::new(rt.alloc()));
-            assert_eq!(rt; streamed(&plan, &mut Slices::new(&contents), &mut w), Some(Ok(())));
-            let held: Vec<u8> = w.into_inner();
-            assert!(rt; held.as_slice() == image.as_slice());
-            let mut w = Faulty::new(Plain::new(Vec::new(rt.alloc())), u64::MAX, 1);
-            assert_eq!(rt; streamed(&plan, &mut Slices::new(&contents), &mut w), Some(Ok(())));
-            let held: Vec<u8> = w.into_inner().into_inner();
-            assert!(rt; held.as_slice() == image.as_slice());
+            for most in [1, 100, usize::MAX] {
+                let (held, ended) = sent(rt.alloc(), &plan, all, u64::MAX, most)?;
+                assert_eq!(rt; ended, Some(Ok(())));
+                assert!(rt; held.as_slice() == image.as_slice());
+            }
         }
     }
     Ok(())
@@ -120,25 +165,21 @@ fn images_are_accepted_and_streamed(rt: HostRuntime) -> Result<(), Fail> {
 #[test]
 fn each_write_fails_in_turn(rt: HostRuntime) -> Result<(), Fail> {
     let (text, all) = FITTING[5];
-    let contents = contents_of(rt.alloc(), all)?;
     for format in FORMATS {
         let image = built(rt.alloc(), text, all, format)?;
         let plan = planned(rt.alloc(), text, all, format)?;
-        let mut ended = 0;
+        let mut whole = 0;
         for calls in 0..400u64 {
-            let mut w = Faulty::new(Plain::new(Vec::new(rt.alloc())), calls, 100);
-            let answer = streamed(&plan, &mut Slices::new(&contents), &mut w);
-            let held: Vec<u8> = w.into_inner().into_inner();
-            assert!(rt; image.get(..held.len()) == Some(held.as_slice()));
-            if answer == Some(Ok(())) {
+            let (held, ended) = sent(rt.alloc(), &plan, all, calls, 100)?;
+            assert!(rt; has_front(&image, &held));
+            if ended == Some(Ok(())) {
                 assert_eq!(rt; held.len(), image.len());
-                ended += 1;
+                whole += 1;
             } else {
-                assert_eq!(rt; answer, Some(Err(StreamError::WriteFault)));
-                assert_eq!(rt; ended, 0);
+                assert_eq!(rt; (ended, whole), (Some(Err(StreamError::WriteFault)), 0));
             }
         }
-        assert!(rt; 0 < ended && ended < 400);
+        assert!(rt; 0 < whole && whole < 400);
     }
     Ok(())
 }
@@ -146,26 +187,24 @@ fn each_write_fails_in_turn(rt: HostRuntime) -> Result<(), Fail> {
 #[test]
 fn each_read_fails_in_turn(rt: HostRuntime) -> Result<(), Fail> {
     let (text, all) = FITTING[5];
-    let contents = contents_of(rt.alloc(), all)?;
     for format in FORMATS {
         let image = built(rt.alloc(), text, all, format)?;
         let plan = planned(rt.alloc(), text, all, format)?;
-        let mut ended = 0;
+        let mut whole = 0;
         for sound in 0..40u64 {
-            let mut sources = Spoiled::new(&contents, Fault::Unreadable, sound);
-            let mut w = Plain::new(Vec::new(rt.alloc()));
-            let answer = streamed(&plan, &mut sources, &mut w);
-            let held: Vec<u8> = w.into_inner();
-            assert!(rt; image.get(..held.len()) == Some(held.as_slice()));
-            match answer {
-                Some(Ok(())) => ended += 1,
-                Some(Err(StreamError::SourceFault { file })) => {
-                    assert!(rt; file < 3 && ended == 0);
-                }
-                _ => return Err(AllocError.into()),
+            let (held, ended) = spoiled(rt.alloc(), &plan, all, Fault::Unreadable, sound)?;
+            assert!(rt; has_front(&image, &held));
+            if ended == Some(Ok(())) {
+                assert_eq!(rt; held.len(), image.len());
+                whole += 1;
+            } else {
+                let Some(Err(StreamError::SourceFault { file })) = ended else {
+                    return Err(AllocError.into());
+                };
+                assert!(rt; file < 3 && whole == 0);
             }
         }
-        assert!(rt; 0 < ended && ended < 40);
+        assert!(rt; 0 < whole && whole < 40);
     }
     Ok(())
 }
@@ -173,19 +212,14 @@ fn each_read_fails_in_turn(rt: HostRuntime) -> Result<(), Fail> {
 #[test]
 fn contents_that_change_are_told(rt: HostRuntime) -> Result<(), Fail> {
     let (text, all) = FITTING[1];
-    let contents = contents_of(rt.alloc(), all)?;
+    let (whole, changed) = (Some(Ok(())), Some(Err(StreamError::Changed)));
     for format in FORMATS {
         let plan = planned(rt.alloc(), text, all, format)?;
-        let mut answers = Vec::new(rt.alloc());
         // two reads for the size, one for the sum, and one to be written
-        for sound in 0..5u64 {
-            let mut sources = Spoiled::new(&contents, Fault::Changed, sound);
-            let mut w = Plain::new(Vec::new(rt.alloc()));
-            answers.push(streamed(&plan, &mut sources, &mut w))?;
+        for (sound, want) in [(0, whole), (1, whole), (2, whole), (3, changed), (4, whole)] {
+            let (_, ended) = spoiled(rt.alloc(), &plan, all, Fault::Changed, sound)?;
+            assert_eq!(rt; ended, want, "after {sound}");
         }
-        let (whole, changed) = (Some(Ok(())), Some(Err(StreamError::Changed)));
-        let want = [whole, whole, whole, changed, whole];
-        assert_eq!(rt; answers.as_slice(), want.as_slice());
     }
     Ok(())
 }
@@ -196,18 +230,15 @@ fn sources_of_another_size(rt: HostRuntime) -> Result<(), Fail> {
     let others: [(&[&[u8]], usize); 5] = [
         (&[b"on", LARGE, b""], 0),
         (&[b"one!", LARGE, b""], 0),
-        (&[b"one", &LARGE[1..], b""], 1),
+        (&[b"one", SHORTER, b""], 1),
         (&[b"one", LARGE, b"!"], 2),
         (&[b"one", b"", b"!"], 1),
     ];
     for format in FORMATS {
         let plan = planned(rt.alloc(), text, all, format)?;
         for (other, file) in others {
-            let contents = contents_of(rt.alloc(), other)?;
-            let mut w = Plain::new(Vec::new(rt.alloc()));
-            let answer = streamed(&plan, &mut Slices::new(&contents), &mut w);
-            assert_eq!(rt; answer, Some(Err(StreamError::SizeDiffers { file })));
-            let held: Vec<u8> = w.into_inner();
+            let (held, ended) = sent(rt.alloc(), &plan, other, u64::MAX, usize::MAX)?;
+            assert_eq!(rt; ended, Some(Err(StreamError::SizeDiffers { file })));
             assert!(rt; held.is_empty());
         }
     }
