@@ -71,7 +71,8 @@ def chosen(topic):
     """The cases that are run: those of the topic, or all, but for large ones."""
     for name in [topic] if topic else run.topics():
         for case in run.load(name):
-            if not case.get("large") and not (case.get("no_root") and os.geteuid() == 0):
+            passed_over = case.get("large") or case.get("once")
+            if not passed_over and not (case.get("no_root") and os.geteuid() == 0):
                 yield name, case
 
 

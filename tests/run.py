@@ -10,9 +10,10 @@ own, and has
     name     unique in its topic
     about    what it is about, in a few words (may be missing)
     large    true: it takes long, and refusals.py passes it over
+    once     true: its runs change what they read, and refusals.py passes it over
     no_root  true: it is skipped where root runs it
-    folders  names of folders to make
-    files    name -> bytes
+    folders  names of folders to make, with the folders above them
+    files    name -> bytes; the folders of a name are made
     modes    name -> the permissions of a file or folder, in octal
     links    name -> the text of a symbolic link to make
     runs     what is run in turn
@@ -33,6 +34,7 @@ Bytes are a text, or
     {"hex": "00ff"}
     {"size": N, "at": {"64": BYTES}}    zeros but for what stands at these offsets
     {"repeat": BYTES, "times": N}
+    {"count": N, "format": "f%05d "}    the text once for each number below N, joined
     {"join": [BYTES, ..]}
     {"words": [W, ..], "by": [D, ..], "times": N}
                                         words of 32 bits, the highest byte first, N times; each time
@@ -69,6 +71,8 @@ def bytes_of(told):
         return bytes.fromhex(told["hex"])
     if "repeat" in told:
         return bytes_of(told["repeat"]) * told["times"]
+    if "count" in told:
+        return b"".join((told["format"] % n).encode() for n in range(told["count"]))
     if "join" in told:
         return b"".join(bytes_of(part) for part in told["join"])
     if "words" in told:
@@ -128,8 +132,9 @@ def load(topic):
 def lay_out(case, top):
     """Makes a case's folders, files and links."""
     for name in case.get("folders", []):
-        os.mkdir(os.path.join(top, name))
+        os.makedirs(os.path.join(top, name), exist_ok=True)
     for name, told in case.get("files", {}).items():
+        os.makedirs(os.path.dirname(os.path.join(top, name)), exist_ok=True)
         with open(os.path.join(top, name), "wb") as file:
             if isinstance(told, dict) and "sparse" in told:
                 file.truncate(told["sparse"])

@@ -1,3 +1,4 @@
 pub mod Answered
 pub mod Whole
 mod Filled
+mod Streams

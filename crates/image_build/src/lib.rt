@@ -1,4 +1,5 @@
-//! An image from a manifest and the contents of its files, in one call.
+//! An image from a manifest and the contents of its files, in one call; and the image of a plan
+//! through a writer.
 //!
 //! `specs/Builds.antt` says what a build answers, and the promises about all answers stand in
 //! `laws`: each text and contents have just one, and a check finds no fault in a built image.
@@ -7,8 +8,10 @@
 mod build;
 pub mod error;
 pub mod laws;
+mod streaming;
 #[cfg(test)]
 mod tests;
 
 pub use build::{build_cramfs, build_cramfs_big, build_romfs};
 pub use error::BuildError;
+pub use streaming::stream;

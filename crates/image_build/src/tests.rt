@@ -1,6 +1,11 @@
-use crate::{BuildError, build_cramfs, build_cramfs_big, build_romfs};
-use layout_plan::Format;
+use crate::{BuildError, build_cramfs, build_cramfs_big, build_romfs, stream};
+use image_stream::fault::StreamError;
+use image_stream::slices::Slices;
+use layout_plan::{Format, Plan, plan};
+use manifest::parse;
+use rom_fields::bytes::{ByteWrite, Plain};
 use rom_fields::contents::Contents;
+use rom_fields::faulty::Faulty;
 use std::alloc::{AllocError, Global};
 use std::test::Fail;
 
@@ -121,6 +126,30 @@ fn built(alloc: Global, text: &[u8], all: &[&[u8]], format: Format) -> Result<Ve
     }
 }
 
+/// The plan of the file of five bytes.
+fn planned(alloc: Global, format: Format) -> Result<Plan, Fail> {
+    let manifest = parse(alloc, TEXT)?;
+    if manifest.sources().len() != 1 {
+        return Err(AllocError.into());
+    }
+    match plan(alloc, &manifest, &[5], format) {
+        Ok(plan) => Ok(plan),
+        Err(_) => Err(AllocError.into()),
+    }
+}
+
+/// Streams the image of a plan with these contents.
+fn streamed<W: ByteWrite>(
+    plan: &Plan,
+    contents: &Contents<'_>,
+    w: &mut W,
+) -> Result<(), StreamError> {
+    if contents.len() != plan.sizes().len() {
+        return Err(StreamError::Changed);
+    }
+    stream(plan, &mut Slices::new(contents), w)
+}
+
 /// Whether an image has this front, and so many zeros behind it.
 fn has_front(image: &[u8], front: &[&[u8]], zeros: usize) -> bool {
     let mut rest = image;
@@ -146,6 +175,52 @@ fn a_file_of_five_bytes(rt: HostRuntime) -> Result<(), Fail> {
         };
         assert!(rt; has_front(&image, front, zeros));
     }
+    Ok(())
+}
+
+#[test]
+fn streams_what_is_built(rt: HostRuntime) -> Result<(), Fail> {
+    let mut contents = Contents::new(rt.alloc());
+    contents.add(b"hello")?;
+    for format in [Format::Romfs, Format::Cramfs, Format::CramfsBig] {
+        let Ok(image) = built(rt.alloc(), TEXT, &[b"hello"], format) else {
+            return Err(AllocError.into());
+        };
+        let mut w = Plain::new(Vec::new(rt.alloc()));
+        assert_eq!(rt;
+            streamed(&planned(rt.alloc(), format)?, &contents, &mut w),
+            Ok(())
+        );
+        let held: Vec<u8> = w.into_inner();
+        assert_eq!(rt; held.as_slice(), image.as_slice());
+    }
+    Ok(())
+}
+
+#[test]
+fn streams_a_front(rt: HostRuntime) -> Result<(), Fail> {
+    let mut contents = Contents::new(rt.alloc());
+    contents.add(b"hello")?;
+    for calls in 0..3u64 {
+        let plan = planned(rt.alloc(), Format::Romfs)?;
+        let mut w = Faulty::new(Plain::new(Vec::new(rt.alloc())), calls, 8);
+        assert_eq!(rt;
+            streamed(&plan, &contents, &mut w),
+            Err(StreamError::WriteFault)
+        );
+        let held: Vec<u8> = w.into_inner().into_inner();
+        assert_eq!(rt; held.as_slice(), &ROMFS[0][..8 * calls as usize]);
+    }
+    let mut longer = Contents::new(rt.alloc());
+    longer.add(b"hello!")?;
+    let plan = planned(rt.alloc(), Format::CramfsBig)?;
+    let mut w = Plain::new(Vec::new(rt.alloc()));
+    assert_eq!(rt;
+        streamed(&plan, &longer, &mut w),
+        Err(StreamError::SizeDiffers { file: 0 })
+    );
+    let held: Vec<u8> = w.into_inner();
+    assert!(rt; held.is_empty());
     Ok(())
 }
 

@@ -167,6 +167,19 @@ pub const LINK_CHAIN: &[u8; 1076] = b"\
     \x08\x01\0\xc0l38\0\x0a\x01\0\xc0l39\0\
     \x0c\x01\0\xc0l40\0";
 
+/// A cramfs image of two directories with an entry of one name: `a` at 76 with the file `x` at 108,
+/// and `b` at 92 with the file `x` at 124. The files are empty.
+pub const SAME_NAMES: &[u8; 140] = b"\
+    \x45\x3d\xcd\x28\0\0\0\0\x02\x08\0\0\0\0\0\0\
+    Compressed ROMFS\
+    \0\0\0\0\0\0\0\0\0\0\0\0\0\0\0\0\
+    \0\0\0\0\0\0\0\0\0\0\0\0\0\0\0\0\
+    \xed\x41\0\0\x20\0\0\0\xc0\x04\0\0\
+    \xed\x41\0\0\x10\0\0\0\xc1\x06\0\0a\0\0\0\
+    \xed\x41\0\0\x10\0\0\0\xc1\x07\0\0b\0\0\0\
+    \xa4\x81\0\0\0\0\0\0\x01\0\0\0x\0\0\0\
+    \xa4\x81\0\0\0\0\0\0\x01\0\0\0x\0\0\0";
+
 /// A cramfs image without an entry.
 pub const EMPTY_CRAMFS: &[u8; 76] = b"\
     \x45\x3d\xcd\x28\0\0\0\0\x02\x08\0\0\0\0\0\0\

@@ -7,6 +7,8 @@
 #![tactic(auto)]
 
 #[cfg(test)]
+mod cached;
+#[cfg(test)]
 mod checked;
 mod images;
 #[cfg(test)]
@@ -19,5 +21,5 @@ mod sessions;
 mod walked;
 
 pub use images::{
-    EMPTY_BIG_CRAMFS, EMPTY_CRAMFS, HELLO, LINK_AND_DEVICE, LINK_CHAIN, LINKS_AND_DOTS,
+    EMPTY_BIG_CRAMFS, EMPTY_CRAMFS, HELLO, LINK_AND_DEVICE, LINK_CHAIN, LINKS_AND_DOTS, SAME_NAMES,
 };

@@ -245,3 +245,22 @@ fn many_lists(rt: HostRuntime) -> Result<(), Fail> {
     );
     Ok(())
 }
+
+#[test]
+fn messages(rt: HostRuntime) -> Result<(), Fail> {
+    let shown: [(PlanError, &str); 3] = [
+        (PlanError::OutOfMemory, "out of memory"),
+        (
+            PlanError::Refused { line: 2, number: 3 },
+            "3 NameTooLong at line 2",
+        ),
+        (
+            PlanError::Refused { line: 0, number: 9 },
+            "9 Unknown at line 0",
+        ),
+    ];
+    for (error, text) in shown {
+        assert_eq!(rt; error.to_string(rt.alloc())?.as_str(), text);
+    }
+    Ok(())
+}

@@ -2,17 +2,25 @@
 ghost use Rattle.std.specs.Prelude.{◌≡◌, ◌≤◌, ◌<◌, ℕ, length, map};
 ghost use Rattle.rom_fields.specs.Failures.{Counts};
 ghost use Rattle.rom_fields.specs.Written.{WritesText};
+ghost use Rattle.rom_tree.specs.Tree.{levels};
+ghost use Rattle.image_check.specs.Any.{any_view};
+ghost use Rattle.open_files.specs.Machine.{no_files};
+ghost use Rattle.rom_serve.specs.Machines.{image_machine};
 ghost use Rattle.rom_commands.specs.Answers.{Prints, fault_line};
-ghost use Rattle.rom_commands.specs.Serving.{input_of, serving_of, refusal_of, ServingEnds, serving_status, serving_complaint};
+ghost use Rattle.rom_commands.specs.Serving.{input_of, Answers, serving_of, refusal_of, ServingEnds, serving_status, serving_complaint};
 
 use crate::shown::write_fault_line;
-use image_check::check;
+use image_check::{AnyImage, check};
+use name_cache::{Cached, NoCache};
 use rom_faults::CheckError;
 use rom_fields::bytes::{ByteRead, ByteWrite, Failed};
 use rom_fields::sink::put;
 use rom_serve::{ServeError, serve};
 use rom_tree::types::Limits;
 use std::alloc::Global;
+
+/// How many names the server's cache of look-ups holds.
+const NAMES: usize = 256;
 
 /// How the serving of images ended.
 #[derive(Debug, Clone, Copy, PartialEq, Eq)]
@@ -88,8 +96,29 @@ fn tell_fault<W: ByteWrite>(w: &mut W, number: u32, at: u32) -> Result<(), Faile
     w.flush()
 }
 
+/// Answers the lines of `r` from an image on `w`, through a cache of look-ups where there is memory
+/// for one. Directories of the image may lie 64 deep.
+fn answer_lines<'a, R: ByteRead, W: ByteWrite>(
+    alloc: Global,
+    image: AnyImage<'a>,
+    r: &mut R,
+    w: &mut W,
+) -> Serving
+    requires { levels (any_view image).tree ≤ 65 }
+    ensures { Answers (image_machine (any_view image.entry)) (no_files 64)
+        (input_of (R.remaining r.old) (R.failures r.old))
+        (input_of (R.remaining r.new) (R.failures r.new))
+        (W.output w.old) (W.output w.new) result }
+{
+    match Cached::new(alloc, image, NAMES) {
+        Ok(cached) => ended(serve(cached, r, w)),
+        Err(NoCache { image }) => ended(serve(image, r, w)),
+    }
+}
+
 /// Checks an image under the usual limits, and answers the lines of `r` from its tree on `w`, as
-/// `rom_serve::serve` does. Of an image with a fault the line of the fault is written.
+/// `rom_serve::serve` does. Of an image with a fault the line of the fault is written. What
+/// look-ups answered about 256 names is kept, where there is memory for it.
 pub fn serve_image<R: ByteRead, W: ByteWrite>(
     alloc: Global,
     bytes: &[u8],
@@ -102,7 +131,7 @@ pub fn serve_image<R: ByteRead, W: ByteWrite>(
         (W.output w.old) (W.output w.new) result }
 {
     match check(alloc, bytes, Limits::usual()) {
-        Ok(image) => ended(serve(image, r, w)),
+        Ok(image) => answer_lines(alloc, image, r, w),
         Err(CheckError::Fault { number, at }) => refused(tell_fault(w, number, at)),
         Err(CheckError::OutOfMemory) => Serving::Memory,
     }

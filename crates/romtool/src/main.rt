@@ -1,13 +1,21 @@
-//! `romtool` checks, lists and serves images of read-only file systems.
+//! `romtool` builds, checks, lists and serves images of read-only file systems.
 //!
-//! `romtool check IMAGE` says whether a file holds a sound image, and `romtool list IMAGE` lists
-//! its tree. `romtool serve IMAGE` answers lines from that tree, and `romtool space IMAGE..` from
-//! the trees of several images, with sessions. Without words the example image `hello` is checked
-//! and listed. What is printed and answered is proved in `rom_commands`. The reading of words and
-//! files is only tested.
+//! `romtool build FORMAT MANIFEST OUT` builds an image from a manifest and the files that it names,
+//! and `romtool scan DIR` prints a manifest of a folder. `romtool check IMAGE` says whether a file
+//! holds a sound image, and `romtool list IMAGE` lists its tree. `romtool serve IMAGE` answers lines
+//! from that tree, and `romtool space IMAGE..` from the trees of several images, with sessions.
+//! Without words the example image `hello` is checked and listed. What is printed, answered and
+//! written is proved in `rom_commands`, `build_commands` and `image_build`. The reading of words and
+//! the work with files and folders are only tested.
 #![tactic(auto)]
 
+mod building;
+mod disk;
 mod program;
+mod progress;
+mod scanning;
+mod status;
+mod target;
 mod words;
 
 use std::process::ExitCode;

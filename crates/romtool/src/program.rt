@@ -1,16 +1,16 @@
-//! The program: its words, its files and its standard streams.
-ghost use Rattle.std.specs.Prelude.{◌≡◌, ◌≤◌, IfErr};
+//! The program: what each command does with its words and with the standard streams.
+ghost use Rattle.std.specs.Prelude.{◌≤◌};
 
+use crate::status::{Status, memory, refused, usage};
 use crate::words::{Request, WordsError, read};
+use crate::{building, scanning};
 use rom_commands::hello::hello;
-use rom_commands::printing::{FAULT, complain, print};
+use rom_commands::printing::print;
 use rom_commands::serving::serve_on;
 use rom_commands::several::serve_several_on;
 use rom_fields::bytes::Plain;
 use std::io::BufWriter;
 use std::{env, fs, io};
-
-const USAGE_ERROR: u8 = 2;
 
 /// Does what the words of the command line ask for, and gives the status to end with.
 pub fn run(rt: &HostRuntime) -> u8
@@ -18,21 +18,34 @@ pub fn run(rt: &HostRuntime) -> u8
 {
     let words = match env::args(rt) {
         Ok(words) => words,
-        Err(e) if e.kind() == io::ErrorKind::OutOfMemory => return memory(rt),
-        Err(_) => return usage(rt),
+        Err(e) if e.kind() == io::ErrorKind::OutOfMemory => return memory(rt).code(),
+        Err(_) => return usage(rt).code(),
     };
     let words: Vec<String> = match words.collect(rt.alloc()) {
         Ok(words) => words,
-        Err(_) => return memory(rt),
+        Err(_) => return memory(rt).code(),
     };
     match read(rt.alloc(), words.as_slice()) {
-        Ok(Request::Example) => example(rt),
-        Ok(Request::Check(image)) => file(rt, image, false),
-        Ok(Request::List(image)) => file(rt, image, true),
-        Ok(Request::Serve(image)) => serve(rt, image),
-        Ok(Request::Space(images)) => space(rt, images.as_slice()),
-        Err(WordsError::OutOfMemory) => memory(rt),
-        Err(WordsError::Usage) => usage(rt),
+        Ok(request) => done(rt, request),
+        Err(WordsError::OutOfMemory) => memory(rt).code(),
+        Err(WordsError::Usage) => usage(rt).code(),
+    }
+}
+
+/// Does what is asked for.
+fn done(rt: &HostRuntime, request: Request<'_>) -> u8
+    ensures { result ≤ 3 }
+{
+    match request {
+        Request::Example => example(rt),
+        Request::Check(image) => file(rt, image, false),
+        Request::List(image) => file(rt, image, true),
+        Request::Serve(image) => serve(rt, image),
+        Request::Space(images) => space(rt, images.as_slice()),
+        Request::Build(build) => {
+            building::run(rt, build.format, build.manifest, build.out).code()
+        }
+        Request::Scan(folder) => scanning::run(rt, folder).code(),
     }
 }
 
@@ -49,17 +62,11 @@ fn example(rt: &HostRuntime) -> u8
     }
 }
 
-/// The bytes of a file; or else it is said why there are none, and the program ends with a status.
-fn bytes_of(rt: &HostRuntime, name: &str) -> Result<Vec<u8>, u8>
-    ensures { IfErr result (λ status. status ≡ FAULT) }
-{
+/// The bytes of a file; or else it is said why there are none.
+fn bytes_of(rt: &HostRuntime, name: &str) -> Result<Vec<u8>, Status> {
     match fs::read(rt, name) {
         Ok(bytes) => Ok(bytes),
-        Err(e) if e.kind() == io::ErrorKind::OutOfMemory => Err(memory(rt)),
-        Err(_) => {
-            complain(&mut Plain::new(rt.stderr()), b"file ", name.as_bytes());
-            Err(FAULT)
-        }
+        Err(e) => Err(refused(rt, name.as_bytes(), &e)),
     }
 }
 
@@ -69,7 +76,7 @@ fn file(rt: &HostRuntime, name: &str, listed: bool) -> u8
 {
     match bytes_of(rt, name) {
         Ok(bytes) => print_out(rt, &bytes, listed),
-        Err(status) => status,
+        Err(status) => status.code(),
     }
 }
 
@@ -79,7 +86,7 @@ fn serve(rt: &HostRuntime, name: &str) -> u8
 {
     let bytes = match bytes_of(rt, name) {
         Ok(bytes) => bytes,
-        Err(status) => return status,
+        Err(status) => return status.code(),
     };
     serve_on(
         rt.alloc(),
@@ -91,18 +98,15 @@ fn serve(rt: &HostRuntime, name: &str) -> u8
 }
 
 /// The bytes of some files, each as `bytes_of` gives it.
-fn all_bytes(rt: &HostRuntime, names: &[&str]) -> Result<Vec<Vec<u8>>, u8>
-    ensures { IfErr result (λ status. status ≡ FAULT) }
-{
+fn all_bytes(rt: &HostRuntime, names: &[&str]) -> Result<Vec<Vec<u8>>, Status> {
     let mut files = Vec::new(rt.alloc());
     for name in names {
-        match bytes_of(rt, name) {
-            Ok(bytes) => {
-                if files.push(bytes).is_err() {
-                    return Err(memory(rt));
-                }
-            }
+        let bytes = match bytes_of(rt, name) {
+            Ok(bytes) => bytes,
             Err(status) => return Err(status),
+        };
+        if files.push(bytes).is_err() {
+            return Err(memory(rt));
         }
     }
     Ok(files)
@@ -114,10 +118,10 @@ fn space(rt: &HostRuntime, names: &[&str]) -> u8
 {
     let files = match all_bytes(rt, names) {
         Ok(files) => files,
-        Err(status) => return status,
+        Err(status) => return status.code(),
     };
     if files.is_empty() || files.len() > 8 {
-        return usage(rt);
+        return usage(rt).code();
     }
     serve_several_on(
         rt.alloc(),
@@ -133,7 +137,7 @@ fn print_out(rt: &HostRuntime, bytes: &[u8], listed: bool) -> u8
     ensures { result ≤ 3 }
 {
     let Ok(out) = BufWriter::new(rt.alloc(), io::writer(rt)) else {
-        return memory(rt);
+        return memory(rt).code();
     };
     print(
         rt.alloc(),
@@ -142,18 +146,4 @@ fn print_out(rt: &HostRuntime, bytes: &[u8], listed: bool) -> u8
         &mut Plain::new(out),
         &mut Plain::new(rt.stderr()),
     )
-}
-
-fn memory(rt: &HostRuntime) -> u8
-    ensures { result ≡ FAULT }
-{
-    complain(&mut Plain::new(rt.stderr()), b"memory", b"");
-    FAULT
-}
-
-fn usage(rt: &HostRuntime) -> u8
-    ensures { result ≡ USAGE_ERROR }
-{
-    complain(&mut Plain::new(rt.stderr()), b"usage", b"");
-    USAGE_ERROR
 }

@@ -1,12 +1,14 @@
 //! The words of the command line.
-ghost use Rattle.std.specs.Prelude.{◌≡◌, ◌≢◌, ◌≤◌, ◌↔◌, length, IfSome, Some};
+ghost use Rattle.std.specs.Prelude.{◌≡◌, ◌≢◌, ◌≤◌, ◌↔◌, length, IfSome, IfNone, Some};
 ghost use Rattle.clap.specs.Words.{subcommand_name_of};
-ghost use Rattle.romtool.specs.Words.{word_of};
+ghost use Rattle.plan_misfits.specs.declared.format.Format.{Format};
+ghost use Rattle.romtool.specs.Words.{word_of, format_word};
 ghost use Rattle.romtool.specs.declared.words.Request.TheVariants.{Example};
 
 use arrayvec::ArrayVec;
 use clap::error::ErrorKind;
 use clap::{Arg, ArgMatches, Command};
+use layout_plan::Format;
 use std::alloc::{AllocError, Global};
 
 /// What the words ask for.
@@ -22,6 +24,18 @@ pub enum Request<'a> {
     Serve(&'a str),
     /// To serve the images in these files, one to eight.
     Space(ArrayVec<&'a str, 8>),
+    /// To build an image.
+    Build(Build<'a>),
+    /// To print a manifest of this folder.
+    Scan(&'a str),
+}
+
+/// A build: of the manifest in one file into another one, in this format.
+#[derive(Debug, Clone, Copy)]
+pub struct Build<'a> {
+    pub format: Format,
+    pub manifest: &'a str,
+    pub out: &'a str,
 }
 
 /// Why words ask for nothing.
@@ -39,9 +53,17 @@ impl From<AllocError> for WordsError {
     }
 }
 
-/// A subcommand with an image.
-fn with_image<'a>(alloc: Global, name: &'a str) -> Result<Command<'a>, AllocError> {
-    Command::new(alloc, name).arg(Arg::new(alloc, "image").required(true))
+/// A subcommand with these values, each of which has to be given.
+fn with_values<'a>(
+    alloc: Global,
+    name: &'a str,
+    values: &[&'a str],
+) -> Result<Command<'a>, AllocError> {
+    let mut command = Command::new(alloc, name);
+    for value in values {
+        command = command.arg(Arg::new(alloc, value).required(true))?;
+    }
+    Ok(command)
 }
 
 /// A subcommand with one to eight images.
@@ -52,10 +74,34 @@ fn with_images<'a>(alloc: Global, name: &'a str) -> Result<Command<'a>, AllocErr
 
 fn command<'a>(alloc: Global) -> Result<Command<'a>, AllocError> {
     Command::new(alloc, "romtool")
-        .subcommand(with_image(alloc, "check")?)?
-        .subcommand(with_image(alloc, "list")?)?
-        .subcommand(with_image(alloc, "serve")?)?
-        .subcommand(with_images(alloc, "space")?)
+        .subcommand(with_values(alloc, "check", &["image"])?)?
+        .subcommand(with_values(alloc, "list", &["image"])?)?
+        .subcommand(with_values(alloc, "serve", &["image"])?)?
+        .subcommand(with_images(alloc, "space")?)?
+        .subcommand(with_values(alloc, "build", &["format", "manifest", "out"])?)?
+        .subcommand(with_values(alloc, "scan", &["folder"])?)
+}
+
+/// The format that a word names.
+fn format_named(word: &str) -> Option<Format>
+    ensures some { IfSome result (λ f. word.now ≡ format_word f) }
+    ensures none { IfNone result ((f : Format) → word.now ≢ format_word f) }
+{
+    match word {
+        "romfs" => Some(Format::Romfs),
+        "cramfs" => Some(Format::Cramfs),
+        "cramfs-be" => Some(Format::CramfsBig),
+        _ => None,
+    }
+}
+
+/// The build that is asked for.
+fn build_of<'a>(values: &ArgMatches<'a>) -> Option<Build<'a>> {
+    Some(Build {
+        format: format_named(values.get_str("format")?)?,
+        manifest: values.get_str("manifest")?,
+        out: values.get_str("out")?,
+    })
 }
 
 /// Up to eight names.
@@ -80,6 +126,8 @@ fn chosen<'a>(matches: &ArgMatches<'a>) -> Option<Request<'a>>
         "list" => Some(Request::List(values.get_str("image")?)),
         "serve" => Some(Request::Serve(values.get_str("image")?)),
         "space" => Some(Request::Space(few(values.get_strs("image")?)?)),
+        "build" => Some(Request::Build(build_of(values)?)),
+        "scan" => Some(Request::Scan(values.get_str("folder")?)),
         _ => None,
     }
 }

@@ -1,24 +1,17 @@
 use Rattle.std.proofs.Common.{◌≡◌, inl, inr, subst, sym}
 use Rattle.image_check.specs.declared.any.AnyImage.{AnyImage}
 use Rattle.image_check.specs.Any.{any_view}
-use Rattle.open_files.specs.Machine.{no_files}
-use Rattle.rom_serve.specs.Machines.{image_machine}
 use Rattle.rom_commands.specs.Answers.{usual_limits, fault_line, IsFaultText}
-use Rattle.rom_commands.specs.Serving.{Input, input_of, Answers, Refuses}
+use Rattle.rom_commands.specs.Serving.{Input, input_of, Refuses}
 use Rattle.rom_commands.proofs.Texts.{usual, held, faulty}
-use Rattle.rom_commands.proofs.Endings.{answers_by, refuses_by}
+use Rattle.rom_commands.proofs.Endings.{refuses_by}
 use Rattle.rom_commands.proofs.serving.serve_image.Goals as goal
 
 pub returns-in-Ok : goal.returns-in-Ok
 returns-in-Ok g c =
     let v : AnyImage = c.in-Ok.image in
-    let r₀ : Input = input_of (g.R.ByteRead.remaining c.args.r.now) (g.R.ByteRead.failures c.args.r.now) in
-    let r : Input = input_of (g.R.ByteRead.remaining c.serve.new.r) (g.R.ByteRead.failures c.serve.new.r) in
-    let w₀ = g.W.ByteWrite.output c.args.w.now in
-    let w = g.W.ByteWrite.output c.serve.new.w in
     let e : c.usual.result ≡ usual_limits = usual c.usual.result c.usual.ensures.references c.usual.ensures.depth in
-    let a = answers_by (image_machine (any_view v)) (no_files 64) r₀ r w₀ w c.serve.result c.serve.ensures.ok c.serve.ensures.quiet c.serve.ensures.read_fault c.serve.ensures.write_fault c.serve.ensures.too_many in
-    inl (any_view v, held c.args.bytes.now c.usual.result v e c.in-Ok.ensures.ok c.in-Ok.ensures.clean, subst (λ o. Answers (image_machine (any_view v)) (no_files 64) r₀ r w₀ w o) (sym c.ended.ensures) a)
+    inl (any_view v, held c.args.bytes.now c.usual.result v e c.in-Ok.ensures.ok c.in-Ok.ensures.clean, c.answer_lines.ensures)
 
 pub returns-in-Err-Fault : goal.returns-in-Err-Fault
 returns-in-Err-Fault g c =
@@ -29,4 +22,4 @@ returns-in-Err-Fault g c =
     let w = g.W.ByteWrite.output c.tell_fault.new.w in
     let e : c.usual.result ≡ usual_limits = usual c.usual.result c.usual.ensures.references c.usual.ensures.depth in
     let h : IsFaultText c.args.bytes.now (fault_line n at) = faulty c.args.bytes.now c.usual.result n at e (rw c.in-Err-Fault.field-0-is at c.in-Err-Fault.ensures.fault) (rw c.in-Err-Fault.field-0-is at c.in-Err-Fault.ensures.least) in
-    inr (subst (λ o. Refuses (IsFaultText c.args.bytes.now) r₀ r₀ w₀ w o) (sym c.refused.ensures) (refuses_by (IsFaultText c.args.bytes.now) r₀ w₀ w (fault_line n at) c.tell_fault.result h c.tell_fault.ensures.text c.tell_fault.ensures.count))
+    inr (subst (λ o. Refuses (IsFaultText c.args.bytes.now) r₀ r₀ w₀ w o) (sym c.refused.ensures) (refuses_by (IsFaultText c.args.bytes.now) r₀ w₀ w (fault_line n at) c.tell_fault.result h (rw c.in-Err-Fault.number-is at (rw c.in-Err-Fault.at-is at c.tell_fault.ensures.text)) c.tell_fault.ensures.count))

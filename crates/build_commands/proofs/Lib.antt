@@ -1,0 +1,3 @@
+mod Flushed
+mod Scans
+mod Served

@@ -1,0 +1,21 @@
+-- What is printed of a build. (This project's own.)
+use Rattle.std.specs.Prelude.{ℕ, List, ◌++◌, codes, decimal}
+use Rattle.layout_plan.specs.Errors.{name_of_refusal}
+use Rattle.manifest.specs.Errors.{name_of_fault}
+
+-- ok LENGTH, and a line feed
+unfoldable pub built_line : ℕ → List ℕ
+built_line len = codes "ok " ++ (decimal len ++ codes "\n")
+
+-- WHO LINE NUMBER NAME, and a line feed
+unfoldable pub refusal_line : List ℕ → ℕ → ℕ → List ℕ → List ℕ
+refusal_line who line number name =
+    who ++ (codes " " ++ (decimal line ++ (codes " " ++ (decimal number ++ (codes " " ++ (name ++ codes "\n"))))))
+
+-- of a text that is no manifest: its first faulty line, and there the least fault
+abbrev pub manifest_line : ℕ → ℕ → List ℕ
+manifest_line line number = refusal_line (codes "manifest") line number (name_of_fault number)
+
+-- of a manifest that does not fit: the line of its least misfit, 0 for the whole, and the misfit
+abbrev pub misfit_line : ℕ → ℕ → List ℕ
+misfit_line line number = refusal_line (codes "plan") line number (name_of_refusal number)

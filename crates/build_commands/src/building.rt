@@ -1,0 +1,112 @@
+//! What is printed of a build: its line, flushed.
+ghost use Rattle.std.specs.Prelude.{decimal};
+ghost use Rattle.build_commands.specs.Told.{built_line, manifest_line, misfit_line, refusal_line};
+ghost use Rattle.rom_fields.specs.Failures.{Counts};
+ghost use Rattle.rom_fields.specs.Written.{Puts, WritesText, sink};
+
+use itoa::Buffer;
+use rom_fields::bytes::{ByteWrite, Failed};
+use rom_fields::sink::put;
+use rom_fields::text::put_decimal;
+
+/// Puts a number in decimal digits.
+fn put_number<W: ByteWrite>(w: &mut W, failed: &mut bool, n: u64)
+    ensures { Puts (sink (W.output w.old) failed.old) (sink (W.output w.new) failed.new)
+        (decimal n) }
+{
+    let mut buffer = Buffer::new();
+    put(w, failed, buffer.format(n).as_bytes());
+}
+
+/// Writes the line of a built image.
+fn write_built_line<W: ByteWrite>(w: &mut W, len: u64) -> Result<(), Failed>
+    ensures text { WritesText (W.output w.old).contents (W.output w.new).contents result
+        (built_line len) }
+    ensures count { Counts (W.output w.old).failures (W.output w.new).failures result }
+{
+    let mut failed = false;
+    put(w, &mut failed, b"ok ");
+    put_number(w, &mut failed, len);
+    put(w, &mut failed, b"\n");
+    if failed { Err(Failed) } else { Ok(()) }
+}
+
+/// Writes the line of a refusal: who refused, the line, and the refusal's number and name.
+fn write_refusal_line<W: ByteWrite>(
+    w: &mut W,
+    who: &[u8],
+    line: u64,
+    number: u32,
+    name: &[u8],
+) -> Result<(), Failed>
+    ensures text { WritesText (W.output w.old).contents (W.output w.new).contents result
+        (refusal_line who.now line number name.now) }
+    ensures count { Counts (W.output w.old).failures (W.output w.new).failures result }
+{
+    let mut failed = false;
+    put(w, &mut failed, who);
+    put(w, &mut failed, b" ");
+    put_number(w, &mut failed, line);
+    put(w, &mut failed, b" ");
+    put_decimal(w, &mut failed, number);
+    put(w, &mut failed, b" ");
+    put(w, &mut failed, name);
+    put(w, &mut failed, b"\n");
+    if failed { Err(Failed) } else { Ok(()) }
+}
+
+/// Writes `ok LENGTH`: the image of so many bytes was built. Flushes it.
+///
+/// # Errors
+///
+/// A write or the flush failed; a prefix of the line was written.
+pub fn tell_built<W: ByteWrite>(w: &mut W, len: u64) -> Result<(), Failed>
+    ensures text { WritesText (W.output w.old).contents (W.output w.new).contents result
+        (built_line len) }
+    ensures count { Counts (W.output w.old).failures (W.output w.new).failures result }
+{
+    write_built_line(w, len)?;
+    w.flush()
+}
+
+/// Writes `manifest LINE NUMBER NAME`: the text is no manifest, and this is its first faulty line,
+/// and there the least fault, as `ManifestError` says. Flushes it.
+///
+/// # Errors
+///
+/// A write or the flush failed; a prefix of the line was written.
+pub fn tell_bad_manifest<W: ByteWrite>(w: &mut W, line: u64, number: u32) -> Result<(), Failed>
+    ensures text { WritesText (W.output w.old).contents (W.output w.new).contents result
+        (manifest_line line number) }
+    ensures count { Counts (W.output w.old).failures (W.output w.new).failures result }
+{
+    write_refusal_line(
+        w,
+        b"manifest",
+        line,
+        number,
+        manifest::name(number).as_bytes(),
+    )?;
+    w.flush()
+}
+
+/// Writes `plan LINE NUMBER NAME`: the manifest does not fit the format, and this is the line of
+/// its least misfit, 0 for the whole, and the misfit, as `PlanError` says. Flushes it.
+///
+/// # Errors
+///
+/// A write or the flush failed; a prefix of the line was written.
+pub fn tell_misfit<W: ByteWrite>(w: &mut W, line: u64, number: u32) -> Result<(), Failed>
+    ensures text { WritesText (W.output w.old).contents (W.output w.new).contents result
+        (misfit_line line number) }
+    ensures count { Counts (W.output w.old).failures (W.output w.new).failures result }
+{
+    write_refusal_line(
+        w,
+        b"plan",
+        line,
+        number,
+        layout_plan::name(number).as_bytes(),
+    )?;
+    w.flush()
+}

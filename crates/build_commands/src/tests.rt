@@ -1,0 +1,95 @@
+use crate::building::{tell_bad_manifest, tell_built, tell_misfit};
+use crate::scanning::{put_directory_line, put_file_line};
+use image_build::{BuildError, build_cramfs, build_cramfs_big, build_romfs};
+use manifest::{Word, parse};
+use rom_commands::serving::{Serving, serve_image};
+use rom_fields::bytes::{Failed, Plain};
+use rom_fields::contents::Contents;
+use rom_fields::faulty::Faulty;
+use std::alloc::{AllocError, Global};
+use std::test::Fail;
+
+/// A folder and a file of five bytes in it.
+const TEXT: &[u8] = b"dir /d 0755 0 0\nfile /d/a 0644 0 0 4 s\n";
+
+const LINES: &[u8] = b"open /d/a\nread 0 9\nopen /e\n";
+
+const REPLIES: &[u8] = b"ok 0\nok 5 68656c6c6f\nerr ENOENT\n";
+
+/// What is answered to the lines, from an image.
+fn replies(alloc: Global, image: &[u8]) -> (Serving, Vec<u8>) {
+    let mut r = Plain::new(LINES);
+    let mut w = Plain::new(Vec::new(alloc));
+    let serving = serve_image(alloc, image, &mut r, &mut w);
+    (serving, w.into_inner())
+}
+
+#[test]
+fn a_built_image_is_served(rt: HostRuntime) -> Result<(), Fail> {
+    let mut contents = Contents::new(rt.alloc());
+    contents.add(b"hello")?;
+    let built: [Result<Vec<u8>, BuildError>; 3] = [
+        build_romfs(rt.alloc(), TEXT, &contents),
+        build_cramfs(rt.alloc(), TEXT, &contents),
+        build_cramfs_big(rt.alloc(), TEXT, &contents),
+    ];
+    for image in built {
+        let Ok(image) = image else {
+            return Err(AllocError.into());
+        };
+        let (serving, text) = replies(rt.alloc(), &image);
+        assert_eq!(rt; serving, Serving::Served);
+        assert_eq!(rt; text.as_slice(), REPLIES);
+    }
+    Ok(())
+}
+
+#[test]
+fn lines_of_a_build(rt: HostRuntime) -> Result<(), Fail> {
+    let mut w = Plain::new(Vec::new(rt.alloc()));
+    assert_eq!(rt; tell_built(&mut w, 4096), Ok(()));
+    assert_eq!(rt; tell_bad_manifest(&mut w, 18446744073709551615, 5), Ok(()));
+    assert_eq!(rt; tell_misfit(&mut w, 0, 2), Ok(()));
+    let held: Vec<u8> = w.into_inner();
+    let text: &[u8] = b"ok 4096\nmanifest 18446744073709551615 5 Exists\nplan 0 2 TooLarge\n";
+    assert_eq!(rt; held.as_slice(), text);
+    Ok(())
+}
+
+#[test]
+fn a_failed_write_ends_a_line(rt: HostRuntime) -> Result<(), Fail> {
+    // `ok 7` and a line feed by one byte a call, and the flush
+    for calls in 0..7u64 {
+        let mut w = Faulty::new(Plain::new(Vec::new(rt.alloc())), calls, 1);
+        let told = tell_built(&mut w, 7);
+        assert_eq!(rt; told, if calls < 6 { Err(Failed) } else { Ok(()) });
+        let held: Vec<u8> = w.into_inner().into_inner();
+        let front: &[u8] = b"ok 7\n";
+        assert_eq!(rt; Some(held.as_slice()), front.get(..held.len()));
+    }
+    Ok(())
+}
+
+#[test]
+fn lines_of_a_scan(rt: HostRuntime) -> Result<(), Fail> {
+    let mut w = Plain::new(Vec::new(rt.alloc()));
+    assert_eq!(rt; put_directory_line(&mut w, b"/a b"), Ok(()));
+    assert_eq!(rt;
+        put_file_line(&mut w, b"/a b/\xe9%", b"./a b/\xe9%\n"),
+        Ok(())
+    );
+    let held: Vec<u8> = w.into_inner();
+    let text: &[u8] = b"dir /a%20b 0755 0 0\nfile /a%20b/%E9%25 0644 0 0 4 ./a%20b/%E9%25%0A\n";
+    assert_eq!(rt; held.as_slice(), text);
+    let manifest = parse(rt.alloc(), &held)?;
+    let lines = manifest.lines();
+    assert_eq!(rt; lines.len(), 2);
+    assert_eq!(rt; lines[0].word, Word::Dir);
+    assert_eq!(rt; lines[1].path.as_bytes(), b"/a b/\xe9%".as_slice());
+    assert_eq!(rt; lines[1].text.as_bytes(), b"./a b/\xe9%\n".as_slice());
+    let mut w = Faulty::new(Plain::new(Vec::new(rt.alloc())), 2, 3);
+    assert_eq!(rt; put_file_line(&mut w, b"/a", b"a"), Err(Failed));
+    let held: Vec<u8> = w.into_inner().into_inner();
+    assert_eq!(rt; held.as_slice(), b"file ".as_slice());
+    Ok(())
+}

@@ -1,0 +1,28 @@
+-- What streams into a writer, in each format. (This project's own.)
+use Rattle.std.specs.Prelude.{◌≡◌, ℕ, List, length, Ok}
+use Rattle.crc.specs.Crc.{crc_of}
+use Rattle.cramfs_write.specs.Form as in_cramfs
+use Rattle.image_stream.specs.Segments.{Form}
+use Rattle.image_stream.specs.WordSums.{balance_of}
+use Rattle.layout_plan.specs.Plans.{Planned, IsPlanOf}
+use Rattle.manifest.specs.Grammar.{manifest_of}
+use Rattle.manifest.specs.Lines.{ManifestLines, sources_of}
+use Rattle.misfits.specs.Format.{Format, romfs, cramfs}
+use Rattle.romfs_write.specs.Form as in_romfs
+
+-- the text is a manifest, and this is its plan, with a size for each source
+pub record IsPlanOfText (text : List ℕ) (p : Planned) : Type 0 where
+  pub lines : ManifestLines
+  pub manifest : manifest_of text ≡ Ok lines
+  pub count : length p.sizes ≡ length (sources_of lines.lines)
+  pub planned : IsPlanOf p.format lines p.sizes p
+
+-- the image of a plan, before the contents of its files are known
+abbrev pub form_in : Format → Planned → Form
+form_in romfs p = in_romfs.form_of p
+form_in (cramfs o) p = in_cramfs.form_of o p
+
+-- the check value that the superblock stores: of romfs the balance of its words, of cramfs the CRC-32
+abbrev pub stored_in : Format → List ℕ → ℕ
+stored_in romfs = balance_of
+stored_in (cramfs o) = crc_of

@@ -1,0 +1,18 @@
+use Rattle.std.proofs.Common.{refl}
+use Rattle.rom_tree.proofs.Named.{has_node, has_directory, start_cursor}
+use Rattle.rom_tree_examples.specs.Sample.{bin, sh, deep, tty}
+use Rattle.rom_tree_examples.specs.SampleLaws.{sample}
+use Rattle.rom_tree_examples.proofs.Answering.{node2, node3, node4, node8}
+use Rattle.name_cache.proofs.tests.the_other_calls.Goals as goal
+
+pub stat-requires : goal.stat-requires
+stat-requires g c κs = ((refl, tt), has_node sample 8 tty node8)
+
+pub is_directory_at-requires : goal.is_directory_at-requires
+is_directory_at-requires g c κs = ((refl, tt), has_node sample 4 deep node4)
+
+pub entry-requires : goal.entry-requires
+entry-requires g c κs = ((refl, tt), (has_directory sample 2 bin node2 refl, start_cursor sample 2))
+
+pub run-requires : goal.run-requires
+run-requires g c κs = ((refl, tt), has_node sample 3 sh node3)

@@ -1,0 +1,311 @@
+#!/usr/bin/env python3
+"""Builds images from folders and manifests, and looks at them as who uses them does.
+
+    build.py [--binary PATH] [--name TEXT]
+
+A folder is scanned, built in each format, checked, listed, and served to a client that reads each file
+byte by byte. Then building is made to fail: sources that are not as long as the system says, that
+change while they are read, a file system that takes no more. The last line is `N passed, M failed`, with
+`, K skipped` where something is missing.
+"""
+
+import contextlib
+import os
+import resource
+import signal
+import socket
+import subprocess
+import sys
+import tempfile
+import threading
+
+from client import escaped, wrong_image
+from harness import SECONDS, Counts, parser, program_of
+
+FORMATS = ("romfs", "cramfs", "cramfs-be")
+FILES = {
+    b"etc/motd": b"hello\n",
+    b"etc/empty": b"",
+    b"etc.conf": bytes(range(256)) * 17,
+    b"bin/init": b"#!/bin/sh\n" * 1000,
+    b"bin/sub/deep/er": b"x",
+    b"a b%c": b"spaced",
+    "caf\u00e9/na\u00efve".encode(): bytes(4096),
+    b"n" * 200: bytes(4097),
+}
+FOLDERS = (b"none", b"bin/none")
+
+
+def run(binary, *words, **more):
+    """The finished program."""
+    return subprocess.run([binary, *words], stdout=subprocess.PIPE, stderr=subprocess.PIPE, timeout=SECONDS, **more)
+
+
+def answer(done):
+    """What a run printed, and its status."""
+    return done.stdout, done.stderr, done.returncode
+
+
+def put(name, content):
+    """Writes a file of the current folder."""
+    with open(name, "wb") as file:
+        file.write(content)
+
+
+def bytes_in(name):
+    """The bytes of a file."""
+    with open(name, "rb") as file:
+        return file.read()
+
+
+def lay_out():
+    """Makes the folder that is scanned, with what a scan passes over."""
+    for name in FOLDERS:
+        os.makedirs(b"in/" + name)
+    for name, content in FILES.items():
+        os.makedirs(os.path.dirname(b"in/" + name), exist_ok=True)
+        put(b"in/" + name, content)
+    os.symlink("etc/motd", "in/link")
+    os.mkfifo("in/pipe")
+    with socket.socket(socket.AF_UNIX) as bound:
+        bound.bind("in/socket")
+
+
+def below():
+    """The paths of folders and of files below the folder, in the order of a scan."""
+    folders = set(FOLDERS)
+    for name in [*FILES, *FOLDERS]:
+        while name := os.path.dirname(name):
+            folders.add(name)
+    return sorted([(b"/" + name, True) for name in folders] + [(b"/" + name, False) for name in FILES])
+
+
+def manifest():
+    """What a scan of the folder prints."""
+    for path, is_folder in below():
+        name = escaped(path)
+        yield b"dir %s 0755 0 0\n" % name if is_folder else b"file %s 0644 0 0 4 in%s\n" % (name, name)
+
+
+def without_numbers(listed):
+    """The lines of a list, sorted, without the numbers of nodes."""
+    return sorted(line.split(b" ", 1)[1] for line in listed.splitlines())
+
+
+def wanted_list():
+    """The lines of each image of the folder, without the numbers of nodes."""
+    lines = [b"d 0755 0 0 0 0 0 /"]
+    for path, is_folder in below():
+        if is_folder:
+            lines.append(b"d 0755 0 0 0 0 0 " + escaped(path))
+        else:
+            lines.append(b"f 0644 0 0 %d 0 0 %s" % (len(FILES[path[1:]]), escaped(path)))
+    return sorted(lines)
+
+
+def scan_is_manifest(binary):
+    """A scan prints the manifest of the folder."""
+    lay_out()
+    done = run(binary, "scan", "in")
+    if answer(done) != (b"".join(manifest()), b"", 0):
+        yield "%r" % (answer(done),)
+
+
+def folder_is_built(binary):
+    """The manifest is built in each format; the image is accepted, listed and served as the folder."""
+    lay_out()
+    put("manifest", b"".join(manifest()))
+    for format in FORMATS:
+        built = run(binary, "build", format, "manifest", "image")
+        size = os.path.getsize("image") if os.path.exists("image") else 0
+        if answer(built) != (b"ok %d\n" % size, b"", 0):
+            yield "%s: build: %r" % (format, answer(built))
+            continue
+        checked = run(binary, "check", "image")
+        if checked.returncode or not checked.stdout.startswith(b"ok %s " % format.encode()):
+            yield "%s: check: %r" % (format, answer(checked))
+        listed = run(binary, "list", "image").stdout
+        if without_numbers(listed) != wanted_list():
+            yield "%s: list: %r" % (format, listed)
+        yield from ("%s: %s" % (format, line) for line in wrong_image(binary, "image", listed))
+        yield from ("%s: %s" % (format, line) for line in wrong_contents(binary, listed))
+        run(binary, "build", format, "manifest", "again")
+        if bytes_in("image") != bytes_in("again"):
+            yield "%s: two builds differ" % format
+        os.remove("image")
+
+
+def wrong_contents(binary, listed):
+    """What is wrong in the contents that are lent, as against the folder's."""
+    for path in (line.split(b" ")[8] for line in listed.splitlines() if line.split(b" ")[1] == b"f"):
+        told = run(binary, "serve", "image", input=b"open %s\n" % path + b"lend 0 4294967295\n" * 8).stdout
+        got = b"".join(
+            bytes.fromhex(line.split(b" ")[3].decode()) for line in told.splitlines()[1:] if not line.endswith(b"-")
+        )
+        name = next(name for name in FILES if escaped(b"/" + name) == path)
+        if got != FILES[name]:
+            yield "%r: %d bytes were lent, of other contents" % (path, len(got))
+
+
+def refused(binary, line, out="out", **more):
+    """What is wrong where a build into a file that is there is to end with a line and status 3."""
+    put("out", b"as it was")
+    for format in FORMATS:
+        done = run(binary, "build", format, "manifest", out, **more)
+        if answer(done) != (b"", line + b"\n", 3):
+            yield "%s: %r, expected %r" % (format, answer(done), line)
+        if bytes_in("out") != b"as it was":
+            yield "%s: OUT was written" % format
+        left = [name for name in os.listdir(".") if name.endswith(".part")]
+        if left:
+            yield "%s: %s was left" % (format, left[0])
+
+
+def source_is_longer(binary):
+    """A source has more bytes than the system says, as one that grows."""
+    put("manifest", b"file /a 0644 0 0 4 manifest\nfile /b 0644 0 0 4 /proc/version\n")
+    yield from refused(binary, b"file /proc/version")
+
+
+def source_is_shorter(binary):
+    """A source has fewer bytes than the system says, as one that is cut."""
+    name = b"/sys/kernel/mm/transparent_hugepage/enabled"
+    if not os.path.exists(name):
+        yield None
+        return
+    put("manifest", b"file /a 0644 0 0 4 %s\n" % name)
+    yield from refused(binary, b"file " + name)
+
+
+@contextlib.contextmanager
+def changing(name):
+    """A file that has other bytes each time it is read."""
+    going = True
+
+    def change():
+        with open(name, "r+b", buffering=0) as file:
+            while going:
+                for at in range(0, 2**21, 2**18):
+                    os.pwrite(file.fileno(), os.urandom(8), at)
+
+    thread = threading.Thread(target=change)
+    thread.start()
+    try:
+        yield
+    finally:
+        going = False
+        thread.join()
+
+
+def source_changes(binary):
+    """The contents of a source change while they are read, and the stored sum is not theirs."""
+    put("source", bytes(2**21))
+    put("manifest", b"file /a 0644 0 0 4 source\n")
+    put("out", b"as it was")
+    with changing("source"):
+        for format in ("cramfs", "cramfs-be"):
+            done = run(binary, "build", format, "manifest", "out")
+            if answer(done) != (b"", b"changed\n", 3):
+                yield "%s: %r" % (format, answer(done))
+            if bytes_in("out") != b"as it was" or os.path.exists("out.0.part"):
+                yield "%s: something was written" % format
+
+
+def small_files():
+    """Makes each file that a program writes at most 6,000 bytes long."""
+    signal.signal(signal.SIGXFSZ, signal.SIG_IGN)
+    resource.setrlimit(resource.RLIMIT_FSIZE, (6000, 6000))
+
+
+def file_system_is_full(binary):
+    """The file system takes a part of the image and no more."""
+    put("source", bytes(20000))
+    put("manifest", b"file /a 0644 0 0 4 source\n")
+    yield from refused(binary, b"file out", preexec_fn=small_files, restore_signals=False)
+
+
+def device_is_full(binary):
+    """OUT is a device that takes nothing."""
+    put("manifest", b"")
+    yield from refused(binary, b"file /dev/full", out="/dev/full")
+
+
+def out_is_a_pipe(binary):
+    """OUT is no regular file: it is written straight."""
+    put("source", b"hello")
+    put("manifest", b"file /a 0644 0 0 4 source\n")
+    run(binary, "build", "romfs", "manifest", "image")
+    os.mkfifo("pipe")
+    with subprocess.Popen([binary, "build", "romfs", "manifest", "pipe"], stdout=subprocess.PIPE) as built:
+        got = bytes_in("pipe")
+        told = built.communicate(timeout=SECONDS)[0]
+    if got != bytes_in("image") or told != b"ok 1024\n":
+        yield "%d bytes, %r" % (len(got), told)
+
+
+def permissions_are_kept(binary):
+    """An image that takes the place of a file has its permissions."""
+    put("manifest", b"")
+    for mode in (0o600, 0o755):
+        put("out", b"")
+        os.chmod("out", mode)
+        run(binary, "build", "romfs", "manifest", "out")
+        if os.stat("out").st_mode & 0o777 != mode or os.path.getsize("out") != 1024:
+            yield "%o" % os.stat("out").st_mode
+
+
+def nothing_on_a_pipe(binary):
+    """How far a long build is, is not said where standard error is no terminal."""
+    with open("source", "wb") as file:
+        file.truncate(70 * 2**20)
+    put("manifest", b"file /a 0644 0 0 4 source\n")
+    done = run(binary, "build", "romfs", "manifest", "out")
+    if answer(done) != (b"ok %d\n" % os.path.getsize("out"), b"", 0):
+        yield "%r" % (answer(done),)
+
+
+def progress_on_a_terminal(binary):
+    """It is said where standard error is one, and wiped out at the end."""
+    with open("source", "wb") as file:
+        file.truncate(70 * 2**20)
+    put("manifest", b"file /a 0644 0 0 4 source\n")
+    ours, theirs = os.openpty()
+    done = subprocess.run(
+        [binary, "build", "romfs", "manifest", "out"], stdout=subprocess.PIPE, stderr=theirs, timeout=SECONDS
+    )
+    os.close(theirs)
+    told = os.read(ours, 65536)
+    os.close(ours)
+    if done.returncode or b"\r50 %" not in told or not told.endswith(b"\r      \r"):
+        yield "%d, %r" % (done.returncode, told[-200:])
+
+
+TESTS = [
+    scan_is_manifest, folder_is_built, source_is_longer, source_is_shorter, source_changes, file_system_is_full,
+    device_is_full, out_is_a_pipe, permissions_are_kept, nothing_on_a_pipe, progress_on_a_terminal,
+]  # fmt: skip
+
+
+def main():
+    reader = parser("Build images from folders and manifests.")
+    reader.add_argument("--name", default="", help="the tests alone whose name has this text")
+    arguments = reader.parse_args()
+    binary, counts = program_of(arguments), Counts()
+    for test in TESTS:
+        if arguments.name not in test.__name__:
+            continue
+        with tempfile.TemporaryDirectory(prefix="romtool-") as top:
+            os.chdir(top)
+            wrong = list(test(binary))
+            os.chdir("/")
+        if wrong == [None]:
+            counts.skips(test.__name__)
+        elif wrong:
+            counts.fails(test.__name__, wrong)
+        else:
+            counts.passes()
+    return counts.close()
+
+
+if __name__ == "__main__":
+    sys.exit(main())
