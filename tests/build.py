@@ -23,6 +23,7 @@ from client import escaped, wrong_image
 from harness import SECONDS, Counts, parser, program_of
 
 FORMATS = ("romfs", "cramfs", "cramfs-be")
+TIMES = 50  # that a build is tried until what it reads changes
 FILES = {
     b"etc/motd": b"hello\n",
     b"etc/empty": b"",
@@ -163,6 +164,9 @@ def refused(binary, line, out="out", **more):
 
 def source_is_longer(binary):
     """A source has more bytes than the system says, as one that grows."""
+    if not os.path.exists("/proc/version"):
+        yield None
+        return
     put("manifest", b"file /a 0644 0 0 4 manifest\nfile /b 0644 0 0 4 /proc/version\n")
     yield from refused(binary, b"file /proc/version")
 
@@ -198,13 +202,19 @@ def changing(name):
 
 
 def source_changes(binary):
-    """The contents of a source change while they are read, and the stored sum is not theirs."""
+    """The contents of a source change while they are read, and the stored sum is not theirs.
+
+    Where the source happens to stay as it is between two readings, the image is whole, and is built anew.
+    """
     put("source", bytes(2**21))
     put("manifest", b"file /a 0644 0 0 4 source\n")
-    put("out", b"as it was")
     with changing("source"):
         for format in ("cramfs", "cramfs-be"):
-            done = run(binary, "build", format, "manifest", "out")
+            for _ in range(TIMES):
+                put("out", b"as it was")
+                done = run(binary, "build", format, "manifest", "out")
+                if done.returncode:
+                    break
             if answer(done) != (b"", b"changed\n", 3):
                 yield "%s: %r" % (format, answer(done))
             if bytes_in("out") != b"as it was" or os.path.exists("out.0.part"):
@@ -236,11 +246,12 @@ def out_is_a_pipe(binary):
     put("manifest", b"file /a 0644 0 0 4 source\n")
     run(binary, "build", "romfs", "manifest", "image")
     os.mkfifo("pipe")
-    with subprocess.Popen([binary, "build", "romfs", "manifest", "pipe"], stdout=subprocess.PIPE) as built:
-        got = bytes_in("pipe")
-        told = built.communicate(timeout=SECONDS)[0]
-    if got != bytes_in("image") or told != b"ok 1024\n":
-        yield "%d bytes, %r" % (len(got), told)
+    reader = os.open("pipe", os.O_RDONLY | os.O_NONBLOCK)
+    done = run(binary, "build", "romfs", "manifest", "pipe")
+    got = os.read(reader, 2048)
+    os.close(reader)
+    if got != bytes_in("image") or answer(done) != (b"ok 1024\n", b"", 0):
+        yield "%d bytes, %r" % (len(got), answer(done))
 
 
 def permissions_are_kept(binary):
@@ -269,7 +280,11 @@ def progress_on_a_terminal(binary):
     with open("source", "wb") as file:
         file.truncate(70 * 2**20)
     put("manifest", b"file /a 0644 0 0 4 source\n")
-    ours, theirs = os.openpty()
+    try:
+        ours, theirs = os.openpty()
+    except OSError:
+        yield None
+        return
     done = subprocess.run(
         [binary, "build", "romfs", "manifest", "out"], stdout=subprocess.PIPE, stderr=theirs, timeout=SECONDS
     )
