@@ -13,8 +13,8 @@ use Rattle.misfits.specs.Format.{Format, cramfs}
 use Rattle.misfits.specs.Misfit.{HasNoMisfit}
 use Rattle.misfits.proofs.Sourced.{align_of, sourced}
 use Rattle.layout_plan.specs.Plans.{Planned, IsPlan, IsPlanOf}
-use Rattle.romfs_write.proofs.Facts.{Fitting, zeros, lengths}
-use Rattle.romfs_write.proofs.Sources.{sizes_small}
+use Rattle.layout_plan.proofs.Sized.{Fitting, zeros, lengths}
+use Rattle.layout_plan.proofs.SourceSizes.{sizes_small}
 use Rattle.cramfs_write.specs.Known.{IsCramfsPlan}
 use Rattle.cramfs_write.proofs.Means.{items_are, planned, planned_is}
 use Rattle.cramfs_write.proofs.Sections.{IsPart, are_parts}

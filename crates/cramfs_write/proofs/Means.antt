@@ -21,9 +21,8 @@ use Rattle.cramfs_layout.specs.Items.{AreAlignedBy, entries, below, items_of, se
 use Rattle.cramfs_layout.specs.Composed.{cramfs_part, composed}
 use Rattle.cramfs_layout.specs.Planned.{IsPlanned}
 use Rattle.cramfs_layout.proofs.Joined.{is_composed}
-use Rattle.romfs_write.proofs.Facts.{Fitting}
-use Rattle.romfs_write.proofs.Means.{sizes_are}
-use Rattle.romfs_write.proofs.Sections.{size_is}
+use Rattle.layout_plan.proofs.Sized.{Fitting, size_is}
+use Rattle.image_stream.proofs.Results.{sizes_are}
 use Rattle.cramfs_write.specs.Form.{superblock_storing, form_of}
 use Rattle.cramfs_write.specs.Known.{IsCramfsPlan}
 use Rattle.cramfs_write.proofs.Laid.{parts_by, laid_out, length_super, crc_stored}

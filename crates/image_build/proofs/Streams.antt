@@ -14,7 +14,7 @@ use Rattle.misfits.specs.Misfit.{HasNoMisfit}
 use Rattle.plan_misfits.specs.Formats.{format_of}
 use Rattle.plan_misfits.specs.declared.format.Format as code
 use Rattle.plan_misfits.specs.declared.format.Format.TheVariants.{Cramfs, CramfsBig}
-use Rattle.romfs_write.proofs.Means.{ok_weaker, err_weaker}
+use Rattle.image_stream.proofs.Results.{ok_weaker, err_weaker}
 use Rattle.image_build.specs.Builds.{Builds, IsGiven}
 use Rattle.image_build.specs.Streamed.{IsPlanOfText}
 use Rattle.image_build.proofs.Answered.{IsLaid, image_of}

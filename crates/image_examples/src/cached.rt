@@ -1,11 +1,12 @@
-//! Where paths lead through a cache of look-ups.
+//! Where paths lead, and what lines are answered, through a cache of look-ups.
 ghost use Rattle.std.specs.Prelude.{◌≡◌, ◌≤◌};
 ghost use Rattle.rom_tree.specs.Tree.{levels};
 
-use crate::images::SAME_NAMES;
+use crate::images::{EMPTY_CRAMFS, HELLO, LINK_AND_DEVICE, LINK_CHAIN, LINKS_AND_DOTS, SAME_NAMES};
 use image_check::check;
-use name_cache::Cached;
 use path_walk::{WalkError, walk};
+use rom_fields::bytes::Plain;
+use rom_serve::{Cached, serve};
 use rom_tree::image::TreeImage;
 use rom_tree::types::{Limits, NodeId};
 use std::alloc::Global;
@@ -51,5 +52,52 @@ fn the_same_with_and_without(rt: HostRuntime) -> Result<(), Fail> {
     assert_eq!(rt; walked(&mut image), want);
     assert_eq!(rt; walked_twice(rt.alloc(), 1), Some((want, want, 1)));
     assert_eq!(rt; walked_twice(rt.alloc(), 256), Some((want, want, 5)));
+    Ok(())
+}
+
+/// Lines that walk the same paths again and again, in turn, with names that are long, absent,
+/// links, or no directories, and lines that open what was found.
+const LINES: &[u8] = b"\
+    lookup /a/x\nlookup /b/x\nlookup /a/x\nlookup /b/y\nlookup /b/y\nstat /a\nlstat /a\n\
+    stat /b/x\nopen /a/x\nopen /a\nopen /b\nopen /\nfstat 0\nreaddir 0\nreaddir 1\nread 0 5\n\
+    map 0 0 5\nreadlink /l\nreadlink /a\nlookup /l\nlookup /l\nlookup /a/../a/./x\n\
+    lookup /a/x/\nlookup /a\nlookup /a/\nlookup a\nlookup /../b/x\nlookup /B/x\nstat /d\n\
+    stat /n\nclose 0\nlookup /b/x\nlookup /a/x\nlookup /b\nlookup /a\nfly\nread 9 9\nlookup /\n";
+
+/// What the lines are answered from an image, through a cache of so many names, or through none.
+fn replies(alloc: Global, bytes: &[u8], names: usize) -> Option<Vec<u8>>
+    requires { names ≤ 65536 }
+{
+    let image = check(alloc, bytes, Limits::usual()).ok()?;
+    let mut r = Plain::new(LINES);
+    let mut w = Plain::new(Vec::new(alloc));
+    if names == 0 {
+        serve(image, &mut r, &mut w).ok()?;
+    } else {
+        let cached = Cached::new(alloc, image, names).ok()?;
+        serve(cached, &mut r, &mut w).ok()?;
+    }
+    Some(w.into_inner())
+}
+
+#[test]
+fn the_same_replies(rt: HostRuntime) -> Result<(), Fail> {
+    let first = b"ok 108\nok 124\nok 108\nerr ENOENT\nerr ENOENT\nok 76 d 0755 0 0 0 0 0\n";
+    for image in [
+        HELLO.as_slice(),
+        LINK_AND_DEVICE,
+        LINK_CHAIN,
+        LINKS_AND_DOTS,
+        SAME_NAMES,
+        EMPTY_CRAMFS,
+    ] {
+        let plain = replies(rt.alloc(), image, 0);
+        assert!(rt; plain.is_some());
+        for names in [1, 2, 3, 256] {
+            assert_eq!(rt; replies(rt.alloc(), image, names), plain, "{names} names");
+        }
+    }
+    let plain = replies(rt.alloc(), SAME_NAMES, 0);
+    assert!(rt; plain.is_some_and(|text| text.starts_with(first.as_slice())));
     Ok(())
 }

@@ -7,3 +7,4 @@ pub mod Puts
 pub mod Laid
 pub mod Weights
 pub mod ByWords
+pub mod Results

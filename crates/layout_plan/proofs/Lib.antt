@@ -1,2 +1,5 @@
 mod Places
 pub mod Readying
+pub mod Indexed
+pub mod Sized
+pub mod SourceSizes

@@ -11,11 +11,10 @@ ghost use Rattle.rom_commands.specs.Serving.{input_of, Answers, serving_of, refu
 
 use crate::shown::write_fault_line;
 use image_check::{AnyImage, check};
-use name_cache::{Cached, NoCache};
 use rom_faults::CheckError;
 use rom_fields::bytes::{ByteRead, ByteWrite, Failed};
 use rom_fields::sink::put;
-use rom_serve::{ServeError, serve};
+use rom_serve::{Cached, NoCache, ServeError, serve};
 use rom_tree::types::Limits;
 use std::alloc::Global;
 

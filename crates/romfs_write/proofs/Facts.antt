@@ -22,7 +22,8 @@ use Rattle.layout_plan.specs.Plans.{Planned, IsPlanOf, IsPlan}
 use Rattle.romfs_write.specs.Form.{item_end, full_size}
 use Rattle.romfs_write.specs.Known.{IsRomfsPlan}
 use Rattle.romfs_write.proofs.Sections.{are_parts}
-use Rattle.romfs_write.proofs.Sources.{sizes_small}
+use Rattle.layout_plan.proofs.Sized.{Fitting, zeros, lengths}
+use Rattle.layout_plan.proofs.SourceSizes.{sizes_small}
 
 -- where the last of some headers ends, with its bytes
 abbrev last_end : ℕ → List Header → ℕ
@@ -99,15 +100,6 @@ pub planned_is : (m : ManifestLines) (sizes : List ℕ) (p : Planned) → IsPlan
 planned_is m sizes p h =
     same_plan p romfs m.volume (len_of romfs m sizes) (of_format.items_of romfs m sizes) (sections_of romfs m sizes) sizes h.format h.volume h.image_len h.items h.sections h.of_sources
 
--- contents of given sizes
-pub zeros : List ℕ → List (List ℕ)
-zeros sizes = map (λ n. replicate n 0) sizes
-
-pub lengths : (sizes : List ℕ) → map length (zeros sizes) ≡ sizes
-unfolding zeros
-lengths [] = refl
-lengths (n ∷ ns) = ap (λ (k : ℕ). k ∷ map length (map (λ n. replicate {A = ℕ} n 0) ns)) (length-replicate {A = ℕ} n 0) ∙ ap (λ (xs : List ℕ). n ∷ xs) (lengths ns)
-
 of_contents : (m : ManifestLines) (cs : List (List ℕ)) → IsPlanned m.volume (root_of m.lines (map length cs)) (tree_of m.lines (map length cs)) cs
     → ((file : ℕ) → get_or (map length cs) file 0 < 2 ^ 32) → IsRomfsPlan (planned m (map length cs))
 of_contents m cs h sized =
@@ -131,10 +123,6 @@ of_contents m cs h sized =
       bodies = are_parts cs all 0 (all_headers r root n) refl (planned_headers m.volume root n cs h);
       sized = sized;
     }
-
--- a manifest that fits can be laid out
-abbrev pub Fitting : Type 0
-Fitting = (f : Format) (m : ManifestLines) (contents : List (List ℕ)) → IsManifest m → HasNoMisfit f m (map length contents) → IsPlannedBy f m contents
 
 pub known : Fitting → (m : ManifestLines) (sizes : List ℕ) → IsManifest m → (length sizes ≡ length (sources_of m.lines)) → HasNoMisfit romfs m sizes → IsRomfsPlan (planned m sizes)
 known fitting m sizes h l n =

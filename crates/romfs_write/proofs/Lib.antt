@@ -1,6 +1,5 @@
 pub mod Puts
 pub mod Sections
-pub mod Sources
 pub mod Facts
 pub mod Laid
 pub mod Means

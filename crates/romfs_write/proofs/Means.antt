@@ -34,9 +34,10 @@ use Rattle.romfs_layout.specs.Planned.{IsPlanned}
 use Rattle.romfs_layout.proofs.ReadBack.{length-padded_name}
 use Rattle.romfs_layout.proofs.Composed.{is_composed, are_long}
 use Rattle.romfs_layout.proofs.Sectioned as in_romfs
-use Rattle.romfs_write.proofs.Facts.{Fitting, planned, planned_is, full_is}
+use Rattle.image_stream.proofs.Results.{sizes_are}
+use Rattle.layout_plan.proofs.Sized.{Fitting, size_is}
+use Rattle.romfs_write.proofs.Facts.{planned, planned_is, full_is}
 use Rattle.romfs_write.proofs.Laid.{laid_out}
-use Rattle.romfs_write.proofs.Sections.{size_is}
 
 -- zeros count nothing
 no_term : (k : ℕ) → term k 0 ≡ 0
@@ -172,29 +173,9 @@ means fitting p m cs hm known is =
     subst (λ (q : Planned). image_of (form_of q) balance_of cs ≡ layout_of romfs m cs) (sym e)
     (planned_means m cs (fitting romfs m cs hm is.fits) (subst IsRomfsPlan e known))
 
--- contents of the planned sizes
-pub sizes_are : (sizes : List ℕ) (cs : List (List ℕ)) → length cs ≡ length sizes → AreSized sizes cs → map length cs ≡ sizes
-sizes_are [] [] n h = refl
-sizes_are [] (c ∷ cs) n h = absurd (omega arith)
-sizes_are (x ∷ xs) [] n h = absurd (omega arith)
-sizes_are (x ∷ xs) (c ∷ cs) n h =
-    ap (λ (k : ℕ). k ∷ map length cs) (h 0 (omega arith)) ∙ ap (λ (ks : List ℕ). x ∷ ks) (sizes_are xs cs (omega (arith, n)) (λ k l. h (suc k) (omega (arith, l))))
-
 pub sized_means : Fitting → (p : Planned) (m : ManifestLines) (sizes : List ℕ) (cs : List (List ℕ)) → IsManifest m → IsRomfsPlan p
     → IsPlanOf romfs m sizes p → length cs ≡ length p.sizes → AreSized p.sizes cs
     → (map length cs ≡ sizes) × (image_of (form_of p) balance_of cs ≡ layout_of romfs m cs)
 sized_means fitting p m sizes cs hm known is n sized =
     let e : map length cs ≡ sizes = sizes_are p.sizes cs n sized ∙ is.of_sources in
     (e, means fitting p m cs hm known (subst (λ (xs : List ℕ). IsPlanOf romfs m xs p) (sym e) is))
-
-pub ok_weaker : {A E : Type 0} {P Q : Type 0} (r : Result A E) → (P → Q) → OnOk r P → OnOk r Q
-ok_weaker (Ok a) f h = f h
-ok_weaker (Err e) f h = tt
-
-pub ok_both : {A E : Type 0} {P Q R : Type 0} (r : Result A E) → (P → Q → R) → OnOk r P → OnOk r Q → OnOk r R
-ok_both (Ok a) f h k = f h k
-ok_both (Err e) f h k = tt
-
-pub err_weaker : {A E : Type 0} {P Q : Type 0} (r : Result A E) → (P → Q) → OnErr r P → OnErr r Q
-err_weaker (Ok a) f h = tt
-err_weaker (Err e) f h = f h

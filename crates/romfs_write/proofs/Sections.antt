@@ -8,17 +8,13 @@ use Rattle.name_tree.specs.Names.{Fill, no_bytes, text, source, bytes_of}
 use Rattle.layout_terms.specs.Items.{Item, Section, fill_section, bytes_section}
 use Rattle.layout_terms.specs.Bodies.{item_at}
 use Rattle.layout_terms.proofs.Bodies.{item_here, items_later}
+use Rattle.layout_plan.proofs.Sized.{size_is}
 use Rattle.romfs_write.specs.Known.{IsBody}
 use Rattle.romfs_layout.specs.Layout.{Header}
 use Rattle.romfs_layout.specs.Composed.{written}
 use Rattle.romfs_layout.specs.Items.{item_of, sections_from}
 use Rattle.romfs_layout.specs.Reads.{IsHeader}
 use Rattle.romfs_layout.proofs.ReadBack.{length-header}
-
-pub size_is : (cs : List (List ℕ)) (k : ℕ) → length (get_or cs k []) ≡ get_or (map length cs) k 0
-size_is [] k = refl
-size_is (c ∷ cs) zero = refl
-size_is (c ∷ cs) (suc k) = size_is cs k
 
 inside : (xs : List ℕ) (k : ℕ) → get_or xs k 0 ≢ 0 → k < length xs
 inside [] k z = absurd (z refl)

@@ -4,9 +4,10 @@ ghost use Rattle.manifest.specs.Lines.{sources_of};
 
 use crate::disk::{Disk, size_of};
 use crate::progress::Progress;
-use crate::status::{Status, changed, file_fault, memory, refused, write_fault};
 use crate::target::Target;
+use crate::trouble::{refused, say};
 use build_commands::building::{tell_bad_manifest, tell_built, tell_misfit};
+use command_line::{Status, Trouble};
 use image_build::stream;
 use image_stream::fault::StreamError;
 use layout_plan::{Format, Plan, PlanError, plan};
@@ -18,7 +19,7 @@ use std::{fs, io, str};
 fn told(rt: &HostRuntime, written: Result<(), Failed>) -> Status {
     match written {
         Ok(()) => Status::Refused,
-        Err(Failed) => write_fault(rt),
+        Err(Failed) => say(rt, Trouble::WriteFault),
     }
 }
 
@@ -30,7 +31,7 @@ fn manifest_of(rt: &HostRuntime, name: &str) -> Result<Manifest, Status> {
     };
     match parse(rt.alloc(), &text) {
         Ok(manifest) => Ok(manifest),
-        Err(ManifestError::OutOfMemory) => Err(memory(rt)),
+        Err(ManifestError::OutOfMemory) => Err(say(rt, Trouble::Memory)),
         Err(ManifestError::Bad { line, number }) => {
             let out = &mut Plain::new(io::writer(rt));
             Err(told(rt, tell_bad_manifest(out, line, number)))
@@ -45,10 +46,10 @@ fn names_of<'m>(rt: &HostRuntime, sources: &'m [Name]) -> Result<Vec<&'m str>, S
     let mut names = Vec::new(rt.alloc());
     for source in sources {
         let Ok(name) = str::from_utf8(source.as_bytes()) else {
-            return Err(file_fault(rt, source.as_bytes()));
+            return Err(say(rt, Trouble::File(source.as_bytes())));
         };
         if names.push(name).is_err() {
-            return Err(memory(rt));
+            return Err(say(rt, Trouble::Memory));
         }
     }
     Ok(names)
@@ -65,7 +66,7 @@ fn sizes_of(rt: &HostRuntime, names: &[&str]) -> Result<Vec<u64>, Status>
             Err(e) => return Err(refused(rt, name.as_bytes(), &e)),
         };
         if sizes.push(size).is_err() {
-            return Err(memory(rt));
+            return Err(say(rt, Trouble::Memory));
         }
     }
     Ok(sizes)
@@ -83,7 +84,7 @@ fn planned(
 {
     match plan(rt.alloc(), manifest, sizes, format) {
         Ok(plan) => Ok(plan),
-        Err(PlanError::OutOfMemory) => Err(memory(rt)),
+        Err(PlanError::OutOfMemory) => Err(say(rt, Trouble::Memory)),
         Err(PlanError::Refused { line, number }) => {
             let out = &mut Plain::new(io::writer(rt));
             Err(told(rt, tell_misfit(out, line, number)))
@@ -95,10 +96,10 @@ fn planned(
 fn unwritten(rt: &HostRuntime, e: StreamError, names: &[&str], out: &str) -> Status {
     match e {
         StreamError::SizeDiffers { file } | StreamError::SourceFault { file } => {
-            file_fault(rt, names.get(file).unwrap_or(&"").as_bytes())
+            say(rt, Trouble::File(names.get(file).unwrap_or(&"").as_bytes()))
         }
-        StreamError::WriteFault => file_fault(rt, out.as_bytes()),
-        StreamError::Changed => changed(rt),
+        StreamError::WriteFault => say(rt, Trouble::File(out.as_bytes())),
+        StreamError::Changed => say(rt, Trouble::Changed),
     }
 }
 
@@ -151,7 +152,7 @@ pub fn run(rt: &HostRuntime, format: Format, manifest: &str, out: &str) -> Statu
     match build(rt, format, manifest, out) {
         Ok(len) => match tell_built(&mut Plain::new(io::writer(rt)), len) {
             Ok(()) => Status::Done,
-            Err(Failed) => write_fault(rt),
+            Err(Failed) => say(rt, Trouble::WriteFault),
         },
         Err(status) => status,
     }

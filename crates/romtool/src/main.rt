@@ -5,8 +5,8 @@
 //! holds a sound image, and `romtool list IMAGE` lists its tree. `romtool serve IMAGE` answers lines
 //! from that tree, and `romtool space IMAGE..` from the trees of several images, with sessions.
 //! Without words the example image `hello` is checked and listed. What is printed, answered and
-//! written is proved in `rom_commands`, `build_commands` and `image_build`. The reading of words and
-//! the work with files and folders are only tested.
+//! written is proved in `rom_commands`, `build_commands` and `image_build`, and what standard error
+//! says in `command_line`. The work with files and folders is only tested.
 #![tactic(auto)]
 
 mod building;
@@ -14,9 +14,8 @@ mod disk;
 mod program;
 mod progress;
 mod scanning;
-mod status;
 mod target;
-mod words;
+mod trouble;
 
 use std::process::ExitCode;
 

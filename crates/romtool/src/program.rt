@@ -1,9 +1,9 @@
 //! The program: what each command does with its words and with the standard streams.
 ghost use Rattle.std.specs.Prelude.{◌≤◌};
 
-use crate::status::{Status, memory, refused, usage};
-use crate::words::{Request, WordsError, read};
+use crate::trouble::{refused, say};
 use crate::{building, scanning};
+use command_line::{Request, Status, Trouble, WordsError, read};
 use rom_commands::hello::hello;
 use rom_commands::printing::print;
 use rom_commands::serving::serve_on;
@@ -18,17 +18,17 @@ pub fn run(rt: &HostRuntime) -> u8
 {
     let words = match env::args(rt) {
         Ok(words) => words,
-        Err(e) if e.kind() == io::ErrorKind::OutOfMemory => return memory(rt).code(),
-        Err(_) => return usage(rt).code(),
+        Err(e) if e.kind() == io::ErrorKind::OutOfMemory => return say(rt, Trouble::Memory).code(),
+        Err(_) => return say(rt, Trouble::Usage).code(),
     };
     let words: Vec<String> = match words.collect(rt.alloc()) {
         Ok(words) => words,
-        Err(_) => return memory(rt).code(),
+        Err(_) => return say(rt, Trouble::Memory).code(),
     };
     match read(rt.alloc(), words.as_slice()) {
         Ok(request) => done(rt, request),
-        Err(WordsError::OutOfMemory) => memory(rt).code(),
-        Err(WordsError::Usage) => usage(rt).code(),
+        Err(WordsError::OutOfMemory) => say(rt, Trouble::Memory).code(),
+        Err(WordsError::Usage) => say(rt, Trouble::Usage).code(),
     }
 }
 
@@ -106,7 +106,7 @@ fn all_bytes(rt: &HostRuntime, names: &[&str]) -> Result<Vec<Vec<u8>>, Status> {
             Err(status) => return Err(status),
         };
         if files.push(bytes).is_err() {
-            return Err(memory(rt));
+            return Err(say(rt, Trouble::Memory));
         }
     }
     Ok(files)
@@ -121,7 +121,7 @@ fn space(rt: &HostRuntime, names: &[&str]) -> u8
         Err(status) => return status.code(),
     };
     if files.is_empty() || files.len() > 8 {
-        return usage(rt).code();
+        return say(rt, Trouble::Usage).code();
     }
     serve_several_on(
         rt.alloc(),
@@ -137,7 +137,7 @@ fn print_out(rt: &HostRuntime, bytes: &[u8], listed: bool) -> u8
     ensures { result ≤ 3 }
 {
     let Ok(out) = BufWriter::new(rt.alloc(), io::writer(rt)) else {
-        return memory(rt).code();
+        return say(rt, Trouble::Memory).code();
     };
     print(
         rt.alloc(),

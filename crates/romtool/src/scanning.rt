@@ -1,6 +1,7 @@
 //! A folder as a manifest.
-use crate::status::{Status, memory, refused, write_fault};
+use crate::trouble::{refused, say};
 use build_commands::scanning::{put_directory_line, put_file_line};
+use command_line::{Status, Trouble};
 use rom_fields::bytes::{ByteWrite, Failed, Plain};
 use std::fs;
 use std::io::{self, BufWriter};
@@ -57,7 +58,7 @@ fn all_below(rt: &HostRuntime, folder: &str) -> Result<Vec<Found>, Status> {
     }
     match found.sort() {
         Ok(()) => Ok(found),
-        Err(_) => Err(memory(rt)),
+        Err(_) => Err(say(rt, Trouble::Memory)),
     }
 }
 
@@ -82,10 +83,10 @@ pub fn run(rt: &HostRuntime, folder: &str) -> Status {
         Err(status) => return status,
     };
     let Ok(out) = BufWriter::new(rt.alloc(), io::writer(rt)) else {
-        return memory(rt);
+        return say(rt, Trouble::Memory);
     };
     match put_lines(&mut Plain::new(out), folder, &found) {
         Ok(()) => Status::Done,
-        Err(Failed) => write_fault(rt),
+        Err(Failed) => say(rt, Trouble::WriteFault),
     }
 }

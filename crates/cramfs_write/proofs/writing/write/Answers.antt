@@ -4,7 +4,7 @@ use Rattle.crc.specs.Crc.{crc_of}
 use Rattle.image_stream.specs.Segments.{image_of}
 use Rattle.layout_plan.specs.Plans.{Planned, IsPlanOf}
 use Rattle.misfits.specs.Format.{cramfs}
-use Rattle.romfs_write.proofs.Means.{ok_weaker}
+use Rattle.image_stream.proofs.Results.{ok_weaker}
 use Rattle.cramfs_write.specs.Form.{form_of}
 use Rattle.cramfs_write.specs.Known.{IsCramfsPlan}
 use Rattle.cramfs_write.proofs.Laid.{laid_out}

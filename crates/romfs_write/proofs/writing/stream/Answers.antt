@@ -10,7 +10,8 @@ use Rattle.misfits.specs.Format.{romfs}
 use Rattle.romfs_write.specs.Form.{form_of}
 use Rattle.romfs_write.specs.Known.{IsRomfsPlan}
 use Rattle.romfs_write.proofs.Laid.{laid_out}
-use Rattle.romfs_write.proofs.Means.{means, sized_means, ok_both, err_weaker}
+use Rattle.image_stream.proofs.Results.{ok_both, err_weaker}
+use Rattle.romfs_write.proofs.Means.{means, sized_means}
 use Rattle.romfs_write.proofs.writing.stream.Goals as goal
 
 pub stream-requires-clause-laid : goal.stream-requires-clause-laid

@@ -5,7 +5,8 @@ use Rattle.misfits.specs.Format.{romfs}
 use Rattle.romfs_write.specs.Form.{form_of}
 use Rattle.romfs_write.specs.Known.{IsRomfsPlan}
 use Rattle.romfs_write.proofs.Laid.{laid_out}
-use Rattle.romfs_write.proofs.Means.{sized_means, ok_weaker}
+use Rattle.image_stream.proofs.Results.{ok_weaker}
+use Rattle.romfs_write.proofs.Means.{sized_means}
 use Rattle.romfs_write.proofs.writing.write.Goals as goal
 
 pub write-requires-clause-laid : goal.write-requires-clause-laid

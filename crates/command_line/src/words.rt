@@ -2,13 +2,13 @@
 ghost use Rattle.std.specs.Prelude.{◌≡◌, ◌≢◌, ◌≤◌, ◌↔◌, length, IfSome, IfNone, Some};
 ghost use Rattle.clap.specs.Words.{subcommand_name_of};
 ghost use Rattle.plan_misfits.specs.declared.format.Format.{Format};
-ghost use Rattle.romtool.specs.Words.{word_of, format_word};
-ghost use Rattle.romtool.specs.declared.words.Request.TheVariants.{Example};
+ghost use Rattle.command_line.specs.Words.{word_of, format_word};
+ghost use Rattle.command_line.specs.declared.words.Request.TheVariants.{Example};
 
 use arrayvec::ArrayVec;
 use clap::error::ErrorKind;
 use clap::{Arg, ArgMatches, Command};
-use layout_plan::Format;
+use plan_misfits::Format;
 use std::alloc::{AllocError, Global};
 
 /// What the words ask for.

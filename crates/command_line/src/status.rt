@@ -1,0 +1,85 @@
+//! How a command ends, and what standard error says then.
+ghost use Rattle.std.specs.Prelude.{◌≡◌, ◌≤◌};
+ghost use Rattle.command_line.specs.Endings.{code_of, trouble_line, trouble_status};
+ghost use Rattle.rom_commands.specs.Answers.{Prints};
+
+use rom_commands::printing::complain;
+use rom_fields::bytes::ByteWrite;
+use rom_fields::sink::put;
+
+/// How a command ended. What standard error has to say was said.
+#[derive(Debug, Clone, Copy, PartialEq, Eq)]
+pub enum Status {
+    /// What was asked for was done.
+    Done,
+    /// It was refused, and standard output says why.
+    Refused,
+    /// The words ask for nothing.
+    Usage,
+    /// A file, memory or a stream failed.
+    Fault,
+}
+
+impl Status {
+    /// The number with which the program ends.
+    pub fn code(self) -> u8
+        ensures value { result ≡ code_of self }
+        ensures small { result ≤ 3 }
+    {
+        match self {
+            Status::Done => 0,
+            Status::Refused => 1,
+            Status::Usage => 2,
+            Status::Fault => 3,
+        }
+    }
+}
+
+/// Why a command did not do what was asked for.
+#[derive(Debug, Clone, Copy, PartialEq, Eq)]
+pub enum Trouble<'a> {
+    /// Memory was refused.
+    Memory,
+    /// The words ask for nothing.
+    Usage,
+    /// The file or folder of this name could not be read, listed or written.
+    File(&'a [u8]),
+    /// Sources changed while they were read.
+    Changed,
+    /// Standard output failed.
+    WriteFault,
+}
+
+/// Says on `err` why a command did not do what was asked for.
+fn complain_of<E: ByteWrite>(trouble: Trouble<'_>, err: &mut E)
+    ensures { Prints (E.output err.old) (E.output err.new) (trouble_line trouble.entry) }
+{
+    let mut failed = false;
+    match trouble {
+        Trouble::Memory => put(err, &mut failed, b"memory\n"),
+        Trouble::Usage => put(err, &mut failed, b"usage\n"),
+        Trouble::File(name) => complain(err, b"file ", name),
+        Trouble::Changed => put(err, &mut failed, b"changed\n"),
+        Trouble::WriteFault => put(err, &mut failed, b"write fault\n"),
+    }
+}
+
+/// How a command ends that did not do what was asked for.
+fn status_of(trouble: Trouble<'_>) -> Status
+    ensures { result ≡ trouble_status trouble.entry }
+{
+    match trouble {
+        Trouble::Usage => Status::Usage,
+        _ => Status::Fault,
+    }
+}
+
+/// Says on `err`, the standard error, why a command did not do what was asked for: one line. A name
+/// stands in it escaped.
+pub fn tell<E: ByteWrite>(trouble: Trouble<'_>, err: &mut E) -> Status
+    ensures said { Prints (E.output err.old) (E.output err.new) (trouble_line trouble.entry) }
+    ensures status { result ≡ trouble_status trouble.entry }
+{
+    complain_of(trouble, err);
+    status_of(trouble)
+}

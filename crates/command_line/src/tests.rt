@@ -1,0 +1,94 @@
+use crate::status::{Status, Trouble, tell};
+use crate::words::{Request, WordsError, read};
+use plan_misfits::Format;
+use rom_fields::bytes::Plain;
+use std::alloc::{AllocError, Global};
+use std::test::Fail;
+
+/// A command line of these words.
+fn line(alloc: Global, words: &[&str]) -> Result<Vec<String>, AllocError> {
+    let mut line = Vec::new(alloc);
+    for word in words {
+        line.push(String::from_str(alloc, word)?)?;
+    }
+    Ok(line)
+}
+
+#[test]
+fn commands_of_one_value(rt: HostRuntime) -> Result<(), Fail> {
+    let words = line(rt.alloc(), &["romtool", "check", "a b"])?;
+    assert!(rt; matches!(read(rt.alloc(), &words), Ok(Request::Check("a b"))));
+    let words = line(rt.alloc(), &["romtool", "list", "x"])?;
+    assert!(rt; matches!(read(rt.alloc(), &words), Ok(Request::List("x"))));
+    let words = line(rt.alloc(), &["romtool", "serve", "x"])?;
+    assert!(rt; matches!(read(rt.alloc(), &words), Ok(Request::Serve("x"))));
+    let words = line(rt.alloc(), &["romtool", "scan", "x"])?;
+    assert!(rt; matches!(read(rt.alloc(), &words), Ok(Request::Scan("x"))));
+    let words = line(rt.alloc(), &["romtool"])?;
+    assert!(rt; matches!(read(rt.alloc(), &words), Ok(Request::Example)));
+    Ok(())
+}
+
+#[test]
+fn commands_of_several_values(rt: HostRuntime) -> Result<(), Fail> {
+    let words = line(rt.alloc(), &["romtool", "space", "x", "y", "x"])?;
+    let Ok(Request::Space(images)) = read(rt.alloc(), &words) else {
+        return Err(AllocError.into());
+    };
+    assert_eq!(rt; images.as_slice(), ["x", "y", "x"].as_slice());
+    for (word, format) in [
+        ("romfs", Format::Romfs),
+        ("cramfs", Format::Cramfs),
+        ("cramfs-be", Format::CramfsBig),
+    ] {
+        let words = line(rt.alloc(), &["romtool", "build", word, "m", "o"])?;
+        let Ok(Request::Build(build)) = read(rt.alloc(), &words) else {
+            return Err(AllocError.into());
+        };
+        assert!(rt; build.format == format);
+        assert_eq!(rt; (build.manifest, build.out), ("m", "o"));
+    }
+    Ok(())
+}
+
+#[test]
+fn words_that_ask_for_nothing(rt: HostRuntime) -> Result<(), Fail> {
+    for words in [
+        ["romtool", "fly"].as_slice(),
+        &["romtool", "check"],
+        &["romtool", "check", "x", "y"],
+        &["romtool", "build", "ext4", "m", "o"],
+        &["romtool", "build", "romfs", "m"],
+        &["romtool", "space"],
+        &[
+            "romtool", "space", "1", "2", "3", "4", "5", "6", "7", "8", "9",
+        ],
+        &["romtool", "--help"],
+        &["romtool", "check", "--fast", "x"],
+    ] {
+        let words = line(rt.alloc(), words)?;
+        assert!(rt; matches!(read(rt.alloc(), &words), Err(WordsError::Usage)));
+    }
+    Ok(())
+}
+
+#[test]
+fn troubles_are_told(rt: HostRuntime) -> Result<(), Fail> {
+    for (trouble, status, text) in [
+        (Trouble::Memory, Status::Fault, b"memory\n".as_slice()),
+        (Trouble::Usage, Status::Usage, b"usage\n"),
+        (Trouble::File(b"a b"), Status::Fault, b"file a%20b\n"),
+        (Trouble::Changed, Status::Fault, b"changed\n"),
+        (Trouble::WriteFault, Status::Fault, b"write fault\n"),
+    ] {
+        let mut err = Plain::new(Vec::new(rt.alloc()));
+        assert_eq!(rt; tell(trouble, &mut err), status);
+        let said: Vec<u8> = err.into_inner();
+        assert_eq!(rt; said.as_slice(), text);
+    }
+    assert_eq!(rt; Status::Done.code(), 0);
+    assert_eq!(rt; Status::Refused.code(), 1);
+    assert_eq!(rt; Status::Usage.code(), 2);
+    assert_eq!(rt; Status::Fault.code(), 3);
+    Ok(())
+}
