@@ -1,3 +1,4 @@
 mod Flushed
 mod Scans
 mod Served
+pub mod Printed

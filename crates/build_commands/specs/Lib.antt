@@ -1,3 +1,4 @@
 pub mod Headline
 pub mod Scanned
+pub mod Seen
 pub mod Told

@@ -1,45 +1,92 @@
-//! The lines of a manifest that a scan of a folder prints.
-ghost use Rattle.build_commands.specs.Scanned.{directory_line, file_line};
+//! The manifest that a scan of a folder prints.
+ghost use Rattle.std.specs.Prelude.{map};
+ghost use Rattle.build_commands.specs.Scanned.{directory_line, entry_line, file_line, scan_text};
+ghost use Rattle.build_commands.specs.Seen.{entry_of};
 ghost use Rattle.rom_fields.specs.Failures.{Counts};
-ghost use Rattle.rom_fields.specs.Written.{WritesText};
+ghost use Rattle.rom_fields.specs.Written.{Puts, WritesText, sink};
 
 use rom_fields::bytes::{ByteWrite, Failed};
 use rom_fields::sink::put;
 use rom_fields::text::put_escaped;
 
-/// Writes the line of a directory, `dir PATH 0755 0 0`, with the path escaped.
-///
-/// # Errors
-///
-/// A write failed; a prefix of the line was written.
-pub fn put_directory_line<W: ByteWrite>(w: &mut W, path: &[u8]) -> Result<(), Failed>
-    ensures text { WritesText (W.output w.old).contents (W.output w.new).contents result
+/// What a scan finds: a folder, or a regular file, by its place on the disk.
+#[derive(PartialEq, Eq, PartialOrd, Ord, Drop)]
+pub struct Found {
+    pub place: String,
+    pub is_folder: bool,
+}
+
+/// Puts the line of a directory, `dir PATH 0755 0 0`, with the path escaped.
+fn put_directory<W: ByteWrite>(w: &mut W, failed: &mut bool, path: &[u8])
+    ensures { Puts (sink (W.output w.old) failed.old) (sink (W.output w.new) failed.new)
         (directory_line path.now) }
+{
+    put(w, failed, b"dir ");
+    put_escaped(w, failed, path);
+    put(w, failed, b" 0755 0 0");
+    put(w, failed, b"\n");
+}
+
+/// Puts the line of a file and of its source, `file PATH 0644 0 0 4 SOURCE`, with both escaped.
+fn put_file<W: ByteWrite>(w: &mut W, failed: &mut bool, path: &[u8], source: &[u8])
+    ensures { Puts (sink (W.output w.old) failed.old) (sink (W.output w.new) failed.new)
+        (file_line path.now source.now) }
+{
+    put(w, failed, b"file ");
+    put_escaped(w, failed, path);
+    put(w, failed, b" 0644 0 0 4 ");
+    put_escaped(w, failed, source);
+    put(w, failed, b"\n");
+}
+
+/// Puts the line of what was found. Its path is what stands behind the first `front` bytes of its
+/// place.
+fn put_found<W: ByteWrite>(w: &mut W, failed: &mut bool, front: usize, found: &Found)
+    ensures { Puts (sink (W.output w.old) failed.old) (sink (W.output w.new) failed.new)
+        (entry_line (entry_of front found.now)) }
+{
+    let place = found.place.as_bytes();
+    let path = &place[front.min(place.len())..];
+    if found.is_folder {
+        put_directory(w, failed, path);
+    } else {
+        put_file(w, failed, path, place);
+    }
+}
+
+/// Puts the lines of all that was found.
+fn put_all<W: ByteWrite>(w: &mut W, failed: &mut bool, front: usize, found: &[Found])
+    ensures { Puts (sink (W.output w.old) failed.old) (sink (W.output w.new) failed.new)
+        (scan_text (map (entry_of front) found.now)) }
+{
+    for one in found {
+        put_found(w, failed, front, one);
+    }
+}
+
+/// Writes the lines of all that was found.
+fn write_all<W: ByteWrite>(w: &mut W, front: usize, found: &[Found]) -> Result<(), Failed>
+    ensures text { WritesText (W.output w.old).contents (W.output w.new).contents result
+        (scan_text (map (entry_of front) found.now)) }
     ensures count { Counts (W.output w.old).failures (W.output w.new).failures result }
 {
     let mut failed = false;
-    put(w, &mut failed, b"dir ");
-    put_escaped(w, &mut failed, path);
-    put(w, &mut failed, b" 0755 0 0");
-    put(w, &mut failed, b"\n");
+    put_all(w, &mut failed, front, found);
     if failed { Err(Failed) } else { Ok(()) }
 }
 
-/// Writes the line of a file and of its source, `file PATH 0644 0 0 4 SOURCE`, with both escaped.
+/// Writes a line for each folder and each file that was found, in a manifest's words, and flushes
+/// them. What is found at a place has the path that stands behind the place's first `front` bytes:
+/// behind the name of the folder that was scanned.
 ///
 /// # Errors
 ///
-/// A write failed; a prefix of the line was written.
-pub fn put_file_line<W: ByteWrite>(w: &mut W, path: &[u8], source: &[u8]) -> Result<(), Failed>
+/// A write or the flush failed; a prefix of the lines was written.
+pub fn put_scan<W: ByteWrite>(w: &mut W, front: usize, found: &[Found]) -> Result<(), Failed>
     ensures text { WritesText (W.output w.old).contents (W.output w.new).contents result
-        (file_line path.now source.now) }
+        (scan_text (map (entry_of front) found.now)) }
     ensures count { Counts (W.output w.old).failures (W.output w.new).failures result }
 {
-    let mut failed = false;
-    put(w, &mut failed, b"file ");
-    put_escaped(w, &mut failed, path);
-    put(w, &mut failed, b" 0644 0 0 4 ");
-    put_escaped(w, &mut failed, source);
-    put(w, &mut failed, b"\n");
-    if failed { Err(Failed) } else { Ok(()) }
+    write_all(w, front, found)?;
+    w.flush()
 }

@@ -1,5 +1,5 @@
 use crate::building::{tell_bad_manifest, tell_built, tell_misfit};
-use crate::scanning::{put_directory_line, put_file_line};
+use crate::scanning::{Found, put_scan};
 use image_build::{BuildError, build_cramfs, build_cramfs_big, build_romfs};
 use manifest::{Word, parse};
 use rom_commands::serving::{Serving, serve_image};
@@ -70,26 +70,44 @@ fn a_failed_write_ends_a_line(rt: HostRuntime) -> Result<(), Fail> {
     Ok(())
 }
 
+/// A folder with a file in it, in the folder `x`.
+fn found_in_x(alloc: Global) -> Result<Vec<Found>, AllocError> {
+    let mut found = Vec::new(alloc);
+    for (place, is_folder) in [("x/a b", true), ("x/a b/é%\n", false)] {
+        let place = String::from_str(alloc, place)?;
+        found.push(Found { place, is_folder })?;
+    }
+    Ok(found)
+}
+
 #[test]
 fn lines_of_a_scan(rt: HostRuntime) -> Result<(), Fail> {
+    let found = found_in_x(rt.alloc())?;
     let mut w = Plain::new(Vec::new(rt.alloc()));
-    assert_eq!(rt; put_directory_line(&mut w, b"/a b"), Ok(()));
-    assert_eq!(rt;
-        put_file_line(&mut w, b"/a b/\xe9%", b"./a b/\xe9%\n"),
-        Ok(())
-    );
+    assert_eq!(rt; put_scan(&mut w, 1, &found), Ok(()));
     let held: Vec<u8> = w.into_inner();
-    let text: &[u8] = b"dir /a%20b 0755 0 0\nfile /a%20b/%E9%25 0644 0 0 4 ./a%20b/%E9%25%0A\n";
+    let text: &[u8] =
+        b"dir /a%20b 0755 0 0\nfile /a%20b/%C3%A9%25%0A 0644 0 0 4 x/a%20b/%C3%A9%25%0A\n";
     assert_eq!(rt; held.as_slice(), text);
     let manifest = parse(rt.alloc(), &held)?;
     let lines = manifest.lines();
     assert_eq!(rt; lines.len(), 2);
     assert_eq!(rt; lines[0].word, Word::Dir);
-    assert_eq!(rt; lines[1].path.as_bytes(), b"/a b/\xe9%".as_slice());
-    assert_eq!(rt; lines[1].text.as_bytes(), b"./a b/\xe9%\n".as_slice());
-    let mut w = Faulty::new(Plain::new(Vec::new(rt.alloc())), 2, 3);
-    assert_eq!(rt; put_file_line(&mut w, b"/a", b"a"), Err(Failed));
-    let held: Vec<u8> = w.into_inner().into_inner();
-    assert_eq!(rt; held.as_slice(), b"file ".as_slice());
+    assert_eq!(rt; lines[1].path.as_bytes(), "/a b/é%\n".as_bytes());
+    assert_eq!(rt; lines[1].text.as_bytes(), "x/a b/é%\n".as_bytes());
+    Ok(())
+}
+
+#[test]
+fn a_failed_write_ends_a_scan(rt: HostRuntime) -> Result<(), Fail> {
+    let found = found_in_x(rt.alloc())?;
+    let text: &[u8] = b"dir /a%20b 0755 0 0\nfile ";
+    for calls in 0..20u64 {
+        let mut w = Faulty::new(Plain::new(Vec::new(rt.alloc())), calls, 3);
+        assert_eq!(rt; put_scan(&mut w, 1, &found), Err(Failed));
+        let held: Vec<u8> = w.into_inner().into_inner();
+        let both = held.len().min(text.len());
+        assert_eq!(rt; held.get(..both), text.get(..both), "after {calls} calls");
+    }
     Ok(())
 }

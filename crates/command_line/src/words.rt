@@ -48,6 +48,10 @@ pub enum WordsError {
 }
 
 impl From<AllocError> for WordsError {
+    ghost use Rattle.command_line.specs.declared.words.WordsError.{WordsError};
+
+    ghost from_gives = { λ _ answer. answer ≡ WordsError.OutOfMemory };
+
     fn from(_error: AllocError) -> WordsError {
         WordsError::OutOfMemory
     }

@@ -1,6 +1,8 @@
 //! Building an image from a manifest and files.
 ghost use Rattle.std.specs.Prelude.{◌≡◌, length, IfOk};
+ghost use Rattle.layout_plan.specs.Plans.{IsPlanOf};
 ghost use Rattle.manifest.specs.Lines.{sources_of};
+ghost use Rattle.plan_misfits.specs.Formats.{format_of};
 
 use crate::disk::{Disk, size_of};
 use crate::progress::Progress;
@@ -80,7 +82,8 @@ fn planned(
     sizes: &[u64],
 ) -> Result<Plan, Status>
     requires { length sizes.now ≡ length (sources_of manifest.now.lines) }
-    ensures { IfOk result (λ plan. plan.sizes ≡ sizes.now) }
+    ensures plan { IfOk result (IsPlanOf (format_of format) manifest.now sizes.now) }
+    ensures sizes { IfOk result (λ plan. plan.sizes ≡ sizes.now) }
 {
     match plan(rt.alloc(), manifest, sizes, format) {
         Ok(plan) => Ok(plan),

@@ -1,17 +1,10 @@
 //! A folder as a manifest.
 use crate::trouble::{refused, say};
-use build_commands::scanning::{put_directory_line, put_file_line};
+use build_commands::scanning::{Found, put_scan};
 use command_line::{Status, Trouble};
-use rom_fields::bytes::{ByteWrite, Failed, Plain};
+use rom_fields::bytes::{Failed, Plain};
 use std::fs;
 use std::io::{self, BufWriter};
-
-/// Something in a folder that a manifest can name.
-#[derive(PartialEq, Eq, PartialOrd, Ord, Drop)]
-struct Found {
-    place: String,
-    is_folder: bool,
-}
 
 /// A folder without the slashes at its end, before which the names of what it holds are put.
 fn base(folder: &str) -> &str {
@@ -62,19 +55,6 @@ fn all_below(rt: &HostRuntime, folder: &str) -> Result<Vec<Found>, Status> {
     }
 }
 
-/// Writes the lines of what was found below a folder. In the image it is below the root.
-fn put_lines<W: ByteWrite>(w: &mut W, folder: &str, found: &[Found]) -> Result<(), Failed> {
-    for one in found {
-        let path = one.place.strip_prefix(base(folder)).unwrap_or("");
-        if one.is_folder {
-            put_directory_line(w, path.as_bytes())?;
-        } else {
-            put_file_line(w, path.as_bytes(), one.place.as_bytes())?;
-        }
-    }
-    w.flush()
-}
-
 /// Prints a manifest of the regular files and the folders below a folder, and says how the command
 /// ended. Nothing is printed where one of the folders cannot be listed.
 pub fn run(rt: &HostRuntime, folder: &str) -> Status {
@@ -85,7 +65,7 @@ pub fn run(rt: &HostRuntime, folder: &str) -> Status {
     let Ok(out) = BufWriter::new(rt.alloc(), io::writer(rt)) else {
         return say(rt, Trouble::Memory);
     };
-    match put_lines(&mut Plain::new(out), folder, &found) {
+    match put_scan(&mut Plain::new(out), base(folder).len(), &found) {
         Ok(()) => Status::Done,
         Err(Failed) => say(rt, Trouble::WriteFault),
     }
