@@ -1,7 +1,7 @@
 //! Sources that are not as they were.
 ghost use Rattle.std.specs.Prelude.{◌≡◌, ◌≤◌, length};
 
-use image_stream::sources::{SourceFailed, Sources};
+use layout_plan::{SourceFailed, Sources};
 use rom_fields::contents::Contents;
 
 /// What is wrong with sources from some read on.

@@ -1,10 +1,7 @@
 use crate::spoiled::{Fault, Spoiled};
-use image_build::{BuildError, build_cramfs, build_cramfs_big, build_romfs, stream};
+use image_build::{BuildError, StreamError, build_cramfs, build_cramfs_big, build_romfs, stream};
 use image_check::check;
-use image_stream::fault::StreamError;
-use image_stream::slices::Slices;
-use image_stream::sources::Sources;
-use layout_plan::{Format, Plan, plan};
+use layout_plan::{Format, Plan, Slices, Sources, plan};
 use manifest::parse;
 use rom_fields::bytes::{ByteWrite, Plain};
 use rom_fields::contents::Contents;

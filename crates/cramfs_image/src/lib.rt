@@ -23,5 +23,5 @@ mod superblock;
 #[cfg(test)]
 mod tests;
 
-pub use crc::crc32;
+pub use crc::{crc32, crc32_more};
 pub use image::Cramfs;

@@ -9,4 +9,5 @@ mod record;
 mod tests;
 mod writing;
 
+pub use image_stream::fault::{SizeDiffers, StreamError};
 pub use writing::{stream, write};

@@ -4,8 +4,7 @@ ghost use Rattle.misfits.specs.Format.{cramfs};
 ghost use Rattle.plan_misfits.specs.Formats.{format_of};
 
 use crate::{stream, write};
-use image_stream::slices::Slices;
-use layout_plan::{Format, Plan, plan};
+use layout_plan::{Format, Plan, Slices, plan};
 use manifest::parse;
 use rom_fields::bytes::Plain;
 use rom_fields::contents::Contents;

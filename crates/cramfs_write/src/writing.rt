@@ -15,8 +15,7 @@ ghost use Rattle.cramfs_write.specs.Form.{form_of};
 use crate::form::{CramfsForm, known, order_of};
 use image_stream::crc32::Crc32;
 use image_stream::fault::{SizeDiffers, StreamError};
-use image_stream::sources::Sources;
-use layout_plan::Plan;
+use layout_plan::{Plan, Sources};
 use rom_fields::bytes::ByteWrite;
 use rom_fields::contents::Contents;
 

@@ -14,4 +14,5 @@ mod tests;
 
 pub use build::{build_cramfs, build_cramfs_big, build_romfs};
 pub use error::BuildError;
+pub use image_stream::fault::StreamError;
 pub use streaming::stream;

@@ -8,8 +8,7 @@ ghost use Rattle.image_stream.specs.Sources.{Told};
 ghost use Rattle.rom_fields.specs.Written.{AppendsPrefix};
 
 use image_stream::fault::StreamError;
-use image_stream::sources::Sources;
-use layout_plan::{Format, Plan};
+use layout_plan::{Format, Plan, Sources};
 use rom_fields::bytes::ByteWrite;
 
 /// Writes the image of a plan, in the plan's format, through one buffer of 4,096 bytes, without

@@ -1,7 +1,5 @@
-use crate::{BuildError, build_cramfs, build_cramfs_big, build_romfs, stream};
-use image_stream::fault::StreamError;
-use image_stream::slices::Slices;
-use layout_plan::{Format, Plan, plan};
+use crate::{BuildError, StreamError, build_cramfs, build_cramfs_big, build_romfs, stream};
+use layout_plan::{Format, Plan, Slices, plan};
 use manifest::parse;
 use rom_fields::bytes::{ByteWrite, Plain};
 use rom_fields::contents::Contents;

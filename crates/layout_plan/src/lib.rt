@@ -13,6 +13,8 @@ pub mod planning;
 mod tests;
 
 pub use error::{PlanError, name};
+pub use image_stream::slices::Slices;
+pub use image_stream::sources::{SourceFailed, Sources};
 pub use plan_items::{Body, Fill, Item, Section};
 pub use plan_misfits::Format;
 pub use planned::Plan;

@@ -9,4 +9,5 @@ mod header;
 mod tests;
 mod writing;
 
+pub use image_stream::fault::{SizeDiffers, StreamError};
 pub use writing::{stream, write};

@@ -3,8 +3,7 @@ ghost use Rattle.misfits.specs.Format.{romfs};
 
 use crate::header::{put_header, put_superblock};
 use crate::{stream, write};
-use image_stream::slices::Slices;
-use layout_plan::{Format, Plan, plan};
+use layout_plan::{Format, Plan, Slices, plan};
 use manifest::parse;
 use rom_fields::bytes::Plain;
 use rom_fields::contents::Contents;

@@ -13,9 +13,8 @@ ghost use Rattle.romfs_write.specs.Form.{form_of};
 
 use crate::form::{RomfsForm, known};
 use image_stream::fault::{SizeDiffers, StreamError};
-use image_stream::sources::Sources;
 use image_stream::word_sum::WordSum;
-use layout_plan::Plan;
+use layout_plan::{Plan, Sources};
 use rom_fields::bytes::ByteWrite;
 use rom_fields::contents::Contents;
 

@@ -3,7 +3,7 @@ ghost use Rattle.std.specs.Prelude.{◌≡◌, IfOk, length};
 ghost use Rattle.std.specs.Io.{ReadsAtMost};
 
 use crate::progress::Progress;
-use image_stream::sources::{SourceFailed, Sources};
+use layout_plan::{SourceFailed, Sources};
 use std::fs::{File, OpenFile};
 use std::os::unix::fs::FileExt;
 use std::{fs, io};
