@@ -21,11 +21,11 @@ use Rattle.cramfs_layout.proofs.Filled.{FilledAt, IsFilled}
 
 pub length-written : (o : Order) (i : Item) → length (written o i) ≡ entry_len i.name
 length-written o i =
-    let w1 = word_bytes o i.first in
-    let w2 = word_bytes o i.second in
-    let w3 = word_bytes o i.third in
+    let first_word = word_bytes o i.first in
+    let second_word = word_bytes o i.second in
+    let third_word = word_bytes o i.third in
     let tail = replicate {A = ℕ} (pad4 (length i.name) - length i.name) 0 in
-    omega (arith, length-append w1 (w2 ++ (w3 ++ (i.name ++ tail))), length-append w2 (w3 ++ (i.name ++ tail)), length-append w3 (i.name ++ tail), length-append i.name tail, length-word o i.first, length-word o i.second, length-word o i.third, length-replicate {A = ℕ} (pad4 (length i.name) - length i.name) 0)
+    omega (arith, length-append first_word (second_word ++ (third_word ++ (i.name ++ tail))), length-append second_word (third_word ++ (i.name ++ tail)), length-append third_word (i.name ++ tail), length-append i.name tail, length-word o i.first, length-word o i.second, length-word o i.third, length-replicate {A = ℕ} (pad4 (length i.name) - length i.name) 0)
 
 module _ (o : Order) (block : List ℕ) (cs : List (List ℕ)) (b : List ℕ) (all : List Item) where
   -- the bytes of a section stand at its place, and are as many as it is long

@@ -131,17 +131,17 @@ root_at o b volume root n more l h =
     let entry = entry_bytes o [] root (list_len n) (root_offset n) in
     let zeros = replicate {A = ℕ} (16 - length volume) 0 in
     let named = volume ++ (zeros ++ entry) in
-    let w2 = word_bytes o (size_of n / 4096) in
-    let w3 = word_bytes o (count n + 1) in
-    let l1 = length-word o 0 in
-    let l2 = length-word o (size_of n / 4096) in
-    let l3 = length-word o (count n + 1) in
-    let lz = length-replicate {A = ℕ} (16 - length volume) 0 in
-    let h40 = HasAt-moved b (36 + length (word_bytes o 0)) 40 (w2 ++ (w3 ++ (named ++ more))) (omega (arith, l1)) (HasAt-after b 36 (word_bytes o 0) (w2 ++ (w3 ++ (named ++ more))) h) in
-    let h44 = HasAt-moved b (40 + length w2) 44 (w3 ++ (named ++ more)) (omega (arith, l2)) (HasAt-after b 40 w2 (w3 ++ (named ++ more)) h40) in
-    let h48 = HasAt-moved b (44 + length w3) 48 (named ++ more) (omega (arith, l3)) (HasAt-after b 44 w3 (named ++ more) h44) in
-    let hv = HasAt-after b 48 volume (zeros ++ entry) (HasAt-before b 48 named more h48) in
-    HasAt-moved b (48 + length volume + length zeros) 64 entry (omega (arith, lz)) (HasAt-after b (48 + length volume) zeros entry hv)
+    let block_word = word_bytes o (size_of n / 4096) in
+    let file_word = word_bytes o (count n + 1) in
+    let edition_long = length-word o 0 in
+    let block_long = length-word o (size_of n / 4096) in
+    let file_long = length-word o (count n + 1) in
+    let zeros_long = length-replicate {A = ℕ} (16 - length volume) 0 in
+    let at_blocks = HasAt-moved b (36 + length (word_bytes o 0)) 40 (block_word ++ (file_word ++ (named ++ more))) (omega (arith, edition_long)) (HasAt-after b 36 (word_bytes o 0) (block_word ++ (file_word ++ (named ++ more))) h) in
+    let at_files = HasAt-moved b (40 + length block_word) 44 (file_word ++ (named ++ more)) (omega (arith, block_long)) (HasAt-after b 40 block_word (file_word ++ (named ++ more)) at_blocks) in
+    let at_name = HasAt-moved b (44 + length file_word) 48 (named ++ more) (omega (arith, file_long)) (HasAt-after b 44 file_word (named ++ more) at_files) in
+    let behind_name = HasAt-after b 48 volume (zeros ++ entry) (HasAt-before b 48 named more at_name) in
+    HasAt-moved b (48 + length volume + length zeros) 64 entry (omega (arith, zeros_long)) (HasAt-after b (48 + length volume) zeros entry behind_name)
 
 -- the parts of a layout
 abbrev pub all_parts : Order → List ℕ → Inode → Names → List (List ℕ) → List Part

@@ -154,11 +154,11 @@ file_known o b cs Q s i (shared t) h e fits has q st = (
 file_known o b cs Q s i fresh h e fits has q st =
     let p = data_of s.at i in
     let d = data_after cs s.at i h in
-    let d0 = d.0 in
-    let d1 = d.1 in
+    let table_before = d.0 in
+    let data_at_fours = d.1 in
     let n = block_count i.size in
     let same : data_from o b n (pad4 s.at) i.size ≡ blocks n p i.size =
-    data_is o b n (pad4 s.at) p i.size (λ j l. (pointer_says (word o b (pad4 s.at + 4 * j)) (p + 4096 * j) (pointer_at o b (pad4 s.at) p n j (omega arith) l has.0) (omega arith) (omega (arith, d1))).1) in
+    data_is o b n (pad4 s.at) p i.size (λ j l. (pointer_says (word o b (pad4 s.at + 4 * j)) (p + 4096 * j) (pointer_at o b (pad4 s.at) p n j (omega arith) l has.0) (omega arith) (omega (arith, data_at_fours))).1) in
     let mine : Every Q (table_spans o b (pad4 s.at) i.size) = subst (λ (xs : List Span). Every Q (added TableOf (pad4 s.at) (4 * n) ++ xs)) (sym same) q in
     (mine, known_more (TableKnown o b cs Q) o b cs Q (pad4 s.at) i.fill s.tables (subst (λ (v : ℕ). Every Q (table_spans o b (pad4 s.at) v)) (sym h.bytes) mine) st)
 

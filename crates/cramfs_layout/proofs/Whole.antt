@@ -212,8 +212,8 @@ is_tree o b cs root n most deepest h few shallow =
       lists_apart o b cs high x 64 64 1 76 s n h.well h.reads,
     ) in
     let es = entries_at o b (spots 76 s n) in
-    let d1 = node_depth o b 64 es in
-    let d2 = spots_depth o b 76 s n in
+    let node_deep = node_depth o b 64 es in
+    let spots_deep = spots_depth o b 76 s n in
     record {
       forest = record {
         stands = (target_top o b, mine, after);
@@ -221,7 +221,7 @@ is_tree o b cs root n most deepest h few shallow =
         single = pairs_to (λ (y z : Row). y.offset ≢ z.offset) (all_rows g f) (subst (Pairs (λ (y z : Row). y.offset ≢ z.offset)) (sym all) single);
         few = let e = ap length all in omega (arith, e, counted);
       };
-      shallow = omega (arith, d1, d2);
+      shallow = omega (arith, node_deep, spots_deep);
       apart = λ p over. no_overlap o b (row0 ∷ xs) ps p lists disjoint among (subst (λ (ys : List Row). OverlapsAt (extents_of o b ys) p) all over);
       names = pairs_to (NamesDiffer (name_of o b)) (drop 1 (all_rows g f)) (subst (λ (ys : List Row). Pairs (NamesDiffer (name_of o b)) (drop 1 ys)) (sym all) differ);
       no_dots = All-from_recursion (IsNoDot o b) (drop 1 (all_rows g f)) (subst (λ (ys : List Row). Every (IsNoDot o b) (drop 1 ys)) (sym all) (no_dots o b cs high x 64 64 1 76 s n h.well h.reads));

@@ -14,6 +14,7 @@ use Rattle.manifest.specs.Grammar.{IsManifest}
 use Rattle.name_tree.specs.Tree.{sources_before, with_contents, inode_of, inode_by}
 use Rattle.misfits.specs.Format.{Format, romfs, cramfs}
 use Rattle.misfits.specs.Misfit.{HasNoMisfit, IsLarge, TOO_LARGE, large}
+use Rattle.misfits.proofs.Sourced.{has_reverse, every_back}
 use Rattle.misfits.proofs.Written.{written}
 use Rattle.misfits.proofs.Led.{LedIn, all_led}
 use Rattle.misfits.proofs.Known.{known, Fits}
@@ -22,22 +23,6 @@ past_end : (xs : List ℕ) (k : ℕ) → length xs ≤ k → get_or xs k 0 ≡ 0
 past_end [] k h = refl
 past_end (x ∷ xs) zero h = absurd (omega arith)
 past_end (x ∷ xs) (suc k) h = past_end xs k (omega arith)
-
--- a member stands in the reversed list, too
-has_push : {X : Type 0} (P : X → Type 0) (xs : List X) (x : X) → Has P xs ⊎ P x → Has P (xs ++ x ∷ [])
-has_push P [] x (inl h) = absurd h
-has_push P [] x (inr p) = inl p
-has_push P (y ∷ ys) x (inl (inl p)) = inl p
-has_push P (y ∷ ys) x (inl (inr h)) = inr (has_push P ys x (inl h))
-has_push P (y ∷ ys) x (inr p) = inr (has_push P ys x (inr p))
-
-has_reverse : {X : Type 0} (P : X → Type 0) (xs : List X) → Has P xs → Has P (reverse xs)
-has_reverse P [] h = absurd h
-has_reverse P (x ∷ xs) h = subst (Has P) (sym (reverse-append (x ∷ []) xs)) (has_push P (reverse xs) x (elim h [ inl p ↦ inr p | inr k ↦ inl (has_reverse P xs k) ]))
-
-every_back : {X : Type 0} (P : X → Type 0) (xs : List X) → Every P xs → Every P (reverse xs)
-every_back P [] h = tt
-every_back P (x ∷ xs) h = subst (Every P) (sym (reverse-append (x ∷ []) xs)) (every_join P (reverse xs) (x ∷ []) (every_back P xs h.1) (h.0, tt))
 
 pairs_back : {X : Type 0} (R S : X → X → Type 0) → ((x y : X) → R x y → S y x) → (xs : List X) → Pairs R xs → Pairs S (reverse xs)
 pairs_back R S flip [] p = tt

@@ -150,11 +150,11 @@ has_push P (y ∷ ys) x (inl (inl p)) = inl p
 has_push P (y ∷ ys) x (inl (inr h)) = inr (has_push P ys x (inl h))
 has_push P (y ∷ ys) x (inr p) = inr (has_push P ys x (inr p))
 
-has_reverse : {X : Type 0} (P : X → Type 0) (xs : List X) → Has P xs → Has P (reverse xs)
+pub has_reverse : {X : Type 0} (P : X → Type 0) (xs : List X) → Has P xs → Has P (reverse xs)
 has_reverse P [] h = absurd h
 has_reverse P (x ∷ xs) h = subst (Has P) (sym (reverse-append (x ∷ []) xs)) (has_push P (reverse xs) x (elim h [ inl p ↦ inr p | inr k ↦ inl (has_reverse P xs k) ]))
 
-every_back : {X : Type 0} (P : X → Type 0) (xs : List X) → Every P xs → Every P (reverse xs)
+pub every_back : {X : Type 0} (P : X → Type 0) (xs : List X) → Every P xs → Every P (reverse xs)
 every_back P [] h = tt
 every_back P (x ∷ xs) h = subst (Every P) (sym (reverse-append (x ∷ []) xs)) (every_join P (reverse xs) (x ∷ []) (every_back P xs h.1) (h.0, tt))
 
