@@ -3,7 +3,9 @@
 //!
 //! The bytes are those that the documents of the formats give (Linux
 //! Documentation/filesystems/romfs.rst and cramfs.rst), laid out by hand. The tests stand here and
-//! not in the crates below, since they go through several of them.
+//! not in the crates below, since they go through several of them, and since a crate with tests is
+//! proved a second time for them. The modules `sample_..` test `path_walk`, `name_cache`,
+//! `open_files` and `rom_serve` over the image in memory of `rom_tree_examples`.
 #![tactic(auto)]
 
 #[cfg(test)]
@@ -15,6 +17,14 @@ mod images;
 mod mounted;
 #[cfg(test)]
 mod opened;
+#[cfg(test)]
+mod sample_files;
+#[cfg(test)]
+mod sample_lines;
+#[cfg(test)]
+mod sample_names;
+#[cfg(test)]
+mod sample_paths;
 #[cfg(test)]
 mod sessions;
 #[cfg(test)]

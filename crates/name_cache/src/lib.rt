@@ -6,7 +6,5 @@
 
 mod cache;
 mod short;
-#[cfg(test)]
-mod tests;
 
 pub use cache::{Cached, NoCache};

@@ -23,8 +23,6 @@ pub mod one_image;
 mod opened;
 mod slot;
 mod space;
-#[cfg(test)]
-mod tests;
 
 pub use error::CallError;
 pub use files::Files;

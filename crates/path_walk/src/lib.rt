@@ -13,8 +13,6 @@ mod images;
 mod mount;
 mod paths;
 mod step;
-#[cfg(test)]
-mod tests;
 
 pub use error::WalkError;
 pub use mount::Mount;

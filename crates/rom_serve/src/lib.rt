@@ -3,9 +3,9 @@
 //! `specs/Machines.antt` says what each line is answered: over one image, and over several images
 //! with eight sessions. Proved: `serve`, `serve_bounded` and `serve_space` write just these
 //! replies, each of them whole before the next byte is read, and say why they ended early; no
-//! failed write or flush is passed over. That each reply is flushed is shown by tests. `laws` has
-//! what holds of the replies of several sessions. No memory is taken, but by look-ups in a `Cached`
-//! image, which keeps what they answered.
+//! failed write or flush is passed over. That each reply is flushed is shown by tests, in
+//! `image_examples`. `laws` has what holds of the replies of several sessions. No memory is taken,
+//! but by look-ups in a `Cached` image, which keeps what they answered.
 #![tactic(auto)]
 
 mod alone;
@@ -17,8 +17,6 @@ mod replies;
 pub mod serving;
 mod several;
 mod single;
-#[cfg(test)]
-mod tests;
 
 pub use name_cache::{Cached, NoCache};
 pub use serve_loop::ServeError;

@@ -3,7 +3,7 @@ use Rattle.rom_tree.proofs.Named.{has_directory}
 use Rattle.rom_tree_examples.specs.Sample.{bin}
 use Rattle.rom_tree_examples.specs.SampleLaws.{sample}
 use Rattle.rom_tree_examples.proofs.Answering.{node2}
-use Rattle.name_cache.proofs.tests.in_bin.Goals as goal
+use Rattle.image_examples.proofs.sample_names.in_bin.Goals as goal
 
 pub lookup-requires : goal.lookup-requires
 lookup-requires c κs = ((refl, tt), has_directory sample 2 bin node2 refl)

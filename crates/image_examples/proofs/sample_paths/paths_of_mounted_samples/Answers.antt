@@ -5,7 +5,7 @@ use Rattle.rom_tree.specs.Image.{Image}
 use Rattle.rom_tree_examples.specs.SampleLaws.{sample}
 use Rattle.path_walk.specs.declared.mount.Mount.{Mount}
 use Rattle.path_walk.specs.Graft.{AreShallow, are_mounts}
-use Rattle.path_walk.proofs.tests.paths_of_mounted_samples.Goals as goal
+use Rattle.image_examples.proofs.sample_paths.paths_of_mounted_samples.Goals as goal
 
 -- the second covers the node 2 of the first
 mounts : List Mount

@@ -3,7 +3,7 @@ use Rattle.rom_tree.proofs.Named.{has_directory}
 use Rattle.rom_tree_examples.specs.Sample.{root}
 use Rattle.rom_tree_examples.specs.SampleLaws.{sample}
 use Rattle.rom_tree_examples.proofs.Answering.{node1}
-use Rattle.name_cache.proofs.tests.in_root.Goals as goal
+use Rattle.image_examples.proofs.sample_names.in_root.Goals as goal
 
 pub lookup-requires : goal.lookup-requires
 lookup-requires c κs = ((refl, tt), has_directory sample 1 root node1 refl)

@@ -3,7 +3,7 @@ use Rattle.rom_tree.proofs.Named.{has_node, has_directory, start_cursor}
 use Rattle.rom_tree_examples.specs.Sample.{bin, sh, deep, tty}
 use Rattle.rom_tree_examples.specs.SampleLaws.{sample}
 use Rattle.rom_tree_examples.proofs.Answering.{node2, node3, node4, node8}
-use Rattle.name_cache.proofs.tests.the_other_calls.Goals as goal
+use Rattle.image_examples.proofs.sample_names.the_other_calls.Goals as goal
 
 pub stat-requires : goal.stat-requires
 stat-requires g c κs = ((refl, tt), has_node sample 8 tty node8)

@@ -1,7 +1,8 @@
-//! What no clause says: that replies are flushed, and texts from outside.
-use crate::{ServeError, serve, serve_bounded, serve_space};
+//! Lines that are answered from the sample: texts from outside, and what no clause says, that
+//! replies are flushed.
 use rom_fields::bytes::Plain;
 use rom_fields::faulty::Faulty;
+use rom_serve::{ServeError, serve, serve_bounded, serve_space};
 use rom_tree_examples::sample::Sample;
 use std::test::Fail;
 

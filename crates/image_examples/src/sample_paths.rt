@@ -1,4 +1,5 @@
-use crate::{Mount, WalkError, walk, walk_mounts};
+//! Where paths lead in the sample, and the numbers and names of the errors of paths.
+use path_walk::{Mount, WalkError, walk, walk_mounts};
 use rom_tree::types::NodeId;
 use rom_tree_examples::sample::Sample;
 use std::test::Fail;

@@ -1,6 +1,6 @@
 use Rattle.std.proofs.Common.{◌≡◌, ◌∷◌, [], map}
 use Rattle.rom_tree_examples.specs.SampleLaws.{sample}
-use Rattle.path_walk.proofs.tests.paths_of_mounted_samples.Given as goal
+use Rattle.image_examples.proofs.sample_paths.paths_of_mounted_samples.Given as goal
 
 -- both images are the sample
 abbrev pub invariant-loop-path : goal.invariant-loop-path

@@ -1,6 +1,7 @@
+//! Look-ups in the sample through a cache, and how many names it holds.
 ghost use Rattle.std.specs.Prelude.{◌≤◌, IfSome};
 
-use crate::Cached;
+use name_cache::Cached;
 use rom_fields::bytes::Plain;
 use rom_tree::image::{TreeImage, is_directory_at};
 use rom_tree::list;
