@@ -4,7 +4,6 @@ pub mod Forest
 pub mod Faults
 pub mod Lesser
 pub mod Traversal
-pub mod Table
 pub mod Sweep
 pub mod Answers
 pub mod Listed
