@@ -1,6 +1,7 @@
-use crate::{Bytes, Inode, Row, What, root, rows};
+//! The names of a manifest in a row.
 use manifest::parse;
 use plan_files::Files;
+use plan_rows::{Bytes, Inode, Row, What, root, rows};
 use rom_tree::Kind;
 use std::test::Fail;
 
