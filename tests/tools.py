@@ -1,0 +1,204 @@
+#!/usr/bin/env python3
+"""Tests the tools of tools/: that the gate tells a wrong edit from a right one, and what they do under another kit.
+
+A small repository is made with edits of each kind, the gate is run on it, and each edit has to be told rightly: those
+that turn a meaning as refused, those that change nothing as not refused, beside others in one check too, and those
+that cannot be made as bad. The last line is `N passed, M failed`.
+"""
+
+import os
+import shutil
+import subprocess
+import sys
+import tempfile
+
+from harness import HERE, Counts
+
+TOOLS = os.path.realpath(os.path.join(HERE, "..", "tools"))
+sys.path.insert(0, TOOLS)
+sys.dont_write_bytecode = True
+
+import edit_rounds  # noqa: E402
+
+ROOT = """//! Small functions, by which the gate is tried.
+#![tactic(auto)]
+
+ghost use Rattle.std.specs.Prelude.{◌≡◌, ◌+◌, ◌*◌};
+
+pub mod lower;
+pub mod upper;
+
+/// Twice the number.
+pub fn twice(n: u32) -> u64
+    ensures { result ≡ n * 2 }
+{
+    u64::from(n) * 2
+}
+
+/// Four times the number.
+pub fn four_times(n: u32) -> u64
+    ensures { result ≡ n * 2 * 2 }
+{
+    twice(n) * 2
+}
+
+/// Six times the number.
+pub fn six_times(n: u32) -> u64
+    ensures { result ≡ n * 6 }
+{
+    u64::from(n) * 6
+}
+
+/// How many there are at most.
+pub const fn most() -> u32
+    ensures { result ≡ 7 }
+{
+    7
+}
+"""
+PLUS = """//! One function, whose name stands in two modules.
+ghost use Rattle.std.specs.Prelude.{{◌≡◌, ◌+◌}};
+
+/// The number and {0}.
+pub fn after(n: u32) -> u64
+    ensures {{ result ≡ n + {0} }}
+{{
+    u64::from(n) + {0}
+}}
+"""
+FILES = {
+    "crates.txt": "small:\n",
+    "HANDLES": "Handles allowed: none.\n",
+    "crates/small/src/lib.rt": ROOT,
+    "crates/small/src/lower.rt": PLUS.format(1),
+    "crates/small/src/upper.rt": PLUS.format(2),
+}
+# what the gate says of an edit that it tried together with others
+SHARED = "refused, as it must be: small::six_times is not proved (with 2 other edits)"
+# name -> file, old text, new text, and what the gate has to say of it
+EDITS = {
+    "twice_is_thrice": ("lib", "    u64::from(n) * 2", "    u64::from(n) * 3", "refused, as it must be"),
+    "six_times_is_five": ("lib", "    u64::from(n) * 6", "    u64::from(n) * 5", SHARED),
+    "caller_unchanged": ("lib", "    twice(n) * 2", "    2 * twice(n)", "NOT REFUSED"),
+    "constant_function": ("lib", "    7", "    8", "refused, as it must be"),
+    "lower_unchanged": ("lower", "    u64::from(n) + 1", "    1 + u64::from(n)", "NOT REFUSED"),
+    "upper_after_one": ("upper", "    u64::from(n) + 2", "    u64::from(n) + 1", "refused, as it must be"),
+    "nowhere": ("lib", "    thrice(n)", "    twice(n)", "BAD EDIT: an 'old:' text is in src/lib.rt 0 times"),
+    "no_such_name": ("upper", "    u64::from(n) + 2", "    u64::from(m) + 2", "BAD EDIT"),
+}
+
+
+def made(top):
+    """Makes the small repository."""
+    texts = dict(FILES)
+    for name, (file, old, new, _) in EDITS.items():
+        texts[f"crates/small/must-fail/{name}.edit"] = f"file: src/{file}.rt\nold: {old}\nnew: {new}\n"
+    for path, text in texts.items():
+        os.makedirs(os.path.dirname(os.path.join(top, path)), exist_ok=True)
+        with open(os.path.join(top, path), "w", encoding="utf-8") as it:
+            it.write(text)
+
+
+def try_gate(counts):
+    """Runs the gate on the small repository, and counts what it tells of each edit, and its closing lines."""
+    with tempfile.TemporaryDirectory(prefix="gate-tried-") as top:
+        made(top)
+        gate = [os.path.join(TOOLS, "gate")]
+        ran = subprocess.run(gate, cwd=top, stdout=subprocess.PIPE, stderr=subprocess.STDOUT, text=True)
+    said = ran.stdout.splitlines()
+    for name, (_, _, _, wanted) in EDITS.items():
+        told = [it for it in said if it.startswith(f"rt: must-fail small/{name}.edit: {wanted}")]
+        expect(counts, f"the gate on the edit {name}", len(told), 1, ran.stdout)
+    refused = sum(it[3].startswith("refused") for it in EDITS.values())
+    last = f"{1 + refused} passed, {len(EDITS) - refused} failed"
+    expect(counts, "the gate's last line", said[-1:], [last], ran.stdout)
+    expect(counts, "the gate's status", ran.returncode, 1, ran.stdout)
+
+
+def expect(counts, what, got, wanted, said=""):
+    """Counts whether something is as it should be."""
+    if got == wanted:
+        counts.passes()
+    else:
+        counts.fails(what, [f"{got!r}", f"expected {wanted!r}", *said.splitlines()[-40:]])
+
+
+def try_rounds(counts):
+    """What may share a check, and what a report of one says, on texts alone."""
+    files = {"src/lib.rt": "fn even(n: u32) -> bool {\n    odd(n)\n}\n\nfn odd(n: u32) -> bool {\n    third(n)\n}\n\n"
+             "fn third(n: u32) -> bool {\n    even(n)\n}\n\nfn alone(n: u32) -> u32 {\n    n\n}\n\nfn above(n: u32) -> u32 {\n    top(n)\n}\n\n"
+             "fn top(n: u32) -> u32 {\n    alone(n)\n}\n"}  # fmt: skip
+    calls = edit_rounds.Calls(files)
+    for one, other, wanted in (
+        ("even", "odd", False), ("even", "third", False), ("odd", "even", False), ("even", "alone", True),
+        ("top", "alone", False), ("above", "alone", True), ("alone", "alone", False),
+    ):  # fmt: skip
+        expect(counts, f"{one} beside {other}", calls.go_together(one, other), wanted)
+    function = edit_rounds.Function("put", "bytes::sink", False, 3, 5)
+    for told, wanted in (
+        ("rom_fields::bytes::sink::put", True), ("rom_fields::bytes::sink::Plain::put", True), ("rom_fields::bytes::put", False),
+        ("rom_fields::bytes::sink::output", False), ("rom_fields::sink::put", False),
+        ("rom_fields::bytes::sink::fn::put::each", True), ("rom_fields::bytes::sink::fn::output::put", False),
+    ):  # fmt: skip
+        expect(counts, f"{told} as put of bytes::sink", function.is_told_by(told), wanted)
+    edit = edit_rounds.Edit("put.edit", "", (function,))
+    for report, wanted in (
+        ("fn a::bytes::sink::put: not proved", 1),
+        ("fn a::bytes::sink::put: no proof: expected answers in ./proofs/bytes/sink/put/Answers.antt; `search` did not prove `returns`", 1),
+        ("fn a::bytes::sink::put: no proof: it calls a::other, which is not proved", 0),
+        ("fn a::bytes::sink::put: not proved\nfn a::other: not proved", 0),
+        ("fn a::bytes::sink::put: proved\nfn a::other: no proof: it calls a::bytes::sink::put, which is not proved", 0),
+    ):  # fmt: skip
+        expect(counts, f"what is refused by: {report}", len(edit_rounds.refusals(report, [edit])), wanted)
+
+
+OTHER_KIT = """#!/usr/bin/env python3
+import os, sys, types
+KIT = os.path.dirname(os.path.realpath(__file__))
+rtlib = types.SimpleNamespace(Crate=object)
+if __name__ == "__main__":
+    print("plain rt", *sys.argv[1:])
+"""
+
+
+def try_other_kit(counts):
+    """Under another kit than the tools name they say so, and the toolchain's own `rt` is run."""
+    with tempfile.TemporaryDirectory(prefix="other-kit-") as folder:
+        with open(os.path.join(folder, "rt"), "w", encoding="utf-8") as it:
+            it.write(OTHER_KIT)
+        os.chmod(os.path.join(folder, "rt"), 0o755)
+        with open(os.path.join(folder, "KIT-ID"), "w", encoding="utf-8") as it:
+            it.write("rattle-kit-of-tomorrow\n")
+        environment = {**os.environ, "PATH": f"{folder}:{os.environ['PATH']}"}
+        for words, wanted in ((["gate"], "plain rt ci\n"), (["rt", "check", "--jobs", "1"], "plain rt check --jobs 1\n")):
+            command = [os.path.join(TOOLS, words[0]), *words[1:]]
+            ran = subprocess.run(command, capture_output=True, text=True, env=environment)
+            expect(counts, f"{words[0]} under another kit", (ran.stdout, ran.returncode), (wanted, 0))
+            is_told = "and this is rattle-kit-of-tomorrow" in ran.stderr
+            expect(counts, f"{words[0]} says that it is another kit", is_told, True, ran.stderr)
+
+
+def try_words(counts):
+    """`./test` and the tools say what their words are, and do nothing, at words that they do not have."""
+    top = os.path.dirname(TOOLS)
+    for words, status in ((["test", "--help"], 0), (["test", "--fast"], 2), (["test", "--plain", "x"], 2),
+                          (["tools/gate", "--help"], 2), (["tools/unproved", "--help"], 2)):  # fmt: skip
+        ran = subprocess.run([os.path.join(top, words[0]), *words[1:]], capture_output=True, text=True)
+        expect(counts, " ".join(words), ran.returncode, status)
+        expect(counts, " ".join(words) + " says its words", words[0] in ran.stdout + ran.stderr, True)
+
+
+def main():
+    counts = Counts()
+    try_rounds(counts)
+    if shutil.which("rt"):
+        try_words(counts)
+        try_other_kit(counts)
+        try_gate(counts)
+    else:
+        counts.skips("the gate: the toolchain's rt is not on the path")
+    return counts.close()
+
+
+if __name__ == "__main__":
+    sys.exit(main())

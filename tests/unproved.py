@@ -1,0 +1,78 @@
+#!/usr/bin/env python3
+"""Builds the unproved program by tools/unproved, and compares it with the proved one on each case of this folder.
+
+Each run of a case is made by both programs, in a folder of each one's own, and has to give the same output, messages,
+status, rest of input and files. The last line is `N passed, M failed`, with `, K skipped` where cases were skipped.
+"""
+
+import os
+import shutil
+import subprocess
+import sys
+import tempfile
+
+from harness import HERE, Counts, parser, program_of
+from run import lay_out, load, started, topics
+
+TOOL = os.path.join(HERE, "..", "tools", "unproved")
+
+
+def built(folder, counts):
+    """Builds the unproved program in a folder, and counts what it tells of itself and prints on the example image."""
+    program = os.path.join(folder, "romtool-unproved")
+    ran = subprocess.run([TOOL, program], stdout=subprocess.PIPE, stderr=subprocess.STDOUT, cwd=folder)
+    with open(os.path.join(HERE, "..", "crates", "romtool", "stdout"), "rb") as it:
+        wanted = it.read() + b"UNPROVED: romtool-unproved, of which nothing is proved\n"
+    if ran.returncode or ran.stdout != wanted:
+        counts.fails("tools/unproved", [f"status {ran.returncode}", f"{ran.stdout[-2000:]!r}", f"expected {wanted!r}"])
+        return None
+    counts.passes()
+    return program
+
+
+def files_below(top):
+    """The files, links and folders below a folder, with their bytes, texts and modes."""
+    found = {}
+    for at, folders, names in os.walk(top):
+        for name in folders + names:
+            path = os.path.join(at, name)
+            mode = os.lstat(path).st_mode
+            held = os.readlink(path) if os.path.islink(path) else None
+            if held is None and os.path.isfile(path) and os.access(path, os.R_OK):
+                with open(path, "rb") as it:
+                    held = it.read()
+            found[os.path.relpath(path, top)] = (mode, held)
+    return found
+
+
+def answers(program, case):
+    """What a program gives in the runs of a case: of each the output, the messages, the status and the input left; and the
+    files after them all."""
+    top = tempfile.mkdtemp(prefix="romtool-")
+    try:
+        lay_out(case, top)
+        runs = [started(program, run, top) for run in case["runs"]]
+        return [(it.stdout, it.stderr, it.returncode, it.left) for it in runs], files_below(top)
+    finally:
+        shutil.rmtree(top)
+
+
+def main():
+    arguments = parser("Compare the unproved program with the proved one on each case.").parse_args()
+    proved, counts = program_of(arguments), Counts()
+    with tempfile.TemporaryDirectory(prefix="unproved-") as folder:
+        unproved = built(folder, counts)
+        for topic in topics() if unproved else []:
+            for case in load(topic):
+                place = f"{topic}: {case['name']}"
+                if case.get("no_root") and os.geteuid() == 0:
+                    counts.skips(f"{place}: root runs it")
+                elif answers(proved, case) == answers(unproved, case):
+                    counts.passes()
+                else:
+                    counts.fails(f"{place}: the two programs differ")
+    return counts.close()
+
+
+if __name__ == "__main__":
+    sys.exit(main())

@@ -1,0 +1,196 @@
+"""Which must-fail edits may share a check, and what a shared check says of each.
+
+An edit that changes just the bodies of functions leaves every contract as it was. So whether one of these functions
+is proved depends on no other such edit, and edits of different functions can be made in one copy of the crate and
+checked together: a round. A round speaks of an edit only where the check refuses a function of its own for itself.
+
+Here is no call of the toolchain: texts go in, and groups and verdicts come out.
+"""
+
+import dataclasses
+import os
+import re
+
+HEAD = re.compile(r"^(\s*)(?:pub(?:\([^)]*\))? )?(const )?(?:unsafe )?fn (\w+)")
+# what the check says of a function that it refuses for itself, and not for one that it calls
+REFUSED = re.compile(r"^fn (.+?): (?:not proved|no proof: expected answers in .*)$", re.M)
+# what it says of each function that is not proved, whyever
+UNPROVED = re.compile(r"^fn (.+?): (?:not proved|no proof)", re.M)
+OF_CALLEE = re.compile(r"^fn .+?: no proof: it calls ", re.M)
+
+
+@dataclasses.dataclass(frozen=True)
+class Function:
+    """A function of a source file, and the lines of its body, counted from 0."""
+
+    name: str
+    module: str
+    is_const: bool
+    first: int
+    last: int
+
+    def is_told_by(self, told):
+        """Whether the check's name of a function may be this one's, or that of a closure in it: `crate::module::name`,
+        `crate::module::Type::name` or `crate::module::fn::name::closure`."""
+        module = ["", *self.module.split("::")] if self.module else [""]
+        parts = told.split("::")
+        if parts[1 : len(module)] != module[1:]:
+            return False
+        inside = parts[len(module) :]
+        if "fn" in inside[:-1]:
+            return inside[inside.index("fn") + 1] == self.name
+        return len(inside) in (1, 2) and inside[-1] == self.name
+
+
+@dataclasses.dataclass(frozen=True)
+class Edit:
+    """A must-fail edit: its path, its text, and the functions whose bodies it changes, where it changes nothing else."""
+
+    path: str
+    text: str
+    functions: tuple
+
+    def names(self):
+        """The names of its functions."""
+        return {it.name for it in self.functions}
+
+
+def module_of(file):
+    """The module of a source file, as `a::b` of `src/a/b.rt`; nothing of the root."""
+    parts = file[: -len(".rt")].split("/")[1:]
+    return "::".join(parts[:-1] if parts[-1] in ("lib", "main", "mod") else parts)
+
+
+def functions_of(text, module):
+    """The functions of a file that is laid out by `rt fmt`: a body opens and closes at its head's own depth."""
+    lines = text.split("\n")
+    for at, line in enumerate(lines):
+        head = HEAD.match(line)
+        if not head:
+            continue
+        depth, opens = head[1], at
+        while opens < len(lines) and not is_opening(lines, at, opens, depth):
+            opens += 1
+        ends = next((it for it in range(opens + 1, len(lines)) if lines[it] == depth + "}"), None)
+        if ends is not None:
+            yield Function(head[3], module, bool(head[2]), opens, ends)
+
+
+def is_opening(lines, head, at, depth):
+    """Whether the body of the function with that head opens at this line: its clauses stand deeper than it."""
+    line = lines[at]
+    return line == depth + "{" or line.endswith("{") and (at == head or line.startswith(depth + ")"))
+
+
+def edit_of(path, folder):
+    """Reads an edit. Its functions are none where it changes anything but the bodies of functions."""
+    with open(path, encoding="utf-8") as it:
+        text = it.read()
+    return Edit(path, text, functions_changed(text, folder))
+
+
+def functions_changed(text, folder):
+    """The functions in whose bodies alone all lines of an edit stand; none where one stands elsewhere."""
+    found, file = {}, ""
+    for line in text.split("\n"):
+        if line.startswith("file: "):
+            file = line[len("file: ") :].strip()
+        elif line.startswith("old: "):
+            function = function_at(folder, file, line[len("old: ") :])
+            if function is None:
+                return ()
+            found[function] = None
+    return tuple(found)
+
+
+def function_at(folder, file, old):
+    """The function in whose body a text stands that is in its file once, where a change of the body changes no more
+    than what that function does."""
+    path = f"{folder}/{file}"
+    if not file.startswith("src/") or not os.path.isfile(path):
+        return None
+    with open(path, encoding="utf-8") as it:
+        text = it.read()
+    if text.count(old) != 1:
+        return None
+    at = text[: text.index(old)].count("\n")
+    around = [it for it in functions_of(text, module_of(file)) if it.first < at < it.last]
+    # the body of a constant function, and a constant, may be read where it is used
+    if not around or any(it.is_const for it in around) or re.match(r"\s*(const|static|ghost) ", text.split("\n")[at]):
+        return None
+    return around[-1]
+
+
+def words_of_bodies(sources):
+    """The words of each function's body, by the function's name, over all files of a crate."""
+    words = {}
+    for file, text in sources.items():
+        lines = text.split("\n")
+        for it in functions_of(text, module_of(file)):
+            body = "\n".join(lines[it.first : it.last])
+            words.setdefault(it.name, set()).update(re.findall(r"\w+", body))
+    return words
+
+
+def sources_of(folder):
+    """The texts of a crate's source files, by their paths in the crate."""
+    texts = {}
+    for at, _, names in os.walk(f"{folder}/src"):
+        for name in names:
+            if name.endswith(".rt"):
+                with open(f"{at}/{name}", encoding="utf-8") as it:
+                    texts[os.path.relpath(f"{at}/{name}", folder)] = it.read()
+    return texts
+
+
+class Calls:
+    """Which functions of a crate may call which, told by names alone, so that it tells too many and never too few."""
+
+    def __init__(self, sources):
+        words = words_of_bodies(sources)
+        self.called = {name: body & words.keys() - {name} for name, body in words.items()}
+
+    def reached(self, name):
+        """The names of the functions that one of that name may come to."""
+        found, left = set(), [name]
+        while left:
+            for it in self.called.get(left.pop(), ()):
+                if it not in found:
+                    found.add(it)
+                    left.append(it)
+        return found
+
+    def go_together(self, one, other):
+        """Whether functions of these names can share a round: they differ, neither names the other, and they are on no ring
+        of calls, of which the check refuses all or none."""
+        if one == other or other in self.called.get(one, ()) or one in self.called.get(other, ()):
+            return False
+        return not (other in self.reached(one) and one in self.reached(other))
+
+
+def next_round(edits, calls):
+    """The first of these edits, and as many of the others as can share a round with it."""
+    group = []
+    for edit in edits:
+        taken = [name for it in group for name in it.names()]
+        if all(calls.go_together(one, other) for one in edit.names() for other in taken):
+            group.append(edit)
+    return group
+
+
+def refusals(report, group):
+    """What a round's report says: for each edit that it speaks of, the name of a function of its own that is refused for
+    itself. Where a function is refused that no edit of the round changes, the round says nothing."""
+    own = REFUSED.findall(report)
+    functions = [function for edit in group for function in edit.functions]
+    if not all(any(function.is_told_by(it) for function in functions) for it in own):
+        return {}
+    unproved = len(UNPROVED.findall(report)) - len(OF_CALLEE.findall(report))
+    if unproved != len(own):
+        return {}
+    found = {}
+    for edit in group:
+        told = [it for it in own if any(function.is_told_by(it) for function in edit.functions)]
+        if told:
+            found[edit] = told[0]
+    return found

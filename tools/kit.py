@@ -1,0 +1,47 @@
+"""What the tools take from the toolchain: its `rt` as a module, and the kit that they were made for.
+
+The tools stand in for parts of `rt` by the names of its functions, so they go with one kit. Under another
+one they say so, and hand their work to the toolchain's own `rt`.
+"""
+
+import importlib.machinery
+import importlib.util
+import os
+import shutil
+import sys
+
+MADE_FOR = "rattle-kit-13b logic dac8208d650f15bf"
+TOP = os.path.dirname(os.path.dirname(os.path.realpath(__file__)))
+
+sys.dont_write_bytecode = True
+
+
+def program():
+    """The path of the toolchain's `rt`."""
+    found = shutil.which("rt")
+    if not found:
+        sys.exit(f"{os.path.basename(sys.argv[0])}: the toolchain's rt is not on the path")
+    return os.path.realpath(found)
+
+
+def loaded():
+    """The toolchain's `rt` as a module, which has its library as `rtlib`."""
+    loader = importlib.machinery.SourceFileLoader("rt_script", program())
+    made = importlib.util.module_from_spec(importlib.util.spec_from_loader("rt_script", loader))
+    loader.exec_module(made)
+    return made
+
+
+def is_known(rt, instead):
+    """Whether the toolchain is the kit that the tools were made for. Of another one it tells what is done instead."""
+    with open(f"{rt.KIT}/KIT-ID", encoding="utf-8") as it:
+        here = it.read().strip()
+    if here != MADE_FOR:
+        tool = f"tools/{os.path.basename(sys.argv[0])}"
+        print(f"{tool}: made for {MADE_FOR}, and this is {here}: {instead}", file=sys.stderr, flush=True)
+    return here == MADE_FOR
+
+
+def hand_over(words):
+    """Goes on as the toolchain's own `rt` with these words."""
+    os.execv(program(), [program(), *words])
