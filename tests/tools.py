@@ -145,9 +145,11 @@ def try_rounds(counts):
     for report, wanted in (
         ("fn a::bytes::sink::put: not proved", 1),
         ("fn a::bytes::sink::put: no proof: expected answers in ./proofs/bytes/sink/put/Answers.antt; `search` did not prove `returns`", 1),
-        ("fn a::bytes::sink::put: no proof: it calls a::other, which is not proved", 0),
+        ("fn a::bytes::sink::put: no proof: it calls `a::other`, which is not proved", 0),
+        ("fn a::bytes::sink::put: not proved; it calls `a::one` and `a::two`, which are not proved", 0),
+        ("fn a::bytes::sink::put: no proof of a kind that is new", 0),
         ("fn a::bytes::sink::put: not proved\nfn a::other: not proved", 0),
-        ("fn a::bytes::sink::put: proved\nfn a::other: no proof: it calls a::bytes::sink::put, which is not proved", 0),
+        ("fn a::bytes::sink::put: proved\nfn a::other: no proof: it calls `a::bytes::sink::put`, which is not proved", 0),
     ):  # fmt: skip
         expect(counts, f"what is refused by: {report}", len(edit_rounds.refusals(report, [edit])), wanted)
 

@@ -12,11 +12,12 @@ import os
 import re
 
 HEAD = re.compile(r"^(\s*)(?:pub(?:\([^)]*\))? )?(const )?(?:unsafe )?fn (\w+)")
-# what the check says of a function that it refuses for itself, and not for one that it calls
-REFUSED = re.compile(r"^fn (.+?): (?:not proved|no proof: expected answers in .*)$", re.M)
-# what it says of each function that is not proved, whyever
-UNPROVED = re.compile(r"^fn (.+?): (?:not proved|no proof)", re.M)
-OF_CALLEE = re.compile(r"^fn .+?: no proof: it calls ", re.M)
+# what the check says of a function that is not proved
+UNPROVED = re.compile(r"^fn (.+?): (not proved|no proof)(.*)$", re.M)
+# how the rest of that line ends where the function may be unproved only since one that it calls is
+OF_CALLEE = re.compile(r"which (?:is|are) not proved$")
+# how it begins where the function is refused for itself
+FOR_ITSELF = (("not proved", ""), ("no proof", ": expected answers in "))
 
 
 @dataclasses.dataclass(frozen=True)
@@ -178,15 +179,24 @@ def next_round(edits, calls):
     return group
 
 
+def refused_for_themselves(report):
+    """The check's names of the functions that it refuses for themselves; nothing where one is not proved in a way that is not known here."""
+    found = []
+    for told, verdict, rest in UNPROVED.findall(report):
+        if OF_CALLEE.search(rest):
+            continue
+        if not any(verdict == of and (rest == start or start and rest.startswith(start)) for of, start in FOR_ITSELF):
+            return []
+        found.append(told)
+    return found
+
+
 def refusals(report, group):
     """What a round's report says: for each edit that it speaks of, the name of a function of its own that is refused for
     itself. Where a function is refused that no edit of the round changes, the round says nothing."""
-    own = REFUSED.findall(report)
+    own = refused_for_themselves(report)
     functions = [function for edit in group for function in edit.functions]
     if not all(any(function.is_told_by(it) for function in functions) for it in own):
-        return {}
-    unproved = len(UNPROVED.findall(report)) - len(OF_CALLEE.findall(report))
-    if unproved != len(own):
         return {}
     found = {}
     for edit in group:
