@@ -36,7 +36,7 @@ impl Status {
 }
 
 /// Why a command did not do what was asked for.
-#[derive(Debug, Clone, Copy, PartialEq, Eq)]
+#[derive(Clone, Copy, PartialEq, Eq)]
 pub enum Trouble<'a> {
     /// Memory was refused.
     Memory,

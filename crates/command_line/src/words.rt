@@ -12,7 +12,7 @@ use plan_misfits::Format;
 use std::alloc::{AllocError, Global};
 
 /// What the words ask for.
-#[derive(Debug, Drop)]
+#[derive(Drop)]
 pub enum Request<'a> {
     /// To check and list the example image.
     Example,
@@ -31,7 +31,7 @@ pub enum Request<'a> {
 }
 
 /// A build: of the manifest in one file into another one, in this format.
-#[derive(Debug, Clone, Copy)]
+#[derive(Clone, Copy)]
 pub struct Build<'a> {
     pub format: Format,
     pub manifest: &'a str,

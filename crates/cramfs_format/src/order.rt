@@ -6,7 +6,7 @@ use byteorder::{BigEndian, ByteOrder, LittleEndian};
 
 /// The byte order of a cramfs image, which is that of the machine that it is made for. It says how
 /// four bytes make a word, and at which end of a word its first field is.
-#[derive(Clone, Copy, Debug, PartialEq, Eq)]
+#[derive(Clone, Copy, PartialEq, Eq)]
 pub enum Order {
     /// The first byte of a word and the first field of a word are its lowest bits.
     Little,

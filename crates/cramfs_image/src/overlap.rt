@@ -20,7 +20,7 @@ use rom_fields::span::Extent;
 use std::alloc::Global;
 
 /// A file or a link: where its block pointers begin, and its size.
-#[derive(Clone, Copy, Debug, PartialEq, Eq)]
+#[derive(Clone, Copy, PartialEq, Eq)]
 pub struct File {
     pub table: u32,
     pub size: u32,

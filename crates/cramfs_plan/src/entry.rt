@@ -3,7 +3,7 @@
 use plan_rows::Bytes;
 
 /// An inode with its name, at its place. Its numbers are as the format has them, in 64 bits.
-#[derive(Clone, Copy, Debug, PartialEq, Eq)]
+#[derive(Clone, Copy, PartialEq, Eq)]
 pub struct Entry<'a> {
     pub place: u64,
     pub words: [u64; 3],

@@ -16,7 +16,7 @@ use rom_fields::word::pad;
 use std::collections::BTreeMap;
 
 /// How the bytes of a file are kept.
-#[derive(Clone, Copy, Debug, PartialEq, Eq)]
+#[derive(Clone, Copy, PartialEq, Eq)]
 pub enum Kept {
     /// It has none.
     Nowhere,
@@ -28,7 +28,7 @@ pub enum Kept {
 
 /// The numbers of a file or a directory that say where its bytes stand, and where what it places
 /// ends.
-#[derive(Clone, Copy, Debug, PartialEq, Eq)]
+#[derive(Clone, Copy, PartialEq, Eq)]
 pub struct Stored {
     pub size: u64,
     pub offset: u64,

@@ -44,7 +44,7 @@ const MOST_BYTES: u64 = 1 << 28;
 const LIST_LIMIT: u64 = 1 << 24;
 
 /// How long an image is, and its items in the order of their places, the root's first.
-#[derive(Debug, Drop)]
+#[derive(Drop)]
 pub struct Laid {
     pub image_len: usize,
     pub items: Vec<Item>,

@@ -14,7 +14,7 @@ use std::alloc::Global;
 pub const DEPTHS: usize = 66;
 
 /// How long the root's list is, and for each row that of what it names, 0 where it has none.
-#[derive(Debug, Drop)]
+#[derive(Drop)]
 pub struct Lens {
     pub root: u64,
     pub own: Vec<u64>,

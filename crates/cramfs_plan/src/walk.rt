@@ -34,7 +34,7 @@ pub struct Placer {
 }
 
 /// What the rows place, and where it ends.
-#[derive(Debug, Drop)]
+#[derive(Drop)]
 pub struct Placed<'a> {
     pub entries: Vec<Entry<'a>>,
     pub end: u64,

@@ -1,6 +1,6 @@
 //! Segments without their bytes.
 /// Where a segment stands, how long it is, and the file whose contents it has, if any.
-#[derive(Debug, Clone, Copy, PartialEq, Eq)]
+#[derive(Clone, Copy, PartialEq, Eq)]
 pub struct Outline {
     pub place: u32,
     pub len: u32,

@@ -4,7 +4,7 @@ ghost use Rattle.std.specs.Io.{ReadsAtMost};
 ghost use Rattle.image_stream.specs.Sources.{Told, ReadsAt, Reads, after_read_of};
 
 /// A read of a source failed.
-#[derive(Debug, Clone, Copy, PartialEq, Eq)]
+#[derive(Clone, Copy, PartialEq, Eq)]
 pub struct SourceFailed;
 
 /// The contents of files, read at any place. Failed reads are counted.

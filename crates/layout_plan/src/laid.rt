@@ -19,7 +19,7 @@ use rom_fields::memory::OutOfMemory;
 use std::alloc::Global;
 
 /// How long an image is, and its items.
-#[derive(Debug, Drop)]
+#[derive(Drop)]
 pub struct Laid {
     pub image_len: usize,
     pub items: Vec<Item>,

@@ -12,7 +12,7 @@ use std::marker::Model;
 
 /// The places of all that an image of some manifest holds. A contract sees it in the words of the
 /// layout's definitions.
-#[derive(Debug, Drop)]
+#[derive(Drop)]
 pub struct Plan {
     pub(crate) format: Format,
     pub(crate) volume: Name,

@@ -43,7 +43,7 @@ impl Word {
 }
 
 /// One line. What its word lacks is 0 or empty.
-#[derive(Debug, Drop)]
+#[derive(Drop)]
 pub struct Line {
     /// Its number in the text, from 1 on; skipped lines count.
     pub number: u64,

@@ -14,7 +14,7 @@ use std::marker::Model;
 
 /// The lines of a text in order, and the name of the volume. A contract sees both with the number
 /// of the `volume` line.
-#[derive(Debug, Drop)]
+#[derive(Drop)]
 pub struct Manifest {
     lines: Vec<Line>,
     sources: Vec<Name>,

@@ -14,7 +14,7 @@ pub struct Fd(pub u32);
 
 /// An open node of the image of a number. The position is a cursor in a directory, and the number
 /// of a byte in a regular file.
-#[derive(Clone, Copy, Debug)]
+#[derive(Clone, Copy)]
 pub(crate) struct OpenNode {
     pub(crate) image: u32,
     pub(crate) node: NodeId,
@@ -22,7 +22,7 @@ pub(crate) struct OpenNode {
 }
 
 /// What is open at the numbers below N.
-#[derive(Clone, Copy, Debug)]
+#[derive(Clone, Copy)]
 pub struct Slots<const N: usize> {
     slots: [Option<OpenNode>; N],
 }

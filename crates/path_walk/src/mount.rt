@@ -3,7 +3,7 @@ use rom_tree::types::NodeId;
 
 /// A mounted image: the root of image number `image` covers the directory `dir` of image number
 /// `on`.
-#[derive(Clone, Copy, Debug, Default, PartialEq, Eq)]
+#[derive(Clone, Copy, Default, PartialEq, Eq)]
 pub struct Mount {
     pub image: u32,
     pub on: u32,
@@ -11,7 +11,7 @@ pub struct Mount {
 }
 
 /// A node of one of several images, and the number of that image.
-#[derive(Clone, Copy, Debug, Default, PartialEq, Eq)]
+#[derive(Clone, Copy, Default, PartialEq, Eq)]
 pub(crate) struct Place {
     pub(crate) image: u32,
     pub(crate) node: NodeId,

@@ -12,7 +12,7 @@ use std::alloc::Global;
 use std::collections::BTreeMap;
 
 /// The contents of a regular file.
-#[derive(Clone, Copy, Debug, PartialEq, Eq)]
+#[derive(Clone, Copy, PartialEq, Eq)]
 pub struct Contents {
     /// Their place is to be a multiple of this, in bytes.
     pub align: u32,
@@ -23,7 +23,7 @@ pub struct Contents {
 }
 
 /// What a path leads to.
-#[derive(Clone, Copy, Debug, PartialEq, Eq)]
+#[derive(Clone, Copy, PartialEq, Eq)]
 struct Target {
     /// The index of a line.
     line: Option<usize>,

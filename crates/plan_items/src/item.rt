@@ -3,7 +3,7 @@
 use manifest::Name;
 
 /// The bytes of a file or of a link.
-#[derive(Debug, Drop)]
+#[derive(Drop)]
 pub enum Fill {
     /// None.
     Nothing,
@@ -14,7 +14,7 @@ pub enum Fill {
 }
 
 /// A romfs header or a cramfs inode. All places are in bytes from the image's first byte on.
-#[derive(Debug, Drop)]
+#[derive(Drop)]
 pub struct Item {
     /// Where the record stands.
     pub place: u32,

@@ -1,7 +1,7 @@
 //! The formats in which a manifest can be laid out.
 
 /// A format of an image.
-#[derive(Clone, Copy, Debug, PartialEq, Eq)]
+#[derive(Clone, Copy, PartialEq, Eq)]
 pub enum Format {
     /// romfs.
     Romfs,

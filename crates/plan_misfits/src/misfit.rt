@@ -13,7 +13,7 @@ pub const NAME_TOO_LONG: u32 = 3;
 pub const HARD_LINK: u32 = 4;
 
 /// What does not fit, at the line of this number; 0 is the whole.
-#[derive(Clone, Copy, Debug, PartialEq, Eq)]
+#[derive(Clone, Copy, PartialEq, Eq)]
 pub struct Misfit {
     pub line: u64,
     pub number: u32,

@@ -6,7 +6,7 @@ use std::alloc::Global;
 use std::collections::BTreeMap;
 
 /// The numbers from `start` up to `end`, which is not among them.
-#[derive(Clone, Copy, Debug, PartialEq, Eq)]
+#[derive(Clone, Copy, PartialEq, Eq)]
 pub struct Range {
     pub start: u32,
     pub end: u32,

@@ -6,7 +6,7 @@ use rom_fields::memory::OutOfMemory;
 use std::alloc::Global;
 
 /// A name in the list of the directory at `list`, and its index among the names that are looked at.
-#[derive(Clone, Copy, Debug, PartialEq, Eq, PartialOrd, Ord)]
+#[derive(Clone, Copy, PartialEq, Eq, PartialOrd, Ord)]
 pub struct ListedName<'a> {
     pub list: u32,
     pub name: &'a [u8],

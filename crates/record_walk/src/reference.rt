@@ -11,7 +11,7 @@ pub struct Reference {
 
 /// A reference with the offset of the record that it leads to, `None` where it leads to none, as
 /// after the last record of a list.
-#[derive(Clone, Copy, Debug)]
+#[derive(Clone, Copy)]
 pub struct Edge {
     pub reference: Reference,
     pub target: Option<u32>,
@@ -19,7 +19,7 @@ pub struct Edge {
 
 /// What follows from a reference to a sound record: the first record in that record's own list,
 /// and the record after it in the list that it stands in.
-#[derive(Clone, Copy, Debug)]
+#[derive(Clone, Copy)]
 pub struct Edges {
     pub own: Edge,
     pub after: Edge,

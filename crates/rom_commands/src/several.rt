@@ -22,7 +22,7 @@ use rom_tree::types::Limits;
 use std::alloc::Global;
 
 /// Why some bytes are not all images.
-#[derive(Debug, Clone, Copy, PartialEq, Eq)]
+#[derive(Clone, Copy, PartialEq, Eq)]
 enum NoImage {
     /// Memory was refused.
     OutOfMemory,

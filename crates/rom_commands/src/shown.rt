@@ -19,7 +19,7 @@ use rom_tree::types::{Limits, Report};
 use std::alloc::Global;
 
 /// How the showing of an image ended.
-#[derive(Debug, Clone, Copy, PartialEq, Eq)]
+#[derive(Clone, Copy, PartialEq, Eq)]
 pub enum Outcome {
     /// The image is sound, and all of its text was written.
     Done,

@@ -6,7 +6,7 @@ ghost use Rattle.rom_fields.specs.Extents.{is_shareable, AreShared, HaveCommonBy
 
 /// What an extent of bytes holds: the superblock, a record, a directory's list, a file's block
 /// table, or contents.
-#[derive(Clone, Copy, Debug, PartialEq, Eq)]
+#[derive(Clone, Copy, PartialEq, Eq)]
 pub enum Extent {
     Super,
     Record,
@@ -16,7 +16,7 @@ pub enum Extent {
 }
 
 /// `len` bytes from `start` on, and what they hold.
-#[derive(Clone, Copy, Debug, PartialEq, Eq)]
+#[derive(Clone, Copy, PartialEq, Eq)]
 pub struct Span {
     pub kind: Extent,
     pub start: u32,

@@ -1,7 +1,7 @@
 //! What is bad about a line.
 
 /// Why a line asks for nothing.
-#[derive(Clone, Copy, Debug, PartialEq, Eq)]
+#[derive(Clone, Copy, PartialEq, Eq)]
 pub enum Bad {
     /// The first field is no word.
     Command,

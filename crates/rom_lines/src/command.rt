@@ -14,7 +14,7 @@ use open_files::Fd;
 const MOST_READ: u32 = 4096;
 
 /// What a line asks for, with its numbers and the text of its path.
-#[derive(Clone, Copy, Debug)]
+#[derive(Clone, Copy)]
 pub enum Command<'l> {
     /// `lookup`, `stat`, `lstat`, `readlink` or `open`, and a path.
     Path(PathCall, PathText<'l>),

@@ -9,7 +9,7 @@ use percent_encoding::percent_decode;
 pub type Path = ArrayVec<u8, 8192>;
 
 /// A path as it stands in a line, with its escapes.
-#[derive(Clone, Copy, Debug)]
+#[derive(Clone, Copy)]
 pub struct PathText<'l> {
     text: &'l [u8],
     ghost short: { length text.now ≤ 8191 },

@@ -16,7 +16,7 @@ use rom_tree::types::{Entry, NodeId, Piece, Stat};
 
 /// What is replied to a line. Where several images are served, what is said of a node comes with
 /// the number of its image.
-#[derive(Clone, Copy, Debug)]
+#[derive(Clone, Copy)]
 pub enum Reply<'r> {
     Done,
     Descriptor(Fd),

@@ -2,7 +2,7 @@
 use crate::types::{Cursor, NodeId};
 
 /// A directory that is being listed: where its list goes on, and its name, which the root has not.
-#[derive(Clone, Copy, Debug, Default)]
+#[derive(Clone, Copy, Default)]
 pub struct Frame<'a> {
     pub directory: NodeId,
     pub cursor: Cursor,

@@ -20,7 +20,7 @@ pub enum Kind {
 pub struct NodeId(pub u32);
 
 /// A place in a directory's list.
-#[derive(Clone, Copy, Debug, Default, PartialEq, Eq)]
+#[derive(Clone, Copy, Default, PartialEq, Eq)]
 pub struct Cursor(pub u64);
 
 impl Cursor {
@@ -43,14 +43,14 @@ pub struct Stat {
 }
 
 /// Bytes of a file that follow one another in the image: `len` of them from `place` on.
-#[derive(Clone, Copy, Debug, PartialEq, Eq)]
+#[derive(Clone, Copy, PartialEq, Eq)]
 pub struct Run {
     pub place: u32,
     pub len: u32,
 }
 
 /// An entry of a directory, and the cursor of the entry after it.
-#[derive(Clone, Copy, Debug)]
+#[derive(Clone, Copy)]
 pub struct Entry<'a> {
     pub name: &'a [u8],
     pub node: NodeId,
@@ -58,7 +58,7 @@ pub struct Entry<'a> {
 }
 
 /// Bytes of an image and the place where they begin.
-#[derive(Clone, Copy, Debug)]
+#[derive(Clone, Copy)]
 pub struct Piece<'a> {
     pub place: u32,
     pub bytes: &'a [u8],
@@ -67,7 +67,7 @@ pub struct Piece<'a> {
 /// How much of an image a check follows: at most `references` references to records, the
 /// superblock's among them, and at most `depth` names on the way to an entry (above 64 counts as
 /// 64).
-#[derive(Clone, Copy, Debug, PartialEq, Eq)]
+#[derive(Clone, Copy, PartialEq, Eq)]
 pub struct Limits {
     pub references: u32,
     pub depth: u32,

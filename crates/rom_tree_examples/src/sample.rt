@@ -9,7 +9,7 @@ use rom_tree::image::{TreeImage, Viewed};
 use rom_tree::types::{Cursor, Entry, Kind, NodeId, Run, Stat};
 
 /// The image of `specs/Sample.antt`.
-#[derive(Clone, Copy, Debug, Default)]
+#[derive(Clone, Copy, Default)]
 pub struct Sample;
 
 impl Viewed for Sample {

@@ -12,7 +12,7 @@ use rom_faults::fault::{BAD_NAME, BOUNDS, HEADER_SUM, LINK_SIZE};
 use rom_fields::word::word_sum;
 
 /// How long the name of a whole record is, and where the record ends.
-#[derive(Clone, Copy, Debug)]
+#[derive(Clone, Copy)]
 pub struct Whole {
     pub name: usize,
     pub end: usize,

@@ -28,7 +28,7 @@ pub struct Row {
 
 /// Where a header stands, and where the next of its list and the first of its own do, 0 where there
 /// is none.
-#[derive(Clone, Copy, Debug, PartialEq, Eq)]
+#[derive(Clone, Copy, PartialEq, Eq)]
 pub struct Place {
     pub at: u64,
     pub next: u64,

@@ -5,7 +5,7 @@ ghost use Rattle.serve_loop.specs.Got.{Gets};
 use rom_fields::bytes::{ByteRead, Failed};
 
 /// What one read of one byte gave.
-#[derive(Clone, Copy, Debug, PartialEq, Eq)]
+#[derive(Clone, Copy, PartialEq, Eq)]
 pub enum Got {
     /// The next byte.
     Byte(u8),
