@@ -1,0 +1,9 @@
+//! How far an image says that it goes, by the first bytes of its file; and that a check looks at no
+//! bytes behind that.
+#![tactic(auto)]
+
+pub mod reading;
+#[cfg(test)]
+mod tests;
+
+pub use reading::{HEAD, reach_of};
