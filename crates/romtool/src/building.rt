@@ -89,7 +89,10 @@ fn stamps_of(rt: &HostRuntime, names: &[&str]) -> Result<Vec<Stamp>, Status>
 {
     let mut stamps = Vec::new(rt.alloc());
     for name in names {
-        let stamp = stamp_of_source(rt, name)?;
+        let stamp = match stamp_of_source(rt, name) {
+            Ok(stamp) => stamp,
+            Err(status) => return Err(status),
+        };
         if stamps.push(stamp).is_err() {
             return Err(say(rt, Trouble::Memory));
         }
