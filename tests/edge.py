@@ -23,7 +23,7 @@ from harness import SECONDS, Counts, parser, program_of
 
 HELLO = b"file /a 0644 0 0 4 a\n"
 NOBODY = 65534
-DELAY = 300000  # microseconds
+DELAYS = (0.3, 1.5, 6.0)  # seconds for which a call is held up: longer where the machine was too slow
 FAULTS = ("error=EIO", "error=ENOSPC", "signal=KILL")
 FAILED = ("openat", "read", "pread64", "write", "fsync", "rename", "fchmod", "fchown", "statx", "fcntl", "close")
 
@@ -222,28 +222,45 @@ def folder_that_is_not_handed_on(binary):
             yield "%s: %r" % (fault, answer(done))
 
 
-def await_file(name):
-    """Waits until a file is there."""
-    end = time.monotonic() + SECONDS
-    while not os.path.exists(name) and time.monotonic() < end:
-        time.sleep(0.005)
+def held_up(binary, format, call, when, prepare):
+    """How a build ends where something is changed while one of its calls is held up.
+
+    `prepare` lays out the folder before each try, and gives what is then to be done.
+    """
+    for delay in DELAYS:
+        change = prepare()
+        told = traced.inject(call, "delay_enter=%d" % (delay * 1e6), when)
+        with traced.Slowed(binary, "build", format, "m", "out", told=told) as slowed:
+            end = time.monotonic() + SECONDS
+            while not os.path.exists("out.0.part") and time.monotonic() < end:
+                time.sleep(0.005)
+            time.sleep(delay / 3)
+            with contextlib.suppress(FileNotFoundError):
+                change()
+        if slowed.done is None or slowed.done.returncode:
+            break
+    return answer(slowed.done) if slowed.done else None
 
 
 @needs_strace
 def part_of_another_file(binary):
     """Where the part's name leads to another file, or to none, nothing is renamed and nothing removed."""
     hello()
-    for stranger in (b"stranger", None):
+
+    def take_away():
+        os.rename("out.0.part", "aside")
+        if stranger:
+            put("out.0.part", stranger)
+
+    def prepare():
         put("out", b"as it was")
-        told = traced.inject("fsync", "delay_enter=%d" % DELAY, 1)
-        with traced.Slowed(binary, "build", "romfs", "m", "out", told=told) as slowed:
-            await_file("out.0.part")
-            os.rename("out.0.part", "aside")
-            if stranger:
-                put("out.0.part", stranger)
+        return take_away
+
+    for stranger in (b"stranger", None):
+        told = held_up(binary, "romfs", "fsync", 1, prepare)
         left = bytes_in("out.0.part") if os.path.exists("out.0.part") else None
-        if answer(slowed.done) != (b"", b"changed\n", 3) or bytes_in("out") != b"as it was" or left != stranger:
-            yield "%r: %r, %r" % (stranger, answer(slowed.done), left)
+        if told != (b"", b"changed\n", 3) or bytes_in("out") != b"as it was" or left != stranger:
+            yield "%r: %r, %r" % (stranger, told, left)
         for name in ("aside", *parts()):
             os.remove(name)
 
@@ -351,37 +368,30 @@ def changes():
 def changed_while_read(binary):
     """What becomes of a source before it is opened, while it is read, and when all of it was read."""
     put("m", b"file /a 0644 0 0 4 s\nfile /b 0644 0 0 4 u\n")
+    put("s", b"A" * 20000)
     put("u", b"hello")
     for format in FORMATS:
-        for name, delayed, when in (("before", "fcntl", 1), ("in", "pread64", 3), ("after", "pread64", -1)):
-            for what in list_of_changes():
-                yield from wrong_change(binary, format, delayed, when, what, name)
-
-
-def list_of_changes():
-    """The names of the changes."""
-    put("s", b"A" * 20000)
-    return list(changes())
-
-
-def wrong_change(binary, format, delayed, when, what, name):
-    """What is wrong where a source is changed while a call of a build is delayed."""
-    with contextlib.suppress(FileNotFoundError):
-        os.remove("s")
-    put("s", b"A" * 20000)
-    put("out", b"as it was")
-    if when < 0:
         made, _ = traced.calls(binary, "build", format, "m", "wanted")
-        when = max(call.number for call in made if call.name == delayed)
-    told = traced.inject(delayed, "delay_enter=%d" % DELAY, when)
-    with traced.Slowed(binary, "build", format, "m", "out", told=told) as slowed:
-        await_file("out.0.part")
-        time.sleep(DELAY / 3e6)
-        changes()[what]()
-    lines = (b"changed\n", b"file s\n") if what == "gone" else (b"changed\n",)
-    told = answer(slowed.done) if slowed.done else None
-    if told not in [(b"", line, 3) for line in lines] or bytes_in("out") != b"as it was" or parts():
-        yield "%s, %s (%s the reading): %r, %r" % (format, what, name, told, parts())
+        last = max(call.number for call in made if call.name == "pread64")
+        for name, call, when in (("before", "fcntl", 1), ("in", "pread64", 3), ("after", "pread64", last)):
+            for what in list(changes()):
+                told = after_change(binary, format, call, when, what)
+                lines = (b"changed\n", b"file s\n") if what == "gone" else (b"changed\n",)
+                if told not in [(b"", line, 3) for line in lines] or bytes_in("out") != b"as it was" or parts():
+                    yield "%s, %s (%s the reading): %r, %r" % (format, what, name, told, parts())
+
+
+def after_change(binary, format, call, when, what):
+    """How a build ends where its source is changed while one of its calls is held up."""
+
+    def prepare():
+        with contextlib.suppress(FileNotFoundError):
+            os.remove("s")
+        put("s", b"A" * 20000)
+        put("out", b"as it was")
+        return changes()[what]
+
+    return held_up(binary, format, call, when, prepare)
 
 
 # reading

@@ -56,8 +56,8 @@ fn stamp_of_source(rt: &HostRuntime, name: &str) -> Result<Stamp, Status> {
     }
 }
 
-/// Says what is wrong with the first source that cannot be read: one of these, or the one behind them,
-/// whose name is no text.
+/// Says what is wrong with the first source that cannot be read: one of these, or the one behind
+/// them, whose name is no text.
 fn first_refused(rt: &HostRuntime, before: &[&str], source: &[u8]) -> Status {
     for name in before {
         if let Err(status) = stamp_of_source(rt, name) {

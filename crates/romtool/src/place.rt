@@ -23,8 +23,8 @@ fn led_to(rt: &HostRuntime, link: &str, text: &str) -> io::Result<String> {
     }
 }
 
-/// The name of a file itself, where this one is that of a link to it. It begins as this one does, and
-/// is not made absolute, since a whole path may be too long, or no text.
+/// The name of a file itself, where this one is that of a link to it. It begins as this one does,
+/// and is not made absolute, since a whole path may be too long, or no text.
 ///
 /// # Errors
 ///

@@ -7,8 +7,8 @@ use std::io::{self, Read};
 /// The greatest number of bytes of a manifest.
 const MOST_OF_MANIFEST: u64 = 1 << 30;
 
-/// Reads on until so many bytes of a file were read, or the file ends. Memory is asked for once, for
-/// what a regular file has.
+/// Reads on until so many bytes of a file were read, or the file ends. Memory is asked for once,
+/// for what a regular file has.
 fn read_until(file: &mut File, bytes: &mut Vec<u8>, until: u64) -> io::Result<()> {
     let held = bytes.len() as u64;
     let there = file.metadata()?.len().min(until).saturating_sub(held);

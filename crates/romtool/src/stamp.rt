@@ -5,7 +5,8 @@ use std::os::unix::fs::MetadataExt;
 use std::thread;
 use std::time::{Clock, Duration};
 
-/// How far a file system's clock may lag behind, in milliseconds: two of the longest ticks of Linux.
+/// How far a file system's clock may lag behind, in milliseconds: two of the longest ticks of
+/// Linux.
 const LAG: u64 = 20;
 
 /// A file, whatever its names are.
@@ -32,8 +33,8 @@ struct Time {
     nanoseconds: i64,
 }
 
-/// A state of a file: which file it is, how many bytes it has, and when its bytes and what is said of
-/// them were changed last.
+/// A state of a file: which file it is, how many bytes it has, and when its bytes and what is said
+/// of them were changed last.
 #[derive(Debug, Clone, Copy, PartialEq, Eq)]
 pub struct Stamp {
     identity: Identity,
@@ -68,14 +69,15 @@ impl Stamp {
         self.len
     }
 
-    /// Whether its last change is so near to `now`, a time since 1970, that a later one may have the
-    /// same time.
+    /// Whether its last change is so near to `now`, a time since 1970, that a later one may have
+    /// the same time.
     fn is_fresh(&self, now: Duration) -> bool {
         let Ok(seconds) = u64::try_from(self.changed.seconds) else {
             return false;
         };
         let nanoseconds = u64::try_from(self.changed.nanoseconds).unwrap_or(0);
-        let changed = Duration::from_secs(seconds).saturating_add(Duration::from_nanos(nanoseconds));
+        let part = Duration::from_nanos(nanoseconds);
+        let changed = Duration::from_secs(seconds).saturating_add(part);
         now <= changed.saturating_add(Duration::from_millis(LAG))
     }
 }
@@ -126,8 +128,8 @@ pub fn has_changed(rt: &HostRuntime, name: &str, stamp: &Stamp) -> io::Result<bo
     Ok(Stamp::of(&fs::metadata(rt, name)?) != *stamp)
 }
 
-/// Waits until each later change of these files is one that their states tell: where one was changed
-/// just now, until the file system's clock has gone on.
+/// Waits until each later change of these files is one that their states tell: where one was
+/// changed just now, until the file system's clock has gone on.
 pub fn let_rest(rt: &HostRuntime, stamps: &[Stamp]) {
     let Ok(now) = rt.since_1970() else {
         return;

@@ -9,8 +9,9 @@ const STANDARD_ERROR: i32 = 2;
 /// How many bytes are held back at most.
 const MOST_HELD: usize = 64 << 10;
 
-/// Keeps the numbers of standard streams that are closed from the files that are opened later, which
-/// would else be read or written in their place. What is given is to be held until the program ends.
+/// Keeps the numbers of standard streams that are closed from the files that are opened later,
+/// which would else be read or written in their place. What is given is to be held until the
+/// program ends.
 ///
 /// # Errors
 ///

@@ -85,8 +85,8 @@ fn new_beside(rt: &HostRuntime, whole: &str, mode: u32) -> io::Result<Target> {
     Err(io::Error::from(io::ErrorKind::AlreadyExists))
 }
 
-/// Gives a new file the owner of another one, where the system lets it, and its permissions; without
-/// its owner, none of the bits that lend the owner's rights.
+/// Gives a new file the owner of another one, where the system lets it, and its permissions;
+/// without its owner, none of the bits that lend the owner's rights.
 fn take_after(file: &File, found: &Metadata) -> io::Result<()> {
     let mut permissions = found.permissions();
     if fchown(file, Some(found.uid()), Some(found.gid())).is_err() {
@@ -184,13 +184,13 @@ impl Target {
         Ok(Plain::new(BufWriter::new(rt.alloc(), file)?))
     }
 
-    /// Gives what was written its name, once the system has taken all of it, and hands the folder to
-    /// the disk after it.
+    /// Gives what was written its name, once the system has taken all of it, and hands the folder
+    /// to the disk after it.
     ///
     /// # Errors
     ///
-    /// `Changed`, or that of the system. The name then leads to what it led to before, but where the
-    /// disk did not take the folder: then it leads to what was written.
+    /// `Changed`, or that of the system. The name then leads to what it led to before, but where
+    /// the disk did not take the folder: then it leads to what was written.
     pub fn keep(self, rt: &HostRuntime) -> Result<(), KeepError> {
         let Some(beside) = &self.beside else {
             return sync_any(&self.file);
