@@ -8,6 +8,7 @@ streams; and each call of the system failed in turn, by `strace`. A test that ne
 skipped where it is missing. The last line is `N passed, M failed`, with `, K skipped`.
 """
 
+import collections
 import contextlib
 import os
 import stat
@@ -588,7 +589,7 @@ def each_call_failed(binary):
     put("m", b"dir /d 0755 0 0\nfile /d/a 0644 0 0 4 a\nfile /b 0644 0 0 4 b\n")
     put("a", b"hello")
     put("b", bytes(9000))
-    count = 0
+    ends = collections.Counter()
     for format in FORMATS:
         image = wanted(binary, format)
         for old in (None, b"old"):
@@ -597,8 +598,9 @@ def each_call_failed(binary):
                 told = traced.inject(call.name, fault, call.number)
                 done = traced.run(binary, "build", format, "m", "out", told=told)
                 yield from wrong_after(done, fault, image, call)
-                count += 1
-    print("each_call_failed: %d faults" % count)
+                ends[(fault, done.returncode)] += 1
+    told = ("%s ended with %d: %d" % (*end, number) for end, number in sorted(ends.items()))
+    print("each_call_failed: %d faults; %s" % (sum(ends.values()), ", ".join(told)))
 
 
 def calls_to_fail(binary, format, old):

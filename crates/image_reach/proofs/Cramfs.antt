@@ -11,7 +11,7 @@ use Rattle.cramfs_format.specs.declared.order.Order.{Order}
 use Rattle.cramfs_format.specs.Order.{word}
 use Rattle.cramfs_format.specs.Superblock.{magic, size_word, flags_of, has_crc, accessible, accessible_size, HasSize, HasFlags, HasCrc, HasSignature, HasRoot, IsSuperblock, HasImageFault, short, no_magic, bad_size, bad_flags, bad_crc, unsigned, bad_root}
 use Rattle.cramfs_format.specs.Tree.{CramfsTree}
-use Rattle.cramfs_format.specs.Faults.{IsLeastImageFault, IsLeastPhaseFault, HasTooMany, whole, many, phase}
+use Rattle.cramfs_format.specs.Faults.{IsLeastImageFault, IsLeastPhaseFault, HasTooMany, whole as of_whole, many as of_many, phase as of_phase}
 use Rattle.cramfs_image.specs.Checked.{IsLeastAnswer, Shows}
 use Rattle.image_reach.proofs.Fronts.{front_word, longer, as_long, shorter, as_short, wider, not_longer}
 
@@ -96,10 +96,10 @@ module _ (o : Order) (b : List ℕ) (n : ℕ) (g : GoesTo o b n) where
       bad_root (long_front l) (same_magic ∙ m) (size_of_front s) (to_front (HasFlags o) f) (to_front (HasCrc o) c) (to_front HasSignature u) (to_front (λ a. HasRoot o a → ⊥) r) is
 
   least_of_whole : (most deepest : ℕ) (e : Fault) → IsLeastImageFault o (take n b) most deepest e → IsLeastImageFault o b most deepest e
-  least_of_whole most deepest e (whole f) = whole (fault_of_whole e f)
-  least_of_whole most deepest e (many none too is) = many (λ d f. none d (fault_of_front d f)) (to_whole (λ a. HasTooMany o a most) too) is
-  least_of_whole most deepest e (phase none few f) =
-      phase (λ d g. none d (fault_of_front d g)) (to_whole (λ a. HasTooMany o a most → ⊥) few) (to_whole (λ a. IsLeastPhaseFault o a deepest e) f)
+  least_of_whole most deepest e (of_whole f) = of_whole (fault_of_whole e f)
+  least_of_whole most deepest e (of_many none too is) = of_many (λ d f. none d (fault_of_front d f)) (to_whole (λ a. HasTooMany o a most) too) is
+  least_of_whole most deepest e (of_phase none few f) =
+      of_phase (λ d g. none d (fault_of_front d g)) (to_whole (λ a. HasTooMany o a most → ⊥) few) (to_whole (λ a. IsLeastPhaseFault o a deepest e) f)
 
   pub answer_of_whole : (limits : Limits) (e : CheckError) → IsLeastAnswer o (take n b) limits e → IsLeastAnswer o b limits e
   answer_of_whole limits OutOfMemory none = λ d f. none d (fault_of_front d f)

@@ -7,7 +7,7 @@ use Rattle.rom_faults.specs.declared.error.CheckError.TheVariants.{OutOfMemory, 
 use Rattle.romfs_format.specs.Record.{type_of}
 use Rattle.romfs_format.specs.Tree.{magic, full_size, root_of, IsSuperblock, RomfsTree}
 use Rattle.romfs_format.specs.Superblock.{accessible, HasSize, HasSum, HasRoot, HasImageFault, short, no_magic, bad_size, bad_sum, no_root, root_kind}
-use Rattle.romfs_format.specs.Faults.{IsLeastImageFault, IsLeastPhaseFault, HasTooMany, whole, many, phase}
+use Rattle.romfs_format.specs.Faults.{IsLeastImageFault, IsLeastPhaseFault, HasTooMany, whole as of_whole, many as of_many, phase as of_phase}
 use Rattle.rom_tree.specs.Image.{Image}
 use Rattle.rom_tree.specs.Tree.{Node}
 use Rattle.rom_tree.specs.declared.types.Limits.{Limits}
@@ -59,10 +59,10 @@ module _ (b : List ℕ) (n : ℕ) (enough : 76 ≤ n) where
         (to_front (λ a. e ≡ record { number = ROOT; at = root_of a }) is)
 
     least_of_whole : (most deepest : ℕ) (e : Fault) → IsLeastImageFault (take n b) most deepest e → IsLeastImageFault b most deepest e
-    least_of_whole most deepest e (whole f) = whole (fault_of_whole e f)
-    least_of_whole most deepest e (many none too is) = many (λ d f. none d (fault_of_front d f)) (to_whole (λ a. HasTooMany a (root_of a) most) too) is
-    least_of_whole most deepest e (phase none few f) =
-        phase (λ d g. none d (fault_of_front d g)) (to_whole (λ a. HasTooMany a (root_of a) most → ⊥) few) (to_whole (λ a. IsLeastPhaseFault a (root_of a) deepest e) f)
+    least_of_whole most deepest e (of_whole f) = of_whole (fault_of_whole e f)
+    least_of_whole most deepest e (of_many none too is) = of_many (λ d f. none d (fault_of_front d f)) (to_whole (λ a. HasTooMany a (root_of a) most) too) is
+    least_of_whole most deepest e (of_phase none few f) =
+        of_phase (λ d g. none d (fault_of_front d g)) (to_whole (λ a. HasTooMany a (root_of a) most → ⊥) few) (to_whole (λ a. IsLeastPhaseFault a (root_of a) deepest e) f)
 
     pub answer_of_whole : (limits : Limits) (e : CheckError) → IsLeastAnswer (take n b) limits e → IsLeastAnswer b limits e
     answer_of_whole limits OutOfMemory none = λ d f. none d (fault_of_front d f)
