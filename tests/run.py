@@ -45,7 +45,8 @@ Bytes are a text, or
     {"romfs": BYTES, "records": [32]}   that romfs image with its sums mended, of the records at these
                                         offsets and then of the superblock
     {"cramfs": BYTES}                   that cramfs image with its CRC-32 mended
-    {"sparse": N}                       zeros, in a file without blocks
+    {"sparse": N, "at": {"0": BYTES}}   zeros but for what stands at these offsets, in a file without
+                                        blocks where there are zeros
 The last line is `N passed, M failed`, with `, K skipped` where cases were skipped.
 """
 
@@ -138,6 +139,9 @@ def lay_out(case, top):
         with open(os.path.join(top, name), "wb") as file:
             if isinstance(told, dict) and "sparse" in told:
                 file.truncate(told["sparse"])
+                for at, part in told.get("at", {}).items():
+                    file.seek(int(at))
+                    file.write(bytes_of(part))
             else:
                 file.write(bytes_of(told))
     for name, text in case.get("links", {}).items():

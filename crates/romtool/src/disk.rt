@@ -3,23 +3,11 @@ ghost use Rattle.std.specs.Prelude.{◌≡◌, IfOk, length};
 ghost use Rattle.std.specs.Io.{ReadsAtMost};
 
 use crate::progress::Progress;
+use crate::stamp::{Stamp, has_changed, open_unchanged};
 use layout_plan::{SourceFailed, Sources};
-use std::fs::{File, OpenFile};
+use std::fs::File;
+use std::io;
 use std::os::unix::fs::FileExt;
-use std::{fs, io};
-
-/// How many bytes a regular file has that can be read.
-///
-/// # Errors
-///
-/// That of the system; `IsADirectory` or `InvalidInput` for what is no regular file.
-pub fn size_of(rt: &HostRuntime, name: &str) -> io::Result<u64> {
-    // what is no file is not opened, since to open a pipe is to wait for its writer
-    if !fs::metadata(rt, name)?.is_file() {
-        return Err(io::Error::from(io::ErrorKind::InvalidInput));
-    }
-    Ok(File::open(rt, name)?.metadata()?.len())
-}
 
 /// The file that was opened last, by its number.
 #[derive(Drop)]
@@ -29,11 +17,13 @@ struct Opened {
 }
 
 /// Files, one of which is open at a time. A file's bytes are those that it has at each read, so
-/// nothing is told of them beforehand.
+/// nothing is told of them beforehand. A file that has not the state any more that it had is not
+/// opened again.
 #[derive(Drop)]
 pub struct Disk<'a> {
     rt: &'a HostRuntime,
     names: &'a [&'a str],
+    stamps: &'a [Stamp],
     opened: Option<Opened>,
     progress: Progress<'a>,
     failures: u64,
@@ -41,13 +31,19 @@ pub struct Disk<'a> {
 }
 
 impl<'a> Disk<'a> {
-    /// The files of these names, and how far the reading of them is.
-    pub fn new(rt: &'a HostRuntime, names: &'a [&'a str], progress: Progress<'a>) -> Disk<'a>
+    /// The files of these names with the states that they have, and how far the reading of them is.
+    pub fn new(
+        rt: &'a HostRuntime,
+        names: &'a [&'a str],
+        stamps: &'a [Stamp],
+        progress: Progress<'a>,
+    ) -> Disk<'a>
         ensures { result.names.now ≡ names.now }
     {
         Disk {
             rt,
             names,
+            stamps,
             opened: None,
             progress,
             failures: 0,
@@ -65,10 +61,29 @@ impl<'a> Disk<'a> {
     }
 }
 
+/// Whether one of the files of these names cannot be found any more, or has another state by now.
+pub fn have_changed(rt: &HostRuntime, names: &[&str], stamps: &[Stamp]) -> bool {
+    let mut pairs = names.iter().zip(stamps);
+    pairs.any(|(name, stamp)| has_changed(rt, name, stamp).unwrap_or(true))
+}
+
+/// Reads a part of a file, again where a signal cut the reading short.
+fn read_again(file: &File, at: u64, buf: &mut [u8]) -> io::Result<usize>
+    ensures { ReadsAtMost result buf.new }
+{
+    for _ in 0..u64::MAX {
+        match file.read_at(buf, at) {
+            Err(e) if e.kind() == io::ErrorKind::Interrupted => {}
+            read => return read,
+        }
+    }
+    Err(io::Error::from(io::ErrorKind::Interrupted))
+}
+
 /// Reads a part of the file of this number, which is opened where another one was.
 fn read_part(
     rt: &HostRuntime,
-    name: &str,
+    source: (&str, &Stamp),
     opened: &mut Option<Opened>,
     number: usize,
     at: u64,
@@ -77,13 +92,31 @@ fn read_part(
     ensures { ReadsAtMost result buf.new }
 {
     match opened {
-        Some(open) if open.number == number => open.file.read_at(buf, at),
+        Some(open) if open.number == number => read_again(&open.file, at, buf),
         _ => {
-            let file = File::open(rt, name)?;
-            let n = file.read_at(buf, at)?;
+            let (name, stamp) = source;
+            let Some(file) = open_unchanged(rt, name, stamp)? else {
+                return Err(io::Error::from(io::ErrorKind::InvalidData));
+            };
+            let n = read_again(&file, at, buf)?;
             *opened = Some(Opened { number, file });
             Ok(n)
         }
+    }
+}
+
+impl<'a> Disk<'a> {
+    /// Reads a part of the file of this number.
+    fn read(&mut self, file: usize, at: u64, buf: &mut [u8]) -> io::Result<usize>
+        ensures read { ReadsAtMost result buf.new }
+        ensures kept { self.new.names ≡ self.old.names }
+        ensures failures { self.new.failures ≡ self.old.failures }
+        ensures failed { self.new.failed ≡ self.old.failed }
+    {
+        let (Some(name), Some(stamp)) = (self.names.get(file), self.stamps.get(file)) else {
+            return Err(io::Error::from(io::ErrorKind::NotFound));
+        };
+        read_part(self.rt, (name, stamp), &mut self.opened, file, at, buf)
     }
 }
 
@@ -101,8 +134,7 @@ impl<'a> Sources for Disk<'a> {
     }
 
     fn read_at(&mut self, file: usize, at: u64, buf: &mut [u8]) -> Result<usize, SourceFailed> {
-        let name = self.names[file];
-        match read_part(self.rt, name, &mut self.opened, file, at, buf) {
+        match self.read(file, at, buf) {
             Ok(n) => {
                 self.progress.add(n);
                 Ok(n)

@@ -9,11 +9,16 @@
 //! says in `command_line`. The work with files and folders is only tested.
 #![tactic(auto)]
 
+mod arguments;
 mod building;
 mod disk;
+mod place;
 mod program;
 mod progress;
+mod reading;
 mod scanning;
+mod stamp;
+mod streams;
 mod target;
 mod trouble;
 

@@ -1,29 +1,29 @@
 //! The program: what each command does with its words and with the standard streams.
 ghost use Rattle.std.specs.Prelude.{◌≤◌};
 
+use crate::arguments::words;
+use crate::streams::{Again, Held, hold_closed};
 use crate::trouble::{refused, say};
-use crate::{building, scanning};
+use crate::{building, reading, scanning};
 use command_line::{Request, Status, Trouble, WordsError, read};
 use rom_commands::hello::hello;
 use rom_commands::printing::print;
 use rom_commands::serving::serve_on;
 use rom_commands::several::serve_several_on;
-use rom_fields::bytes::Plain;
-use std::io::BufWriter;
-use std::{env, fs, io};
+use rom_fields::bytes::{ByteWrite, Plain};
+use std::io::{self, BufWriter};
 
 /// Does what the words of the command line ask for, and gives the status to end with.
 pub fn run(rt: &HostRuntime) -> u8
     ensures { result ≤ 3 }
 {
-    let words = match env::args(rt) {
-        Ok(words) => words,
-        Err(e) if e.kind() == io::ErrorKind::OutOfMemory => return say(rt, Trouble::Memory).code(),
-        Err(_) => return say(rt, Trouble::Usage).code(),
+    let _held = match hold_closed(rt) {
+        Ok(held) => held,
+        Err(e) => return refused(rt, b"/", &e).code(),
     };
-    let words: Vec<String> = match words.collect(rt.alloc()) {
+    let words = match words(rt) {
         Ok(words) => words,
-        Err(_) => return say(rt, Trouble::Memory).code(),
+        Err(trouble) => return say(rt, trouble).code(),
     };
     match read(rt.alloc(), words.as_slice()) {
         Ok(request) => done(rt, request),
@@ -64,7 +64,7 @@ fn example(rt: &HostRuntime) -> u8
 
 /// The bytes of a file; or else it is said why there are none.
 fn bytes_of(rt: &HostRuntime, name: &str) -> Result<Vec<u8>, Status> {
-    match fs::read(rt, name) {
+    match reading::image(rt, name) {
         Ok(bytes) => Ok(bytes),
         Err(e) => Err(refused(rt, name.as_bytes(), &e)),
     }
@@ -88,13 +88,16 @@ fn serve(rt: &HostRuntime, name: &str) -> u8
         Ok(bytes) => bytes,
         Err(status) => return status.code(),
     };
-    serve_on(
+    let mut err = Plain::new(Held::new(rt, rt.stderr()));
+    let status = serve_on(
         rt.alloc(),
         &bytes,
-        &mut Plain::new(rt.reader()),
-        &mut Plain::new(io::writer(rt)),
-        &mut Plain::new(rt.stderr()),
-    )
+        &mut Plain::new(Again::new(rt.reader())),
+        &mut Plain::new(Held::new(rt, io::writer(rt))),
+        &mut err,
+    );
+    let _ = err.flush();
+    status
 }
 
 /// The bytes of some files, each as `bytes_of` gives it.
@@ -123,27 +126,27 @@ fn space(rt: &HostRuntime, names: &[&str]) -> u8
     if files.is_empty() || files.len() > 8 {
         return say(rt, Trouble::Usage).code();
     }
-    serve_several_on(
+    let mut err = Plain::new(Held::new(rt, rt.stderr()));
+    let status = serve_several_on(
         rt.alloc(),
         &files,
-        &mut Plain::new(rt.reader()),
-        &mut Plain::new(io::writer(rt)),
-        &mut Plain::new(rt.stderr()),
-    )
+        &mut Plain::new(Again::new(rt.reader())),
+        &mut Plain::new(Held::new(rt, io::writer(rt))),
+        &mut err,
+    );
+    let _ = err.flush();
+    status
 }
 
 /// Prints what is shown of an image on the standard streams.
 fn print_out(rt: &HostRuntime, bytes: &[u8], listed: bool) -> u8
     ensures { result ≤ 3 }
 {
-    let Ok(out) = BufWriter::new(rt.alloc(), io::writer(rt)) else {
+    let Ok(out) = BufWriter::new(rt.alloc(), Again::new(io::writer(rt))) else {
         return say(rt, Trouble::Memory).code();
     };
-    print(
-        rt.alloc(),
-        bytes,
-        listed,
-        &mut Plain::new(out),
-        &mut Plain::new(rt.stderr()),
-    )
+    let mut err = Plain::new(Held::new(rt, rt.stderr()));
+    let status = print(rt.alloc(), bytes, listed, &mut Plain::new(out), &mut err);
+    let _ = err.flush();
+    status
 }

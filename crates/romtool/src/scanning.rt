@@ -1,9 +1,10 @@
 //! A folder as a manifest.
+use crate::streams::Again;
 use crate::trouble::{refused, say};
 use build_commands::scanning::{Found, put_scan};
 use command_line::{Status, Trouble};
 use rom_fields::bytes::{Failed, Plain};
-use std::fs;
+use std::fs::{self, DirEntry};
 use std::io::{self, BufWriter};
 
 /// A folder without the slashes at its end, before which the names of what it holds are put.
@@ -11,44 +12,75 @@ fn base(folder: &str) -> &str {
     folder.trim_end_matches('/')
 }
 
-/// Adds the regular files of a folder, and its folders, which are still to be looked into.
-fn look_into(
-    rt: &HostRuntime,
-    folder: &str,
-    found: &mut Vec<Found>,
-    waiting: &mut Vec<String>,
-) -> io::Result<()> {
-    for entry in fs::read_dir(rt, folder)? {
-        let entry = entry?;
+/// What is found below a folder, and the folders of it that are still to be looked into.
+#[derive(Drop)]
+struct Below {
+    found: Vec<Found>,
+    waiting: Vec<String>,
+}
+
+impl Below {
+    /// Adds an entry of this place, where it is a regular file or a folder.
+    fn add(&mut self, rt: &HostRuntime, entry: &DirEntry, place: String) -> io::Result<()> {
         let kind = entry.file_type()?;
-        if kind.is_dir() || kind.is_file() {
-            let place = format!(in rt.alloc(); "{}/{}", base(folder), entry.file_name())?;
-            let is_folder = kind.is_dir();
-            if is_folder {
-                waiting.push(String::from_str(rt.alloc(), &place)?)?;
-            }
-            found.push(Found { place, is_folder })?;
+        let is_folder = kind.is_dir();
+        if is_folder {
+            self.waiting.push(String::from_str(rt.alloc(), &place)?)?;
+        }
+        if is_folder || kind.is_file() {
+            self.found.push(Found { place, is_folder })?;
+        }
+        Ok(())
+    }
+
+    /// Adds the regular files of a folder, and its folders.
+    fn look_into(&mut self, rt: &HostRuntime, folder: &str) -> Result<(), Status> {
+        let entries = match fs::read_dir(rt, folder) {
+            Ok(entries) => entries,
+            Err(e) => return Err(refused(rt, folder.as_bytes(), &e)),
+        };
+        for entry in entries {
+            let entry = match entry {
+                Ok(entry) => entry,
+                Err(e) => return Err(refused(rt, folder.as_bytes(), &e)),
+            };
+            self.add_named(rt, folder, &entry)?;
+        }
+        Ok(())
+    }
+
+    /// Adds an entry of a folder, or says that it is the entry which cannot be looked at.
+    fn add_named(
+        &mut self,
+        rt: &HostRuntime,
+        folder: &str,
+        entry: &DirEntry,
+    ) -> Result<(), Status> {
+        let Ok(place) = format!(in rt.alloc(); "{}/{}", base(folder), entry.file_name()) else {
+            return Err(say(rt, Trouble::Memory));
+        };
+        match self.add(rt, entry, place) {
+            Ok(()) => Ok(()),
+            Err(e) => Err(refused(rt, entry.path().as_str().as_bytes(), &e)),
         }
     }
-    Ok(())
 }
 
 /// All that is below a folder, a folder before what it holds, in the order of the bytes of paths.
-/// What has no text as its name, or cannot be listed, is the fault of its folder.
+/// What cannot be looked at is named; what has no text as its name is the fault of its folder.
 fn all_below(rt: &HostRuntime, folder: &str) -> Result<Vec<Found>, Status> {
-    let mut found = Vec::new(rt.alloc());
-    let mut waiting = Vec::new(rt.alloc());
-    if let Err(e) = look_into(rt, folder, &mut found, &mut waiting) {
-        return Err(refused(rt, folder.as_bytes(), &e));
-    }
+    let mut below = Below {
+        found: Vec::new(rt.alloc()),
+        waiting: Vec::new(rt.alloc()),
+    };
+    below.look_into(rt, folder)?;
     for _ in 0..u64::MAX {
-        let Some(folder) = waiting.pop() else {
+        let Some(folder) = below.waiting.pop() else {
             break;
         };
-        if let Err(e) = look_into(rt, &folder, &mut found, &mut waiting) {
-            return Err(refused(rt, folder.as_bytes(), &e));
-        }
+        below.look_into(rt, &folder)?;
     }
+    let Below { mut found, .. } = below;
     match found.sort() {
         Ok(()) => Ok(found),
         Err(_) => Err(say(rt, Trouble::Memory)),
@@ -62,7 +94,7 @@ pub fn run(rt: &HostRuntime, folder: &str) -> Status {
         Ok(found) => found,
         Err(status) => return status,
     };
-    let Ok(out) = BufWriter::new(rt.alloc(), io::writer(rt)) else {
+    let Ok(out) = BufWriter::new(rt.alloc(), Again::new(io::writer(rt))) else {
         return say(rt, Trouble::Memory);
     };
     match put_scan(&mut Plain::new(out), base(folder).len(), &found) {

@@ -1,5 +1,5 @@
 use Rattle.std.proofs.Common.{◌≡◌, length}
 use Rattle.romtool.proofs.building.sizes_of.Given as goal
 
-abbrev pub invariant-loop-name : goal.invariant-loop-name
-invariant-loop-name l = length l.sizes.items ≡ l.name-index
+abbrev pub invariant-loop-stamp : goal.invariant-loop-stamp
+invariant-loop-stamp l = length l.sizes.items ≡ l.stamp-index

@@ -1,0 +1,4 @@
+pub mod Fronts
+pub mod Romfs
+pub mod Cramfs
+pub mod Reaches

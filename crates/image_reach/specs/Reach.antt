@@ -1,0 +1,17 @@
+-- How far an image says that it goes, by the first 76 bytes of its file. (This project's own.)
+use Rattle.std.specs.Prelude.{◌≡◌, ℕ, ◌^◌, ◌<◌, ◌≤◌, max, if◌then◌else◌, List, length}
+use Rattle.cramfs_format.specs.declared.order.Order.{Order}
+use Rattle.cramfs_format.specs.Superblock.{has_crc, order_of, size_word}
+use Rattle.image_check.specs.Checked.{BeginsRomfs, BeginsCramfs}
+use Rattle.romfs_format.specs.Tree.{full_size}
+
+-- the size that a cramfs image in this byte order states, but 76 at least; or 2^28, where it states none
+abbrev pub size_in : Order → List ℕ → ℕ
+size_in o head = if has_crc o head then max 76 (size_word o head) else 2 ^ 28
+
+-- A check of a file that begins with these bytes, its first 76 or all, where it has fewer, looks at n bytes at most.
+pub data Reaches (head : List ℕ) (n : ℕ) : Type 0 where
+  short : length head < 76 → n ≡ 76 → Reaches head n
+  romfs : 76 ≤ length head → BeginsRomfs head → n ≡ max 76 (full_size head) → Reaches head n
+  cramfs : 76 ≤ length head → BeginsCramfs head → n ≡ size_in (order_of head) head → Reaches head n
+  neither : 76 ≤ length head → (BeginsRomfs head → ⊥) → (BeginsCramfs head → ⊥) → n ≡ 76 → Reaches head n

@@ -1,0 +1,83 @@
+//! The size that an image states.
+ghost use Rattle.std.specs.Prelude.{◌≡◌, ◌≤◌, ◌↔◌, IsTrue, IfSome, IfNone, length, max};
+ghost use Rattle.cramfs_format.specs.Superblock.{order_of};
+ghost use Rattle.image_check.specs.Checked.{BeginsRomfs, BeginsCramfs};
+ghost use Rattle.image_reach.specs.Reach.{Reaches, size_in};
+ghost use Rattle.romfs_format.specs.Tree.{full_size};
+
+use cramfs_format::order::Order;
+use rom_fields::word::be32;
+
+/// How many bytes at the front of a file say how far its image goes.
+pub const HEAD: usize = 76;
+
+/// The first word of a cramfs image.
+const CRAMFS_MAGIC: u32 = 0x28cd_3d45;
+
+/// How far a cramfs image goes at most that states no size.
+const MOST: u64 = 268_435_456;
+
+/// Whether the bytes begin as a romfs image does.
+fn begins_romfs(head: &[u8]) -> bool
+    requires { 76 ≤ length head.now }
+    ensures { IsTrue result ↔ BeginsRomfs head.now }
+{
+    &head[..8] == b"-rom1fs-".as_slice()
+}
+
+/// The byte order of the cramfs image as which the bytes begin, in either order.
+#[tactic(auto, unfolding(cramfs_format::specs::Superblock::order_of))]
+fn order_in(head: &[u8]) -> Option<Order>
+    requires { 76 ≤ length head.now }
+    ensures begins { IfSome result (λ o. BeginsCramfs head.now) }
+    ensures order { IfSome result (λ o. o ≡ order_of head.now) }
+    ensures other { IfNone result (BeginsCramfs head.now → ⊥) }
+{
+    if Order::Big.word(head, 0) == CRAMFS_MAGIC {
+        return Some(Order::Big);
+    }
+    if Order::Little.word(head, 0) == CRAMFS_MAGIC {
+        return Some(Order::Little);
+    }
+    None
+}
+
+/// The size that a romfs image states, but 76 at least.
+fn romfs_size(head: &[u8]) -> u64
+    requires { 76 ≤ length head.now }
+    ensures { result ≡ max 76 (full_size head.now) }
+{
+    let size = be32(head, 8).unwrap_or(0);
+    u64::from(size).max(HEAD as u64)
+}
+
+/// The size that a cramfs image in this byte order states, but 76 at least; or 2^28.
+fn cramfs_size(order: Order, head: &[u8]) -> u64
+    requires { 76 ≤ length head.now }
+    ensures { result ≡ size_in order head.now }
+{
+    // The lowest flag says that the size is stored.
+    if order.word(head, 8) % 2 == 1 {
+        let size = order.word(head, 4);
+        return u64::from(size).max(HEAD as u64);
+    }
+    MOST
+}
+
+/// How many bytes at the front of a file a check of it looks at, by the first 76 of them, or all,
+/// where it has fewer: the size that a romfs or a cramfs image states, but 76 at least; 2^28 of a
+/// cramfs image that states none; 76 of what begins as no image.
+pub fn reach_of(head: &[u8]) -> u64
+    ensures { Reaches head.now result }
+{
+    if head.len() < HEAD {
+        return HEAD as u64;
+    }
+    if begins_romfs(head) {
+        return romfs_size(head);
+    }
+    if let Some(order) = order_in(head) {
+        return cramfs_size(order, head);
+    }
+    HEAD as u64
+}

@@ -1,0 +1,112 @@
+//! The standard streams: calls that a signal cut short are made again, and a line is one write.
+use std::fs::{File, OpenFile};
+use std::io::{self, Read, Write};
+use std::os::fd::AsRawFd;
+
+/// The greatest number of a standard stream.
+const STANDARD_ERROR: i32 = 2;
+
+/// How many bytes are held back at most.
+const MOST_HELD: usize = 64 << 10;
+
+/// Keeps the numbers of standard streams that are closed from the files that are opened later,
+/// which would else be read or written in their place. What is given is to be held until the
+/// program ends.
+///
+/// # Errors
+///
+/// That of the system, where the root of the file system cannot be opened.
+pub fn hold_closed(rt: &HostRuntime) -> io::Result<Vec<File>> {
+    let mut held = Vec::new(rt.alloc());
+    for _ in 0..=STANDARD_ERROR {
+        // a folder can be neither read nor written, so such a stream still fails
+        let file = File::open(rt, "/")?;
+        if file.as_raw_fd() > STANDARD_ERROR {
+            break;
+        }
+        held.push(file)?;
+    }
+    Ok(held)
+}
+
+/// A reader or a writer whose calls are made again where a signal cut them short.
+#[derive(Drop)]
+pub struct Again<X> {
+    inner: X,
+}
+
+impl<X> Again<X> {
+    /// Of this reader or writer.
+    pub fn new(inner: X) -> Again<X> {
+        Again { inner }
+    }
+}
+
+impl<X: Read> Read for Again<X> {
+    fn read(&mut self, buf: &mut [u8]) -> io::Result<usize> {
+        for _ in 0..u64::MAX {
+            match self.inner.read(buf) {
+                Err(e) if e.kind() == io::ErrorKind::Interrupted => {}
+                read => return read,
+            }
+        }
+        Err(io::Error::from(io::ErrorKind::Interrupted))
+    }
+}
+
+impl<X: Write> Write for Again<X> {
+    fn write(&mut self, b: &[u8]) -> io::Result<usize> {
+        for _ in 0..u64::MAX {
+            match self.inner.write(b) {
+                Err(e) if e.kind() == io::ErrorKind::Interrupted => {}
+                written => return written,
+            }
+        }
+        Err(io::Error::from(io::ErrorKind::Interrupted))
+    }
+
+    fn flush(&mut self) -> io::Result<()> {
+        self.inner.flush()
+    }
+}
+
+/// A writer that holds back what is written until it is flushed, so that a line is one write. Where
+/// memory is refused for that, it is written at once.
+#[derive(Drop)]
+pub struct Held<X> {
+    inner: Again<X>,
+    held: Vec<u8>,
+}
+
+impl<X: Write> Held<X> {
+    /// In front of this writer.
+    pub fn new(rt: &HostRuntime, inner: X) -> Held<X> {
+        Held {
+            inner: Again::new(inner),
+            held: Vec::new(rt.alloc()),
+        }
+    }
+
+    /// Writes what is held back.
+    fn hand_on(&mut self) -> io::Result<()> {
+        let written = self.inner.write_all(&self.held);
+        self.held.clear();
+        written
+    }
+}
+
+impl<X: Write> Write for Held<X> {
+    fn write(&mut self, b: &[u8]) -> io::Result<usize> {
+        let room = MOST_HELD.saturating_sub(self.held.len());
+        if b.len() <= room && self.held.extend_from_slice(b).is_ok() {
+            return Ok(b.len());
+        }
+        self.hand_on()?;
+        self.inner.write(b)
+    }
+
+    fn flush(&mut self) -> io::Result<()> {
+        self.hand_on()?;
+        self.inner.flush()
+    }
+}

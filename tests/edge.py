@@ -1,0 +1,654 @@
+#!/usr/bin/env python3
+"""Builds and reads where the system gets in the way: files that are lost, torn or read without end.
+
+    edge.py [--binary PATH] [--name TEXT]
+
+OUT in odd places, the file beside it, sources that change, images with more behind them, signals, closed
+streams; and each call of the system failed in turn, by `strace`. A test that needs `strace`, or root, is
+skipped where it is missing. The last line is `N passed, M failed`, with `, K skipped`.
+"""
+
+import collections
+import contextlib
+import os
+import stat
+import subprocess
+import sys
+import tempfile
+import threading
+import time
+
+import traced
+from build import FORMATS, answer, bytes_in, put, run
+from harness import SECONDS, Counts, parser, program_of
+
+HELLO = b"file /a 0644 0 0 4 a\n"
+NOBODY = 65534
+DELAYS = (0.3, 1.5, 6.0)  # seconds for which a call is held up: longer where the machine was too slow
+FAULTS = ("error=EIO", "error=ENOSPC", "signal=KILL")
+FAILED = ("openat", "read", "pread64", "write", "fsync", "rename", "fchmod", "fchown", "statx", "fcntl", "close")
+
+
+def hello():
+    """Makes a manifest of one file."""
+    put("m", HELLO)
+    put("a", b"hello")
+
+
+def wanted(binary, format="romfs"):
+    """The image of that manifest."""
+    run(binary, "build", format, "m", "wanted")
+    image = bytes_in("wanted")
+    os.remove("wanted")
+    return image
+
+
+def parts():
+    """The files of the current folder that were to become images."""
+    return sorted(name for name in os.listdir(".") if name.endswith(".part"))
+
+
+def needs_strace(test):
+    """A test that is skipped where calls cannot be traced."""
+
+    def tested(binary):
+        if traced.is_there():
+            yield from test(binary)
+        else:
+            yield None
+
+    tested.__name__ = test.__name__
+    return tested
+
+
+def needs_root(test):
+    """A test that is skipped where the owner of a file cannot be set."""
+
+    def tested(binary):
+        if os.geteuid():
+            yield None
+        else:
+            yield from test(binary)
+
+    tested.__name__ = test.__name__
+    return tested
+
+
+# OUT and its part
+
+
+def built_here(binary, out="out"):
+    """What is wrong where the image is to be built under a name in the current folder."""
+    hello()
+    image = wanted(binary)
+    for before in (None, b"old"):
+        if before:
+            put(out, before)
+        done = run(binary, "build", "romfs", "m", out)
+        if answer(done) != (b"ok 1024\n", b"", 0) or bytes_in(out) != image or parts():
+            yield "%r: %r, %r" % (before, answer(done), parts())
+
+
+def folder_that_is_no_text(binary):
+    """OUT is taken by its own name in a folder whose name is no UTF-8, also where it is a link."""
+    os.mkdir(b"\xff")
+    os.chdir(b"\xff")
+    yield from built_here(binary)
+    os.symlink("out", "link")
+    done = run(binary, "build", "romfs", "m", "link")
+    if answer(done) != (b"ok 1024\n", b"", 0) or not os.path.islink("link"):
+        yield "link: %r" % (answer(done),)
+
+
+def folder_that_is_too_long(binary):
+    """OUT is taken by its own name where its folder's is longer than the system takes."""
+    for _ in range(25):
+        os.mkdir("n" * 200)
+        os.chdir("n" * 200)
+    yield from built_here(binary)
+    os.symlink("out", "link")
+    done = run(binary, "build", "romfs", "m", "link")
+    if answer(done) != (b"ok 1024\n", b"", 0) or not os.path.islink("link"):
+        yield "link: %r" % (answer(done),)
+
+
+def link_to_a_closed_stream(binary):
+    """A link that leads to a closed standard stream leads nowhere: it is refused, and stays."""
+    hello()
+    os.symlink("/proc/self/fd/1", "out")
+    words = ["sh", "-c", 'exec "$@" >&-', "sh", binary, "build", "romfs", "m", "out"]
+    done = subprocess.run(words, stderr=subprocess.PIPE, timeout=SECONDS)
+    if (done.stderr, done.returncode) != (b"file out\n", 3) or not os.path.islink("out"):
+        yield "%r" % ((done.stderr, done.returncode, os.listdir(".")),)
+
+
+def out_that_is_read(binary):
+    """OUT that is the manifest or a source, by another name, is refused, and stays as it is."""
+    hello()
+    os.link("a", "hard")
+    os.symlink("m", "soft")
+    for out in ("a", "m", "hard", "soft", "./a"):
+        for format in FORMATS:
+            done = run(binary, "build", format, "m", out)
+            if answer(done) != (b"", b"file %s\n" % out.encode(), 3) or parts():
+                yield "%s, %s: %r" % (out, format, answer(done))
+    if bytes_in("a") != b"hello" or bytes_in("m") != HELLO:
+        yield "it was written"
+
+
+@needs_strace
+def private_while_written(binary):
+    """The part of a private file is private from the first on; the old mode comes after."""
+    hello()
+    for mode in (0o600, 0o640, 0o755):
+        put("out", b"old")
+        os.chmod("out", mode)
+        made, done = traced.calls(binary, "build", "romfs", "m", "out")
+        opened = [call.text for call in made if "out.0.part" in call.text and call.name == "openat"]
+        if done.returncode or len(opened) != 1 or ", 0600)" not in opened[0]:
+            yield "%o: %r" % (mode, opened)
+        if stat.S_IMODE(os.stat("out").st_mode) != mode:
+            yield "%o became %o" % (mode, os.stat("out").st_mode)
+
+
+@needs_root
+def owner_is_kept(binary):
+    """An image that takes the place of a file has its owner, its group and all of its mode."""
+    hello()
+    for mode in (0o600, 0o4755, 0o2711):
+        put("out", b"old")
+        os.chown("out", 1234, 4321)
+        os.chmod("out", mode)
+        run(binary, "build", "romfs", "m", "out")
+        now = os.stat("out")
+        if (now.st_uid, now.st_gid, stat.S_IMODE(now.st_mode)) != (1234, 4321, mode) or now.st_size != 1024:
+            yield "%o: %r" % (mode, now)
+
+
+@needs_root
+def owner_that_cannot_be_set(binary):
+    """Where the owner is another one afterwards, none of the bits is kept that lend its rights."""
+    os.chmod(".", 0o777)
+    hello()
+    for mode in (0o6777, 0o1666):
+        put("out", b"old")
+        os.chown("out", 1234, 4321)
+        os.chmod("out", mode)
+        run(binary, "build", "romfs", "m", "out", preexec_fn=become_nobody)
+        now = os.stat("out")
+        if (now.st_uid, stat.S_IMODE(now.st_mode)) != (NOBODY, mode & 0o777) or now.st_size != 1024:
+            yield "%o: %r" % (mode, now)
+
+
+def become_nobody():
+    """Has no rights but those of everyone."""
+    os.setgroups([])
+    os.setgid(NOBODY)
+    os.setuid(NOBODY)
+
+
+@needs_strace
+def handed_to_the_disk(binary):
+    """The part is handed to the disk before it is renamed, and its folder after."""
+    hello()
+    made, done = traced.calls(binary, "build", "romfs", "m", "out")
+    order = [call.name for call in made if call.name in ("fsync", "rename")]
+    if done.returncode or order != ["fsync", "rename", "fsync"]:
+        yield "%r" % order
+
+
+@needs_strace
+def kinds_that_are_not_handed_on(binary):
+    """OUT that is no regular file is handed to the disk, and that its kind cannot be is passed over."""
+    hello()
+    made, done = traced.calls(binary, "build", "romfs", "m", "/dev/null")
+    if answer(done) != (b"ok 1024\n", b"", 0) or [call.name for call in made].count("fsync") != 1:
+        yield "%r" % (answer(done),)
+    for fault, line, status in (("EINVAL", b"", 0), ("EIO", b"file /dev/null\n", 3)):
+        told = traced.inject("fsync", "error=" + fault)
+        done = traced.run(binary, "build", "romfs", "m", "/dev/null", told=told)
+        if (done.stderr, done.returncode) != (line, status):
+            yield "%s: %r" % (fault, answer(done))
+
+
+@needs_strace
+def folder_that_is_not_handed_on(binary):
+    """That a folder cannot be handed to the disk is passed over; that the disk did not take it is told."""
+    hello()
+    image = wanted(binary)
+    for fault, out, line, status in (("EINVAL", b"ok 1024\n", b"", 0), ("EIO", b"", b"file out\n", 3)):
+        put("out", b"old")
+        done = traced.run(binary, "build", "romfs", "m", "out", told=traced.inject("fsync", "error=" + fault, 2))
+        if answer(done) != (out, line, status) or bytes_in("out") != image or parts():
+            yield "%s: %r" % (fault, answer(done))
+
+
+def held_up(binary, format, call, when, prepare):
+    """How a build ends where something is changed while one of its calls is held up.
+
+    `prepare` lays out the folder before each try, and gives what is then to be done.
+    """
+    for delay in DELAYS:
+        change = prepare()
+        told = traced.inject(call, "delay_enter=%d" % (delay * 1e6), when)
+        with traced.Slowed(binary, "build", format, "m", "out", told=told) as slowed:
+            end = time.monotonic() + SECONDS
+            while not os.path.exists("out.0.part") and time.monotonic() < end:
+                time.sleep(0.005)
+            time.sleep(delay / 3)
+            with contextlib.suppress(FileNotFoundError):
+                change()
+        if slowed.done is None or slowed.done.returncode:
+            break
+    return answer(slowed.done) if slowed.done else None
+
+
+@needs_strace
+def part_of_another_file(binary):
+    """Where the part's name leads to another file, or to none, nothing is renamed and nothing removed."""
+    hello()
+
+    def take_away():
+        os.rename("out.0.part", "aside")
+        if stranger:
+            put("out.0.part", stranger)
+
+    def prepare():
+        put("out", b"as it was")
+        return take_away
+
+    for stranger in (b"stranger", None):
+        told = held_up(binary, "romfs", "fsync", 1, prepare)
+        left = bytes_in("out.0.part") if os.path.exists("out.0.part") else None
+        if told != (b"", b"changed\n", 3) or bytes_in("out") != b"as it was" or left != stranger:
+            yield "%r: %r, %r" % (stranger, told, left)
+        for name in ("aside", *parts()):
+            os.remove(name)
+
+
+def parts_that_are_left(binary):
+    """A part that is left is passed over; a hundred of them end a build, and stay."""
+    hello()
+    image = wanted(binary)
+    for number in range(99):
+        put("out.%d.part" % number, b"left")
+    done = run(binary, "build", "romfs", "m", "out")
+    if answer(done) != (b"ok 1024\n", b"", 0) or bytes_in("out") != image or len(parts()) != 99:
+        yield "99: %r" % (answer(done),)
+    put("out.99.part", b"left")
+    done = run(binary, "build", "romfs", "m", "out")
+    if answer(done) != (b"", b"file out\n", 3) or bytes_in("out") != image or len(parts()) != 100:
+        yield "100: %r" % (answer(done),)
+
+
+# sources
+
+
+HEAD = 4096  # more than what a romfs sum covers
+
+
+@contextlib.contextmanager
+def rewriting(names, length):
+    """Files that are rewritten again and again behind their heads, each time with one byte throughout."""
+    going = True
+
+    def rewrite():
+        files = [open(name, "r+b", buffering=0) for name in names]
+        while going:
+            for byte in b"AB":
+                for file in files:
+                    os.pwrite(file.fileno(), bytes([byte]) * length, HEAD)
+                time.sleep(0.002)
+        for file in files:
+            file.close()
+
+    thread = threading.Thread(target=rewrite)
+    thread.start()
+    try:
+        yield
+    finally:
+        going = False
+        thread.join()
+
+
+@needs_strace
+def rewritten_while_read(binary):
+    """A source that is rewritten while it is read never goes into an image as a mixture."""
+    length = 40000
+    put("m", b"file /a 0644 0 0 4 s\nfile /b 0644 0 0 4 t\n")
+    for name in "st":
+        put(name, bytes(HEAD) + b"A" * length)
+    for format in FORMATS:
+        changed = 0
+        with rewriting("st", length):
+            for _ in range(5):
+                put("out", b"as it was")
+                told = traced.inject("pread64", "delay_enter=3000")
+                done = traced.run(binary, "build", format, "m", "out", told=told)
+                changed += answer(done) == (b"", b"changed\n", 3)
+                if done.returncode not in (0, 3) or (done.returncode and bytes_in("out") != b"as it was"):
+                    yield "%s: %r" % (format, answer(done))
+                if not done.returncode and any(bytes_in("out").count(byte) % length for byte in (b"A", b"B")):
+                    yield "%s: ok with a mixture" % format
+        if not changed:
+            yield "%s: never changed" % format
+
+
+def changes():
+    """What is done to the source `s` while it is read, each by its name."""
+    state = os.stat("s")
+
+    def other_file():
+        put("t", b"B" * 20000)
+        os.utime("t", ns=(state.st_atime_ns, state.st_mtime_ns))
+        os.rename("t", "s")
+
+    def same_time():
+        with open("s", "r+b") as file:
+            file.write(b"B")
+        os.utime("s", ns=(state.st_atime_ns, state.st_mtime_ns))
+
+    def pipe():
+        os.remove("s")
+        os.mkfifo("s")
+
+    def gone():
+        os.remove("s")
+
+    return {
+        "another file of its name": other_file,
+        "a change of the same time": same_time,
+        "longer": lambda: os.truncate("s", 20001),
+        "shorter": lambda: os.truncate("s", 10),
+        "a pipe": pipe,
+        "gone": gone,
+    }
+
+
+@needs_strace
+def changed_while_read(binary):
+    """What becomes of a source before it is opened, while it is read, and when all of it was read."""
+    put("m", b"file /a 0644 0 0 4 s\nfile /b 0644 0 0 4 u\n")
+    put("s", b"A" * 20000)
+    put("u", b"hello")
+    for format in FORMATS:
+        made, _ = traced.calls(binary, "build", format, "m", "wanted")
+        last = max(call.number for call in made if call.name == "pread64")
+        for name, call, when in (("before", "fcntl", 1), ("in", "pread64", 3), ("after", "pread64", last)):
+            for what in list(changes()):
+                told = after_change(binary, format, call, when, what)
+                lines = (b"changed\n", b"file s\n") if what == "gone" else (b"changed\n",)
+                if told not in [(b"", line, 3) for line in lines] or bytes_in("out") != b"as it was" or parts():
+                    yield "%s, %s (%s the reading): %r, %r" % (format, what, name, told, parts())
+
+
+def after_change(binary, format, call, when, what):
+    """How a build ends where its source is changed while one of its calls is held up."""
+
+    def prepare():
+        with contextlib.suppress(FileNotFoundError):
+            os.remove("s")
+        put("s", b"A" * 20000)
+        put("out", b"as it was")
+        return changes()[what]
+
+    return held_up(binary, format, call, when, prepare)
+
+
+# reading
+
+
+@needs_strace
+def no_further_than_stated(binary):
+    """Of an image with more behind it no byte behind its stated size is read."""
+    hello()
+    for format in FORMATS:
+        image = wanted(binary, format)
+        put("image", image + b"\xff" * 100000)
+        for command in ("check", "list", "serve", "space"):
+            made, done = traced.calls(binary, command, "image", stdin=subprocess.DEVNULL)
+            read = sum(int(call.text.rsplit(" = ", 1)[1]) for call in made if call.name == "read")
+            if done.returncode or read > len(image):
+                yield "%s %s: %d of %d bytes, %r" % (command, format, read, len(image), answer(done))
+
+
+def image_from_a_pipe(binary):
+    """An image is answered while the pipe that it comes from stays open, and what follows is left."""
+    hello()
+    image = wanted(binary)
+    reader, writer = os.pipe()
+    os.write(writer, image + b"more")
+    done = run(binary, "check", "/dev/stdin", stdin=reader)
+    stated = int.from_bytes(image[8:12], "big")
+    left = os.read(reader, 65536)
+    os.close(reader)
+    os.close(writer)
+    if answer(done) != (b"ok romfs 3 1\n", b"", 0) or left != image[stated:] + b"more":
+        yield "%r, %d bytes left" % (answer(done), len(left))
+
+
+def device_without_end(binary):
+    """What is no image is known after its first bytes."""
+    for words in (["check"], ["list"], ["serve"], ["space", "/dev/zero"]):
+        begun = time.monotonic()
+        done = run(binary, *words, "/dev/zero", stdin=subprocess.DEVNULL)
+        line = b"fault 3 Magic at 0 in 0\n" if len(words) > 1 else b"fault 3 Magic at 0\n"
+        if answer(done) != (line, b"", 1) or time.monotonic() - begun > 5:
+            yield "%s: %r" % (words, answer(done))
+
+
+# signals, lines and streams
+
+
+@needs_strace
+def interrupted_calls(binary):
+    """Each call that a signal cuts short is made again: the answers are the same."""
+    hello()
+    image = wanted(binary)
+    put("image", image)
+    lines = b"open /a\nread 0 9\nlend 0 9\nquit\n"
+    for words in (["build", "romfs", "m", "out"], ["check", "image"], ["serve", "image"], ["scan", "."], ["fly"]):
+        made, whole = traced.calls(binary, *words, **stream_of(lines))
+        for name in ("read", "pread64", "write", "fsync"):
+            numbers = [call.number for call in made if call.name == name]
+            for number in numbers[:12]:
+                told = traced.inject(name, "error=EINTR", number)
+                done = traced.run(binary, *words, told=told, **stream_of(lines))
+                if answer(done) != answer(whole):
+                    yield "%s, %s %d: %r" % (words[0], name, number, answer(done))
+    if bytes_in("out") != image:
+        yield "the image is another one"
+
+
+def stream_of(given):
+    """What `subprocess.run` has as the standard input of these bytes."""
+    reader, writer = os.pipe()
+    os.write(writer, given)
+    os.close(writer)
+    return {"stdin": os.fdopen(reader)}
+
+
+@needs_strace
+def a_line_is_one_write(binary):
+    """Each line of a refusal or of an ending goes out in one write."""
+    hello()
+    put("image", wanted(binary))
+    put("bad", b"-rom1fs-" + bytes(100))
+    put("misfit", b"file /a 0600 0 0 4 a\n")
+    put("faulty", b"dir\n")
+    name = "é" * 1000
+    for words in (
+        ["check", "image"], ["check", "bad"], ["list", "bad"], ["serve", "bad"], ["space", "bad"], ["fly"],
+        ["check", name], ["scan", name], ["build", "romfs", "m", "out"], ["build", "romfs", "misfit", "out"],
+        ["build", "romfs", "faulty", "out"], ["build", "romfs", name, "out"], ["build", "romfs", "m", "no/out"],
+    ):  # fmt: skip
+        made, done = traced.calls(binary, *words, stdin=subprocess.DEVNULL)
+        written = [call for call in made if call.name == "write" and call.text.startswith(("write(1,", "write(2,"))]
+        if len(written) != 1 or len(done.stdout.splitlines() + done.stderr.splitlines()) != 1:
+            yield "%s: %d writes, %r" % (words[0], len(written), answer(done))
+
+
+def first_word_is_no_text(binary):
+    """The program's own name need not be UTF-8."""
+    hello()
+    for words, wanted_answer in (
+        (["build", "romfs", "m", "out"], (b"ok 1024\n", b"", 0)),
+        (["check", "out"], (b"ok romfs 3 1\n", b"", 0)),
+        (["check", b"\xff"], (b"", b"usage\n", 2)),
+    ):
+        done = subprocess.run(
+            [b"\xff\xfe", *words], executable=binary, stdout=subprocess.PIPE, stderr=subprocess.PIPE, timeout=SECONDS
+        )
+        if answer(done) != wanted_answer:
+            yield "%r: %r" % (words, answer(done))
+
+
+def closed_streams(binary):
+    """A standard stream that is closed is never one of the files that are opened later."""
+    hello()
+    put("n", b"file /a 0644 0 0 4 a\nfile /b 0644 0 0 4 /proc/version\n")
+    image = wanted(binary)
+    for closed in range(8):
+        ends = " ".join("%d%s&-" % (number, "<" if number == 0 else ">") for number in range(3) if closed >> number & 1)
+        for manifest in "mn":
+            put("out", b"as it was")
+            words = ["sh", "-c", 'exec "$@" ' + ends, "sh", binary, "build", "romfs", manifest, "out"]
+            done = subprocess.run(words, stdout=subprocess.PIPE, stderr=subprocess.PIPE, timeout=SECONDS)
+            status = 3 if manifest == "n" or closed & 2 else 0
+            if done.returncode != status or bytes_in("out") != (image if manifest == "m" else b"as it was") or parts():
+                yield "%s %r: %r, %r" % (manifest, ends, answer(done), bytes_in("out")[:20])
+    if bytes_in("m") != HELLO or bytes_in("a") != b"hello":
+        yield "a source was written"
+
+
+def closed_streams_and_a_pipe(binary):
+    """What standard error says does not go into OUT, where OUT is written straight."""
+    hello()
+    put("n", b"file /a 0644 0 0 4 a\nfile /b 0644 0 0 4 /proc/version\n")
+    os.mkfifo("pipe")
+    for ends in ("2>&-", "1>&- 2>&-", "0<&- 1>&- 2>&-"):
+        reader = os.open("pipe", os.O_RDONLY | os.O_NONBLOCK)
+        words = ["sh", "-c", 'exec "$@" ' + ends, "sh", binary, "build", "romfs", "n", "pipe"]
+        done = subprocess.run(words, stdout=subprocess.PIPE, timeout=SECONDS)
+        got = os.read(reader, 65536)
+        os.close(reader)
+        if done.returncode != 3 or b"file" in got or b"changed" in got:
+            yield "%s: %r" % (ends, got[-40:])
+
+
+@needs_strace
+def closed_input_of_a_server(binary):
+    """A server whose input is closed reads nothing else in its place."""
+    hello()
+    put("image", wanted(binary))
+    words = ["sh", "-c", 'exec "$@" 0<&-', "sh", binary, "serve", "image"]
+    done = subprocess.run(words, stdout=subprocess.PIPE, stderr=subprocess.PIPE, timeout=SECONDS)
+    if answer(done) != (b"", b"read fault\n", 3):
+        yield "%r" % (answer(done),)
+
+
+@needs_strace
+def entries_of_a_scan(binary):
+    """An entry that vanished, or that cannot be looked at, is named, and not its folder."""
+    os.makedirs("in/d")
+    for name in ("in/a", "in/d/b"):
+        put(name, b"")
+    made, _ = traced.calls(binary, "scan", "in")
+    looked = [call for call in made if call.name == "statx" and '"in/' in call.text]
+    for call in looked:
+        name = call.text.split('"')[1]
+        for fault in ("ENOENT", "EACCES"):
+            done = traced.run(binary, "scan", "in", told=traced.inject("statx", "error=" + fault, call.number))
+            if answer(done) != (b"", b"file %s\n" % name.encode(), 3):
+                yield "%s: %r" % (name, answer(done))
+    if len(looked) != 3:
+        yield "%d entries" % len(looked)
+
+
+# each call failed
+
+
+def wrong_after(done, fault, image, call):
+    """What is wrong after a build one of whose calls was failed."""
+    now = bytes_in("out") if os.path.exists("out") else None
+    if now not in (None, b"old", image):
+        yield "%s, %s: OUT is torn: %d bytes" % (call.text[:60], fault, len(now))
+    if fault == "signal=KILL":
+        return
+    if done.returncode not in (0, 3):
+        yield "%s, %s: status %d" % (call.text[:60], fault, done.returncode)
+    if done.returncode == 0 and now != image:
+        yield "%s, %s: ok, and OUT is not the image" % (call.text[:60], fault)
+    if parts() and "unlink" not in call.name:
+        yield "%s, %s: %s is left" % (call.text[:60], fault, parts())
+
+
+@needs_strace
+def each_call_failed(binary):
+    """OUT is wholly old or wholly new, and no part is left, whichever call of a build is failed."""
+    put("m", b"dir /d 0755 0 0\nfile /d/a 0644 0 0 4 a\nfile /b 0644 0 0 4 b\n")
+    put("a", b"hello")
+    put("b", bytes(9000))
+    ends = collections.Counter()
+    for format in FORMATS:
+        image = wanted(binary, format)
+        for old in (None, b"old"):
+            for call, fault in calls_to_fail(binary, format, old):
+                lay_old(old)
+                told = traced.inject(call.name, fault, call.number)
+                done = traced.run(binary, "build", format, "m", "out", told=told)
+                yield from wrong_after(done, fault, image, call)
+                ends[(fault, done.returncode)] += 1
+    told = ("%s ended with %d: %d" % (*end, number) for end, number in sorted(ends.items()))
+    print("each_call_failed: %d faults; %s" % (sum(ends.values()), ", ".join(told)))
+
+
+def calls_to_fail(binary, format, old):
+    """The calls of a build, each with each fault."""
+    lay_old(old)
+    made, _ = traced.calls(binary, "build", format, "m", "out")
+    return [(call, fault) for call in made if call.name in FAILED for fault in FAULTS]
+
+
+def lay_old(old):
+    """Makes the folder as it is before a build: OUT has some bytes, or is not there."""
+    for name in ["out", *parts()]:
+        with contextlib.suppress(FileNotFoundError):
+            os.remove(name)
+    if old:
+        put("out", old)
+
+
+TESTS = [
+    folder_that_is_no_text, folder_that_is_too_long, link_to_a_closed_stream, out_that_is_read,
+    private_while_written, owner_is_kept, owner_that_cannot_be_set, handed_to_the_disk,
+    kinds_that_are_not_handed_on, folder_that_is_not_handed_on, part_of_another_file, parts_that_are_left,
+    rewritten_while_read, changed_while_read, no_further_than_stated, image_from_a_pipe, device_without_end,
+    interrupted_calls, a_line_is_one_write, first_word_is_no_text, closed_streams, closed_streams_and_a_pipe,
+    closed_input_of_a_server, entries_of_a_scan, each_call_failed,
+]  # fmt: skip
+
+
+def main():
+    reader = parser("Build and read where the system gets in the way.")
+    reader.add_argument("--name", default="", help="the tests alone whose name has this text")
+    arguments = reader.parse_args()
+    binary, counts = program_of(arguments), Counts()
+    for test in TESTS:
+        if arguments.name not in test.__name__:
+            continue
+        with tempfile.TemporaryDirectory(prefix="romtool-") as top:
+            os.chdir(top)
+            wrong = list(test(binary))
+            os.chdir("/")
+        if wrong == [None]:
+            counts.skips(test.__name__)
+        elif wrong:
+            counts.fails(test.__name__, wrong)
+        else:
+            counts.passes()
+    return counts.close()
+
+
+if __name__ == "__main__":
+    sys.exit(main())
