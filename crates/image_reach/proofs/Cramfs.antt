@@ -1,126 +1,104 @@
--- A cramfs image in a file: what is said of the first n bytes, where it goes no further, is said of the whole.
-use Rattle.std.proofs.Common.{◌≡◌, ◌≢◌, ℕ, ◌+◌, ◌^◌, ◌%◌, ◌==◌, ◌<◌, ◌≤◌, min, Bool, true, false, List, length, take, refl, sym, ap, subst, ◌∙◌, arith, take-take, length-take}
+-- Two files of which a cramfs image reads the same bytes have one tree and the same faults.
+use Rattle.std.proofs.Common.{◌≡◌, ℕ, ◌<◌, ◌≤◌, ◌↔◌, min, List, length, refl, sym, ap, subst, ◌∙◌}
+use Rattle.rom_tree.specs.Tree.{Node, depth}
+use Rattle.rom_tree.specs.Image.{Image}
+use Rattle.rom_tree.specs.declared.types.Limits.{Limits}
+use Rattle.rom_tree.specs.declared.types.Report.{Report}
 use Rattle.rom_faults.specs.declared.fault.Fault.{Fault}
 use Rattle.rom_faults.specs.declared.error.CheckError.{CheckError}
 use Rattle.rom_faults.specs.declared.error.CheckError.TheVariants.{OutOfMemory, Fault as FaultAnswer}
-use Rattle.rom_tree.specs.Image.{Image}
-use Rattle.rom_tree.specs.Tree.{Node}
-use Rattle.rom_tree.specs.declared.types.Limits.{Limits}
-use Rattle.rom_tree.specs.declared.types.Report.{Report}
 use Rattle.cramfs_format.specs.declared.order.Order.{Order}
 use Rattle.cramfs_format.specs.Order.{word}
-use Rattle.cramfs_format.specs.Superblock.{magic, size_word, flags_of, has_crc, accessible, accessible_size, HasSize, HasFlags, HasCrc, HasSignature, HasRoot, IsSuperblock, HasImageFault, short, no_magic, bad_size, bad_flags, bad_crc, unsigned, bad_root}
 use Rattle.cramfs_format.specs.Tree.{CramfsTree}
-use Rattle.cramfs_format.specs.Faults.{IsLeastImageFault, IsLeastPhaseFault, HasTooMany, whole as of_whole, many as of_many, phase as of_phase}
-use Rattle.cramfs_image.specs.Checked.{IsLeastAnswer, Shows}
-use Rattle.image_reach.proofs.Fronts.{front_word, longer, as_long, shorter, as_short, wider, not_longer}
+use Rattle.cramfs_format.specs.Superblock.{IsSuperblock, HasImageFault, accessible, HasSize, HasFlags, HasCrc, HasSignature, HasRoot, short, no_magic, bad_size, bad_flags, bad_crc, unsigned, bad_root}
+use Rattle.cramfs_format.specs.Faults.{HasNoFault, IsLeastImageFault, IsLeastPhaseFault, HasTooMany, HasReachedFault, HasTwiceFault, HasDepthFault, HasExtentFault, HasNameFault, whole, many, phase}
+use Rattle.cramfs_image.specs.Checked.{Shows, IsLeastAnswer}
 
--- the image goes no further than n
-pub record GoesTo (o : Order) (b : List ℕ) (n : ℕ) : Type 0 where
-  pub enough : 76 ≤ n
-  pub sized : has_crc o b ≡ true → size_word o b ≤ n
-  pub unsized : has_crc o b ≡ false → 2 ^ 28 ≤ n
+-- what an image in this byte order reads of the file is the same of both
+pub record Alike (o : Order) (all cut : List ℕ) : Type 0 where
+  pub long : (76 ≤ length all) ↔ (76 ≤ length cut)
+  pub few : (length all < 76) ↔ (length cut < 76)
+  pub begins : word o all 0 ≡ word o cut 0
+  pub size : HasSize o all ↔ HasSize o cut
+  pub bytes : accessible o all ≡ accessible o cut
 
-module _ (o : Order) (b : List ℕ) (n : ℕ) (g : GoesTo o b n) where
-  pub same_magic : word o (take n b) 0 ≡ word o b 0
-  same_magic = front_word o b n 0 (let e = g.enough in omega arith)
+pub alike_self : (o : Order) (all : List ℕ) → Alike o all all
+alike_self o all = record { long = (λ h. h, λ h. h); few = (λ h. h, λ h. h); begins = refl; size = (λ h. h, λ h. h); bytes = refl }
 
-  same_size : size_word o (take n b) ≡ size_word o b
-  same_size = front_word o b n 4 (let e = g.enough in omega arith)
+pub alike_turned : {o : Order} {all cut : List ℕ} → Alike o all cut → Alike o cut all
+alike_turned a = record { long = (a.long.1, a.long.0); few = (a.few.1, a.few.0); begins = sym a.begins; size = (a.size.1, a.size.0); bytes = sym a.bytes }
 
-  same_flag : has_crc o (take n b) ≡ has_crc o b
-  same_flag = ap (λ (w : ℕ). w % 2 == 1) (front_word o b n 8 (let e = g.enough in omega arith))
+image_fault : (o : Order) (all cut : List ℕ) (e : Fault) → Alike o all cut → HasImageFault o all e → HasImageFault o cut e
+image_fault o all cut e a (short l is) = short (a.few.0 l) is
+image_fault o all cut e a (no_magic l m is) = no_magic (a.long.0 l) (λ k. m (a.begins ∙ k)) is
+image_fault o all cut e a (bad_size l m s is) = bad_size (a.long.0 l) (sym a.begins ∙ m) (λ k. s (a.size.1 k)) is
+image_fault o all cut e a (bad_flags l m s f is) =
+    bad_flags (a.long.0 l) (sym a.begins ∙ m) (a.size.0 s) (λ k. f (subst (λ (v : List ℕ). HasFlags o v) (sym a.bytes) k)) is
+image_fault o all cut e a (bad_crc l m s f c is) =
+    bad_crc (a.long.0 l) (sym a.begins ∙ m) (a.size.0 s) (subst (λ (v : List ℕ). HasFlags o v) a.bytes f)
+    (λ k. c (subst (λ (v : List ℕ). HasCrc o v) (sym a.bytes) k)) is
+image_fault o all cut e a (unsigned l m s f c g is) =
+    unsigned (a.long.0 l) (sym a.begins ∙ m) (a.size.0 s) (subst (λ (v : List ℕ). HasFlags o v) a.bytes f)
+    (subst (λ (v : List ℕ). HasCrc o v) a.bytes c) (λ k. g (subst (λ (v : List ℕ). HasSignature v) (sym a.bytes) k)) is
+image_fault o all cut e a (bad_root l m s f c g r is) =
+    bad_root (a.long.0 l) (sym a.begins ∙ m) (a.size.0 s) (subst (λ (v : List ℕ). HasFlags o v) a.bytes f)
+    (subst (λ (v : List ℕ). HasCrc o v) a.bytes c) (subst (λ (v : List ℕ). HasSignature v) a.bytes g)
+    (λ k. r (subst (λ (v : List ℕ). HasRoot o v) (sym a.bytes) k)) is
 
-  sized_bytes : has_crc o b ≡ true → accessible o (take n b) ≡ accessible o b
-  unfolding accessible_size
-  sized_bytes h = rw same_flag (rw h (ap (λ (s : ℕ). take s (take n b)) same_size ∙ take-take (size_word o b) n b (g.sized h)))
+unfaulted : (o : Order) (all cut : List ℕ) → Alike o all cut → ((e : Fault) → HasImageFault o all e → ⊥) → (e : Fault) → HasImageFault o cut e → ⊥
+unfaulted o all cut a h e k = h e (image_fault o cut all e (alike_turned a) k)
 
-  unsized_bytes : has_crc o b ≡ false → accessible o (take n b) ≡ accessible o b
-  unfolding accessible_size
-  unsized_bytes h =
-      let e : min (length (take n b)) (2 ^ 28) ≡ min (length b) (2 ^ 28) = (let l = g.unsized h in omega (arith, length-take n b)) in
-      rw same_flag (rw h (ap (λ (s : ℕ). take s (take n b)) e ∙ take-take (min (length b) (2 ^ 28)) n b (let l = g.unsized h in omega arith)))
+least_fault : (o : Order) (all cut : List ℕ) (most deepest : ℕ) (e : Fault) → Alike o all cut → IsLeastImageFault o all most deepest e → IsLeastImageFault o cut most deepest e
+least_fault o all cut most deepest e a (whole h) = whole (image_fault o all cut e a h)
+least_fault o all cut most deepest e a (many n h is) =
+    many (unfaulted o all cut a n) (subst (λ (v : List ℕ). HasTooMany o v most) a.bytes h) is
+least_fault o all cut most deepest e a (phase n h p) =
+    phase (unfaulted o all cut a n) (λ k. h (subst (λ (v : List ℕ). HasTooMany o v most) (sym a.bytes) k))
+    (subst (λ (v : List ℕ). IsLeastPhaseFault o v deepest e) a.bytes p)
 
-  same_bytes : accessible o (take n b) ≡ accessible o b
-  same_bytes = by (has_crc o b) refl
-    where
-      by : (c : Bool) → has_crc o b ≡ c → accessible o (take n b) ≡ accessible o b
-      by true h = sized_bytes h
-      by false h = unsized_bytes h
+pub least_answer : (o : Order) (all cut : List ℕ) (limits : Limits) (e : CheckError) → Alike o all cut → IsLeastAnswer o all limits e → IsLeastAnswer o cut limits e
+least_answer o all cut limits OutOfMemory a h = unfaulted o all cut a h
+least_answer o all cut limits (FaultAnswer number at) a h =
+    least_fault o all cut limits.references limits.depth (record { number = number; at = at }) a h
 
-  size_of_whole : HasSize o (take n b) → HasSize o b
-  size_of_whole s h =
-      let t = s (same_flag ∙ h) in
-      let e = same_size in
-      (let l = t.0 in omega arith, longer b n (size_word o b) (let l = t.1 in omega arith))
+pub no_fault : (o : Order) (all cut : List ℕ) (most deepest : ℕ) → Alike o all cut → HasNoFault o all most deepest → HasNoFault o cut most deepest
+no_fault o all cut most deepest a h = record {
+  image = unfaulted o all cut a h.image;
+  few = λ k. h.few (subst (λ (v : List ℕ). HasTooMany o v most) (sym a.bytes) k);
+  sound = subst (λ (v : List ℕ). (e : Fault) → HasReachedFault o v e → ⊥) a.bytes h.sound;
+  once = subst (λ (v : List ℕ). (e : Fault) → HasTwiceFault o v e → ⊥) a.bytes h.once;
+  shallow = subst (λ (v : List ℕ). (e : Fault) → HasDepthFault o v (min deepest 64) e → ⊥) a.bytes h.shallow;
+  apart = subst (λ (v : List ℕ). (e : Fault) → HasExtentFault o v e → ⊥) a.bytes h.apart;
+  named = subst (λ (v : List ℕ). (e : Fault) → HasNameFault o v e → ⊥) a.bytes h.named;
+}
 
-  size_of_front : HasSize o b → HasSize o (take n b)
-  size_of_front s h =
-      let k = sym same_flag ∙ h in
-      let t = s k in
-      let e = same_size in
-      (let l = t.0 in omega arith, let l = as_long b n (size_word o b) (g.sized k) t.1 in omega arith)
+superblock : (o : Order) (all cut b : List ℕ) → Alike o all cut → IsSuperblock o all b → IsSuperblock o cut b
+superblock o all cut b a h = record {
+  long = a.long.0 h.long;
+  begins = sym a.begins ∙ h.begins;
+  size = a.size.0 h.size;
+  cut = h.cut ∙ a.bytes;
+  flags = h.flags;
+  crc = h.crc;
+  signed = h.signed;
+  root = h.root;
+}
 
-  to_whole : (P : List ℕ → Type 0) → P (accessible o (take n b)) → P (accessible o b)
-  to_whole P h = subst P same_bytes h
+pub same_tree : (o : Order) (all cut : List ℕ) (most deepest : ℕ) (t : Node) → Alike o all cut → CramfsTree o all most deepest t → CramfsTree o cut most deepest t
+same_tree o all cut most deepest t a h =
+    record { b = h.b; super = superblock o all cut h.b a h.super; forest = h.forest; whole = h.whole; same = h.same }
 
-  to_front : (P : List ℕ → Type 0) → P (accessible o b) → P (accessible o (take n b))
-  to_front P h = subst P (sym same_bytes) h
-
-  long_whole : 76 ≤ length (take n b) → 76 ≤ length b
-  long_whole l = longer b n 76 l
-
-  long_front : 76 ≤ length b → 76 ≤ length (take n b)
-  long_front l = as_long b n 76 g.enough l
-
-  fault_of_whole : (e : Fault) → HasImageFault o (take n b) e → HasImageFault o b e
-  fault_of_whole e (short l is) = short (shorter b n 76 g.enough l) is
-  fault_of_whole e (no_magic l m is) = no_magic (long_whole l) (λ k. m (same_magic ∙ k)) is
-  fault_of_whole e (bad_size l m s is) = bad_size (long_whole l) (sym same_magic ∙ m) (λ h. s (size_of_front h)) is
-  fault_of_whole e (bad_flags l m s f is) = bad_flags (long_whole l) (sym same_magic ∙ m) (size_of_whole s) (to_whole (λ a. HasFlags o a → ⊥) f) is
-  fault_of_whole e (bad_crc l m s f c is) = bad_crc (long_whole l) (sym same_magic ∙ m) (size_of_whole s) (to_whole (HasFlags o) f) (to_whole (λ a. HasCrc o a → ⊥) c) is
-  fault_of_whole e (unsigned l m s f c u is) =
-      unsigned (long_whole l) (sym same_magic ∙ m) (size_of_whole s) (to_whole (HasFlags o) f) (to_whole (HasCrc o) c) (to_whole (λ a. HasSignature a → ⊥) u) is
-  fault_of_whole e (bad_root l m s f c u r is) =
-      bad_root (long_whole l) (sym same_magic ∙ m) (size_of_whole s) (to_whole (HasFlags o) f) (to_whole (HasCrc o) c) (to_whole HasSignature u) (to_whole (λ a. HasRoot o a → ⊥) r) is
-
-  fault_of_front : (e : Fault) → HasImageFault o b e → HasImageFault o (take n b) e
-  fault_of_front e (short l is) = short (as_short b n 76 l) is
-  fault_of_front e (no_magic l m is) = no_magic (long_front l) (λ k. m (sym same_magic ∙ k)) is
-  fault_of_front e (bad_size l m s is) = bad_size (long_front l) (same_magic ∙ m) (λ h. s (size_of_whole h)) is
-  fault_of_front e (bad_flags l m s f is) = bad_flags (long_front l) (same_magic ∙ m) (size_of_front s) (to_front (λ a. HasFlags o a → ⊥) f) is
-  fault_of_front e (bad_crc l m s f c is) = bad_crc (long_front l) (same_magic ∙ m) (size_of_front s) (to_front (HasFlags o) f) (to_front (λ a. HasCrc o a → ⊥) c) is
-  fault_of_front e (unsigned l m s f c u is) =
-      unsigned (long_front l) (same_magic ∙ m) (size_of_front s) (to_front (HasFlags o) f) (to_front (HasCrc o) c) (to_front (λ a. HasSignature a → ⊥) u) is
-  fault_of_front e (bad_root l m s f c u r is) =
-      bad_root (long_front l) (same_magic ∙ m) (size_of_front s) (to_front (HasFlags o) f) (to_front (HasCrc o) c) (to_front HasSignature u) (to_front (λ a. HasRoot o a → ⊥) r) is
-
-  least_of_whole : (most deepest : ℕ) (e : Fault) → IsLeastImageFault o (take n b) most deepest e → IsLeastImageFault o b most deepest e
-  least_of_whole most deepest e (of_whole f) = of_whole (fault_of_whole e f)
-  least_of_whole most deepest e (of_many none too is) = of_many (λ d f. none d (fault_of_front d f)) (to_whole (λ a. HasTooMany o a most) too) is
-  least_of_whole most deepest e (of_phase none few f) =
-      of_phase (λ d g. none d (fault_of_front d g)) (to_whole (λ a. HasTooMany o a most → ⊥) few) (to_whole (λ a. IsLeastPhaseFault o a deepest e) f)
-
-  pub answer_of_whole : (limits : Limits) (e : CheckError) → IsLeastAnswer o (take n b) limits e → IsLeastAnswer o b limits e
-  answer_of_whole limits OutOfMemory none = λ d f. none d (fault_of_front d f)
-  answer_of_whole limits (FaultAnswer number at) f = least_of_whole limits.references limits.depth (record { number = number; at = at }) f
-
-  super_of_whole : (a : List ℕ) → IsSuperblock o (take n b) a → IsSuperblock o b a
-  super_of_whole a s = record {
-    long = long_whole s.long;
-    begins = sym same_magic ∙ s.begins;
-    size = size_of_whole s.size;
-    cut = s.cut ∙ same_bytes;
-    flags = s.flags;
-    crc = s.crc;
-    signed = s.signed;
-    root = s.root;
-  }
-
-  tree_of_whole : {most deepest : ℕ} {t : Node} → CramfsTree o (take n b) most deepest t → CramfsTree o b most deepest t
-  tree_of_whole x = record { b = x.b; super = super_of_whole x.b x.super; forest = x.forest; whole = x.whole; same = x.same }
-
-  pub shown_of_whole : (limits : Limits) (m : Image) (report : Report) → Shows o (take n b) limits m report
-      → (w : Image) × Shows o b limits w report × (w.tree ≡ m.tree)
-  shown_of_whole limits m report s =
-      (wider m b (not_longer b n m.bytes s.bytes), record { bytes = refl; tree = tree_of_whole s.tree; count = s.count; deep = s.deep }, refl)
+-- an image of the same tree over the other file has the same report
+pub shows : (o : Order) (all cut : List ℕ) (limits : Limits) (m w : Image) (report : Report) → Alike o all cut → w.bytes ≡ cut → m.tree ≡ w.tree → Shows o all limits m report → Shows o cut limits w report
+shows o all cut limits m w report a over same h = record {
+  bytes = over;
+  tree = record {
+    b = h.tree.b;
+    super = superblock o all cut h.tree.b a h.tree.super;
+    forest = h.tree.forest;
+    whole = h.tree.whole;
+    same = sym same ∙ h.tree.same;
+  };
+  count = h.count;
+  deep = h.deep ∙ ap depth same;
+}

@@ -1,4 +1,5 @@
 pub mod Fronts
 pub mod Romfs
 pub mod Cramfs
-pub mod Reaches
+pub mod Both
+pub mod Reached

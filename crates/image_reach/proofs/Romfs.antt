@@ -1,90 +1,103 @@
--- A romfs image in a file: what is said of the first n bytes, where it states no more, is said of the whole.
-use Rattle.std.proofs.Common.{◌≡◌, ◌≢◌, ℕ, ◌+◌, ◌<◌, ◌≤◌, List, length, take, refl, sym, ap, subst, ◌∙◌, arith, take-take}
+-- Two files of which a romfs image reads the same bytes have one tree and the same faults.
+use Rattle.std.proofs.Common.{◌≡◌, ℕ, ◌<◌, ◌≤◌, ◌↔◌, min, List, length, take, refl, sym, ap, subst, ◌∙◌}
+use Rattle.rom_tree.specs.Tree.{Node, depth}
+use Rattle.rom_tree.specs.Image.{Image}
+use Rattle.rom_tree.specs.declared.types.Limits.{Limits}
+use Rattle.rom_tree.specs.declared.types.Report.{Report}
 use Rattle.rom_faults.specs.declared.fault.Fault.{Fault}
 use Rattle.rom_faults.specs.declared.fault.TheConstants.{ROOT}
 use Rattle.rom_faults.specs.declared.error.CheckError.{CheckError}
 use Rattle.rom_faults.specs.declared.error.CheckError.TheVariants.{OutOfMemory, Fault as FaultAnswer}
 use Rattle.romfs_format.specs.Record.{type_of}
-use Rattle.romfs_format.specs.Tree.{magic, full_size, root_of, IsSuperblock, RomfsTree}
-use Rattle.romfs_format.specs.Superblock.{accessible, HasSize, HasSum, HasRoot, HasImageFault, short, no_magic, bad_size, bad_sum, no_root, root_kind}
-use Rattle.romfs_format.specs.Faults.{IsLeastImageFault, IsLeastPhaseFault, HasTooMany, whole as of_whole, many as of_many, phase as of_phase}
-use Rattle.rom_tree.specs.Image.{Image}
-use Rattle.rom_tree.specs.Tree.{Node}
-use Rattle.rom_tree.specs.declared.types.Limits.{Limits}
-use Rattle.rom_tree.specs.declared.types.Report.{Report}
-use Rattle.romfs_image.specs.Checked.{IsLeastAnswer, Shows}
-use Rattle.image_reach.proofs.Fronts.{front_be, longer, as_long, shorter, as_short, wider, not_longer}
+use Rattle.romfs_format.specs.Tree.{IsSuperblock, RomfsTree, root_of}
+use Rattle.romfs_format.specs.Superblock.{HasImageFault, accessible, HasSize, HasSum, HasRoot, short, no_magic, bad_size, bad_sum, no_root, root_kind}
+use Rattle.romfs_format.specs.Faults.{HasNoFault, IsLeastImageFault, IsLeastPhaseFault, HasTooMany, HasReachedFault, HasTwiceFault, HasDepthFault, HasExtentFault, HasNameFault, whole, many, phase}
+use Rattle.romfs_image.specs.Checked.{Shows, IsLeastAnswer}
 
-module _ (b : List ℕ) (n : ℕ) (enough : 76 ≤ n) where
-  same_magic : take 8 (take n b) ≡ take 8 b
-  same_magic = take-take 8 n b (omega arith)
+-- what an image reads of the file is the same of both
+pub record Alike (all cut : List ℕ) : Type 0 where
+  pub long : (32 ≤ length all) ↔ (32 ≤ length cut)
+  pub few : (length all < 32) ↔ (length cut < 32)
+  pub begins : take 8 all ≡ take 8 cut
+  pub size : HasSize all ↔ HasSize cut
+  pub bytes : accessible all ≡ accessible cut
 
-  pub same_size : full_size (take n b) ≡ full_size b
-  same_size = front_be b n 8 (omega arith)
+pub alike_self : (all : List ℕ) → Alike all all
+alike_self all = record { long = (λ h. h, λ h. h); few = (λ h. h, λ h. h); begins = refl; size = (λ h. h, λ h. h); bytes = refl }
 
-  module _ (stated : full_size b ≤ n) where
-    same_bytes : accessible (take n b) ≡ accessible b
-    same_bytes = ap (λ (s : ℕ). take s (take n b)) same_size ∙ take-take (full_size b) n b stated
+pub alike_turned : {all cut : List ℕ} → Alike all cut → Alike cut all
+alike_turned a = record { long = (a.long.1, a.long.0); few = (a.few.1, a.few.0); begins = sym a.begins; size = (a.size.1, a.size.0); bytes = sym a.bytes }
 
-    size_of_whole : HasSize (take n b) → HasSize b
-    size_of_whole h = let e = same_size in let k = h.0 in (omega arith, longer b n (full_size b) (let l = h.1 in omega arith))
+image_fault : (all cut : List ℕ) (e : Fault) → Alike all cut → HasImageFault all e → HasImageFault cut e
+image_fault all cut e a (short l is) = short (a.few.0 l) is
+image_fault all cut e a (no_magic l m is) = no_magic (a.long.0 l) (λ k. m (a.begins ∙ k)) is
+image_fault all cut e a (bad_size l m s is) = bad_size (a.long.0 l) (sym a.begins ∙ m) (λ k. s (a.size.1 k)) is
+image_fault all cut e a (bad_sum l m s n is) =
+    bad_sum (a.long.0 l) (sym a.begins ∙ m) (a.size.0 s) (λ k. n (subst (λ (v : List ℕ). HasSum v) (sym a.bytes) k)) is
+image_fault all cut e a (no_root l m s n r is) =
+    no_root (a.long.0 l) (sym a.begins ∙ m) (a.size.0 s) (subst (λ (v : List ℕ). HasSum v) a.bytes n)
+    (λ k. r (subst (λ (v : List ℕ). HasRoot v) (sym a.bytes) k)) is
+image_fault all cut e a (root_kind l m s n r k is) =
+    root_kind (a.long.0 l) (sym a.begins ∙ m) (a.size.0 s) (subst (λ (v : List ℕ). HasSum v) a.bytes n)
+    (subst (λ (v : List ℕ). HasRoot v) a.bytes r) (λ x. k (ap (λ (v : List ℕ). type_of v (root_of v)) a.bytes ∙ x))
+    (subst (λ (v : List ℕ). e ≡ record { number = ROOT; at = root_of v }) a.bytes is)
 
-    size_of_front : HasSize b → HasSize (take n b)
-    size_of_front h = let e = same_size in let k = h.0 in (omega arith, let l = as_long b n (full_size b) stated h.1 in omega arith)
+unfaulted : (all cut : List ℕ) → Alike all cut → ((e : Fault) → HasImageFault all e → ⊥) → (e : Fault) → HasImageFault cut e → ⊥
+unfaulted all cut a h e k = h e (image_fault cut all e (alike_turned a) k)
 
-    to_whole : (P : List ℕ → Type 0) → P (accessible (take n b)) → P (accessible b)
-    to_whole P h = subst P same_bytes h
+least_fault : (all cut : List ℕ) (most deepest : ℕ) (e : Fault) → Alike all cut → IsLeastImageFault all most deepest e → IsLeastImageFault cut most deepest e
+least_fault all cut most deepest e a (whole h) = whole (image_fault all cut e a h)
+least_fault all cut most deepest e a (many n h is) =
+    many (unfaulted all cut a n) (subst (λ (v : List ℕ). HasTooMany v (root_of v) most) a.bytes h) is
+least_fault all cut most deepest e a (phase n h p) =
+    phase (unfaulted all cut a n) (λ k. h (subst (λ (v : List ℕ). HasTooMany v (root_of v) most) (sym a.bytes) k))
+    (subst (λ (v : List ℕ). IsLeastPhaseFault v (root_of v) deepest e) a.bytes p)
 
-    to_front : (P : List ℕ → Type 0) → P (accessible b) → P (accessible (take n b))
-    to_front P h = subst P (sym same_bytes) h
+pub least_answer : (all cut : List ℕ) (limits : Limits) (e : CheckError) → Alike all cut → IsLeastAnswer all limits e → IsLeastAnswer cut limits e
+least_answer all cut limits OutOfMemory a h = unfaulted all cut a h
+least_answer all cut limits (FaultAnswer number at) a h =
+    least_fault all cut limits.references limits.depth (record { number = number; at = at }) a h
 
-    pub fault_of_whole : (e : Fault) → HasImageFault (take n b) e → HasImageFault b e
-    fault_of_whole e (short l is) = short (shorter b n 32 (omega arith) l) is
-    fault_of_whole e (no_magic l m is) = no_magic (longer b n 32 l) (λ k. m (same_magic ∙ k)) is
-    fault_of_whole e (bad_size l m s is) = bad_size (longer b n 32 l) (sym same_magic ∙ m) (λ h. s (size_of_front h)) is
-    fault_of_whole e (bad_sum l m s u is) = bad_sum (longer b n 32 l) (sym same_magic ∙ m) (size_of_whole s) (to_whole (λ a. HasSum a → ⊥) u) is
-    fault_of_whole e (no_root l m s u r is) = no_root (longer b n 32 l) (sym same_magic ∙ m) (size_of_whole s) (to_whole HasSum u) (to_whole (λ a. HasRoot a → ⊥) r) is
-    fault_of_whole e (root_kind l m s u r k is) =
-        root_kind (longer b n 32 l) (sym same_magic ∙ m) (size_of_whole s) (to_whole HasSum u) (to_whole HasRoot r) (to_whole (λ a. type_of a (root_of a) ≢ 1) k)
-        (to_whole (λ a. e ≡ record { number = ROOT; at = root_of a }) is)
+pub no_fault : (all cut : List ℕ) (most deepest : ℕ) → Alike all cut → HasNoFault all most deepest → HasNoFault cut most deepest
+no_fault all cut most deepest a h = record {
+  image = unfaulted all cut a h.image;
+  few = λ k. h.few (subst (λ (v : List ℕ). HasTooMany v (root_of v) most) (sym a.bytes) k);
+  sound = subst (λ (v : List ℕ). (e : Fault) → HasReachedFault v (root_of v) e → ⊥) a.bytes h.sound;
+  once = subst (λ (v : List ℕ). (e : Fault) → HasTwiceFault v (root_of v) e → ⊥) a.bytes h.once;
+  shallow = subst (λ (v : List ℕ). (e : Fault) → HasDepthFault v (root_of v) (min deepest 64) e → ⊥) a.bytes h.shallow;
+  apart = subst (λ (v : List ℕ). (e : Fault) → HasExtentFault v (root_of v) e → ⊥) a.bytes h.apart;
+  named = subst (λ (v : List ℕ). (e : Fault) → HasNameFault v (root_of v) e → ⊥) a.bytes h.named;
+}
 
-    pub fault_of_front : (e : Fault) → HasImageFault b e → HasImageFault (take n b) e
-    fault_of_front e (short l is) = short (as_short b n 32 l) is
-    fault_of_front e (no_magic l m is) = no_magic (as_long b n 32 (omega arith) l) (λ k. m (sym same_magic ∙ k)) is
-    fault_of_front e (bad_size l m s is) = bad_size (as_long b n 32 (omega arith) l) (same_magic ∙ m) (λ h. s (size_of_whole h)) is
-    fault_of_front e (bad_sum l m s u is) = bad_sum (as_long b n 32 (omega arith) l) (same_magic ∙ m) (size_of_front s) (to_front (λ a. HasSum a → ⊥) u) is
-    fault_of_front e (no_root l m s u r is) = no_root (as_long b n 32 (omega arith) l) (same_magic ∙ m) (size_of_front s) (to_front HasSum u) (to_front (λ a. HasRoot a → ⊥) r) is
-    fault_of_front e (root_kind l m s u r k is) =
-        root_kind (as_long b n 32 (omega arith) l) (same_magic ∙ m) (size_of_front s) (to_front HasSum u) (to_front HasRoot r) (to_front (λ a. type_of a (root_of a) ≢ 1) k)
-        (to_front (λ a. e ≡ record { number = ROOT; at = root_of a }) is)
+superblock : (all cut b : List ℕ) (r : ℕ) → Alike all cut → IsSuperblock all b r → IsSuperblock cut b r
+superblock all cut b r a h = record {
+  long = a.long.0 h.long;
+  begins = sym a.begins ∙ h.begins;
+  size = a.size.0 h.size;
+  cut = h.cut ∙ a.bytes;
+  sum = h.sum;
+  volume = h.volume;
+  root = h.root;
+  fits = h.fits;
+  directory = h.directory;
+}
 
-    least_of_whole : (most deepest : ℕ) (e : Fault) → IsLeastImageFault (take n b) most deepest e → IsLeastImageFault b most deepest e
-    least_of_whole most deepest e (of_whole f) = of_whole (fault_of_whole e f)
-    least_of_whole most deepest e (of_many none too is) = of_many (λ d f. none d (fault_of_front d f)) (to_whole (λ a. HasTooMany a (root_of a) most) too) is
-    least_of_whole most deepest e (of_phase none few f) =
-        of_phase (λ d g. none d (fault_of_front d g)) (to_whole (λ a. HasTooMany a (root_of a) most → ⊥) few) (to_whole (λ a. IsLeastPhaseFault a (root_of a) deepest e) f)
+pub same_tree : (all cut : List ℕ) (most deepest : ℕ) (t : Node) → Alike all cut → RomfsTree all most deepest t → RomfsTree cut most deepest t
+same_tree all cut most deepest t a h =
+    record { b = h.b; r = h.r; super = superblock all cut h.b h.r a h.super; forest = h.forest; whole = h.whole; same = h.same }
 
-    pub answer_of_whole : (limits : Limits) (e : CheckError) → IsLeastAnswer (take n b) limits e → IsLeastAnswer b limits e
-    answer_of_whole limits OutOfMemory none = λ d f. none d (fault_of_front d f)
-    answer_of_whole limits (FaultAnswer number at) f = least_of_whole limits.references limits.depth (record { number = number; at = at }) f
-
-    super_of_whole : (a : List ℕ) (r : ℕ) → IsSuperblock (take n b) a r → IsSuperblock b a r
-    super_of_whole a r s = record {
-      long = longer b n 32 s.long;
-      begins = sym same_magic ∙ s.begins;
-      size = size_of_whole s.size;
-      cut = s.cut ∙ same_bytes;
-      sum = s.sum;
-      volume = s.volume;
-      root = s.root;
-      fits = s.fits;
-      directory = s.directory;
-    }
-
-    tree_of_whole : {most deepest : ℕ} {t : Node} → RomfsTree (take n b) most deepest t → RomfsTree b most deepest t
-    tree_of_whole x = record { b = x.b; r = x.r; super = super_of_whole x.b x.r x.super; forest = x.forest; whole = x.whole; same = x.same }
-
-    pub shown_of_whole : (limits : Limits) (m : Image) (report : Report) → Shows (take n b) limits m report
-        → (w : Image) × Shows b limits w report × (w.tree ≡ m.tree)
-    shown_of_whole limits m report s =
-        (wider m b (not_longer b n m.bytes s.bytes), record { bytes = refl; tree = tree_of_whole s.tree; count = s.count; deep = s.deep }, refl)
+-- an image of the same tree over the other file has the same report
+pub shows : (all cut : List ℕ) (limits : Limits) (m w : Image) (report : Report) → Alike all cut → w.bytes ≡ cut → m.tree ≡ w.tree → Shows all limits m report → Shows cut limits w report
+shows all cut limits m w report a over same h = record {
+  bytes = over;
+  tree = record {
+    b = h.tree.b;
+    r = h.tree.r;
+    super = superblock all cut h.tree.b h.tree.r a h.tree.super;
+    forest = h.tree.forest;
+    whole = h.tree.whole;
+    same = sym same ∙ h.tree.same;
+  };
+  count = h.count;
+  deep = h.deep ∙ ap depth same;
+}

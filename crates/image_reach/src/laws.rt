@@ -1,20 +1,38 @@
-//! What a check answers of the front of a file it answers of the whole.
-ghost use Rattle.std.specs.Prelude.{◌≡◌, ◌≤◌, ℕ, List, take};
-ghost use Rattle.image_check.specs.Checked.{IsLeastFault, Shows};
+//! A check of an image looks at no bytes behind those that its first 76 bytes tell.
+ghost use Rattle.std.specs.Prelude.{◌≡◌, ◌≤◌, ◌↔◌, ℕ, List, take};
+ghost use Rattle.cramfs_format.specs.Superblock.{order_of};
+ghost use Rattle.image_check.specs.Checked.{BeginsRomfs, BeginsCramfs, HasTree};
+ghost use Rattle.image_check.specs.Checked.{IsFaultless, IsLeastFault, Shows};
 ghost use Rattle.image_reach.specs.Reach.{Reaches};
 ghost use Rattle.rom_faults.specs.declared.error.CheckError.{CheckError};
 ghost use Rattle.rom_tree.specs.Image.{Image};
+ghost use Rattle.rom_tree.specs.Tree.{Node};
 ghost use Rattle.rom_tree.specs.declared.types.Limits.{Limits};
 ghost use Rattle.rom_tree.specs.declared.types.Report.{Report};
 
-/// A check looks at no bytes behind those to which an image reaches: of n bytes at the front of a
-/// file, at least as many, it shows the tree that it shows of the whole, with the same report, or
-/// the least fault of the whole.
-pub fn front_answers()
-    ensures shown { (all : List ℕ) (limits : Limits) (n r : ℕ) (m : Image) (report : Report)
-        → Reaches (take 76 all) r → r ≤ n → Shows (take n all) limits m report
+/// A file and its first n bytes, where these are at least as many as `reach_of` tells of the first
+/// 76, have the same tree and the same faults, begin as an image of the same format and in the same
+/// byte order, and the tree has the same report.
+pub fn no_further()
+    ensures tree { (all : List ℕ) (reach n : ℕ) (limits : Limits) (t : Node)
+        → Reaches (take 76 all) reach → reach ≤ n
+        → HasTree (take n all) limits t ↔ HasTree all limits t }
+    ensures fault { (all : List ℕ) (reach n : ℕ) (limits : Limits) (e : CheckError)
+        → Reaches (take 76 all) reach → reach ≤ n
+        → IsLeastFault (take n all) limits e ↔ IsLeastFault all limits e }
+    ensures faultless { (all : List ℕ) (reach n : ℕ) (limits : Limits)
+        → Reaches (take 76 all) reach → reach ≤ n
+        → IsFaultless (take n all) limits ↔ IsFaultless all limits }
+    ensures romfs { (all : List ℕ) (reach n : ℕ) → Reaches (take 76 all) reach → reach ≤ n
+        → BeginsRomfs (take n all) ↔ BeginsRomfs all }
+    ensures cramfs { (all : List ℕ) (reach n : ℕ) → Reaches (take 76 all) reach → reach ≤ n
+        → BeginsCramfs (take n all) ↔ BeginsCramfs all }
+    ensures order { (all : List ℕ) (reach n : ℕ) → Reaches (take 76 all) reach → reach ≤ n
+        → order_of (take n all) ≡ order_of all }
+    ensures shown { (all : List ℕ) (reach n : ℕ) (limits : Limits) (m : Image) (report : Report)
+        → Reaches (take 76 all) reach → reach ≤ n → Shows (take n all) limits m report
         → (w : Image) × Shows all limits w report × (w.tree ≡ m.tree) }
-    ensures fault { (all : List ℕ) (limits : Limits) (n r : ℕ) (e : CheckError)
-        → Reaches (take 76 all) r → r ≤ n → IsLeastFault (take n all) limits e
-        → IsLeastFault all limits e }
+    ensures report { (all : List ℕ) (reach n : ℕ) (limits : Limits) (m w : Image) (report : Report)
+        → Reaches (take 76 all) reach → reach ≤ n → m.bytes ≡ take n all → w.bytes ≡ all
+        → m.tree ≡ w.tree → Shows (take n all) limits m report ↔ Shows all limits w report }
 {}

@@ -1,7 +1,5 @@
-//! How far an image says that it goes, by the first bytes of its file.
-//!
-//! Proved: that a check looks at no bytes behind that (`laws::front_answers`), so who reads a file
-//! up to there has the answers of the whole file.
+//! How far an image says that it goes, by the first bytes of its file; and that a check looks at no
+//! bytes behind that.
 #![tactic(auto)]
 
 pub mod laws;

@@ -16,7 +16,16 @@ fn of_romfs(rt: HostRuntime) -> Result<(), Fail> {
     assert_eq!(rt; reach_of(&romfs(1024)), 1024);
     assert_eq!(rt; reach_of(&romfs(0)), 76);
     assert_eq!(rt; reach_of(&romfs(4_294_967_295)), 4_294_967_295);
-    assert_eq!(rt; reach_of(&romfs(1024)[..75]), 76);
+    Ok(())
+}
+
+#[test]
+fn of_a_short_file(rt: HostRuntime) -> Result<(), Fail> {
+    let mut head = [0; 75];
+    let _ = put_be32(&mut head, 0, 0x2d72_6f6d);
+    let _ = put_be32(&mut head, 4, 0x3166_732d);
+    let _ = put_be32(&mut head, 8, 1024);
+    assert_eq!(rt; reach_of(&head), 76);
     Ok(())
 }
 

@@ -10,7 +10,7 @@ use std::time::{Clock, Duration};
 const LAG: u64 = 20;
 
 /// A file, whatever its names are.
-#[derive(Debug, Clone, Copy, PartialEq, Eq)]
+#[derive(Clone, Copy, PartialEq, Eq)]
 pub struct Identity {
     device: u64,
     inode: u64,
@@ -27,7 +27,7 @@ impl Identity {
 }
 
 /// A time in seconds and nanoseconds since 1970.
-#[derive(Debug, Clone, Copy, PartialEq, Eq)]
+#[derive(Clone, Copy, PartialEq, Eq)]
 struct Time {
     seconds: i64,
     nanoseconds: i64,
@@ -35,7 +35,7 @@ struct Time {
 
 /// A state of a file: which file it is, how many bytes it has, and when its bytes and what is said
 /// of them were changed last.
-#[derive(Debug, Clone, Copy, PartialEq, Eq)]
+#[derive(Clone, Copy, PartialEq, Eq)]
 pub struct Stamp {
     identity: Identity,
     len: u64,
