@@ -17,7 +17,11 @@ pub mod nowhere;
 pub mod outline;
 pub mod pieces;
 pub mod slices;
+#[cfg(test)]
+mod small;
 pub mod sources;
 pub mod stream;
+#[cfg(test)]
+mod tests;
 pub mod word_sum;
 pub mod write;

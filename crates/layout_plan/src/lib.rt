@@ -9,6 +9,8 @@ pub mod error;
 mod laid;
 pub mod planned;
 pub mod planning;
+#[cfg(test)]
+mod tests;
 
 pub use error::{PlanError, name};
 pub use image_stream::slices::Slices;

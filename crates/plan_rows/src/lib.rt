@@ -12,6 +12,8 @@ mod keyed;
 pub mod laws;
 mod order;
 pub mod row;
+#[cfg(test)]
+mod tests;
 
 pub use depth::deepest;
 pub use inodes::root;

@@ -1,12 +1,12 @@
-//! A small image of no format: four letters and the CRC-32 of the whole, a text of three bytes at
-//! 12, a file of five at 20, and zeros to 32.
+//! A small image for tests: four letters and the CRC-32 of the whole, a text of three bytes at 12,
+//! a file of five at 20, and zeros to 32.
 ghost use Rattle.std.specs.Prelude.{◌∷◌, []};
 ghost use Rattle.byteorder.specs.Endian.{little_bytes};
 ghost use Rattle.image_stream.specs.Segments.{fixed, content};
 
+use crate::layout::Layout;
+use crate::outline::Outline;
 use byteorder::{ByteOrder, LittleEndian};
-use image_stream::layout::Layout;
-use image_stream::outline::Outline;
 
 #[derive(Drop)]
 pub struct Small;

@@ -1,13 +1,12 @@
-//! A small image of no format, as it is written and streamed, and each way in which that ends.
 ghost use Rattle.std.specs.Prelude.{◌≡◌, length};
 
+use crate::crc32::Crc32;
+use crate::fault::{SizeDiffers, StreamError};
+use crate::slices::Slices;
 use crate::small::Small;
-use image_stream::crc32::Crc32;
-use image_stream::fault::{SizeDiffers, StreamError};
-use image_stream::slices::Slices;
-use image_stream::sources::{SourceFailed, Sources};
-use image_stream::stream::stream;
-use image_stream::write::write;
+use crate::sources::{SourceFailed, Sources};
+use crate::stream::stream;
+use crate::write::write;
 use rom_fields::bytes::{ByteWrite, Plain};
 use rom_fields::contents::Contents;
 use rom_fields::faulty::Faulty;

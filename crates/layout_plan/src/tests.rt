@@ -1,5 +1,4 @@
-//! Plans: what fits which format, and where everything of an image is to stand.
-use layout_plan::{Body, Format, PlanError, plan};
+use crate::{Body, Format, PlanError, plan};
 use manifest::parse;
 use std::alloc::{AllocError, Global};
 use std::test::Fail;

@@ -1,5 +1,3 @@
-//! Images of manifests with all kinds of lines: accepted, and streamed with readers and writers
-//! that fail.
 use crate::spoiled::{Fault, Spoiled};
 use image_build::{BuildError, StreamError, build_cramfs, build_cramfs_big, build_romfs, stream};
 use image_check::check;

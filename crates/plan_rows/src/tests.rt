@@ -1,7 +1,6 @@
-//! The names of a manifest in a row.
+use crate::{Bytes, Inode, Row, What, root, rows};
 use manifest::parse;
 use plan_files::Files;
-use plan_rows::{Bytes, Inode, Row, What, root, rows};
 use rom_tree::Kind;
 use std::test::Fail;
 

@@ -1,5 +1,4 @@
-//! Images of a file of five bytes, byte for byte, and refusals of a build.
-use image_build::{BuildError, StreamError, build_cramfs, build_cramfs_big, build_romfs, stream};
+use crate::{BuildError, StreamError, build_cramfs, build_cramfs_big, build_romfs, stream};
 use layout_plan::{Format, Plan, Slices, plan};
 use manifest::parse;
 use rom_fields::bytes::{ByteWrite, Plain};
