@@ -12,10 +12,6 @@
 mod cached;
 #[cfg(test)]
 mod checked;
-#[cfg(test)]
-mod checked_cramfs;
-#[cfg(test)]
-mod checked_romfs;
 mod images;
 #[cfg(test)]
 mod mounted;
@@ -31,10 +27,6 @@ mod sample_names;
 mod sample_paths;
 #[cfg(test)]
 mod sessions;
-#[cfg(test)]
-mod told_apart;
-#[cfg(test)]
-mod traversed;
 #[cfg(test)]
 mod walked;
 

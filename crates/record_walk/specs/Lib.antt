@@ -4,6 +4,7 @@ pub mod Forest
 pub mod Faults
 pub mod Lesser
 pub mod Traversal
+pub mod Table
 pub mod Sweep
 pub mod Answers
 pub mod Listed

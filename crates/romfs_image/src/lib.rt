@@ -20,5 +20,7 @@ mod phases;
 mod rows;
 mod soundness;
 mod superblock;
+#[cfg(test)]
+mod tests;
 
 pub use image::Romfs;

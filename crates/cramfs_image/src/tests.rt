@@ -1,5 +1,5 @@
-//! What a check of cramfs images answers: the report, or the least fault.
-use cramfs_image::{Cramfs, crc32};
+use crate::crc32;
+use crate::image::Cramfs;
 use rom_faults::CheckError;
 use rom_fields::word::{part, put_le32};
 use rom_tree::image::TreeImage;

@@ -1,12 +1,11 @@
-//! Records in two tables, as they are traversed, and the least of faults.
 ghost use Rattle.std.specs.Prelude.{◌≡◌, Some};
-ghost use Rattle.image_examples.specs.Table.{offset, table_references, table_sound, table_faulty};
+ghost use Rattle.record_walk.specs.Table.{offset, table_references, table_sound, table_faulty};
 
-use record_walk::known::Known;
-use record_walk::least::{lesser_fault, lesser_of_both};
-use record_walk::records::Records;
-use record_walk::reference::{Edge, Edges, Reference, Row};
-use record_walk::traversal::{TraversalError, traverse};
+use crate::known::Known;
+use crate::least::{lesser_fault, lesser_of_both};
+use crate::records::Records;
+use crate::reference::{Edge, Edges, Reference, Row};
+use crate::traversal::{TraversalError, traverse};
 use rom_faults::{CheckError, Fault};
 use std::alloc::Global;
 use std::test::Fail;

@@ -1,4 +1,4 @@
--- References that stand in two tables: for the record at each place, where its own
+-- References that stand in two tables, as in the tests: for the record at each place, where its own
 -- list begins, and where the record after it stands.
 use Rattle.std.specs.Prelude.{◌≡◌, ◌<◌, ◌≤◌, ◌==◌, ℕ, true, List, get_or, Option, None, Some, IfSome, if◌then◌else◌}
 use Rattle.record_walk.specs.declared.reference.Reference.{Reference}

@@ -1,9 +1,8 @@
-//! What a check of romfs images answers: the report, or the least fault.
+use crate::image::Romfs;
 use rom_faults::CheckError;
 use rom_fields::word::{part, put_be32};
 use rom_tree::image::TreeImage;
 use rom_tree::types::{Limits, NodeId, Report};
-use romfs_image::Romfs;
 use std::alloc::Global;
 use std::test::Fail;
 

@@ -1,5 +1,5 @@
-//! Images of both formats, and bytes of neither.
-use image_check::{AnyImage, check};
+use crate::any::AnyImage;
+use crate::checking::check;
 use rom_faults::CheckError;
 use rom_fields::word::{put_be32, put_le32};
 use rom_tree::image::TreeImage;
