@@ -17,8 +17,7 @@ use image_build::{StreamError, stream};
 use layout_plan::{Format, Plan, PlanError, plan};
 use manifest::{Manifest, ManifestError, Name, parse};
 use rom_fields::bytes::{Failed, Plain};
-use std::fs;
-use std::{io, str};
+use std::{fs, io, str};
 
 /// How a refusal ends, whose line was written.
 fn told(rt: &HostRuntime, written: Result<(), Failed>) -> Status {

@@ -17,7 +17,8 @@ fn read_until(file: &mut File, bytes: &mut Vec<u8>, until: u64) -> io::Result<()
     Ok(())
 }
 
-/// The bytes of an image in a file, as many as a check looks at: up to the size that it states.
+/// The bytes of an image in a file, as many as a check looks at: up to the size that it states. Of
+/// these it answers as of the whole file (`image_reach::laws::no_further`).
 ///
 /// # Errors
 ///

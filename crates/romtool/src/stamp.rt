@@ -1,9 +1,8 @@
 //! What tells one state of a file from another.
 use std::fs::{self, File, Metadata, OpenFile};
-use std::io;
 use std::os::unix::fs::MetadataExt;
-use std::thread;
 use std::time::{Clock, Duration};
+use std::{io, thread};
 
 /// How far a file system's clock may lag behind, in milliseconds: two of the longest ticks of
 /// Linux.
