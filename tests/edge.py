@@ -365,17 +365,25 @@ def changes():
     }
 
 
+def lay_source():
+    """Makes the source `s` anew, whatever it has become."""
+    with contextlib.suppress(FileNotFoundError):
+        os.remove("s")
+    put("s", b"A" * 20000)
+
+
 @needs_strace
 def changed_while_read(binary):
     """What becomes of a source before it is opened, while it is read, and when all of it was read."""
     put("m", b"file /a 0644 0 0 4 s\nfile /b 0644 0 0 4 u\n")
-    put("s", b"A" * 20000)
     put("u", b"hello")
     for format in FORMATS:
+        lay_source()
+        kinds = list(changes())
         made, _ = traced.calls(binary, "build", format, "m", "wanted")
         last = max(call.number for call in made if call.name == "pread64")
         for name, call, when in (("before", "fcntl", 1), ("in", "pread64", 3), ("after", "pread64", last)):
-            for what in list(changes()):
+            for what in kinds:
                 told = after_change(binary, format, call, when, what)
                 lines = (b"changed\n", b"file s\n") if what == "gone" else (b"changed\n",)
                 if told not in [(b"", line, 3) for line in lines] or bytes_in("out") != b"as it was" or parts():
@@ -386,9 +394,7 @@ def after_change(binary, format, call, when, what):
     """How a build ends where its source is changed while one of its calls is held up."""
 
     def prepare():
-        with contextlib.suppress(FileNotFoundError):
-            os.remove("s")
-        put("s", b"A" * 20000)
+        lay_source()
         put("out", b"as it was")
         return changes()[what]
 
