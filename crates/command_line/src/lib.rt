@@ -1,8 +1,9 @@
 //! The words of a command line, and how a command ends.
 //!
-//! Proved: which words name which format, that what `read` answers belongs to the subcommand that
-//! was given, the number of each status, and the line that standard error gets. How words are told
-//! apart from flags is clap's, and is tested.
+//! Proved: which words name which format and which alignment, that a request has the values that
+//! the subcommand's arguments have in clap's walk over the words, the number of each status, and the
+//! line that standard error gets. How that walk tells words apart from flags is clap's, and is
+//! tested.
 #![tactic(auto)]
 
 pub mod status;
@@ -11,4 +12,4 @@ mod tests;
 pub mod words;
 
 pub use status::{Status, Trouble, tell};
-pub use words::{Build, Request, WordsError, read};
+pub use words::{Build, Request, ScanAll, WordsError, read};

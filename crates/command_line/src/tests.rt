@@ -52,6 +52,26 @@ fn commands_of_several_values(rt: HostRuntime) -> Result<(), Fail> {
 }
 
 #[test]
+fn scans_of_all(rt: HostRuntime) -> Result<(), Fail> {
+    let words = line(rt.alloc(), &["romtool", "scan", "--all", "x"])?;
+    let Ok(Request::ScanAll(scan)) = read(rt.alloc(), &words) else {
+        return Err(AllocError.into());
+    };
+    assert!(rt; scan.format.is_none());
+    assert_eq!(rt; (scan.folder, scan.align), ("x", 4));
+    let words = [
+        "romtool", "scan", "--align", "4096", "x", "--all", "--for", "romfs",
+    ];
+    let words = line(rt.alloc(), &words)?;
+    let Ok(Request::ScanAll(scan)) = read(rt.alloc(), &words) else {
+        return Err(AllocError.into());
+    };
+    assert!(rt; scan.format == Some(Format::Romfs));
+    assert_eq!(rt; (scan.folder, scan.align), ("x", 4096));
+    Ok(())
+}
+
+#[test]
 fn words_that_ask_for_nothing(rt: HostRuntime) -> Result<(), Fail> {
     for words in [
         ["romtool", "fly"].as_slice(),
@@ -63,6 +83,8 @@ fn words_that_ask_for_nothing(rt: HostRuntime) -> Result<(), Fail> {
         &[
             "romtool", "space", "1", "2", "3", "4", "5", "6", "7", "8", "9",
         ],
+        &["romtool", "scan", "--all", "--align", "3", "x"],
+        &["romtool", "scan", "--for", "romfs", "x"],
         &["romtool", "--help"],
         &["romtool", "check", "--fast", "x"],
     ] {

@@ -1,15 +1,27 @@
 //! The words of the command line.
-ghost use Rattle.std.specs.Prelude.{◌≡◌, ◌≢◌, ◌≤◌, ◌↔◌, length, IfSome, IfNone, Some};
-ghost use Rattle.clap.specs.Words.{subcommand_name_of};
-ghost use Rattle.plan_misfits.specs.declared.format.Format.{Format};
-ghost use Rattle.command_line.specs.Words.{word_of, format_word};
+ghost use Rattle.std.specs.Prelude.{◌≡◌, ◌≢◌, ◌≤◌, ◌<◌, ◌↔◌, ◌∷◌, [], List, ℕ, length, codes};
+ghost use Rattle.std.specs.Prelude.{IfOk, IfSome, IfNone, Some, false, map, option_map};
+ghost use Rattle.std.specs.Prelude.{string_bytes};
+ghost use Rattle.std.specs.Bool.{OnTrue, OnFalse};
+ghost use Rattle.clap.specs.Words.{all_of, app_of, first_of, found_of, rows_of, rule_of};
+ghost use Rattle.clap.specs.Words.{subcommand_of, subcommand_rows_of};
+ghost use Rattle.command_line.specs.Commands.{IsShaped, build_shape, flag_rule, images_rule};
+ghost use Rattle.command_line.specs.Commands.{option_rule, romtool_app, scan_shape, shape_with};
+ghost use Rattle.command_line.specs.Commands.{value_rule};
+ghost use Rattle.command_line.specs.Words.{IsAlignOf, IsAskedBy, IsAskedOf, align_named};
+ghost use Rattle.command_line.specs.Words.{format_word, word_of};
+ghost use Rattle.command_line.specs.declared.words.Request.TheVariants as request;
 ghost use Rattle.command_line.specs.declared.words.Request.TheVariants.{Example};
+ghost use Rattle.plan_misfits.specs.declared.format.Format.{Format};
 
 use arrayvec::ArrayVec;
 use clap::error::ErrorKind;
-use clap::{Arg, ArgMatches, Command};
+use clap::{Arg, ArgAction, ArgMatches, Command};
 use plan_misfits::Format;
 use std::alloc::{AllocError, Global};
+
+/// The alignment of regular files for which none is asked, in bytes.
+const USUAL_ALIGN: u32 = 4;
 
 /// What the words ask for.
 #[derive(Drop)]
@@ -26,8 +38,10 @@ pub enum Request<'a> {
     Space(ArrayVec<&'a str, 8>),
     /// To build an image.
     Build(Build<'a>),
-    /// To print a manifest of this folder.
+    /// To print a manifest of the names and the contents below this folder.
     Scan(&'a str),
+    /// To print a manifest of a folder as it is.
+    ScanAll(ScanAll<'a>),
 }
 
 /// A build: of the manifest in one file into another one, in this format.
@@ -36,6 +50,16 @@ pub struct Build<'a> {
     pub format: Format,
     pub manifest: &'a str,
     pub out: &'a str,
+}
+
+/// A manifest of a folder as it is: all kinds of files, with their modes and owners.
+#[derive(Clone, Copy)]
+pub struct ScanAll<'a> {
+    pub folder: &'a str,
+    /// The format that the manifest is to fit, as far as attributes and further names go.
+    pub format: Option<Format>,
+    /// The alignment of regular files that someone may execute.
+    pub align: u32,
 }
 
 /// Why words ask for nothing.
@@ -57,33 +81,80 @@ impl From<AllocError> for WordsError {
     }
 }
 
-/// A subcommand with these values, each of which has to be given.
-fn with_values<'a>(
-    alloc: Global,
-    name: &'a str,
-    values: &[&'a str],
-) -> Result<Command<'a>, AllocError> {
-    let mut command = Command::new(alloc, name);
-    for value in values {
-        command = command.arg(Arg::new(alloc, value).required(true))?;
-    }
+/// An argument that has to be given.
+fn value<'a>(alloc: Global, name: &'a str) -> Arg<'a>
+    ensures rule { rule_of result ≡ value_rule name.entry.now }
+    ensures local { result.global ≡ false }
+{
+    Arg::new(alloc, name).required(true)
+}
+
+/// An option with a value.
+fn option<'a>(alloc: Global, name: &'a str) -> Arg<'a>
+    ensures rule { rule_of result ≡ option_rule name.entry.now }
+    ensures local { result.global ≡ false }
+{
+    Arg::new(alloc, name).long(name)
+}
+
+/// An option without a value.
+fn flag<'a>(alloc: Global, name: &'a str) -> Arg<'a>
+    ensures rule { rule_of result ≡ flag_rule name.entry.now }
+    ensures local { result.global ≡ false }
+{
+    Arg::new(alloc, name).long(name).action(ArgAction::SetTrue)
+}
+
+/// One to eight images.
+fn images<'a>(alloc: Global) -> Arg<'a>
+    ensures rule { rule_of result ≡ images_rule }
+    ensures local { result.global ≡ false }
+{
+    value(alloc, "image").num_args(1..=8)
+}
+
+/// A subcommand of one argument.
+fn with_one<'a>(alloc: Global, name: &'a str, arg: Arg<'a>) -> Result<Command<'a>, AllocError>
+    requires { arg.global ≡ false }
+    ensures { IfOk result (IsShaped (shape_with name.entry.now (rule_of arg.entry ∷ []))) }
+{
+    let command = Command::new(alloc, name).arg(arg)?;
     Ok(command)
 }
 
-/// A subcommand with one to eight images.
-fn with_images<'a>(alloc: Global, name: &'a str) -> Result<Command<'a>, AllocError> {
-    let images = Arg::new(alloc, "image").required(true).num_args(1..=8);
-    Command::new(alloc, name).arg(images)
+/// The subcommand `build`.
+fn with_build<'a>(alloc: Global) -> Result<Command<'a>, AllocError>
+    ensures { IfOk result (IsShaped build_shape) }
+{
+    let command = with_one(alloc, "build", value(alloc, "format"))?;
+    let command = command.arg(value(alloc, "manifest"))?;
+    let command = command.arg(value(alloc, "out"))?;
+    Ok(command)
 }
 
-fn command<'a>(alloc: Global) -> Result<Command<'a>, AllocError> {
-    Command::new(alloc, "romtool")
-        .subcommand(with_values(alloc, "check", &["image"])?)?
-        .subcommand(with_values(alloc, "list", &["image"])?)?
-        .subcommand(with_values(alloc, "serve", &["image"])?)?
-        .subcommand(with_images(alloc, "space")?)?
-        .subcommand(with_values(alloc, "build", &["format", "manifest", "out"])?)?
-        .subcommand(with_values(alloc, "scan", &["folder"])?)
+/// The subcommand `scan`.
+fn with_scan<'a>(alloc: Global) -> Result<Command<'a>, AllocError>
+    ensures { IfOk result (IsShaped scan_shape) }
+{
+    let command = with_one(alloc, "scan", value(alloc, "folder"))?;
+    let command = command.arg(flag(alloc, "all"))?;
+    let command = command.arg(option(alloc, "for"))?;
+    let command = command.arg(option(alloc, "align"))?;
+    Ok(command)
+}
+
+/// The program's subcommands.
+fn command<'a>(alloc: Global) -> Result<Command<'a>, AllocError>
+    ensures { IfOk result (λ c. app_of c ≡ romtool_app) }
+{
+    let command = Command::new(alloc, "romtool");
+    let command = command.subcommand(with_one(alloc, "check", value(alloc, "image"))?)?;
+    let command = command.subcommand(with_one(alloc, "list", value(alloc, "image"))?)?;
+    let command = command.subcommand(with_one(alloc, "serve", value(alloc, "image"))?)?;
+    let command = command.subcommand(with_one(alloc, "space", images(alloc))?)?;
+    let command = command.subcommand(with_build(alloc)?)?;
+    let command = command.subcommand(with_scan(alloc)?)?;
+    Ok(command)
 }
 
 /// The format that a word names.
@@ -99,13 +170,129 @@ fn format_named(word: &str) -> Option<Format>
     }
 }
 
+/// The alignment that a word names: a power of two that a manifest takes.
+fn align_named(word: &str) -> Option<u32>
+    ensures { result ≡ align_named word.now }
+{
+    match word {
+        "4" => Some(4),
+        "8" => Some(8),
+        "16" => Some(16),
+        "32" => Some(32),
+        "64" => Some(64),
+        "128" => Some(128),
+        "256" => Some(256),
+        "512" => Some(512),
+        "1024" => Some(1024),
+        "2048" => Some(2048),
+        "4096" => Some(4096),
+        "8192" => Some(8192),
+        "16384" => Some(16384),
+        "32768" => Some(32768),
+        "65536" => Some(65536),
+        _ => None,
+    }
+}
+
+/// The value of a name, where it has one.
+fn value_of<'a>(values: &ArgMatches<'a>, name: &str) -> Option<&'a str>
+    ensures { option_map (λ v. v.now) result ≡ first_of name.now (rows_of (found_of values.now)) }
+{
+    values.get_str(name)
+}
+
+/// The values of a name, where it has some.
+fn values_of<'m, 'a>(values: &'m ArgMatches<'a>, name: &str) -> Option<&'m [&'a str]>
+    ensures { option_map (λ s. map (λ v. v.now) s.now) result
+        ≡ all_of name.now (rows_of (found_of values.now)) }
+{
+    values.get_strs(name)
+}
+
 /// The build that is asked for.
-fn build_of<'a>(values: &ArgMatches<'a>) -> Option<Build<'a>> {
+fn build_of<'a>(values: &ArgMatches<'a>) -> Option<Build<'a>>
+    ensures { IfSome result (λ b. IsAskedBy (rows_of (found_of values.now)) (request.Build b)) }
+{
+    let format = format_named(value_of(values, "format")?)?;
+    let manifest = value_of(values, "manifest")?;
+    let out = value_of(values, "out")?;
     Some(Build {
-        format: format_named(values.get_str("format")?)?,
-        manifest: values.get_str("manifest")?,
-        out: values.get_str("out")?,
+        format,
+        manifest,
+        out,
     })
+}
+
+/// The format that a manifest is to fit, if one is named; `None` where the word is no format's.
+fn wished_format(values: &ArgMatches<'_>) -> Option<Option<Format>>
+    ensures { IfSome result (λ f. first_of (codes "for") (rows_of (found_of values.now))
+        ≡ option_map format_word f) }
+{
+    match value_of(values, "for") {
+        None => Some(None),
+        Some(word) => Some(Some(format_named(word)?)),
+    }
+}
+
+/// The alignment of what is executed; `None` where the word is no alignment's.
+fn wished_align(values: &ArgMatches<'_>) -> Option<u32>
+    ensures { IfSome result (IsAlignOf (first_of (codes "align") (rows_of (found_of values.now)))) }
+{
+    match value_of(values, "align") {
+        None => Some(USUAL_ALIGN),
+        Some(word) => align_named(word),
+    }
+}
+
+/// The manifest of a folder as it is that is asked for by `--all`.
+fn scan_all_of<'a>(values: &ArgMatches<'a>) -> Option<ScanAll<'a>>
+    requires { first_of (codes "all") (rows_of (found_of values.now)) ≡ Some (codes "true") }
+    ensures { IfSome result (λ s. IsAskedBy (rows_of (found_of values.now)) (request.ScanAll s)) }
+{
+    let folder = value_of(values, "folder")?;
+    let format = wished_format(values)?;
+    let align = wished_align(values)?;
+    Some(ScanAll {
+        folder,
+        format,
+        align,
+    })
+}
+
+/// The folder of which a plain manifest is asked for: the options go with `--all` alone.
+fn scan_of<'a>(values: &ArgMatches<'a>) -> Option<&'a str>
+    requires { first_of (codes "all") (rows_of (found_of values.now)) ≢ Some (codes "true") }
+    ensures { IfSome result (λ f. IsAskedBy (rows_of (found_of values.now)) (request.Scan f)) }
+{
+    if value_of(values, "for").is_some() || value_of(values, "align").is_some() {
+        return None;
+    }
+    value_of(values, "folder")
+}
+
+/// Whether `--all` is given.
+fn is_all(values: &ArgMatches<'_>) -> bool
+    ensures yes { OnTrue result (first_of (codes "all") (rows_of (found_of values.now))
+        ≡ Some (codes "true")) }
+    ensures no { OnFalse result (first_of (codes "all") (rows_of (found_of values.now))
+        ≢ Some (codes "true")) }
+{
+    match value_of(values, "all") {
+        Some(word) => word == "true",
+        None => false,
+    }
+}
+
+/// The scan that is asked for.
+fn either_scan<'a>(values: &ArgMatches<'a>) -> Option<Request<'a>>
+    ensures asked { IfSome result (IsAskedBy (rows_of (found_of values.now))) }
+    ensures word { IfSome result (λ r. word_of r ≡ codes "scan") }
+{
+    if is_all(values) {
+        Some(Request::ScanAll(scan_all_of(values)?))
+    } else {
+        Some(Request::Scan(scan_of(values)?))
+    }
 }
 
 /// Up to eight names.
@@ -119,27 +306,44 @@ fn few<'a>(names: &[&'a str]) -> Option<ArrayVec<&'a str, 8>>
     }
 }
 
-/// What was asked for with a subcommand.
-fn chosen<'a>(matches: &ArgMatches<'a>) -> Option<Request<'a>>
-    ensures other { IfSome result (λ r. r ≢ Example) }
-    ensures named { IfSome result (λ r. subcommand_name_of matches.now ≡ Some (word_of r)) }
+/// What a subcommand of this name asks for with these values.
+fn asked<'a>(name: &str, values: &ArgMatches<'a>) -> Option<Request<'a>>
+    ensures values { IfSome result (IsAskedBy (rows_of (found_of values.now))) }
+    ensures word { IfSome result (λ r. name.now ≡ word_of r) }
 {
-    let (name, values) = matches.subcommand()?;
     match name {
-        "check" => Some(Request::Check(values.get_str("image")?)),
-        "list" => Some(Request::List(values.get_str("image")?)),
-        "serve" => Some(Request::Serve(values.get_str("image")?)),
-        "space" => Some(Request::Space(few(values.get_strs("image")?)?)),
+        "check" => Some(Request::Check(value_of(values, "image")?)),
+        "list" => Some(Request::List(value_of(values, "image")?)),
+        "serve" => Some(Request::Serve(value_of(values, "image")?)),
+        "space" => Some(Request::Space(few(values_of(values, "image")?)?)),
         "build" => Some(Request::Build(build_of(values)?)),
-        "scan" => Some(Request::Scan(values.get_str("folder")?)),
+        "scan" => either_scan(values),
         _ => None,
     }
+}
+
+/// The subcommand that was given, with its values.
+fn entered<'m, 'a>(matches: &'m ArgMatches<'a>) -> Option<(&'a str, &'m ArgMatches<'a>)>
+    ensures { option_map (λ p. (p.0.now, rows_of (found_of p.1.now))) result
+        ≡ subcommand_rows_of matches.now }
+{
+    matches.subcommand()
+}
+
+/// What was asked for with a subcommand.
+fn chosen<'a>(matches: &ArgMatches<'a>) -> Option<Request<'a>>
+    ensures { IfSome result (IsAskedOf (subcommand_rows_of matches.now)) }
+{
+    let (name, values) = entered(matches)?;
+    asked(name, values)
 }
 
 /// Reads the words of a command line, the program's name first. Requests for help are no words of
 /// this program.
 pub fn read<'a>(alloc: Global, words: &'a [String]) -> Result<Request<'a>, WordsError>
-    ensures { (result ≡ Ok Example) ↔ (length words.now ≤ 1) }
+    ensures example { (result ≡ Ok Example) ↔ (length words.now ≤ 1) }
+    ensures asked { 1 < length words.now → IfOk result (IsAskedOf (subcommand_of romtool_app
+        (map string_bytes words.now))) }
 {
     if words.len() <= 1 {
         return Ok(Request::Example);

@@ -1,9 +1,10 @@
-//! Where paths lead, and what lines are answered, through a cache of look-ups.
+//! Where paths lead, and what lines are answered, through a cache of look-ups and through indices.
 ghost use Rattle.std.specs.Prelude.{◌≡◌, ◌≤◌};
 ghost use Rattle.rom_tree.specs.Tree.{levels};
 
 use crate::images::{EMPTY_CRAMFS, HELLO, LINK_AND_DEVICE, LINK_CHAIN, LINKS_AND_DOTS, SAME_NAMES};
 use image_check::check;
+use name_index::Indexed;
 use path_walk::{WalkError, walk};
 use rom_fields::bytes::Plain;
 use rom_serve::{Cached, serve};
@@ -55,6 +56,31 @@ fn the_same_with_and_without(rt: HostRuntime) -> Result<(), Fail> {
     Ok(())
 }
 
+/// Where five paths lead in a list of 42 names, through its index: a name behind the first 17, one
+/// among them, two that are absent, and one that leads over 40 links.
+fn walked_in_a_long_list(alloc: Global) -> Option<[Led; 5]> {
+    let image = check(alloc, LINK_CHAIN, Limits::usual()).ok()?;
+    let mut image = Indexed::new(alloc, image);
+    let last = walk(&mut image, b"/l41", false);
+    let first = walk(&mut image, b"/l00", false);
+    let absent = walk(&mut image, b"/l4", false);
+    let behind = walk(&mut image, b"/l411", false);
+    Some([last, first, absent, behind, walk(&mut image, b"/l40", true)])
+}
+
+#[test]
+fn names_of_a_long_list(rt: HostRuntime) -> Result<(), Fail> {
+    let want = [
+        Ok(NodeId(732)),
+        Ok(NodeId(76)),
+        Err(WalkError::Enoent),
+        Err(WalkError::Enoent),
+        Ok(NodeId(76)),
+    ];
+    assert_eq!(rt; walked_in_a_long_list(rt.alloc()), Some(want));
+    Ok(())
+}
+
 /// Lines that walk the same paths again and again, in turn, with names that are long, absent,
 /// links, or no directories, and lines that open what was found.
 const LINES: &[u8] = b"\
@@ -62,13 +88,31 @@ const LINES: &[u8] = b"\
     stat /b/x\nopen /a/x\nopen /a\nopen /b\nopen /\nfstat 0\nreaddir 0\nreaddir 1\nread 0 5\n\
     map 0 0 5\nreadlink /l\nreadlink /a\nlookup /l\nlookup /l\nlookup /a/../a/./x\n\
     lookup /a/x/\nlookup /a\nlookup /a/\nlookup a\nlookup /../b/x\nlookup /B/x\nstat /d\n\
-    stat /n\nclose 0\nlookup /b/x\nlookup /a/x\nlookup /b\nlookup /a\nfly\nread 9 9\nlookup /\n";
+    stat /n\nclose 0\nlookup /b/x\nlookup /a/x\nlookup /b\nlookup /a\nfly\nread 9 9\nlookup /\n\
+    lstat /l00\nlstat /l17\nlstat /l41\nlookup /l40\nlookup /l4\nlookup /l411\nlstat /l18\n";
 
 /// What the lines are answered from an image, through a cache of so many names, or through none.
 fn replies(alloc: Global, bytes: &[u8], names: usize) -> Option<Vec<u8>>
     requires { names ≤ 65536 }
 {
     let image = check(alloc, bytes, Limits::usual()).ok()?;
+    let mut r = Plain::new(LINES);
+    let mut w = Plain::new(Vec::new(alloc));
+    if names == 0 {
+        serve(image, &mut r, &mut w).ok()?;
+    } else {
+        let cached = Cached::new(alloc, image, names).ok()?;
+        serve(cached, &mut r, &mut w).ok()?;
+    }
+    Some(w.into_inner())
+}
+
+/// What the lines are answered through indices, behind a cache of so many names, or behind none.
+fn indexed_replies(alloc: Global, bytes: &[u8], names: usize) -> Option<Vec<u8>>
+    requires { names ≤ 65536 }
+{
+    let image = check(alloc, bytes, Limits::usual()).ok()?;
+    let image = Indexed::new(alloc, image);
     let mut r = Plain::new(LINES);
     let mut w = Plain::new(Vec::new(alloc));
     if names == 0 {
@@ -95,6 +139,10 @@ fn the_same_replies(rt: HostRuntime) -> Result<(), Fail> {
         assert!(rt; plain.is_some());
         for names in [1, 2, 3, 256] {
             assert_eq!(rt; replies(rt.alloc(), image, names), plain, "{names} names");
+        }
+        for names in [0, 1, 256] {
+            let sorted = indexed_replies(rt.alloc(), image, names);
+            assert_eq!(rt; sorted, plain, "indices and {names} names");
         }
     }
     let plain = replies(rt.alloc(), SAME_NAMES, 0);

@@ -1,5 +1,5 @@
-//! Lines that are answered from the sample: texts from outside, and what no clause says, that
-//! replies are flushed.
+//! Lines that are answered from the sample: texts from outside, and what a writer that fails has by
+//! then.
 use rom_fields::bytes::Plain;
 use rom_fields::faulty::Faulty;
 use rom_serve::{ServeError, serve, serve_bounded, serve_space};
@@ -81,6 +81,7 @@ fn lines_of_sessions(rt: HostRuntime) -> Result<(), Fail> {
     let mut r = Plain::new(input);
     let mut w = Plain::new(Vec::new(rt.alloc()));
     assert_eq!(rt; serve_space(images, &mut r, &mut w), Ok(()));
+    assert_eq!(rt; w.flushes(), 14);
     let held: Vec<u8> = w.into_inner();
     assert_eq!(rt; held.as_slice(), text);
     Ok(())
@@ -140,14 +141,39 @@ fn the_first_failures(rt: HostRuntime) -> Result<(), Fail> {
 }
 
 #[test]
+fn a_failing_flush_of_sessions(rt: HostRuntime) -> Result<(), Fail> {
+    let input: &[u8] = b"0 lookup /\n0 lookup /\n";
+    let mut images = Vec::new(rt.alloc());
+    images.push(Sample)?;
+    let mut r = Plain::new(input);
+    let mut w = Faulty::new(Plain::new(Vec::new(rt.alloc())), 1, 100);
+    assert_eq!(rt;
+        serve_space(images, &mut r, &mut w),
+        Err(ServeError::WriteFault)
+    );
+    assert_eq!(rt; r.into_inner().len(), 11);
+    let held: Vec<u8> = w.into_inner().into_inner();
+    assert_eq!(rt; held.as_slice(), b"0 ok 0:1\n".as_slice());
+    Ok(())
+}
+
+#[test]
 fn bounded_reads(rt: HostRuntime) -> Result<(), Fail> {
-    let input: &[u8] = b"lookup /\n";
-    for (reads, result) in [(9, Err(ServeError::TooManyReads)), (10, Ok(()))] {
+    let endless = [b'a'; 10_001];
+    let line: &[u8] = b"lookup /\n";
+    let told: &[u8] = b"ok 1\n";
+    let too_many = Err(ServeError::TooManyReads);
+    for (input, reads, result, text) in [
+        (line, 8, too_many, &told[..0]),
+        (line, 9, too_many, told),
+        (line, 10, Ok(()), told),
+        (endless.as_slice(), 10_000, too_many, &told[..0]),
+    ] {
         let mut r = Plain::new(input);
         let mut w = Plain::new(Vec::new(rt.alloc()));
         assert_eq!(rt; serve_bounded(Sample, &mut r, &mut w, reads), result);
         let held: Vec<u8> = w.into_inner();
-        assert_eq!(rt; held.as_slice(), b"ok 1\n".as_slice());
+        assert_eq!(rt; held.as_slice(), text);
     }
     assert_eq!(rt;
         ServeError::TooManyReads.to_string(rt.alloc())?.as_str(),

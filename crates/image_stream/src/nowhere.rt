@@ -6,16 +6,26 @@ use rom_fields::bytes::{ByteWrite, Failed};
 
 /// Takes all bytes, keeps none, and never fails.
 #[derive(Drop)]
-pub struct Nowhere;
+pub struct Nowhere {
+    flushes: u64,
+}
+
+impl Nowhere {
+    /// With no flush counted yet.
+    pub fn new() -> Nowhere {
+        Nowhere { flushes: 0 }
+    }
+}
 
 impl ByteWrite for Nowhere {
-    ghost output = { λ _. output_of None 0 };
+    ghost output = { λ s. output_of None 0 s.flushes };
 
     fn write(&mut self, b: &[u8]) -> Result<usize, Failed> {
         Ok(b.len())
     }
 
     fn flush(&mut self) -> Result<(), Failed> {
+        self.flushes = self.flushes.saturating_add(1);
         Ok(())
     }
 }

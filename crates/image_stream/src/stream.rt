@@ -97,7 +97,7 @@ pub fn stream<L: Layout, S: Sources, W: ByteWrite, C: Check>(
     let mut first = C::start();
     add_head(layout, &mut first, buffer);
     let mut check = first;
-    match walk(layout, sources, &mut Nowhere, &mut check, buffer) {
+    match walk(layout, sources, &mut Nowhere::new(), &mut check, buffer) {
         Ok(()) => {}
         Err(e) => return Err(e),
     }

@@ -1,6 +1,6 @@
 -- The faults of a manifest by their numbers, with their names. (This project's own.)
 use Rattle.std.specs.Prelude.{ℕ, List, ◌==◌, if◌then◌else◌, codes}
-use Rattle.manifest.specs.declared.error.TheConstants.{BAD_WORD, BAD_NUMBER, BAD_PATH, NO_PARENT, EXISTS, BAD_ALIGN, BAD_TARGET}
+use Rattle.manifest.specs.FaultNumbers.{BAD_WORD, BAD_NUMBER, BAD_PATH, NO_PARENT, EXISTS, BAD_ALIGN, BAD_TARGET}
 
 abbrev pub name_of_fault : ℕ → List ℕ
 name_of_fault n =

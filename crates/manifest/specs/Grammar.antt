@@ -12,7 +12,7 @@ use Rattle.manifest.specs.declared.numbers.Numbers.{Numbers}
 use Rattle.manifest.specs.declared.line.Line.{Line}
 use Rattle.manifest.specs.declared.line.Word.{Word}
 use Rattle.manifest.specs.declared.line.Word.TheVariants.{Dir, File, Slink, Block, Character, Fifo, Socket, Hard, Same}
-use Rattle.manifest.specs.declared.error.TheConstants.{BAD_WORD, BAD_NUMBER, BAD_PATH, NO_PARENT, EXISTS, BAD_ALIGN, BAD_TARGET}
+use Rattle.manifest.specs.FaultNumbers.{BAD_WORD, BAD_NUMBER, BAD_PATH, NO_PARENT, EXISTS, BAD_ALIGN, BAD_TARGET}
 
 -- a fault: the number of its line, from 1 on, and its own number
 pub record Fault : Type 0 where

@@ -1,3 +1,4 @@
+pub mod FaultNumbers
 pub mod Texts
 pub mod Paths
 pub mod Lines

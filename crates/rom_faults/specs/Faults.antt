@@ -3,7 +3,7 @@ use Rattle.std.specs.Prelude.{ℕ, List, ◌==◌, if◌then◌else◌, codes}
 use Rattle.rom_faults.specs.declared.error.CheckError.{CheckError}
 use Rattle.rom_faults.specs.declared.error.CheckError.TheVariants.{Fault as FaultAnswer}
 use Rattle.rom_faults.specs.declared.fault.Fault.{Fault}
-use Rattle.rom_faults.specs.declared.fault.TheConstants.{TOO_MANY, SHORT, MAGIC, SIZE, SUM, FLAGS, CRC, SIGNATURE, ROOT, BOUNDS, HEADER_SUM, BAD_NAME, KIND, LINK_SIZE, BLOCK_KIND, LIST_END, TWICE, TOO_DEEP, OVERLAP, DUPLICATE_NAME, DOT, HARD_LINK, UNSORTED}
+use Rattle.rom_faults.specs.FaultNumbers.{TOO_MANY, SHORT, MAGIC, SIZE, SUM, FLAGS, CRC, SIGNATURE, ROOT, BOUNDS, HEADER_SUM, BAD_NAME, KIND, LINK_SIZE, BLOCK_KIND, LIST_END, TWICE, TOO_DEEP, OVERLAP, DUPLICATE_NAME, DOT, HARD_LINK, UNSORTED}
 
 abbrev pub name_of_fault : ℕ → List ℕ
 name_of_fault n =

@@ -66,12 +66,14 @@ pub puts_nothing : (s : Sink) → Puts s s []
 puts_nothing s = record {
   said = λ start all h. let P : List ℕ → Type 0 = λ v. Said start s v in subst P (sym (append-nil all)) h;
   counted = λ start h. h;
+  unflushed = refl;
 }
 
 pub puts_then : (r s t : Sink) (a b : List ℕ) → Puts r s a → Puts s t b → Puts r t (a ++ b)
 puts_then r s t a b h k = record {
   said = λ start all v. let P : List ℕ → Type 0 = λ w. Said start t w in subst P (append_assoc all a b) (k.said start (all ++ a) (h.said start all v));
   counted = λ start v. k.counted start (h.counted start v);
+  unflushed = k.unflushed ∙ h.unflushed;
 }
 
 pub puts_to_failed : (o : Output) (b : List ℕ) → Puts (sink o true) (sink o true) b
@@ -79,20 +81,25 @@ unfolding Said Counted
 puts_to_failed o b = record {
   said = λ start all v. front_first start o.contents all b v;
   counted = λ start v. v;
+  unflushed = refl;
 }
 
-pub puts_ok : (o p : Output) (b : List ℕ) → Appends o.contents p.contents b → p.failures ≡ o.failures → Puts (sink o false) (sink p false) b
+pub puts_ok : (o p : Output) (b : List ℕ) → Appends o.contents p.contents b → p.failures ≡ o.failures → p.flushes ≡ o.flushes
+    → Puts (sink o false) (sink p false) b
 unfolding Said Counted
-puts_ok o p b h e = record {
+puts_ok o p b h e f = record {
   said = λ start all v. appends_join start o.contents p.contents all b v h;
   counted = λ start v. e ∙ v;
+  unflushed = f;
 }
 
-pub puts_err : (o p : Output) (b : List ℕ) → AppendsPrefix o.contents p.contents b → Rose o.failures p.failures → Puts (sink o false) (sink p true) b
+pub puts_err : (o p : Output) (b : List ℕ) → AppendsPrefix o.contents p.contents b → Rose o.failures p.failures → p.flushes ≡ o.flushes
+    → Puts (sink o false) (sink p true) b
 unfolding Said Counted
-puts_err o p b h e = record {
+puts_err o p b h e f = record {
   said = λ start all v. front_after start o.contents p.contents all b v h;
   counted = λ start v. rose_after start o.failures p.failures v e;
+  unflushed = f;
 }
 
 -- one text after the other

@@ -1,7 +1,8 @@
--- How the count of a reader's or writer's failures moves. It stops at 2^64 - 1. (This project's own.)
-use Rattle.std.specs.Prelude.{ℕ, ◌+◌, ◌-◌, ◌^◌, ◌<◌, ◌≤◌, ◌≡◌, ◌⊎◌, min, if◌then◌else◌, ◌==◌, ◌&&◌, nat_lt, Result, Ok, Err, MatchResult}
+-- How the counts of a reader's or writer's failures, and of a writer's flushes, move. They stop at 2^64 - 1.
+-- (This project's own.)
+use Rattle.std.specs.Prelude.{ℕ, zero, suc, ◌+◌, ◌-◌, ◌^◌, ◌<◌, ◌≤◌, ◌≡◌, ◌⊎◌, min, if◌then◌else◌, ◌==◌, ◌&&◌, nat_lt, Result, Ok, Err, MatchResult}
 
--- one more failure
+-- one more failure, or one more flush
 abbrev pub one_more : ℕ → ℕ
 one_more n = min (n + 1) (2 ^ 64 - 1)
 
@@ -14,6 +15,16 @@ after_read n (Err e) = one_more n
 abbrev pub after_write : {E : Type 0} → ℕ → ℕ → Result ℕ E → ℕ
 after_write n len (Ok k) = if k == 0 && nat_lt 0 len then one_more n else n
 after_write n len (Err e) = one_more n
+
+-- a flush counts where it is `Ok`
+abbrev pub after_flush : {A E : Type 0} → ℕ → Result A E → ℕ
+after_flush n (Ok k) = one_more n
+after_flush n (Err e) = n
+
+-- so many of them, one after the other
+abbrev pub after_flushes : ℕ → ℕ → ℕ
+after_flushes n zero = n
+after_flushes n (suc k) = one_more (after_flushes n k)
 
 -- the count rose, or stood at its end
 abbrev pub Rose : ℕ → ℕ → Type 0

@@ -11,14 +11,15 @@ AppendsPrefix old new text = (front : List ℕ) × (rest : List ℕ) × Appends 
 abbrev pub WritesText : {T E : Type 0} → Option (List ℕ) → Option (List ℕ) → Result T E → List ℕ → Type 0
 WritesText old new r text = MatchResult r (λ _. Appends old new text) (λ _. AppendsPrefix old new text)
 
--- What is known of a writer: the bytes that it holds, where it tells them, and how many of its writes and flushes
--- failed.
+-- What is known of a writer: the bytes that it holds, where it tells them, how many of its writes and flushes
+-- failed, and how many flushes did not.
 pub record Output : Type 0 where
   pub contents : Option (List ℕ)
   pub failures : ℕ
+  pub flushes : ℕ
 
-abbrev pub output_of : Option (List ℕ) → ℕ → Output
-output_of contents failures = record { contents = contents; failures = failures }
+abbrev pub output_of : Option (List ℕ) → ℕ → ℕ → Output
+output_of contents failures flushes = record { contents = contents; failures = failures; flushes = flushes }
 
 -- A writer that is not written to any more once it failed, and whether it failed.
 pub record Sink : Type 0 where
@@ -36,7 +37,8 @@ Said start s all = MatchBool s.failed (AppendsPrefix start s.output.contents all
 unfoldable pub Counted : ℕ → Sink → Type 0
 Counted start s = MatchBool s.failed (Rose start s.output.failures) (s.output.failures ≡ start)
 
--- The text was put into the sink: whatever was said before is now said with the text after it.
+-- The text was put into the sink: whatever was said before is now said with the text after it. Nothing was flushed.
 pub record Puts (s t : Sink) (text : List ℕ) : Type 0 where
   pub said : (start : Option (List ℕ)) (all : List ℕ) → Said start s all → Said start t (all ++ text)
   pub counted : (start : ℕ) → Counted start s → Counted start t
+  pub unflushed : t.output.flushes ≡ s.output.flushes

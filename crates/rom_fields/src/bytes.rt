@@ -2,7 +2,7 @@
 ghost use Rattle.std.specs.Prelude.{◌≡◌, ℕ, List, Option, length};
 ghost use Rattle.std.specs.Io.{ReadsAtMost, WritesAtMost};
 ghost use Rattle.std.specs.Io.KnownBytes.{Keeps, ReadConsumes, WriteAppends};
-ghost use Rattle.rom_fields.specs.Failures.{after_read, after_write};
+ghost use Rattle.rom_fields.specs.Failures.{after_read, after_write, after_flush};
 ghost use Rattle.rom_fields.specs.Written.{Output, output_of};
 
 use std::io::{Read, Write};
@@ -27,10 +27,10 @@ pub trait ByteRead {
 }
 
 /// A writer whose failed writes and flushes are counted, among them each write that took
-/// none of some bytes.
+/// none of some bytes, and whose other flushes are counted too.
 pub trait ByteWrite {
-    // The bytes that the writer holds, where they are known, and how many of its writes and flushes
-    // failed, up to 2^64 - 1.
+    // The bytes that the writer holds, where they are known, how many of its writes and flushes
+    // failed, and how many flushes did not, both up to 2^64 - 1.
     ghost output: { Self → Output };
 
     /// Takes a prefix of the bytes, and says how many.
@@ -39,30 +39,35 @@ pub trait ByteWrite {
         ensures bytes { WriteAppends (output self.old).contents
             (output self.new).contents result b.now }
         ensures count { (output self.new).failures
-            ≡ after_write (output self.old).failures (length b.now) result };
+            ≡ after_write (output self.old).failures (length b.now) result }
+        ensures unflushed { (output self.new).flushes ≡ (output self.old).flushes };
 
     /// Hands on what was taken and is still held back.
     fn flush(&mut self) -> Result<(), Failed>
         ensures bytes { Keeps (output self.old).contents (output self.new).contents }
-        ensures count { (output self.new).failures ≡ after_read (output self.old).failures result };
+        ensures count { (output self.new).failures ≡ after_read (output self.old).failures result }
+        ensures flushed { (output self.new).flushes ≡ after_flush (output self.old).flushes result };
 }
 
-/// A reader or a writer of std with a count of its failures.
+/// A reader or a writer of std with a count of its failures, and of the flushes that succeeded.
 #[derive(Drop)]
 pub struct Plain<X> {
     inner: X,
     failures: u64,
+    flushes: u64,
 }
 
 impl<X> Plain<X> {
-    /// With no failure counted yet.
+    /// With no failure and no flush counted yet.
     pub fn new(x: X) -> Plain<X>
         ensures inner { result.inner ≡ x }
         ensures failures { result.failures ≡ 0 }
+        ensures flushes { result.flushes ≡ 0 }
     {
         Plain {
             inner: x,
             failures: 0,
+            flushes: 0,
         }
     }
 
@@ -73,11 +78,22 @@ impl<X> Plain<X> {
         self.failures
     }
 
+    /// How many of its flushes succeeded.
+    pub fn flushes(&self) -> u64
+        ensures { result ≡ self.now.flushes }
+    {
+        self.flushes
+    }
+
     /// The reader or writer itself.
     pub fn into_inner(self) -> X
         ensures { result ≡ self.inner }
     {
-        let Plain { inner, failures: _ } = self;
+        let Plain {
+            inner,
+            failures: _,
+            flushes: _,
+        } = self;
         inner
     }
 }
@@ -99,7 +115,7 @@ impl<X: Read> ByteRead for Plain<X> {
 }
 
 impl<X: Write> ByteWrite for Plain<X> {
-    ghost output = { λ s. output_of (X.contents s.inner) s.failures };
+    ghost output = { λ s. output_of (X.contents s.inner) s.failures s.flushes };
 
     fn write(&mut self, b: &[u8]) -> Result<usize, Failed> {
         match self.inner.write(b) {
@@ -118,7 +134,10 @@ impl<X: Write> ByteWrite for Plain<X> {
 
     fn flush(&mut self) -> Result<(), Failed> {
         match self.inner.flush() {
-            Ok(()) => Ok(()),
+            Ok(()) => {
+                self.flushes = self.flushes.saturating_add(1);
+                Ok(())
+            }
             Err(_) => {
                 self.failures = self.failures.saturating_add(1);
                 Err(Failed)

@@ -1,6 +1,21 @@
-//! Windows into a buffer, none of which meets another.
+//! Windows into a buffer, none of which meets another: for callers that lay an image out in memory
+//! of their own. The writers of this project stream, and do not use it.
+ghost use Rattle.std.specs.Prelude.{◌≡◌, ◌+◌, ◌≤◌, length, take, drop};
+
 use std::marker::Model;
 use std::mem;
+
+/// A slice cut twice: its first `gap` bytes, the `len` bytes behind them, and the rest.
+fn cut(whole: &mut [u8], gap: usize, len: usize) -> (&mut [u8], &mut [u8], &mut [u8])
+    requires { gap + len ≤ length whole.old }
+    ensures gap { result.0.now ≡ take gap whole.old }
+    ensures window { result.1.now ≡ take len (drop gap whole.old) }
+    ensures rest { result.2.now ≡ drop (gap + len) whole.old }
+{
+    let (before, from_gap) = whole.split_at_mut(gap);
+    let (window, rest) = from_gap.split_at_mut(len);
+    (before, window, rest)
+}
 
 /// A buffer from which windows are taken, each behind the one before.
 #[derive(Drop)]
@@ -51,8 +66,7 @@ impl<'b> Canvas<'b> {
         }
         let gap = start - self.at;
         let rest = mem::take(&mut self.rest);
-        let (_, rest) = rest.split_at_mut(gap);
-        let (window, rest) = rest.split_at_mut(len);
+        let (_, window, rest) = cut(rest, gap, len);
         self.rest = rest;
         self.at = start + len;
         Some(window)

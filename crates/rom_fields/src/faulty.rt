@@ -2,7 +2,7 @@
 ghost use Rattle.std.specs.Prelude.{◌≡◌, ◌-◌, ◌≤◌, length, IfOk, IsOk, IsErr};
 ghost use Rattle.std.specs.Io.{ReadsAtMost, WritesAtMost};
 ghost use Rattle.std.specs.Io.KnownBytes.{Keeps, ReadConsumes, WriteAppends};
-ghost use Rattle.rom_fields.specs.Failures.{one_more, after_read, after_write};
+ghost use Rattle.rom_fields.specs.Failures.{one_more, after_read, after_write, after_flush};
 ghost use Rattle.rom_fields.specs.Written.{output_of};
 
 use crate::bytes::{ByteRead, ByteWrite, Failed};
@@ -15,6 +15,7 @@ pub struct Faulty<X> {
     calls: u64,
     most: usize,
     failures: u64,
+    flushes: u64,
 }
 
 impl<X> Faulty<X> {
@@ -24,18 +25,21 @@ impl<X> Faulty<X> {
         ensures calls { result.calls ≡ calls }
         ensures most { result.most ≡ most }
         ensures failures { result.failures ≡ 0 }
+        ensures flushes { result.flushes ≡ 0 }
     {
         Faulty {
             inner,
             calls,
             most,
             failures: 0,
+            flushes: 0,
         }
     }
 
     /// Counts a failure.
     fn fail(&mut self) -> Failed
         ensures failures { self.new.failures ≡ one_more self.old.failures }
+        ensures flushes { self.new.flushes ≡ self.old.flushes }
         ensures inner { self.new.inner ≡ self.old.inner }
         ensures calls { self.new.calls ≡ self.old.calls }
         ensures most { self.new.most ≡ self.old.most }
@@ -53,6 +57,7 @@ impl<X> Faulty<X> {
             calls: _,
             most: _,
             failures: _,
+            flushes: _,
         } = self;
         inner
     }
@@ -86,13 +91,14 @@ impl<X: ByteRead> ByteRead for Faulty<X> {
 }
 
 impl<X: ByteWrite> ByteWrite for Faulty<X> {
-    ghost output = { λ s. output_of (X.output s.inner).contents s.failures };
+    ghost output = { λ s. output_of (X.output s.inner).contents s.failures s.flushes };
 
     fn write(&mut self, b: &[u8]) -> Result<usize, Failed>
         ensures bound { WritesAtMost result b.now }
         ensures bytes { WriteAppends (X.output self.old.inner).contents
             (X.output self.new.inner).contents result b.now }
         ensures count { self.new.failures ≡ after_write self.old.failures (length b.now) result }
+        ensures unflushed { self.new.flushes ≡ self.old.flushes }
         ensures limit { IfOk result (λ n. n ≤ self.old.most) }
         ensures spent { self.old.calls ≡ 0 → IsErr result }
         ensures calls { self.new.calls ≡ self.old.calls - 1 }
@@ -118,6 +124,7 @@ impl<X: ByteWrite> ByteWrite for Faulty<X> {
         ensures bytes { Keeps (X.output self.old.inner).contents
             (X.output self.new.inner).contents }
         ensures count { self.new.failures ≡ after_read self.old.failures result }
+        ensures flushed { self.new.flushes ≡ after_flush self.old.flushes result }
         ensures spent { self.old.calls ≡ 0 → IsErr result }
         ensures calls { self.new.calls ≡ self.old.calls - 1 }
         ensures most { self.new.most ≡ self.old.most }
@@ -127,7 +134,10 @@ impl<X: ByteWrite> ByteWrite for Faulty<X> {
         }
         self.calls -= 1;
         match self.inner.flush() {
-            Ok(()) => Ok(()),
+            Ok(()) => {
+                self.flushes = self.flushes.saturating_add(1);
+                Ok(())
+            }
             Err(_) => Err(self.fail()),
         }
     }

@@ -10,6 +10,7 @@ use crate::bytes::{ByteWrite, Failed};
 pub fn write_whole<W: ByteWrite>(w: &mut W, b: &[u8]) -> Result<(), Failed>
     ensures text { WritesText (W.output w.old).contents (W.output w.new).contents result b.now }
     ensures count { Counts (W.output w.old).failures (W.output w.new).failures result }
+    ensures unflushed { (W.output w.new).flushes ≡ (W.output w.old).flushes }
 {
     let mut at = 0;
     while at < b.len() {

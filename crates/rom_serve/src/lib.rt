@@ -3,9 +3,9 @@
 //! `specs/Machines.antt` says what each line is answered: over one image, and over several images
 //! with eight sessions. Proved: `serve`, `serve_bounded` and `serve_space` write just these
 //! replies, each of them whole before the next byte is read, and say why they ended early; no
-//! failed write or flush is passed over. That each reply is flushed is shown by tests, in
-//! `image_examples`. `laws` has what holds of the replies of several sessions. No memory is taken,
-//! but by look-ups in a `Cached` image, which keeps what they answered.
+//! failed write or flush is passed over, and as many flushes succeed as replies are written. `laws`
+//! has what holds of the replies of several sessions. No memory is taken, but by look-ups in an image
+//! that keeps something of them, as a `Cached` one does.
 #![tactic(auto)]
 
 mod alone;

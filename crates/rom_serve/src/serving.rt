@@ -21,7 +21,7 @@ use std::marker::PhantomData;
 /// Answers the lines of `r` on `w` over an image, up to `quit` or to the end of the input, with 64
 /// descriptors. It reads one byte a call, at most 2^40 times, and writes each reply whole and
 /// flushes it before it reads on, in one write for each 4,096 bytes of it. Directories of the image
-/// may lie 64 deep. No memory is taken.
+/// may lie 64 deep. No memory is taken but what the image itself takes for look-ups.
 ///
 /// # Errors
 ///
@@ -36,23 +36,19 @@ pub fn serve<'a, T: TreeImage<'a>, R: ByteRead, W: ByteWrite>(
 ) -> Result<(), ServeError>
     requires { levels (T.image image).tree ≤ 65 }
     ensures ok { OnOk result (Serves (image_machine (T.image image)) (no_files 64)
-        (R.remaining r.old) (R.remaining r.new)
-        (W.output w.old).contents (W.output w.new).contents) }
+        (R.remaining r.old) (R.remaining r.new) (W.output w.old) (W.output w.new)) }
     ensures quiet { OnOk result ((R.failures r.new ≡ R.failures r.old)
         × ((W.output w.new).failures ≡ (W.output w.old).failures)) }
     ensures read_fault { result ≡ Err ReadFault → Rose (R.failures r.old) (R.failures r.new)
         × ((y : List ℕ) × Finishes (image_machine (T.image image)) (no_files 64)
-        (R.remaining r.old) (R.remaining r.new)
-        (W.output w.old).contents (W.output w.new).contents y) }
+        (R.remaining r.old) (R.remaining r.new) (W.output w.old) (W.output w.new) y) }
     ensures write_fault { result ≡ Err WriteFault
         → Rose (W.output w.old).failures (W.output w.new).failures
         × Breaks (image_machine (T.image image)) (no_files 64)
-        (R.remaining r.old) (R.remaining r.new)
-        (W.output w.old).contents (W.output w.new).contents }
+        (R.remaining r.old) (R.remaining r.new) (W.output w.old) (W.output w.new) }
     ensures too_many { result ≡ Err TooManyReads → (y : List ℕ) × (length y ≡ 2 ^ 40)
         × Finishes (image_machine (T.image image)) (no_files 64)
-        (R.remaining r.old) (R.remaining r.new)
-        (W.output w.old).contents (W.output w.new).contents y }
+        (R.remaining r.old) (R.remaining r.new) (W.output w.old) (W.output w.new) y }
 {
     serve_bounded(image, r, w, 1 << 40)
 }
@@ -70,23 +66,19 @@ pub fn serve_bounded<'a, T: TreeImage<'a>, R: ByteRead, W: ByteWrite>(
 ) -> Result<(), ServeError>
     requires { levels (T.image image).tree ≤ 65 }
     ensures ok { OnOk result (Serves (image_machine (T.image image)) (no_files 64)
-        (R.remaining r.old) (R.remaining r.new)
-        (W.output w.old).contents (W.output w.new).contents) }
+        (R.remaining r.old) (R.remaining r.new) (W.output w.old) (W.output w.new)) }
     ensures quiet { OnOk result ((R.failures r.new ≡ R.failures r.old)
         × ((W.output w.new).failures ≡ (W.output w.old).failures)) }
     ensures read_fault { result ≡ Err ReadFault → Rose (R.failures r.old) (R.failures r.new)
         × ((y : List ℕ) × Finishes (image_machine (T.image image)) (no_files 64)
-        (R.remaining r.old) (R.remaining r.new)
-        (W.output w.old).contents (W.output w.new).contents y) }
+        (R.remaining r.old) (R.remaining r.new) (W.output w.old) (W.output w.new) y) }
     ensures write_fault { result ≡ Err WriteFault
         → Rose (W.output w.old).failures (W.output w.new).failures
         × Breaks (image_machine (T.image image)) (no_files 64)
-        (R.remaining r.old) (R.remaining r.new)
-        (W.output w.old).contents (W.output w.new).contents }
+        (R.remaining r.old) (R.remaining r.new) (W.output w.old) (W.output w.new) }
     ensures too_many { result ≡ Err TooManyReads → (y : List ℕ) × (length y ≡ reads)
         × Finishes (image_machine (T.image image)) (no_files 64)
-        (R.remaining r.old) (R.remaining r.new)
-        (W.output w.old).contents (W.output w.new).contents y }
+        (R.remaining r.old) (R.remaining r.new) (W.output w.old) (W.output w.new) y }
 {
     let mut machine = Alone {
         calls: Single {
@@ -114,23 +106,19 @@ pub fn serve_space<'a, T: TreeImage<'a>, R: ByteRead, W: ByteWrite>(
     requires few { length images.items ≤ 8 }
     requires shallow { AreShallow (map T.image images.items) }
     ensures ok { OnOk result (Serves (space_machine (map T.image images.items)) (no_sessions 64)
-        (R.remaining r.old) (R.remaining r.new)
-        (W.output w.old).contents (W.output w.new).contents) }
+        (R.remaining r.old) (R.remaining r.new) (W.output w.old) (W.output w.new)) }
     ensures quiet { OnOk result ((R.failures r.new ≡ R.failures r.old)
         × ((W.output w.new).failures ≡ (W.output w.old).failures)) }
     ensures read_fault { result ≡ Err ReadFault → Rose (R.failures r.old) (R.failures r.new)
         × ((y : List ℕ) × Finishes (space_machine (map T.image images.items)) (no_sessions 64)
-        (R.remaining r.old) (R.remaining r.new)
-        (W.output w.old).contents (W.output w.new).contents y) }
+        (R.remaining r.old) (R.remaining r.new) (W.output w.old) (W.output w.new) y) }
     ensures write_fault { result ≡ Err WriteFault
         → Rose (W.output w.old).failures (W.output w.new).failures
         × Breaks (space_machine (map T.image images.items)) (no_sessions 64)
-        (R.remaining r.old) (R.remaining r.new)
-        (W.output w.old).contents (W.output w.new).contents }
+        (R.remaining r.old) (R.remaining r.new) (W.output w.old) (W.output w.new) }
     ensures too_many { result ≡ Err TooManyReads → (y : List ℕ) × (length y ≡ 2 ^ 40)
         × Finishes (space_machine (map T.image images.items)) (no_sessions 64)
-        (R.remaining r.old) (R.remaining r.new)
-        (W.output w.old).contents (W.output w.new).contents y }
+        (R.remaining r.old) (R.remaining r.new) (W.output w.old) (W.output w.new) y }
 {
     let calls: Space<'a, T, 64> = Space::new(images);
     let mut machine = Among {

@@ -1,6 +1,9 @@
 -- What a server of lines writes for an input, and how much of the input it uses. (This project's own.)
-use Rattle.std.specs.Prelude.{◌≡◌, ℕ, ◌-◌, Bool, if◌then◌else◌, ◌==◌, List, [], ◌∷◌, ◌++◌, Option, length, take, IfSome}
+use Rattle.std.specs.Prelude.{◌≡◌, ℕ, ◌-◌, Bool, false, if◌then◌else◌, ◌==◌, List, [], ◌∷◌, ◌++◌, Option, length, take, IfSome}
 use Rattle.std.specs.Io.KnownBytes.{Appends, Consumes}
+use Rattle.std.specs.List.{list_any}
+use Rattle.rom_fields.specs.Failures.{after_flushes}
+use Rattle.rom_fields.specs.Written.{Output}
 
 -- Lines.
 
@@ -27,6 +30,9 @@ unfoldable pub whole_lines_after : List ℕ → List ℕ → List (List ℕ)
 whole_lines_after line [] = []
 whole_lines_after line (b ∷ x) =
     if b == line_feed then line ∷ whole_lines_after [] x else whole_lines_after (line ++ b ∷ []) x
+
+abbrev pub whole_lines_of : List ℕ → List (List ℕ)
+whole_lines_of x = whole_lines_after [] x
 
 -- lines as a text, each with a line feed
 abbrev pub joined : List (List ℕ) → List ℕ
@@ -85,7 +91,7 @@ module _ {S : Type 0} where
   abbrev pub used : Machine S → List ℕ → List ℕ
   used m x = used_after m [] x
 
--- What serving did: a reader had r₀ and has r, a writer held w₀ and holds w.
+-- What serving did: a reader had r₀ and has r, a writer was w₀ and is w.
 
 abbrev pub but_last : List ℕ → List ℕ
 but_last y = take (length y - 1) y
@@ -94,20 +100,41 @@ abbrev pub IsFront : List ℕ → List ℕ → Type 0
 IsFront front whole = (rest : List ℕ) × (whole ≡ front ++ rest)
 
 module _ {S : Type 0} where
-  -- what is used of the input was read, and the replies were written
-  abbrev pub Serves : Machine S → S → (r₀ r w₀ w : Option (List ℕ)) → Type 0
-  Serves m s r₀ r w₀ w = IfSome r₀ (λ x. Consumes r₀ r (used m x) × Appends w₀ w (served m s x))
+  -- none of these lines ends the serving
+  abbrev pub GoesOn : Machine S → List (List ℕ) → Type 0
+  GoesOn m ls = list_any m.ends ls ≡ false
 
-  -- y was read, and just the replies to those of its lines that end with a line feed were written
-  abbrev pub Finishes : Machine S → S → (r₀ r w₀ w : Option (List ℕ)) → List ℕ → Type 0
-  Finishes m s r₀ r w₀ w y = Consumes r₀ r y × Appends w₀ w (finished m s y)
+  -- as many flushes were added as replies to these lines
+  abbrev pub Flushes : Machine S → S → Output → Output → List (List ℕ) → Type 0
+  Flushes m s w₀ w ls = w.flushes ≡ after_flushes w₀.flushes (length (exchanges m s ls))
 
-  -- Some y was read, and a prefix of the replies to it was written. It holds the replies to all lines but the
-  -- last: to those whose line feed stands before the last byte of y.
-  abbrev pub Breaks : Machine S → S → (r₀ r w₀ w : Option (List ℕ)) → Type 0
-  Breaks m s r₀ r w₀ w =
-      (y : List ℕ) × (out : List ℕ) × Consumes r₀ r y × Appends w₀ w out
-      × IsFront out (served m s y) × IsFront (finished m s (but_last y)) out
+  -- what is used of the input was read, the replies were written, with as many flushes
+  abbrev pub Serves : Machine S → S → (r₀ r : Option (List ℕ)) → (w₀ w : Output) → Type 0
+  Serves m s r₀ r w₀ w = IfSome r₀ (λ x. Consumes r₀ r (used m x) × Appends w₀.contents w.contents (served m s x)
+      × Flushes m s w₀ w (lines_of x))
+
+  -- y was read and used, and just the replies to those of its lines that end with a line feed were written, with as
+  -- many flushes; none of these lines ends the serving
+  pub record Finishes (m : Machine S) (s : S) (r₀ r : Option (List ℕ)) (w₀ w : Output) (y : List ℕ) : Type 0 where
+    pub read : Consumes r₀ r y
+    pub uses : used m y ≡ y
+    pub goes_on : GoesOn m (whole_lines_of y)
+    pub wrote : Appends w₀.contents w.contents (finished m s y)
+    pub flushed : Flushes m s w₀ w (whole_lines_of y)
+
+  -- Some y was read and used, and `out` was written, a prefix of the replies to it. It holds the replies to all
+  -- lines but the last: to those whose line feed stands before the last byte of y. As many flushes were added as these
+  -- are, and none of these lines ends the serving.
+  pub record Breaks (m : Machine S) (s : S) (r₀ r : Option (List ℕ)) (w₀ w : Output) : Type 0 where
+    pub y : List ℕ
+    pub out : List ℕ
+    pub read : Consumes r₀ r y
+    pub uses : used m y ≡ y
+    pub goes_on : GoesOn m (whole_lines_of (but_last y))
+    pub wrote : Appends w₀.contents w.contents out
+    pub front : IsFront out (served m s y)
+    pub holds : IsFront (finished m s (but_last y)) out
+    pub flushed : Flushes m s w₀ w (whole_lines_of (but_last y))
 
   -- no more than 8,192 bytes of a line matter
   pub record ForgetsLong (m : Machine S) : Type 0 where

@@ -2,7 +2,7 @@
 ghost use Rattle.std.specs.Prelude.{◌≡◌, ◌≤◌, ◌+◌, ◌++◌, [], ℕ, List, Option, None, true, length, drop, OnOk, IsOk};
 ghost use Rattle.std.specs.Io.{WritesAtMost};
 ghost use Rattle.std.specs.Io.KnownBytes.{Appends, Keeps, WriteAppends, append_known};
-ghost use Rattle.rom_fields.specs.Failures.{after_read, after_write};
+ghost use Rattle.rom_fields.specs.Failures.{after_read, after_write, after_flush};
 ghost use Rattle.rom_fields.specs.Written.{output_of};
 ghost use Rattle.serve_loop.specs.Starts.{begins_with};
 ghost use base.Fml.{GName};
@@ -42,6 +42,7 @@ fn hand_on<W: ByteWrite>(
         × (drop sent.old held.old.items ≡ front ++ drop sent.new held.new.items) }
     ensures empty { OnOk result ((held.new.items ≡ []) × (sent.new ≡ 0)) }
     ensures count { (W.output w.new).failures ≡ after_read (W.output w.old).failures result }
+    ensures unflushed { (W.output w.new).flushes ≡ (W.output w.old).flushes }
 {
     while *sent < held.len() {
         match w.write(&held.as_slice()[*sent..]) {
@@ -68,6 +69,7 @@ fn hand_on_all<W: ByteWrite>(
         × (drop sent.old held.old.items ≡ front ++ drop sent.new held.new.items) }
     ensures empty { OnOk result (drop sent.new held.new.items ≡ []) }
     ensures count { (W.output w.new).failures ≡ after_read (W.output w.old).failures result }
+    ensures flushed { (W.output w.new).flushes ≡ after_flush (W.output w.old).flushes result }
 {
     match hand_on(w, held, sent) {
         Ok(()) => w.flush(),
@@ -90,6 +92,7 @@ fn make_room<W: ByteWrite>(
         × (drop sent.old held.old.items ≡ front ++ drop sent.new held.new.items) }
     ensures room { OnOk result (length held.new.items + room ≤ 4096) }
     ensures count { (W.output w.new).failures ≡ after_read (W.output w.old).failures result }
+    ensures unflushed { (W.output w.new).flushes ≡ (W.output w.old).flushes }
 {
     if room <= HELD - held.len() {
         return Ok(());
@@ -119,7 +122,7 @@ pub(crate) struct Buffered<'w, W: ByteWrite, K: Lent> {
 impl<'w, W: ByteWrite, K: Lent> ByteWrite for Buffered<'w, W, K> {
     ghost output = { λ s. output_of
         (append_known (W.output s.reached.w.now).contents (drop s.sent s.held.items))
-        (W.output s.reached.w.now).failures };
+        (W.output s.reached.w.now).failures (W.output s.reached.w.now).flushes };
 
     fn write(&mut self, b: &[u8]) -> Result<usize, Failed> {
         let part = &b[..b.len().min(HELD)];
@@ -142,6 +145,8 @@ impl<'w, W: ByteWrite, K: Lent> ByteWrite for Buffered<'w, W, K> {
             (drop self.new.sent self.new.held.items)) }
         ensures count { (W.output self.new.reached.w.now).failures
             ≡ after_read (W.output self.old.reached.w.now).failures result }
+        ensures flushed { (W.output self.new.reached.w.now).flushes
+            ≡ after_flush (W.output self.old.reached.w.now).flushes result }
         ensures empty { OnOk result (drop self.new.sent self.new.held.items ≡ []) }
     {
         let reached = &mut self.reached;

@@ -3,7 +3,8 @@
 //! `specs/Served.antt` says how an input is cut into lines, what a machine of lines replies to
 //! them, and how much of the input is used. Proved: `serve_lines` writes just these replies, each
 //! of them whole before the next byte is read, and says which of reader, writer and count of reads
-//! ended it early; no failed write or flush is passed over. `specs/Views.antt` says what one of
+//! ended it early; no failed write or flush is passed over, and as many flushes succeed as replies
+//! are written. `specs/Views.antt` says what one of
 //! several sessions sees.
 #![tactic(auto)]
 

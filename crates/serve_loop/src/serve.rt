@@ -1,9 +1,9 @@
 //! The serving of lines.
 ghost use Rattle.std.specs.Prelude.{◌≡◌, ℕ, List, ◌∷◌, [], ◌++◌, take, length, ◌<◌, Err, OnOk, OnErr};
 ghost use Rattle.std.specs.Io.KnownBytes.{Appends};
-ghost use Rattle.rom_fields.specs.Failures.{Rose, Counts};
+ghost use Rattle.rom_fields.specs.Failures.{Rose, Counts, after_flush, after_flushes};
 ghost use Rattle.rom_fields.specs.Written.{WritesText, AppendsPrefix};
-ghost use Rattle.serve_loop.specs.Served.{Serves, Finishes, Breaks, ForgetsLong, last_reply};
+ghost use Rattle.serve_loop.specs.Served.{Serves, Finishes, Breaks, ForgetsLong, last_line, last_reply};
 ghost use Rattle.serve_loop.specs.declared.error.ServeError.TheVariants.{ReadFault, WriteFault, TooManyReads};
 
 use crate::buffered::{Buffered, Lent, Reached};
@@ -46,6 +46,8 @@ fn answer_through<'w, M: LineMachine, W: ByteWrite, K: Lent>(
         ((M.machine m.old).reply (M.state m.old) line.now.items) }
     ensures count { Counts (W.output reached.entry.w.now).failures
         (W.output result.w.now).failures ended.new }
+    ensures flushed { (W.output result.w.now).flushes
+        ≡ after_flush (W.output reached.entry.w.now).flushes ended.new }
     ensures step { M.state m.new ≡ (M.machine m.old).next (M.state m.old) line.now.items }
     ensures stays { M.machine m.new ≡ M.machine m.old }
 {
@@ -76,6 +78,7 @@ fn answer_line<M: LineMachine, W: ByteWrite>(
     ensures text { WritesText (W.output w.old).contents (W.output w.new).contents result
         ((M.machine m.old).reply (M.state m.old) line.now.items) }
     ensures count { Counts (W.output w.old).failures (W.output w.new).failures result }
+    ensures flushed { (W.output w.new).flushes ≡ after_flush (W.output w.old).flushes result }
     ensures step { M.state m.new ≡ (M.machine m.old).next (M.state m.old) line.now.items }
     ensures stays { M.machine m.new ≡ M.machine m.old }
 {
@@ -98,6 +101,9 @@ fn answer_last<M: LineMachine, W: ByteWrite>(
         ((M.machine m.old).reply (M.state m.old) line.now.items)) }
     ensures some { OnErr result (0 < length line.now.items) }
     ensures count { Counts (W.output w.old).failures (W.output w.new).failures result }
+    ensures flushed { OnOk result ((W.output w.new).flushes
+        ≡ after_flushes (W.output w.old).flushes (length (last_line line.now.items))) }
+    ensures unflushed { OnErr result ((W.output w.new).flushes ≡ (W.output w.old).flushes) }
 {
     if line.is_empty() {
         return Ok(());
@@ -124,21 +130,19 @@ pub fn serve_lines<M: LineMachine, R: ByteRead, W: ByteWrite>(
 ) -> Result<(), ServeError>
     requires { ForgetsLong (M.machine m.old) }
     ensures ok { OnOk result (Serves (M.machine m.old) (M.state m.old)
-        (R.remaining r.old) (R.remaining r.new)
-        (W.output w.old).contents (W.output w.new).contents) }
+        (R.remaining r.old) (R.remaining r.new) (W.output w.old) (W.output w.new)) }
     ensures quiet { OnOk result ((R.failures r.new ≡ R.failures r.old)
         × ((W.output w.new).failures ≡ (W.output w.old).failures)) }
     ensures read_fault { result ≡ Err ReadFault → Rose (R.failures r.old) (R.failures r.new)
         × ((y : List ℕ) × Finishes (M.machine m.old) (M.state m.old)
-        (R.remaining r.old) (R.remaining r.new)
-        (W.output w.old).contents (W.output w.new).contents y) }
+        (R.remaining r.old) (R.remaining r.new) (W.output w.old) (W.output w.new) y) }
     ensures write_fault { result ≡ Err WriteFault
         → Rose (W.output w.old).failures (W.output w.new).failures
         × Breaks (M.machine m.old) (M.state m.old) (R.remaining r.old) (R.remaining r.new)
-        (W.output w.old).contents (W.output w.new).contents }
+        (W.output w.old) (W.output w.new) }
     ensures too_many { result ≡ Err TooManyReads → (y : List ℕ) × (length y ≡ reads)
         × Finishes (M.machine m.old) (M.state m.old) (R.remaining r.old) (R.remaining r.new)
-        (W.output w.old).contents (W.output w.new).contents y }
+        (W.output w.old) (W.output w.new) y }
 {
     let mut line: Line = ArrayVec::new();
     for _ in 0..reads {

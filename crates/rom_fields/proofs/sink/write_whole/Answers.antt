@@ -1,4 +1,4 @@
-use Rattle.std.proofs.Common.{arith, ◌+◌}
+use Rattle.std.proofs.Common.{arith, ◌+◌, ◌∙◌}
 use Rattle.std.proofs.lemmas.Grind.{common_steps}
 use Rattle.rom_fields.proofs.Joins.{appends_tail, within_tail, appends_keep, front_take}
 use Rattle.rom_fields.proofs.sink.write_whole.Goals as goal
@@ -16,4 +16,5 @@ loop-at-preserved g c = record {
   within = within_tail c.args.b.now c.loop-at.at c.in-Ok.n c.loop-at.invariant.within c.in-Ok.ensures.bound;
   written = appends_tail _ _ _ c.args.b.now c.loop-at.at c.in-Ok.n c.loop-at.invariant.written c.in-Ok.ensures.bytes;
   quiet = grind (arith, common_steps, c.in-Ok.ensures.count);
+  unflushed = c.in-Ok.ensures.unflushed ∙ c.loop-at.invariant.unflushed;
 }

@@ -18,7 +18,7 @@ returns-clause-ok g c =
     let m : Image = g.T.Viewed.image c.args.image in
     let P : Table Node → Type 0 = λ s. OnOk c.serve_lines.result (Serves (image_machine m) s
     (g.R.ByteRead.remaining c.args.r.now) (g.R.ByteRead.remaining c.serve_lines.new.r)
-    ((g.W.ByteWrite.output c.args.w.now).contents) ((g.W.ByteWrite.output c.serve_lines.new.w).contents)) in
+    (g.W.ByteWrite.output c.args.w.now) (g.W.ByteWrite.output c.serve_lines.new.w)) in
     subst P (c.new.ensures.empty m) c.serve_lines.ensures.ok
 
 pub returns-clause-read_fault : goal.returns-clause-read_fault
@@ -28,7 +28,7 @@ returns-clause-read_fault g c =
     → Rose (g.R.ByteRead.failures c.args.r.now) (g.R.ByteRead.failures c.serve_lines.new.r)
     × ((y : List ℕ) × Finishes (image_machine m) s
     (g.R.ByteRead.remaining c.args.r.now) (g.R.ByteRead.remaining c.serve_lines.new.r)
-    ((g.W.ByteWrite.output c.args.w.now).contents) ((g.W.ByteWrite.output c.serve_lines.new.w).contents) y) in
+    (g.W.ByteWrite.output c.args.w.now) (g.W.ByteWrite.output c.serve_lines.new.w) y) in
     subst P (c.new.ensures.empty m) c.serve_lines.ensures.read_fault
 
 pub returns-clause-write_fault : goal.returns-clause-write_fault
@@ -38,7 +38,7 @@ returns-clause-write_fault g c =
     → Rose ((g.W.ByteWrite.output c.args.w.now).failures) ((g.W.ByteWrite.output c.serve_lines.new.w).failures)
     × Breaks (image_machine m) s
     (g.R.ByteRead.remaining c.args.r.now) (g.R.ByteRead.remaining c.serve_lines.new.r)
-    ((g.W.ByteWrite.output c.args.w.now).contents) ((g.W.ByteWrite.output c.serve_lines.new.w).contents) in
+    (g.W.ByteWrite.output c.args.w.now) (g.W.ByteWrite.output c.serve_lines.new.w) in
     subst P (c.new.ensures.empty m) c.serve_lines.ensures.write_fault
 
 pub returns-clause-too_many : goal.returns-clause-too_many
@@ -47,5 +47,5 @@ returns-clause-too_many g c =
     let P : Table Node → Type 0 = λ s. c.serve_lines.result ≡ Err TooManyReads → (y : List ℕ) × (length y ≡ c.args.reads)
     × Finishes (image_machine m) s
     (g.R.ByteRead.remaining c.args.r.now) (g.R.ByteRead.remaining c.serve_lines.new.r)
-    ((g.W.ByteWrite.output c.args.w.now).contents) ((g.W.ByteWrite.output c.serve_lines.new.w).contents) y in
+    (g.W.ByteWrite.output c.args.w.now) (g.W.ByteWrite.output c.serve_lines.new.w) y in
     subst P (c.new.ensures.empty m) c.serve_lines.ensures.too_many

@@ -21,7 +21,7 @@ returns-clause-ok g c =
     ap (λ v. map g.T.Viewed.image v.items) c.new-calls.ensures.images in
     let P : List Image → Sessions (List Mount) (Table GraftNode) → Type 0 = λ ms s. OnOk c.serve_lines.result (Serves (space_machine ms) s
     (g.R.ByteRead.remaining c.args.r.now) (g.R.ByteRead.remaining c.serve_lines.new.r)
-    ((g.W.ByteWrite.output c.args.w.now).contents) ((g.W.ByteWrite.output c.serve_lines.new.w).contents)) in
+    (g.W.ByteWrite.output c.args.w.now) (g.W.ByteWrite.output c.serve_lines.new.w)) in
     subst (λ ms. P ms (no_sessions 64)) same
     (subst (P (map g.T.Viewed.image c.new-calls.result.images.items)) c.new-calls.ensures.empty c.serve_lines.ensures.ok)
 
@@ -33,7 +33,7 @@ returns-clause-write_fault g c =
     → Rose ((g.W.ByteWrite.output c.args.w.now).failures) ((g.W.ByteWrite.output c.serve_lines.new.w).failures)
     × Breaks (space_machine ms) s
     (g.R.ByteRead.remaining c.args.r.now) (g.R.ByteRead.remaining c.serve_lines.new.r)
-    ((g.W.ByteWrite.output c.args.w.now).contents) ((g.W.ByteWrite.output c.serve_lines.new.w).contents) in
+    (g.W.ByteWrite.output c.args.w.now) (g.W.ByteWrite.output c.serve_lines.new.w) in
     subst (λ ms. P ms (no_sessions 64)) same
     (subst (P (map g.T.Viewed.image c.new-calls.result.images.items)) c.new-calls.ensures.empty c.serve_lines.ensures.write_fault)
 
@@ -45,7 +45,7 @@ returns-clause-read_fault g c =
     → Rose (g.R.ByteRead.failures c.args.r.now) (g.R.ByteRead.failures c.serve_lines.new.r)
     × ((y : List ℕ) × Finishes (space_machine ms) s
     (g.R.ByteRead.remaining c.args.r.now) (g.R.ByteRead.remaining c.serve_lines.new.r)
-    ((g.W.ByteWrite.output c.args.w.now).contents) ((g.W.ByteWrite.output c.serve_lines.new.w).contents) y) in
+    (g.W.ByteWrite.output c.args.w.now) (g.W.ByteWrite.output c.serve_lines.new.w) y) in
     subst (λ ms. P ms (no_sessions 64)) same
     (subst (P (map g.T.Viewed.image c.new-calls.result.images.items)) c.new-calls.ensures.empty c.serve_lines.ensures.read_fault)
 
@@ -57,6 +57,6 @@ returns-clause-too_many g c =
     → (y : List ℕ) × (length y ≡ 2 ^ 40)
     × Finishes (space_machine ms) s
     (g.R.ByteRead.remaining c.args.r.now) (g.R.ByteRead.remaining c.serve_lines.new.r)
-    ((g.W.ByteWrite.output c.args.w.now).contents) ((g.W.ByteWrite.output c.serve_lines.new.w).contents) y in
+    (g.W.ByteWrite.output c.args.w.now) (g.W.ByteWrite.output c.serve_lines.new.w) y in
     subst (λ ms. P ms (no_sessions 64)) same
     (subst (P (map g.T.Viewed.image c.new-calls.result.images.items)) c.new-calls.ensures.empty c.serve_lines.ensures.too_many)

@@ -1,4 +1,4 @@
-use Rattle.std.proofs.Common.{◌++◌, take, drop, arith}
+use Rattle.std.proofs.Common.{◌∙◌, ◌++◌, take, drop, arith}
 use Rattle.std.proofs.lemmas.Grind.{common_steps}
 use Rattle.rom_fields.proofs.Joins.{appends_join}
 use Rattle.serve_loop.proofs.Buffering.{handed, left_over, within_held}
@@ -11,4 +11,5 @@ loop-sent-preserved g c = record {
   wrote = appends_join _ _ _ c.loop-sent.invariant.front _ c.loop-sent.invariant.wrote (handed _ _ _ c.args.held.now.items c.loop-sent.sent c.in-Ok.n c.as_slice.ensures.value c.in-Ok.ensures.bytes);
   left = left_over c.args.held.now.items c.loop-sent.invariant.front c.args.sent.now c.loop-sent.sent c.in-Ok.n c.loop-sent.invariant.left;
   quiet = grind (arith, common_steps, c.in-Ok.ensures.count);
+  unflushed = c.in-Ok.ensures.unflushed ∙ c.loop-sent.invariant.unflushed;
 }

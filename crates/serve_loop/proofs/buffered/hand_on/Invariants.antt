@@ -9,6 +9,7 @@ invariant-loop-sent g l = record {
   wrote : Appends (g.W.ByteWrite.output l.initial.w).contents (g.W.ByteWrite.output l.w).contents front;
   left : drop l.initial.sent l.held.items ≡ front ++ drop l.sent l.held.items;
   quiet : (g.W.ByteWrite.output l.w).failures ≡ (g.W.ByteWrite.output l.initial.w).failures;
+  unflushed : (g.W.ByteWrite.output l.w).flushes ≡ (g.W.ByteWrite.output l.initial.w).flushes;
 }
 
 abbrev pub decreases-loop-sent : goal.decreases-loop-sent

@@ -1,7 +1,8 @@
-use Rattle.std.proofs.Common.{◌≡◌, sym, subst, arith, true, [], List, ℕ, Option, drop}
+use Rattle.std.proofs.Common.{◌∙◌, ap, ◌≡◌, sym, subst, arith, true, [], List, ℕ, Option, drop}
 use Rattle.std.specs.Io.KnownBytes.{Appends, append_known}
 use Rattle.rom_fields.specs.Written.{AppendsPrefix}
 use Rattle.rom_fields.proofs.Joins.{said_ok, said_front, said_rose, appends_keep}
+use Rattle.rom_fields.specs.Failures.{after_flush}
 use Rattle.serve_loop.specs.Starts.{begins_with}
 use Rattle.serve_loop.proofs.Flushed.{said_quiet, flush_count}
 use Rattle.serve_loop.proofs.Buffering.{begins_itself, prefix_of_prefix, flushed}
@@ -48,6 +49,12 @@ returns-clause-text g c =
     (appends_keep (append_known w []) (append_known u part) (append_known v rest) _
     (subst P c.as_slice.ensures.value (subst Q c.new.ensures (said_ok _ _ _ _ c.if-failed.false c.answer.ensures.text)))
     c.flush.ensures.bytes)
+
+pub returns-then-failed-clause-flushed : goal.returns-then-failed-clause-flushed
+returns-then-failed-clause-flushed g c = c.answer.ensures.text.unflushed
+
+pub returns-clause-flushed : goal.returns-clause-flushed
+returns-clause-flushed g c = c.flush.ensures.flushed ∙ ap (λ n. after_flush n c.flush.result) c.answer.ensures.text.unflushed
 
 pub returns-clause-count : goal.returns-clause-count
 returns-clause-count g c =

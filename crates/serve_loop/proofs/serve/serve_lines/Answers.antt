@@ -12,12 +12,12 @@ loop-init g c = record {
 
 pub returns-in-Ok-clause-ok : goal.returns-in-Ok-clause-ok
 returns-in-Ok-clause-ok g c =
-    run-ends _ c.requires _ _ _ _ _ _ _ _ _ _ _ c.loop.invariant.same c.loop.invariant.runs c.in-End.ensures.0 c.in-End.ensures.1 c.in-Ok.ensures.ok
+    run-ends _ c.requires _ _ _ _ _ _ (g.W.ByteWrite.output c.answer_last.new.w) _ _ _ _ c.loop.invariant.same c.loop.invariant.runs c.in-End.ensures.0 c.in-End.ensures.1 c.in-Ok.ensures.ok c.in-Ok.ensures.flushed
 
 pub returns-in-Err-clause-write_fault : goal.returns-in-Err-clause-write_fault
 returns-in-Err-clause-write_fault g c = λ _. (
   rose-from _ _ _ c.loop.invariant.wrote c.in-Err.ensures.count,
-  run-breaks_at_end _ c.requires _ _ _ _ _ _ _ _ _ _ _ c.loop.invariant.same c.loop.invariant.runs c.in-End.ensures.0 c.in-Err.ensures.some c.in-Err.ensures.err,
+  run-breaks_at_end _ c.requires _ _ _ _ _ _ _ _ _ _ _ c.loop.invariant.same c.loop.invariant.runs c.in-End.ensures.0 c.in-Err.ensures.some c.in-Err.ensures.err c.in-Err.ensures.unflushed,
 )
 
 pub returns-in-Fault-clause-read_fault : goal.returns-in-Fault-clause-read_fault
@@ -38,18 +38,18 @@ pub returns-in-Err-answer_line-clause-write_fault :
     goal.returns-in-Err-answer_line-clause-write_fault
 returns-in-Err-answer_line-clause-write_fault g c = λ _. (
   rose-from _ _ _ c.loop.invariant.wrote c.in-Err-answer_line.ensures.count,
-  run-breaks _ c.requires _ _ _ _ _ _ _ _ _ _ _ _ c.loop.invariant.same c.loop.invariant.runs c.in-Byte.ensures.0 c.if-b-ne-LINE_FEED.false c.in-Err-answer_line.ensures.text,
+  run-breaks _ c.requires _ _ _ _ _ _ _ _ _ _ _ _ c.loop.invariant.same c.loop.invariant.runs c.in-Byte.ensures.0 c.if-b-ne-LINE_FEED.false c.in-Err-answer_line.ensures.text c.in-Err-answer_line.ensures.flushed,
 )
 
 pub returns-then-last-clause-ok : goal.returns-then-last-clause-ok
 returns-then-last-clause-ok g c =
-    run-quits _ c.requires _ _ _ _ _ _ _ _ _ _ _ _ _ c.loop.invariant.same c.loop.invariant.runs c.in-Byte.ensures.0 c.if-b-ne-LINE_FEED.false
-    (c.is_last-last.ensures ∙ ap (λ (t : List ℕ). (g.M.LineMachine.machine c.loop.m).ends t) c.as_slice.ensures.value) c.if-last.true c.in-Ok-answer_line.ensures.text
+    run-quits _ c.requires _ _ _ _ _ _ (g.W.ByteWrite.output c.answer_line.new.w) _ _ _ _ _ _ c.loop.invariant.same c.loop.invariant.runs c.in-Byte.ensures.0 c.if-b-ne-LINE_FEED.false
+    (c.is_last-last.ensures ∙ ap (λ (t : List ℕ). (g.M.LineMachine.machine c.loop.m).ends t) c.as_slice.ensures.value) c.if-last.true c.in-Ok-answer_line.ensures.text c.in-Ok-answer_line.ensures.flushed
 
 pub loop-preserved : goal.loop-preserved
 loop-preserved g c = record {
   runs = run-answers _ c.requires _ _ _ _ _ _ _ _ _ _ _ _ _ _ _ c.loop.invariant.same c.loop.invariant.runs c.in-Byte.ensures.0 c.if-b-ne-LINE_FEED.false
-      (c.is_last-last.ensures ∙ ap (λ (t : List ℕ). (g.M.LineMachine.machine c.loop.m).ends t) c.as_slice.ensures.value) c.if-last.false c.in-Ok-answer_line.ensures.text
+      (c.is_last-last.ensures ∙ ap (λ (t : List ℕ). (g.M.LineMachine.machine c.loop.m).ends t) c.as_slice.ensures.value) c.if-last.false c.in-Ok-answer_line.ensures.text c.in-Ok-answer_line.ensures.flushed
       c.in-Ok-answer_line.ensures.step c.clear.ensures;
   same = c.in-Ok-answer_line.ensures.stays ∙ c.loop.invariant.same;
   read = c.in-Byte.ensures.1 ∙ c.loop.invariant.read;

@@ -1,0 +1,48 @@
+-- The program's subcommands with their arguments, as clap reads words for them. (This project's own.)
+use Rattle.std.specs.Prelude.{◌≡◌, false, true, List, [], ◌∷◌, codes, Some}
+use Rattle.clap.specs.Words.{App, Rule, Shape, Text, new_rule, shape_of}
+use Rattle.clap.specs.Simple.{new_shape}
+use Rattle.clap.specs.declared.builder.action.ArgAction.TheVariants.{SetTrue}
+use Rattle.clap.specs.declared.builder.command.Command.{Command}
+
+-- an argument that has to be given
+abbrev pub value_rule : Text → Rule
+value_rule name = record (new_rule name) { required = true }
+
+-- --NAME VALUE
+abbrev pub option_rule : Text → Rule
+option_rule name = record (new_rule name) { long = Some name }
+
+-- --NAME
+abbrev pub flag_rule : Text → Rule
+flag_rule name = record (new_rule name) { long = Some name; action = Some SetTrue }
+
+-- one to eight images
+abbrev pub images_rule : Rule
+images_rule = record (value_rule (codes "image")) { range = Some (record { start_inclusive = 1; end_inclusive = 8 }) }
+
+abbrev pub shape_with : Text → List Rule → Shape
+shape_with name rules = record (new_shape name) { rules = rules }
+
+-- a subcommand that takes one image
+abbrev pub image_shape : Text → Shape
+image_shape name = shape_with name (value_rule (codes "image") ∷ [])
+
+abbrev pub build_shape : Shape
+build_shape = shape_with (codes "build") (value_rule (codes "format") ∷ value_rule (codes "manifest") ∷ value_rule (codes "out") ∷ [])
+
+abbrev pub scan_shape : Shape
+scan_shape = shape_with (codes "scan")
+    (value_rule (codes "folder") ∷ flag_rule (codes "all") ∷ option_rule (codes "for") ∷ option_rule (codes "align") ∷ [])
+
+-- all of them
+abbrev pub romtool_app : App
+romtool_app = record {
+  top = record (new_shape (codes "romtool")) { is_leaf = false };
+  subs = image_shape (codes "check") ∷ image_shape (codes "list") ∷ image_shape (codes "serve")
+      ∷ shape_with (codes "space") (images_rule ∷ []) ∷ build_shape ∷ scan_shape ∷ [];
+}
+
+-- a command that is one of them
+abbrev pub IsShaped : Shape → Command → Type 0
+IsShaped s c = shape_of c ≡ s

@@ -1,0 +1,94 @@
+-- The numbers of the faults of an image, whatever its format; docs/FAULTS.md has them in words. (This project's own.)
+use Rattle.std.specs.Prelude.{ℕ}
+
+-- more references than the limit
+abbrev pub TOO_MANY : ℕ
+TOO_MANY = 1
+
+-- fewer bytes than a superblock has
+abbrev pub SHORT : ℕ
+SHORT = 2
+
+-- another magic than that of the format
+abbrev pub MAGIC : ℕ
+MAGIC = 3
+
+-- a size that the image cannot have
+abbrev pub SIZE : ℕ
+SIZE = 4
+
+-- the words of the superblock's sum do not sum to 0
+abbrev pub SUM : ℕ
+SUM = 5
+
+-- flags of another kind of image
+abbrev pub FLAGS : ℕ
+FLAGS = 6
+
+-- the stored CRC is not that of the bytes
+abbrev pub CRC : ℕ
+CRC = 7
+
+-- another signature
+abbrev pub SIGNATURE : ℕ
+SIGNATURE = 8
+
+-- the root is no directory, or does not stand where a root may
+abbrev pub ROOT : ℕ
+ROOT = 9
+
+-- what a record names does not lie within the image
+abbrev pub BOUNDS : ℕ
+BOUNDS = 11
+
+-- the words of a record's header do not sum to 0
+abbrev pub HEADER_SUM : ℕ
+HEADER_SUM = 12
+
+-- a name that is empty, too long, or has a byte that no name has
+abbrev pub BAD_NAME : ℕ
+BAD_NAME = 13
+
+-- a kind of file that the format does not have
+abbrev pub KIND : ℕ
+KIND = 14
+
+-- a symbolic link whose text is empty or longer than 4,095 bytes
+abbrev pub LINK_SIZE : ℕ
+LINK_SIZE = 15
+
+-- a block that is not stored as it is
+abbrev pub BLOCK_KIND : ℕ
+BLOCK_KIND = 16
+
+-- an entry that ends behind its list
+abbrev pub LIST_END : ℕ
+LIST_END = 17
+
+-- two references lead to one record
+abbrev pub TWICE : ℕ
+TWICE = 20
+
+-- an entry deeper than the limit
+abbrev pub TOO_DEEP : ℕ
+TOO_DEEP = 21
+
+-- two parts of the image share bytes that may not be shared
+abbrev pub OVERLAP : ℕ
+OVERLAP = 22
+
+-- a name stands twice in one list
+abbrev pub DUPLICATE_NAME : ℕ
+DUPLICATE_NAME = 23
+
+-- `.` or `..` stands or leads where it may not
+abbrev pub DOT : ℕ
+DOT = 24
+
+-- a hard link leads to no file
+abbrev pub HARD_LINK : ℕ
+HARD_LINK = 25
+
+-- a name comes before the one just before it, where lists are sorted
+abbrev pub UNSORTED : ℕ
+UNSORTED = 26
