@@ -15,7 +15,7 @@ use Rattle.cramfs_format.specs.Refers.{references, LeadsToSound, LeadsToFault}
 use Rattle.cramfs_format.specs.Tree.{precedes, is_sorted}
 use Rattle.rom_tree.specs.Dots.{dot, dot_dot}
 use Rattle.cramfs_format.specs.Superblock.{HasImageFault, accessible}
-use Rattle.rom_faults.specs.declared.fault.TheConstants.{TOO_MANY, TWICE, TOO_DEEP, OVERLAP, DUPLICATE_NAME, DOT, UNSORTED}
+use Rattle.rom_faults.specs.FaultNumbers.{TOO_MANY, TWICE, TOO_DEEP, OVERLAP, DUPLICATE_NAME, DOT, UNSORTED}
 
 -- a sound record that a reference leads to
 pub record IsReached (o : Order) (b : List ℕ) (p : ℕ) : Type 0 where

@@ -6,7 +6,7 @@ use Rattle.rom_faults.specs.declared.fault.Fault.{Fault}
 use Rattle.record_walk.specs.References.{References}
 use Rattle.cramfs_format.specs.declared.order.Order.{Order}
 use Rattle.cramfs_format.specs.Inode.{end_of, list_start, list_end, IsSound, ListLies, HasEntryFault}
-use Rattle.rom_faults.specs.declared.fault.TheConstants.{BOUNDS}
+use Rattle.rom_faults.specs.FaultNumbers.{BOUNDS}
 
 -- the root's inode is in the superblock
 abbrev pub root_place : ℕ

@@ -10,7 +10,7 @@ use Rattle.cramfs_format.specs.declared.order.Order.TheVariants.{Little, Big}
 use Rattle.cramfs_format.specs.Inode.{type_of, offset_of, size_of}
 use Rattle.cramfs_format.specs.Refers.{root_place}
 use Rattle.crc.specs.Crc.{crc_of}
-use Rattle.rom_faults.specs.declared.fault.TheConstants.{SHORT, MAGIC, SIZE, FLAGS, CRC, SIGNATURE, ROOT}
+use Rattle.rom_faults.specs.FaultNumbers.{SHORT, MAGIC, SIZE, FLAGS, CRC, SIGNATURE, ROOT}
 
 -- 28cd3d45 (hexadecimal)
 abbrev pub magic : ℕ

@@ -1,8 +1,9 @@
 //! The byte order of an image.
-ghost use Rattle.std.specs.Prelude.{◌≡◌, ◌+◌, ◌-◌, ◌≤◌, ◌<◌, ◌^◌, length};
-ghost use Rattle.cramfs_format.specs.Order.{word as word_of, first_field, field_after};
+ghost use Rattle.std.specs.Prelude.{◌≡◌, ◌+◌, ◌-◌, ◌≤◌, ◌<◌, ◌*◌, ◌^◌, length};
+ghost use Rattle.cramfs_format.specs.Order.{word as word_of, with_word, first_field, field_after, packed};
 
 use byteorder::{BigEndian, ByteOrder, LittleEndian};
+use rom_fields::word::{put_be32, put_le32};
 
 /// The byte order of a cramfs image, which is that of the machine that it is made for. It says how
 /// four bytes make a word, and at which end of a word its first field is.
@@ -24,6 +25,39 @@ impl Order {
         match self {
             Order::Little => LittleEndian::read_u32(&b[at..]),
             Order::Big => BigEndian::read_u32(&b[at..]),
+        }
+    }
+
+    /// Puts a word over the four bytes from `at` on.
+    #[tactic(auto, unfolding(crate::specs::Order::with_word))]
+    pub fn put_word(self, b: &mut [u8], at: usize, word: u32)
+        requires { at + 4 ≤ length b.old }
+        ensures { b.new ≡ with_word self b.old at word }
+    {
+        match self {
+            Order::Little => {
+                let _ = put_le32(b, at, word);
+            }
+            Order::Big => {
+                let _ = put_be32(b, at, word);
+            }
+        }
+    }
+
+    /// The word whose first field, of `bits` bits, is `first`, and what comes after it `rest`. It
+    /// is counted in 64 bits; where both fields fit, it has 32.
+    pub fn packed(self, bits: u32, first: u64, rest: u64) -> u64
+        requires some { 0 < bits }
+        requires few { bits < 32 }
+        requires first { first < 2 ^ 60 }
+        requires rest { rest < 2 ^ 60 }
+        requires big { first * 2 ^ (32 - bits) < 2 ^ 60 }
+        requires little { rest * 2 ^ bits < 2 ^ 60 }
+        ensures { result ≡ packed self bits first rest }
+    {
+        match self {
+            Order::Little => first + rest * (1 << bits),
+            Order::Big => first * (1 << (32 - bits)) + rest,
         }
     }
 

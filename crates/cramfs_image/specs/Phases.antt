@@ -10,7 +10,7 @@ use Rattle.cramfs_format.specs.Order.{word}
 use Rattle.cramfs_format.specs.declared.order.Order.{Order}
 use Rattle.cramfs_format.specs.Inode.{type_of, size_of, name_of, is_kind, has_data, block_count, block_start, pointer_place, pointer_of, IsPlain, Lies, ListLies, TableLies, BlockLies, HasBody, IsName}
 use Rattle.cramfs_format.specs.Tree.{precedes, is_sorted, extents_of, IsNoDot}
-use Rattle.rom_faults.specs.declared.fault.TheConstants.{BOUNDS, BAD_NAME, KIND, LINK_SIZE, BLOCK_KIND, TOO_DEEP, OVERLAP, DUPLICATE_NAME, DOT, UNSORTED}
+use Rattle.rom_faults.specs.FaultNumbers.{BOUNDS, BAD_NAME, KIND, LINK_SIZE, BLOCK_KIND, TOO_DEEP, OVERLAP, DUPLICATE_NAME, DOT, UNSORTED}
 
 -- the faults that stand at the entry at p itself, which fits into its list: 11 Bounds, 13 BadName, 14 Kind, 15 LinkSize
 pub data IsFaultAt (o : Order) (b : List ℕ) (p : ℕ) : ℕ → Type 0 where

@@ -8,14 +8,14 @@ use Rattle.byteorder.specs.Numbers.{big_number-reads_back, little_number-reads_b
 use Rattle.rom_fields.specs.Words.{word_be, word_le}
 use Rattle.rom_tree.specs.declared.types.Kind.{Kind}
 use Rattle.rom_tree.specs.declared.types.Kind.TheVariants.{Directory, Regular, Symlink, Block, Character, Socket, Fifo}
-use Rattle.cramfs_format.specs.Order.{word, first_field, field_after}
+use Rattle.cramfs_format.specs.Order.{word, first_field, field_after, packed}
 use Rattle.cramfs_format.specs.declared.order.Order.{Order}
 use Rattle.cramfs_format.specs.declared.order.Order.TheVariants.{Little, Big}
 use Rattle.cramfs_format.specs.Inode.{mode_of, uid_of, size_of, gid_of, offset_of, type_of, name_of, name_room, end_of, without_zeros}
 use Rattle.image_parts.specs.Parts.{HasAt}
 use Rattle.name_tree.specs.Names.{Inode}
 use Rattle.image_parts.proofs.Parts.{HasAt-after, HasAt-moved}
-use Rattle.cramfs_layout.specs.Layout.{word_bytes, packed, pad4, type_bits, entry_len, entry_bytes}
+use Rattle.cramfs_layout.specs.Layout.{word_bytes, pad4, type_bits, entry_len, entry_bytes}
 use Rattle.cramfs_layout.specs.Reads.{IsEntry, ReadsEntry}
 
 -- a word that stands at a place is read there

@@ -8,6 +8,7 @@ use Rattle.std.specs.Prelude.{ℕ, zero, suc, ◌+◌, ◌-◌, ◌*◌, ◌/◌
 use Rattle.byteorder.specs.Endian.{big_bytes, little_bytes}
 use Rattle.rom_tree.specs.declared.types.Kind.{Kind}
 use Rattle.rom_tree.specs.declared.types.Kind.TheVariants.{Directory, Regular, Symlink, Block, Character, Socket, Fifo}
+use Rattle.cramfs_format.specs.Order.{packed}
 use Rattle.cramfs_format.specs.declared.order.Order.{Order}
 use Rattle.cramfs_format.specs.declared.order.Order.TheVariants.{Little, Big}
 use Rattle.cramfs_format.specs.Inode.{block_count}
@@ -22,11 +23,6 @@ use Rattle.image_parts.specs.Padding.{pad}
 abbrev pub word_bytes : Order → ℕ → List ℕ
 word_bytes Little w = little_bytes 4 w
 word_bytes Big w = big_bytes 4 w
-
--- a word of two fields, the first of so many bits
-abbrev pub packed : Order → ℕ → ℕ → ℕ → ℕ
-packed Little bits first rest = first + rest * 2 ^ bits
-packed Big bits first rest = first * 2 ^ (32 - bits) + rest
 
 -- the least multiple of 4 that is at least n
 abbrev pub pad4 : ℕ → ℕ

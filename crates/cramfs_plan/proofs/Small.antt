@@ -12,7 +12,8 @@ use Rattle.cramfs_format.specs.Inode.{block_count}
 use Rattle.image_parts.specs.Padding.{pad}
 use Rattle.name_tree.specs.Names.{Fill, no_bytes, text, source, Inode, Names, nothing, leaf, link, folder}
 use Rattle.misfits.specs.Format.{cramfs}
-use Rattle.cramfs_layout.specs.Layout.{packed, type_bits, pad4, size_by, entry_len, list_len, State, Table, Kept, nowhere, shared, fresh, kept, data_of, with_table, table_by, after_by, after_file, after_list, after_names, list_offset}
+use Rattle.cramfs_format.specs.Order.{packed}
+use Rattle.cramfs_layout.specs.Layout.{type_bits, pad4, size_by, entry_len, list_len, State, Table, Kept, nowhere, shared, fresh, kept, data_of, with_table, table_by, after_by, after_file, after_list, after_names, list_offset}
 use Rattle.cramfs_layout.specs.Items.{item_of, start_by}
 use Rattle.cramfs_layout.specs.Wells.{FitsKind, IsFile, AreWell}
 use Rattle.cramfs_layout.proofs.Stored.{data_after, shared_by, stored_with, names_onward}

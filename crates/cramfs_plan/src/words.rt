@@ -9,21 +9,6 @@ use plan_rows::Inode;
 use rom_fields::word::pad;
 use rom_tree::Kind;
 
-/// A word of two fields: `unit` is 2 to the bits of the first, and `other` 2 to those of the second.
-fn packed(order: Order, unit: u64, other: u64, first: u64, rest: u64) -> u64
-    requires first { first < 2 ^ 42 }
-    requires rest { rest < 2 ^ 60 }
-    requires big { first * other < 2 ^ 60 }
-    requires little { rest * unit < 2 ^ 60 }
-    ensures { (bits : ℕ) → unit ≡ 2 ^ bits → other ≡ 2 ^ (32 - bits)
-        → result ≡ layout.packed order bits first rest }
-{
-    match order {
-        Order::Little => first + rest * unit,
-        Order::Big => first * other + rest,
-    }
-}
-
 /// The file type, which is the upper four of the sixteen bits of the mode.
 fn type_bits(kind: Kind) -> u64
     ensures bits { result ≡ layout.type_bits kind }
@@ -58,7 +43,7 @@ pub fn first_word(order: Order, inode: &Inode<'_>) -> u64
     ensures { result ≡ layout.first_word order (inode_view inode.now) }
 {
     let mode = type_bits(inode.kind) * 4096 + inode.mode as u64;
-    packed(order, 65_536, 65_536, mode, inode.uid as u64)
+    order.packed(16, mode, inode.uid as u64)
 }
 
 /// A size, and the group.
@@ -66,7 +51,7 @@ pub fn second_word(order: Order, inode: &Inode<'_>, size: u64) -> u64
     requires { size < 2 ^ 41 }
     ensures { result ≡ layout.second_word order (inode_view inode.now) size }
 {
-    packed(order, 16_777_216, 256, size, inode.gid as u64)
+    order.packed(24, size, inode.gid as u64)
 }
 
 /// How many bytes a name takes with its zeros.
@@ -84,7 +69,7 @@ pub fn third_word(order: Order, name: &[u8], offset: u64) -> u64
     requires near { offset < 2 ^ 52 }
     ensures { result ≡ layout.third_word order name.now offset }
 {
-    packed(order, 64, 67_108_864, name_len(name) / 4, offset / 4)
+    order.packed(6, name_len(name) / 4, offset / 4)
 }
 
 /// How long an inode with its name is.

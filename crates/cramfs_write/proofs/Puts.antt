@@ -1,7 +1,10 @@
 -- Tables that are written pointer by pointer.
-use Rattle.std.proofs.Common.{◌≡◌, ℕ, zero, suc, ◌+◌, ◌-◌, ◌*◌, ◌/◌, ◌%◌, ◌^◌, ◌≤◌, List, ◌++◌, length, take, drop, sym, ap, ◌∙◌, arith, append_assoc, append-nil}
+use Rattle.std.proofs.Common.{◌≡◌, ℕ, zero, suc, ◌+◌, ◌-◌, ◌*◌, ◌/◌, ◌%◌, ◌^◌, ◌≤◌, List, ◌++◌, length, take, drop, refl, sym, ap, ◌∙◌, arith, append_assoc, append-nil, length-append, length-take}
 use Rattle.std.proofs.lemmas.List.{take_all, take_at, drop_at}
+use Rattle.rom_fields.specs.Words.{with_word_be, with_word_le}
+use Rattle.cramfs_format.specs.Order.{with_word}
 use Rattle.cramfs_format.specs.declared.order.Order.{Order}
+use Rattle.cramfs_format.specs.declared.order.Order.TheVariants.{Little, Big}
 use Rattle.cramfs_layout.specs.Layout.{word_bytes, pointers}
 use Rattle.cramfs_layout.proofs.Super.{length-pointers}
 
@@ -51,3 +54,20 @@ table_filled o p n from old out w z l h =
     let b : length out ≡ 4 * m = ap length h ∙ length-pointers o (p + 1024 * from) m in
     h ∙ ap (λ (x : ℕ). pointers o x m) r ∙ pointers_from o p n k m (omega (arith, w, z, l))
     ∙ ap (λ (x : ℕ). take x (drop (4 * k) (pointers o p n))) (sym b) ∙ ap (λ (x : ℕ). take (length out) (drop x (pointers o p n))) a
+
+word-length : (o : Order) (w : ℕ) → length (word_bytes o w) ≡ 4
+word-length Little w = refl
+word-length Big w = refl
+
+-- a word that was put, and what stands before it
+pub word_put : (o : Order) (b : List ℕ) (p w : ℕ) → p + 4 ≤ length b
+    → take (p + 4) (with_word o b p w) ≡ take p b ++ word_bytes o w
+unfolding with_word with_word_le with_word_be
+word_put o b p w fits =
+    let front = take p b ++ word_bytes o w in
+    let n : length front ≡ p + 4 = omega (arith, length-append (take p b) (word_bytes o w), length-take p b, word-length o w) in
+    ap (take (p + 4)) (with_word-is o b p w) ∙ take_at front (drop (p + 4) b) (p + 4) n
+  where
+    with_word-is : (o : Order) (b : List ℕ) (p w : ℕ) → with_word o b p w ≡ (take p b ++ word_bytes o w) ++ drop (p + 4) b
+    with_word-is Little b p w = sym (append_assoc (take p b) (word_bytes Little w) (drop (p + 4) b))
+    with_word-is Big b p w = sym (append_assoc (take p b) (word_bytes Big w) (drop (p + 4) b))

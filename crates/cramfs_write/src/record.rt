@@ -27,10 +27,8 @@ fn put_word(order: Order, out: &mut [u8], start: usize, word: u32) -> usize
     ensures length { length out.new ≡ length out.old }
     ensures put { take result out.new ≡ take start out.old ++ word_bytes order word }
 {
-    match order {
-        Order::Little => put(out, start, &word.to_le_bytes()),
-        Order::Big => put(out, start, &word.to_be_bytes()),
-    }
+    order.put_word(out, start, word);
+    start + 4
 }
 
 /// Puts so many zeros.

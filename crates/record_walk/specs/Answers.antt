@@ -2,7 +2,7 @@
 use Rattle.rom_faults.specs.declared.error.CheckError.{CheckError}
 use Rattle.rom_faults.specs.declared.error.CheckError.TheVariants.{OutOfMemory, Fault as FaultAnswer}
 use Rattle.rom_faults.specs.declared.fault.Fault.{Fault}
-use Rattle.rom_faults.specs.declared.fault.TheConstants.{TOO_MANY, TWICE}
+use Rattle.rom_faults.specs.FaultNumbers.{TOO_MANY, TWICE}
 use Rattle.rom_faults.specs.Faults.{fault_answer}
 use Rattle.record_walk.specs.Faults.{IsNone}
 use Rattle.record_walk.specs.declared.traversal.TraversalError.{TraversalError}

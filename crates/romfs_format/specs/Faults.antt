@@ -13,7 +13,7 @@ use Rattle.romfs_format.specs.Refers.{references, reference_offset, following, h
 use Rattle.romfs_format.specs.Tree.{root_of}
 use Rattle.rom_tree.specs.Dots.{dot, dot_dot, is_dots}
 use Rattle.romfs_format.specs.Superblock.{HasImageFault, accessible}
-use Rattle.rom_faults.specs.declared.fault.TheConstants.{TOO_MANY, TWICE, TOO_DEEP, OVERLAP, DUPLICATE_NAME, DOT, HARD_LINK}
+use Rattle.rom_faults.specs.FaultNumbers.{TOO_MANY, TWICE, TOO_DEEP, OVERLAP, DUPLICATE_NAME, DOT, HARD_LINK}
 
 -- a sound record that a reference leads to
 pub record IsReached (b : List ℕ) (r p : ℕ) : Type 0 where

@@ -8,7 +8,7 @@
 use Rattle.std.specs.Prelude.{◌≡◌, ◌≢◌, ℕ, ◌+◌, ◌-◌, ◌*◌, ◌/◌, ◌%◌, ◌<◌, ◌≤◌, Bool, if◌then◌else◌, ◌==◌, ◌||◌, IsTrue, List, [], ◌∷◌, length, drop, ◌⊎◌}
 use Rattle.std.specs.List.{Contains}
 use Rattle.rom_fields.specs.Words.{word_be, words_sum, part_of}
-use Rattle.rom_faults.specs.declared.fault.TheConstants.{BOUNDS, HEADER_SUM, BAD_NAME, LINK_SIZE}
+use Rattle.rom_faults.specs.FaultNumbers.{BOUNDS, HEADER_SUM, BAD_NAME, LINK_SIZE}
 
 -- the low four bits of an offset are not part of it
 abbrev pub align16 : ℕ → ℕ

@@ -8,7 +8,7 @@ use Rattle.romfs_format.specs.Record.{name_of, type_of}
 use Rattle.rom_fields.specs.Extents.{OverlapsAt, IsLeastOf}
 use Rattle.romfs_format.specs.Tree.{follow, LeadsWell, extents_of, listed_rows}
 use Rattle.rom_tree.specs.Dots.{dot, dot_dot, is_dots}
-use Rattle.rom_faults.specs.declared.fault.TheConstants.{TOO_DEEP, OVERLAP, DUPLICATE_NAME, DOT, HARD_LINK}
+use Rattle.rom_faults.specs.FaultNumbers.{TOO_DEEP, OVERLAP, DUPLICATE_NAME, DOT, HARD_LINK}
 
 -- the offsets of the rows, in rising order
 pub record AreOffsets (rows : List Row) (offsets : List ℕ) : Type 0 where

@@ -4,7 +4,7 @@ ghost use Rattle.byteorder.specs.Endian.{big_bytes};
 ghost use Rattle.romfs_layout.specs.Layout.{header_bytes, record_len, root_at};
 ghost use Rattle.romfs_write.specs.Form.{superblock_storing};
 
-use rom_fields::word::word_sum;
+use rom_fields::word::{put_be32, word_sum};
 
 /// Sets all bytes to zero.
 fn clear(out: &mut [u8])
@@ -23,11 +23,12 @@ fn put(out: &mut [u8], start: usize, bytes: &[u8])
 }
 
 /// Puts a word over four bytes, from `start` on, the highest byte first.
+#[tactic(auto, unfolding(rom_fields::specs::Words::with_word_be))]
 fn put_word(out: &mut [u8], start: usize, word: u32)
     requires { start + 4 ≤ length out.old }
     ensures { out.new ≡ take start out.old ++ (big_bytes 4 word ++ drop (start + 4) out.old) }
 {
-    put(out, start, &word.to_be_bytes());
+    let _ = put_be32(out, start, word);
 }
 
 /// Puts the superblock that stores this size and this sum.

@@ -2,7 +2,7 @@ ghost use Rattle.std.specs.Prelude.{◌≡◌, IfOk};
 ghost use Rattle.misfits.specs.Format.{romfs};
 
 use crate::header::{put_header, put_superblock};
-use crate::{stream, write};
+use crate::{SizeDiffers, stream, write};
 use layout_plan::{Format, Plan, Slices, plan};
 use manifest::parse;
 use rom_fields::bytes::Plain;
@@ -55,6 +55,18 @@ fn has_front(image: &[u8]) -> bool {
     rest.len() == 1024 - 192 && rest.iter().all(|byte| *byte == 0)
 }
 
+/// Whether contents of another size are refused by the number of their file, and the buffer is as it
+/// was.
+fn is_refused(plan: &Plan, contents: &Contents<'_>) -> bool
+    requires { plan.now.format ≡ romfs }
+{
+    let mut space: [u8; 1024] = [255; 1024];
+    contents.len() == plan.sizes().len()
+        && plan.image_len() == 1024
+        && write(plan, contents, space.as_mut_slice()) == Err(SizeDiffers { file: 0 })
+        && space.iter().all(|byte| *byte == 255)
+}
+
 /// Whether the image is written into a buffer, whatever that held, and streamed.
 fn is_written(plan: &Plan, contents: &Contents<'_>, w: &mut Plain<Vec<u8>>) -> bool
     requires { plan.now.format ≡ romfs }
@@ -76,6 +88,9 @@ fn an_image(rt: HostRuntime) -> Result<(), Fail> {
     assert!(rt; is_written(&plan, &contents, &mut w));
     let held: Vec<u8> = w.into_inner();
     assert!(rt; has_front(held.as_slice()));
+    let mut others = Contents::new(rt.alloc());
+    others.add(b"hell")?;
+    assert!(rt; is_refused(&plan, &others));
     Ok(())
 }
 
