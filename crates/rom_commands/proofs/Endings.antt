@@ -14,11 +14,11 @@ use Rattle.rom_commands.specs.Serving.{Input, Answers, Refuses, serving_of, refu
 
 -- lines were answered
 pub answers_by : {S : Type 0} (m : Machine S) (s : S) (r₀ r : Input) (w₀ w : Output) (q : Result (Unit {0}) ServeError)
-    → OnOk q (Serves m s r₀.remaining r.remaining w₀.contents w.contents)
+    → OnOk q (Serves m s r₀.remaining r.remaining w₀ w)
     → OnOk q ((r.failures ≡ r₀.failures) × (w.failures ≡ w₀.failures))
-    → (q ≡ Err serve.ReadFault → Rose r₀.failures r.failures × ((y : List ℕ) × Finishes m s r₀.remaining r.remaining w₀.contents w.contents y))
-    → (q ≡ Err serve.WriteFault → Rose w₀.failures w.failures × Breaks m s r₀.remaining r.remaining w₀.contents w.contents)
-    → (q ≡ Err serve.TooManyReads → (y : List ℕ) × (length y ≡ 2 ^ 40) × Finishes m s r₀.remaining r.remaining w₀.contents w.contents y)
+    → (q ≡ Err serve.ReadFault → Rose r₀.failures r.failures × ((y : List ℕ) × Finishes m s r₀.remaining r.remaining w₀ w y))
+    → (q ≡ Err serve.WriteFault → Rose w₀.failures w.failures × Breaks m s r₀.remaining r.remaining w₀ w)
+    → (q ≡ Err serve.TooManyReads → (y : List ℕ) × (length y ≡ 2 ^ 40) × Finishes m s r₀.remaining r.remaining w₀ w y)
     → Answers m s r₀ r w₀ w (serving_of q)
 answers_by m s r₀ r w₀ w (Ok _) a b c d e = (a, b.0, b.1)
 answers_by m s r₀ r w₀ w (Err serve.ReadFault) a b c d e = c refl
@@ -27,11 +27,11 @@ answers_by m s r₀ r w₀ w (Err serve.TooManyReads) a b c d e = e refl
 
 -- lines were answered from an image that is seen as m
 pub served_by : (m m' : Image) (r₀ r : Input) (w₀ w : Output) (q : Result (Unit {0}) ServeError) (o : Serving) → m' ≡ m → o ≡ serving_of q
-    → OnOk q (Serves (image_machine m') (no_files 64) r₀.remaining r.remaining w₀.contents w.contents)
+    → OnOk q (Serves (image_machine m') (no_files 64) r₀.remaining r.remaining w₀ w)
     → OnOk q ((r.failures ≡ r₀.failures) × (w.failures ≡ w₀.failures))
-    → (q ≡ Err serve.ReadFault → Rose r₀.failures r.failures × ((y : List ℕ) × Finishes (image_machine m') (no_files 64) r₀.remaining r.remaining w₀.contents w.contents y))
-    → (q ≡ Err serve.WriteFault → Rose w₀.failures w.failures × Breaks (image_machine m') (no_files 64) r₀.remaining r.remaining w₀.contents w.contents)
-    → (q ≡ Err serve.TooManyReads → (y : List ℕ) × (length y ≡ 2 ^ 40) × Finishes (image_machine m') (no_files 64) r₀.remaining r.remaining w₀.contents w.contents y)
+    → (q ≡ Err serve.ReadFault → Rose r₀.failures r.failures × ((y : List ℕ) × Finishes (image_machine m') (no_files 64) r₀.remaining r.remaining w₀ w y))
+    → (q ≡ Err serve.WriteFault → Rose w₀.failures w.failures × Breaks (image_machine m') (no_files 64) r₀.remaining r.remaining w₀ w)
+    → (q ≡ Err serve.TooManyReads → (y : List ℕ) × (length y ≡ 2 ^ 40) × Finishes (image_machine m') (no_files 64) r₀.remaining r.remaining w₀ w y)
     → Answers (image_machine m) (no_files 64) r₀ r w₀ w o
 served_by m m' r₀ r w₀ w q o same is a b c d e =
     subst (λ (t : Image). Answers (image_machine t) (no_files 64) r₀ r w₀ w o) same

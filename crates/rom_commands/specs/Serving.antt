@@ -39,15 +39,15 @@ refusal_of (Err _) = WriteFault
 -- was r₀ and is r, a writer was w₀ and is w.
 abbrev pub Answers : {S : Type 0} → Machine S → S → Input → Input → Output → Output → Serving → Type 0
 Answers m s r₀ r w₀ w Served =
-    Serves m s r₀.remaining r.remaining w₀.contents w.contents
+    Serves m s r₀.remaining r.remaining w₀ w
     × (r.failures ≡ r₀.failures) × (w.failures ≡ w₀.failures)
 Answers m s r₀ r w₀ w ReadFault =
     Rose r₀.failures r.failures
-    × ((y : List ℕ) × Finishes m s r₀.remaining r.remaining w₀.contents w.contents y)
+    × ((y : List ℕ) × Finishes m s r₀.remaining r.remaining w₀ w y)
 Answers m s r₀ r w₀ w WriteFault =
-    Rose w₀.failures w.failures × Breaks m s r₀.remaining r.remaining w₀.contents w.contents
+    Rose w₀.failures w.failures × Breaks m s r₀.remaining r.remaining w₀ w
 Answers m s r₀ r w₀ w TooManyReads =
-    (y : List ℕ) × (length y ≡ 2 ^ 40) × Finishes m s r₀.remaining r.remaining w₀.contents w.contents y
+    (y : List ℕ) × (length y ≡ 2 ^ 40) × Finishes m s r₀.remaining r.remaining w₀ w y
 Answers m s r₀ r w₀ w Refused = ⊥
 Answers m s r₀ r w₀ w Memory = ⊥
 

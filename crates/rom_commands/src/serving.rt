@@ -11,6 +11,7 @@ ghost use Rattle.rom_commands.specs.Serving.{input_of, Answers, serving_of, refu
 
 use crate::shown::write_fault_line;
 use image_check::{AnyImage, check};
+use name_index::Indexed;
 use rom_faults::CheckError;
 use rom_fields::bytes::{ByteRead, ByteWrite, Failed};
 use rom_fields::sink::put;
@@ -95,8 +96,8 @@ fn tell_fault<W: ByteWrite>(w: &mut W, number: u32, at: u32) -> Result<(), Faile
     w.flush()
 }
 
-/// Answers the lines of `r` from an image on `w`, through a cache of look-ups where there is memory
-/// for one. Directories of the image may lie 64 deep.
+/// Answers the lines of `r` from an image on `w`, through indices of its lists, and before them a
+/// cache of look-ups where there is memory for one. Directories of the image may lie 64 deep.
 fn answer_lines<'a, R: ByteRead, W: ByteWrite>(
     alloc: Global,
     image: AnyImage<'a>,
@@ -109,15 +110,17 @@ fn answer_lines<'a, R: ByteRead, W: ByteWrite>(
         (input_of (R.remaining r.new) (R.failures r.new))
         (W.output w.old) (W.output w.new) result }
 {
-    match Cached::new(alloc, image, NAMES) {
+    match Cached::new(alloc, Indexed::new(alloc, image), NAMES) {
         Ok(cached) => ended(serve(cached, r, w)),
         Err(NoCache { image }) => ended(serve(image, r, w)),
     }
 }
 
 /// Checks an image under the usual limits, and answers the lines of `r` from its tree on `w`, as
-/// `rom_serve::serve` does. Of an image with a fault the line of the fault is written. What
-/// look-ups answered about 256 names is kept, where there is memory for it.
+/// `rom_serve::serve` does. Of an image with a fault the line of the fault is written.
+///
+/// What look-ups answered about 256 names is kept, and the names of directories with more than 16
+/// entries are sorted when they are first asked for, 24 bytes each, where there is memory for it.
 pub fn serve_image<R: ByteRead, W: ByteWrite>(
     alloc: Global,
     bytes: &[u8],

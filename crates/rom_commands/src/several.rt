@@ -13,6 +13,7 @@ ghost use Rattle.rom_commands.specs.Refused.{IsFaultAt, IsFirst};
 use crate::fault::put_fault;
 use crate::serving::{Serving, conclude, ended, refused};
 use image_check::{AnyImage, check};
+use name_index::Indexed;
 use rom_faults::CheckError;
 use rom_fields::bytes::{ByteRead, ByteWrite, Failed};
 use rom_fields::sink::put;
@@ -50,12 +51,15 @@ fn checked<'a>(alloc: Global, bytes: &'a [u8], image: u32) -> Result<AnyImage<'a
     }
 }
 
-/// The images that some files hold.
-fn check_all<'a>(alloc: Global, files: &'a [Vec<u8>]) -> Result<Vec<AnyImage<'a>>, NoImage>
+/// The images that some files hold, each with indices of its lists, of which there is none yet.
+fn check_all<'a>(
+    alloc: Global,
+    files: &'a [Vec<u8>],
+) -> Result<Vec<Indexed<'a, AnyImage<'a>>>, NoImage>
     requires { length files.now ≤ 8 }
     ensures held { IfOk result (λ v.
-        HoldAll (map (λ f. f.items) files.now) (map any_view v.items)) }
-    ensures shallow { IfOk result (λ v. AreShallow (map any_view v.items)) }
+        HoldAll (map (λ f. f.items) files.now) (map (λ x. any_view x.image) v.items)) }
+    ensures shallow { IfOk result (λ v. AreShallow (map (λ x. any_view x.image) v.items)) }
     ensures fault { IfErr result (IsFirst (map (λ f. f.items) files.now)) }
 {
     let mut images = Vec::new(alloc);
@@ -65,7 +69,7 @@ fn check_all<'a>(alloc: Global, files: &'a [Vec<u8>]) -> Result<Vec<AnyImage<'a>
             Ok(image) => image,
             Err(e) => return Err(e),
         };
-        match images.push(image) {
+        match images.push(Indexed::new(alloc, image)) {
             Ok(()) => {}
             Err(_) => return Err(NoImage::OutOfMemory),
         }
@@ -105,7 +109,8 @@ fn tell_fault_in<W: ByteWrite>(w: &mut W, number: u32, at: u32, image: u32) -> R
 
 /// Checks 1 to 8 images under the usual limits, and answers the lines of `r` from their trees on
 /// `w`, as `rom_serve::serve_space` does. Of the first image with a fault the line of the fault is
-/// written, with the image's number.
+/// written, with the image's number. Names are sorted as `serving::serve_image` does; no answers
+/// are kept.
 pub fn serve_images<R: ByteRead, W: ByteWrite>(
     alloc: Global,
     files: &[Vec<u8>],

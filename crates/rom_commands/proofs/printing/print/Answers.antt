@@ -9,17 +9,17 @@ use Rattle.rom_commands.proofs.printing.print.Goals.{else-status-eq-FAULT-via-th
 pub returns-then-failures-eq0-clause-ends : goal.returns-then-failures-eq0-clause-ends
 unfolding escaped
 returns-then-failures-eq0-clause-ends g c =
-    let old : Output = output_of (g.X.Write.contents c.args.out.now.inner) c.args.out.now.failures in
-    let mid : Output = output_of (g.X.Write.contents c.shown-status.new.w.inner) c.shown-status.new.w.failures in
+    let old : Output = output_of (g.X.Write.contents c.args.out.now.inner) c.args.out.now.failures c.args.out.now.flushes in
+    let mid : Output = output_of (g.X.Write.contents c.shown-status.new.w.inner) c.shown-status.new.w.failures c.shown-status.new.w.flushes in
     let s = c.shown-status.ensures in
     (Memory, refl, memory_told c.args.bytes.now c.args.listed old mid s.0 s.2 c.requires (sym c.if-status-eq-FAULT.true ∙ s.1) (sym c.failures.ensures ∙ c.if-failures-eq0.true), c.complain.ensures)
 
 pub returns-then-failures-gt0-clause-ends : goal.returns-then-failures-gt0-clause-ends
 unfolding escaped
 returns-then-failures-gt0-clause-ends g c =
-    let old : Output = output_of (g.X.Write.contents c.args.out.now.inner) c.args.out.now.failures in
-    let mid : Output = output_of (g.X.Write.contents c.shown-status.new.w.inner) c.shown-status.new.w.failures in
-    let new : Output = output_of (g.X.Write.contents c.flush.new.self.inner) c.flush.new.self.failures in
+    let old : Output = output_of (g.X.Write.contents c.args.out.now.inner) c.args.out.now.failures c.args.out.now.flushes in
+    let mid : Output = output_of (g.X.Write.contents c.shown-status.new.w.inner) c.shown-status.new.w.failures c.shown-status.new.w.flushes in
+    let new : Output = output_of (g.X.Write.contents c.flush.new.self.inner) c.flush.new.self.failures c.flush.new.self.flushes in
     let s = c.shown-status.ensures in (
       WriteFault,
       refl,
@@ -33,9 +33,9 @@ returns-then-failures-gt0-clause-ends g c =
 
 pub returns-clause-ends : goal.returns-clause-ends
 returns-clause-ends g c =
-    let old : Output = output_of (g.X.Write.contents c.args.out.now.inner) c.args.out.now.failures in
-    let mid : Output = output_of (g.X.Write.contents c.shown-status.new.w.inner) c.shown-status.new.w.failures in
-    let new : Output = output_of (g.X.Write.contents c.flush.new.self.inner) c.flush.new.self.failures in
+    let old : Output = output_of (g.X.Write.contents c.args.out.now.inner) c.args.out.now.failures c.args.out.now.flushes in
+    let mid : Output = output_of (g.X.Write.contents c.shown-status.new.w.inner) c.shown-status.new.w.failures c.shown-status.new.w.flushes in
+    let new : Output = output_of (g.X.Write.contents c.flush.new.self.inner) c.flush.new.self.failures c.flush.new.self.flushes in
     let s = c.shown-status.ensures in
     let quiet : mid.failures ≡ 0 = count_before mid.failures new.failures c.flush.result c.flush.ensures.count (let e = c.failures-2.ensures in let f = c.if-failures-gt0.false in omega arith) in
     let none : new.failures ≡ c.args.out.now.failures = (let e = c.failures-2.ensures in let f = c.if-failures-gt0.false in let z = c.requires in omega arith) in

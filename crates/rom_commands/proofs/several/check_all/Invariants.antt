@@ -9,8 +9,8 @@ abbrev pub invariant-loop-rest : goal.invariant-loop-rest
 invariant-loop-rest l = record {
   done : List (List ℕ);
   split : map (λ f. f.items) l.initial.rest ≡ done ++ map (λ f. f.items) l.rest;
-  held : HoldAll done (map any_view l.images.items);
-  shallow : AreShallow (map any_view l.images.items);
+  held : HoldAll done (map (λ x. any_view x.image) l.images.items);
+  shallow : AreShallow (map (λ x. any_view x.image) l.images.items);
 }
 
 abbrev pub decreases-loop-rest : goal.decreases-loop-rest

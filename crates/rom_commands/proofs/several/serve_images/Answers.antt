@@ -9,8 +9,8 @@ use Rattle.rom_commands.proofs.several.serve_images.Goals as goal
 pub serve_space-requires : goal.serve_space-requires
 serve_space-requires g c κs =
     let f : Vec ℕ Global → List ℕ = λ v. v.items in
-    let k : length (map f c.args.files.now) ≡ length (map any_view c.in-Ok.images.items) = held_length (map f c.args.files.now) (map any_view c.in-Ok.images.items) c.in-Ok.ensures.held in
-    let l = length-map c.in-Ok.images.items any_view in
+    let k : length (map f c.args.files.now) ≡ length (map (λ x. any_view x.image) c.in-Ok.images.items) = held_length (map f c.args.files.now) (map (λ x. any_view x.image) c.in-Ok.images.items) c.in-Ok.ensures.held in
+    let l = length-map c.in-Ok.images.items (λ x. any_view x.image) in
     let m = length-map c.args.files.now f in
     let some = c.requires.some in
     let few = c.requires.few in

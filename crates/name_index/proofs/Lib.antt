@@ -1,0 +1,5 @@
+pub mod Orders
+pub mod Firsts
+pub mod Lists
+pub mod Passed
+pub mod Kept

@@ -1,0 +1,44 @@
+//! The index of one directory's list.
+ghost use Rattle.std.specs.Prelude.{IfOk};
+ghost use Rattle.rom_tree.specs.Image.{HasDirectory};
+ghost use Rattle.name_index.specs.Indices.{IsIndexOf, entries_in};
+
+use rom_fields::memory::OutOfMemory;
+use rom_tree::image::TreeImage;
+use rom_tree::types::{Cursor, NodeId};
+use std::alloc::Global;
+
+/// A name of a list, whose bytes are the image's own, and the node to which it leads.
+#[derive(Clone, Copy)]
+pub(crate) struct Row<'a> {
+    pub(crate) name: &'a [u8],
+    pub(crate) node: NodeId,
+}
+
+/// The index of a directory's list: a row for each entry, sorted by names. Where names are the
+/// same, the rows stand as the entries do. Each entry is read once.
+///
+/// # Errors
+///
+/// `OutOfMemory` where memory was refused.
+pub(crate) fn rows_of<'a, T: TreeImage<'a>>(
+    alloc: Global,
+    image: &T,
+    d: NodeId,
+) -> Result<Vec<Row<'a>>, OutOfMemory>
+    requires { HasDirectory (T.image image.now) d.0 }
+    ensures { IfOk result (λ rows. IsIndexOf (entries_in (T.image image.now) d.0) rows.items) }
+{
+    let mut rows: Vec<Row<'a>> = Vec::new(alloc);
+    let mut cursor = Cursor::START;
+    while let Some(entry) = image.entry(d, cursor) {
+        rows.push(Row {
+            name: entry.name,
+            node: entry.node,
+        })?;
+        cursor = entry.cursor;
+    }
+    rows.sort_by_key(|row| row.name)?;
+    rows.shrink_to_fit();
+    Ok(rows)
+}

@@ -1,0 +1,39 @@
+//! The look-up of a name in an index.
+ghost use Rattle.std.specs.Prelude.{◌≡◌, ◌≤◌, length, true, false};
+ghost use Rattle.std.specs.List.Sorted.{IsSorted, IsPartitionPoint};
+ghost use Rattle.name_index.specs.Indices.{by_name, first_of, is_below};
+
+use crate::names::{is_before, is_same};
+use crate::rows::Row;
+use rom_tree::types::NodeId;
+
+/// How many of the rows of an index have a name that comes before this one, by halves.
+fn rows_before(rows: &[Row<'_>], name: &[u8]) -> usize
+    ensures within { result ≤ length rows.now }
+    ensures parts { IsSorted by_name rows.now
+        → IsPartitionPoint (λ x. is_below name.now x ≡ true) (λ x. is_below name.now x ≡ false)
+        rows.now result }
+{
+    let mut low = 0;
+    let mut high = rows.len();
+    while low < high {
+        let middle = low + (high - low) / 2;
+        if is_before(rows[middle].name, name) {
+            low = middle + 1;
+        } else {
+            high = middle;
+        }
+    }
+    low
+}
+
+/// Where the first row with just this name leads. `None` where no row has it.
+pub(crate) fn find(rows: &[Row<'_>], name: &[u8]) -> Option<NodeId>
+    ensures { IsSorted by_name rows.now → result ≡ first_of rows.now name.now }
+{
+    let place = rows_before(rows, name);
+    if place < rows.len() && is_same(rows[place].name, name) {
+        return Some(rows[place].node);
+    }
+    None
+}

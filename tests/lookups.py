@@ -1,0 +1,184 @@
+#!/usr/bin/env python3
+"""Looks names up in lists of each length, through `romtool serve` and `romtool space`.
+
+    lookups.py [--binary PATH] [--name TEXT]
+
+Lists of 1, 2, 16, 17, 18 and 400 names, in romfs and in cramfs of either byte order, whose names rise, fall or stand
+by chance: names of one byte and of the longest, names with equal fronts, names of which one begins with the
+other, and bytes of each value. Each name is looked up, and so are names that are absent: before the first, between
+two, behind the last, each name cut by a byte and with one more. The lines go in an order by chance, twice over. A
+romfs list begins with `..` and has hard links; `.` and `..` stand in paths. What is expected comes from the places at
+which the lists are laid out. In `space` the same lines go to a list that is mounted in another one, of as many names.
+The last line is `N passed, M failed`.
+"""
+
+import os
+import random
+import subprocess
+import sys
+import tempfile
+
+from big_endian import Turned
+from harness import SECONDS, Counts, parser, program_of
+from images import (
+    CRAMFS_DIRECTORY, CRAMFS_REGULAR, DIRECT_POINTERS, HARD_LINK, REGULAR, SORTED, WITH_SUM, cramfs, inode, romfs_list,
+)  # fmt: skip
+
+COUNTS = (1, 2, 16, 17, 18, 400)
+ORDERS = ("rising", "falling", "by chance")
+LONGEST = {"romfs": 255, "cramfs": 252, "cramfs-be": 252}
+NOWHERE = (b"\x01", b"\xff" * 9)  # before and behind all names that are made here
+
+
+def names_made(count, longest, chance):
+    """So many names, all of them different, and each begun by a byte that is neither the least nor the greatest."""
+    names = [b"m", b"m" * longest, b"m" * (longest - 1) + b"n", b"mn"]
+    names += [b"m" * chance.randrange(1, longest - 2) + b"%d" % number for number in range(count // 4)]
+    names += [b"front of each %05d" % number for number in range(count // 4)]
+    letters = [byte for byte in range(1, 256) if byte not in b"/."]
+    while len(set(names)) < count:
+        more = bytes(chance.choice(letters) for _ in range(chance.randrange(1, 12)))
+        names.append(bytes([chance.randrange(0x30, 0xF0)]) + more)
+    return sorted(dict.fromkeys(names))[:count] if count < 4 else some_of(sorted(set(names)), count, chance)
+
+
+def some_of(names, count, chance):
+    """So many of the names, among them the first and the last."""
+    return sorted({names[0], names[-1], *chance.sample(names[1:-1], count - 2)})
+
+
+def in_order(names, order, chance):
+    """The names as a list has them."""
+    if order == "by chance":
+        names = list(names)
+        chance.shuffle(names)
+    return names[::-1] if order == "falling" else names
+
+
+def romfs_image(names):
+    """A romfs image, and where each name leads: each third name but the first is a hard link to the first."""
+    place, leads = 96, {}
+    for number, name in enumerate(names):
+        leads[name] = 96 if number % 3 == 2 else place
+        place += 16 + (len(name) + 16) // 16 * 16
+    entries = [
+        (HARD_LINK, 96, 0, name, b"") if number % 3 == 2 else (REGULAR, 0, 0, name, b"")
+        for number, name in enumerate(names)
+    ]
+    return romfs_list([], first=entries), leads
+
+
+def cramfs_image(names, rising, directory=b""):
+    """A cramfs image, and where each name leads; the name that is the directory's is an empty one."""
+    place, leads, text = 76, {}, b""
+    for name in names:
+        leads[name] = place + len(text)
+        text += inode(CRAMFS_DIRECTORY if name == directory else CRAMFS_REGULAR, 0, 0, name)
+    flags = WITH_SUM | DIRECT_POINTERS | (SORTED if rising else 0)
+    return cramfs(flags, inode(CRAMFS_DIRECTORY, len(text), 76), text), leads
+
+
+def image_of(form, names, order):
+    """An image in a format, and where each name leads."""
+    if form == "romfs":
+        return romfs_image(names)
+    image, leads = cramfs_image(names, order == "rising")
+    return (bytes(Turned(image).new) if form == "cramfs-be" else image), leads
+
+
+def absent_beside(names):
+    """Names that are not among these: beside each, before all and behind all."""
+    beside = [*NOWHERE]
+    for name in names:
+        last = name[-1]
+        beside += [name[:-1], name[:-1] + bytes([max(last - 1, 1)]), name[:-1] + bytes([min(last + 1, 255)])]
+        if len(name) < 252:
+            beside += [name + b"\x01", name + b"\xff"]
+    bad = {b"", b".", b"..", *names}
+    return [name for name in dict.fromkeys(beside) if name not in bad and b"/" not in name]
+
+
+def written(name):
+    """A name as it stands in a line."""
+    return b"".join(b"%%%02x" % byte for byte in name)
+
+
+def asked(names, leads, chance):
+    """Names and where they lead, each twice, in an order by chance."""
+    told = [(name, leads[name]) for name in names] + [(name, None) for name in absent_beside(names)]
+    chance.shuffle(told)
+    return told + told[::-1]
+
+
+def wrong_replies(binary, words, lines, replies):
+    """What is wrong in the replies to some lines; the first that differs is told."""
+    done = subprocess.run([binary, *words], input=b"".join(lines), capture_output=True, timeout=SECONDS)
+    if done.stderr or done.returncode:
+        return ["status %d and %r" % (done.returncode, done.stderr)]
+    got = done.stdout.splitlines(keepends=True)
+    if got == replies:
+        return []
+    pairs = ((line, one, other) for line, one, other in zip(lines, got, replies) if one != other)
+    told = next(pairs, None)
+    return ["%r is answered %r, expected %r" % told if told else "%d replies to %d lines" % (len(got), len(lines))]
+
+
+def wrong_served(binary, path, told):
+    """What is wrong where an image is served alone; dots go before some names."""
+    ways = (b"/", b"/./", b"/../", b"//")
+    lines = [b"lookup %s%s\n" % (ways[number % 4], written(name)) for number, (name, _) in enumerate(told)]
+    replies = [b"err ENOENT\n" if place is None else b"ok %d\n" % place for _, place in told]
+    return wrong_replies(binary, ["serve", path], lines, replies)
+
+
+def wrong_mounted(binary, path, top, told, others):
+    """What is wrong where an image is mounted in another, whose own names are looked up in turn with its own."""
+    below = os.path.join(top, "below")
+    image, leads = cramfs_image(others, True, others[-1])
+    with open(below, "wb") as file:
+        file.write(image)
+    mount = written(others[-1])
+    lines, replies = [b"0 mount 1 /%s\n" % mount], [b"0 ok\n"]
+    for number, (name, place) in enumerate(told):
+        other = others[number % (len(others) - 1)]
+        lines += [b"%d lookup /%s/%s\n" % (number % 8, mount, written(name)), b"3 lookup /%s\n" % written(other)]
+        replies += [b"%d err ENOENT\n" % (number % 8) if place is None else b"%d ok 1:%d\n" % (number % 8, place)]
+        replies += [b"3 ok 0:%d\n" % leads[other]]
+    return wrong_replies(binary, ["space", below, path], lines, replies)
+
+
+def done_list(binary, form, count, order, counts):
+    """Runs the look-ups in one list."""
+    chance = random.Random("%s %d %s" % (form, count, order))
+    names = in_order(names_made(count, LONGEST[form], chance), order, chance)
+    image, leads = image_of(form, names, order)
+    told = asked(names, leads, chance)
+    with tempfile.TemporaryDirectory() as top:
+        path = os.path.join(top, "image")
+        with open(path, "wb") as file:
+            file.write(image)
+        for word, wrong in (
+            ("serve", wrong_served(binary, path, told)),
+            ("space", wrong_mounted(binary, path, top, told, names_made(max(count, 2), 252, chance))),
+        ):
+            if wrong:
+                counts.fails("look-ups: %s, %d names %s, %s" % (form, count, order, word), wrong)
+            else:
+                counts.passes()
+
+
+def main():
+    reader = parser("Look names up in lists of each length.")
+    reader.add_argument("--name", default="", help="the lists alone whose format, count or order has this text")
+    arguments = reader.parse_args()
+    binary, counts = program_of(arguments), Counts()
+    for form in LONGEST:
+        for count in COUNTS:
+            for order in ORDERS:
+                if arguments.name in "%s, %d names %s" % (form, count, order):
+                    done_list(binary, form, count, order, counts)
+    return counts.close()
+
+
+if __name__ == "__main__":
+    sys.exit(main())
