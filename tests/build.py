@@ -295,9 +295,48 @@ def progress_on_a_terminal(binary):
         yield "%d, %r" % (done.returncode, told[-200:])
 
 
+def chain_of_links(binary):
+    """Forty links are followed and no more, and a link to itself is one, in each format."""
+    lines = ["file /t 0644 0 0 4 t", "slink /l1 0777 0 0 t", "slink /s 0777 0 0 s"]
+    lines += ["slink /l%d 0777 0 0 l%d" % (each, each - 1) for each in range(2, 42)]
+    put("manifest", "\n".join(lines).encode())
+    put("t", b"hello")
+    asked = b"stat /t\nstat /l40\nstat /l41\nstat /s\nlstat /s\nreadlink /s\n"
+    for form in FORMATS:
+        built = run(binary, "build", form, "manifest", form)
+        told = run(binary, "serve", form, input=asked).stdout.split(b"\n")
+        file, through, *others = told[:4]
+        lstat, readlink = told[4].split(b" "), told[5]
+        if built.returncode or file != through or not file.endswith(b" f 0644 0 0 5 0 0"):
+            yield "%s: %r" % (form, told)
+        if others != [b"err ELOOP", b"err ELOOP"] or lstat[2:] != b"l 0777 0 0 1 0 0".split(b" "):
+            yield "%s: %r" % (form, told)
+        if not readlink.endswith(b" 1 73"):
+            yield "%s: %r" % (form, told)
+
+
+def names_are_remembered(binary):
+    """The last name of a long list is found again as fast as its first."""
+    put("empty", b"")
+    put("manifest", b"".join(b"file /%06d 0644 0 0 4 empty\n" % each for each in range(50_000)))
+    run(binary, "build", "romfs", "manifest", "image")
+    seconds = {}
+    for name in (b"000000", b"049999"):
+        before = resource.getrusage(resource.RUSAGE_CHILDREN)
+        done = run(binary, "serve", "image", input=b"lookup /%s\n" % name * 5_000)
+        after = resource.getrusage(resource.RUSAGE_CHILDREN)
+        seconds[name] = after.ru_utime - before.ru_utime
+        if done.returncode or done.stdout.count(b"ok ") != 5_000:
+            yield "%r: %r" % (name, done.stdout[:60])
+    # 5,000 walks to the end of the list are minutes
+    if seconds[b"049999"] > 3 * seconds[b"000000"] + 1:
+        yield repr(seconds)
+
+
 TESTS = [
     scan_is_manifest, folder_is_built, source_is_longer, source_is_shorter, source_changes, file_system_is_full,
     device_is_full, out_is_a_pipe, permissions_are_kept, nothing_on_a_pipe, progress_on_a_terminal,
+    chain_of_links, names_are_remembered,
 ]  # fmt: skip
 
 

@@ -555,7 +555,7 @@ def closed_input_of_a_server(binary):
 
 @needs_strace
 def entries_of_a_scan(binary):
-    """An entry that vanished, or that cannot be looked at, is named, and not its folder."""
+    """An entry that vanished, or that cannot be looked at, is named, and not its folder; so is a folder at the end."""
     os.makedirs("in/d")
     for name in ("in/a", "in/d/b"):
         put(name, b"")
@@ -567,8 +567,9 @@ def entries_of_a_scan(binary):
             done = traced.run(binary, "scan", "in", told=traced.inject("statx", "error=" + fault, call.number))
             if answer(done) != (b"", b"file %s\n" % name.encode(), 3):
                 yield "%s: %r" % (name, answer(done))
-    if len(looked) != 3:
-        yield "%d entries" % len(looked)
+    # three entries, and the folder once more
+    if len(looked) != 4:
+        yield "%d calls" % len(looked)
 
 
 # each call failed
@@ -635,12 +636,13 @@ TESTS = [
 ]  # fmt: skip
 
 
-def main():
-    reader = parser("Build and read where the system gets in the way.")
+def run_all(tests, about):
+    """Runs tests, each in a folder of its own, as the command line asks, and gives the status to end with."""
+    reader = parser(about)
     reader.add_argument("--name", default="", help="the tests alone whose name has this text")
     arguments = reader.parse_args()
     binary, counts = program_of(arguments), Counts()
-    for test in TESTS:
+    for test in tests:
         if arguments.name not in test.__name__:
             continue
         with tempfile.TemporaryDirectory(prefix="romtool-") as top:
@@ -657,4 +659,4 @@ def main():
 
 
 if __name__ == "__main__":
-    sys.exit(main())
+    sys.exit(run_all(TESTS, "Build and read where the system gets in the way."))

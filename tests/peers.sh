@@ -1,7 +1,6 @@
 #!/bin/sh
-# Compares what `romtool build` makes of a folder's scan with what others make of the folder: the list of
-# genromfs's image (Debian package genromfs), and the folder itself in cramfs. Modes are made those of a
-# scan first, and numbers of nodes are not compared.
+# Compares what `romtool build` makes of a folder's `scan --all` with what others make of the folder: the list of
+# genromfs's image (Debian package genromfs), and the folder itself in cramfs. Numbers of nodes are not compared.
 #
 #     tests/peers.sh [BINARY]
 #
@@ -30,28 +29,17 @@ is() {
     fi
 }
 
-# Makes modes and owners of a folder those of a scan.
-as_scanned() {
-    find "$1" -type d -exec chmod 0755 {} +
-    find "$1" -type f -exec chmod 0644 {} +
-    if [ "$(id -u)" = 0 ]; then chown -R 0:0 "$1"; fi
-}
-
 # same FOLDER: builds its scan in all formats, and compares.
 same() {
-    as_scanned "$1"
-    "$binary" scan "$1" >manifest || { note "$1: scan" 1; return; }
     for format in romfs cramfs cramfs-be; do
+        "$binary" scan --all --for "$format" "$1" >manifest || { note "$1: scan for $format" 1; return; }
         "$binary" build "$format" manifest image >said || { note "$1: build $format" 1; return; }
         listed image >ours
         python3 "$here/folder.py" "${format%-be}" "$1" | LC_ALL=C sort >wanted
-        if [ "$(id -u)" = 0 ] || [ "$format" = romfs ]; then
-            is "$1: the list in $format is the folder" wanted ours
-        else
-            skip "$1: $format, since root alone owns files as a scan says"
-        fi
+        is "$1: the list in $format is the folder" wanted ours
     done
     if command -v genromfs >/dev/null; then
+        "$binary" scan --all --for romfs "$1" >manifest
         "$binary" build romfs manifest image >said
         listed image >ours
         genromfs -f image -d "$1"
@@ -83,5 +71,19 @@ same names
 mkdir many
 for n in $(seq 1 300); do echo "$n" >"many/file$n"; done
 same many
+
+mkdir -p kinds/bin
+echo run >kinds/bin/run
+chmod 4750 kinds/bin/run
+echo data >kinds/data
+chmod 0600 kinds/data
+ln -s bin/run kinds/link
+mkfifo kinds/queue
+if [ "$(id -u)" = 0 ]; then
+    mknod kinds/disk b 8 1
+    mknod kinds/tty c 5 0
+    chown 7:9 kinds/data
+fi
+same kinds
 
 finish

@@ -1,3 +1,5 @@
+mod Brought
+mod Firsts
 mod Flushed
 mod Scans
 mod Served

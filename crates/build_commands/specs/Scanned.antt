@@ -21,13 +21,13 @@ directory_line path = directory_text path ++ codes "\n"
 abbrev pub file_line : List ℕ → List ℕ → List ℕ
 file_line path source = file_text path source ++ codes "\n"
 
--- the directory of a path, of mode 0755, as line n
-abbrev pub directory_of : ℕ → List ℕ → Line
-directory_of n path = record {
-  number = n;
+-- the directory of a path, of a mode
+abbrev pub plain_of : List ℕ → ℕ → Line
+plain_of path mode = record {
+  number = 0;
   word = Dir;
   path = path;
-  mode = 493;
+  mode = mode;
   uid = 0;
   gid = 0;
   align = 0;
@@ -36,20 +36,13 @@ directory_of n path = record {
   text = [];
 }
 
+-- the directory of a path, of mode 0755, as line n
+abbrev pub directory_of : ℕ → List ℕ → Line
+directory_of n path = record (plain_of path 493) { number = n }
+
 -- the file of a path, of mode 0644 and aligned to 4, as line n
 abbrev pub file_of : ℕ → List ℕ → List ℕ → Line
-file_of n path source = record {
-  number = n;
-  word = File;
-  path = path;
-  mode = 420;
-  uid = 0;
-  gid = 0;
-  align = 4;
-  major = 0;
-  minor = 0;
-  text = source;
-}
+file_of n path source = record (plain_of path 420) { number = n; word = File; align = 4; text = source }
 
 -- a byte, or more
 pub record IsName (bytes : List ℕ) : Type 0 where

@@ -4,7 +4,9 @@
 #![tactic(auto)]
 
 pub mod building;
+pub mod inventory;
 pub mod laws;
+pub mod nearest;
 pub mod scanning;
 #[cfg(test)]
 mod tests;

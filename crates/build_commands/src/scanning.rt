@@ -1,13 +1,15 @@
 //! The manifest that a scan of a folder prints.
-ghost use Rattle.std.specs.Prelude.{map};
-ghost use Rattle.build_commands.specs.Scanned.{directory_line, entry_line, file_line, scan_text};
+ghost use Rattle.std.specs.Prelude.{◌≡◌, map};
+ghost use Rattle.build_commands.specs.Scanned.{directory_line, entry_line, file_line, plain_of};
+ghost use Rattle.build_commands.specs.Scanned.{scan_text};
 ghost use Rattle.build_commands.specs.Seen.{entry_of};
+ghost use Rattle.manifest_text.specs.Views.{line_of};
 ghost use Rattle.rom_fields.specs.Failures.{Counts};
 ghost use Rattle.rom_fields.specs.Written.{Puts, WritesText, sink};
 
+use manifest::Word;
+use manifest_text::{Entry, put_line};
 use rom_fields::bytes::{ByteWrite, Failed};
-use rom_fields::sink::put;
-use rom_fields::text::put_escaped;
 
 /// What a scan finds: a folder, or a regular file, by its place on the disk.
 #[derive(PartialEq, Eq, PartialOrd, Ord, Drop)]
@@ -16,15 +18,29 @@ pub struct Found {
     pub is_folder: bool,
 }
 
+/// What a line of this path and mode says, where it has nothing else.
+fn plain_entry(path: &[u8], mode: u32) -> Entry<'_>
+    ensures { line_of result ≡ plain_of path.now mode }
+{
+    Entry {
+        word: Word::Dir,
+        path,
+        mode,
+        uid: 0,
+        gid: 0,
+        align: 0,
+        major: 0,
+        minor: 0,
+        text: b"",
+    }
+}
+
 /// Puts the line of a directory, `dir PATH 0755 0 0`, with the path escaped.
 fn put_directory<W: ByteWrite>(w: &mut W, failed: &mut bool, path: &[u8])
     ensures { Puts (sink (W.output w.old) failed.old) (sink (W.output w.new) failed.new)
         (directory_line path.now) }
 {
-    put(w, failed, b"dir ");
-    put_escaped(w, failed, path);
-    put(w, failed, b" 0755 0 0");
-    put(w, failed, b"\n");
+    put_line(w, failed, &plain_entry(path, 0o755));
 }
 
 /// Puts the line of a file and of its source, `file PATH 0644 0 0 4 SOURCE`, with both escaped.
@@ -32,11 +48,13 @@ fn put_file<W: ByteWrite>(w: &mut W, failed: &mut bool, path: &[u8], source: &[u
     ensures { Puts (sink (W.output w.old) failed.old) (sink (W.output w.new) failed.new)
         (file_line path.now source.now) }
 {
-    put(w, failed, b"file ");
-    put_escaped(w, failed, path);
-    put(w, failed, b" 0644 0 0 4 ");
-    put_escaped(w, failed, source);
-    put(w, failed, b"\n");
+    let file = Entry {
+        word: Word::File,
+        align: 4,
+        text: source,
+        ..plain_entry(path, 0o644)
+    };
+    put_line(w, failed, &file);
 }
 
 /// Puts the line of what was found. Its path is what stands behind the first `front` bytes of its

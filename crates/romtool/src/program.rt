@@ -4,13 +4,13 @@ ghost use Rattle.std.specs.Prelude.{◌≤◌};
 use crate::arguments::words;
 use crate::streams::{Again, Held, hold_closed};
 use crate::trouble::{refused, say};
-use crate::{building, reading, scanning};
+use crate::{building, inventory, reading, scanning};
 use command_line::{Request, Status, Trouble, WordsError, read};
 use rom_commands::hello::hello;
 use rom_commands::printing::print;
 use rom_commands::serving::serve_on;
 use rom_commands::several::serve_several_on;
-use rom_fields::bytes::{ByteWrite, Plain};
+use rom_fields::bytes::{ByteRead, ByteWrite, Plain};
 use std::io::{self, BufWriter};
 
 /// Does what the words of the command line ask for, and gives the status to end with.
@@ -46,6 +46,7 @@ fn done(rt: &HostRuntime, request: Request<'_>) -> u8
             building::run(rt, build.format, build.manifest, build.out).code()
         }
         Request::Scan(folder) => scanning::run(rt, folder).code(),
+        Request::ScanAll(scan) => inventory::run(rt, scan).code(),
     }
 }
 
@@ -100,42 +101,61 @@ fn serve(rt: &HostRuntime, name: &str) -> u8
     status
 }
 
-/// The bytes of some files, each as `bytes_of` gives it.
-fn all_bytes(rt: &HostRuntime, names: &[&str]) -> Result<Vec<Vec<u8>>, Status> {
-    let mut files = Vec::new(rt.alloc());
+/// Reads files behind those that are there, in their order, up to the first that cannot be read. Of
+/// that one it gives the name, and why.
+fn read_all<'a>(
+    rt: &HostRuntime,
+    names: &[&'a str],
+    files: &mut Vec<Vec<u8>>,
+) -> Result<(), (&'a str, io::Error)> {
     for name in names {
-        let bytes = match bytes_of(rt, name) {
+        let bytes = match reading::image(rt, name) {
             Ok(bytes) => bytes,
-            Err(status) => return Err(status),
+            Err(e) => return Err((*name, e)),
         };
         if files.push(bytes).is_err() {
-            return Err(say(rt, Trouble::Memory));
+            return Err((*name, io::Error::from(io::ErrorKind::OutOfMemory)));
         }
     }
-    Ok(files)
+    Ok(())
 }
 
-/// Serves the images in one to eight files.
-fn space(rt: &HostRuntime, names: &[&str]) -> u8
+/// Answers lines from one to eight images, or tells the first fault of these.
+fn serve_files<R: ByteRead>(rt: &HostRuntime, files: &[Vec<u8>], lines: &mut R) -> u8
     ensures { result ≤ 3 }
 {
-    let files = match all_bytes(rt, names) {
-        Ok(files) => files,
-        Err(status) => return status.code(),
-    };
     if files.is_empty() || files.len() > 8 {
         return say(rt, Trouble::Usage).code();
     }
     let mut err = Plain::new(Held::new(rt, rt.stderr()));
-    let status = serve_several_on(
-        rt.alloc(),
-        &files,
-        &mut Plain::new(Again::new(rt.reader())),
-        &mut Plain::new(Held::new(rt, io::writer(rt))),
-        &mut err,
-    );
+    let out = &mut Plain::new(Held::new(rt, io::writer(rt)));
+    let status = serve_several_on(rt.alloc(), files, lines, out, &mut err);
     let _ = err.flush();
     status
+}
+
+/// Serves the images in one to eight files. Where one of these cannot be read, a fault of an image
+/// before it comes first: these are served no lines, to see whether they have one.
+fn space(rt: &HostRuntime, names: &[&str]) -> u8
+    ensures { result ≤ 3 }
+{
+    let mut files = Vec::new(rt.alloc());
+    match read_all(rt, names, &mut files) {
+        Ok(()) => serve_files(rt, &files, &mut Plain::new(Again::new(rt.reader()))),
+        Err((name, e)) => {
+            let no_lines: &[u8] = &[];
+            let status = if files.is_empty() {
+                0
+            } else {
+                serve_files(rt, &files, &mut Plain::new(no_lines))
+            };
+            if status == 0 {
+                refused(rt, name.as_bytes(), &e).code()
+            } else {
+                status
+            }
+        }
+    }
 }
 
 /// Prints what is shown of an image on the standard streams.

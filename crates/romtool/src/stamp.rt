@@ -43,7 +43,8 @@ pub struct Stamp {
 }
 
 impl Stamp {
-    fn of(found: &Metadata) -> Stamp {
+    /// Of the file that this was said of.
+    pub fn of(found: &Metadata) -> Stamp {
         Stamp {
             identity: Identity::of(found),
             len: found.len(),

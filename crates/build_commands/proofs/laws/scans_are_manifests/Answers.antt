@@ -1,5 +1,10 @@
-use Rattle.build_commands.proofs.Scans.{is_manifest}
+use Rattle.std.proofs.Common.{[]}
+use Rattle.build_commands.specs.Inventory.{lines_found}
+use Rattle.build_commands.proofs.Scans.{is_manifest, no_volume}
 use Rattle.build_commands.proofs.laws.scans_are_manifests.Goals as goal
 
-pub returns : goal.returns
-returns c = is_manifest
+pub returns-clause-plain : goal.returns-clause-plain
+returns-clause-plain c = is_manifest c.reads_back.ensures
+
+pub returns-clause-all : goal.returns-clause-all
+returns-clause-all c = λ front wishes found h. c.reads_back.ensures [] (lines_found front wishes found) no_volume h

@@ -1,7 +1,10 @@
-use Rattle.rom_fields.proofs.Joins.{chain}
-use Rattle.build_commands.specs.Scanned.{file_text}
+use Rattle.std.proofs.Common.{ap}
+use Rattle.manifest.specs.declared.line.Line.{Line}
+use Rattle.manifest.specs.declared.line.Word.TheVariants.{File}
+use Rattle.build_commands.proofs.Scans.{put_file_is}
 use Rattle.build_commands.proofs.scanning.put_file.Goals as goal
 
 pub returns : goal.returns
-unfolding file_text
-returns g c = chain (chain c.put.ensures (chain c.put_escaped.ensures (chain c.put-2.ensures c.put_escaped-2.ensures))) c.put-3.ensures
+returns g c =
+    put_file_is c.args.path.now c.args.source.now _
+    (ap (λ (l : Line). record l { word = File; align = 4; text = c.args.source.now }) c.plain_entry.ensures) c.put_line.ensures

@@ -1,0 +1,294 @@
+//! The manifest of a folder as it is: each file below it, of whatever kind.
+ghost use Rattle.std.specs.Prelude.{◌≡◌, ℕ, IfOk, OnOk, map, option_map};
+ghost use Rattle.build_commands.specs.Inventory.{aligned, fitted, found_line, further_line};
+ghost use Rattle.build_commands.specs.Inventory.{hard_line, has_hard_links, lines_found, name_line};
+ghost use Rattle.build_commands.specs.Inventory.{path_behind, same_line};
+ghost use Rattle.build_commands.specs.Noted.{noted, noted_with};
+ghost use Rattle.manifest_text.specs.Printed.{lines_text};
+ghost use Rattle.manifest_text.specs.Views.{line_of};
+ghost use Rattle.rom_fields.specs.Failures.{Counts};
+ghost use Rattle.rom_fields.specs.Written.{WritesText};
+
+use crate::nearest::{is_executable, nearest};
+use manifest::Word;
+use manifest_text::{Entry, write_manifest};
+use plan_misfits::Format;
+use rom_fields::bytes::{ByteWrite, Failed};
+use rom_fields::memory::OutOfMemory;
+use std::alloc::Global;
+use std::collections::BTreeMap;
+
+/// What kind of file it is, with what this kind alone has.
+#[derive(Drop)]
+pub enum FileKind {
+    Directory,
+    Regular,
+    /// A symbolic link with this text.
+    Symlink(String),
+    /// A block device with these numbers.
+    Block(Device),
+    /// A character device with these numbers.
+    Character(Device),
+    Fifo,
+    Socket,
+}
+
+/// The numbers of a device.
+#[derive(Clone, Copy)]
+pub struct Device {
+    pub major: u32,
+    pub minor: u32,
+}
+
+/// What tells a file from all others: the device that it stands on, and its number there.
+#[derive(Clone, Copy)]
+pub struct Inode {
+    pub device: u64,
+    pub number: u64,
+}
+
+/// A name of a file, by its place on the disk, with what the system tells of the file.
+#[derive(Drop)]
+pub struct NamedFile {
+    pub place: String,
+    pub kind: FileKind,
+    /// The last twelve bits of a POSIX mode.
+    pub mode: u32,
+    pub uid: u32,
+    pub gid: u32,
+    pub inode: Inode,
+}
+
+/// What a manifest of a folder as it is is asked for.
+#[derive(Clone, Copy)]
+pub struct Wishes {
+    /// The format that it is to fit as far as that goes.
+    pub format: Option<Format>,
+    /// The alignment of regular files that someone may execute.
+    pub align: u32,
+}
+
+/// The alignment of other regular files, in bytes.
+const USUAL_ALIGN: u32 = 4;
+
+/// The path of what stands at a place: what is behind the first `front` bytes, and where nothing
+/// is, the root.
+fn path_of(front: usize, place: &str) -> &[u8]
+    ensures { result.now ≡ path_behind front place.now }
+{
+    let place = place.as_bytes();
+    let path = &place[front.min(place.len())..];
+    if path.is_empty() {
+        return b"/";
+    }
+    path
+}
+
+/// The alignment of a regular file of this mode.
+fn align_of(mode: u32, align: u32) -> u32
+    ensures { result ≡ aligned align mode }
+{
+    if is_executable(mode) {
+        align
+    } else {
+        USUAL_ALIGN
+    }
+}
+
+/// The line of a file as the system tells it.
+fn found_line<'a>(front: usize, align: u32, file: &'a NamedFile) -> Entry<'a>
+    ensures { line_of result ≡ found_line front align file.now }
+{
+    let plain = Entry {
+        word: Word::Dir,
+        path: path_of(front, &file.place),
+        mode: file.mode,
+        uid: file.uid,
+        gid: file.gid,
+        align: 0,
+        major: 0,
+        minor: 0,
+        text: b"",
+    };
+    match &file.kind {
+        FileKind::Directory => plain,
+        FileKind::Regular => Entry {
+            word: Word::File,
+            align: align_of(file.mode, align),
+            text: file.place.as_bytes(),
+            ..plain
+        },
+        FileKind::Symlink(target) => Entry {
+            word: Word::Slink,
+            text: target.as_bytes(),
+            ..plain
+        },
+        FileKind::Block(device) => Entry {
+            word: Word::Block,
+            major: device.major,
+            minor: device.minor,
+            ..plain
+        },
+        FileKind::Character(device) => Entry {
+            word: Word::Character,
+            major: device.major,
+            minor: device.minor,
+            ..plain
+        },
+        FileKind::Fifo => Entry {
+            word: Word::Fifo,
+            ..plain
+        },
+        FileKind::Socket => Entry {
+            word: Word::Socket,
+            ..plain
+        },
+    }
+}
+
+/// Whether a manifest of this format has `hard` lines.
+fn has_hard_links(format: Option<Format>) -> bool
+    ensures { result ≡ has_hard_links format }
+{
+    !matches!(format, Some(Format::Cramfs | Format::CramfsBig))
+}
+
+/// The line of one more name of the file at the path `old`, where the line of the first would be
+/// `own`; that of a directory stays.
+fn hard_line<'a>(own: Entry<'a>, old: &'a [u8]) -> Entry<'a>
+    ensures { line_of result ≡ hard_line own.entry.word (line_of own.entry) old.entry.now }
+{
+    match own.word {
+        Word::Dir => own,
+        _ => Entry {
+            word: Word::Hard,
+            path: own.path,
+            mode: 0,
+            uid: 0,
+            gid: 0,
+            align: 0,
+            major: 0,
+            minor: 0,
+            text: old,
+        },
+    }
+}
+
+/// The line of a regular file with the contents of the one at the path `old`, where its line with
+/// contents of its own would be `own`; that of another file stays.
+fn same_line<'a>(own: Entry<'a>, old: &'a [u8]) -> Entry<'a>
+    ensures { line_of result ≡ same_line own.entry.word (line_of own.entry) old.entry.now }
+{
+    match own.word {
+        Word::File => Entry {
+            word: Word::Same,
+            align: 0,
+            text: old,
+            ..own
+        },
+        _ => own,
+    }
+}
+
+/// The line of a further name, where the line of the first would be `own`, and its path is `old`.
+fn further_line<'a>(format: Option<Format>, own: Entry<'a>, old: &'a [u8]) -> Entry<'a>
+    ensures { line_of result ≡ further_line format (line_of own.entry) old.entry.now }
+{
+    if has_hard_links(format) {
+        hard_line(own, old)
+    } else {
+        same_line(own, old)
+    }
+}
+
+/// The line with what its format takes, where it is to fit one.
+fn fitted<'a>(format: Option<Format>, line: Entry<'a>) -> Entry<'a>
+    ensures { line_of result ≡ fitted format (line_of line.entry) }
+{
+    match format {
+        None => line,
+        Some(format) => nearest(format, line),
+    }
+}
+
+/// The line of a name, where `first` is the first name of the same file among those before it.
+fn name_line<'a>(
+    front: usize,
+    wishes: Wishes,
+    first: Option<&'a NamedFile>,
+    file: &'a NamedFile,
+) -> Entry<'a>
+    ensures { line_of result
+        ≡ name_line front wishes (option_map (λ g. g.now) first.entry) file.entry.now }
+{
+    let own = found_line(front, wishes.align, file);
+    let line = match first {
+        None => own,
+        Some(first) => further_line(wishes.format, own, path_of(front, &first.place)),
+    };
+    fitted(wishes.format, line)
+}
+
+/// Notes a file, where none of the same inode is noted.
+fn note_first<'a>(
+    firsts: &mut BTreeMap<(u64, u64), &'a NamedFile>,
+    file: &'a NamedFile,
+) -> Result<(), OutOfMemory>
+    ensures { OnOk result ((device number : ℕ) → noted firsts.new device number
+        ≡ noted_with file.entry.now (noted firsts.old device number) device number) }
+{
+    let key = (file.inode.device, file.inode.number);
+    if firsts.get(&key).is_none() {
+        firsts.insert(key, file)?;
+    }
+    Ok(())
+}
+
+/// The first file that was noted of this inode.
+fn first_noted<'a>(
+    firsts: &BTreeMap<(u64, u64), &'a NamedFile>,
+    inode: Inode,
+) -> Option<&'a NamedFile>
+    ensures { option_map (λ g. g.now) result ≡ noted firsts.now inode.device inode.number }
+{
+    firsts.get(&(inode.device, inode.number)).copied()
+}
+
+/// A line for each file that was found, in their order: of what has several names, those behind the
+/// first are further names. What stands at a place has the path that is behind the place's first
+/// `front` bytes: behind the name of the folder that was scanned. It takes time in n log n.
+///
+/// # Errors
+///
+/// `OutOfMemory`.
+pub fn lines<'a>(
+    alloc: Global,
+    front: usize,
+    wishes: Wishes,
+    found: &'a [NamedFile],
+) -> Result<Vec<Entry<'a>>, OutOfMemory>
+    ensures { IfOk result (λ v. map line_of v.items ≡ lines_found front wishes found.entry.now) }
+{
+    let mut firsts = BTreeMap::new(alloc);
+    let mut made = Vec::new(alloc);
+    for file in found {
+        let first = first_noted(&firsts, file.inode);
+        made.push(name_line(front, wishes, first, file))?;
+        note_first(&mut firsts, file)?;
+    }
+    Ok(made)
+}
+
+/// Writes the lines of a manifest that names no volume, and flushes them.
+///
+/// # Errors
+///
+/// A write or the flush failed; a prefix of the lines was written.
+pub fn put_found<W: ByteWrite>(w: &mut W, lines: &[Entry<'_>]) -> Result<(), Failed>
+    ensures text { WritesText (W.output w.old).contents (W.output w.new).contents result
+        (lines_text (map line_of lines.now)) }
+    ensures count { Counts (W.output w.old).failures (W.output w.new).failures result }
+{
+    write_manifest(w, b"", lines)?;
+    w.flush()
+}

@@ -1,0 +1,87 @@
+//! Folders that a scan looks into, and whether they stay as they were found.
+use crate::stamp::{Stamp, let_rest};
+use crate::trouble::{refused, say};
+use command_line::{Status, Trouble};
+use std::fs::{self, Metadata};
+use std::io;
+
+/// A folder without the slashes at its end, before which the names of what it holds are put.
+pub fn base(folder: &str) -> &str {
+    folder.trim_end_matches('/')
+}
+
+/// A folder that a scan found, by the place that it has in the manifest's names, with the state in
+/// which it was.
+#[derive(Drop)]
+pub struct Folder {
+    pub place: String,
+    stamp: Stamp,
+}
+
+impl Folder {
+    /// A folder of which the system says this.
+    ///
+    /// # Errors
+    ///
+    /// Memory was refused.
+    pub fn new(rt: &HostRuntime, place: &str, told: &Metadata) -> io::Result<Folder> {
+        Ok(Folder {
+            place: String::from_str(rt.alloc(), place)?,
+            stamp: Stamp::of(told),
+        })
+    }
+
+    /// Whether it is the folder that is scanned, `top`.
+    fn is_top(&self, top: &str) -> bool {
+        self.place.len() == base(top).len()
+    }
+
+    /// The name by which it is reached: that of the folder that is scanned is the one that was asked
+    /// for.
+    pub fn name<'a>(&'a self, top: &'a str) -> &'a str {
+        if self.is_top(top) { top } else { &self.place }
+    }
+
+    /// Waits until each later change of it is one that its state tells.
+    pub fn rest(&self, rt: &HostRuntime) {
+        let_rest(rt, &[self.stamp]);
+    }
+
+    /// Says that it did not stay as it was found, where it did not. No link is followed to it, but
+    /// for the folder that is scanned.
+    fn stayed(&self, rt: &HostRuntime, top: &str) -> Result<(), Status> {
+        let name = self.name(top);
+        let told = if self.is_top(top) {
+            fs::metadata(rt, name)
+        } else {
+            fs::symlink_metadata(rt, name)
+        };
+        match told {
+            Ok(told) if Stamp::of(&told) == self.stamp => Ok(()),
+            Ok(_) => Err(say(rt, Trouble::File(name.as_bytes()))),
+            Err(e) => Err(refused(rt, name.as_bytes(), &e)),
+        }
+    }
+}
+
+/// The folder that is scanned.
+///
+/// # Errors
+///
+/// That of the system; `NotADirectory` for what is no folder.
+pub fn top(rt: &HostRuntime, name: &str) -> io::Result<Metadata> {
+    let told = fs::metadata(rt, name)?;
+    if !told.is_dir() {
+        return Err(io::Error::from(io::ErrorKind::NotADirectory));
+    }
+    Ok(told)
+}
+
+/// Says which of the folders below `top` did not stay as it was found, where one did not: then what
+/// was found is not what was there at one time.
+pub fn all_stayed(rt: &HostRuntime, top: &str, folders: &[Folder]) -> Result<(), Status> {
+    for folder in folders {
+        folder.stayed(rt, top)?;
+    }
+    Ok(())
+}
