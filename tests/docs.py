@@ -1,0 +1,179 @@
+#!/usr/bin/env python3
+"""Looks that the documents say what is there.
+
+    docs.py [--binary PATH]
+
+Each block of a document that is marked `console` is run: its lines that begin with `$ ` are given to a shell, one
+after the other in one new folder for each document, with `romtool` on the path, and what they print has to be what
+the block shows. Each line of a block that is marked `from=FILE` has to stand in that file, in this order. Each link
+has to lead to a file that is there, and to a heading of it. Each function that is named by its crate has to be there, and
+each function and type that the table of what is proved names has to be declared in its crate. The last line is `N passed, M failed`, with `, K skipped`.
+"""
+
+import glob
+import os
+import re
+import subprocess
+import sys
+import tempfile
+
+from harness import HERE, SECONDS, Counts, parser, program_of
+
+TOP = os.path.dirname(HERE)
+BLOCK = re.compile(r"^```(console|\w+ from=\S+)\n(.*?)^```$", re.M | re.S)
+LINK = re.compile(r"\]\(([^)\s]+)\)")
+# what documents name of the toolchain
+FOREIGN = ("std", "core", "io", "fs", "std_io", "clap")
+# where a name is declared, or a trait of std is given to a type
+DECLARED = r"\b(?:fn|struct|enum|trait|type|const|mod) %s\b|\bimpl %s for "
+
+
+def text_of(path):
+    """The text of a file of the repository."""
+    with open(os.path.join(TOP, path), encoding="utf-8") as file:
+        return file.read()
+
+
+def documents():
+    """The documents, by their paths in the repository."""
+    found = glob.glob(TOP + "/*.md") + glob.glob(TOP + "/docs/*.md") + glob.glob(TOP + "/bench/*.md")
+    return sorted(os.path.relpath(it, TOP) for it in found)
+
+
+def commands(block):
+    """The commands of a session, each with what it prints."""
+    found = []
+    for line in block.splitlines(keepends=True):
+        if line.startswith("$ "):
+            found.append([line[2:], ""])
+        else:
+            found[-1][1] += line
+    return found
+
+
+def session(name, blocks, binary, counts):
+    """Runs the sessions of a document."""
+    with tempfile.TemporaryDirectory(prefix="romtool-") as top:
+        os.mkdir(top + "/bin")
+        os.mkdir(top + "/here")
+        os.symlink(binary, top + "/bin/romtool")
+        path = {**os.environ, "PATH": "%s/bin:%s" % (top, os.environ["PATH"])}
+        more = {"cwd": top + "/here", "env": path, "timeout": SECONDS, "umask": 0o022}
+        for command, wanted in [it for block in blocks for it in commands(block)]:
+            done = subprocess.run(command, shell=True, stdout=subprocess.PIPE, stderr=subprocess.STDOUT, **more)
+            printed = done.stdout.decode(errors="replace")
+            if printed == wanted:
+                counts.passes()
+            else:
+                counts.fails("%s: %s" % (name, command.strip()), [repr(printed)])
+
+
+def quotes(name, file, block, counts):
+    """Looks that the lines of a block stand in a file in their order."""
+    rest = iter(text_of(file).splitlines())
+    lost = [line for line in block.splitlines() if line not in rest]
+    if lost:
+        counts.fails("%s: not in %s" % (name, file), lost)
+    else:
+        counts.passes()
+
+
+def anchors(text):
+    """The names by which the headings of a document are reached."""
+    heads = re.findall(r"^#+ (.*)$", text, re.M)
+    return {re.sub(r"[^\w\- ]", "", head.lower()).replace(" ", "-") for head in heads}
+
+
+def links(name, text, counts):
+    """Looks where the links of a document lead."""
+    for link in LINK.findall(text):
+        file, _, head = link.partition("#")
+        if file.startswith(("http:", "https:")):
+            continue
+        target = os.path.normpath(os.path.join(os.path.dirname(name), file)) if file else name
+        is_there = os.path.exists(os.path.join(TOP, target))
+        if is_there and (not head or head in anchors(text_of(target))):
+            counts.passes()
+        else:
+            counts.fails("%s: %s leads nowhere" % (name, link))
+
+
+def names_in(cell):
+    """The names in a cell of the table: the last part of each path, with what stands in braces one by one."""
+    for path in re.findall(r"`([^`]+)`", cell):
+        last = re.sub(r"^.*::(?=[^:{]*$|\{)", "", path)
+        for name in last.strip("{}").split(","):
+            yield name.strip()
+
+
+def sources_of(crates):
+    """The sources of some crates. What they implement may be a trait of the tree's crate, or for the error of all checks."""
+    found = [glob.glob("%s/crates/%s/src/**/*.rt" % (TOP, it), recursive=True) for it in (*crates, "rom_tree", "rom_faults")]
+    return "\n".join(text_of(file) for files in found for file in files)
+
+
+def is_declared(name, crates):
+    """Whether one of these crates declares a name."""
+    return re.search(DECLARED % (re.escape(name), re.escape(name)), sources_of(crates))
+
+
+def doors(name, counts):
+    """Looks that each function which a document names by its crate, or by a module of one, is there."""
+    crates = {os.path.basename(it) for it in glob.glob(TOP + "/crates/*")}
+    files = glob.glob(TOP + "/crates/*/src/**/*.rt", recursive=True)
+    for first, last in set(re.findall(r"`([a-z]\w*)::(?:\w+::)*(\w+)`", text_of(name))):
+        of_module = {it.split("/crates/")[1].split("/")[0] for it in files if it.endswith("/%s.rt" % first)}
+        within = [first] if first in crates else sorted(of_module)
+        if first in FOREIGN or within and is_declared(last, within):
+            counts.passes()
+        else:
+            counts.fails("%s: %s has no %s" % (name, first, last))
+
+
+def is_given(kind, trait, crates):
+    """Whether one of these crates gives a trait to a type."""
+    return re.search(r"\bimpl\b[^{;]*\b%s[^{;]*\bfor %s\b" % (re.escape(trait), re.escape(kind)), sources_of(crates))
+
+
+def promises(counts):
+    """Looks that each crate of the table of what is proved declares what its rows name."""
+    crates = []
+    for row in text_of("docs/PROVED.md").splitlines():
+        cells = [cell.strip() for cell in row.strip("|").split(" | ")]
+        if not row.startswith("| ") or len(cells) != 3 or cells[0] == "crate":
+            continue
+        crates = re.findall(r"\w+", cells[0]) or crates
+        for kind, trait in re.findall(r"`(\w+)` as `(?:\w+::)*([^`]+)`", cells[2]):
+            if is_given(kind, trait, crates):
+                counts.passes()
+            else:
+                counts.fails("PROVED.md: %s of %s is no %s" % (kind, ", ".join(crates), trait))
+        for name in names_in(cells[2]):
+            if is_declared(name, crates):
+                counts.passes()
+            else:
+                counts.fails("PROVED.md: %s of %s is not declared" % (name, ", ".join(crates)))
+
+
+def main():
+    arguments = parser("Look that the documents say what is there.").parse_args()
+    binary, counts = program_of(arguments), Counts()
+    for name in documents():
+        text = text_of(name)
+        links(name, text, counts)
+        doors(name, counts)
+        blocks = BLOCK.findall(text)
+        for mark, block in blocks:
+            if mark != "console":
+                quotes(name, mark.partition("from=")[2], block, counts)
+        sessions = [block for mark, block in blocks if mark == "console"]
+        if sessions and os.geteuid():
+            counts.skips("the sessions of %s: owners are shown as root has them" % name)
+        elif sessions:
+            session(name, sessions, binary, counts)
+    promises(counts)
+    return counts.close()
+
+
+if __name__ == "__main__":
+    sys.exit(main())
