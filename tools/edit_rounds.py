@@ -14,6 +14,10 @@ import re
 HEAD = re.compile(r"^(\s*)(?:pub(?:\([^)]*\))? )?(const )?(?:unsafe )?fn (\w+)")
 # what the check says of a function that is not proved
 UNPROVED = re.compile(r"^fn (.+?): (not proved|no proof)(.*)$", re.M)
+# and of one that is
+PROVED = re.compile(r"^fn (\S+): proved$", re.M)
+# the last line of a check of some functions alone: how many it looked at, and how many of them are proved
+SOME = re.compile(r"only=(\d+) proved=(\d+)$")
 # how the rest of that line ends where the function may be unproved only since one that it calls is
 OF_CALLEE = re.compile(r"which (?:is|are) not proved$")
 # how it begins where the function is refused for itself
@@ -177,6 +181,28 @@ def next_round(edits, calls):
         if all(calls.go_together(one, other) for one in edit.names() for other in taken):
             group.append(edit)
     return group
+
+
+def proved_in(report):
+    """The check's names of the functions that a report of a whole crate says are proved."""
+    return PROVED.findall(report)
+
+
+def told_of(group, names):
+    """Of the check's names of a crate's functions those that the edits change, where it has one for each; else none."""
+    found = {}
+    for function in {it: None for edit in group for it in edit.functions}:
+        told = [it for it in names if function.is_told_by(it) and "fn" not in it.split("::")]
+        if not told:
+            return []
+        found.update(dict.fromkeys(told))
+    return list(found)
+
+
+def is_unproved(last):
+    """Whether the last line of a check of some functions says that one of them is not proved."""
+    said = SOME.match(last)
+    return bool(said) and int(said[2]) < int(said[1])
 
 
 def refused_for_themselves(report):
