@@ -8,7 +8,8 @@ use Rattle.rom_tree.specs.Image.{Image, image_node}
 use Rattle.rom_tree.proofs.Rows.{row_bytes, row_end}
 use Rattle.open_files.specs.declared.error.CallError.TheVariants.{Einval, Erange}
 use Rattle.open_files.specs.Calls.{Lent}
-use Rattle.open_files.specs.Lending.{consecutive_from, first_place, consecutive, lent, lent_of, IsLongest}
+use Rattle.open_files.specs.Lending.{consecutive_from, first_place, consecutive, lent, lent_of}
+use Rattle.rom_tree.specs.Runs.{IsLongest}
 use Rattle.open_files.specs.Machine.{map_within, map_places}
 
 -- the front from p on has the first len places
@@ -21,32 +22,6 @@ consecutive-is p (q ∷ qs) zero w r e =
 consecutive-is p (q ∷ qs) (suc n) w r e =
     let d : q ≡ p = omega (arith, r 0 (omega arith)) in
     rw (eq-eqb q p d) (ap (λ (v : List ℕ). q ∷ v) (consecutive-is (suc p) qs n (omega arith) (λ k l. omega (arith, r (suc k) (omega arith))) (λ l h. e (omega arith) (omega arith))))
-
-lt_by : (a b : ℕ) → nat_lt a b ≡ true → a < b
-lt_by a b h = search (rules, tests)
-
-le_by : (a b : ℕ) → nat_lt a b ≡ false → b ≤ a
-le_by a b h = search (rules, tests)
-
--- a front that goes on
-pub front_more : (ps : List ℕ) (at place len add q : ℕ) → ((k : ℕ) → k < len → slice_index ps (at + k) ≡ place + k) → ((k : ℕ) → k < add → slice_index ps (at + len + k) ≡ q + k) → q ≡ place + len → (k : ℕ) → k < len + add → slice_index ps (at + k) ≡ place + k
-front_more ps at place len add q r s e k l =
-    elim (nat_lt k len) as (λ v. nat_lt k len ≡ v → slice_index ps (at + k) ≡ place + k) [
-      | true ↦ λ t. r k (lt_by k len t)
-      | false ↦ λ t.
-          let b : len ≤ k = le_by k len t in
-          let a : at + len + (k - len) ≡ at + k = omega arith in
-          let w : k - len < add = omega arith in
-          ap (slice_index ps) (sym a) ∙ (s (k - len) w ∙ omega arith)
-    ] refl
-
-pub record HasSome {A : Type 0} (o : Option A) : Type 0 where
-  pub value : A
-  pub is : o ≡ Some value
-
-pub has_some : {A : Type 0} (o : Option A) → IsSome o → HasSome o
-has_some None h = absurd (search rules)
-has_some (Some x) h = record { value = x; is = refl }
 
 first_get : (qs : List ℕ) → first_place qs ≡ get_or qs 0 0
 first_get [] = refl

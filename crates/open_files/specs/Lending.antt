@@ -29,14 +29,3 @@ lent b ps = lent_of (first_place ps) (bytes_of b ps)
 -- the places of the next n bytes of a file from a position
 abbrev pub next_places : Node → ℕ → ℕ → List ℕ
 next_places x p n = take n (drop p (places_of x))
-
--- From byte `at` on, the longest consecutive front of at most `most` places has `len` of them and begins
--- at `place`, which is 0 where it is empty.
-pub record IsLongest (ps : List ℕ) (at most place len : ℕ) : Type 0 where
-  pub within : 0 < len → at + len ≤ length ps
-  pub fits : len ≤ most
-  pub row : (k : ℕ) → k < len → slice_index ps (at + k) ≡ place + k
-  pub ends : len < most → at + len < length ps → slice_index ps (at + len) ≡ place + len → ⊥
-  pub some : len < most → at + len < length ps → 0 < len
-  pub small : at + len < 2 ^ 64
-  pub none : len ≡ 0 → place ≡ 0

@@ -4,8 +4,9 @@ ghost use Rattle.rom_tree.specs.Tree.{Node, places_of};
 ghost use Rattle.rom_tree.specs.Image.{image_node, HasNode};
 ghost use Rattle.open_files.specs.Lending.{bytes_of};
 
-use crate::lent::{bytes_at, lesser};
+use crate::lent::bytes_at;
 use rom_tree::image::TreeImage;
+use rom_tree::runs::lesser;
 use rom_tree::types::NodeId;
 
 /// Writes a text over the bytes of a buffer from a place on.

@@ -1,51 +1,12 @@
 //! What is lent of a file.
-ghost use Rattle.std.specs.Prelude.{◌≡◌, ◌+◌, ◌<◌, ◌≤◌, ℕ, Some, length, true, min, take, drop, ◌||◌};
+ghost use Rattle.std.specs.Prelude.{◌≡◌, ◌+◌, ◌≤◌, Some, length, true, take, drop, ◌||◌};
 ghost use Rattle.rom_tree.specs.Tree.{Node, places_of, is_directory, is_regular};
 ghost use Rattle.rom_tree.specs.Image.{image_node, HasNode, HasLink};
-ghost use Rattle.open_files.specs.Lending.{lent, IsLongest};
+ghost use Rattle.open_files.specs.Lending.{lent};
 ghost use Rattle.open_files.specs.Slots.{lent_by};
 
 use rom_tree::image::{TreeImage, is_directory_at, is_regular_at, link_text};
 use rom_tree::types::{NodeId, Piece};
-
-/// Where byte `at` lies, and how many of at most `most` bytes from there follow one another.
-pub(crate) fn longest_run<'a, T: TreeImage<'a>>(
-    image: &T,
-    node: NodeId,
-    at: u64,
-    most: u64,
-) -> (u32, u64)
-    requires { HasNode (T.image image.now) node.0 }
-    ensures { (x : Node) → image_node (T.image image.now) node.0 ≡ Some x
-        → IsLongest (places_of x) at most result.0 result.1 }
-{
-    if most == 0 {
-        return (0, 0);
-    }
-    let Some(first) = image.run(node, at) else {
-        return (0, 0);
-    };
-    let size = u64::from(image.stat(node).size);
-    let place = first.place;
-    let mut len = lesser(u64::from(first.len), most);
-    while len < most && len < size - at {
-        let Some(run) = image.run(node, at + len) else {
-            return (place, len);
-        };
-        if u64::from(run.place) != u64::from(place) + len {
-            return (place, len);
-        }
-        len += lesser(u64::from(run.len), most - len);
-    }
-    (place, len)
-}
-
-/// The lesser of two numbers.
-pub(crate) fn lesser(a: u64, b: u64) -> u64
-    ensures { result ≡ min a b }
-{
-    if a < b { a } else { b }
-}
 
 /// Whether a node can be opened.
 pub(crate) fn is_openable<'a, T: TreeImage<'a>>(image: &T, node: NodeId) -> bool

@@ -8,9 +8,10 @@ ghost use Rattle.open_files.specs.Slots.{image_view, stands, Moves, lent_by, nam
 
 use crate::copied::copy_bytes;
 use crate::error::CallError;
-use crate::lent::{bytes_at, longest_run};
+use crate::lent::bytes_at;
 use crate::slot::OpenNode;
 use rom_tree::image::{TreeImage, is_directory_at};
+use rom_tree::runs::longest_run;
 use rom_tree::types::{Cursor, Entry, Piece, Stat};
 
 /// A node's kind and numbers.

@@ -4,6 +4,10 @@ pub mod Named
 pub mod Rows
 pub mod Stacks
 pub mod Turns
+pub mod Walks
+pub mod Paths
+pub mod Listed
+pub mod Longest
 pub mod Answered
 pub mod ByKind
 pub mod Numbers

@@ -1,4 +1,4 @@
--- Frames at the end of a stack: what a step of a list does to what is still to come.
+-- Frames at the end of a stack: what a step does to what is still to come.
 use Rattle.std.proofs.Common.{◌≡◌, ℕ, suc, ◌+◌, ◌*◌, ◌≤◌, ◌<◌, true, false, List, [], ◌∷◌, ◌++◌, length, Option, Some, None, IsSome, refl, sym, ap, subst, ◌∙◌, rules, arith, append_assoc, append-nil, length-append}
 use Rattle.std.specs.Prelude.{IsSomeAnd}
 use Rattle.std.specs.Borrow.{Bor}
@@ -6,7 +6,8 @@ use Rattle.rom_tree.specs.declared.frame.Frame.{Frame}
 use Rattle.rom_tree.specs.declared.types.NodeId.{NodeId}
 use Rattle.rom_tree.specs.Tree.{Node, node, directory, regular, symlink, block, character, socket, fifo, Entries, no_entries, entry, is_directory, entries_of, entry_at, drop_entries, entries_nodes, nodes, levels}
 use Rattle.rom_tree.specs.Image.{Image, image_node, HasDirectory, IsEntry}
-use Rattle.rom_tree.specs.Listing.{line, below, node_lines, entries_lines, list_text}
+use Rattle.rom_tree.specs.Names.{path_below}
+use Rattle.rom_tree.specs.Names.{Name, named, node_names, entries_names, names}
 use Rattle.rom_tree.specs.Frames.{name_text, left, path_text, pending, levels_at, IsFrame, AreFrames, weight, line_path}
 use Rattle.rom_tree.proofs.Nodes.{drop_entries-some, drop_entries-none, levels_child, levels_directory, not_directory_entries}
 use Rattle.rom_tree.proofs.Named.{some_is}
@@ -25,13 +26,13 @@ pub pending-nil : (m : Image) (p : List ℕ) → pending m p [] ≡ []
 unfolding pending
 pending-nil m p = refl
 
--- the lines of the last frame come first
-pub pending-push : (m : Image) (p : List ℕ) (fs : List Frame) (f : Frame) → pending m p (fs ++ f ∷ []) ≡ entries_lines m.bytes (path_text p fs ++ name_text f.name) (left m f) ++ pending m p fs
+-- the names of the last frame come first
+pub pending-push : (m : Image) (p : List ℕ) (fs : List Frame) (f : Frame) → pending m p (fs ++ f ∷ []) ≡ entries_names (path_text p fs ++ name_text f.name) (left m f) ++ pending m p fs
 unfolding pending path_text
-pending-push m p [] f = sym (append-nil (entries_lines m.bytes (p ++ name_text f.name) (left m f)))
+pending-push m p [] f = sym (append-nil (entries_names (p ++ name_text f.name) (left m f)))
 pending-push m p (g ∷ fs) f =
-    ap (λ (v : List ℕ). v ++ entries_lines m.bytes (p ++ name_text g.name) (left m g)) (pending-push m (p ++ name_text g.name) fs f)
-    ∙ append_assoc (entries_lines m.bytes (path_text (p ++ name_text g.name) fs ++ name_text f.name) (left m f)) (pending m (p ++ name_text g.name) fs) (entries_lines m.bytes (p ++ name_text g.name) (left m g))
+    ap (λ (v : List Name). v ++ entries_names (p ++ name_text g.name) (left m g)) (pending-push m (p ++ name_text g.name) fs f)
+    ∙ append_assoc (entries_names (path_text (p ++ name_text g.name) fs ++ name_text f.name) (left m f)) (pending m (p ++ name_text g.name) fs) (entries_names (p ++ name_text g.name) (left m g))
 
 -- the last frame's share of the weight
 pub weight-push : (m : Image) (fs : List Frame) (f : Frame) → weight m (fs ++ f ∷ []) ≡ weight m fs + suc (2 * length (entries_nodes (left m f)))
@@ -125,65 +126,69 @@ frame_child m k f g o name n c e x h s i =
 pub left_child : (m : Image) (g : Frame) (x : Node) → image_node m g.directory.0 ≡ Some x → m.cursor_index g.directory.0 g.cursor.0 ≡ Some 0 → left m g ≡ entries_of x
 left_child m g x e s = left_is m g (record { dir = x; index = 0; is_dir = e; is_index = s })
 
--- the lines below a node are those of its entries
-pub lines_directory : (b path : List ℕ) (x : Node) → node_lines b path x ≡ entries_lines b path (entries_of x)
-unfolding node_lines
-lines_directory b path (node a (directory es)) = refl
-lines_directory b path (node a (regular ps)) = refl
-lines_directory b path (node a (symlink ps)) = refl
-lines_directory b path (node a block) = refl
-lines_directory b path (node a character) = refl
-lines_directory b path (node a socket) = refl
-lines_directory b path (node a fifo) = refl
+-- one name
+abbrev pub one : List ℕ → List ℕ → Node → List Name
+one p name x = named p name x ∷ []
 
-lines_none : (b path : List ℕ) → entries_lines b path no_entries ≡ []
-unfolding entries_lines
-lines_none b path = refl
+-- the names below a node are those of its entries
+pub names_directory : (path : List ℕ) (x : Node) → node_names path x ≡ entries_names path (entries_of x)
+unfolding node_names
+names_directory path (node a (directory es)) = refl
+names_directory path (node a (regular ps)) = refl
+names_directory path (node a (symlink ps)) = refl
+names_directory path (node a block) = refl
+names_directory path (node a character) = refl
+names_directory path (node a socket) = refl
+names_directory path (node a fifo) = refl
 
-lines_entry : (b path name : List ℕ) (x : Node) (es : Entries) → entries_lines b path (entry name x es) ≡ line b (below path name) x ++ (entries_lines b (below path name) (entries_of x) ++ entries_lines b path es)
-unfolding entries_lines
-lines_entry b path name x es = ap (λ (v : List ℕ). line b (below path name) x ++ (v ++ entries_lines b path es)) (lines_directory b (below path name) x)
+names_none : (path : List ℕ) → entries_names path no_entries ≡ []
+unfolding entries_names
+names_none path = refl
+
+names_entry : (path name : List ℕ) (x : Node) (es : Entries) → entries_names path (entry name x es) ≡ one (path_below path name) name x ++ (entries_names (path_below path name) (entries_of x) ++ entries_names path es)
+unfolding entries_names
+names_entry path name x es = ap (λ (v : List Name). one (path_below path name) name x ++ (v ++ entries_names path es)) (names_directory (path_below path name) x)
 
 -- where a directory ends, the rest is that of the frames before it
-pub text_end : (m : Image) (fs : List Frame) (f : Frame) → left m f ≡ no_entries → pending m [] (fs ++ f ∷ []) ≡ [] ++ pending m [] fs
-text_end m fs f h = pending-push m [] fs f ∙ ap (λ (v : List ℕ). v ++ pending m [] fs) (ap (entries_lines m.bytes (path_text [] fs ++ name_text f.name)) h ∙ lines_none m.bytes (path_text [] fs ++ name_text f.name))
+pub names_end : (m : Image) (fs : List Frame) (f : Frame) → left m f ≡ no_entries → pending m [] (fs ++ f ∷ []) ≡ [] ++ pending m [] fs
+names_end m fs f h = pending-push m [] fs f ∙ ap (λ (v : List Name). v ++ pending m [] fs) (ap (entries_names (path_text [] fs ++ name_text f.name)) h ∙ names_none (path_text [] fs ++ name_text f.name))
 
 abbrev below_path : List Frame → Frame → List ℕ → List ℕ
-below_path fs f name = below (path_text [] fs ++ name_text f.name) name
+below_path fs f name = path_below (path_text [] fs ++ name_text f.name) name
 
 -- an entry's line, what lies below it, and the rest
-pub text_entry : (m : Image) (fs : List Frame) (f f' : Frame) (nm : Bor (List ℕ)) (x : Node) → left m f ≡ entry nm.now x (left m f') → f'.name ≡ f.name
-    → pending m [] (fs ++ f ∷ []) ≡ line m.bytes (line_path (fs ++ f' ∷ []) (Some nm)) x ++ (entries_lines m.bytes (line_path (fs ++ f' ∷ []) (Some nm)) (entries_of x) ++ pending m [] (fs ++ f' ∷ []))
-text_entry m fs f f' nm x h e =
+pub names_at : (m : Image) (fs : List Frame) (f f' : Frame) (nm : Bor (List ℕ)) (x : Node) → left m f ≡ entry nm.now x (left m f') → f'.name ≡ f.name
+    → pending m [] (fs ++ f ∷ []) ≡ one (line_path (fs ++ f' ∷ []) (Some nm)) nm.now x ++ (entries_names (line_path (fs ++ f' ∷ []) (Some nm)) (entries_of x) ++ pending m [] (fs ++ f' ∷ []))
+names_at m fs f f' nm x h e =
     let q : List ℕ = path_text [] fs ++ name_text f.name in
     let q' : List ℕ = path_text [] fs ++ name_text f'.name in
     let same : q ≡ q' = ap (λ (v : Option (Bor (List ℕ))). path_text [] fs ++ name_text v) (sym e) in
-    let path : below q nm.now ≡ line_path (fs ++ f' ∷ []) (Some nm) = ap (λ (v : List ℕ). below v nm.now) (same ∙ sym (path_text-push [] fs f')) in
-    let rest : entries_lines m.bytes q (left m f') ++ pending m [] fs ≡ pending m [] (fs ++ f' ∷ []) = ap (λ (v : List ℕ). entries_lines m.bytes v (left m f') ++ pending m [] fs) same ∙ sym (pending-push m [] fs f') in
+    let path : path_below q nm.now ≡ line_path (fs ++ f' ∷ []) (Some nm) = ap (λ (v : List ℕ). path_below v nm.now) (same ∙ sym (path_text-push [] fs f')) in
+    let rest : entries_names q (left m f') ++ pending m [] fs ≡ pending m [] (fs ++ f' ∷ []) = ap (λ (v : List ℕ). entries_names v (left m f') ++ pending m [] fs) same ∙ sym (pending-push m [] fs f') in
     pending-push m [] fs f
-    ∙ (ap (λ (v : Entries). entries_lines m.bytes q v ++ pending m [] fs) h
-    ∙ (ap (λ (v : List ℕ). v ++ pending m [] fs) (lines_entry m.bytes q nm.now x (left m f'))
-    ∙ (append_assoc (line m.bytes (below q nm.now) x) (entries_lines m.bytes (below q nm.now) (entries_of x) ++ entries_lines m.bytes q (left m f')) (pending m [] fs)
-    ∙ (ap (λ (v : List ℕ). line m.bytes (below q nm.now) x ++ v) (append_assoc (entries_lines m.bytes (below q nm.now) (entries_of x)) (entries_lines m.bytes q (left m f')) (pending m [] fs) ∙ ap (λ (v : List ℕ). entries_lines m.bytes (below q nm.now) (entries_of x) ++ v) rest)
-    ∙ ap (λ (v : List ℕ). line m.bytes v x ++ (entries_lines m.bytes v (entries_of x) ++ pending m [] (fs ++ f' ∷ []))) path))))
+    ∙ (ap (λ (v : Entries). entries_names q v ++ pending m [] fs) h
+    ∙ (ap (λ (v : List Name). v ++ pending m [] fs) (names_entry q nm.now x (left m f'))
+    ∙ (append_assoc (one (path_below q nm.now) nm.now x) (entries_names (path_below q nm.now) (entries_of x) ++ entries_names q (left m f')) (pending m [] fs)
+    ∙ (ap (λ (v : List Name). one (path_below q nm.now) nm.now x ++ v) (append_assoc (entries_names (path_below q nm.now) (entries_of x)) (entries_names q (left m f')) (pending m [] fs) ∙ ap (λ (v : List Name). entries_names (path_below q nm.now) (entries_of x) ++ v) rest)
+    ∙ ap (λ (v : List ℕ). one v nm.now x ++ (entries_names v (entries_of x) ++ pending m [] (fs ++ f' ∷ []))) path))))
 
 -- an entry's line and the rest, where nothing lies below it
-pub text_leaf : (m : Image) (fs : List Frame) (f f' : Frame) (nm : Bor (List ℕ)) (x : Node) → left m f ≡ entry nm.now x (left m f') → f'.name ≡ f.name → entries_of x ≡ no_entries
-    → pending m [] (fs ++ f ∷ []) ≡ line m.bytes (line_path (fs ++ f' ∷ []) (Some nm)) x ++ pending m [] (fs ++ f' ∷ [])
-text_leaf m fs f f' nm x h e n =
-    text_entry m fs f f' nm x h e
-    ∙ ap (λ (v : List ℕ). line m.bytes (line_path (fs ++ f' ∷ []) (Some nm)) x ++ (v ++ pending m [] (fs ++ f' ∷ []))) (ap (entries_lines m.bytes (line_path (fs ++ f' ∷ []) (Some nm))) n ∙ lines_none m.bytes (line_path (fs ++ f' ∷ []) (Some nm)))
+pub names_leaf : (m : Image) (fs : List Frame) (f f' : Frame) (nm : Bor (List ℕ)) (x : Node) → left m f ≡ entry nm.now x (left m f') → f'.name ≡ f.name → entries_of x ≡ no_entries
+    → pending m [] (fs ++ f ∷ []) ≡ one (line_path (fs ++ f' ∷ []) (Some nm)) nm.now x ++ pending m [] (fs ++ f' ∷ [])
+names_leaf m fs f f' nm x h e n =
+    names_at m fs f f' nm x h e
+    ∙ ap (λ (v : List Name). one (line_path (fs ++ f' ∷ []) (Some nm)) nm.now x ++ (v ++ pending m [] (fs ++ f' ∷ []))) (ap (entries_names (line_path (fs ++ f' ∷ []) (Some nm))) n ∙ names_none (line_path (fs ++ f' ∷ []) (Some nm)))
 
 -- an entry's line and the rest, where its directory is entered
-pub text_directory : (m : Image) (fs : List Frame) (f f' g : Frame) (nm : Bor (List ℕ)) (x : Node) → left m f ≡ entry nm.now x (left m f') → f'.name ≡ f.name → left m g ≡ entries_of x → g.name ≡ Some nm
-    → pending m [] (fs ++ f ∷ []) ≡ line m.bytes (line_path (fs ++ f' ∷ []) (Some nm)) x ++ pending m [] ((fs ++ f' ∷ []) ++ g ∷ [])
-text_directory m fs f f' g nm x h e l n =
+pub names_enter : (m : Image) (fs : List Frame) (f f' g : Frame) (nm : Bor (List ℕ)) (x : Node) → left m f ≡ entry nm.now x (left m f') → f'.name ≡ f.name → left m g ≡ entries_of x → g.name ≡ Some nm
+    → pending m [] (fs ++ f ∷ []) ≡ one (line_path (fs ++ f' ∷ []) (Some nm)) nm.now x ++ pending m [] ((fs ++ f' ∷ []) ++ g ∷ [])
+names_enter m fs f f' g nm x h e l n =
     let s : path_text [] (fs ++ f' ∷ []) ++ name_text g.name ≡ line_path (fs ++ f' ∷ []) (Some nm) = ap (λ (v : Option (Bor (List ℕ))). path_text [] (fs ++ f' ∷ []) ++ name_text v) n in
-    text_entry m fs f f' nm x h e
-    ∙ ap (λ (v : List ℕ). line m.bytes (line_path (fs ++ f' ∷ []) (Some nm)) x ++ v)
+    names_at m fs f f' nm x h e
+    ∙ ap (λ (v : List Name). one (line_path (fs ++ f' ∷ []) (Some nm)) nm.now x ++ v)
     (sym (pending-push m [] (fs ++ f' ∷ []) g
-    ∙ (ap (λ (v : List ℕ). entries_lines m.bytes v (left m g) ++ pending m [] (fs ++ f' ∷ [])) s
-    ∙ ap (λ (v : Entries). entries_lines m.bytes (line_path (fs ++ f' ∷ []) (Some nm)) v ++ pending m [] (fs ++ f' ∷ [])) l)))
+    ∙ (ap (λ (v : List ℕ). entries_names v (left m g) ++ pending m [] (fs ++ f' ∷ [])) s
+    ∙ ap (λ (v : Entries). entries_names (line_path (fs ++ f' ∷ []) (Some nm)) v ++ pending m [] (fs ++ f' ∷ [])) l)))
 
 -- a node, and those below it
 length_nodes : (x : Node) → length (nodes x) ≡ suc (length (entries_nodes (entries_of x)))
@@ -238,18 +243,18 @@ root_frame m f e s h l = push_frame m [] f (no_frames m) (record {
 })
 
 -- the root's line and its frame's lines are the list
-pub root_text : (m : Image) (f : Frame) → image_node m f.directory.0 ≡ Some m.tree → f.cursor.0 ≡ 0 → f.name ≡ None → line m.bytes (47 ∷ []) m.tree ++ pending m [] ([] ++ f ∷ []) ≡ list_text m.bytes m.tree
-unfolding list_text
-root_text m f e s n = ap (λ (v : List ℕ). line m.bytes (47 ∷ []) m.tree ++ v)
+pub root_names : (m : Image) (f : Frame) → image_node m f.directory.0 ≡ Some m.tree → f.cursor.0 ≡ 0 → f.name ≡ None → one (47 ∷ []) [] m.tree ++ pending m [] ([] ++ f ∷ []) ≡ names m.tree
+unfolding names
+root_names m f e s n = ap (λ (v : List Name). one (47 ∷ []) [] m.tree ++ v)
     (pending-push m [] [] f
-    ∙ (ap (λ (v : List ℕ). entries_lines m.bytes (path_text [] [] ++ name_text f.name) (left m f) ++ v) (pending-nil m [])
-    ∙ (append-nil (entries_lines m.bytes (path_text [] [] ++ name_text f.name) (left m f))
-    ∙ (ap (λ (v : List ℕ). entries_lines m.bytes v (left m f)) (ap (λ (v : List ℕ). v ++ name_text f.name) (path_text-nil []) ∙ ap name_text n)
-    ∙ (ap (entries_lines m.bytes []) (left_child m f m.tree e (ap (m.cursor_index f.directory.0) s ∙ m.starts f.directory.0))
-    ∙ sym (lines_directory m.bytes [] m.tree))))))
+    ∙ (ap (λ (v : List Name). entries_names (path_text [] [] ++ name_text f.name) (left m f) ++ v) (pending-nil m [])
+    ∙ (append-nil (entries_names (path_text [] [] ++ name_text f.name) (left m f))
+    ∙ (ap (λ (v : List ℕ). entries_names v (left m f)) (ap (λ (v : List ℕ). v ++ name_text f.name) (path_text-nil []) ∙ ap name_text n)
+    ∙ (ap (entries_names []) (left_child m f m.tree e (ap (m.cursor_index f.directory.0) s ∙ m.starts f.directory.0))
+    ∙ sym (names_directory [] m.tree))))))
 
 -- and its line alone where it is no directory
-pub leaf_text : (m : Image) → false ≡ is_directory m.tree → line m.bytes (47 ∷ []) m.tree ++ pending m [] [] ≡ list_text m.bytes m.tree
-unfolding list_text
-leaf_text m h = ap (λ (v : List ℕ). line m.bytes (47 ∷ []) m.tree ++ v)
-    (pending-nil m [] ∙ sym (lines_directory m.bytes [] m.tree ∙ (ap (entries_lines m.bytes []) (not_directory_entries m.tree h) ∙ lines_none m.bytes [])))
+pub leaf_names : (m : Image) → false ≡ is_directory m.tree → one (47 ∷ []) [] m.tree ++ pending m [] [] ≡ names m.tree
+unfolding names
+leaf_names m h = ap (λ (v : List Name). one (47 ∷ []) [] m.tree ++ v)
+    (pending-nil m [] ∙ sym (names_directory [] m.tree ∙ (ap (entries_names []) (not_directory_entries m.tree h) ∙ names_none [])))

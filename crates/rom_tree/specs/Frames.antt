@@ -1,17 +1,16 @@
--- What a stack of open directories has still to list. The last frame is that of the deepest directory.
+-- What a stack of open directories has still to give. The last frame is that of the deepest directory.
 -- (This project's own.)
-use Rattle.std.specs.Prelude.{◌≡◌, ◌<◌, ℕ, suc, ◌+◌, ◌*◌, ◌≤◌, List, [], ◌∷◌, ◌++◌, length, Option, Some, None}
+use Rattle.std.specs.Prelude.{◌≡◌, ◌<◌, ℕ, suc, ◌+◌, ◌*◌, ◌≤◌, Bool, List, [], ◌∷◌, ◌++◌, length, Option, Some, None, if◌then◌else◌}
 use Rattle.std.specs.Borrow.{Bor}
-use Rattle.rom_fields.specs.Texts.{escaped}
 use Rattle.rom_tree.specs.Tree.{Node, Entries, no_entries, drop_entries, entries_of, entries_nodes, levels}
 use Rattle.rom_tree.specs.Image.{Image, image_node, HasDirectory, HasCursor}
-use Rattle.rom_tree.specs.Listing.{entries_lines}
+use Rattle.rom_tree.specs.Names.{Name, named, entries_names}
 use Rattle.rom_tree.specs.declared.frame.Frame.{Frame}
 
 -- what a directory's name adds to a path: nothing at the root
 abbrev pub name_text : Option (Bor (List ℕ)) → List ℕ
 name_text None = []
-name_text (Some n) = 47 ∷ escaped n.now
+name_text (Some n) = 47 ∷ n.now
 
 abbrev pub entries_left : Option Node → Option ℕ → Entries
 entries_left None i = no_entries
@@ -27,11 +26,11 @@ unfoldable pub path_text : List ℕ → List Frame → List ℕ
 path_text path [] = path
 path_text path (f ∷ fs) = path_text (path ++ name_text f.name) fs
 
--- the lines that are still to come, those of the last frame first
-unfoldable pub pending : Image → List ℕ → List Frame → List ℕ
+-- the names that are still to come, those of the last frame first
+unfoldable pub pending : Image → List ℕ → List Frame → List Name
 pending m path [] = []
 pending m path (f ∷ fs) =
-    pending m (path ++ name_text f.name) fs ++ entries_lines m.bytes (path ++ name_text f.name) (left m f)
+    pending m (path ++ name_text f.name) fs ++ entries_names (path ++ name_text f.name) (left m f)
 
 abbrev pub levels_at : Option Node → ℕ
 levels_at None = 0
@@ -52,14 +51,33 @@ unfoldable pub weight : Image → List Frame → ℕ
 weight m [] = 0
 weight m (f ∷ fs) = suc (2 * length (entries_nodes (left m f))) + weight m fs
 
--- The stack `new` follows the stack `old` where a text was added to what is listed: less is still to
--- come, and what was to come is that text and what is to come now.
-pub record Follows (m : Image) (old new : List Frame) (added : List ℕ) : Type 0 where
+-- The stack `new` follows the stack `old` where some names were given: less is still to come, and
+-- what was to come is these names and what is to come now.
+pub record Follows (m : Image) (old new : List Frame) (given : List Name) : Type 0 where
   pub frames : AreFrames m 0 new
   pub less : weight m new < weight m old
-  pub text : pending m [] old ≡ added ++ pending m [] new
+  pub names : pending m [] old ≡ given ++ pending m [] new
+
+-- a name as it stands, which the root has not
+abbrev pub last_name : Option (Bor (List ℕ)) → List ℕ
+last_name None = []
+last_name (Some n) = n.now
 
 -- the path of a name in the last of the frames, or the root's
 abbrev pub line_path : List Frame → Option (Bor (List ℕ)) → List ℕ
 line_path fs None = 47 ∷ []
-line_path fs (Some n) = path_text [] fs ++ 47 ∷ escaped n.now
+line_path fs (Some n) = path_text [] fs ++ 47 ∷ n.now
+
+-- the path of a name: that of the frames, where the last of them is the name's own directory
+abbrev pub way_of : Option (Bor (List ℕ)) → Bool → List Frame → List ℕ
+way_of None entered fs = 47 ∷ []
+way_of (Some n) entered fs = path_text [] fs ++ (if entered then [] else 47 ∷ n.now)
+
+-- The stack `new` follows the stack `old` where the node of number n was given by this name: less is
+-- still to come, and what was to come is that name, to which the frames lead, and what is to come now.
+pub record Gives (m : Image) (old new : List Frame) (name : Bor (List ℕ)) (n : ℕ) (entered : Bool) : Type 0 where
+  pub node : Node
+  pub at : image_node m n ≡ Some node
+  pub frames : AreFrames m 0 new
+  pub less : weight m new < weight m old
+  pub names : pending m [] old ≡ named (way_of (Some name) entered new) name.now node ∷ pending m [] new

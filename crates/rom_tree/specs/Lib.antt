@@ -3,5 +3,8 @@ pub mod Dots
 pub mod Kinds
 pub mod Image
 pub mod Listing
+pub mod Names
 pub mod Frames
+pub mod Walks
+pub mod Runs
 pub mod Checks

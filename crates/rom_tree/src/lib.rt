@@ -11,12 +11,17 @@
 pub mod dots;
 mod frame;
 pub mod image;
+pub mod laws;
 mod line;
 pub mod listing;
+mod path;
+pub mod runs;
 pub mod types;
+mod walk;
 
+pub use frame::Walk;
 pub use image::{TreeImage, Viewed};
 pub use line::put_stat;
 pub use listing::list;
 pub use rom_faults::CheckError;
-pub use types::{Cursor, Entry, Kind, Limits, ListError, NodeId, Piece, Report, Run, Stat};
+pub use types::{Cursor, Entry, Kind, Limits, ListError, NoRoom, NodeId, Piece, Report, Run, Stat};

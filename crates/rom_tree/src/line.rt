@@ -1,57 +1,18 @@
 //! The line of one node.
-ghost use Rattle.std.specs.Prelude.{◌≡◌, [], Some};
+ghost use Rattle.std.specs.Prelude.{◌≡◌, Some};
+ghost use Rattle.rom_fields.specs.Texts.{escaped};
 ghost use Rattle.rom_fields.specs.Written.{Puts, sink};
 ghost use Rattle.rom_tree.specs.Tree.{Node};
 ghost use Rattle.rom_tree.specs.Image.{image_node, HasNode};
 ghost use Rattle.rom_tree.specs.Listing.{kind_letter, stat_text, line, target_text};
-ghost use Rattle.rom_tree.specs.Frames.{line_path, name_text, path_text};
+ghost use Rattle.rom_tree.specs.Walks.{given_path};
 
-use crate::frame::Frame;
+use crate::frame::Walk;
 use crate::image::{TreeImage, is_link_at, link_text};
 use crate::types::{Kind, NodeId, Stat};
 use rom_fields::bytes::ByteWrite;
 use rom_fields::sink::put;
 use rom_fields::text::{put_decimal, put_escaped, put_octal};
-
-/// Puts a slash and a name, and nothing for the root.
-fn put_name<'a, W: ByteWrite>(w: &mut W, failed: &mut bool, name: Option<&'a [u8]>)
-    ensures { Puts (sink (W.output w.old) failed.old)
-        (sink (W.output w.new) failed.new) (name_text name.entry) }
-{
-    if let Some(name) = name {
-        put(w, failed, b"/");
-        put_escaped(w, failed, name);
-    }
-}
-
-/// Puts the path of the last of some frames.
-fn put_path<'a, W: ByteWrite>(w: &mut W, failed: &mut bool, frames: &[Frame<'a>])
-    ensures { Puts (sink (W.output w.old) failed.old)
-        (sink (W.output w.new) failed.new) (path_text [] frames.now) }
-{
-    for frame in frames {
-        put_name(w, failed, frame.name);
-    }
-}
-
-/// Puts the path of a node of this name in the last of some frames, or `/` for the root.
-fn put_line_path<'a, W: ByteWrite>(
-    w: &mut W,
-    failed: &mut bool,
-    frames: &[Frame<'a>],
-    name: Option<&'a [u8]>,
-)
-    ensures { Puts (sink (W.output w.old) failed.old)
-        (sink (W.output w.new) failed.new) (line_path frames.now name.entry) }
-{
-    match name {
-        None => put(w, failed, b"/"),
-        Some(_) => {
-            put_path(w, failed, frames);
-            put_name(w, failed, name);
-        }
-    }
-}
 
 /// Puts a space and the text of a symbolic link, and nothing for other nodes.
 fn put_target<'a, T: TreeImage<'a>, W: ByteWrite>(
@@ -108,24 +69,23 @@ pub fn put_stat<W: ByteWrite>(w: &mut W, failed: &mut bool, stat: Stat)
     put_decimal(w, failed, stat.minor);
 }
 
-/// Puts the line of a node of this name in the last of some frames. The root has no name.
+/// Puts the line of the node that a walk gave last.
 pub fn put_line<'a, T: TreeImage<'a>, W: ByteWrite>(
     image: &T,
     w: &mut W,
     failed: &mut bool,
     n: NodeId,
-    frames: &[Frame<'a>],
-    name: Option<&'a [u8]>,
+    walk: &Walk<'a>,
 )
     requires { HasNode (T.image image.now) n.0 }
     ensures { (x : Node) → image_node (T.image image.now) n.0 ≡ Some x
         → Puts (sink (W.output w.old) failed.old)
         (sink (W.output w.new) failed.new)
-        (line (T.image image.now).bytes (line_path frames.now name.entry) x) }
+        (line (T.image image.now).bytes (escaped (given_path walk.now)) x) }
 {
     put_stat(w, failed, image.stat(n));
     put(w, failed, b" ");
-    put_line_path(w, failed, frames, name);
+    walk.put_path(w, failed);
     put_target(image, w, failed, n);
     put(w, failed, b"\n");
 }

@@ -1,58 +1,16 @@
 //! The list of a tree.
-ghost use Rattle.std.specs.Prelude.{◌<◌, ◌≤◌, ℕ, List, OnOk, OnErr};
+ghost use Rattle.std.specs.Prelude.{◌≤◌, OnOk, OnErr};
 ghost use Rattle.std.specs.Io.KnownBytes.{Appends};
-ghost use Rattle.arrayvec.specs.ArrayVec.{array_vec_len};
 ghost use Rattle.rom_fields.specs.Failures.{Counts};
-ghost use Rattle.rom_fields.specs.Written.{AppendsPrefix, Puts, sink};
+ghost use Rattle.rom_fields.specs.Written.{AppendsPrefix};
 ghost use Rattle.rom_tree.specs.Tree.{levels};
 ghost use Rattle.rom_tree.specs.Listing.{list_text};
-ghost use Rattle.rom_tree.specs.Frames.{AreFrames, Follows};
 
-use crate::frame::Frame;
-use crate::image::{TreeImage, is_directory_at};
+use crate::frame::Walk;
+use crate::image::TreeImage;
 use crate::line::put_line;
-use crate::types::{Cursor, ListError};
-use arrayvec::ArrayVec;
+use crate::types::ListError;
 use rom_fields::bytes::ByteWrite;
-
-/// One step of a list: the line of the last frame's next entry, or the end of that frame.
-fn step<'a, T: TreeImage<'a>, W: ByteWrite>(
-    image: &T,
-    stack: &mut ArrayVec<Frame<'a>, 65>,
-    w: &mut W,
-    failed: &mut bool,
-)
-    requires frames { AreFrames (T.image image.now) 0 stack.old.items }
-    requires some { 0 < array_vec_len stack.old }
-    ensures { (text : List ℕ) × Follows (T.image image.now) stack.old.items stack.new.items text
-        × Puts (sink (W.output w.old) failed.old)
-        (sink (W.output w.new) failed.new) text }
-{
-    if let Some(frame) = stack.pop() {
-        if let Some(entry) = image.entry(frame.directory, frame.cursor) {
-            stack.push(Frame {
-                directory: frame.directory,
-                cursor: entry.cursor,
-                name: frame.name,
-            });
-            put_line(
-                image,
-                w,
-                failed,
-                entry.node,
-                stack.as_slice(),
-                Some(entry.name),
-            );
-            if is_directory_at(image, entry.node) {
-                stack.push(Frame {
-                    directory: entry.node,
-                    cursor: Cursor::START,
-                    name: Some(entry.name),
-                });
-            }
-        }
-    }
-}
 
 /// Writes the list of the image's tree: for each name of a node one line, in preorder and the root
 /// first, `INO KIND MODE UID GID SIZE MAJOR MINOR PATH`. KIND is a letter: d directory, f regular
@@ -73,21 +31,12 @@ pub fn list<'a, T: TreeImage<'a>, W: ByteWrite>(image: &T, w: &mut W) -> Result<
     ensures count { Counts (W.output w.old).failures (W.output w.new).failures result }
 {
     let mut failed = false;
-    let root = image.root();
-    let mut stack: ArrayVec<Frame<'a>, 65> = ArrayVec::new();
-    put_line(image, w, &mut failed, root, &[], None);
-    if is_directory_at(image, root) {
-        stack.push(Frame {
-            directory: root,
-            cursor: Cursor::START,
-            name: None,
-        });
-    }
+    let mut walk = Walk::new();
     while !failed {
-        if stack.is_empty() {
+        let Some(node) = walk.next(image) else {
             return Ok(());
-        }
-        step(image, &mut stack, w, &mut failed);
+        };
+        put_line(image, w, &mut failed, node, &walk);
     }
     Err(ListError::WriteFault)
 }

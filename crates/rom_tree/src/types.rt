@@ -100,3 +100,8 @@ pub enum ListError {
     #[error("a write failed")]
     WriteFault,
 }
+
+/// A path has no room in a buffer.
+#[derive(Clone, Copy, Debug, PartialEq, Eq, Error)]
+#[error("no room for a path")]
+pub struct NoRoom;

@@ -4,7 +4,8 @@ use Rattle.rom_tree.specs.Image.{Image}
 use Rattle.rom_tree.proofs.Named.{has_node}
 use Rattle.open_files.specs.declared.slot.OpenNode.{OpenNode}
 use Rattle.open_files.specs.Calls.{Of, Lent}
-use Rattle.open_files.specs.Lending.{lent, lent_of, consecutive, next_places, IsLongest}
+use Rattle.open_files.specs.Lending.{lent, lent_of, consecutive, next_places}
+use Rattle.rom_tree.specs.Runs.{IsLongest}
 use Rattle.open_files.specs.Machine.{Open, Outcome, file_only}
 use Rattle.open_files.specs.Slots.{image_view}
 use Rattle.open_files.proofs.Following.{front_length, front_lent, longest_end}

@@ -5,7 +5,8 @@ use Rattle.rom_tree.specs.Image.{Image}
 use Rattle.rom_tree.proofs.Named.{has_node}
 use Rattle.open_files.specs.declared.slot.OpenNode.{OpenNode}
 use Rattle.open_files.specs.Calls.{Of, Lent}
-use Rattle.open_files.specs.Lending.{lent_of, IsLongest}
+use Rattle.open_files.specs.Lending.{lent_of}
+use Rattle.rom_tree.specs.Runs.{IsLongest}
 use Rattle.open_files.specs.Machine.{Open, Outcome, file_only, map_within}
 use Rattle.open_files.specs.Slots.{image_view}
 use Rattle.open_files.proofs.Following.{longest_end, map_none, map_past, map_apart, map_whole}

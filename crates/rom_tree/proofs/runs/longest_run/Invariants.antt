@@ -1,7 +1,7 @@
 use Rattle.std.proofs.Common.{◌≡◌, ℕ, ◌+◌, ◌-◌, ◌<◌, ◌≤◌, Some, slice_index}
 use Rattle.rom_tree.specs.Tree.{Node, places_of}
 use Rattle.rom_tree.specs.Image.{image_node}
-use Rattle.open_files.proofs.lent.longest_run.Given as goal
+use Rattle.rom_tree.proofs.runs.longest_run.Given as goal
 
 abbrev pub invariant-loop-len : goal.invariant-loop-len
 invariant-loop-len g l = record {

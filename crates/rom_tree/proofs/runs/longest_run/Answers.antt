@@ -2,8 +2,8 @@ use Rattle.std.proofs.Common.{◌≡◌, ◌+◌, ap, ◌∙◌, arith, length}
 use Rattle.rom_tree.specs.declared.types.Stat.{Stat}
 use Rattle.rom_tree.specs.Tree.{Node, places_of}
 use Rattle.rom_tree.specs.Image.{Image, image_node, IsRun}
-use Rattle.open_files.proofs.Following.{front_more, has_some, HasSome}
-use Rattle.open_files.proofs.lent.longest_run.Goals as goal
+use Rattle.rom_tree.proofs.Longest.{front_more, has_some, HasSome}
+use Rattle.rom_tree.proofs.runs.longest_run.Goals as goal
 
 pub loop-len-init : goal.loop-len-init
 loop-len-init g c =

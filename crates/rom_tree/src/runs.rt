@@ -1,0 +1,43 @@
+//! Where the bytes of a file lie that follow one another.
+ghost use Rattle.std.specs.Prelude.{◌≡◌, Some, min};
+ghost use Rattle.rom_tree.specs.Tree.{Node, places_of};
+ghost use Rattle.rom_tree.specs.Image.{image_node, HasNode};
+ghost use Rattle.rom_tree.specs.Runs.{IsLongest};
+
+use crate::image::TreeImage;
+use crate::types::NodeId;
+
+/// Where byte `at` of a node lies, and how many of at most `most` bytes from there follow one another
+/// in the image. Both are 0 where the node has no such byte or `most` is 0.
+pub fn longest_run<'a, T: TreeImage<'a>>(image: &T, node: NodeId, at: u64, most: u64) -> (u32, u64)
+    requires { HasNode (T.image image.now) node.0 }
+    ensures { (x : Node) → image_node (T.image image.now) node.0 ≡ Some x
+        → IsLongest (places_of x) at most result.0 result.1 }
+{
+    if most == 0 {
+        return (0, 0);
+    }
+    let Some(first) = image.run(node, at) else {
+        return (0, 0);
+    };
+    let size = u64::from(image.stat(node).size);
+    let place = first.place;
+    let mut len = lesser(u64::from(first.len), most);
+    while len < most && len < size - at {
+        let Some(run) = image.run(node, at + len) else {
+            return (place, len);
+        };
+        if u64::from(run.place) != u64::from(place) + len {
+            return (place, len);
+        }
+        len += lesser(u64::from(run.len), most - len);
+    }
+    (place, len)
+}
+
+/// The lesser of two numbers.
+pub fn lesser(a: u64, b: u64) -> u64
+    ensures { result ≡ min a b }
+{
+    if a < b { a } else { b }
+}
