@@ -1,0 +1,72 @@
+use Rattle.std.proofs.Common.{true, false, ◌≡◌, refl, sym, ap, ◌∙◌, subst, ℕ, [], ◌++◌, List, arith}
+use Rattle.std.specs.List.{flat_map}
+use Rattle.std.specs.Io.KnownBytes.{Appends}
+use Rattle.rom_fields.specs.Written.{Puts, sink, AppendsPrefix}
+use Rattle.rom_fields.proofs.Joins.{chain, puts_nothing, said_ok, said_front, said_rose, said_quiet, front_first}
+use Rattle.rom_tree.specs.Image.{Image}
+use Rattle.rom_tree.specs.Walks.{to_come}
+use Rattle.rom_tree.proofs.Named.{has_node}
+use Rattle.rom_tree.proofs.Listed.{fewer}
+use Rattle.rom_tree.specs.Names.{named}
+use Rattle.rom_tree.specs.Walks.{given_name}
+use Rattle.image_map.specs.Misreads.{name_misreads, misread_text}
+use Rattle.image_map.proofs.Walked.{more_texts, last_texts}
+use Rattle.image_map.proofs.mapping.misread.Goals as goal
+
+pub loop-failed-init : goal.loop-failed-init
+unfolding misread_text
+loop-failed-init g c =
+    let m : Image = g.T.Viewed.image c.args.image.now in
+    record {
+      walk = c.new-walk.ensures.walk m c.requires;
+      done = [];
+      puts = puts_nothing (sink (g.W.ByteWrite.output c.args.w.now) false);
+      rest = ap (flat_map (name_misreads c.args.format)) (c.new-walk.ensures.all m);
+    }
+
+pub put_misreads-requires : goal.put_misreads-requires
+put_misreads-requires g c κs =
+    let m : Image = g.T.Viewed.image c.args.image.now in
+    let n = c.in-Some.ensures.given in
+    ((refl, tt), has_node m c.in-Some.node.0 n.name.node n.node)
+
+pub loop-failed-preserved : goal.loop-failed-preserved
+loop-failed-preserved g c =
+    let m : Image = g.T.Viewed.image c.args.image.now in
+    let i = c.loop-failed.invariant in
+    let n = c.in-Some.ensures.given in
+    let P : List ℕ → Type 0 = λ v. Puts (sink (g.W.ByteWrite.output c.loop-failed.w) c.loop-failed.failed) (sink (g.W.ByteWrite.output c.put_misreads.new.w) c.put_misreads.new.failed) (name_misreads c.args.format (named v (given_name c.next.new.self) n.name.node)) in
+    let Q : List ℕ → Type 0 = λ v. Puts (sink (g.W.ByteWrite.output c.loop-failed.w) c.loop-failed.failed) (sink (g.W.ByteWrite.output c.put_misreads.new.w) c.put_misreads.new.failed) (name_misreads c.args.format (named n.name.path v n.name.node)) in
+    record {
+      walk = c.in-Some.ensures.walk;
+      done = i.done ++ name_misreads c.args.format n.name;
+      puts = chain i.puts (subst Q n.last (subst P n.path (c.put_misreads.ensures n.name.node n.node)));
+      rest = more_texts (name_misreads c.args.format) i.done (misread_text c.args.format m.tree) n.name (to_come m c.loop-failed.walk) (to_come m c.next.new.self) n.first i.rest;
+    }
+
+pub loop-failed-smaller : goal.loop-failed-smaller
+loop-failed-smaller g c =
+    let m : Image = g.T.Viewed.image c.args.image.now in
+    let n = c.in-Some.ensures.given in
+    fewer n.name (to_come m c.loop-failed.walk) (to_come m c.next.new.self) n.first
+
+pub returns-clause-err : goal.returns-clause-err
+returns-clause-err g c =
+    let m : Image = g.T.Viewed.image c.args.image.now in
+    let i = c.loop-failed.invariant in
+    let P : List ℕ → Type 0 = λ v. AppendsPrefix (g.W.ByteWrite.output c.args.w.now).contents (g.W.ByteWrite.output c.loop-failed.w).contents v in
+    subst P i.rest (front_first (g.W.ByteWrite.output c.args.w.now).contents (g.W.ByteWrite.output c.loop-failed.w).contents i.done (flat_map (name_misreads c.args.format) (to_come m c.loop-failed.walk)) (said_front (g.W.ByteWrite.output c.args.w.now) (g.W.ByteWrite.output c.loop-failed.w) c.loop-failed.failed i.done c.loop-failed-test.false i.puts))
+
+pub returns-clause-count : goal.returns-clause-count
+returns-clause-count g c = let i = c.loop-failed.invariant in said_rose (g.W.ByteWrite.output c.args.w.now) (g.W.ByteWrite.output c.loop-failed.w) c.loop-failed.failed i.done c.loop-failed-test.false i.puts
+
+pub returns-in_default-clause-ok : goal.returns-in_default-clause-ok
+returns-in_default-clause-ok g c =
+    let m : Image = g.T.Viewed.image c.args.image.now in
+    let i = c.loop-failed.invariant in
+    let e : i.done ≡ misread_text c.args.format m.tree = last_texts (name_misreads c.args.format) i.done (misread_text c.args.format m.tree) (to_come m c.loop-failed.walk) c.in_default.ensures.given.before i.rest in
+    let P : List ℕ → Type 0 = λ v. Appends (g.W.ByteWrite.output c.args.w.now).contents (g.W.ByteWrite.output c.loop-failed.w).contents v in
+    subst P e (said_ok (g.W.ByteWrite.output c.args.w.now) (g.W.ByteWrite.output c.loop-failed.w) c.loop-failed.failed i.done c.loop-failed-test.true i.puts)
+
+pub returns-in_default-clause-count : goal.returns-in_default-clause-count
+returns-in_default-clause-count g c = let i = c.loop-failed.invariant in said_quiet (g.W.ByteWrite.output c.args.w.now) (g.W.ByteWrite.output c.loop-failed.w) c.loop-failed.failed i.done c.loop-failed-test.true i.puts
