@@ -1,5 +1,5 @@
 -- What Linux's readers get wrong of an image that is right: a line for each name. (This project's own.)
-use Rattle.std.specs.Prelude.{ℕ, Bool, ◌&&◌, ◌==◌, ◌%◌, nat_lt, if◌then◌else◌, List, [], ◌∷◌, ◌++◌, length, codes}
+use Rattle.std.specs.Prelude.{ℕ, Bool, true, false, ◌&&◌, ◌==◌, ◌%◌, nat_lt, if◌then◌else◌, List, [], ◌∷◌, ◌++◌, length, codes}
 use Rattle.std.specs.List.{flat_map}
 use Rattle.rom_fields.specs.Texts.{escaped}
 use Rattle.rom_tree.specs.Tree.{Node, is_regular, places_of}
@@ -25,3 +25,8 @@ name_misreads Romfs n =
 -- the lines of all names, in preorder
 unfoldable pub misread_text : Format → Node → List ℕ
 misread_text format t = flat_map (λ n. name_misreads format n) (names t)
+
+-- whether there is any line
+abbrev pub is_told : List ℕ → Bool
+is_told [] = false
+is_told (c ∷ cs) = true

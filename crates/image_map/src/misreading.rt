@@ -5,7 +5,7 @@ ghost use Rattle.rom_tree.specs.Tree.{Node};
 ghost use Rattle.rom_tree.specs.Image.{image_node, HasNode};
 ghost use Rattle.rom_tree.specs.Names.{named};
 ghost use Rattle.rom_tree.specs.Walks.{given_path, given_name};
-ghost use Rattle.image_map.specs.Misreads.{ends_with_a_block, misread_line, name_misreads};
+ghost use Rattle.image_map.specs.Misreads.{ends_with_a_block, is_told, misread_line, name_misreads};
 
 use crate::format::Format;
 use rom_fields::bytes::ByteWrite;
@@ -40,7 +40,7 @@ fn is_in_whole_blocks<'a, T: TreeImage<'a>>(image: &T, n: NodeId) -> bool
     is_regular_at(image, n) && (0 < size && size % 4096 == 0)
 }
 
-/// Puts the line of the node that a walk gave last, if Linux misreads it.
+/// Puts the line of the node that a walk gave last, if Linux misreads it, and says whether it does.
 pub(crate) fn put_misreads<'a, T: TreeImage<'a>, W: ByteWrite>(
     image: &T,
     w: &mut W,
@@ -48,26 +48,34 @@ pub(crate) fn put_misreads<'a, T: TreeImage<'a>, W: ByteWrite>(
     format: Format,
     n: NodeId,
     walk: &Walk<'a>,
-)
+) -> bool
     requires { HasNode (T.image image.now) n.0 }
-    ensures { (x : Node) → image_node (T.image image.now) n.0 ≡ Some x
+    ensures puts { (x : Node) → image_node (T.image image.now) n.0 ≡ Some x
         → Puts (sink (W.output w.old) failed.old)
         (sink (W.output w.new) failed.new)
+        (name_misreads format (named (given_path walk.now) (given_name walk.now) x)) }
+    ensures told { (x : Node) → image_node (T.image image.now) n.0 ≡ Some x
+        → result ≡ is_told
         (name_misreads format (named (given_path walk.now) (given_name walk.now) x)) }
 {
     match format {
         Format::Cramfs => {
             if is_in_whole_blocks(image, n) {
                 put_misread(w, failed, b"linux 1 LastBlock ", walk);
+                return true;
             }
         }
         Format::Romfs => {
             let len = walk.name().len();
             if len == 128 {
                 put_misread(w, failed, b"linux 3 NameCut ", walk);
-            } else if 128 < len {
+                return true;
+            }
+            if 128 < len {
                 put_misread(w, failed, b"linux 4 NameTooLong ", walk);
+                return true;
             }
         }
     }
+    false
 }

@@ -9,8 +9,8 @@ use Rattle.rom_tree.proofs.Named.{has_node}
 use Rattle.rom_tree.proofs.Listed.{fewer}
 use Rattle.rom_tree.specs.Names.{named}
 use Rattle.rom_tree.specs.Walks.{given_name}
-use Rattle.image_map.specs.Misreads.{name_misreads, misread_text}
-use Rattle.image_map.proofs.Walked.{more_texts, last_texts}
+use Rattle.image_map.specs.Misreads.{is_told, name_misreads, misread_text}
+use Rattle.image_map.proofs.Walked.{more_texts, last_texts, told_then, told_else}
 use Rattle.image_map.proofs.mapping.misread.Goals as goal
 
 pub loop-failed-init : goal.loop-failed-init
@@ -20,6 +20,7 @@ loop-failed-init g c =
     record {
       walk = c.new-walk.ensures.walk m c.requires;
       done = [];
+      told = refl;
       puts = puts_nothing (sink (g.W.ByteWrite.output c.args.w.now) false);
       rest = ap (flat_map (name_misreads c.args.format)) (c.new-walk.ensures.all m);
     }
@@ -30,6 +31,24 @@ put_misreads-requires g c κs =
     let n = c.in-Some.ensures.given in
     ((refl, tt), has_node m c.in-Some.node.0 n.name.node n.node)
 
+pub loop-failed-preserved-then-put_misreads : goal.loop-failed-preserved-then-put_misreads
+loop-failed-preserved-then-put_misreads g c =
+    let m : Image = g.T.Viewed.image c.args.image.now in
+    let i = c.loop-failed.invariant in
+    let n = c.in-Some.ensures.given in
+    let P : List ℕ → Type 0 = λ v. Puts (sink (g.W.ByteWrite.output c.loop-failed.w) c.loop-failed.failed) (sink (g.W.ByteWrite.output c.put_misreads.new.w) c.put_misreads.new.failed) (name_misreads c.args.format (named v (given_name c.next.new.self) n.name.node)) in
+    let Q : List ℕ → Type 0 = λ v. Puts (sink (g.W.ByteWrite.output c.loop-failed.w) c.loop-failed.failed) (sink (g.W.ByteWrite.output c.put_misreads.new.w) c.put_misreads.new.failed) (name_misreads c.args.format (named n.name.path v n.name.node)) in
+    let R : List ℕ → Type 0 = λ v. c.put_misreads.result ≡ is_told (name_misreads c.args.format (named v (given_name c.next.new.self) n.name.node)) in
+    let S : List ℕ → Type 0 = λ v. c.put_misreads.result ≡ is_told (name_misreads c.args.format (named n.name.path v n.name.node)) in
+    let t : c.put_misreads.result ≡ is_told (name_misreads c.args.format n.name) = subst S n.last (subst R n.path (c.put_misreads.ensures.told n.name.node n.node)) in
+    record {
+      walk = c.in-Some.ensures.walk;
+      done = i.done ++ name_misreads c.args.format n.name;
+      puts = chain i.puts (subst Q n.last (subst P n.path (c.put_misreads.ensures.puts n.name.node n.node)));
+      told = told_then i.done (name_misreads c.args.format n.name) (sym c.if-put_misreads.true ∙ t);
+      rest = more_texts (name_misreads c.args.format) i.done (misread_text c.args.format m.tree) n.name (to_come m c.loop-failed.walk) (to_come m c.next.new.self) n.first i.rest;
+    }
+
 pub loop-failed-preserved : goal.loop-failed-preserved
 loop-failed-preserved g c =
     let m : Image = g.T.Viewed.image c.args.image.now in
@@ -37,10 +56,14 @@ loop-failed-preserved g c =
     let n = c.in-Some.ensures.given in
     let P : List ℕ → Type 0 = λ v. Puts (sink (g.W.ByteWrite.output c.loop-failed.w) c.loop-failed.failed) (sink (g.W.ByteWrite.output c.put_misreads.new.w) c.put_misreads.new.failed) (name_misreads c.args.format (named v (given_name c.next.new.self) n.name.node)) in
     let Q : List ℕ → Type 0 = λ v. Puts (sink (g.W.ByteWrite.output c.loop-failed.w) c.loop-failed.failed) (sink (g.W.ByteWrite.output c.put_misreads.new.w) c.put_misreads.new.failed) (name_misreads c.args.format (named n.name.path v n.name.node)) in
+    let R : List ℕ → Type 0 = λ v. c.put_misreads.result ≡ is_told (name_misreads c.args.format (named v (given_name c.next.new.self) n.name.node)) in
+    let S : List ℕ → Type 0 = λ v. c.put_misreads.result ≡ is_told (name_misreads c.args.format (named n.name.path v n.name.node)) in
+    let t : c.put_misreads.result ≡ is_told (name_misreads c.args.format n.name) = subst S n.last (subst R n.path (c.put_misreads.ensures.told n.name.node n.node)) in
     record {
       walk = c.in-Some.ensures.walk;
       done = i.done ++ name_misreads c.args.format n.name;
-      puts = chain i.puts (subst Q n.last (subst P n.path (c.put_misreads.ensures n.name.node n.node)));
+      puts = chain i.puts (subst Q n.last (subst P n.path (c.put_misreads.ensures.puts n.name.node n.node)));
+      told = i.told ∙ told_else i.done (name_misreads c.args.format n.name) (sym c.if-put_misreads.false ∙ t);
       rest = more_texts (name_misreads c.args.format) i.done (misread_text c.args.format m.tree) n.name (to_come m c.loop-failed.walk) (to_come m c.next.new.self) n.first i.rest;
     }
 
