@@ -1,3 +1,5 @@
+pub mod Lines
+pub mod Asked
 pub mod Answers
 pub mod Formats
 pub mod Hello

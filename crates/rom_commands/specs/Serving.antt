@@ -12,7 +12,8 @@ use Rattle.serve_loop.specs.Served.{Machine, Serves, Finishes, Breaks}
 use Rattle.serve_loop.specs.declared.error.ServeError.{ServeError}
 use Rattle.serve_loop.specs.declared.error.ServeError.TheVariants as serve
 use Rattle.rom_serve.specs.Machines.{image_machine, space_machine}
-use Rattle.rom_commands.specs.Answers.{Holds, HasFault, IsFaultText, fault_text}
+use Rattle.rom_commands.specs.Lines.{fault_text}
+use Rattle.rom_commands.specs.Answers.{Holds, HasFault, IsFaultText}
 use Rattle.rom_commands.specs.declared.serving.Serving.{Serving}
 use Rattle.rom_commands.specs.declared.serving.Serving.TheVariants.{Served, Refused, Memory, ReadFault, WriteFault, TooManyReads}
 

@@ -1,6 +1,6 @@
 //! The text of a fault.
 ghost use Rattle.rom_fields.specs.Written.{Puts, sink};
-ghost use Rattle.rom_commands.specs.Answers.{fault_text};
+ghost use Rattle.rom_commands.specs.Lines.{fault_text};
 
 use rom_faults::name;
 use rom_fields::bytes::ByteWrite;

@@ -5,6 +5,7 @@
 //! (`specs/Answers.antt`).
 #![tactic(auto)]
 
+pub mod asked;
 mod fault;
 pub mod hello;
 pub mod printing;

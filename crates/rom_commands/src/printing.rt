@@ -1,9 +1,11 @@
 //! What is printed on standard output and on standard error.
-ghost use Rattle.std.specs.Prelude.{◌≡◌, ◌≤◌, ◌++◌, codes};
+ghost use Rattle.std.specs.Prelude.{◌≡◌, ◌≤◌, ◌++◌, codes, length};
 ghost use Rattle.rom_fields.specs.Texts.{escaped};
+ghost use Rattle.rom_commands.specs.Asked.{Fits};
 ghost use Rattle.rom_commands.specs.Answers.{Ends, Prints, complaint_of, status_of};
 ghost use Rattle.rom_commands.specs.declared.shown.Outcome.{Outcome};
 
+use crate::asked::Asked;
 use crate::shown::shown;
 use rom_fields::bytes::{ByteWrite, Plain};
 use rom_fields::sink::put;
@@ -30,18 +32,19 @@ pub fn complain<W: ByteWrite>(w: &mut W, text: &[u8], name: &[u8])
 pub fn print<X: Write, E: ByteWrite>(
     alloc: Global,
     bytes: &[u8],
-    listed: bool,
+    asked: Asked,
     out: &mut Plain<X>,
     err: &mut E,
 ) -> u8
-    requires { out.old.failures ≡ 0 }
+    requires fresh { out.old.failures ≡ 0 }
+    requires fits { Fits asked (length bytes.now) }
     ensures small { result ≤ 3 }
     ensures ends { (o : Outcome) × (result ≡ status_of o)
-        × Ends bytes.now listed (⟦<Plain<X> as ByteWrite>⟧.output out.old)
+        × Ends bytes.now asked (⟦<Plain<X> as ByteWrite>⟧.output out.old)
         (⟦<Plain<X> as ByteWrite>⟧.output out.new) o
         × Prints (E.output err.old) (E.output err.new) (complaint_of o) }
 {
-    let status = shown(alloc, bytes, listed, out);
+    let status = shown(alloc, bytes, asked, out);
     if status == FAULT && out.failures() == 0 {
         complain(err, b"memory", b"");
         return FAULT;

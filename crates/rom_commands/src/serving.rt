@@ -6,7 +6,8 @@ ghost use Rattle.rom_tree.specs.Tree.{levels};
 ghost use Rattle.image_check.specs.Any.{any_view};
 ghost use Rattle.open_files.specs.Machine.{no_files};
 ghost use Rattle.rom_serve.specs.Machines.{image_machine};
-ghost use Rattle.rom_commands.specs.Answers.{Prints, fault_line};
+ghost use Rattle.rom_commands.specs.Lines.{fault_line};
+ghost use Rattle.rom_commands.specs.Answers.{Prints};
 ghost use Rattle.rom_commands.specs.Serving.{input_of, Answers, serving_of, refusal_of, ServingEnds, serving_status, serving_complaint};
 
 use crate::shown::write_fault_line;

@@ -1,15 +1,19 @@
 //! What is printed of an image.
-ghost use Rattle.std.specs.Prelude.{◌≡◌, ◌≤◌};
+ghost use Rattle.std.specs.Prelude.{◌≡◌, ◌≤◌, length, IfOk};
 ghost use Rattle.rom_fields.specs.Failures.{Counts};
 ghost use Rattle.rom_fields.specs.Written.{WritesText};
 ghost use Rattle.rom_tree.specs.Tree.{levels};
 ghost use Rattle.image_check.specs.Any.{any_view, report_of};
-ghost use Rattle.rom_commands.specs.Answers.{fault_line, ok_line, sound_text, status_of, Ends};
-ghost use Rattle.rom_commands.specs.Formats.{format_of};
+ghost use Rattle.rom_commands.specs.Lines.{fault_line, ok_line};
+ghost use Rattle.rom_commands.specs.Asked.{sound_text, warns, Fits};
+ghost use Rattle.rom_commands.specs.Answers.{status_of, Ends};
+ghost use Rattle.rom_commands.specs.Formats.{format_of, kind_of};
 ghost use Rattle.rom_commands.specs.declared.shown.Outcome.{Outcome};
 
+use crate::asked::Asked;
 use crate::fault::put_fault;
 use image_check::{AnyImage, check};
+use image_map::{Format, map, misread};
 use rom_faults::CheckError;
 use rom_fields::bytes::{ByteWrite, Failed};
 use rom_fields::sink::put;
@@ -23,6 +27,8 @@ use std::alloc::Global;
 pub enum Outcome {
     /// The image is sound, and all of its text was written.
     Done,
+    /// The image is sound, Linux gets something of it wrong, and the lines of that were written.
+    Warned,
     /// The image has a fault, whose line was written.
     Refused,
     /// Memory was refused, and nothing was written.
@@ -38,7 +44,7 @@ pub fn status(outcome: Outcome) -> u8
 {
     match outcome {
         Outcome::Done => 0,
-        Outcome::Refused => 1,
+        Outcome::Warned | Outcome::Refused => 1,
         Outcome::Memory | Outcome::WriteFault => 3,
     }
 }
@@ -82,31 +88,56 @@ fn write_ok_line<W: ByteWrite>(w: &mut W, format: &[u8], report: Report) -> Resu
     if failed { Err(Failed) } else { Ok(()) }
 }
 
-/// Writes the list of a sound image (`listed`), or its line.
-fn write_sound<W: ByteWrite>(image: &AnyImage, listed: bool, w: &mut W) -> Result<(), Failed>
-    requires { levels (any_view image.now).tree ≤ 65 }
-    ensures text { WritesText (W.output w.old).contents (W.output w.new).contents result
-        (sound_text listed (any_view image.now) (format_of image.now) (report_of image.now)) }
-    ensures count { Counts (W.output w.old).failures (W.output w.new).failures result }
+/// The format of an image.
+fn kind(image: &AnyImage) -> Format
+    ensures { result ≡ kind_of image.now }
 {
-    if listed {
-        match list(image, w) {
-            Ok(()) => Ok(()),
-            Err(_) => Err(Failed),
-        }
-    } else {
-        write_ok_line(w, format_name(image), image.report())
+    match image {
+        AnyImage::Romfs(_) => Format::Romfs,
+        AnyImage::Cramfs(_) => Format::Cramfs,
     }
 }
 
-/// Checks an image under the usual limits, and writes its list (`listed`) or a line with its
-/// references and its depth, or the line of its fault.
-pub fn show<W: ByteWrite>(alloc: Global, bytes: &[u8], listed: bool, w: &mut W) -> Outcome
-    ensures { Ends bytes.now listed (W.output w.old) (W.output w.new) result }
+/// Writes what is asked of a sound image, and says whether it is a warning.
+fn write_sound<W: ByteWrite>(image: &AnyImage, asked: Asked, w: &mut W) -> Result<bool, Failed>
+    requires shallow { levels (any_view image.now).tree ≤ 65 }
+    requires fits { Fits asked (length (any_view image.now).bytes) }
+    ensures text { WritesText (W.output w.old).contents (W.output w.new).contents result
+        (sound_text asked (any_view image.now) (kind_of image.now) (format_of image.now)
+        (report_of image.now)) }
+    ensures warns { IfOk result (λ b. b ≡ warns asked
+        (sound_text asked (any_view image.now) (kind_of image.now) (format_of image.now)
+        (report_of image.now))) }
+    ensures count { Counts (W.output w.old).failures (W.output w.new).failures result }
+{
+    match asked {
+        Asked::Report => match write_ok_line(w, format_name(image), image.report()) {
+            Ok(()) => Ok(false),
+            Err(_) => Err(Failed),
+        },
+        Asked::List => match list(image, w) {
+            Ok(()) => Ok(false),
+            Err(_) => Err(Failed),
+        },
+        Asked::Map(base) => match map(image, base, w) {
+            Ok(()) => Ok(false),
+            Err(_) => Err(Failed),
+        },
+        Asked::Misreads => match misread(image, kind(image), w) {
+            Ok(told) => Ok(told),
+            Err(_) => Err(Failed),
+        },
+    }
+}
+
+/// Checks an image under the usual limits, and writes what is asked of it, or the line of its fault.
+pub fn show<W: ByteWrite>(alloc: Global, bytes: &[u8], asked: Asked, w: &mut W) -> Outcome
+    requires { Fits asked (length bytes.now) }
+    ensures { Ends bytes.now asked (W.output w.old) (W.output w.new) result }
 {
     match check(alloc, bytes, Limits::usual()) {
-        Ok(image) => match write_sound(&image, listed, w) {
-            Ok(()) => Outcome::Done,
+        Ok(image) => match write_sound(&image, asked, w) {
+            Ok(warned) => { if warned { Outcome::Warned } else { Outcome::Done } }
             Err(_) => Outcome::WriteFault,
         },
         Err(CheckError::Fault { number, at }) => match write_fault_line(w, number, at) {
@@ -117,11 +148,13 @@ pub fn show<W: ByteWrite>(alloc: Global, bytes: &[u8], listed: bool, w: &mut W) 
     }
 }
 
-/// Writes what `check` or `list` prints of an image on standard output, and gives the status: 0
-/// where the image is sound, 1 where it has a fault, 3 where memory was refused or a write failed.
-pub fn shown<W: ByteWrite>(alloc: Global, bytes: &[u8], list: bool, w: &mut W) -> u8
+/// Writes what `check`, `list`, `map` or `linux` prints of an image on standard output, and gives
+/// the status: 0 where the image is sound, 1 where it has a fault or Linux gets something of it
+/// wrong that was asked for, 3 where memory was refused or a write failed.
+pub fn shown<W: ByteWrite>(alloc: Global, bytes: &[u8], asked: Asked, w: &mut W) -> u8
+    requires { Fits asked (length bytes.now) }
     ensures { (o : Outcome) × (result ≡ status_of o)
-        × Ends bytes.now list (W.output w.old) (W.output w.new) o }
+        × Ends bytes.now asked (W.output w.old) (W.output w.new) o }
 {
-    status(show(alloc, bytes, list, w))
+    status(show(alloc, bytes, asked, w))
 }

@@ -1,3 +1,4 @@
+use crate::asked::Asked;
 use crate::hello::hello;
 use crate::printing::{complain, print};
 use crate::shown::shown;
@@ -24,18 +25,18 @@ impl Write for Unflushed {
 const LISTED: &[u8] = b"32 d 0755 0 0 0 0 0 /\n96 f 0644 0 0 5 0 0 /a\n";
 
 /// What is shown of some bytes, after the status.
-fn answer(rt: &HostRuntime, bytes: &[u8], list: bool) -> (u8, Vec<u8>) {
+fn answer(rt: &HostRuntime, bytes: &[u8], asked: Asked) -> (u8, Vec<u8>) {
     let mut w = Plain::new(Vec::new(rt.alloc()));
-    let status = shown(rt.alloc(), bytes, list, &mut w);
+    let status = shown(rt.alloc(), bytes, asked, &mut w);
     (status, w.into_inner())
 }
 
 #[test]
 fn shows_hello(rt: HostRuntime) -> Result<(), Fail> {
-    let (status, text) = answer(&rt, &hello(), false);
+    let (status, text) = answer(&rt, &hello(), Asked::Report);
     assert_eq!(rt; status, 0);
     assert_eq!(rt; text.as_slice(), b"ok romfs 3 1\n".as_slice());
-    let (status, text) = answer(&rt, &hello(), true);
+    let (status, text) = answer(&rt, &hello(), Asked::List);
     assert_eq!(rt; status, 0);
     assert_eq!(rt; text.as_slice(), LISTED);
     Ok(())
@@ -82,7 +83,7 @@ fn shows_faults(rt: HostRuntime) -> Result<(), Fail> {
 #[test]
 fn writes_byte_by_byte(rt: HostRuntime) -> Result<(), Fail> {
     let mut w = Faulty::new(Plain::new(Vec::new(rt.alloc())), u64::MAX, 1);
-    assert_eq!(rt; shown(rt.alloc(), &hello(), true, &mut w), 0);
+    assert_eq!(rt; shown(rt.alloc(), &hello(), Asked::List, &mut w), 0);
     let held: Vec<u8> = w.into_inner().into_inner();
     assert_eq!(rt; held.as_slice(), LISTED);
     Ok(())
@@ -93,12 +94,12 @@ fn a_failed_write_ends_it(rt: HostRuntime) -> Result<(), Fail> {
     let image = hello();
     for calls in 0..LISTED.len() {
         let mut w = Faulty::new(Plain::new(Vec::new(rt.alloc())), calls as u64, 1);
-        assert_eq!(rt; shown(rt.alloc(), &image, true, &mut w), 3, "at {calls}");
+        assert_eq!(rt; shown(rt.alloc(), &image, Asked::List, &mut w), 3, "at {calls}");
         let held: Vec<u8> = w.into_inner().into_inner();
         assert_eq!(rt; held.as_slice(), &LISTED[..calls], "at {calls}");
     }
     let mut w = Faulty::new(Plain::new(Vec::new(rt.alloc())), 2, 4);
-    assert_eq!(rt; shown(rt.alloc(), &image[..8], false, &mut w), 3);
+    assert_eq!(rt; shown(rt.alloc(), &image[..8], Asked::Report, &mut w), 3);
     let held: Vec<u8> = w.into_inner().into_inner();
     assert_eq!(rt; held.as_slice(), b"fault ".as_slice());
     Ok(())
@@ -108,7 +109,7 @@ fn a_failed_write_ends_it(rt: HostRuntime) -> Result<(), Fail> {
 fn prints_and_flushes(rt: HostRuntime) -> Result<(), Fail> {
     let mut out = Plain::new(Vec::new(rt.alloc()));
     let mut err = Plain::new(Vec::new(rt.alloc()));
-    assert_eq!(rt; print(rt.alloc(), &hello(), true, &mut out, &mut err), 0);
+    assert_eq!(rt; print(rt.alloc(), &hello(), Asked::List, &mut out, &mut err), 0);
     assert_eq!(rt; out.into_inner().as_slice(), LISTED);
     assert!(rt; err.into_inner().is_empty());
     Ok(())
@@ -118,7 +119,7 @@ fn prints_and_flushes(rt: HostRuntime) -> Result<(), Fail> {
 fn a_failed_flush_is_a_write_fault(rt: HostRuntime) -> Result<(), Fail> {
     let mut out = Plain::new(Unflushed);
     let mut err = Plain::new(Vec::new(rt.alloc()));
-    assert_eq!(rt; print(rt.alloc(), &hello(), false, &mut out, &mut err), 3);
+    assert_eq!(rt; print(rt.alloc(), &hello(), Asked::Report, &mut out, &mut err), 3);
     assert_eq!(rt; err.into_inner().as_slice(), b"write fault\n".as_slice());
     Ok(())
 }

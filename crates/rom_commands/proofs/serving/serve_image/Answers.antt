@@ -1,7 +1,8 @@
 use Rattle.std.proofs.Common.{◌≡◌, inl, inr, subst, sym}
 use Rattle.image_check.specs.declared.any.AnyImage.{AnyImage}
 use Rattle.image_check.specs.Any.{any_view}
-use Rattle.rom_commands.specs.Answers.{usual_limits, fault_line, IsFaultText}
+use Rattle.rom_commands.specs.Lines.{fault_line}
+use Rattle.rom_commands.specs.Answers.{usual_limits, IsFaultText}
 use Rattle.rom_commands.specs.Serving.{Input, input_of, Refuses}
 use Rattle.rom_commands.proofs.Texts.{usual, held, faulty}
 use Rattle.rom_commands.proofs.Endings.{refuses_by}

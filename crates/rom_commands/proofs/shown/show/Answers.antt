@@ -1,23 +1,35 @@
-use Rattle.std.proofs.Common.{◌≡◌, ℕ, inl, inr}
+use Rattle.std.proofs.Common.{◌≡◌, ℕ, inl, inr, refl, sym, ◌∙◌}
 use Rattle.image_check.specs.declared.any.AnyImage.{AnyImage}
 use Rattle.image_check.specs.Any.{any_view, report_of}
 use Rattle.rom_commands.specs.Formats.{format_of}
-use Rattle.rom_commands.specs.Answers.{sound_text, fault_line, usual_limits}
-use Rattle.rom_commands.proofs.Texts.{usual, sound, faulty}
+use Rattle.rom_commands.specs.Lines.{fault_line}
+use Rattle.rom_commands.specs.Answers.{usual_limits}
+use Rattle.rom_commands.proofs.Texts.{usual, sound, faulty, text_of, shown_fits}
 use Rattle.rom_commands.proofs.shown.show.Goals as goal
 
-pub returns-in-Ok-write_sound : goal.returns-in-Ok-write_sound
-returns-in-Ok-write_sound g c =
+pub write_sound-requires : goal.write_sound-requires
+write_sound-requires g c =
+    let v : AnyImage = c.in-Ok.image in
+    record { shallow = c.in-Ok.ensures.shallow; fits = shown_fits c.args.asked c.args.bytes.now c.usual.result v c.in-Ok.ensures.ok c.requires }
+
+pub returns-then-warned : goal.returns-then-warned
+returns-then-warned g c =
     let v : AnyImage = c.in-Ok.image in
     let e : c.usual.result ≡ usual_limits = usual c.usual.result c.usual.ensures.references c.usual.ensures.depth in
-    (sound_text c.args.listed (any_view v) (format_of v) (report_of v), sound c.args.bytes.now c.args.listed c.usual.result v e c.in-Ok.ensures.ok c.in-Ok.ensures.format c.in-Ok.ensures.clean, c.in-Ok-write_sound.ensures.text, c.in-Ok-write_sound.ensures.count)
+    (text_of c.args.asked v, sound c.args.bytes.now c.args.asked c.usual.result v e c.in-Ok.ensures.ok c.in-Ok.ensures.format c.in-Ok.ensures.clean, c.in-Ok-write_sound.ensures.text, c.in-Ok-write_sound.ensures.count, sym c.in-Ok-write_sound.ensures.warns ∙ c.if-warned.true)
+
+pub returns-else-warned : goal.returns-else-warned
+returns-else-warned g c =
+    let v : AnyImage = c.in-Ok.image in
+    let e : c.usual.result ≡ usual_limits = usual c.usual.result c.usual.ensures.references c.usual.ensures.depth in
+    (text_of c.args.asked v, sound c.args.bytes.now c.args.asked c.usual.result v e c.in-Ok.ensures.ok c.in-Ok.ensures.format c.in-Ok.ensures.clean, c.in-Ok-write_sound.ensures.text, c.in-Ok-write_sound.ensures.count, sym c.in-Ok-write_sound.ensures.warns ∙ c.if-warned.false)
 
 pub returns-in-Err : goal.returns-in-Err
 returns-in-Err g c =
     let v : AnyImage = c.in-Ok.image in
     let e : c.usual.result ≡ usual_limits = usual c.usual.result c.usual.ensures.references c.usual.ensures.depth in (
-      sound_text c.args.listed (any_view v) (format_of v) (report_of v),
-      inl (sound c.args.bytes.now c.args.listed c.usual.result v e c.in-Ok.ensures.ok c.in-Ok.ensures.format c.in-Ok.ensures.clean),
+      text_of c.args.asked v,
+      inl (sound c.args.bytes.now c.args.asked c.usual.result v e c.in-Ok.ensures.ok c.in-Ok.ensures.format c.in-Ok.ensures.clean),
       c.in-Err.ensures.text,
       c.in-Err.ensures.count,
     )
@@ -27,7 +39,7 @@ returns-in-Ok-write_fault_line g c =
     let n : ℕ = c.in-Err-Fault.number in
     let at : ℕ = c.in-Err-Fault.at in
     let e : c.usual.result ≡ usual_limits = usual c.usual.result c.usual.ensures.references c.usual.ensures.depth in
-    (fault_line n at, faulty c.args.bytes.now c.usual.result n at e (rw c.in-Err-Fault.field-0-is at c.in-Err-Fault.ensures.fault) (rw c.in-Err-Fault.field-0-is at c.in-Err-Fault.ensures.least), c.in-Ok-write_fault_line.ensures.text, c.in-Ok-write_fault_line.ensures.count)
+    (fault_line n at, faulty c.args.bytes.now c.usual.result n at e (rw c.in-Err-Fault.field-0-is at c.in-Err-Fault.ensures.fault) (rw c.in-Err-Fault.field-0-is at c.in-Err-Fault.ensures.least), rw c.in-Err-Fault.field-0-is at c.in-Ok-write_fault_line.ensures.text, c.in-Ok-write_fault_line.ensures.count)
 
 pub returns-in-Err-write_fault_line : goal.returns-in-Err-write_fault_line
 returns-in-Err-write_fault_line g c =
@@ -36,6 +48,6 @@ returns-in-Err-write_fault_line g c =
     let e : c.usual.result ≡ usual_limits = usual c.usual.result c.usual.ensures.references c.usual.ensures.depth in (
       fault_line n at,
       inr (faulty c.args.bytes.now c.usual.result n at e (rw c.in-Err-Fault.field-0-is at c.in-Err-Fault.ensures.fault) (rw c.in-Err-Fault.field-0-is at c.in-Err-Fault.ensures.least)),
-      c.in-Err-write_fault_line.ensures.text,
+      rw c.in-Err-Fault.field-0-is at c.in-Err-write_fault_line.ensures.text,
       c.in-Err-write_fault_line.ensures.count,
     )

@@ -1,5 +1,5 @@
 use Rattle.rom_fields.proofs.Joins.{chain, said_ok, said_front, said_rose, said_quiet}
-use Rattle.rom_commands.specs.Answers.{fault_line}
+use Rattle.rom_commands.specs.Lines.{fault_line}
 use Rattle.rom_commands.proofs.shown.write_fault_line.Goals as goal
 
 pub returns-then-failed-clause-text : goal.returns-then-failed-clause-text

@@ -1,5 +1,5 @@
 use Rattle.rom_fields.proofs.Joins.{chain, said_ok, said_front, said_rose, said_quiet}
-use Rattle.rom_commands.specs.Answers.{ok_line}
+use Rattle.rom_commands.specs.Lines.{ok_line}
 use Rattle.rom_commands.proofs.shown.write_ok_line.Goals as goal
 
 pub returns-then-failed-clause-text : goal.returns-then-failed-clause-text

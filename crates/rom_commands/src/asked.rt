@@ -1,0 +1,14 @@
+//! What is asked of an image.
+
+/// What is written of a sound image.
+#[derive(Clone, Copy, PartialEq, Eq)]
+pub enum Asked {
+    /// A line with its format, references and depth.
+    Report,
+    /// The list of its tree.
+    List,
+    /// Where each of its files lies, where its first byte has this address.
+    Map(u64),
+    /// What Linux gets wrong of it.
+    Misreads,
+}
