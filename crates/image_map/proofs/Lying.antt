@@ -1,15 +1,11 @@
 -- Where the bytes of a file's runs lie, and the order of names.
-use Rattle.std.proofs.Common.{◌≡◌, ℕ, ◌+◌, ◌-◌, List, [], ◌∷◌, ◌++◌, length, get_or, take, drop, length-append, length-drop, Some, refl, sym, ap, ◌∙◌, arith}
+use Rattle.std.proofs.Common.{◌≡◌, ℕ, ◌+◌, ◌-◌, List, [], ◌∷◌, ◌++◌, length, get_or, take, drop, length-append, length-drop, Some, sym, ap, ◌∙◌, arith}
 use Rattle.std.proofs.lemmas.List.{get_or-drop, drop-drop}
-use Rattle.std.proofs.lemmas.Grind.{flat_map-append}
-use Rattle.std.specs.List.{flat_map}
 use Rattle.rom_tree.specs.declared.types.Run.{Run}
-use Rattle.rom_tree.specs.Tree.{Node, node, Body, directory, regular, symlink, block, character, socket, fifo, Entries, no_entries, entry, IsIn, nodes, ino_of, places_of, row_from}
+use Rattle.rom_tree.specs.Tree.{Node, IsIn, nodes, ino_of, places_of, row_from}
 use Rattle.rom_tree.specs.Image.{Image, image_node, IsRun, contents_of}
-use Rattle.rom_tree.specs.Listing.{line, below, node_lines, body_lines, entries_lines, list_text}
 use Rattle.rom_tree.proofs.Nodes.{node_at-in}
 use Rattle.rom_tree.proofs.Numbers.{length_row}
-use Rattle.rom_tree.specs.Names.{Name, names, node_names, body_names, entries_names}
 use Rattle.image_map.specs.Runs.{Piece, runs, joined, GoOn, LieAt}
 use Rattle.image_map.proofs.Pieces.{get_row, drop_row, runs_joined, runs_go}
 use Rattle.image_map.proofs.Copied.{run_contents}

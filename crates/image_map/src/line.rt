@@ -12,9 +12,9 @@ use crate::runs::whole_run;
 use rom_fields::bytes::ByteWrite;
 use rom_fields::sink::put;
 use rom_fields::text::put_decimal;
+use rom_tree::Walk;
 use rom_tree::image::{TreeImage, is_regular_at};
 use rom_tree::types::{NodeId, Run};
-use rom_tree::Walk;
 
 /// The hexadecimal digit of a number below 16.
 fn digit_of(n: u8) -> u8
@@ -81,11 +81,7 @@ fn put_run<'a, W: ByteWrite>(
 }
 
 /// Puts the line of an empty file.
-fn put_empty<'a, W: ByteWrite>(
-    w: &mut W,
-    failed: &mut bool,
-    walk: &Walk<'a>,
-)
+fn put_empty<'a, W: ByteWrite>(w: &mut W, failed: &mut bool, walk: &Walk<'a>)
     ensures { Puts (sink (W.output w.old) failed.old)
         (sink (W.output w.new) failed.new) (empty_line (escaped (given_path walk.now))) }
 {

@@ -11,8 +11,8 @@ use crate::format::Format;
 use crate::line::put_lines;
 use crate::misreading::put_misreads;
 use rom_fields::bytes::{ByteWrite, Failed};
-use rom_tree::image::TreeImage;
 use rom_tree::Walk;
+use rom_tree::image::TreeImage;
 
 /// Writes the map of an image whose first byte has the address `base`: for each name of a regular
 /// file, in the list's order, a line for each run of bytes that follow one another in the image,

@@ -10,17 +10,12 @@ ghost use Rattle.image_map.specs.Misreads.{ends_with_a_block, is_told, misread_l
 use crate::format::Format;
 use rom_fields::bytes::ByteWrite;
 use rom_fields::sink::put;
+use rom_tree::Walk;
 use rom_tree::image::{TreeImage, is_regular_at};
 use rom_tree::types::NodeId;
-use rom_tree::Walk;
 
 /// Puts a text, the path of the node that a walk gave last, and a line feed.
-fn put_misread<'a, W: ByteWrite>(
-    w: &mut W,
-    failed: &mut bool,
-    text: &[u8],
-    walk: &Walk<'a>,
-)
+fn put_misread<'a, W: ByteWrite>(w: &mut W, failed: &mut bool, text: &[u8], walk: &Walk<'a>)
     ensures { Puts (sink (W.output w.old) failed.old)
         (sink (W.output w.new) failed.new)
         (misread_line text.now (given_path walk.now)) }

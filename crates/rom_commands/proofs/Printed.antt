@@ -12,7 +12,7 @@ use Rattle.rom_commands.specs.Answers.{Ends, Prints, complaint_of, status_of}
 pub prints_nothing : (o : Output) → Prints o o []
 prints_nothing o = (false, puts_nothing (sink o false))
 
-rose_counted : (old new : ℕ) → old ≡ 0 → Rose old new → new ≡ 0 → ⊥
+pub rose_counted : (old new : ℕ) → old ≡ 0 → Rose old new → new ≡ 0 → ⊥
 rose_counted old new z r e = elim r [ inl l ↦ omega arith | inr l ↦ omega arith ]
 
 -- status 3 and no failed write: memory was refused

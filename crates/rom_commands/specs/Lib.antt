@@ -5,3 +5,4 @@ pub mod Formats
 pub mod Hello
 pub mod Serving
 pub mod Refused
+pub mod Copying

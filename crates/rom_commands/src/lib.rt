@@ -6,6 +6,7 @@
 #![tactic(auto)]
 
 pub mod asked;
+pub mod copying;
 mod fault;
 pub mod hello;
 pub mod printing;

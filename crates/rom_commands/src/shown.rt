@@ -137,7 +137,13 @@ pub fn show<W: ByteWrite>(alloc: Global, bytes: &[u8], asked: Asked, w: &mut W) 
 {
     match check(alloc, bytes, Limits::usual()) {
         Ok(image) => match write_sound(&image, asked, w) {
-            Ok(warned) => { if warned { Outcome::Warned } else { Outcome::Done } }
+            Ok(warned) => {
+                if warned {
+                    Outcome::Warned
+                } else {
+                    Outcome::Done
+                }
+            }
             Err(_) => Outcome::WriteFault,
         },
         Err(CheckError::Fault { number, at }) => match write_fault_line(w, number, at) {

@@ -1,4 +1,8 @@
+ghost use Rattle.std.specs.Prelude.{length};
+ghost use Rattle.rom_commands.specs.Asked.{Fits};
+
 use crate::asked::Asked;
+use crate::copying::print_file;
 use crate::hello::hello;
 use crate::printing::{complain, print};
 use crate::shown::shown;
@@ -25,7 +29,9 @@ impl Write for Unflushed {
 const LISTED: &[u8] = b"32 d 0755 0 0 0 0 0 /\n96 f 0644 0 0 5 0 0 /a\n";
 
 /// What is shown of some bytes, after the status.
-fn answer(rt: &HostRuntime, bytes: &[u8], asked: Asked) -> (u8, Vec<u8>) {
+fn answer(rt: &HostRuntime, bytes: &[u8], asked: Asked) -> (u8, Vec<u8>)
+    requires { Fits asked (length bytes.now) }
+{
     let mut w = Plain::new(Vec::new(rt.alloc()));
     let status = shown(rt.alloc(), bytes, asked, &mut w);
     (status, w.into_inner())
@@ -39,6 +45,37 @@ fn shows_hello(rt: HostRuntime) -> Result<(), Fail> {
     let (status, text) = answer(&rt, &hello(), Asked::List);
     assert_eq!(rt; status, 0);
     assert_eq!(rt; text.as_slice(), LISTED);
+    Ok(())
+}
+
+#[test]
+fn maps_hello(rt: HostRuntime) -> Result<(), Fail> {
+    let (status, text) = answer(&rt, &hello(), Asked::Map(0x0800_1000));
+    assert_eq!(rt; status, 0);
+    assert_eq!(rt; text.as_slice(), b"0x08001080 5 0 /a\n".as_slice());
+    let (status, text) = answer(&rt, &hello(), Asked::Misreads);
+    assert_eq!(rt; status, 0);
+    assert!(rt; text.is_empty());
+    Ok(())
+}
+
+#[test]
+fn copies_a_file(rt: HostRuntime) -> Result<(), Fail> {
+    for (path, status, text, said) in [
+        (b"/a".as_slice(), 0, b"hello".as_slice(), b"".as_slice()),
+        (b"/", 1, b"", b"err EISDIR\n"),
+        (b"/b", 1, b"", b"err ENOENT\n"),
+        (b"/a/b", 1, b"", b"err ENOTDIR\n"),
+        (b"a", 1, b"", b"err EINVAL\n"),
+    ] {
+        let mut out = Plain::new(Vec::new(rt.alloc()));
+        let mut err = Plain::new(Vec::new(rt.alloc()));
+        assert_eq!(rt; print_file(rt.alloc(), &hello(), path, &mut out, &mut err), status);
+        let written: Vec<u8> = out.into_inner();
+        let complained: Vec<u8> = err.into_inner();
+        assert_eq!(rt; written.as_slice(), text);
+        assert_eq!(rt; complained.as_slice(), said);
+    }
     Ok(())
 }
 
@@ -66,16 +103,20 @@ fn shows_faults(rt: HostRuntime) -> Result<(), Fail> {
     ] {
         assert!(rt; put_be32(&mut subdirectory, at, word));
     }
-    for list in [false, true] {
-        let (status, text) = answer(&rt, &subdirectory, list);
+    for (bytes, line) in [
+        (subdirectory.as_slice(), b"fault 20 Twice at 32\n".as_slice()),
+        (&zeros, b"fault 3 Magic at 0\n"),
+        (&[], b"fault 2 Short at 0\n"),
+    ] {
+        let (status, text) = answer(&rt, bytes, Asked::Report);
         assert_eq!(rt; status, 1);
-        assert_eq!(rt; text.as_slice(), b"fault 20 Twice at 32\n".as_slice());
-        let (status, text) = answer(&rt, &zeros, list);
+        assert_eq!(rt; text.as_slice(), line);
+        let (status, text) = answer(&rt, bytes, Asked::List);
         assert_eq!(rt; status, 1);
-        assert_eq!(rt; text.as_slice(), b"fault 3 Magic at 0\n".as_slice());
-        let (status, text) = answer(&rt, &[], list);
+        assert_eq!(rt; text.as_slice(), line);
+        let (status, text) = answer(&rt, bytes, Asked::Misreads);
         assert_eq!(rt; status, 1);
-        assert_eq!(rt; text.as_slice(), b"fault 2 Short at 0\n".as_slice());
+        assert_eq!(rt; text.as_slice(), line);
     }
     Ok(())
 }
@@ -94,7 +135,11 @@ fn a_failed_write_ends_it(rt: HostRuntime) -> Result<(), Fail> {
     let image = hello();
     for calls in 0..LISTED.len() {
         let mut w = Faulty::new(Plain::new(Vec::new(rt.alloc())), calls as u64, 1);
-        assert_eq!(rt; shown(rt.alloc(), &image, Asked::List, &mut w), 3, "at {calls}");
+        assert_eq!(rt;
+            shown(rt.alloc(), &image, Asked::List, &mut w),
+            3,
+            "at {calls}"
+        );
         let held: Vec<u8> = w.into_inner().into_inner();
         assert_eq!(rt; held.as_slice(), &LISTED[..calls], "at {calls}");
     }
@@ -109,7 +154,10 @@ fn a_failed_write_ends_it(rt: HostRuntime) -> Result<(), Fail> {
 fn prints_and_flushes(rt: HostRuntime) -> Result<(), Fail> {
     let mut out = Plain::new(Vec::new(rt.alloc()));
     let mut err = Plain::new(Vec::new(rt.alloc()));
-    assert_eq!(rt; print(rt.alloc(), &hello(), Asked::List, &mut out, &mut err), 0);
+    assert_eq!(rt;
+        print(rt.alloc(), &hello(), Asked::List, &mut out, &mut err),
+        0
+    );
     assert_eq!(rt; out.into_inner().as_slice(), LISTED);
     assert!(rt; err.into_inner().is_empty());
     Ok(())
@@ -119,7 +167,10 @@ fn prints_and_flushes(rt: HostRuntime) -> Result<(), Fail> {
 fn a_failed_flush_is_a_write_fault(rt: HostRuntime) -> Result<(), Fail> {
     let mut out = Plain::new(Unflushed);
     let mut err = Plain::new(Vec::new(rt.alloc()));
-    assert_eq!(rt; print(rt.alloc(), &hello(), Asked::Report, &mut out, &mut err), 3);
+    assert_eq!(rt;
+        print(rt.alloc(), &hello(), Asked::Report, &mut out, &mut err),
+        3
+    );
     assert_eq!(rt; err.into_inner().as_slice(), b"write fault\n".as_slice());
     Ok(())
 }

@@ -1,7 +1,7 @@
-use Rattle.std.proofs.Common.{◌≡◌, ◌<◌, ℕ, Some, ap, ◌∙◌, sym, subst, arith, length}
+use Rattle.std.proofs.Common.{◌≡◌, ℕ, ap, subst, arith, length}
 use Rattle.rom_tree.specs.declared.types.Stat.{Stat}
 use Rattle.rom_tree.specs.Tree.{Node, places_of}
-use Rattle.rom_tree.specs.Image.{Image, image_node}
+use Rattle.rom_tree.specs.Image.{Image}
 use Rattle.rom_tree.specs.Runs.{IsLongest}
 use Rattle.rom_tree.proofs.Named.{node_by}
 use Rattle.image_map.proofs.runs.whole_run.Goals as goal

@@ -1,7 +1,5 @@
-use Rattle.std.proofs.Common.{◌≡◌, ℕ, inl, inr, refl, sym, ◌∙◌}
+use Rattle.std.proofs.Common.{◌≡◌, ℕ, inl, inr, sym, ◌∙◌}
 use Rattle.image_check.specs.declared.any.AnyImage.{AnyImage}
-use Rattle.image_check.specs.Any.{any_view, report_of}
-use Rattle.rom_commands.specs.Formats.{format_of}
 use Rattle.rom_commands.specs.Lines.{fault_line}
 use Rattle.rom_commands.specs.Answers.{usual_limits}
 use Rattle.rom_commands.proofs.Texts.{usual, sound, faulty, text_of, shown_fits}

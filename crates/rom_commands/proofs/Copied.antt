@@ -1,0 +1,72 @@
+-- How the copying of a file ended, once what was held back is handed on.
+use Rattle.std.proofs.Common.{◌≡◌, ℕ, ◌<◌, inl, inr, sym, ◌∙◌, subst, arith, List, []}
+use Rattle.std.specs.Io.KnownBytes.{Keeps}
+use Rattle.rom_fields.specs.Failures.{Rose}
+use Rattle.rom_fields.specs.Written.{Output, AppendsPrefix}
+use Rattle.rom_fields.proofs.Joins.{appends_keep, front_all}
+use Rattle.rom_commands.specs.Answers.{Prints}
+use Rattle.rom_commands.specs.Copying.{CopyEnds, Flushes, copied_status, copied_complaint}
+use Rattle.rom_commands.specs.declared.copying.Copied.{Copied}
+use Rattle.rom_commands.specs.declared.copying.Copied.TheVariants.{Done, Refused, WriteFault}
+use Rattle.rom_commands.proofs.Printed.{prints_nothing, rose_counted}
+
+-- how it ended, what the status is, and what was said
+pub record Told (bytes path : List ℕ) (old new err err' : Output) (result : ℕ) : Type 0 where
+  pub outcome : Copied
+  pub status : result ≡ copied_status outcome
+  pub ends : CopyEnds bytes path old new outcome
+  pub said : Prints err err' (copied_complaint outcome)
+
+unsaid : (err err' : Output) → err' ≡ err → Prints err err' []
+unsaid err err' e = let P : Output → Type 0 = λ v. Prints err v [] in subst P (sym e) (prints_nothing err)
+
+prefix_keep : (old mid new : Output) (text : List ℕ) → AppendsPrefix old.contents mid.contents text → Keeps mid.contents new.contents → AppendsPrefix old.contents new.contents text
+prefix_keep old mid new text a k = (a.0, a.1, appends_keep old.contents mid.contents new.contents a.0 a.2 k, a.3)
+
+module _ (bytes path : List ℕ) (old mid new err err' : Output) (result : ℕ) (fresh : old.failures ≡ 0) (k : Keeps mid.contents new.contents) where
+  risen : 0 < new.failures → Rose old.failures new.failures
+  risen l = inl (omega (arith, fresh, l))
+
+  pub done_told : CopyEnds bytes path old mid Done → Flushes mid new err err' 0 result → Told bytes path old new err err' result
+  done_told h (inl f) =
+      let c = h.2 in
+      record {
+        outcome = WriteFault;
+        status = f.1;
+        ends = inl (h.0, h.1, (c.0, c.1, front_all old.contents new.contents _ (appends_keep old.contents mid.contents new.contents _ c.2 k), risen f.0));
+        said = f.2;
+      }
+  done_told h (inr f) =
+      let c = h.2 in
+      record {
+        outcome = Done;
+        status = f.2;
+        ends = (h.0, h.1, (c.0, c.1, appends_keep old.contents mid.contents new.contents _ c.2 k, f.1 ∙ sym fresh));
+        said = unsaid err err' f.3;
+      }
+
+  pub refused_told : CopyEnds bytes path old mid Refused → Flushes mid new err err' 1 result → Told bytes path old new err err' result
+  refused_told h (inl f) = record {
+    outcome = WriteFault;
+    status = f.1;
+    ends = inr (h.0, h.1, front_all old.contents new.contents h.0 (appends_keep old.contents mid.contents new.contents h.0 h.2 k), risen f.0);
+    said = f.2;
+  }
+  refused_told h (inr f) = record {
+    outcome = Refused;
+    status = f.2;
+    ends = (h.0, h.1, appends_keep old.contents mid.contents new.contents h.0 h.2 k, f.1 ∙ sym fresh);
+    said = unsaid err err' f.3;
+  }
+
+  kept_fault : CopyEnds bytes path old mid WriteFault → 0 < new.failures → CopyEnds bytes path old new WriteFault
+  kept_fault (inl h) l = let c = h.2 in inl (h.0, h.1, (c.0, c.1, prefix_keep old mid new _ c.2 k, risen l))
+  kept_fault (inr h) l = inr (h.0, h.1, prefix_keep old mid new h.0 h.2 k, risen l)
+
+  failed_before : CopyEnds bytes path old mid WriteFault → mid.failures ≡ 0 → ⊥
+  failed_before (inl h) e = let c = h.2 in rose_counted old.failures mid.failures fresh c.3 e
+  failed_before (inr h) e = rose_counted old.failures mid.failures fresh h.3 e
+
+  pub fault_told : CopyEnds bytes path old mid WriteFault → Flushes mid new err err' 3 result → Told bytes path old new err err' result
+  fault_told h (inl f) = record { outcome = WriteFault; status = f.1; ends = kept_fault h f.0; said = f.2 }
+  fault_told h (inr f) = absurd (failed_before h f.0)

@@ -1,0 +1,84 @@
+-- The bytes of one file of an image, written out: what is written, and how it ends. (This project's own.)
+use Rattle.std.specs.Prelude.{◌≡◌, ◌<◌, ℕ, ◌⊎◌, true, false, List, [], ◌++◌, Ok, Err, codes}
+use Rattle.std.specs.Io.KnownBytes.{Appends}
+use Rattle.rom_fields.specs.Failures.{Rose}
+use Rattle.rom_fields.specs.Written.{AppendsPrefix, Output}
+use Rattle.rom_tree.specs.Tree.{Node, is_directory, is_regular}
+use Rattle.rom_tree.specs.Image.{Image, contents_of}
+use Rattle.path_walk.specs.Errors.{error_name}
+use Rattle.path_walk.specs.Resolution.{resolution, tree_namespace}
+use Rattle.rom_commands.specs.Answers.{Holds, IsFaultText, Prints}
+use Rattle.rom_commands.specs.declared.copying.NoFile.{NoFile}
+use Rattle.rom_commands.specs.declared.copying.NoFile.TheVariants.{Nowhere, Directory, Special}
+use Rattle.rom_commands.specs.declared.copying.Copied.{Copied}
+use Rattle.rom_commands.specs.declared.copying.Copied.TheVariants.{Done, NoFile as Fileless, Refused, Memory, WriteFault}
+
+-- the path leads to this node, links followed
+abbrev pub Leads : Image → List ℕ → Node → Type 0
+Leads m path x = resolution (tree_namespace m.bytes m.tree) path true ≡ Ok x
+
+-- the path leads to this regular file
+abbrev pub IsFile : Image → List ℕ → Node → Type 0
+IsFile m path x = Leads m path x × (is_regular x ≡ true)
+
+-- why the path leads to no regular file
+abbrev pub IsNoFile : Image → List ℕ → NoFile → Type 0
+IsNoFile m path (Nowhere e) = resolution (tree_namespace m.bytes m.tree) path true ≡ Err e
+IsNoFile m path Directory = (x : Node) × Leads m path x × (is_directory x ≡ true)
+IsNoFile m path Special = (x : Node) × Leads m path x × (is_directory x ≡ false) × (is_regular x ≡ false)
+
+-- what was written of a sound image
+abbrev pub Copies : Image → List ℕ → Output → Output → Copied → Type 0
+Copies m path old new Done =
+    (x : Node) × IsFile m path x × Appends old.contents new.contents (contents_of m.bytes x)
+    × (new.failures ≡ old.failures)
+Copies m path old new (Fileless e) = IsNoFile m path e × (new ≡ old)
+Copies m path old new Refused = ⊥
+Copies m path old new Memory = ⊥
+Copies m path old new WriteFault =
+    (x : Node) × IsFile m path x × AppendsPrefix old.contents new.contents (contents_of m.bytes x)
+    × Rose old.failures new.failures
+
+-- and of the image that these bytes hold
+abbrev pub CopiesOf : List ℕ → List ℕ → Output → Output → Copied → Type 0
+CopiesOf bytes path old new o = (m : Image) × Holds bytes m × Copies m path old new o
+
+-- what was written of the image that has these bytes, by how it ended
+abbrev pub CopyEnds : List ℕ → List ℕ → Output → Output → Copied → Type 0
+CopyEnds bytes path old new Done = CopiesOf bytes path old new Done
+CopyEnds bytes path old new (Fileless e) = CopiesOf bytes path old new (Fileless e)
+CopyEnds bytes path old new Refused =
+    (text : List ℕ) × IsFaultText bytes text × Appends old.contents new.contents text × (new.failures ≡ old.failures)
+CopyEnds bytes path old new Memory = new ≡ old
+CopyEnds bytes path old new WriteFault =
+    CopiesOf bytes path old new WriteFault
+    ⊎ ((text : List ℕ) × IsFaultText bytes text × AppendsPrefix old.contents new.contents text
+    × Rose old.failures new.failures)
+
+-- the status with which the program ends
+abbrev pub copied_status : Copied → ℕ
+copied_status Done = 0
+copied_status (Fileless e) = 1
+copied_status Refused = 1
+copied_status Memory = 3
+copied_status WriteFault = 3
+
+-- `err `, and the name of an error of POSIX
+abbrev pub no_file_text : NoFile → List ℕ
+no_file_text (Nowhere e) = codes "err " ++ error_name e
+no_file_text Directory = codes "err EISDIR"
+no_file_text Special = codes "err ENXIO"
+
+-- what standard error says of how it ended
+abbrev pub copied_complaint : Copied → List ℕ
+copied_complaint Done = []
+copied_complaint (Fileless e) = no_file_text e ++ codes "\n"
+copied_complaint Refused = []
+copied_complaint Memory = codes "memory\n"
+copied_complaint WriteFault = codes "write fault\n"
+
+-- what was held back was handed on, and the status stays; or a write failed, which is told
+abbrev pub Flushes : Output → Output → Output → Output → ℕ → ℕ → Type 0
+Flushes old new err err' status result =
+    ((0 < new.failures) × (result ≡ 3) × Prints err err' (codes "write fault\n"))
+    ⊎ ((old.failures ≡ 0) × (new.failures ≡ 0) × (result ≡ status) × (err' ≡ err))

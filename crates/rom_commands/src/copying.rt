@@ -1,0 +1,148 @@
+//! The bytes of one file of an image, written out.
+ghost use Rattle.std.specs.Prelude.{◌≡◌, ◌≤◌};
+ghost use Rattle.std.specs.Io.KnownBytes.{Keeps};
+ghost use Rattle.rom_tree.specs.Tree.{levels};
+ghost use Rattle.image_check.specs.Any.{any_view};
+ghost use Rattle.rom_commands.specs.Answers.{Prints};
+ghost use Rattle.rom_commands.specs.Copying.{Copies, CopyEnds, Flushes, copied_status, copied_complaint, no_file_text};
+
+use crate::printing::{FAULT, complain};
+use crate::shown::write_fault_line;
+use image_check::{AnyImage, check};
+use image_map::cat;
+use path_walk::{WalkError, walk};
+use rom_faults::CheckError;
+use rom_fields::bytes::{ByteWrite, Plain};
+use rom_tree::image::{is_directory_at, is_regular_at};
+use rom_tree::types::Limits;
+use std::alloc::Global;
+use std::io::Write;
+
+/// Why a path gives no bytes of a file.
+#[derive(Clone, Copy, PartialEq, Eq)]
+pub enum NoFile {
+    /// It leads nowhere.
+    Nowhere(WalkError),
+    /// It leads to a directory.
+    Directory,
+    /// It leads to a device, a pipe or a socket.
+    Special,
+}
+
+/// How the copying of a file out of an image ended.
+#[derive(Clone, Copy, PartialEq, Eq)]
+pub enum Copied {
+    /// All bytes of the file were written.
+    Done,
+    /// The path leads to no regular file, and nothing was written.
+    NoFile(NoFile),
+    /// The image has a fault, whose line was written.
+    Refused,
+    /// Memory was refused, and nothing was written.
+    Memory,
+    /// A write failed. A prefix of the bytes, or of the fault's line, was written.
+    WriteFault,
+}
+
+/// Writes the bytes of the regular file to which a path leads, where links are followed.
+fn copy_file<W: ByteWrite>(image: &mut AnyImage, path: &[u8], w: &mut W) -> Copied
+    requires { levels (any_view image.old).tree ≤ 65 }
+    ensures { Copies (any_view image.old) path.now (W.output w.old) (W.output w.new) result }
+{
+    let node = match walk(image, path, true) {
+        Ok(node) => node,
+        Err(error) => return Copied::NoFile(NoFile::Nowhere(error)),
+    };
+    if is_directory_at(image, node) {
+        return Copied::NoFile(NoFile::Directory);
+    }
+    if !is_regular_at(image, node) {
+        return Copied::NoFile(NoFile::Special);
+    }
+    match cat(image, node, w) {
+        Ok(()) => Copied::Done,
+        Err(_) => Copied::WriteFault,
+    }
+}
+
+/// Checks an image under the usual limits, and writes the bytes of the regular file to which a path
+/// leads in it, or the line of its fault.
+pub fn copy<W: ByteWrite>(alloc: Global, bytes: &[u8], path: &[u8], w: &mut W) -> Copied
+    ensures { CopyEnds bytes.now path.now (W.output w.old) (W.output w.new) result }
+{
+    match check(alloc, bytes, Limits::usual()) {
+        Ok(mut image) => copy_file(&mut image, path, w),
+        Err(CheckError::Fault { number, at }) => match write_fault_line(w, number, at) {
+            Ok(()) => Copied::Refused,
+            Err(_) => Copied::WriteFault,
+        },
+        Err(CheckError::OutOfMemory) => Copied::Memory,
+    }
+}
+
+/// The name of an error of a path, after `err `.
+fn no_file_name(error: NoFile) -> &'static [u8]
+    ensures { result.now ≡ no_file_text error }
+{
+    match error {
+        NoFile::Nowhere(WalkError::Enoent) => b"err ENOENT",
+        NoFile::Nowhere(WalkError::Enotdir) => b"err ENOTDIR",
+        NoFile::Nowhere(WalkError::Eloop) => b"err ELOOP",
+        NoFile::Nowhere(WalkError::Enametoolong) => b"err ENAMETOOLONG",
+        NoFile::Nowhere(WalkError::Einval) => b"err EINVAL",
+        NoFile::Directory => b"err EISDIR",
+        NoFile::Special => b"err ENXIO",
+    }
+}
+
+/// Prints the bytes of the regular file to which a path leads in an image to `out`, and to `err` why
+/// there are none, that memory was refused or that a write failed. What `out` holds back is handed
+/// on. The status is 0, 1 where the image has a fault or the path leads to no regular file, 3 where
+/// memory was refused or a write failed.
+pub fn print_file<X: Write, E: ByteWrite>(
+    alloc: Global,
+    bytes: &[u8],
+    path: &[u8],
+    out: &mut Plain<X>,
+    err: &mut E,
+) -> u8
+    requires { out.old.failures ≡ 0 }
+    ensures small { result ≤ 3 }
+    ensures ends { (o : Copied) × (result ≡ copied_status o)
+        × CopyEnds bytes.now path.now (⟦<Plain<X> as ByteWrite>⟧.output out.old)
+        (⟦<Plain<X> as ByteWrite>⟧.output out.new) o
+        × Prints (E.output err.old) (E.output err.new) (copied_complaint o) }
+{
+    match copy(alloc, bytes, path, out) {
+        Copied::Done => flushed(out, err, 0),
+        Copied::Refused => flushed(out, err, 1),
+        Copied::WriteFault => flushed(out, err, FAULT),
+        Copied::NoFile(error) => {
+            complain(err, no_file_name(error), b"");
+            1
+        }
+        Copied::Memory => {
+            complain(err, b"memory", b"");
+            FAULT
+        }
+    }
+}
+
+/// Hands on what `out` holds back. The status is 3, and `err` says so, where that or a write before
+/// failed, and else the one that is given.
+fn flushed<X: Write, E: ByteWrite>(out: &mut Plain<X>, err: &mut E, status: u8) -> u8
+    requires { status ≤ 3 }
+    ensures small { result ≤ 3 }
+    ensures kept { Keeps (⟦<Plain<X> as ByteWrite>⟧.output out.old).contents
+        (⟦<Plain<X> as ByteWrite>⟧.output out.new).contents }
+    ensures ends { Flushes (⟦<Plain<X> as ByteWrite>⟧.output out.old)
+        (⟦<Plain<X> as ByteWrite>⟧.output out.new) (E.output err.old) (E.output err.new)
+        status result }
+{
+    let _ = out.flush();
+    if out.failures() > 0 {
+        complain(err, b"write fault", b"");
+        return FAULT;
+    }
+    status
+}
