@@ -1,6 +1,6 @@
 -- The values of clap's matches, as its rows have them.
-use Rattle.std.proofs.Common.{◌≡◌, ℕ, Bool, true, false, cond, List, [], ◌∷◌, map, Option, Some, None, option_map, slice_get, IfSome, IfOk, refl, sym, ap, ap₂, subst, ◌∙◌}
-use Rattle.std.specs.Prelude.{option_and_then, find, ok_or, ◌&&◌, not}
+use Rattle.std.proofs.Common.{◌≡◌, ℕ, Bool, true, false, cond, List, [], ◌∷◌, map, Option, Some, None, option_map, slice_get, refl, sym, ap, ap₂, subst, ◌∙◌}
+use Rattle.std.specs.Prelude.{option_and_then, find, ◌&&◌, not}
 use Rattle.std.specs.Borrow.{Bor}
 use Rattle.std.specs.Str.{bytes_eq}
 use Rattle.std.proofs.lemmas.Slice.Eq.{bytes_eq-Decides}
@@ -12,8 +12,6 @@ use Rattle.clap.specs.Facts.{Entry}
 use Rattle.clap.specs.declared.builder.command.Command.{Command}
 use Rattle.clap.specs.declared.parser.matches.Found.{Found}
 use Rattle.command_line.specs.Commands.{romtool_app}
-use Rattle.command_line.specs.Words.{IsAskedOf}
-use Rattle.command_line.specs.declared.words.Request.{Request}
 
 abbrev first_text : List (Bor (List ℕ)) → Option (List ℕ)
 first_text vs = option_map (λ s. s.now) (slice_get vs 0)
@@ -91,11 +89,6 @@ absent word (p ∷ ps) h =
     (λ (e : bytes_eq p.0 word ≡ true). absurd (h.0 (sym ((bytes_eq-Decides p.0 word).0 e))))
     (λ (e : bytes_eq p.0 word ≡ false). rw e (absent word ps h.1))
     (cases_Bool (bytes_eq p.0 word))
-
--- what is asked for is handed on
-pub asked_when : {E : Type 0} (o : Option Request) (e : E) (s t : Option (List ℕ × List Row)) → s ≡ t → IfSome o (IsAskedOf s) → IfOk (ok_or o e) (IsAskedOf t)
-asked_when None e s t k h = tt
-asked_when (Some r) e s t k h = subst (λ x. IsAskedOf x r) k h
 
 pub simple : is_simple romtool_app ≡ true
 simple = refl

@@ -1,17 +1,17 @@
 -- The program's subcommands with their arguments, as clap reads words for them. (This project's own.)
 use Rattle.std.specs.Prelude.{◌≡◌, false, true, List, [], ◌∷◌, codes, Some}
-use Rattle.clap.specs.Words.{App, Rule, Shape, Text, new_rule, shape_of}
+use Rattle.clap.specs.Words.{App, Rule, Shape, Text, new_rule, shape_of, with_rule}
 use Rattle.clap.specs.Simple.{new_shape}
 use Rattle.clap.specs.declared.builder.action.ArgAction.TheVariants.{SetTrue}
 use Rattle.clap.specs.declared.builder.command.Command.{Command}
 
 -- an argument that has to be given
 abbrev pub value_rule : Text → Rule
-value_rule name = record (new_rule name) { required = true }
+value_rule name = record (new_rule name) { required = true; value_names = 1 }
 
 -- --NAME VALUE
 abbrev pub option_rule : Text → Rule
-option_rule name = record (new_rule name) { long = Some name }
+option_rule name = record (new_rule name) { long = Some name; value_names = 1 }
 
 -- --NAME
 abbrev pub flag_rule : Text → Rule
@@ -35,10 +35,14 @@ abbrev pub scan_shape : Shape
 scan_shape = shape_with (codes "scan")
     (value_rule (codes "folder") ∷ flag_rule (codes "all") ∷ option_rule (codes "for") ∷ option_rule (codes "align") ∷ [])
 
+-- the program without its subcommands: it has a version, and the option --explain
+abbrev pub romtool_top : App
+romtool_top = with_rule (record { top = record (new_shape (codes "romtool")) { has_version = true }; subs = [] }) (flag_rule (codes "explain"))
+
 -- all of them
 abbrev pub romtool_app : App
 romtool_app = record {
-  top = record (new_shape (codes "romtool")) { is_leaf = false };
+  top = record romtool_top.top { is_leaf = false };
   subs = image_shape (codes "check") ∷ image_shape (codes "list") ∷ image_shape (codes "serve")
       ∷ shape_with (codes "space") (images_rule ∷ []) ∷ build_shape ∷ scan_shape ∷ [];
 }

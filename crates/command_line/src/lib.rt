@@ -6,10 +6,11 @@
 //! tested.
 #![tactic(auto)]
 
+mod commands;
 pub mod status;
 #[cfg(test)]
 mod tests;
 pub mod words;
 
 pub use status::{Status, Trouble, tell};
-pub use words::{Build, Request, ScanAll, WordsError, read};
+pub use words::{Build, Request, ScanAll, WordsError, Wrong, is_explain, read};

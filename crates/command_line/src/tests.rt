@@ -24,8 +24,12 @@ fn commands_of_one_value(rt: HostRuntime) -> Result<(), Fail> {
     assert!(rt; matches!(read(rt.alloc(), &words), Ok(Request::Serve("x"))));
     let words = line(rt.alloc(), &["romtool", "scan", "x"])?;
     assert!(rt; matches!(read(rt.alloc(), &words), Ok(Request::Scan("x"))));
-    let words = line(rt.alloc(), &["romtool"])?;
-    assert!(rt; matches!(read(rt.alloc(), &words), Ok(Request::Example)));
+    for words in [["romtool"].as_slice(), &["romtool", "--explain"]] {
+        let words = line(rt.alloc(), words)?;
+        assert!(rt; matches!(read(rt.alloc(), &words), Ok(Request::Example)));
+    }
+    let words = line(rt.alloc(), &["romtool", "--explain", "check", "x"])?;
+    assert!(rt; matches!(read(rt.alloc(), &words), Ok(Request::Check("x"))));
     Ok(())
 }
 
@@ -86,10 +90,37 @@ fn words_that_ask_for_nothing(rt: HostRuntime) -> Result<(), Fail> {
         &["romtool", "scan", "--all", "--align", "3", "x"],
         &["romtool", "scan", "--for", "romfs", "x"],
         &["romtool", "--help"],
+        &["romtool", "--version"],
+        &["romtool", "--explain", "--explain", "check", "x"],
+        &["romtool", "check", "--explain", "x"],
         &["romtool", "check", "--fast", "x"],
     ] {
         let words = line(rt.alloc(), words)?;
-        assert!(rt; matches!(read(rt.alloc(), &words), Err(WordsError::Usage)));
+        assert!(rt; matches!(read(rt.alloc(), &words), Err(e) if !is_memory(&e)));
+    }
+    Ok(())
+}
+
+/// Whether memory was refused.
+fn is_memory(error: &WordsError<'_>) -> bool {
+    matches!(error, WordsError::OutOfMemory)
+}
+
+#[test]
+fn words_that_are_refused_say_why(rt: HostRuntime) -> Result<(), Fail> {
+    for (words, text) in [
+        (["romtool", "build", "ext4", "m", "o"].as_slice(), "error: FORMAT is"),
+        (&["romtool", "scan", "--all", "--align", "3", "x"], "error: N is"),
+        (&["romtool", "scan", "--align", "4", "x"], "error: the option '--align'"),
+        (&["romtool", "fly"], "error: unrecognized subcommand 'fly'"),
+        (&["romtool", "--explain", "--"], "error: a subcommand is wanted"),
+    ] {
+        let words = line(rt.alloc(), words)?;
+        let Err(error) = read(rt.alloc(), &words) else {
+            return Err(AllocError.into());
+        };
+        let said = format!(in rt.alloc(); "{error}")?;
+        assert!(rt; said.as_str().starts_with(text));
     }
     Ok(())
 }

@@ -1,24 +1,25 @@
 //! The words of the command line.
-ghost use Rattle.std.specs.Prelude.{◌≡◌, ◌≢◌, ◌≤◌, ◌<◌, ◌↔◌, ◌∷◌, [], List, ℕ, length, codes};
-ghost use Rattle.std.specs.Prelude.{IfOk, IfSome, IfNone, Some, false, map, option_map};
+ghost use Rattle.std.specs.Prelude.{◌≡◌, ◌≢◌, ◌↔◌, codes};
+ghost use Rattle.std.specs.Prelude.{IfOk, IfSome, IfNone, Some, false, true, map, option_map};
 ghost use Rattle.std.specs.Prelude.{string_bytes};
 ghost use Rattle.std.specs.Bool.{OnTrue, OnFalse};
-ghost use Rattle.clap.specs.Words.{all_of, app_of, first_of, found_of, rows_of, rule_of};
+ghost use Rattle.std.specs.Str.{bytes_eq};
+ghost use Rattle.clap.specs.Words.{all_of, first_of, found_of, rows_of};
 ghost use Rattle.clap.specs.Words.{subcommand_of, subcommand_rows_of};
-ghost use Rattle.command_line.specs.Commands.{IsShaped, build_shape, flag_rule, images_rule};
-ghost use Rattle.command_line.specs.Commands.{option_rule, romtool_app, scan_shape, shape_with};
-ghost use Rattle.command_line.specs.Commands.{value_rule};
+ghost use Rattle.command_line.specs.Commands.{romtool_app};
 ghost use Rattle.command_line.specs.Words.{IsAlignOf, IsAskedBy, IsAskedOf, align_named};
-ghost use Rattle.command_line.specs.Words.{format_word, word_of};
+ghost use Rattle.command_line.specs.Words.{format_word, is_bare, word_of};
 ghost use Rattle.command_line.specs.declared.words.Request.TheVariants as request;
 ghost use Rattle.command_line.specs.declared.words.Request.TheVariants.{Example};
 ghost use Rattle.plan_misfits.specs.declared.format.Format.{Format};
 
+use crate::commands::command;
 use arrayvec::ArrayVec;
 use clap::error::ErrorKind;
-use clap::{Arg, ArgAction, ArgMatches, Command};
+use clap::{ArgMatches, Error};
 use plan_misfits::Format;
 use std::alloc::{AllocError, Global};
+use std::fmt::{self, Display, Formatter};
 
 /// The alignment of regular files for which none is asked, in bytes.
 const USUAL_ALIGN: u32 = 4;
@@ -62,99 +63,65 @@ pub struct ScanAll<'a> {
     pub align: u32,
 }
 
-/// Why words ask for nothing.
+/// What is wrong in words that clap took.
 #[derive(Debug, Clone, Copy, PartialEq, Eq)]
-pub enum WordsError {
-    /// Memory was refused.
-    OutOfMemory,
-    /// They ask for nothing that the program does.
-    Usage,
+pub enum Wrong<'a> {
+    /// They have no subcommand.
+    NoSubcommand,
+    /// No format has this name.
+    Format(&'a str),
+    /// No alignment is this word.
+    Align(&'a str),
+    /// Of a scan without `--all` the option of this name was given.
+    WithoutAll(&'static str),
 }
 
-impl From<AllocError> for WordsError {
+/// Why words ask for nothing. It is shown in words for people, by clap where it refused them.
+#[derive(Debug, Drop)]
+pub enum WordsError<'a> {
+    /// Memory was refused.
+    OutOfMemory,
+    /// They ask for help or for the version, or are none that clap takes.
+    Refused(Error),
+    /// They are none that the program takes.
+    Taken(Wrong<'a>),
+}
+
+impl Display for Wrong<'_> {
+    fn fmt<W: fmt::Write>(&self, f: &mut Formatter<W>) -> fmt::Result {
+        match self {
+            Wrong::NoSubcommand => write!(f, "a subcommand is wanted behind the options"),
+            Wrong::Format(word) => {
+                write!(f, "FORMAT is romfs, cramfs or cramfs-be, and not {word:?}")
+            }
+            Wrong::Align(word) => {
+                write!(f, "N is a power of two from 4 to 65536, and not {word:?}")
+            }
+            Wrong::WithoutAll(name) => write!(f, "the option '--{name}' goes with '--all' alone"),
+        }
+    }
+}
+
+impl Display for WordsError<'_> {
+    fn fmt<W: fmt::Write>(&self, f: &mut Formatter<W>) -> fmt::Result {
+        match self {
+            WordsError::OutOfMemory => write!(f, "error: out of memory\n"),
+            WordsError::Refused(e) => write!(f, "{e}"),
+            WordsError::Taken(wrong) => {
+                write!(f, "error: {wrong}\n\nFor more information, try '--help'.\n")
+            }
+        }
+    }
+}
+
+impl From<AllocError> for WordsError<'_> {
     ghost use Rattle.command_line.specs.declared.words.WordsError.{WordsError};
 
     ghost from_gives = { λ _ answer. answer ≡ WordsError.OutOfMemory };
 
-    fn from(_error: AllocError) -> WordsError {
+    fn from(_error: AllocError) -> Self {
         WordsError::OutOfMemory
     }
-}
-
-/// An argument that has to be given.
-fn value<'a>(alloc: Global, name: &'a str) -> Arg<'a>
-    ensures rule { rule_of result ≡ value_rule name.entry.now }
-    ensures local { result.global ≡ false }
-{
-    Arg::new(alloc, name).required(true)
-}
-
-/// An option with a value.
-fn option<'a>(alloc: Global, name: &'a str) -> Arg<'a>
-    ensures rule { rule_of result ≡ option_rule name.entry.now }
-    ensures local { result.global ≡ false }
-{
-    Arg::new(alloc, name).long(name)
-}
-
-/// An option without a value.
-fn flag<'a>(alloc: Global, name: &'a str) -> Arg<'a>
-    ensures rule { rule_of result ≡ flag_rule name.entry.now }
-    ensures local { result.global ≡ false }
-{
-    Arg::new(alloc, name).long(name).action(ArgAction::SetTrue)
-}
-
-/// One to eight images.
-fn images<'a>(alloc: Global) -> Arg<'a>
-    ensures rule { rule_of result ≡ images_rule }
-    ensures local { result.global ≡ false }
-{
-    value(alloc, "image").num_args(1..=8)
-}
-
-/// A subcommand of one argument.
-fn with_one<'a>(alloc: Global, name: &'a str, arg: Arg<'a>) -> Result<Command<'a>, AllocError>
-    requires { arg.global ≡ false }
-    ensures { IfOk result (IsShaped (shape_with name.entry.now (rule_of arg.entry ∷ []))) }
-{
-    let command = Command::new(alloc, name).arg(arg)?;
-    Ok(command)
-}
-
-/// The subcommand `build`.
-fn with_build<'a>(alloc: Global) -> Result<Command<'a>, AllocError>
-    ensures { IfOk result (IsShaped build_shape) }
-{
-    let command = with_one(alloc, "build", value(alloc, "format"))?;
-    let command = command.arg(value(alloc, "manifest"))?;
-    let command = command.arg(value(alloc, "out"))?;
-    Ok(command)
-}
-
-/// The subcommand `scan`.
-fn with_scan<'a>(alloc: Global) -> Result<Command<'a>, AllocError>
-    ensures { IfOk result (IsShaped scan_shape) }
-{
-    let command = with_one(alloc, "scan", value(alloc, "folder"))?;
-    let command = command.arg(flag(alloc, "all"))?;
-    let command = command.arg(option(alloc, "for"))?;
-    let command = command.arg(option(alloc, "align"))?;
-    Ok(command)
-}
-
-/// The program's subcommands.
-fn command<'a>(alloc: Global) -> Result<Command<'a>, AllocError>
-    ensures { IfOk result (λ c. app_of c ≡ romtool_app) }
-{
-    let command = Command::new(alloc, "romtool");
-    let command = command.subcommand(with_one(alloc, "check", value(alloc, "image"))?)?;
-    let command = command.subcommand(with_one(alloc, "list", value(alloc, "image"))?)?;
-    let command = command.subcommand(with_one(alloc, "serve", value(alloc, "image"))?)?;
-    let command = command.subcommand(with_one(alloc, "space", images(alloc))?)?;
-    let command = command.subcommand(with_build(alloc)?)?;
-    let command = command.subcommand(with_scan(alloc)?)?;
-    Ok(command)
 }
 
 /// The format that a word names.
@@ -338,21 +305,76 @@ fn chosen<'a>(matches: &ArgMatches<'a>) -> Option<Request<'a>>
     asked(name, values)
 }
 
+/// What is wrong with the words of a subcommand, which clap took.
+fn wrong_with<'a>(values: &ArgMatches<'a>) -> Wrong<'a> {
+    if let Some(word) = value_of(values, "format")
+        && format_named(word).is_none()
+    {
+        return Wrong::Format(word);
+    }
+    if let Some(word) = value_of(values, "for") {
+        return if is_all(values) && format_named(word).is_none() {
+            Wrong::Format(word)
+        } else {
+            Wrong::WithoutAll("for")
+        };
+    }
+    match value_of(values, "align") {
+        Some(word) if is_all(values) => Wrong::Align(word),
+        _ => Wrong::WithoutAll("align"),
+    }
+}
+
+/// What is wrong with words that clap took and that ask for nothing.
+fn wrong_in<'a>(matches: &ArgMatches<'a>) -> Wrong<'a> {
+    match entered(matches) {
+        Some((_, values)) => wrong_with(values),
+        None => Wrong::NoSubcommand,
+    }
+}
+
+/// Whether a word asks that the program explains itself. It is asked behind the program's name,
+/// before the subcommand.
+pub fn is_explain(word: &[u8]) -> bool
+    ensures { result ≡ bytes_eq word.now (codes "--explain") }
+{
+    word == b"--explain".as_slice()
+}
+
+/// Whether there is no word behind the program's name, or just the one that asks to explain.
+fn is_bare(words: &[String]) -> bool
+    ensures { result ≡ is_bare (map string_bytes words.now) }
+{
+    match words {
+        [] | [_] => true,
+        [_, word] => is_explain(word.as_bytes()),
+        _ => false,
+    }
+}
+
+/// What clap's refusal is to whoever gave the words.
+fn refused<'a>(error: Error) -> WordsError<'a> {
+    match error.kind() {
+        ErrorKind::OutOfMemory => WordsError::OutOfMemory,
+        _ => WordsError::Refused(error),
+    }
+}
+
 /// Reads the words of a command line, the program's name first. Requests for help are no words of
 /// this program.
-pub fn read<'a>(alloc: Global, words: &'a [String]) -> Result<Request<'a>, WordsError>
-    ensures example { (result ≡ Ok Example) ↔ (length words.now ≤ 1) }
-    ensures asked { 1 < length words.now → IfOk result (IsAskedOf (subcommand_of romtool_app
-        (map string_bytes words.now))) }
+pub fn read<'a>(alloc: Global, words: &'a [String]) -> Result<Request<'a>, WordsError<'a>>
+    ensures example { (result ≡ Ok Example) ↔ (is_bare (map string_bytes words.now) ≡ true) }
+    ensures asked { is_bare (map string_bytes words.now) ≡ false → IfOk result (IsAskedOf
+        (subcommand_of romtool_app (map string_bytes words.now))) }
 {
-    if words.len() <= 1 {
+    if is_bare(words) {
         return Ok(Request::Example);
     }
     match command(alloc)?.try_get_matches_from(words) {
-        Ok(matches) => chosen(&matches).ok_or(WordsError::Usage),
-        Err(e) => Err(match e.kind() {
-            ErrorKind::OutOfMemory => WordsError::OutOfMemory,
-            _ => WordsError::Usage,
-        }),
+        Ok(matches) => match chosen(&matches) {
+            Some(request) => Ok(request),
+            None => Err(WordsError::Taken(wrong_in(&matches))),
+        },
+        Err(error) => Err(refused(error)),
     }
 }

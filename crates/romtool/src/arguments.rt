@@ -1,5 +1,4 @@
 //! The words of the command line.
-use command_line::Trouble;
 use std::alloc::AllocError;
 use std::env::{Env, FillError};
 
@@ -27,15 +26,24 @@ fn word(rt: &HostRuntime, number: usize) -> Result<Option<Vec<u8>>, AllocError> 
     Err(AllocError)
 }
 
+/// Why the words of the command line cannot be read.
+#[derive(Clone, Copy, PartialEq, Eq)]
+pub enum NoWords {
+    /// Memory was refused.
+    OutOfMemory,
+    /// The word of this number is no UTF-8; the first behind the program's name has the number 1.
+    NoText(usize),
+}
+
 /// A word as a text. The first one may be none, since nothing is asked for by it.
-fn text(rt: &HostRuntime, number: usize, bytes: Vec<u8>) -> Result<String, Trouble<'static>> {
+fn text(rt: &HostRuntime, number: usize, bytes: Vec<u8>) -> Result<String, NoWords> {
     match String::from_utf8(bytes) {
         Ok(text) => Ok(text),
         Err(_) if number == 0 => match String::from_str(rt.alloc(), PROGRAM) {
             Ok(text) => Ok(text),
-            Err(_) => Err(Trouble::Memory),
+            Err(_) => Err(NoWords::OutOfMemory),
         },
-        Err(_) => Err(Trouble::Usage),
+        Err(_) => Err(NoWords::NoText(number)),
     }
 }
 
@@ -43,17 +51,17 @@ fn text(rt: &HostRuntime, number: usize, bytes: Vec<u8>) -> Result<String, Troub
 ///
 /// # Errors
 ///
-/// `Memory`, and `Usage` where another word than the first is no UTF-8.
-pub fn words(rt: &HostRuntime) -> Result<Vec<String>, Trouble<'static>> {
+/// `OutOfMemory`, and `NoText` where another word than the first is no UTF-8.
+pub fn words(rt: &HostRuntime) -> Result<Vec<String>, NoWords> {
     let mut words = Vec::new(rt.alloc());
     for number in 0..usize::MAX {
         let bytes = match word(rt, number) {
             Ok(Some(bytes)) => bytes,
             Ok(None) => break,
-            Err(AllocError) => return Err(Trouble::Memory),
+            Err(AllocError) => return Err(NoWords::OutOfMemory),
         };
         if words.push(text(rt, number, bytes)?).is_err() {
-            return Err(Trouble::Memory);
+            return Err(NoWords::OutOfMemory);
         }
     }
     Ok(words)

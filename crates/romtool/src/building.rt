@@ -4,109 +4,131 @@ ghost use Rattle.layout_plan.specs.Plans.{IsPlanOf};
 ghost use Rattle.manifest.specs.Lines.{sources_of};
 ghost use Rattle.plan_misfits.specs.Formats.{format_of};
 
-use crate::disk::{Disk, have_changed};
+use crate::disk::{Disk, first_changed};
+use crate::origin::Origin;
 use crate::progress::Progress;
-use crate::reading;
 use crate::stamp::{Identity, Stamp, has_changed, let_rest, stamp_of};
 use crate::streams::Held;
 use crate::target::{KeepError, Target};
-use crate::trouble::{refused, say};
+use crate::trouble::Teller;
+use crate::{explained, reading};
 use build_commands::building::{tell_bad_manifest, tell_built, tell_misfit};
 use command_line::{Status, Trouble};
 use image_build::{StreamError, stream};
 use layout_plan::{Format, Plan, PlanError, plan};
 use manifest::{Manifest, ManifestError, Name, parse};
 use rom_fields::bytes::{Failed, Plain};
+use sentences::reasons::{
+    NO_TEXT, NOT_TAKEN, OWN_INPUT, PART_REPLACED, SOURCE_CHANGED, SOURCE_UNREAD, SUM_DIFFERS,
+};
 use std::{fs, io, str};
 
 /// How a refusal ends, whose line was written.
-fn told(rt: &HostRuntime, written: Result<(), Failed>) -> Status {
+fn told(teller: &Teller<'_>, written: Result<(), Failed>) -> Status {
     match written {
         Ok(()) => Status::Refused,
-        Err(Failed) => say(rt, Trouble::WriteFault),
+        Err(Failed) => teller.say(Trouble::WriteFault),
     }
 }
 
 /// The text of the manifest in a file.
-fn text_of(rt: &HostRuntime, name: &str) -> Result<reading::Text, Status> {
-    match reading::manifest(rt, name) {
-        Ok(text) => Ok(text),
-        Err(e) => Err(refused(rt, name.as_bytes(), &e)),
+fn text_of(teller: &Teller<'_>, name: &str) -> Result<reading::Text, Status> {
+    match reading::manifest(teller.rt, name) {
+        Ok(text) => {
+            explained::returns(teller, name, &text.bytes);
+            Ok(text)
+        }
+        Err(e) => Err(teller.refused(name.as_bytes(), &e)),
     }
 }
 
-/// The manifest that a text is.
-fn manifest_of(rt: &HostRuntime, text: &[u8]) -> Result<Manifest, Status> {
+/// The manifest that a text is, which stands in the file of this name.
+fn manifest_of(teller: &Teller<'_>, name: &str, text: &[u8]) -> Result<Manifest, Status> {
+    let rt = teller.rt;
     match parse(rt.alloc(), text) {
         Ok(manifest) => Ok(manifest),
-        Err(ManifestError::OutOfMemory) => Err(say(rt, Trouble::Memory)),
+        Err(ManifestError::OutOfMemory) => Err(teller.say(Trouble::Memory)),
         Err(ManifestError::Bad { line, number }) => {
             let out = &mut Plain::new(Held::new(rt, io::writer(rt)));
-            Err(told(rt, tell_bad_manifest(out, line, number)))
+            let status = told(teller, tell_bad_manifest(out, line, number));
+            explained::bad_manifest(teller, name, text, line, number);
+            Err(status)
         }
     }
 }
 
-/// The state of a source.
-fn stamp_of_source(rt: &HostRuntime, name: &str) -> Result<Stamp, Status> {
-    match stamp_of(rt, name) {
+/// The state of a source, by its number.
+fn stamp_of_source(
+    teller: &Teller<'_>,
+    origin: Origin<'_>,
+    number: usize,
+    name: &str,
+) -> Result<Stamp, Status> {
+    match stamp_of(teller.rt, name) {
         Ok(stamp) => Ok(stamp),
-        Err(e) => Err(refused(rt, name.as_bytes(), &e)),
+        Err(e) => Err(teller.refused_source(origin, number, &e)),
     }
 }
 
 /// Says what is wrong with the first source that cannot be read: one of these, or the one behind
 /// them, whose name is no text.
-fn first_refused(rt: &HostRuntime, before: &[&str], source: &[u8]) -> Status {
-    for name in before {
-        if let Err(status) = stamp_of_source(rt, name) {
+fn first_refused(teller: &Teller<'_>, origin: Origin<'_>, before: &[&str]) -> Status {
+    for (number, name) in before.iter().enumerate() {
+        if let Err(status) = stamp_of_source(teller, origin, number, name) {
             return status;
         }
     }
-    say(rt, Trouble::File(source))
+    let number = before.len();
+    let status = teller.say(Trouble::File(origin.source(number)));
+    teller.explain_source(origin, number, &NO_TEXT);
+    status
 }
 
 /// The names of the sources as texts, since a file has no other name here.
-fn names_of<'m>(rt: &HostRuntime, sources: &'m [Name]) -> Result<Vec<&'m str>, Status>
+fn names_of<'m>(
+    teller: &Teller<'_>,
+    origin: Origin<'_>,
+    sources: &'m [Name],
+) -> Result<Vec<&'m str>, Status>
     ensures { IfOk result (λ names. length names.items ≡ length sources.now) }
 {
-    let mut names = Vec::new(rt.alloc());
+    let mut names = Vec::new(teller.rt.alloc());
     for source in sources {
         let Ok(name) = str::from_utf8(source.as_bytes()) else {
-            return Err(first_refused(rt, &names, source.as_bytes()));
+            return Err(first_refused(teller, origin, &names));
         };
         if names.push(name).is_err() {
-            return Err(say(rt, Trouble::Memory));
+            return Err(teller.say(Trouble::Memory));
         }
     }
     Ok(names)
 }
 
 /// The state of each source.
-fn stamps_of(rt: &HostRuntime, names: &[&str]) -> Result<Vec<Stamp>, Status>
+fn stamps_of(teller: &Teller<'_>, origin: Origin<'_>, names: &[&str]) -> Result<Vec<Stamp>, Status>
     ensures { IfOk result (λ stamps. length stamps.items ≡ length names.now) }
 {
-    let mut stamps = Vec::new(rt.alloc());
+    let mut stamps = Vec::new(teller.rt.alloc());
     for name in names {
-        let stamp = match stamp_of_source(rt, name) {
+        let stamp = match stamp_of_source(teller, origin, stamps.len(), name) {
             Ok(stamp) => stamp,
             Err(status) => return Err(status),
         };
         if stamps.push(stamp).is_err() {
-            return Err(say(rt, Trouble::Memory));
+            return Err(teller.say(Trouble::Memory));
         }
     }
     Ok(stamps)
 }
 
 /// How many bytes each source has.
-fn sizes_of(rt: &HostRuntime, stamps: &[Stamp]) -> Result<Vec<u64>, Status>
+fn sizes_of(teller: &Teller<'_>, stamps: &[Stamp]) -> Result<Vec<u64>, Status>
     ensures { IfOk result (λ sizes. length sizes.items ≡ length stamps.now) }
 {
-    let mut sizes = Vec::new(rt.alloc());
+    let mut sizes = Vec::new(teller.rt.alloc());
     for stamp in stamps {
         if sizes.push(stamp.len()).is_err() {
-            return Err(say(rt, Trouble::Memory));
+            return Err(teller.say(Trouble::Memory));
         }
     }
     Ok(sizes)
@@ -114,21 +136,24 @@ fn sizes_of(rt: &HostRuntime, stamps: &[Stamp]) -> Result<Vec<u64>, Status>
 
 /// The plan of a manifest whose sources have these sizes.
 fn planned(
-    rt: &HostRuntime,
+    teller: &Teller<'_>,
     format: Format,
-    manifest: &Manifest,
+    origin: Origin<'_>,
     sizes: &[u64],
 ) -> Result<Plan, Status>
-    requires { length sizes.now ≡ length (sources_of manifest.now.lines) }
-    ensures plan { IfOk result (IsPlanOf (format_of format) manifest.now sizes.now) }
+    requires { length sizes.now ≡ length (sources_of origin.manifest.now.lines) }
+    ensures plan { IfOk result (IsPlanOf (format_of format) origin.entry.manifest.now sizes.now) }
     ensures sizes { IfOk result (λ plan. plan.sizes ≡ sizes.now) }
 {
-    match plan(rt.alloc(), manifest, sizes, format) {
+    let rt = teller.rt;
+    match plan(rt.alloc(), origin.manifest, sizes, format) {
         Ok(plan) => Ok(plan),
-        Err(PlanError::OutOfMemory) => Err(say(rt, Trouble::Memory)),
+        Err(PlanError::OutOfMemory) => Err(teller.say(Trouble::Memory)),
         Err(PlanError::Refused { line, number }) => {
             let out = &mut Plain::new(Held::new(rt, io::writer(rt)));
-            Err(told(rt, tell_misfit(out, line, number)))
+            let status = told(teller, tell_misfit(out, line, number));
+            explained::misfit(teller, format, origin, sizes, (line, number));
+            Err(status)
         }
     }
 }
@@ -136,56 +161,79 @@ fn planned(
 /// The sources of an image: their names, and the states that they have to keep.
 #[derive(Clone, Copy)]
 struct Files<'a> {
+    origin: Origin<'a>,
     names: &'a [&'a str],
     stamps: &'a [Stamp],
 }
 
 impl Files<'_> {
+    /// Says that a source changed.
+    fn say_changed(&self, teller: &Teller<'_>, file: usize) -> Status {
+        let status = teller.say(Trouble::Changed);
+        teller.explain_source(self.origin, file, &SOURCE_CHANGED);
+        status
+    }
+
     /// Says that a source could not be read as it was: it changed, or it is at fault.
-    fn say_fault(&self, rt: &HostRuntime, file: usize) -> Status {
+    fn say_fault(&self, teller: &Teller<'_>, file: usize) -> Status {
         let (Some(name), Some(stamp)) = (self.names.get(file), self.stamps.get(file)) else {
-            return say(rt, Trouble::Changed);
+            return teller.say(Trouble::Changed);
         };
-        match has_changed(rt, name, stamp) {
-            Ok(true) => say(rt, Trouble::Changed),
-            _ => say(rt, Trouble::File(name.as_bytes())),
+        match has_changed(teller.rt, name, stamp) {
+            Ok(true) => self.say_changed(teller, file),
+            Ok(false) => {
+                let status = teller.say(Trouble::File(name.as_bytes()));
+                teller.explain_source(self.origin, file, &SOURCE_UNREAD);
+                status
+            }
+            Err(e) => {
+                let status = teller.say(Trouble::File(name.as_bytes()));
+                teller.explain_error(self.origin, file, &e);
+                status
+            }
         }
     }
 
     /// Says why an image was not written whole.
-    fn say_unwritten(&self, rt: &HostRuntime, e: StreamError, out: &str) -> Status {
+    fn say_unwritten(&self, teller: &Teller<'_>, e: StreamError, out: &str) -> Status {
         match e {
             StreamError::SizeDiffers { file } | StreamError::SourceFault { file } => {
-                self.say_fault(rt, file)
+                self.say_fault(teller, file)
             }
-            StreamError::WriteFault => say(rt, Trouble::File(out.as_bytes())),
-            StreamError::Changed => say(rt, Trouble::Changed),
+            StreamError::WriteFault => teller.failed(out.as_bytes(), &NOT_TAKEN),
+            StreamError::Changed => match first_changed(teller.rt, self.names, self.stamps) {
+                Some(file) => self.say_changed(teller, file),
+                None => teller.changed(out.as_bytes(), &SUM_DIFFERS),
+            },
         }
     }
 }
 
 /// Opens what an image is written to. That is neither the manifest nor a source.
 fn target_of(
-    rt: &HostRuntime,
+    teller: &Teller<'_>,
     out: &str,
     manifest: Identity,
     stamps: &[Stamp],
 ) -> Result<Target, Status> {
-    if let Ok(found) = fs::metadata(rt, out) {
+    if let Ok(found) = fs::metadata(teller.rt, out) {
         let identity = Identity::of(&found);
         if identity == manifest || stamps.iter().any(|stamp| stamp.identity() == identity) {
-            return Err(say(rt, Trouble::File(out.as_bytes())));
+            return Err(teller.failed(out.as_bytes(), &OWN_INPUT));
         }
     }
-    match Target::open(rt, out) {
-        Ok(target) => Ok(target),
-        Err(e) => Err(refused(rt, out.as_bytes(), &e)),
+    match Target::open(teller.rt, out) {
+        Ok(target) => {
+            explained::parts(teller, &target);
+            Ok(target)
+        }
+        Err(e) => Err(teller.refused(out.as_bytes(), &e)),
     }
 }
 
 /// Writes the image of a plan, made of these files, to what it is written to.
 fn write_to(
-    rt: &HostRuntime,
+    teller: &Teller<'_>,
     plan: &Plan,
     files: Files<'_>,
     target: &Target,
@@ -193,9 +241,10 @@ fn write_to(
 ) -> Result<(), Status>
     requires { length plan.now.sizes ≡ length files.names.now }
 {
+    let rt = teller.rt;
     let mut writer = match target.writer(rt) {
         Ok(writer) => writer,
-        Err(e) => return Err(refused(rt, out.as_bytes(), &e)),
+        Err(e) => return Err(teller.refused(out.as_bytes(), &e)),
     };
     let bytes = plan
         .sizes()
@@ -206,17 +255,17 @@ fn write_to(
     let streamed = stream(plan, &mut disk, &mut writer);
     disk.end();
     if let Err(e) = streamed {
-        return Err(files.say_unwritten(rt, e, out));
+        return Err(files.say_unwritten(teller, e, out));
     }
-    if have_changed(rt, files.names, files.stamps) {
-        return Err(say(rt, Trouble::Changed));
+    match first_changed(rt, files.names, files.stamps) {
+        Some(file) => Err(files.say_changed(teller, file)),
+        None => Ok(()),
     }
-    Ok(())
 }
 
 /// Writes the image of a plan, made of these files, and gives it its name.
 fn write_image(
-    rt: &HostRuntime,
+    teller: &Teller<'_>,
     plan: &Plan,
     files: Files<'_>,
     target: Target,
@@ -224,44 +273,47 @@ fn write_image(
 ) -> Result<(), Status>
     requires { length plan.now.sizes ≡ length files.names.now }
 {
-    if let Err(status) = write_to(rt, plan, files, &target, out) {
+    let rt = teller.rt;
+    if let Err(status) = write_to(teller, plan, files, &target, out) {
         target.abandon(rt);
         return Err(status);
     }
     match target.keep(rt) {
         Ok(()) => Ok(()),
-        Err(KeepError::Refused(e)) => Err(refused(rt, out.as_bytes(), &e)),
-        Err(KeepError::Changed) => Err(say(rt, Trouble::Changed)),
+        Err(KeepError::Refused(e)) => Err(teller.refused(out.as_bytes(), &e)),
+        Err(KeepError::Changed) => Err(teller.changed(out.as_bytes(), &PART_REPLACED)),
     }
 }
 
 /// Builds the image of a manifest in a format into the file `out`, from the files that the manifest
 /// names.
-fn build(rt: &HostRuntime, format: Format, manifest: &str, out: &str) -> Result<u64, Status> {
-    let text = text_of(rt, manifest)?;
-    let manifest = manifest_of(rt, &text.bytes)?;
-    let names = names_of(rt, manifest.sources())?;
-    let stamps = stamps_of(rt, &names)?;
-    let sizes = sizes_of(rt, &stamps)?;
-    let plan = planned(rt, format, &manifest, &sizes)?;
-    let target = target_of(rt, out, text.identity, &stamps)?;
-    let_rest(rt, &stamps);
+fn build(teller: &Teller<'_>, format: Format, name: &str, out: &str) -> Result<u64, Status> {
+    let text = text_of(teller, name)?;
+    let manifest = &manifest_of(teller, name, &text.bytes)?;
+    let origin = Origin { name, manifest };
+    let names = names_of(teller, origin, manifest.sources())?;
+    let stamps = stamps_of(teller, origin, &names)?;
+    let sizes = sizes_of(teller, &stamps)?;
+    let plan = planned(teller, format, origin, &sizes)?;
+    let target = target_of(teller, out, text.identity, &stamps)?;
+    let_rest(teller.rt, &stamps);
     let files = Files {
+        origin,
         names: &names,
         stamps: &stamps,
     };
-    write_image(rt, &plan, files, target, out)?;
+    write_image(teller, &plan, files, target, out)?;
     Ok(plan.image_len() as u64)
 }
 
 /// Builds as `build` does, says what came of it, and how the command ended.
-pub fn run(rt: &HostRuntime, format: Format, manifest: &str, out: &str) -> Status {
-    match build(rt, format, manifest, out) {
+pub fn run(teller: &Teller<'_>, format: Format, manifest: &str, out: &str) -> Status {
+    match build(teller, format, manifest, out) {
         Ok(len) => {
-            let line = &mut Plain::new(Held::new(rt, io::writer(rt)));
+            let line = &mut Plain::new(Held::new(teller.rt, io::writer(teller.rt)));
             match tell_built(line, len) {
                 Ok(()) => Status::Done,
-                Err(Failed) => say(rt, Trouble::WriteFault),
+                Err(Failed) => teller.say(Trouble::WriteFault),
             }
         }
         Err(status) => status,

@@ -61,10 +61,11 @@ impl<'a> Disk<'a> {
     }
 }
 
-/// Whether one of the files of these names cannot be found any more, or has another state by now.
-pub fn have_changed(rt: &HostRuntime, names: &[&str], stamps: &[Stamp]) -> bool {
+/// The first of the files of these names, by its number, that cannot be found any more or has
+/// another state by now.
+pub fn first_changed(rt: &HostRuntime, names: &[&str], stamps: &[Stamp]) -> Option<usize> {
     let mut pairs = names.iter().zip(stamps);
-    pairs.any(|(name, stamp)| has_changed(rt, name, stamp).unwrap_or(true))
+    pairs.position(|(name, stamp)| has_changed(rt, name, stamp).unwrap_or(true))
 }
 
 /// Reads a part of a file, again where a signal cut the reading short.

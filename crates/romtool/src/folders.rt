@@ -1,7 +1,8 @@
 //! Folders that a scan looks into, and whether they stay as they were found.
 use crate::stamp::{Stamp, let_rest};
-use crate::trouble::{refused, say};
-use command_line::{Status, Trouble};
+use crate::trouble::Teller;
+use command_line::Status;
+use sentences::reasons::{FOLDER_CHANGED, NO_FOLDER};
 use std::fs::{self, Metadata};
 use std::io;
 
@@ -49,8 +50,8 @@ impl Folder {
 
     /// Says that it did not stay as it was found, where it did not. No link is followed to it, but
     /// for the folder that is scanned.
-    fn stayed(&self, rt: &HostRuntime, top: &str) -> Result<(), Status> {
-        let name = self.name(top);
+    fn stayed(&self, teller: &Teller<'_>, top: &str) -> Result<(), Status> {
+        let (rt, name) = (teller.rt, self.name(top));
         let told = if self.is_top(top) {
             fs::metadata(rt, name)
         } else {
@@ -58,8 +59,8 @@ impl Folder {
         };
         match told {
             Ok(told) if Stamp::of(&told) == self.stamp => Ok(()),
-            Ok(_) => Err(say(rt, Trouble::File(name.as_bytes()))),
-            Err(e) => Err(refused(rt, name.as_bytes(), &e)),
+            Ok(_) => Err(teller.failed(name.as_bytes(), &FOLDER_CHANGED)),
+            Err(e) => Err(teller.refused(name.as_bytes(), &e)),
         }
     }
 }
@@ -72,16 +73,16 @@ impl Folder {
 pub fn top(rt: &HostRuntime, name: &str) -> io::Result<Metadata> {
     let told = fs::metadata(rt, name)?;
     if !told.is_dir() {
-        return Err(io::Error::from(io::ErrorKind::NotADirectory));
+        return Err(io::Error::new(io::ErrorKind::NotADirectory, NO_FOLDER));
     }
     Ok(told)
 }
 
 /// Says which of the folders below `top` did not stay as it was found, where one did not: then what
 /// was found is not what was there at one time.
-pub fn all_stayed(rt: &HostRuntime, top: &str, folders: &[Folder]) -> Result<(), Status> {
+pub fn all_stayed(teller: &Teller<'_>, top: &str, folders: &[Folder]) -> Result<(), Status> {
     for folder in folders {
-        folder.stayed(rt, top)?;
+        folder.stayed(teller, top)?;
     }
     Ok(())
 }

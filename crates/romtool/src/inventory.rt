@@ -1,10 +1,11 @@
 //! A folder as it is, as a manifest.
 use crate::folders::{self, Folder, all_stayed, base};
 use crate::streams::Again;
-use crate::trouble::{refused, say};
+use crate::trouble::Teller;
 use build_commands::inventory::{Device, FileKind, Inode, NamedFile, Wishes, lines, put_found};
 use command_line::{ScanAll, Status, Trouble};
 use rom_fields::bytes::{Failed, Plain};
+use sentences::reasons::NO_KIND;
 use std::fs::{self, DirEntry, Metadata};
 use std::io::{self, BufWriter};
 use std::os::unix::fs::{FileTypeExt, MetadataExt};
@@ -40,7 +41,7 @@ fn kind_of(rt: &HostRuntime, place: &str, told: &Metadata) -> io::Result<FileKin
     } else if kind.is_socket() {
         FileKind::Socket
     } else {
-        return Err(io::Error::from(io::ErrorKind::Unsupported));
+        return Err(io::Error::new(io::ErrorKind::Unsupported, NO_KIND));
     })
 }
 
@@ -77,34 +78,39 @@ impl Below {
     /// Adds an entry of a folder, or says that it is the entry which cannot be looked at.
     fn add_entry(
         &mut self,
-        rt: &HostRuntime,
+        teller: &Teller<'_>,
         folder: &str,
         entry: &DirEntry,
     ) -> Result<(), Status> {
-        let Ok(place) = format!(in rt.alloc(); "{folder}/{}", entry.file_name()) else {
-            return Err(say(rt, Trouble::Memory));
+        let Ok(place) = format!(in teller.rt.alloc(); "{folder}/{}", entry.file_name()) else {
+            return Err(teller.say(Trouble::Memory));
         };
         let added = match entry.metadata() {
-            Ok(told) => self.add(rt, place, &told),
+            Ok(told) => self.add(teller.rt, place, &told),
             Err(e) => Err(e),
         };
         match added {
             Ok(()) => Ok(()),
-            Err(e) => Err(refused(rt, entry.path().as_str().as_bytes(), &e)),
+            Err(e) => Err(teller.refused(entry.path().as_str().as_bytes(), &e)),
         }
     }
 
     /// Adds what a folder holds. It is looked into by the name `named`.
-    fn look_into(&mut self, rt: &HostRuntime, folder: &Folder, named: &str) -> Result<(), Status> {
-        folder.rest(rt);
-        let entries = match fs::read_dir(rt, named) {
+    fn look_into(
+        &mut self,
+        teller: &Teller<'_>,
+        folder: &Folder,
+        named: &str,
+    ) -> Result<(), Status> {
+        folder.rest(teller.rt);
+        let entries = match fs::read_dir(teller.rt, named) {
             Ok(entries) => entries,
-            Err(e) => return Err(refused(rt, named.as_bytes(), &e)),
+            Err(e) => return Err(teller.refused(named.as_bytes(), &e)),
         };
         for entry in entries {
             match entry {
-                Ok(entry) => self.add_entry(rt, &folder.place, &entry)?,
-                Err(e) => return Err(refused(rt, named.as_bytes(), &e)),
+                Ok(entry) => self.add_entry(teller, &folder.place, &entry)?,
+                Err(e) => return Err(teller.refused(named.as_bytes(), &e)),
             }
         }
         Ok(())
@@ -126,32 +132,32 @@ fn top(rt: &HostRuntime, folder: &str) -> io::Result<Below> {
 /// A folder and all that is below it, in the order of the bytes of paths, so that a folder comes
 /// before what it holds. What cannot be looked at is named, and so is a folder that changed before
 /// all were looked into; what has no text as its name is the fault of its folder.
-fn all_below(rt: &HostRuntime, folder: &str) -> Result<Vec<NamedFile>, Status> {
-    let mut below = match top(rt, folder) {
+fn all_below(teller: &Teller<'_>, folder: &str) -> Result<Vec<NamedFile>, Status> {
+    let mut below = match top(teller.rt, folder) {
         Ok(below) => below,
-        Err(e) => return Err(refused(rt, folder.as_bytes(), &e)),
+        Err(e) => return Err(teller.refused(folder.as_bytes(), &e)),
     };
     for _ in 0..u64::MAX {
         let Some(waiting) = below.waiting.pop() else {
             break;
         };
-        below.look_into(rt, &waiting, waiting.name(folder))?;
+        below.look_into(teller, &waiting, waiting.name(folder))?;
         if below.seen.push(waiting).is_err() {
-            return Err(say(rt, Trouble::Memory));
+            return Err(teller.say(Trouble::Memory));
         }
     }
-    all_stayed(rt, folder, &below.seen)?;
+    all_stayed(teller, folder, &below.seen)?;
     let Below { mut found, .. } = below;
     match found.sort_by(|a, b| a.place.cmp(&b.place)) {
         Ok(()) => Ok(found),
-        Err(_) => Err(say(rt, Trouble::Memory)),
+        Err(_) => Err(teller.say(Trouble::Memory)),
     }
 }
 
 /// Prints a manifest of a folder as it is, and says how the command ended. Nothing is printed where
 /// something below it cannot be looked at.
-pub fn run(rt: &HostRuntime, scan: ScanAll<'_>) -> Status {
-    let found = match all_below(rt, scan.folder) {
+pub fn run(teller: &Teller<'_>, scan: ScanAll<'_>) -> Status {
+    let found = match all_below(teller, scan.folder) {
         Ok(found) => found,
         Err(status) => return status,
     };
@@ -159,14 +165,14 @@ pub fn run(rt: &HostRuntime, scan: ScanAll<'_>) -> Status {
         format: scan.format,
         align: scan.align,
     };
-    let Ok(lines) = lines(rt.alloc(), base(scan.folder).len(), wishes, &found) else {
-        return say(rt, Trouble::Memory);
+    let Ok(lines) = lines(teller.rt.alloc(), base(scan.folder).len(), wishes, &found) else {
+        return teller.say(Trouble::Memory);
     };
-    let Ok(out) = BufWriter::new(rt.alloc(), Again::new(io::writer(rt))) else {
-        return say(rt, Trouble::Memory);
+    let Ok(out) = BufWriter::new(teller.rt.alloc(), Again::new(io::writer(teller.rt))) else {
+        return teller.say(Trouble::Memory);
     };
     match put_found(&mut Plain::new(out), &lines) {
         Ok(()) => Status::Done,
-        Err(Failed) => say(rt, Trouble::WriteFault),
+        Err(Failed) => teller.say(Trouble::WriteFault),
     }
 }

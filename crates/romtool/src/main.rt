@@ -13,12 +13,15 @@
 mod arguments;
 mod building;
 mod disk;
+mod explained;
 mod folders;
 mod inventory;
+mod origin;
 mod place;
 mod program;
 mod progress;
 mod reading;
+mod replies;
 mod scanning;
 mod stamp;
 mod streams;

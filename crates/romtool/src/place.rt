@@ -1,4 +1,5 @@
 //! Names of files: what links lead to, and the folders that names stand in.
+use sentences::reasons::TOO_MANY_LINKS;
 use std::{fs, io};
 
 /// How many links are followed, as many as Linux follows.
@@ -38,5 +39,5 @@ pub fn behind_links(rt: &HostRuntime, name: &str) -> io::Result<String> {
         let text = fs::read_link(rt, &whole)?;
         whole = led_to(rt, &whole, text.as_str())?;
     }
-    Err(io::Error::from(io::ErrorKind::FilesystemLoop))
+    Err(io::Error::new(io::ErrorKind::FilesystemLoop, TOO_MANY_LINKS))
 }

@@ -2,10 +2,11 @@
 ghost use Rattle.std.specs.Prelude.{◌≤◌};
 
 use crate::arguments::words;
+use crate::replies::Replies;
 use crate::streams::{Again, Held, hold_closed};
-use crate::trouble::{refused, say};
+use crate::trouble::Teller;
 use crate::{building, inventory, reading, scanning};
-use command_line::{Request, Status, Trouble, WordsError, read};
+use command_line::{Request, Status, Trouble, read};
 use rom_commands::hello::hello;
 use rom_commands::printing::print;
 use rom_commands::serving::serve_on;
@@ -13,79 +14,91 @@ use rom_commands::several::serve_several_on;
 use rom_fields::bytes::{ByteRead, ByteWrite, Plain};
 use std::io::{self, BufWriter};
 
+/// The status of a refusal, whose line standard output has.
+const REFUSED: u8 = 1;
+
+/// What is said behind the list of the example image.
+const EXAMPLE: &str =
+    "no subcommand is given: this is the image that the program carries; romtool --help says more";
+
 /// Does what the words of the command line ask for, and gives the status to end with.
 pub fn run(rt: &HostRuntime) -> u8
     ensures { result ≤ 3 }
 {
+    let teller = &Teller::new(rt);
     let _held = match hold_closed(rt) {
         Ok(held) => held,
-        Err(e) => return refused(rt, b"/", &e).code(),
+        Err(e) => return teller.refused(b"/", &e).code(),
     };
     let words = match words(rt) {
         Ok(words) => words,
-        Err(trouble) => return say(rt, trouble).code(),
+        Err(wrong) => return teller.refused_word(wrong).code(),
     };
     match read(rt.alloc(), words.as_slice()) {
-        Ok(request) => done(rt, request),
-        Err(WordsError::OutOfMemory) => say(rt, Trouble::Memory).code(),
-        Err(WordsError::Usage) => say(rt, Trouble::Usage).code(),
+        Ok(request) => done(teller, request),
+        Err(error) => teller.refused_words(error).code(),
     }
 }
 
 /// Does what is asked for.
-fn done(rt: &HostRuntime, request: Request<'_>) -> u8
+fn done(teller: &Teller<'_>, request: Request<'_>) -> u8
     ensures { result ≤ 3 }
 {
     match request {
-        Request::Example => example(rt),
-        Request::Check(image) => file(rt, image, false),
-        Request::List(image) => file(rt, image, true),
-        Request::Serve(image) => serve(rt, image),
-        Request::Space(images) => space(rt, images.as_slice()),
+        Request::Example => example(teller),
+        Request::Check(image) => file(teller, image, false),
+        Request::List(image) => file(teller, image, true),
+        Request::Serve(image) => serve(teller, image),
+        Request::Space(images) => space(teller, images.as_slice()),
         Request::Build(build) => {
-            building::run(rt, build.format, build.manifest, build.out).code()
+            building::run(teller, build.format, build.manifest, build.out).code()
         }
-        Request::Scan(folder) => scanning::run(rt, folder).code(),
-        Request::ScanAll(scan) => inventory::run(rt, scan).code(),
+        Request::Scan(folder) => scanning::run(teller, folder).code(),
+        Request::ScanAll(scan) => inventory::run(teller, scan).code(),
     }
 }
 
 /// Checks and lists the example image.
-fn example(rt: &HostRuntime) -> u8
+fn example(teller: &Teller<'_>) -> u8
     ensures { result ≤ 3 }
 {
     let image = hello();
-    let checked = print_out(rt, &image, false);
+    let checked = print_out(teller, b"hello", &image, false);
     if checked == 0 {
-        print_out(rt, &image, true)
+        let listed = print_out(teller, b"hello", &image, true);
+        if listed == 0 {
+            teller.explain(b"hello", &EXAMPLE);
+        }
+        listed
     } else {
         checked
     }
 }
 
 /// The bytes of a file; or else it is said why there are none.
-fn bytes_of(rt: &HostRuntime, name: &str) -> Result<Vec<u8>, Status> {
-    match reading::image(rt, name) {
+fn bytes_of(teller: &Teller<'_>, name: &str) -> Result<Vec<u8>, Status> {
+    match reading::image(teller.rt, name) {
         Ok(bytes) => Ok(bytes),
-        Err(e) => Err(refused(rt, name.as_bytes(), &e)),
+        Err(e) => Err(teller.refused(name.as_bytes(), &e)),
     }
 }
 
 /// Checks or lists the image in a file.
-fn file(rt: &HostRuntime, name: &str, listed: bool) -> u8
+fn file(teller: &Teller<'_>, name: &str, listed: bool) -> u8
     ensures { result ≤ 3 }
 {
-    match bytes_of(rt, name) {
-        Ok(bytes) => print_out(rt, &bytes, listed),
+    match bytes_of(teller, name) {
+        Ok(bytes) => print_out(teller, name.as_bytes(), &bytes, listed),
         Err(status) => status.code(),
     }
 }
 
 /// Serves the image in a file.
-fn serve(rt: &HostRuntime, name: &str) -> u8
+fn serve(teller: &Teller<'_>, name: &str) -> u8
     ensures { result ≤ 3 }
 {
-    let bytes = match bytes_of(rt, name) {
+    let rt = teller.rt;
+    let bytes = match bytes_of(teller, name) {
         Ok(bytes) => bytes,
         Err(status) => return status.code(),
     };
@@ -94,10 +107,13 @@ fn serve(rt: &HostRuntime, name: &str) -> u8
         rt.alloc(),
         &bytes,
         &mut Plain::new(Again::new(rt.reader())),
-        &mut Plain::new(Held::new(rt, io::writer(rt))),
+        &mut Plain::new(Replies::new(*teller, io::writer(rt))),
         &mut err,
     );
-    let _ = err.flush();
+    if status == REFUSED {
+        teller.explain_image(name.as_bytes(), &bytes);
+    }
+    teller.hand_on(err);
     status
 }
 
@@ -120,37 +136,53 @@ fn read_all<'a>(
     Ok(())
 }
 
-/// Answers lines from one to eight images, or tells the first fault of these.
-fn serve_files<R: ByteRead>(rt: &HostRuntime, files: &[Vec<u8>], lines: &mut R) -> u8
+/// Answers lines from the images in one to eight files of these names, or tells the first fault of
+/// these.
+fn serve_files<R: ByteRead>(
+    teller: &Teller<'_>,
+    names: &[&str],
+    files: &[Vec<u8>],
+    lines: &mut R,
+) -> u8
     ensures { result ≤ 3 }
 {
+    let rt = teller.rt;
     if files.is_empty() || files.len() > 8 {
-        return say(rt, Trouble::Usage).code();
+        return teller.say(Trouble::Usage).code();
     }
     let mut err = Plain::new(Held::new(rt, rt.stderr()));
-    let out = &mut Plain::new(Held::new(rt, io::writer(rt)));
+    let out = &mut Plain::new(Replies::new(*teller, io::writer(rt)));
     let status = serve_several_on(rt.alloc(), files, lines, out, &mut err);
-    let _ = err.flush();
+    if status == REFUSED {
+        teller.explain_images(names, files);
+    }
+    teller.hand_on(err);
     status
 }
 
 /// Serves the images in one to eight files. Where one of these cannot be read, a fault of an image
 /// before it comes first: these are served no lines, to see whether they have one.
-fn space(rt: &HostRuntime, names: &[&str]) -> u8
+fn space(teller: &Teller<'_>, names: &[&str]) -> u8
     ensures { result ≤ 3 }
 {
+    let rt = teller.rt;
     let mut files = Vec::new(rt.alloc());
     match read_all(rt, names, &mut files) {
-        Ok(()) => serve_files(rt, &files, &mut Plain::new(Again::new(rt.reader()))),
+        Ok(()) => serve_files(
+            teller,
+            names,
+            &files,
+            &mut Plain::new(Again::new(rt.reader())),
+        ),
         Err((name, e)) => {
             let no_lines: &[u8] = &[];
             let status = if files.is_empty() {
                 0
             } else {
-                serve_files(rt, &files, &mut Plain::new(no_lines))
+                serve_files(teller, names, &files, &mut Plain::new(no_lines))
             };
             if status == 0 {
-                refused(rt, name.as_bytes(), &e).code()
+                teller.refused(name.as_bytes(), &e).code()
             } else {
                 status
             }
@@ -158,15 +190,19 @@ fn space(rt: &HostRuntime, names: &[&str]) -> u8
     }
 }
 
-/// Prints what is shown of an image on the standard streams.
-fn print_out(rt: &HostRuntime, bytes: &[u8], listed: bool) -> u8
+/// Prints what is shown of an image on the standard streams. The image has this name.
+fn print_out(teller: &Teller<'_>, name: &[u8], bytes: &[u8], listed: bool) -> u8
     ensures { result ≤ 3 }
 {
+    let rt = teller.rt;
     let Ok(out) = BufWriter::new(rt.alloc(), Again::new(io::writer(rt))) else {
-        return say(rt, Trouble::Memory).code();
+        return teller.say(Trouble::Memory).code();
     };
     let mut err = Plain::new(Held::new(rt, rt.stderr()));
     let status = print(rt.alloc(), bytes, listed, &mut Plain::new(out), &mut err);
-    let _ = err.flush();
+    if status == REFUSED {
+        teller.explain_image(name, bytes);
+    }
+    teller.hand_on(err);
     status
 }

@@ -1,6 +1,7 @@
 //! Files that are read into memory: images as far as they say that they go, and manifests.
 use crate::stamp::Identity;
 use image_reach::{HEAD, reach_of};
+use sentences::reasons::MANIFEST_TOO_LONG;
 use std::fs::{File, OpenFile};
 use std::io::{self, Read};
 
@@ -52,7 +53,7 @@ pub fn manifest(rt: &HostRuntime, name: &str) -> io::Result<Text> {
         read_until(&mut file, &mut bytes, MOST_OF_MANIFEST + 1)?;
     }
     if found.len().max(bytes.len() as u64) > MOST_OF_MANIFEST {
-        return Err(io::Error::from(io::ErrorKind::FileTooLarge));
+        return Err(io::Error::new(io::ErrorKind::FileTooLarge, MANIFEST_TOO_LONG));
     }
     Ok(Text {
         bytes,

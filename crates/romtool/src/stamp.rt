@@ -1,4 +1,5 @@
 //! What tells one state of a file from another.
+use sentences::reasons::NO_REGULAR_FILE;
 use std::fs::{self, File, Metadata, OpenFile};
 use std::os::unix::fs::MetadataExt;
 use std::time::{Clock, Duration};
@@ -95,12 +96,12 @@ pub fn stamp_of(rt: &HostRuntime, name: &str) -> io::Result<Stamp> {
 fn open_stamped(rt: &HostRuntime, name: &str) -> io::Result<(File, Stamp)> {
     // what is no file is not opened, since to open a pipe is to wait for its writer
     if !fs::metadata(rt, name)?.is_file() {
-        return Err(io::Error::from(io::ErrorKind::InvalidInput));
+        return Err(io::Error::new(io::ErrorKind::InvalidInput, NO_REGULAR_FILE));
     }
     let file = File::open(rt, name)?;
     let found = file.metadata()?;
     if !found.is_file() {
-        return Err(io::Error::from(io::ErrorKind::InvalidInput));
+        return Err(io::Error::new(io::ErrorKind::InvalidInput, NO_REGULAR_FILE));
     }
     Ok((file, Stamp::of(&found)))
 }

@@ -78,6 +78,13 @@ pub struct Held<X> {
     held: Vec<u8>,
 }
 
+impl<X> Held<X> {
+    /// What is held back.
+    pub fn held(&self) -> &[u8] {
+        self.held.as_slice()
+    }
+}
+
 impl<X: Write> Held<X> {
     /// In front of this writer.
     pub fn new(rt: &HostRuntime, inner: X) -> Held<X> {

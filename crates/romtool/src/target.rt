@@ -3,6 +3,7 @@ use crate::place::{behind_links, folder_of};
 use crate::stamp::Identity;
 use crate::streams::Again;
 use rom_fields::bytes::Plain;
+use sentences::reasons::{HUNDRED_PARTS, REPLACED};
 use std::fs::{File, Metadata, OpenFile, OpenOptions};
 use std::io::BufWriter;
 use std::os::unix::fs::{MetadataExt, OpenOptionsExt, PermissionsExt, fchown};
@@ -26,6 +27,8 @@ struct Beside {
     name: String,
     whole: String,
     folder: Option<File>,
+    // how many parts of other builds are there
+    left: u32,
 }
 
 /// What an image is written to: a new file beside the one of its name, or what has its name, where
@@ -75,6 +78,7 @@ fn new_beside(rt: &HostRuntime, whole: &str, mode: u32) -> io::Result<Target> {
                     name,
                     whole,
                     folder,
+                    left: k,
                 });
                 return Ok(Target { file, beside });
             }
@@ -82,7 +86,7 @@ fn new_beside(rt: &HostRuntime, whole: &str, mode: u32) -> io::Result<Target> {
             Err(e) => return Err(e),
         }
     }
-    Err(io::Error::from(io::ErrorKind::AlreadyExists))
+    Err(io::Error::new(io::ErrorKind::AlreadyExists, HUNDRED_PARTS))
 }
 
 /// Gives a new file the owner of another one, where the system lets it, and its permissions;
@@ -100,7 +104,7 @@ fn in_place_of(rt: &HostRuntime, name: &str) -> io::Result<Target> {
     let found = to_write(rt, name)?.metadata()?;
     let whole = behind_links(rt, name)?;
     if Identity::of(&fs::symlink_metadata(rt, &whole)?) != Identity::of(&found) {
-        return Err(io::Error::from(io::ErrorKind::NotFound));
+        return Err(io::Error::new(io::ErrorKind::NotFound, REPLACED));
     }
     let target = new_beside(rt, whole.as_str(), PRIVATE)?;
     match take_after(&target.file, &found) {
@@ -175,6 +179,14 @@ impl Target {
             }
             Err(e) if e.kind() == io::ErrorKind::NotFound => in_a_new_place(rt, name, e),
             Err(e) => Err(e),
+        }
+    }
+
+    /// The name that it is to have, and how many parts of other builds are beside it.
+    pub fn parts(&self) -> Option<(&str, u32)> {
+        match &self.beside {
+            Some(beside) if beside.left > 0 => Some((&beside.whole, beside.left)),
+            _ => None,
         }
     }
 

@@ -1,0 +1,22 @@
+use Rattle.std.proofs.Common.{codes, refl, ap, [], ◌∷◌, ◌∙◌, ◌≡◌}
+use Rattle.clap.specs.Words.{Rule, shape_of}
+use Rattle.command_line.specs.Commands.{image_shape, images_rule, shape_with}
+use Rattle.command_line.proofs.Rows.{with_sub}
+use Rattle.command_line.proofs.commands.command.Goals as goal
+
+pub returns : goal.returns
+returns c =
+    let check : shape_of c.in_ok-with_one.field-0 ≡ image_shape (codes "check") =
+    c.in_ok-with_one.ensures ∙ ap (λ (r : Rule). shape_with (codes "check") (r ∷ [])) c.image.ensures.rule in
+    let list : shape_of c.in_ok-with_one-2.field-0 ≡ image_shape (codes "list") =
+    c.in_ok-with_one-2.ensures ∙ ap (λ (r : Rule). shape_with (codes "list") (r ∷ [])) c.image-2.ensures.rule in
+    let serve : shape_of c.in_ok-with_one-3.field-0 ≡ image_shape (codes "serve") =
+    c.in_ok-with_one-3.ensures ∙ ap (λ (r : Rule). shape_with (codes "serve") (r ∷ [])) c.image-3.ensures.rule in
+    let space : shape_of c.in_ok-with_one-4.field-0 ≡ shape_with (codes "space") (images_rule ∷ []) =
+    c.in_ok-with_one-4.ensures ∙ ap (λ (r : Rule). shape_with (codes "space") (r ∷ [])) c.images.ensures.rule in
+    let one = with_sub _ _ _ _ _ c.in_ok-command-2.ensures c.in_ok-command.ensures check refl in
+    let two = with_sub _ _ _ _ _ c.in_ok-command-3.ensures one list refl in
+    let three = with_sub _ _ _ _ _ c.in_ok-command-4.ensures two serve refl in
+    let four = with_sub _ _ _ _ _ c.in_ok-command-5.ensures three space refl in
+    let five = with_sub _ _ _ _ _ c.in_ok-command-6.ensures four c.in_ok-with_build.ensures refl in
+    with_sub _ _ _ _ _ c.in_ok-command-7.ensures five c.in_ok-with_scan.ensures refl

@@ -1,0 +1,169 @@
+//! The program's subcommands, each in one place: its sentence, its words and its options, as clap
+//! reads them and as help shows them.
+ghost use Rattle.std.specs.Prelude.{◌≡◌, ◌∷◌, [], IfOk, codes, false};
+ghost use Rattle.clap.specs.Words.{app_of, rule_of};
+ghost use Rattle.command_line.specs.Commands.{IsShaped, build_shape, flag_rule, images_rule};
+ghost use Rattle.command_line.specs.Commands.{option_rule, romtool_app, romtool_top, scan_shape};
+ghost use Rattle.command_line.specs.Commands.{shape_with, value_rule};
+
+use clap::{Arg, ArgAction, Command};
+use std::alloc::{AllocError, Global};
+
+/// The program's version.
+const VERSION: &str = "0.1.0";
+
+/// What the program is.
+const ABOUT: &str =
+    "Builds, checks, lists and serves read-only images that are used in place: romfs and cramfs";
+
+/// What help says behind the subcommands.
+const AFTER: &str = "\
+Without a subcommand the small image that the program carries is checked and listed.
+
+Status: 0 done, 1 refused (standard output has the line), 2 usage, 3 a file, memory or a stream.
+The man page docs/romtool.1 says all of it.";
+
+/// A name that has to be given, by its own name and the one that help shows, with its sentence.
+fn value<'a>(alloc: Global, name: &'a str, shown: &'a str, help: &'a str) -> Arg<'a>
+    ensures rule { rule_of result ≡ value_rule name.entry.now }
+    ensures local { result.global ≡ false }
+{
+    Arg::new(alloc, name)
+        .required(true)
+        .value_name(shown)
+        .help(help)
+}
+
+/// An option with a value.
+fn option<'a>(alloc: Global, name: &'a str, shown: &'a str, help: &'a str) -> Arg<'a>
+    ensures rule { rule_of result ≡ option_rule name.entry.now }
+    ensures local { result.global ≡ false }
+{
+    Arg::new(alloc, name)
+        .long(name)
+        .value_name(shown)
+        .help(help)
+}
+
+/// An option without a value.
+fn flag<'a>(alloc: Global, name: &'a str, help: &'a str) -> Arg<'a>
+    ensures rule { rule_of result ≡ flag_rule name.entry.now }
+    ensures local { result.global ≡ false }
+{
+    Arg::new(alloc, name)
+        .long(name)
+        .action(ArgAction::SetTrue)
+        .help(help)
+}
+
+/// The image that a subcommand is about.
+fn image<'a>(alloc: Global) -> Arg<'a>
+    ensures rule { rule_of result ≡ value_rule (codes "image") }
+    ensures local { result.global ≡ false }
+{
+    value(alloc, "image", "IMAGE", "The file of the image")
+}
+
+/// One to eight images.
+fn images<'a>(alloc: Global) -> Arg<'a>
+    ensures rule { rule_of result ≡ images_rule }
+    ensures local { result.global ≡ false }
+{
+    value(
+        alloc,
+        "image",
+        "IMAGE",
+        "The files of the images, one to eight",
+    )
+    .num_args(1..=8)
+}
+
+/// A subcommand of one argument, with its sentence.
+fn with_one<'a>(
+    alloc: Global,
+    name: &'a str,
+    about: &'a str,
+    arg: Arg<'a>,
+) -> Result<Command<'a>, AllocError>
+    requires { arg.global ≡ false }
+    ensures { IfOk result (IsShaped (shape_with name.entry.now (rule_of arg.entry ∷ []))) }
+{
+    let command = Command::new(alloc, name).about(about).arg(arg)?;
+    Ok(command)
+}
+
+/// The subcommand `build`.
+fn with_build<'a>(alloc: Global) -> Result<Command<'a>, AllocError>
+    ensures { IfOk result (IsShaped build_shape) }
+{
+    let format = value(
+        alloc,
+        "format",
+        "FORMAT",
+        "romfs, cramfs or cramfs-be (big-endian)",
+    );
+    let about = "Builds the image of a manifest and of the files that it names";
+    let command = with_one(alloc, "build", about, format)?;
+    let manifest = value(alloc, "manifest", "MANIFEST", "The file of the manifest");
+    let command = command.arg(manifest)?;
+    let out = value(
+        alloc,
+        "out",
+        "OUT",
+        "The file of the image, which is replaced as a whole",
+    );
+    let command = command.arg(out)?;
+    Ok(command)
+}
+
+/// The subcommand `scan`.
+fn with_scan<'a>(alloc: Global) -> Result<Command<'a>, AllocError>
+    ensures { IfOk result (IsShaped scan_shape) }
+{
+    let about = "Prints a manifest of a folder";
+    let folder = value(alloc, "folder", "DIR", "The folder");
+    let command = with_one(alloc, "scan", about, folder)?;
+    let all = flag(
+        alloc,
+        "all",
+        "Files of all kinds, with their modes, owners and further names",
+    );
+    let command = command.arg(all)?;
+    let format =
+        "With --all: what romfs, cramfs or cramfs-be does not take is brought to the nearest";
+    let command = command.arg(option(alloc, "for", "FORMAT", format))?;
+    let align = "With --all: the alignment of executable files, a power of two from 4 to 65536";
+    let command = command.arg(option(alloc, "align", "N", align))?;
+    Ok(command)
+}
+
+/// The program without its subcommands.
+fn top<'a>(alloc: Global) -> Result<Command<'a>, AllocError>
+    ensures { IfOk result (λ c. app_of c ≡ romtool_top) }
+{
+    let command = Command::new(alloc, "romtool")
+        .version(VERSION)
+        .about(ABOUT)
+        .after_help(AFTER);
+    let explain = "Says in words, on standard error, why something was refused or failed";
+    let command = command.arg(flag(alloc, "explain", explain))?;
+    Ok(command)
+}
+
+/// The program's subcommands.
+pub fn command<'a>(alloc: Global) -> Result<Command<'a>, AllocError>
+    ensures { IfOk result (λ c. app_of c ≡ romtool_app) }
+{
+    let command = top(alloc)?;
+    let about = "Says whether a file holds a sound image, or which fault it has";
+    let command = command.subcommand(with_one(alloc, "check", about, image(alloc))?)?;
+    let about = "Prints a line for each name in an image";
+    let command = command.subcommand(with_one(alloc, "list", about, image(alloc))?)?;
+    let about = "Answers the lines of standard input from an image";
+    let command = command.subcommand(with_one(alloc, "serve", about, image(alloc))?)?;
+    let about = "Answers lines from one to eight images, with sessions and mounts";
+    let command = command.subcommand(with_one(alloc, "space", about, images(alloc))?)?;
+    let command = command.subcommand(with_build(alloc)?)?;
+    let command = command.subcommand(with_scan(alloc)?)?;
+    Ok(command)
+}

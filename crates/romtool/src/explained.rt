@@ -1,0 +1,115 @@
+//! What of a build is said in words alone: why a manifest is refused, and warnings.
+use crate::origin::Origin;
+use crate::target::Target;
+use crate::trouble::Teller;
+use plan_misfits::Format;
+use sentences::{manifest_line, manifest_sentence, misfit_sentence, plan_line, words};
+use std::alloc::AllocError;
+use std::fmt::Display;
+
+/// Says in words what is so of a line of a manifest; line 0 is the whole.
+fn of_line<W: Display>(
+    teller: &Teller<'_>,
+    manifest: &str,
+    line: u64,
+    what: &W,
+) -> Result<(), AllocError> {
+    let alloc = teller.rt.alloc();
+    let place = if line == 0 {
+        String::from_str(alloc, manifest)?
+    } else {
+        format!(in alloc; "{manifest}:{line}")?
+    };
+    teller.explain(place.as_bytes(), what);
+    Ok(())
+}
+
+/// Says in words which fault a line of a text has, so that it is no manifest.
+pub fn bad_manifest(teller: &Teller<'_>, manifest: &str, text: &[u8], line: u64, number: u32) {
+    if teller.is_explained() {
+        let _ = try_bad_manifest(teller, manifest, text, line, number);
+    }
+}
+
+fn try_bad_manifest(
+    teller: &Teller<'_>,
+    manifest: &str,
+    text: &[u8],
+    line: u64,
+    number: u32,
+) -> Result<(), AllocError> {
+    let alloc = teller.rt.alloc();
+    let (name, sentence) = (manifest::name(number), manifest_sentence(number));
+    let seen = manifest_line::seen(alloc, text, line, number)?;
+    let what = format!(in alloc; "{name} ({number}): {sentence}: {seen}")?;
+    of_line(teller, manifest, line, &what)
+}
+
+/// Says in words what of a manifest does not fit a format.
+pub fn misfit(
+    teller: &Teller<'_>,
+    format: Format,
+    origin: Origin<'_>,
+    sizes: &[u64],
+    misfit: (u64, u32),
+) {
+    if teller.is_explained() {
+        let _ = try_misfit(teller, format, origin, sizes, misfit);
+    }
+}
+
+fn try_misfit(
+    teller: &Teller<'_>,
+    format: Format,
+    origin: Origin<'_>,
+    sizes: &[u64],
+    misfit: (u64, u32),
+) -> Result<(), AllocError> {
+    let alloc = teller.rt.alloc();
+    let (line, number) = misfit;
+    let (name, sentence) = (layout_plan::name(number), misfit_sentence(number));
+    let seen = plan_line::seen(alloc, format, origin.manifest, sizes, misfit)?;
+    let what = format!(in alloc; "{name} ({number}): {sentence}: {seen}")?;
+    of_line(teller, origin.name, line, &what)
+}
+
+/// Warns of lines that end in a carriage return, which is a part of their last field.
+pub fn returns(teller: &Teller<'_>, manifest: &str, text: &[u8]) {
+    if teller.is_explained() {
+        let _ = try_returns(teller, manifest, text);
+    }
+}
+
+fn try_returns(teller: &Teller<'_>, manifest: &str, text: &[u8]) -> Result<(), AllocError> {
+    let Some((first, count)) = manifest_line::returns_of(text) else {
+        return Ok(());
+    };
+    let what = format!(in teller.rt.alloc();
+        "warning: lines that end in a carriage return, a part of their last word: {count}"
+    )?;
+    of_line(teller, manifest, first, &what)
+}
+
+/// Warns of parts of other builds beside the image.
+pub fn parts(teller: &Teller<'_>, target: &Target) {
+    if teller.is_explained() {
+        let _ = try_parts(teller, target);
+    }
+}
+
+fn try_parts(teller: &Teller<'_>, target: &Target) -> Result<(), AllocError> {
+    let Some((whole, count)) = target.parts() else {
+        return Ok(());
+    };
+    let alloc = teller.rt.alloc();
+    let place = format!(in alloc; "{whole}.0.part")?;
+    let whole = words::escaped(alloc, whole.as_bytes())?;
+    let last = count.saturating_sub(1);
+    let what = if count == 1 {
+        format!(in alloc; "warning: another build left it, or is still at it")?
+    } else {
+        format!(in alloc; "warning: other builds left it, up to {whole}.{last}.part, or are at it")?
+    };
+    teller.explain(place.as_bytes(), &what);
+    Ok(())
+}

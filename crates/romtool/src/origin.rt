@@ -1,0 +1,25 @@
+//! Where the sources of an image are named.
+use manifest::Manifest;
+use sentences::plan_line::line_of_source;
+
+/// A manifest, and the name of the file that it stands in.
+#[derive(Clone, Copy)]
+pub struct Origin<'a> {
+    pub name: &'a str,
+    pub manifest: &'a Manifest,
+}
+
+impl<'a> Origin<'a> {
+    /// The name of the source of this number, from 0 on.
+    pub fn source(&self, number: usize) -> &'a [u8] {
+        match self.manifest.sources().get(number) {
+            Some(source) => source.as_bytes(),
+            None => &[],
+        }
+    }
+
+    /// The line that names it.
+    pub fn line(&self, number: usize) -> u64 {
+        line_of_source(self.manifest, number).unwrap_or(0)
+    }
+}

@@ -1,0 +1,79 @@
+//! Replies to lines, and in words why a line was refused.
+use crate::streams::Held;
+use crate::trouble::Teller;
+use sentences::{call_sentence, line_sentence};
+use std::io::{self, Write};
+
+/// How many bytes of a reply tell why it refuses: `0 err ENAMETOOLONG` has eighteen.
+const FRONT: usize = 32;
+
+/// A writer of replies, each of which is flushed. Behind one that refuses a line it is said in words
+/// why, where that is asked for.
+#[derive(Drop)]
+pub struct Replies<'a, X> {
+    inner: Held<X>,
+    teller: Teller<'a>,
+    front: Vec<u8>,
+    lines: u64,
+}
+
+/// Why a reply refuses its line, where it does: `err NAME` a call, and another one the line itself.
+fn refusal(reply: &[u8]) -> Option<&'static str> {
+    let reply = match reply {
+        [b'0'..=b'7', b' ', rest @ ..] => rest,
+        _ => reply,
+    };
+    match reply {
+        [b'e', b'r', b'r', b' ', name @ .., b'\n'] => call_sentence(name),
+        [line @ .., b'\n'] => line_sentence(line),
+        _ => None,
+    }
+}
+
+impl<'a, X: Write> Replies<'a, X> {
+    /// In front of this writer.
+    pub fn new(teller: Teller<'a>, inner: X) -> Replies<'a, X> {
+        Replies {
+            inner: Held::new(teller.rt, inner),
+            teller,
+            front: Vec::new(teller.rt.alloc()),
+            lines: 0,
+        }
+    }
+
+    /// Keeps the front of a reply.
+    fn note(&mut self, b: &[u8]) {
+        let room = FRONT.saturating_sub(self.front.len());
+        let part = b.get(..room).unwrap_or(b);
+        let _ = self.front.extend_from_slice(part);
+    }
+
+    /// Says in words why the reply refuses its line.
+    fn explain(&mut self) {
+        self.lines = self.lines.saturating_add(1);
+        if let Some(sentence) = refusal(&self.front) {
+            let alloc = self.teller.rt.alloc();
+            if let Ok(place) = format!(in alloc; "stdin:{}", self.lines) {
+                self.teller.explain(place.as_bytes(), &sentence);
+            }
+        }
+        self.front.clear();
+    }
+}
+
+impl<X: Write> Write for Replies<'_, X> {
+    fn write(&mut self, b: &[u8]) -> io::Result<usize> {
+        if self.teller.is_explained() {
+            self.note(b);
+        }
+        self.inner.write(b)
+    }
+
+    fn flush(&mut self) -> io::Result<()> {
+        self.inner.flush()?;
+        if self.teller.is_explained() {
+            self.explain();
+        }
+        Ok(())
+    }
+}

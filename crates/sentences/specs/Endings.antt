@@ -1,0 +1,16 @@
+-- Why a command ended early, by what standard error says. (This project's own.)
+use Rattle.std.specs.Prelude.{ℕ, List, Option, Some, None, if◌then◌else◌, codes}
+use Rattle.std.specs.Str.{bytes_eq}
+
+-- the sentence of an ending
+abbrev pub ending_sentence : List ℕ → Option (List ℕ)
+ending_sentence text =
+    if bytes_eq text (codes "memory") then
+    Some (codes "the system gave no more memory")
+    else (if bytes_eq text (codes "write fault") then
+    Some (codes "standard output did not take everything")
+    else (if bytes_eq text (codes "read fault") then
+    Some (codes "standard input could not be read")
+    else (if bytes_eq text (codes "too many reads") then
+    Some (codes "standard input had not ended after 2^40 bytes")
+    else None)))

@@ -1,0 +1,54 @@
+-- The faults of an image in words, by their numbers. (This project's own.)
+use Rattle.std.specs.Prelude.{ℕ, List, ◌==◌, if◌then◌else◌, codes}
+use Rattle.rom_faults.specs.FaultNumbers.{TOO_MANY, SHORT, MAGIC, SIZE, SUM, FLAGS, CRC, SIGNATURE, ROOT, BOUNDS, HEADER_SUM, BAD_NAME, KIND, LINK_SIZE, BLOCK_KIND, LIST_END, TWICE, TOO_DEEP, OVERLAP, DUPLICATE_NAME, DOT, HARD_LINK, UNSORTED}
+
+-- the sentence of the fault of this number
+abbrev pub fault_sentence : ℕ → List ℕ
+fault_sentence n =
+    if n == TOO_MANY then
+    codes "the image has more than 1,048,576 references"
+    else (if n == SHORT then
+    codes "the file is shorter than a superblock, 32 bytes of romfs or 76 of cramfs"
+    else (if n == MAGIC then
+    codes "the file begins as neither romfs nor cramfs"
+    else (if n == SIZE then
+    codes "the stated size is smaller than a superblock or greater than the file"
+    else (if n == SUM then
+    codes "the words of the first 512 bytes do not sum to 0"
+    else (if n == FLAGS then
+    codes "a flag above 800 (hexadecimal) is set"
+    else (if n == CRC then
+    codes "the stored CRC-32 is not that of the bytes"
+    else (if n == SIGNATURE then
+    codes "the text Compressed ROMFS is not there"
+    else (if n == ROOT then
+    codes "the root is not where the format says, or is no directory"
+    else (if n == BOUNDS then
+    codes "a record, or a part that it names, lies outside of the image"
+    else (if n == HEADER_SUM then
+    codes "the words of a file header and its name do not sum to 0"
+    else (if n == BAD_NAME then
+    codes "a name is empty, does not end, or has a slash or a zero in its midst"
+    else (if n == KIND then
+    codes "the upper four bits of a mode name no kind of file"
+    else (if n == LINK_SIZE then
+    codes "the text of a symbolic link is empty or longer than 4,095 bytes"
+    else (if n == BLOCK_KIND then
+    codes "a block is not stored as it is, uncompressed behind a direct pointer"
+    else (if n == LIST_END then
+    codes "an entry, or its name, goes past the end of its list"
+    else (if n == TWICE then
+    codes "two references lead to one record, or a loop does"
+    else (if n == TOO_DEEP then
+    codes "more than 64 names lead to an entry"
+    else (if n == OVERLAP then
+    codes "two parts of the image share bytes"
+    else (if n == DUPLICATE_NAME then
+    codes "a name stands twice in one directory"
+    else (if n == DOT then
+    codes ". or .. stands where it may not, or leads to another directory"
+    else (if n == HARD_LINK then
+    codes "a hard link leads to nothing, to a directory, or over more than 8 links"
+    else (if n == UNSORTED then
+    codes "a name comes before the one in front of it, in a sorted list"
+    else codes "no rule has this number"))))))))))))))))))))))

@@ -1,0 +1,5 @@
+pub mod Endings
+pub mod Faults
+pub mod Manifests
+pub mod Misfits
+pub mod Replies

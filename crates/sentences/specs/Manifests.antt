@@ -1,0 +1,22 @@
+-- The faults of a manifest in words, by their numbers. (This project's own.)
+use Rattle.std.specs.Prelude.{ℕ, List, ◌==◌, if◌then◌else◌, codes}
+use Rattle.manifest.specs.FaultNumbers.{BAD_WORD, BAD_NUMBER, BAD_PATH, NO_PARENT, EXISTS, BAD_ALIGN, BAD_TARGET}
+
+-- the sentence of the fault of this number
+abbrev pub manifest_sentence : ℕ → List ℕ
+manifest_sentence n =
+    if n == BAD_WORD then
+    codes "an unknown word, a wrong number of fields, an empty one, or no b or c"
+    else (if n == BAD_NUMBER then
+    codes "a mode is not four octal digits, or a number not decimal below 2^32"
+    else (if n == BAD_PATH then
+    codes "a path, a link's text or a volume's name is not lawful"
+    else (if n == NO_PARENT then
+    codes "no earlier line makes the folder that the path stands in"
+    else (if n == EXISTS then
+    codes "an earlier line has the path, or names the volume"
+    else (if n == BAD_ALIGN then
+    codes "the alignment is no power of two from 4 to 65536"
+    else (if n == BAD_TARGET then
+    codes "what hard or same names is no earlier file that it can lead to"
+    else codes "no rule has this number"))))))

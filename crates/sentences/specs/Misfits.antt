@@ -1,0 +1,16 @@
+-- What does not fit a format in words, by its number. (This project's own.)
+use Rattle.std.specs.Prelude.{ℕ, List, ◌==◌, if◌then◌else◌, codes}
+use Rattle.plan_misfits.specs.declared.misfit.TheConstants.{ATTRIBUTE, TOO_LARGE, NAME_TOO_LONG, HARD_LINK}
+
+-- the sentence of the misfit of this number
+abbrev pub misfit_sentence : ℕ → List ℕ
+misfit_sentence n =
+    if n == ATTRIBUTE then
+    codes "the format cannot say an owner, a group, a mode or a device's number"
+    else (if n == TOO_LARGE then
+    codes "a file, a list or the whole is too large"
+    else (if n == NAME_TOO_LONG then
+    codes "a name is longer than those of the format"
+    else (if n == HARD_LINK then
+    codes "cramfs has no further names of a file: write same in place of hard"
+    else codes "no rule has this number")))

@@ -1,0 +1,45 @@
+-- Why a line is not answered, by what the reply says. (This project's own.)
+use Rattle.std.specs.Prelude.{ℕ, List, Option, Some, None, if◌then◌else◌, codes}
+use Rattle.std.specs.Str.{bytes_eq}
+
+-- the sentence of a refused call
+abbrev pub call_sentence : List ℕ → Option (List ℕ)
+call_sentence text =
+    if bytes_eq text (codes "ENOENT") then
+    Some (codes "no file has this path")
+    else (if bytes_eq text (codes "ENOTDIR") then
+    Some (codes "a directory is wanted here, and there is none")
+    else (if bytes_eq text (codes "ELOOP") then
+    Some (codes "more than 40 symbolic links are on the way")
+    else (if bytes_eq text (codes "ENAMETOOLONG") then
+    Some (codes "the path has more than 4,095 bytes, or a name in it more than 255")
+    else (if bytes_eq text (codes "EINVAL") then
+    Some (codes "the path has no slash in front, or the call does not fit what it names")
+    else (if bytes_eq text (codes "EBADF") then
+    Some (codes "no open file has this number")
+    else (if bytes_eq text (codes "EISDIR") then
+    Some (codes "the open file is a directory")
+    else (if bytes_eq text (codes "ENXIO") then
+    Some (codes "only directories and regular files are opened")
+    else (if bytes_eq text (codes "EMFILE") then
+    Some (codes "64 files are open, and no more can be")
+    else (if bytes_eq text (codes "ERANGE") then
+    Some (codes "the bytes do not follow one another in the image")
+    else (if bytes_eq text (codes "ENODEV") then
+    Some (codes "no image has this number")
+    else (if bytes_eq text (codes "EBUSY") then
+    Some (codes "the image or the directory is in use by a mount")
+    else None)))))))))))
+
+-- the sentence of a line that asks for nothing
+abbrev pub line_sentence : List ℕ → Option (List ℕ)
+line_sentence text =
+    if bytes_eq text (codes "bad command") then
+    Some (codes "the first word is no command")
+    else (if bytes_eq text (codes "bad line") then
+    Some (codes "a word is missing, empty or too many, or the line has over 8,191 bytes")
+    else (if bytes_eq text (codes "bad number") then
+    Some (codes "a number is not decimal below 2^32, or a read is of more than 4096 bytes")
+    else (if bytes_eq text (codes "bad session") then
+    Some (codes "the line does not begin with a session, 0 to 7, and a space")
+    else None)))

@@ -1,0 +1,41 @@
+//! What the faults of an image are, in a sentence each.
+ghost use Rattle.std.specs.Prelude.{◌≡◌};
+ghost use Rattle.sentences.specs.Faults.{fault_sentence};
+
+use rom_faults::fault::{
+    BAD_NAME, BLOCK_KIND, BOUNDS, CRC, DOT, DUPLICATE_NAME, FLAGS, HARD_LINK, HEADER_SUM, KIND,
+    LINK_SIZE, LIST_END, MAGIC, OVERLAP, ROOT, SHORT, SIGNATURE, SIZE, SUM, TOO_DEEP, TOO_MANY,
+    TWICE, UNSORTED,
+};
+
+/// The fault of this number, as docs/FAULTS.md has it in words.
+pub fn fault_sentence(number: u32) -> &'static str
+    ensures { result.now ≡ fault_sentence number }
+{
+    match number {
+        TOO_MANY => "the image has more than 1,048,576 references",
+        SHORT => "the file is shorter than a superblock, 32 bytes of romfs or 76 of cramfs",
+        MAGIC => "the file begins as neither romfs nor cramfs",
+        SIZE => "the stated size is smaller than a superblock or greater than the file",
+        SUM => "the words of the first 512 bytes do not sum to 0",
+        FLAGS => "a flag above 800 (hexadecimal) is set",
+        CRC => "the stored CRC-32 is not that of the bytes",
+        SIGNATURE => "the text Compressed ROMFS is not there",
+        ROOT => "the root is not where the format says, or is no directory",
+        BOUNDS => "a record, or a part that it names, lies outside of the image",
+        HEADER_SUM => "the words of a file header and its name do not sum to 0",
+        BAD_NAME => "a name is empty, does not end, or has a slash or a zero in its midst",
+        KIND => "the upper four bits of a mode name no kind of file",
+        LINK_SIZE => "the text of a symbolic link is empty or longer than 4,095 bytes",
+        BLOCK_KIND => "a block is not stored as it is, uncompressed behind a direct pointer",
+        LIST_END => "an entry, or its name, goes past the end of its list",
+        TWICE => "two references lead to one record, or a loop does",
+        TOO_DEEP => "more than 64 names lead to an entry",
+        OVERLAP => "two parts of the image share bytes",
+        DUPLICATE_NAME => "a name stands twice in one directory",
+        DOT => ". or .. stands where it may not, or leads to another directory",
+        HARD_LINK => "a hard link leads to nothing, to a directory, or over more than 8 links",
+        UNSORTED => "a name comes before the one in front of it, in a sorted list",
+        _ => "no rule has this number",
+    }
+}

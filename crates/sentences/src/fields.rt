@@ -1,0 +1,88 @@
+//! The fields of a manifest's lines.
+
+/// A line of a text, by its number from 1 on, without the line feed at its end.
+pub fn line_of(text: &[u8], line: u64) -> &[u8] {
+    let Ok(number) = usize::try_from(line) else {
+        return &[];
+    };
+    match text
+        .split(|byte| *byte == b'\n')
+        .nth(number.saturating_sub(1))
+    {
+        Some(line) => line,
+        None => &[],
+    }
+}
+
+/// A field of a line, by its number from 0 on; empty where there is none.
+pub fn field_of(line: &[u8], number: usize) -> &[u8] {
+    line.split(|byte| *byte == b' ').nth(number).unwrap_or(&[])
+}
+
+/// How many fields a line has.
+pub fn count_of(line: &[u8]) -> usize {
+    let mut count = 0usize;
+    for _ in line.split(|byte| *byte == b' ') {
+        count = count.saturating_add(1);
+    }
+    count
+}
+
+/// How many fields a line has that begins with this word, with itself.
+pub fn wanted_count(word: &[u8]) -> Option<usize> {
+    match word {
+        b"dir" | b"pipe" | b"sock" => Some(5),
+        b"file" => Some(7),
+        b"slink" | b"same" => Some(6),
+        b"nod" => Some(8),
+        b"hard" => Some(3),
+        b"volume" => Some(2),
+        _ => None,
+    }
+}
+
+/// The numbers of a line that begins with this word, each by its place, and by its name in
+/// docs/MANIFEST.md.
+pub fn numbers_of(word: &[u8]) -> &'static [(usize, &'static str)] {
+    match word {
+        b"hard" | b"volume" => &[],
+        b"file" => &[(2, "MODE"), (3, "UID"), (4, "GID"), (5, "ALIGN")],
+        b"nod" => &[
+            (2, "MODE"),
+            (3, "UID"),
+            (4, "GID"),
+            (6, "MAJOR"),
+            (7, "MINOR"),
+        ],
+        _ => &[(2, "MODE"), (3, "UID"), (4, "GID")],
+    }
+}
+
+/// Whether a text is a number of decimal digits below 2^32 without leading zeros.
+pub fn is_decimal(text: &[u8]) -> bool {
+    let mut number = 0u64;
+    for byte in text {
+        if !byte.is_ascii_digit() {
+            return false;
+        }
+        let digit = u64::from(byte.saturating_sub(b'0'));
+        number = number.saturating_mul(10).saturating_add(digit);
+    }
+    match text {
+        [] | [b'0', _, ..] => false,
+        _ => number <= u64::from(u32::MAX),
+    }
+}
+
+/// Whether a text is a mode of four octal digits.
+pub fn is_mode(text: &[u8]) -> bool {
+    text.len() == 4 && text.iter().all(|byte| *byte >= b'0' && *byte < b'8')
+}
+
+/// The folder that a path stands in.
+pub fn folder_of(path: &[u8]) -> &[u8] {
+    match path.iter().rposition(|byte| *byte == b'/') {
+        Some(end) => path.get(..end).unwrap_or(path),
+        None => path,
+    }
+}

@@ -1,0 +1,100 @@
+//! What stands in a line of a manifest that has a fault.
+use crate::fields::{
+    count_of, field_of, folder_of, is_decimal, is_mode, line_of, numbers_of, wanted_count,
+};
+use crate::words::field_shown;
+use manifest::error::{BAD_ALIGN, BAD_NUMBER, BAD_TARGET, BAD_WORD, EXISTS, NO_PARENT};
+use std::alloc::{AllocError, Global};
+
+/// The place of the alignment of a `file` line.
+const ALIGN_PLACE: usize = 5;
+
+/// Of a line with a wrong first word, a wrong number of fields or a wrong kind of a device.
+fn wrong_word(alloc: Global, line: &[u8]) -> Result<String, AllocError> {
+    let word = field_of(line, 0);
+    let text = field_shown(alloc, word)?;
+    let count = count_of(line);
+    let Some(wanted) = wanted_count(word) else {
+        return format!(in alloc; "no line begins with the word {text}");
+    };
+    for number in 0..count {
+        if field_of(line, number).is_empty() {
+            return format!(in alloc;
+                "word {} is empty, behind two spaces or at the end",
+                number + 1
+            );
+        }
+    }
+    if count != wanted {
+        return format!(in alloc; "a line {text} has {wanted} words, and this one {count}");
+    }
+    format!(in alloc;
+        "{} is neither b nor c",
+        field_shown(alloc, field_of(line, 5))?
+    )
+}
+
+/// Of a line with a wrong number: the first one.
+fn wrong_number(alloc: Global, line: &[u8]) -> Result<String, AllocError> {
+    for (place, name) in numbers_of(field_of(line, 0)) {
+        let field = field_of(line, *place);
+        let is_lawful = if *place == 2 {
+            is_mode(field)
+        } else {
+            is_decimal(field)
+        };
+        if !is_lawful {
+            return format!(in alloc; "{name} is {}", field_shown(alloc, field)?);
+        }
+    }
+    Ok(String::new(alloc))
+}
+
+/// Of a line with a wrong path: its paths and texts.
+fn wrong_path(alloc: Global, line: &[u8]) -> Result<String, AllocError> {
+    let path = field_shown(alloc, field_of(line, 1))?;
+    match field_of(line, 0) {
+        b"slink" | b"hard" | b"same" => {
+            let last = field_of(line, count_of(line).saturating_sub(1));
+            format!(in alloc; "{path} or {}", field_shown(alloc, last)?)
+        }
+        _ => Ok(path),
+    }
+}
+
+/// What stands in the line of this number of a text, where it has the fault of this number.
+///
+/// # Errors
+///
+/// Memory was refused.
+pub fn seen(alloc: Global, text: &[u8], line: u64, number: u32) -> Result<String, AllocError> {
+    let line = line_of(text, line);
+    match number {
+        BAD_WORD => wrong_word(alloc, line),
+        BAD_NUMBER => wrong_number(alloc, line),
+        NO_PARENT => field_shown(alloc, folder_of(field_of(line, 1))),
+        EXISTS => field_shown(alloc, field_of(line, 1)),
+        BAD_ALIGN => field_shown(alloc, field_of(line, ALIGN_PLACE)),
+        BAD_TARGET => field_shown(alloc, field_of(line, count_of(line).saturating_sub(1))),
+        _ => wrong_path(alloc, line),
+    }
+}
+
+/// How many lines of a text end in a carriage return, and the first of them.
+pub fn returns_of(text: &[u8]) -> Option<(u64, u64)> {
+    let (mut first, mut count, mut number) = (0u64, 0u64, 0u64);
+    for line in text.split(|byte| *byte == b'\n') {
+        number = number.saturating_add(1);
+        if line.ends_with(b"\r") {
+            count = count.saturating_add(1);
+            if first == 0 {
+                first = number;
+            }
+        }
+    }
+    if count == 0 {
+        None
+    } else {
+        Some((first, count))
+    }
+}

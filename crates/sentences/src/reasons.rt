@@ -1,0 +1,52 @@
+//! Why the program itself refuses a file that the system would lend: at most 80 bytes each, as
+//! many as an error of std keeps.
+
+/// A source is a folder, a device, a pipe or a socket.
+pub const NO_REGULAR_FILE: &str = "it is no regular file";
+
+/// A manifest is longer than it may be.
+pub const MANIFEST_TOO_LONG: &str = "a manifest has at most 2^30 bytes";
+
+/// What is to be scanned is no folder.
+pub const NO_FOLDER: &str = "it is no folder";
+
+/// Links lead on and on.
+pub const TOO_MANY_LINKS: &str = "more than 40 symbolic links follow one another";
+
+/// No name is left for the part of a build.
+pub const HUNDRED_PARTS: &str =
+    "a hundred parts of builds, .0.part to .99.part, are left beside it";
+
+/// A folder holds what no manifest can say.
+pub const NO_KIND: &str = "it is of a kind that no manifest has";
+
+/// What is to be replaced was taken away while it was looked at.
+pub const REPLACED: &str = "another file took its name meanwhile";
+
+/// A source has another state than it had.
+pub const SOURCE_CHANGED: &str = "it changed while it was read";
+
+/// A source gave fewer or more bytes than the system said.
+pub const SOURCE_UNREAD: &str = "it could not be read, or has another length than the system told";
+
+/// A folder has another state than it had.
+pub const FOLDER_CHANGED: &str = "it changed while it was scanned";
+
+/// The image's name is that of what it is made of.
+pub const OWN_INPUT: &str = "the image would replace its own manifest or source";
+
+/// The system refused to take a part of the image.
+pub const NOT_TAKEN: &str = "it did not take the whole image";
+
+/// A name of a source cannot be given to the system.
+pub const NO_TEXT: &str = "a name that is no UTF-8 cannot be opened";
+
+/// A word of the command line is no text.
+pub const NO_WORD: &str = "it is no UTF-8, and words have to be";
+
+/// The part's name leads elsewhere.
+pub const PART_REPLACED: &str =
+    "another file took the name of its part, or nothing has it any more";
+
+/// The bytes that were written are not those that were summed.
+pub const SUM_DIFFERS: &str = "a source changed while it was read: the stored sum is another";

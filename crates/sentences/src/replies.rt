@@ -1,0 +1,65 @@
+//! Why a line is not answered, in a sentence each.
+ghost use Rattle.std.specs.Prelude.{◌≡◌, option_map};
+ghost use Rattle.sentences.specs.Replies.{call_sentence, line_sentence};
+
+/// Why a call is refused with this name.
+pub fn call_sentence(text: &[u8]) -> Option<&'static str>
+    ensures { option_map (λ s. s.now) result ≡ call_sentence text.now }
+{
+    if text == b"ENOENT".as_slice() {
+        return Some("no file has this path");
+    }
+    if text == b"ENOTDIR".as_slice() {
+        return Some("a directory is wanted here, and there is none");
+    }
+    if text == b"ELOOP".as_slice() {
+        return Some("more than 40 symbolic links are on the way");
+    }
+    if text == b"ENAMETOOLONG".as_slice() {
+        return Some("the path has more than 4,095 bytes, or a name in it more than 255");
+    }
+    if text == b"EINVAL".as_slice() {
+        return Some("the path has no slash in front, or the call does not fit what it names");
+    }
+    if text == b"EBADF".as_slice() {
+        return Some("no open file has this number");
+    }
+    if text == b"EISDIR".as_slice() {
+        return Some("the open file is a directory");
+    }
+    if text == b"ENXIO".as_slice() {
+        return Some("only directories and regular files are opened");
+    }
+    if text == b"EMFILE".as_slice() {
+        return Some("64 files are open, and no more can be");
+    }
+    if text == b"ERANGE".as_slice() {
+        return Some("the bytes do not follow one another in the image");
+    }
+    if text == b"ENODEV".as_slice() {
+        return Some("no image has this number");
+    }
+    if text == b"EBUSY".as_slice() {
+        return Some("the image or the directory is in use by a mount");
+    }
+    None
+}
+
+/// Why a line asks for nothing, which this is said of.
+pub fn line_sentence(text: &[u8]) -> Option<&'static str>
+    ensures { option_map (λ s. s.now) result ≡ line_sentence text.now }
+{
+    if text == b"bad command".as_slice() {
+        return Some("the first word is no command");
+    }
+    if text == b"bad line".as_slice() {
+        return Some("a word is missing, empty or too many, or the line has over 8,191 bytes");
+    }
+    if text == b"bad number".as_slice() {
+        return Some("a number is not decimal below 2^32, or a read is of more than 4096 bytes");
+    }
+    if text == b"bad session".as_slice() {
+        return Some("the line does not begin with a session, 0 to 7, and a space");
+    }
+    None
+}
