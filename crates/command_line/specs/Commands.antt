@@ -28,6 +28,12 @@ shape_with name rules = record (new_shape name) { rules = rules }
 abbrev pub image_shape : Text → Shape
 image_shape name = shape_with name (value_rule (codes "image") ∷ [])
 
+abbrev pub map_shape : Shape
+map_shape = shape_with (codes "map") (value_rule (codes "image") ∷ option_rule (codes "base") ∷ [])
+
+abbrev pub cat_shape : Shape
+cat_shape = shape_with (codes "cat") (value_rule (codes "image") ∷ value_rule (codes "path") ∷ [])
+
 abbrev pub build_shape : Shape
 build_shape = shape_with (codes "build") (value_rule (codes "format") ∷ value_rule (codes "manifest") ∷ value_rule (codes "out") ∷ [])
 
@@ -43,7 +49,8 @@ romtool_top = with_rule (record { top = record (new_shape (codes "romtool")) { h
 abbrev pub romtool_app : App
 romtool_app = record {
   top = record romtool_top.top { is_leaf = false };
-  subs = image_shape (codes "check") ∷ image_shape (codes "list") ∷ image_shape (codes "serve")
+  subs = image_shape (codes "check") ∷ image_shape (codes "list") ∷ map_shape ∷ cat_shape
+      ∷ image_shape (codes "linux") ∷ image_shape (codes "serve")
       ∷ shape_with (codes "space") (images_rule ∷ []) ∷ build_shape ∷ scan_shape ∷ [];
 }
 

@@ -3,7 +3,8 @@
 ghost use Rattle.std.specs.Prelude.{◌≡◌, ◌∷◌, [], IfOk, codes, false};
 ghost use Rattle.clap.specs.Words.{app_of, rule_of};
 ghost use Rattle.command_line.specs.Commands.{IsShaped, build_shape, flag_rule, images_rule};
-ghost use Rattle.command_line.specs.Commands.{option_rule, romtool_app, romtool_top, scan_shape};
+ghost use Rattle.command_line.specs.Commands.{cat_shape, map_shape, option_rule, romtool_app};
+ghost use Rattle.command_line.specs.Commands.{romtool_top, scan_shape};
 ghost use Rattle.command_line.specs.Commands.{shape_with, value_rule};
 
 use clap::{Arg, ArgAction, Command};
@@ -92,6 +93,33 @@ fn with_one<'a>(
     Ok(command)
 }
 
+/// The subcommand `map`.
+fn with_map<'a>(alloc: Global) -> Result<Command<'a>, AllocError>
+    ensures { IfOk result (IsShaped map_shape) }
+{
+    let about = "Prints where each file of an image lies, with its address in the flash";
+    let command = with_one(alloc, "map", about, image(alloc))?;
+    let base = "The address of the image's first byte, in hexadecimal digits; 0 without it";
+    let command = command.arg(option(alloc, "base", "HEX", base))?;
+    Ok(command)
+}
+
+/// The subcommand `cat`.
+fn with_cat<'a>(alloc: Global) -> Result<Command<'a>, AllocError>
+    ensures { IfOk result (IsShaped cat_shape) }
+{
+    let about = "Prints the bytes of a file in an image";
+    let command = with_one(alloc, "cat", about, image(alloc))?;
+    let path = value(
+        alloc,
+        "path",
+        "PATH",
+        "The path of the file in the image, from its root",
+    );
+    let command = command.arg(path)?;
+    Ok(command)
+}
+
 /// The subcommand `build`.
 fn with_build<'a>(alloc: Global) -> Result<Command<'a>, AllocError>
     ensures { IfOk result (IsShaped build_shape) }
@@ -159,6 +187,10 @@ pub fn command<'a>(alloc: Global) -> Result<Command<'a>, AllocError>
     let command = command.subcommand(with_one(alloc, "check", about, image(alloc))?)?;
     let about = "Prints a line for each name in an image";
     let command = command.subcommand(with_one(alloc, "list", about, image(alloc))?)?;
+    let command = command.subcommand(with_map(alloc)?)?;
+    let command = command.subcommand(with_cat(alloc)?)?;
+    let about = "Prints what Linux gets wrong of a sound image";
+    let command = command.subcommand(with_one(alloc, "linux", about, image(alloc))?)?;
     let about = "Answers the lines of standard input from an image";
     let command = command.subcommand(with_one(alloc, "serve", about, image(alloc))?)?;
     let about = "Answers lines from one to eight images, with sessions and mounts";

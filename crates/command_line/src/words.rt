@@ -7,7 +7,7 @@ ghost use Rattle.std.specs.Str.{bytes_eq};
 ghost use Rattle.clap.specs.Words.{all_of, first_of, found_of, rows_of};
 ghost use Rattle.clap.specs.Words.{subcommand_of, subcommand_rows_of};
 ghost use Rattle.command_line.specs.Commands.{romtool_app};
-ghost use Rattle.command_line.specs.Words.{IsAlignOf, IsAskedBy, IsAskedOf, align_named};
+ghost use Rattle.command_line.specs.Words.{IsAlignOf, IsAskedBy, IsAskedOf, IsBase, IsBaseOf, align_named};
 ghost use Rattle.command_line.specs.Words.{format_word, is_bare, word_of};
 ghost use Rattle.command_line.specs.declared.words.Request.TheVariants as request;
 ghost use Rattle.command_line.specs.declared.words.Request.TheVariants.{Example};
@@ -33,6 +33,12 @@ pub enum Request<'a> {
     Check(&'a str),
     /// To list the image in this file.
     List(&'a str),
+    /// To print where the files of an image lie.
+    Map(Map<'a>),
+    /// To print the bytes of a file in an image.
+    Cat(Cat<'a>),
+    /// To print what Linux gets wrong of the image in this file.
+    Linux(&'a str),
     /// To serve the image in this file.
     Serve(&'a str),
     /// To serve the images in these files, one to eight.
@@ -43,6 +49,20 @@ pub enum Request<'a> {
     Scan(&'a str),
     /// To print a manifest of a folder as it is.
     ScanAll(ScanAll<'a>),
+}
+
+/// A map of the image in this file, whose first byte has this address.
+#[derive(Clone, Copy)]
+pub struct Map<'a> {
+    pub image: &'a str,
+    pub base: u64,
+}
+
+/// The bytes of the file to which a path leads in the image in a file.
+#[derive(Clone, Copy)]
+pub struct Cat<'a> {
+    pub image: &'a str,
+    pub path: &'a str,
 }
 
 /// A build: of the manifest in one file into another one, in this format.
@@ -72,6 +92,8 @@ pub enum Wrong<'a> {
     Format(&'a str),
     /// No alignment is this word.
     Align(&'a str),
+    /// No address is this word.
+    Base(&'a str),
     /// Of a scan without `--all` the option of this name was given.
     WithoutAll(&'static str),
 }
@@ -96,6 +118,9 @@ impl Display for Wrong<'_> {
             }
             Wrong::Align(word) => {
                 write!(f, "N is a power of two from 4 to 65536, and not {word:?}")
+            }
+            Wrong::Base(word) => {
+                write!(f, "HEX is an address in hexadecimal digits, and not {word:?}")
             }
             Wrong::WithoutAll(name) => write!(f, "the option '--{name}' goes with '--all' alone"),
         }
@@ -161,6 +186,28 @@ fn align_named(word: &str) -> Option<u32>
     }
 }
 
+/// The address that a word names: hexadecimal digits, behind `0x` or not.
+fn base_named(word: &str) -> Option<u64>
+    ensures { IfSome result (IsBase word.now) }
+{
+    let word = word.as_bytes();
+    let digits = if word.starts_with(b"0x") {
+        &word[2..]
+    } else {
+        word
+    };
+    if digits.starts_with(b"+") {
+        return None;
+    }
+    let Ok(digits) = std::str::from_utf8(digits) else {
+        return None;
+    };
+    match u64::from_str_radix(digits, 16) {
+        Ok(base) => Some(base),
+        Err(_) => None,
+    }
+}
+
 /// The value of a name, where it has one.
 fn value_of<'a>(values: &ArgMatches<'a>, name: &str) -> Option<&'a str>
     ensures { option_map (λ v. v.now) result ≡ first_of name.now (rows_of (found_of values.now)) }
@@ -188,6 +235,34 @@ fn build_of<'a>(values: &ArgMatches<'a>) -> Option<Build<'a>>
         manifest,
         out,
     })
+}
+
+/// The address of an image's first byte; `None` where the word is no address.
+fn wished_base(values: &ArgMatches<'_>) -> Option<u64>
+    ensures { IfSome result (IsBaseOf (first_of (codes "base") (rows_of (found_of values.now)))) }
+{
+    match value_of(values, "base") {
+        None => Some(0),
+        Some(word) => base_named(word),
+    }
+}
+
+/// The map that is asked for.
+fn map_of<'a>(values: &ArgMatches<'a>) -> Option<Map<'a>>
+    ensures { IfSome result (λ m. IsAskedBy (rows_of (found_of values.now)) (request.Map m)) }
+{
+    let image = value_of(values, "image")?;
+    let base = wished_base(values)?;
+    Some(Map { image, base })
+}
+
+/// The file of an image that is asked for.
+fn cat_of<'a>(values: &ArgMatches<'a>) -> Option<Cat<'a>>
+    ensures { IfSome result (λ c. IsAskedBy (rows_of (found_of values.now)) (request.Cat c)) }
+{
+    let image = value_of(values, "image")?;
+    let path = value_of(values, "path")?;
+    Some(Cat { image, path })
 }
 
 /// The format that a manifest is to fit, if one is named; `None` where the word is no format's.
@@ -281,6 +356,9 @@ fn asked<'a>(name: &str, values: &ArgMatches<'a>) -> Option<Request<'a>>
     match name {
         "check" => Some(Request::Check(value_of(values, "image")?)),
         "list" => Some(Request::List(value_of(values, "image")?)),
+        "map" => Some(Request::Map(map_of(values)?)),
+        "cat" => Some(Request::Cat(cat_of(values)?)),
+        "linux" => Some(Request::Linux(value_of(values, "image")?)),
         "serve" => Some(Request::Serve(value_of(values, "image")?)),
         "space" => Some(Request::Space(few(values_of(values, "image")?)?)),
         "build" => Some(Request::Build(build_of(values)?)),
@@ -311,6 +389,9 @@ fn wrong_with<'a>(values: &ArgMatches<'a>) -> Wrong<'a> {
         && format_named(word).is_none()
     {
         return Wrong::Format(word);
+    }
+    if let Some(word) = value_of(values, "base") {
+        return Wrong::Base(word);
     }
     if let Some(word) = value_of(values, "for") {
         return if is_all(values) && format_named(word).is_none() {

@@ -1,5 +1,5 @@
 //! What is printed of an image.
-ghost use Rattle.std.specs.Prelude.{◌≡◌, ◌≤◌, length, IfOk};
+ghost use Rattle.std.specs.Prelude.{◌≡◌, ◌≤◌, ◌↔◌, length, IfOk, IsTrue};
 ghost use Rattle.rom_fields.specs.Failures.{Counts};
 ghost use Rattle.rom_fields.specs.Written.{WritesText};
 ghost use Rattle.rom_tree.specs.Tree.{levels};
@@ -46,6 +46,17 @@ pub fn status(outcome: Outcome) -> u8
         Outcome::Done => 0,
         Outcome::Warned | Outcome::Refused => 1,
         Outcome::Memory | Outcome::WriteFault => 3,
+    }
+}
+
+/// Whether each byte of an image of this length has an address of 64 bits, where addresses are asked
+/// for.
+pub fn has_addresses(asked: Asked, len: usize) -> bool
+    ensures { IsTrue result ↔ Fits asked len }
+{
+    match asked {
+        Asked::Map(base) => len == 0 || base.checked_add(len as u64 - 1).is_some(),
+        _ => true,
     }
 }
 
