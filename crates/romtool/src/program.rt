@@ -1,5 +1,6 @@
 //! The program: what each command does with its words and with the standard streams.
-ghost use Rattle.std.specs.Prelude.{◌≤◌};
+ghost use Rattle.std.specs.Prelude.{◌≤◌, length};
+ghost use Rattle.rom_commands.specs.Asked.{Fits};
 
 use crate::arguments::words;
 use crate::replies::Replies;
@@ -7,10 +8,13 @@ use crate::streams::{Again, Held, hold_closed};
 use crate::trouble::Teller;
 use crate::{building, inventory, reading, scanning};
 use command_line::{Request, Status, Trouble, read};
+use rom_commands::asked::Asked;
+use rom_commands::copying::print_file;
 use rom_commands::hello::hello;
 use rom_commands::printing::print;
 use rom_commands::serving::serve_on;
 use rom_commands::several::serve_several_on;
+use rom_commands::shown::has_addresses;
 use rom_fields::bytes::{ByteRead, ByteWrite, Plain};
 use std::io::{self, BufWriter};
 
@@ -20,6 +24,12 @@ const REFUSED: u8 = 1;
 /// What is said behind the list of the example image.
 const EXAMPLE: &str =
     "no subcommand is given: this is the image that the program carries; romtool --help says more";
+
+/// What is said where an image would have an address above the last one of 64 bits.
+const NO_ADDRESS: &str = "with this base the image has addresses of more than 64 bits";
+
+/// What is said behind the lines of what Linux gets wrong.
+const MISREAD: &str = "the image is sound, and Linux gets wrong what the lines say: docs/LINUX.md";
 
 /// Does what the words of the command line ask for, and gives the status to end with.
 pub fn run(rt: &HostRuntime) -> u8
@@ -46,8 +56,11 @@ fn done(teller: &Teller<'_>, request: Request<'_>) -> u8
 {
     match request {
         Request::Example => example(teller),
-        Request::Check(image) => file(teller, image, false),
-        Request::List(image) => file(teller, image, true),
+        Request::Check(image) => file(teller, image, Asked::Report),
+        Request::List(image) => file(teller, image, Asked::List),
+        Request::Map(map) => file(teller, map.image, Asked::Map(map.base)),
+        Request::Cat(cat) => copy(teller, cat.image, cat.path),
+        Request::Linux(image) => file(teller, image, Asked::Misreads),
         Request::Serve(image) => serve(teller, image),
         Request::Space(images) => space(teller, images.as_slice()),
         Request::Build(build) => {
@@ -63,9 +76,9 @@ fn example(teller: &Teller<'_>) -> u8
     ensures { result ≤ 3 }
 {
     let image = hello();
-    let checked = print_out(teller, b"hello", &image, false);
+    let checked = print_out(teller, b"hello", &image, Asked::Report);
     if checked == 0 {
-        let listed = print_out(teller, b"hello", &image, true);
+        let listed = print_out(teller, b"hello", &image, Asked::List);
         if listed == 0 {
             teller.explain(b"hello", &EXAMPLE);
         }
@@ -83,14 +96,46 @@ fn bytes_of(teller: &Teller<'_>, name: &str) -> Result<Vec<u8>, Status> {
     }
 }
 
-/// Checks or lists the image in a file.
-fn file(teller: &Teller<'_>, name: &str, listed: bool) -> u8
+/// Prints what is asked of the image in a file.
+fn file(teller: &Teller<'_>, name: &str, asked: Asked) -> u8
     ensures { result ≤ 3 }
 {
-    match bytes_of(teller, name) {
-        Ok(bytes) => print_out(teller, name.as_bytes(), &bytes, listed),
-        Err(status) => status.code(),
+    let bytes = match bytes_of(teller, name) {
+        Ok(bytes) => bytes,
+        Err(status) => return status.code(),
+    };
+    if !has_addresses(asked, bytes.len()) {
+        let status = teller.say(Trouble::Usage).code();
+        teller.explain(name.as_bytes(), &NO_ADDRESS);
+        return status;
     }
+    let status = print_out(teller, name.as_bytes(), &bytes, asked);
+    if status == REFUSED && asked == Asked::Misreads {
+        teller.explain(name.as_bytes(), &MISREAD);
+    }
+    status
+}
+
+/// Prints the bytes of the file to which a path leads in the image in a file.
+fn copy(teller: &Teller<'_>, name: &str, path: &str) -> u8
+    ensures { result ≤ 3 }
+{
+    let rt = teller.rt;
+    let bytes = match bytes_of(teller, name) {
+        Ok(bytes) => bytes,
+        Err(status) => return status.code(),
+    };
+    let Ok(out) = BufWriter::new(rt.alloc(), Again::new(io::writer(rt))) else {
+        return teller.say(Trouble::Memory).code();
+    };
+    let mut err = Plain::new(Held::new(rt, rt.stderr()));
+    let path = path.as_bytes();
+    let status = print_file(rt.alloc(), &bytes, path, &mut Plain::new(out), &mut err);
+    if status == REFUSED {
+        teller.explain_image(name.as_bytes(), &bytes);
+    }
+    teller.hand_on_about(err, path);
+    status
 }
 
 /// Serves the image in a file.
@@ -191,7 +236,8 @@ fn space(teller: &Teller<'_>, names: &[&str]) -> u8
 }
 
 /// Prints what is shown of an image on the standard streams. The image has this name.
-fn print_out(teller: &Teller<'_>, name: &[u8], bytes: &[u8], listed: bool) -> u8
+fn print_out(teller: &Teller<'_>, name: &[u8], bytes: &[u8], asked: Asked) -> u8
+    requires { Fits asked (length bytes.now) }
     ensures { result ≤ 3 }
 {
     let rt = teller.rt;
@@ -199,7 +245,7 @@ fn print_out(teller: &Teller<'_>, name: &[u8], bytes: &[u8], listed: bool) -> u8
         return teller.say(Trouble::Memory).code();
     };
     let mut err = Plain::new(Held::new(rt, rt.stderr()));
-    let status = print(rt.alloc(), bytes, listed, &mut Plain::new(out), &mut err);
+    let status = print(rt.alloc(), bytes, asked, &mut Plain::new(out), &mut err);
     if status == REFUSED {
         teller.explain_image(name, bytes);
     }

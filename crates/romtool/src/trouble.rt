@@ -13,7 +13,7 @@ use rom_fields::bytes::{ByteWrite, Plain};
 use rom_tree::types::Limits;
 use sentences::reasons::NO_WORD;
 use sentences::words::escaped;
-use sentences::{ending_sentence, fault_sentence, image};
+use sentences::{call_sentence, ending_sentence, fault_sentence, image};
 use std::alloc::AllocError;
 use std::env::Env;
 use std::fmt::Display;
@@ -82,19 +82,26 @@ impl<'a> Teller<'a> {
 
     /// Hands on what a command held back for standard error, and says it in words.
     pub fn hand_on<X: Write + Drop>(&self, err: Plain<Held<X>>) {
+        self.hand_on_about(err, b"stdout");
+    }
+
+    /// The same of a command that is about the file of this path in an image.
+    pub fn hand_on_about<X: Write + Drop>(&self, err: Plain<Held<X>>, path: &[u8]) {
         let mut held = err.into_inner();
         let ending = match held.held() {
+            [b'e', b'r', b'r', b' ', name @ .., b'\n'] if self.is_explained => call_sentence(name),
             [line @ .., b'\n'] if self.is_explained => ending_sentence(line),
             _ => None,
         };
         let place = match held.held() {
-            b"memory\n" => "memory",
-            b"read fault\n" | b"too many reads\n" => "stdin",
-            _ => "stdout",
+            b"memory\n" => b"memory",
+            b"read fault\n" | b"too many reads\n" => b"stdin",
+            b"write fault\n" => b"stdout",
+            _ => path,
         };
         let _ = held.flush();
         if let Some(sentence) = ending {
-            self.explain(place.as_bytes(), &sentence);
+            self.explain(place, &sentence);
         }
     }
 
