@@ -94,7 +94,7 @@ impl<'a> Teller<'a> {
             _ => None,
         };
         let place = match held.held() {
-            b"memory\n" => b"memory",
+            b"memory\n" => b"memory".as_slice(),
             b"read fault\n" | b"too many reads\n" => b"stdin",
             b"write fault\n" => b"stdout",
             _ => path,
