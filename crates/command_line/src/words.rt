@@ -4,6 +4,7 @@ ghost use Rattle.std.specs.Prelude.{IfOk, IfSome, IfNone, Some, false, true, map
 ghost use Rattle.std.specs.Prelude.{string_bytes};
 ghost use Rattle.std.specs.Bool.{OnTrue, OnFalse};
 ghost use Rattle.std.specs.Str.{bytes_eq};
+ghost use Rattle.std.specs.Str.Parse.{IsNumeral, digits_value};
 ghost use Rattle.clap.specs.Words.{all_of, first_of, found_of, rows_of};
 ghost use Rattle.clap.specs.Words.{subcommand_of, subcommand_rows_of};
 ghost use Rattle.command_line.specs.Commands.{romtool_app};
@@ -186,25 +187,31 @@ fn align_named(word: &str) -> Option<u32>
     }
 }
 
+/// The number of hexadecimal digits.
+fn hexadecimal(digits: &[u8]) -> Option<u64>
+    ensures { IfSome result (λ n. IsNumeral 16 digits.now × (digits_value 16 digits.now ≡ n)) }
+{
+    if digits.is_empty() || digits[0] == b'+' {
+        return None;
+    }
+    let Ok(text) = std::str::from_utf8(digits) else {
+        return None;
+    };
+    match u64::from_str_radix(text, 16) {
+        Ok(number) => Some(number),
+        Err(_) => None,
+    }
+}
+
 /// The address that a word names: hexadecimal digits, behind `0x` or not.
 fn base_named(word: &str) -> Option<u64>
     ensures { IfSome result (IsBase word.now) }
 {
     let word = word.as_bytes();
-    let digits = if word.starts_with(b"0x") {
-        &word[2..]
+    if word.starts_with(b"0x") {
+        hexadecimal(&word[2..])
     } else {
-        word
-    };
-    if digits.starts_with(b"+") {
-        return None;
-    }
-    let Ok(digits) = std::str::from_utf8(digits) else {
-        return None;
-    };
-    match u64::from_str_radix(digits, 16) {
-        Ok(base) => Some(base),
-        Err(_) => None,
+        hexadecimal(word)
     }
 }
 
