@@ -14,7 +14,7 @@ use rom_tree::image::{TreeImage, is_directory_at};
 use rom_tree::types::{Cursor, Entry, Piece, Stat};
 
 /// A node's kind and numbers.
-pub(crate) fn fstat<'a, T: TreeImage<'a>>(image: &T, opened: OpenNode) -> Stat
+pub fn fstat<'a, T: TreeImage<'a>>(image: &T, opened: OpenNode) -> Stat
     requires { (o : Open Node) × (stands (image_view (T.image image.now)) opened ≡ Some o) }
     ensures { (o : Open Node) → stands (image_view (T.image image.now)) opened ≡ Some o
         → result ≡ stat_of o.place }
@@ -23,7 +23,7 @@ pub(crate) fn fstat<'a, T: TreeImage<'a>>(image: &T, opened: OpenNode) -> Stat
 }
 
 /// Sets the position of a file.
-pub(crate) fn seek<'a, T: TreeImage<'a>>(
+pub fn seek<'a, T: TreeImage<'a>>(
     image: &T,
     opened: &mut OpenNode,
     position: u64,
@@ -41,10 +41,7 @@ pub(crate) fn seek<'a, T: TreeImage<'a>>(
 }
 
 /// Sets a directory back to its first entry.
-pub(crate) fn rewind<'a, T: TreeImage<'a>>(
-    image: &T,
-    opened: &mut OpenNode,
-) -> Result<(), CallError>
+pub fn rewind<'a, T: TreeImage<'a>>(image: &T, opened: &mut OpenNode) -> Result<(), CallError>
     requires { (o : Open Node) × (stands (image_view (T.image image.now)) opened.old ≡ Some o) }
     ensures { (o : Open Node) → stands (image_view (T.image image.now)) opened.old ≡ Some o
         → Moves (image_view (T.image image.now)) o opened.old opened.new
@@ -58,7 +55,7 @@ pub(crate) fn rewind<'a, T: TreeImage<'a>>(
 }
 
 /// Copies the next bytes of a file, as many as fit.
-pub(crate) fn read<'a, T: TreeImage<'a>>(
+pub fn read<'a, T: TreeImage<'a>>(
     image: &T,
     opened: &mut OpenNode,
     buf: &mut [u8],
@@ -80,7 +77,7 @@ pub(crate) fn read<'a, T: TreeImage<'a>>(
 }
 
 /// Lends as many of at most `max` next bytes of a file as follow one another.
-pub(crate) fn lend<'a, T: TreeImage<'a>>(
+pub fn lend<'a, T: TreeImage<'a>>(
     image: &T,
     opened: &mut OpenNode,
     max: u64,
@@ -105,7 +102,7 @@ pub(crate) fn lend<'a, T: TreeImage<'a>>(
 }
 
 /// Lends just these bytes of a file.
-pub(crate) fn map<'a, T: TreeImage<'a>>(
+pub fn map<'a, T: TreeImage<'a>>(
     image: &T,
     opened: OpenNode,
     off: u64,
@@ -144,7 +141,7 @@ pub(crate) fn map<'a, T: TreeImage<'a>>(
 }
 
 /// The next entry of a directory.
-pub(crate) fn readdir<'a, T: TreeImage<'a>>(
+pub fn readdir<'a, T: TreeImage<'a>>(
     image: &T,
     opened: &mut OpenNode,
 ) -> Result<Option<Entry<'a>>, CallError>
