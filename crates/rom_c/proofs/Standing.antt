@@ -1,5 +1,5 @@
 -- What stands open in an image, and at the numbers that it is made again of.
-use Rattle.std.proofs.Common.{◌≡◌, ℕ, List, Bool, true, false, Option, Some, None, refl, sym, ap, ◌∙◌}
+use Rattle.std.proofs.Common.{◌≡◌, ℕ, List, true, Option, Some, None, refl, sym, ap, ◌∙◌}
 use Rattle.std.proofs.lemmas.Bool.{false≢true}
 use Rattle.std.specs.Prelude.{is_some, ◌||◌}
 use Rattle.rom_tree.specs.Tree.{Node, node_at, is_directory, is_regular}

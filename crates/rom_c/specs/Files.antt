@@ -1,20 +1,13 @@
 -- What C is told of an open file. (This project's own.)
-use Rattle.std.specs.Prelude.{◌≡◌, ℕ, Bool, true, false, ◌||◌, List, [], ◌++◌, length, drop, Option, Some, None, IsSomeAnd, Result, Ok, Err}
-use Rattle.rom_tree.specs.declared.types.Stat.{Stat}
+use Rattle.std.specs.Prelude.{◌≡◌, ℕ, Bool, true, false, ◌||◌, Option, IsSomeAnd, Result, Ok, Err}
 use Rattle.rom_tree.specs.Tree.{Node, ino_of, is_directory, is_regular}
 use Rattle.path_walk.specs.declared.error.WalkError.{WalkError}
 use Rattle.path_walk.specs.Errors.{error_number as walk_number}
-use Rattle.open_files.specs.Calls.{Of, Lent, Named}
 use Rattle.open_files.specs.Machine.{Open, Outcome}
-use Rattle.open_files.specs.Errors.{error_number}
 use Rattle.image_check.specs.declared.any.Parts.{Parts}
-use Rattle.rom_c.specs.declared.answers.RomtoolPlace.{RomtoolPlace}
-use Rattle.rom_c.specs.declared.answers.RomtoolStat.{RomtoolStat}
 use Rattle.rom_c.specs.declared.image.RomtoolImage.{RomtoolImage}
 use Rattle.rom_c.specs.declared.file.RomtoolFile.{RomtoolFile}
-use Rattle.rom_c.specs.declared.file.RomtoolEntry.{RomtoolEntry}
 use Rattle.rom_c.specs.Held.{parts_of}
-use Rattle.rom_c.specs.Told.{no_place, no_stat, stat_told}
 use Rattle.rom_c.specs.Opened.{stands_in}
 
 abbrev pub parts_in : RomtoolImage → Parts

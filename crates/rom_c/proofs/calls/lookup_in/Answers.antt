@@ -1,4 +1,4 @@
-use Rattle.std.proofs.Common.{refl, sym}
+use Rattle.std.proofs.Common.{refl}
 use Rattle.image_check.specs.Any.{any_view}
 use Rattle.rom_tree.proofs.Named.{node_number}
 use Rattle.rom_c.proofs.calls.lookup_in.Goals as goal

@@ -1,4 +1,4 @@
-use Rattle.std.proofs.Common.{◌≡◌, ℕ, List, ap, ◌∙◌, length}
+use Rattle.std.proofs.Common.{ℕ, List, ap, ◌∙◌, length}
 use Rattle.std.specs.Prelude.{is_some}
 use Rattle.rom_tree.specs.Tree.{Node}
 use Rattle.open_files.specs.Machine.{Open, read_on}

@@ -1,4 +1,4 @@
-use Rattle.std.proofs.Common.{◌≡◌, None, refl, ap, ◌∙◌}
+use Rattle.std.proofs.Common.{None, refl, ap, ◌∙◌}
 use Rattle.std.specs.Prelude.{is_some}
 use Rattle.open_files.specs.declared.slot.OpenNode.{OpenNode}
 use Rattle.open_files.specs.Slots.{stands, image_view}

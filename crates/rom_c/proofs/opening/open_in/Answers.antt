@@ -1,4 +1,4 @@
-use Rattle.std.proofs.Common.{◌≡◌, ℕ, List, Some, true, false, sym, ap, ◌∙◌, subst, refl}
+use Rattle.std.proofs.Common.{◌≡◌, ℕ, List, Some, true, false, sym, ap, ◌∙◌, subst}
 use Rattle.std.specs.Prelude.{◌||◌, is_some}
 use Rattle.rom_tree.specs.Tree.{Node, is_directory, is_regular}
 use Rattle.rom_tree.specs.Image.{Image, image_node}
