@@ -119,9 +119,9 @@ struct romtool_entry {
     uint32_t some;
 };
 
-/* Checks `len` bytes as a romfs or cramfs image, and opens it. Gives 0, ROMTOOL_FAULT or ROMTOOL_MEMORY; `image` is
- * then closed. The time is as n log n and the memory some 300 bytes for each of the n references; an image has at most
- * 1,048,576 references and 64 names on a path. */
+/* Checks `len` bytes as a romfs or cramfs image, and opens it. Gives 0; or ROMTOOL_FAULT or ROMTOOL_MEMORY, and then
+ * `image` is closed. The time is as n log n and the memory some 100 bytes for each of the n references; an image has at
+ * most 1,048,576 references and 64 names on a path. */
 uint32_t romtool_check(struct romtool_image *image, const uint8_t *data, size_t len);
 
 /* What a path leads to. `follow` says whether a symbolic link in the last place is followed. Errors: ROMTOOL_CLOSED,
@@ -133,8 +133,8 @@ struct romtool_stat romtool_stat(const struct romtool_image *image, const uint8_
  * where it is no link. */
 struct romtool_place romtool_readlink(const struct romtool_image *image, const uint8_t *path, size_t len);
 
-/* Opens the directory or regular file that a path leads to, at its start. Gives 0 or the error, which also stands in
- * `file`: those of romtool_lookup, and ROMTOOL_ENXIO. */
+/* Opens the directory or regular file that a path leads to, at its start; a symbolic link in the last place is followed.
+ * Gives 0 or the error, which also stands in `file`: those of romtool_lookup, and ROMTOOL_ENXIO. */
 uint32_t romtool_open(struct romtool_file *file, const struct romtool_image *image, const uint8_t *path, size_t len);
 
 /* The kind and numbers of what is open. Error: ROMTOOL_EBADF. */
