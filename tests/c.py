@@ -9,6 +9,7 @@ compiler has them.
     answers.c  answers `check`, `list` and `serve` on the cases (see run.py) as romtool does, but for lines that ask for
                nothing, and on one folder that is built in each format
     closed.c   each call on handles that are zeroed or refused, and with NULL for no bytes
+    first.c    where the entry of a program is that is run in place, as docs/C.md shows it
     numbers.c, reader.c
                a reader without check, heap and C library, of numbers that a check gave before
 The header is compiled as C99, C11 and C++17, the last in a program that is run. What the library takes from its surroundings is
@@ -38,6 +39,8 @@ int main() {
     return romtool_check(&image, nullptr, 0) == ROMTOOL_FAULT && image.fault == 2 ? 0 : 1;
 }
 """
+FORMATS = ("romfs", "cramfs", "cramfs-be")
+CONTENT = bytes(range(250)) * 24
 # a folder for each format: a program that is used in place, a link and a device
 MANIFEST = b"""dir / 0755 0 0
 file /init 0755 0 0 4096 init
@@ -173,36 +176,44 @@ def cases(binary, answers, counts):
                         answered(binary, answers, told["words"], lines, top, "%s: %s" % (topic, case["name"]), counts)
 
 
-def formats(binary, answers, counts):
-    """A folder of each format, which is checked, listed and served."""
-    with tempfile.TemporaryDirectory(prefix="romtool-") as top:
-        for name, held in (("manifest", MANIFEST), ("init", bytes(range(250)) * 24), ("empty", b"")):
-            with open(os.path.join(top, name), "wb") as file:
-                file.write(held)
-        for form in ("romfs", "cramfs", "cramfs-be"):
-            built = said([binary, "build", form, "manifest", form], cwd=top)
-            is_as_wanted("build " + form, built.returncode, 0, counts)
-            for words in (["check", form], ["list", form], ["serve", form]):
-                answered(binary, answers, words, CALLS, top, "each format", counts)
+def build_all(binary, top, counts):
+    """Builds a folder in each format."""
+    for name, held in (("manifest", MANIFEST), ("init", CONTENT), ("empty", b"")):
+        with open(os.path.join(top, name), "wb") as file:
+            file.write(held)
+    for form in FORMATS:
+        built = said([binary, "build", form, "manifest", form], cwd=top)
+        is_as_wanted("build " + form, built.returncode, 0, counts)
 
 
-def reader(binary, top, archive, numbers, counts):
+def each_format(binary, top, answers, counts):
+    """An image of each format, which is checked, listed and served."""
+    for form in FORMATS:
+        for words in (["check", form], ["list", form], ["serve", form]):
+            answered(binary, answers, words, CALLS, top, "each format", counts)
+
+
+def entries(binary, top, first, counts):
+    """Where the entry of a program is, of each format, as `map` says it."""
+    for form in FORMATS:
+        told = said([binary, "serve", form], cwd=top, input=b"open /init\nmap 0 0 4\n").stdout.split()
+        wanted = b"at %s of the image: 00 01 02 03\n" % told[3]
+        is_as_wanted("the entry in " + form, said([first, form, "/init"], cwd=top).stdout, wanted, counts)
+        is_as_wanted("no entry in " + form, said([first, form, "/empty"], cwd=top).returncode, 1, counts)
+
+
+def reader(top, archive, numbers, counts):
     """A reader without check, heap and C library, on x86-64."""
     if os.uname().machine != "x86_64":
         counts.skips("the reader without a heap: it is for x86-64")
         return
-    content = bytes(range(250)) * 24
-    for name, held in (("manifest", MANIFEST), ("init", content), ("empty", b"")):
-        with open(os.path.join(top, name), "wb") as file:
-            file.write(held)
-    for form in ("romfs", "cramfs", "cramfs-be"):
-        said([binary, "build", form, "manifest", form], cwd=top)
+    for form in FORMATS:
         with open(os.path.join(top, "image.h"), "wb") as file:
             file.write(said([numbers, form], cwd=top).stdout)
         words = ["cc", "-std=c99", "-O2", *STRICT, "-I" + top, "-ffreestanding", "-fno-stack-protector", "-fno-pie"]
         words += ["-static", "-nostdlib", "-Wl,--gc-sections", SOURCES + "/reader.c", archive, "-o", top + "/reader"]
         if compiled(words, counts):
-            is_as_wanted("the reader of " + form, said([top + "/reader"]).returncode, sum(content) % 64, counts)
+            is_as_wanted("the reader of " + form, said([top + "/reader"]).returncode, sum(CONTENT) % 64, counts)
 
 
 def program(name, top, archive, words, counts):
@@ -228,17 +239,21 @@ def main():
         needs(archive, counts)
         standards(top, archive, counts)
         words = sanitizers(top)
-        answers, closed, numbers = (program(it, top, archive, words, counts) for it in ("answers", "closed", "numbers"))
+        names = ("answers", "closed", "numbers", "first")
+        answers, closed, numbers, first = (program(it, top, archive, words, counts) for it in names)
+        build_all(binary, top, counts)
         if answers:
             cases(binary, answers, counts)
-            formats(binary, answers, counts)
+            each_format(binary, top, answers, counts)
+        if first:
+            entries(binary, top, first, counts)
         if closed:
             with open(top + "/tree", "wb") as file:
                 file.write(run.file_of("romfs/tree/image"))
             done = said([closed, top + "/tree"])
             is_as_wanted("closed handles", (done.returncode, done.stdout), (0, b"closed 92\n"), counts)
         if numbers:
-            reader(binary, top, archive, numbers, counts)
+            reader(top, archive, numbers, counts)
     return counts.close()
 
 
