@@ -55,10 +55,28 @@ static int sum_of_file(void) {
     return (int)(sum % 64);
 }
 
-/* Linux on x86-64 in the place of a board: the status of the process is the answer. */
+/* Linux in the place of a board: the status of the process is the answer. */
+#if defined __x86_64__
 __attribute__((force_align_arg_pointer)) void _start(void) {
     const long status = sum_of_file();
     __asm__ volatile("syscall" : : "a"(60L), "D"(status) : "rcx", "r11", "memory");
     for (;;) {
     }
 }
+#elif defined __aarch64__
+void _start(void) {
+    register long number __asm__("x8") = 93;
+    register long status __asm__("x0") = sum_of_file();
+    __asm__ volatile("svc 0" : : "r"(number), "r"(status) : "memory");
+    for (;;) {
+    }
+}
+#elif defined __riscv
+void _start(void) {
+    register long number __asm__("a7") = 93;
+    register long status __asm__("a0") = sum_of_file();
+    __asm__ volatile("ecall" : : "r"(number), "r"(status) : "memory");
+    for (;;) {
+    }
+}
+#endif
