@@ -133,8 +133,8 @@ struct romtool_stat romtool_stat(const struct romtool_image *image, const uint8_
  * where it is no link. */
 struct romtool_place romtool_readlink(const struct romtool_image *image, const uint8_t *path, size_t len);
 
-/* Opens the directory or regular file that a path leads to, at its start; a symbolic link in the last place is followed.
- * Gives 0 or the error, which also stands in `file`: those of romtool_lookup, and ROMTOOL_ENXIO. */
+/* Opens the directory or regular file that a path leads to, at its start; a link in the last place is followed. Gives 0
+ * or the error, which also stands in `file`: those of romtool_lookup, and ROMTOOL_ENXIO. */
 uint32_t romtool_open(struct romtool_file *file, const struct romtool_image *image, const uint8_t *path, size_t len);
 
 /* The kind and numbers of what is open. Error: ROMTOOL_EBADF. */

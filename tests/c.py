@@ -12,8 +12,9 @@ compiler has them.
     first.c    where the entry of a program is that is run in place, as docs/C.md shows it
     numbers.c, reader.c
                a reader without check, heap and C library, of numbers that a check gave before
-The header is compiled as C99, C11 and C++17, the last in a program that is run. What the library takes from its surroundings is
-six functions. The last line is `N passed, M failed`, with `, K skipped` where nothing was run for want of `cc` or `rt`.
+The header is compiled as C99, C11 and C++17, the last in a program that is run. What the library takes from its
+surroundings is six functions. The last line is `N passed, M failed`, with `, K skipped` where nothing was run for want
+of `cc` or `rt`.
 """
 
 import os
@@ -51,8 +52,8 @@ nod /d/null 0600 0 0 c 1 3
 """
 CALLS = b"""open /d/link\nfstat 0\nmap 0 5 9\nmap 0 0 6000\nmap 0 1 6000\nlend 0 100\nlend 0 9999\nlend 0 1\nseek 0 4090
 read 0 20\nread 0 4096\nopen /empty\nlend 1 1\nmap 1 0 1\nopen /d\nreaddir 2\nreaddir 2\nreaddir 2\nrewind 2\nreaddir 2
-read 2 1\nreaddir 0\nreadlink /d/link\nreadlink /init\nopen /d/null\nlstat /d/null\nlookup /d/../init\nlookup /x\nclose 0
-read 0 1\nfstat 63\n"""
+read 2 1\nreaddir 0\nreadlink /d/link\nreadlink /init\nopen /d/null\nlstat /d/null\nlookup /d/../init\nlookup /x
+close 0\nread 0 1\nfstat 63\n"""
 
 
 def said(words, **more):

@@ -1,5 +1,6 @@
-/* A boot loader's reader: no check, no heap, no C library. What it knows of the image stands in image.h, which numbers.c
- * printed on the build host. It ends with the sum of the bytes of the file PATH, modulo 64, or with 64 and an error. */
+/* A boot loader's reader: no check, no heap, no C library. What it knows of the image stands in image.h, which
+ * numbers.c printed on the build host. It ends with the sum of the bytes of the file PATH, modulo 64, or with 64 and an
+ * error. */
 #include "romtool.h"
 #include "image.h"
 
