@@ -3,3 +3,4 @@ pub mod Phases
 pub mod Checked
 pub mod Reported
 pub mod Files
+pub mod Parts

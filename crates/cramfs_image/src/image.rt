@@ -1,5 +1,5 @@
 //! A checked image as a tree of files.
-ghost use Rattle.std.specs.Prelude.{◌≡◌, ◌<◌, ◌≤◌, ◌^◌, ℕ, length};
+ghost use Rattle.std.specs.Prelude.{◌≡◌, ◌<◌, ◌≤◌, ◌^◌, ℕ, length, take};
 ghost use Rattle.cramfs_format.specs.Made.{IsCramfs};
 ghost use Rattle.cramfs_image.specs.Cramfs.{cramfs_view};
 
@@ -24,6 +24,17 @@ pub struct Cramfs<'a> {
     depth: u32,
     ghost sound: { IsCramfs accessible.order accessible.bytes.now references },
     ghost within: { length accessible.bytes.now ≤ length all.now },
+    ghost front: { accessible.bytes.now ≡ take (length accessible.bytes.now) all.now },
+}
+
+/// The numbers of a checked image, by which it is made again of its bytes: their order, how many of
+/// them are accessible, and what the check reported.
+#[derive(Clone, Copy)]
+pub struct Parts {
+    pub order: Order,
+    pub accessible: u32,
+    pub references: u32,
+    pub depth: u32,
 }
 
 impl Viewed for Cramfs<'_> {
@@ -161,6 +172,7 @@ impl<'a> Cramfs<'a> {
     ghost use Rattle.cramfs_image.specs.Checked.{Shows};
     ghost use Rattle.cramfs_format.specs.Order.{is_big};
     ghost use Rattle.cramfs_image.specs.Reported.{order_in, report_of};
+    ghost use Rattle.cramfs_image.specs.Parts.{AreParts, tree_of_parts, cursors_of_parts};
 
     /// The image of the bytes `all`, whose accessible ones are those of `b`, with the rows of its
     /// tree.
@@ -194,6 +206,44 @@ impl<'a> Cramfs<'a> {
         match self.accessible.order {
             Order::Little => false,
             Order::Big => true,
+        }
+    }
+
+    /// Its numbers, by which `again` gives an image of the same bytes.
+    pub fn parts(&self) -> Parts
+        ensures are { AreParts (⟦<Cramfs<'a> as Viewed>⟧.image self.now).bytes result }
+        ensures tree { (⟦<Cramfs<'a> as Viewed>⟧.image self.now).tree
+            ≡ tree_of_parts (⟦<Cramfs<'a> as Viewed>⟧.image self.now).bytes result }
+        ensures order { result.order ≡ order_in self.now }
+        ensures references { result.references ≡ (report_of self.now).references }
+        ensures depth { result.depth ≡ (report_of self.now).depth }
+    {
+        let report = self.report();
+        Parts {
+            order: self.accessible.order,
+            accessible: self.accessible.bytes.len() as u32,
+            references: report.references,
+            depth: report.depth,
+        }
+    }
+
+    /// The image of these bytes with these numbers, which a check gave. Nothing is read.
+    pub fn again(all: &'a [u8], parts: Parts) -> Cramfs<'a>
+        requires { AreParts all.now parts }
+        ensures bytes { (⟦<Cramfs<'a> as Viewed>⟧.image result).bytes ≡ all.now }
+        ensures tree { (⟦<Cramfs<'a> as Viewed>⟧.image result).tree ≡ tree_of_parts all.now parts }
+        ensures cursors { (⟦<Cramfs<'a> as Viewed>⟧.image result).cursor_index
+            ≡ cursors_of_parts all.now parts }
+    {
+        let accessible = Accessible {
+            bytes: &all[..parts.accessible as usize],
+            order: parts.order,
+        };
+        Cramfs {
+            all,
+            accessible,
+            references: parts.references,
+            depth: parts.depth,
         }
     }
 

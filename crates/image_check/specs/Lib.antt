@@ -1,2 +1,3 @@
 pub mod Any
 pub mod Checked
+pub mod Parts

@@ -2,10 +2,10 @@
 ghost use Rattle.std.specs.Prelude.{◌≡◌};
 ghost use Rattle.image_check.specs.Any.{any_view, report_of};
 
-use cramfs_image::image::Cramfs;
+use cramfs_image::image::{Cramfs, Parts as CramfsParts};
 use rom_tree::image::{TreeImage, Viewed};
 use rom_tree::types::{Cursor, Entry, NodeId, Report, Run, Stat};
-use romfs_image::image::Romfs;
+use romfs_image::image::{Parts as RomfsParts, Romfs};
 
 /// An image that has been checked, of one of the two formats.
 #[derive(Drop)]
@@ -14,6 +14,15 @@ pub enum AnyImage<'a> {
     Romfs(Romfs<'a>),
     /// A cramfs image.
     Cramfs(Cramfs<'a>),
+}
+
+/// The numbers of a checked image, by which it is made again of its bytes.
+#[derive(Clone, Copy)]
+pub enum Parts {
+    /// Those of a romfs image.
+    Romfs(RomfsParts),
+    /// Those of a cramfs image.
+    Cramfs(CramfsParts),
 }
 
 impl Viewed for AnyImage<'_> {
@@ -93,7 +102,37 @@ impl<'a> TreeImage<'a> for AnyImage<'a> {
     }
 }
 
-impl AnyImage<'_> {
+impl<'a> AnyImage<'a> {
+    ghost use Rattle.std.specs.Prelude.{ℕ, List};
+    ghost use Rattle.image_check.specs.Checked.{HasFormat};
+    ghost use Rattle.image_check.specs.Parts.{AreParts, NameFormat, tree_of_parts, cursors_of_parts, report_of_parts};
+
+    /// Its numbers, by which `again` gives an image of the same bytes.
+    pub fn parts(&self) -> Parts
+        ensures are { AreParts (any_view self.now).bytes result }
+        ensures tree { (any_view self.now).tree ≡ tree_of_parts (any_view self.now).bytes result }
+        ensures report { report_of_parts result ≡ report_of self.now }
+        ensures format { (all : List ℕ) → HasFormat all self.now → NameFormat all result }
+    {
+        match self {
+            AnyImage::Romfs(image) => Parts::Romfs(image.parts()),
+            AnyImage::Cramfs(image) => Parts::Cramfs(image.parts()),
+        }
+    }
+
+    /// The image of these bytes with these numbers, which a check gave. Nothing is read.
+    pub fn again(all: &'a [u8], parts: Parts) -> AnyImage<'a>
+        requires { AreParts all.now parts }
+        ensures bytes { (any_view result).bytes ≡ all.now }
+        ensures tree { (any_view result).tree ≡ tree_of_parts all.now parts }
+        ensures cursors { (any_view result).cursor_index ≡ cursors_of_parts all.now parts }
+    {
+        match parts {
+            Parts::Romfs(parts) => AnyImage::Romfs(Romfs::again(all, parts)),
+            Parts::Cramfs(parts) => AnyImage::Cramfs(Cramfs::again(all, parts)),
+        }
+    }
+
     /// How many references the image has, that of the superblock among them, and the greatest
     /// number of names from the root to a node.
     pub fn report(&self) -> Report

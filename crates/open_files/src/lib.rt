@@ -20,11 +20,11 @@ mod images;
 mod lent;
 mod mounts;
 pub mod one_image;
-mod opened;
+pub mod opened;
 mod slot;
 mod space;
 
 pub use error::CallError;
 pub use files::Files;
-pub use slot::{Fd, Slots};
+pub use slot::{Fd, OpenNode, Slots};
 pub use space::Space;

@@ -15,7 +15,7 @@ use rom_tree::runs::longest_run;
 use rom_tree::types::{Cursor, Entry, Piece, Stat};
 
 /// A node's kind and numbers.
-pub(crate) fn fstat<'a, T: TreeImage<'a>>(image: &T, opened: OpenNode) -> Stat
+pub fn fstat<'a, T: TreeImage<'a>>(image: &T, opened: OpenNode) -> Stat
     requires { (o : Open Node) × (stands (image_view (T.image image.now)) opened ≡ Some o) }
     ensures { (o : Open Node) → stands (image_view (T.image image.now)) opened ≡ Some o
         → result ≡ stat_of o.place }
@@ -24,7 +24,7 @@ pub(crate) fn fstat<'a, T: TreeImage<'a>>(image: &T, opened: OpenNode) -> Stat
 }
 
 /// Sets the position of a file.
-pub(crate) fn seek<'a, T: TreeImage<'a>>(
+pub fn seek<'a, T: TreeImage<'a>>(
     image: &T,
     opened: &mut OpenNode,
     position: u64,
@@ -42,10 +42,7 @@ pub(crate) fn seek<'a, T: TreeImage<'a>>(
 }
 
 /// Sets a directory back to its first entry.
-pub(crate) fn rewind<'a, T: TreeImage<'a>>(
-    image: &T,
-    opened: &mut OpenNode,
-) -> Result<(), CallError>
+pub fn rewind<'a, T: TreeImage<'a>>(image: &T, opened: &mut OpenNode) -> Result<(), CallError>
     requires { (o : Open Node) × (stands (image_view (T.image image.now)) opened.old ≡ Some o) }
     ensures { (o : Open Node) → stands (image_view (T.image image.now)) opened.old ≡ Some o
         → Moves (image_view (T.image image.now)) o opened.old opened.new
@@ -59,7 +56,7 @@ pub(crate) fn rewind<'a, T: TreeImage<'a>>(
 }
 
 /// Copies the next bytes of a file, as many as fit.
-pub(crate) fn read<'a, T: TreeImage<'a>>(
+pub fn read<'a, T: TreeImage<'a>>(
     image: &T,
     opened: &mut OpenNode,
     buf: &mut [u8],
@@ -81,7 +78,7 @@ pub(crate) fn read<'a, T: TreeImage<'a>>(
 }
 
 /// Lends as many of at most `max` next bytes of a file as follow one another.
-pub(crate) fn lend<'a, T: TreeImage<'a>>(
+pub fn lend<'a, T: TreeImage<'a>>(
     image: &T,
     opened: &mut OpenNode,
     max: u64,
@@ -106,7 +103,7 @@ pub(crate) fn lend<'a, T: TreeImage<'a>>(
 }
 
 /// Lends just these bytes of a file.
-pub(crate) fn map<'a, T: TreeImage<'a>>(
+pub fn map<'a, T: TreeImage<'a>>(
     image: &T,
     opened: OpenNode,
     off: u64,
@@ -145,7 +142,7 @@ pub(crate) fn map<'a, T: TreeImage<'a>>(
 }
 
 /// The next entry of a directory.
-pub(crate) fn readdir<'a, T: TreeImage<'a>>(
+pub fn readdir<'a, T: TreeImage<'a>>(
     image: &T,
     opened: &mut OpenNode,
 ) -> Result<Option<Entry<'a>>, CallError>

@@ -15,10 +15,10 @@ pub struct Fd(pub u32);
 /// An open node of the image of a number. The position is a cursor in a directory, and the number
 /// of a byte in a regular file.
 #[derive(Clone, Copy)]
-pub(crate) struct OpenNode {
-    pub(crate) image: u32,
-    pub(crate) node: NodeId,
-    pub(crate) position: u64,
+pub struct OpenNode {
+    pub image: u32,
+    pub node: NodeId,
+    pub position: u64,
 }
 
 /// What is open at the numbers below N.

@@ -1,4 +1,4 @@
-ghost use Rattle.std.specs.Prelude.{◌≡◌, ◌<◌, ◌≤◌, ◌^◌, length};
+ghost use Rattle.std.specs.Prelude.{◌≡◌, ◌<◌, ◌≤◌, ◌^◌, length, take};
 ghost use Rattle.romfs_format.specs.Made.{IsRomfs};
 ghost use Rattle.romfs_image.specs.Romfs.{romfs_view};
 
@@ -24,6 +24,17 @@ pub struct Romfs<'a> {
     depth: u32,
     ghost sound: { IsRomfs accessible.bytes.now accessible.root references },
     ghost within: { length accessible.bytes.now ≤ length all.now },
+    ghost front: { accessible.bytes.now ≡ take (length accessible.bytes.now) all.now },
+}
+
+/// The numbers of a checked image, by which it is made again of its bytes: how many of them are
+/// accessible, where the root is, and what the check reported.
+#[derive(Clone, Copy)]
+pub struct Parts {
+    pub accessible: u32,
+    pub root: u32,
+    pub references: u32,
+    pub depth: u32,
 }
 
 impl Viewed for Romfs<'_> {
@@ -163,6 +174,7 @@ impl<'a> Romfs<'a> {
     ghost use Rattle.romfs_format.specs.Tree.{IsTree, IsSuperblock};
     ghost use Rattle.romfs_image.specs.Checked.{Shows};
     ghost use Rattle.romfs_image.specs.Reported.{report_of};
+    ghost use Rattle.romfs_image.specs.Parts.{AreParts, tree_of_parts, cursors_of_parts};
 
     /// The image of the bytes `all`, whose accessible ones are those of `b`, with the rows of its
     /// tree.
@@ -185,6 +197,43 @@ impl<'a> Romfs<'a> {
             accessible: b,
             references: rows.len() as u32,
             depth,
+        }
+    }
+
+    /// Its numbers, by which `again` gives an image of the same bytes.
+    pub fn parts(&self) -> Parts
+        ensures are { AreParts (⟦<Romfs<'a> as Viewed>⟧.image self.now).bytes result }
+        ensures tree { (⟦<Romfs<'a> as Viewed>⟧.image self.now).tree
+            ≡ tree_of_parts (⟦<Romfs<'a> as Viewed>⟧.image self.now).bytes result }
+        ensures references { result.references ≡ (report_of self.now).references }
+        ensures depth { result.depth ≡ (report_of self.now).depth }
+    {
+        let report = self.report();
+        Parts {
+            accessible: self.accessible.bytes.len() as u32,
+            root: self.accessible.root,
+            references: report.references,
+            depth: report.depth,
+        }
+    }
+
+    /// The image of these bytes with these numbers, which a check gave. Nothing is read.
+    pub fn again(all: &'a [u8], parts: Parts) -> Romfs<'a>
+        requires { AreParts all.now parts }
+        ensures bytes { (⟦<Romfs<'a> as Viewed>⟧.image result).bytes ≡ all.now }
+        ensures tree { (⟦<Romfs<'a> as Viewed>⟧.image result).tree ≡ tree_of_parts all.now parts }
+        ensures cursors { (⟦<Romfs<'a> as Viewed>⟧.image result).cursor_index
+            ≡ cursors_of_parts all.now parts }
+    {
+        let accessible = Accessible {
+            bytes: &all[..parts.accessible as usize],
+            root: parts.root,
+        };
+        Romfs {
+            all,
+            accessible,
+            references: parts.references,
+            depth: parts.depth,
         }
     }
 

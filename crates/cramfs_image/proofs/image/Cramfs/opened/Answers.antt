@@ -1,4 +1,5 @@
-use Rattle.std.proofs.Common.{◌≡◌, ◌≤◌, length, length-take, refl, ap, arith, ◌∙◌, take, ℕ, List}
+use Rattle.std.proofs.Common.{◌≡◌, ◌≤◌, length, length-take, refl, ap, arith, ◌∙◌, take, ℕ, List, sym}
+use Rattle.std.proofs.lemmas.List.{take_min}
 use Rattle.cramfs_format.specs.Superblock.{accessible_size}
 use Rattle.cramfs_image.proofs.Trees.{cramfs_by, shows_by, deepest_is}
 use Rattle.cramfs_image.proofs.image.Cramfs.opened.Goals as goal
@@ -7,11 +8,17 @@ use Rattle.cramfs_image.proofs.image.Cramfs.opened.Goals as goal
 within : (all b : List ℕ) (n : ℕ) → b ≡ take n all → length b ≤ length all
 within all b n e = let k = ap length e ∙ length-take n all in omega arith
 
+-- the accessible bytes are the front of all
+front : (all b : List ℕ) (n : ℕ) → b ≡ take n all → b ≡ take (length b) all
+front all b n e =
+    e ∙ (sym (take_min n all) ∙ sym (ap (λ k. take k all) (ap length e ∙ length-take n all)))
+
 pub invariant_of-result : goal.invariant_of-result
 invariant_of-result c =
     let w = c.requires.tree in
     record {
       sound = cramfs_by c.requires.superblock c.args.limits.references c.args.limits.depth w.0 c.args.rows.now c.args.b.long c.args.b.small w.1 w.2;
+      front = front c.args.all.now c.args.b.bytes.now (accessible_size c.args.b.order c.args.all.now) c.requires.superblock.cut;
       within = within c.args.all.now c.args.b.bytes.now (accessible_size c.args.b.order c.args.all.now) c.requires.superblock.cut;
     }
 

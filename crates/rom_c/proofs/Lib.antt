@@ -1,0 +1,4 @@
+mod Shown
+mod Alone
+mod Standing
+mod Moving

@@ -1,0 +1,9 @@
+use Rattle.std.proofs.Common.{refl}
+use Rattle.image_check.specs.Any.{any_view}
+use Rattle.rom_tree.proofs.Named.{node_number}
+use Rattle.rom_c.proofs.calls.lookup_in.Goals as goal
+
+pub returns-in-Ok : goal.returns-in-Ok
+returns-in-Ok c =
+    let w = c.in-Ok.ensures.leads in
+    rw w.1 (rw (node_number (any_view c.args.image.now) c.in-Ok.node.0 w.0 w.2) refl)

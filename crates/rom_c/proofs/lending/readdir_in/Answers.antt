@@ -1,0 +1,42 @@
+use Rattle.std.proofs.Common.{None, refl, ap, ◌∙◌}
+use Rattle.std.specs.Prelude.{is_some}
+use Rattle.open_files.specs.declared.slot.OpenNode.{OpenNode}
+use Rattle.open_files.specs.Slots.{stands, image_view}
+use Rattle.image_check.specs.Any.{any_view}
+use Rattle.rom_c.proofs.lending.readdir_in.Goals as goal
+
+pub returns-in-Ok-Some-clause-read : goal.returns-in-Ok-Some-clause-read
+returns-in-Ok-Some-clause-read c = λ o h.
+    let m = c.in-Ok-Some.ensures.moves o None h in
+    rw m.1 ((refl, rw c.in-Ok-Some.field-0-is (refl, refl, refl)), m.2)
+
+pub returns-in-Ok-Some-clause-stands : goal.returns-in-Ok-Some-clause-stands
+returns-in-Ok-Some-clause-stands c =
+    let m = c.in-Ok-Some.ensures.moves c.requires.0 None c.requires.1 in ap is_some m.2
+
+pub returns-in-Ok-Some-clause-node : goal.returns-in-Ok-Some-clause-node
+returns-in-Ok-Some-clause-node c =
+    let m = c.in-Ok-Some.ensures.moves c.requires.0 None c.requires.1 in ap (λ n. n.0) m.4
+
+pub returns-in-Ok-None-clause-read : goal.returns-in-Ok-None-clause-read
+returns-in-Ok-None-clause-read c = λ o h.
+    let m = c.in-Ok-None.ensures.moves o None h in
+    let e = c.no_entry.ensures in
+    rw m.1 ((refl, rw c.in-Ok-None.field-0-is (e.name, e.numbers.0, e.numbers.1)), m.2)
+
+pub returns-in-Ok-None-clause-stands : goal.returns-in-Ok-None-clause-stands
+returns-in-Ok-None-clause-stands c =
+    let m = c.in-Ok-None.ensures.moves c.requires.0 None c.requires.1 in ap is_some m.2
+
+pub returns-in-Ok-None-clause-node : goal.returns-in-Ok-None-clause-node
+returns-in-Ok-None-clause-node c =
+    let m = c.in-Ok-None.ensures.moves c.requires.0 None c.requires.1 in ap (λ n. n.0) m.4
+
+pub returns-in-Err-clause-stands : goal.returns-in-Err-clause-stands
+returns-in-Err-clause-stands c =
+    let m = c.in-Err.ensures.moves c.requires.0 None c.requires.1 in
+    ap (λ (z : OpenNode). is_some (stands (image_view (any_view c.args.image.now)) z)) m.1 ∙ ap is_some c.requires.1
+
+pub returns-in-Err-clause-node : goal.returns-in-Err-clause-node
+returns-in-Err-clause-node c =
+    let m = c.in-Err.ensures.moves c.requires.0 None c.requires.1 in ap (λ (z : OpenNode). z.node.0) m.1

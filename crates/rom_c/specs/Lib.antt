@@ -1,0 +1,5 @@
+pub mod Held
+pub mod Told
+pub mod Opened
+pub mod Outcomes
+pub mod Files

@@ -1,0 +1,49 @@
+-- The outcomes of calls on open files, as C is told of them. (This project's own.)
+use Rattle.std.specs.Prelude.{◌≡◌, ℕ, List, [], ◌++◌, length, drop, Option, Some, None, Ok, Err}
+use Rattle.rom_tree.specs.declared.types.Stat.{Stat}
+use Rattle.rom_tree.specs.Tree.{Node}
+use Rattle.open_files.specs.declared.slot.OpenNode.{OpenNode}
+use Rattle.open_files.specs.Calls.{Of, Lent, Named}
+use Rattle.open_files.specs.Machine.{Open, Outcome}
+use Rattle.open_files.specs.Slots.{View, stands, moved}
+use Rattle.open_files.specs.Errors.{error_number}
+use Rattle.rom_c.specs.declared.answers.RomtoolPlace.{RomtoolPlace}
+use Rattle.rom_c.specs.declared.answers.RomtoolStat.{RomtoolStat}
+use Rattle.rom_c.specs.declared.file.RomtoolEntry.{RomtoolEntry}
+use Rattle.rom_c.specs.Told.{no_place, no_stat, stat_told}
+
+abbrev pub error_told : {R : Type 0} → Outcome R → ℕ
+error_told (Ok a) = 0
+error_told (Err e) = error_number e
+
+-- where the bytes lie that are lent, or the error
+abbrev pub place_told : Outcome (Of Lent) → RomtoolPlace
+place_told (Ok a) = record { error = 0; at = a.0.1.place; len = length a.0.1.bytes }
+place_told (Err e) = no_place (error_number e)
+
+-- a kind and numbers, or the error
+abbrev pub file_stat_told : Outcome (Of Stat) → RomtoolStat
+file_stat_told (Ok a) = stat_told a.0.1
+file_stat_told (Err e) = no_stat (error_number e)
+
+-- The n bytes stand in the front of the buffer, and the rest is as it was; after an error all of it is.
+abbrev pub IsCopied : Outcome (List ℕ) → ℕ → ℕ → List ℕ → List ℕ → Type 0
+IsCopied (Ok a) error n new old = (error ≡ 0) × (n ≡ length a.0) × (new ≡ a.0 ++ drop n old)
+IsCopied (Err e) error n new old = (error ≡ error_number e) × (n ≡ 0) × (new ≡ old)
+
+abbrev pub IsNoEntry : RomtoolEntry → Type 0
+IsNoEntry r = (r.name.now ≡ []) × (r.node ≡ 0) × (r.some ≡ 0)
+
+abbrev pub IsEntryOf : Option (Of Named) → RomtoolEntry → Type 0
+IsEntryOf None r = IsNoEntry r
+IsEntryOf (Some a) r = (r.name.now ≡ a.1.name) × (r.node ≡ a.1.node) × (r.some ≡ 1)
+
+-- the next entry, or none at the end; or the error
+abbrev pub IsListed : Outcome (Option (Of Named)) → ℕ → RomtoolEntry → Type 0
+IsListed (Ok a) error r = (error ≡ 0) × IsEntryOf a.0 r
+IsListed (Err e) error r = (error ≡ error_number e) × IsNoEntry r
+
+-- what is open, o, has moved as the outcome says, and after an error not at all
+abbrev pub Follows : {R : Type 0} → View Node → Open Node → OpenNode → OpenNode → Outcome R → Type 0
+Follows v o old new (Ok a) = stands v new ≡ Some (moved o a.1)
+Follows v o old new (Err e) = new.position ≡ old.position

@@ -1,0 +1,76 @@
+-- What C is told of a path. (This project's own.)
+use Rattle.std.specs.Prelude.{◌≡◌, ℕ, ◌+◌, ◌<◌, Bool, true, false, length, slice_index, Result, Ok, Err}
+use Rattle.rom_tree.specs.declared.types.Kind.{Kind}
+use Rattle.rom_tree.specs.declared.types.Kind.TheVariants.{Directory, Regular, Symlink, Block, Character, Socket, Fifo}
+use Rattle.rom_tree.specs.declared.types.Stat.{Stat}
+use Rattle.rom_tree.specs.Tree.{Node, ino_of, is_link, places_of}
+use Rattle.rom_tree.specs.Image.{stat_of}
+use Rattle.path_walk.specs.declared.error.WalkError.{WalkError}
+use Rattle.path_walk.specs.Errors.{error_number}
+use Rattle.rom_c.specs.declared.answers.RomtoolNode.{RomtoolNode}
+use Rattle.rom_c.specs.declared.answers.RomtoolStat.{RomtoolStat}
+use Rattle.rom_c.specs.declared.answers.RomtoolPlace.{RomtoolPlace}
+
+abbrev pub kind_number : Kind → ℕ
+kind_number Directory = 1
+kind_number Regular = 2
+kind_number Symlink = 3
+kind_number Block = 4
+kind_number Character = 5
+kind_number Socket = 6
+kind_number Fifo = 7
+
+-- An error: all else is 0.
+
+abbrev pub no_node : ℕ → RomtoolNode
+no_node e = record { error = e; node = 0 }
+
+abbrev pub no_stat : ℕ → RomtoolStat
+no_stat e = record {
+  error = e;
+  ino = 0;
+  kind = 0;
+  mode = 0;
+  uid = 0;
+  gid = 0;
+  size = 0;
+  major = 0;
+  minor = 0;
+}
+
+abbrev pub no_place : ℕ → RomtoolPlace
+no_place e = record { error = e; at = 0; len = 0 }
+
+abbrev pub stat_told : Stat → RomtoolStat
+stat_told s = record {
+  error = 0;
+  ino = s.ino;
+  kind = kind_number s.kind;
+  mode = s.mode;
+  uid = s.uid;
+  gid = s.gid;
+  size = s.size;
+  major = s.major;
+  minor = s.minor;
+}
+
+-- the node that a path leads to, or the error
+abbrev pub led_told : Result Node WalkError → RomtoolNode
+led_told (Ok x) = record { error = 0; node = ino_of x }
+led_told (Err e) = no_node (error_number e)
+
+-- its kind and numbers, or the error
+abbrev pub shown_told : Result Node WalkError → RomtoolStat
+shown_told (Ok x) = stat_told (stat_of x)
+shown_told (Err e) = no_stat (error_number e)
+
+-- r is where the bytes of a link's text lie, all of them, one after the other
+abbrev pub IsTextAt : Node → RomtoolPlace → Bool → Type 0
+IsTextAt x r true =
+    (r.error ≡ 0) × (r.len ≡ length (places_of x)) × ((k : ℕ) → k < r.len → slice_index (places_of x) k ≡ r.at + k)
+IsTextAt x r false = r ≡ no_place 5
+
+-- where the text of the link lies that a path leads to, or the error
+abbrev pub IsText : Result Node WalkError → RomtoolPlace → Type 0
+IsText (Ok x) r = IsTextAt x r (is_link x)
+IsText (Err e) r = r ≡ no_place (error_number e)

@@ -1,0 +1,108 @@
+//! What C is told, as structs of numbers.
+ghost use Rattle.std.specs.Prelude.{◌≡◌};
+ghost use Rattle.rom_c.specs.Told.{kind_number, stat_told};
+ghost use Rattle.rom_c.specs.Told.{no_node as no_node_told, no_stat as no_stat_told, no_place as no_place_told};
+
+use rom_tree::types::{Kind, Stat};
+
+/// No image is open.
+pub(crate) const CLOSED: u32 = 13;
+
+/// The number of a node, or the number of an error.
+#[repr(C)]
+#[derive(Clone, Copy)]
+pub struct RomtoolNode {
+    pub error: u32,
+    pub node: u32,
+}
+
+/// A node's kind and numbers, or the number of an error.
+#[repr(C)]
+#[derive(Clone, Copy)]
+pub struct RomtoolStat {
+    pub error: u32,
+    pub ino: u32,
+    pub kind: u32,
+    pub mode: u32,
+    pub uid: u32,
+    pub gid: u32,
+    pub size: u32,
+    pub major: u32,
+    pub minor: u32,
+}
+
+/// Where bytes lie in the image, or the number of an error.
+#[repr(C)]
+#[derive(Clone, Copy)]
+pub struct RomtoolPlace {
+    pub error: u32,
+    pub at: u32,
+    pub len: u64,
+}
+
+/// The number of a kind, from 1 to 7.
+fn number_of(kind: Kind) -> u32
+    ensures { result ≡ kind_number kind }
+{
+    match kind {
+        Kind::Directory => 1,
+        Kind::Regular => 2,
+        Kind::Symlink => 3,
+        Kind::Block => 4,
+        Kind::Character => 5,
+        Kind::Socket => 6,
+        Kind::Fifo => 7,
+    }
+}
+
+/// No node, for an error.
+pub(crate) fn no_node(error: u32) -> RomtoolNode
+    ensures { result ≡ no_node_told error }
+{
+    RomtoolNode { error, node: 0 }
+}
+
+/// No stat, for an error.
+pub(crate) fn no_stat(error: u32) -> RomtoolStat
+    ensures { result ≡ no_stat_told error }
+{
+    RomtoolStat {
+        error,
+        ino: 0,
+        kind: 0,
+        mode: 0,
+        uid: 0,
+        gid: 0,
+        size: 0,
+        major: 0,
+        minor: 0,
+    }
+}
+
+/// No place, for an error.
+pub(crate) fn no_place(error: u32) -> RomtoolPlace
+    ensures { result ≡ no_place_told error }
+{
+    RomtoolPlace {
+        error,
+        at: 0,
+        len: 0,
+    }
+}
+
+/// A kind and numbers as C has them.
+pub(crate) fn shown(stat: Stat) -> RomtoolStat
+    ensures { result ≡ stat_told stat }
+{
+    RomtoolStat {
+        error: 0,
+        ino: stat.ino,
+        kind: number_of(stat.kind),
+        mode: stat.mode,
+        uid: stat.uid,
+        gid: stat.gid,
+        size: stat.size,
+        major: stat.major,
+        minor: stat.minor,
+    }
+}

@@ -1,0 +1,66 @@
+//! Calls by paths, on an image that is open.
+ghost use Rattle.std.specs.Prelude.{◌≡◌, ◌≤◌, false};
+ghost use Rattle.rom_tree.specs.Tree.{levels};
+ghost use Rattle.path_walk.specs.Resolution.{resolution, tree_namespace};
+ghost use Rattle.image_check.specs.Any.{any_view};
+ghost use Rattle.rom_c.specs.Told.{IsText, led_told, shown_told};
+
+use crate::answers::{RomtoolNode, RomtoolPlace, RomtoolStat, no_node, no_place, no_stat, shown};
+use image_check::any::AnyImage;
+use path_walk::walk;
+use rom_tree::image::{TreeImage, is_link_at};
+
+/// What a path leads to is no symbolic link.
+const NO_LINK: u32 = 5;
+
+/// Where a path leads in an image.
+pub(crate) fn lookup_in(image: &mut AnyImage<'_>, path: &[u8], follow: bool) -> RomtoolNode
+    requires { levels (any_view image.old).tree ≤ 65 }
+    ensures { result ≡ led_told (resolution
+        (tree_namespace (any_view image.old).bytes (any_view image.old).tree) path.now follow) }
+{
+    match walk(image, path, follow) {
+        Ok(node) => RomtoolNode {
+            error: 0,
+            node: node.0,
+        },
+        Err(error) => no_node(error.number()),
+    }
+}
+
+/// The kind and numbers of what a path leads to in an image.
+pub(crate) fn stat_in(image: &mut AnyImage<'_>, path: &[u8], follow: bool) -> RomtoolStat
+    requires { levels (any_view image.old).tree ≤ 65 }
+    ensures { result ≡ shown_told (resolution
+        (tree_namespace (any_view image.old).bytes (any_view image.old).tree) path.now follow) }
+{
+    match walk(image, path, follow) {
+        Ok(node) => shown(image.stat(node)),
+        Err(error) => no_stat(error.number()),
+    }
+}
+
+/// Where the text of the link lies that a path leads to in an image.
+pub(crate) fn readlink_in(image: &mut AnyImage<'_>, path: &[u8]) -> RomtoolPlace
+    requires { levels (any_view image.old).tree ≤ 65 }
+    ensures { IsText (resolution
+        (tree_namespace (any_view image.old).bytes (any_view image.old).tree)
+        path.now false) result }
+{
+    match walk(image, path, false) {
+        Ok(node) => {
+            if !is_link_at(image, node) {
+                return no_place(NO_LINK);
+            }
+            match image.run(node, 0) {
+                Some(run) => RomtoolPlace {
+                    error: 0,
+                    at: run.place,
+                    len: u64::from(run.len),
+                },
+                None => no_place(NO_LINK),
+            }
+        }
+        Err(error) => no_place(error.number()),
+    }
+}

@@ -1,0 +1,199 @@
+//! What C calls on open files. A file keeps its image, its node and its `error` in each call.
+ghost use Rattle.std.specs.Prelude.{◌≡◌, ◌≢◌, true, length, None, IsSomeAnd};
+ghost use Rattle.std.specs.Bool.{OnTrue, OnFalse};
+ghost use Rattle.rom_tree.specs.Tree.{Node};
+ghost use Rattle.path_walk.specs.Resolution.{resolution, tree_namespace};
+ghost use Rattle.open_files.specs.Machine.{fstat_on, seek_on, read_on, lend_on, map_on, readdir_on};
+ghost use Rattle.image_check.specs.Checked.{HasTree};
+ghost use Rattle.rom_c.specs.Held.{usual};
+ghost use Rattle.rom_c.specs.Told.{no_stat as no_stat_told, no_place as no_place_told};
+ghost use Rattle.rom_c.specs.Outcomes.{error_told, place_told, file_stat_told, IsCopied, IsListed, IsNoEntry};
+ghost use Rattle.rom_c.specs.Files.{IsNoFile, IsOpen, IsOpenedBy, MovesTo, file_in};
+
+use crate::answers::{CLOSED, RomtoolPlace, RomtoolStat, no_place, no_stat};
+use crate::file::{RomtoolEntry, RomtoolFile, moved, no_entry, no_file, node_of};
+use crate::image::{OPEN, RomtoolImage, image_of};
+use crate::lending::{fstat_in, lend_in, map_in, read_in, readdir_in, seek_in};
+use crate::opening::open_in;
+use image_check::laws::one_tree;
+
+/// Nothing is open at the file.
+const BAD_FILE: u32 = 6;
+
+/// Whether a file is open.
+fn is_open(file: &RomtoolFile<'_>) -> bool
+    ensures open { OnTrue result (IsOpen file.now) }
+    ensures closed { OnFalse result (IsOpen file.now → ⊥) }
+{
+    if file.image.status != OPEN {
+        return false;
+    }
+    file.error == 0
+}
+
+/// Opens the directory or regular file that a path leads to, at its start; a symbolic link in the
+/// last place is followed. Gives 0, or the number of the error, which stands in the file too: 13
+/// where no image is open, those of `path_walk::walk`, and 8 where the path leads to neither.
+#[unsafe(no_mangle)]
+pub extern "C" fn romtool_open<'a>(
+    file: &mut RomtoolFile<'a>,
+    image: &RomtoolImage<'a>,
+    path: &[u8],
+) -> u32
+    ensures error { result ≡ file.new.error }
+    ensures image { file.new.image ≡ image.now }
+    ensures closed { image.now.status ≢ 1 → IsNoFile 13 file.new }
+    ensures opened { image.now.status ≡ 1 → (t : Node) → HasTree image.now.bytes.now usual t
+        → IsOpenedBy t (resolution (tree_namespace image.now.bytes.now t) path.now true) file.new }
+{
+    if image.status != OPEN {
+        *file = no_file(image, CLOSED);
+        return CLOSED;
+    }
+    *file = open_in(image, path);
+    file.error
+}
+
+/// The kind and numbers of an open file. Error 6 where none is open.
+#[unsafe(no_mangle)]
+pub extern "C" fn romtool_fstat(file: &RomtoolFile<'_>) -> RomtoolStat
+    ensures closed { (IsOpen file.now → ⊥) → result ≡ no_stat_told 6 }
+    ensures shows { IsOpen file.now → (t : Node) → HasTree file.now.image.bytes.now usual t
+        → IsSomeAnd (file_in t file.now)
+        (λ o. result ≡ file_stat_told (fstat_on None o.place o.position)) }
+{
+    one_tree();
+    if !is_open(file) {
+        return no_stat(BAD_FILE);
+    }
+    fstat_in(&image_of(&file.image), node_of(file))
+}
+
+/// Where just the `len` bytes of an open file from byte `off` on lie, whatever its position is. The
+/// errors, in this order: 6 where none is open, 7 where it is a directory, 5 where `len` is 0 or the
+/// range does not end within the file, 10 where the bytes do not follow one another in the image.
+#[unsafe(no_mangle)]
+pub extern "C" fn romtool_map(file: &RomtoolFile<'_>, off: u64, len: u64) -> RomtoolPlace
+    ensures closed { (IsOpen file.now → ⊥) → result ≡ no_place_told 6 }
+    ensures lent { IsOpen file.now → (t : Node) → HasTree file.now.image.bytes.now usual t
+        → IsSomeAnd (file_in t file.now)
+        (λ o. result ≡ place_told (map_on None file.now.image.bytes.now off len o.place
+        o.position)) }
+{
+    one_tree();
+    if !is_open(file) {
+        return no_place(BAD_FILE);
+    }
+    map_in(&image_of(&file.image), node_of(file), off, len)
+}
+
+/// Where the next bytes of an open file lie: as many of at most `max` as follow one another in the
+/// image. The position moves by their number; an empty place is 0. Error 6 where none is open, 7
+/// where it is a directory; then it stays where it is.
+#[unsafe(no_mangle)]
+pub extern "C" fn romtool_lend(file: &mut RomtoolFile<'_>, max: u64) -> RomtoolPlace
+    ensures image { file.new.image ≡ file.old.image }
+    ensures node { file.new.node ≡ file.old.node }
+    ensures error { file.new.error ≡ file.old.error }
+    ensures closed { (IsOpen file.old → ⊥)
+        → (result ≡ no_place_told 6) × (file.new.position ≡ file.old.position) }
+    ensures lent { IsOpen file.old → (t : Node) → HasTree file.old.image.bytes.now usual t
+        → IsSomeAnd (file_in t file.old)
+        (λ o. (result ≡ place_told (lend_on None file.old.image.bytes.now max o.place o.position))
+        × MovesTo t file.old file.new.position
+        (lend_on None file.old.image.bytes.now max o.place o.position)) }
+{
+    one_tree();
+    if !is_open(file) {
+        return no_place(BAD_FILE);
+    }
+    let mut opened = node_of(file);
+    let place = lend_in(&image_of(&file.image), &mut opened, max);
+    *file = moved(file, opened.position);
+    place
+}
+
+/// Copies the next bytes of an open file to the front of a buffer, as many as fit, and puts down
+/// their number. The position moves by it, and the rest of the buffer stays. Gives 0, or an error:
+/// 6 where none is open, 7 where it is a directory; then file and buffer stay as they are.
+#[unsafe(no_mangle)]
+pub extern "C" fn romtool_read(
+    file: &mut RomtoolFile<'_>,
+    buffer: &mut [u8],
+    count: &mut usize,
+) -> u32
+    ensures image { file.new.image ≡ file.old.image }
+    ensures node { file.new.node ≡ file.old.node }
+    ensures error { file.new.error ≡ file.old.error }
+    ensures closed { (IsOpen file.old → ⊥) → (result ≡ 6) × (count.new ≡ 0)
+        × (buffer.new ≡ buffer.old) × (file.new.position ≡ file.old.position) }
+    ensures read { IsOpen file.old → (t : Node) → HasTree file.old.image.bytes.now usual t
+        → IsSomeAnd (file_in t file.old)
+        (λ o. IsCopied (read_on file.old.image.bytes.now (length buffer.old) o.place o.position)
+        result count.new buffer.new buffer.old
+        × MovesTo t file.old file.new.position
+        (read_on file.old.image.bytes.now (length buffer.old) o.place o.position)) }
+{
+    one_tree();
+    if !is_open(file) {
+        *count = 0;
+        return BAD_FILE;
+    }
+    let mut opened = node_of(file);
+    let error = read_in(&image_of(&file.image), &mut opened, buffer, count);
+    *file = moved(file, opened.position);
+    error
+}
+
+/// Sets the position of an open file, also behind its end. Gives 0, or an error: 6 where none is
+/// open, 7 where it is a directory; then it stays where it is.
+#[unsafe(no_mangle)]
+pub extern "C" fn romtool_seek(file: &mut RomtoolFile<'_>, position: u64) -> u32
+    ensures image { file.new.image ≡ file.old.image }
+    ensures node { file.new.node ≡ file.old.node }
+    ensures error { file.new.error ≡ file.old.error }
+    ensures closed { (IsOpen file.old → ⊥)
+        → (result ≡ 6) × (file.new.position ≡ file.old.position) }
+    ensures sought { IsOpen file.old → (t : Node) → HasTree file.old.image.bytes.now usual t
+        → IsSomeAnd (file_in t file.old)
+        (λ o. (result ≡ error_told (seek_on position o.place o.position))
+        × MovesTo t file.old file.new.position (seek_on position o.place o.position)) }
+{
+    one_tree();
+    if !is_open(file) {
+        return BAD_FILE;
+    }
+    let mut opened = node_of(file);
+    let error = seek_in(&image_of(&file.image), &mut opened, position);
+    *file = moved(file, opened.position);
+    error
+}
+
+/// The next entry of an open directory, without `.` and `..`; `some` of the entry is 0 at the end.
+/// Gives 0, or an error: 6 where none is open, 2 where it is no directory; then the file stays where
+/// it is, and there is no entry.
+#[unsafe(no_mangle)]
+pub extern "C" fn romtool_readdir<'a>(
+    file: &mut RomtoolFile<'a>,
+    entry: &mut RomtoolEntry<'a>,
+) -> u32
+    ensures image { file.new.image ≡ file.old.image }
+    ensures node { file.new.node ≡ file.old.node }
+    ensures error { file.new.error ≡ file.old.error }
+    ensures closed { (IsOpen file.old → ⊥) → (result ≡ 6) × IsNoEntry entry.new
+        × (file.new.position ≡ file.old.position) }
+    ensures read { IsOpen file.old → (t : Node) → HasTree file.old.image.bytes.now usual t
+        → IsSomeAnd (file_in t file.old)
+        (λ o. IsListed (readdir_on None o.place o.position) result entry.new
+        × MovesTo t file.old file.new.position (readdir_on None o.place o.position)) }
+{
+    one_tree();
+    if !is_open(file) {
+        *entry = no_entry();
+        return BAD_FILE;
+    }
+    let mut opened = node_of(file);
+    let error = readdir_in(&image_of(&file.image), &mut opened, entry);
+    *file = moved(file, opened.position);
+    error
+}

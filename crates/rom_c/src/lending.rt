@@ -1,0 +1,147 @@
+//! Calls on what is open in an image.
+ghost use Rattle.std.specs.Prelude.{◌≡◌, Some, None, true, is_some, length, ◌||◌};
+ghost use Rattle.rom_tree.specs.Tree.{Node, is_directory, is_regular};
+ghost use Rattle.rom_tree.specs.Image.{HasNode, image_node};
+ghost use Rattle.open_files.specs.Machine.{Open, fstat_on, seek_on, read_on, lend_on, map_on, readdir_on};
+ghost use Rattle.open_files.specs.Slots.{stands, image_view};
+ghost use Rattle.image_check.specs.Any.{any_view};
+ghost use Rattle.rom_c.specs.Outcomes.{error_told, place_told, file_stat_told, IsCopied, IsListed, Follows};
+
+use crate::answers::{RomtoolPlace, RomtoolStat, no_place, shown};
+use crate::file::{RomtoolEntry, no_entry};
+use image_check::any::AnyImage;
+use open_files::{CallError, OpenNode, opened};
+use rom_tree::image::{is_directory_at, is_regular_at};
+use rom_tree::types::{NodeId, Piece};
+
+/// Whether a node can be opened.
+pub(crate) fn can_open(image: &AnyImage<'_>, node: NodeId) -> bool
+    requires { HasNode (any_view image.now) node.0 }
+    ensures { (x : Node) → image_node (any_view image.now) node.0 ≡ Some x
+        → result ≡ is_directory x || is_regular x }
+{
+    is_directory_at(image, node) || is_regular_at(image, node)
+}
+
+/// The kind and numbers of an open file.
+pub(crate) fn fstat_in(image: &AnyImage<'_>, opened: OpenNode) -> RomtoolStat
+    requires { (o : Open Node) × (stands (image_view (any_view image.now)) opened ≡ Some o) }
+    ensures { (o : Open Node) → stands (image_view (any_view image.now)) opened ≡ Some o
+        → result ≡ file_stat_told (fstat_on None o.place o.position) }
+{
+    shown(opened::fstat(image, opened))
+}
+
+/// Where bytes of an open file lie.
+pub(crate) fn map_in(image: &AnyImage<'_>, opened: OpenNode, off: u64, len: u64) -> RomtoolPlace
+    requires { (o : Open Node) × (stands (image_view (any_view image.now)) opened ≡ Some o) }
+    ensures { (o : Open Node) → stands (image_view (any_view image.now)) opened ≡ Some o
+        → result ≡ place_told (map_on None (any_view image.now).bytes off len o.place o.position) }
+{
+    match opened::map(image, opened, off, len) {
+        Ok(piece) => RomtoolPlace {
+            error: 0,
+            at: piece.place,
+            len: piece.bytes.len() as u64,
+        },
+        Err(error) => no_place(error.number()),
+    }
+}
+
+/// Where the next bytes of an open file lie, as many of at most `max` as follow one another.
+pub(crate) fn lend_in(image: &AnyImage<'_>, opened: &mut OpenNode, max: u64) -> RomtoolPlace
+    requires { (o : Open Node) × (stands (image_view (any_view image.now)) opened.old ≡ Some o) }
+    ensures lent { (o : Open Node) → stands (image_view (any_view image.now)) opened.old ≡ Some o
+        → (result ≡ place_told (lend_on None (any_view image.now).bytes max o.place o.position))
+        × Follows (image_view (any_view image.now)) o opened.old opened.new
+        (lend_on None (any_view image.now).bytes max o.place o.position) }
+    ensures stands { is_some (stands (image_view (any_view image.now)) opened.new) ≡ true }
+    ensures node { opened.new.node.0 ≡ opened.old.node.0 }
+{
+    match opened::lend(image, opened, max) {
+        Ok(piece) => RomtoolPlace {
+            error: 0,
+            at: piece.place,
+            len: piece.bytes.len() as u64,
+        },
+        Err(error) => no_place(error.number()),
+    }
+}
+
+/// Copies the next bytes of an open file, as many as fit, and puts down their number.
+pub(crate) fn read_in(
+    image: &AnyImage<'_>,
+    opened: &mut OpenNode,
+    buffer: &mut [u8],
+    count: &mut usize,
+) -> u32
+    requires { (o : Open Node) × (stands (image_view (any_view image.now)) opened.old ≡ Some o) }
+    ensures read { (o : Open Node) → stands (image_view (any_view image.now)) opened.old ≡ Some o
+        → IsCopied (read_on (any_view image.now).bytes (length buffer.old) o.place o.position)
+        result count.new buffer.new buffer.old
+        × Follows (image_view (any_view image.now)) o opened.old opened.new
+        (read_on (any_view image.now).bytes (length buffer.old) o.place o.position) }
+    ensures stands { is_some (stands (image_view (any_view image.now)) opened.new) ≡ true }
+    ensures node { opened.new.node.0 ≡ opened.old.node.0 }
+{
+    match opened::read(image, opened, buffer) {
+        Ok(copied) => {
+            *count = copied.min(buffer.len());
+            0
+        }
+        Err(error) => {
+            *count = 0;
+            error.number()
+        }
+    }
+}
+
+/// Sets the position of an open file.
+pub(crate) fn seek_in(image: &AnyImage<'_>, opened: &mut OpenNode, position: u64) -> u32
+    requires { (o : Open Node) × (stands (image_view (any_view image.now)) opened.old ≡ Some o) }
+    ensures sought { (o : Open Node) → stands (image_view (any_view image.now)) opened.old ≡ Some o
+        → (result ≡ error_told (seek_on position o.place o.position))
+        × Follows (image_view (any_view image.now)) o opened.old opened.new
+        (seek_on position o.place o.position) }
+    ensures stands { is_some (stands (image_view (any_view image.now)) opened.new) ≡ true }
+    ensures node { opened.new.node.0 ≡ opened.old.node.0 }
+{
+    match opened::seek(image, opened, position) {
+        Ok(()) => 0,
+        Err(error) => error.number(),
+    }
+}
+
+/// The next entry of an open directory.
+pub(crate) fn readdir_in<'a>(
+    image: &AnyImage<'a>,
+    opened: &mut OpenNode,
+    entry: &mut RomtoolEntry<'a>,
+) -> u32
+    requires { (o : Open Node) × (stands (image_view (any_view image.now)) opened.old ≡ Some o) }
+    ensures read { (o : Open Node) → stands (image_view (any_view image.now)) opened.old ≡ Some o
+        → IsListed (readdir_on None o.place o.position) result entry.new
+        × Follows (image_view (any_view image.now)) o opened.old opened.new
+        (readdir_on None o.place o.position) }
+    ensures stands { is_some (stands (image_view (any_view image.now)) opened.new) ≡ true }
+    ensures node { opened.new.node.0 ≡ opened.old.node.0 }
+{
+    match opened::readdir(image, opened) {
+        Ok(Some(found)) => {
+            *entry = RomtoolEntry {
+                name: found.name,
+                node: found.node.0,
+                some: 1,
+            };
+            0
+        }
+        Ok(None) => {
+            *entry = no_entry();
+            0
+        }
+        Err(error) => {
+            *entry = no_entry();
+            error.number()
+        }
+    }
+}

@@ -1,0 +1,37 @@
+//! The opening of files.
+ghost use Rattle.std.specs.Prelude.{◌≡◌, true};
+ghost use Rattle.rom_tree.specs.Tree.{Node};
+ghost use Rattle.path_walk.specs.Resolution.{resolution, tree_namespace};
+ghost use Rattle.image_check.specs.Checked.{HasTree};
+ghost use Rattle.rom_c.specs.Held.{usual};
+ghost use Rattle.rom_c.specs.Files.{IsOpenedBy};
+
+use crate::file::{RomtoolFile, no_file, opened_at};
+use crate::image::{RomtoolImage, image_of};
+use crate::lending::can_open;
+use image_check::laws::one_tree;
+use path_walk::walk;
+
+/// What a path leads to is neither a directory nor a regular file.
+const NO_FILE: u32 = 8;
+
+/// Opens what a path leads to, in an image that is open.
+pub(crate) fn open_in<'a>(image: &RomtoolImage<'a>, path: &[u8]) -> RomtoolFile<'a>
+    requires { image.now.status ≡ 1 }
+    ensures image { result.image ≡ image.now }
+    ensures opened { (t : Node) → HasTree image.now.bytes.now usual t
+        → IsOpenedBy t (resolution (tree_namespace image.now.bytes.now t) path.now true) result }
+{
+    one_tree();
+    let mut held = image_of(image);
+    match walk(&mut held, path, true) {
+        Ok(node) => {
+            if can_open(&held, node) {
+                opened_at(image, node)
+            } else {
+                no_file(image, NO_FILE)
+            }
+        }
+        Err(error) => no_file(image, error.number()),
+    }
+}

@@ -1,0 +1,92 @@
+//! What C calls on an image.
+ghost use Rattle.std.specs.Prelude.{◌≡◌, ◌≢◌, ◌⊎◌, false};
+ghost use Rattle.rom_tree.specs.Tree.{Node};
+ghost use Rattle.path_walk.specs.Resolution.{resolution, tree_namespace};
+ghost use Rattle.rom_faults.specs.declared.error.CheckError.TheVariants.{Fault, OutOfMemory};
+ghost use Rattle.image_check.specs.Checked.{HasTree, IsLeastFault};
+ghost use Rattle.rom_c.specs.Held.{usual, IsFormat, IsReported};
+ghost use Rattle.rom_c.specs.Told.{IsText, led_told, shown_told};
+ghost use Rattle.rom_c.specs.Told.{no_node as no_node_told, no_stat as no_stat_told, no_place as no_place_told};
+
+use crate::answers::{CLOSED, RomtoolNode, RomtoolPlace, RomtoolStat, no_node, no_place, no_stat};
+use crate::calls::{lookup_in, readlink_in, stat_in};
+use crate::image::{OPEN, RomtoolImage, check_into, image_of};
+use image_check::laws::one_tree;
+use std::alloc::Global;
+
+/// Checks an image, and puts down what C is to hand back with each call on it.
+///
+/// Gives 0 where the bytes hold an image: then its status is 1, its format 1 (romfs), 2 (cramfs) or
+/// 3 (big-endian cramfs), and it has the numbers of the check. Else the status is 0: 14 where they
+/// have a fault, whose number and offset stand in `fault` and `at` (the numbers are those of
+/// `rom_faults`), and 15 where memory was refused.
+#[unsafe(no_mangle)]
+pub extern "C" fn romtool_check<'a>(
+    alloc: Global,
+    image: &mut RomtoolImage<'a>,
+    bytes: &'a [u8],
+) -> u32
+    ensures bytes { image.new.bytes.now ≡ bytes.now }
+    ensures open { result ≡ 0 → image.new.status ≡ 1 }
+    ensures tree { result ≡ 0 → (t : Node) × HasTree bytes.now usual t }
+    ensures format { result ≡ 0 → IsFormat bytes.now image.new.format }
+    ensures report { result ≡ 0 → IsReported bytes.now image.new.references image.new.depth }
+    ensures sound { result ≡ 0 → (image.new.fault ≡ 0) × (image.new.at ≡ 0) }
+    ensures closed { result ≢ 0 → (image.new.status ≡ 0) × (image.new.format ≡ 0) }
+    ensures numbers { result ≢ 0 → (image.new.accessible ≡ 0) × (image.new.root ≡ 0)
+        × (image.new.references ≡ 0) × (image.new.depth ≡ 0) }
+    ensures refused { result ≡ 14 → (t : Node) → HasTree bytes.now usual t → ⊥ }
+    ensures least { result ≡ 14
+        → IsLeastFault bytes.now usual (Fault image.new.fault image.new.at) }
+    ensures memory { result ≡ 15 → IsLeastFault bytes.now usual OutOfMemory }
+    ensures no_fault { result ≡ 15 → (image.new.fault ≡ 0) × (image.new.at ≡ 0) }
+    ensures codes { (result ≡ 0) ⊎ ((result ≡ 14) ⊎ (result ≡ 15)) }
+{
+    check_into(alloc, image, bytes)
+}
+
+/// The node that a path leads to; `follow` says whether a symbolic link in the last place is
+/// followed. The errors are 13, where no image is open, and those of `path_walk::walk`.
+#[unsafe(no_mangle)]
+pub extern "C" fn romtool_lookup(image: &RomtoolImage<'_>, path: &[u8], follow: bool) -> RomtoolNode
+    ensures closed { image.now.status ≢ 1 → result ≡ no_node_told 13 }
+    ensures leads { image.now.status ≡ 1 → (t : Node) → HasTree image.now.bytes.now usual t
+        → result ≡ led_told (resolution (tree_namespace image.now.bytes.now t) path.now follow) }
+{
+    one_tree();
+    if image.status != OPEN {
+        return no_node(CLOSED);
+    }
+    lookup_in(&mut image_of(image), path, follow)
+}
+
+/// The kind and numbers of the node that a path leads to; `follow` and the errors are those of
+/// `romtool_lookup`.
+#[unsafe(no_mangle)]
+pub extern "C" fn romtool_stat(image: &RomtoolImage<'_>, path: &[u8], follow: bool) -> RomtoolStat
+    ensures closed { image.now.status ≢ 1 → result ≡ no_stat_told 13 }
+    ensures shows { image.now.status ≡ 1 → (t : Node) → HasTree image.now.bytes.now usual t
+        → result ≡ shown_told (resolution (tree_namespace image.now.bytes.now t) path.now
+        follow) }
+{
+    one_tree();
+    if image.status != OPEN {
+        return no_stat(CLOSED);
+    }
+    stat_in(&mut image_of(image), path, follow)
+}
+
+/// Where the text of the symbolic link lies that a path leads to: its bytes follow one another in
+/// the image. The errors are those of `romtool_lookup`, and 5 where the path leads to no link.
+#[unsafe(no_mangle)]
+pub extern "C" fn romtool_readlink(image: &RomtoolImage<'_>, path: &[u8]) -> RomtoolPlace
+    ensures closed { image.now.status ≢ 1 → result ≡ no_place_told 13 }
+    ensures text { image.now.status ≡ 1 → (t : Node) → HasTree image.now.bytes.now usual t
+        → IsText (resolution (tree_namespace image.now.bytes.now t) path.now false) result }
+{
+    one_tree();
+    if image.status != OPEN {
+        return no_place(CLOSED);
+    }
+    readlink_in(&mut image_of(image), path)
+}

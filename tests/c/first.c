@@ -1,0 +1,56 @@
+/* A boot loader's way from an image in flash to the entry of a program that is run in place.
+ *
+ *     first IMAGE PATH: prints where the program of that path is, and its first bytes */
+#include <inttypes.h>
+#include <stdio.h>
+#include <stdlib.h>
+#include <string.h>
+
+#include "romtool.h"
+
+/* The first byte of the file of a path, which lies in the image in one piece; or NULL. */
+static const uint8_t *entry_of(const struct romtool_image *image, const char *path) {
+    struct romtool_file file = {0};
+    if (romtool_open(&file, image, (const uint8_t *)path, strlen(path))) {
+        return NULL;
+    }
+    const struct romtool_stat stat = romtool_fstat(&file);
+    const struct romtool_place place = romtool_map(&file, 0, stat.size);
+    if (place.error || !(stat.mode & 0111)) {
+        return NULL;
+    }
+    return image->data + place.at;
+}
+
+/* The bytes of a file, in the place of flash. */
+static uint8_t *flash_of(const char *name, size_t *len) {
+    FILE *file = fopen(name, "rb");
+    uint8_t *data = malloc(1 << 24);
+    if (!file || !data) {
+        free(data);
+        return NULL;
+    }
+    *len = fread(data, 1, 1 << 24, file);
+    fclose(file);
+    return data;
+}
+
+int main(int argc, char **argv) {
+    size_t len = 0;
+    uint8_t *flash = argc == 3 ? flash_of(argv[1], &len) : NULL;
+    struct romtool_image image = {0};
+    if (!flash) {
+        return 2;
+    }
+    if (romtool_check(&image, flash, len)) {
+        printf("fault %" PRIu32 " at %" PRIu32 "\n", image.fault, image.at);
+        free(flash);
+        return 1;
+    }
+    const uint8_t *entry = entry_of(&image, argv[2]);
+    if (entry) {
+        printf("at %td of the image: %02x %02x %02x %02x\n", entry - flash, entry[0], entry[1], entry[2], entry[3]);
+    }
+    free(flash);
+    return entry == NULL;
+}
