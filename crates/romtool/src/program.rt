@@ -16,6 +16,7 @@ use rom_commands::serving::serve_on;
 use rom_commands::several::serve_several_on;
 use rom_commands::shown::has_addresses;
 use rom_fields::bytes::{ByteRead, ByteWrite, Plain};
+use sentences::reasons::{MISREAD, NO_ADDRESS};
 use std::io::{self, BufWriter};
 
 /// The status of a refusal, whose line standard output has.
@@ -24,12 +25,6 @@ const REFUSED: u8 = 1;
 /// What is said behind the list of the example image.
 const EXAMPLE: &str =
     "no subcommand is given: this is the image that the program carries; romtool --help says more";
-
-/// What is said where an image would have an address above the last one of 64 bits.
-const NO_ADDRESS: &str = "with this base the image has addresses of more than 64 bits";
-
-/// What is said behind the lines of what Linux gets wrong.
-const MISREAD: &str = "the image is sound, and Linux gets wrong what the lines say: docs/LINUX.md";
 
 /// Does what the words of the command line ask for, and gives the status to end with.
 pub fn run(rt: &HostRuntime) -> u8

@@ -1,4 +1,4 @@
-//! Why the program itself refuses a file that the system would lend: at most 80 bytes each, as
+//! What the program itself says of a file that the system would lend: at most 80 bytes each, as
 //! many as an error of std keeps.
 
 /// A source is a folder, a device, a pipe or a socket.
@@ -50,3 +50,9 @@ pub const PART_REPLACED: &str =
 
 /// The bytes that were written are not those that were summed.
 pub const SUM_DIFFERS: &str = "a source changed while it was read: the stored sum is another";
+
+/// An image would end above the last address.
+pub const NO_ADDRESS: &str = "with this base it has addresses of more than 64 bits";
+
+/// Linux gets something of a sound image wrong.
+pub const MISREAD: &str = "it is sound, and Linux gets wrong what the lines say: docs/LINUX.md";
