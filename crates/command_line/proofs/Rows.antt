@@ -1,12 +1,12 @@
 -- The values of clap's matches, as its rows have them.
-use Rattle.std.proofs.Common.{◌≡◌, ℕ, Bool, true, false, cond, List, [], ◌∷◌, map, Option, Some, None, option_map, slice_get, refl, sym, ap, ap₂, subst, ◌∙◌}
+use Rattle.std.proofs.Common.{◌≡◌, ℕ, Bool, true, false, cond, List, [], ◌∷◌, map, Option, Some, None, option_map, slice_get, refl, sym, ap, ap₂, ◌∙◌}
 use Rattle.std.specs.Prelude.{option_and_then, find, ◌&&◌, not}
 use Rattle.std.specs.Borrow.{Bor}
 use Rattle.std.specs.Str.{bytes_eq}
 use Rattle.std.proofs.lemmas.Slice.Eq.{bytes_eq-Decides}
 use Rattle.std.proofs.lemmas.Bool.{cases_Bool}
 use mathlib.Core.Logic.{⊎_elim}
-use Rattle.clap.specs.Words.{AddsSubcommand, App, Row, Shape, all_of, app_of, first_of, first_value, is_simple, matched_of, raw_values, rows_of, shape_of, with_subcommand}
+use Rattle.clap.specs.Words.{AddsSubcommand, App, Shape, all_of, app_of, first_of, first_value, is_simple, matched_of, raw_values, rows_of, shape_of, with_subcommand}
 use Rattle.clap.specs.Walk.{row_of, texts}
 use Rattle.clap.specs.Facts.{Entry}
 use Rattle.clap.specs.declared.builder.command.Command.{Command}
