@@ -109,11 +109,23 @@ fn is_memory(error: &WordsError<'_>) -> bool {
 #[test]
 fn words_that_are_refused_say_why(rt: HostRuntime) -> Result<(), Fail> {
     for (words, text) in [
-        (["romtool", "build", "ext4", "m", "o"].as_slice(), "error: FORMAT is"),
-        (&["romtool", "scan", "--all", "--align", "3", "x"], "error: N is"),
-        (&["romtool", "scan", "--align", "4", "x"], "error: the option '--align'"),
+        (
+            ["romtool", "build", "ext4", "m", "o"].as_slice(),
+            "error: FORMAT is",
+        ),
+        (
+            &["romtool", "scan", "--all", "--align", "3", "x"],
+            "error: N is",
+        ),
+        (
+            &["romtool", "scan", "--align", "4", "x"],
+            "error: the option '--align'",
+        ),
         (&["romtool", "fly"], "error: unrecognized subcommand 'fly'"),
-        (&["romtool", "--explain", "--"], "error: a subcommand is wanted"),
+        (
+            &["romtool", "--explain", "--"],
+            "error: a subcommand is wanted",
+        ),
     ] {
         let words = line(rt.alloc(), words)?;
         let Err(error) = read(rt.alloc(), &words) else {

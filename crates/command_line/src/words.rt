@@ -121,7 +121,10 @@ impl Display for Wrong<'_> {
                 write!(f, "N is a power of two from 4 to 65536, and not {word:?}")
             }
             Wrong::Base(word) => {
-                write!(f, "HEX is an address in hexadecimal digits, and not {word:?}")
+                write!(
+                    f,
+                    "HEX is an address in hexadecimal digits, and not {word:?}"
+                )
             }
             Wrong::WithoutAll(name) => write!(f, "the option '--{name}' goes with '--all' alone"),
         }

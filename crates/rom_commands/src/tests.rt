@@ -70,7 +70,10 @@ fn copies_a_file(rt: HostRuntime) -> Result<(), Fail> {
     ] {
         let mut out = Plain::new(Vec::new(rt.alloc()));
         let mut err = Plain::new(Vec::new(rt.alloc()));
-        assert_eq!(rt; print_file(rt.alloc(), &hello(), path, &mut out, &mut err), status);
+        assert_eq!(rt;
+            print_file(rt.alloc(), &hello(), path, &mut out, &mut err),
+            status
+        );
         let written: Vec<u8> = out.into_inner();
         let complained: Vec<u8> = err.into_inner();
         assert_eq!(rt; written.as_slice(), text);
@@ -104,7 +107,10 @@ fn shows_faults(rt: HostRuntime) -> Result<(), Fail> {
         assert!(rt; put_be32(&mut subdirectory, at, word));
     }
     for (bytes, line) in [
-        (subdirectory.as_slice(), b"fault 20 Twice at 32\n".as_slice()),
+        (
+            subdirectory.as_slice(),
+            b"fault 20 Twice at 32\n".as_slice(),
+        ),
         (&zeros, b"fault 3 Magic at 0\n"),
         (&[], b"fault 2 Short at 0\n"),
     ] {
