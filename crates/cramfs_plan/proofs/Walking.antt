@@ -116,32 +116,32 @@ walks o d w (folder name i own after) room =
     let r = row d name (a_folder i) in
     let len = list_len own in
     let from = pad4 w.state.at in
-    let w1 = step w r len in
-    let up : length w1.lists ≡ length w.lists = lists_wide w.lists r from in
-    let a = walks o (d + 1) w1 own (omega (arith, room, up)) in
-    let w2 = after_rows w1 (rows (d + 1) own) (named_lens own) in
-    let wide2 : length w2.lists ≡ length w.lists = a.wide ∙ up in
-    let b = walks o d w2 after (omega (arith, room, wide2)) in
+    let inside = step w r len in
+    let up : length inside.lists ≡ length w.lists = lists_wide w.lists r from in
+    let a = walks o (d + 1) inside own (omega (arith, room, up)) in
+    let behind = after_rows inside (rows (d + 1) own) (named_lens own) in
+    let wide_behind : length behind.lists ≡ length w.lists = a.wide ∙ up in
+    let b = walks o d behind after (omega (arith, room, wide_behind)) in
     let l = get_or w.lists d 0 in
     let e = entry_len name in
-    let first : get_or w1.lists (d + 1) 0 ≡ from = lists_own w.lists r d from refl (omega (arith, room)) in
-    let next : get_or w2.lists d 0 ≡ l + e = a.above d (omega arith) ∙ lists_here w.lists r d from refl (omega (arith, room)) in
+    let first : get_or inside.lists (d + 1) 0 ≡ from = lists_own w.lists r d from refl (omega (arith, room)) in
+    let next : get_or behind.lists d 0 ≡ l + e = a.above d (omega arith) ∙ lists_here w.lists r d from refl (omega (arith, room)) in
     let same = length-lens (d + 1) own in
-    let joined = walked-append o w1 (rows (d + 1) own) (rows d after) (named_lens own) (named_lens after) same in
-    let ended = after_rows-append w1 (rows (d + 1) own) (rows d after) (named_lens own) (named_lens after) same in
+    let joined = walked-append o inside (rows (d + 1) own) (rows d after) (named_lens own) (named_lens after) same in
+    let ended = after_rows-append inside (rows (d + 1) own) (rows d after) (named_lens own) (named_lens after) same in
     let s1 = after_list w.state own in
     let item : row_item o w r len ≡ item_of o l name i len (list_offset w.state.at own) 0 0 0 no_bytes =
     ap (λ (k : ℕ). item_of o l name i len k 0 0 0 no_bytes) (offset_is w.state.at own) in
     record {
       items =
-          ap (λ (x : Item). x ∷ walked o w1 (rows (d + 1) own ++ rows d after) (named_lens own ++ named_lens after)) item
+          ap (λ (x : Item). x ∷ walked o inside (rows (d + 1) own ++ rows d after) (named_lens own ++ named_lens after)) item
           ∙ ap (λ (is : List Item). item_of o l name i len (list_offset w.state.at own) 0 0 0 no_bytes ∷ is) (joined
-          ∙ ap (λ (is : List Item). is ++ walked o w2 (rows d after) (named_lens after)) (a.items ∙ ap (λ (k : ℕ). in_preorder o k s1 own) first)
-          ∙ ap (λ (is : List Item). in_preorder o from s1 own ++ is) (b.items ∙ ap (λ (k : ℕ). in_preorder o k w2.state after) next ∙ ap (λ (s : State). in_preorder o (l + e) s after) a.state));
+          ∙ ap (λ (is : List Item). is ++ walked o behind (rows d after) (named_lens after)) (a.items ∙ ap (λ (k : ℕ). in_preorder o k s1 own) first)
+          ∙ ap (λ (is : List Item). in_preorder o from s1 own ++ is) (b.items ∙ ap (λ (k : ℕ). in_preorder o k behind.state after) next ∙ ap (λ (s : State). in_preorder o (l + e) s after) a.state));
       state = ap (λ (x : Walk). x.state) ended ∙ b.state ∙ ap (λ (s : State). after_names s after) a.state;
       above = λ j k. ap (λ (x : Walk). get_or x.lists j 0) ended ∙ b.above j k ∙ a.above j (omega (arith, k)) ∙ lists_above w.lists r d from j refl k;
       here = ap (λ (x : Walk). get_or x.lists d 0) ended ∙ b.here ∙ ap (λ (k : ℕ). k + list_len after) next ∙ further l e (list_len after);
-      wide = ap (λ (x : Walk). length x.lists) ended ∙ b.wide ∙ wide2;
+      wide = ap (λ (x : Walk). length x.lists) ended ∙ b.wide ∙ wide_behind;
     }
   where
     further : (x y z : ℕ) → (x + y) + z ≡ x + (y + z)
