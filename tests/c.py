@@ -13,7 +13,8 @@ compiler has them.
     numbers.c, reader.c
                a reader without check, heap and C library, of numbers that a check gave before
 The header is compiled as C99, C11 and C++17, the last in a program that is run. What the library takes from its
-surroundings is six functions. The last line is `N passed, M failed`, with `, K skipped` where nothing was run for want
+surroundings is six functions. Where aarch64-linux-gnu-gcc and qemu-aarch64 are installed, the library is built for
+aarch64, too, and answers.c and closed.c are run over it. The last line is `N passed, M failed`, with `, K skipped` where nothing was run for want
 of `cc` or `rt`.
 """
 
@@ -32,6 +33,7 @@ SOURCES = os.path.join(HERE, "c")
 CRATE = os.path.join(TOP, "crates", "rom_c")
 STRICT = ["-Wall", "-Wextra", "-pedantic", "-Werror", "-I" + INCLUDE]
 SANITIZERS = ["-g", "-fsanitize=address,undefined", "-fno-sanitize-recover=all"]
+AARCH64 = "aarch64-unknown-linux-gnu"
 TOPICS = ("program", "romfs", "cramfs", "exact", "many", "serve")
 NEEDS = {"memcpy", "memmove", "memset", "rattle_alloc", "rattle_dealloc", "rattle_realloc"}
 CPLUSPLUS = """#include "romtool.h"
@@ -71,6 +73,20 @@ def library(given, counts):
         counts.fails("rt lib in crates/rom_c", done.stdout.decode(errors="replace").splitlines()[-20:])
         return None
     return archive
+
+
+def library_of_aarch64(top, counts):
+    """The archive for aarch64, or nothing. It is built where that of this machine is, which is put back."""
+    archive, kept = os.path.join(CRATE, "out", "librom_c.a"), os.path.join(top, "librom_c.a")
+    shutil.copy2(archive, kept)
+    try:
+        done = said([os.path.join(TOP, "tools", "rt"), "lib", "--target", AARCH64], cwd=CRATE)
+        if done.returncode == 0:
+            return shutil.copy2(archive, os.path.join(top, "aarch64.a"))
+        counts.fails("rt lib for aarch64", done.stdout.decode(errors="replace").splitlines()[-20:])
+        return None
+    finally:
+        shutil.copy2(kept, archive)
 
 
 def heap():
@@ -224,6 +240,36 @@ def program(name, top, archive, words, counts):
     return made if compiled(["cc", "-std=c99", *STRICT, *words, source, archive, heap(), "-o", made], counts) else None
 
 
+def of_aarch64(name, top, archive, counts):
+    """A program of c/ for aarch64, as a script that has qemu run it; or nothing."""
+    made, script = os.path.join(top, name + "64"), os.path.join(top, name + "64.sh")
+    sources = [os.path.join(SOURCES, name + ".c"), os.path.join(SOURCES, "heap.c")]
+    words = ["aarch64-linux-gnu-gcc", "-std=c99", "-O2", "-static", *STRICT, *sources, archive, "-o", made]
+    if not compiled(words, counts):
+        return None
+    with open(script, "w", encoding="utf-8") as file:
+        file.write('#!/bin/sh\nexec qemu-aarch64 %s "$@"\n' % made)
+    os.chmod(script, 0o755)
+    return script
+
+
+def on_aarch64(binary, top, counts):
+    """The library for aarch64 answers as romtool does on this machine."""
+    for tool in ("aarch64-linux-gnu-gcc", "qemu-aarch64"):
+        if not shutil.which(tool):
+            counts.skips("the library for aarch64: there is no %s" % tool)
+            return
+    archive = library_of_aarch64(top, counts)
+    if not archive:
+        return
+    answers, closed = (of_aarch64(it, top, archive, counts) for it in ("answers", "closed"))
+    if answers:
+        cases(binary, answers, counts)
+        each_format(binary, top, answers, counts)
+    if closed:
+        is_as_wanted("closed handles on aarch64", said([closed, top + "/tree"]).stdout, b"closed 92\n", counts)
+
+
 def main():
     reads = parser("Build the library for C, and look that programs over it answer as romtool does.")
     reads.add_argument("--library", help="the archive, if not the one that `rt lib` builds")
@@ -255,6 +301,8 @@ def main():
             is_as_wanted("closed handles", (done.returncode, done.stdout), (0, b"closed 92\n"), counts)
         if numbers:
             reader(top, archive, numbers, counts)
+        if not arguments.library:
+            on_aarch64(binary, top, counts)
     return counts.close()
 
 

@@ -36,7 +36,8 @@ def text_of(path):
 
 def documents():
     """The documents, by their paths in the repository."""
-    found = glob.glob(TOP + "/*.md") + glob.glob(TOP + "/docs/*.md") + glob.glob(TOP + "/bench/*.md")
+    folders = ("", "docs/", "bench/", "crates/*/")
+    found = [it for folder in folders for it in glob.glob("%s/%s*.md" % (TOP, folder))]
     return sorted(os.path.relpath(it, TOP) for it in found)
 
 

@@ -7,7 +7,8 @@ Of each small image of the cases (see run.py) that the program lists, and of ima
 chance (see manifests.py): `map --base` has the runs of each regular file in the list's order, with offsets that go on
 from 0, and no two runs of a file adjoin; the bytes of the image at these addresses, joined, are what `cat` writes, and
 what a server reads (cases) or the manifest's sources have (manifests). `linux` has just the lines that docs/LINUX.md
-tells: files of cramfs that end with a whole block, names of romfs of 128 bytes and more. Paths that are no UTF-8 cannot
+tells: files of cramfs that end with a whole block or have the table of another file, names of romfs of 128 bytes and more, and
+a volume of more than 143. Paths that are no UTF-8 cannot
 be given to `cat`, and are only mapped. The last line is `N passed, M failed`.
 """
 
@@ -70,12 +71,24 @@ def mapped(binary, image, base):
     return files
 
 
-def misreads(lines, kind):
-    """The lines that `linux` has of an image, as its list and its format have it."""
+def table_of(image, kind, node):
+    """Where the inode of a cramfs image with this number has its table."""
+    word = int.from_bytes(image[node + 8 : node + 12], "big" if kind == "cramfs-be" else "little")
+    return 4 * (word & 0x3FFFFFF if kind == "cramfs-be" else word >> 6)
+
+
+def misreads(image, lines, kind):
+    """The lines that `linux` has of an image, as its bytes, its list and its format have it."""
+    if kind == "romfs" and image.index(b"\0", 16) - 16 > 143:
+        yield "linux 5 Volume /"
+    known = {}
     for fields, path in lines:
         size, name = int(fields[5]), raw(path).rpartition(b"/")[2]
         if kind != "romfs" and fields[1] == "f" and size and size % 4096 == 0:
             yield "linux 1 LastBlock %s" % path
+        if kind != "romfs" and fields[1] in "fl" and size:
+            if known.setdefault(table_of(image, kind, int(fields[0])), fields[1:6]) != fields[1:6]:
+                yield "linux 2 SharedTable %s" % path
         if kind == "romfs" and len(name) >= 128:
             yield "linux %s %s" % ("3 NameCut" if len(name) == 128 else "4 NameTooLong", path)
 
@@ -101,7 +114,7 @@ def compare(binary, image, base, contents_of):
         answer = ran(binary, "cat", image, given)
         if (answer.returncode, answer.stdout, answer.stderr) != (0, joined, b""):
             raise Wrong("cat %s: %d %r" % (path, answer.returncode, answer.stderr))
-    told = list(misreads(lines, checked[1]))
+    told = list(misreads(stored, lines, checked[1]))
     answer = ran(binary, "linux", image)
     if answer.returncode != bool(told) or answer.stdout.decode("ascii").split("\n")[:-1] != told:
         raise Wrong("linux: %d %r" % (answer.returncode, answer.stdout[:200]))

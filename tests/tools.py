@@ -109,8 +109,8 @@ def try_gate(counts):
     for name, (_, _, _, wanted) in EDITS.items():
         told = [it for it in said if it.startswith(f"rt: must-fail small/{name}.edit: {wanted}")]
         expect(counts, f"the gate on the edit {name}", len(told), 1, ran.stdout)
-    refused = sum(it[3].startswith("refused") for it in EDITS.values())
-    last = f"{1 + refused} passed, {len(EDITS) - refused} failed"
+    of = lambda verdict: sum(it[3].startswith(verdict) for it in EDITS.values())
+    last = f"{1 + of('refused')} passed, {of('NOT REFUSED')} failed"
     expect(counts, "the gate's last line", said[-1:], [last], ran.stdout)
     expect(counts, "the gate's status", ran.returncode, 1, ran.stdout)
 

@@ -11,7 +11,7 @@ import dataclasses
 import os
 import re
 
-HEAD = re.compile(r"^(\s*)(?:pub(?:\([^)]*\))? )?(const )?(?:unsafe )?fn (\w+)")
+HEAD = re.compile(r'^(\s*)(?:pub(?:\([^)]*\))? )?(const )?(?:unsafe )?(?:extern "C" )?fn (\w+)')
 # what the check says of a function that is not proved
 UNPROVED = re.compile(r"^fn (.+?): (not proved|no proof)(.*)$", re.M)
 # and of one that is

@@ -9,9 +9,8 @@ import importlib.util
 import os
 import shutil
 import sys
-import threading
 
-MADE_FOR = "rattle-kit-13b logic dac8208d650f15bf"
+MADE_FOR = "rattle-kit-13f logic dac8208d650f15bf"
 TOP = os.path.dirname(os.path.dirname(os.path.realpath(__file__)))
 
 sys.dont_write_bytecode = True
@@ -41,27 +40,6 @@ def is_known(rt, instead):
         tool = f"tools/{os.path.basename(sys.argv[0])}"
         print(f"{tool}: made for {MADE_FOR}, and this is {here}: {instead}", file=sys.stderr, flush=True)
     return here == MADE_FOR
-
-
-def remember_sums(rtlib):
-    """Has the toolchain sum the sources of each crate once for each question, and not once for each way to it through
-    crates.txt, of which there are tens of thousands."""
-    stamp = rtlib.Crate.stamp
-    local = threading.local()
-
-    def once(crate):
-        sums = getattr(local, "sums", None)
-        if sums is not None:
-            if crate.folder not in sums:
-                sums[crate.folder] = stamp(crate)
-            return sums[crate.folder]
-        local.sums = {}
-        try:
-            return stamp(crate)
-        finally:
-            local.sums = None
-
-    rtlib.Crate.stamp = once
 
 
 def hand_over(words):

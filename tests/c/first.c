@@ -22,15 +22,18 @@ static const uint8_t *entry_of(const struct romtool_image *image, const char *pa
     return image->data + place.at;
 }
 
+/* The most that an image of romtool has. */
+#define MOST (1 << 28)
+
 /* The bytes of a file, in the place of flash. */
 static uint8_t *flash_of(const char *name, size_t *len) {
     FILE *file = fopen(name, "rb");
-    uint8_t *data = malloc(1 << 24);
+    uint8_t *data = malloc(MOST);
     if (!file || !data) {
         free(data);
         return NULL;
     }
-    *len = fread(data, 1, 1 << 24, file);
+    *len = fread(data, 1, MOST, file);
     fclose(file);
     return data;
 }

@@ -1,4 +1,3 @@
-pub mod Headline
 pub mod Inventory
 pub mod Nearest
 pub mod Noted

@@ -1,6 +1,4 @@
-//! What the program prints of building images and of scanning folders, and the headline: what a
-//! reader of an image's lines is answered, from the image alone and from the manifest that it was
-//! built of (`laws::headline`).
+//! What the program prints of building images and of scanning folders, and laws of what a scan prints.
 #![tactic(auto)]
 
 pub mod building;

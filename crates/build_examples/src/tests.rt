@@ -210,6 +210,25 @@ fn each_read_fails_in_turn(rt: HostRuntime) -> Result<(), Fail> {
 }
 
 #[test]
+fn contents_are_read_as_far_as_they_count(rt: HostRuntime) -> Result<(), Fail> {
+    let (text, all) = FITTING[5];
+    // for the sizes 2, 2 and 1 reads, and to be written 1, 3 and none; for the sum of romfs, which
+    // ends in the first part of /b, 1 read, and for that of cramfs 1, 3 and none
+    for (format, reads) in [
+        (Format::Romfs, 10),
+        (Format::Cramfs, 13),
+        (Format::CramfsBig, 13),
+    ] {
+        let plan = planned(rt.alloc(), text, all, format)?;
+        let (_, ended) = spoiled(rt.alloc(), &plan, all, Fault::Unreadable, reads)?;
+        assert_eq!(rt; ended, Some(Ok(())));
+        let (_, ended) = spoiled(rt.alloc(), &plan, all, Fault::Unreadable, reads - 1)?;
+        assert!(rt; matches!(&ended, Some(Err(StreamError::SourceFault { file: _ }))));
+    }
+    Ok(())
+}
+
+#[test]
 fn contents_that_change_are_told(rt: HostRuntime) -> Result<(), Fail> {
     let (text, all) = FITTING[1];
     let (whole, changed) = (Some(Ok(())), Some(Err(StreamError::Changed)));

@@ -41,6 +41,10 @@ abbrev pub scan_shape : Shape
 scan_shape = shape_with (codes "scan")
     (value_rule (codes "folder") ∷ flag_rule (codes "all") ∷ option_rule (codes "for") ∷ option_rule (codes "align") ∷ [])
 
+abbrev pub extract_shape : Shape
+extract_shape = shape_with (codes "extract")
+    (value_rule (codes "image") ∷ value_rule (codes "folder") ∷ flag_rule (codes "owners") ∷ [])
+
 -- the program without its subcommands: it has a version, and the option --explain
 abbrev pub romtool_top : App
 romtool_top = with_rule (record { top = record (new_shape (codes "romtool")) { has_version = true }; subs = [] }) (flag_rule (codes "explain"))
@@ -49,9 +53,9 @@ romtool_top = with_rule (record { top = record (new_shape (codes "romtool")) { h
 abbrev pub romtool_app : App
 romtool_app = record {
   top = record romtool_top.top { is_leaf = false };
-  subs = image_shape (codes "check") ∷ image_shape (codes "list") ∷ map_shape ∷ cat_shape
+  subs = image_shape (codes "check") ∷ image_shape (codes "list") ∷ image_shape (codes "info") ∷ map_shape ∷ cat_shape
       ∷ image_shape (codes "linux") ∷ image_shape (codes "serve")
-      ∷ shape_with (codes "space") (images_rule ∷ []) ∷ build_shape ∷ scan_shape ∷ [];
+      ∷ shape_with (codes "space") (images_rule ∷ []) ∷ build_shape ∷ scan_shape ∷ extract_shape ∷ [];
 }
 
 -- a command that is one of them

@@ -18,6 +18,8 @@ trouble_line trouble.TheVariants.Memory = codes "memory\n"
 trouble_line trouble.TheVariants.Usage = codes "usage\n"
 trouble_line (trouble.TheVariants.File name) = codes "file " ++ (escaped name.now ++ codes "\n")
 trouble_line trouble.TheVariants.Changed = codes "changed\n"
+trouble_line trouble.TheVariants.LongPath = codes "path\n"
+trouble_line trouble.TheVariants.LongVolume = codes "volume\n"
 trouble_line trouble.TheVariants.WriteFault = codes "write fault\n"
 
 -- words that ask for nothing have a status of their own

@@ -2,7 +2,7 @@
 //! reads them and as help shows them.
 ghost use Rattle.std.specs.Prelude.{◌≡◌, ◌∷◌, [], IfOk, codes, false};
 ghost use Rattle.clap.specs.Words.{app_of, rule_of};
-ghost use Rattle.command_line.specs.Commands.{IsShaped, build_shape, flag_rule, images_rule};
+ghost use Rattle.command_line.specs.Commands.{IsShaped, build_shape, extract_shape, flag_rule, images_rule};
 ghost use Rattle.command_line.specs.Commands.{cat_shape, map_shape, option_rule, romtool_app};
 ghost use Rattle.command_line.specs.Commands.{romtool_top, scan_shape};
 ghost use Rattle.command_line.specs.Commands.{shape_with, value_rule};
@@ -11,7 +11,7 @@ use clap::{Arg, ArgAction, Command};
 use std::alloc::{AllocError, Global};
 
 /// The program's version.
-const VERSION: &str = "0.1.0";
+const VERSION: &str = "1.0.0";
 
 /// What the program is.
 const ABOUT: &str =
@@ -165,6 +165,28 @@ fn with_scan<'a>(alloc: Global) -> Result<Command<'a>, AllocError>
     Ok(command)
 }
 
+/// The subcommand `extract`.
+fn with_extract<'a>(alloc: Global) -> Result<Command<'a>, AllocError>
+    ensures { IfOk result (IsShaped extract_shape) }
+{
+    let about = "Takes an image apart: its files into a folder, and prints its manifest";
+    let command = with_one(alloc, "extract", about, image(alloc))?;
+    let folder = value(
+        alloc,
+        "folder",
+        "DIR",
+        "The folder, which is made, or is there and empty",
+    );
+    let command = command.arg(folder)?;
+    let owners = flag(
+        alloc,
+        "owners",
+        "Sets owners, and all bits of modes; else set-user and set-group are left out",
+    );
+    let command = command.arg(owners)?;
+    Ok(command)
+}
+
 /// The program without its subcommands.
 fn top<'a>(alloc: Global) -> Result<Command<'a>, AllocError>
     ensures { IfOk result (λ c. app_of c ≡ romtool_top) }
@@ -187,6 +209,9 @@ pub fn command<'a>(alloc: Global) -> Result<Command<'a>, AllocError>
     let command = command.subcommand(with_one(alloc, "check", about, image(alloc))?)?;
     let about = "Prints a line for each name in an image";
     let command = command.subcommand(with_one(alloc, "list", about, image(alloc))?)?;
+    let about =
+        "Prints the facts of an image: its format, volume, sizes, and how many names of each kind";
+    let command = command.subcommand(with_one(alloc, "info", about, image(alloc))?)?;
     let command = command.subcommand(with_map(alloc)?)?;
     let command = command.subcommand(with_cat(alloc)?)?;
     let about = "Prints what Linux gets wrong of a sound image";
@@ -197,5 +222,6 @@ pub fn command<'a>(alloc: Global) -> Result<Command<'a>, AllocError>
     let command = command.subcommand(with_one(alloc, "space", about, images(alloc))?)?;
     let command = command.subcommand(with_build(alloc)?)?;
     let command = command.subcommand(with_scan(alloc)?)?;
+    let command = command.subcommand(with_extract(alloc)?)?;
     Ok(command)
 }

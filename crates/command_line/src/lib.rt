@@ -13,4 +13,4 @@ mod tests;
 pub mod words;
 
 pub use status::{Status, Trouble, tell};
-pub use words::{Build, Request, ScanAll, WordsError, Wrong, is_explain, read};
+pub use words::{Build, Extract, Request, ScanAll, WordsError, Wrong, is_explain, read};

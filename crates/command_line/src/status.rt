@@ -46,6 +46,10 @@ pub enum Trouble<'a> {
     File(&'a [u8]),
     /// Sources changed while they were read.
     Changed,
+    /// A path in an image is longer than a manifest takes.
+    LongPath,
+    /// The name of an image's volume is longer than a manifest takes.
+    LongVolume,
     /// Standard output failed.
     WriteFault,
 }
@@ -60,6 +64,8 @@ fn complain_of<E: ByteWrite>(trouble: Trouble<'_>, err: &mut E)
         Trouble::Usage => put(err, &mut failed, b"usage\n"),
         Trouble::File(name) => complain(err, b"file ", name),
         Trouble::Changed => put(err, &mut failed, b"changed\n"),
+        Trouble::LongPath => put(err, &mut failed, b"path\n"),
+        Trouble::LongVolume => put(err, &mut failed, b"volume\n"),
         Trouble::WriteFault => put(err, &mut failed, b"write fault\n"),
     }
 }

@@ -34,6 +34,8 @@ pub enum Request<'a> {
     Check(&'a str),
     /// To list the image in this file.
     List(&'a str),
+    /// To print the facts of the image in this file.
+    Info(&'a str),
     /// To print where the files of an image lie.
     Map(Map<'a>),
     /// To print the bytes of a file in an image.
@@ -50,6 +52,8 @@ pub enum Request<'a> {
     Scan(&'a str),
     /// To print a manifest of a folder as it is.
     ScanAll(ScanAll<'a>),
+    /// To take an image apart.
+    Extract(Extract<'a>),
 }
 
 /// A map of the image in this file, whose first byte has this address.
@@ -82,6 +86,15 @@ pub struct ScanAll<'a> {
     pub format: Option<Format>,
     /// The alignment of regular files that someone may execute.
     pub align: u32,
+}
+
+/// An image that is taken apart: its files into a folder, its manifest on standard output.
+#[derive(Clone, Copy)]
+pub struct Extract<'a> {
+    pub image: &'a str,
+    pub folder: &'a str,
+    /// Whether what is made gets the owners and all bits of the modes that the image has.
+    pub owners: bool,
 }
 
 /// What is wrong in words that clap took.
@@ -322,14 +335,14 @@ fn scan_of<'a>(values: &ArgMatches<'a>) -> Option<&'a str>
     value_of(values, "folder")
 }
 
-/// Whether `--all` is given.
-fn is_all(values: &ArgMatches<'_>) -> bool
-    ensures yes { OnTrue result (first_of (codes "all") (rows_of (found_of values.now))
+/// Whether the option of this name, which has no value, is given.
+fn is_given(values: &ArgMatches<'_>, name: &str) -> bool
+    ensures yes { OnTrue result (first_of name.now (rows_of (found_of values.now))
         ≡ Some (codes "true")) }
-    ensures no { OnFalse result (first_of (codes "all") (rows_of (found_of values.now))
+    ensures no { OnFalse result (first_of name.now (rows_of (found_of values.now))
         ≢ Some (codes "true")) }
 {
-    match value_of(values, "all") {
+    match value_of(values, name) {
         Some(word) => word == "true",
         None => false,
     }
@@ -340,11 +353,25 @@ fn either_scan<'a>(values: &ArgMatches<'a>) -> Option<Request<'a>>
     ensures asked { IfSome result (IsAskedBy (rows_of (found_of values.now))) }
     ensures word { IfSome result (λ r. word_of r ≡ codes "scan") }
 {
-    if is_all(values) {
+    if is_given(values, "all") {
         Some(Request::ScanAll(scan_all_of(values)?))
     } else {
         Some(Request::Scan(scan_of(values)?))
     }
+}
+
+/// The image that is to be taken apart.
+fn extract_of<'a>(values: &ArgMatches<'a>) -> Option<Extract<'a>>
+    ensures { IfSome result (λ x. IsAskedBy (rows_of (found_of values.now)) (request.Extract x)) }
+{
+    let image = value_of(values, "image")?;
+    let folder = value_of(values, "folder")?;
+    let owners = is_given(values, "owners");
+    Some(Extract {
+        image,
+        folder,
+        owners,
+    })
 }
 
 /// Up to eight names.
@@ -366,6 +393,7 @@ fn asked<'a>(name: &str, values: &ArgMatches<'a>) -> Option<Request<'a>>
     match name {
         "check" => Some(Request::Check(value_of(values, "image")?)),
         "list" => Some(Request::List(value_of(values, "image")?)),
+        "info" => Some(Request::Info(value_of(values, "image")?)),
         "map" => Some(Request::Map(map_of(values)?)),
         "cat" => Some(Request::Cat(cat_of(values)?)),
         "linux" => Some(Request::Linux(value_of(values, "image")?)),
@@ -373,6 +401,7 @@ fn asked<'a>(name: &str, values: &ArgMatches<'a>) -> Option<Request<'a>>
         "space" => Some(Request::Space(few(values_of(values, "image")?)?)),
         "build" => Some(Request::Build(build_of(values)?)),
         "scan" => either_scan(values),
+        "extract" => Some(Request::Extract(extract_of(values)?)),
         _ => None,
     }
 }
@@ -404,14 +433,14 @@ fn wrong_with<'a>(values: &ArgMatches<'a>) -> Wrong<'a> {
         return Wrong::Base(word);
     }
     if let Some(word) = value_of(values, "for") {
-        return if is_all(values) && format_named(word).is_none() {
+        return if is_given(values, "all") && format_named(word).is_none() {
             Wrong::Format(word)
         } else {
             Wrong::WithoutAll("for")
         };
     }
     match value_of(values, "align") {
-        Some(word) if is_all(values) => Wrong::Align(word),
+        Some(word) if is_given(values, "all") => Wrong::Align(word),
         _ => Wrong::WithoutAll("align"),
     }
 }

@@ -1,11 +1,13 @@
 -- What each call finds.
 use Rattle.std.proofs.Common.{◌≡◌, ◌≢◌, ℕ, suc, ◌+◌, ◌-◌, ◌*◌, ◌/◌, ◌%◌, ◌<◌, ◌≤◌, min, true, false, List, length, take, drop, Option, None, Some, IsSome, ◌⊎◌, inl, inr, refl, sym, ap, subst, ◌∙◌, arith, rules}
 use Rattle.std.proofs.lemmas.Bool.{ne_eqb, eq-eqb}
+use Rattle.std.proofs.lemmas.List.{length-take, take-take}
 use Rattle.std.specs.Prelude.{slice_index}
 use Rattle.std.specs.Str.{bytes_eq}
 use Rattle.rom_tree.specs.declared.types.Kind.{Kind}
 use Rattle.rom_tree.specs.Tree.{Node, entry_at, entries_of, places_of, ino_of}
-use Rattle.rom_tree.specs.Image.{find_entry, stat_of, IsEntry, IsRun}
+use Rattle.rom_tree.specs.Image.{find_entry, stat_of, IsEntry, IsRun, LieIn}
+use Rattle.rom_tree.proofs.Rows.{lies_in_front}
 use Rattle.cramfs_format.specs.Order.{word}
 use Rattle.cramfs_format.specs.declared.order.Order.{Order}
 use Rattle.cramfs_format.specs.Inode.{mode_of, uid_of, gid_of, size_of, type_of, name_of, name_room, end_of, offset_of, list_start, list_end, without_zeros, block_start, pointer_place, pointer_of, HasBody}
@@ -17,12 +19,24 @@ use Rattle.cramfs_format.proofs.Trees.{IsList, IsKnown, made_entries, ino_is}
 use Rattle.cramfs_format.proofs.Chain.{IsStep, step_of, list_done, index_start, index_rest, index_next, list_there}
 use Rattle.cramfs_format.proofs.Contents.{file_size, made_length, made_place, file_byte, link_data}
 use Rattle.cramfs_image.specs.Cramfs.{cramfs_view}
+use Rattle.cramfs_image.proofs.Zeros.{zeros_cut, zeros_shorter}
 
 pub name_slice : (o : Order) (b : List ℕ) (p room : ℕ) → room ≡ name_room o b p → without_zeros (take (p + 12 + room - (p + 12)) (drop (p + 12) b)) ≡ name_of o b p
 unfolding name_of
 name_slice o b p room e =
     let n : p + 12 + room - (p + 12) ≡ name_room o b p = omega (arith, e) in
     ap (λ (x : ℕ). without_zeros (take x (drop (p + 12) b))) n
+
+-- a name is read where it stands
+name_lies : (o : Order) (bytes b : List ℕ) (p : ℕ) → b ≡ take (length b) bytes → length b ≤ length bytes → end_of o b p ≤ length b → LieIn bytes (name_of o b p)
+unfolding name_of end_of
+name_lies o bytes b p f w h =
+    let room : List ℕ = take (name_room o b p) (drop (p + 12) b) in
+    let n : ℕ = length (without_zeros room) in
+    let short : n ≤ name_room o b p =
+    (let a = zeros_shorter room in let l = length-take (name_room o b p) (drop (p + 12) b) in omega (arith, a, l)) in
+    let cut : take n (drop (p + 12) b) ≡ without_zeros room = sym (take-take n (name_room o b p) (drop (p + 12) b) short) ∙ zeros_cut room in
+    lies_in_front bytes b (without_zeros room) (p + 12) f w (omega (arith, h, short)) cut
 
 pub stat_is : (o : Order) (b : List ℕ) (k n t size : ℕ) (kind : Kind) (mode uid gid len major minor : ℕ) (x : Node) → x ≡ made o b k n → t ≡ type_of o b n → size ≡ size_of o b n
     → kind ≡ kind_named t → mode ≡ mode_of o b n → uid ≡ uid_of o b n → gid ≡ gid_of o b n → len ≡ file_size o b n → major ≡ by_type t 0 0 0 (size / 256) (size / 256) 0 0 → minor ≡ by_type t 0 0 0 (size % 256) (size % 256) 0 0
@@ -130,10 +144,10 @@ cursor_next o b k d v i known l e =
     rw (ne_eqb (end_of o b v) 0 n) (index_next o b (list_end o b d) (list_start o b d) v i (grow k o b (list_end o b d) (list_start o b d)) known.list.stands l e ∙ ap Some one)
 
 -- the entry that stands there
-pub entry_here : (o : Order) (bytes b : List ℕ) (k : ℕ) (s : IsCramfs o b k) (w : length b ≤ length bytes) (d c v i next : ℕ) (name : List ℕ) (x : Node) → x ≡ made o b k d → type_of o b d ≡ 4 → IsKnown o b k d
+pub entry_here : (o : Order) (bytes b : List ℕ) (k : ℕ) (s : IsCramfs o b k) (w : length b ≤ length bytes) (d c v i next : ℕ) (name : List ℕ) (x : Node) → b ≡ take (length b) bytes → x ≡ made o b k d → type_of o b d ≡ 4 → IsKnown o b k d
     → IsPlace o b d c v → cursor_of o b k d c ≡ Some i → v < list_end o b d → name ≡ name_of o b v → next ≡ end_of o b v → IsEntry (cramfs_view o bytes b k s w) d (entries_of x) i name v next
 unfolding list_at
-entry_here o bytes b k s w d c v i next name x e t known p h l en ex =
+entry_here o bytes b k s w d c v i next name x f e t known p h l en ex =
     let at = place_index o b k d c v i known p h in
     let there = list_from o b k d v i known at in
     let st = step_of o b k (list_end o b d) v there l in
@@ -149,6 +163,7 @@ entry_here o bytes b k s w d c v i next name x e t known p h l en ex =
       at = rw (es, en) here;
       number = ino_is o b v (entries_at o b (grow k o b (list_end o b v) (list_start o b v)));
       next = ap (cursor_of o b k d) ex ∙ cursor_next o b k d v i known l at;
+      lies = subst (LieIn bytes) (sym en) (name_lies o bytes b v f w st.good.name);
     }
 
 -- lookup: past an entry of another name

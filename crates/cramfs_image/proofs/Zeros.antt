@@ -1,5 +1,5 @@
 -- Names without the zeros at their end.
-use Rattle.std.proofs.Common.{◌≡◌, ◌≢◌, ℕ, ◌+◌, ◌-◌, ◌<◌, ◌≤◌, List, [], ◌∷◌, ◌++◌, length, take, get_or, refl, sym, ap, ◌∙◌, arith}
+use Rattle.std.proofs.Common.{◌≡◌, ◌≢◌, ℕ, ◌+◌, ◌-◌, ◌<◌, ◌≤◌, suc, true, false, cond, eqb, List, [], ◌∷◌, ◌++◌, length, take, get_or, refl, sym, ap, ◌∙◌, arith}
 use Rattle.std.proofs.lemmas.Bool.{ne_eqb, eq-eqb}
 use Rattle.std.proofs.lemmas.List.{take_more}
 use Rattle.cramfs_format.specs.Inode.{before_rest, without_zeros}
@@ -29,3 +29,20 @@ none_less xs n some l e =
     let split = take_more xs m 0 (omega arith) in
     let all : take n xs ≡ take m xs ++ get_or xs m 0 ∷ [] = ap (λ (v : ℕ). take v xs) (sym up) ∙ split in
     ap without_zeros all ∙ other_kept (take m xs) (get_or xs m 0) e ∙ sym all
+
+-- what is left without the zeros at the end is a front
+rest_cut : (x : ℕ) (xs w : List ℕ) → take (length w) xs ≡ w → take (length (before_rest x w)) (x ∷ xs) ≡ before_rest x w
+rest_cut x xs [] h = elim (eqb x 0) as (λ t. take (length (cond t [] (x ∷ []))) (x ∷ xs) ≡ cond t [] (x ∷ [])) [ true ↦ refl | false ↦ refl ]
+rest_cut x xs (y ∷ ys) h = ap (λ (v : List ℕ). x ∷ v) h
+
+pub zeros_cut : (xs : List ℕ) → take (length (without_zeros xs)) xs ≡ without_zeros xs
+zeros_cut [] = refl
+zeros_cut (x ∷ xs) = rest_cut x xs (without_zeros xs) (zeros_cut xs)
+
+rest_shorter : (x : ℕ) (xs w : List ℕ) → length w ≤ length xs → length (before_rest x w) ≤ suc (length xs)
+rest_shorter x xs [] h = elim (eqb x 0) as (λ t. length (cond t [] (x ∷ [])) ≤ suc (length xs)) [ true ↦ omega arith | false ↦ omega arith ]
+rest_shorter x xs (y ∷ ys) h = omega (arith, h)
+
+pub zeros_shorter : (xs : List ℕ) → length (without_zeros xs) ≤ length xs
+zeros_shorter [] = omega arith
+zeros_shorter (x ∷ xs) = rest_shorter x xs (without_zeros xs) (zeros_shorter xs)

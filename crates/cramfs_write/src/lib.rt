@@ -10,4 +10,4 @@ mod tests;
 mod writing;
 
 pub use image_stream::fault::{SizeDiffers, StreamError};
-pub use writing::{stream, write};
+pub use writing::{stream, stream_through, write};

@@ -15,4 +15,4 @@ mod tests;
 pub use build::{build_cramfs, build_cramfs_big, build_romfs};
 pub use error::BuildError;
 pub use image_stream::fault::StreamError;
-pub use streaming::stream;
+pub use streaming::{stream, stream_through};

@@ -1,5 +1,5 @@
 //! The image of a plan through a writer.
-ghost use Rattle.std.specs.Prelude.{◌≡◌, ℕ, List, map, length, OnOk, OnErr, IfErr, Ok};
+ghost use Rattle.std.specs.Prelude.{◌≡◌, ◌%◌, ◌≤◌, ℕ, List, map, length, OnOk, OnErr, IfErr, Ok};
 ghost use Rattle.std.specs.Io.KnownBytes.{Appends};
 ghost use Rattle.image_build.specs.Builds.{Builds};
 ghost use Rattle.image_build.specs.Streamed.{IsPlanOfText, form_in, stored_in};
@@ -11,8 +11,10 @@ use image_stream::fault::StreamError;
 use layout_plan::{Format, Plan, Sources};
 use rom_fields::bytes::ByteWrite;
 
-/// Writes the image of a plan, in the plan's format, through one buffer of 4,096 bytes, without
-/// memory, and flushes the writer. The sources are read three times.
+/// Writes the image of a plan, in the plan's format, through a buffer of the caller's, without
+/// memory, and flushes the writer. The larger the buffer is, the fewer are the reads and writes.
+/// The sources are read for their sizes, each at its last byte and one byte further; for the check
+/// value, as far as it covers them; and whole for what is written.
 ///
 /// At `Ok` just the image was written that a build in memory answers, where the sources tell their
 /// contents; else a whole image of some contents of the planned sizes, with the check value of just
@@ -22,6 +24,45 @@ use rom_fields::bytes::ByteWrite;
 ///
 /// As `StreamError` says. A prefix of the image was written, where the sources tell contents of
 /// the planned sizes.
+pub fn stream_through<S: Sources, W: ByteWrite>(
+    plan: &Plan,
+    sources: &mut S,
+    w: &mut W,
+    buffer: &mut [u8],
+) -> Result<(), StreamError>
+    requires files { S.files sources.old ≡ length plan.now.sizes }
+    requires room { 4096 ≤ length buffer.old }
+    requires words { length buffer.old % 4 ≡ 0 }
+    ensures told { S.told sources.new ≡ S.told sources.old }
+    ensures files { S.files sources.new ≡ S.files sources.old }
+    ensures some { OnOk result (IsWritten (S.told sources.old)
+        (form_in plan.now.format plan.now) (stored_in plan.now.format)
+        (W.output w.old).contents (W.output w.new).contents) }
+    ensures sized { OnOk result (Told (S.told sources.old) (AreSized plan.now.sizes)) }
+    ensures whole { (text : List ℕ) → IsPlanOfText text plan.now
+        → OnOk result (Told (S.told sources.old) (λ cs. (bytes : List ℕ)
+        × Builds plan.now.format text cs (Ok bytes)
+        × Appends (W.output w.old).contents (W.output w.new).contents bytes)) }
+    ensures quiet { OnOk result ((S.reads sources.new ≡ S.reads sources.old)
+        × ((W.output w.new).failures ≡ (W.output w.old).failures)) }
+    ensures front { (text : List ℕ) → IsPlanOfText text plan.now
+        → OnErr result (Told (S.told sources.old) (λ cs. map length cs ≡ plan.now.sizes
+        → (bytes : List ℕ) × Builds plan.now.format text cs (Ok bytes)
+        × AppendsPrefix (W.output w.old).contents (W.output w.new).contents bytes)) }
+    ensures fault { IfErr result (IsStreamFault (S.told sources.old)
+        (form_in plan.now.format plan.now) (stored_in plan.now.format) (S.reads sources.old)
+        (S.reads sources.new) (W.output w.old) (W.output w.new)) }
+{
+    misfits::laws::layout_is_meant();
+    match plan.format() {
+        Format::Romfs => romfs_write::stream_through(plan, sources, w, buffer),
+        Format::Cramfs | Format::CramfsBig => {
+            cramfs_write::stream_through(plan, sources, w, buffer)
+        }
+    }
+}
+
+/// Writes the image of a plan as `stream_through` does, through one buffer of 4,096 bytes.
 pub fn stream<S: Sources, W: ByteWrite>(
     plan: &Plan,
     sources: &mut S,
@@ -48,9 +89,6 @@ pub fn stream<S: Sources, W: ByteWrite>(
         (form_in plan.now.format plan.now) (stored_in plan.now.format) (S.reads sources.old)
         (S.reads sources.new) (W.output w.old) (W.output w.new)) }
 {
-    misfits::laws::layout_is_meant();
-    match plan.format() {
-        Format::Romfs => romfs_write::stream(plan, sources, w),
-        Format::Cramfs | Format::CramfsBig => cramfs_write::stream(plan, sources, w),
-    }
+    let mut space: [u8; 4096] = [0; 4096];
+    stream_through(plan, sources, w, space.as_mut_slice())
 }

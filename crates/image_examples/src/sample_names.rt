@@ -101,7 +101,7 @@ fn long_names(rt: HostRuntime) -> Result<(), Fail> {
 fn the_other_calls(rt: HostRuntime) -> Result<(), Fail> {
     let mut image = Cached::new(rt.alloc(), Sample, 1).ok().ok_or("has memory")?;
     assert_eq!(rt; in_root(&mut image, b"log"), Some(NodeId(9)));
-    assert_eq!(rt; image.bytes(), b"helloa b%".as_slice());
+    assert_eq!(rt; image.bytes(), b"helloa b%bindiskttylog\xc3\xa9\x7femptyshdeepp".as_slice());
     assert_eq!(rt; image.root(), NodeId(1));
     assert!(rt; image.is_node(NodeId(10)));
     assert!(rt; !image.is_node(NodeId(11)));

@@ -1,20 +1,18 @@
-//! Where each file of an image lies, its bytes, and what Linux misreads of it.
+//! Where each file of an image lies, and its bytes.
 //!
 //! `specs/Map.antt` says what the map of an image is: a line for each run of consecutive bytes of each
 //! regular file, in the list's order. Proved: `map` writes just that text, or a prefix of it where the
-//! writer failed; `misread` does so with a line for each name that Linux gets wrong; `cat` writes just a
-//! file's bytes, or a prefix of them. `laws` has what a reader needs to know of runs. Nothing here takes
-//! memory.
+//! writer failed; `cat` writes just a file's bytes, or a prefix of them. `laws` has what a reader needs
+//! to know of runs. Nothing here takes memory.
 #![tactic(auto)]
 
 pub mod contents;
-pub mod format;
+pub mod digits;
 pub mod laws;
 mod line;
 pub mod mapping;
-mod misreading;
 mod runs;
 
 pub use contents::cat;
-pub use format::Format;
-pub use mapping::{map, misread};
+pub use digits::put_eight_digits;
+pub use mapping::map;

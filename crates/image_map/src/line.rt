@@ -6,8 +6,9 @@ ghost use Rattle.rom_tree.specs.Image.{image_node, HasNode};
 ghost use Rattle.rom_fields.specs.Texts.{escaped};
 ghost use Rattle.rom_tree.specs.Walks.{given_path};
 ghost use Rattle.image_map.specs.Runs.{piece, runs};
-ghost use Rattle.image_map.specs.Map.{digit, eight_digits, address_text, run_line, empty_line, run_lines, body_lines};
+ghost use Rattle.image_map.specs.Map.{address_text, run_line, empty_line, run_lines, body_lines};
 
+use crate::digits::put_eight_digits;
 use crate::runs::whole_run;
 use rom_fields::bytes::ByteWrite;
 use rom_fields::sink::put;
@@ -16,32 +17,6 @@ use rom_tree::Walk;
 use rom_tree::image::{TreeImage, is_regular_at};
 use rom_tree::types::{NodeId, Run};
 
-/// The hexadecimal digit of a number below 16.
-fn digit_of(n: u8) -> u8
-    requires { n < 16 }
-    ensures { result ≡ digit n }
-{
-    if n < 10 { 48 + n } else { 87 + n }
-}
-
-/// Puts the last eight hexadecimal digits of a number.
-fn put_eight<W: ByteWrite>(w: &mut W, failed: &mut bool, n: u64)
-    ensures { Puts (sink (W.output w.old) failed.old)
-        (sink (W.output w.new) failed.new) (eight_digits n) }
-{
-    let digits = [
-        digit_of((n / 268_435_456 % 16) as u8),
-        digit_of((n / 16_777_216 % 16) as u8),
-        digit_of((n / 1_048_576 % 16) as u8),
-        digit_of((n / 65_536 % 16) as u8),
-        digit_of((n / 4096 % 16) as u8),
-        digit_of((n / 256 % 16) as u8),
-        digit_of((n / 16 % 16) as u8),
-        digit_of((n % 16) as u8),
-    ];
-    put(w, failed, &digits);
-}
-
 /// Puts an address: `0x`, and eight digits, or sixteen from 2^32 on.
 fn put_address<W: ByteWrite>(w: &mut W, failed: &mut bool, address: u64)
     ensures { Puts (sink (W.output w.old) failed.old)
@@ -49,10 +24,10 @@ fn put_address<W: ByteWrite>(w: &mut W, failed: &mut bool, address: u64)
 {
     put(w, failed, b"0x");
     if address < 4_294_967_296 {
-        put_eight(w, failed, address);
+        put_eight_digits(w, failed, address);
     } else {
-        put_eight(w, failed, address / 4_294_967_296);
-        put_eight(w, failed, address);
+        put_eight_digits(w, failed, address / 4_294_967_296);
+        put_eight_digits(w, failed, address);
     }
 }
 

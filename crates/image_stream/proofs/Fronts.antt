@@ -30,10 +30,10 @@ pub front_whole : (told : Option (List (List ℕ))) (p : Segment) (xs : List ℕ
 front_whole told (fixed p bs) xs k e h = h ∙ ap (λ (v : ℕ). take v bs) e ∙ take_all (length bs) bs (omega arith)
 front_whole told (content p n f) xs k e h = (h.0 ∙ e, λ cs is. h.1 cs is ∙ ap (λ (v : ℕ). take v (content_of cs f)) e)
 
-rest_of : (c xs : List ℕ) (k : ℕ) → xs ≡ take k c → c ≡ xs ++ drop k c
+pub rest_of : (c xs : List ℕ) (k : ℕ) → xs ≡ take k c → c ≡ xs ++ drop k c
 rest_of c xs k e = sym (take-append-drop k c) ∙ ap (λ (v : List ℕ). v ++ drop k c) (sym e)
 
-rest_within : (c xs : List ℕ) (k n : ℕ) → k ≤ n → xs ≡ take k c → take n c ≡ xs ++ take (n - k) (drop k c)
+pub rest_within : (c xs : List ℕ) (k n : ℕ) → k ≤ n → xs ≡ take k c → take n c ≡ xs ++ take (n - k) (drop k c)
 rest_within c xs k n h e =
     let s : k + (n - k) ≡ n = omega arith in
     ap (λ (v : ℕ). take v c) (sym s) ∙ take-add k (n - k) c ∙ ap (λ (v : List ℕ). v ++ take (n - k) (drop k c)) (sym e)

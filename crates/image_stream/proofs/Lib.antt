@@ -1,6 +1,7 @@
 pub mod Fills
 pub mod Fronts
 pub mod Zeros
+pub mod Rests
 pub mod Images
 pub mod Streams
 pub mod Puts

@@ -1,6 +1,7 @@
 -- One more byte in a sum of words.
-use Rattle.std.proofs.Common.{◌≡◌, ℕ, ◌+◌, ◌-◌, ◌*◌, ◌%◌, ◌^◌, ◌<◌, ◌≤◌, List, [], ◌∷◌, ◌++◌, length, refl, ap, ◌∙◌, arith, length-append}
-use Rattle.std.proofs.lemmas.Bool.{lt-ltb, le-ltb}
+use Rattle.std.proofs.Common.{◌≡◌, ℕ, ◌+◌, ◌-◌, ◌*◌, ◌%◌, ◌^◌, ◌<◌, ◌≤◌, List, [], ◌∷◌, ◌++◌, length, take, drop, refl, ap, ◌∙◌, arith, subst, inl, inr, append_assoc, length-append, length-take}
+use Rattle.std.proofs.lemmas.Bool.{lt-ltb, le-ltb, cases_lt}
+use Rattle.std.proofs.lemmas.List.{take_all, take-append-drop}
 use Rattle.image_parts.specs.Sums.{balance}
 use Rattle.image_stream.specs.WordSums.{weight, term, weighted, IsSum, balance_of}
 
@@ -41,6 +42,55 @@ sum_full place sum xs x h full =
     let w = weighted_last xs 0 x in
     let z : weighted 0 xs ≡ weighted 0 (xs ++ x ∷ []) = omega arith in
     (omega arith, h.1 ∙ ap (λ (v : ℕ). v % 2 ^ 32) z)
+
+weighted_append : (xs ys : List ℕ) (k : ℕ) → weighted k (xs ++ ys) ≡ weighted k xs + weighted (k + length xs) ys
+weighted_append [] ys k = let e : k ≡ k + 0 = omega arith in ap (λ (j : ℕ). weighted j ys) e ∙ omega arith
+weighted_append (x ∷ xs) ys k =
+    let h = weighted_append xs ys (k + 1) in
+    let e : k + 1 + length xs ≡ k + length (x ∷ xs) = omega arith in
+    let t = ap (λ (j : ℕ). weighted j ys) e in
+    omega arith
+
+weighted_out : (xs : List ℕ) (k : ℕ) → 512 ≤ k → weighted k xs ≡ 0
+weighted_out [] k h = refl
+weighted_out (x ∷ xs) k h = let t = term_out k x h in let r = weighted_out xs (k + 1) (omega arith) in omega arith
+
+-- no byte behind the first 512 counts
+pub sum_behind : (place sum : ℕ) (xs ys : List ℕ) → 512 ≤ place → IsSum place sum xs → IsSum place sum (xs ++ ys)
+unfolding IsSum
+sum_behind place sum xs ys full h =
+    let l = length-append xs ys in
+    let p = h.0 in
+    let w = weighted_append xs ys 0 in
+    let o = weighted_out ys (0 + length xs) (omega arith) in
+    let z : weighted 0 xs ≡ weighted 0 (xs ++ ys) = omega arith in
+    (omega arith, h.1 ∙ ap (λ (v : ℕ). v % 2 ^ 32) z)
+
+full_at : (place sum new value n : ℕ) (xs bytes : List ℕ) → IsSum place sum xs → IsSum new value (xs ++ take n bytes) → n < length bytes → 512 ≤ place + n → 512 ≤ new
+unfolding IsSum
+full_at place sum new value n xs bytes h k short most =
+    let l = length-append xs (take n bytes) in
+    let t = length-take n bytes in
+    let p = h.0 in
+    let q = k.0 in
+    omega arith
+
+-- bytes that are cut only where no further one counts
+pub sum_counted : (place sum new value n : ℕ) (xs bytes : List ℕ) → (n < length bytes → 512 ≤ place + n) → IsSum place sum xs → IsSum new value (xs ++ take n bytes) → IsSum new value (xs ++ bytes)
+sum_counted place sum new value n xs bytes most h k = elim (cases_lt n (length bytes)) [
+  | inl short ↦
+      let full = full_at place sum new value n xs bytes h k short (most short) in
+      let all : (xs ++ take n bytes) ++ drop n bytes ≡ xs ++ bytes = append_assoc xs (take n bytes) (drop n bytes) ∙ ap (λ (v : List ℕ). xs ++ v) (take-append-drop n bytes) in
+      let S : List ℕ → Type 0 = λ v. IsSum new value v in
+      subst S all (sum_behind new value (xs ++ take n bytes) (drop n bytes) full k)
+  | inr whole ↦
+      let S : List ℕ → Type 0 = λ v. IsSum new value (xs ++ v) in
+      subst S (take_all n bytes whole) k
+]
+
+pub place_after : (place sum : ℕ) (xs : List ℕ) → IsSum place sum xs → 512 ≤ length xs → 512 ≤ place
+unfolding IsSum
+place_after place sum xs h long = let p = h.0 in omega arith
 
 pub balance_value : (place sum : ℕ) (xs : List ℕ) → IsSum place sum xs → (0 + (2 ^ 32 - sum)) % 2 ^ 32 ≡ balance_of xs
 unfolding IsSum balance_of balance

@@ -25,6 +25,10 @@ impl Check for Crc32 {
         self.value = crc32_more(self.value, bytes);
     }
 
+    fn is_full(&self) -> bool {
+        false
+    }
+
     fn value(&self) -> u32 {
         self.value
     }

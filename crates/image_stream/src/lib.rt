@@ -1,5 +1,5 @@
-//! Images written section by section: into memory, or to a writer through one buffer of 4,096
-//! bytes, whatever their length.
+//! Images written section by section: into memory, or to a writer through one buffer of the
+//! caller's or of 4,096 bytes, whatever their length.
 //!
 //! An image is a superblock, which stores a check value of the whole, and segments at their places:
 //! bytes that are known, or the contents of a file (`specs/Segments.antt`). Every other byte is
@@ -21,6 +21,7 @@ pub mod slices;
 mod small;
 pub mod sources;
 pub mod stream;
+pub mod summing;
 #[cfg(test)]
 mod tests;
 pub mod word_sum;

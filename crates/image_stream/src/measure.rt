@@ -1,15 +1,42 @@
 //! The sizes of the sources, before anything is written.
-ghost use Rattle.std.specs.Prelude.{◌≡◌, ◌+◌, ◌<◌, ◌≤◌, ◌^◌, ℕ, List, length, get_or, OnOk, IfErr};
-ghost use Rattle.image_stream.specs.Sources.{Told, content_of};
+ghost use Rattle.std.specs.Prelude.{◌≡◌, ◌<◌, ◌≤◌, ◌^◌, ℕ, List, true, false, length, get_or, OnOk, OnErr, IfOk, IfErr};
+ghost use Rattle.image_stream.specs.Sources.{Told, content_of, FailedAt};
 ghost use Rattle.image_stream.specs.Outcomes.{AreSized};
 ghost use Rattle.image_stream.specs.Steps.{IsSizeFault, IsLeastFault};
 
 use crate::fault::StreamError;
 use crate::layout::Layout;
-use crate::pieces::read_exactly;
 use crate::sources::{SourceFailed, Sources};
 
-/// Reads a file to its planned size, and one byte further.
+/// Whether a file has at least so many bytes, which a read of the last one of them tells.
+fn reaches<S: Sources>(
+    sources: &mut S,
+    file: usize,
+    size: u64,
+    buffer: &mut [u8],
+) -> Result<bool, SourceFailed>
+    requires file { file < S.files sources.old }
+    requires room { 0 < length buffer.old }
+    ensures told { S.told sources.new ≡ S.told sources.old }
+    ensures files { S.files sources.new ≡ S.files sources.old }
+    ensures yes { IfOk result (λ yes. yes ≡ true → Told (S.told sources.old)
+        (λ cs. size ≤ length (content_of cs file))) }
+    ensures no { IfOk result (λ yes. yes ≡ false → Told (S.told sources.old)
+        (λ cs. length (content_of cs file) < size)) }
+    ensures quiet { OnOk result (S.reads sources.new ≡ S.reads sources.old) }
+    ensures fault { OnErr result (FailedAt file (S.reads sources.old) (S.reads sources.new)) }
+{
+    if size == 0 {
+        return Ok(true);
+    }
+    match sources.read_at(file, size - 1, &mut buffer[..1]) {
+        Ok(0) => Ok(false),
+        Ok(_) => Ok(true),
+        Err(SourceFailed) => Err(SourceFailed),
+    }
+}
+
+/// Looks whether a file ends with its planned size: it reaches it, and no byte further.
 fn measure<S: Sources>(
     sources: &mut S,
     file: usize,
@@ -27,23 +54,19 @@ fn measure<S: Sources>(
     ensures fault { IfErr result (IsSizeFault (S.told sources.old) file size
         (S.reads sources.old) (S.reads sources.new)) }
 {
-    let mut from = 0;
-    while from < size {
-        let n = (size - from).min(buffer.len() as u64);
-        match read_exactly(sources, file, from, &mut buffer[..n as usize]) {
-            Ok(()) => {}
-            Err(e) => return Err(e),
-        }
-        from += n;
+    match reaches(sources, file, size, buffer) {
+        Ok(true) => {}
+        Ok(false) => return Err(StreamError::SizeDiffers { file }),
+        Err(SourceFailed) => return Err(StreamError::SourceFault { file }),
     }
-    match sources.read_at(file, size, &mut buffer[..1]) {
-        Ok(0) => Ok(()),
-        Ok(_) => Err(StreamError::SizeDiffers { file }),
+    match reaches(sources, file, size + 1, buffer) {
+        Ok(false) => Ok(()),
+        Ok(true) => Err(StreamError::SizeDiffers { file }),
         Err(SourceFailed) => Err(StreamError::SourceFault { file }),
     }
 }
 
-/// Reads all files, in order.
+/// Measures all files, in order.
 pub fn measure_all<L: Layout, S: Sources>(
     layout: &L,
     sources: &mut S,

@@ -53,7 +53,7 @@ pub fn emit<W: ByteWrite, C: Check>(w: &mut W, check: &mut C, bytes: &[u8]) -> R
 }
 
 /// Fills the buffer with the bytes of a segment from `from` on.
-fn piece<L: Layout, S: Sources>(
+pub fn piece<L: Layout, S: Sources>(
     layout: &L,
     sources: &mut S,
     i: usize,

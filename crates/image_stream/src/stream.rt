@@ -1,5 +1,5 @@
 //! An image in three passes through one buffer.
-ghost use Rattle.std.specs.Prelude.{◌≡◌, ◌≢◌, ◌+◌, ◌<◌, ◌≤◌, ◌^◌, ◌++◌, ℕ, List, length, get_or, OnOk, OnErr, IfErr};
+ghost use Rattle.std.specs.Prelude.{◌≡◌, ◌≢◌, ◌+◌, ◌%◌, ◌<◌, ◌≤◌, ◌^◌, ◌++◌, ℕ, List, length, get_or, OnOk, OnErr, IfErr};
 ghost use Rattle.std.specs.Io.KnownBytes.{Appends};
 ghost use Rattle.rom_fields.specs.Failures.{Counts};
 ghost use Rattle.rom_fields.specs.Written.{WritesText, AppendsPrefix};
@@ -12,9 +12,9 @@ use crate::check::Check;
 use crate::fault::StreamError;
 use crate::layout::Layout;
 use crate::measure::measure_all;
-use crate::nowhere::Nowhere;
 use crate::pieces::walk;
 use crate::sources::Sources;
+use crate::summing::sum_walk;
 use rom_fields::bytes::{ByteWrite, Failed};
 use rom_fields::sink::write_whole;
 
@@ -58,13 +58,72 @@ fn confirm<C: Check>(written: &C, stored: u32) -> Result<(), StreamError>
     Ok(())
 }
 
-/// Writes an image through one buffer of 4,096 bytes, without memory, and flushes the writer. Reads
-/// the sources three times: for their sizes, in order, each to its planned size and one byte
-/// further; for the check value, in the order of their places; and once more so for what is
+/// Writes an image through a buffer of the caller's, without memory, and flushes the writer. The
+/// sources are read for their sizes, in order, each at its last byte and one byte further; for the
+/// check value, in the order of their places, as far as it covers them; and whole for what is
 /// written. Until then nothing was written.
 ///
 /// At `Ok` just the image was written, whatever the sources told. After an error a prefix of it
 /// was, where the sources tell their contents.
+pub fn stream_through<L: Layout, S: Sources, W: ByteWrite, C: Check>(
+    layout: &L,
+    sources: &mut S,
+    w: &mut W,
+    buffer: &mut [u8],
+) -> Result<(), StreamError>
+    requires laid { IsLaidOut (L.form layout.now) }
+    requires files { S.files sources.old ≡ length (L.form layout.now).sizes }
+    requires room { 4096 ≤ length buffer.old }
+    requires words { length buffer.old % 4 ≡ 0 }
+    ensures told { S.told sources.new ≡ S.told sources.old }
+    ensures files { S.files sources.new ≡ S.files sources.old }
+    ensures some { OnOk result (IsWritten (S.told sources.old) (L.form layout.now) C.stored
+        (W.output w.old).contents (W.output w.new).contents) }
+    ensures sized { OnOk result (Told (S.told sources.old) (AreSized (L.form layout.now).sizes)) }
+    ensures whole { OnOk result (Told (S.told sources.old) (λ cs. Appends
+        (W.output w.old).contents (W.output w.new).contents
+        (image_of (L.form layout.now) C.stored cs))) }
+    ensures quiet { OnOk result ((S.reads sources.new ≡ S.reads sources.old)
+        × ((W.output w.new).failures ≡ (W.output w.old).failures)) }
+    ensures front { OnErr result (Told (S.told sources.old) (λ cs. AppendsPrefix
+        (W.output w.old).contents (W.output w.new).contents
+        (image_of (L.form layout.now) C.stored cs))) }
+    ensures fault { IfErr result (IsStreamFault (S.told sources.old) (L.form layout.now) C.stored
+        (S.reads sources.old) (S.reads sources.new) (W.output w.old) (W.output w.new)) }
+{
+    match measure_all(layout, sources, buffer) {
+        Ok(()) => {}
+        Err(e) => return Err(e),
+    }
+    let mut first = C::start();
+    add_head(layout, &mut first, buffer);
+    let mut check = first;
+    match sum_walk(layout, sources, &mut check, buffer) {
+        Ok(()) => {}
+        Err(e) => return Err(e),
+    }
+    let stored = check.value();
+    match write_head(layout, stored, w, buffer) {
+        Ok(()) => {}
+        Err(Failed) => return Err(StreamError::WriteFault),
+    }
+    let mut again = first;
+    match walk(layout, sources, w, &mut again, buffer) {
+        Ok(()) => {}
+        Err(e) => return Err(e),
+    }
+    match w.flush() {
+        Ok(()) => {}
+        Err(Failed) => return Err(StreamError::WriteFault),
+    }
+    match confirm(&again, stored) {
+        Ok(()) => {}
+        Err(e) => return Err(e),
+    }
+    Ok(())
+}
+
+/// Writes an image as `stream_through` does, through one buffer of 4,096 bytes.
 pub fn stream<L: Layout, S: Sources, W: ByteWrite, C: Check>(
     layout: &L,
     sources: &mut S,
@@ -89,35 +148,5 @@ pub fn stream<L: Layout, S: Sources, W: ByteWrite, C: Check>(
         (S.reads sources.old) (S.reads sources.new) (W.output w.old) (W.output w.new)) }
 {
     let mut space: [u8; 4096] = [0; 4096];
-    let buffer = space.as_mut_slice();
-    match measure_all(layout, sources, buffer) {
-        Ok(()) => {}
-        Err(e) => return Err(e),
-    }
-    let mut first = C::start();
-    add_head(layout, &mut first, buffer);
-    let mut check = first;
-    match walk(layout, sources, &mut Nowhere::new(), &mut check, buffer) {
-        Ok(()) => {}
-        Err(e) => return Err(e),
-    }
-    let stored = check.value();
-    match write_head(layout, stored, w, buffer) {
-        Ok(()) => {}
-        Err(Failed) => return Err(StreamError::WriteFault),
-    }
-    let mut again = first;
-    match walk(layout, sources, w, &mut again, buffer) {
-        Ok(()) => {}
-        Err(e) => return Err(e),
-    }
-    match w.flush() {
-        Ok(()) => {}
-        Err(Failed) => return Err(StreamError::WriteFault),
-    }
-    match confirm(&again, stored) {
-        Ok(()) => {}
-        Err(e) => return Err(e),
-    }
-    Ok(())
+    stream_through::<L, S, W, C>(layout, sources, w, space.as_mut_slice())
 }

@@ -1,11 +1,13 @@
-ghost use Rattle.std.specs.Prelude.{◌≡◌, length};
+ghost use Rattle.std.specs.Prelude.{◌≡◌, ◌%◌, ◌≤◌, length};
 
+use crate::check::Check;
 use crate::crc32::Crc32;
 use crate::fault::{SizeDiffers, StreamError};
 use crate::slices::Slices;
 use crate::small::Small;
 use crate::sources::{SourceFailed, Sources};
-use crate::stream::stream;
+use crate::stream::{stream, stream_through};
+use crate::word_sum::WordSum;
 use crate::write::write;
 use rom_fields::bytes::{ByteWrite, Plain};
 use rom_fields::contents::Contents;
@@ -72,6 +74,47 @@ fn from_memory<W: ByteWrite>(contents: &Contents<'_>, w: &mut W) -> Result<(), S
     requires { length contents.now ≡ 1 }
 {
     stream::<Small, Slices<'_>, W, Crc32>(&Small, &mut Slices::new(contents), w)
+}
+
+/// The same through this buffer.
+fn through<W: ByteWrite>(
+    contents: &Contents<'_>,
+    w: &mut W,
+    buffer: &mut [u8],
+) -> Result<(), StreamError>
+    requires one { length contents.now ≡ 1 }
+    requires room { 4096 ≤ length buffer.old }
+    requires words { length buffer.old % 4 ≡ 0 }
+{
+    stream_through::<Small, Slices<'_>, W, Crc32>(&Small, &mut Slices::new(contents), w, buffer)
+}
+
+#[test]
+fn streamed_through_a_larger_buffer(rt: HostRuntime) -> Result<(), Fail> {
+    let mut contents = Contents::new(rt.alloc());
+    contents.add(b"hello")?;
+    let mut w = Plain::new(Vec::new(rt.alloc()));
+    let mut buffer: [u8; 8192] = [255; 8192];
+    let r = through(&contents, &mut w, buffer.as_mut_slice());
+    assert_eq!(rt; r, Ok(()));
+    let held: Vec<u8> = w.into_inner();
+    assert_eq!(rt; held.as_slice(), IMAGE.as_slice());
+    Ok(())
+}
+
+#[test]
+fn sum_is_full_with_512_bytes(rt: HostRuntime) -> Result<(), Fail> {
+    let mut sum = WordSum::start();
+    sum.add(&[1; 508]);
+    assert!(rt; !sum.is_full());
+    sum.add(&[1; 6]);
+    assert!(rt; sum.is_full());
+    let value = sum.value();
+    // 128 words, each 0x01010101, have the sum 0x80808080
+    assert_eq!(rt; value, 0x7f7f_7f80);
+    sum.add(b"more");
+    assert_eq!(rt; sum.value(), value);
+    Ok(())
 }
 
 #[test]

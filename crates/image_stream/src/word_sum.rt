@@ -1,5 +1,6 @@
 //! The sum of the words of the first 512 bytes as a check value, as romfs stores it.
-ghost use Rattle.std.specs.Prelude.{◌≡◌, ◌∷◌, [], ◌++◌, ◌+◌, ◌*◌, ◌%◌, ◌^◌, ◌<◌, ℕ, List};
+ghost use Rattle.std.specs.Prelude.{◌≡◌, ◌∷◌, [], ◌++◌, ◌+◌, ◌*◌, ◌%◌, ◌^◌, ◌<◌, ◌≤◌, ℕ, List, length, true};
+ghost use Rattle.std.specs.Bool.{OnTrue};
 ghost use Rattle.image_stream.specs.WordSums.{IsSum, balance_of, weight};
 
 use crate::check::Check;
@@ -41,6 +42,18 @@ fn with_byte(s: WordSum, x: u8) -> WordSum
     }
 }
 
+/// The sum after more bytes.
+fn with_bytes(s: WordSum, bytes: &[u8]) -> WordSum
+    ensures { (xs : List ℕ) → IsSum s.place s.sum xs
+        → IsSum result.place result.sum (xs ++ bytes.now) }
+{
+    let mut sum = s;
+    'bytes: for x in bytes {
+        sum = with_byte(sum, *x);
+    }
+    sum
+}
+
 impl Check for WordSum {
     ghost Is = { λ s xs. IsSum s.place s.sum xs };
 
@@ -52,11 +65,19 @@ impl Check for WordSum {
     }
 
     fn add(&mut self, bytes: &[u8]) {
-        let mut sum = *self;
-        'bytes: for x in bytes {
-            sum = with_byte(sum, *x);
-        }
-        *self = sum;
+        // those behind the first 512 do not count
+        let left = 512u32.saturating_sub(self.place) as usize;
+        let counted = bytes.len().min(left);
+        *self = with_bytes(*self, &bytes[..counted]);
+    }
+
+    fn is_full(&self) -> bool
+        ensures full { OnTrue result ((xs ys : List ℕ) → IsSum self.now.place self.now.sum xs
+            → IsSum self.now.place self.now.sum (xs ++ ys)) }
+        ensures after_512_bytes { (xs : List ℕ) → IsSum self.now.place self.now.sum xs
+            → 512 ≤ length xs → result ≡ true }
+    {
+        self.place >= 512
     }
 
     fn value(&self) -> u32 {

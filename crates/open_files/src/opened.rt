@@ -1,7 +1,7 @@
 //! The calls on one open node.
 ghost use Rattle.std.specs.Prelude.{◌≡◌, ℕ, length, take, drop, Option, Some, Ok, Err, MatchResult, MatchOption, option_map};
 ghost use Rattle.rom_tree.specs.Tree.{Node};
-ghost use Rattle.rom_tree.specs.Image.{stat_of};
+ghost use Rattle.rom_tree.specs.Image.{LieIn, stat_of};
 ghost use Rattle.open_files.specs.Calls.{Of, Named, viewed};
 ghost use Rattle.open_files.specs.Machine.{Open, seek_on, rewind_on, read_on, lend_on, map_on, readdir_on};
 ghost use Rattle.open_files.specs.Slots.{image_view, stands, Moves, lent_by, named_by};
@@ -154,6 +154,9 @@ pub fn readdir<'a, T: TreeImage<'a>>(
         (viewed (option_map {U = Of Named} (λ e. (i, named_by e))) result) }
     ensures cursor { MatchResult result
         (λ r. MatchOption r (Unit {0}) (λ e. e.cursor.0 ≡ opened.new.position)) (λ e. Unit {0}) }
+    ensures lies { MatchResult result
+        (λ r. MatchOption r (Unit {0}) (λ e. LieIn (T.image image.now).bytes e.name.now))
+        (λ e. Unit {0}) }
 {
     if !is_directory_at(image, opened.node) {
         return Err(CallError::Enotdir);

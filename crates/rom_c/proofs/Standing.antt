@@ -1,9 +1,9 @@
 -- What stands open in an image, and at the numbers that it is made again of.
-use Rattle.std.proofs.Common.{◌≡◌, ℕ, List, true, Option, Some, None, refl, sym, ap, ◌∙◌}
+use Rattle.std.proofs.Common.{◌≡◌, ℕ, List, [], subst, arith, true, Option, Some, None, refl, sym, ap, ◌∙◌}
 use Rattle.std.proofs.lemmas.Bool.{false≢true}
 use Rattle.std.specs.Prelude.{is_some, ◌||◌}
 use Rattle.rom_tree.specs.Tree.{Node, node_at, is_directory, is_regular}
-use Rattle.rom_tree.specs.Image.{Image, image_node}
+use Rattle.rom_tree.specs.Image.{Image, LieIn, image_node}
 use Rattle.rom_tree.specs.declared.types.NodeId.{NodeId}
 use Rattle.open_files.specs.declared.slot.OpenNode.{OpenNode}
 use Rattle.open_files.specs.Machine.{Open}
@@ -44,3 +44,7 @@ pub starts : (m : Image) (all : List ℕ) (n : Parts) (i : NodeId) (x : Node) �
 starts m all n i x f h b =
     let s : OpenNode = record { image = 0; node = i; position = 0 } in
     sym (same m all n s i.0 0 f refl refl) ∙ open_start (image_view m) s x m (alone m 0) h b refl
+
+-- no bytes stand anywhere
+pub nothing_lies : (bytes part : List ℕ) → part ≡ [] → LieIn bytes part
+nothing_lies bytes part e = let P : List ℕ → Type 0 = λ v. LieIn bytes v in subst P (sym e) (0, omega arith, refl)

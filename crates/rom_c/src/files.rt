@@ -2,6 +2,7 @@
 ghost use Rattle.std.specs.Prelude.{◌≡◌, ◌≢◌, true, length, None, IsSomeAnd};
 ghost use Rattle.std.specs.Bool.{OnTrue, OnFalse};
 ghost use Rattle.rom_tree.specs.Tree.{Node};
+ghost use Rattle.rom_tree.specs.Image.{LieIn};
 ghost use Rattle.path_walk.specs.Resolution.{resolution, tree_namespace};
 ghost use Rattle.open_files.specs.Machine.{fstat_on, seek_on, read_on, lend_on, map_on, readdir_on};
 ghost use Rattle.image_check.specs.Checked.{HasTree};
@@ -180,6 +181,7 @@ pub extern "C" fn romtool_readdir<'a>(
     ensures image { file.new.image ≡ file.old.image }
     ensures node { file.new.node ≡ file.old.node }
     ensures error { file.new.error ≡ file.old.error }
+    ensures lies { LieIn file.old.image.bytes.now entry.new.name.now }
     ensures closed { (IsOpen file.old → ⊥) → (result ≡ 6) × IsNoEntry entry.new
         × (file.new.position ≡ file.old.position) }
     ensures read { IsOpen file.old → (t : Node) → HasTree file.old.image.bytes.now usual t

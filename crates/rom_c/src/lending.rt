@@ -1,7 +1,7 @@
 //! Calls on what is open in an image.
 ghost use Rattle.std.specs.Prelude.{◌≡◌, Some, None, true, is_some, length, ◌||◌};
 ghost use Rattle.rom_tree.specs.Tree.{Node, is_directory, is_regular};
-ghost use Rattle.rom_tree.specs.Image.{HasNode, image_node};
+ghost use Rattle.rom_tree.specs.Image.{HasNode, LieIn, image_node};
 ghost use Rattle.open_files.specs.Machine.{Open, fstat_on, seek_on, read_on, lend_on, map_on, readdir_on};
 ghost use Rattle.open_files.specs.Slots.{stands, image_view};
 ghost use Rattle.image_check.specs.Any.{any_view};
@@ -125,6 +125,7 @@ pub(crate) fn readdir_in<'a>(
         (readdir_on None o.place o.position) }
     ensures stands { is_some (stands (image_view (any_view image.now)) opened.new) ≡ true }
     ensures node { opened.new.node.0 ≡ opened.old.node.0 }
+    ensures lies { LieIn (any_view image.now).bytes entry.new.name.now }
 {
     match opened::readdir(image, opened) {
         Ok(Some(found)) => {

@@ -1,24 +1,21 @@
 -- What is printed of an image, from what its check found.
-use Rattle.std.proofs.Common.{◌≡◌, ℕ, List, length, refl, sym, ap, ◌∙◌, subst}
+use Rattle.std.proofs.Common.{◌≡◌, ℕ, Bool, List, Err, length, refl, sym, ap, ◌∙◌, subst}
 use Rattle.rom_faults.specs.declared.error.CheckError.TheVariants.{Fault}
 use Rattle.rom_tree.specs.declared.types.Limits.{Limits}
 use Rattle.image_check.specs.declared.any.AnyImage.{AnyImage}
-use Rattle.image_check.specs.declared.any.AnyImage.TheVariants.{Romfs, Cramfs}
 use Rattle.image_check.specs.Any.{any_view, report_of}
 use Rattle.rom_tree.specs.Image.{Image}
 use Rattle.rom_tree.specs.declared.types.Report.{Report}
 use Rattle.image_check.specs.Checked.{romfs as shows_romfs, cramfs as shows_cramfs}
 use Rattle.image_check.specs.Checked.{Shows, IsRefused, HasFormat, IsFaultless, IsLeastFault}
-use Rattle.rom_commands.specs.Formats.{cramfs_name, format_of, kind_of}
+use Rattle.rom_fields.specs.Written.{Output}
+use Rattle.image_info.specs.Endings.{WritesAll}
+use Rattle.image_info.specs.declared.info.Trouble.{Trouble}
+use Rattle.image_info.specs.declared.info.Trouble.TheVariants.{OutOfMemory, WriteFault}
 use Rattle.rom_commands.specs.declared.asked.Asked.{Asked}
 use Rattle.rom_commands.specs.Lines.{fault_line}
 use Rattle.rom_commands.specs.Asked.{sound_text, Fits}
-use Rattle.rom_commands.specs.Answers.{romfs, cramfs, Holds, is_romfs, is_cramfs, IsFormat, IsFormatName, IsSoundText, IsFaultText, HasFault, usual_limits}
-
--- the format that the first bytes name is the image's
-format_named : (bytes : List ℕ) (v : AnyImage) → HasFormat bytes v → IsFormatName bytes (format_of v)
-format_named bytes (Romfs s) h = romfs h refl
-format_named bytes (Cramfs s) h = cramfs h.0 (ap cramfs_name h.1)
+use Rattle.rom_commands.specs.Answers.{Holds, IsSoundText, IsFaultText, HasFault, usual_limits}
 
 -- limits of these numbers are the usual ones
 pub usual : (l : Limits) → l.references ≡ 1048576 → l.depth ≡ 64 → l ≡ usual_limits
@@ -34,19 +31,12 @@ held bytes l v e h k =
     let Q : Limits → Type 0 = λ u. IsFaultless bytes u in
     record { report = report_of v; shows = subst P e h; clean = subst Q e k }
 
-format_is : (bytes : List ℕ) (v : AnyImage) → HasFormat bytes v → IsFormat bytes (kind_of v)
-format_is bytes (Romfs s) h = is_romfs h
-format_is bytes (Cramfs s) h = is_cramfs h.0
-
--- the text that is written of a sound image
-abbrev pub text_of : Asked → AnyImage → List ℕ
-text_of asked v = sound_text asked (any_view v) (kind_of v) (format_of v) (report_of v)
-
 pub sound : (bytes : List ℕ) (asked : Asked) (l : Limits) (v : AnyImage) → l ≡ usual_limits → Shows bytes l (any_view v) (report_of v) → HasFormat bytes v → IsFaultless bytes l
-    → IsSoundText bytes asked (text_of asked v)
-unfolding held
+    → IsSoundText bytes asked (sound_text asked v)
 sound bytes asked l v e h f k =
-    record { image = any_view v; kind = kind_of v; format = format_of v; held = held bytes l v e h k; is = format_is bytes v f; named = format_named bytes v f; same = refl }
+    let P : Limits → Type 0 = λ u. Shows bytes u (any_view v) (report_of v) in
+    let Q : Limits → Type 0 = λ u. IsFaultless bytes u in
+    record { image = v; shows = subst P e h; format = f; clean = subst Q e k; same = refl }
 
 -- an image shows the bytes that were checked
 shown_bytes : (bytes : List ℕ) (l : Limits) (m : Image) (r : Report) → Shows bytes l m r → m.bytes ≡ bytes
@@ -67,3 +57,8 @@ fault_of bytes l number at e h k =
 -- what is printed of an image with a fault
 pub faulty : (bytes : List ℕ) (l : Limits) (number at : ℕ) → l ≡ usual_limits → IsRefused bytes l (Fault number at) → IsLeastFault bytes l (Fault number at) → IsFaultText bytes (fault_line number at)
 faulty bytes l number at e h k = record { number = number; at = at; fault = fault_of bytes l number at e h k; same = refl }
+
+-- a failure with nothing to tell is one with something to tell
+pub failed_as_well : (old new : Output) (text : List ℕ) (e : Trouble) → WritesAll {T = Unit {0}} old new text (Err e) → WritesAll {T = Bool} old new text (Err e)
+failed_as_well old new text OutOfMemory h = h
+failed_as_well old new text WriteFault h = h

@@ -7,26 +7,14 @@ use Rattle.rom_tree.specs.Image.{Image}
 use Rattle.rom_faults.specs.declared.error.CheckError.TheVariants.{Fault}
 use Rattle.rom_tree.specs.declared.types.Limits.{Limits}
 use Rattle.rom_tree.specs.declared.types.Report.{Report}
-use Rattle.cramfs_format.specs.Superblock.{order_of}
-use Rattle.image_map.specs.declared.format.Format.{Format}
-use Rattle.image_map.specs.declared.format.Format.TheVariants.{Romfs, Cramfs}
-use Rattle.rom_commands.specs.Formats.{cramfs_name}
 use Rattle.rom_commands.specs.Lines.{fault_line}
 use Rattle.rom_commands.specs.Asked.{sound_text, warns}
 use Rattle.rom_commands.specs.declared.asked.Asked.{Asked}
-use Rattle.image_check.specs.Checked.{Shows, IsRefused, BeginsRomfs, BeginsCramfs, IsFaultless, IsLeastFault}
+use Rattle.image_check.specs.declared.any.AnyImage.{AnyImage}
+use Rattle.image_check.specs.Any.{any_view, report_of}
+use Rattle.image_check.specs.Checked.{Shows, IsRefused, HasFormat, IsFaultless, IsLeastFault}
 use Rattle.rom_commands.specs.declared.shown.Outcome.{Outcome}
 use Rattle.rom_commands.specs.declared.shown.Outcome.TheVariants.{Done, Warned, Refused, Memory, WriteFault}
-
--- the name of the format that the first bytes name: cramfs in big-endian order has a name of its own
-pub data IsFormatName (bytes : List ℕ) : List ℕ → Type 0 where
-  romfs : {name : List ℕ} → BeginsRomfs bytes → name ≡ codes "romfs" → IsFormatName bytes name
-  cramfs : {name : List ℕ} → BeginsCramfs bytes → name ≡ cramfs_name (order_of bytes) → IsFormatName bytes name
-
--- the format that the first bytes name
-pub data IsFormat (bytes : List ℕ) : Format → Type 0 where
-  is_romfs : BeginsRomfs bytes → IsFormat bytes Romfs
-  is_cramfs : BeginsCramfs bytes → IsFormat bytes Cramfs
 
 -- 1,048,576 references, and 64 names on the way to an entry
 abbrev pub usual_limits : Limits
@@ -38,15 +26,13 @@ pub record Holds (bytes : List ℕ) (m : Image) : Type 0 where
   pub shows : Shows bytes usual_limits m report
   pub clean : IsFaultless bytes usual_limits
 
--- the text is what is written of a sound image that has these bytes
+-- the text is what is written of the sound image that these bytes hold
 pub record IsSoundText (bytes : List ℕ) (asked : Asked) (text : List ℕ) : Type 0 where
-  pub image : Image
-  pub kind : Format
-  pub format : List ℕ
-  pub held : Holds bytes image
-  pub is : IsFormat bytes kind
-  pub named : IsFormatName bytes format
-  pub same : text ≡ sound_text asked image kind format held.report
+  pub image : AnyImage
+  pub shows : Shows bytes usual_limits (any_view image) (report_of image)
+  pub format : HasFormat bytes image
+  pub clean : IsFaultless bytes usual_limits
+  pub same : text ≡ sound_text asked image
 
 -- this is the least fault of these bytes, which hold no tree
 pub record HasFault (bytes : List ℕ) (number at : ℕ) : Type 0 where

@@ -1,21 +1,23 @@
 -- What is written of a sound image, by what was asked. (This project's own.)
 use Rattle.std.specs.Prelude.{ℕ, ◌+◌, ◌^◌, ◌≤◌, Bool, false, List}
 use Rattle.rom_tree.specs.Listing.{list_text}
-use Rattle.rom_tree.specs.Image.{Image}
-use Rattle.rom_tree.specs.declared.types.Report.{Report as Found}
-use Rattle.image_map.specs.declared.format.Format.{Format}
+use Rattle.image_check.specs.declared.any.AnyImage.{AnyImage}
+use Rattle.image_check.specs.Any.{any_view, report_of}
 use Rattle.image_map.specs.Map.{map_text}
-use Rattle.image_map.specs.Misreads.{is_told, misread_text}
+use Rattle.image_info.specs.Info.{info_text}
+use Rattle.linux_misreads.specs.Misreads.{is_told, misreads_text}
+use Rattle.rom_commands.specs.Formats.{format_of}
 use Rattle.rom_commands.specs.Lines.{ok_line}
 use Rattle.rom_commands.specs.declared.asked.Asked.{Asked}
-use Rattle.rom_commands.specs.declared.asked.Asked.TheVariants.{Report, List as Listed, Map, Misreads}
+use Rattle.rom_commands.specs.declared.asked.Asked.TheVariants.{Report, List as Listed, Map, Misreads, Facts}
 
--- the text of an image of this format, whose name is given, and with this report
-abbrev pub sound_text : Asked → Image → Format → List ℕ → Found → List ℕ
-sound_text Report m kind format found = ok_line format found.references found.depth
-sound_text Listed m kind format found = list_text m.bytes m.tree
-sound_text (Map base) m kind format found = map_text base m.tree
-sound_text Misreads m kind format found = misread_text kind m.tree
+-- the text of an image: its format, references and depth; its list; its map; what Linux gets wrong of it; its facts
+abbrev pub sound_text : Asked → AnyImage → List ℕ
+sound_text Report a = ok_line (format_of a) (report_of a).references (report_of a).depth
+sound_text Listed a = list_text (any_view a).bytes (any_view a).tree
+sound_text (Map base) a = map_text base (any_view a).tree
+sound_text Misreads a = misreads_text a
+sound_text (Facts file) a = info_text file a
 
 -- whether a text tells of something that Linux gets wrong
 abbrev pub warns : Asked → List ℕ → Bool

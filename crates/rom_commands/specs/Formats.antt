@@ -3,8 +3,6 @@ use Rattle.std.specs.Prelude.{ℕ, List, codes}
 use Rattle.cramfs_format.specs.declared.order.Order.{Order}
 use Rattle.cramfs_format.specs.declared.order.Order.TheVariants.{Little, Big}
 use Rattle.cramfs_image.specs.Reported.{order_in}
-use Rattle.image_map.specs.declared.format.Format.{Format}
-use Rattle.image_map.specs.declared.format.Format.TheVariants as format
 use Rattle.image_check.specs.declared.any.AnyImage.{AnyImage}
 use Rattle.image_check.specs.declared.any.AnyImage.TheVariants.{Romfs, Cramfs}
 
@@ -17,8 +15,3 @@ cramfs_name Big = codes "cramfs-be"
 abbrev pub format_of : AnyImage → List ℕ
 format_of (Romfs s) = codes "romfs"
 format_of (Cramfs s) = cramfs_name (order_in s)
-
--- its format, whatever its byte order
-abbrev pub kind_of : AnyImage → Format
-kind_of (Romfs s) = format.Romfs
-kind_of (Cramfs s) = format.Cramfs

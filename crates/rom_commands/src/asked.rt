@@ -11,4 +11,6 @@ pub enum Asked {
     Map(u64),
     /// What Linux gets wrong of it.
     Misreads,
+    /// Its facts, where the file that it is in has so many bytes.
+    Facts(u64),
 }

@@ -130,7 +130,7 @@ pub fn print_file<X: Write, E: ByteWrite>(
 
 /// Hands on what `out` holds back. The status is 3, and `err` says so, where that or a write before
 /// failed, and else the one that is given.
-fn flushed<X: Write, E: ByteWrite>(out: &mut Plain<X>, err: &mut E, status: u8) -> u8
+pub(crate) fn flushed<X: Write, E: ByteWrite>(out: &mut Plain<X>, err: &mut E, status: u8) -> u8
     requires { status ≤ 3 }
     ensures small { result ≤ 3 }
     ensures kept { Keeps (⟦<Plain<X> as ByteWrite>⟧.output out.old).contents

@@ -1,19 +1,23 @@
 //! What is printed of an image.
-ghost use Rattle.std.specs.Prelude.{◌≡◌, ◌≤◌, ◌↔◌, length, IfOk, IsTrue};
+ghost use Rattle.std.specs.Prelude.{◌≡◌, ◌≤◌, ◌↔◌, false, length, IfOk, IsTrue};
 ghost use Rattle.rom_fields.specs.Failures.{Counts};
 ghost use Rattle.rom_fields.specs.Written.{WritesText};
 ghost use Rattle.rom_tree.specs.Tree.{levels};
+ghost use Rattle.image_info.specs.Endings.{WritesAll};
+ghost use Rattle.image_info.specs.Info.{info_text};
 ghost use Rattle.image_check.specs.Any.{any_view, report_of};
 ghost use Rattle.rom_commands.specs.Lines.{fault_line, ok_line};
 ghost use Rattle.rom_commands.specs.Asked.{sound_text, warns, Fits};
 ghost use Rattle.rom_commands.specs.Answers.{status_of, Ends};
-ghost use Rattle.rom_commands.specs.Formats.{format_of, kind_of};
+ghost use Rattle.rom_commands.specs.Formats.{format_of};
 ghost use Rattle.rom_commands.specs.declared.shown.Outcome.{Outcome};
 
 use crate::asked::Asked;
 use crate::fault::put_fault;
 use image_check::{AnyImage, check};
-use image_map::{Format, map, misread};
+use image_info::{Trouble, write_info};
+use image_map::map;
+use linux_misreads::misreads;
 use rom_faults::CheckError;
 use rom_fields::bytes::{ByteWrite, Failed};
 use rom_fields::sink::put;
@@ -99,45 +103,50 @@ fn write_ok_line<W: ByteWrite>(w: &mut W, format: &[u8], report: Report) -> Resu
     if failed { Err(Failed) } else { Ok(()) }
 }
 
-/// The format of an image.
-fn kind(image: &AnyImage) -> Format
-    ensures { result ≡ kind_of image.now }
+/// Writes the facts of a sound image, which are no warning.
+fn write_facts<W: ByteWrite>(
+    alloc: Global,
+    image: &AnyImage,
+    file: u64,
+    w: &mut W,
+) -> Result<bool, Trouble>
+    requires { levels (any_view image.now).tree ≤ 65 }
+    ensures text { WritesAll (W.output w.old) (W.output w.new) (info_text file image.now) result }
+    ensures quiet { IfOk result (λ b. b ≡ false) }
 {
-    match image {
-        AnyImage::Romfs(_) => Format::Romfs,
-        AnyImage::Cramfs(_) => Format::Cramfs,
+    match write_info(alloc, image, file, w) {
+        Ok(()) => Ok(false),
+        Err(trouble) => Err(trouble),
     }
 }
 
 /// Writes what is asked of a sound image, and says whether it is a warning.
-fn write_sound<W: ByteWrite>(image: &AnyImage, asked: Asked, w: &mut W) -> Result<bool, Failed>
+fn write_sound<W: ByteWrite>(
+    alloc: Global,
+    image: &AnyImage,
+    asked: Asked,
+    w: &mut W,
+) -> Result<bool, Trouble>
     requires shallow { levels (any_view image.now).tree ≤ 65 }
     requires fits { Fits asked (length (any_view image.now).bytes) }
-    ensures text { WritesText (W.output w.old).contents (W.output w.new).contents result
-        (sound_text asked (any_view image.now) (kind_of image.now) (format_of image.now)
-        (report_of image.now)) }
-    ensures warns { IfOk result (λ b. b ≡ warns asked
-        (sound_text asked (any_view image.now) (kind_of image.now) (format_of image.now)
-        (report_of image.now))) }
-    ensures count { Counts (W.output w.old).failures (W.output w.new).failures result }
+    ensures text { WritesAll (W.output w.old) (W.output w.new) (sound_text asked image.now) result }
+    ensures warns { IfOk result (λ b. b ≡ warns asked (sound_text asked image.now)) }
 {
     match asked {
         Asked::Report => match write_ok_line(w, format_name(image), image.report()) {
             Ok(()) => Ok(false),
-            Err(_) => Err(Failed),
+            Err(_) => Err(Trouble::WriteFault),
         },
         Asked::List => match list(image, w) {
             Ok(()) => Ok(false),
-            Err(_) => Err(Failed),
+            Err(_) => Err(Trouble::WriteFault),
         },
         Asked::Map(base) => match map(image, base, w) {
             Ok(()) => Ok(false),
-            Err(_) => Err(Failed),
+            Err(_) => Err(Trouble::WriteFault),
         },
-        Asked::Misreads => match misread(image, kind(image), w) {
-            Ok(told) => Ok(told),
-            Err(_) => Err(Failed),
-        },
+        Asked::Misreads => misreads(alloc, image, w),
+        Asked::Facts(file) => write_facts(alloc, image, file, w),
     }
 }
 
@@ -147,7 +156,7 @@ pub fn show<W: ByteWrite>(alloc: Global, bytes: &[u8], asked: Asked, w: &mut W) 
     ensures { Ends bytes.now asked (W.output w.old) (W.output w.new) result }
 {
     match check(alloc, bytes, Limits::usual()) {
-        Ok(image) => match write_sound(&image, asked, w) {
+        Ok(image) => match write_sound(alloc, &image, asked, w) {
             Ok(warned) => {
                 if warned {
                     Outcome::Warned
@@ -155,7 +164,8 @@ pub fn show<W: ByteWrite>(alloc: Global, bytes: &[u8], asked: Asked, w: &mut W) 
                     Outcome::Done
                 }
             }
-            Err(_) => Outcome::WriteFault,
+            Err(Trouble::OutOfMemory) => Outcome::Memory,
+            Err(Trouble::WriteFault) => Outcome::WriteFault,
         },
         Err(CheckError::Fault { number, at }) => match write_fault_line(w, number, at) {
             Ok(()) => Outcome::Refused,
@@ -165,7 +175,7 @@ pub fn show<W: ByteWrite>(alloc: Global, bytes: &[u8], asked: Asked, w: &mut W) 
     }
 }
 
-/// Writes what `check`, `list`, `map` or `linux` prints of an image on standard output, and gives
+/// Writes what `check`, `list`, `map`, `linux` or `info` prints of an image on standard output, and gives
 /// the status: 0 where the image is sound, 1 where it has a fault or Linux gets something of it
 /// wrong that was asked for, 3 where memory was refused or a write failed.
 pub fn shown<W: ByteWrite>(alloc: Global, bytes: &[u8], asked: Asked, w: &mut W) -> u8

@@ -1,11 +1,11 @@
 -- Places in a row, and the bytes there.
 use Rattle.std.proofs.Common.{◌≡◌, ℕ, ◌+◌, ◌-◌, ◌<◌, ◌≤◌, List, length, get_or, take, drop, map, Some, sym, ap, ◌∙◌, arith, length-take, length-drop, zero-add}
-use Rattle.std.proofs.lemmas.List.{get_or-map, get_or-take, get_or-drop, length-map}
+use Rattle.std.proofs.lemmas.List.{get_or-map, get_or-take, get_or-drop, length-map, drop-take, take-take}
 use Rattle.std.proofs.lemmas.Grind.{same_number_lists}
 use Rattle.std.specs.Prelude.{slice_index}
 use Rattle.rom_tree.specs.declared.types.Run.{Run}
 use Rattle.rom_tree.specs.Tree.{Node, places_of}
-use Rattle.rom_tree.specs.Image.{Image, image_node, IsRun}
+use Rattle.rom_tree.specs.Image.{Image, image_node, IsRun, LieIn}
 use Rattle.rom_tree.proofs.Nodes.{node_at-some}
 
 -- bytes in a row are those at the places of a row
@@ -18,6 +18,19 @@ row_bytes b qs place len e row fits =
     let l' : k < len = omega arith in
     let m : k < length qs = omega arith in
     get_or-take len (drop place b) k 0 l' ∙ (get_or-drop place b k 0 ∙ (ap (λ (v : ℕ). get_or b v 0) (sym (row k l')) ∙ sym (get_or-map (λ (p : ℕ). get_or b p 0) qs k 0 0 m))))
+
+-- what stands in a front of the bytes stands in all of them
+pub lies_in_front : (bytes b part : List ℕ) (p : ℕ) → b ≡ take (length b) bytes → length b ≤ length bytes → p + length part ≤ length b → take (length part) (drop p b) ≡ part
+    → LieIn bytes part
+lies_in_front bytes b part p front within ends e =
+    let n : ℕ = length part in
+    let m : ℕ = length b - p in
+    let s : p + m ≡ length b = omega (arith, ends) in
+    let cut : take n (drop p b) ≡ take n (drop p bytes) =
+    ap (λ (v : List ℕ). take n (drop p v)) front
+    ∙ (ap (λ (k : ℕ). take n (drop p (take k bytes))) (sym s)
+    ∙ (ap (take n) (drop-take p m bytes) ∙ take-take n m (drop p bytes) (omega (arith, ends)))) in
+    (p, omega (arith, ends, within), sym cut ∙ e)
 
 -- a node's run ends within the bytes
 pub row_end : (m : Image) (n : ℕ) (x : Node) (off : ℕ) (r : Run) → image_node m n ≡ Some x → IsRun (places_of x) off r → r.place + r.len ≤ length m.bytes

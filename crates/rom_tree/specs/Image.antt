@@ -1,5 +1,5 @@
 -- What an image is to the layers above, and the answers of its calls. (This project's own.)
-use Rattle.std.specs.Prelude.{◌≡◌, ℕ, ◌+◌, ◌≤◌, ◌<◌, true, false, List, length, slice_index, Option, Some, None, MatchOption, IsSomeAnd, IsSome, map, if◌then◌else◌}
+use Rattle.std.specs.Prelude.{◌≡◌, ℕ, ◌+◌, ◌≤◌, ◌<◌, true, false, List, length, take, drop, slice_index, Option, Some, None, MatchOption, IsSomeAnd, IsSome, map, if◌then◌else◌}
 use Rattle.std.specs.Str.{bytes_eq}
 use Rattle.rom_tree.specs.declared.types.Stat.{Stat}
 use Rattle.rom_tree.specs.declared.types.Run.{Run}
@@ -59,12 +59,18 @@ abbrev pub find_entry : Entries → List ℕ → Option Node
 find_entry no_entries name = None
 find_entry (entry n x es) name = (if bytes_eq n name then Some x else find_entry es name)
 
--- a name, a node's number and a cursor are those of the entry at an index: the cursor stands one further
+-- these bytes stand somewhere among the others
+abbrev pub LieIn : List ℕ → List ℕ → Type 0
+LieIn bytes part = (p : ℕ) × (p + length part ≤ length bytes) × (take (length part) (drop p bytes) ≡ part)
+
+-- A name, a node's number and a cursor are those of the entry at an index: the cursor stands one further. The name is
+-- read where it stands in the image.
 pub record IsEntry (m : Image) (d : ℕ) (es : Entries) (i : ℕ) (name : List ℕ) (n c : ℕ) : Type 0 where
   pub target : Node
   pub at : entry_at es i ≡ Some (name, target)
   pub number : ino_of target ≡ n
   pub next : m.cursor_index d c ≡ Some (i + 1)
+  pub lies : LieIn m.bytes name
 
 -- r is where byte `off` lies, and how many bytes follow one another from there
 pub record IsRun (ps : List ℕ) (off : ℕ) (r : Run) : Type 0 where

@@ -1,13 +1,13 @@
 -- What the sample's numbers name, and its entries and runs.
 use Rattle.std.proofs.Common.{◌≡◌, ◌≢◌, ℕ, zero, suc, ◌+◌, ◌-◌, ◌<◌, ◌≤◌, List, length, Some, None, refl, sym, ap, subst, ◌∙◌, arith}
 use Rattle.rom_tree.specs.Tree.{Node, ino_of, places_of, entries_of, entry_at, entry_count, node_at}
-use Rattle.rom_tree.specs.Image.{image_node, HasNode, stat_of, IsEntry, IsRun}
+use Rattle.rom_tree.specs.Image.{image_node, HasNode, stat_of, IsEntry, IsRun, LieIn}
 use Rattle.rom_tree.specs.declared.types.Stat.{Stat}
 use Rattle.rom_tree.proofs.Nodes.{node_at-some, entry_at-none}
 use Rattle.rom_tree.proofs.Named.{some_is, node_by}
 use Rattle.rom_tree.specs.Tree.{row_from}
 use Rattle.rom_tree.proofs.Numbers.{length_row, row_at}
-use Rattle.rom_tree_examples.specs.Sample.{root, bin, sh, deep, pipe, link, disk, tty, log, empty}
+use Rattle.rom_tree_examples.specs.Sample.{sample_bytes, root, bin, sh, deep, pipe, link, disk, tty, log, empty}
 use Rattle.rom_tree_examples.specs.SampleLaws.{sample, each}
 
 -- what holds of each node holds of each that a number names
@@ -88,12 +88,12 @@ pub is_last : (n : ℕ) (x : Node) → image_node sample n ≡ Some x → 10 ≤
 is_last = each_named (λ n x. 10 ≤ n → empty ≡ x) (λ h. absurd (omega arith)) (λ h. absurd (omega arith)) (λ h. absurd (omega arith)) (λ h. absurd (omega arith)) (λ h. absurd (omega arith)) (λ h. absurd (omega arith)) (λ h. absurd (omega arith)) (λ h. absurd (omega arith)) (λ h. absurd (omega arith)) (λ h. refl)
 
 -- an entry of the node of a number
-pub entry_is : (d c k j : ℕ) (y target : Node) (name nm : List ℕ) (n after : ℕ) → image_node sample k ≡ Some y → entry_at (entries_of y) j ≡ Some (name, target) → d ≡ k → c ≡ j → nm ≡ name → n ≡ ino_of target → after ≡ j + 1
+pub entry_is : (d c k j : ℕ) (y target : Node) (name nm : List ℕ) (n after : ℕ) → image_node sample k ≡ Some y → entry_at (entries_of y) j ≡ Some (name, target) → d ≡ k → c ≡ j → nm ≡ name → n ≡ ino_of target → after ≡ j + 1 → LieIn sample_bytes name
     → (x : Node) (i : ℕ) → image_node sample d ≡ Some x → sample.cursor_index d c ≡ Some i → IsEntry sample d (entries_of x) i nm n after
-entry_is d c k j y target name nm n after h e p q r s t x i u v =
+entry_is d c k j y target name nm n after h e p q r s t o x i u v =
     let same : y ≡ x = is_node d k y h p x u in
     let index : i ≡ j = (let w : c ≡ i = cc in sym w ∙ q) in
-    rw (← same, index, r) (record { target = target; at = e; number = sym s; next = ap (λ (w : ℕ). Some w) t })
+    rw (← same, index, r) (record { target = target; at = e; number = sym s; next = ap (λ (w : ℕ). Some w) t; lies = o })
 
 -- at the end of each list there is no entry
 pub no_entry : (n : ℕ) (x : Node) → image_node sample n ≡ Some x → (c : ℕ) → (n ≡ 1 → 7 ≤ c) → (n ≡ 2 → 2 ≤ c) → (n ≡ 4 → 1 ≤ c) → entry_at (entries_of x) c ≡ None

@@ -10,9 +10,12 @@ IsWhole len off r = off ≡ 0 → MatchOption r (Unit {0}) (λ v. v.len ≡ len)
 abbrev pub attributes : ℕ → ℕ → ℕ → ℕ → Attributes
 attributes ino mode major minor = record { ino = ino; mode = mode; uid = 1000; gid = 100; major = major; minor = minor }
 
--- "helloa b%": a file's five bytes, and a link's text
+-- "helloa b%", a file's five bytes and a link's text, which is a name as well; and all other names
 abbrev pub sample_bytes : List ℕ
-sample_bytes = 104 ∷ 101 ∷ 108 ∷ 108 ∷ 111 ∷ 97 ∷ 32 ∷ 98 ∷ 37 ∷ []
+sample_bytes =
+    104 ∷ 101 ∷ 108 ∷ 108 ∷ 111 ∷ 97 ∷ 32 ∷ 98 ∷ 37
+    ∷ 98 ∷ 105 ∷ 110 ∷ 100 ∷ 105 ∷ 115 ∷ 107 ∷ 116 ∷ 116 ∷ 121 ∷ 108 ∷ 111 ∷ 103 ∷ 195 ∷ 169 ∷ 127
+    ∷ 101 ∷ 109 ∷ 112 ∷ 116 ∷ 121 ∷ 115 ∷ 104 ∷ 100 ∷ 101 ∷ 101 ∷ 112 ∷ 112 ∷ []
 
 abbrev pub sh : Node
 sh = node (attributes 3 2541 0 0) (regular (row_from 0 5))

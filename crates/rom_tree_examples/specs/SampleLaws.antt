@@ -52,7 +52,7 @@ IsPlaced x = (k : ℕ) → k < length (places_of x) → slice_index (places_of x
 none_placed : (k : ℕ) → k < 0 → slice_index [] k < length sample_bytes
 none_placed k h = absurd (omega arith)
 
-row_placed : (p n : ℕ) → p + n ≤ 9 → (k : ℕ) → k < length (row_from p n) → slice_index (row_from p n) k < 9
+row_placed : (p n : ℕ) → p + n ≤ 37 → (k : ℕ) → k < length (row_from p n) → slice_index (row_from p n) k < length sample_bytes
 row_placed p n f k h =
     let l : k < n = (let e = length_row p n in omega (arith, e)) in let r = row_at p n k l in omega (arith, r)
 

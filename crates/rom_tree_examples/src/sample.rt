@@ -94,7 +94,7 @@ fn row_run(place: u32, len: u32, off: u64) -> Option<Run>
 
 impl<'a> TreeImage<'a> for Sample {
     fn bytes(&self) -> &'a [u8] {
-        b"helloa b%"
+        b"helloa b%bindiskttylog\xc3\xa9\x7femptyshdeepp"
     }
 
     fn root(&self) -> NodeId {

@@ -67,7 +67,7 @@ fn a_writer_that_takes_nothing_fails(rt: HostRuntime) -> Result<(), Fail> {
 #[test]
 fn answers_of_the_sample(rt: HostRuntime) -> Result<(), Fail> {
     let mut image = Sample;
-    assert_eq!(rt; image.bytes(), b"helloa b%".as_slice());
+    assert_eq!(rt; image.bytes(), b"helloa b%bindiskttylog\xc3\xa9\x7femptyshdeepp".as_slice());
     assert_eq!(rt; image.root(), NodeId(1));
     assert!(rt; image.is_node(NodeId(10)));
     assert!(rt; !image.is_node(NodeId(0)));

@@ -1,12 +1,14 @@
 -- What each call finds.
-use Rattle.std.proofs.Common.{◌≡◌, ◌≢◌, ℕ, suc, ◌+◌, ◌-◌, ◌/◌, ◌%◌, ◌^◌, ◌<◌, ◌≤◌, true, false, eqb, List, length, Option, None, Some, IsSome, ◌⊎◌, inl, inr, refl, sym, ap, subst, ◌∙◌, arith, rules, if◌then◌else◌, nat_eq}
+use Rattle.std.proofs.Common.{take, ◌≡◌, ◌≢◌, ℕ, suc, ◌+◌, ◌-◌, ◌/◌, ◌%◌, ◌^◌, ◌<◌, ◌≤◌, true, false, eqb, List, length, Option, None, Some, IsSome, ◌⊎◌, inl, inr, refl, sym, ap, subst, ◌∙◌, arith, rules, if◌then◌else◌, nat_eq}
 use Rattle.std.proofs.lemmas.Bool.{ne_eqb, eq-eqb}
 use Rattle.std.proofs.lemmas.Bool.Decides.{eqb_tells, nat_tests}
 use Rattle.std.specs.Prelude.{nat_lt}
 use Rattle.std.specs.Str.{bytes_eq}
 use Rattle.rom_tree.specs.declared.types.Kind.{Kind}
 use Rattle.rom_tree.specs.Tree.{Node, entry_at, entries_of, places_of, ino_of}
-use Rattle.rom_tree.specs.Image.{find_entry, stat_of, IsEntry, IsRun}
+use Rattle.rom_tree.specs.Image.{find_entry, stat_of, IsEntry, IsRun, LieIn}
+use Rattle.rom_tree.proofs.Rows.{lies_in_front}
+use Rattle.romfs_image.proofs.Reading.{name_stands}
 use Rattle.rom_fields.specs.Words.{word_be}
 use Rattle.romfs_format.specs.Record.{first_of, next_of, name_of, end_of, type_of, size_of}
 use Rattle.record_walk.specs.Forest.{Forest, none, at, count, Everywhere}
@@ -106,11 +108,11 @@ unfolding list_at
 further b r k d i q l lq st e = index_next b (begins b r d) q i (grow k b (begins b r d)) (grow k b (first_of b q)) (grow k b (next_of b q)) l.stands (subst (StandsAt b q) st.is lq.stands) e
 
 -- the entry of a record
-pub entry_here : (bytes b : List ℕ) (r k q : ℕ) (s : IsRomfs b r k) (w : length b ≤ length bytes) (d i node next : ℕ) (name : List ℕ) (x : Node) → x ≡ made b r k d → type_of b d ≡ 1 → IsList b r k (begins b r d) → IsStep b r k q → q ≢ 0 → IsList b r k q
+pub entry_here : (bytes b : List ℕ) (r k q : ℕ) (s : IsRomfs b r k) (w : length b ≤ length bytes) (d i node next : ℕ) (name : List ℕ) (x : Node) → b ≡ take (length b) bytes → x ≡ made b r k d → type_of b d ≡ 1 → IsList b r k (begins b r d) → IsStep b r k q → q ≢ 0 → IsList b r k q
     → index_at b (list_at b r k d) q ≡ Some i → is_dots (name_of b q) ≡ false → name ≡ name_of b q → node ≡ led 8 b q → next ≡ next_of b q
     → IsEntry (romfs_view bytes b r k s w) d (entries_of x) i name node (4294967296 + next)
 unfolding list_at
-entry_here bytes b r k q s w d i node next name x e t l st n lq ei ed en eo ex =
+entry_here bytes b r k q s w d i node next name x f e t l st n lq ei ed en eo ex =
     let target = node_of b (led 8 b q) (entries_at b (grow k b (first_of b q))) in
     let rest = index_rest b (begins b r d) q i 0 (grow k b (begins b r d)) (grow k b q) l.stands lq.stands ei in
     let iz : i + 0 ≡ i = omega arith in
@@ -122,6 +124,9 @@ entry_here bytes b r k q s w d i node next name x e t l st n lq ei ed en eo ex =
       at = rw (es, en) i';
       number = ino_is b (led 8 b q) (entries_at b (grow k b (first_of b q))) ∙ sym eo;
       next = cursor_next b r k d next (i + 1) (subst (λ (v : ℕ). index_at b (list_at b r k d) v ≡ Some (i + 1)) (sym ex) (further b r k d i q l lq st ei ∙ (let one : suc i ≡ i + 1 = omega arith in rw (ed, one) refl)));
+      lies =
+          let h = st.good.sound.name_ends in
+          subst (LieIn bytes) (sym en) (lies_in_front bytes b (name_of b q) (q + 16) f w (omega (arith, h)) (name_stands b q));
     }
 
 pub no_entry : (b : List ℕ) (r k d i q : ℕ) (x : Node) → x ≡ made b r k d → type_of b d ≡ 1 → IsList b r k (begins b r d) → IsList b r k q → q ≡ 0 → index_at b (list_at b r k d) q ≡ Some i → entry_at (entries_of x) i ≡ None

@@ -10,6 +10,11 @@ take_before_zero (y ∷ ys) =
     let ih = take_before_zero ys in
     elim (eqb y 0) as (λ t. take (length (cond t [] (y ∷ before_zero ys))) (y ∷ ys) ≡ cond t [] (y ∷ before_zero ys)) [ true ↦ refl | false ↦ ap (λ (x : List ℕ). y ∷ x) ih ]
 
+-- a name is read where it stands
+pub name_stands : (b : List ℕ) (p : ℕ) → take (length (name_of b p)) (drop (p + 16) b) ≡ name_of b p
+unfolding name_of
+name_stands b p = take_before_zero (drop (p + 16) b)
+
 pub name_slice : (b : List ℕ) (p len : ℕ) → len ≡ length (before_zero (drop (p + 16) b)) → take (p + 16 + len - (p + 16)) (drop (p + 16) b) ≡ name_of b p
 unfolding name_of
 name_slice b p len e =

@@ -1,5 +1,5 @@
 //! An image into a buffer, or through a writer.
-ghost use Rattle.std.specs.Prelude.{◌≡◌, ℕ, List, map, length, OnOk, OnErr, IfErr};
+ghost use Rattle.std.specs.Prelude.{◌≡◌, ◌%◌, ◌≤◌, ℕ, List, map, length, OnOk, OnErr, IfErr};
 ghost use Rattle.image_stream.specs.Outcomes.{AreSized, IsLeastWrong, IsStreamFault, IsWritten};
 ghost use Rattle.image_stream.specs.Sources.{Told};
 ghost use Rattle.image_stream.specs.WordSums.{balance_of};
@@ -41,8 +41,8 @@ pub fn write(plan: &Plan, contents: &Contents<'_>, out: &mut [u8]) -> Result<(),
     image_stream::write::write::<RomfsForm<'_>, WordSum>(&form, contents, out)
 }
 
-/// Writes the image of a plan through one buffer of 4,096 bytes, without memory, and flushes the
-/// writer. The sources are read three times.
+/// Writes the image of a plan through a buffer of the caller's, without memory, and flushes the
+/// writer. The sources are read as `image_stream` says.
 ///
 /// At `Ok` just the layout was written, where the sources tell their contents; else a whole image
 /// of some contents of the planned sizes, with the sum of just these bytes.
@@ -51,6 +51,42 @@ pub fn write(plan: &Plan, contents: &Contents<'_>, out: &mut [u8]) -> Result<(),
 ///
 /// As `StreamError` says. A prefix of the layout was written, where the sources tell contents of
 /// the planned sizes.
+pub fn stream_through<S: Sources, W: ByteWrite>(
+    plan: &Plan,
+    sources: &mut S,
+    w: &mut W,
+    buffer: &mut [u8],
+) -> Result<(), StreamError>
+    requires format { plan.now.format ≡ romfs }
+    requires files { S.files sources.old ≡ length plan.now.sizes }
+    requires room { 4096 ≤ length buffer.old }
+    requires words { length buffer.old % 4 ≡ 0 }
+    ensures told { S.told sources.new ≡ S.told sources.old }
+    ensures files { S.files sources.new ≡ S.files sources.old }
+    ensures some { OnOk result (IsWritten (S.told sources.old) (form_of plan.now) balance_of
+        (W.output w.old).contents (W.output w.new).contents) }
+    ensures sized { OnOk result (Told (S.told sources.old) (AreSized plan.now.sizes)) }
+    ensures whole { (m : ManifestLines) (sizes : List ℕ) → IsManifest m
+        → IsPlanOf romfs m sizes plan.now
+        → OnOk result (Told (S.told sources.old) (λ cs. (map length cs ≡ sizes) × Appends
+        (W.output w.old).contents (W.output w.new).contents (layout_of romfs m cs))) }
+    ensures quiet { OnOk result ((S.reads sources.new ≡ S.reads sources.old)
+        × ((W.output w.new).failures ≡ (W.output w.old).failures)) }
+    ensures front { (m : ManifestLines) (sizes : List ℕ) → IsManifest m
+        → IsPlanOf romfs m sizes plan.now
+        → OnErr result (Told (S.told sources.old) (λ cs. map length cs ≡ sizes → AppendsPrefix
+        (W.output w.old).contents (W.output w.new).contents (layout_of romfs m cs))) }
+    ensures fault { IfErr result (IsStreamFault (S.told sources.old) (form_of plan.now) balance_of
+        (S.reads sources.old) (S.reads sources.new) (W.output w.old) (W.output w.new)) }
+{
+    known(plan);
+    misfits::laws::fitting_is_planned();
+    let _ = sources.count();
+    let form = RomfsForm::new(plan);
+    image_stream::stream::stream_through::<RomfsForm<'_>, S, W, WordSum>(&form, sources, w, buffer)
+}
+
+/// Writes the image of a plan as `stream_through` does, through one buffer of 4,096 bytes.
 pub fn stream<S: Sources, W: ByteWrite>(
     plan: &Plan,
     sources: &mut S,
@@ -76,9 +112,6 @@ pub fn stream<S: Sources, W: ByteWrite>(
     ensures fault { IfErr result (IsStreamFault (S.told sources.old) (form_of plan.now) balance_of
         (S.reads sources.old) (S.reads sources.new) (W.output w.old) (W.output w.new)) }
 {
-    known(plan);
-    misfits::laws::fitting_is_planned();
-    let _ = sources.count();
-    let form = RomfsForm::new(plan);
-    image_stream::stream::stream::<RomfsForm<'_>, S, W, WordSum>(&form, sources, w)
+    let mut space: [u8; 4096] = [0; 4096];
+    stream_through(plan, sources, w, space.as_mut_slice())
 }

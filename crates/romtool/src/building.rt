@@ -1,5 +1,5 @@
 //! Building an image from a manifest and files.
-ghost use Rattle.std.specs.Prelude.{◌≡◌, length, IfOk};
+ghost use Rattle.std.specs.Prelude.{◌≡◌, length, IfOk, IfSome};
 ghost use Rattle.layout_plan.specs.Plans.{IsPlanOf};
 ghost use Rattle.manifest.specs.Lines.{sources_of};
 ghost use Rattle.plan_misfits.specs.Formats.{format_of};
@@ -14,14 +14,18 @@ use crate::trouble::Teller;
 use crate::{explained, reading};
 use build_commands::building::{tell_bad_manifest, tell_built, tell_misfit};
 use command_line::{Status, Trouble};
-use image_build::{StreamError, stream};
+use image_build::{StreamError, stream, stream_through};
 use layout_plan::{Format, Plan, PlanError, plan};
 use manifest::{Manifest, ManifestError, Name, parse};
 use rom_fields::bytes::{Failed, Plain};
 use sentences::reasons::{
     NO_TEXT, NOT_TAKEN, OWN_INPUT, PART_REPLACED, SOURCE_CHANGED, SOURCE_UNREAD, SUM_DIFFERS,
 };
+use std::fs::File;
 use std::{fs, io, str};
+
+/// How many bytes of a source are read at once, where there is memory for them.
+const LARGE: usize = 256 << 10;
 
 /// How a refusal ends, whose line was written.
 fn told(teller: &Teller<'_>, written: Result<(), Failed>) -> Status {
@@ -231,6 +235,40 @@ fn target_of(
     }
 }
 
+/// A buffer of so many bytes, where there is memory for it.
+fn buffer_of(rt: &HostRuntime, len: usize) -> Option<Vec<u8>>
+    ensures { IfSome result (λ buffer. length buffer.items ≡ len) }
+{
+    let mut buffer = Vec::new(rt.alloc());
+    match buffer.resize(len, 0) {
+        Ok(()) => Some(buffer),
+        Err(_) => None,
+    }
+}
+
+/// Writes the image of a plan, through a large buffer where there is memory for it.
+fn streamed(
+    rt: &HostRuntime,
+    plan: &Plan,
+    disk: &mut Disk<'_>,
+    writer: &mut Plain<Held<File>>,
+) -> Result<(), StreamError>
+    requires { length plan.now.sizes ≡ length disk.old.names.now }
+{
+    match buffer_of(rt, LARGE) {
+        Some(mut buffer) => stream_through(plan, disk, writer, buffer.as_mut_slice()),
+        None => stream(plan, disk, writer),
+    }
+}
+
+/// How often the sources are read whole: to be written, and before that for a sum over all bytes.
+fn passes(format: Format) -> u64 {
+    match format {
+        Format::Romfs => 1,
+        Format::Cramfs | Format::CramfsBig => 2,
+    }
+}
+
 /// Writes the image of a plan, made of these files, to what it is written to.
 fn write_to(
     teller: &Teller<'_>,
@@ -250,11 +288,11 @@ fn write_to(
         .sizes()
         .iter()
         .fold(0, |sum: u64, size| sum.saturating_add(*size));
-    let progress = Progress::new(rt, bytes);
+    let progress = Progress::new(rt, bytes.saturating_mul(passes(plan.format())));
     let mut disk = Disk::new(rt, files.names, files.stamps, progress);
-    let streamed = stream(plan, &mut disk, &mut writer);
+    let written = streamed(rt, plan, &mut disk, &mut writer);
     disk.end();
-    if let Err(e) = streamed {
+    if let Err(e) = written {
         return Err(files.say_unwritten(teller, e, out));
     }
     match first_changed(rt, files.names, files.stamps) {

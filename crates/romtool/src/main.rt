@@ -3,19 +3,22 @@
 //! `romtool build FORMAT MANIFEST OUT` builds an image from a manifest and the files that it names,
 //! `romtool scan DIR` prints a manifest of the names and contents of a folder, and `romtool scan
 //! --all DIR` of the folder as it is. `romtool check IMAGE` says whether a file holds a sound image,
-//! and `romtool list IMAGE` lists its tree. `romtool serve IMAGE` answers lines from that tree, and
-//! `romtool space IMAGE..` from the trees of several images, with sessions. Without words the example
-//! image `hello` is checked and listed. What is printed, answered and written is proved in
-//! `rom_commands`, `build_commands` and `image_build`, and what standard error says in
-//! `command_line`. The work with files and folders is only tested.
+//! `romtool list IMAGE` lists its tree, and `info`, `map`, `cat` and `linux` tell more of it.
+//! `romtool extract IMAGE DIR` takes it apart. `romtool serve IMAGE` answers lines from its tree, and
+//! `romtool space IMAGE..` from the trees of several images, with sessions. Without words the
+//! example image `hello` is checked and listed. What is printed, answered and written is proved in
+//! `rom_commands`, `build_commands`, `image_manifest` and `image_build`, and what standard error
+//! says in `command_line`. The work with files and folders is only tested.
 #![tactic(auto)]
 
 mod arguments;
 mod building;
 mod disk;
 mod explained;
+mod extracting;
 mod folders;
 mod inventory;
+mod making;
 mod origin;
 mod place;
 mod program;

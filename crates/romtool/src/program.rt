@@ -6,8 +6,9 @@ use crate::arguments::words;
 use crate::replies::Replies;
 use crate::streams::{Again, Held, hold_closed};
 use crate::trouble::Teller;
-use crate::{building, inventory, reading, scanning};
-use command_line::{Request, Status, Trouble, read};
+use crate::{building, extracting, inventory, reading, scanning};
+use command_line::{Extract, Request, Status, Trouble, read};
+use image_check::check;
 use rom_commands::asked::Asked;
 use rom_commands::copying::print_file;
 use rom_commands::hello::hello;
@@ -15,7 +16,9 @@ use rom_commands::printing::print;
 use rom_commands::serving::serve_on;
 use rom_commands::several::serve_several_on;
 use rom_commands::shown::has_addresses;
+use rom_faults::CheckError;
 use rom_fields::bytes::{ByteRead, ByteWrite, Plain};
+use rom_tree::types::Limits;
 use sentences::reasons::{MISREAD, NO_ADDRESS};
 use std::io::{self, BufWriter};
 
@@ -53,6 +56,7 @@ fn done(teller: &Teller<'_>, request: Request<'_>) -> u8
         Request::Example => example(teller),
         Request::Check(image) => file(teller, image, Asked::Report),
         Request::List(image) => file(teller, image, Asked::List),
+        Request::Info(image) => facts(teller, image),
         Request::Map(map) => file(teller, map.image, Asked::Map(map.base)),
         Request::Cat(cat) => copy(teller, cat.image, cat.path),
         Request::Linux(image) => file(teller, image, Asked::Misreads),
@@ -63,6 +67,7 @@ fn done(teller: &Teller<'_>, request: Request<'_>) -> u8
         }
         Request::Scan(folder) => scanning::run(teller, folder).code(),
         Request::ScanAll(scan) => inventory::run(teller, scan).code(),
+        Request::Extract(extract) => take_apart(teller, extract),
     }
 }
 
@@ -83,32 +88,49 @@ fn example(teller: &Teller<'_>) -> u8
     }
 }
 
-/// The bytes of a file; or else it is said why there are none.
-fn bytes_of(teller: &Teller<'_>, name: &str) -> Result<Vec<u8>, Status> {
+/// The image in a file; or else it is said why there is none.
+fn image_in(teller: &Teller<'_>, name: &str) -> Result<reading::Loaded, Status> {
     match reading::image(teller.rt, name) {
-        Ok(bytes) => Ok(bytes),
+        Ok(image) => Ok(image),
         Err(e) => Err(teller.refused(name.as_bytes(), &e)),
     }
+}
+
+/// The bytes of the image in a file.
+fn bytes_of(teller: &Teller<'_>, name: &str) -> Result<Vec<u8>, Status> {
+    Ok(image_in(teller, name)?.bytes)
 }
 
 /// Prints what is asked of the image in a file.
 fn file(teller: &Teller<'_>, name: &str, asked: Asked) -> u8
     ensures { result ≤ 3 }
 {
-    let bytes = match bytes_of(teller, name) {
-        Ok(bytes) => bytes,
-        Err(status) => return status.code(),
-    };
+    match bytes_of(teller, name) {
+        Ok(bytes) => shown(teller, name, &bytes, asked),
+        Err(status) => status.code(),
+    }
+}
+
+/// Prints the facts of the image in a file.
+fn facts(teller: &Teller<'_>, name: &str) -> u8
+    ensures { result ≤ 3 }
+{
+    match image_in(teller, name) {
+        Ok(image) => shown(teller, name, &image.bytes, Asked::Facts(image.file)),
+        Err(status) => status.code(),
+    }
+}
+
+/// Prints what is asked of an image, where its bytes have addresses.
+fn shown(teller: &Teller<'_>, name: &str, bytes: &[u8], asked: Asked) -> u8
+    ensures { result ≤ 3 }
+{
     if !has_addresses(asked, bytes.len()) {
         let status = teller.say(Trouble::Usage).code();
         teller.explain(name.as_bytes(), &NO_ADDRESS);
         return status;
     }
-    let status = print_out(teller, name.as_bytes(), &bytes, asked);
-    if status == REFUSED && asked == Asked::Misreads {
-        teller.explain(name.as_bytes(), &MISREAD);
-    }
-    status
+    print_out(teller, name.as_bytes(), bytes, asked)
 }
 
 /// Prints the bytes of the file to which a path leads in the image in a file.
@@ -131,6 +153,23 @@ fn copy(teller: &Teller<'_>, name: &str, path: &str) -> u8
     }
     teller.hand_on_about(err, path);
     status
+}
+
+/// Takes the image in a file apart.
+fn take_apart(teller: &Teller<'_>, asked: Extract<'_>) -> u8
+    ensures { result ≤ 3 }
+{
+    let bytes = match bytes_of(teller, asked.image) {
+        Ok(bytes) => bytes,
+        Err(status) => return status.code(),
+    };
+    match check(teller.rt.alloc(), &bytes, Limits::usual()) {
+        Ok(image) => extracting::run(teller, &image, asked).code(),
+        Err(CheckError::OutOfMemory) => teller.say(Trouble::Memory).code(),
+        Err(CheckError::Fault { .. }) => {
+            print_out(teller, asked.image.as_bytes(), &bytes, Asked::Report)
+        }
+    }
 }
 
 /// Serves the image in a file.
@@ -165,11 +204,11 @@ fn read_all<'a>(
     files: &mut Vec<Vec<u8>>,
 ) -> Result<(), (&'a str, io::Error)> {
     for name in names {
-        let bytes = match reading::image(rt, name) {
-            Ok(bytes) => bytes,
+        let image = match reading::image(rt, name) {
+            Ok(image) => image,
             Err(e) => return Err((*name, e)),
         };
-        if files.push(bytes).is_err() {
+        if files.push(image.bytes).is_err() {
             return Err((*name, io::Error::from(io::ErrorKind::OutOfMemory)));
         }
     }
@@ -241,8 +280,8 @@ fn print_out(teller: &Teller<'_>, name: &[u8], bytes: &[u8], asked: Asked) -> u8
     };
     let mut err = Plain::new(Held::new(rt, rt.stderr()));
     let status = print(rt.alloc(), bytes, asked, &mut Plain::new(out), &mut err);
-    if status == REFUSED {
-        teller.explain_image(name, bytes);
+    if status == REFUSED && teller.explain_image(name, bytes) && asked == Asked::Misreads {
+        teller.explain(name, &MISREAD);
     }
     teller.hand_on(err);
     status

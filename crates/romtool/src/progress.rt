@@ -2,11 +2,8 @@
 use std::fmt::Write;
 use std::io::IsTerminal;
 
-/// How many bytes of sources make a build long.
+/// How many bytes to be read make a build long.
 const LONG: u64 = 64 << 20;
-
-/// How often the writer of an image reads each source.
-const PASSES: u64 = 3;
 
 /// The part of a long build that is done, on standard error where that is a terminal.
 #[derive(Drop)]
@@ -19,12 +16,12 @@ pub struct Progress<'a> {
 }
 
 impl<'a> Progress<'a> {
-    /// Of a build from sources of so many bytes in all, before anything is read.
+    /// Of a build that reads so many bytes in all, before anything is read.
     pub fn new(rt: &'a HostRuntime, bytes: u64) -> Progress<'a> {
         Progress {
             rt,
             is_shown: bytes >= LONG && rt.stderr().is_terminal(),
-            whole: bytes.saturating_mul(PASSES),
+            whole: bytes,
             done: 0,
             percent: 0,
         }

@@ -18,19 +18,28 @@ fn read_until(file: &mut File, bytes: &mut Vec<u8>, until: u64) -> io::Result<()
     Ok(())
 }
 
-/// The bytes of an image in a file, as many as a check looks at: up to the size that it states. Of
+/// An image, and how many bytes the file has that it is in.
+#[derive(Drop)]
+pub struct Loaded {
+    pub bytes: Vec<u8>,
+    /// As the system says; of a device or a pipe, which has no length, as many as were read.
+    pub file: u64,
+}
+
+/// The image in a file, with as many bytes as a check looks at: up to the size that it states. Of
 /// these it answers as of the whole file (`image_reach::laws::no_further`).
 ///
 /// # Errors
 ///
 /// That of the system.
-pub fn image(rt: &HostRuntime, name: &str) -> io::Result<Vec<u8>> {
+pub fn image(rt: &HostRuntime, name: &str) -> io::Result<Loaded> {
     let mut file = File::open(rt, name)?;
     let mut bytes = Vec::new(rt.alloc());
     read_until(&mut file, &mut bytes, HEAD as u64)?;
     let reach = reach_of(&bytes);
     read_until(&mut file, &mut bytes, reach)?;
-    Ok(bytes)
+    let file = file.metadata()?.len().max(bytes.len() as u64);
+    Ok(Loaded { bytes, file })
 }
 
 /// The text of a manifest, and which file it is in.

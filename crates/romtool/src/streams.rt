@@ -104,8 +104,10 @@ impl<X: Write> Held<X> {
 
 impl<X: Write> Write for Held<X> {
     fn write(&mut self, b: &[u8]) -> io::Result<usize> {
-        let room = MOST_HELD.saturating_sub(self.held.len());
-        if b.len() <= room && self.held.extend_from_slice(b).is_ok() {
+        if MOST_HELD.saturating_sub(self.held.len()) < b.len() {
+            self.hand_on()?;
+        }
+        if b.len() <= MOST_HELD && self.held.extend_from_slice(b).is_ok() {
             return Ok(b.len());
         }
         self.hand_on()?;
@@ -115,5 +117,49 @@ impl<X: Write> Write for Held<X> {
     fn flush(&mut self) -> io::Result<()> {
         self.hand_on()?;
         self.inner.flush()
+    }
+}
+
+/// A writer that remembers why it failed first.
+#[derive(Drop)]
+pub struct Remembering<X> {
+    inner: X,
+    error: Option<io::Error>,
+}
+
+impl<X: Drop> Remembering<X> {
+    /// Why it failed first, if it failed.
+    pub fn error(self) -> Option<io::Error> {
+        self.error
+    }
+}
+
+impl<X> Remembering<X> {
+    /// In front of this writer.
+    pub fn new(inner: X) -> Remembering<X> {
+        Remembering { inner, error: None }
+    }
+
+    /// Remembers why a call failed, and gives the kind of it.
+    fn note(&mut self, e: io::Error) -> io::Error {
+        let kind = e.kind();
+        self.error.get_or_insert(e);
+        io::Error::from(kind)
+    }
+}
+
+impl<X: Write> Write for Remembering<X> {
+    fn write(&mut self, b: &[u8]) -> io::Result<usize> {
+        match self.inner.write(b) {
+            Ok(count) => Ok(count),
+            Err(e) => Err(self.note(e)),
+        }
+    }
+
+    fn flush(&mut self) -> io::Result<()> {
+        match self.inner.flush() {
+            Ok(()) => Ok(()),
+            Err(e) => Err(self.note(e)),
+        }
     }
 }

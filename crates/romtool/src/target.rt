@@ -1,11 +1,10 @@
 //! Where an image is written: under its name only once it is whole.
 use crate::place::{behind_links, folder_of};
 use crate::stamp::Identity;
-use crate::streams::Again;
+use crate::streams::Held;
 use rom_fields::bytes::Plain;
 use sentences::reasons::{HUNDRED_PARTS, REPLACED};
 use std::fs::{File, Metadata, OpenFile, OpenOptions};
-use std::io::BufWriter;
 use std::os::unix::fs::{MetadataExt, OpenOptionsExt, PermissionsExt, fchown};
 use std::{fs, io};
 
@@ -190,10 +189,9 @@ impl Target {
         }
     }
 
-    /// A writer to it, through a buffer.
-    pub fn writer(&self, rt: &HostRuntime) -> io::Result<Plain<BufWriter<Again<File>>>> {
-        let file = Again::new(self.file.try_clone()?);
-        Ok(Plain::new(BufWriter::new(rt.alloc(), file)?))
+    /// A writer to it, which holds back what is short.
+    pub fn writer(&self, rt: &HostRuntime) -> io::Result<Plain<Held<File>>> {
+        Ok(Plain::new(Held::new(rt, self.file.try_clone()?)))
     }
 
     /// Gives what was written its name, once the system has taken all of it, and hands the folder

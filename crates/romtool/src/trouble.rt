@@ -191,11 +191,10 @@ impl<'a> Teller<'a> {
         }
     }
 
-    /// Says in words which fault the image in a file has, where it has one.
-    pub fn explain_image(&self, name: &[u8], bytes: &[u8]) {
-        if self.is_explained {
-            let _ = self.try_explain_image(name, bytes);
-        }
+    /// Says in words which fault the image in a file has, where it has one. Where words are wanted, it
+    /// gives whether the image has none.
+    pub fn explain_image(&self, name: &[u8], bytes: &[u8]) -> bool {
+        self.is_explained && matches!(self.try_explain_image(name, bytes), Ok(false))
     }
 
     /// Says it where there is one, and whether there is one.

@@ -56,3 +56,21 @@ pub const NO_ADDRESS: &str = "with this base it has addresses of more than 64 bi
 
 /// Linux gets something of a sound image wrong.
 pub const MISREAD: &str = "it is sound, and Linux gets wrong what the lines say: docs/LINUX.md";
+
+/// A folder that is to be filled holds something.
+pub const NOT_EMPTY: &str = "it is not empty";
+
+/// A name of an image is longer than the system takes.
+pub const NAME_UNFIT: &str = "a name has at most 255 bytes here, and a whole path 4095";
+
+/// The text of a link is none that the system takes.
+pub const LINK_UNFIT: &str = "its text is empty, no UTF-8, has a zero, or more than 4095 bytes";
+
+/// The system took only a part of a file.
+pub const FILE_NOT_TAKEN: &str = "it did not take the whole file";
+
+/// No manifest tells the image, since a path in it is too long.
+pub const LONG_PATH: &str = "a path in it has more than 4095 bytes, which no manifest takes";
+
+/// No manifest tells the image, since its volume's name is too long.
+pub const LONG_VOLUME: &str = "its volume's name has more than 255 bytes, which no manifest takes";

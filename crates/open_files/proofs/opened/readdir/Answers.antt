@@ -63,3 +63,15 @@ returns-clause-moves g c = λ o j e.
       refl,
       refl,
     )
+
+pub returns-clause-lies : goal.returns-clause-lies
+returns-clause-lies g c =
+    let m : Image = g.T.Viewed.image c.args.image.now in
+    let s : OpenNode = c.args.opened.now in
+    let o : Open Node = c.requires.0 in
+    let i : IsOpen (image_view m) s o = is_open (image_view m) s o c.requires.1 in
+    let x : Node = o.place in
+    let d : is_directory x ≡ true = sym (c.is_directory_at.ensures x i.place) ∙ c.if-not-is_directory_at.false in
+    let k : m.cursor_index s.node.0 s.position ≡ Some o.position = i.directory d in
+    let n : IsEntry m s.node.0 (entries_of x) o.position c.in-Some.entry.name.now c.in-Some.entry.node.0 c.in-Some.entry.cursor.0 = c.in-Some.ensures x o.position i.place k in
+    n.lies

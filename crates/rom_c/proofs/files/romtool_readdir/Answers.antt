@@ -1,6 +1,7 @@
-use Rattle.std.proofs.Common.{ℕ, List, None, ap, ◌∙◌}
+use Rattle.std.proofs.Common.{ℕ, List, None, ap, subst, ◌∙◌}
 use Rattle.std.specs.Prelude.{is_some}
 use Rattle.rom_tree.specs.Tree.{Node}
+use Rattle.rom_tree.specs.Image.{LieIn}
 use Rattle.open_files.specs.Machine.{Open, readdir_on}
 use Rattle.image_check.specs.Any.{any_view}
 use Rattle.image_check.specs.Parts.{tree_of_parts}
@@ -8,7 +9,7 @@ use Rattle.rom_c.specs.Files.{MovesTo, parts_in}
 use Rattle.rom_c.specs.Opened.{stands_at}
 use Rattle.rom_c.specs.Outcomes.{IsListed}
 use Rattle.rom_c.proofs.Alone.{in_tree, both, MovesTo-prop, IsListed-prop}
-use Rattle.rom_c.proofs.Standing.{some_by, same, kept}
+use Rattle.rom_c.proofs.Standing.{some_by, same, kept, nothing_lies}
 use Rattle.rom_c.proofs.Moving.{file_moves}
 use Rattle.rom_c.proofs.files.romtool_readdir.Goals as goal
 
@@ -41,3 +42,11 @@ returns-clause-read c = λ z t h.
     (λ o. both (IsListed-prop (readdir_on None o.place o.position) c.readdir_in-error.result c.readdir_in-error.new.entry) (MovesTo-prop t f p (readdir_on None o.place o.position))) (f.image.tree z.0) h
     c.image_of.ensures.bytes c.image_of.ensures.tree s
     (λ o k. let r = c.readdir_in-error.ensures.read o (e ∙ k) in (r.0, moves o r.1))
+
+pub returns-clause-lies : goal.returns-clause-lies
+returns-clause-lies c =
+    let P : List ℕ → Type 0 = λ b. LieIn b c.readdir_in-error.new.entry.name.now in
+    subst P c.image_of.ensures.bytes c.readdir_in-error.ensures.lies
+
+pub returns-then-not-is_open-clause-lies : goal.returns-then-not-is_open-clause-lies
+returns-then-not-is_open-clause-lies c = nothing_lies _ _ c.no_entry.ensures.name

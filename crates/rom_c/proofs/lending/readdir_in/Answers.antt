@@ -2,7 +2,9 @@ use Rattle.std.proofs.Common.{None, refl, ap, ◌∙◌}
 use Rattle.std.specs.Prelude.{is_some}
 use Rattle.open_files.specs.declared.slot.OpenNode.{OpenNode}
 use Rattle.open_files.specs.Slots.{stands, image_view}
+use Rattle.rom_tree.specs.Image.{LieIn}
 use Rattle.image_check.specs.Any.{any_view}
+use Rattle.rom_c.proofs.Standing.{nothing_lies}
 use Rattle.rom_c.proofs.lending.readdir_in.Goals as goal
 
 pub returns-in-Ok-Some-clause-read : goal.returns-in-Ok-Some-clause-read
@@ -40,3 +42,15 @@ returns-in-Err-clause-stands c =
 pub returns-in-Err-clause-node : goal.returns-in-Err-clause-node
 returns-in-Err-clause-node c =
     let m = c.in-Err.ensures.moves c.requires.0 None c.requires.1 in ap (λ (z : OpenNode). z.node.0) m.1
+
+pub returns-in-Ok-Some-clause-lies : goal.returns-in-Ok-Some-clause-lies
+returns-in-Ok-Some-clause-lies c =
+    let h : LieIn (any_view c.args.image.now).bytes c.in-Ok-Some.found.name.now =
+    rw c.in-Ok-Some.field-0-is at c.in-Ok-Some.ensures.lies in
+    h
+
+pub returns-in-Ok-None-clause-lies : goal.returns-in-Ok-None-clause-lies
+returns-in-Ok-None-clause-lies c = nothing_lies _ _ c.no_entry.ensures.name
+
+pub returns-in-Err-clause-lies : goal.returns-in-Err-clause-lies
+returns-in-Err-clause-lies c = nothing_lies _ _ c.no_entry-in-Err.ensures.name

@@ -1,8 +1,11 @@
 use Rattle.std.proofs.Common.{◌≡◌, ℕ, inl, inr, sym, ◌∙◌}
+use Rattle.rom_fields.specs.Failures.{Rose}
+use Rattle.rom_fields.specs.Written.{AppendsPrefix, Output}
 use Rattle.image_check.specs.declared.any.AnyImage.{AnyImage}
+use Rattle.rom_commands.specs.Asked.{sound_text}
 use Rattle.rom_commands.specs.Lines.{fault_line}
 use Rattle.rom_commands.specs.Answers.{usual_limits}
-use Rattle.rom_commands.proofs.Texts.{usual, sound, faulty, text_of, shown_fits}
+use Rattle.rom_commands.proofs.Texts.{usual, sound, faulty, shown_fits}
 use Rattle.rom_commands.proofs.shown.show.Goals as goal
 
 pub write_sound-requires : goal.write_sound-requires
@@ -14,22 +17,26 @@ pub returns-then-warned : goal.returns-then-warned
 returns-then-warned g c =
     let v : AnyImage = c.in-Ok.image in
     let e : c.usual.result ≡ usual_limits = usual c.usual.result c.usual.ensures.references c.usual.ensures.depth in
-    (text_of c.args.asked v, sound c.args.bytes.now c.args.asked c.usual.result v e c.in-Ok.ensures.ok c.in-Ok.ensures.format c.in-Ok.ensures.clean, c.in-Ok-write_sound.ensures.text, c.in-Ok-write_sound.ensures.count, sym c.in-Ok-write_sound.ensures.warns ∙ c.if-warned.true)
+    (sound_text c.args.asked v, sound c.args.bytes.now c.args.asked c.usual.result v e c.in-Ok.ensures.ok c.in-Ok.ensures.format c.in-Ok.ensures.clean, c.in-Ok-write_sound.ensures.text.0, c.in-Ok-write_sound.ensures.text.1, sym c.in-Ok-write_sound.ensures.warns ∙ c.if-warned.true)
 
 pub returns-else-warned : goal.returns-else-warned
 returns-else-warned g c =
     let v : AnyImage = c.in-Ok.image in
     let e : c.usual.result ≡ usual_limits = usual c.usual.result c.usual.ensures.references c.usual.ensures.depth in
-    (text_of c.args.asked v, sound c.args.bytes.now c.args.asked c.usual.result v e c.in-Ok.ensures.ok c.in-Ok.ensures.format c.in-Ok.ensures.clean, c.in-Ok-write_sound.ensures.text, c.in-Ok-write_sound.ensures.count, sym c.in-Ok-write_sound.ensures.warns ∙ c.if-warned.false)
+    (sound_text c.args.asked v, sound c.args.bytes.now c.args.asked c.usual.result v e c.in-Ok.ensures.ok c.in-Ok.ensures.format c.in-Ok.ensures.clean, c.in-Ok-write_sound.ensures.text.0, c.in-Ok-write_sound.ensures.text.1, sym c.in-Ok-write_sound.ensures.warns ∙ c.if-warned.false)
 
-pub returns-in-Err : goal.returns-in-Err
-returns-in-Err g c =
+pub returns-in-Err-WriteFault : goal.returns-in-Err-WriteFault
+returns-in-Err-WriteFault g c =
     let v : AnyImage = c.in-Ok.image in
-    let e : c.usual.result ≡ usual_limits = usual c.usual.result c.usual.ensures.references c.usual.ensures.depth in (
-      text_of c.args.asked v,
+    let e : c.usual.result ≡ usual_limits = usual c.usual.result c.usual.ensures.references c.usual.ensures.depth in
+    let old : Output = g.W.ByteWrite.output c.args.w.now in
+    let new : Output = g.W.ByteWrite.output c.write_sound.new.w in
+    let h : AppendsPrefix old.contents new.contents (sound_text c.args.asked v) × Rose old.failures new.failures =
+    rw c.in-Err-WriteFault.field-0-is at c.in-Err-WriteFault.ensures.text in (
+      sound_text c.args.asked v,
       inl (sound c.args.bytes.now c.args.asked c.usual.result v e c.in-Ok.ensures.ok c.in-Ok.ensures.format c.in-Ok.ensures.clean),
-      c.in-Err.ensures.text,
-      c.in-Err.ensures.count,
+      h.0,
+      h.1,
     )
 
 pub returns-in-Ok-write_fault_line : goal.returns-in-Ok-write_fault_line
@@ -39,13 +46,13 @@ returns-in-Ok-write_fault_line g c =
     let e : c.usual.result ≡ usual_limits = usual c.usual.result c.usual.ensures.references c.usual.ensures.depth in
     (fault_line n at, faulty c.args.bytes.now c.usual.result n at e (rw c.in-Err-Fault.field-0-is at c.in-Err-Fault.ensures.fault) (rw c.in-Err-Fault.field-0-is at c.in-Err-Fault.ensures.least), rw c.in-Err-Fault.field-0-is at c.in-Ok-write_fault_line.ensures.text, c.in-Ok-write_fault_line.ensures.count)
 
-pub returns-in-Err-write_fault_line : goal.returns-in-Err-write_fault_line
-returns-in-Err-write_fault_line g c =
+pub returns-in-Err : goal.returns-in-Err
+returns-in-Err g c =
     let n : ℕ = c.in-Err-Fault.number in
     let at : ℕ = c.in-Err-Fault.at in
     let e : c.usual.result ≡ usual_limits = usual c.usual.result c.usual.ensures.references c.usual.ensures.depth in (
       fault_line n at,
       inr (faulty c.args.bytes.now c.usual.result n at e (rw c.in-Err-Fault.field-0-is at c.in-Err-Fault.ensures.fault) (rw c.in-Err-Fault.field-0-is at c.in-Err-Fault.ensures.least)),
-      rw c.in-Err-Fault.field-0-is at c.in-Err-write_fault_line.ensures.text,
-      c.in-Err-write_fault_line.ensures.count,
+      rw c.in-Err-Fault.field-0-is at c.in-Err.ensures.text,
+      c.in-Err.ensures.count,
     )

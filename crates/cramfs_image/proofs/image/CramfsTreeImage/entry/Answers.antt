@@ -84,5 +84,5 @@ returns c =
     let f = c.from.ensures in
     let l = c.if-next-from.false in
     let inside : c.if-c-eq0.next < list_end c.args.self.now.accessible.order b c.args.d.0 = omega arith in
-    λ x i h g. entry_here c.args.self.now.accessible.order c.args.self.now.all.now b k c.args.self.now.sound c.args.self.now.within c.args.d.0 c.args.c.0 c.if-c-eq0.next i _ _ x (named c.args.self.now.sound c.args.d.0 x h).0 kd.1 kd.0 place g inside
+    λ x i h g. entry_here c.args.self.now.accessible.order c.args.self.now.all.now b k c.args.self.now.sound c.args.self.now.within c.args.d.0 c.args.c.0 c.if-c-eq0.next i _ _ x c.args.self.now.front (named c.args.self.now.sound c.args.d.0 x h).0 kd.1 kd.0 place g inside
     c.name_at-name.ensures c.end_at.ensures.end

@@ -92,7 +92,7 @@ returns-in-loop-at c =
     let l : IsList b r k (begins b r c.args.d.0) = kd.0.list kd.1 in
     let lq = c.loop-at.invariant.list in
     let st = step_of b r k c.loop-at.at lq c.loop-at-test.true in
-    λ x i e h. entry_here c.args.self.now.all.now b r k c.loop-at.at c.args.self.now.sound c.args.self.now.within c.args.d.0 i _ _ _ x (named c.args.self.now.sound c.args.d.0 x e).0 kd.1 l st c.loop-at-test.true lq (c.loop-at.invariant.place i h)
+    λ x i e h. entry_here c.args.self.now.all.now b r k c.loop-at.at c.args.self.now.sound c.args.self.now.within c.args.d.0 i _ _ _ x c.args.self.now.front (named c.args.self.now.sound c.args.d.0 x e).0 kd.1 l st c.loop-at-test.true lq (c.loop-at.invariant.place i h)
     (ap is_dots (sym c.name_at-name.ensures) ∙ sym c.is_dots.ensures ∙ c.if-is_dots.false) c.name_at-name.ensures c.led_at.ensures (c.from.ensures ∙ c.next_offset-next.ensures)
 
 pub returns : goal.returns

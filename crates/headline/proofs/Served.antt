@@ -1,0 +1,58 @@
+-- What is served, from how a serving ended.
+use Rattle.std.proofs.Common.{◌≡◌, ℕ, List, map, length, refl, inl, inr, ◌⊎◌, Ok}
+use Rattle.cramfs_format.specs.Superblock.{order_of}
+use Rattle.rom_faults.specs.declared.error.CheckError.{CheckError}
+use Rattle.rom_faults.specs.declared.error.CheckError.TheVariants as check
+use Rattle.rom_fields.specs.Written.{Output}
+use Rattle.rom_tree.specs.Tree.{Node}
+use Rattle.rom_tree.specs.Image.{Image}
+use Rattle.rom_tree.specs.declared.types.Report.{Report}
+use Rattle.image_check.specs.Checked.{HasTree, Shows, IsRefused, romfs, cramfs}
+use Rattle.manifest.specs.Grammar.{manifest_of}
+use Rattle.manifest.specs.Lines.{ManifestLines}
+use Rattle.name_tree.specs.Meant.{IsMeant}
+use Rattle.open_files.specs.Machine.{no_files}
+use Rattle.rom_serve.specs.Machines.{image_machine}
+use Rattle.rom_commands.specs.Answers.{Holds, HasFault, IsFaultText, usual_limits}
+use Rattle.rom_commands.specs.Serving.{Input, Answers, Refuses, ServingEnds}
+use Rattle.rom_commands.specs.declared.serving.Serving.{Serving}
+use Rattle.rom_commands.specs.declared.serving.Serving.TheVariants.{Served, Refused, Memory, ReadFault, WriteFault, TooManyReads}
+use Rattle.headline.specs.Headline.{IsServedAs, IsServedAsMeant, IsUnserved}
+
+shown : (bytes : List ℕ) (m : Image) (report : Report) → Shows bytes usual_limits m report → HasTree bytes usual_limits m.tree
+shown bytes m report (romfs x) = inl x.tree
+shown bytes m report (cramfs x) = inr (order_of bytes, x.tree)
+
+has_tree : (bytes : List ℕ) (m : Image) → Holds bytes m → HasTree bytes usual_limits m.tree
+has_tree bytes m h = shown bytes m h.report h.shows
+
+served : (bytes : List ℕ) (m : Image) (r₀ r : Input) (w₀ w : Output) (o : Serving) → Holds bytes m → Answers (image_machine m) (no_files 64) r₀ r w₀ w o → IsServedAs bytes m.tree r₀ r w₀ w o
+served bytes m r₀ r w₀ w o h a = record { tree = has_tree bytes m h; image = m; held = h; same = refl; answers = a }
+
+pub accepted : (bytes : List ℕ) (r₀ r : Input) (w₀ w : Output) (o : Serving) → ServingEnds bytes r₀ r w₀ w o
+    → ((t : Node) × IsServedAs bytes t r₀ r w₀ w o) ⊎ Refuses (IsFaultText bytes) r₀ r w₀ w o
+accepted bytes r₀ r w₀ w o (inl x) = inl (x.0.tree, served bytes x.0 r₀ r w₀ w o x.1 x.2)
+accepted bytes r₀ r w₀ w o (inr x) = inr x
+
+-- bytes without a fault are refused for memory alone
+unserved : (bytes : List ℕ) (r₀ r : Input) (w₀ w : Output) (o : Serving) → ((number at : ℕ) → HasFault bytes number at → ⊥) → Refuses (IsFaultText bytes) r₀ r w₀ w o → IsUnserved r₀ r w₀ w o
+unserved bytes r₀ r w₀ w Served none x = absurd x
+unserved bytes r₀ r w₀ w Refused none x = absurd (none x.1.1.number x.1.1.at x.1.1.fault)
+unserved bytes r₀ r w₀ w Memory none x = record { memory = refl; unread = x.0; unwritten = x.1 }
+unserved bytes r₀ r w₀ w ReadFault none x = absurd x
+unserved bytes r₀ r w₀ w WriteFault none x = absurd (none x.1.1.number x.1.1.at x.1.1.fault)
+unserved bytes r₀ r w₀ w TooManyReads none x = absurd x
+
+no_fault : (bytes : List ℕ) → ((e : CheckError) → IsRefused bytes usual_limits e → e ≡ check.OutOfMemory) → (number at : ℕ) → HasFault bytes number at → ⊥
+no_fault bytes memory number at h = let e : check.Fault number at ≡ check.OutOfMemory = memory (check.Fault number at) h.refused in cc
+
+abbrev Meant : List ℕ → List (List ℕ) → List ℕ → Node → Type 0
+Meant text contents bytes t = (m : ManifestLines) × (manifest_of text ≡ Ok m) × IsMeant bytes t contents m (map length contents)
+
+pub built : (text : List ℕ) (contents : List (List ℕ)) (bytes : List ℕ) (r₀ r : Input) (w₀ w : Output) (o : Serving) → ((e : CheckError) → IsRefused bytes usual_limits e → e ≡ check.OutOfMemory)
+    → ((t : Node) → HasTree bytes usual_limits t → Meant text contents bytes t) → ServingEnds bytes r₀ r w₀ w o → IsServedAsMeant text contents bytes r₀ r w₀ w o ⊎ IsUnserved r₀ r w₀ w o
+built text contents bytes r₀ r w₀ w o memory meant (inl x) =
+    let is = meant x.0.tree (has_tree bytes x.0 x.1) in
+    inl (record { lines = is.0; manifest = is.1; tree = x.0.tree; meant = is.2; served = served bytes x.0 r₀ r w₀ w o x.1 x.2 })
+built text contents bytes r₀ r w₀ w o memory meant (inr x) =
+    inr (unserved bytes r₀ r w₀ w o (no_fault bytes memory) x)

@@ -1,0 +1,4 @@
+pub mod Zeros
+pub mod Few
+pub mod Counting
+pub mod Joined

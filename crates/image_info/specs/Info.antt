@@ -1,0 +1,84 @@
+-- The facts of a sound image: `KEY VALUE` lines in one order. (The lines are this project's own. The fields are those of
+-- Linux Documentation/filesystems/romfs.rst, and of Documentation/filesystems/cramfs.rst with
+-- include/uapi/linux/cramfs_fs.h.)
+use Rattle.std.specs.Prelude.{ℕ, List, ◌++◌, codes, decimal}
+use Rattle.rom_fields.specs.Texts.{escaped}
+use Rattle.rom_fields.specs.Words.{word_be}
+use Rattle.rom_tree.specs.Names.{names}
+use Rattle.rom_tree.specs.declared.types.Report.{Report}
+use Rattle.romfs_format.specs.Tree.{full_size}
+use Rattle.cramfs_format.specs.declared.order.Order.{Order}
+use Rattle.cramfs_format.specs.declared.order.Order.TheVariants.{Little, Big}
+use Rattle.cramfs_format.specs.Order.{word}
+use Rattle.cramfs_format.specs.Superblock.{accessible_size, flags_of}
+use Rattle.cramfs_image.specs.Reported.{order_in}
+use Rattle.image_check.specs.declared.any.AnyImage.{AnyImage}
+use Rattle.image_check.specs.declared.any.AnyImage.TheVariants.{Romfs, Cramfs}
+use Rattle.image_check.specs.Any.{any_view, report_of}
+use Rattle.image_map.specs.Map.{eight_digits}
+use Rattle.image_info.specs.declared.tally.Tally.{Tally}
+use Rattle.image_info.specs.Volumes.{romfs_volume, cramfs_volume}
+use Rattle.image_info.specs.Tallies.{tally_of}
+
+-- KEY and a text, as it stands
+abbrev pub plain_line : List ℕ → List ℕ → List ℕ
+plain_line key text = key ++ (text ++ codes "\n")
+
+-- KEY and a text, escaped; where it is empty, a space ends the line
+abbrev pub text_line : List ℕ → List ℕ → List ℕ
+text_line key text = plain_line key (escaped text)
+
+-- KEY and a decimal number
+abbrev pub number_line : List ℕ → ℕ → List ℕ
+number_line key n = plain_line key (decimal n)
+
+-- KEY, `0x` and eight hexadecimal digits
+abbrev pub word_line : List ℕ → ℕ → List ℕ
+word_line key n = key ++ (codes "0x" ++ (eight_digits n ++ codes "\n"))
+
+-- of a romfs image in a file of so many bytes: its full size, at 8, and its checksum, at 12
+unfoldable pub romfs_text : ℕ → List ℕ → List ℕ
+romfs_text file b =
+    plain_line (codes "format ") (codes "romfs")
+    ++ (number_line (codes "size ") (full_size b)
+    ++ (number_line (codes "file ") file
+    ++ (text_line (codes "volume ") (romfs_volume b)
+    ++ word_line (codes "sum ") (word_be b 12))))
+
+abbrev pub cramfs_name : Order → List ℕ
+cramfs_name Little = codes "cramfs"
+cramfs_name Big = codes "cramfs-be"
+
+-- of a cramfs image in a file of so many bytes: how many are accessible, its flags, at 8, and its CRC, at 32
+unfoldable pub cramfs_text : ℕ → Order → List ℕ → List ℕ
+cramfs_text file o b =
+    plain_line (codes "format ") (cramfs_name o)
+    ++ (number_line (codes "size ") (accessible_size o b)
+    ++ (number_line (codes "file ") file
+    ++ (text_line (codes "volume ") (cramfs_volume b)
+    ++ (word_line (codes "flags ") (flags_of o b)
+    ++ word_line (codes "sum ") (word o b 32)))))
+
+-- by the image's format
+abbrev pub superblock_text : ℕ → AnyImage → List ℕ
+superblock_text file (Romfs s) = romfs_text file s.all.now
+superblock_text file (Cramfs s) = cramfs_text file (order_in s) s.all.now
+
+-- the number of references, and the depth
+unfoldable pub report_text : Report → List ℕ
+report_text r =
+    number_line (codes "references ") r.references ++ number_line (codes "depth ") r.depth
+
+-- how many names lead to regular files, directories, symbolic links and other nodes, and the bytes
+-- of all files
+unfoldable pub tally_text : Tally → List ℕ
+tally_text t =
+    number_line (codes "files ") t.files
+    ++ (number_line (codes "folders ") t.folders
+    ++ (number_line (codes "links ") t.links
+    ++ (number_line (codes "others ") t.others
+    ++ number_line (codes "contents ") t.contents)))
+
+-- all lines, of an image in a file of so many bytes
+unfoldable pub info_text : ℕ → AnyImage → List ℕ
+info_text file a = superblock_text file a ++ (report_text (report_of a) ++ tally_text (tally_of (names (any_view a).tree)))

@@ -1,0 +1,4 @@
+pub mod Volumes
+pub mod Tallies
+pub mod Info
+pub mod Endings

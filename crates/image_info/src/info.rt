@@ -1,0 +1,84 @@
+//! The facts of an image, written as lines.
+ghost use Rattle.std.specs.Prelude.{◌≤◌};
+ghost use Rattle.rom_fields.specs.Written.{Puts, sink};
+ghost use Rattle.rom_tree.specs.Tree.{levels};
+ghost use Rattle.image_check.specs.Any.{any_view};
+ghost use Rattle.image_info.specs.Info.{report_text, tally_text, info_text};
+ghost use Rattle.image_info.specs.Endings.{WritesAll};
+
+use crate::line::put_number;
+use crate::superblock::put_superblock;
+use crate::tally::{Tally, count_names};
+use image_check::AnyImage;
+use rom_fields::bytes::ByteWrite;
+use rom_tree::types::Report;
+use std::alloc::Global;
+
+/// Why the facts of an image were not written whole.
+#[derive(Clone, Copy, Debug, PartialEq, Eq)]
+pub enum Trouble {
+    /// Memory was refused, and nothing was written.
+    OutOfMemory,
+    /// A write failed. A prefix of the text was written.
+    WriteFault,
+}
+
+/// Puts the lines of what a check reported.
+fn put_report<W: ByteWrite>(w: &mut W, failed: &mut bool, report: Report)
+    ensures { Puts (sink (W.output w.old) failed.old) (sink (W.output w.new) failed.new)
+        (report_text report) }
+{
+    put_number(w, failed, b"references ", report.references as u64);
+    put_number(w, failed, b"depth ", report.depth as u64);
+}
+
+/// Puts the lines of what was counted.
+fn put_tally<W: ByteWrite>(w: &mut W, failed: &mut bool, tally: Tally)
+    ensures { Puts (sink (W.output w.old) failed.old) (sink (W.output w.new) failed.new)
+        (tally_text tally) }
+{
+    put_number(w, failed, b"files ", tally.files);
+    put_number(w, failed, b"folders ", tally.folders);
+    put_number(w, failed, b"links ", tally.links);
+    put_number(w, failed, b"others ", tally.others);
+    put_number(w, failed, b"contents ", tally.contents);
+}
+
+/// Writes the facts of an image that was checked, a line for each, with its key, a space, its value
+/// and a line feed: `format` is romfs, cramfs or cramfs-be; `size` is how many bytes the image says
+/// that it has, and `file` how many the file has that it is in, as the caller says; `volume` is the
+/// volume's name, escaped as paths are in a list; of cramfs alone, `flags` are those of the
+/// superblock; `sum` is the checksum word of romfs or the CRC of cramfs, as it is stored;
+/// `references` and `depth` are those of a check's report; `files`, `folders`, `links` and `others`
+/// count the names of the tree, the root's among them, by what they lead to; `contents` are the
+/// bytes of all regular files, each counted once. `flags` and `sum` are `0x` and eight hexadecimal
+/// digits, and other numbers are decimal.
+/// Directories may lie 64 deep.
+///
+/// # Errors
+///
+/// `OutOfMemory` where memory was refused: then nothing was written. `WriteFault` where a write
+/// failed: then a prefix of the text was written.
+pub fn write_info<W: ByteWrite>(
+    alloc: Global,
+    image: &AnyImage<'_>,
+    file: u64,
+    w: &mut W,
+) -> Result<(), Trouble>
+    requires { levels (any_view image.now).tree ≤ 65 }
+    ensures { WritesAll (W.output w.old) (W.output w.new) (info_text file image.now) result }
+{
+    let report = image.report();
+    let Ok(tally) = count_names(alloc, image) else {
+        return Err(Trouble::OutOfMemory);
+    };
+    let mut failed = false;
+    put_superblock(w, &mut failed, file, image);
+    put_report(w, &mut failed, report);
+    put_tally(w, &mut failed, tally);
+    if failed {
+        Err(Trouble::WriteFault)
+    } else {
+        Ok(())
+    }
+}

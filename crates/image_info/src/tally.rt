@@ -1,0 +1,75 @@
+//! The names of a tree, counted by what they lead to.
+ghost use Rattle.std.specs.Prelude.{◌≡◌, ◌+◌, ◌<◌, ◌≤◌, ◌^◌, ◌&&◌, length, IfOk, if◌then◌else◌};
+ghost use Rattle.rom_tree.specs.Tree.{levels};
+ghost use Rattle.rom_tree.specs.Names.{names};
+ghost use Rattle.image_info.specs.Tallies.{is_file, is_folder, is_symlink, is_other, tally_of};
+
+use rom_fields::memory::OutOfMemory;
+use rom_tree::Walk;
+use rom_tree::image::TreeImage;
+use rom_tree::types::{Kind, Stat};
+use std::alloc::Global;
+use std::collections::BTreeSet;
+
+/// How many names lead to regular files, to directories, to symbolic links and to other nodes, and
+/// how many bytes all files have, each counted once.
+#[derive(Clone, Copy)]
+pub struct Tally {
+    pub files: u64,
+    pub folders: u64,
+    pub links: u64,
+    pub others: u64,
+    pub contents: u64,
+}
+
+/// With one more name, and with the bytes of its file where `fresh` says that the file is new.
+fn counted(tally: Tally, stat: Stat, fresh: bool) -> Tally
+    requires few { tally.files + tally.folders + tally.links + tally.others < 2 ^ 32 }
+    requires room { tally.contents + stat.size < 2 ^ 64 }
+    ensures files { result.files ≡ tally.files + (if is_file stat.kind then 1 else 0) }
+    ensures folders { result.folders ≡ tally.folders + (if is_folder stat.kind then 1 else 0) }
+    ensures links { result.links ≡ tally.links + (if is_symlink stat.kind then 1 else 0) }
+    ensures others { result.others ≡ tally.others + (if is_other stat.kind then 1 else 0) }
+    ensures contents { result.contents
+        ≡ tally.contents + (if is_file stat.kind && fresh then stat.size else 0) }
+{
+    let mut more = tally;
+    match stat.kind {
+        Kind::Regular => {
+            more.files += 1;
+            if fresh {
+                more.contents += stat.size as u64;
+            }
+        }
+        Kind::Directory => more.folders += 1,
+        Kind::Symlink => more.links += 1,
+        Kind::Block | Kind::Character | Kind::Socket | Kind::Fifo => more.others += 1,
+    }
+    more
+}
+
+/// The names of an image's tree, counted. It keeps the numbers of the nodes that it has met.
+pub(crate) fn count_names<'a, T: TreeImage<'a>>(
+    alloc: Global,
+    image: &T,
+) -> Result<Tally, OutOfMemory>
+    requires depth { levels (T.image image.now).tree ≤ 65 }
+    requires few { length (names (T.image image.now).tree) ≤ 2 ^ 32 }
+    ensures { IfOk result (λ t. t ≡ tally_of (names (T.image image.now).tree)) }
+{
+    let mut tally = Tally {
+        files: 0,
+        folders: 0,
+        links: 0,
+        others: 0,
+        contents: 0,
+    };
+    let mut met = BTreeSet::new(alloc);
+    let mut walk = Walk::new();
+    while let Some(node) = walk.next(image) {
+        let stat = image.stat(node);
+        let fresh = met.insert(stat.ino)?;
+        tally = counted(tally, stat, fresh);
+    }
+    Ok(tally)
+}

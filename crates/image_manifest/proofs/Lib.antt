@@ -1,0 +1,13 @@
+pub mod Behind
+pub mod Excepted
+pub mod Fit
+pub mod Followed
+pub mod Lawful
+pub mod Lined
+pub mod Meaning
+pub mod Paths
+pub mod Plain
+pub mod ReadBack
+pub mod Sourced
+pub mod Taken
+pub mod Ways

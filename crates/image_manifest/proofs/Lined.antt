@@ -1,0 +1,231 @@
+-- The lines of an image's names, as its members tell them.
+use Rattle.std.proofs.Common.{◌≡◌, ℕ, zero, suc, ◌+◌, ◌<◌, ◌≤◌, Bool, true, false, cond, List, [], ◌∷◌, ◌++◌, length, map, take, drop, take-append-drop, get_or, Option, Some, None, option_map, refl, sym, ap, ap₂, subst, ◌∙◌, append_assoc, append-nil, arith, codes}
+use Rattle.std.specs.Prelude.{◌==◌, IfSome, decimal}
+use Rattle.std.proofs.lemmas.Fmt.{decimal_digit}
+use Rattle.std.proofs.lemmas.List.{length-take-le, map-append, take_more, take_all}
+use Rattle.manifest.specs.declared.line.Line.{Line}
+use Rattle.manifest_text.specs.Printed.{line_text, lines_text}
+use Rattle.rom_fields.specs.Texts.{escaped, octal}
+use Rattle.rom_fields.specs.Written.{Puts, Sink}
+use Rattle.rom_fields.proofs.Joins.{chain}
+use Rattle.rom_tree.specs.declared.types.Kind.TheVariants.{Regular}
+use Rattle.rom_tree.specs.declared.types.Stat.{Stat}
+use Rattle.rom_tree.specs.Image.{Image, image_node}
+use Rattle.rom_tree.specs.Names.{Name, named, names, node_names, entries_names, path_below}
+use Rattle.rom_tree.specs.Tree.{Node, node, directory, regular, symlink, block, character, socket, fifo, Entries, no_entries, entry, IsIn, here, there, ino_of, is_directory, nodes, entries_nodes}
+use Rattle.rom_tree.proofs.Nodes.{node_at-in}
+use Rattle.rom_tree.proofs.Paths.{escaped_both}
+use Rattle.image_manifest.specs.declared.naming.Member.{Member}
+use Rattle.image_manifest.specs.Lines.{first_name, hard_line, line_behind, line_by, line_with, lines_behind, lines_of}
+use Rattle.image_manifest.specs.Members.{AreMembers, Told, all_behind, members_of, place_of, told_behind, told_of}
+use Rattle.image_manifest.proofs.Behind.{as_many}
+use Rattle.image_manifest.specs.Told.{line_from, line_told, path_at}
+
+-- a path with its attributes, and what stands behind them
+apart : (e o u g t rest : List ℕ) → (e ++ 32 ∷ (o ++ 32 ∷ (u ++ 32 ∷ (g ++ t)))) ++ rest ≡ e ++ 32 ∷ (o ++ 32 ∷ (u ++ 32 ∷ (g ++ (t ++ rest))))
+apart e o u g t rest =
+    append_assoc e (32 ∷ (o ++ 32 ∷ (u ++ 32 ∷ (g ++ t)))) rest
+    ∙ ap (λ (v : List ℕ). e ++ 32 ∷ v)
+    (append_assoc o (32 ∷ (u ++ 32 ∷ (g ++ t))) rest
+    ∙ ap (λ (v : List ℕ). o ++ 32 ∷ v) (append_assoc u (32 ∷ (g ++ t)) rest ∙ ap (λ (v : List ℕ). u ++ 32 ∷ v) (append_assoc g t rest)))
+
+-- the line of a file by its parts
+pub file_text : (path folder : List ℕ) (s : Stat) → s.kind ≡ Regular
+    → line_text (line_with path (folder ++ path) s) ++ 10 ∷ []
+    ≡ codes "file " ++ (escaped path ++ 32 ∷ (octal s.mode ++ 32 ∷ (decimal s.uid ++ 32 ∷ (decimal s.gid ++ (codes " 4 " ++ (escaped folder ++ (escaped path ++ 10 ∷ [])))))))
+unfolding line_text
+file_text path folder s h =
+    rw (h, decimal_digit 4 (omega arith), escaped_both folder path)
+    (ap (λ (v : List ℕ). codes "file " ++ v)
+    (apart (escaped path) (octal s.mode) (decimal s.uid) (decimal s.gid) (codes " 4 " ++ (escaped folder ++ escaped path)) (10 ∷ [])
+    ∙ ap (λ (v : List ℕ). escaped path ++ 32 ∷ (octal s.mode ++ 32 ∷ (decimal s.uid ++ 32 ∷ (decimal s.gid ++ (codes " 4 " ++ v)))))
+    (append_assoc (escaped folder) (escaped path) (10 ∷ []))))
+
+-- The path of the member at an index.
+
+pub path_told : (ms : List Member) (i : ℕ) (d : Member) → i < length ms → path_at (map told_of ms) i ≡ (get_or ms i d).path.items
+path_told [] i d h = absurd (omega (arith, h))
+path_told (x ∷ ms) zero d h = refl
+path_told (x ∷ ms) (suc i) d h = path_told ms i d (omega (arith, h))
+
+-- a further name's line
+pub hard_told : (m : Image) (folder : List ℕ) (ms : List Member) (x : Member) (n : Node) (i : ℕ) (d : Member) → x.first ≡ Some i → IfSome x.first (λ j. j < length ms)
+    → hard_line x.path.items (get_or ms i d).path.items ≡ line_told m folder (map told_of ms) (told_of x) n
+hard_told m folder ms x n i d h f =
+    let l : i < length ms = subst (λ (o : Option ℕ). IfSome o (λ j. j < length ms)) h f in
+    rw h (ap (hard_line x.path.items) (sym (path_told ms i d l)))
+
+-- The node of a name.
+
+mutual
+  unfolding node_names
+
+  node_all : (path : List ℕ) (x : Node) → x ∷ map (λ n. n.node) (node_names path x) ≡ nodes x
+  node_all path (node a (directory es)) = ap (λ (v : List Node). node a (directory es) ∷ v) (entries_all path es)
+  node_all path (node a (regular ps)) = refl
+  node_all path (node a (symlink ps)) = refl
+  node_all path (node a block) = refl
+  node_all path (node a character) = refl
+  node_all path (node a socket) = refl
+  node_all path (node a fifo) = refl
+
+  entries_all : (path : List ℕ) (es : Entries) → map (λ n. n.node) (entries_names path es) ≡ entries_nodes es
+  entries_all path no_entries = refl
+  entries_all path (entry name x es) =
+      let p : List ℕ = path_below path name in
+      ap (λ (v : List Node). x ∷ v) (map-append (λ (n : Name). n.node) (node_names p x) (entries_names path es))
+      ∙ ap₂ (λ (v w : List Node). v ++ w) (node_all p x) (entries_all path es)
+
+-- the nodes of the names are those of the tree
+pub names_nodes : (t : Node) → map (λ n. n.node) (names t) ≡ nodes t
+unfolding names
+names_nodes t = node_all [] t
+
+in_at : (ns : List Name) (i : ℕ) (e : Name) → i < length ns → IsIn (get_or ns i e).node (map (λ n. n.node) ns)
+in_at [] i e h = absurd (omega (arith, h))
+in_at (n ∷ ns) zero e h = here
+in_at (n ∷ ns) (suc i) e h = there (in_at ns i e (omega (arith, h)))
+
+node_of_name : (m : Image) (i : ℕ) (e : Name) → i < length (names m.tree) → image_node m (ino_of (get_or (names m.tree) i e).node) ≡ Some (get_or (names m.tree) i e).node
+node_of_name m i e h =
+    let n : Name = get_or (names m.tree) i e in
+    node_at-in m.tree n.node m.coherent (subst (λ (v : List Node). IsIn n.node v) (names_nodes m.tree) (in_at (names m.tree) i e h))
+
+-- What is told of a name, and its line, by the names before it.
+
+behind_at : (before ns : List Name) (i : ℕ) (d : Told) (e : Name) → i < length ns → get_or (all_behind before ns) i d ≡ told_behind (before ++ take i ns) (get_or ns i e)
+behind_at before [] i d e h = absurd (omega (arith, h))
+behind_at before (n ∷ ns) zero d e h = ap (λ (v : List Name). told_behind v n) (sym (append-nil before))
+behind_at before (n ∷ ns) (suc i) d e h =
+    behind_at (before ++ n ∷ []) ns i d e (omega (arith, h)) ∙ ap (λ (v : List Name). told_behind v (get_or ns i e)) (append_assoc before (n ∷ []) (take i ns))
+
+line_at : (m : Image) (folder : List ℕ) (before ns : List Name) (i : ℕ) (d : Line) (e : Name) → i < length ns
+    → get_or (lines_behind m folder before ns) i d ≡ line_behind m folder (before ++ take i ns) (get_or ns i e)
+line_at m folder before [] i d e h = absurd (omega (arith, h))
+line_at m folder before (n ∷ ns) zero d e h = ap (λ (v : List Name). line_behind m folder v n) (sym (append-nil before))
+line_at m folder before (n ∷ ns) (suc i) d e h =
+    line_at m folder (before ++ n ∷ []) ns i d e (omega (arith, h)) ∙ ap (λ (v : List Name). line_behind m folder v (get_or ns i e)) (append_assoc before (n ∷ []) (take i ns))
+
+pub length-lines : (m : Image) (folder : List ℕ) (before ns : List Name) → length (lines_behind m folder before ns) ≡ length ns
+length-lines m folder before [] = refl
+length-lines m folder before (n ∷ ns) = ap suc (length-lines m folder (before ++ n ∷ []) ns)
+
+map_at : (ms : List Member) (i : ℕ) (d : Member) (t : Told) → i < length ms → get_or (map told_of ms) i t ≡ told_of (get_or ms i d)
+map_at [] i d t h = absurd (omega (arith, h))
+map_at (x ∷ ms) zero d t h = refl
+map_at (x ∷ ms) (suc i) d t h = map_at ms i d t (omega (arith, h))
+
+-- The path of the first name of a node.
+
+abbrev name_path : List Name → ℕ → List ℕ
+name_path [] i = []
+name_path (n ∷ ns) zero = n.path
+name_path (n ∷ ns) (suc i) = name_path ns i
+
+paths_behind : (before ns : List Name) (i : ℕ) → path_at (all_behind before ns) i ≡ name_path ns i
+paths_behind before [] i = refl
+paths_behind before (n ∷ ns) zero = refl
+paths_behind before (n ∷ ns) (suc i) = paths_behind (before ++ n ∷ []) ns i
+
+one_further : (b : Name) (ns : List Name) (o : Option ℕ) → option_map (name_path (b ∷ ns)) (option_map suc o) ≡ option_map (name_path ns) o
+one_further b ns None = refl
+one_further b ns (Some i) = refl
+
+by_found : (t : Bool) (b : Name) (ns : List Name) (o : Option ℕ) (q : Option Name) → option_map (name_path ns) o ≡ option_map (λ n. n.path) q
+    → option_map (name_path (b ∷ ns)) (cond t (Some 0) (option_map suc o)) ≡ option_map (λ n. n.path) (cond t (Some b) q)
+by_found true b ns o q h = refl
+by_found false b ns o q h = one_further b ns o ∙ h
+
+first_path : (number : ℕ) (before rest : List Name) → option_map (name_path (before ++ rest)) (place_of number before) ≡ option_map (λ n. n.path) (first_name number before)
+first_path number [] rest = refl
+first_path number (b ∷ before) rest = by_found (ino_of b.node == number) b (before ++ rest) (place_of number before) (first_name number before) (first_path number before rest)
+
+by_first : (m : Image) (folder : List ℕ) (ns : List Name) (n : Name) (o : Option ℕ) (q : Option Name) → option_map (name_path ns) o ≡ option_map (λ v. v.path) q
+    → line_from m folder (all_behind [] ns) n.path n.node o ≡ line_by m folder n q
+by_first m folder ns n None None h = refl
+by_first m folder ns n None (Some v) h = absurd cc
+by_first m folder ns n (Some i) None h = absurd cc
+by_first m folder ns n (Some i) (Some v) h =
+    let e : name_path ns i ≡ v.path = cc in
+    ap (hard_line n.path) (paths_behind [] ns i ∙ e)
+
+by_kind : (m : Image) (folder : List ℕ) (before rest : List Name) (n : Name) (t : Bool)
+    → line_from m folder (all_behind [] (before ++ rest)) n.path n.node (cond t None (place_of (ino_of n.node) before)) ≡ line_by m folder n (cond t None (first_name (ino_of n.node) before))
+by_kind m folder before rest n true = refl
+by_kind m folder before rest n false = by_first m folder (before ++ rest) n (place_of (ino_of n.node) before) (first_name (ino_of n.node) before) (first_path (ino_of n.node) before rest)
+
+-- what is told of a name has its line
+line_as : (m : Image) (folder : List ℕ) (before rest : List Name) (n : Name) → line_told m folder (all_behind [] (before ++ rest)) (told_behind before n) n.node ≡ line_behind m folder before n
+line_as m folder before rest n = by_kind m folder before rest n (is_directory n.node)
+
+-- The first name stands before.
+
+by_within : (t : Bool) (o : Option ℕ) (k : ℕ) → IfSome o (λ j. j < k) → IfSome (cond t (Some 0) (option_map suc o)) (λ j. j < suc k)
+by_within true o k h = omega arith
+by_within false None k h = h
+by_within false (Some i) k h = omega (arith, h)
+
+place_within : (number : ℕ) (before : List Name) → IfSome (place_of number before) (λ j. j < length before)
+place_within number [] = tt
+place_within number (b ∷ before) = by_within (ino_of b.node == number) (place_of number before) (length before) (place_within number before)
+
+first_within : (t : Bool) (o : Option ℕ) (k l : ℕ) → k ≤ l → IfSome o (λ j. j < k) → IfSome (cond t None o) (λ j. j < l)
+first_within true o k l h i = tt
+first_within false None k l h i = tt
+first_within false (Some j) k l h i = omega (arith, h, i)
+
+-- what a member at an index is, and its line
+pub record IsLined (m : Image) (folder : List ℕ) (ms : List Member) (i : ℕ) (x : Member) : Type 0 where
+  pub node : Node
+  pub at : image_node m x.node.0 ≡ Some node
+  pub first : IfSome x.first (λ j. j < length ms)
+  pub within : i < length (lines_of m folder)
+  pub line : (d : Line) → get_or (lines_of m folder) i d ≡ line_told m folder (map told_of ms) (told_of x) node
+
+pub lined : (m : Image) (folder : List ℕ) (ms : List Member) (i : ℕ) (d : Member) → AreMembers m ms → i < length ms → IsLined m folder ms i (get_or ms i d)
+unfolding members_of lines_of
+lined m folder ms i d h l =
+    let ns : List Name = names m.tree in
+    let e : Name = named [] [] m.tree in
+    let t : Told = told_behind [] e in
+    let n : Name = get_or ns i e in
+    let before : List Name = take i ns in
+    let number : ℕ = ino_of n.node in
+    let many : length ms ≡ length ns = as_many ms ns h in
+    let k : i < length ns = omega (arith, many, l) in
+    let few : length before ≤ length ms = omega (arith, many, k, length-take-le i ns (omega (arith, k))) in
+    let told : told_of (get_or ms i d) ≡ told_behind before n = sym (map_at ms i d t l) ∙ ap (λ (v : List Told). get_or v i t) h ∙ behind_at [] ns i t e k in
+    let same : all_behind [] (before ++ drop i ns) ≡ map told_of ms = ap (all_behind []) (take-append-drop i ns) ∙ sym h in
+    record {
+      node = n.node;
+      at = ap (λ (v : Told). image_node m v.number) told ∙ node_of_name m i e k;
+      first = subst (λ (o : Option ℕ). IfSome o (λ j. j < length ms)) (sym (ap (λ (v : Told). v.first) told))
+          (first_within (is_directory n.node) (place_of number before) (length before) (length ms) few (place_within number before));
+      within = omega (arith, k, length-lines m folder [] ns);
+      line = λ x. line_at m folder [] ns i x e k ∙ sym (line_as m folder before (drop i ns) n)
+          ∙ ap₂ (λ (v : List Told) (w : Told). line_told m folder v w n.node) same (sym told);
+    }
+
+-- as many lines as members
+pub as_many_lines : (m : Image) (folder : List ℕ) (ms : List Member) → AreMembers m ms → length (lines_of m folder) ≡ length ms
+unfolding members_of lines_of
+as_many_lines m folder ms h = length-lines m folder [] (names m.tree) ∙ sym (as_many ms (names m.tree) h)
+
+-- The lines so far.
+
+line_more : (ls : List Line) (l : Line) → lines_text (ls ++ l ∷ []) ≡ lines_text ls ++ (line_text l ++ 10 ∷ [])
+line_more [] l = append-nil (line_text l ++ 10 ∷ [])
+line_more (k ∷ ls) l =
+    ap (λ (v : List ℕ). (line_text k ++ 10 ∷ []) ++ v) (line_more ls l)
+    ∙ sym (append_assoc (line_text k ++ 10 ∷ []) (lines_text ls) (line_text l ++ 10 ∷ []))
+
+-- one line more
+pub and_line : {r s t : Sink} (ls : List Line) (i : ℕ) (l : Line) → i < length ls → ((d : Line) → get_or ls i d ≡ l)
+    → Puts r s (lines_text (take i ls)) → Puts s t (line_text l ++ 10 ∷ []) → Puts r t (lines_text (take (i + 1) ls))
+and_line {r} {s} {t} ls i l h e p q =
+    let P : List ℕ → Type 0 = λ v. Puts r t v in
+    subst P (sym (ap lines_text (take_more ls i l h ∙ ap (λ (v : Line). take i ls ++ v ∷ []) (e l)) ∙ line_more (take i ls) l)) (chain p q)
+
+-- all of them
+pub all_lines : {s t : Sink} (ls : List Line) (i : ℕ) → length ls ≤ i → Puts s t (lines_text (take i ls)) → Puts s t (lines_text ls)
+all_lines {s} {t} ls i h p = let P : List ℕ → Type 0 = λ v. Puts s t v in subst P (ap lines_text (take_all i ls h)) p

@@ -1,0 +1,91 @@
+-- The manifest of an image: a line for each name, in preorder. (This project's own.)
+use Rattle.std.specs.Prelude.{ℕ, ◌==◌, List, [], ◌∷◌, ◌++◌, find, Option, Some, None, if◌then◌else◌}
+use Rattle.manifest.specs.declared.line.Line.{Line}
+use Rattle.manifest.specs.declared.line.Word.{Word}
+use Rattle.manifest.specs.declared.line.Word.TheVariants as word
+use Rattle.rom_tree.specs.declared.types.Kind.{Kind}
+use Rattle.rom_tree.specs.declared.types.Kind.TheVariants.{Directory, Regular, Symlink}
+use Rattle.rom_tree.specs.declared.types.Kind.TheVariants.{Block, Character, Socket, Fifo}
+use Rattle.rom_tree.specs.declared.types.Stat.{Stat}
+use Rattle.rom_tree.specs.Image.{Image, contents_of, stat_of}
+use Rattle.rom_tree.specs.Names.{Name, names}
+use Rattle.rom_tree.specs.Tree.{Node, kind_of, ino_of, is_directory}
+
+abbrev pub word_of : Kind → Word
+word_of Directory = word.Dir
+word_of Regular = word.File
+word_of Symlink = word.Slink
+word_of Block = word.Block
+word_of Character = word.Character
+word_of Socket = word.Socket
+word_of Fifo = word.Fifo
+
+-- each file's contents may lie at any multiple of 4
+abbrev pub align_of : Kind → ℕ
+align_of Regular = 4
+align_of _ = 0
+
+-- a file has its source, and a link its target
+abbrev pub text_of : Kind → List ℕ → List ℕ → List ℕ
+text_of Regular source target = source
+text_of Symlink source target = target
+text_of _ source target = []
+
+-- the line of a path and a text, with what is kept of a node
+abbrev pub line_with : List ℕ → List ℕ → Stat → Line
+line_with path text s = record {
+  number = 0;
+  word = word_of s.kind;
+  path = path;
+  mode = s.mode;
+  uid = s.uid;
+  gid = s.gid;
+  align = align_of s.kind;
+  major = s.major;
+  minor = s.minor;
+  text = text;
+}
+
+-- The line of a node at a path. The source of a file is its path in the folder.
+abbrev pub node_line : Image → List ℕ → List ℕ → Node → Line
+node_line m folder path x =
+    line_with path (text_of (kind_of x) (folder ++ path) (contents_of m.bytes x)) (stat_of x)
+
+-- the line of a further name of the file at the path `old`
+abbrev pub hard_line : List ℕ → List ℕ → Line
+hard_line path old = record {
+  number = 0;
+  word = word.Hard;
+  path = path;
+  mode = 0;
+  uid = 0;
+  gid = 0;
+  align = 0;
+  major = 0;
+  minor = 0;
+  text = old;
+}
+
+-- the first of these names whose node has this number
+abbrev pub first_name : ℕ → List Name → Option Name
+first_name number ns = find (λ n. ino_of n.node == number) ns
+
+-- the line of a name of a node that has another name before it, or none
+abbrev pub line_by : Image → List ℕ → Name → Option Name → Line
+line_by m folder n None = node_line m folder n.path n.node
+line_by m folder n (Some old) = hard_line n.path old.path
+
+-- the line of a name behind others: a directory has a line of its own at each name
+abbrev pub line_behind : Image → List ℕ → List Name → Name → Line
+line_behind m folder before n =
+    line_by m folder n (if is_directory n.node then None else first_name (ino_of n.node) before)
+
+-- the lines of names, behind others
+abbrev pub lines_behind : Image → List ℕ → List Name → List Name → List Line
+lines_behind m folder before [] = []
+lines_behind m folder before (n ∷ ns) =
+    line_behind m folder before n ∷ lines_behind m folder (before ++ n ∷ []) ns
+
+-- the lines of all names, with sources in this folder
+unfoldable pub lines_of : Image → List ℕ → List Line
+lines_of m folder = lines_behind m folder [] (names m.tree)

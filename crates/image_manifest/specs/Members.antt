@@ -1,0 +1,57 @@
+-- The members of an image: its names in preorder, and which of them lead to a node to which an
+-- earlier one leads. (This project's own.)
+use Rattle.std.specs.Prelude.{◌≡◌, ℕ, suc, ◌==◌, Bool, nat_lt, List, [], ◌∷◌, ◌++◌, map, length}
+use Rattle.std.specs.Prelude.{Option, Some, None, option_map, if◌then◌else◌}
+use Rattle.std.specs.List.{list_any}
+use Rattle.rom_tree.specs.Tree.{Node, ino_of, is_directory}
+use Rattle.rom_tree.specs.Image.{Image}
+use Rattle.rom_tree.specs.Names.{Name, names}
+use Rattle.image_manifest.specs.declared.naming.Member.{Member}
+
+-- what is told of a name: its path, its node's number, and where the first name of that node stands
+pub record Told : Type 0 where
+  pub path : List ℕ
+  pub number : ℕ
+  pub first : Option ℕ
+
+-- where the first of these names stands whose node has this number
+abbrev pub place_of : ℕ → List Name → Option ℕ
+place_of number [] = None
+place_of number (n ∷ ns) =
+    if ino_of n.node == number then Some 0 else option_map suc (place_of number ns)
+
+-- of a directory nothing is told
+abbrev pub first_behind : List Name → Node → Option ℕ
+first_behind before x = if is_directory x then None else place_of (ino_of x) before
+
+-- what is told of a name behind others
+abbrev pub told_behind : List Name → Name → Told
+told_behind before n = record {
+  path = n.path;
+  number = ino_of n.node;
+  first = first_behind before n.node;
+}
+
+-- what is told of names, behind others
+abbrev pub all_behind : List Name → List Name → List Told
+all_behind before [] = []
+all_behind before (n ∷ ns) = told_behind before n ∷ all_behind (before ++ n ∷ []) ns
+
+unfoldable pub members_of : Node → List Told
+members_of t = all_behind [] (names t)
+
+-- what a member tells
+abbrev pub told_of : Member → Told
+told_of m = record { path = m.path.items; number = m.node.0; first = m.first }
+
+-- these are the members of the image
+abbrev pub AreMembers : Image → List Member → Type 0
+AreMembers m ms = map told_of ms ≡ members_of m.tree
+
+-- no manifest takes this name
+abbrev pub is_long : Name → Bool
+is_long n = nat_lt 4095 (length n.path)
+
+-- some path has more than 4,095 bytes
+abbrev pub has_long_path : Node → Bool
+has_long_path t = list_any is_long (names t)

@@ -1,0 +1,40 @@
+-- The sources of an image's manifest. (This project's own.)
+use Rattle.std.specs.Prelude.{◌≡◌, ℕ, Bool, ◌&&◌, List, [], ◌∷◌, ◌++◌, is_none, if◌then◌else◌, map}
+use Rattle.manifest.specs.Lines.{sources_of as sources_named}
+use Rattle.manifest_text.specs.Printed.{as_read}
+use Rattle.rom_tree.specs.Image.{Image, contents_of}
+use Rattle.rom_tree.specs.Names.{Name, names}
+use Rattle.rom_tree.specs.Tree.{Node, ino_of, is_regular}
+use Rattle.image_manifest.specs.Lines.{first_name, lines_of}
+
+-- a name behind others has a source where it is the first name of a regular file
+abbrev pub has_source : List Name → Name → Bool
+has_source before n = is_regular n.node && is_none (first_name (ino_of n.node) before)
+
+-- what the sources of names hold, behind others
+abbrev pub sources_behind : Image → List Name → List Name → List (List ℕ)
+sources_behind m before [] = []
+sources_behind m before (n ∷ ns) =
+    (if has_source before n then contents_of m.bytes n.node ∷ [] else [])
+    ++ sources_behind m (before ++ n ∷ []) ns
+
+-- what the sources hold with which the image is built again, in the order of their lines
+unfoldable pub sources_of : Image → List (List ℕ)
+sources_of m = sources_behind m [] (names m.tree)
+
+-- the names that have a source, behind others
+abbrev pub source_names_behind : List Name → List Name → List Name
+source_names_behind before [] = []
+source_names_behind before (n ∷ ns) =
+    (if has_source before n then n ∷ [] else []) ++ source_names_behind (before ++ n ∷ []) ns
+
+-- the first name of each regular file, in the order of their lines
+unfoldable pub source_names : Node → List Name
+source_names t = source_names_behind [] (names t)
+
+-- The sources that the lines name are, in their order, the regular files of the image, each by its
+-- first name: the path of this name in the folder. What they hold is what these files hold.
+pub record AreSources (m : Image) (volume folder : List ℕ) : Type 0 where
+  pub named : sources_named (as_read volume (lines_of m folder)).lines
+      ≡ map (λ n. folder ++ n.path) (source_names m.tree)
+  pub held : sources_of m ≡ map (λ n. contents_of m.bytes n.node) (source_names m.tree)

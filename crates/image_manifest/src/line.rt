@@ -1,0 +1,137 @@
+//! The line of one name.
+ghost use Rattle.std.specs.Prelude.{◌≡◌, ◌≢◌, ◌++◌, ◌<◌, Some, IfSome, codes, length, map};
+ghost use Rattle.manifest_text.specs.Printed.{line_text};
+ghost use Rattle.rom_fields.specs.Written.{Puts, sink};
+ghost use Rattle.rom_tree.specs.Tree.{Node};
+ghost use Rattle.rom_tree.specs.Image.{image_node, HasNode};
+ghost use Rattle.rom_tree.specs.declared.types.Kind.TheVariants.{Regular};
+ghost use Rattle.image_manifest.specs.Lines.{hard_line, line_with, node_line, word_of};
+ghost use Rattle.image_manifest.specs.Members.{told_of};
+ghost use Rattle.image_manifest.specs.Told.{line_told};
+
+use crate::naming::Member;
+use manifest::Word;
+use manifest_text::{Entry, put_line};
+use rom_fields::bytes::ByteWrite;
+use rom_fields::sink::put;
+use rom_fields::text::{put_decimal, put_escaped, put_octal};
+use rom_tree::image::{TreeImage, link_text};
+use rom_tree::types::{Kind, NodeId, Stat};
+
+/// The word of a kind of node.
+fn word_of(kind: Kind) -> Word
+    ensures { result ≡ word_of kind }
+{
+    match kind {
+        Kind::Directory => Word::Dir,
+        Kind::Regular => Word::File,
+        Kind::Symlink => Word::Slink,
+        Kind::Block => Word::Block,
+        Kind::Character => Word::Character,
+        Kind::Socket => Word::Socket,
+        Kind::Fifo => Word::Fifo,
+    }
+}
+
+/// Puts the line of a regular file. Its source is its path in the folder.
+fn put_file<W: ByteWrite>(w: &mut W, failed: &mut bool, folder: &[u8], path: &[u8], stat: Stat)
+    requires { stat.kind ≡ Regular }
+    ensures { Puts (sink (W.output w.old) failed.old) (sink (W.output w.new) failed.new)
+        (line_text (line_with path.now (folder.now ++ path.now) stat) ++ codes "\n") }
+{
+    put(w, failed, b"file ");
+    put_escaped(w, failed, path);
+    put(w, failed, b" ");
+    put_octal(w, failed, stat.mode);
+    put(w, failed, b" ");
+    put_decimal(w, failed, stat.uid);
+    put(w, failed, b" ");
+    put_decimal(w, failed, stat.gid);
+    put(w, failed, b" 4 ");
+    put_escaped(w, failed, folder);
+    put_escaped(w, failed, path);
+    put(w, failed, b"\n");
+}
+
+/// Puts the line of a node that is no regular file.
+fn put_other<W: ByteWrite>(w: &mut W, failed: &mut bool, path: &[u8], text: &[u8], stat: Stat)
+    requires { stat.kind ≢ Regular }
+    ensures { Puts (sink (W.output w.old) failed.old) (sink (W.output w.new) failed.new)
+        (line_text (line_with path.now text.now stat) ++ codes "\n") }
+{
+    let entry = Entry {
+        word: word_of(stat.kind),
+        path,
+        mode: stat.mode,
+        uid: stat.uid,
+        gid: stat.gid,
+        align: 0,
+        major: stat.major,
+        minor: stat.minor,
+        text,
+    };
+    put_line(w, failed, &entry);
+}
+
+/// Puts the line of a further name of the file at the path `old`.
+fn put_hard<W: ByteWrite>(w: &mut W, failed: &mut bool, path: &[u8], old: &[u8])
+    ensures { Puts (sink (W.output w.old) failed.old) (sink (W.output w.new) failed.new)
+        (line_text (hard_line path.now old.now) ++ codes "\n") }
+{
+    let entry = Entry {
+        word: Word::Hard,
+        path,
+        mode: 0,
+        uid: 0,
+        gid: 0,
+        align: 0,
+        major: 0,
+        minor: 0,
+        text: old,
+    };
+    put_line(w, failed, &entry);
+}
+
+/// Puts the line of a node at a path.
+fn put_node<'a, T: TreeImage<'a>, W: ByteWrite>(
+    image: &T,
+    w: &mut W,
+    failed: &mut bool,
+    folder: &[u8],
+    path: &[u8],
+    node: NodeId,
+)
+    requires { HasNode (T.image image.now) node.0 }
+    ensures { (x : Node) → image_node (T.image image.now) node.0 ≡ Some x
+        → Puts (sink (W.output w.old) failed.old) (sink (W.output w.new) failed.new)
+        (line_text (node_line (T.image image.now) folder.now path.now x) ++ codes "\n") }
+{
+    let stat = image.stat(node);
+    match stat.kind {
+        Kind::Regular => put_file(w, failed, folder, path, stat),
+        Kind::Symlink => put_other(w, failed, path, link_text(image, node), stat),
+        _ => put_other(w, failed, path, b"", stat),
+    }
+}
+
+/// Puts the line of a member.
+pub(crate) fn put_member<'a, T: TreeImage<'a>, W: ByteWrite>(
+    image: &T,
+    w: &mut W,
+    failed: &mut bool,
+    folder: &[u8],
+    members: &[Member],
+    member: &Member,
+)
+    requires node { HasNode (T.image image.now) member.now.node.0 }
+    requires first { IfSome member.now.first (λ i. i < length members.now) }
+    ensures { (x : Node) → image_node (T.image image.now) member.now.node.0 ≡ Some x
+        → Puts (sink (W.output w.old) failed.old) (sink (W.output w.new) failed.new)
+        (line_text (line_told (T.image image.now) folder.now (map told_of members.now)
+        (told_of member.now) x) ++ codes "\n") }
+{
+    match member.first {
+        None => put_node(image, w, failed, folder, &member.path, member.node),
+        Some(first) => put_hard(w, failed, &member.path, &members[first].path),
+    }
+}

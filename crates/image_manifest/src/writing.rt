@@ -1,0 +1,59 @@
+//! The manifest of an image.
+ghost use Rattle.manifest_text.specs.Printed.{lines_text, manifest_text};
+ghost use Rattle.rom_fields.specs.Failures.{Counts};
+ghost use Rattle.rom_fields.specs.Written.{Puts, WritesText, sink};
+ghost use Rattle.image_manifest.specs.Lines.{lines_of};
+ghost use Rattle.image_manifest.specs.Members.{AreMembers};
+
+use crate::line::put_member;
+use crate::naming::Member;
+use manifest_text::put_volume;
+use rom_fields::bytes::{ByteWrite, Failed};
+use rom_tree::image::TreeImage;
+
+/// Puts the lines of an image's names.
+fn put_members<'a, T: TreeImage<'a>, W: ByteWrite>(
+    image: &T,
+    w: &mut W,
+    failed: &mut bool,
+    folder: &[u8],
+    members: &[Member],
+)
+    requires { AreMembers (T.image image.now) members.now }
+    ensures { Puts (sink (W.output w.old) failed.old) (sink (W.output w.new) failed.new)
+        (lines_text (lines_of (T.image image.now) folder.now)) }
+{
+    for member in members {
+        put_member(image, w, failed, folder, members, member);
+    }
+}
+
+/// Writes the manifest of an image whose members these are: a line that names the volume, where it
+/// has a name, and behind it a line for each member. That of a directory, a symbolic link, a
+/// device, a FIFO or a socket says what the image keeps of it. That of a regular file does so too,
+/// asks for a place that is a multiple of 4, and has as its source the file's path behind the
+/// folder's: in the folder `app`, `/bin/sh` has the source `app/bin/sh`. A further name of one of
+/// these, a directory's excepted, is a `hard` line with the first name's path. A device's numbers,
+/// an owner and a mode are told as the image keeps them, also where a build in some format refuses
+/// them. It is not flushed.
+///
+/// # Errors
+///
+/// A write failed; a prefix of the manifest was written.
+pub fn write_manifest<'a, T: TreeImage<'a>, W: ByteWrite>(
+    image: &T,
+    members: &[Member],
+    volume: &[u8],
+    folder: &[u8],
+    w: &mut W,
+) -> Result<(), Failed>
+    requires { AreMembers (T.image image.now) members.now }
+    ensures text { WritesText (W.output w.old).contents (W.output w.new).contents result
+        (manifest_text volume.now (lines_of (T.image image.now) folder.now)) }
+    ensures count { Counts (W.output w.old).failures (W.output w.new).failures result }
+{
+    let mut failed = false;
+    put_volume(w, &mut failed, volume);
+    put_members(image, w, &mut failed, folder, members);
+    if failed { Err(Failed) } else { Ok(()) }
+}

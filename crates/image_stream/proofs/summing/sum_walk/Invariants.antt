@@ -1,0 +1,15 @@
+use Rattle.std.proofs.Common.{length, drop, ◌≡◌, None}
+use Rattle.image_stream.specs.Segments.{SegmentsRise}
+use Rattle.image_stream.specs.Steps.{IsDone, Gone}
+use Rattle.image_stream.proofs.summing.sum_walk.Given as goal
+
+abbrev pub invariant-loop-i : goal.invariant-loop-i
+invariant-loop-i g l = record {
+  room : length l.buffer ≡ length l.initial.buffer;
+  told : g.S.Sources.told l.sources ≡ g.S.Sources.told l.initial.sources;
+  files : g.S.Sources.files l.sources ≡ g.S.Sources.files l.initial.sources;
+  read : g.S.Sources.reads l.sources ≡ g.S.Sources.reads l.initial.sources;
+  rises : SegmentsRise l.at (drop l.i (g.L.Layout.form l.layout).segments) (g.L.Layout.form l.layout).end;
+  gone : Gone (IsDone (g.S.Sources.told l.initial.sources) (g.L.Layout.form l.layout).start (g.L.Layout.form l.layout).segments (g.L.Layout.form l.layout).end l.at (drop l.i (g.L.Layout.form l.layout).segments))
+      None None (g.C.Check.Is l.initial.check) (g.C.Check.Is l.check);
+}

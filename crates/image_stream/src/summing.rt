@@ -1,0 +1,135 @@
+//! The check value of an image, before anything of it is written.
+ghost use Rattle.std.specs.Prelude.{◌≡◌, ◌+◌, ◌%◌, ◌<◌, ◌≤◌, ◌^◌, ℕ, List, None, length, OnOk, IfErr, IfOk};
+ghost use Rattle.image_stream.specs.Sources.{Told};
+ghost use Rattle.image_stream.specs.Segments.{place, len, segment_at, IsBody, HasSource, IsLaidOut, IsImage};
+ghost use Rattle.image_stream.specs.Outcomes.{AreSized};
+ghost use Rattle.image_stream.specs.Steps.{IsNext, IsFault, Gone};
+
+use crate::check::Check;
+use crate::fault::StreamError;
+use crate::layout::Layout;
+use crate::nowhere::Nowhere;
+use crate::pieces::{emit_zeros, piece};
+use crate::sources::Sources;
+use rom_fields::bytes::Failed;
+
+/// Adds a segment to the check value, piece by piece, until no further byte counts.
+fn sum_segment<L: Layout, S: Sources, C: Check>(
+    layout: &L,
+    sources: &mut S,
+    i: usize,
+    check: &mut C,
+    buffer: &mut [u8],
+) -> Result<(), StreamError>
+    requires index { i < length (L.form layout.now).segments }
+    requires small { len (segment_at (L.form layout.now).segments i) < 2 ^ 32 }
+    requires file { HasSource (L.form layout.now).sizes
+        (segment_at (L.form layout.now).segments i) }
+    requires files { S.files sources.old ≡ length (L.form layout.now).sizes }
+    requires sized { Told (S.told sources.old) (AreSized (L.form layout.now).sizes) }
+    requires room { 0 < length buffer.old }
+    requires words { length buffer.old % 4 ≡ 0 }
+    ensures told { S.told sources.new ≡ S.told sources.old }
+    ensures files { S.files sources.new ≡ S.files sources.old }
+    ensures ok { OnOk result (Gone
+        (IsBody (S.told sources.old) (segment_at (L.form layout.now).segments i))
+        None None (C.Is check.old) (C.Is check.new)) }
+    ensures quiet { OnOk result (S.reads sources.new ≡ S.reads sources.old) }
+    ensures fault { IfErr result (IsFault (S.told sources.old) (L.form layout.now).sizes
+        (S.reads sources.old) (S.reads sources.new) 0 0) }
+{
+    let segment = layout.segment(i);
+    let len = segment.len as usize;
+    let mut from = 0;
+    while from < len {
+        if check.is_full() {
+            return Ok(());
+        }
+        let n = (len - from).min(buffer.len());
+        let part = &mut buffer[..n];
+        match piece(layout, sources, i, segment, from, part) {
+            Ok(()) => {}
+            Err(e) => return Err(e),
+        }
+        check.add(part);
+        from += n;
+    }
+    Ok(())
+}
+
+/// Adds the zeros before a segment, and the segment. Its end.
+fn sum_next<L: Layout, S: Sources, C: Check>(
+    layout: &L,
+    sources: &mut S,
+    i: usize,
+    at: usize,
+    check: &mut C,
+    buffer: &mut [u8],
+) -> Result<usize, StreamError>
+    requires index { i < length (L.form layout.now).segments }
+    requires after { at ≤ place (segment_at (L.form layout.now).segments i) }
+    requires small { place (segment_at (L.form layout.now).segments i)
+        + len (segment_at (L.form layout.now).segments i) < 2 ^ 32 }
+    requires file { HasSource (L.form layout.now).sizes
+        (segment_at (L.form layout.now).segments i) }
+    requires files { S.files sources.old ≡ length (L.form layout.now).sizes }
+    requires sized { Told (S.told sources.old) (AreSized (L.form layout.now).sizes) }
+    requires room { 0 < length buffer.old }
+    requires words { length buffer.old % 4 ≡ 0 }
+    ensures told { S.told sources.new ≡ S.told sources.old }
+    ensures files { S.files sources.new ≡ S.files sources.old }
+    ensures end { IfOk result (λ n. n ≡ place (segment_at (L.form layout.now).segments i)
+        + len (segment_at (L.form layout.now).segments i)) }
+    ensures ok { OnOk result (Gone
+        (IsNext (S.told sources.old) at (segment_at (L.form layout.now).segments i))
+        None None (C.Is check.old) (C.Is check.new)) }
+    ensures quiet { OnOk result (S.reads sources.new ≡ S.reads sources.old) }
+    ensures fault { IfErr result (IsFault (S.told sources.old) (L.form layout.now).sizes
+        (S.reads sources.old) (S.reads sources.new) 0 0) }
+{
+    let segment = layout.segment(i);
+    let place = segment.place as usize;
+    match emit_zeros(&mut Nowhere::new(), check, place - at, buffer) {
+        Ok(()) => {}
+        Err(Failed) => return Err(StreamError::WriteFault),
+    }
+    match sum_segment(layout, sources, i, check, buffer) {
+        Ok(()) => {}
+        Err(e) => return Err(e),
+    }
+    Ok(place + segment.len as usize)
+}
+
+/// Adds all that follows the superblock to the check value. What no longer counts is not read.
+pub fn sum_walk<L: Layout, S: Sources, C: Check>(
+    layout: &L,
+    sources: &mut S,
+    check: &mut C,
+    buffer: &mut [u8],
+) -> Result<(), StreamError>
+    requires laid { IsLaidOut (L.form layout.now) }
+    requires files { S.files sources.old ≡ length (L.form layout.now).sizes }
+    requires sized { Told (S.told sources.old) (AreSized (L.form layout.now).sizes) }
+    requires room { 0 < length buffer.old }
+    requires words { length buffer.old % 4 ≡ 0 }
+    ensures told { S.told sources.new ≡ S.told sources.old }
+    ensures files { S.files sources.new ≡ S.files sources.old }
+    ensures ok { OnOk result (Gone (IsImage (S.told sources.old)
+        (L.form layout.now).start (L.form layout.now).segments (L.form layout.now).end)
+        None None (C.Is check.old) (C.Is check.new)) }
+    ensures quiet { OnOk result (S.reads sources.new ≡ S.reads sources.old) }
+    ensures fault { IfErr result (IsFault (S.told sources.old) (L.form layout.now).sizes
+        (S.reads sources.old) (S.reads sources.new) 0 0) }
+{
+    let mut at = layout.head_len();
+    for i in 0..layout.count() {
+        match sum_next(layout, sources, i, at, check, buffer) {
+            Ok(end) => at = end,
+            Err(e) => return Err(e),
+        }
+    }
+    match emit_zeros(&mut Nowhere::new(), check, layout.image_len() - at, buffer) {
+        Ok(()) => Ok(()),
+        Err(Failed) => Err(StreamError::WriteFault),
+    }
+}

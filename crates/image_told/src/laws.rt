@@ -1,0 +1,79 @@
+//! What the manifest of an accepted image tells.
+ghost use Rattle.std.specs.Prelude.{◌≡◌, ◌↔◌, ◌<◌, ◌≤◌, ℕ, List, [], Ok, false, length, map};
+ghost use Rattle.std.specs.List.{All};
+ghost use Rattle.manifest.specs.Grammar.{manifest_of};
+ghost use Rattle.manifest.specs.Lines.{ManifestLines};
+ghost use Rattle.manifest_text.specs.Printed.{AreTaken, IsVolume, first_number, manifest_text};
+ghost use Rattle.name_tree.specs.Meant.{IsMeant};
+ghost use Rattle.rom_tree.specs.Image.{Image};
+ghost use Rattle.rom_tree.specs.Tree.{Node};
+ghost use Rattle.rom_tree.specs.declared.types.Limits.{Limits};
+ghost use Rattle.rom_tree.specs.declared.types.Report.{Report};
+ghost use Rattle.image_check.specs.Any.{any_view, report_of};
+ghost use Rattle.image_check.specs.Checked.{Shows};
+ghost use Rattle.image_check.specs.declared.any.AnyImage.{AnyImage};
+ghost use Rattle.image_info.specs.Volumes.{volume_of};
+ghost use Rattle.image_manifest.specs.Lines.{lines_of};
+ghost use Rattle.image_manifest.specs.Members.{has_long_path};
+ghost use Rattle.image_manifest.specs.Sources.{sources_of};
+ghost use Rattle.image_manifest.specs.Tellable.{HaveNoZeros, IsLawfulTree, IsToldWhole};
+ghost use Rattle.image_told.specs.Alike.{AreAlike};
+
+/// The tree of an image that the check accepts is one that a manifest can tell: its root is a
+/// directory, names are lawful and stand once in their list, numbers are small, and each directory
+/// has one path.
+pub fn accepted_is_lawful()
+    ensures { (all : List ℕ) (limits : Limits) (m : Image) (report : Report)
+        → All (λ b. b < 256) all → Shows all limits m report → IsLawfulTree m.tree }
+{}
+
+/// Of an image that the check accepts, the grammar takes the lines exactly where no link's text has
+/// a zero byte and no path has more than 4,095 bytes.
+pub fn accepted_is_taken()
+    ensures { (all : List ℕ) (limits : Limits) (m : Image) (report : Report)
+        (volume folder : List ℕ) → All (λ b. b < 256) all → Shows all limits m report
+        → All (λ b. b < 256) folder
+        → AreTaken [] (first_number volume) (lines_of m folder)
+        ↔ (HaveNoZeros m × (has_long_path m.tree ≡ false)) }
+{
+    accepted_is_lawful();
+    image_manifest::laws::lines_are_taken();
+    image_manifest::laws::taken_only_then();
+}
+
+/// The manifest of an image that the check accepts is one, of just the lines of its names, and
+/// means the image's tree, unless a link's text has a zero byte, a path has more than 4,095 bytes,
+/// or the volume's name is no lawful one.
+pub fn accepted_is_told()
+    ensures { (all : List ℕ) (limits : Limits) (m : Image) (report : Report)
+        (volume folder : List ℕ) → All (λ b. b < 256) all → Shows all limits m report
+        → IsVolume volume → All (λ b. b < 256) folder → HaveNoZeros m
+        → has_long_path m.tree ≡ false → IsToldWhole m volume folder }
+{
+    accepted_is_lawful();
+    image_manifest::laws::told_whole();
+}
+
+/// The manifest of a checked image, with the volume's name that stands in it, is one, of just the
+/// lines of its names, and means the image's tree, unless a link's text has a zero byte, a path
+/// has more than 4,095 bytes, or the volume's name more than 255.
+pub fn extracted_is_told()
+    ensures { (all : List ℕ) (limits : Limits) (s : AnyImage) (folder : List ℕ)
+        → All (λ b. b < 256) all → Shows all limits (any_view s) (report_of s)
+        → length (volume_of s) ≤ 255 → All (λ b. b < 256) folder → HaveNoZeros (any_view s)
+        → has_long_path (any_view s).tree ≡ false
+        → IsToldWhole (any_view s) (volume_of s) folder }
+{
+    accepted_is_told();
+}
+
+/// What is built of the manifest of an image that is told whole, with what its files hold, is like
+/// the image: whatever tree the manifest means has the same at each path, and the same paths share
+/// a file.
+pub fn built_again_is_alike()
+    ensures { (m : Image) (volume folder : List ℕ) → IsToldWhole m volume folder
+        → (n : ManifestLines) (bytes : List ℕ) (t : Node)
+        → manifest_of (manifest_text volume (lines_of m folder)) ≡ Ok n
+        → IsMeant bytes t (sources_of m) n (map length (sources_of m))
+        → AreAlike m.bytes m.tree bytes t }
+{}

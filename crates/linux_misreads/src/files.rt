@@ -1,0 +1,85 @@
+//! The first file of each number.
+ghost use Rattle.std.specs.Prelude.{◌≡◌, ◌≤◌, IfOk, ℕ, Some};
+ghost use Rattle.std.specs.BTreeMap.{get};
+ghost use Rattle.std.specs.Ordering.{nat_cmp};
+ghost use Rattle.rom_tree.specs.Tree.{Node, levels};
+ghost use Rattle.rom_tree.specs.Image.{image_node, HasNode};
+ghost use Rattle.rom_tree.specs.Names.{names};
+ghost use Rattle.image_check.specs.Any.{any_view};
+ghost use Rattle.linux_misreads.specs.Tables.{AreFirst, AreFirstOf, either, one_known, table_place, view};
+
+use crate::known::{Known, is_known_by_table, kept_of};
+use cramfs_image::image::Cramfs;
+use image_check::AnyImage;
+use rom_fields::memory::OutOfMemory;
+use rom_tree::Walk;
+use rom_tree::image::TreeImage;
+use rom_tree::types::NodeId;
+use std::alloc::Global;
+use std::collections::BTreeMap;
+
+/// Where the table of a record stands, by the offset field of its inode.
+pub(crate) fn table_of(image: &Cramfs<'_>, n: NodeId) -> u32
+    requires { HasNode (view image.now) n.0 }
+    ensures { result ≡ table_place image.now n.0 }
+{
+    let order = image.parts().order;
+    order.field_after(6, order.word(image.bytes(), n.0 as usize + 8)) * 4
+}
+
+/// Notes what is kept of a node, where it is known by a table of which nothing is noted yet.
+///
+/// # Errors
+///
+/// `OutOfMemory` where memory was refused.
+fn note(first: &mut BTreeMap<u32, Known>, image: &Cramfs<'_>, n: NodeId) -> Result<(), OutOfMemory>
+    requires { HasNode (view image.now) n.0 }
+    ensures { IfOk result (λ _. (x : Node)
+        → image_node (view image.now) n.0 ≡ Some x → (t : ℕ)
+        → get nat_cmp first.new t ≡ either (get nat_cmp first.old t) (one_known image.now t x)) }
+{
+    if !is_known_by_table(image, n) {
+        return Ok(());
+    }
+    let table = table_of(image, n);
+    if !first.contains_key(&table) {
+        first.insert(table, kept_of(image, n))?;
+    }
+    Ok(())
+}
+
+/// What Linux keeps of the first file of each table.
+///
+/// # Errors
+///
+/// `OutOfMemory` where memory was refused.
+fn first_of_tables(alloc: Global, image: &Cramfs<'_>) -> Result<BTreeMap<u32, Known>, OutOfMemory>
+    requires { levels (view image.now).tree ≤ 65 }
+    ensures { IfOk result (λ m. AreFirst image.now
+        (names (view image.now).tree) m) }
+{
+    let mut first = BTreeMap::new(alloc);
+    let mut walk = Walk::new();
+    while let Some(node) = walk.next(image) {
+        note(&mut first, image, node)?;
+    }
+    Ok(first)
+}
+
+/// What Linux keeps of the first file of each table of a cramfs image. romfs has no tables.
+///
+/// # Errors
+///
+/// `OutOfMemory` where memory was refused.
+pub(crate) fn first_files(
+    alloc: Global,
+    image: &AnyImage<'_>,
+) -> Result<BTreeMap<u32, Known>, OutOfMemory>
+    requires { levels (any_view image.now).tree ≤ 65 }
+    ensures { IfOk result (λ m. AreFirstOf image.now m) }
+{
+    match image {
+        AnyImage::Romfs(_) => Ok(BTreeMap::new(alloc)),
+        AnyImage::Cramfs(image) => first_of_tables(alloc, image),
+    }
+}

@@ -1,0 +1,47 @@
+use Rattle.std.proofs.Common.{ℕ, List, length, sym, ap, subst, ◌∙◌}
+use Rattle.std.specs.Io.KnownBytes.{Appends}
+use Rattle.std.specs.Prelude.{IfErr}
+use Rattle.rom_fields.specs.Written.{AppendsPrefix}
+use Rattle.image_stream.specs.Outcomes.{IsStreamFault}
+use Rattle.image_stream.specs.Segments.{IsLaidOut}
+use Rattle.image_stream.specs.WordSums.{balance_of}
+use Rattle.layout_plan.specs.Plans.{Planned, IsPlanOf}
+use Rattle.misfits.specs.Format.{romfs}
+use Rattle.romfs_write.specs.Form.{form_of}
+use Rattle.romfs_write.specs.Known.{IsRomfsPlan}
+use Rattle.romfs_write.proofs.Laid.{laid_out}
+use Rattle.image_stream.proofs.Results.{ok_both, err_weaker}
+use Rattle.romfs_write.proofs.Means.{means, sized_means}
+use Rattle.romfs_write.proofs.writing.stream_through.Goals as goal
+
+pub stream_through-requires-clause-laid : goal.stream_through-requires-clause-laid
+stream_through-requires-clause-laid g c = subst (λ (p : Planned). IsLaidOut (form_of p)) (sym c.new-form.ensures) (laid_out c.args.plan.now c.known.ensures.plan)
+
+pub returns-clause-whole : goal.returns-clause-whole
+returns-clause-whole g c = λ m sizes hm is.
+    let e = sym c.new-form.ensures in
+    let p = c.new-form.result.plan.now in
+    let known = subst IsRomfsPlan e c.known.ensures.plan in
+    let is' = subst (IsPlanOf romfs m sizes) e is in
+    let n = c.requires.files ∙ ap (λ (p : Planned). length p.sizes) e in
+    let old = (g.W.ByteWrite.output c.args.w.now).contents in
+    let new = (g.W.ByteWrite.output c.stream_through.new.w).contents in
+    ok_both c.stream_through.result (λ sized whole cs told.
+    let r = sized_means c.fitting_is_planned.ensures p m sizes cs hm known is' (c.count.ensures.told cs told ∙ n) (sized cs told) in
+    (r.0, subst (Appends old new) r.1 (whole cs told))) c.stream_through.ensures.sized c.stream_through.ensures.whole
+
+pub returns-clause-front : goal.returns-clause-front
+returns-clause-front g c = λ m sizes hm is.
+    let e = sym c.new-form.ensures in
+    let p = c.new-form.result.plan.now in
+    let known = subst IsRomfsPlan e c.known.ensures.plan in
+    let is' = subst (IsPlanOf romfs m sizes) e is in
+    let old = (g.W.ByteWrite.output c.args.w.now).contents in
+    let new = (g.W.ByteWrite.output c.stream_through.new.w).contents in
+    err_weaker c.stream_through.result (λ h cs told s.
+    subst (AppendsPrefix old new) (means c.fitting_is_planned.ensures p m cs hm known (subst (λ (xs : List ℕ). IsPlanOf romfs m xs p) (sym s) is')) (h cs told)) c.stream_through.ensures.front
+
+pub returns-clause-fault : goal.returns-clause-fault
+returns-clause-fault g c =
+    subst (λ (p : Planned). IfErr c.stream_through.result (IsStreamFault (g.S.Sources.told c.args.sources.now) (form_of p) balance_of
+    (g.S.Sources.reads c.args.sources.now) (g.S.Sources.reads c.stream_through.new.sources) (g.W.ByteWrite.output c.args.w.now) (g.W.ByteWrite.output c.stream_through.new.w))) c.new-form.ensures c.stream_through.ensures.fault

@@ -1,0 +1,597 @@
+#!/usr/bin/env python3
+"""Takes images apart by `romtool extract`, looks at what was made, and builds them again.
+
+    extract.py [--binary PATH] [--count N] [--first SEED] [--name TEXT]
+
+Of each small image of the cases (see run.py), of images of manifests made by chance (see manifests.py), and of images
+that genromfs builds where it is installed: the manifest that is printed is the one that the image's list tells; the
+folder holds just its folders, files and links, with their modes; and what is built of the two has the same list again,
+but for places and numbers. Where each alignment is 4 and nothing is shared it has the same bytes. Images with names that
+no file can have here make nothing.
+
+Then the edge: folders that are there, links that lead elsewhere, modes that refuse, names that are too long, owners, a
+full disk, each call of the system failed. Tests that need `strace`, or root, or another user, are skipped where these
+are missing. The last line is `N passed, M failed`, with `, K skipped`.
+"""
+
+import collections
+import itertools
+import os
+import shutil
+import stat
+import subprocess
+import sys
+import tempfile
+
+import images
+import manifests
+import run as cases
+import traced
+from build import answer, bytes_in, put, run
+from edge import become_nobody, needs_root, needs_strace
+from harness import HERE, Counts, parser, program_of
+from manifests import Made, escaped
+from map import images as images_of_cases
+from map import listed, raw
+
+IS_ROOT = os.geteuid() == 0
+WORDS = {"d": "dir", "f": "file", "l": "slink", "b": "nod", "c": "nod", "p": "pipe", "s": "sock"}
+LENDING = 0o6000
+FAULTS = ("error=EIO", "error=ENOSPC", "error=ENOMEM", "error=EACCES", "signal=KILL")
+FAILED = ("openat", "mkdir", "write", "fchmod", "symlink", "link", "statx", "getdents64", "fcntl", "close")
+
+
+class Plain(Made):
+    """A manifest made by chance that is built again to the same bytes: texts as names, alignments of 4, no sharing."""
+
+    def name(self):
+        length = self.chance.choice([1, 2, 3, 8, 40, 120])
+        name = "".join(self.chance.choice("abcdefg%. \u00e9\n-_") for _ in range(length))
+        return b"-" if name in (".", "..") else name.encode()
+
+    def further(self, path):
+        """Adds nothing."""
+
+    def add(self):
+        before, manifests.ALIGNMENTS = manifests.ALIGNMENTS, [4]
+        try:
+            super().add()
+        finally:
+            manifests.ALIGNMENTS = before
+
+
+class Name:
+    """A name of an image, as its list tells it."""
+
+    def __init__(self, fields, path, text):
+        self.number, self.kind, self.mode = fields[0], fields[1], int(fields[2], 8)
+        self.user, self.group, self.size = (int(it) for it in fields[3:6])
+        self.device, self.path, self.text = fields[6:8], path, text
+        self.fields = fields[1:]
+
+
+def names_in(binary, image):
+    """The names of an image."""
+    for line in run(binary, "list", image).stdout.decode("ascii").split("\n")[:-1]:
+        fields = line.split(" ")
+        yield Name(fields[:8], fields[8], " ".join(fields[9:]))
+
+
+def volume_of(data):
+    """The name of an image's volume."""
+    return (data[16:] if data.startswith(b"-rom1fs-") else data[48:64]).split(b"\0")[0]
+
+
+def manifest_of(data, names, folder):
+    """The manifest of an image of these bytes and names, whose files are in a folder."""
+    volume, firsts, out = volume_of(data), {}, ""
+    if volume:
+        out += "volume %s\n" % escaped(volume)
+    for name in names:
+        if name.kind != "d" and firsts.setdefault(name.number, name) is not name:
+            out += "hard %s %s\n" % (name.path, firsts[name.number].path)
+            continue
+        out += "%s %s %04o %d %d" % (WORDS[name.kind], name.path, name.mode, name.user, name.group)
+        if name.kind == "f":
+            out += " 4 %s%s" % (escaped(folder.encode()), name.path)
+        elif name.kind == "l":
+            out += " " + name.text
+        elif name.kind in "bc":
+            out += " %s %s %s" % (name.kind, *name.device)
+        out += "\n"
+    return out.encode()
+
+
+def shortly(done):
+    """What a run printed and its status, cut to what can be read."""
+    return "%.200r" % (answer(done),)
+
+
+def is_text(some):
+    """Whether bytes are UTF-8."""
+    try:
+        return bool(some.decode("utf-8") or True)
+    except UnicodeDecodeError:
+        return False
+
+
+def has_place(name, folder):
+    """Whether a file can have a name here."""
+    if name.kind not in "dfl":
+        return True
+    place = folder.encode() + raw(name.path)
+    text = raw(name.text) if name.kind == "l" else b"x"
+    fits = is_text(place) and len(place) < 4096 and max(map(len, place.split(b"/"))) < 256
+    return fits and is_text(text) and 0 < len(text) < 4096 and b"\0" not in text
+
+
+def wrong_in_folder(binary, image, names, folder):
+    """What is wrong with the files of a folder, compared with the names of an image."""
+    wanted = {raw(name.path).rstrip(b"/"): name for name in names if name.kind in "dfl"}
+    top = os.fsencode(folder)
+    found = {b""}
+    for place, folders, files in os.walk(top):
+        found.update((place + b"/" + name)[len(top) :] for name in folders + files)
+    for path in found ^ wanted.keys():
+        yield "%r is in one of the two alone" % path
+    numbers = {}
+    for path, name in wanted.items():
+        shown = os.lstat(top + path)
+        if stat.S_IFMT(shown.st_mode) != {"d": stat.S_IFDIR, "f": stat.S_IFREG, "l": stat.S_IFLNK}[name.kind]:
+            yield "%r is of another kind" % path
+        elif name.kind == "l":
+            if os.readlink(top + path) != raw(name.text):
+                yield "%r leads elsewhere" % path
+            continue
+        elif name.kind == "f":
+            if bytes_in(top + path) != run(binary, "cat", image, raw(name.path)).stdout:
+                yield "%r has other bytes" % path
+            if numbers.setdefault(name.number, shown.st_ino) != shown.st_ino:
+                yield "%r is no link to the file that it shares" % path
+        if stat.S_IMODE(shown.st_mode) != name.mode & ~LENDING:
+            yield "%r has the mode %o" % (path, shown.st_mode)
+
+
+def numbered(names, binary):
+    """The names of two images sorted by their paths, each with all their numbers of nodes."""
+    for some in (names, list(names_in(binary, "again"))):
+        some = sorted(some, key=lambda it: it.path)
+        yield some, [it.number for it in some]
+
+
+def wrong_again(binary, image, names, done, format):
+    """What is wrong with the image that is built of what was taken apart."""
+    put("manifest", done.stdout)
+    built = run(binary, "build", format, "manifest", "again")
+    if built.returncode == 1 and built.stdout.endswith((b" 1 Attribute\n", b"plan 0 2 TooLarge\n")):
+        return  # numbers of devices that are not built; files of cramfs that share their blocks
+    if built.returncode:
+        yield "build: %r" % (built.stdout + built.stderr)
+        return
+    before, after = ([(it.path, it.text, it.fields) for it in found] for found in (names, names_in(binary, "again")))
+    if sorted(before) != sorted(after):
+        yield "another list: %.300r" % [pair for pair in zip(sorted(before), sorted(after)) if pair[0] != pair[1]][:1]
+    shared = [[found.index(it.number) for it in some] for some, found in numbered(names, binary)]
+    if shared[0] != shared[1]:
+        yield "other names share a file"
+
+
+def wrong_extract(binary, image, folder="out"):
+    """What is wrong after an image was taken apart in the current folder, which had no `out`."""
+    names, data = list(names_in(binary, image)), bytes_in(image)
+    done = run(binary, "extract", image, folder)
+    unfit = [name for name in names if not has_place(name, folder)]
+    if unfit:
+        told = ("file %s%s\n" % (escaped(folder.encode()), unfit[0].path)).encode()
+        if answer(done) != (b"", told, 3) or os.path.lexists(folder):
+            yield "a name that no file can have: %s" % shortly(done)
+        return
+    if answer(done) != (manifest_of(data, names, folder), b"", 0):
+        yield "extract: %d %r %r" % (done.returncode, done.stderr, done.stdout[:300])
+        return
+    format = run(binary, "check", image).stdout.decode("ascii").split(" ")[1]
+    yield from wrong_in_folder(binary, image, names, folder)
+    yield from wrong_again(binary, image, names, done, format)
+
+
+def clear():
+    """Empties the current folder."""
+    for name in os.listdir("."):
+        if os.path.isdir(name) and not os.path.islink(name):
+            subprocess.run(["chmod", "-R", "u+rwx", name], check=True)
+            shutil.rmtree(name)
+        else:
+            os.remove(name)
+
+
+def of_cases(binary):
+    """Each small image of the cases is taken apart, and built again."""
+    seen, apart = set(), 0
+    for name, told in images_of_cases():
+        if isinstance(told, dict) and "sparse" in told:
+            continue
+        data = cases.bytes_of(told)
+        if data in seen or len(data) > 2**20:
+            continue
+        seen.add(data)
+        clear()
+        put("image", data)
+        checked = run(binary, "check", "image")
+        if checked.returncode:
+            refused = run(binary, "extract", "image", "out")
+            if answer(refused) != answer(checked) or os.path.lexists("out"):
+                yield "%s: %r and not %r" % (name, answer(refused), answer(checked))
+            continue
+        apart += 1
+        for wrong in wrong_extract(binary, "image"):
+            yield "%s: %s" % (name, wrong)
+    print("of_cases: %d images taken apart, of %d" % (apart, len(seen)))
+
+
+def lay_out(made):
+    """Writes a manifest made by chance, and its sources."""
+    for number, contents in enumerate(made.sources):
+        put("source%d" % number, contents)
+    put("manifest", "\n".join(made.lines).encode("ascii"))
+
+
+def of_manifest(binary, seed):
+    """What is wrong with the image of a manifest of any names, taken apart."""
+    made = Made(seed)
+    lay_out(made)
+    built = run(binary, "build", made.format, "manifest", "image")
+    if built.returncode:
+        yield "build: %r" % (built.stdout + built.stderr)
+        return
+    yield from wrong_extract(binary, "image")
+
+
+def the_same_bytes(binary, seed):
+    """What is wrong with the image of a plain manifest, taken apart and built again."""
+    made = Plain(seed)
+    lay_out(made)
+    built = run(binary, "build", made.format, "manifest", "image")
+    done = run(binary, "extract", "image", "out")
+    put("second", done.stdout)
+    again = run(binary, "build", made.format, "second", "again")
+    if built.returncode or done.returncode or again.returncode:
+        yield "%r %r %r" % (answer(built), answer(done)[1:], answer(again))
+    elif bytes_in("image") != bytes_in("again"):
+        yield "other bytes"
+
+
+def by_chance(counts, binary, arguments):
+    """Manifests made by chance."""
+    for seed in range(arguments.first, arguments.first + arguments.count):
+        for test in (of_manifest, the_same_bytes):
+            with tempfile.TemporaryDirectory(prefix="romtool-") as top:
+                os.chdir(top)
+                wrong = list(test(binary, seed))
+                clear()
+                os.chdir("/")
+            if wrong:
+                counts.fails("%s, seed %d" % (test.__name__, seed), wrong)
+            else:
+                counts.passes()
+
+
+# the edge
+
+
+def build_image(binary, lines, format="romfs", sources=()):
+    """Builds the file `image` of a manifest's lines and sources."""
+    for name, held in sources:
+        put(name, held)
+    put("m", "".join(line + "\n" for line in lines).encode())
+    built = run(binary, "build", format, "m", "image")
+    assert built.returncode == 0, answer(built)
+
+
+def small(binary, format="cramfs"):
+    """Builds an image with a few names of each kind."""
+    lines = ["dir / 0750 0 0", "dir /d 0711 0 0", "file /d/a 0600 0 0 4 a", "slink /d/l 0777 0 0 a", "file /b 0640 0 0 4 b"]
+    lines += ["pipe /p 0600 0 0", "dir /d/e 0555 0 0", "file /d/e/f 0444 0 0 4 a"]
+    build_image(binary, lines, format, [("a", b"hello\n"), ("b", bytes(9000))])
+
+
+def refused(done, name, words=b""):
+    """What is wrong with a refusal of a name."""
+    if answer(done) != (b"", b"file %s\n" % escaped(name).encode() + words, 3):
+        yield "%r: %r" % (name, answer(done))
+
+
+def folders_that_are_there(binary):
+    """A folder that is there and empty is filled and keeps its mode; anything else is refused, and stays."""
+    small(binary)
+    os.mkdir("empty", 0o751)
+    done = run(binary, "extract", "image", "empty/")
+    if done.returncode or stat.S_IMODE(os.stat("empty").st_mode) != 0o751:
+        yield "empty: %r, %o" % (answer(done), os.stat("empty").st_mode)
+    if b"4 empty/d/a\n" not in done.stdout:
+        yield "sources: %r" % done.stdout
+    os.mkdir("full")
+    put("full/x", b"x")
+    put("file", b"file")
+    os.symlink("nothing", "dangling")
+    os.symlink("full", "to_full")
+    before = sorted(os.walk("."))
+    for name in (b"full", b"file", b"dangling", b"to_full", b"no/folder", b"empty", b"/", b""):
+        yield from refused(run(binary, "extract", "image", name), name)
+    if sorted(os.walk(".")) != before or bytes_in("file") != b"file":
+        yield "something was changed"
+    os.mkdir("other")
+    os.symlink("other", "to_other")
+    if run(binary, "extract", "image", "to_other").returncode or not os.path.exists("other/d/a"):
+        yield "a link to an empty folder"
+
+
+def links_that_lead_elsewhere(binary):
+    """Links are made as they are, and nothing is made through one."""
+    lines = ["slink /a 0777 0 0 ..", "dir /a. 0755 0 0", "file /a./x 0644 0 0 4 s", "slink /b 0777 0 0 /etc/passwd"]
+    lines += ["slink /c 0777 0 0 ../aside/y", "file /d 0644 0 0 4 s", "slink /z 0777 0 0 d"]
+    build_image(binary, lines, "cramfs", [("s", b"s")])
+    os.mkdir("aside")
+    for wrong in wrong_extract(binary, "image"):
+        yield wrong
+    if os.listdir("aside") or [os.readlink("out/" + name) for name in "abcz"] != ["..", "/etc/passwd", "../aside/y", "d"]:
+        yield "links: %r" % os.listdir("aside")
+
+
+def images_that_are_refused(binary):
+    """A fault of the image is told as `check` tells it, and nothing is made."""
+    small(binary)
+    data = bytearray(bytes_in("image"))
+    data[100] ^= 1
+    put("bad", bytes(data))
+    done = run(binary, "extract", "bad", "out")
+    if answer(done) != answer(run(binary, "check", "bad")) or done.returncode != 1:
+        yield "bad: %s" % shortly(done)
+    yield from refused(run(binary, "extract", "none", "out"), b"none")
+    for words in ([], ["image"], ["image", "out", "more"], ["--owner", "image", "out"]):
+        if answer(run(binary, "extract", *words)) != (b"", b"usage\n", 2):
+            yield "words: %r" % words
+    if os.path.exists("out"):
+        yield "out was made"
+
+
+def names_that_no_file_has(binary):
+    """Names and texts that the system does not take are told before anything is made."""
+    put("image", images.romfs_list([b"first", b"a\xff"]))
+    if run(binary, "check", "image").returncode:
+        yield "the name is none of romfs"
+    yield from refused(run(binary, "extract", "image", "out"), b"out/a\xff")
+    build_image(binary, ["slink /l 0777 0 0 %FF"])
+    yield from refused(run(binary, "extract", "image", "out"), b"out/l")
+    deep = "x" * 60 + "/"
+    os.makedirs(deep * 45)
+    here = deep * 45 + "out"
+    build_image(binary, ["dir /" + "/".join(["y" * 100] * k) + " 0755 0 0" for k in range(1, 17)])
+    done = run(binary, "extract", "image", here)
+    if done.returncode != 3 or not done.stderr.startswith(b"file " + here.encode() + b"/y"):
+        yield "a place of more than 4095 bytes: %s" % shortly(done)
+    if os.path.lexists("out") or os.path.lexists(here):
+        yield "out was made"
+
+
+def images_that_no_manifest_tells(binary):
+    """A path of more than 4095 bytes, and a volume of more than 255, are told before anything is made."""
+    put("image", deep_image(64, 255))
+    for words, line in ((("check",), None), (("extract",), b"path\n")):
+        done = run(binary, words[0], "image", *["out"] * (line is not None))
+        if line is None and done.returncode:
+            yield "check: %s" % shortly(done)
+        elif line is not None and answer(done) != (b"", line, 3):
+            yield "path: %s" % shortly(done)
+    put("image", with_volume(b"v" * 256))
+    if answer(run(binary, "extract", "image", "out")) != (b"", b"volume\n", 3):
+        yield "volume: %r" % (answer(run(binary, "extract", "image", "out")),)
+    put("image", with_volume(b"v %\n" + b"v" * 251))
+    done = run(binary, "extract", "image", "out2")
+    if answer(done) != (b"volume v%%20%%25%%0A%s\ndir / 0755 0 0\n" % (b"v" * 251), b"", 0):
+        yield "a volume of 255 bytes: %s" % shortly(done)
+    if os.path.lexists("out"):
+        yield "out was made"
+
+
+def with_volume(name):
+    """A romfs image of an empty root with this volume."""
+    text = images.padded(name + b"\0", 16)
+    at = 16 + len(text)
+    body = text + images.header(at + 32, images.DIRECTORY, at, 0, b".") + images.header(0, images.HARD_LINK, at, 0, b"..")
+    return images.mended(b"-rom1fs-" + (16 + len(body)).to_bytes(4, "big") + bytes(4) + body, 0, min(512, 16 + len(body)))
+
+
+def deep_image(depth, length):
+    """A romfs image of folders in folders, each with a name of so many bytes."""
+    size = 16 + (length + 16) // 16 * 16
+    parts = [images.header(64, images.DIRECTORY, 32, 0, b"."), images.header(96, images.HARD_LINK, 32, 0, b"..")]
+    above, here = 32, 96
+    for _ in range(depth):
+        first = here + size
+        parts.append(images.header(0, images.DIRECTORY, first, 0, b"n" * length))
+        parts.append(images.header(first + 32, images.HARD_LINK, here, 0, b"."))
+        parts.append(images.header(first + 64, images.HARD_LINK, above, 0, b".."))
+        above, here = here, first + 64
+    parts[-1] = images.header(0, images.HARD_LINK, images_before(depth, size), 0, b"..")
+    return images.romfs(parts)
+
+
+def images_before(depth, size):
+    """Where the header of the last but one of these folders stands."""
+    return 32 if depth == 1 else 96 + (depth - 2) * (size + 64)
+
+
+def without_rights(binary):
+    """Who is not root takes images apart, too: with modes of 0, and folders that cannot be written."""
+    modes = ["dir / 0755 0 0", "dir /none 0000 0 0", "file /none/a 0000 0 0 4 a", "dir /none/d 0500 0 0", "file /none/d/b 0200 0 0 4 a"]
+    build_image(binary, [*modes, "file /set 6755 0 0 4 a", "dir /sticky 1777 0 0"], "cramfs", [("a", b"a")])
+    os.chmod(".", 0o777)
+    as_nobody = {"preexec_fn": become_nobody} if IS_ROOT else {}
+    done = run(binary, "extract", "image", "out", **as_nobody)
+    if done.returncode or done.stdout != manifest_of(bytes_in("image"), names_in(binary, "image"), "out"):
+        yield "%s" % shortly(done)
+    if IS_ROOT:
+        yield from wrong_in_folder(binary, "image", list(names_in(binary, "image")), "out")
+    os.mkdir("kept")
+    os.chmod("kept", 0o555)
+    yield from refused(run(binary, "extract", "image", "kept/out", **as_nobody), b"kept/out")
+    if IS_ROOT:
+        yield from refused(run(binary, "extract", "image", "kept", **as_nobody), b"kept")
+        build_image(binary, ["dir / 0755 7 7"], "cramfs")
+        yield from refused(run(binary, "extract", "--owners", "image", "own", **as_nobody), b"own")
+
+
+@needs_root
+def owners(binary):
+    """`--owners` sets owners, and all bits of modes; without it they stay out."""
+    lines = ["dir / 2755 1 2", "file /a 6755 3 4 4 a", "slink /l 0777 5 6 a", "dir /d 3770 7 8", "same /b 4711 9 10 /a"]
+    build_image(binary, lines, "cramfs", [("a", b"a")])
+    for words, mask, bits in ((["--owners"], 1, 0o7777), ([], 0, 0o1777)):
+        clear_out()
+        done = run(binary, "extract", *words, "image", "out")
+        for path, mode, user, group in (("", 0o2755, 1, 2), ("a", 0o6755, 3, 4), ("d", 0o3770, 7, 8), ("b", 0o4711, 9, 10), ("l", 0o777, 5, 6)):
+            shown = os.lstat("out/" + path)
+            got = (stat.S_IMODE(shown.st_mode), shown.st_uid, shown.st_gid)
+            if done.returncode or got != (mode & bits, user * mask, group * mask):
+                yield "%r %s: %r" % (words, path, got)
+
+
+def clear_out():
+    """Removes what was taken apart."""
+    if os.path.lexists("out"):
+        subprocess.run(["chmod", "-R", "u+rwx", "out"], check=True)
+        shutil.rmtree("out")
+
+
+def output_that_is_not_taken(binary):
+    """Where standard output takes nothing, what was made stays, and the status says so."""
+    small(binary)
+    with open("/dev/full", "wb") as full:
+        done = subprocess.run([binary, "extract", "image", "out"], stdout=full, stderr=subprocess.PIPE)
+    if (done.returncode, done.stderr) != (3, b"write fault\n") or not os.path.exists("out/d/a"):
+        yield "%d %r" % (done.returncode, done.stderr)
+
+
+@needs_strace
+def each_call_failed(binary):
+    """Whichever call is failed: the status says it, nothing is outside, and what is there is a part of the image."""
+    small(binary)
+    names = list(names_in(binary, "image"))
+    wanted = manifest_of(bytes_in("image"), names, "out")
+    ends = collections.Counter()
+    for there in (False, True):
+        clear_out()
+        lay(there)
+        made, _ = traced.calls(binary, "extract", "image", "out")
+        for call in made:
+            for fault in FAULTS if call.name in FAILED else ():
+                clear_out()
+                lay(there)
+                told = traced.inject(call.name, fault, call.number)
+                done = traced.run(binary, "extract", "image", "out", told=told)
+                ends[(fault, done.returncode)] += 1
+                for wrong in wrong_after(binary, done, names, wanted, there, fault):
+                    yield "%s, %s: %s" % (call.text[:60], fault, wrong)
+    told = ("%s ended with %d: %d" % (*end, number) for end, number in sorted(ends.items()))
+    print("each_call_failed: %d faults; %s" % (sum(ends.values()), ", ".join(told)))
+
+
+def lay(there):
+    """Makes the folder, or not."""
+    if there:
+        os.mkdir("out", 0o755)
+
+
+def wrong_after(binary, done, names, wanted, there, fault):
+    """What is wrong after one call was failed."""
+    if sorted(os.listdir(".")) not in (["a", "b", "image", "m"], ["a", "b", "image", "m", "out"]):
+        yield "made outside: %r" % os.listdir(".")
+    if done.returncode == 0:
+        if done.stdout != wanted:
+            yield "another manifest: %r" % done.stdout
+        if not there:
+            yield from wrong_in_folder(binary, "image", names, "out")
+    elif fault != "signal=KILL" and (done.returncode != 3 or not done.stderr):
+        yield "status %d, %r" % (done.returncode, done.stderr)
+    if done.returncode == 3 and there and stat.S_IMODE(os.stat("out").st_mode) not in (0o755, 0o700):
+        yield "the folder's mode is %o" % os.stat("out").st_mode
+    if os.path.isdir("out/d") and os.path.islink("out/d/l") and os.readlink("out/d/l") != "a":
+        yield "the link leads elsewhere"
+
+
+def memory_refused(binary):
+    """Whichever allocation is refused, alone or with all later ones: nothing is printed but `memory`, or all is well."""
+    small(binary)
+    names = list(names_in(binary, "image"))
+    wanted = manifest_of(bytes_in("image"), names, "out")
+    refuse, mark, tried = os.path.abspath("refuse.so"), os.path.abspath("mark"), 0
+    if not shutil.which("cc"):
+        yield None
+        return
+    subprocess.run(["cc", "-shared", "-fPIC", "-o", refuse, os.path.join(HERE, "refuse.c"), "-ldl"], check=True)
+    for more in ({}, {"REFUSE_ALL": "yes"}):
+        for number in itertools.count(1):
+            clear_out()
+            told = {"LD_PRELOAD": refuse, "REFUSE_AT": str(number), "REFUSED": mark, **more}
+            done = run(binary, "extract", "image", "out", env={**os.environ, **told})
+            if not os.path.exists(mark):
+                break
+            os.remove(mark)
+            tried += 1
+            if answer(done) == (wanted, b"", 0):
+                yield from wrong_in_folder(binary, "image", names, "out")
+            elif answer(done) != (b"", b"memory\n", 3):
+                yield "allocation %d: %s" % (number, shortly(done))
+    print("memory_refused: %d allocations refused" % tried)
+
+
+def many_files(binary):
+    """20,000 files are taken apart."""
+    put("a", b"a")
+    folders = ["dir /%d 0755 0 0" % k for k in range(20)]
+    files = ["file /%d/%05d 0644 0 0 4 a" % (k % 20, k) for k in range(20000)]
+    build_image(binary, folders + files)
+    done = run(binary, "extract", "image", "out")
+    if done.returncode or sum(len(held) for _, _, held in os.walk("out")) != 20000:
+        yield "%d %.300r" % (done.returncode, done.stderr)
+
+
+TESTS = [
+    folders_that_are_there, links_that_lead_elsewhere, images_that_are_refused, names_that_no_file_has,
+    images_that_no_manifest_tells, without_rights, owners, output_that_is_not_taken, each_call_failed,
+    memory_refused, many_files, of_cases,
+]  # fmt: skip
+
+
+def main():
+    reader = parser("Takes images apart, and builds them again.")
+    reader.add_argument("--count", type=int, default=300, help="how many manifests")
+    reader.add_argument("--first", type=int, default=1, help="the seed of the first one")
+    reader.add_argument("--name", default="", help="the tests alone whose name has this text")
+    arguments = reader.parse_args()
+    binary, counts = program_of(arguments), Counts()
+    for test in TESTS:
+        if arguments.name in test.__name__:
+            run_one(counts, test, binary)
+    if not arguments.name:
+        by_chance(counts, binary, arguments)
+    return counts.close()
+
+
+def run_one(counts, test, binary):
+    """Runs a test in a folder of its own."""
+    with tempfile.TemporaryDirectory(prefix="romtool-") as top:
+        os.chdir(top)
+        wrong = list(test(binary))
+        clear()
+        os.chdir("/")
+    if wrong == [None]:
+        counts.skips(test.__name__)
+    elif wrong:
+        counts.fails(test.__name__, wrong[:10])
+    else:
+        counts.passes()
+
+
+if __name__ == "__main__":
+    sys.exit(main())
