@@ -11,10 +11,10 @@ use Rattle.manifest.specs.Lines.{is_hard}
 use Rattle.manifest.specs.declared.line.Line.{Line}
 use Rattle.manifest.specs.declared.line.Word.{Word}
 use Rattle.manifest.specs.declared.line.Word.TheVariants.{Dir, File, Slink, Block, Character, Fifo, Socket, Hard, Same}
-use Rattle.name_tree.specs.Names.{Inode}
-use Rattle.name_tree.specs.Tree.{inode_by, inode_of, with_contents}
-use Rattle.misfits.specs.Format.{romfs, cramfs}
-use Rattle.misfits.specs.Misfit.{HasBadAttribute}
+use Rattle.manifest_tree.specs.Names.{Inode}
+use Rattle.manifest_tree.specs.Tree.{inode_by, inode_of, with_contents}
+use Rattle.manifest_layout.specs.Format.{romfs, cramfs}
+use Rattle.manifest_layout.specs.Misfit.{HasBadAttribute}
 use Rattle.plan_misfits.specs.Formats.{format_of}
 use Rattle.plan_misfits.specs.declared.format.Format.{Format}
 use Rattle.plan_misfits.specs.declared.format.Format.TheVariants.{Romfs, Cramfs, CramfsBig}

@@ -10,8 +10,8 @@ ghost use Rattle.manifest.specs.Lines.{is_hard};
 ghost use Rattle.manifest.specs.declared.line.Line.{Line};
 ghost use Rattle.manifest_text.specs.Printed as printed;
 ghost use Rattle.manifest_text.specs.Printed.{as_read, lines_text};
-ghost use Rattle.misfits.specs.Misfit.{HasBadAttribute};
-ghost use Rattle.name_tree.specs.Tree.{inode_of};
+ghost use Rattle.manifest_layout.specs.Misfit.{HasBadAttribute};
+ghost use Rattle.manifest_tree.specs.Tree.{inode_of};
 ghost use Rattle.plan_misfits.specs.Formats.{format_of};
 ghost use Rattle.plan_misfits.specs.declared.format.Format as code;
 

@@ -1,12 +1,12 @@
 -- The lists of a forest's directories begin at different places: a record where two begin would have two references.
 use Rattle.std.proofs.Common.{◌≡◌, ◌≢◌, ℕ, ◌<◌, true, List, Option, Some, IsSome, refl, sym, ap, subst, ◌∙◌, arith}
-use Rattle.record_walk.specs.declared.reference.Reference.{Reference}
-use Rattle.record_walk.specs.declared.reference.Row.{Row}
-use Rattle.record_walk.specs.Members.{Pairs}
-use Rattle.record_walk.specs.References.{Reached, more}
-use Rattle.record_walk.specs.Forest.{Forest, all_rows, IsForest}
-use Rattle.record_walk.proofs.Lists.{pairs_from, pairs_of}
-use Rattle.record_walk.proofs.Back.{clean_of}
+use Rattle.record_forest.specs.declared.reference.Reference.{Reference}
+use Rattle.record_forest.specs.declared.reference.Row.{Row}
+use Rattle.record_forest.specs.Members.{Pairs}
+use Rattle.record_forest.specs.References.{Reached, more}
+use Rattle.record_forest.specs.Forest.{Forest, all_rows, IsForest}
+use Rattle.record_forest.proofs.Lists.{pairs_from, pairs_of}
+use Rattle.record_forest.proofs.Back.{clean_of}
 use Rattle.cramfs_format.specs.declared.order.Order.{Order}
 use Rattle.cramfs_format.specs.Inode.{size_of, type_of, offset_of, list_start}
 use Rattle.cramfs_format.specs.Refers.{references, reference_target, LeadsToSound}

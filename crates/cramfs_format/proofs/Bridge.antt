@@ -5,13 +5,13 @@ use Rattle.std.proofs.lemmas.Bool.Decides.{eqb_tells}
 use Rattle.std.proofs.lemmas.List.Elements.{recursion_from_All}
 use Rattle.std.specs.List.{AllByRecursion as Every}
 use Rattle.rom_tree.specs.Tree.{Node, depth}
-use Rattle.record_walk.specs.declared.reference.Reference.{Reference}
-use Rattle.record_walk.specs.declared.reference.Row.{Row}
-use Rattle.record_walk.specs.References.{Reached}
-use Rattle.record_walk.specs.Forest.{Forest, none, at, Stands, rows, all_rows, IsForest, count, stands_in}
-use Rattle.record_walk.proofs.Lists.{every_left, every_right, every_weaker, every_both}
-use Rattle.record_walk.proofs.Place.{rows_reached, rows_lead, rows_sound}
-use Rattle.record_walk.proofs.Same.{same_forest as same_standing}
+use Rattle.record_forest.specs.declared.reference.Reference.{Reference}
+use Rattle.record_forest.specs.declared.reference.Row.{Row}
+use Rattle.record_forest.specs.References.{Reached}
+use Rattle.record_forest.specs.Forest.{Forest, none, at, Stands, rows, all_rows, IsForest, count, stands_in}
+use Rattle.record_forest.proofs.Lists.{every_left, every_right, every_weaker, every_both}
+use Rattle.record_forest.proofs.Place.{rows_reached, rows_lead, rows_sound}
+use Rattle.record_forest.proofs.Same.{same_forest as same_standing}
 use Rattle.cramfs_format.specs.declared.order.Order.{Order}
 use Rattle.cramfs_format.specs.Inode.{type_of, has_data, end_of, list_start, list_end, ListLies, HasBody}
 use Rattle.cramfs_format.specs.Refers.{references, reference_target, root_place, LeadsToSound}

@@ -3,7 +3,7 @@ use Rattle.std.proofs.Common.{◌≡◌, ℕ, zero, suc, ◌+◌, ◌<◌, ◌�
 use Rattle.std.proofs.lemmas.Bool.{eq-eqb, le-ltb}
 use Rattle.std.proofs.lemmas.Bool.Decides.{eqb_tells}
 use Rattle.rom_tree.specs.Tree.{entry_at}
-use Rattle.record_walk.specs.Forest.{Forest, none, at, count, Everywhere}
+use Rattle.record_forest.specs.Forest.{Forest, none, at, count, Everywhere}
 use Rattle.cramfs_format.specs.declared.order.Order.{Order}
 use Rattle.cramfs_format.specs.Inode.{end_of, list_start, list_end}
 use Rattle.cramfs_format.specs.Tree.{entries_at}

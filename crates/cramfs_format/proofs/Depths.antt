@@ -4,10 +4,10 @@ use Rattle.std.proofs.lemmas.Bool.{ne_eqb}
 use Rattle.std.proofs.lemmas.Bool.Decides.{eqb_tells}
 use Rattle.std.specs.List.{AllByRecursion as Every}
 use Rattle.rom_tree.specs.Tree.{depth, body_depth, entries_depth, directory, regular, symlink, block, character, socket, fifo}
-use Rattle.record_walk.specs.declared.reference.Reference.{Reference}
-use Rattle.record_walk.specs.declared.reference.Row.{Row}
-use Rattle.record_walk.specs.Forest.{Forest, none, at, Stands, rows, all_rows, IsForest}
-use Rattle.record_walk.proofs.Lists.{every_join, every_left, every_right}
+use Rattle.record_forest.specs.declared.reference.Reference.{Reference}
+use Rattle.record_forest.specs.declared.reference.Row.{Row}
+use Rattle.record_forest.specs.Forest.{Forest, none, at, Stands, rows, all_rows, IsForest}
+use Rattle.record_forest.proofs.Lists.{every_join, every_left, every_right}
 use Rattle.cramfs_format.specs.declared.order.Order.{Order}
 use Rattle.cramfs_format.specs.Inode.{type_of, end_of, list_start, list_end}
 use Rattle.cramfs_format.specs.Refers.{references, reference_target, root_place, LeadsToSound}

@@ -3,15 +3,15 @@ use Rattle.std.proofs.Common.{◌≡◌, ◌≢◌, ℕ, suc, ◌<◌, ◌≤◌
 use Rattle.std.proofs.lemmas.Bool.{cases_lt}
 use Rattle.std.proofs.lemmas.Bool.Decides.{eqb_tells}
 use Rattle.std.specs.List.{AllByRecursion as Every}
-use Rattle.record_walk.specs.declared.reference.Reference.{Reference}
-use Rattle.record_walk.specs.declared.reference.Row.{Row}
-use Rattle.record_walk.specs.Members.{Has, Pairs}
-use Rattle.record_walk.specs.Forest.{Forest, none, at, Stands, rows, all_rows, IsForest}
-use Rattle.record_walk.specs.Faults.{InList, first, next as next_in, beside_root, HasDepth}
-use Rattle.record_walk.proofs.Lists.{every_weaker, every_both, has_weaker, has_both, pairs_of, pairs_from, same_some}
-use Rattle.record_walk.proofs.Place.{Placed, rows_placed, rows_sound, listed_row, reached_row, listed_reached, listed_live}
-use Rattle.record_walk.proofs.Exact.{Differ}
-use Rattle.record_walk.proofs.Orders.{Follows, next as next_after, further as further_after, Comes, ordered}
+use Rattle.record_forest.specs.declared.reference.Reference.{Reference}
+use Rattle.record_forest.specs.declared.reference.Row.{Row}
+use Rattle.record_forest.specs.Members.{Has, Pairs}
+use Rattle.record_forest.specs.Forest.{Forest, none, at, Stands, rows, all_rows, IsForest}
+use Rattle.record_forest.specs.Faults.{InList, first, next as next_in, beside_root, HasDepth}
+use Rattle.record_forest.proofs.Lists.{every_weaker, every_both, has_weaker, has_both, pairs_of, pairs_from, same_some}
+use Rattle.record_forest.proofs.Place.{Placed, rows_placed, rows_sound, listed_row, reached_row, listed_reached, listed_live}
+use Rattle.record_forest.proofs.Exact.{Differ}
+use Rattle.record_forest.proofs.Orders.{Follows, next as next_after, further as further_after, Comes, ordered}
 use Rattle.cramfs_format.specs.declared.order.Order.{Order}
 use Rattle.cramfs_format.specs.Inode.{end_of, list_start, list_end, IsSound}
 use Rattle.cramfs_format.specs.Refers.{references, LeadsToSound}

@@ -1,7 +1,7 @@
 -- What stands in the bytes is determined by them.
 use Rattle.std.proofs.Common.{◌≡◌, ℕ, List, refl, sym, subst, ◌∙◌, zero, suc, ◌≤◌, arith}
 use Rattle.std.proofs.lemmas.Bool.{lt-ltb, le-ltb}
-use Rattle.record_walk.specs.Forest.{Forest, none, at, count}
+use Rattle.record_forest.specs.Forest.{Forest, none, at, count}
 use Rattle.cramfs_format.specs.declared.order.Order.{Order}
 use Rattle.cramfs_format.specs.Inode.{end_of, list_start, list_end}
 use Rattle.cramfs_format.specs.Made.{StandsAt, grow}

@@ -7,10 +7,10 @@ use Rattle.rom_fields.specs.declared.span.Extent.TheVariants.{Super, List as Lis
 use Rattle.rom_fields.specs.declared.span.Span.{Span}
 use Rattle.rom_fields.specs.Extents.{is_shareable, OverlapsAt, added}
 use Rattle.rom_faults.specs.declared.fault.Fault.{Fault}
-use Rattle.record_walk.specs.declared.reference.Row.{Row}
-use Rattle.record_walk.specs.Members.{Has, Pairs}
-use Rattle.record_walk.proofs.Lists.{every_join, every_weaker, every_all, has_every, has_left, has_right, pairs_join}
-use Rattle.record_walk.proofs.Spans.{NotTwin, overlaps_in, overlaps_of, pairs_flat, every_added, pairs_added, has_added, has_flat, every_flat}
+use Rattle.record_forest.specs.declared.reference.Row.{Row}
+use Rattle.record_forest.specs.Members.{Has, Pairs}
+use Rattle.record_forest.proofs.Lists.{every_join, every_weaker, every_all, has_every, has_left, has_right, pairs_join}
+use Rattle.record_forest.proofs.Spans.{NotTwin, overlaps_in, overlaps_of, pairs_flat, every_added, pairs_added, has_added, has_flat, every_flat}
 use Rattle.cramfs_format.specs.Order.{word}
 use Rattle.cramfs_format.specs.declared.order.Order.{Order}
 use Rattle.cramfs_format.specs.Inode.{size_of, type_of, offset_of, has_data, block_count, block_start}

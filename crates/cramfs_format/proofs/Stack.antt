@@ -3,7 +3,7 @@ use Rattle.std.proofs.Common.{◌≡◌, ℕ, suc, ◌+◌, ◌*◌, ◌≤◌, 
 use Rattle.std.proofs.lemmas.Bool.Decides.{eqb_tells}
 use Rattle.std.specs.Prelude.{max}
 use Rattle.rom_tree.specs.Tree.{Body, directory, regular, symlink, block, character, socket, fifo, Entries, no_entries, nodes, body_nodes, entries_nodes, entries_depth, body_depth}
-use Rattle.record_walk.specs.Forest.{none, count}
+use Rattle.record_forest.specs.Forest.{none, count}
 use Rattle.cramfs_format.specs.declared.order.Order.{Order}
 use Rattle.cramfs_format.specs.Inode.{type_of, end_of, list_start, list_end}
 use Rattle.cramfs_format.specs.Tree.{kind_numbers, node_of, entries_at, body_named, places_at, attributes_at}

@@ -4,7 +4,7 @@ use Rattle.std.proofs.lemmas.Bool.{eq-eqb, false≢true}
 use Rattle.std.specs.Prelude.{IsSomeAnd}
 use Rattle.rom_tree.specs.Tree.{Node, node, Body, Attributes, Entries, IsIn, here, there, nodes, body_nodes, entries_nodes, ino_of, entries_of, is_directory, node_at, IsCoherent}
 use Rattle.rom_tree.proofs.Nodes.{in-split, node_at-some}
-use Rattle.record_walk.specs.Forest.{Forest, none, at, Everywhere, count, stands_in}
+use Rattle.record_forest.specs.Forest.{Forest, none, at, Everywhere, count, stands_in}
 use Rattle.cramfs_format.specs.declared.order.Order.{Order}
 use Rattle.cramfs_format.specs.Inode.{type_of, end_of, list_start, list_end, HasBody}
 use Rattle.cramfs_format.specs.Refers.{root_place}

@@ -4,10 +4,10 @@ use Rattle.std.specs.Prelude.{◌≡◌, ◌≢◌, ℕ, ◌+◌, ◌-◌, ◌*�
 use Rattle.rom_fields.specs.declared.span.Extent.TheVariants.{Super, List as ListOf, Table, Data}
 use Rattle.rom_fields.specs.declared.span.Span.{Span}
 use Rattle.rom_fields.specs.Extents.{Overlap}
-use Rattle.record_walk.specs.declared.reference.Reference.{Reference}
+use Rattle.record_forest.specs.declared.reference.Reference.{Reference}
 use Rattle.rom_faults.specs.declared.fault.Fault.{Fault}
-use Rattle.record_walk.specs.References.{Reached}
-use Rattle.record_walk.specs.Faults.{TooMany, HasFault, Twice, InList, HasDepth, IsLeastFault, IsNone}
+use Rattle.record_forest.specs.References.{Reached}
+use Rattle.record_forest.specs.Faults.{TooMany, HasFault, Twice, InList, HasDepth, IsLeastFault, IsNone}
 use Rattle.cramfs_format.specs.Order.{word}
 use Rattle.cramfs_format.specs.declared.order.Order.{Order}
 use Rattle.cramfs_format.specs.Inode.{name_of, end_of, size_of, type_of, offset_of, list_end, has_data, block_count, block_start, IsSound}

@@ -1,7 +1,7 @@
 -- The tree of a checked image as a function of its accessible bytes b, in which there are no more than k records.
 -- (This project's own.)
 use Rattle.std.specs.Prelude.{◌≡◌, ℕ, zero, suc, ◌+◌, ◌^◌, ◌<◌, ◌≤◌, nat_lt, Bool, true, false, if◌then◌else◌, ◌==◌, List, length, Option, Some, None}
-use Rattle.record_walk.specs.Forest.{Forest, none, at, count, stands_in}
+use Rattle.record_forest.specs.Forest.{Forest, none, at, count, stands_in}
 use Rattle.rom_tree.specs.Tree.{Node, depth}
 use Rattle.cramfs_format.specs.declared.order.Order.{Order}
 use Rattle.cramfs_format.specs.Inode.{type_of, end_of, list_start, list_end, HasBody}

@@ -1,9 +1,9 @@
 -- What refers to what in a cramfs image: the superblock to the root, and a directory to each entry of its list, which
 -- follow one another from the list's start to its end. A reference is the pair of the two.
 use Rattle.std.specs.Prelude.{◌≡◌, ◌≢◌, ℕ, false, if◌then◌else◌, ◌==◌, nat_lt, Option, None, Some, List}
-use Rattle.record_walk.specs.declared.reference.Reference.{Reference}
+use Rattle.record_forest.specs.declared.reference.Reference.{Reference}
 use Rattle.rom_faults.specs.declared.fault.Fault.{Fault}
-use Rattle.record_walk.specs.References.{References}
+use Rattle.record_forest.specs.References.{References}
 use Rattle.cramfs_format.specs.declared.order.Order.{Order}
 use Rattle.cramfs_format.specs.Inode.{end_of, list_start, list_end, IsSound, ListLies, HasEntryFault}
 use Rattle.rom_faults.specs.FaultNumbers.{BOUNDS}

@@ -4,8 +4,8 @@ use Rattle.std.specs.List.{All, AllPairs, flat_map}
 use Rattle.rom_fields.specs.declared.span.Extent.TheVariants.{Super, List as ListOf, Table, Data}
 use Rattle.rom_fields.specs.declared.span.Span.{Span}
 use Rattle.rom_fields.specs.Extents.{OverlapsAt, added}
-use Rattle.record_walk.specs.declared.reference.Row.{Row}
-use Rattle.record_walk.specs.Forest.{Forest, none, at, all_rows, IsForest, NamesDiffer}
+use Rattle.record_forest.specs.declared.reference.Row.{Row}
+use Rattle.record_forest.specs.Forest.{Forest, none, at, all_rows, IsForest, NamesDiffer}
 use Rattle.rom_tree.specs.declared.types.Kind.{Kind}
 use Rattle.rom_tree.specs.Dots.{dot, dot_dot}
 use Rattle.rom_tree.specs.Kinds.{KindNumbers, by_kind, kind_by, body_by, device_by}

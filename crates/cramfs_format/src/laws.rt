@@ -1,6 +1,6 @@
 //! Laws about the cramfs definitions.
 ghost use Rattle.std.specs.Prelude.{◌≡◌, ◌≤◌, ◌<◌, ◌^◌, ℕ, List, length};
-ghost use Rattle.record_walk.specs.Forest.{Forest, all_rows};
+ghost use Rattle.record_forest.specs.Forest.{Forest, all_rows};
 ghost use Rattle.cramfs_format.specs.declared.order.Order.{Order};
 ghost use Rattle.cramfs_format.specs.Inode.{type_of};
 ghost use Rattle.cramfs_format.specs.Refers.{references, root_place};

@@ -9,9 +9,9 @@ use Rattle.std.specs.List.Sorted.{IsNonDecreasingBy}
 use Rattle.rom_fields.specs.declared.span.Span.{Span}
 use Rattle.rom_fields.specs.declared.span.Extent.TheVariants.{Table, Data}
 use Rattle.rom_fields.specs.Extents.{is_shareable, added}
-use Rattle.record_walk.specs.Members.{Has}
-use Rattle.record_walk.proofs.Lists.{every_join, every_weaker, has_left, has_right}
-use Rattle.record_walk.proofs.Spans.{every_added, has_added}
+use Rattle.record_forest.specs.Members.{Has}
+use Rattle.record_forest.proofs.Lists.{every_join, every_weaker, has_left, has_right}
+use Rattle.record_forest.proofs.Spans.{every_added, has_added}
 use Rattle.cramfs_format.specs.Order.{word}
 use Rattle.cramfs_format.specs.declared.order.Order.{Order}
 use Rattle.cramfs_format.specs.Inode.{block_count, block_start}

@@ -8,19 +8,19 @@ use Rattle.std.specs.Prelude.{IsSomeAnd}
 use Rattle.std.specs.List.{AllByRecursion as Every}
 use Rattle.rom_fields.specs.Extents.{OverlapsAt, IsLeastOf}
 use Rattle.rom_faults.specs.declared.fault.Fault.{Fault}
-use Rattle.record_walk.specs.declared.reference.Row.{Row}
-use Rattle.record_walk.specs.Members.{Pairs}
-use Rattle.record_walk.specs.Forest.{Forest, all_rows, IsForest, NamesDiffer}
-use Rattle.record_walk.proofs.Lists.{pairs_to, every_weaker, every_both}
-use Rattle.record_walk.proofs.Exact.{every_split, pairs_split}
-use Rattle.record_walk.proofs.Decided.{same_or_not}
+use Rattle.record_forest.specs.declared.reference.Row.{Row}
+use Rattle.record_forest.specs.Members.{Pairs}
+use Rattle.record_forest.specs.Forest.{Forest, all_rows, IsForest, NamesDiffer}
+use Rattle.record_forest.proofs.Lists.{pairs_to, every_weaker, every_both}
+use Rattle.record_forest.proofs.Exact.{every_split, pairs_split}
+use Rattle.record_forest.proofs.Decided.{same_or_not}
 use Rattle.cramfs_format.specs.declared.order.Order.{Order}
 use Rattle.cramfs_format.specs.Inode.{name_of}
 use Rattle.cramfs_format.specs.Refers.{references, LeadsToSound}
 use Rattle.cramfs_format.specs.Tree.{precedes, is_sorted, extents_of, NamesRise, IsNoDot, IsTree}
 use Rattle.cramfs_format.proofs.Depths.{IsWithin, tree_within}
 use Rattle.cramfs_format.proofs.Orders.{precedes_on, one_first}
-use Rattle.record_walk.specs.Sweep.{IsLeastRowFault}
+use Rattle.record_forest.specs.Sweep.{IsLeastRowFault}
 use Rattle.cramfs_image.specs.Phases.{IsTooDeep, IsShallow, Repeats, last_name, IsNameFault, IsWellNamed, AreWell, IsLaterFault, of_name}
 
 -- with no entry too deep and no overlap, the names decide

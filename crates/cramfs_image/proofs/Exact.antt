@@ -4,15 +4,15 @@ use Rattle.std.proofs.lemmas.Bool.Decides.{eqb_tells}
 use Rattle.std.specs.Prelude.{IsSomeAnd}
 use Rattle.std.specs.List.{AllByRecursion as Every}
 use Rattle.rom_faults.specs.declared.fault.Fault.{Fault}
-use Rattle.record_walk.specs.declared.reference.Row.{Row}
-use Rattle.record_walk.specs.Members.{Has, Pairs}
-use Rattle.record_walk.specs.Forest.{Forest, all_rows, IsForest}
-use Rattle.record_walk.specs.Faults.{InList, HasDepth}
-use Rattle.record_walk.proofs.Lists.{every_both, has_every, has_cases, pairs_cross, pairs_left, pairs_right}
-use Rattle.record_walk.proofs.Place.{one_depth}
-use Rattle.record_walk.proofs.Back.{clean_of}
-use Rattle.record_walk.proofs.Exact.{has_member, member_every, every_here, split_at, FoundAt}
-use Rattle.record_walk.proofs.Decided.{same_or_not}
+use Rattle.record_forest.specs.declared.reference.Row.{Row}
+use Rattle.record_forest.specs.Members.{Has, Pairs}
+use Rattle.record_forest.specs.Forest.{Forest, all_rows, IsForest}
+use Rattle.record_forest.specs.Faults.{InList, HasDepth}
+use Rattle.record_forest.proofs.Lists.{every_both, has_every, has_cases, pairs_cross, pairs_left, pairs_right}
+use Rattle.record_forest.proofs.Place.{one_depth}
+use Rattle.record_forest.proofs.Back.{clean_of}
+use Rattle.record_forest.proofs.Exact.{has_member, member_every, every_here, split_at, FoundAt}
+use Rattle.record_forest.proofs.Decided.{same_or_not}
 use Rattle.cramfs_format.specs.declared.order.Order.{Order}
 use Rattle.cramfs_format.specs.Inode.{name_of}
 use Rattle.cramfs_format.specs.Refers.{references, LeadsToSound}
@@ -109,9 +109,9 @@ module _ {o : Order} {b : List ℕ} {most : ℕ} {f : Forest} (h : IsForest (ref
   before_facts before x after among =
       let Listed : Row → Type 0 = λ y. IsListed o b y.directory y.offset in
       let all = subst (Every Facts) among (rows_listed h) in
-      let listed = Rattle.record_walk.proofs.Lists.every_weaker Facts Listed (λ y k. record { reference = y.reference; listed = k.0.0; place = k.0.1 }) before (Rattle.record_walk.proofs.Lists.every_left Facts before (x ∷ after) all) in
+      let listed = Rattle.record_forest.proofs.Lists.every_weaker Facts Listed (λ y k. record { reference = y.reference; listed = k.0.0; place = k.0.1 }) before (Rattle.record_forest.proofs.Lists.every_left Facts before (x ∷ after) all) in
       let cross = pairs_cross Rises before (x ∷ after) (subst (Pairs Rises) among (rows_rise h)) in
-      every_both Listed (λ (y : Row). Rises y x) before listed (Rattle.record_walk.proofs.Lists.every_weaker (λ (y : Row). Every (Rises y) (x ∷ after)) (λ (y : Row). Rises y x) (λ y k. k.0) before cross)
+      every_both Listed (λ (y : Row). Rises y x) before listed (Rattle.record_forest.proofs.Lists.every_weaker (λ (y : Row). Every (Rises y) (x ∷ after)) (λ (y : Row). Rises y x) (λ y k. k.0) before cross)
 
   -- a row that rises from the last one of its list comes right after it
   last_next : (before : List Row) (x : Row) (after : List Row) → drop 1 (all_rows (references o b) f) ≡ before ++ x ∷ after → (name : List ℕ) → (l : IsLast o b x.directory before name) → ComesNext o b x.directory l.row.offset x.offset
@@ -161,7 +161,7 @@ module _ {o : Order} {b : List ℕ} {most : ℕ} {f : Forest} (h : IsForest (ref
       let less = comes_rises p e.at c in
       let there = earlier s.0 s.1 s.2 p d (subst (Pairs Rises) s.3 (rows_rise h)) (subst (Has (IsAt p d)) s.3 (listed_in h d p (comes_from p e.at c))) (omega arith) s.4.1 in
       let Same : Row → Type 0 = λ y. (y.directory ≡ s.1.directory) × (name_of o b y.offset ≡ name_of o b s.1.offset) in
-      let same = Rattle.record_walk.proofs.Lists.has_weaker (IsAt p d) Same (λ y k. (k.1 ∙ sym s.4.1, ap (name_of o b) k.0 ∙ names ∙ ap (name_of o b) (sym s.4.0))) s.0 there in
+      let same = Rattle.record_forest.proofs.Lists.has_weaker (IsAt p d) Same (λ y k. (k.1 ∙ sym s.4.1, ap (name_of o b) k.0 ∙ names ∙ ap (name_of o b) (sym s.4.0))) s.0 there in
       record { before = s.0; row = s.1; after = s.2; among = s.3; at = s.4.0; found = repeated number (has_member Same s.0 same) }
 
   -- the last row before that of an entry is of the one just before it

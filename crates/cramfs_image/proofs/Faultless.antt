@@ -9,11 +9,11 @@ use Rattle.rom_tree.specs.declared.types.Limits.{Limits}
 use Rattle.rom_faults.specs.declared.error.CheckError.{CheckError}
 use Rattle.rom_faults.specs.declared.error.CheckError.TheVariants.{OutOfMemory, Fault as FaultAnswer}
 use Rattle.rom_faults.specs.declared.fault.Fault.{Fault}
-use Rattle.record_walk.specs.declared.reference.Row.{Row}
-use Rattle.record_walk.specs.Members.{Pairs}
-use Rattle.record_walk.specs.Forest.{Forest, all_rows, NamesDiffer}
-use Rattle.record_walk.proofs.Lists.{every_weaker, pairs_cross, pairs_from}
-use Rattle.record_walk.proofs.Exact.{every_here}
+use Rattle.record_forest.specs.declared.reference.Row.{Row}
+use Rattle.record_forest.specs.Members.{Pairs}
+use Rattle.record_forest.specs.Forest.{Forest, all_rows, NamesDiffer}
+use Rattle.record_forest.proofs.Lists.{every_weaker, pairs_cross, pairs_from}
+use Rattle.record_forest.proofs.Exact.{every_here}
 use Rattle.cramfs_format.specs.declared.order.Order.{Order}
 use Rattle.cramfs_format.specs.Inode.{name_of}
 use Rattle.cramfs_format.specs.Refers.{references}

@@ -4,13 +4,13 @@ use Rattle.std.proofs.lemmas.Bool.{true≢false, cases_lt}
 use Rattle.std.proofs.lemmas.Bool.Decides.{eqb_tells}
 use Rattle.rom_fields.specs.Extents.{IsLeastOf}
 use Rattle.rom_faults.specs.declared.fault.Fault.{Fault}
-use Rattle.record_walk.specs.Faults.{NotAfter, IsLeastFault, IsLeastFaultOf}
+use Rattle.record_forest.specs.Faults.{NotAfter, IsLeastFault, IsLeastFaultOf}
 use Rattle.cramfs_format.specs.Order.{word}
 use Rattle.cramfs_format.specs.declared.order.Order.{Order}
 use Rattle.cramfs_format.specs.Inode.{type_of, size_of, offset_of, name_of, block_start, block_len, Lies, is_kind, has_data, block_count, pointer_place, pointer_of, IsPlain, ListLies, TableLies, BlockLies, Fits, IsName, other_kind as kind_fault, link_size as link_fault, list_outside as list_fault, table_outside as table_fault, other_block as kind_of_block, block_outside as block_fault, HasEntryFault, past_end, bad_name as name_fault, bad_body}
-use Rattle.record_walk.proofs.Noted.{least_joined}
+use Rattle.record_forest.proofs.Noted.{least_joined}
 use Rattle.cramfs_image.specs.Phases.{IsFaultAt, list_outside, table_outside, bad_name, other_kind, link_size, IsPointerFault, other_block, block_outside}
-use Rattle.record_walk.specs.Lesser.{lesser_of_both}
+use Rattle.record_forest.specs.Lesser.{lesser_of_both}
 
 module _ {o : Order} {b : List ℕ} {p : ℕ} where
   pub least_list : (ListLies o b p → ⊥) → IsLeastOf (IsFaultAt o b p) (Some 11)

@@ -4,15 +4,15 @@ use Rattle.rom_tree.specs.declared.types.Limits.{Limits}
 use Rattle.rom_faults.specs.declared.error.CheckError.TheVariants.{Fault as FaultAnswer}
 use Rattle.rom_fields.specs.Extents.{OverlapsAt, IsLeastOf}
 use Rattle.rom_faults.specs.declared.fault.Fault.{Fault}
-use Rattle.record_walk.specs.declared.reference.Row.{Row}
-use Rattle.record_walk.specs.declared.traversal.TraversalError.{TraversalError}
-use Rattle.record_walk.specs.declared.traversal.TraversalError.TheVariants.{OutOfMemory as NoMemory, TooMany as TooManyRefusal, Record, Twice as TwiceRefusal}
-use Rattle.record_walk.specs.Traversal.{IsLeastRefusal}
-use Rattle.record_walk.specs.Answers.{traversal_answer}
-use Rattle.record_walk.specs.Forest.{Forest, all_rows, IsForest}
-use Rattle.record_walk.specs.Faults.{IsLeastFault, IsNone}
-use Rattle.record_walk.proofs.Back.{clean_of}
-use Rattle.record_walk.proofs.Exact.{none_found, least_found, least_numbered}
+use Rattle.record_forest.specs.declared.reference.Row.{Row}
+use Rattle.record_forest.specs.declared.traversal.TraversalError.{TraversalError}
+use Rattle.record_forest.specs.declared.traversal.TraversalError.TheVariants.{OutOfMemory as NoMemory, TooMany as TooManyRefusal, Record, Twice as TwiceRefusal}
+use Rattle.record_forest.specs.Traversal.{IsLeastRefusal}
+use Rattle.record_forest.specs.Answers.{traversal_answer}
+use Rattle.record_forest.specs.Forest.{Forest, all_rows, IsForest}
+use Rattle.record_forest.specs.Faults.{IsLeastFault, IsNone}
+use Rattle.record_forest.proofs.Back.{clean_of}
+use Rattle.record_forest.proofs.Exact.{none_found, least_found, least_numbered}
 use Rattle.cramfs_format.specs.declared.order.Order.{Order}
 use Rattle.cramfs_format.specs.Refers.{references, LeadsToSound, LeadsToFault}
 use Rattle.cramfs_format.specs.Tree.{extents_of}

@@ -2,14 +2,14 @@
 use Rattle.std.proofs.Common.{◌≡◌, ◌≢◌, ℕ, ◌+◌, ◌^◌, ◌<◌, ◌≤◌, List, length, None, Some, refl, sym, ap, ◌∙◌, arith, if◌then◌else◌}
 use Rattle.std.proofs.lemmas.Bool.{ne_eqb, eq-eqb, le-ltb}
 use Rattle.std.specs.Prelude.{nat_lt}
-use Rattle.record_walk.specs.declared.reference.Reference.{Reference}
-use Rattle.record_walk.specs.References.{Reached}
+use Rattle.record_forest.specs.declared.reference.Reference.{Reference}
+use Rattle.record_forest.specs.References.{Reached}
 use Rattle.cramfs_format.specs.declared.order.Order.{Order}
 use Rattle.cramfs_format.specs.Inode.{end_of, list_end}
 use Rattle.cramfs_format.specs.Refers.{references, reference_target, LeadsToSound, LeadsToFault}
 use Rattle.cramfs_format.proofs.Lawful.{IsPlaced, at_top, in_chain, reached_placed, target_placed, placed_above, sound_within, source_within}
 use Rattle.cramfs_format.proofs.Faults.{faultless_led}
-use Rattle.record_walk.specs.Faults.{IsLeastFaultOf}
+use Rattle.record_forest.specs.Faults.{IsLeastFaultOf}
 
 -- a reference, by its parts
 pub by_parts : (x : Reference) (s w : ℕ) → x.source ≡ s → x.which ≡ w → x ≡ record { source = s; which = w }

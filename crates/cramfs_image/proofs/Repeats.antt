@@ -5,8 +5,8 @@ use Rattle.std.specs.Prelude.{IfSome}
 use Rattle.std.specs.List.{AllByRecursion as Every}
 use Rattle.rom_fields.specs.declared.span.Span.{Span}
 use Rattle.rom_fields.specs.Extents.{is_shareable, Overlap, MeetsAt, OverlapsAt, IsLeastOf}
-use Rattle.record_walk.specs.Members.{Has}
-use Rattle.record_walk.proofs.Lists.{has_left, has_right, has_cases, has_weaker}
+use Rattle.record_forest.specs.Members.{Has}
+use Rattle.record_forest.proofs.Lists.{has_left, has_right, has_cases, has_weaker}
 
 -- y stands in the list
 abbrev pub Member : Span → List Span → Type 0

@@ -8,8 +8,8 @@ use Rattle.rom_fields.specs.declared.span.Span.{Span}
 use Rattle.rom_fields.specs.declared.span.Extent.TheVariants.{Super, Table}
 use Rattle.rom_fields.specs.Extents.{is_shareable, OverlapsAt, IsLeastOf, added}
 use Rattle.rom_fields.proofs.Same.{least_permuted}
-use Rattle.record_walk.specs.declared.reference.Row.{Row}
-use Rattle.record_walk.proofs.Lists.{every_join, every_weaker, has_left, has_right}
+use Rattle.record_forest.specs.declared.reference.Row.{Row}
+use Rattle.record_forest.proofs.Lists.{every_join, every_weaker, has_left, has_right}
 use Rattle.cramfs_format.specs.declared.order.Order.{Order}
 use Rattle.cramfs_format.specs.Inode.{type_of, size_of, offset_of, has_data, block_count, pointer_place}
 use Rattle.cramfs_format.specs.Tree.{data_from, file_extents, row_extents, extents_of}

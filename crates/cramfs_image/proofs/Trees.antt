@@ -5,9 +5,9 @@ use Rattle.std.specs.List.{All, Any, AllByRecursion as Every}
 use Rattle.rom_tree.specs.Tree.{depth}
 use Rattle.rom_tree.specs.Image.{Image}
 use Rattle.rom_tree.specs.declared.types.Limits.{Limits}
-use Rattle.record_walk.specs.declared.reference.Row.{Row}
-use Rattle.record_walk.specs.Forest.{Forest, none, at, all_rows, IsForest}
-use Rattle.record_walk.proofs.Lists.{every_weaker}
+use Rattle.record_forest.specs.declared.reference.Row.{Row}
+use Rattle.record_forest.specs.Forest.{Forest, none, at, all_rows, IsForest}
+use Rattle.record_forest.proofs.Lists.{every_weaker}
 use Rattle.cramfs_format.specs.declared.order.Order.{Order}
 use Rattle.cramfs_format.specs.Refers.{references, root_place, LeadsToSound}
 use Rattle.cramfs_format.specs.Superblock.{IsSuperblock}

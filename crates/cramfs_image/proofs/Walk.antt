@@ -7,7 +7,7 @@ use Rattle.cramfs_format.specs.declared.order.Order.{Order}
 use Rattle.cramfs_format.specs.Inode.{type_of, end_of, list_start, list_end}
 use Rattle.cramfs_format.specs.Refers.{root_place}
 use Rattle.cramfs_format.specs.Made.{grow, list_at, made, IsCramfs}
-use Rattle.record_walk.specs.Forest.{count}
+use Rattle.record_forest.specs.Forest.{count}
 use Rattle.cramfs_format.specs.Tree.{kind_numbers, node_of, attributes_at, places_at, entries_at, body_named}
 use Rattle.rom_tree.proofs.ByKind.{by_kind_map, by_kind_directory}
 use Rattle.cramfs_format.proofs.Trees.{IsList, root_list}

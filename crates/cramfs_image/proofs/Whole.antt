@@ -3,11 +3,11 @@ use Rattle.std.proofs.Common.{◌≡◌, ℕ, ◌^◌, ◌≤◌, min, List, len
 use Rattle.std.proofs.lemmas.Bool.{cases_lt}
 use Rattle.std.proofs.lemmas.Bool.Decides.{Decides-eqb, Decides-or}
 use Rattle.rom_tree.specs.Tree.{Node}
-use Rattle.record_walk.specs.declared.reference.Row.{Row}
-use Rattle.record_walk.specs.Forest.{Forest, all_rows, IsForest}
-use Rattle.record_walk.specs.Faults.{IsClean, IsNone}
-use Rattle.record_walk.proofs.Run.{forest_of}
-use Rattle.record_walk.proofs.Decided.{by_test, same_number, same_list}
+use Rattle.record_forest.specs.declared.reference.Row.{Row}
+use Rattle.record_forest.specs.Forest.{Forest, all_rows, IsForest}
+use Rattle.record_forest.specs.Faults.{IsClean, IsNone}
+use Rattle.record_forest.proofs.Run.{forest_of}
+use Rattle.record_forest.proofs.Decided.{by_test, same_number, same_list}
 use Rattle.cramfs_format.specs.Order.{word}
 use Rattle.cramfs_format.specs.declared.order.Order.{Order}
 use Rattle.cramfs_format.specs.Inode.{type_of, offset_of, size_of}

@@ -4,8 +4,8 @@ use Rattle.std.specs.List.{All, Contains, AllByRecursion as Every}
 use Rattle.rom_fields.specs.declared.span.Span.{Span}
 use Rattle.rom_fields.specs.declared.span.Extent.TheVariants.{List as ListOf, Table, Data}
 use Rattle.rom_fields.specs.Extents.{is_shareable, added}
-use Rattle.record_walk.specs.declared.reference.Row.{Row}
-use Rattle.record_walk.specs.Members.{Has}
+use Rattle.record_forest.specs.declared.reference.Row.{Row}
+use Rattle.record_forest.specs.Members.{Has}
 use Rattle.cramfs_format.specs.Order.{word}
 use Rattle.cramfs_format.specs.declared.order.Order.{Order}
 use Rattle.cramfs_format.specs.Inode.{type_of, size_of, offset_of, has_data, block_count, block_start, block_len}

@@ -4,8 +4,8 @@ use Rattle.std.specs.Prelude.{◌≡◌, ℕ, ◌+◌, ◌*◌, ◌<◌, ◌≤�
 use Rattle.std.specs.List.{Any}
 use Rattle.rom_fields.specs.Extents.{OverlapsAt, IsLeastOf}
 use Rattle.rom_faults.specs.declared.fault.Fault.{Fault}
-use Rattle.record_walk.specs.declared.reference.Row.{Row}
-use Rattle.record_walk.specs.Sweep.{IsLeastRowFault}
+use Rattle.record_forest.specs.declared.reference.Row.{Row}
+use Rattle.record_forest.specs.Sweep.{IsLeastRowFault}
 use Rattle.cramfs_format.specs.Order.{word}
 use Rattle.cramfs_format.specs.declared.order.Order.{Order}
 use Rattle.cramfs_format.specs.Inode.{type_of, size_of, name_of, is_kind, has_data, block_count, block_start, pointer_place, pointer_of, IsPlain, Lies, ListLies, TableLies, BlockLies, HasBody, IsName}

@@ -1,17 +1,17 @@
 //! The accessible bytes of an image in their byte order, and its records as the traversal reads
 //! them.
 ghost use Rattle.std.specs.Prelude.{◌≡◌, ◌≢◌, ◌+◌, ◌<◌, ◌≤◌, ◌^◌, length, nat_lt, Some, None, if◌then◌else◌};
-ghost use Rattle.record_walk.specs.Faults.{IsLeastFault, IsLeastFaultOf};
+ghost use Rattle.record_forest.specs.Faults.{IsLeastFault, IsLeastFaultOf};
 ghost use Rattle.cramfs_format.specs.Inode.{list_end};
 ghost use Rattle.cramfs_format.specs.Refers.{references, reference_target, LeadsToSound, LeadsToFault};
-ghost use Rattle.record_walk.specs.Known.{AreKnown};
+ghost use Rattle.record_forest.specs.Known.{AreKnown};
 ghost use Rattle.cramfs_image.specs.Phases.{IsWhole};
 
 use crate::soundness::{entry_fault, list_lies};
 use cramfs_format::order::Order;
-use record_walk::known::Known;
-use record_walk::records::Records;
-use record_walk::reference::{Edge, Edges, Reference};
+use record_forest::known::Known;
+use record_forest::records::Records;
+use record_forest::reference::{Edge, Edges, Reference};
 use rom_faults::Fault;
 use rom_faults::fault::BOUNDS;
 

@@ -6,12 +6,12 @@ ghost use Rattle.cramfs_format.specs.Inode.{name_of};
 ghost use Rattle.cramfs_format.specs.Made.{IsGood};
 ghost use Rattle.cramfs_format.specs.Tree.{IsNoDot};
 ghost use Rattle.rom_tree.specs.Dots.{dot, dot_dot};
-ghost use Rattle.record_walk.specs.Sweep.{IsLeastRowFault};
+ghost use Rattle.record_forest.specs.Sweep.{IsLeastRowFault};
 ghost use Rattle.cramfs_image.specs.Phases.{IsTooDeep, IsShallow};
 
 use crate::accessible::Accessible;
-use record_walk::least::lesser_fault;
-use record_walk::reference::Row;
+use record_forest::least::lesser_fault;
+use record_forest::reference::Row;
 use rom_faults::Fault;
 use rom_faults::fault::TOO_DEEP;
 use rom_tree::dots::is_dots;

@@ -8,7 +8,7 @@ use crate::depth::greatest_depth;
 use crate::fields::{kind_named_by, of_device, start_of};
 use arrayvec::ArrayVec;
 use cramfs_format::order::Order;
-use record_walk::reference::Row;
+use record_forest::reference::Row;
 use rom_tree::image::{TreeImage, Viewed};
 use rom_tree::types::{Cursor, Entry, Limits, NodeId, Report, Run, Stat};
 
@@ -165,7 +165,7 @@ impl<'a> TreeImage<'a> for Cramfs<'a> {
 
 impl<'a> Cramfs<'a> {
     ghost use Rattle.std.specs.List.{All};
-    ghost use Rattle.record_walk.specs.Forest.{Forest, all_rows};
+    ghost use Rattle.record_forest.specs.Forest.{Forest, all_rows};
     ghost use Rattle.cramfs_format.specs.Refers.{references};
     ghost use Rattle.cramfs_format.specs.Superblock.{IsSuperblock};
     ghost use Rattle.cramfs_format.specs.Tree.{IsTree};

@@ -2,20 +2,20 @@
 ghost use Rattle.std.specs.Prelude.{◌≡◌, ◌≢◌, ◌≤◌, ◌<◌, ◌^◌, ◌↔◌, IsTrue, IfNone, IfSome, IfOk, Some, None, List, ℕ, length, false};
 ghost use Rattle.std.specs.Bool.{OnTrue, OnFalse};
 ghost use Rattle.std.specs.List.{All};
-ghost use Rattle.record_walk.specs.declared.reference.Row.{Row};
-ghost use Rattle.record_walk.specs.Faults.{IsLeast};
+ghost use Rattle.record_forest.specs.declared.reference.Row.{Row};
+ghost use Rattle.record_forest.specs.Faults.{IsLeast};
 ghost use Rattle.cramfs_format.specs.Inode.{name_of};
 ghost use Rattle.cramfs_format.specs.Made.{IsGood};
 ghost use Rattle.cramfs_format.specs.Tree.{precedes, is_sorted, IsNoDot};
-ghost use Rattle.record_walk.specs.Listed.{AreNames};
-ghost use Rattle.record_walk.specs.Sweep.{IsLeastRowFault};
+ghost use Rattle.record_forest.specs.Listed.{AreNames};
+ghost use Rattle.record_forest.specs.Sweep.{IsLeastRowFault};
 ghost use Rattle.cramfs_image.specs.Phases.{TellsEarlier, last_name, name_seen, IsUnsorted, IsNameFault, IsWellNamed};
 
 use crate::accessible::Accessible;
 use crate::depth::is_other;
-use record_walk::least::lesser_fault;
-use record_walk::listed::{ListedName, repeats};
-use record_walk::reference::Row;
+use record_forest::least::lesser_fault;
+use record_forest::listed::{ListedName, repeats};
+use record_forest::reference::Row;
 use rom_faults::Fault;
 use rom_faults::fault::{DOT, DUPLICATE_NAME, UNSORTED};
 use rom_fields::memory::OutOfMemory;

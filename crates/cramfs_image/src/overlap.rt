@@ -13,7 +13,7 @@ ghost use Rattle.cramfs_image.specs.Files.{list_part, file_part, FileLies, whole
 use crate::accessible::Accessible;
 use crate::fields::start_of;
 use crate::soundness::{blocks_of, has_contents};
-use record_walk::reference::Row;
+use record_forest::reference::Row;
 use rom_fields::extents::Extents;
 use rom_fields::memory::OutOfMemory;
 use rom_fields::span::Extent;

@@ -5,15 +5,15 @@ ghost use Rattle.std.specs.List.{Contains};
 ghost use Rattle.rom_fields.specs.Extents.{IsLeastOf};
 ghost use Rattle.cramfs_format.specs.Order.{word as word_of};
 ghost use Rattle.cramfs_format.specs.Inode.{type_of, size_of, name_of, end_of, offset_of, is_kind, has_data, block_count, block_len, block_start, pointer_place, pointer_of, is_direct, has_kinds, IsPlain, Lies, ListLies, TableLies, HasLinkSize, Fits, IsName, HasEntryFault};
-ghost use Rattle.record_walk.specs.Known.{AreKnown};
+ghost use Rattle.record_forest.specs.Known.{AreKnown};
 ghost use Rattle.cramfs_image.specs.Phases.{IsWhole, IsFaultAt, IsPointerFault};
-ghost use Rattle.record_walk.specs.Faults.{IsLeastFaultOf};
-ghost use Rattle.record_walk.specs.Lesser.{lesser_of_both};
+ghost use Rattle.record_forest.specs.Faults.{IsLeastFaultOf};
+ghost use Rattle.record_forest.specs.Lesser.{lesser_of_both};
 
 use crate::accessible::Accessible;
 use crate::fields::start_of;
-use record_walk::known::{Known, Range};
-use record_walk::least::lesser_of_both;
+use record_forest::known::{Known, Range};
+use record_forest::least::lesser_of_both;
 use rom_faults::Fault;
 use rom_faults::fault::{BAD_NAME, BLOCK_KIND, BOUNDS, KIND, LINK_SIZE, LIST_END};
 

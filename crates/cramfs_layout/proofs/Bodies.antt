@@ -5,15 +5,15 @@ use Rattle.std.proofs.lemmas.List.Elements.{All-contains, All-from_recursion}
 use Rattle.std.specs.List.{AllByRecursion as Every, Contains}
 use Rattle.rom_tree.specs.declared.types.Kind.{Kind}
 use Rattle.rom_tree.specs.declared.types.Kind.TheVariants.{Directory, Regular, Symlink, Block, Character, Socket, Fifo}
-use Rattle.record_walk.specs.declared.reference.Reference.{Reference}
-use Rattle.record_walk.specs.declared.reference.Row.{Row}
-use Rattle.record_walk.specs.Forest.{rows}
-use Rattle.record_walk.proofs.Lists.{every_join}
+use Rattle.record_forest.specs.declared.reference.Reference.{Reference}
+use Rattle.record_forest.specs.declared.reference.Row.{Row}
+use Rattle.record_forest.specs.Forest.{rows}
+use Rattle.record_forest.proofs.Lists.{every_join}
 use Rattle.cramfs_format.specs.Order.{word}
 use Rattle.cramfs_format.specs.declared.order.Order.{Order}
 use Rattle.cramfs_format.specs.Inode.{type_of, size_of, offset_of, end_of, name_of, list_start, list_end, is_kind, has_data, block_start, is_direct, pointer_place, has_kinds, HasBody, IsName, IsSound}
 use Rattle.cramfs_format.specs.Refers.{references, LeadsToSound}
-use Rattle.name_tree.specs.Names.{Inode, Names, nothing, leaf, link, folder, bytes_of}
+use Rattle.manifest_tree.specs.Names.{Inode, Names, nothing, leaf, link, folder, bytes_of}
 use Rattle.layout_terms.specs.Lists.{IsName as IsWritten}
 use Rattle.cramfs_layout.specs.Layout.{pad4, type_bits, size_by, entry_len, list_len, list_offset, State, kept, table_by, after_file, after_list, after_names}
 use Rattle.cramfs_layout.specs.Wells.{FitsKind, AreWell, AllRead}

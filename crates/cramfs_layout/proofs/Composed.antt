@@ -1,11 +1,11 @@
 -- The records of items stand at their places.
 use Rattle.std.proofs.Common.{ℕ, ◌+◌, List, ◌++◌, length, ap}
 use Rattle.std.specs.List.{AllByRecursion as Every}
-use Rattle.record_walk.proofs.Lists.{every_join}
+use Rattle.record_forest.proofs.Lists.{every_join}
 use Rattle.cramfs_format.specs.declared.order.Order.{Order}
 use Rattle.image_parts.specs.Parts.{HasAt, HasParts}
 use Rattle.image_parts.proofs.Parts.{HasAt-before, HasAt-after, HasAt-moved}
-use Rattle.name_tree.specs.Names.{Inode, Names, nothing, leaf, link, folder}
+use Rattle.manifest_tree.specs.Names.{Inode, Names, nothing, leaf, link, folder}
 use Rattle.layout_terms.specs.Items.{Item}
 use Rattle.cramfs_layout.specs.Layout.{size_by, entry_len, entry_bytes, list_bytes, list_len, list_offset, State, kept, table_by, pad4, file_parts, parts, after_file, after_list, after_names}
 use Rattle.cramfs_layout.specs.Items.{entries, below}

@@ -3,11 +3,11 @@ use Rattle.std.proofs.Common.{◌≡◌, ℕ, ◌+◌, inl, inr, List, ◌++◌,
 use Rattle.std.proofs.lemmas.Bool.{cases_lt}
 use Rattle.std.proofs.lemmas.Bool.Decides.{eqb_tells}
 use Rattle.std.specs.List.{AllByRecursion as Every}
-use Rattle.record_walk.proofs.Lists.{every_join, every_left, every_right}
+use Rattle.record_forest.proofs.Lists.{every_join, every_left, every_right}
 use Rattle.cramfs_format.specs.declared.order.Order.{Order}
 use Rattle.cramfs_format.specs.Inode.{block_count}
 use Rattle.image_parts.specs.Parts.{IsOutside}
-use Rattle.name_tree.specs.Names.{Inode, Names, nothing, leaf, link, folder}
+use Rattle.manifest_tree.specs.Names.{Inode, Names, nothing, leaf, link, folder}
 use Rattle.cramfs_layout.specs.Layout.{pad4, entry_len, list_len, list_bytes, State, Kept, nowhere, shared, fresh, kept, data_of, file_parts, parts, after_file, after_list, after_names}
 use Rattle.cramfs_layout.specs.Items.{kept_item, entries, below}
 use Rattle.cramfs_layout.specs.Wells.{IsFile, AreWell}

@@ -6,7 +6,7 @@ use Rattle.rom_tree.specs.declared.types.Kind.{Kind}
 use Rattle.rom_tree.specs.declared.types.Kind.TheVariants.{Directory, Regular, Symlink, Character}
 use Rattle.cramfs_format.specs.declared.order.Order.TheVariants.{Little, Big}
 use Rattle.crc.specs.Crc.{crc_of, after_bit}
-use Rattle.name_tree.specs.Names.{Fill, no_bytes, text, source, Inode, Names, nothing, leaf, folder}
+use Rattle.manifest_tree.specs.Names.{Fill, no_bytes, text, source, Inode, Names, nothing, leaf, folder}
 use Rattle.layout_terms.specs.Items.{Item, section, super, record_of, table_of, text_of, contents_of}
 use Rattle.cramfs_layout.specs.Items.{items_of, sections_of}
 use Rattle.cramfs_layout.specs.Layout.{entry_bytes, kept, data_of, superblock, size_of, with_crc, layout}

@@ -5,15 +5,15 @@ use Rattle.std.specs.List.{AllByRecursion as Every}
 use Rattle.rom_fields.specs.declared.span.Extent.TheVariants.{List as ListOf, Table as TableOf, Data}
 use Rattle.rom_fields.specs.declared.span.Span.{Span}
 use Rattle.rom_fields.specs.Extents.{OverlapsAt, added}
-use Rattle.record_walk.specs.declared.reference.Row.{Row}
-use Rattle.record_walk.specs.Members.{Has, Pairs}
-use Rattle.record_walk.proofs.Lists.{every_weaker, pairs_pick, has_of}
-use Rattle.record_walk.proofs.Spans.{overlaps_in}
+use Rattle.record_forest.specs.declared.reference.Row.{Row}
+use Rattle.record_forest.specs.Members.{Has, Pairs}
+use Rattle.record_forest.proofs.Lists.{every_weaker, pairs_pick, has_of}
+use Rattle.record_forest.proofs.Spans.{overlaps_in}
 use Rattle.cramfs_format.specs.declared.order.Order.{Order}
 use Rattle.cramfs_format.specs.Inode.{block_count}
 use Rattle.cramfs_format.specs.Tree.{extents_of}
 use Rattle.cramfs_format.proofs.Spans.{ListsApart, extents_pairs}
-use Rattle.name_tree.specs.Names.{Inode, Names, nothing, leaf, link, folder}
+use Rattle.manifest_tree.specs.Names.{Inode, Names, nothing, leaf, link, folder}
 use Rattle.image_parts.proofs.Climbs.{Climbs, climbs_later, climbs_added}
 use Rattle.cramfs_layout.specs.Layout.{pad4, list_len, State, Kept, nowhere, shared, fresh, kept, data_of, after_by, after_file, after_list, after_names}
 use Rattle.cramfs_layout.specs.Wells.{IsFile, AreWell}

@@ -2,7 +2,7 @@
 use Rattle.std.proofs.Common.{◌≡◌, ◌≢◌, ℕ, zero, suc, ◌^◌, ◌<◌, true, List, [], ◌∷◌, codes, ap, subst, sym, get_or, refl, arith, inl, inr}
 use Rattle.std.specs.List.{Contains}
 use Rattle.rom_tree.specs.declared.types.Kind.TheVariants.{Directory, Regular}
-use Rattle.name_tree.specs.Names.{Inode, Names, nothing, leaf, folder, source, no_bytes}
+use Rattle.manifest_tree.specs.Names.{Inode, Names, nothing, leaf, folder, source, no_bytes}
 use Rattle.layout_terms.specs.Lists.{IsName}
 use Rattle.cramfs_format.specs.Tree.{precedes}
 use Rattle.cramfs_layout.specs.Layout.{size_of, kept, data_of, list_len}

@@ -11,7 +11,7 @@ use Rattle.cramfs_format.specs.Superblock.{magic, signature, without_crc, HasCrc
 use Rattle.crc.specs.Crc.{crc_of, after_bit, after_bits, after_bytes, polynomial}
 use Rattle.cramfs_format.specs.Tree.{CramfsTree, tree_of}
 use Rattle.image_parts.specs.Parts.{Part, end_of_part, with_part, laid, Rises, end_of_parts, HasAt, HasParts}
-use Rattle.name_tree.specs.Names.{Inode, Names, nothing, leaf, link, folder}
+use Rattle.manifest_tree.specs.Names.{Inode, Names, nothing, leaf, link, folder}
 use Rattle.image_parts.specs.Parts.{part}
 use Rattle.image_parts.proofs.Padding.{pad-after}
 use Rattle.image_parts.proofs.Parts.{HasParts-laid, length-laid, laid_keeps}

@@ -1,12 +1,12 @@
 -- An image composed of its sections is the layout.
 use Rattle.std.proofs.Common.{◌≡◌, ◌≢◌, ℕ, List, [], ◌∷◌, ◌++◌, map, length, drop, get_or, refl, sym, ap, subst, ◌∙◌, arith}
 use Rattle.std.specs.List.{AllByRecursion as Every}
-use Rattle.record_walk.proofs.Lists.{every_join, every_left, every_right, every_weaker, every_of}
+use Rattle.record_forest.proofs.Lists.{every_join, every_left, every_right, every_weaker, every_of}
 use Rattle.cramfs_format.specs.declared.order.Order.{Order}
 use Rattle.image_parts.specs.Parts.{Part, part, laid, HasParts, IsOutside}
 use Rattle.image_parts.proofs.Parts.{HasParts-laid, zero_outside}
 use Rattle.image_parts.proofs.Determined.{determined}
-use Rattle.name_tree.specs.Names.{Inode, Names, bytes_of}
+use Rattle.manifest_tree.specs.Names.{Inode, Names, bytes_of}
 use Rattle.layout_terms.specs.Items.{Item, Section}
 use Rattle.layout_terms.specs.Bodies.{body_bytes}
 use Rattle.layout_terms.proofs.Bodies.{sections_are}

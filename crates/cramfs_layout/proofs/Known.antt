@@ -8,11 +8,11 @@ use Rattle.rom_fields.specs.declared.span.Span.{Span}
 use Rattle.rom_fields.specs.Extents.{added}
 use Rattle.rom_tree.specs.declared.types.Kind.{Kind}
 use Rattle.rom_tree.specs.declared.types.Kind.TheVariants.{Directory, Regular, Symlink, Block, Character, Socket, Fifo}
-use Rattle.record_walk.specs.declared.reference.Reference.{Reference}
-use Rattle.record_walk.specs.declared.reference.Row.{Row}
-use Rattle.record_walk.specs.Forest.{rows}
-use Rattle.record_walk.specs.Members.{Pairs}
-use Rattle.record_walk.proofs.Lists.{every_join, every_weaker, every_left, every_right, every_all, pairs_join}
+use Rattle.record_forest.specs.declared.reference.Reference.{Reference}
+use Rattle.record_forest.specs.declared.reference.Row.{Row}
+use Rattle.record_forest.specs.Forest.{rows}
+use Rattle.record_forest.specs.Members.{Pairs}
+use Rattle.record_forest.proofs.Lists.{every_join, every_weaker, every_left, every_right, every_all, pairs_join}
 use Rattle.cramfs_format.specs.Order.{word}
 use Rattle.cramfs_format.specs.declared.order.Order.{Order}
 use Rattle.cramfs_format.specs.Inode.{type_of, size_of, offset_of, has_data, block_count, block_start}
@@ -20,7 +20,7 @@ use Rattle.cramfs_format.specs.Refers.{references}
 use Rattle.cramfs_format.specs.Tree.{data_from, file_extents, row_extents}
 use Rattle.cramfs_format.proofs.Spans.{ListsApart, row_every}
 use Rattle.image_parts.specs.Parts.{HasParts}
-use Rattle.name_tree.specs.Names.{Fill, no_bytes, text, source, Inode, Names, nothing, leaf, link, folder, bytes_of}
+use Rattle.manifest_tree.specs.Names.{Fill, no_bytes, text, source, Inode, Names, nothing, leaf, link, folder, bytes_of}
 use Rattle.cramfs_layout.specs.Layout.{pad4, type_bits, size_by, entry_len, list_len, list_offset, State, Table, Kept, nowhere, shared, fresh, kept, kept_by, data_of, with_table, table_by, after_by, after_file, after_list, after_names, file_parts, parts}
 use Rattle.cramfs_layout.specs.Reads.{ReadsEntry}
 use Rattle.cramfs_layout.specs.Wells.{IsFile, AreWell, AllRead}

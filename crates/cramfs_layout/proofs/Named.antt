@@ -1,16 +1,16 @@
 -- No entry of a layout stands twice, and the names of a list rise.
 use Rattle.std.proofs.Common.{◌≡◌, ◌≢◌, ℕ, ◌+◌, ◌<◌, ◌≤◌, true, ◌⊎◌, List, refl, sym, subst, arith, inl, inr}
 use Rattle.std.specs.List.{AllByRecursion as Every}
-use Rattle.record_walk.specs.declared.reference.Reference.{Reference}
-use Rattle.record_walk.specs.declared.reference.Row.{Row}
-use Rattle.record_walk.specs.Forest.{rows}
-use Rattle.record_walk.specs.Members.{Pairs}
-use Rattle.record_walk.proofs.Lists.{every_join, every_weaker, pairs_join}
+use Rattle.record_forest.specs.declared.reference.Reference.{Reference}
+use Rattle.record_forest.specs.declared.reference.Row.{Row}
+use Rattle.record_forest.specs.Forest.{rows}
+use Rattle.record_forest.specs.Members.{Pairs}
+use Rattle.record_forest.proofs.Lists.{every_join, every_weaker, pairs_join}
 use Rattle.cramfs_format.specs.declared.order.Order.{Order}
 use Rattle.cramfs_format.specs.Inode.{name_of}
 use Rattle.cramfs_format.specs.Refers.{references}
 use Rattle.cramfs_format.specs.Tree.{precedes, NamesRise}
-use Rattle.name_tree.specs.Names.{Names, nothing, leaf, link, folder}
+use Rattle.manifest_tree.specs.Names.{Names, nothing, leaf, link, folder}
 use Rattle.layout_terms.specs.Lists.{StandsIn}
 use Rattle.cramfs_layout.specs.Layout.{pad4, entry_len, list_len, State, after_file, after_list, after_names}
 use Rattle.cramfs_layout.specs.Wells.{AreWell, AllRead}

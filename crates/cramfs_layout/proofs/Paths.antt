@@ -6,19 +6,19 @@ use Rattle.std.specs.Str.{bytes_eq}
 use Rattle.std.specs.List.{AllByRecursion as Every}
 use Rattle.rom_tree.specs.Tree.{Node, Entries, no_entries, entries_of, body_entries, directory, regular, symlink, block, character, socket, fifo}
 use Rattle.rom_tree.specs.Image.{find_entry}
-use Rattle.record_walk.specs.declared.reference.Reference.{Reference}
-use Rattle.record_walk.specs.declared.reference.Row.{Row}
-use Rattle.record_walk.specs.Forest.{rows}
-use Rattle.record_walk.proofs.Lists.{every_left, every_right}
+use Rattle.record_forest.specs.declared.reference.Reference.{Reference}
+use Rattle.record_forest.specs.declared.reference.Row.{Row}
+use Rattle.record_forest.specs.Forest.{rows}
+use Rattle.record_forest.proofs.Lists.{every_left, every_right}
 use Rattle.cramfs_format.specs.declared.order.Order.{Order}
 use Rattle.cramfs_format.specs.Inode.{type_of}
 use Rattle.cramfs_format.specs.Refers.{references}
 use Rattle.cramfs_format.specs.Tree.{node_of, places_at, kind_numbers, entries_at}
 use Rattle.rom_tree.proofs.ByKind.{by_kind_map, by_kind_directory, by_kind_rest}
-use Rattle.name_tree.specs.Names.{Inode, Names, nothing, leaf, link, folder, bytes_of}
+use Rattle.manifest_tree.specs.Names.{Inode, Names, nothing, leaf, link, folder, bytes_of}
 use Rattle.layout_terms.specs.Files.{Placed}
 use Rattle.layout_terms.specs.Files.{files}
-use Rattle.name_tree.specs.Shape.{Named, find_name, node_under, file_under}
+use Rattle.manifest_tree.specs.Shape.{Named, find_name, node_under, file_under}
 use Rattle.layout_terms.proofs.Alike.{Alike, then_alike}
 use Rattle.cramfs_layout.specs.Layout.{pad4, type_bits, entry_len, State, after_file, after_list, after_names}
 use Rattle.cramfs_layout.specs.Wells.{IsFile, IsFolder, AreWell, IsStored, AllRead}

@@ -4,12 +4,12 @@ use Rattle.std.specs.List.{AllByRecursion as Every}
 use Rattle.rom_fields.specs.declared.span.Extent.TheVariants.{List as ListOf, Table as TableOf}
 use Rattle.rom_fields.specs.declared.span.Span.{Span}
 use Rattle.rom_fields.specs.Extents.{added}
-use Rattle.record_walk.specs.Members.{Has}
-use Rattle.record_walk.proofs.Lists.{every_join, every_left, every_right}
+use Rattle.record_forest.specs.Members.{Has}
+use Rattle.record_forest.proofs.Lists.{every_join, every_left, every_right}
 use Rattle.cramfs_format.specs.declared.order.Order.{Order}
 use Rattle.cramfs_format.specs.Inode.{block_count}
 use Rattle.image_parts.proofs.Climbs.{Climbs, climbs_added}
-use Rattle.name_tree.specs.Names.{Inode, Names, nothing, leaf, link, folder}
+use Rattle.manifest_tree.specs.Names.{Inode, Names, nothing, leaf, link, folder}
 use Rattle.layout_terms.specs.Items.{Item}
 use Rattle.cramfs_layout.specs.Layout.{pad4, entry_len, list_len, State, Kept, nowhere, shared, fresh, kept, data_of, after_by, after_file, after_list, after_names}
 use Rattle.cramfs_layout.specs.Items.{entries, below}

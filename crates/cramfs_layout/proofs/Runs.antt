@@ -2,9 +2,9 @@
 use Rattle.std.proofs.Common.{◌≡◌, ◌≢◌, ℕ, ◌<◌, ◌≤◌, List, [], ◌∷◌, ◌++◌, refl, sym, ap, subst, ◌∙◌, arith, inl, inr}
 use Rattle.std.proofs.lemmas.Bool.Decides.{eqb_tells}
 use Rattle.std.specs.List.{AllByRecursion as Every}
-use Rattle.record_walk.specs.Members.{Has, Pairs}
-use Rattle.record_walk.proofs.Lists.{every_join, every_left, every_right, every_weaker, has_every, pairs_join, pairs_pick}
-use Rattle.name_tree.specs.Names.{Inode, Names, nothing, leaf, link, folder}
+use Rattle.record_forest.specs.Members.{Has, Pairs}
+use Rattle.record_forest.proofs.Lists.{every_join, every_left, every_right, every_weaker, has_every, pairs_join, pairs_pick}
+use Rattle.manifest_tree.specs.Names.{Inode, Names, nothing, leaf, link, folder}
 use Rattle.cramfs_layout.specs.Layout.{pad4, State, Kept, nowhere, shared, fresh, kept, data_of, after_by, after_file, after_list, after_names}
 use Rattle.cramfs_layout.specs.Wells.{IsFile, AreWell}
 use Rattle.cramfs_layout.proofs.Stored.{data_after, file_onward, names_onward}

@@ -5,12 +5,12 @@ use Rattle.std.specs.List.{AllByRecursion as Every}
 use Rattle.rom_fields.specs.declared.span.Extent.TheVariants.{List as ListOf, Table as TableOf}
 use Rattle.rom_fields.specs.declared.span.Span.{Span}
 use Rattle.rom_fields.specs.Extents.{added}
-use Rattle.record_walk.specs.Members.{Has, Pairs}
-use Rattle.record_walk.proofs.Lists.{every_weaker, every_join, every_left, every_right, every_both, every_of, has_every, has_weaker, pairs_pick, pairs_join}
+use Rattle.record_forest.specs.Members.{Has, Pairs}
+use Rattle.record_forest.proofs.Lists.{every_weaker, every_join, every_left, every_right, every_both, every_of, has_every, has_weaker, pairs_pick, pairs_join}
 use Rattle.cramfs_format.specs.declared.order.Order.{Order}
 use Rattle.cramfs_format.specs.Inode.{block_count}
 use Rattle.image_parts.proofs.Climbs.{Climbs, climbs_added}
-use Rattle.name_tree.specs.Names.{Fill, no_bytes, text, source, Inode, Names}
+use Rattle.manifest_tree.specs.Names.{Fill, no_bytes, text, source, Inode, Names}
 use Rattle.layout_terms.specs.Items.{Item, Section, SectionsRise, record_of, table_of, section, fill_section}
 use Rattle.layout_terms.proofs.Sections.{AreApart, LiesIn, order_rises}
 use Rattle.cramfs_layout.specs.Layout.{entry_len, list_len, size_of, after_names, first_state}

@@ -2,16 +2,16 @@
 use Rattle.std.proofs.Common.{◌↔◌, ◌≡◌, ◌≢◌, ℕ, ◌+◌, ◌^◌, ◌≤◌, List, ◌∷◌, refl, sym, ap, subst, ◌∙◌, arith, inl, inr}
 use Rattle.std.specs.List.{AllByRecursion as Every}
 use Rattle.rom_tree.specs.Tree.{Node, Entries, ino_of}
-use Rattle.record_walk.specs.declared.reference.Row.{Row}
-use Rattle.record_walk.specs.Forest.{rows}
-use Rattle.record_walk.specs.Members.{Has, Pairs}
-use Rattle.record_walk.proofs.Lists.{every_weaker, every_of, every_map, pairs_map, pairs_weaker}
+use Rattle.record_forest.specs.declared.reference.Row.{Row}
+use Rattle.record_forest.specs.Forest.{rows}
+use Rattle.record_forest.specs.Members.{Has, Pairs}
+use Rattle.record_forest.proofs.Lists.{every_weaker, every_of, every_map, pairs_map, pairs_weaker}
 use Rattle.cramfs_format.specs.declared.order.Order.{Order}
 use Rattle.cramfs_format.specs.Refers.{references}
 use Rattle.cramfs_format.specs.Tree.{node_of, attributes_at, tree_of, entries_at}
-use Rattle.name_tree.specs.Names.{Inode, Names}
+use Rattle.manifest_tree.specs.Names.{Inode, Names}
 use Rattle.layout_terms.specs.Files.{Placed}
-use Rattle.name_tree.specs.Shape.{Named, node_value, file_value, node_under, file_under, HasShape}
+use Rattle.manifest_tree.specs.Shape.{Named, node_value, file_value, node_under, file_under, HasShape}
 use Rattle.layout_terms.proofs.Alike.{every_unmap, pairs_unmap}
 use Rattle.layout_terms.proofs.Alike.{alike_map, alike_some, same_both}
 use Rattle.cramfs_layout.specs.Layout.{list_len, first_state, after_names, layout}

@@ -3,11 +3,11 @@ use Rattle.std.proofs.Common.{◌≡◌, ◌≢◌, ℕ, ◌+◌, ◌<◌, ◌�
 use Rattle.std.proofs.lemmas.Bool.{ne_eqb, eq-eqb, le-ltb, lt-ltb}
 use Rattle.rom_tree.specs.declared.types.Kind.{Kind}
 use Rattle.rom_tree.specs.declared.types.Kind.TheVariants.{Directory, Regular, Symlink, Block, Character, Socket, Fifo}
-use Rattle.record_walk.specs.Forest.{Stands}
+use Rattle.record_forest.specs.Forest.{Stands}
 use Rattle.cramfs_format.specs.declared.order.Order.{Order}
 use Rattle.cramfs_format.specs.Inode.{type_of, size_of, offset_of, list_start, list_end}
 use Rattle.cramfs_format.specs.Refers.{reference_target, references}
-use Rattle.name_tree.specs.Names.{Inode, Names, nothing, leaf, link, folder}
+use Rattle.manifest_tree.specs.Names.{Inode, Names, nothing, leaf, link, folder}
 use Rattle.cramfs_layout.specs.Layout.{pad4, type_bits, entry_len, list_len, list_offset, State, after_file, after_list, after_names}
 use Rattle.cramfs_layout.specs.Wells.{FitsKind, IsFile, AreWell, AllRead}
 use Rattle.cramfs_layout.specs.Forest.{spots}

@@ -8,7 +8,7 @@ use Rattle.rom_tree.specs.declared.types.Kind.TheVariants.{Directory, Regular, S
 use Rattle.cramfs_format.specs.declared.order.Order.{Order}
 use Rattle.cramfs_format.specs.Inode.{block_count}
 use Rattle.image_parts.specs.Parts.{Part, HasAt, HasParts}
-use Rattle.name_tree.specs.Names.{Fill, no_bytes, text, source, Inode, Names, nothing, leaf, link, folder, bytes_of}
+use Rattle.manifest_tree.specs.Names.{Fill, no_bytes, text, source, Inode, Names, nothing, leaf, link, folder, bytes_of}
 use Rattle.image_parts.specs.Padding.{pad}
 use Rattle.image_parts.proofs.Padding.{pad-after}
 use Rattle.image_parts.proofs.Parts.{HasAt-before, HasAt-after, HasAt-moved}

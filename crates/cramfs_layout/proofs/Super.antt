@@ -6,7 +6,7 @@ use Rattle.cramfs_format.specs.Inode.{block_count}
 use Rattle.cramfs_format.specs.Superblock.{magic, signature, without_crc}
 use Rattle.crc.specs.Crc.{crc_of}
 use Rattle.image_parts.specs.Parts.{Part, end_of_part, Rises, end_of_parts}
-use Rattle.name_tree.specs.Names.{Inode, Names, nothing, leaf, link, folder}
+use Rattle.manifest_tree.specs.Names.{Inode, Names, nothing, leaf, link, folder}
 use Rattle.image_parts.specs.Parts.{part}
 use Rattle.cramfs_layout.specs.Layout.{word_bytes, pad4, entry_bytes, list_len, list_bytes, size_by, table_by, root_offset, count, State, Kept, nowhere, shared, fresh, kept, data_of, after_by, after_file, after_list, after_names, list_offset, pointers, file_parts, parts, flags, size_of, superblock, with_crc}
 use Rattle.cramfs_layout.specs.Wells.{IsFile, AreWell}

@@ -2,11 +2,11 @@
 use Rattle.std.proofs.Common.{◌≡◌, ◌≢◌, ℕ, ◌+◌, ◌*◌, List, ◌++◌, length, refl, sym, ap, subst, ◌∙◌, arith, inl, inr}
 use Rattle.std.proofs.lemmas.Bool.Decides.{eqb_tells}
 use Rattle.std.specs.List.{AllByRecursion as Every}
-use Rattle.record_walk.proofs.Lists.{every_join}
+use Rattle.record_forest.proofs.Lists.{every_join}
 use Rattle.cramfs_format.specs.declared.order.Order.{Order}
 use Rattle.cramfs_format.specs.Inode.{block_count}
 use Rattle.image_parts.specs.Padding.{pad}
-use Rattle.name_tree.specs.Names.{Fill, no_bytes, text, source, Inode, Names, nothing, leaf, link, folder, bytes_of}
+use Rattle.manifest_tree.specs.Names.{Fill, no_bytes, text, source, Inode, Names, nothing, leaf, link, folder, bytes_of}
 use Rattle.layout_terms.specs.Items.{Item}
 use Rattle.cramfs_layout.specs.Layout.{pad4, entry_len, State, Table, Kept, nowhere, shared, fresh, kept, kept_by, data_of, with_table, after_by, after_file, after_list, after_names}
 use Rattle.cramfs_layout.specs.Items.{AreAlignedBy, kept_item, entries, below}

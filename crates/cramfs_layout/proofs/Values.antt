@@ -12,8 +12,8 @@ use Rattle.cramfs_format.specs.Tree.{node_of, attributes_at, places_at, blocks_f
 use Rattle.rom_tree.specs.Tree.{row_from}
 use Rattle.rom_tree.proofs.ByKind.{body_kind_is, body_places_is}
 use Rattle.image_parts.specs.Parts.{HasAt}
-use Rattle.name_tree.specs.Names.{no_bytes, Inode, bytes_of}
-use Rattle.name_tree.specs.Shape.{Value, node_value, file_value}
+use Rattle.manifest_tree.specs.Names.{no_bytes, Inode, bytes_of}
+use Rattle.manifest_tree.specs.Shape.{Value, node_value, file_value}
 use Rattle.cramfs_layout.specs.Layout.{type_bits, size_by}
 use Rattle.cramfs_layout.specs.Wells.{FitsKind, IsFile, IsStored}
 use Rattle.cramfs_layout.proofs.Sound.{pointer_at, pointer_says}

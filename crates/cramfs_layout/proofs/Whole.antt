@@ -9,23 +9,23 @@ use Rattle.rom_fields.specs.declared.span.Extent.TheVariants.{Super, List as Lis
 use Rattle.rom_fields.specs.declared.span.Span.{Span}
 use Rattle.rom_fields.specs.Extents.{OverlapsAt, added}
 use Rattle.rom_tree.specs.Tree.{Entries, entries_depth, body_depth, depth, directory, regular, symlink, block, character, socket, fifo}
-use Rattle.record_walk.specs.declared.reference.Reference.{Reference}
-use Rattle.record_walk.specs.declared.reference.Row.{Row}
-use Rattle.record_walk.specs.Forest.{Forest, none, at, Stands, rows, all_rows}
-use Rattle.record_walk.specs.Members.{Has, Pairs}
-use Rattle.record_walk.proofs.Lists.{every_join, every_weaker, every_of, pairs_to, pairs_weaker, has_left, has_right}
-use Rattle.record_walk.proofs.Spans.{every_flat}
+use Rattle.record_forest.specs.declared.reference.Reference.{Reference}
+use Rattle.record_forest.specs.declared.reference.Row.{Row}
+use Rattle.record_forest.specs.Forest.{Forest, none, at, Stands, rows, all_rows}
+use Rattle.record_forest.specs.Members.{Has, Pairs}
+use Rattle.record_forest.proofs.Lists.{every_join, every_weaker, every_of, pairs_to, pairs_weaker, has_left, has_right}
+use Rattle.record_forest.proofs.Spans.{every_flat}
 use Rattle.cramfs_format.specs.Order.{word}
 use Rattle.cramfs_format.specs.declared.order.Order.{Order}
 use Rattle.cramfs_format.specs.Inode.{type_of, size_of, offset_of, name_of, name_room, end_of, list_start, has_kinds, has_data}
 use Rattle.cramfs_format.specs.Refers.{references, reference_target, LeadsToSound}
 use Rattle.cramfs_format.specs.Tree.{IsTree, IsNoDot, NamesRise, precedes, row_extents, extents_of, node_of, tree_of, entries_at, places_at, kind_numbers}
-use Rattle.record_walk.specs.Forest.{NamesDiffer}
+use Rattle.record_forest.specs.Forest.{NamesDiffer}
 use Rattle.rom_tree.proofs.ByKind.{by_kind_map, by_kind_directory, by_kind_rest}
 use Rattle.cramfs_format.proofs.Spans.{ListsApart, row_every}
 use Rattle.rom_tree.specs.Dots.{is_dots}
 use Rattle.image_parts.specs.Parts.{HasParts}
-use Rattle.name_tree.specs.Names.{Inode, Names, nothing, leaf, link, folder}
+use Rattle.manifest_tree.specs.Names.{Inode, Names, nothing, leaf, link, folder}
 use Rattle.layout_terms.specs.Files.{height}
 use Rattle.image_parts.proofs.Climbs.{Climbs, climbs_later, climbs_added}
 use Rattle.cramfs_layout.specs.Layout.{pad4, entry_len, list_len, root_offset, count, first_state, State, after_file, after_list, after_names, parts}

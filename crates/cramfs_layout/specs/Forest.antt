@@ -1,7 +1,7 @@
 -- The places of a layout's entries, as a forest of records. (This project's own.)
 use Rattle.std.specs.Prelude.{ℕ, ◌+◌}
-use Rattle.record_walk.specs.Forest.{Forest, none, at}
-use Rattle.name_tree.specs.Names.{Names, nothing, leaf, link, folder}
+use Rattle.record_forest.specs.Forest.{Forest, none, at}
+use Rattle.manifest_tree.specs.Names.{Names, nothing, leaf, link, folder}
 use Rattle.cramfs_layout.specs.Layout.{entry_len, pad4, State, after_file, after_list, after_names}
 
 -- where the entries of a list from l on stand, and those below them, placed after s

@@ -5,7 +5,7 @@ use Rattle.std.specs.List.{list_any}
 use Rattle.cramfs_format.specs.declared.order.Order.{Order}
 use Rattle.cramfs_format.specs.Inode.{block_count}
 use Rattle.cramfs_format.specs.Refers.{root_place}
-use Rattle.name_tree.specs.Names.{Fill, no_bytes, source, Inode, Names, nothing, leaf, link, folder}
+use Rattle.manifest_tree.specs.Names.{Fill, no_bytes, source, Inode, Names, nothing, leaf, link, folder}
 use Rattle.layout_terms.specs.Items.{Item, Section, section, super, record_of, table_of, bytes_section, in_order}
 use Rattle.cramfs_layout.specs.Layout.{first_word, second_word, third_word, pad4, size_by, entry_len, list_len, State, Kept, nowhere, shared, fresh, kept, data_of, table_by, after_file, after_list, after_names, list_offset, first_state, root_offset}
 

@@ -15,7 +15,7 @@ use Rattle.cramfs_format.specs.Inode.{block_count}
 use Rattle.cramfs_format.specs.Superblock.{magic, signature}
 use Rattle.crc.specs.Crc.{crc_of}
 use Rattle.image_parts.specs.Parts.{Part, laid}
-use Rattle.name_tree.specs.Names.{Fill, no_bytes, text, source, Inode, Names, nothing, leaf, link, folder, bytes_of}
+use Rattle.manifest_tree.specs.Names.{Fill, no_bytes, text, source, Inode, Names, nothing, leaf, link, folder, bytes_of}
 use Rattle.image_parts.specs.Parts.{part}
 use Rattle.image_parts.specs.Padding.{pad}
 

@@ -1,8 +1,8 @@
 -- A volume that can be laid out as a cramfs image. (This project's own; 2^20 references and 64 names are the usual
 -- limits of a check.)
 use Rattle.std.specs.Prelude.{◌≢◌, ◌∷◌, ℕ, suc, ◌^◌, ◌≤◌, List, length}
-use Rattle.record_walk.specs.Members.{Pairs}
-use Rattle.name_tree.specs.Names.{Inode, Names}
+use Rattle.record_forest.specs.Members.{Pairs}
+use Rattle.manifest_tree.specs.Names.{Inode, Names}
 use Rattle.layout_terms.specs.Files.{height, files}
 use Rattle.cramfs_layout.specs.Layout.{size_of, count}
 use Rattle.cramfs_layout.specs.Wells.{IsFolder, AreWell}

@@ -4,7 +4,7 @@ use Rattle.std.specs.Prelude.{◌≡◌, ◌≢◌, ℕ, ◌+◌, ◌%◌, ◌^�
 use Rattle.std.specs.List.{AllByRecursion as Every}
 use Rattle.cramfs_format.specs.declared.order.Order.{Order}
 use Rattle.cramfs_format.specs.Inode.{mode_of, uid_of, size_of, gid_of, offset_of, type_of, name_of, end_of}
-use Rattle.name_tree.specs.Names.{Inode}
+use Rattle.manifest_tree.specs.Names.{Inode}
 use Rattle.cramfs_layout.specs.Layout.{type_bits, entry_len}
 
 -- an entry that can be written

@@ -9,7 +9,7 @@ use Rattle.cramfs_format.specs.declared.order.Order.{Order}
 use Rattle.cramfs_format.specs.Inode.{block_count}
 use Rattle.cramfs_format.specs.Tree.{precedes}
 use Rattle.image_parts.specs.Parts.{HasAt}
-use Rattle.name_tree.specs.Names.{no_bytes, Inode, Names, nothing, leaf, link, folder, bytes_of, source}
+use Rattle.manifest_tree.specs.Names.{no_bytes, Inode, Names, nothing, leaf, link, folder, bytes_of, source}
 use Rattle.layout_terms.specs.Lists.{StandsIn, IsFree}
 use Rattle.cramfs_layout.specs.Layout.{size_by, entry_len, list_len, State, Table, kept, table_by, after_file, after_list, after_names, list_offset, pad4, pointers}
 use Rattle.cramfs_layout.specs.Reads.{ReadsEntry}

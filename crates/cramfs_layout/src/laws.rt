@@ -8,8 +8,8 @@ ghost use Rattle.cramfs_layout.specs.Items.{AreAlignedBy, items_of, sections_of}
 ghost use Rattle.cramfs_layout.specs.Layout.{layout, size_of, superblock};
 ghost use Rattle.cramfs_layout.specs.Planned.{IsPlanned};
 ghost use Rattle.layout_terms.specs.Items.{SectionsRise};
-ghost use Rattle.name_tree.specs.Names.{Inode, Names};
-ghost use Rattle.name_tree.specs.Shape.{HasShape};
+ghost use Rattle.manifest_tree.specs.Names.{Inode, Names};
+ghost use Rattle.manifest_tree.specs.Shape.{HasShape};
 ghost use Rattle.rom_tree.specs.Tree.{Node};
 
 /// The layout of a planned volume is a cramfs image in either byte order, within the usual limits,

@@ -4,13 +4,13 @@ use Rattle.std.proofs.Math.ListN.{set}
 use Rattle.std.proofs.lemmas.List.{set-set, set-get_or, get_or-set_same, get_or-set_other, length-set, length-map, length-drop}
 use Rattle.std.specs.List.{All, AllByRecursion as Every}
 use Rattle.std.proofs.lemmas.List.Elements.{recursion_from_All}
-use Rattle.record_walk.proofs.Lists.{every_weaker}
-use Rattle.name_tree.specs.Names.{Names, nothing, leaf, link, folder}
-use Rattle.name_tree.specs.Tree.{a_leaf, a_link, a_folder}
+use Rattle.record_forest.proofs.Lists.{every_weaker}
+use Rattle.manifest_tree.specs.Names.{Names, nothing, leaf, link, folder}
+use Rattle.manifest_tree.specs.Tree.{a_leaf, a_link, a_folder}
 use Rattle.layout_terms.specs.Files.{height}
 use Rattle.cramfs_layout.specs.Layout.{entry_len, list_len}
-use Rattle.plan_rows.specs.declared.row.Row as code
-use Rattle.plan_rows.specs.Rows.{Row, row, rows, row_view}
+use Rattle.manifest_rows.specs.declared.row.Row as code
+use Rattle.manifest_rows.specs.Rows.{Row, row, rows, row_view}
 use Rattle.cramfs_plan.specs.Bounds.{IsNarrow}
 use Rattle.cramfs_plan.specs.Passes.{lens_with, lens_of, own_lens, named_lens}
 

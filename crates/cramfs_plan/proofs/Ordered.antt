@@ -4,7 +4,7 @@ use Rattle.std.specs.List.{AllByRecursion as Every}
 use Rattle.std.proofs.lemmas.List.{append_assoc}
 use Rattle.std.proofs.lemmas.List.Sorted.{IsPermutation-refl, IsPermutation-cons, IsPermutation-trans, IsPermutation-append, IsPermutation-append_comm}
 use Rattle.cramfs_format.specs.declared.order.Order.{Order}
-use Rattle.name_tree.specs.Names.{Inode, Names, nothing, leaf, link, folder}
+use Rattle.manifest_tree.specs.Names.{Inode, Names, nothing, leaf, link, folder}
 use Rattle.layout_terms.specs.Items.{Item}
 use Rattle.cramfs_layout.specs.Layout.{pad4, entry_len, State, first_state, after_file, after_list, after_names}
 use Rattle.cramfs_layout.specs.Items.{entries, below, items_of}

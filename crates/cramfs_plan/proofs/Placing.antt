@@ -3,19 +3,19 @@ use Rattle.std.proofs.Common.{◌≡◌, ◌⊎◌, inl, inr, ◌+◌, ◌^◌, 
 use Rattle.std.proofs.Math.ListN.{set}
 use Rattle.std.specs.List.{AllByRecursion as Every}
 use Rattle.std.proofs.lemmas.List.{map-append, append_assoc}
-use Rattle.record_walk.proofs.Lists.{every_weaker}
+use Rattle.record_forest.proofs.Lists.{every_weaker}
 use Rattle.cramfs_format.specs.declared.order.Order.{Order}
-use Rattle.name_tree.specs.Names.{Inode}
+use Rattle.manifest_tree.specs.Names.{Inode}
 use Rattle.cramfs_layout.specs.Layout.{State, Kept, nowhere, shared, fresh, kept, after_by, after_file}
 use Rattle.cramfs_layout.specs.Items.{file_item}
 use Rattle.layout_terms.specs.Items.{Item}
-use Rattle.name_tree.specs.Tree.{What, a_leaf, a_link}
+use Rattle.manifest_tree.specs.Tree.{What, a_leaf, a_link}
 use Rattle.rom_tree.specs.declared.types.Kind.TheVariants as kind
-use Rattle.plan_rows.specs.declared.row.Bytes.TheVariants as bytes
-use Rattle.plan_rows.specs.declared.row.Row as code
-use Rattle.plan_rows.specs.declared.row.What as code_what
-use Rattle.plan_rows.specs.declared.row.What.TheVariants as what
-use Rattle.plan_rows.specs.Rows.{what_view, row_view}
+use Rattle.manifest_rows.specs.declared.row.Bytes.TheVariants as bytes
+use Rattle.manifest_rows.specs.declared.row.Row as code
+use Rattle.manifest_rows.specs.declared.row.What as code_what
+use Rattle.manifest_rows.specs.declared.row.What.TheVariants as what
+use Rattle.manifest_rows.specs.Rows.{what_view, row_view}
 use Rattle.cramfs_plan.specs.Passes.{Walk, walked, after_rows, row_item, step}
 use Rattle.cramfs_plan.proofs.Measuring.{every_set, every_at}
 use Rattle.cramfs_plan.specs.Entries.{stored_by, stored_item, tables_after}

@@ -3,22 +3,22 @@ use Rattle.std.proofs.Common.{◌≡◌, ℕ, ◌+◌, ◌-◌, ◌*◌, ◌/◌
 use Rattle.std.proofs.lemmas.Bool.Decides.{eqb_tells}
 use Rattle.std.proofs.lemmas.Nat.{div-add-mod'}
 use Rattle.std.specs.List.{AllByRecursion as Every}
-use Rattle.record_walk.proofs.Lists.{every_join, every_left, every_right}
+use Rattle.record_forest.proofs.Lists.{every_join, every_left, every_right}
 use Rattle.rom_tree.specs.declared.types.Kind.{Kind}
 use Rattle.rom_tree.specs.declared.types.Kind.TheVariants.{Directory, Regular, Symlink, Block, Character, Socket, Fifo}
 use Rattle.cramfs_format.specs.declared.order.Order.{Order}
 use Rattle.cramfs_format.specs.declared.order.Order.TheVariants.{Little, Big}
 use Rattle.cramfs_format.specs.Inode.{block_count}
 use Rattle.image_parts.specs.Padding.{pad}
-use Rattle.name_tree.specs.Names.{Fill, no_bytes, text, source, Inode, Names, nothing, leaf, link, folder}
-use Rattle.misfits.specs.Format.{cramfs}
+use Rattle.manifest_tree.specs.Names.{Fill, no_bytes, text, source, Inode, Names, nothing, leaf, link, folder}
+use Rattle.manifest_layout.specs.Format.{cramfs}
 use Rattle.cramfs_format.specs.Order.{packed}
 use Rattle.cramfs_layout.specs.Layout.{type_bits, pad4, size_by, entry_len, list_len, State, Table, Kept, nowhere, shared, fresh, kept, data_of, with_table, table_by, after_by, after_file, after_list, after_names, list_offset}
 use Rattle.cramfs_layout.specs.Items.{item_of, start_by}
 use Rattle.cramfs_layout.specs.Wells.{FitsKind, IsFile, AreWell}
 use Rattle.cramfs_layout.proofs.Stored.{data_after, shared_by, stored_with, names_onward}
-use Rattle.plan_rows.specs.Rows.{rows}
-use Rattle.plan_rows.specs.Fits.{IsFit}
+use Rattle.manifest_rows.specs.Rows.{rows}
+use Rattle.manifest_rows.specs.Fits.{IsFit}
 use Rattle.cramfs_plan.specs.Passes.{in_preorder}
 use Rattle.cramfs_plan.specs.Small.{IsSmall}
 

@@ -6,8 +6,8 @@ use Rattle.std.specs.List.Sorted.{IsNonDecreasingBy}
 use Rattle.std.proofs.lemmas.Bool.{lt-ltb, le-ltb, ltb-true}
 use Rattle.std.proofs.lemmas.List.Elements.{recursion_from_All, All-from_recursion}
 use Rattle.std.proofs.lemmas.List.Sorted.{length_permutation, All-permutation, IsPermutation-refl, IsPermutation-cons, IsPermutation-trans, IsPermutation-middle, IsPermutation-keeps}
-use Rattle.record_walk.specs.Members.{Pairs}
-use Rattle.record_walk.proofs.Lists.{every_weaker}
+use Rattle.record_forest.specs.Members.{Pairs}
+use Rattle.record_forest.proofs.Lists.{every_weaker}
 use Rattle.cramfs_plan.specs.Orders.{Rises}
 
 -- a relation holds along each permutation if it is reflexive and transitive, and goes under a head and over an exchange

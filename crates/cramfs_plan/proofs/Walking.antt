@@ -4,13 +4,13 @@ use Rattle.std.proofs.Math.ListN.{set}
 use Rattle.std.proofs.lemmas.Bool.{ne_eqb}
 use Rattle.std.proofs.lemmas.List.{get_or-set_same, get_or-set_other, length-set, length-append}
 use Rattle.cramfs_format.specs.declared.order.Order.{Order}
-use Rattle.name_tree.specs.Names.{Names, nothing, leaf, link, folder, no_bytes}
-use Rattle.name_tree.specs.Tree.{a_leaf, a_link, a_folder}
+use Rattle.manifest_tree.specs.Names.{Names, nothing, leaf, link, folder, no_bytes}
+use Rattle.manifest_tree.specs.Tree.{a_leaf, a_link, a_folder}
 use Rattle.layout_terms.specs.Files.{height}
 use Rattle.layout_terms.specs.Items.{Item}
 use Rattle.cramfs_layout.specs.Layout.{State, entry_len, list_len, list_offset, pad4, after_list, after_names}
 use Rattle.cramfs_layout.specs.Items.{item_of}
-use Rattle.plan_rows.specs.Rows.{Row, row, rows}
+use Rattle.manifest_rows.specs.Rows.{Row, row, rows}
 use Rattle.cramfs_plan.specs.Passes.{named_lens, Walk, offset_by, state_by, lists_with, step, row_item, walked, after_rows, in_preorder}
 
 walked-append : (o : Order) (w : Walk) (rs qs : List Row) (ls ms : List ℕ) → length ls ≡ length rs

@@ -9,23 +9,23 @@ use Rattle.cramfs_format.specs.declared.order.Order.{Order}
 use Rattle.cramfs_format.specs.Refers.{root_place}
 use Rattle.image_parts.specs.Padding.{pad}
 use Rattle.image_parts.proofs.Padding.{pad-after}
-use Rattle.name_tree.specs.Names.{Inode, Names, nothing, leaf, link, folder, no_bytes}
+use Rattle.manifest_tree.specs.Names.{Inode, Names, nothing, leaf, link, folder, no_bytes}
 use Rattle.layout_terms.specs.Files.{height}
 use Rattle.layout_terms.specs.Items.{Item}
-use Rattle.misfits.specs.Format.{cramfs}
+use Rattle.manifest_layout.specs.Format.{cramfs}
 use Rattle.cramfs_layout.specs.Layout.{State, entry_len, list_len, pad4, first_state, after_file, after_list, after_names, size_of, root_offset}
 use Rattle.cramfs_layout.specs.Items.{item_of, items_of}
 use Rattle.cramfs_layout.specs.Planned.{IsPlanned}
 use Rattle.cramfs_layout.specs.Wells.{AreWell}
-use Rattle.record_walk.proofs.Lists.{every_join}
-use Rattle.plan_rows.specs.declared.row.Row as code
-use Rattle.plan_rows.specs.declared.row.Inode as code_inode
-use Rattle.plan_rows.specs.declared.row.What as code_what
-use Rattle.plan_rows.specs.declared.row.What.TheVariants as what
-use Rattle.plan_rows.specs.Rows.{Row, rows, row_view, inode_view, deepest}
-use Rattle.plan_rows.specs.Fits.{IsFit, FitsAs}
-use Rattle.plan_rows.specs.Rows.{what_view}
-use Rattle.plan_rows.proofs.Depths.{deepest_is}
+use Rattle.record_forest.proofs.Lists.{every_join}
+use Rattle.manifest_rows.specs.declared.row.Row as code
+use Rattle.manifest_rows.specs.declared.row.Inode as code_inode
+use Rattle.manifest_rows.specs.declared.row.What as code_what
+use Rattle.manifest_rows.specs.declared.row.What.TheVariants as what
+use Rattle.manifest_rows.specs.Rows.{Row, rows, row_view, inode_view, deepest}
+use Rattle.manifest_rows.specs.Fits.{IsFit, FitsAs}
+use Rattle.manifest_rows.specs.Rows.{what_view}
+use Rattle.manifest_rows.proofs.Depths.{deepest_is}
 use Rattle.cramfs_plan.specs.Bounds.{IsNarrow, IsPlaceableAs, IsRow}
 use Rattle.cramfs_plan.specs.Passes.{lens_of, own_lens, named_lens, first_walk, walked, after_rows, in_preorder}
 use Rattle.cramfs_plan.specs.Small.{IsSmall}

@@ -1,9 +1,9 @@
 -- Rows that can be measured and placed. (This project's own.)
 use Rattle.std.specs.Prelude.{◌^◌, ◌<◌, ◌≤◌, length}
-use Rattle.plan_rows.specs.declared.row.Inode as code_inode
-use Rattle.plan_rows.specs.declared.row.Row as code_row
-use Rattle.plan_rows.specs.declared.row.What as code_what
-use Rattle.plan_rows.specs.declared.row.What.TheVariants as what
+use Rattle.manifest_rows.specs.declared.row.Inode as code_inode
+use Rattle.manifest_rows.specs.declared.row.Row as code_row
+use Rattle.manifest_rows.specs.declared.row.What as code_what
+use Rattle.manifest_rows.specs.declared.row.What.TheVariants as what
 
 -- the name and the way to it are not too long
 abbrev pub IsNarrow : code_row.Row → Type 0

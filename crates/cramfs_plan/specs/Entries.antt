@@ -3,11 +3,11 @@ use Rattle.std.specs.Prelude.{◌≡◌, ℕ, ◌+◌, ◌≤◌, List, [], get_
 use Rattle.std.specs.BTreeMap.{BTreeMap, get}
 use Rattle.std.specs.Ordering.{nat_cmp}
 use Rattle.cramfs_format.specs.declared.order.Order.{Order}
-use Rattle.name_tree.specs.Names.{Fill, Inode}
+use Rattle.manifest_tree.specs.Names.{Fill, Inode}
 use Rattle.layout_terms.specs.Items.{Item}
 use Rattle.cramfs_layout.specs.Layout.{Table, Kept, nowhere, shared, fresh, pad4, with_table, table_with, table_by, size_by, after_by}
 use Rattle.cramfs_layout.specs.Items.{item_of, start_by}
-use Rattle.plan_rows.specs.Rows.{bytes_view}
+use Rattle.manifest_rows.specs.Rows.{bytes_view}
 use Rattle.cramfs_plan.specs.declared.entry.Entry as code_entry
 use Rattle.cramfs_plan.specs.declared.kept.Kept as code_kept
 use Rattle.cramfs_plan.specs.declared.kept.Kept.TheVariants as kept

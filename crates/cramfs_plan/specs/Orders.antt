@@ -1,6 +1,6 @@
 -- Lists in the order of a number of their members. (This project's own.)
 use Rattle.std.specs.Prelude.{ℕ, ◌<◌, List}
-use Rattle.record_walk.specs.Members.{Pairs}
+use Rattle.record_forest.specs.Members.{Pairs}
 
 -- so that none stands twice
 abbrev pub Rises : {X : Type 0} → (X → ℕ) → List X → Type 0

@@ -2,12 +2,12 @@
 -- project's own.)
 use Rattle.std.specs.Prelude.{ℕ, ◌+◌, ◌==◌, if◌then◌else◌, List, [], ◌∷◌, ◌++◌, slice_index, slice_set, replicate}
 use Rattle.cramfs_format.specs.declared.order.Order.{Order}
-use Rattle.name_tree.specs.Names.{Names, nothing, leaf, link, folder, no_bytes}
-use Rattle.name_tree.specs.Tree.{What, a_leaf, a_link, a_folder}
+use Rattle.manifest_tree.specs.Names.{Names, nothing, leaf, link, folder, no_bytes}
+use Rattle.manifest_tree.specs.Tree.{What, a_leaf, a_link, a_folder}
 use Rattle.layout_terms.specs.Items.{Item}
 use Rattle.cramfs_layout.specs.Layout.{State, entry_len, list_len, list_offset, pad4, after_file, after_list, after_names}
 use Rattle.cramfs_layout.specs.Items.{item_of, file_item}
-use Rattle.plan_rows.specs.Rows.{Row}
+use Rattle.manifest_rows.specs.Rows.{Row}
 
 -- how long the lists are so far that the rows behind stand in, at each depth, with one row more in front: the list of
 -- what it names is done

@@ -1,7 +1,7 @@
 -- What of a tree as a whole does not fit cramfs. (This project's own.)
 use Rattle.std.specs.Prelude.{ℕ, ◌^◌, ◌||◌, nat_lt, not, Bool, false, length}
 use Rattle.cramfs_format.specs.declared.order.Order.{Order}
-use Rattle.name_tree.specs.Names.{Inode, Names, nothing, leaf, link, folder}
+use Rattle.manifest_tree.specs.Names.{Inode, Names, nothing, leaf, link, folder}
 use Rattle.layout_terms.specs.Files.{height}
 use Rattle.cramfs_layout.specs.Layout.{list_len, size_of}
 use Rattle.cramfs_layout.specs.Items.{items_of}

@@ -1,6 +1,6 @@
 //! An inode with its name, and where its bytes stand.
 
-use plan_rows::Bytes;
+use manifest_rows::Bytes;
 
 /// An inode with its name, at its place. Its numbers are as the format has them, in 64 bits.
 #[derive(Clone, Copy, PartialEq, Eq)]

@@ -7,10 +7,10 @@ ghost use Rattle.cramfs_layout.specs.Items.{file_item};
 ghost use Rattle.cramfs_layout.specs.Layout.{State, Table};
 ghost use Rattle.cramfs_plan.specs.Bounds.{IsPlaceable};
 ghost use Rattle.cramfs_plan.specs.Entries.{kept_view, stored_by, stored_item, listed_by, tables_after, IsBelow, Knows, AreNear};
-ghost use Rattle.plan_rows.specs.Rows.{bytes_view, inode_view};
+ghost use Rattle.manifest_rows.specs.Rows.{bytes_view, inode_view};
 
 use crate::words::size_by;
-use plan_rows::{Bytes, Inode};
+use manifest_rows::{Bytes, Inode};
 use rom_fields::memory::OutOfMemory;
 use rom_fields::word::pad;
 use std::collections::BTreeMap;

@@ -3,10 +3,10 @@ ghost use Rattle.std.specs.List.{All};
 ghost use Rattle.std.specs.Prelude.{◌≡◌, ◌+◌, ◌<◌, ◌≤◌, ◌^◌, ◌*◌, map, length, replicate, slice_index, IfOk};
 ghost use Rattle.cramfs_plan.specs.Bounds.{IsNarrow};
 ghost use Rattle.cramfs_plan.specs.Passes.{lens_of, own_lens};
-ghost use Rattle.plan_rows.specs.Rows.{row_view};
+ghost use Rattle.manifest_rows.specs.Rows.{row_view};
 
 use crate::words::entry_len;
-use plan_rows::Row;
+use manifest_rows::Row;
 use rom_fields::memory::OutOfMemory;
 use std::alloc::Global;
 

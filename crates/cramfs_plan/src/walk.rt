@@ -6,14 +6,14 @@ ghost use Rattle.cramfs_plan.specs.Bounds.{IsRow};
 ghost use Rattle.cramfs_plan.specs.Entries.{entry_view, stored_item, Knows, AreNear};
 ghost use Rattle.cramfs_plan.specs.Passes.{Walk, first_walk, item_by, state_by, walked, after_rows, row_item, step};
 ghost use Rattle.cramfs_plan.specs.Placers.{StandsAt, IsNear};
-ghost use Rattle.plan_rows.specs.Rows.{bytes_view, inode_view, row_view};
+ghost use Rattle.manifest_rows.specs.Rows.{bytes_view, inode_view, row_view};
 
 use crate::entry::Entry;
 use crate::kept::{Stored, stored_file, stored_list};
 use crate::lens::DEPTHS;
 use crate::words::{entry_len, first_word, second_word, third_word};
 use cramfs_format::order::Order;
-use plan_rows::{Bytes, Row, What};
+use manifest_rows::{Bytes, Row, What};
 use rom_fields::memory::OutOfMemory;
 use rom_fields::word::pad;
 use std::alloc::Global;

@@ -2,10 +2,10 @@
 //! They are counted in 64 bits; of what fits they have 32.
 ghost use Rattle.std.specs.Prelude.{◌≡◌, ◌+◌, ◌-◌, ◌*◌, ◌^◌, ◌<◌, ℕ, length};
 ghost use Rattle.cramfs_layout.specs.Layout as layout;
-ghost use Rattle.plan_rows.specs.Rows.{inode_view};
+ghost use Rattle.manifest_rows.specs.Rows.{inode_view};
 
 use cramfs_format::order::Order;
-use plan_rows::Inode;
+use manifest_rows::Inode;
 use rom_fields::word::pad;
 use rom_tree::Kind;
 

@@ -3,15 +3,15 @@ use Rattle.std.proofs.Common.{◌≡◌, ℕ, ◌^◌, ◌<◌, List, [], ◌++�
 use Rattle.cramfs_format.specs.declared.order.Order.{Order}
 use Rattle.manifest.specs.Grammar.{IsManifest}
 use Rattle.manifest.specs.Lines.{ManifestLines, sources_of}
-use Rattle.name_tree.specs.Tree.{tree_of, root_of}
+use Rattle.manifest_tree.specs.Tree.{tree_of, root_of}
 use Rattle.layout_terms.proofs.Sections.{order_every}
 use Rattle.cramfs_layout.specs.Layout.{first_state}
 use Rattle.cramfs_layout.specs.Items.{AreAlignedBy, entries, below, items_of, sections_from}
 use Rattle.cramfs_layout.specs.Planned.{IsPlanned}
 use Rattle.cramfs_layout.proofs.Sectioned.{rise}
-use Rattle.misfits.specs.Format.{Format, cramfs}
-use Rattle.misfits.specs.Misfit.{HasNoMisfit}
-use Rattle.misfits.proofs.Sourced.{align_of, sourced}
+use Rattle.manifest_layout.specs.Format.{Format, cramfs}
+use Rattle.manifest_layout.specs.Misfit.{HasNoMisfit}
+use Rattle.manifest_layout.proofs.Sourced.{align_of, sourced}
 use Rattle.layout_plan.specs.Plans.{Planned, IsPlan, IsPlanOf}
 use Rattle.layout_plan.proofs.Sized.{Fitting, zeros, lengths}
 use Rattle.layout_plan.proofs.SourceSizes.{sizes_small}

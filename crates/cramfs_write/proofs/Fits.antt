@@ -1,10 +1,10 @@
 -- The items of a planned volume fit: their names are short, and their bytes end at 2^28 or before.
 use Rattle.std.proofs.Common.{◌≡◌, ◌≢◌, ℕ, ◌+◌, ◌^◌, ◌≤◌, List, ◌++◌, length, refl, arith}
 use Rattle.std.specs.List.{AllByRecursion as Every}
-use Rattle.record_walk.proofs.Lists.{every_join, every_weaker, every_both}
+use Rattle.record_forest.proofs.Lists.{every_join, every_weaker, every_both}
 use Rattle.cramfs_format.specs.declared.order.Order.{Order}
 use Rattle.image_parts.proofs.Padding.{pad-after}
-use Rattle.name_tree.specs.Names.{Inode, Names, nothing, leaf, link, folder, bytes_of}
+use Rattle.manifest_tree.specs.Names.{Inode, Names, nothing, leaf, link, folder, bytes_of}
 use Rattle.layout_terms.specs.Items.{Item}
 use Rattle.cramfs_layout.specs.Layout.{pad4, entry_len, State, Kept, nowhere, shared, fresh, kept, after_by, after_file, after_list, after_names, first_state, size_of}
 use Rattle.cramfs_layout.specs.Items.{AreAlignedBy, entries, below}

@@ -9,7 +9,7 @@ use Rattle.image_parts.specs.Parts.{Part, part}
 use Rattle.image_stream.specs.Sources.{content_of}
 use Rattle.image_stream.specs.Segments.{place, len, segment_at, segment_part, SegmentsRise, HasSource, IsLaidOut}
 use Rattle.image_stream.specs.Outcomes.{AreSized}
-use Rattle.name_tree.specs.Names.{Fill, bytes_of}
+use Rattle.manifest_tree.specs.Names.{Fill, bytes_of}
 use Rattle.layout_terms.specs.Items.{Item, Section, Body, super, record_of, table_of, text_of, contents_of, SectionsRise}
 use Rattle.layout_terms.specs.Bodies.{item_at}
 use Rattle.layout_plan.specs.Plans.{Planned}

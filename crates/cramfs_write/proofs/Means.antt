@@ -7,15 +7,15 @@ use Rattle.image_parts.specs.Parts.{Part, part, laid}
 use Rattle.image_stream.specs.Segments.{segment_part, image_from, image_of}
 use Rattle.image_stream.specs.Outcomes.{AreSized}
 use Rattle.image_stream.proofs.Laid.{image_laid}
-use Rattle.name_tree.specs.Names.{Inode, Names, nothing, leaf, link, folder}
+use Rattle.manifest_tree.specs.Names.{Inode, Names, nothing, leaf, link, folder}
 use Rattle.layout_plan.specs.Plans.{Planned, IsPlanOf}
 use Rattle.layout_terms.specs.Items.{Section, section, super}
 use Rattle.layout_terms.specs.Bodies.{item_at}
 use Rattle.manifest.specs.Grammar.{IsManifest}
 use Rattle.manifest.specs.Lines.{ManifestLines}
-use Rattle.name_tree.specs.Tree.{tree_of, root_of}
-use Rattle.misfits.specs.Format.{cramfs, layout_of}
-use Rattle.misfits.proofs.Sourced.{align_of, sourced}
+use Rattle.manifest_tree.specs.Tree.{tree_of, root_of}
+use Rattle.manifest_layout.specs.Format.{cramfs, layout_of}
+use Rattle.manifest_layout.proofs.Sourced.{align_of, sourced}
 use Rattle.cramfs_layout.specs.Layout.{State, first_state, after_file, after_list, after_names, pad4, entry_len, entry_bytes, count, size_of, superblock, with_crc}
 use Rattle.cramfs_layout.specs.Items.{AreAlignedBy, entries, below, items_of, sections_of}
 use Rattle.cramfs_layout.specs.Composed.{cramfs_part, composed}

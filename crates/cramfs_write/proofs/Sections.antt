@@ -3,9 +3,9 @@ use Rattle.std.proofs.Common.{◌≡◌, ◌≢◌, ℕ, zero, suc, ◌+◌, ◌
 use Rattle.std.proofs.lemmas.Bool.Decides.{eqb_tells}
 use Rattle.std.proofs.lemmas.List.{length-drop}
 use Rattle.std.specs.List.{AllByRecursion as Every}
-use Rattle.record_walk.proofs.Lists.{every_join}
+use Rattle.record_forest.proofs.Lists.{every_join}
 use Rattle.cramfs_format.specs.Inode.{block_count}
-use Rattle.name_tree.specs.Names.{Fill, no_bytes, text, source, bytes_of}
+use Rattle.manifest_tree.specs.Names.{Fill, no_bytes, text, source, bytes_of}
 use Rattle.layout_terms.specs.Items.{Item, Section, section, table_of, fill_section}
 use Rattle.layout_terms.specs.Bodies.{item_at}
 use Rattle.layout_terms.proofs.Bodies.{item_here, items_later}

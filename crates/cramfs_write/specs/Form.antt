@@ -8,7 +8,7 @@ use Rattle.image_stream.specs.Segments.{Segment, fixed, content, Form}
 use Rattle.layout_plan.specs.Plans.{Planned}
 use Rattle.layout_terms.specs.Bodies.{item_at}
 use Rattle.layout_terms.specs.Items.{Item, Section, Body, super, record_of, table_of, text_of, contents_of}
-use Rattle.name_tree.specs.Names.{bytes_of}
+use Rattle.manifest_tree.specs.Names.{bytes_of}
 
 -- the three words of an inode
 abbrev pub words_bytes : Order → ℕ → ℕ → ℕ → List ℕ

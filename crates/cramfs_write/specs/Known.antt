@@ -6,7 +6,7 @@ use Rattle.cramfs_layout.specs.Layout.{entry_len}
 use Rattle.layout_plan.specs.Plans.{Planned}
 use Rattle.layout_terms.specs.Bodies.{item_at}
 use Rattle.layout_terms.specs.Items.{Item, Body, super, record_of, table_of, text_of, contents_of, section, SectionsRise}
-use Rattle.name_tree.specs.Names.{text}
+use Rattle.manifest_tree.specs.Names.{text}
 
 -- what a section of this length holds: an inode, a table to blocks that stand below 2^28, a link's text, or the whole
 -- contents of a file

@@ -6,8 +6,8 @@ ghost use Rattle.cramfs_layout.specs.Composed.{written, table};
 ghost use Rattle.cramfs_layout.specs.Layout.{entry_len};
 ghost use Rattle.image_stream.specs.Segments.{fixed};
 ghost use Rattle.layout_terms.specs.Items.{section, super};
-ghost use Rattle.misfits.specs.Format.{cramfs};
-ghost use Rattle.name_tree.specs.Names.{bytes_of};
+ghost use Rattle.manifest_layout.specs.Format.{cramfs};
+ghost use Rattle.manifest_tree.specs.Names.{bytes_of};
 ghost use Rattle.plan_items.specs.Views.{fill_view, item_view, section_view};
 ghost use Rattle.cramfs_write.specs.Form.{form_of, segment_of};
 ghost use Rattle.cramfs_write.specs.Known.{IsBody, IsCramfsPlan};
@@ -33,7 +33,7 @@ pub fn known(order: Order, plan: &Plan)
     ensures count { length plan.now.sections < 2 ^ 64 }
 {
     let _ = (plan.image_len(), plan.sections());
-    misfits::laws::fitting_is_planned();
+    manifest_layout::laws::fitting_is_planned();
 }
 
 /// The byte order of the plan of a cramfs image.

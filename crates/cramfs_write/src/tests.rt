@@ -1,6 +1,6 @@
 ghost use Rattle.std.specs.Prelude.{◌≡◌, length, IfOk};
 ghost use Rattle.cramfs_format.specs.declared.order.Order.{Order};
-ghost use Rattle.misfits.specs.Format.{cramfs};
+ghost use Rattle.manifest_layout.specs.Format.{cramfs};
 ghost use Rattle.plan_misfits.specs.Formats.{format_of};
 
 use crate::{stream, write};

@@ -7,7 +7,7 @@ ghost use Rattle.image_stream.specs.Sources.{Told};
 ghost use Rattle.layout_plan.specs.Plans.{IsPlanOf};
 ghost use Rattle.manifest.specs.Grammar.{IsManifest};
 ghost use Rattle.manifest.specs.Lines.{ManifestLines};
-ghost use Rattle.misfits.specs.Format.{cramfs, layout_of};
+ghost use Rattle.manifest_layout.specs.Format.{cramfs, layout_of};
 ghost use Rattle.rom_fields.specs.Written.{AppendsPrefix};
 ghost use Rattle.std.specs.Io.KnownBytes.{Appends};
 ghost use Rattle.cramfs_write.specs.Form.{form_of};
@@ -38,7 +38,7 @@ pub fn write(plan: &Plan, contents: &Contents<'_>, out: &mut [u8]) -> Result<(),
 {
     let order = order_of(plan);
     known(order, plan);
-    misfits::laws::fitting_is_planned();
+    manifest_layout::laws::fitting_is_planned();
     let form = CramfsForm::new(plan, order);
     image_stream::write::write::<CramfsForm<'_>, Crc32>(&form, contents, out)
 }
@@ -85,7 +85,7 @@ pub fn stream_through<S: Sources, W: ByteWrite>(
 {
     let order = order_of(plan);
     known(order, plan);
-    misfits::laws::fitting_is_planned();
+    manifest_layout::laws::fitting_is_planned();
     let _ = sources.count();
     let form = CramfsForm::new(plan, order);
     image_stream::stream::stream_through::<CramfsForm<'_>, S, W, Crc32>(&form, sources, w, buffer)

@@ -6,7 +6,7 @@ use Rattle.rom_tree.specs.Image.{Image}
 use Rattle.image_check.specs.Checked.{HasTree}
 use Rattle.manifest.specs.Grammar.{manifest_of}
 use Rattle.manifest.specs.Lines.{ManifestLines}
-use Rattle.name_tree.specs.Meant.{IsMeant}
+use Rattle.manifest_tree.specs.Meant.{IsMeant}
 use Rattle.open_files.specs.Machine.{no_files}
 use Rattle.rom_serve.specs.Machines.{image_machine}
 use Rattle.rom_commands.specs.Answers.{Holds, usual_limits}

@@ -16,7 +16,7 @@ ghost use Rattle.image_manifest.specs.Sources.{sources_of};
 ghost use Rattle.image_manifest.specs.Tellable.{IsToldWhole};
 ghost use Rattle.image_told.specs.Alike.{AreAlike};
 ghost use Rattle.manifest_text.specs.Printed.{manifest_text};
-ghost use Rattle.misfits.specs.Format.{Format};
+ghost use Rattle.manifest_layout.specs.Format.{Format};
 ghost use Rattle.rom_commands.specs.Answers.{IsFaultText, usual_limits};
 ghost use Rattle.rom_commands.specs.Serving.{Input, Refuses, ServingEnds};
 ghost use Rattle.rom_commands.specs.declared.serving.Serving.{Serving};

@@ -3,9 +3,9 @@ use Rattle.std.proofs.Common.{◌≡◌, ◌≢◌, ℕ, List, map, length, refl
 use Rattle.std.proofs.lemmas.Bool.Decides.{eqb_tells}
 use Rattle.manifest.specs.Grammar.{Fault, manifest_of, IsManifest}
 use Rattle.manifest.specs.Lines.{ManifestLines, sources_of}
-use Rattle.misfits.specs.Format.{Format, HasTree, layout_of}
-use Rattle.misfits.specs.Misfit.{HasNoMisfit, IsLeastMisfit}
-use Rattle.name_tree.specs.Meant.{IsMeant}
+use Rattle.manifest_layout.specs.Format.{Format, HasTree, layout_of}
+use Rattle.manifest_layout.specs.Misfit.{HasNoMisfit, IsLeastMisfit}
+use Rattle.manifest_tree.specs.Meant.{IsMeant}
 use Rattle.rom_faults.specs.declared.fault.Fault as misfit
 use Rattle.rom_tree.specs.Tree.{Node}
 use Rattle.image_build.specs.Builds.{Builds, IsGiven, IsImageOf}

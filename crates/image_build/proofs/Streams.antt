@@ -9,8 +9,8 @@ use Rattle.cramfs_format.specs.declared.order.Order.TheVariants.{Little, Big}
 use Rattle.layout_plan.specs.Plans.{Planned, IsPlanOf}
 use Rattle.manifest.specs.Grammar.{IsManifest}
 use Rattle.manifest.specs.Lines.{ManifestLines}
-use Rattle.misfits.specs.Format.{Format, cramfs, layout_of}
-use Rattle.misfits.specs.Misfit.{HasNoMisfit}
+use Rattle.manifest_layout.specs.Format.{Format, cramfs, layout_of}
+use Rattle.manifest_layout.specs.Misfit.{HasNoMisfit}
 use Rattle.plan_misfits.specs.Formats.{format_of}
 use Rattle.plan_misfits.specs.declared.format.Format as code
 use Rattle.plan_misfits.specs.declared.format.Format.TheVariants.{Cramfs, CramfsBig}

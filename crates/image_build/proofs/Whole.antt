@@ -3,9 +3,9 @@ use Rattle.std.proofs.Common.{◌≡◌, ℕ, List, map, length, Ok, refl, subst
 use Rattle.image_check.specs.Checked.{HasTree, IsRefused}
 use Rattle.manifest.specs.Grammar.{manifest_of}
 use Rattle.manifest.specs.Lines.{ManifestLines}
-use Rattle.misfits.specs.Format as of_format
-use Rattle.misfits.specs.Format.{Format, romfs, cramfs}
-use Rattle.name_tree.specs.Meant.{IsMeant}
+use Rattle.manifest_layout.specs.Format as of_format
+use Rattle.manifest_layout.specs.Format.{Format, romfs, cramfs}
+use Rattle.manifest_tree.specs.Meant.{IsMeant}
 use Rattle.rom_faults.specs.declared.error.CheckError.{CheckError}
 use Rattle.rom_faults.specs.declared.error.CheckError.TheVariants as check
 use Rattle.rom_tree.specs.Tree.{Node}

@@ -6,9 +6,9 @@ use Rattle.manifest.specs.Grammar.{manifest_of}
 use Rattle.manifest.specs.Lines.{ManifestLines, sources_of}
 use Rattle.manifest.specs.declared.error.ManifestError.{ManifestError}
 use Rattle.manifest.specs.declared.error.ManifestError.TheVariants as manifest
-use Rattle.misfits.specs.Format.{Format, HasTree, layout_of}
-use Rattle.misfits.specs.Misfit.{HasNoMisfit, IsLeastMisfit}
-use Rattle.name_tree.specs.Meant.{IsMeant}
+use Rattle.manifest_layout.specs.Format.{Format, HasTree, layout_of}
+use Rattle.manifest_layout.specs.Misfit.{HasNoMisfit, IsLeastMisfit}
+use Rattle.manifest_tree.specs.Meant.{IsMeant}
 use Rattle.rom_tree.specs.Tree.{Node}
 use Rattle.image_build.specs.declared.error.BuildError.{BuildError}
 use Rattle.image_build.specs.declared.error.BuildError.TheVariants.{OutOfMemory, Manifest, Plan, Count}

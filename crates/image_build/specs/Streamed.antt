@@ -7,7 +7,7 @@ use Rattle.image_stream.specs.WordSums.{balance_of}
 use Rattle.layout_plan.specs.Plans.{Planned, IsPlanOf}
 use Rattle.manifest.specs.Grammar.{manifest_of}
 use Rattle.manifest.specs.Lines.{ManifestLines, sources_of}
-use Rattle.misfits.specs.Format.{Format, romfs, cramfs}
+use Rattle.manifest_layout.specs.Format.{Format, romfs, cramfs}
 use Rattle.romfs_write.specs.Form as in_romfs
 
 -- the text is a manifest, and this is its plan, with a size for each source

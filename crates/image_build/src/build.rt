@@ -6,7 +6,7 @@ ghost use Rattle.image_build.specs.Builds.{Builds};
 ghost use Rattle.layout_plan.specs.Plans.{IsPlanOf};
 ghost use Rattle.manifest.specs.Grammar.{IsManifest};
 ghost use Rattle.manifest.specs.Lines.{ManifestLines};
-ghost use Rattle.misfits.specs.Format.{romfs, cramfs, layout_of};
+ghost use Rattle.manifest_layout.specs.Format.{romfs, cramfs, layout_of};
 ghost use Rattle.plan_misfits.specs.Formats.{format_of};
 
 use crate::error::BuildError;
@@ -92,7 +92,7 @@ fn build(
     ensures err { IfErr result
         (λ e. Builds (format_of format) manifest.now contents.now (Err e)) }
 {
-    misfits::laws::layout_is_meant();
+    manifest_layout::laws::layout_is_meant();
     let manifest = parse(alloc, manifest)?;
     if contents.len() != manifest.sources().len() {
         return Err(BuildError::Count);

@@ -6,8 +6,8 @@ ghost use Rattle.image_build.specs.declared.error.BuildError.{BuildError};
 ghost use Rattle.image_check.specs.Checked.{HasTree, IsFaultless, IsRefused};
 ghost use Rattle.manifest.specs.Grammar.{manifest_of};
 ghost use Rattle.manifest.specs.Lines.{ManifestLines};
-ghost use Rattle.misfits.specs.Format.{Format};
-ghost use Rattle.name_tree.specs.Meant.{IsMeant};
+ghost use Rattle.manifest_layout.specs.Format.{Format};
+ghost use Rattle.manifest_tree.specs.Meant.{IsMeant};
 ghost use Rattle.rom_faults.specs.declared.error.CheckError.{CheckError};
 ghost use Rattle.rom_tree.specs.Tree.{Node};
 
@@ -22,8 +22,8 @@ pub fn one_answer()
         → other ≢ Err BuildError.OutOfMemory → Builds f text contents one
         → Builds f text contents other → one ≡ other }
 {
-    misfits::laws::one_answer();
-    misfits::laws::layout_is_meant();
+    manifest_layout::laws::one_answer();
+    manifest_layout::laws::layout_is_meant();
 }
 
 /// A check of a built image under the usual limits finds no fault in it and refuses nothing but

@@ -53,7 +53,7 @@ pub fn stream_through<S: Sources, W: ByteWrite>(
         (form_in plan.now.format plan.now) (stored_in plan.now.format) (S.reads sources.old)
         (S.reads sources.new) (W.output w.old) (W.output w.new)) }
 {
-    misfits::laws::layout_is_meant();
+    manifest_layout::laws::layout_is_meant();
     match plan.format() {
         Format::Romfs => romfs_write::stream_through(plan, sources, w, buffer),
         Format::Cramfs | Format::CramfsBig => {

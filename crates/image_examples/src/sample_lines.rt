@@ -3,7 +3,7 @@
 use rom_fields::bytes::Plain;
 use rom_fields::faulty::Faulty;
 use rom_serve::{ServeError, serve, serve_bounded, serve_space};
-use rom_tree_examples::sample::Sample;
+use sample_image::sample::Sample;
 use std::test::Fail;
 
 const SESSION: &[u8] = b"\

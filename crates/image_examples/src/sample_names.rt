@@ -1,12 +1,12 @@
 //! Look-ups in the sample through a cache, and how many names it holds.
 ghost use Rattle.std.specs.Prelude.{◌≤◌, IfSome};
 
-use name_cache::Cached;
+use lookup_cache::Cached;
 use rom_fields::bytes::Plain;
 use rom_tree::image::{TreeImage, is_directory_at};
 use rom_tree::list;
 use rom_tree::types::{Cursor, Kind, NodeId};
-use rom_tree_examples::sample::Sample;
+use sample_image::sample::Sample;
 use std::alloc::Global;
 use std::test::Fail;
 
@@ -101,7 +101,10 @@ fn long_names(rt: HostRuntime) -> Result<(), Fail> {
 fn the_other_calls(rt: HostRuntime) -> Result<(), Fail> {
     let mut image = Cached::new(rt.alloc(), Sample, 1).ok().ok_or("has memory")?;
     assert_eq!(rt; in_root(&mut image, b"log"), Some(NodeId(9)));
-    assert_eq!(rt; image.bytes(), b"helloa b%bindiskttylog\xc3\xa9\x7femptyshdeepp".as_slice());
+    assert_eq!(rt;
+        image.bytes(),
+        b"helloa b%bindiskttylog\xc3\xa9\x7femptyshdeepp".as_slice()
+    );
     assert_eq!(rt; image.root(), NodeId(1));
     assert!(rt; image.is_node(NodeId(10)));
     assert!(rt; !image.is_node(NodeId(11)));

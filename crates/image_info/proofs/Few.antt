@@ -8,7 +8,7 @@ use Rattle.rom_tree.specs.Tree.{Node, Body, directory, regular, symlink, block, 
 use Rattle.rom_tree.specs.Kinds.{KindNumbers, body_by}
 use Rattle.rom_tree.specs.Names.{names, node_names, body_names, entries_names, path_below}
 use Rattle.rom_tree.proofs.ByKind.{by_kind_map, by_kind_directory, by_kind_rest}
-use Rattle.record_walk.specs.Forest.{Forest, none, at, count}
+use Rattle.record_forest.specs.Forest.{Forest, none, at, count}
 use Rattle.romfs_format.specs.Record.{name_of, type_of}
 use Rattle.romfs_format.specs.Tree.{kind_numbers, places_at, node_of, entries_at, led}
 use Rattle.romfs_format.specs.Made.{made, list_at, begins, start_of, grow}

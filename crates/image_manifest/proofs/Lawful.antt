@@ -11,7 +11,7 @@ use Rattle.std.specs.Str.{bytes_eq}
 use Rattle.manifest.specs.Paths.{is_bad_name, names_of, path_of}
 use Rattle.manifest.specs.Texts.{is_empty}
 use Rattle.manifest.proofs.Named.{names_with_path}
-use Rattle.name_tree.specs.Shape.{node_under}
+use Rattle.manifest_tree.specs.Shape.{node_under}
 use Rattle.rom_tree.specs.Image.{find_entry}
 use Rattle.rom_tree.specs.Names.{Name, named, node_names, entries_names, path_below}
 use Rattle.rom_tree.specs.Tree.{Node, node, directory, regular, symlink, block, character, socket, fifo, Entries, no_entries, entry, entries_of, entries_nodes, is_directory, nodes, IsIn, here, there}

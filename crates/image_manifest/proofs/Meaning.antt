@@ -9,11 +9,11 @@ use Rattle.manifest.specs.Lines.{led, filed}
 use Rattle.manifest.specs.Paths.{names_of}
 use Rattle.manifest.proofs.Named.{path_with_names}
 use Rattle.manifest_text.specs.Printed.{AreTaken, as_read, first_number, numbered, numbered_from}
-use Rattle.name_tree.specs.Meant.{IsMeant}
-use Rattle.name_tree.specs.Names.{Inode}
-use Rattle.name_tree.specs.Shape.{file_value, node_under, node_value}
-use Rattle.name_tree.specs.Tree.{file_at, file_named, inode_by, inode_of, is_named, or_else, bare_root, root_of, sources_before, with_contents}
-use Rattle.name_tree.proofs.Law.{line_named}
+use Rattle.manifest_tree.specs.Meant.{IsMeant}
+use Rattle.manifest_tree.specs.Names.{Inode}
+use Rattle.manifest_tree.specs.Shape.{file_value, node_under, node_value}
+use Rattle.manifest_tree.specs.Tree.{file_at, file_named, inode_by, inode_of, is_named, or_else, bare_root, root_of, sources_before, with_contents}
+use Rattle.manifest_tree.proofs.Law.{line_named}
 use Rattle.rom_tree.specs.declared.types.Kind.TheVariants.{Regular}
 use Rattle.rom_tree.specs.Image.{Image, contents_of}
 use Rattle.rom_tree.specs.Names.{Name, named, names, node_names}

@@ -5,7 +5,7 @@ use Rattle.std.specs.List.{list_any}
 use Rattle.std.specs.Option.{option_and_then}
 use Rattle.std.specs.Str.{bytes_eq}
 use Rattle.manifest.specs.Paths.{path_of}
-use Rattle.name_tree.specs.Shape.{node_under}
+use Rattle.manifest_tree.specs.Shape.{node_under}
 use Rattle.rom_tree.specs.Image.{find_entry}
 use Rattle.rom_tree.specs.Names.{Name, node_names, entries_names, path_below}
 use Rattle.rom_tree.specs.Tree.{Node, node, directory, regular, symlink, block, character, socket, fifo, Entries, no_entries, entry, entries_of}

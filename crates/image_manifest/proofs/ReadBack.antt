@@ -10,8 +10,8 @@ use Rattle.manifest.specs.Lines.{is_dir, line_at}
 use Rattle.manifest.specs.Paths.{names_of, path_of, is_bad_path}
 use Rattle.manifest.proofs.Named.{path_with_names}
 use Rattle.manifest_text.specs.Printed.{AreTaken, numbered, numbered_from}
-use Rattle.name_tree.specs.Tree.{names_eq, is_named}
-use Rattle.name_tree.proofs.Law.{line_named}
+use Rattle.manifest_tree.specs.Tree.{names_eq, is_named}
+use Rattle.manifest_tree.proofs.Law.{line_named}
 use Rattle.rom_tree.specs.Image.{Image}
 use Rattle.rom_tree.specs.Names.{Name}
 use Rattle.image_manifest.specs.Lines.{line_behind, line_by, lines_behind}

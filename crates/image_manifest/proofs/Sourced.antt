@@ -6,7 +6,7 @@ use Rattle.std.specs.Prelude.{is_none}
 use Rattle.manifest.specs.declared.line.Line.{Line}
 use Rattle.manifest.specs.Lines.{is_file, sources_of as texts_of}
 use Rattle.manifest_text.specs.Printed.{first_number, numbered, numbered_from}
-use Rattle.name_tree.specs.Tree.{sources_before}
+use Rattle.manifest_tree.specs.Tree.{sources_before}
 use Rattle.rom_tree.specs.Image.{Image, contents_of}
 use Rattle.rom_tree.specs.Names.{Name, names}
 use Rattle.rom_tree.specs.Tree.{Node, node, directory, regular, symlink, block, character, socket, fifo, ino_of, is_directory, is_regular}

@@ -1,7 +1,7 @@
 -- Trees that can be told by paths. (This project's own.)
 use Rattle.std.specs.Prelude.{◌≡◌, ℕ, ◌==◌, Bool, true, false, List, Some}
 use Rattle.std.specs.List.{list_any}
-use Rattle.name_tree.specs.Shape.{node_under}
+use Rattle.manifest_tree.specs.Shape.{node_under}
 use Rattle.rom_tree.specs.Names.{names}
 use Rattle.rom_tree.specs.Tree.{Node, ino_of, is_directory}
 

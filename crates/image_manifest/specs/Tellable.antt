@@ -4,7 +4,7 @@ use Rattle.std.specs.List.{All, list_any}
 use Rattle.manifest.specs.Grammar.{manifest_of}
 use Rattle.manifest.specs.Paths.{is_bad_name}
 use Rattle.manifest_text.specs.Printed.{as_read, manifest_text}
-use Rattle.name_tree.specs.Meant.{IsMeant}
+use Rattle.manifest_tree.specs.Meant.{IsMeant}
 use Rattle.rom_tree.specs.Image.{Image, contents_of, find_entry}
 use Rattle.rom_tree.specs.Tree.{Node, Attributes, Entries, no_entries, entry, IsIn, nodes}
 use Rattle.rom_tree.specs.Tree.{attributes_of, entries_of, is_directory, is_link}

@@ -4,9 +4,9 @@ ghost use Rattle.std.specs.List.{All};
 ghost use Rattle.manifest.specs.Grammar.{manifest_of};
 ghost use Rattle.manifest_text.specs.Printed.{AreTaken, IsVolume, as_read};
 ghost use Rattle.manifest_text.specs.Printed.{first_number, manifest_text};
-ghost use Rattle.name_tree.specs.Meant.{IsMeant};
-ghost use Rattle.name_tree.specs.Shape.{HasShape};
-ghost use Rattle.name_tree.specs.Tree.{root_of, tree_of};
+ghost use Rattle.manifest_tree.specs.Meant.{IsMeant};
+ghost use Rattle.manifest_tree.specs.Shape.{HasShape};
+ghost use Rattle.manifest_tree.specs.Tree.{root_of, tree_of};
 ghost use Rattle.rom_tree.specs.Image.{Image};
 ghost use Rattle.image_manifest.specs.ByPaths.{IsByPaths};
 ghost use Rattle.image_manifest.specs.Lines.{lines_of};
@@ -38,7 +38,7 @@ pub fn told_by_shape()
         (map length (sources_of m)) }
 {
     lines_are_read_back();
-    name_tree::laws::shape_is_meant();
+    manifest_tree::laws::shape_is_meant();
 }
 
 /// The manifest of an image means the image's tree, where the grammar takes its lines, its sources

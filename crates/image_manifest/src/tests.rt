@@ -1,7 +1,7 @@
 use crate::{members, write_manifest};
 use manifest::parse;
 use rom_fields::bytes::Plain;
-use rom_tree_examples::sample::Sample;
+use sample_image::sample::Sample;
 use std::test::Fail;
 
 const TOLD: &[u8] = b"volume boot%20rom

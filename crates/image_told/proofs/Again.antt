@@ -11,10 +11,10 @@ use Rattle.image_info.specs.Volumes.{cramfs_volume, romfs_volume, volume_of}
 use Rattle.manifest.specs.Grammar.{Fault, manifest_of}
 use Rattle.manifest.specs.Lines.{ManifestLines}
 use Rattle.manifest_text.specs.Printed.{IsVolume, as_read, manifest_text}
-use Rattle.name_tree.specs.Meant.{IsMeant}
-use Rattle.name_tree.specs.Names.{Inode}
-use Rattle.name_tree.specs.Shape.{file_value, node_value}
-use Rattle.name_tree.specs.Tree.{file_named}
+use Rattle.manifest_tree.specs.Meant.{IsMeant}
+use Rattle.manifest_tree.specs.Names.{Inode}
+use Rattle.manifest_tree.specs.Shape.{file_value, node_value}
+use Rattle.manifest_tree.specs.Tree.{file_named}
 use Rattle.romfs_format.specs.Record.{before_zero}
 use Rattle.rom_tree.specs.Image.{Image}
 use Rattle.rom_tree.specs.Tree.{Node}

@@ -8,11 +8,11 @@ use Rattle.std.specs.List.{AllByRecursion as Every, All}
 use Rattle.std.specs.Str.{bytes_eq}
 use Rattle.byteorder.specs.Numbers.{big_from-lt, little_from-lt}
 use Rattle.rom_fields.specs.Words.{word_be, word_le}
-use Rattle.record_walk.specs.declared.reference.Reference.{Reference}
-use Rattle.record_walk.specs.declared.reference.Row.{Row}
-use Rattle.record_walk.specs.Forest.{Forest, none, at, NamesDiffer, all_rows, rows}
-use Rattle.record_walk.specs.Members.{Has, Pairs}
-use Rattle.record_walk.proofs.Lists.{every_both, every_left, every_right, every_weaker, has_every, has_left, has_right, pairs_cross, pairs_from, pairs_left, pairs_right}
+use Rattle.record_forest.specs.declared.reference.Reference.{Reference}
+use Rattle.record_forest.specs.declared.reference.Row.{Row}
+use Rattle.record_forest.specs.Forest.{Forest, none, at, NamesDiffer, all_rows, rows}
+use Rattle.record_forest.specs.Members.{Has, Pairs}
+use Rattle.record_forest.proofs.Lists.{every_both, every_left, every_right, every_weaker, has_every, has_left, has_right, pairs_cross, pairs_from, pairs_left, pairs_right}
 use Rattle.cramfs_format.specs.declared.order.Order.{Order}
 use Rattle.cramfs_format.specs.declared.order.Order.TheVariants.{Little, Big}
 use Rattle.cramfs_format.specs.Order.{field_after, first_field, word}

@@ -10,11 +10,11 @@ use Rattle.std.specs.List.{AllByRecursion as Every, All, list_any}
 use Rattle.std.specs.Str.{bytes_eq}
 use Rattle.byteorder.specs.Numbers.{big_from-lt}
 use Rattle.rom_fields.specs.Words.{word_be}
-use Rattle.record_walk.specs.declared.reference.Reference.{Reference}
-use Rattle.record_walk.specs.declared.reference.Row.{Row}
-use Rattle.record_walk.specs.Forest.{Forest, none, at, NamesDiffer, all_rows, rows}
-use Rattle.record_walk.specs.Members.{Has, Pairs}
-use Rattle.record_walk.proofs.Lists.{every_both, every_left, every_right, every_weaker, has_every, has_left, has_right, pairs_cross, pairs_from, pairs_left, pairs_right}
+use Rattle.record_forest.specs.declared.reference.Reference.{Reference}
+use Rattle.record_forest.specs.declared.reference.Row.{Row}
+use Rattle.record_forest.specs.Forest.{Forest, none, at, NamesDiffer, all_rows, rows}
+use Rattle.record_forest.specs.Members.{Has, Pairs}
+use Rattle.record_forest.proofs.Lists.{every_both, every_left, every_right, every_weaker, has_every, has_left, has_right, pairs_cross, pairs_from, pairs_left, pairs_right}
 use Rattle.romfs_format.specs.Record.{IsSound, before_zero, name_of, spec_offset_of, type_of}
 use Rattle.romfs_format.specs.Refers.{references, reference_offset, heads_itself}
 use Rattle.romfs_format.specs.Tree.{IsTree, LeadsWell, RomfsTree, attributes_at, below_root, entries_at, executable, follow, full_size, kind_numbers, led, listed_rows, mode_named, node_of, places_at, root_of, tree_of}

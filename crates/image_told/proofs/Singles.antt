@@ -7,7 +7,7 @@ use Rattle.std.specs.Cmp.Lexicographic.{bytes_decides}
 use Rattle.std.specs.List.{list_any}
 use Rattle.std.specs.Option.{option_and_then}
 use Rattle.std.specs.Str.{bytes_eq}
-use Rattle.name_tree.specs.Shape.{node_under}
+use Rattle.manifest_tree.specs.Shape.{node_under}
 use Rattle.rom_tree.specs.Image.{find_entry}
 use Rattle.rom_tree.specs.Names.{Name, names, node_names}
 use Rattle.rom_tree.specs.Tree.{Node, node, Body, directory, regular, symlink, block, character, socket, fifo, Entries, no_entries, entry, IsIn, IsCoherent, ino_of, is_directory, nodes}

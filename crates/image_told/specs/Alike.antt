@@ -1,7 +1,7 @@
 -- Two trees that are alike, whatever the numbers of their nodes. (This project's own.)
 use Rattle.std.specs.Prelude.{◌≡◌, ◌↔◌, ℕ, List, Some}
 use Rattle.std.specs.Option.{option_map}
-use Rattle.name_tree.specs.Shape.{node_under, node_value}
+use Rattle.manifest_tree.specs.Shape.{node_under, node_value}
 use Rattle.rom_tree.specs.Tree.{Node, ino_of}
 
 -- The tree t of the bytes a and the tree u of the bytes b: at each path stands the same in both, a

@@ -4,7 +4,7 @@ ghost use Rattle.std.specs.List.{All};
 ghost use Rattle.manifest.specs.Grammar.{manifest_of};
 ghost use Rattle.manifest.specs.Lines.{ManifestLines};
 ghost use Rattle.manifest_text.specs.Printed.{AreTaken, IsVolume, first_number, manifest_text};
-ghost use Rattle.name_tree.specs.Meant.{IsMeant};
+ghost use Rattle.manifest_tree.specs.Meant.{IsMeant};
 ghost use Rattle.rom_tree.specs.Image.{Image};
 ghost use Rattle.rom_tree.specs.Tree.{Node};
 ghost use Rattle.rom_tree.specs.declared.types.Limits.{Limits};

@@ -1,35 +1,35 @@
 -- From what a plan begins with to the plan of a manifest.
 use Rattle.std.proofs.Common.{◌≡◌, ◌<◌, ℕ, Bool, true, false, if◌then◌else◌, ◌⊎◌, inl, inr, List, map, length, Option, Some, None, refl, sym, ap, subst, ◌∙◌, arith}
 use Rattle.std.specs.List.{AllByRecursion as Every}
-use Rattle.record_walk.specs.Faults.{IsNone, IsLeastFaultOf}
+use Rattle.record_forest.specs.Faults.{IsNone, IsLeastFaultOf}
 use Rattle.cramfs_format.specs.declared.order.Order.{Order}
 use Rattle.cramfs_format.specs.declared.order.Order.TheVariants.{Little, Big}
 use Rattle.image_parts.specs.Padding.{pad}
 use Rattle.manifest.specs.Grammar.{IsManifest}
 use Rattle.manifest.specs.Lines.{ManifestLines}
-use Rattle.name_tree.specs.Names.{Inode}
-use Rattle.name_tree.specs.Tree.{tree_of, root_of}
+use Rattle.manifest_tree.specs.Names.{Inode}
+use Rattle.manifest_tree.specs.Tree.{tree_of, root_of}
 use Rattle.layout_terms.specs.Items.{Item}
 use Rattle.romfs_layout.specs.Layout.{full_size_of, root_at}
 use Rattle.romfs_layout.specs.Items as romfs_items
 use Rattle.romfs_layout.specs.Planned as romfs_planned
 use Rattle.cramfs_layout.specs.Items as cramfs_items
 use Rattle.cramfs_layout.specs.Planned as cramfs_planned
-use Rattle.misfits.specs.Format.{Format, romfs, cramfs, len_of, items_of}
-use Rattle.misfits.specs.Misfit.{HasLineMisfit, HasWholeMisfit, HasNoMisfit}
-use Rattle.misfits.proofs.Decided.{whole_test, whole_decides}
-use Rattle.misfits.proofs.Known.{known}
-use Rattle.misfits.proofs.Plain.{good_text}
-use Rattle.misfits.proofs.Sectioned.{planned}
+use Rattle.manifest_layout.specs.Format.{Format, romfs, cramfs, len_of, items_of}
+use Rattle.manifest_layout.specs.Misfit.{HasLineMisfit, HasWholeMisfit, HasNoMisfit}
+use Rattle.manifest_layout.proofs.Decided.{whole_test, whole_decides}
+use Rattle.manifest_layout.proofs.Known.{known}
+use Rattle.manifest_layout.proofs.Plain.{good_text}
+use Rattle.manifest_layout.proofs.Sectioned.{planned}
 use Rattle.plan_misfits.specs.declared.format.Format as code_format
 use Rattle.plan_misfits.specs.declared.format.Format.TheVariants as format
 use Rattle.std.specs.Option.{option_map}
 use Rattle.plan_misfits.specs.declared.misfit.Misfit.{Misfit}
 use Rattle.plan_misfits.specs.Misfits.{misfit_fault}
 use Rattle.plan_misfits.specs.Formats.{format_of}
-use Rattle.plan_rows.specs.Fits.{IsFit}
-use Rattle.plan_rows.specs.Rows.{Row}
-use Rattle.plan_rows.proofs.Fitting.{rows_fit}
+use Rattle.manifest_rows.specs.Fits.{IsFit}
+use Rattle.manifest_rows.specs.Rows.{Row}
+use Rattle.manifest_rows.proofs.Fitting.{rows_fit}
 use Rattle.romfs_plan.specs.Rows as of_romfs
 use Rattle.romfs_plan.proofs.Short as romfs_short
 use Rattle.cramfs_plan.specs.Wholes as of_cramfs

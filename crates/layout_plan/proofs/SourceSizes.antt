@@ -4,20 +4,20 @@ use Rattle.std.proofs.lemmas.Bool.{lt-ltb, le-ltb, cases_lt}
 use Rattle.std.proofs.lemmas.List.{reverse-append}
 use Rattle.std.specs.List.{AllByRecursion as Every}
 use Rattle.std.specs.Str.{bytes_eq}
-use Rattle.record_walk.specs.Members.{Has, Pairs}
-use Rattle.record_walk.proofs.Lists.{every_weaker, every_join, pairs_push, has_of}
+use Rattle.record_forest.specs.Members.{Has, Pairs}
+use Rattle.record_forest.proofs.Lists.{every_weaker, every_join, pairs_push, has_of}
 use Rattle.manifest.specs.declared.line.Line.{Line}
 use Rattle.manifest.specs.declared.line.Word.{Word}
 use Rattle.manifest.specs.declared.line.Word.TheVariants.{Dir, File, Slink, Block, Character, Fifo, Socket, Hard, Same}
 use Rattle.manifest.specs.Lines.{ManifestLines, is_file, is_hard, is_same, led, filed, sources_of}
 use Rattle.manifest.specs.Grammar.{IsManifest}
-use Rattle.name_tree.specs.Tree.{sources_before, with_contents, inode_of, inode_by}
-use Rattle.misfits.specs.Format.{Format, romfs, cramfs}
-use Rattle.misfits.specs.Misfit.{HasNoMisfit, IsLarge, TOO_LARGE, large}
-use Rattle.misfits.proofs.Sourced.{has_reverse, every_back}
-use Rattle.misfits.proofs.Written.{written}
-use Rattle.misfits.proofs.Led.{LedIn, all_led}
-use Rattle.misfits.proofs.Known.{known, Fits}
+use Rattle.manifest_tree.specs.Tree.{sources_before, with_contents, inode_of, inode_by}
+use Rattle.manifest_layout.specs.Format.{Format, romfs, cramfs}
+use Rattle.manifest_layout.specs.Misfit.{HasNoMisfit, IsLarge, TOO_LARGE, large}
+use Rattle.manifest_layout.proofs.Sourced.{has_reverse, every_back}
+use Rattle.manifest_layout.proofs.Written.{written}
+use Rattle.manifest_layout.proofs.Led.{LedIn, all_led}
+use Rattle.manifest_layout.proofs.Known.{known, Fits}
 
 past_end : (xs : List ℕ) (k : ℕ) → length xs ≤ k → get_or xs k 0 ≡ 0
 past_end [] k h = refl

@@ -4,8 +4,8 @@ use Rattle.std.specs.Prelude.{◌≡◌, ℕ, zero, suc, List, [], ◌∷◌, le
 use Rattle.layout_terms.specs.Items.{Item, Section}
 use Rattle.manifest.specs.Grammar.{IsManifest}
 use Rattle.manifest.specs.Lines.{ManifestLines, sources_of}
-use Rattle.misfits.specs.Format.{Format, items_of, sections_of, len_of}
-use Rattle.misfits.specs.Misfit.{IsLeastMisfit, HasNoMisfit}
+use Rattle.manifest_layout.specs.Format.{Format, items_of, sections_of, len_of}
+use Rattle.manifest_layout.specs.Misfit.{IsLeastMisfit, HasNoMisfit}
 use Rattle.layout_plan.specs.declared.error.PlanError.{PlanError}
 use Rattle.layout_plan.specs.declared.error.PlanError.TheVariants as error
 

@@ -1,13 +1,13 @@
 -- What the plan of a manifest begins with. (This project's own.)
 use Rattle.std.specs.Prelude.{◌≡◌, ℕ, List}
-use Rattle.record_walk.specs.Faults.{IsNone}
+use Rattle.record_forest.specs.Faults.{IsNone}
 use Rattle.manifest.specs.Grammar.{IsManifest}
 use Rattle.manifest.specs.Lines.{ManifestLines}
-use Rattle.misfits.specs.Format.{Format}
-use Rattle.misfits.specs.Misfit.{HasLineMisfit}
-use Rattle.name_tree.specs.Names.{Inode}
-use Rattle.name_tree.specs.Tree.{tree_of, root_of}
-use Rattle.plan_rows.specs.Rows.{Row, rows}
+use Rattle.manifest_layout.specs.Format.{Format}
+use Rattle.manifest_layout.specs.Misfit.{HasLineMisfit}
+use Rattle.manifest_tree.specs.Names.{Inode}
+use Rattle.manifest_tree.specs.Tree.{tree_of, root_of}
+use Rattle.manifest_rows.specs.Rows.{Row, rows}
 
 -- these are the volume, the root and the rows of a manifest whose lines fit
 pub record IsReady (f : Format) (m : ManifestLines) (sizes volume : List ℕ) (root : Inode) (rs : List Row) : Type 0 where

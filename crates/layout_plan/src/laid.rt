@@ -5,16 +5,16 @@ ghost use Rattle.layout_plan.specs.Ready.{IsReady};
 ghost use Rattle.layout_terms.specs.Items as terms;
 ghost use Rattle.manifest.specs.Grammar.{IsManifest};
 ghost use Rattle.manifest.specs.Lines.{ManifestLines};
-ghost use Rattle.misfits.specs.Format.{romfs, cramfs, items_of, sections_of, len_of};
-ghost use Rattle.misfits.specs.Misfit.{HasWholeMisfit, HasNoMisfit};
+ghost use Rattle.manifest_layout.specs.Format.{romfs, cramfs, items_of, sections_of, len_of};
+ghost use Rattle.manifest_layout.specs.Misfit.{HasWholeMisfit, HasNoMisfit};
 ghost use Rattle.plan_items.specs.Views.{item_view, section_view};
 ghost use Rattle.plan_misfits.specs.Formats.{format_of};
-ghost use Rattle.plan_rows.specs.Rows.{inode_view, row_view};
+ghost use Rattle.manifest_rows.specs.Rows.{inode_view, row_view};
 
 use cramfs_format::order::Order;
+use manifest_rows::{Inode, Row};
 use plan_items::{Item, Section};
 use plan_misfits::Format;
-use plan_rows::{Inode, Row};
 use rom_fields::memory::OutOfMemory;
 use std::alloc::Global;
 

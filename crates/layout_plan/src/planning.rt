@@ -8,10 +8,9 @@ use crate::error::PlanError;
 use crate::laid::{Laid, place, sections};
 use crate::planned::Plan;
 use manifest::{Manifest, Name};
-use plan_files::Files;
+use manifest_rows::{Files, root, rows};
 use plan_misfits::misfit::TOO_LARGE;
 use plan_misfits::{Format, least_of_lines};
-use plan_rows::{root, rows};
 use rom_fields::memory::OutOfMemory;
 use std::alloc::Global;
 

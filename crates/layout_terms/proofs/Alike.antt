@@ -2,8 +2,8 @@
 use Rattle.std.proofs.Common.{◌≡◌, ◌≢◌, List, [], ◌∷◌, map, refl, sym, ap, subst, ◌∙◌, inl, inr, Option, Some, None, ◌↔◌}
 use Rattle.std.specs.Option.{option_and_then, option_map}
 use Rattle.std.specs.List.{AllByRecursion as Every}
-use Rattle.record_walk.specs.Members.{Has, Pairs}
-use Rattle.record_walk.proofs.Lists.{pairs_pick}
+use Rattle.record_forest.specs.Members.{Has, Pairs}
+use Rattle.record_forest.proofs.Lists.{pairs_pick}
 use Rattle.layout_terms.specs.Files.{Placed}
 
 -- both are there, and alike, or neither is

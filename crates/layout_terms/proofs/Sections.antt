@@ -2,7 +2,7 @@
 use Rattle.std.proofs.Common.{◌≡◌, ℕ, ◌+◌, ◌<◌, ◌≤◌, nat_lt, true, false, cond, ◌⊎◌, inl, inr, List, [], ◌∷◌, refl, arith}
 use Rattle.std.proofs.lemmas.Bool.{ltb-true, ltb-false}
 use Rattle.std.specs.List.{AllByRecursion as Every}
-use Rattle.record_walk.specs.Members.{Pairs}
+use Rattle.record_forest.specs.Members.{Pairs}
 use Rattle.layout_terms.specs.Items.{Section, put_section, in_order, SectionsRise}
 
 pub rise_later : (from up end : ℕ) (ss : List Section) → from ≤ up → SectionsRise up end ss → SectionsRise from end ss

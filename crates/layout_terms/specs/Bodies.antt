@@ -1,7 +1,7 @@
 -- The bytes of the sections of a planned image. (This project's own.)
 use Rattle.std.specs.Prelude.{ℕ, List, [], get_or}
 use Rattle.image_parts.specs.Parts.{Part, part}
-use Rattle.name_tree.specs.Names.{no_bytes, bytes_of}
+use Rattle.manifest_tree.specs.Names.{no_bytes, bytes_of}
 use Rattle.layout_terms.specs.Items.{Item, Body, super, record_of, table_of, text_of, contents_of, Section}
 
 -- stands for the item of an index that there is not

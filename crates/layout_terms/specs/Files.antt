@@ -1,6 +1,6 @@
 -- The files of names, and the places at which they stand. (This project's own.)
 use Rattle.std.specs.Prelude.{ℕ, suc, max, List, [], ◌∷◌, ◌++◌}
-use Rattle.name_tree.specs.Names.{Inode, Names, nothing, leaf, link, folder}
+use Rattle.manifest_tree.specs.Names.{Inode, Names, nothing, leaf, link, folder}
 
 -- the files, each once
 abbrev pub files : Names → List Inode

@@ -1,7 +1,7 @@
 -- What a planned image consists of: one item for each romfs header or cramfs inode, and sections, which are the bytes
 -- that stand together. (This project's own.)
 use Rattle.std.specs.Prelude.{ℕ, ◌+◌, ◌==◌, ◌<◌, ◌≤◌, if◌then◌else◌, nat_lt, List, [], ◌∷◌}
-use Rattle.name_tree.specs.Names.{Fill, no_bytes, text, source}
+use Rattle.manifest_tree.specs.Names.{Fill, no_bytes, text, source}
 
 -- One record of an image, with its file's bytes: its place, its first three words, its name; where its table of block
 -- pointers stands, 0 where it has none; where its bytes begin, 0 where there are none, how many they are, and which.

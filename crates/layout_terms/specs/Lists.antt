@@ -3,7 +3,7 @@
 use Rattle.std.specs.Prelude.{◌≡◌, ◌≢◌, ℕ, ◌<◌, false, List, length, ◌⊎◌}
 use Rattle.std.specs.List.{AllByRecursion as Every, Contains}
 use Rattle.rom_tree.specs.Dots.{is_dots}
-use Rattle.name_tree.specs.Names.{Names, nothing, leaf, link, folder}
+use Rattle.manifest_tree.specs.Names.{Names, nothing, leaf, link, folder}
 
 -- a name
 pub record IsName (name : List ℕ) : Type 0 where

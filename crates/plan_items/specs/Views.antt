@@ -1,6 +1,6 @@
 -- The items and sections of the code, in the words of the layouts' definitions. (This project's own.)
 use Rattle.std.specs.Prelude.{get_or}
-use Rattle.name_tree.specs.Names.{Fill, no_bytes, text, source}
+use Rattle.manifest_tree.specs.Names.{Fill, no_bytes, text, source}
 use Rattle.layout_terms.specs.Items.{Item, Section, Body, super, record_of, table_of, text_of, contents_of}
 use Rattle.plan_items.specs.declared.item.Item as code_item
 use Rattle.plan_items.specs.declared.item.Fill as code_fill

@@ -6,14 +6,14 @@ use Rattle.std.proofs.Math.Seq.{split_at}
 use Rattle.std.proofs.lemmas.List.{at_drop_more}
 use Rattle.std.specs.List.{AllByRecursion as Every}
 use Rattle.rom_faults.specs.declared.fault.Fault.{Fault}
-use Rattle.record_walk.specs.Lesser.{lesser_of_both}
-use Rattle.record_walk.proofs.Lists.{pairs_right}
+use Rattle.record_forest.specs.Lesser.{lesser_of_both}
+use Rattle.record_forest.proofs.Lists.{pairs_right}
 use Rattle.manifest.specs.declared.line.Line.{Line}
 use Rattle.manifest.specs.Grammar.{IsManifest}
 use Rattle.manifest.specs.Lines.{ManifestLines}
-use Rattle.misfits.specs.Format.{Format}
-use Rattle.misfits.proofs.Decided.{fault, at_line, number_of_line, of_lines}
-use Rattle.plan_files.proofs.Knowing.{Rise, rise}
+use Rattle.manifest_layout.specs.Format.{Format}
+use Rattle.manifest_layout.proofs.Decided.{fault, at_line, number_of_line, of_lines}
+use Rattle.manifest_rows.proofs.Knowing.{Rise, rise}
 
 nothing_less : (o : Option Fault) → lesser_of_both None o ≡ o
 nothing_less None = refl

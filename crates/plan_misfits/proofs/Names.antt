@@ -9,7 +9,7 @@ use Rattle.manifest.specs.Texts.{pieces}
 use Rattle.manifest.specs.Paths.{names_of, names_behind, is_bad_name}
 use Rattle.manifest.proofs.Pieces.{cut_none}
 use Rattle.manifest.proofs.Parents.{pieces_apart, starts, is_path}
-use Rattle.misfits.specs.Misfit.{last_len, name_len}
+use Rattle.manifest_layout.specs.Misfit.{last_len, name_len}
 
 last_push : (ns : List (List ℕ)) (n : List ℕ) → last_len (ns ++ n ∷ []) ≡ length n
 last_push [] n = refl

@@ -5,12 +5,12 @@ use Rattle.manifest.specs.declared.line.Line.{Line}
 use Rattle.manifest.specs.declared.line.Word.{Word}
 use Rattle.manifest.specs.declared.line.Word.TheVariants.{Dir, File, Slink, Block, Character, Fifo, Socket, Hard, Same}
 use Rattle.manifest.specs.Lines.{ManifestLines, is_hard, filed}
-use Rattle.name_tree.specs.Tree.{inode_of, inode_by, with_contents}
-use Rattle.plan_files.specs.Files.{contents_at, contents_of}
-use Rattle.misfits.specs.Format.{Format, romfs, cramfs}
+use Rattle.manifest_tree.specs.Tree.{inode_of, inode_by, with_contents}
+use Rattle.manifest_rows.specs.Files.{contents_at, contents_of}
+use Rattle.manifest_layout.specs.Format.{Format, romfs, cramfs}
 use Rattle.manifest.specs.Paths.{names_of}
-use Rattle.misfits.specs.Misfit.{name_len}
-use Rattle.misfits.proofs.Decided.{bad_attribute, is_large, is_long, has_no_links, number_by, number_of_line}
+use Rattle.manifest_layout.specs.Misfit.{name_len}
+use Rattle.manifest_layout.proofs.Decided.{bad_attribute, is_large, is_long, has_no_links, number_by, number_of_line}
 use Rattle.plan_misfits.specs.Misfits.{kind_by, without_bytes, size_by, size_or}
 
 contents_attribute : (f : Format) (all : List Line) (sizes : List ℕ) (l : Line) (o : Option Line)

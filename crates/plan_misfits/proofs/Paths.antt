@@ -3,13 +3,13 @@ use Rattle.std.proofs.Common.{◌≡◌, ℕ, zero, suc, ◌<◌, arith, length,
 use Rattle.std.specs.List.{AllByRecursion as Every}
 use Rattle.std.specs.Option.{is_some}
 use Rattle.std.proofs.lemmas.List.{reverse-append}
-use Rattle.record_walk.proofs.Lists.{every_weaker, every_join}
+use Rattle.record_forest.proofs.Lists.{every_weaker, every_join}
 use Rattle.manifest.specs.declared.line.Line.{Line}
 use Rattle.manifest.specs.Grammar.{IsManifest}
 use Rattle.manifest.specs.Lines.{ManifestLines, is_dir}
 use Rattle.manifest.specs.Paths.{names_of, is_bad_path}
 use Rattle.manifest.proofs.Checked.{checked_lines}
-use Rattle.misfits.proofs.Led.{IsFaultless, all_faultless}
+use Rattle.manifest_layout.proofs.Led.{IsFaultless, all_faultless}
 
 path_some : (root : Bool) (o : Option (List (List ℕ))) → is_bad_path root o ≡ false → is_some o ≡ true
 path_some root None h = absurd (cc)

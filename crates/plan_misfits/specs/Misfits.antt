@@ -6,9 +6,9 @@ use Rattle.rom_tree.specs.declared.types.Kind.TheVariants as kind
 use Rattle.manifest.specs.declared.line.Line.{Line}
 use Rattle.manifest.specs.declared.line.Word.{Word}
 use Rattle.manifest.specs.declared.line.Word.TheVariants.{Dir, File, Slink, Block, Character, Fifo, Socket, Hard, Same}
-use Rattle.name_tree.specs.Names.{no_bytes, Inode}
-use Rattle.name_tree.specs.Tree.{plain}
-use Rattle.plan_files.specs.declared.files.Contents.{Contents}
+use Rattle.manifest_tree.specs.Names.{no_bytes, Inode}
+use Rattle.manifest_tree.specs.Tree.{plain}
+use Rattle.manifest_rows.specs.declared.files.Contents.{Contents}
 use Rattle.plan_misfits.specs.declared.misfit.Misfit.{Misfit}
 
 -- what a word makes; a `hard` line makes nothing, and stands for a regular file here

@@ -2,19 +2,19 @@
 ghost use Rattle.std.specs.Prelude.{◌≡◌, List, ℕ, Some, length};
 ghost use Rattle.std.specs.Option.{option_map};
 ghost use Rattle.manifest.specs.Grammar.{IsManifest};
-ghost use Rattle.misfits.proofs.Decided as decided;
-ghost use Rattle.misfits.specs.Misfit.{HasLineMisfit};
-ghost use Rattle.plan_files.specs.Files.{IsOf};
+ghost use Rattle.manifest_layout.proofs.Decided as decided;
+ghost use Rattle.manifest_layout.specs.Misfit.{HasLineMisfit};
+ghost use Rattle.manifest_rows.specs.Files.{IsOf};
 ghost use Rattle.plan_misfits.specs.Formats.{format_of};
 ghost use Rattle.plan_misfits.specs.Misfits.{misfit_fault};
-ghost use Rattle.record_walk.specs.Faults.{IsLeastFaultOf};
-ghost use Rattle.record_walk.specs.Lesser.{lesser_of_both};
+ghost use Rattle.record_forest.specs.Faults.{IsLeastFaultOf};
+ghost use Rattle.record_forest.specs.Lesser.{lesser_of_both};
 
 use crate::format::Format;
 use crate::lines::{is_long_volume, number_of_line};
 use crate::misfit::{Misfit, NAME_TOO_LONG};
 use manifest::Manifest;
-use plan_files::Files;
+use manifest_rows::Files;
 
 /// The misfit of the first line that does not fit.
 fn first_of_lines(format: Format, m: &Manifest, files: &Files) -> Option<Misfit>

@@ -5,9 +5,9 @@ ghost use Rattle.manifest.specs.Lines as lines;
 ghost use Rattle.manifest.specs.Lines.{ManifestLines};
 ghost use Rattle.manifest.specs.declared.line.Line as decl;
 ghost use Rattle.manifest.specs.Paths.{names_of};
-ghost use Rattle.misfits.proofs.Decided as decided;
-ghost use Rattle.misfits.specs.Misfit.{name_len};
-ghost use Rattle.plan_files.specs.Files.{IsOf, contents_at};
+ghost use Rattle.manifest_layout.proofs.Decided as decided;
+ghost use Rattle.manifest_layout.specs.Misfit.{name_len};
+ghost use Rattle.manifest_rows.specs.Files.{IsOf, contents_at};
 ghost use Rattle.plan_misfits.specs.Formats.{format_of};
 ghost use Rattle.plan_misfits.specs.Misfits.{kind_by, without_bytes, size_by};
 ghost use Rattle.romfs_format.specs.Tree.{mode_named};
@@ -16,8 +16,8 @@ ghost use Rattle.romfs_layout.specs.Layout.{number_of};
 use crate::format::Format;
 use crate::misfit::{ATTRIBUTE, HARD_LINK, NAME_TOO_LONG, TOO_LARGE};
 use manifest::{Line, Word};
+use manifest_rows::Files;
 use memchr::memrchr;
-use plan_files::Files;
 
 /// The greatest number of a romfs device, and the greatest owner in cramfs.
 const MOST_OF_TWO_BYTES: u32 = 65_535;

@@ -5,9 +5,9 @@ use Rattle.rom_fields.specs.Failures.{Rose, Counts}
 use Rattle.rom_fields.specs.Written.{Output, WritesText}
 use Rattle.rom_tree.specs.Image.{Image}
 use Rattle.open_files.specs.Machine.{no_files}
-use Rattle.serve_loop.specs.Served.{Machine, Serves, Finishes, Breaks}
-use Rattle.serve_loop.specs.declared.error.ServeError.{ServeError}
-use Rattle.serve_loop.specs.declared.error.ServeError.TheVariants as serve
+use Rattle.serve_lines.specs.Served.{Machine, Serves, Finishes, Breaks}
+use Rattle.serve_lines.specs.declared.error.ServeError.{ServeError}
+use Rattle.serve_lines.specs.declared.error.ServeError.TheVariants as serve
 use Rattle.rom_serve.specs.Machines.{image_machine}
 use Rattle.rom_commands.specs.declared.serving.Serving.{Serving}
 use Rattle.rom_commands.specs.Serving.{Input, Answers, Refuses, serving_of, refusal_of}

@@ -8,9 +8,9 @@ use Rattle.rom_fields.specs.Written.{AppendsPrefix, Output}
 use Rattle.rom_tree.specs.Image.{Image}
 use Rattle.open_files.specs.Machine.{no_files}
 use Rattle.open_files.specs.Sessions.{no_sessions}
-use Rattle.serve_loop.specs.Served.{Machine, Serves, Finishes, Breaks}
-use Rattle.serve_loop.specs.declared.error.ServeError.{ServeError}
-use Rattle.serve_loop.specs.declared.error.ServeError.TheVariants as serve
+use Rattle.serve_lines.specs.Served.{Machine, Serves, Finishes, Breaks}
+use Rattle.serve_lines.specs.declared.error.ServeError.{ServeError}
+use Rattle.serve_lines.specs.declared.error.ServeError.TheVariants as serve
 use Rattle.rom_serve.specs.Machines.{image_machine, space_machine}
 use Rattle.rom_commands.specs.Lines.{fault_text}
 use Rattle.rom_commands.specs.Answers.{Holds, HasFault, IsFaultText}

@@ -2,9 +2,9 @@
 use Rattle.std.proofs.Common.{◌≡◌, ℕ, Bool, true, false, cond, List, refl, sym, ap, ◌∙◌, ◌==◌}
 use Rattle.std.proofs.lemmas.Bool.{true≢false}
 use Rattle.open_files.specs.Sessions.{Sessions, Parts, with_own, session_calls}
-use Rattle.rom_lines.specs.declared.word.PathCall.TheVariants as path_call
-use Rattle.rom_lines.specs.declared.word.FdCall.TheVariants as fd_call
-use Rattle.rom_lines.specs.Commands.{Call, on_path, on_fd, read, lend, seek, map_part, quit, mount, umount}
+use Rattle.serve_lines.specs.declared.word.PathCall.TheVariants as path_call
+use Rattle.serve_lines.specs.declared.word.FdCall.TheVariants as fd_call
+use Rattle.serve_lines.specs.Commands.{Call, on_path, on_fd, read, lend, seek, map_part, quit, mount, umount}
 use Rattle.rom_serve.specs.Obeyed.{Said, says, obeyed, result_text, of_done}
 use Rattle.rom_serve.specs.SessionLines.{is_mount_call}
 

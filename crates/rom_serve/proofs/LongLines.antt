@@ -2,10 +2,10 @@
 use Rattle.std.proofs.Common.{◌≡◌, ℕ, ◌<◌, ◌≤◌, Bool, true, false, List, Some, None, length, take, drop, refl, sym, ap, ◌∙◌, arith, cond, nat_lt, length-take}
 use Rattle.std.proofs.lemmas.Bool.Decides.{nat_tests}
 use Rattle.std.proofs.lemmas.List.{take_all}
-use Rattle.rom_lines.specs.declared.bad.Bad.TheVariants as bad
-use Rattle.rom_lines.specs.Texts.{bad_text}
-use Rattle.serve_loop.specs.Served.{ForgetsLong}
-use Rattle.rom_lines.specs.Commands.{Line, is_bad, line_of}
+use Rattle.serve_lines.specs.declared.bad.Bad.TheVariants as bad
+use Rattle.serve_lines.specs.Texts.{bad_text}
+use Rattle.serve_lines.specs.Served.{ForgetsLong}
+use Rattle.serve_lines.specs.Commands.{Line, is_bad, line_of}
 use Rattle.open_files.specs.Calls.{Calls}
 use Rattle.rom_serve.specs.Obeyed.{Said, says, answered}
 use Rattle.rom_serve.specs.Machines.{lines_alone, lines_among, is_quit, session_of, session_digit, unnamed, answered_by, answered_among, prefixed}

@@ -10,10 +10,10 @@ use Rattle.path_walk.specs.Graft.{GraftNode, bytes_in, graft}
 use Rattle.open_files.specs.Calls.{Answer, give, Calls}
 use Rattle.open_files.specs.Machine.{Outcome, Open, Table, open_at, put, walked, after, opened, closed, open_free, open_place, lowest_free, read_link, calls_over, fstat_on, read_on, lend_on, map_on, seek_on, readdir_on, rewind_on}
 use Rattle.open_files.specs.Sessions.{is_mounted}
-use Rattle.rom_lines.specs.Texts.{descriptor_text, bytes_text}
-use Rattle.rom_lines.specs.declared.word.PathCall.TheVariants as path_call
-use Rattle.rom_lines.specs.declared.word.FdCall.TheVariants as fd_call
-use Rattle.rom_lines.specs.Commands.{Call, on_path, on_fd, read, lend, seek, map_part, quit, mount, umount}
+use Rattle.serve_lines.specs.Texts.{descriptor_text, bytes_text}
+use Rattle.serve_lines.specs.declared.word.PathCall.TheVariants as path_call
+use Rattle.serve_lines.specs.declared.word.FdCall.TheVariants as fd_call
+use Rattle.serve_lines.specs.Commands.{Call, on_path, on_fd, read, lend, seek, map_part, quit, mount, umount}
 use Rattle.rom_serve.specs.Obeyed.{said, obeyed, of_node, of_stat, of_piece}
 use Rattle.rom_serve.proofs.OtherImage.{Fine, bytes_other, leads_same, leads_fine}
 

@@ -3,9 +3,9 @@ use Rattle.std.proofs.Common.{◌≡◌, ℕ, ◌+◌, true, false, List, ◌∷
 use Rattle.std.proofs.lemmas.Bool.Decides.{nat_tests}
 use Rattle.std.proofs.lemmas.Bool.{eqb-true, true≢false}
 use Rattle.open_files.specs.Sessions.{Sessions, Parts, session_calls}
-use Rattle.rom_lines.specs.Commands.{Line, asks, is_bad, line_of}
-use Rattle.serve_loop.specs.Views.{is_of, AreApart, SeesItsView, LeavesOwn}
-use Rattle.serve_loop.proofs.Apart.{sees_its_view}
+use Rattle.serve_lines.specs.Commands.{Line, asks, is_bad, line_of}
+use Rattle.serve_lines.specs.Views.{is_of, AreApart, SeesItsView, LeavesOwn}
+use Rattle.serve_lines.proofs.Apart.{sees_its_view}
 use Rattle.rom_serve.specs.Obeyed.{answered}
 use Rattle.rom_serve.specs.Machines.{session_of, answered_by, answered_among}
 use Rattle.rom_serve.specs.SessionLines.{is_mount, is_mount_of, session_lines}

@@ -7,10 +7,10 @@ use Rattle.path_walk.specs.Graft.{GraftNode}
 use Rattle.open_files.specs.Calls.{Answer}
 use Rattle.open_files.specs.Machine.{Table}
 use Rattle.open_files.specs.Sessions.{Sessions, with_own, shared_answer, graft_parts, space_calls, is_mounted, no_sessions}
-use Rattle.rom_lines.specs.Commands.{Call, Line, asks, is_bad, line_of}
-use Rattle.serve_loop.specs.Served.{exchanges, lines_of}
-use Rattle.serve_loop.specs.Views.{AgreeOn}
-use Rattle.serve_loop.proofs.Agree.{same_replies}
+use Rattle.serve_lines.specs.Commands.{Call, Line, asks, is_bad, line_of}
+use Rattle.serve_lines.specs.Served.{exchanges, lines_of}
+use Rattle.serve_lines.specs.Views.{AgreeOn}
+use Rattle.serve_lines.proofs.Agree.{same_replies}
 use Rattle.rom_serve.specs.Obeyed.{Said, says, said, of_done, obeyed, answered}
 use Rattle.rom_serve.specs.Machines.{space_machine, session_of, answered_by, prefixed}
 use Rattle.rom_serve.specs.SessionLines.{mounts_call, mounts, mounts_of, NeverMounts}

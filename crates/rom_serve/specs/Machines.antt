@@ -7,11 +7,11 @@ use Rattle.path_walk.specs.Graft.{GraftNode}
 use Rattle.open_files.specs.Calls.{Calls}
 use Rattle.open_files.specs.Machine.{Table, image_calls}
 use Rattle.open_files.specs.Sessions.{Sessions, space_calls}
-use Rattle.serve_loop.specs.Served.{Machine}
-use Rattle.rom_lines.specs.declared.bad.Bad.{Bad}
-use Rattle.rom_lines.specs.declared.bad.Bad.TheVariants as bad
-use Rattle.rom_lines.specs.Commands.{Call, quit, Line, asks, is_bad, line_of}
-use Rattle.rom_lines.specs.Texts.{bad_text}
+use Rattle.serve_lines.specs.Served.{Machine}
+use Rattle.serve_lines.specs.declared.bad.Bad.{Bad}
+use Rattle.serve_lines.specs.declared.bad.Bad.TheVariants as bad
+use Rattle.serve_lines.specs.Commands.{Call, quit, Line, asks, is_bad, line_of}
+use Rattle.serve_lines.specs.Texts.{bad_text}
 use Rattle.rom_serve.specs.Obeyed.{Said, says, answered}
 
 abbrev pub is_quit_call : Call → Bool

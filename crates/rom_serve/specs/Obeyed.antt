@@ -7,10 +7,10 @@ use Rattle.rom_tree.specs.declared.types.Entry.{Entry}
 use Rattle.open_files.specs.declared.error.CallError.{CallError}
 use Rattle.open_files.specs.Calls.{Answer, Of, Lent, Named, Calls}
 use Rattle.open_files.specs.Slots.{lent_by, named_by}
-use Rattle.rom_lines.specs.declared.word.PathCall.TheVariants as path_call
-use Rattle.rom_lines.specs.declared.word.FdCall.TheVariants as fd_call
-use Rattle.rom_lines.specs.Commands.{Call, on_path, on_fd, read, lend, seek, map_part, quit, mount, umount, Line, asks, is_bad}
-use Rattle.rom_lines.specs.Texts.{done_text, end_text, descriptor_text, node_text, attributes_text, piece_text, bytes_text, entry_text, refused_text, bad_text}
+use Rattle.serve_lines.specs.declared.word.PathCall.TheVariants as path_call
+use Rattle.serve_lines.specs.declared.word.FdCall.TheVariants as fd_call
+use Rattle.serve_lines.specs.Commands.{Call, on_path, on_fd, read, lend, seek, map_part, quit, mount, umount, Line, asks, is_bad}
+use Rattle.serve_lines.specs.Texts.{done_text, end_text, descriptor_text, node_text, attributes_text, piece_text, bytes_text, entry_text, refused_text, bad_text}
 
 -- the text of a reply, and the state after it
 pub record Said (S : Type 0) : Type 0 where

@@ -5,9 +5,9 @@ use Rattle.path_walk.specs.declared.mount.Mount.{Mount}
 use Rattle.path_walk.specs.Graft.{GraftNode}
 use Rattle.open_files.specs.Machine.{Table}
 use Rattle.open_files.specs.Sessions.{Sessions, Parts, session_calls, graft_parts}
-use Rattle.rom_lines.specs.Commands.{Call, mount, umount, Line, asks, is_bad, line_of}
-use Rattle.serve_loop.specs.Served.{lines_of}
-use Rattle.serve_loop.specs.Views.{SessionMachine, AllFine}
+use Rattle.serve_lines.specs.Commands.{Call, mount, umount, Line, asks, is_bad, line_of}
+use Rattle.serve_lines.specs.Served.{lines_of}
+use Rattle.serve_lines.specs.Views.{SessionMachine, AllFine}
 use Rattle.rom_serve.specs.Machines.{lines_among, session_of}
 
 -- `mount` and `umount` may change what is shared

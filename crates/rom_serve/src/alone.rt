@@ -1,13 +1,12 @@
 //! The lines of one table of open files.
 ghost use Rattle.std.specs.Prelude.{◌≡◌};
-ghost use Rattle.serve_loop.specs.Served.{Machine};
+ghost use Rattle.serve_lines.specs.Served.{Machine};
 ghost use Rattle.rom_serve.specs.Machines.{lines_alone};
 
 use crate::calls::OpenCalls;
 use crate::commands::put_answer;
 use rom_fields::bytes::ByteWrite;
-use rom_lines::{Command, read_line};
-use serve_loop::LineMachine;
+use serve_lines::{Command, LineMachine, read_line};
 use std::marker::PhantomData;
 
 /// Open files that answer lines. `quit` ends the serving.

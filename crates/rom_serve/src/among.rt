@@ -1,14 +1,13 @@
 //! The lines of several sessions.
 ghost use Rattle.std.specs.Prelude.{◌≡◌, ◌-◌, ◌≤◌, drop, Some, None, MatchOption};
-ghost use Rattle.serve_loop.specs.Served.{Machine};
+ghost use Rattle.serve_lines.specs.Served.{Machine};
 ghost use Rattle.rom_serve.specs.Machines.{lines_among, session_digit};
 
 use crate::calls::OpenCalls;
 use crate::commands::put_answer;
 use rom_fields::bytes::ByteWrite;
 use rom_fields::sink::put;
-use rom_lines::{Bad, Reply, put_reply};
-use serve_loop::LineMachine;
+use serve_lines::{Bad, LineMachine, Reply, put_reply};
 use std::marker::PhantomData;
 
 /// The digit by which a line names its session, and what follows the space behind it.

@@ -1,9 +1,9 @@
 //! Commands, obeyed over open files of any kind.
 ghost use Rattle.std.specs.Prelude.{◌≡◌, ◌<◌, length, take};
 ghost use Rattle.rom_fields.specs.Written.{Puts, sink};
-ghost use Rattle.rom_lines.specs.Commands.{on_path, on_fd, read, quit, line_of};
-ghost use Rattle.rom_lines.specs.Reading.{call_by, is_small};
-ghost use Rattle.rom_lines.specs.Replies.{reply_text};
+ghost use Rattle.serve_lines.specs.Commands.{on_path, on_fd, read, quit, line_of};
+ghost use Rattle.serve_lines.specs.Reading.{call_by, is_small};
+ghost use Rattle.serve_lines.specs.Replies.{reply_text};
 ghost use Rattle.rom_serve.specs.Obeyed.{says, obeyed, answered};
 
 use crate::calls::OpenCalls;
@@ -12,7 +12,7 @@ use crate::replies::{
 };
 use open_files::Fd;
 use rom_fields::bytes::ByteWrite;
-use rom_lines::{Command, FdCall, PathCall, Reply, put_reply, read_line};
+use serve_lines::{Command, FdCall, PathCall, Reply, put_reply, read_line};
 
 /// What is asked about a path.
 fn path_reply<'a, C: OpenCalls<'a>>(

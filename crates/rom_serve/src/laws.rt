@@ -5,8 +5,8 @@ ghost use Rattle.path_walk.specs.declared.mount.Mount.{Mount};
 ghost use Rattle.path_walk.specs.Graft.{GraftNode};
 ghost use Rattle.open_files.specs.Machine.{Table};
 ghost use Rattle.open_files.specs.Sessions.{Sessions, no_sessions};
-ghost use Rattle.serve_loop.specs.Served.{used, exchanges, lines_of};
-ghost use Rattle.serve_loop.specs.Views.{SeesItsView, LeavesOwn};
+ghost use Rattle.serve_lines.specs.Served.{used, exchanges, lines_of};
+ghost use Rattle.serve_lines.specs.Views.{SeesItsView, LeavesOwn};
 ghost use Rattle.rom_serve.specs.Machines.{space_machine, session_of};
 ghost use Rattle.rom_serve.specs.SessionLines.{space_lines, NeverMounts};
 

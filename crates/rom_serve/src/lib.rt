@@ -18,6 +18,6 @@ pub mod serving;
 mod several;
 mod single;
 
-pub use name_cache::{Cached, NoCache};
-pub use serve_loop::ServeError;
+pub use lookup_cache::{Cached, NoCache};
+pub use serve_lines::ServeError;
 pub use serving::{serve, serve_bounded, serve_space};

@@ -1,13 +1,13 @@
 //! The replies that the results of calls give.
 ghost use Rattle.std.specs.Prelude.{◌≡◌};
 ghost use Rattle.open_files.specs.Calls.{viewed};
-ghost use Rattle.rom_lines.specs.Replies.{reply_text};
-ghost use Rattle.rom_lines.specs.Texts.{descriptor_text};
+ghost use Rattle.serve_lines.specs.Replies.{reply_text};
+ghost use Rattle.serve_lines.specs.Texts.{descriptor_text};
 ghost use Rattle.rom_serve.specs.Obeyed.{result_text, of_node, of_stat, of_piece, of_entry, of_done, node_by, piece_by, entry_by};
 
 use open_files::{CallError, Fd};
-use rom_lines::Reply;
 use rom_tree::types::{Entry, NodeId, Piece, Stat};
+use serve_lines::Reply;
 
 pub(crate) fn node_reply(r: Result<(Option<u32>, NodeId), CallError>) -> Reply<'static>
     ensures { reply_text result ≡ result_text of_node (viewed node_by r) }

@@ -5,8 +5,8 @@ ghost use Rattle.rom_tree.specs.Tree.{levels};
 ghost use Rattle.path_walk.specs.Graft.{AreShallow};
 ghost use Rattle.open_files.specs.Machine.{no_files};
 ghost use Rattle.open_files.specs.Sessions.{no_sessions};
-ghost use Rattle.serve_loop.specs.Served.{Serves, Finishes, Breaks};
-ghost use Rattle.serve_loop.specs.declared.error.ServeError.TheVariants.{ReadFault, WriteFault, TooManyReads};
+ghost use Rattle.serve_lines.specs.Served.{Serves, Finishes, Breaks};
+ghost use Rattle.serve_lines.specs.declared.error.ServeError.TheVariants.{ReadFault, WriteFault, TooManyReads};
 ghost use Rattle.rom_serve.specs.Machines.{image_machine, space_machine};
 
 use crate::alone::Alone;
@@ -15,7 +15,7 @@ use crate::single::Single;
 use open_files::{Slots, Space};
 use rom_fields::bytes::{ByteRead, ByteWrite};
 use rom_tree::image::TreeImage;
-use serve_loop::{ServeError, serve_lines};
+use serve_lines::{ServeError, serve_lines};
 use std::marker::PhantomData;
 
 /// Answers the lines of `r` on `w` over an image, up to `quit` or to the end of the input, with 64

@@ -5,11 +5,11 @@ use Rattle.std.proofs.lemmas.Bool.Decides.{eqb_tells}
 use Rattle.std.proofs.lemmas.List.Elements.{recursion_from_All}
 use Rattle.std.specs.List.{AllByRecursion as Every, list_any}
 use Rattle.rom_tree.specs.Tree.{Node, depth}
-use Rattle.record_walk.specs.declared.reference.Reference.{Reference}
-use Rattle.record_walk.specs.declared.reference.Row.{Row}
-use Rattle.record_walk.specs.Forest.{Forest, none, at, Stands, rows, all_rows, IsForest, count, stands_in}
-use Rattle.record_walk.proofs.Lists.{every_join, every_left, every_right, every_weaker, every_both}
-use Rattle.record_walk.proofs.Same.{same_forest as same_standing}
+use Rattle.record_forest.specs.declared.reference.Reference.{Reference}
+use Rattle.record_forest.specs.declared.reference.Row.{Row}
+use Rattle.record_forest.specs.Forest.{Forest, none, at, Stands, rows, all_rows, IsForest, count, stands_in}
+use Rattle.record_forest.proofs.Lists.{every_join, every_left, every_right, every_weaker, every_both}
+use Rattle.record_forest.proofs.Same.{same_forest as same_standing}
 use Rattle.romfs_format.specs.Record.{first_of, next_of, type_of, spec_offset_of, IsSound}
 use Rattle.romfs_format.specs.Refers.{references, reference_offset, list_of, following, some_offset, heads_itself, LeadsToSound}
 use Rattle.romfs_format.specs.Tree.{node_of, tree_of, entries_at, led, follow, below_root, LeadsWell, IsTree, RomfsTree, root_of}

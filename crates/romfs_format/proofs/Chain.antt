@@ -4,7 +4,7 @@ use Rattle.std.proofs.lemmas.Bool.{eq-eqb}
 use Rattle.std.proofs.lemmas.Bool.Decides.{eqb_tells}
 use Rattle.rom_tree.specs.Tree.{entry_at}
 use Rattle.romfs_format.specs.Record.{first_of, next_of, name_of}
-use Rattle.record_walk.specs.Forest.{Forest, none, at, count, Everywhere}
+use Rattle.record_forest.specs.Forest.{Forest, none, at, count, Everywhere}
 use Rattle.romfs_format.specs.Tree.{entries_at}
 use Rattle.rom_tree.specs.Dots.{is_dots}
 use Rattle.romfs_format.specs.Made.{grow, StandsAt, IsGood, bump, index_at}

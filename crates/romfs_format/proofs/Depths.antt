@@ -4,10 +4,10 @@ use Rattle.std.proofs.lemmas.Bool.{ne_eqb, false≢true}
 use Rattle.std.proofs.lemmas.Bool.Decides.{eqb_tells}
 use Rattle.std.specs.List.{AllByRecursion as Every}
 use Rattle.rom_tree.specs.Tree.{Entries, entry, depth, body_depth, entries_depth, directory, regular, symlink, block, character, socket, fifo}
-use Rattle.record_walk.specs.declared.reference.Reference.{Reference}
-use Rattle.record_walk.specs.declared.reference.Row.{Row}
-use Rattle.record_walk.specs.Forest.{Forest, none, at, Stands, rows}
-use Rattle.record_walk.proofs.Lists.{every_join, every_left, every_right, every_weaker}
+use Rattle.record_forest.specs.declared.reference.Reference.{Reference}
+use Rattle.record_forest.specs.declared.reference.Row.{Row}
+use Rattle.record_forest.specs.Forest.{Forest, none, at, Stands, rows}
+use Rattle.record_forest.proofs.Lists.{every_join, every_left, every_right, every_weaker}
 use Rattle.romfs_format.specs.Record.{first_of, name_of, type_of}
 use Rattle.romfs_format.specs.Refers.{references, reference_offset}
 use Rattle.romfs_format.specs.Tree.{kind_numbers, places_at, node_of, entries_at, led, by_type}

@@ -5,12 +5,12 @@ use Rattle.std.proofs.lemmas.Bool.Decides.{eqb_tells}
 use Rattle.std.proofs.lemmas.List.Elements.{recursion_from_All}
 use Rattle.std.specs.List.{AllByRecursion as Every}
 use Rattle.rom_tree.specs.Tree.{depth, entries_depth}
-use Rattle.record_walk.specs.declared.reference.Reference.{Reference}
-use Rattle.record_walk.specs.declared.reference.Row.{Row}
-use Rattle.record_walk.specs.Members.{Has, Pairs}
-use Rattle.record_walk.specs.Forest.{Forest, none, at, Stands, rows, all_rows}
-use Rattle.record_walk.proofs.Lists.{every_join, every_left, every_right, every_weaker, every_both, has_every, pairs_pick, pairs_from}
-use Rattle.record_walk.proofs.Place.{HasParent, rows_parented}
+use Rattle.record_forest.specs.declared.reference.Reference.{Reference}
+use Rattle.record_forest.specs.declared.reference.Row.{Row}
+use Rattle.record_forest.specs.Members.{Has, Pairs}
+use Rattle.record_forest.specs.Forest.{Forest, none, at, Stands, rows, all_rows}
+use Rattle.record_forest.proofs.Lists.{every_join, every_left, every_right, every_weaker, every_both, has_every, pairs_pick, pairs_from}
+use Rattle.record_forest.proofs.Place.{HasParent, rows_parented}
 use Rattle.romfs_format.specs.Record.{name_of, type_of}
 use Rattle.romfs_format.specs.Refers.{references, reference_offset, heads_itself}
 use Rattle.romfs_format.specs.Tree.{node_of, tree_of, entries_at, follow, below_root, LeadsWell, IsTree}

@@ -5,7 +5,7 @@ use Rattle.std.proofs.lemmas.Bool.Decides.{eqb_tells}
 use Rattle.std.specs.Prelude.{IsTrue}
 use Rattle.std.specs.List.{Contains}
 use Rattle.rom_fields.specs.Words.{words_sum, part_of}
-use Rattle.record_walk.specs.Faults.{IsLeast}
+use Rattle.record_forest.specs.Faults.{IsLeast}
 use Rattle.romfs_format.specs.Record.{name_of, end_of, size_of, type_of, has_data, IsSound, HeaderLies, NameEnds, IsWhole, HasRecordFault, outside, name_unended, end_outside, data_outside, bad_sum, empty_name, slash, link_size}
 
 -- a fault that is the only one

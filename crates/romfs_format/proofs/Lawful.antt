@@ -2,8 +2,8 @@
 use Rattle.std.proofs.Common.{◌≡◌, ◌≢◌, ℕ, ◌<◌, Bool, true, false, List, None, Some, inl, inr, refl, sym, ap, ◌∙◌, arith, rules}
 use Rattle.std.proofs.lemmas.Bool.{ne_eqb}
 use Rattle.std.proofs.lemmas.Bool.Decides.{eqb_tells}
-use Rattle.record_walk.specs.declared.reference.Reference.{Reference}
-use Rattle.record_walk.specs.References.{AreLawful, edge, IsLive}
+use Rattle.record_forest.specs.declared.reference.Reference.{Reference}
+use Rattle.record_forest.specs.References.{AreLawful, edge, IsLive}
 use Rattle.romfs_format.specs.Refers.{references, reference_offset, list_of, following, some_offset, LeadsToSound}
 
 -- the two references of a record

@@ -3,17 +3,17 @@ use Rattle.std.proofs.Common.{◌≡◌, ◌≢◌, ℕ, ◌+◌, ◌<◌, Bool,
 use Rattle.std.proofs.lemmas.Bool.{true≢false}
 use Rattle.std.proofs.lemmas.List.Elements.{recursion_from_All}
 use Rattle.std.specs.List.{AllByRecursion as Every}
-use Rattle.record_walk.specs.declared.reference.Reference.{Reference}
-use Rattle.record_walk.specs.declared.reference.Row.{Row}
-use Rattle.record_walk.specs.Members.{Has, Pairs}
-use Rattle.record_walk.specs.References.{Reached, top}
-use Rattle.record_walk.specs.Forest.{Forest, none, at, Stands, rows, all_rows, IsForest}
-use Rattle.record_walk.specs.Faults.{InList, HasDepth}
-use Rattle.record_walk.proofs.Lists.{every_join, every_left, every_right, every_weaker, every_both, every_all, has_weaker, has_both, has_every, pairs_join, pairs_left, pairs_right, pairs_from, pairs_of}
-use Rattle.record_walk.proofs.Place.{HasParent, rows_parented, rows_reached, rows_sound, reached_row, listed_row, listed_live, listed_reached, listed_not_top, same_leads, one_list}
-use Rattle.record_walk.proofs.Back.{clean_of}
-use Rattle.record_walk.proofs.Exact.{Differ}
-use Rattle.record_walk.proofs.Orders.{Comes as Follow, ordered, first_comes}
+use Rattle.record_forest.specs.declared.reference.Reference.{Reference}
+use Rattle.record_forest.specs.declared.reference.Row.{Row}
+use Rattle.record_forest.specs.Members.{Has, Pairs}
+use Rattle.record_forest.specs.References.{Reached, top}
+use Rattle.record_forest.specs.Forest.{Forest, none, at, Stands, rows, all_rows, IsForest}
+use Rattle.record_forest.specs.Faults.{InList, HasDepth}
+use Rattle.record_forest.proofs.Lists.{every_join, every_left, every_right, every_weaker, every_both, every_all, has_weaker, has_both, has_every, pairs_join, pairs_left, pairs_right, pairs_from, pairs_of}
+use Rattle.record_forest.proofs.Place.{HasParent, rows_parented, rows_reached, rows_sound, reached_row, listed_row, listed_live, listed_reached, listed_not_top, same_leads, one_list}
+use Rattle.record_forest.proofs.Back.{clean_of}
+use Rattle.record_forest.proofs.Exact.{Differ}
+use Rattle.record_forest.proofs.Orders.{Comes as Follow, ordered, first_comes}
 use Rattle.romfs_format.specs.Record.{IsSound}
 use Rattle.romfs_format.specs.Refers.{references, reference_offset, heads_itself, LeadsToSound}
 use Rattle.romfs_format.specs.Tree.{listed_rows}
@@ -189,7 +189,7 @@ module _ {b : List ℕ} {r most : ℕ} {f : Forest} (above : 0 < r) (h : IsFores
           let me : Row = record { offset = p; reference = g.top; directory = p; parent = p; depth = 0 } in
           let others = tailed_join b r own_rows after_rows (followed b r (g.own g.top) p p 1 own s.1) (followed b r (g.after g.top) p p 1 after s.2) in
           listed_by b r me (own_rows ++ after_rows) (Tailed (Followed b r))
-          (λ e. ((λ q i l. Rattle.record_walk.proofs.Lists.has_right (λ (z : Row). (z.offset ≡ q) × (z.directory ≡ p)) own_rows after_rows (follows b r g.top p p p 1 after s.0 s.2 q i l)), others)) (λ e. others) (heads_itself b r) refl
+          (λ e. ((λ q i l. Rattle.record_forest.proofs.Lists.has_right (λ (z : Row). (z.offset ≡ q) × (z.directory ≡ p)) own_rows after_rows (follows b r g.top p p p 1 after s.0 s.2 q i l)), others)) (λ e. others) (heads_itself b r) refl
 
   -- Each row has the directory of its directory as its parent,
   pub rows_parent : Every (λ (y : Row). IsParent b r y.directory y.parent) (listed_rows b r (all_rows (references b r) f))

@@ -1,14 +1,14 @@
 -- The order of the records of one list, and of the rows of a forest.
 use Rattle.std.proofs.Common.{◌≡◌, ◌≢◌, ℕ, ◌+◌, ◌<◌, List, [], ◌∷◌, ◌++◌, Some, inl, inr, refl, sym, ap, subst, ◌∙◌, arith}
-use Rattle.record_walk.specs.declared.reference.Reference.{Reference}
-use Rattle.record_walk.specs.declared.reference.Row.{Row}
-use Rattle.record_walk.specs.Members.{Has}
-use Rattle.record_walk.specs.References.{IsLive}
-use Rattle.record_walk.specs.Forest.{Forest, none, at, Stands, rows}
-use Rattle.record_walk.proofs.Lists.{has_left, has_right}
-use Rattle.record_walk.proofs.Run.{live_some}
-use Rattle.record_walk.proofs.Exact.{split_at}
-use Rattle.record_walk.proofs.Orders.{Follows, next as next_after, further as further_after}
+use Rattle.record_forest.specs.declared.reference.Reference.{Reference}
+use Rattle.record_forest.specs.declared.reference.Row.{Row}
+use Rattle.record_forest.specs.Members.{Has}
+use Rattle.record_forest.specs.References.{IsLive}
+use Rattle.record_forest.specs.Forest.{Forest, none, at, Stands, rows}
+use Rattle.record_forest.proofs.Lists.{has_left, has_right}
+use Rattle.record_forest.proofs.Run.{live_some}
+use Rattle.record_forest.proofs.Exact.{split_at}
+use Rattle.record_forest.proofs.Orders.{Follows, next as next_after, further as further_after}
 use Rattle.romfs_format.specs.Refers.{references, reference_offset, following, LeadsToSound}
 use Rattle.romfs_format.specs.Faults.{IsListed, ComesAfter, next, further}
 use Rattle.romfs_format.proofs.Bridge.{offset_some, offset_none}

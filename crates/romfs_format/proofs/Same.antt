@@ -1,7 +1,7 @@
 -- What stands in the bytes is determined by them.
 use Rattle.std.proofs.Common.{◌≡◌, ℕ, List, refl, sym, subst, ◌∙◌, zero, suc, ◌≤◌, arith}
 use Rattle.std.proofs.lemmas.Bool.{ne_eqb}
-use Rattle.record_walk.specs.Forest.{Forest, none, at, count}
+use Rattle.record_forest.specs.Forest.{Forest, none, at, count}
 use Rattle.romfs_format.specs.Record.{first_of, next_of}
 use Rattle.romfs_format.specs.Made.{StandsAt, grow}
 

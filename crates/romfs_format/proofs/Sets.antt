@@ -2,14 +2,14 @@
 use Rattle.std.proofs.Common.{◌≡◌, ◌≢◌, ℕ, ◌<◌, false, List, drop, Some, refl, sym, ap, subst, ◌∙◌}
 use Rattle.std.proofs.lemmas.Bool.{ne_eqb}
 use Rattle.std.specs.List.{AllPairs, AllByRecursion as Every}
-use Rattle.record_walk.specs.declared.reference.Reference.{Reference}
+use Rattle.record_forest.specs.declared.reference.Reference.{Reference}
 use Rattle.rom_faults.specs.declared.fault.Fault.{Fault}
-use Rattle.record_walk.specs.declared.reference.Row.{Row}
-use Rattle.record_walk.specs.Members.{Has}
-use Rattle.record_walk.specs.Forest.{Forest, none, at, Stands, all_rows, IsForest}
-use Rattle.record_walk.specs.Faults.{InList, HasDepth}
-use Rattle.record_walk.proofs.Lists.{every_weaker, every_both, has_weaker, pairs_from}
-use Rattle.record_walk.proofs.Place.{Placed, rows_placed, depth_row}
+use Rattle.record_forest.specs.declared.reference.Row.{Row}
+use Rattle.record_forest.specs.Members.{Has}
+use Rattle.record_forest.specs.Forest.{Forest, none, at, Stands, all_rows, IsForest}
+use Rattle.record_forest.specs.Faults.{InList, HasDepth}
+use Rattle.record_forest.proofs.Lists.{every_weaker, every_both, has_weaker, pairs_from}
+use Rattle.record_forest.proofs.Place.{Placed, rows_placed, depth_row}
 use Rattle.romfs_format.specs.Record.{name_of}
 use Rattle.romfs_format.specs.Refers.{references, reference_offset, LeadsToSound}
 use Rattle.rom_tree.specs.Dots.{is_dots}

@@ -5,10 +5,10 @@ use Rattle.rom_fields.specs.declared.span.Extent.TheVariants.{Super, Record, Dat
 use Rattle.rom_fields.specs.declared.span.Span.{Span}
 use Rattle.rom_fields.specs.Extents.{OverlapsAt, added}
 use Rattle.rom_faults.specs.declared.fault.Fault.{Fault}
-use Rattle.record_walk.specs.declared.reference.Row.{Row}
-use Rattle.record_walk.specs.Members.{Has, Pairs}
-use Rattle.record_walk.proofs.Lists.{every_join, every_weaker, has_every, has_left, has_right, pairs_join}
-use Rattle.record_walk.proofs.Spans.{NotTwin, overlaps_in, overlaps_of, pairs_flat, every_added, pairs_added, has_added, has_flat, every_flat}
+use Rattle.record_forest.specs.declared.reference.Row.{Row}
+use Rattle.record_forest.specs.Members.{Has, Pairs}
+use Rattle.record_forest.proofs.Lists.{every_join, every_weaker, has_every, has_left, has_right, pairs_join}
+use Rattle.record_forest.proofs.Spans.{NotTwin, overlaps_in, overlaps_of, pairs_flat, every_added, pairs_added, has_added, has_flat, every_flat}
 use Rattle.romfs_format.specs.Record.{end_of, size_of, type_of, has_data}
 use Rattle.romfs_format.specs.Tree.{row_extents, extents_of}
 use Rattle.romfs_format.specs.Faults.{IsReached, IsExtent, superblock, record_at, data_of, HasExtentFault}

@@ -4,7 +4,7 @@ use Rattle.std.proofs.lemmas.Bool.Decides.{eqb_tells}
 use Rattle.std.specs.Prelude.{max}
 use Rattle.rom_tree.specs.Tree.{Body, directory, regular, symlink, block, character, socket, fifo, Entries, no_entries, nodes, body_nodes, entries_nodes, entries_depth, body_depth}
 use Rattle.romfs_format.specs.Record.{first_of, next_of, name_of, type_of}
-use Rattle.record_walk.specs.Forest.{none, count}
+use Rattle.record_forest.specs.Forest.{none, count}
 use Rattle.romfs_format.specs.Tree.{kind_numbers, node_of, entries_at, led, body_named, places_at, attributes_at}
 use Rattle.rom_tree.specs.Dots.{is_dots}
 use Rattle.romfs_format.specs.Made.{grow}

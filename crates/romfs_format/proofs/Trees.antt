@@ -6,7 +6,7 @@ use Rattle.std.specs.Prelude.{IsSomeAnd}
 use Rattle.rom_tree.specs.Tree.{Node, node, Body, Attributes, directory, Entries, entry, IsIn, here, there, nodes, body_nodes, entries_nodes, ino_of, entries_of, is_directory, node_at, IsCoherent}
 use Rattle.rom_tree.proofs.Nodes.{in-split, node_at-some}
 use Rattle.romfs_format.specs.Record.{IsSound, first_of, next_of, type_of, name_of}
-use Rattle.record_walk.specs.Forest.{Forest, none, at, Everywhere, count, stands_in}
+use Rattle.record_forest.specs.Forest.{Forest, none, at, Everywhere, count, stands_in}
 use Rattle.romfs_format.specs.Tree.{kind_numbers, node_of, entries_at, led, attributes_at, body_named, places_at}
 use Rattle.rom_tree.specs.Dots.{is_dots}
 use Rattle.romfs_format.specs.Made.{grow, StandsAt, start_of, begins, list_at, made, ends_within, IsGood, IsRomfs}

@@ -4,10 +4,10 @@ use Rattle.std.specs.Prelude.{◌≡◌, ◌≢◌, ℕ, suc, ◌-◌, ◌<◌, 
 use Rattle.rom_fields.specs.declared.span.Extent.TheVariants.{Super, Record, Data}
 use Rattle.rom_fields.specs.declared.span.Span.{Span}
 use Rattle.rom_fields.specs.Extents.{Overlap}
-use Rattle.record_walk.specs.declared.reference.Reference.{Reference}
+use Rattle.record_forest.specs.declared.reference.Reference.{Reference}
 use Rattle.rom_faults.specs.declared.fault.Fault.{Fault}
-use Rattle.record_walk.specs.References.{Reached}
-use Rattle.record_walk.specs.Faults.{TooMany, HasFault, Twice, InList, HasDepth, IsLeastFault, IsNone}
+use Rattle.record_forest.specs.References.{Reached}
+use Rattle.record_forest.specs.Faults.{TooMany, HasFault, Twice, InList, HasDepth, IsLeastFault, IsNone}
 use Rattle.romfs_format.specs.Record.{name_of, end_of, size_of, type_of, spec_offset_of, has_data, IsSound}
 use Rattle.romfs_format.specs.Refers.{references, reference_offset, following, heads_itself, LeadsToSound, LeadsToFault}
 use Rattle.romfs_format.specs.Tree.{root_of}

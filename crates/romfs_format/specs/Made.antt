@@ -2,7 +2,7 @@
 -- more than k records. (This project's own.)
 use Rattle.std.specs.Prelude.{◌≡◌, ◌≢◌, ℕ, zero, suc, ◌-◌, ◌^◌, ◌<◌, ◌≤◌, nat_lt, Bool, true, false, if◌then◌else◌, ◌==◌, List, length, Option, Some, None}
 use Rattle.romfs_format.specs.Record.{next_of, first_of, type_of, name_of, IsSound}
-use Rattle.record_walk.specs.Forest.{Forest, none, at, count, stands_in}
+use Rattle.record_forest.specs.Forest.{Forest, none, at, count, stands_in}
 use Rattle.romfs_format.specs.Refers.{heads_itself}
 use Rattle.romfs_format.specs.Tree.{node_of, entries_at, led}
 use Rattle.rom_tree.specs.Dots.{is_dots}

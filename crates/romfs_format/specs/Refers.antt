@@ -2,8 +2,8 @@
 -- after it, by its next; the superblock to the root. A hard link's target is no reference.
 -- (Linux Documentation/filesystems/romfs.rst.)
 use Rattle.std.specs.Prelude.{◌≡◌, ℕ, Bool, true, if◌then◌else◌, ◌==◌, Option, None, Some, List}
-use Rattle.record_walk.specs.declared.reference.Reference.{Reference}
-use Rattle.record_walk.specs.References.{References}
+use Rattle.record_forest.specs.declared.reference.Reference.{Reference}
+use Rattle.record_forest.specs.References.{References}
 use Rattle.romfs_format.specs.Record.{next_of, first_of, IsSound, HasRecordFault}
 use Rattle.rom_faults.specs.declared.fault.Fault.{Fault}
 

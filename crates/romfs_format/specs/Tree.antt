@@ -6,8 +6,8 @@ use Rattle.rom_fields.specs.Words.{word_be, words_sum}
 use Rattle.rom_fields.specs.declared.span.Extent.TheVariants.{Super, Record, Data}
 use Rattle.rom_fields.specs.declared.span.Span.{Span}
 use Rattle.rom_fields.specs.Extents.{OverlapsAt, added}
-use Rattle.record_walk.specs.declared.reference.Row.{Row}
-use Rattle.record_walk.specs.Forest.{Forest, none, at, all_rows, IsForest, NamesDiffer}
+use Rattle.record_forest.specs.declared.reference.Row.{Row}
+use Rattle.record_forest.specs.Forest.{Forest, none, at, all_rows, IsForest, NamesDiffer}
 use Rattle.romfs_format.specs.Record.{type_of, spec_offset_of, name_of, end_of, size_of, has_data, before_zero, pad16}
 use Rattle.romfs_format.specs.Refers.{references, heads_itself, LeadsToSound}
 use Rattle.rom_tree.specs.declared.types.Kind.{Kind}

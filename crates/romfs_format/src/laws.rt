@@ -1,6 +1,6 @@
 //! Laws about the romfs definitions.
 ghost use Rattle.std.specs.Prelude.{◌≡◌, ◌≢◌, ◌<◌, ◌^◌, ℕ, List, length};
-ghost use Rattle.record_walk.specs.Forest.{Forest, all_rows};
+ghost use Rattle.record_forest.specs.Forest.{Forest, all_rows};
 ghost use Rattle.romfs_format.specs.Record.{type_of};
 ghost use Rattle.romfs_format.specs.Refers.{references};
 ghost use Rattle.romfs_format.specs.Tree.{RomfsTree, IsTree, tree_of};

@@ -11,7 +11,7 @@ use Rattle.rom_tree.proofs.Rows.{lies_in_front}
 use Rattle.romfs_image.proofs.Reading.{name_stands}
 use Rattle.rom_fields.specs.Words.{word_be}
 use Rattle.romfs_format.specs.Record.{first_of, next_of, name_of, end_of, type_of, size_of}
-use Rattle.record_walk.specs.Forest.{Forest, none, at, count, Everywhere}
+use Rattle.record_forest.specs.Forest.{Forest, none, at, count, Everywhere}
 use Rattle.romfs_format.specs.Made.{StandsAt, grow, list_at, made, IsGood, IsRomfs, bump, index_at, cursor_of, begins}
 use Rattle.romfs_format.specs.Tree.{kind_numbers, node_of, entries_at, led, kind_named, mode_named, places_at, attributes_at, by_type}
 use Rattle.rom_tree.specs.Dots.{is_dots}

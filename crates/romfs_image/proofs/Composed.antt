@@ -5,10 +5,10 @@ use Rattle.std.proofs.lemmas.List.Elements.{recursion_from_All, All-from_recursi
 use Rattle.std.specs.List.{All, AllByRecursion as Every}
 use Rattle.rom_fields.specs.Extents.{OverlapsAt, IsLeastOf}
 use Rattle.rom_faults.specs.declared.fault.Fault.{Fault}
-use Rattle.record_walk.specs.declared.reference.Row.{Row}
-use Rattle.record_walk.specs.Forest.{Forest, none, at, all_rows, IsForest, NamesDiffer}
-use Rattle.record_walk.proofs.Lists.{pairs_to}
-use Rattle.record_walk.proofs.Exact.{every_split, pairs_split}
+use Rattle.record_forest.specs.declared.reference.Row.{Row}
+use Rattle.record_forest.specs.Forest.{Forest, none, at, all_rows, IsForest, NamesDiffer}
+use Rattle.record_forest.proofs.Lists.{pairs_to}
+use Rattle.record_forest.proofs.Exact.{every_split, pairs_split}
 use Rattle.romfs_format.specs.Record.{name_of, IsSound}
 use Rattle.romfs_format.specs.Refers.{references, reference_offset, heads_itself, LeadsToSound}
 use Rattle.romfs_format.specs.Tree.{extents_of, listed_rows, LeadsWell, IsTree}
@@ -16,7 +16,7 @@ use Rattle.rom_tree.specs.Dots.{dot}
 use Rattle.romfs_format.proofs.Bridge.{offset_some, offset_none, top_offset}
 use Rattle.romfs_format.proofs.Depths.{IsWithin}
 use Rattle.romfs_format.proofs.Dots.{tree_within}
-use Rattle.record_walk.specs.Sweep.{IsLeastRowFault}
+use Rattle.record_forest.specs.Sweep.{IsLeastRowFault}
 use Rattle.romfs_image.specs.Phases.{IsTooDeep, IsShallow, Repeats, IsNameFault, IsWellNamed, AreWell, IsLaterFault, name}
 
 -- with no entry too deep and no overlap, the names decide

@@ -4,11 +4,11 @@ use Rattle.std.proofs.lemmas.Bool.{false≢true, eq-eqb}
 use Rattle.std.proofs.lemmas.Bool.Decides.{eqb_tells}
 use Rattle.std.specs.List.{AllByRecursion as Every, list_any}
 use Rattle.rom_faults.specs.declared.fault.Fault.{Fault}
-use Rattle.record_walk.specs.declared.reference.Row.{Row}
-use Rattle.record_walk.specs.Members.{Has, Pairs}
-use Rattle.record_walk.specs.Forest.{Forest, all_rows, IsForest}
-use Rattle.record_walk.proofs.Lists.{has_every, pairs_cross, same_some}
-use Rattle.record_walk.proofs.Exact.{has_member, member_every, has_at, every_here, split_at, later_split, FoundAt}
+use Rattle.record_forest.specs.declared.reference.Row.{Row}
+use Rattle.record_forest.specs.Members.{Has, Pairs}
+use Rattle.record_forest.specs.Forest.{Forest, all_rows, IsForest}
+use Rattle.record_forest.proofs.Lists.{has_every, pairs_cross, same_some}
+use Rattle.record_forest.proofs.Exact.{has_member, member_every, has_at, every_here, split_at, later_split, FoundAt}
 use Rattle.romfs_format.specs.Record.{name_of, type_of, spec_offset_of}
 use Rattle.romfs_format.specs.Refers.{references, LeadsToSound}
 use Rattle.romfs_format.specs.Tree.{follow, listed_rows}

@@ -7,11 +7,11 @@ use Rattle.rom_tree.specs.declared.types.Limits.{Limits}
 use Rattle.rom_faults.specs.declared.error.CheckError.{CheckError}
 use Rattle.rom_faults.specs.declared.error.CheckError.TheVariants.{OutOfMemory, Fault as FaultAnswer}
 use Rattle.rom_faults.specs.declared.fault.Fault.{Fault}
-use Rattle.record_walk.specs.declared.reference.Row.{Row}
-use Rattle.record_walk.specs.Members.{Pairs}
-use Rattle.record_walk.specs.Forest.{Forest, none, at, all_rows, NamesDiffer}
-use Rattle.record_walk.proofs.Lists.{every_weaker, pairs_cross, pairs_from}
-use Rattle.record_walk.proofs.Exact.{every_here}
+use Rattle.record_forest.specs.declared.reference.Row.{Row}
+use Rattle.record_forest.specs.Members.{Pairs}
+use Rattle.record_forest.specs.Forest.{Forest, none, at, all_rows, NamesDiffer}
+use Rattle.record_forest.proofs.Lists.{every_weaker, pairs_cross, pairs_from}
+use Rattle.record_forest.proofs.Exact.{every_here}
 use Rattle.romfs_format.specs.Record.{name_of, type_of}
 use Rattle.romfs_format.specs.Refers.{references, reference_offset, heads_itself}
 use Rattle.romfs_format.specs.Tree.{tree_of, listed_rows, LeadsWell, IsTree, RomfsTree}

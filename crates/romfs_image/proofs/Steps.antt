@@ -6,7 +6,7 @@ use Rattle.std.proofs.lemmas.List.Elements.{All-head, All-tail}
 use Rattle.std.specs.List.{All, list_any}
 use Rattle.romfs_format.specs.Record.{type_of, spec_offset_of, IsSound}
 use Rattle.romfs_format.specs.Tree.{follow}
-use Rattle.record_walk.specs.declared.reference.Row.{Row}
+use Rattle.record_forest.specs.declared.reference.Row.{Row}
 
 abbrev pub Is : ℕ → Row → Bool
 Is t x = eqb x.offset t

@@ -4,8 +4,8 @@ use Rattle.std.proofs.lemmas.List.Elements.{recursion_from_All, All-from_recursi
 use Rattle.std.specs.List.{All, Any, AllByRecursion as Every}
 use Rattle.rom_tree.specs.Tree.{depth}
 use Rattle.rom_tree.specs.declared.types.Limits.{Limits}
-use Rattle.record_walk.specs.declared.reference.Row.{Row}
-use Rattle.record_walk.specs.Forest.{Forest, none, at, all_rows, IsForest}
+use Rattle.record_forest.specs.declared.reference.Row.{Row}
+use Rattle.record_forest.specs.Forest.{Forest, none, at, all_rows, IsForest}
 use Rattle.romfs_format.specs.Record.{name_of, IsSound}
 use Rattle.romfs_format.specs.Refers.{references, LeadsToSound}
 use Rattle.romfs_format.specs.Tree.{tree_of, root_of, IsTree, IsSuperblock}

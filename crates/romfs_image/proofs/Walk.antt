@@ -5,7 +5,7 @@ use Rattle.std.specs.Prelude.{max}
 use Rattle.rom_tree.specs.Tree.{Node, nodes, body_nodes, body_depth, entries_depth, entries_nodes, directory, regular, symlink, block, character, socket, fifo}
 use Rattle.romfs_format.specs.Record.{first_of, next_of, name_of, type_of}
 use Rattle.romfs_format.specs.Made.{grow, list_at, made, IsRomfs, begins}
-use Rattle.record_walk.specs.Forest.{count}
+use Rattle.record_forest.specs.Forest.{count}
 use Rattle.romfs_format.specs.Tree.{kind_numbers, led, node_of, attributes_at, places_at, entries_at, body_named}
 use Rattle.rom_tree.specs.Dots.{is_dots}
 use Rattle.rom_tree.proofs.ByKind.{by_kind_map, by_kind_directory}

@@ -4,13 +4,13 @@ use Rattle.std.proofs.lemmas.Bool.{cases_lt}
 use Rattle.std.proofs.lemmas.Bool.Decides.{eqb_tells}
 use Rattle.rom_tree.specs.Tree.{Node}
 use Rattle.rom_fields.specs.Words.{words_sum}
-use Rattle.record_walk.specs.declared.reference.Row.{Row}
-use Rattle.record_walk.specs.Forest.{Forest, all_rows, IsForest}
-use Rattle.record_walk.specs.Faults.{IsClean, IsNone}
-use Rattle.record_walk.proofs.Lists.{pairs_from}
-use Rattle.record_walk.proofs.Run.{forest_of}
-use Rattle.record_walk.proofs.Decided.{same_number, same_list}
-use Rattle.record_walk.proofs.Exact.{Differ}
+use Rattle.record_forest.specs.declared.reference.Row.{Row}
+use Rattle.record_forest.specs.Forest.{Forest, all_rows, IsForest}
+use Rattle.record_forest.specs.Faults.{IsClean, IsNone}
+use Rattle.record_forest.proofs.Lists.{pairs_from}
+use Rattle.record_forest.proofs.Run.{forest_of}
+use Rattle.record_forest.proofs.Decided.{same_number, same_list}
+use Rattle.record_forest.proofs.Exact.{Differ}
 use Rattle.romfs_format.specs.Record.{name_of, type_of, before_zero}
 use Rattle.romfs_format.specs.Refers.{references, reference_offset, LeadsToSound}
 use Rattle.romfs_format.specs.Tree.{follow, tree_of, magic, full_size, root_of, IsSuperblock, RomfsTree}

@@ -6,8 +6,8 @@ use Rattle.rom_tree.specs.declared.types.Limits.{Limits}
 use Rattle.rom_tree.specs.declared.types.Report.{Report}
 use Rattle.rom_faults.specs.declared.error.CheckError.{CheckError}
 use Rattle.rom_tree.specs.Checks.{Refuses}
-use Rattle.record_walk.specs.Answers.{AnswersLeast}
-use Rattle.record_walk.specs.Forest.{all_rows}
+use Rattle.record_forest.specs.Answers.{AnswersLeast}
+use Rattle.record_forest.specs.Forest.{all_rows}
 use Rattle.romfs_format.specs.Refers.{references}
 use Rattle.romfs_format.specs.Tree.{RomfsTree}
 use Rattle.romfs_format.specs.Superblock.{HasImageFault}

@@ -2,8 +2,8 @@
 use Rattle.std.specs.Prelude.{◌≡◌, ◌≢◌, ℕ, ◌<◌, ◌≤◌, ◌==◌, Bool, true, false, length, slice_index, List, ◌∷◌, ◌++◌, None, Some}
 use Rattle.std.specs.List.{Any, list_any}
 use Rattle.rom_faults.specs.declared.fault.Fault.{Fault}
-use Rattle.record_walk.specs.declared.reference.Row.{Row}
-use Rattle.record_walk.specs.Sweep.{IsLeastRowFault}
+use Rattle.record_forest.specs.declared.reference.Row.{Row}
+use Rattle.record_forest.specs.Sweep.{IsLeastRowFault}
 use Rattle.romfs_format.specs.Record.{name_of, type_of}
 use Rattle.rom_fields.specs.Extents.{OverlapsAt, IsLeastOf}
 use Rattle.romfs_format.specs.Tree.{follow, LeadsWell, extents_of, listed_rows}

@@ -4,9 +4,9 @@ ghost use Rattle.std.specs.Prelude.{◌≡◌, ◌≢◌, ◌+◌, ◌<◌, ◌�
 ghost use Rattle.romfs_format.specs.Refers.{references, LeadsToSound, LeadsToFault, some_offset, list_of, following, reference_offset};
 
 use crate::soundness::record_fault;
-use record_walk::known::Known;
-use record_walk::records::Records;
-use record_walk::reference::{Edge, Edges, Reference};
+use record_forest::known::Known;
+use record_forest::records::Records;
+use record_forest::reference::{Edge, Edges, Reference};
 use rom_faults::Fault;
 
 /// The accessible bytes of an image, and where the root's header stands among them.

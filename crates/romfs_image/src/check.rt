@@ -4,7 +4,7 @@ ghost use Rattle.std.specs.Prelude.{◌≡◌, ◌≤◌, ◌<◌, ◌^◌, leng
 use crate::image::Romfs;
 use crate::phases::later_fault;
 use crate::superblock::read_superblock;
-use record_walk::traversal::traverse;
+use record_forest::traversal::traverse;
 use rom_faults::CheckError;
 use rom_tree::image::Viewed;
 use rom_tree::types::Limits;

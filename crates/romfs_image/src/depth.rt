@@ -4,12 +4,12 @@ ghost use Rattle.std.specs.Bool.{OnTrue, OnFalse};
 ghost use Rattle.std.specs.List.{All, Any};
 ghost use Rattle.romfs_format.specs.Record.{name_of, IsSound};
 ghost use Rattle.rom_tree.specs.Dots.{is_dots};
-ghost use Rattle.record_walk.specs.Sweep.{IsLeastRowFault};
+ghost use Rattle.record_forest.specs.Sweep.{IsLeastRowFault};
 ghost use Rattle.romfs_image.specs.Phases.{IsTooDeep, IsShallow};
 
 use crate::accessible::Accessible;
-use record_walk::least::lesser_fault;
-use record_walk::reference::Row;
+use record_forest::least::lesser_fault;
+use record_forest::reference::Row;
 use rom_faults::Fault;
 use rom_faults::fault::TOO_DEEP;
 use rom_tree::dots::is_dots;

@@ -6,7 +6,7 @@ use crate::accessible::Accessible;
 use crate::depth::greatest_depth;
 use crate::fields::{device_at, file_at, kind_at, mode_at};
 use arrayvec::ArrayVec;
-use record_walk::reference::Row;
+use record_forest::reference::Row;
 use rom_tree::dots::is_dots;
 use rom_tree::image::{TreeImage, Viewed};
 use rom_tree::types::{Cursor, Entry, Limits, NodeId, Report, Run, Stat};
@@ -168,7 +168,7 @@ impl<'a> TreeImage<'a> for Romfs<'a> {
 
 impl<'a> Romfs<'a> {
     ghost use Rattle.std.specs.List.{All};
-    ghost use Rattle.record_walk.specs.Forest.{Forest, all_rows};
+    ghost use Rattle.record_forest.specs.Forest.{Forest, all_rows};
     ghost use Rattle.romfs_format.specs.Record.{IsSound};
     ghost use Rattle.romfs_format.specs.Refers.{references};
     ghost use Rattle.romfs_format.specs.Tree.{IsTree, IsSuperblock};

@@ -2,20 +2,20 @@
 ghost use Rattle.std.specs.Prelude.{◌≡◌, ◌≢◌, ◌<◌, ◌↔◌, IsTrue, IfNone, IfSome, IfOk, Some, List, ℕ, false};
 ghost use Rattle.std.specs.Bool.{OnTrue, OnFalse};
 ghost use Rattle.std.specs.List.{All};
-ghost use Rattle.record_walk.specs.declared.reference.Row.{Row};
-ghost use Rattle.record_walk.specs.Faults.{IsLeast};
+ghost use Rattle.record_forest.specs.declared.reference.Row.{Row};
+ghost use Rattle.record_forest.specs.Faults.{IsLeast};
 ghost use Rattle.romfs_format.specs.Record.{name_of, type_of, IsSound};
 ghost use Rattle.romfs_format.specs.Tree.{follow};
 ghost use Rattle.rom_tree.specs.Dots.{dot, dot_dot, is_dots};
-ghost use Rattle.record_walk.specs.Listed.{AreNames};
-ghost use Rattle.record_walk.specs.Sweep.{IsLeastRowFault};
+ghost use Rattle.record_forest.specs.Listed.{AreNames};
+ghost use Rattle.record_forest.specs.Sweep.{IsLeastRowFault};
 ghost use Rattle.romfs_image.specs.Phases.{AreOffsets, TellsRepeated, IsNameFault, IsWellNamed};
 
 use crate::accessible::Accessible;
 use crate::rows::{led_to, offsets_of};
-use record_walk::least::lesser_fault;
-use record_walk::listed::{ListedName, repeats};
-use record_walk::reference::Row;
+use record_forest::least::lesser_fault;
+use record_forest::listed::{ListedName, repeats};
+use record_forest::reference::Row;
 use rom_faults::Fault;
 use rom_faults::fault::{DOT, DUPLICATE_NAME, HARD_LINK};
 use rom_fields::memory::OutOfMemory;

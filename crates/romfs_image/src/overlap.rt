@@ -6,7 +6,7 @@ ghost use Rattle.romfs_format.specs.Record.{IsSound};
 ghost use Rattle.romfs_format.specs.Tree.{row_extents, extents_of};
 
 use crate::accessible::Accessible;
-use record_walk::reference::Row;
+use record_forest::reference::Row;
 use rom_fields::extents::Extents;
 use rom_fields::memory::OutOfMemory;
 use rom_fields::span::Extent;

@@ -9,7 +9,7 @@ use crate::accessible::Accessible;
 use crate::depth::least_too_deep;
 use crate::names::least_name_fault;
 use crate::overlap::least_overlap;
-use record_walk::reference::Row;
+use record_forest::reference::Row;
 use rom_faults::Fault;
 use rom_faults::fault::OVERLAP;
 use rom_fields::memory::OutOfMemory;

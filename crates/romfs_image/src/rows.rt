@@ -6,7 +6,7 @@ ghost use Rattle.romfs_format.specs.Tree.{follow};
 ghost use Rattle.romfs_image.specs.Phases.{AreOffsets};
 
 use crate::accessible::Accessible;
-use record_walk::reference::Row;
+use record_forest::reference::Row;
 use rom_fields::memory::OutOfMemory;
 use std::alloc::Global;
 

@@ -3,7 +3,7 @@ ghost use Rattle.std.specs.Prelude.{◌≡◌, ◌≢◌, ◌+◌, ◌-◌, ◌�
 ghost use Rattle.std.specs.Bool.{OnTrue, OnFalse};
 ghost use Rattle.std.specs.List.{Contains};
 ghost use Rattle.rom_fields.specs.Words.{words_sum, part_of};
-ghost use Rattle.record_walk.specs.Faults.{IsLeast};
+ghost use Rattle.record_forest.specs.Faults.{IsLeast};
 ghost use Rattle.romfs_format.specs.Record.{name_of, end_of, next_of, first_of, type_of, spec_offset_of, size_of, has_data, IsSound, IsWhole, HasRecordFault};
 
 use crate::accessible::Accessible;

@@ -5,9 +5,9 @@ use Rattle.std.specs.List.{AllByRecursion as Every, flat_map}
 use Rattle.rom_fields.specs.declared.span.Extent.TheVariants.{Super, Record, Data}
 use Rattle.rom_fields.specs.declared.span.Span.{Span}
 use Rattle.rom_fields.specs.Extents.{OverlapsAt, added}
-use Rattle.record_walk.specs.declared.reference.Row.{Row}
-use Rattle.record_walk.specs.Members.{Pairs}
-use Rattle.record_walk.proofs.Lists.{every_weaker}
+use Rattle.record_forest.specs.declared.reference.Row.{Row}
+use Rattle.record_forest.specs.Members.{Pairs}
+use Rattle.record_forest.proofs.Lists.{every_weaker}
 use Rattle.romfs_format.specs.Record.{end_of, size_of, type_of, has_data}
 use Rattle.romfs_format.specs.Tree.{row_extents}
 use Rattle.romfs_layout.specs.Layout.{Header, record_len}

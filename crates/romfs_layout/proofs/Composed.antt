@@ -2,12 +2,12 @@
 use Rattle.std.proofs.Common.{◌≡◌, ◌≢◌, ℕ, ◌+◌, ◌-◌, ◌==◌, true, false, if◌then◌else◌, List, [], ◌∷◌, ◌++◌, map, length, drop, replicate, get_or, refl, sym, ap, subst, ◌∙◌, arith, inl, inr, append-nil}
 use Rattle.std.proofs.lemmas.Bool.Decides.{eqb_tells}
 use Rattle.std.specs.List.{AllByRecursion as Every}
-use Rattle.record_walk.proofs.Lists.{every_join}
+use Rattle.record_forest.proofs.Lists.{every_join}
 use Rattle.image_parts.specs.Padding.{pad}
 use Rattle.image_parts.specs.Parts.{Part, part, with_part, laid}
 use Rattle.image_parts.specs.Sums.{sealed}
 use Rattle.image_parts.proofs.Parts.{length-with_part}
-use Rattle.name_tree.specs.Names.{Fill, no_bytes, text, source, Inode, Names, bytes_of}
+use Rattle.manifest_tree.specs.Names.{Fill, no_bytes, text, source, Inode, Names, bytes_of}
 use Rattle.layout_terms.specs.Items.{Item, Section, fill_section, bytes_section}
 use Rattle.layout_terms.specs.Bodies.{item_at, body_bytes}
 use Rattle.layout_terms.proofs.Bodies.{item_here, items_later}

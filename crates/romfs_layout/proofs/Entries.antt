@@ -4,15 +4,15 @@ use Rattle.std.proofs.lemmas.Bool.{ne_eqb, eq-eqb}
 use Rattle.std.proofs.lemmas.Bool.Decides.{eqb_tells}
 use Rattle.std.specs.List.{AllByRecursion as Every}
 use Rattle.rom_tree.specs.Tree.{Entries, no_entries, entry, entries_depth, body_depth, depth, directory, regular, symlink, block, character, socket, fifo}
-use Rattle.record_walk.specs.declared.reference.Row.{Row}
-use Rattle.record_walk.proofs.Lists.{every_left, every_right}
-use Rattle.record_walk.specs.Forest.{Forest, none, at}
+use Rattle.record_forest.specs.declared.reference.Row.{Row}
+use Rattle.record_forest.proofs.Lists.{every_left, every_right}
+use Rattle.record_forest.specs.Forest.{Forest, none, at}
 use Rattle.romfs_format.specs.Record.{pad16, type_of, spec_offset_of, name_of}
 use Rattle.romfs_format.specs.Tree.{led, entries_at, node_of, body_named, places_at, by_type, kind_numbers}
 use Rattle.rom_tree.specs.Dots.{is_dots}
 use Rattle.romfs_format.proofs.Trees.{led_self}
 use Rattle.rom_tree.proofs.ByKind.{by_kind_map, by_kind_directory, by_kind_rest}
-use Rattle.name_tree.specs.Names.{Names, nothing, leaf, link, folder}
+use Rattle.manifest_tree.specs.Names.{Names, nothing, leaf, link, folder}
 use Rattle.romfs_layout.specs.Layout.{number_of, code_of, place_of, leaf_end, header_end, ends, first_place, headers}
 use Rattle.romfs_layout.specs.Reads.{Reads}
 use Rattle.romfs_layout.specs.Wells.{AreWell}

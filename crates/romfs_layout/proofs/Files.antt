@@ -5,12 +5,12 @@ use Rattle.std.specs.List.{AllByRecursion as Every}
 use Rattle.rom_fields.specs.Words.{word_be}
 use Rattle.rom_tree.specs.declared.types.Kind.{Kind}
 use Rattle.rom_tree.specs.declared.types.Kind.TheVariants.{Directory, Regular, Symlink, Block, Character, Socket, Fifo}
-use Rattle.record_walk.specs.declared.reference.Row.{Row}
-use Rattle.record_walk.proofs.Lists.{every_join, every_left, every_right}
+use Rattle.record_forest.specs.declared.reference.Row.{Row}
+use Rattle.record_forest.proofs.Lists.{every_join, every_left, every_right}
 use Rattle.romfs_format.specs.Record.{pad16, type_of, size_of, end_of}
 use Rattle.romfs_format.specs.Tree.{executable, mode_named}
 use Rattle.image_parts.specs.Parts.{HasAt}
-use Rattle.name_tree.specs.Names.{Inode, Names, nothing, leaf, link, folder, bytes_of}
+use Rattle.manifest_tree.specs.Names.{Inode, Names, nothing, leaf, link, folder, bytes_of}
 use Rattle.romfs_layout.specs.Layout.{Header, placed, place_with, number_of, mode_bit, runnable, code_of, device_of, place_of, leaf_end, header_end, ends, first_place, headers}
 use Rattle.layout_terms.specs.Files.{Placed}
 use Rattle.romfs_layout.specs.Reads.{Reads}

@@ -2,7 +2,7 @@
 use Rattle.std.proofs.Common.{◌≡◌, ◌≢◌, ℕ, zero, suc, List, [], ◌∷◌, codes, ap, get_or, refl, arith, rules, inl, inr}
 use Rattle.std.specs.List.{Contains}
 use Rattle.rom_tree.specs.declared.types.Kind.TheVariants.{Directory, Regular}
-use Rattle.name_tree.specs.Names.{Inode, nothing, leaf, link, folder, source, no_bytes}
+use Rattle.manifest_tree.specs.Names.{Inode, nothing, leaf, link, folder, source, no_bytes}
 use Rattle.layout_terms.specs.Lists.{IsName}
 use Rattle.romfs_layout.specs.Layout.{data_align, place_of}
 use Rattle.romfs_layout.specs.Wells.{IsFile, IsFolder}

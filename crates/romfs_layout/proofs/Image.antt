@@ -6,14 +6,14 @@ use Rattle.std.specs.List.{AllByRecursion as Every}
 use Rattle.byteorder.specs.Endian.{big_bytes, big_number}
 use Rattle.byteorder.specs.Numbers.{big_number-reads_back}
 use Rattle.rom_fields.specs.Words.{word_be, words_sum, words_total}
-use Rattle.record_walk.proofs.Lists.{every_join}
+use Rattle.record_forest.proofs.Lists.{every_join}
 use Rattle.rom_tree.specs.Tree.{Node}
 use Rattle.romfs_format.specs.Record.{name_of, before_zero}
 use Rattle.romfs_format.specs.Tree.{magic, full_size, root_of, RomfsTree, node_of}
 use Rattle.rom_tree.specs.Dots.{dot, dot_dot}
 use Rattle.image_parts.specs.Parts.{Part, end_of_part, with_part, laid, Rises, end_of_parts, HasAt, HasParts}
 use Rattle.image_parts.specs.Sums.{balance, sealed}
-use Rattle.name_tree.specs.Names.{no_bytes, Inode, Names, nothing, leaf, link, folder, bytes_of}
+use Rattle.manifest_tree.specs.Names.{no_bytes, Inode, Names, nothing, leaf, link, folder, bytes_of}
 use Rattle.romfs_layout.specs.Layout.{Header, placed, place_with, number_of, code_of, record_len, leaf_end, header_end, ends, first_place, padded_name, parts, root_at, all_headers, full_size_of, superblock, image_of, layout}
 use Rattle.image_parts.specs.Parts.{part}
 use Rattle.image_parts.specs.Padding.{pad}

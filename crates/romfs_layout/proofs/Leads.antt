@@ -2,15 +2,15 @@
 use Rattle.std.proofs.Common.{◌≡◌, ◌≢◌, ℕ, ◌+◌, ◌%◌, true, false, eqb, List, ◌∷◌, refl, sym, ap, ◌∙◌, arith, Some}
 use Rattle.std.proofs.lemmas.Bool.{false≢true, ne_eqb, eq-eqb}
 use Rattle.std.specs.List.{AllByRecursion as Every, list_any}
-use Rattle.record_walk.specs.declared.reference.Reference.{Reference}
-use Rattle.record_walk.specs.declared.reference.Row.{Row}
-use Rattle.record_walk.specs.Forest.{rows}
-use Rattle.record_walk.proofs.Lists.{every_join, every_left, every_right}
+use Rattle.record_forest.specs.declared.reference.Reference.{Reference}
+use Rattle.record_forest.specs.declared.reference.Row.{Row}
+use Rattle.record_forest.specs.Forest.{rows}
+use Rattle.record_forest.proofs.Lists.{every_join, every_left, every_right}
 use Rattle.romfs_format.specs.Record.{pad16, type_of, spec_offset_of, name_of}
 use Rattle.romfs_format.specs.Refers.{references}
 use Rattle.romfs_format.specs.Tree.{follow, LeadsWell}
 use Rattle.rom_tree.specs.Dots.{dot, dot_dot, is_dots}
-use Rattle.name_tree.specs.Names.{Names, nothing, leaf, link, folder}
+use Rattle.manifest_tree.specs.Names.{Names, nothing, leaf, link, folder}
 use Rattle.romfs_layout.specs.Layout.{Header, number_of, code_of, place_of, leaf_end, header_end, ends, first_place, headers}
 use Rattle.romfs_layout.specs.Reads.{Reads}
 use Rattle.romfs_layout.specs.Wells.{AreWell}

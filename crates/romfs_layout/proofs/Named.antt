@@ -3,16 +3,16 @@ use Rattle.std.proofs.Common.{◌≡◌, ◌≢◌, ℕ, ◌+◌, ◌-◌, ◌%�
 use Rattle.std.proofs.lemmas.Bool.{false≢true}
 use Rattle.std.specs.List.{AllByRecursion as Every, Contains}
 use Rattle.rom_fields.specs.Words.{words_sum, part_of}
-use Rattle.record_walk.specs.declared.reference.Reference.{Reference}
-use Rattle.record_walk.specs.declared.reference.Row.{Row}
-use Rattle.record_walk.specs.Forest.{none, at, rows}
-use Rattle.record_walk.specs.Members.{Pairs}
-use Rattle.record_walk.proofs.Lists.{every_join, every_left, every_right, every_weaker, pairs_join}
+use Rattle.record_forest.specs.declared.reference.Reference.{Reference}
+use Rattle.record_forest.specs.declared.reference.Row.{Row}
+use Rattle.record_forest.specs.Forest.{none, at, rows}
+use Rattle.record_forest.specs.Members.{Pairs}
+use Rattle.record_forest.proofs.Lists.{every_join, every_left, every_right, every_weaker, pairs_join}
 use Rattle.romfs_format.specs.Record.{pad16, type_of, name_of, end_of, IsSound}
 use Rattle.romfs_format.specs.Refers.{references}
 use Rattle.rom_tree.specs.Dots.{dot, dot_dot, is_dots}
-use Rattle.record_walk.specs.Forest.{NamesDiffer}
-use Rattle.name_tree.specs.Names.{Names, nothing, leaf, link, folder}
+use Rattle.record_forest.specs.Forest.{NamesDiffer}
+use Rattle.manifest_tree.specs.Names.{Names, nothing, leaf, link, folder}
 use Rattle.romfs_layout.specs.Layout.{Header, record_len, place_of, leaf_end, header_end, ends, headers}
 use Rattle.romfs_layout.specs.Reads.{Reads, IsHeader}
 use Rattle.romfs_layout.specs.Wells.{AreWell}

@@ -6,15 +6,15 @@ use Rattle.std.specs.Str.{bytes_eq}
 use Rattle.std.specs.List.{AllByRecursion as Every}
 use Rattle.rom_tree.specs.Tree.{Node, Entries, no_entries, entries_of, body_entries, directory, regular, symlink, block, character, socket, fifo}
 use Rattle.rom_tree.specs.Image.{find_entry}
-use Rattle.record_walk.proofs.Lists.{every_left, every_right}
+use Rattle.record_forest.proofs.Lists.{every_left, every_right}
 use Rattle.romfs_format.specs.Record.{pad16, type_of}
 use Rattle.romfs_format.specs.Tree.{node_of, places_at, kind_numbers}
 use Rattle.rom_tree.proofs.ByKind.{by_kind_map, by_kind_directory, by_kind_rest}
-use Rattle.name_tree.specs.Names.{Inode, Names, nothing, leaf, link, folder}
+use Rattle.manifest_tree.specs.Names.{Inode, Names, nothing, leaf, link, folder}
 use Rattle.romfs_layout.specs.Layout.{placed, place_with, place_of, leaf_end, header_end, ends, number_of}
 use Rattle.layout_terms.specs.Files.{Placed}
 use Rattle.romfs_layout.specs.Wells.{AreWell, AreLinks}
-use Rattle.name_tree.specs.Shape.{Named, find_name, node_under, file_under}
+use Rattle.manifest_tree.specs.Shape.{Named, find_name, node_under, file_under}
 use Rattle.romfs_layout.proofs.Files.{IsAt, with_line}
 use Rattle.romfs_layout.proofs.Entries.{made_of}
 

@@ -2,7 +2,7 @@
 use Rattle.image_parts.proofs.Padding.{pad-after}
 use Rattle.std.proofs.Common.{◌≡◌, ℕ, ◌+◌, ◌-◌, ◌*◌, ◌/◌, ◌%◌, ◌<◌, ◌≤◌, List, refl, ap, ◌∙◌, arith}
 use Rattle.romfs_format.specs.Record.{pad16}
-use Rattle.name_tree.specs.Names.{Inode, Names, nothing, leaf, link, folder}
+use Rattle.manifest_tree.specs.Names.{Inode, Names, nothing, leaf, link, folder}
 use Rattle.romfs_layout.specs.Wells.{IsFile, AreWell}
 use Rattle.romfs_layout.specs.Layout.{record_len, data_align, place_of, leaf_end, header_end, ends, first_place}
 use Rattle.image_parts.specs.Padding.{pad}

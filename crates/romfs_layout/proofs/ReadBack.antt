@@ -9,7 +9,7 @@ use Rattle.rom_fields.specs.Words.{words_sum, words_total, part_of}
 use Rattle.romfs_format.specs.Record.{before_zero, name_of, size_of, end_of, pad16}
 use Rattle.image_parts.specs.Parts.{HasAt, HasParts}
 use Rattle.image_parts.specs.Sums.{balance, balanced}
-use Rattle.name_tree.specs.Names.{bytes_of}
+use Rattle.manifest_tree.specs.Names.{bytes_of}
 use Rattle.romfs_layout.specs.Layout.{Header, header_bytes, padded_name, record_len, parts}
 use Rattle.romfs_layout.specs.Reads.{Reads, IsHeader}
 use Rattle.image_parts.proofs.Words.{words_sum-balanced, word_be-has}

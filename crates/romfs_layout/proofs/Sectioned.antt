@@ -2,8 +2,8 @@
 use Rattle.std.proofs.Common.{◌≡◌, ◌≢◌, ℕ, ◌+◌, ◌<◌, ◌≤◌, ◌==◌, true, false, cond, if◌then◌else◌, List, [], ◌∷◌, ◌++◌, map, refl, sym, subst, ◌∙◌, arith, inl, inr}
 use Rattle.std.proofs.lemmas.Bool.Decides.{eqb_tells}
 use Rattle.std.specs.List.{AllByRecursion as Every}
-use Rattle.record_walk.proofs.Lists.{every_join}
-use Rattle.name_tree.specs.Names.{Fill, no_bytes, text, source, Inode, Names, nothing, leaf, link, folder}
+use Rattle.record_forest.proofs.Lists.{every_join}
+use Rattle.manifest_tree.specs.Names.{Fill, no_bytes, text, source, Inode, Names, nothing, leaf, link, folder}
 use Rattle.romfs_format.specs.Record.{pad16}
 use Rattle.layout_terms.specs.Items.{Section, SectionsRise, fill_section}
 use Rattle.layout_terms.proofs.Sections.{rise_later}

@@ -4,17 +4,17 @@ use Rattle.image_parts.proofs.Parts.{moved}
 use Rattle.std.proofs.Common.{◌↔◌, ◌≡◌, ◌≢◌, ℕ, ◌+◌, ◌-◌, ◌<◌, ◌≤◌, ◌⊎◌, List, [], ◌∷◌, ◌++◌, replicate, refl, sym, ap, subst, ◌∙◌, arith, inl, inr}
 use Rattle.std.specs.List.{AllByRecursion as Every}
 use Rattle.rom_tree.specs.Tree.{Node, Entries, ino_of}
-use Rattle.record_walk.specs.Members.{Has, Pairs}
-use Rattle.record_walk.proofs.Lists.{every_join, every_weaker, every_both, every_of, every_all, pairs_join}
+use Rattle.record_forest.specs.Members.{Has, Pairs}
+use Rattle.record_forest.proofs.Lists.{every_join, every_weaker, every_both, every_of, every_all, pairs_join}
 use Rattle.romfs_format.specs.Record.{pad16}
 use Rattle.romfs_format.specs.Tree.{node_of, attributes_at}
-use Rattle.name_tree.specs.Names.{Inode, Names, nothing, leaf, link, folder}
+use Rattle.manifest_tree.specs.Names.{Inode, Names, nothing, leaf, link, folder}
 use Rattle.romfs_layout.specs.Layout.{Header, placed, place_with, code_of, place_of, leaf_end, header_end, ends, root_at, all_headers, full_size_of, image_of, layout, number_of, headers}
 use Rattle.image_parts.specs.Padding.{pad}
 use Rattle.layout_terms.specs.Files.{Placed}
 use Rattle.romfs_layout.specs.Wells.{IsFile, IsFolder, AreWell, AreLinks}
 use Rattle.romfs_layout.specs.Planned.{IsPlanned}
-use Rattle.name_tree.specs.Shape.{node_value, file_value, node_under, file_under, HasShape}
+use Rattle.manifest_tree.specs.Shape.{node_value, file_value, node_under, file_under, HasShape}
 use Rattle.romfs_layout.proofs.Places.{place_after, ends_after}
 use Rattle.romfs_layout.proofs.Headers.{code_is}
 use Rattle.layout_terms.proofs.Alike.{pairs_unmap}

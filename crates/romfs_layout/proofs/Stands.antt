@@ -6,16 +6,16 @@ use Rattle.std.specs.List.{AllByRecursion as Every}
 use Rattle.rom_fields.specs.Words.{word_be}
 use Rattle.rom_tree.specs.declared.types.Kind.{Kind}
 use Rattle.rom_tree.specs.declared.types.Kind.TheVariants.{Directory, Regular, Symlink, Block, Character, Socket, Fifo}
-use Rattle.record_walk.specs.declared.reference.Reference.{Reference}
-use Rattle.record_walk.specs.declared.reference.Row.{Row}
-use Rattle.record_walk.specs.Forest.{Forest, none, at, Stands, rows, all_rows}
-use Rattle.record_walk.proofs.Lists.{every_left, every_right}
+use Rattle.record_forest.specs.declared.reference.Reference.{Reference}
+use Rattle.record_forest.specs.declared.reference.Row.{Row}
+use Rattle.record_forest.specs.Forest.{Forest, none, at, Stands, rows, all_rows}
+use Rattle.record_forest.proofs.Lists.{every_left, every_right}
 use Rattle.romfs_format.specs.Record.{pad16, next_of, type_of, spec_offset_of, first_of}
 use Rattle.romfs_format.specs.Refers.{references, reference_offset, some_offset}
 use Rattle.romfs_format.specs.Made.{StandsAt}
-use Rattle.record_walk.specs.Forest.{Everywhere}
+use Rattle.record_forest.specs.Forest.{Everywhere}
 use Rattle.romfs_format.proofs.Bridge.{own_offset, after_offset}
-use Rattle.name_tree.specs.Names.{Inode, Names, nothing, leaf, link, folder}
+use Rattle.manifest_tree.specs.Names.{Inode, Names, nothing, leaf, link, folder}
 use Rattle.romfs_layout.specs.Layout.{Header, number_of, code_of, place_of, leaf_end, header_end, ends, first_place, headers}
 use Rattle.romfs_layout.specs.Reads.{Reads}
 use Rattle.romfs_layout.specs.Wells.{FitsKind, IsFile, AreWell}

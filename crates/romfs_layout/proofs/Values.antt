@@ -10,10 +10,10 @@ use Rattle.romfs_format.specs.Tree.{node_of, attributes_at, places_at, by_type, 
 use Rattle.rom_tree.specs.Tree.{row_from}
 use Rattle.rom_tree.proofs.ByKind.{body_kind_is, body_places_is}
 use Rattle.image_parts.specs.Parts.{HasAt}
-use Rattle.name_tree.specs.Names.{Inode, bytes_of}
+use Rattle.manifest_tree.specs.Names.{Inode, bytes_of}
 use Rattle.romfs_layout.specs.Layout.{number_of, device_of}
 use Rattle.romfs_layout.specs.Wells.{FitsKind, IsFile, IsFolder}
-use Rattle.name_tree.specs.Shape.{Value, node_value, file_value}
+use Rattle.manifest_tree.specs.Shape.{Value, node_value, file_value}
 use Rattle.romfs_layout.proofs.Files.{IsAt, file_kind}
 
 same_value : (x y : Value) → x.kind ≡ y.kind → x.mode ≡ y.mode → x.uid ≡ y.uid → x.gid ≡ y.gid → x.major ≡ y.major

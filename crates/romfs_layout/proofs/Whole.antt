@@ -5,19 +5,19 @@ use Rattle.std.proofs.lemmas.List.Elements.{All-from_recursion}
 use Rattle.std.specs.List.{AllByRecursion as Every, list_any}
 use Rattle.std.specs.Prelude.{◌||◌}
 use Rattle.rom_tree.specs.Tree.{depth}
-use Rattle.record_walk.specs.declared.reference.Row.{Row}
-use Rattle.record_walk.specs.Forest.{Forest, none, at, Stands, rows, all_rows}
-use Rattle.record_walk.specs.Members.{Pairs}
-use Rattle.record_walk.proofs.Lists.{every_left, every_right, every_weaker, every_map, pairs_to, pairs_weaker, pairs_map, every_both}
+use Rattle.record_forest.specs.declared.reference.Row.{Row}
+use Rattle.record_forest.specs.Forest.{Forest, none, at, Stands, rows, all_rows}
+use Rattle.record_forest.specs.Members.{Pairs}
+use Rattle.record_forest.proofs.Lists.{every_left, every_right, every_weaker, every_map, pairs_to, pairs_weaker, pairs_map, every_both}
 use Rattle.romfs_format.specs.Record.{type_of, name_of, first_of, IsSound}
 use Rattle.romfs_format.specs.Refers.{references, reference_offset, heads_itself, LeadsToSound, some_offset}
 use Rattle.romfs_format.specs.Tree.{IsTree, LeadsWell, listed_rows, tree_of, entries_at, below_root, node_of}
-use Rattle.record_walk.specs.Forest.{NamesDiffer}
+use Rattle.record_forest.specs.Forest.{NamesDiffer}
 use Rattle.rom_tree.specs.Dots.{dot, dot_dot, is_dots}
 use Rattle.romfs_format.specs.Made.{StandsAt}
-use Rattle.record_walk.specs.Forest.{Everywhere}
+use Rattle.record_forest.specs.Forest.{Everywhere}
 use Rattle.romfs_format.proofs.Bridge.{root_own, root_after, top_offset, all_targets}
-use Rattle.name_tree.specs.Names.{Inode, Names}
+use Rattle.manifest_tree.specs.Names.{Inode, Names}
 use Rattle.romfs_layout.specs.Layout.{Header, number_of, code_of, ends, first_place, placed, place_with, headers, all_headers}
 use Rattle.romfs_layout.specs.Reads.{Reads, IsHeader}
 use Rattle.romfs_layout.specs.Wells.{IsFolder, AreWell, AreLinks}

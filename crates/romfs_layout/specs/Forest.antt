@@ -1,8 +1,8 @@
 -- The places of a layout's headers, as a forest of records and in a row. (This project's own.)
 use Rattle.std.specs.Prelude.{ℕ, ◌+◌, List, [], ◌∷◌, ◌++◌}
-use Rattle.record_walk.specs.Forest.{Forest, none, at}
+use Rattle.record_forest.specs.Forest.{Forest, none, at}
 use Rattle.romfs_format.specs.Record.{pad16}
-use Rattle.name_tree.specs.Names.{Names, nothing, leaf, link, folder}
+use Rattle.manifest_tree.specs.Names.{Names, nothing, leaf, link, folder}
 use Rattle.romfs_layout.specs.Layout.{place_of, leaf_end, header_end, ends}
 
 -- where the records of a list stand that is placed from `from` on

@@ -1,7 +1,7 @@
 -- The items of a romfs layout, one for each header in the order of their places, and its sections. (This project's
 -- own.)
 use Rattle.std.specs.Prelude.{ℕ, ◌+◌, List, [], ◌∷◌, ◌++◌, map}
-use Rattle.name_tree.specs.Names.{Inode, Names}
+use Rattle.manifest_tree.specs.Names.{Inode, Names}
 use Rattle.layout_terms.specs.Items.{Item, Section, section, super, record_of, bytes_section}
 use Rattle.romfs_layout.specs.Layout.{Header, all_headers, root_at, record_len}
 

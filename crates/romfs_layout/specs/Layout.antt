@@ -12,7 +12,7 @@ use Rattle.romfs_format.specs.Tree.{magic}
 use Rattle.image_parts.specs.Padding.{pad}
 use Rattle.image_parts.specs.Parts.{Part, part, laid}
 use Rattle.image_parts.specs.Sums.{balanced, sealed}
-use Rattle.name_tree.specs.Names.{Fill, no_bytes, Inode, Names, nothing, leaf, link, folder, bytes_of}
+use Rattle.manifest_tree.specs.Names.{Fill, no_bytes, Inode, Names, nothing, leaf, link, folder, bytes_of}
 use Rattle.layout_terms.specs.Files.{Placed, at_place}
 
 -- One header: its place, its words next (with the mode), spec and size, its name, and its data: where they begin, 0

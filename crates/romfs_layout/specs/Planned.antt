@@ -2,8 +2,8 @@
 -- limits of a check.)
 use Rattle.std.specs.Prelude.{◌≢◌, ℕ, ◌+◌, ◌^◌, ◌<◌, ◌≤◌, List, ◌∷◌, length}
 use Rattle.std.specs.List.{AllByRecursion as Every}
-use Rattle.record_walk.specs.Members.{Pairs}
-use Rattle.name_tree.specs.Names.{Inode, Names}
+use Rattle.record_forest.specs.Members.{Pairs}
+use Rattle.manifest_tree.specs.Names.{Inode, Names}
 use Rattle.layout_terms.specs.Files.{files, height}
 use Rattle.romfs_layout.specs.Layout.{root_at, ends, all_headers}
 use Rattle.romfs_layout.specs.Wells.{IsFolder, AreWell, AreLinks}

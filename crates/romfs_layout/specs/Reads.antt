@@ -4,7 +4,7 @@ use Rattle.std.specs.Prelude.{◌≡◌, ℕ, ◌+◌, ◌%◌, ◌^◌, ◌<◌
 use Rattle.rom_fields.specs.Words.{word_be, words_sum, part_of}
 use Rattle.romfs_format.specs.Record.{size_of, name_of, end_of}
 use Rattle.image_parts.specs.Parts.{HasAt}
-use Rattle.name_tree.specs.Names.{bytes_of}
+use Rattle.manifest_tree.specs.Names.{bytes_of}
 use Rattle.layout_terms.specs.Lists.{IsName}
 use Rattle.romfs_layout.specs.Layout.{Header, record_len}
 

@@ -4,7 +4,7 @@ use Rattle.std.specs.Prelude.{◌≡◌, ℕ, ◌*◌, ◌<◌, ◌≤◌, List,
 use Rattle.rom_tree.specs.declared.types.Kind.{Kind}
 use Rattle.rom_tree.specs.declared.types.Kind.TheVariants.{Directory, Regular, Symlink, Block, Character, Socket, Fifo}
 use Rattle.romfs_format.specs.Tree.{mode_named}
-use Rattle.name_tree.specs.Names.{no_bytes, Inode, Names, nothing, leaf, link, folder, bytes_of}
+use Rattle.manifest_tree.specs.Names.{no_bytes, Inode, Names, nothing, leaf, link, folder, bytes_of}
 use Rattle.romfs_layout.specs.Layout.{number_of, data_align, runnable}
 use Rattle.layout_terms.specs.Lists.{IsFree}
 

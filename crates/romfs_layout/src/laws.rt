@@ -2,8 +2,8 @@
 ghost use Rattle.std.specs.Prelude.{◌≡◌, List, ℕ, ◌^◌, length};
 ghost use Rattle.image_parts.specs.Padding.{pad};
 ghost use Rattle.std.specs.List.{AllByRecursion as Every};
-ghost use Rattle.name_tree.specs.Names.{Inode, Names};
-ghost use Rattle.name_tree.specs.Shape.{HasShape};
+ghost use Rattle.manifest_tree.specs.Names.{Inode, Names};
+ghost use Rattle.manifest_tree.specs.Shape.{HasShape};
 ghost use Rattle.rom_tree.specs.Tree.{Node};
 ghost use Rattle.romfs_format.specs.Tree.{RomfsTree};
 ghost use Rattle.layout_terms.specs.Items.{SectionsRise};

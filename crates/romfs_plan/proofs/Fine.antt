@@ -3,18 +3,18 @@ use Rattle.std.proofs.Common.{◌≡◌, ◌+◌, ◌<◌, ◌≤◌, ◌^◌, �
 use Rattle.std.proofs.lemmas.List.{length-map}
 use Rattle.std.proofs.lemmas.List.Elements.{All-from_recursion, All-map}
 use Rattle.std.specs.List.{All, AllByRecursion as Every}
-use Rattle.record_walk.proofs.Lists.{every_join}
+use Rattle.record_forest.proofs.Lists.{every_join}
 use Rattle.rom_tree.specs.declared.types.Kind.{Kind}
 use Rattle.rom_tree.specs.declared.types.Kind.TheVariants.{Directory, Regular, Symlink, Block, Character, Socket, Fifo}
-use Rattle.name_tree.specs.Names.{Inode, Names, nothing, leaf, link, folder}
-use Rattle.name_tree.specs.Tree.{What, a_leaf, a_link, a_folder}
+use Rattle.manifest_tree.specs.Names.{Inode, Names, nothing, leaf, link, folder}
+use Rattle.manifest_tree.specs.Tree.{What, a_leaf, a_link, a_folder}
 use Rattle.layout_terms.specs.Files.{height}
 use Rattle.romfs_layout.specs.Layout.{leaf_end, header_end, ends, root_at, placed, place_with}
 use Rattle.romfs_layout.specs.Planned.{IsPlanned}
 use Rattle.romfs_layout.specs.Wells.{FitsKind, AreWell}
 use Rattle.romfs_layout.proofs.Places.{ends_after, first_within}
-use Rattle.plan_rows.specs.Rows.{rows, row_view}
-use Rattle.plan_rows.specs.declared.row.Row.{Row as CodeRow}
+use Rattle.manifest_rows.specs.Rows.{rows, row_view}
+use Rattle.manifest_rows.specs.declared.row.Row.{Row as CodeRow}
 use Rattle.romfs_rows.specs.declared.rows.Place.{Place}
 use Rattle.romfs_rows.specs.declared.rows.Row.{Row as PlaceRow}
 use Rattle.romfs_rows.specs.Passes.{named_places, places, places_of}

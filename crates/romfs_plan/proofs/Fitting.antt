@@ -1,10 +1,10 @@
 -- Rows of a manifest whose lines fit romfs.
 use Rattle.std.proofs.Common.{◌<◌, ◌^◌, List, [], ◌∷◌, arith}
 use Rattle.std.specs.List.{AllByRecursion as Every}
-use Rattle.name_tree.specs.Tree.{What, a_leaf, a_link, a_folder}
-use Rattle.misfits.specs.Format.{romfs}
-use Rattle.plan_rows.specs.Fits.{IsFit, FitsAs}
-use Rattle.plan_rows.specs.Rows.{Row}
+use Rattle.manifest_tree.specs.Tree.{What, a_leaf, a_link, a_folder}
+use Rattle.manifest_layout.specs.Format.{romfs}
+use Rattle.manifest_rows.specs.Fits.{IsFit, FitsAs}
+use Rattle.manifest_rows.specs.Rows.{Row}
 use Rattle.romfs_plan.specs.Rows.{IsFitRow, IsFitWhat}
 
 pub fitting : (rs : List Row) → Every (IsFit romfs) rs → Every IsFitRow rs

@@ -1,9 +1,9 @@
 -- The names of planned items are short.
 use Rattle.std.proofs.Common.{◌+◌, ◌<◌, ℕ, List, [], ◌∷◌, length, map, arith}
 use Rattle.std.specs.List.{AllByRecursion as Every}
-use Rattle.record_walk.proofs.Lists.{every_join}
+use Rattle.record_forest.proofs.Lists.{every_join}
 use Rattle.romfs_format.specs.Record.{pad16}
-use Rattle.name_tree.specs.Names.{Inode, Names, nothing, leaf, link, folder}
+use Rattle.manifest_tree.specs.Names.{Inode, Names, nothing, leaf, link, folder}
 use Rattle.layout_terms.specs.Items.{Item}
 use Rattle.romfs_layout.specs.Items.{item_of, items_of}
 use Rattle.romfs_layout.specs.Layout.{Header, headers, leaf_end, header_end, ends, root_at, all_headers, placed, place_with}

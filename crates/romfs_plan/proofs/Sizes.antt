@@ -6,14 +6,14 @@ use Rattle.std.proofs.lemmas.List.Elements.{All-from_recursion}
 use Rattle.std.specs.List.{All, AllByRecursion as Every}
 use Rattle.image_parts.specs.Padding.{pad}
 use Rattle.romfs_format.specs.Record.{pad16}
-use Rattle.name_tree.specs.Names.{Inode, Names, nothing, leaf, link, folder}
-use Rattle.name_tree.specs.Tree.{What, a_leaf, a_link, a_folder}
+use Rattle.manifest_tree.specs.Names.{Inode, Names, nothing, leaf, link, folder}
+use Rattle.manifest_tree.specs.Tree.{What, a_leaf, a_link, a_folder}
 use Rattle.layout_terms.specs.Files.{height}
 use Rattle.romfs_layout.specs.Layout.{root_at, full_size_of, headers, all_headers, leaf_end, header_end, ends, placed, place_with}
 use Rattle.romfs_layout.specs.Items.{item_of, items_of}
-use Rattle.plan_rows.proofs.Depths.{deepest_is}
-use Rattle.plan_rows.specs.Rows.{Row, rows, deepest, row_view}
-use Rattle.plan_rows.specs.declared.row.Row.{Row as CodeRow}
+use Rattle.manifest_rows.proofs.Depths.{deepest_is}
+use Rattle.manifest_rows.specs.Rows.{Row, rows, deepest, row_view}
+use Rattle.manifest_rows.specs.declared.row.Row.{Row as CodeRow}
 use Rattle.romfs_rows.specs.declared.rows.Row.{Row as PlaceRow}
 use Rattle.romfs_rows.specs.Passes.{places_end}
 use Rattle.romfs_rows.specs.Rows.{IsRow, rows as place_rows, leaf_row, link_row, folder_row}

@@ -4,14 +4,14 @@ use Rattle.std.specs.List.{AllByRecursion as Every}
 use Rattle.std.proofs.Math.ListN.{set}
 use Rattle.std.proofs.Math.Path.{fun_ext}
 use Rattle.std.proofs.lemmas.List.{get_or-set_same, get_or-set_other, length-set, length-append}
-use Rattle.record_walk.proofs.Lists.{every_join}
+use Rattle.record_forest.proofs.Lists.{every_join}
 use Rattle.romfs_format.specs.Record.{pad16}
-use Rattle.name_tree.specs.Names.{Inode, Names, nothing, leaf, link, folder}
-use Rattle.name_tree.specs.Tree.{a_leaf, a_link, a_folder}
+use Rattle.manifest_tree.specs.Names.{Inode, Names, nothing, leaf, link, folder}
+use Rattle.manifest_tree.specs.Tree.{a_leaf, a_link, a_folder}
 use Rattle.layout_terms.specs.Files.{Placed, at_place, height}
 use Rattle.romfs_layout.specs.Layout.{Header, headers, place_of, leaf_end, header_end, ends, first_place, placed, place_with, root_at}
 use Rattle.romfs_layout.specs.Items.{item_of, items_of}
-use Rattle.plan_rows.specs.Rows.{Row, rows}
+use Rattle.manifest_rows.specs.Rows.{Row, rows}
 use Rattle.romfs_rows.specs.declared.rows.Place.{Place}
 use Rattle.romfs_rows.specs.Passes.{place, named_places}
 use Rattle.romfs_plan.specs.Headers.{headers_by, headers_of, root_headers, placed_by, placed_of, first_of}

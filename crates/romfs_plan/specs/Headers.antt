@@ -4,11 +4,11 @@ use Rattle.std.specs.Option.{unwrap_or}
 use Rattle.std.specs.Ordering.{nat_cmp}
 use Rattle.std.specs.BTreeMap.{get_by, BTreeMap}
 use Rattle.rom_tree.specs.Dots.{dot, dot_dot}
-use Rattle.name_tree.specs.Names.{Inode}
-use Rattle.name_tree.specs.Tree.{What, a_leaf, a_link, a_folder}
+use Rattle.manifest_tree.specs.Names.{Inode}
+use Rattle.manifest_tree.specs.Tree.{What, a_leaf, a_link, a_folder}
 use Rattle.layout_terms.specs.Files.{Placed, at_place}
 use Rattle.romfs_layout.specs.Layout.{Header, header_alone, code_of, device_of, record_len}
-use Rattle.plan_rows.specs.Rows.{Row}
+use Rattle.manifest_rows.specs.Rows.{Row}
 use Rattle.romfs_rows.specs.declared.rows.Place.{Place}
 
 -- the header of a file whose header has this place

@@ -2,12 +2,12 @@
 -- references and 64 names are this project's limits.)
 use Rattle.std.specs.Prelude.{ℕ, ◌+◌, ◌^◌, ◌<◌, ◌≤◌, ◌||◌, nat_lt, Bool, false, List, [], ◌∷◌, length}
 use Rattle.image_parts.specs.Padding.{pad}
-use Rattle.name_tree.specs.Names.{Inode, Names}
-use Rattle.name_tree.specs.Tree.{What, a_leaf, a_link, a_folder}
+use Rattle.manifest_tree.specs.Names.{Inode, Names}
+use Rattle.manifest_tree.specs.Tree.{What, a_leaf, a_link, a_folder}
 use Rattle.layout_terms.specs.Files.{height}
 use Rattle.romfs_layout.specs.Layout.{root_at, full_size_of}
 use Rattle.romfs_layout.specs.Items.{items_of}
-use Rattle.plan_rows.specs.Rows.{Row}
+use Rattle.manifest_rows.specs.Rows.{Row}
 use Rattle.romfs_rows.specs.declared.rows.Row.{Row as PlaceRow}
 use Rattle.romfs_rows.specs.declared.rows.Holds.{Holds}
 use Rattle.romfs_rows.specs.declared.rows.Holds.TheVariants.{Bytes, Nothing, List as Own}

@@ -2,7 +2,7 @@
 ghost use Rattle.std.specs.Prelude.{◌≡◌, ◌+◌, ◌<◌, ◌≤◌, ◌^◌, ◌∷◌, [], ◌++◌, ℕ, IfOk, OnOk, length, map, replicate};
 ghost use Rattle.std.specs.List.{All};
 ghost use Rattle.plan_items.specs.Views.{item_view, fill_view};
-ghost use Rattle.plan_rows.specs.Rows.{bytes_view, inode_view, row_view};
+ghost use Rattle.manifest_rows.specs.Rows.{bytes_view, inode_view, row_view};
 ghost use Rattle.romfs_layout.specs.Items.{item_of};
 ghost use Rattle.romfs_layout.specs.Layout.{code_of, device_of, header_alone, place_with, mode_bit, number_of};
 ghost use Rattle.rom_tree.specs.Dots.{dot, dot_dot};
@@ -10,8 +10,8 @@ ghost use Rattle.romfs_plan.specs.Headers.{leaf_header, folder_headers, headers_
 
 use crate::section_list::record_len;
 use manifest::Name;
+use manifest_rows::{Bytes, Inode, Row, What};
 use plan_items::{Fill, Item};
-use plan_rows::{Bytes, Inode, Row, What};
 use rom_fields::memory::OutOfMemory;
 use rom_tree::Kind;
 use romfs_rows::Place;

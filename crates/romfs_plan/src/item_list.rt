@@ -2,9 +2,9 @@
 ghost use Rattle.std.specs.Prelude.{◌≡◌, ◌+◌, ◌<◌, ◌≤◌, ◌^◌, ◌++◌, ℕ, List, IfOk, OnOk, length, map, replicate};
 ghost use Rattle.std.specs.List.{All};
 ghost use Rattle.layout_terms.specs.Files.{height};
-ghost use Rattle.name_tree.specs.Names.{Names};
+ghost use Rattle.manifest_tree.specs.Names.{Names};
 ghost use Rattle.plan_items.specs.Views.{item_view};
-ghost use Rattle.plan_rows.specs.Rows.{rows as rows_of, inode_view, row_view};
+ghost use Rattle.manifest_rows.specs.Rows.{rows as rows_of, inode_view, row_view};
 ghost use Rattle.romfs_layout.specs.Items.{item_of, items_of};
 ghost use Rattle.romfs_layout.specs.Layout.{place_with};
 ghost use Rattle.romfs_layout.specs.Planned.{IsPlanned};
@@ -14,8 +14,8 @@ ghost use Rattle.romfs_rows.specs.Passes.{named_places};
 
 use crate::headers::{push_root, push_row};
 use crate::size::{place_row, root_at};
+use manifest_rows::{Inode, Row, What};
 use plan_items::Item;
-use plan_rows::{Inode, Row, What};
 use rom_fields::memory::OutOfMemory;
 use romfs_rows::{Place, places_of};
 use std::alloc::Global;

@@ -2,14 +2,14 @@
 ghost use Rattle.std.specs.Prelude.{◌≡◌, ◌+◌, ◌*◌, ◌<◌, ◌≤◌, ◌^◌, if◌then◌else◌, Some, None, map, length};
 ghost use Rattle.std.specs.List.{All, AllByRecursion as Every};
 ghost use Rattle.image_parts.specs.Padding.{pad};
-ghost use Rattle.name_tree.specs.Names.{Inode, Names};
-ghost use Rattle.plan_rows.specs.Rows.{rows as rows_of, row_view};
+ghost use Rattle.manifest_tree.specs.Names.{Inode, Names};
+ghost use Rattle.manifest_rows.specs.Rows.{rows as rows_of, row_view};
 ghost use Rattle.romfs_layout.specs.Layout.{full_size_of, root_at};
 ghost use Rattle.romfs_plan.specs.Rows.{place_row, count_of, header_count, IsFitRow, too_large};
 ghost use Rattle.romfs_rows.specs.Passes.{places_end};
 ghost use Rattle.romfs_rows.specs.Rows.{IsRow};
 
-use plan_rows::{Row, What, deepest};
+use manifest_rows::{Row, What, deepest};
 use romfs_rows::Holds;
 use romfs_rows::rows::{padded, row_end};
 

@@ -1,6 +1,6 @@
 -- Two passes over rows: forwards for their places, and backwards for what each leads on to. (This project's own.)
 use Rattle.std.specs.Prelude.{ℕ, ◌+◌, List, [], ◌∷◌, ◌++◌, slice_index, slice_set}
-use Rattle.name_tree.specs.Names.{Names, nothing, leaf, link, folder}
+use Rattle.manifest_tree.specs.Names.{Names, nothing, leaf, link, folder}
 use Rattle.romfs_format.specs.Record.{pad16}
 use Rattle.romfs_layout.specs.Layout.{place_of, leaf_end, header_end, ends, first_place}
 use Rattle.romfs_rows.specs.declared.rows.Row.{Row}

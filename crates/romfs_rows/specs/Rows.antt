@@ -3,7 +3,7 @@
 use Rattle.std.specs.Prelude.{ℕ, ◌+◌, ◌-◌, ◌^◌, ◌<◌, ◌≤◌, max, if◌then◌else◌, ◌==◌, List, [], ◌∷◌, ◌++◌, length}
 use Rattle.image_parts.specs.Padding.{pad}
 use Rattle.romfs_format.specs.Record.{pad16}
-use Rattle.name_tree.specs.Names.{Inode, Names, nothing, leaf, link, folder}
+use Rattle.manifest_tree.specs.Names.{Inode, Names, nothing, leaf, link, folder}
 use Rattle.romfs_rows.specs.declared.rows.Row.{Row}
 use Rattle.romfs_rows.specs.declared.rows.Holds.{Holds}
 use Rattle.romfs_rows.specs.declared.rows.Holds.TheVariants.{Bytes, Nothing, List as Own}

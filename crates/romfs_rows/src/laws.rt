@@ -1,7 +1,7 @@
 //! Laws about the rows of names.
 ghost use Rattle.std.specs.Prelude.{◌≡◌, ◌≤◌, ℕ, replicate};
 ghost use Rattle.layout_terms.specs.Files.{height};
-ghost use Rattle.name_tree.specs.Names.{Names};
+ghost use Rattle.manifest_tree.specs.Names.{Names};
 ghost use Rattle.romfs_layout.specs.Layout.{ends};
 ghost use Rattle.romfs_rows.specs.Passes.{places, places_end, places_of, named_places};
 ghost use Rattle.romfs_rows.specs.Rows.{rows};

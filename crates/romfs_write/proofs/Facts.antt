@@ -3,8 +3,8 @@ use Rattle.std.proofs.Common.{◌≡◌, ℕ, ◌+◌, ◌-◌, ◌^◌, ◌<◌
 use Rattle.std.proofs.lemmas.List.{length-replicate}
 use Rattle.manifest.specs.Grammar.{IsManifest}
 use Rattle.manifest.specs.Lines.{ManifestLines, sources_of}
-use Rattle.name_tree.specs.Names.{Inode, Names, nothing, leaf, link, folder}
-use Rattle.name_tree.specs.Tree.{tree_of, root_of}
+use Rattle.manifest_tree.specs.Names.{Inode, Names, nothing, leaf, link, folder}
+use Rattle.manifest_tree.specs.Tree.{tree_of, root_of}
 use Rattle.romfs_format.specs.Record.{pad16}
 use Rattle.image_parts.specs.Padding.{pad}
 use Rattle.layout_terms.specs.Items.{Item, Section, SectionsRise}
@@ -14,10 +14,10 @@ use Rattle.romfs_layout.specs.Items.{item_of, items_of, sections_from}
 use Rattle.romfs_layout.specs.Planned.{IsPlanned}
 use Rattle.romfs_layout.proofs.Image.{planned_headers}
 use Rattle.romfs_layout.proofs.Sectioned as in_romfs
-use Rattle.misfits.specs.Format.{Format, romfs, len_of, sections_of}
-use Rattle.misfits.specs.Format as of_format
-use Rattle.misfits.specs.Misfit.{HasNoMisfit}
-use Rattle.misfits.specs.Format.{IsPlannedBy}
+use Rattle.manifest_layout.specs.Format.{Format, romfs, len_of, sections_of}
+use Rattle.manifest_layout.specs.Format as of_format
+use Rattle.manifest_layout.specs.Misfit.{HasNoMisfit}
+use Rattle.manifest_layout.specs.Format.{IsPlannedBy}
 use Rattle.layout_plan.specs.Plans.{Planned, IsPlanOf, IsPlan}
 use Rattle.romfs_write.specs.Form.{item_end, full_size}
 use Rattle.romfs_write.specs.Known.{IsRomfsPlan}

@@ -3,7 +3,7 @@ use Rattle.std.proofs.Common.{◌≡◌, ℕ, zero, suc, ◌+◌, ◌<◌, ◌�
 use Rattle.std.specs.List.{AllByRecursion as Every}
 use Rattle.image_parts.proofs.Padding.{pad-after}
 use Rattle.image_stream.specs.Segments.{place, len, segment_at, SegmentsRise, HasSource, IsLaidOut}
-use Rattle.name_tree.specs.Names.{Fill, bytes_of}
+use Rattle.manifest_tree.specs.Names.{Fill, bytes_of}
 use Rattle.layout_terms.specs.Items.{Item, Section, Body, super, record_of, table_of, text_of, contents_of, SectionsRise}
 use Rattle.layout_plan.specs.Plans.{Planned}
 use Rattle.romfs_layout.specs.Layout.{root_at}

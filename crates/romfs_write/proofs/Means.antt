@@ -14,7 +14,7 @@ use Rattle.image_stream.specs.Outcomes.{AreSized}
 use Rattle.image_stream.specs.WordSums.{weighted, weight, balance_of, term}
 use Rattle.image_stream.proofs.Laid.{image_laid}
 use Rattle.image_stream.proofs.ByWords.{weighted_words}
-use Rattle.name_tree.specs.Names.{Fill, bytes_of}
+use Rattle.manifest_tree.specs.Names.{Fill, bytes_of}
 use Rattle.layout_plan.specs.Plans.{Planned, IsPlanOf}
 use Rattle.layout_terms.specs.Items.{Item, Section, Body, super, record_of, table_of, text_of, contents_of, section, SectionsRise}
 use Rattle.layout_terms.specs.Bodies.{item_at}
@@ -27,8 +27,8 @@ use Rattle.romfs_write.specs.Known.{IsBody, IsRomfsPlan}
 use Rattle.std.specs.Prelude.{Result, Ok, Err, OnOk, OnErr}
 use Rattle.manifest.specs.Grammar.{IsManifest}
 use Rattle.manifest.specs.Lines.{ManifestLines}
-use Rattle.name_tree.specs.Tree.{tree_of, root_of}
-use Rattle.misfits.specs.Format.{romfs, layout_of}
+use Rattle.manifest_tree.specs.Tree.{tree_of, root_of}
+use Rattle.manifest_layout.specs.Format.{romfs, layout_of}
 use Rattle.romfs_layout.specs.Items.{items_of}
 use Rattle.romfs_layout.specs.Planned.{IsPlanned}
 use Rattle.romfs_layout.proofs.ReadBack.{length-padded_name}

@@ -1,7 +1,7 @@
 -- What is known of the plan of a romfs image. (This project's own.)
 use Rattle.std.specs.Prelude.{◌≡◌, ℕ, ◌+◌, ◌^◌, ◌<◌, List, ◌∷◌, length, drop, get_or}
 use Rattle.std.specs.List.{AllByRecursion as Every}
-use Rattle.name_tree.specs.Names.{text}
+use Rattle.manifest_tree.specs.Names.{text}
 use Rattle.image_parts.specs.Padding.{pad}
 use Rattle.layout_plan.specs.Plans.{Planned}
 use Rattle.layout_terms.specs.Items.{Item, Body, super, record_of, table_of, text_of, contents_of, section, SectionsRise}

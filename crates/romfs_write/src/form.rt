@@ -3,8 +3,8 @@ ghost use Rattle.std.specs.Prelude.{◌≡◌, ◌+◌, ◌<◌, ◌≤◌, ◌^
 ghost use Rattle.image_stream.specs.Segments.{fixed};
 ghost use Rattle.layout_terms.specs.Bodies.{item_at};
 ghost use Rattle.layout_terms.specs.Items.{section, super};
-ghost use Rattle.misfits.specs.Format.{romfs};
-ghost use Rattle.name_tree.specs.Names.{bytes_of};
+ghost use Rattle.manifest_layout.specs.Format.{romfs};
+ghost use Rattle.manifest_tree.specs.Names.{bytes_of};
 ghost use Rattle.plan_items.specs.Views.{fill_view, item_view, section_view};
 ghost use Rattle.romfs_format.specs.Record.{pad16};
 ghost use Rattle.romfs_layout.specs.Composed.{written};
@@ -31,7 +31,7 @@ pub fn known(plan: &Plan)
     ensures count { length plan.now.sections < 2 ^ 64 }
 {
     let _ = (plan.image_len(), plan.sections());
-    misfits::laws::fitting_is_planned();
+    manifest_layout::laws::fitting_is_planned();
 }
 
 /// The least multiple of 16 that is at least the length of a name with its zero.

@@ -1,5 +1,5 @@
 ghost use Rattle.std.specs.Prelude.{◌≡◌, IfOk};
-ghost use Rattle.misfits.specs.Format.{romfs};
+ghost use Rattle.manifest_layout.specs.Format.{romfs};
 
 use crate::header::{put_header, put_superblock};
 use crate::{SizeDiffers, stream, write};

@@ -6,7 +6,7 @@ ghost use Rattle.image_stream.specs.WordSums.{balance_of};
 ghost use Rattle.layout_plan.specs.Plans.{IsPlanOf};
 ghost use Rattle.manifest.specs.Grammar.{IsManifest};
 ghost use Rattle.manifest.specs.Lines.{ManifestLines};
-ghost use Rattle.misfits.specs.Format.{romfs, layout_of};
+ghost use Rattle.manifest_layout.specs.Format.{romfs, layout_of};
 ghost use Rattle.rom_fields.specs.Written.{AppendsPrefix};
 ghost use Rattle.std.specs.Io.KnownBytes.{Appends};
 ghost use Rattle.romfs_write.specs.Form.{form_of};
@@ -36,7 +36,7 @@ pub fn write(plan: &Plan, contents: &Contents<'_>, out: &mut [u8]) -> Result<(),
         × (out.new ≡ out.old)) }
 {
     known(plan);
-    misfits::laws::fitting_is_planned();
+    manifest_layout::laws::fitting_is_planned();
     let form = RomfsForm::new(plan);
     image_stream::write::write::<RomfsForm<'_>, WordSum>(&form, contents, out)
 }
@@ -80,7 +80,7 @@ pub fn stream_through<S: Sources, W: ByteWrite>(
         (S.reads sources.old) (S.reads sources.new) (W.output w.old) (W.output w.new)) }
 {
     known(plan);
-    misfits::laws::fitting_is_planned();
+    manifest_layout::laws::fitting_is_planned();
     let _ = sources.count();
     let form = RomfsForm::new(plan);
     image_stream::stream::stream_through::<RomfsForm<'_>, S, W, WordSum>(&form, sources, w, buffer)

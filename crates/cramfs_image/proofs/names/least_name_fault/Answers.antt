@@ -1,7 +1,7 @@
 use Rattle.std.proofs.Common.{◌≡◌, false, sym, take, get_or, ap, ◌∙◌, arith}
 use Rattle.std.proofs.lemmas.List.{get_or_default}
-use Rattle.record_walk.proofs.Listing.{marked_old, marked_new}
-use Rattle.record_walk.proofs.Sweeps.{blank, sweep_well_at, sweep_fault_at}
+use Rattle.record_forest.proofs.Listing.{marked_old, marked_new}
+use Rattle.record_forest.proofs.Sweeps.{blank, sweep_well_at, sweep_fault_at}
 use Rattle.cramfs_format.specs.Inode.{name_of}
 use Rattle.cramfs_image.specs.Phases.{TellsEarlier, name_seen}
 use Rattle.cramfs_image.proofs.Lasts.{last_more}

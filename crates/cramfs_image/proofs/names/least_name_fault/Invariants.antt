@@ -1,5 +1,5 @@
 use Rattle.std.proofs.Common.{take}
-use Rattle.record_walk.specs.Sweep.{IsLeastRowFault}
+use Rattle.record_forest.specs.Sweep.{IsLeastRowFault}
 use Rattle.cramfs_image.specs.Phases.{IsNameFault, IsWellNamed}
 use Rattle.cramfs_image.proofs.Lasts.{HaveLast}
 use Rattle.cramfs_image.proofs.names.least_name_fault.Given as goal

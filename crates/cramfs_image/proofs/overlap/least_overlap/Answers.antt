@@ -3,9 +3,9 @@ use Rattle.std.proofs.lemmas.List.{take_all}
 use Rattle.std.proofs.lemmas.List.Sorted.{IsNonDecreasingBy-from_sort_by_key}
 use Rattle.std.specs.List.{All, flat_map, AllByRecursion as Every}
 use Rattle.std.specs.List.Sorted.{IsNonDecreasingBy}
-use Rattle.record_walk.specs.declared.reference.Row.{Row}
-use Rattle.record_walk.proofs.Sweeps.{blank}
-use Rattle.record_walk.proofs.Lists.{every_join}
+use Rattle.record_forest.specs.declared.reference.Row.{Row}
+use Rattle.record_forest.proofs.Sweeps.{blank}
+use Rattle.record_forest.proofs.Lists.{every_join}
 use Rattle.rom_fields.specs.declared.span.Extent.TheVariants.{Super}
 use Rattle.rom_fields.specs.Extents.{added}
 use Rattle.cramfs_image.specs.declared.overlap.File.{File}

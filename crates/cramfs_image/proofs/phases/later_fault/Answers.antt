@@ -1,8 +1,8 @@
 use Rattle.std.proofs.Common.{List, subst, refl}
 use Rattle.rom_fields.specs.Extents.{OverlapsAt, IsLeastOf}
-use Rattle.record_walk.specs.declared.reference.Row.{Row}
+use Rattle.record_forest.specs.declared.reference.Row.{Row}
 use Rattle.cramfs_format.specs.Tree.{extents_of}
-use Rattle.record_walk.specs.Sweep.{IsLeastRowFault}
+use Rattle.record_forest.specs.Sweep.{IsLeastRowFault}
 use Rattle.cramfs_image.specs.Phases.{of_overlap, IsTooDeep, IsShallow, IsWellNamed, IsNameFault}
 use Rattle.cramfs_image.proofs.Composed.{well_or_fault}
 use Rattle.cramfs_image.proofs.phases.later_fault.Goals as goal

@@ -3,7 +3,7 @@ use Rattle.std.proofs.lemmas.Bool.{false≢true}
 use Rattle.rom_fields.specs.Extents.{IsLeastOf}
 use Rattle.cramfs_format.specs.Inode.{HasEntryFault}
 use Rattle.cramfs_image.specs.Phases.{IsFaultAt}
-use Rattle.record_walk.specs.Faults.{IsLeastFaultOf}
+use Rattle.record_forest.specs.Faults.{IsLeastFaultOf}
 use Rattle.cramfs_image.proofs.Faults.{StandsHere, entry_joined, numbered, unnumbered, unfit}
 use Rattle.cramfs_image.proofs.soundness.entry_fault.Goals as goal
 use Rattle.cramfs_image.proofs.soundness.entry_fault.Goals.{in-Some, in-None}

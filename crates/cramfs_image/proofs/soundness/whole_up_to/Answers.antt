@@ -1,6 +1,6 @@
 use Rattle.std.proofs.Common.{ℕ, sym, subst, arith}
-use Rattle.record_walk.specs.Known.{AreKnown}
-use Rattle.record_walk.proofs.Ranges.{part_known, more_known, joined, one_more}
+use Rattle.record_forest.specs.Known.{AreKnown}
+use Rattle.record_forest.proofs.Ranges.{part_known, more_known, joined, one_more}
 use Rattle.cramfs_image.specs.Phases.{IsWhole}
 use Rattle.cramfs_image.proofs.soundness.whole_up_to.Goals as goal
 use Rattle.cramfs_image.proofs.soundness.whole_up_to.Goals.{else-loop-next-test, then-loop-next-test+in_default+then-not-is_whole}

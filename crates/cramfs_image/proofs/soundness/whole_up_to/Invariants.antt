@@ -1,5 +1,5 @@
 use Rattle.std.proofs.Common.{ℕ, ◌-◌, ◌≤◌, ◌<◌}
-use Rattle.record_walk.specs.Known.{AreKnown}
+use Rattle.record_forest.specs.Known.{AreKnown}
 use Rattle.cramfs_image.specs.Phases.{IsWhole}
 use Rattle.cramfs_image.proofs.soundness.whole_up_to.Given as goal
 

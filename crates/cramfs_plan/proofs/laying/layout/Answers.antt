@@ -1,9 +1,9 @@
 use Rattle.std.proofs.Common.{◌≡◌, ◌||◌, ℕ, map, length, replicate, sym, ap, subst, ◌∙◌, arith}
 use Rattle.std.specs.List.{AllByRecursion as Every, list_any}
 use Rattle.std.proofs.lemmas.List.{length-map}
-use Rattle.misfits.specs.Format.{cramfs}
-use Rattle.plan_rows.specs.Fits.{IsFit}
-use Rattle.plan_rows.specs.Rows.{deepest, row_view, inode_view}
+use Rattle.manifest_layout.specs.Format.{cramfs}
+use Rattle.manifest_rows.specs.Fits.{IsFit}
+use Rattle.manifest_rows.specs.Rows.{deepest, row_view, inode_view}
 use Rattle.cramfs_layout.specs.Layout.{size_of}
 use Rattle.cramfs_layout.specs.Items.{items_of}
 use Rattle.cramfs_plan.specs.Wholes.{is_long_list, has_long_list}

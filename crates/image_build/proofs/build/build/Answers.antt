@@ -1,6 +1,6 @@
 use Rattle.std.proofs.Common.{List, ℕ, map, length, sym, ap, subst, ◌∙◌, arith, rules}
 use Rattle.layout_plan.specs.Plans.{IsPlanOf}
-use Rattle.misfits.specs.Format.{layout_of}
+use Rattle.manifest_layout.specs.Format.{layout_of}
 use Rattle.plan_misfits.specs.Formats.{format_of}
 use Rattle.image_build.proofs.Answered.{image_of}
 use Rattle.image_build.proofs.Filled.{filled}

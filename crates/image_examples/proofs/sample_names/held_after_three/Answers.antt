@@ -1,8 +1,8 @@
 use Rattle.std.proofs.Common.{refl}
 use Rattle.rom_tree.proofs.Named.{has_directory}
-use Rattle.rom_tree_examples.specs.Sample.{root, bin}
-use Rattle.rom_tree_examples.specs.SampleLaws.{sample}
-use Rattle.rom_tree_examples.proofs.Answering.{node1, node2}
+use Rattle.sample_image.specs.Sample.{root, bin}
+use Rattle.sample_image.specs.SampleLaws.{sample}
+use Rattle.sample_image.proofs.Answering.{node1, node2}
 use Rattle.image_examples.proofs.sample_names.held_after_three.Goals as goal
 
 pub lookup-requires : goal.lookup-requires

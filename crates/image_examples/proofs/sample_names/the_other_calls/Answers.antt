@@ -1,8 +1,8 @@
 use Rattle.std.proofs.Common.{refl}
 use Rattle.rom_tree.proofs.Named.{has_node, has_directory, start_cursor}
-use Rattle.rom_tree_examples.specs.Sample.{bin, sh, deep, tty}
-use Rattle.rom_tree_examples.specs.SampleLaws.{sample}
-use Rattle.rom_tree_examples.proofs.Answering.{node2, node3, node4, node8}
+use Rattle.sample_image.specs.Sample.{bin, sh, deep, tty}
+use Rattle.sample_image.specs.SampleLaws.{sample}
+use Rattle.sample_image.proofs.Answering.{node2, node3, node4, node8}
 use Rattle.image_examples.proofs.sample_names.the_other_calls.Goals as goal
 
 pub stat-requires : goal.stat-requires

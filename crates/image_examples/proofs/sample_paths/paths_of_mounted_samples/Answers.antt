@@ -2,7 +2,7 @@ use Rattle.std.proofs.Common.{◌≡◌, zero, suc, true, List, [], ◌∷◌, l
 use Rattle.std.proofs.lemmas.List.{length-map}
 use Rattle.rom_tree.specs.Tree.{node_at}
 use Rattle.rom_tree.specs.Image.{Image}
-use Rattle.rom_tree_examples.specs.SampleLaws.{sample}
+use Rattle.sample_image.specs.SampleLaws.{sample}
 use Rattle.path_walk.specs.declared.mount.Mount.{Mount}
 use Rattle.path_walk.specs.Graft.{AreShallow, are_mounts}
 use Rattle.image_examples.proofs.sample_paths.paths_of_mounted_samples.Goals as goal

@@ -1,5 +1,5 @@
 use Rattle.std.proofs.Common.{◌≡◌, ◌∷◌, [], map}
-use Rattle.rom_tree_examples.specs.SampleLaws.{sample}
+use Rattle.sample_image.specs.SampleLaws.{sample}
 use Rattle.image_examples.proofs.sample_paths.paths_of_mounted_samples.Given as goal
 
 -- both images are the sample

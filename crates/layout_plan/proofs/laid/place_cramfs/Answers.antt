@@ -1,10 +1,10 @@
 use Rattle.std.proofs.Common.{◌≡◌, true, false, map, MatchOption, subst}
-use Rattle.misfits.specs.Format.{cramfs}
-use Rattle.name_tree.specs.Tree.{tree_of}
+use Rattle.manifest_layout.specs.Format.{cramfs}
+use Rattle.manifest_tree.specs.Tree.{tree_of}
 use Rattle.cramfs_layout.specs.Layout.{size_of}
 use Rattle.cramfs_layout.specs.Items.{items_of}
 use Rattle.plan_items.specs.Views.{item_view}
-use Rattle.plan_rows.specs.Rows.{inode_view}
+use Rattle.manifest_rows.specs.Rows.{inode_view}
 use Rattle.cramfs_plan.specs.Wholes.{too_large}
 use Rattle.layout_plan.proofs.Readying.{rows_are_fit, cramfs_whole, cramfs_fits, cramfs_planned_in, cramfs_items_are}
 use Rattle.layout_plan.proofs.laid.place_cramfs.Goals as goal

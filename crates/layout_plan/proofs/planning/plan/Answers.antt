@@ -1,12 +1,12 @@
 use Rattle.std.proofs.Common.{◌≡◌, MatchOption, map, refl, ap, subst, ◌∙◌}
 use Rattle.std.specs.Option.{option_map}
-use Rattle.record_walk.specs.Faults.{IsLeastFaultOf}
-use Rattle.misfits.specs.Format.{len_of, items_of}
-use Rattle.misfits.specs.Misfit.{HasLineMisfit, HasWholeMisfit, HasNoMisfit, line_misfit, whole_misfit}
+use Rattle.record_forest.specs.Faults.{IsLeastFaultOf}
+use Rattle.manifest_layout.specs.Format.{len_of, items_of}
+use Rattle.manifest_layout.specs.Misfit.{HasLineMisfit, HasWholeMisfit, HasNoMisfit, line_misfit, whole_misfit}
 use Rattle.plan_items.specs.Views.{item_view}
 use Rattle.plan_misfits.specs.Formats.{format_of}
 use Rattle.plan_misfits.specs.Misfits.{misfit_fault}
-use Rattle.plan_rows.specs.Rows.{inode_view, row_view}
+use Rattle.manifest_rows.specs.Rows.{inode_view, row_view}
 use Rattle.layout_plan.specs.Ready.{IsReady}
 use Rattle.layout_plan.proofs.Readying.{lines_none}
 use Rattle.layout_plan.proofs.planning.plan.Goals as goal

@@ -1,6 +1,6 @@
 use Rattle.std.proofs.Common.{ap, ◌∙◌}
-use Rattle.misfits.proofs.Decided.{is_large, is_long}
-use Rattle.misfits.specs.Misfit.{name_len}
+use Rattle.manifest_layout.proofs.Decided.{is_large, is_long}
+use Rattle.manifest_layout.specs.Misfit.{name_len}
 use Rattle.manifest.specs.Paths.{names_of}
 use Rattle.plan_misfits.specs.Formats.{format_of}
 use Rattle.plan_misfits.proofs.Numbers.{number_of_line_is}

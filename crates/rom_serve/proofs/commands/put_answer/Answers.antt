@@ -1,7 +1,7 @@
 use Rattle.std.proofs.Common.{sym, subst}
 use Rattle.rom_fields.specs.Written.{Puts, sink}
-use Rattle.rom_lines.specs.Replies.{reply_text}
-use Rattle.rom_lines.specs.Commands.{Line}
+use Rattle.serve_lines.specs.Replies.{reply_text}
+use Rattle.serve_lines.specs.Commands.{Line}
 use Rattle.rom_serve.specs.Obeyed.{answered}
 use Rattle.rom_serve.proofs.commands.put_answer.Goals as goal
 

@@ -1,6 +1,6 @@
 use Rattle.std.proofs.Common.{sym, ap, subst, List, ℕ}
-use Rattle.rom_lines.specs.Replies.{reply_text}
-use Rattle.rom_lines.specs.Texts.{bytes_text}
+use Rattle.serve_lines.specs.Replies.{reply_text}
+use Rattle.serve_lines.specs.Texts.{bytes_text}
 use Rattle.rom_fields.specs.Written.{Puts, sink}
 use Rattle.open_files.specs.Calls.{Answer}
 use Rattle.rom_serve.specs.Obeyed.{result_text}

@@ -1,6 +1,6 @@
 use Rattle.std.proofs.Common.{ap}
 use Rattle.open_files.specs.Calls.{Answer}
-use Rattle.rom_lines.specs.Replies.{reply_text}
+use Rattle.serve_lines.specs.Replies.{reply_text}
 use Rattle.rom_serve.specs.Obeyed.{said, of_done}
 use Rattle.rom_serve.proofs.commands.quit_reply.Goals as goal
 

@@ -1,5 +1,5 @@
 use Rattle.std.proofs.Common.{[], refl}
-use Rattle.serve_loop.proofs.Agree.{used_all}
+use Rattle.serve_lines.proofs.Agree.{used_all}
 use Rattle.rom_serve.specs.Machines.{space_machine}
 use Rattle.rom_serve.proofs.laws.all_used.Goals as goal
 

@@ -1,6 +1,6 @@
 use Rattle.std.proofs.Common.{sym, ap, Result}
-use Rattle.rom_lines.specs.Replies.{reply_text}
-use Rattle.rom_lines.specs.Texts.{descriptor_text}
+use Rattle.serve_lines.specs.Replies.{reply_text}
+use Rattle.serve_lines.specs.Texts.{descriptor_text}
 use Rattle.open_files.specs.declared.error.CallError.{CallError}
 use Rattle.open_files.specs.Calls.{viewed}
 use Rattle.open_files.specs.declared.slot.Fd.{Fd}

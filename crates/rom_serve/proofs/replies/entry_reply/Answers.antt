@@ -1,5 +1,5 @@
 use Rattle.std.proofs.Common.{rules, sym, ap, ℕ, Option, Result}
-use Rattle.rom_lines.specs.Replies.{reply_text}
+use Rattle.serve_lines.specs.Replies.{reply_text}
 use Rattle.open_files.specs.declared.error.CallError.{CallError}
 use Rattle.rom_tree.specs.declared.types.Entry.{Entry}
 use Rattle.open_files.specs.Calls.{viewed}

@@ -4,8 +4,8 @@ use Rattle.rom_fields.specs.Failures.{Rose}
 use Rattle.rom_tree.specs.Tree.{Node}
 use Rattle.rom_tree.specs.Image.{Image}
 use Rattle.open_files.specs.Machine.{Table, image_calls}
-use Rattle.serve_loop.specs.declared.error.ServeError.TheVariants.{ReadFault, WriteFault, TooManyReads}
-use Rattle.serve_loop.specs.Served.{Serves, Finishes, Breaks}
+use Rattle.serve_lines.specs.declared.error.ServeError.TheVariants.{ReadFault, WriteFault, TooManyReads}
+use Rattle.serve_lines.specs.Served.{Serves, Finishes, Breaks}
 use Rattle.rom_serve.specs.Machines.{image_machine}
 use Rattle.rom_serve.proofs.LongLines.{alone_long}
 use Rattle.rom_serve.proofs.serving.serve_bounded.Goals as goal

@@ -6,8 +6,8 @@ use Rattle.path_walk.specs.declared.mount.Mount.{Mount}
 use Rattle.path_walk.specs.Graft.{GraftNode}
 use Rattle.open_files.specs.Machine.{Table}
 use Rattle.open_files.specs.Sessions.{Sessions, space_calls, no_sessions}
-use Rattle.serve_loop.specs.declared.error.ServeError.TheVariants.{ReadFault, WriteFault, TooManyReads}
-use Rattle.serve_loop.specs.Served.{Serves, Finishes, Breaks}
+use Rattle.serve_lines.specs.declared.error.ServeError.TheVariants.{ReadFault, WriteFault, TooManyReads}
+use Rattle.serve_lines.specs.Served.{Serves, Finishes, Breaks}
 use Rattle.rom_serve.specs.Machines.{space_machine}
 use Rattle.rom_serve.proofs.LongLines.{among_long}
 use Rattle.rom_serve.proofs.serving.serve_space.Goals as goal

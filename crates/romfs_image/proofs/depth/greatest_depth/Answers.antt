@@ -3,10 +3,10 @@ use Rattle.std.proofs.lemmas.List.{take_more, take_all, get_or_append_left}
 use Rattle.std.proofs.lemmas.List.Elements.{All-push, All-weaker}
 use Rattle.std.proofs.lemmas.List.Quantifiers.{Any-push}
 use Rattle.std.specs.List.{All, Any}
-use Rattle.record_walk.specs.declared.reference.Row.{Row}
+use Rattle.record_forest.specs.declared.reference.Row.{Row}
 use Rattle.romfs_format.specs.Record.{name_of}
 use Rattle.rom_tree.specs.Dots.{is_dots}
-use Rattle.record_walk.proofs.Sweeps.{blank}
+use Rattle.record_forest.proofs.Sweeps.{blank}
 use Rattle.romfs_image.proofs.depth.greatest_depth.Goals as goal
 use Rattle.romfs_image.proofs.depth.greatest_depth.Goals.{then-is_too_deep, else-is_too_deep}
 

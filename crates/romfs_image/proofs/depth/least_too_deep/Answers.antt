@@ -1,10 +1,10 @@
 use Rattle.std.proofs.Common.{◌≡◌, ◌<◌, ℕ, false, refl, arith, ◌∙◌, take, get_or, List}
-use Rattle.record_walk.specs.declared.reference.Row.{Row}
-use Rattle.record_walk.specs.Faults.{IsLeast}
+use Rattle.record_forest.specs.declared.reference.Row.{Row}
+use Rattle.record_forest.specs.Faults.{IsLeast}
 use Rattle.romfs_format.specs.Record.{name_of}
 use Rattle.rom_tree.specs.Dots.{is_dots}
 use Rattle.romfs_image.specs.Phases.{IsTooDeep, IsShallow}
-use Rattle.record_walk.proofs.Sweeps.{blank, sweep_well_at, sweep_fault_at}
+use Rattle.record_forest.proofs.Sweeps.{blank, sweep_well_at, sweep_fault_at}
 use Rattle.romfs_image.proofs.depth.least_too_deep.Goals as goal
 use Rattle.romfs_image.proofs.depth.least_too_deep.Goals.{then-is_too_deep, else-is_too_deep}
 

@@ -1,5 +1,5 @@
 use Rattle.std.proofs.Common.{take}
-use Rattle.record_walk.specs.Sweep.{IsLeastRowFault}
+use Rattle.record_forest.specs.Sweep.{IsLeastRowFault}
 use Rattle.romfs_image.specs.Phases.{IsTooDeep, IsShallow}
 use Rattle.romfs_image.proofs.depth.least_too_deep.Given as goal
 

@@ -1,7 +1,7 @@
 use Rattle.std.proofs.Common.{◌≡◌, false, sym, take, get_or, ◌∙◌, arith}
 use Rattle.std.proofs.lemmas.List.{get_or_default}
-use Rattle.record_walk.proofs.Listing.{marked_old, marked_new}
-use Rattle.record_walk.proofs.Sweeps.{blank, sweep_start, sweep_well_at, sweep_fault_at}
+use Rattle.record_forest.proofs.Listing.{marked_old, marked_new}
+use Rattle.record_forest.proofs.Sweeps.{blank, sweep_start, sweep_well_at, sweep_fault_at}
 use Rattle.romfs_format.specs.Record.{name_of}
 use Rattle.romfs_image.specs.Phases.{TellsRepeated}
 use Rattle.romfs_image.proofs.Naming.{well_faultless}

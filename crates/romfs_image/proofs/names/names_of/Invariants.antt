@@ -1,5 +1,5 @@
 use Rattle.std.proofs.Common.{take}
-use Rattle.record_walk.specs.Listed.{AreNames}
+use Rattle.record_forest.specs.Listed.{AreNames}
 use Rattle.romfs_format.specs.Record.{name_of}
 use Rattle.romfs_image.proofs.names.names_of.Given as goal
 

@@ -1,10 +1,10 @@
 use Rattle.std.proofs.Common.{List, sym, subst, refl}
 use Rattle.std.specs.List.{All}
 use Rattle.rom_fields.specs.Extents.{OverlapsAt, IsLeastOf}
-use Rattle.record_walk.specs.declared.reference.Row.{Row}
+use Rattle.record_forest.specs.declared.reference.Row.{Row}
 use Rattle.romfs_format.specs.Record.{IsSound}
 use Rattle.romfs_format.specs.Tree.{extents_of}
-use Rattle.record_walk.specs.Sweep.{IsLeastRowFault}
+use Rattle.record_forest.specs.Sweep.{IsLeastRowFault}
 use Rattle.romfs_image.specs.Phases.{overlap, IsWellNamed, IsNameFault}
 use Rattle.romfs_image.proofs.Composed.{well_or_fault, listed_sound}
 use Rattle.romfs_image.proofs.phases.later_fault.Goals as goal

@@ -1,5 +1,5 @@
 use Rattle.std.proofs.Common.{◌≡◌, ◌++◌, drop, map}
-use Rattle.plan_rows.specs.Rows.{row_view}
+use Rattle.manifest_rows.specs.Rows.{row_view}
 use Rattle.romfs_plan.specs.Rows.{place_row}
 use Rattle.romfs_plan.proofs.item_list.place_rows.Given as goal
 

@@ -1,6 +1,6 @@
 use Rattle.std.proofs.Common.{◌≡◌, ◌+◌, ℕ, map, Option, Some, None, refl, if◌then◌else◌, ap, ◌∙◌, arith, true, false, Bool}
 use Rattle.image_parts.specs.Padding.{pad}
-use Rattle.plan_rows.specs.Rows.{deepest, row_view}
+use Rattle.manifest_rows.specs.Rows.{deepest, row_view}
 use Rattle.romfs_layout.specs.Layout.{ends}
 use Rattle.romfs_format.specs.Record.{pad16}
 use Rattle.romfs_plan.specs.Rows.{header_count}

@@ -1,5 +1,5 @@
 use Rattle.std.proofs.Common.{◌≡◌, ◌+◌, ◌*◌, ◌≤◌, ◌^◌, drop, map}
-use Rattle.plan_rows.specs.Rows.{row_view}
+use Rattle.manifest_rows.specs.Rows.{row_view}
 use Rattle.romfs_plan.specs.Rows.{place_row}
 use Rattle.romfs_rows.specs.Passes.{places_end}
 use Rattle.romfs_plan.proofs.size.rows_end.Given as goal

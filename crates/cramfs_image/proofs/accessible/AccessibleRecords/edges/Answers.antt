@@ -3,7 +3,7 @@ use Rattle.cramfs_format.specs.Inode.{list_end, list_start, end_of}
 use Rattle.cramfs_format.specs.Refers.{LeadsToFault}
 use Rattle.cramfs_format.proofs.Faults.{led_faultless}
 use Rattle.cramfs_format.proofs.Lists.{end_after}
-use Rattle.record_walk.specs.Faults.{IsLeastFaultOf}
+use Rattle.record_forest.specs.Faults.{IsLeastFaultOf}
 use Rattle.cramfs_image.proofs.Reading.{by_parts, target_is, target_after_root, place_is, place_live, root_header, root_place_is, source_header, source_end, place_header, place_end, sound_led}
 use Rattle.cramfs_image.proofs.accessible.AccessibleRecords.edges.Goals as goal
 use Rattle.cramfs_image.proofs.accessible.AccessibleRecords.edges.Goals.{then-x-eq0, else-x-eq0}

@@ -1,7 +1,7 @@
 use Rattle.std.proofs.Common.{◌≡◌, ℕ, List, refl, sym, subst, ◌∙◌}
-use Rattle.record_walk.specs.declared.reference.Row.{Row}
+use Rattle.record_forest.specs.declared.reference.Row.{Row}
 use Rattle.rom_faults.specs.Faults.{fault_answer}
-use Rattle.record_walk.specs.Answers.{traversal_answer}
+use Rattle.record_forest.specs.Answers.{traversal_answer}
 use Rattle.rom_tree.proofs.Answered.{err_by}
 use Rattle.rom_tree.specs.Image.{Image}
 use Rattle.rom_tree.specs.declared.types.Limits.{Limits}
@@ -9,7 +9,7 @@ use Rattle.rom_tree.specs.declared.types.Report.{Report}
 use Rattle.cramfs_format.specs.declared.order.Order.{Order}
 use Rattle.cramfs_format.specs.Faults.{whole, HasNoFault}
 use Rattle.cramfs_format.specs.Superblock.{HasImageFault, order_of}
-use Rattle.record_walk.specs.Faults.{IsNone}
+use Rattle.record_forest.specs.Faults.{IsNone}
 use Rattle.cramfs_format.proofs.Lawful.{references_lawful}
 use Rattle.cramfs_image.specs.Checked.{Shows, IsRefused, IsLeastAnswer}
 use Rattle.cramfs_image.specs.Phases.{AreWell}

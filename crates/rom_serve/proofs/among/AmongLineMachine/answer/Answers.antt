@@ -1,8 +1,8 @@
 use Rattle.std.proofs.Common.{◌≡◌, ◌∙◌, ◌+◌, ◌-◌, ◌≤◌, sym, ap, subst, arith, List, ℕ, ◌∷◌, drop, true}
 use Rattle.rom_fields.specs.Written.{Puts, sink}
 use Rattle.rom_fields.proofs.Joins.{chain}
-use Rattle.rom_lines.specs.Replies.{reply_text}
-use Rattle.rom_lines.specs.Commands.{line_of}
+use Rattle.serve_lines.specs.Replies.{reply_text}
+use Rattle.serve_lines.specs.Commands.{line_of}
 use Rattle.rom_serve.specs.Obeyed.{Said, answered}
 use Rattle.rom_serve.proofs.LongLines.{long_said, none_said, some_said}
 use Rattle.rom_serve.proofs.among.AmongLineMachine.answer.Goals as goal

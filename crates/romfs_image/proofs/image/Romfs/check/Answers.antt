@@ -1,7 +1,7 @@
 use Rattle.std.proofs.Common.{◌≡◌, ℕ, List, sym, subst, ◌∙◌}
-use Rattle.record_walk.specs.declared.reference.Row.{Row}
+use Rattle.record_forest.specs.declared.reference.Row.{Row}
 use Rattle.rom_faults.specs.Faults.{fault_answer}
-use Rattle.record_walk.specs.Answers.{traversal_answer}
+use Rattle.record_forest.specs.Answers.{traversal_answer}
 use Rattle.rom_tree.proofs.Answered.{err_by}
 use Rattle.romfs_format.specs.Faults.{whole}
 use Rattle.romfs_format.proofs.Lawful.{references_lawful}

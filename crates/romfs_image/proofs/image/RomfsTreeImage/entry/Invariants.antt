@@ -1,6 +1,6 @@
 use Rattle.std.proofs.Common.{◌≡◌, ℕ, Some}
 use Rattle.romfs_format.specs.Made.{grow, list_at, index_at, cursor_of}
-use Rattle.record_walk.specs.Forest.{count}
+use Rattle.record_forest.specs.Forest.{count}
 use Rattle.romfs_format.proofs.Trees.{IsList}
 use Rattle.romfs_image.proofs.image.RomfsTreeImage.entry.Given as goal
 

@@ -1,7 +1,7 @@
 use Rattle.std.proofs.Common.{◌≡◌}
 use Rattle.romfs_format.specs.Tree.{entries_at}
 use Rattle.romfs_format.specs.Made.{grow, list_at}
-use Rattle.record_walk.specs.Forest.{count}
+use Rattle.record_forest.specs.Forest.{count}
 use Rattle.romfs_format.proofs.Trees.{IsList}
 use Rattle.rom_tree.specs.Image.{find_entry}
 use Rattle.romfs_image.proofs.image.RomfsTreeImage.lookup.Given as goal

@@ -1,0 +1,52 @@
+//! Laws about what of a manifest fits a format.
+ghost use Rattle.std.specs.Prelude.{◌≡◌, List, ℕ, Option, MatchOption, map, length};
+ghost use Rattle.layout_terms.specs.Items.{SectionsRise};
+ghost use Rattle.manifest.specs.Grammar.{IsManifest};
+ghost use Rattle.manifest.specs.Lines.{ManifestLines};
+ghost use Rattle.manifest_layout.specs.Format.{Format, HasTree, IsPlannedBy, layout_of, len_of, sections_of};
+ghost use Rattle.manifest_layout.specs.Misfit.{IsLeastMisfit, HasNoMisfit};
+ghost use Rattle.manifest_tree.specs.Meant.{IsMeant};
+ghost use Rattle.rom_faults.specs.declared.fault.Fault.{Fault};
+ghost use Rattle.rom_tree.specs.Tree.{Node};
+
+/// A manifest fits or has a least misfit, not both, and it has no more than one.
+pub fn one_answer()
+    ensures given { (f : Format) (m : ManifestLines) (sizes : List ℕ)
+        → (o : Option Fault) × MatchOption o (HasNoMisfit f m sizes) (IsLeastMisfit f m sizes) }
+    ensures excluded { (f : Format) (m : ManifestLines) (sizes : List ℕ) (e : Fault)
+        → HasNoMisfit f m sizes → IsLeastMisfit f m sizes e → ⊥ }
+    ensures alone { (f : Format) (m : ManifestLines) (sizes : List ℕ) (d e : Fault)
+        → IsLeastMisfit f m sizes d → IsLeastMisfit f m sizes e → d ≡ e }
+{}
+
+/// A manifest that fits a format gives a volume that can be laid out in it.
+pub fn fitting_is_planned()
+    ensures { (f : Format) (m : ManifestLines) (contents : List (List ℕ))
+        → IsManifest m → HasNoMisfit f m (map length contents) → IsPlannedBy f m contents }
+{}
+
+/// The layout of a manifest that fits holds a tree, and this is what the manifest means. It is as
+/// long as is said of the sizes alone.
+pub fn layout_is_meant()
+    ensures tree { (f : Format) (m : ManifestLines) (contents : List (List ℕ))
+        → IsManifest m → HasNoMisfit f m (map length contents)
+        → (t : Node) × HasTree f (layout_of f m contents) t
+        × IsMeant (layout_of f m contents) t contents m (map length contents) }
+    ensures length { (f : Format) (m : ManifestLines) (contents : List (List ℕ))
+        → IsManifest m → HasNoMisfit f m (map length contents)
+        → length (layout_of f m contents) ≡ len_of f m (map length contents) }
+{
+    manifest_tree::laws::shape_is_meant();
+    romfs_layout::laws::layout_has_tree();
+    romfs_layout::laws::layout_length();
+    cramfs_layout::laws::layout_has_tree();
+    cramfs_layout::laws::layout_length();
+    fitting_is_planned();
+}
+
+/// The sections of a manifest that fits stand one after the other, none is empty, and the last ends
+/// within the image.
+pub fn sections_rise()
+    ensures { (f : Format) (m : ManifestLines) (sizes : List ℕ) → IsManifest m → HasNoMisfit f m sizes
+        → SectionsRise 0 (len_of f m sizes) (sections_of f m sizes) }
+{}

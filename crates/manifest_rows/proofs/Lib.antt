@@ -1,0 +1,12 @@
+pub mod Made
+pub mod Keying
+pub mod Ordered
+pub mod Ways
+pub mod Steps
+pub mod Fitting
+pub mod Depths
+pub mod Knowing
+pub mod Keys
+pub mod Putting
+pub mod Rows
+pub mod Order

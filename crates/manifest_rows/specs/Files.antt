@@ -1,0 +1,69 @@
+-- The line and the contents that a path of a manifest leads to, where its sources have these sizes. (This project's
+-- own.)
+use Rattle.std.specs.Prelude.{◌≡◌, ℕ, if◌then◌else◌, List, get_or, reverse, Option, Some, None, Vec}
+use Rattle.std.specs.List.{slice_get}
+use Rattle.std.specs.Option.{option_map}
+use Rattle.std.specs.Ordering.{nat_cmp}
+use Rattle.std.specs.Cmp.Lexicographic.{slice_cmp}
+use Rattle.std.specs.BTreeMap.{get_by, BTreeMap}
+use Rattle.std.specs.Str.{bytes_eq}
+use Rattle.manifest.specs.declared.line.Line.{Line}
+use Rattle.manifest.specs.Lines.{is_file, is_hard, is_same, filed, led}
+use Rattle.manifest_tree.specs.Tree.{sources_before}
+use Rattle.manifest_rows.specs.declared.files.Contents.{Contents}
+use Rattle.manifest_rows.specs.declared.files.Target.{Target}
+use Rattle.manifest_rows.specs.declared.files.Files.{Files}
+
+-- the contents of a `file` line: those of its source, aligned as it asks for
+abbrev pub contents_of : List Line → List ℕ → Line → Contents
+contents_of lines sizes l =
+    let k = sources_before l.number lines in record { align = l.align; size = get_or sizes k 0; source = k }
+
+-- The contents that a path leads to. Of all lines, the `latest` are those that count, from the last to the first.
+abbrev pub contents_in : List Line → List ℕ → List Line → List ℕ → Option Contents
+contents_in all sizes latest path = option_map (contents_of all sizes) (filed latest path)
+
+abbrev pub contents_at : List Line → List ℕ → List ℕ → Option Contents
+contents_at lines sizes path = contents_in lines sizes (reverse lines) path
+
+-- the index, if any, is that of the line, if any
+abbrev pub IsIndexOf : List Line → Option ℕ → Option Line → Type 0
+IsIndexOf lines k l = option_map (λ i. slice_get lines i) k ≡ option_map (λ x. Some x) l
+
+-- what a path leads to among these lines
+pub record IsTarget (all : List Line) (sizes : List ℕ) (latest : List Line) (path : List ℕ) (t : Target) : Type 0 where
+  pub line : IsIndexOf all t.line (led latest path)
+  pub contents : t.contents ≡ contents_in all sizes latest path
+
+abbrev pub or_nowhere : Option Target → Target
+or_nowhere None = record { line = None; contents = None }
+or_nowhere (Some t) = t
+
+-- what the map has at a path
+abbrev pub noted : {A : Type 0} → BTreeMap (Vec ℕ A) Target → List ℕ → Option Target
+noted m path = get_by (λ k. slice_cmp nat_cmp path k.items) m
+
+-- the map has this at a path now, and at others what it had
+abbrev pub HasMore : {A : Type 0} → List ℕ → Target → BTreeMap (Vec ℕ A) Target → BTreeMap (Vec ℕ A) Target → Type 0
+HasMore path t old new = (q : List ℕ) → noted new q ≡ (if bytes_eq path q then Some t else noted old q)
+
+-- the map tells of each path what these lines do
+abbrev pub Knows : {A : Type 0} → List Line → List ℕ → List Line → BTreeMap (Vec ℕ A) Target → Type 0
+Knows all sizes latest m = (path : List ℕ) → IsTarget all sizes latest path (or_nowhere (noted m path))
+
+-- the contents of a line that is not `hard`, where so many sources come before it
+abbrev pub own_contents : {A : Type 0} → BTreeMap (Vec ℕ A) Target → List ℕ → ℕ → Line → Option Contents
+own_contents m sizes source l =
+    if is_same l.word then (or_nowhere (noted m l.text)).contents
+    else (if is_file l.word then Some (record { align = l.align; size = get_or sizes source 0; source = source })
+    else None)
+
+-- what the path of a line of this index leads to, where the map has what the paths before it do
+abbrev pub own_target : {A : Type 0} → BTreeMap (Vec ℕ A) Target → List ℕ → ℕ → ℕ → Line → Target
+own_target m sizes source index l =
+    if is_hard l.word then or_nowhere (noted m l.text)
+    else record { line = Some index; contents = own_contents m sizes source l }
+
+-- what is known of the paths of a manifest
+abbrev pub IsOf : List Line → List ℕ → Files → Type 0
+IsOf lines sizes f = Knows lines sizes (reverse lines) f.paths

@@ -1,0 +1,17 @@
+//! How deep rows are.
+ghost use Rattle.std.specs.Prelude.{◌≡◌, map};
+ghost use Rattle.manifest_rows.specs.Rows.{deepest, row_view};
+
+use crate::row::Row;
+use std::cmp::max;
+
+/// The greatest depth of a row, 0 where there is none.
+pub fn deepest(rows: &[Row<'_>]) -> usize
+    ensures { result ≡ deepest (map row_view rows.now) }
+{
+    let mut depth = 0;
+    for row in rows {
+        depth = max(depth, row.depth);
+    }
+    depth
+}

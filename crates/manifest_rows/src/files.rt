@@ -1,0 +1,138 @@
+//! The line and the contents at each path of a manifest.
+ghost use Rattle.std.specs.Prelude.{◌≡◌, true, ◌<◌, [], ◌∷◌, IfOk, OnOk, length, reverse, List, ℕ};
+ghost use Rattle.manifest.specs.Lines as lines;
+ghost use Rattle.manifest.specs.Lines.{led};
+ghost use Rattle.manifest.specs.declared.line.Line.{Line};
+ghost use Rattle.manifest_rows.specs.Files.{contents_at, noted, own_target, or_nowhere};
+ghost use Rattle.manifest_rows.specs.Files.{HasMore, IsIndexOf, IsOf};
+
+use manifest::{Line, Manifest, Word};
+use rom_fields::memory::OutOfMemory;
+use std::alloc::Global;
+use std::collections::BTreeMap;
+
+/// The contents of a regular file.
+#[derive(Clone, Copy, PartialEq, Eq)]
+pub struct Contents {
+    /// Their place is to be a multiple of this, in bytes.
+    pub align: u32,
+    /// How many bytes they are.
+    pub size: u64,
+    /// The index of their source.
+    pub source: usize,
+}
+
+/// What a path leads to.
+#[derive(Clone, Copy, PartialEq, Eq)]
+struct Target {
+    /// The index of a line.
+    line: Option<usize>,
+    contents: Option<Contents>,
+}
+
+/// What the paths of the lines that were read lead to.
+#[derive(Drop)]
+pub struct Files {
+    paths: BTreeMap<Vec<u8>, Target>,
+}
+
+/// Whether a line is a `file` line.
+fn is_file(line: &Line) -> bool
+    ensures { result ≡ lines.is_file line.now.word }
+{
+    matches!(line.word, Word::File)
+}
+
+/// Puts a path into the map with what it leads to.
+fn note_path(
+    alloc: Global,
+    paths: &mut BTreeMap<Vec<u8>, Target>,
+    path: &[u8],
+    target: Target,
+) -> Result<(), OutOfMemory>
+    ensures { OnOk result (HasMore path.now target paths.old paths.new) }
+{
+    let key = path.to_vec(alloc)?;
+    paths.insert(key, target)?;
+    Ok(())
+}
+
+/// What a path leads to, and nothing where the map does not have it.
+fn leads_to(paths: &BTreeMap<Vec<u8>, Target>, path: &[u8]) -> Target
+    ensures { result ≡ or_nowhere (noted paths.now path.now) }
+{
+    match paths.get(path) {
+        None => Target {
+            line: None,
+            contents: None,
+        },
+        Some(target) => *target,
+    }
+}
+
+/// What the path of a line of this index leads to, where so many sources come before it.
+fn own_target(
+    paths: &BTreeMap<Vec<u8>, Target>,
+    sizes: &[u64],
+    source: usize,
+    index: usize,
+    line: &Line,
+) -> Target
+    requires { lines.is_file line.now.word ≡ true → source < length sizes.now }
+    ensures { result ≡ own_target paths.now sizes.now source index line.now }
+{
+    let contents = match line.word {
+        Word::Hard => return leads_to(paths, line.text.as_bytes()),
+        Word::Same => leads_to(paths, line.text.as_bytes()).contents,
+        Word::File => Some(Contents {
+            align: line.align,
+            size: sizes[source],
+            source,
+        }),
+        Word::Dir | Word::Slink | Word::Block => None,
+        Word::Character | Word::Fifo | Word::Socket => None,
+    };
+    Target {
+        line: Some(index),
+        contents,
+    }
+}
+
+impl Files {
+    /// What the paths of a manifest lead to, where its sources have these sizes. It takes time in
+    /// n log n for n lines.
+    pub fn new(alloc: Global, m: &Manifest, sizes: &[u64]) -> Result<Files, OutOfMemory>
+        requires { length sizes.now ≡ length (lines.sources_of m.now.lines) }
+        ensures { IfOk result (IsOf m.now.lines sizes.now) }
+    {
+        let mut paths = BTreeMap::new(alloc);
+        let mut source = 0;
+        let mut index = 0;
+        let all = m.lines();
+        for line in all {
+            let target = own_target(&paths, sizes, source, index, line);
+            note_path(alloc, &mut paths, line.path.as_bytes(), target)?;
+            index += 1;
+            if is_file(line) {
+                source += 1;
+            }
+        }
+        Ok(Files { paths })
+    }
+
+    /// The contents that a path leads to, if it leads to a regular file.
+    pub fn contents(&self, path: &[u8]) -> Option<Contents>
+        ensures { (lines : List Line) (sizes : List ℕ) → IsOf lines sizes self.now
+            → result ≡ contents_at lines sizes path.now }
+    {
+        leads_to(&self.paths, path).contents
+    }
+
+    /// The index of the line that a path leads to, if it leads to one.
+    pub fn line(&self, path: &[u8]) -> Option<usize>
+        ensures { (lines : List Line) (sizes : List ℕ) → IsOf lines sizes self.now
+            → IsIndexOf lines result (led (reverse lines) path.now) }
+    {
+        leads_to(&self.paths, path).line
+    }
+}

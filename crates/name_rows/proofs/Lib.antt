@@ -1,4 +1,0 @@
-pub mod Keys
-pub mod Putting
-pub mod Rows
-pub mod Order

@@ -1,5 +1,0 @@
-use Rattle.name_tree.proofs.Law.{meant}
-use Rattle.name_tree.proofs.laws.shape_is_meant.Goals as goal
-
-pub returns : goal.returns
-returns c = meant

@@ -1,4 +1,0 @@
-pub mod Rows
-pub mod Fits
-pub mod Made
-pub mod Keyed

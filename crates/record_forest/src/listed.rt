@@ -1,0 +1,40 @@
+//! Names that stand twice in one list.
+ghost use Rattle.std.specs.Prelude.{IsTrue, ◌↔◌, IfOk};
+ghost use Rattle.record_forest.specs.Listed.{AreNumbered, AreAlike, MarksRepeats};
+
+use rom_fields::memory::OutOfMemory;
+use std::alloc::Global;
+
+/// A name in the list of the directory at `list`, and its index among the names that are looked at.
+#[derive(Clone, Copy, PartialEq, Eq, PartialOrd, Ord)]
+pub struct ListedName<'a> {
+    pub list: u32,
+    pub name: &'a [u8],
+    pub index: usize,
+}
+
+/// Whether both stand in one list and are the same.
+fn are_alike(one: ListedName, other: ListedName) -> bool
+    ensures { IsTrue result ↔ AreAlike one.entry other.entry }
+{
+    one.list == other.list && one.name == other.name
+}
+
+/// For each name, by its index, whether one of a lesser index has its list and its name.
+///
+/// It sorts the names, which takes no memory, and makes one mark for each.
+pub fn repeats(alloc: Global, names: Vec<ListedName>) -> Result<Vec<bool>, OutOfMemory>
+    requires { AreNumbered names.items }
+    ensures { IfOk result (λ marks. MarksRepeats names.entry.items marks.items) }
+{
+    let mut names = names;
+    let mut marks = vec![in alloc; false; names.len()]?;
+    names.sort_unstable();
+    for i in 1..names.len() {
+        let here = names[i];
+        if are_alike(names[i - 1], here) {
+            marks[here.index] = true;
+        }
+    }
+    Ok(marks)
+}

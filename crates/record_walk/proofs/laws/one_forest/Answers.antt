@@ -1,5 +1,0 @@
-use Rattle.record_walk.proofs.Same.{same_forest}
-use Rattle.record_walk.proofs.laws.one_forest.Goals as goal
-
-pub returns : goal.returns
-returns c = same_forest

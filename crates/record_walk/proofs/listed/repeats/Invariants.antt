@@ -1,5 +1,0 @@
-use Rattle.record_walk.proofs.Marked.{Marked}
-use Rattle.record_walk.proofs.listed.repeats.Given as goal
-
-abbrev pub invariant-loop-i : goal.invariant-loop-i
-invariant-loop-i l = Marked l.fn.names.items l.names.items l.marks.items l.i

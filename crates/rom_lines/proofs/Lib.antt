@@ -1,4 +1,0 @@
-pub mod Cutting
-pub mod Numerals
-pub mod Decoding
-pub mod Hexadecimal

@@ -1,7 +1,0 @@
-use Rattle.rom_fields.proofs.Joins.{chain}
-use Rattle.rom_lines.proofs.reply.put_piece.Goals as goal
-
-pub returns : goal.returns
-returns g c =
-    chain c.put.ensures (chain c.put_image.ensures (chain c.put_decimal.ensures (chain c.put-2.ensures
-    (chain c.put_length.ensures (chain c.put-3.ensures (chain c.put_hex.ensures c.put-4.ensures))))))

@@ -1,4 +1,0 @@
-pub mod Commands
-pub mod Reading
-pub mod Texts
-pub mod Replies

@@ -1,0 +1,10 @@
+pub mod Runs
+pub mod Flushed
+pub mod Joined
+pub mod Apart
+pub mod Agree
+pub mod Buffering
+pub mod Cutting
+pub mod Numerals
+pub mod Decoding
+pub mod Hexadecimal

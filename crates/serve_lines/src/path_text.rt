@@ -1,0 +1,41 @@
+//! Paths as they stand in lines.
+ghost use Rattle.std.specs.Prelude.{◌≡◌, ◌≤◌, length};
+ghost use Rattle.serve_lines.specs.Commands.{path_of};
+
+use arrayvec::ArrayVec;
+use percent_encoding::percent_decode;
+
+/// A path of a line, decoded.
+pub type Path = ArrayVec<u8, 8192>;
+
+/// A path as it stands in a line, with its escapes.
+#[derive(Clone, Copy)]
+pub struct PathText<'l> {
+    text: &'l [u8],
+    ghost short: { length text.now ≤ 8191 },
+}
+
+impl<'l> PathText<'l> {
+    /// Of a field, as it stands in its line.
+    pub fn new(text: &'l [u8]) -> PathText<'l>
+        requires { length text.now ≤ 8191 }
+        ensures { result.text ≡ text.entry }
+    {
+        PathText { text }
+    }
+
+    /// The path that is meant: each `%` with two hexadecimal digits behind it is one byte, and `-`
+    /// alone is the empty path.
+    pub fn decoded(self) -> Path
+        ensures { result.items ≡ path_of self.entry.text.now }
+    {
+        let mut path: Path = ArrayVec::new();
+        if self.text == b"-".as_slice() {
+            return path;
+        }
+        for b in percent_decode(self.text) {
+            path.push(b);
+        }
+        path
+    }
+}

@@ -1,5 +1,0 @@
-use Rattle.serve_loop.proofs.Joined.{again}
-use Rattle.serve_loop.proofs.laws.lines_again.Goals as goal
-
-pub returns : goal.returns
-returns c = λ x. again x

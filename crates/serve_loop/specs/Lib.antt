@@ -1,4 +1,0 @@
-pub mod Got
-pub mod Served
-pub mod Views
-pub mod Starts
