@@ -8,5 +8,5 @@ pub mod Depths
 pub mod Knowing
 pub mod Keys
 pub mod Putting
-pub mod Rows
-pub mod Order
+pub mod EntryRows
+pub mod Rising

@@ -7,7 +7,7 @@ use Rattle.record_forest.proofs.Lists.{has_of}
 use Rattle.cramfs_format.specs.Tree.{precedes}
 use Rattle.manifest_layout.proofs.Orders.{same_order}
 use Rattle.manifest_rows.specs.Entries.{Entry, put_entry, Rise}
-use Rattle.manifest_rows.proofs.Order.{holds_put}
+use Rattle.manifest_rows.proofs.Rising.{holds_put}
 use Rattle.manifest_rows.specs.declared.row.Row as code_row
 use Rattle.manifest_rows.specs.Rows.{Row, row, row_view}
 use Rattle.manifest_rows.specs.Keyed.{Keyed, keyed, put_keyed, behind}

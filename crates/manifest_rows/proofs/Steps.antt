@@ -18,9 +18,9 @@ use Rattle.manifest_tree.specs.Tree.{file_at, what_by, grown, tree_of}
 use Rattle.manifest_tree.proofs.Law.{HaveFiles, have_files, grown_by, fewer}
 use Rattle.manifest_layout.proofs.Led.{IsFaultless, all_faultless}
 use Rattle.manifest_rows.specs.Entries.{Entry, key_of, entry, entries_by, entries_of, put_line_entry, Rise}
-use Rattle.manifest_rows.proofs.Order.{tree_rises}
+use Rattle.manifest_rows.proofs.Rising.{tree_rises}
 use Rattle.manifest_rows.proofs.Putting.{HaveNoZeros}
-use Rattle.manifest_rows.proofs.Rows.{is_row, tree_row}
+use Rattle.manifest_rows.proofs.EntryRows.{is_row, tree_row}
 use Rattle.manifest_rows.proofs.Knowing.{latest_at}
 use Rattle.manifest_rows.specs.declared.row.Row as code_row
 use Rattle.manifest_rows.specs.Rows.{Row, row_view, rows}

@@ -4,7 +4,7 @@ ghost use Rattle.rom_commands.specs.Asked.{Fits};
 
 use crate::arguments::words;
 use crate::replies::Replies;
-use crate::streams::{Again, Held, hold_closed};
+use crate::streams::{Again, Ahead, Held, hold_closed};
 use crate::trouble::Teller;
 use crate::{building, extracting, inventory, reading, scanning};
 use command_line::{Extract, Request, Status, Trouble, read};
@@ -185,7 +185,7 @@ fn serve(teller: &Teller<'_>, name: &str) -> u8
     let status = serve_on(
         rt.alloc(),
         &bytes,
-        &mut Plain::new(Again::new(rt.reader())),
+        &mut Plain::new(Ahead::new(rt.reader())),
         &mut Plain::new(Replies::new(*teller, io::writer(rt))),
         &mut err,
     );
@@ -251,7 +251,7 @@ fn space(teller: &Teller<'_>, names: &[&str]) -> u8
             teller,
             names,
             &files,
-            &mut Plain::new(Again::new(rt.reader())),
+            &mut Plain::new(Ahead::new(rt.reader())),
         ),
         Err((name, e)) => {
             let no_lines: &[u8] = &[];

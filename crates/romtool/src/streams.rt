@@ -1,6 +1,6 @@
 //! The standard streams: calls that a signal cut short are made again, and a line is one write.
 use std::fs::{File, OpenFile};
-use std::io::{self, Read, Write};
+use std::io::{self, BufRead, Read, Write};
 use std::os::fd::AsRawFd;
 
 /// The greatest number of a standard stream.
@@ -29,28 +29,16 @@ pub fn hold_closed(rt: &HostRuntime) -> io::Result<Vec<File>> {
     Ok(held)
 }
 
-/// A reader or a writer whose calls are made again where a signal cut them short.
+/// A writer whose calls are made again where a signal cut them short.
 #[derive(Drop)]
 pub struct Again<X> {
     inner: X,
 }
 
 impl<X> Again<X> {
-    /// Of this reader or writer.
+    /// Of this writer.
     pub fn new(inner: X) -> Again<X> {
         Again { inner }
-    }
-}
-
-impl<X: Read> Read for Again<X> {
-    fn read(&mut self, buf: &mut [u8]) -> io::Result<usize> {
-        for _ in 0..u64::MAX {
-            match self.inner.read(buf) {
-                Err(e) if e.kind() == io::ErrorKind::Interrupted => {}
-                read => return read,
-            }
-        }
-        Err(io::Error::from(io::ErrorKind::Interrupted))
     }
 }
 
@@ -67,6 +55,39 @@ impl<X: Write> Write for Again<X> {
 
     fn flush(&mut self) -> io::Result<()> {
         self.inner.flush()
+    }
+}
+
+/// A reader of what another one holds. Standard input, where it has a position, is read ahead by it in
+/// blocks, and what was not used is left unread again when it is dropped; a pipe or a terminal is
+/// read byte by byte. Calls that a signal cut short are made again.
+#[derive(Drop)]
+pub struct Ahead<X> {
+    inner: X,
+}
+
+impl<X> Ahead<X> {
+    /// Of this reader.
+    pub fn new(inner: X) -> Ahead<X> {
+        Ahead { inner }
+    }
+}
+
+impl<X: BufRead> Read for Ahead<X> {
+    fn read(&mut self, buf: &mut [u8]) -> io::Result<usize> {
+        for _ in 0..u64::MAX {
+            match self.inner.fill_buf() {
+                Ok(held) => {
+                    let count = held.len().min(buf.len());
+                    buf[..count].copy_from_slice(&held[..count]);
+                    self.inner.consume(count);
+                    return Ok(count);
+                }
+                Err(e) if e.kind() == io::ErrorKind::Interrupted => {}
+                Err(e) => return Err(e),
+            }
+        }
+        Err(io::Error::from(io::ErrorKind::Interrupted))
     }
 }
 

@@ -12,5 +12,5 @@ misfit_sentence n =
     else (if n == NAME_TOO_LONG then
     codes "a name is longer than those of the format"
     else (if n == HARD_LINK then
-    codes "cramfs has no further names of a file: write same in place of hard"
+    codes "cramfs has no further names of a file: write same PATH MODE UID GID OLD in place of hard"
     else codes "no rule has this number")))

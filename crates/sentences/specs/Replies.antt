@@ -14,11 +14,11 @@ call_sentence text =
     else (if bytes_eq text (codes "ENAMETOOLONG") then
     Some (codes "the path has more than 4,095 bytes, or a name in it more than 255")
     else (if bytes_eq text (codes "EINVAL") then
-    Some (codes "the path has no slash in front, or the call does not fit what it names")
+    Some (codes "no slash in front, a file of another kind, or a range that is empty or past the end")
     else (if bytes_eq text (codes "EBADF") then
     Some (codes "no open file has this number")
     else (if bytes_eq text (codes "EISDIR") then
-    Some (codes "the open file is a directory")
+    Some (codes "it is a directory, which has no bytes")
     else (if bytes_eq text (codes "ENXIO") then
     Some (codes "only directories and regular files are opened")
     else (if bytes_eq text (codes "EMFILE") then

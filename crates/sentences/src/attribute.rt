@@ -19,30 +19,33 @@ fn romfs_modes(line: &Line) -> &'static str {
     }
 }
 
-/// The first attribute of a line that the format cannot say, its value, and what is lawful.
+/// The first attribute of a line that the format cannot say, its value, what is lawful, and how a
+/// folder is scanned so that it fits.
 ///
 /// # Errors
 ///
 /// Memory was refused.
 pub fn seen(alloc: Global, format: Format, line: &Line) -> Result<String, AllocError> {
     let is_romfs = format == Format::Romfs;
-    let (owners, groups, devices) = if is_romfs {
-        (0, 0, MOST_OF_TWO_BYTES)
+    let (owners, groups, devices, fitted) = if is_romfs {
+        (0, 0, MOST_OF_TWO_BYTES, " (scan --all --for romfs fits it)")
     } else {
-        (MOST_OF_TWO_BYTES, MOST_OF_A_BYTE, MOST_OF_A_BYTE)
+        let fitted = " (scan --all --for cramfs fits it)";
+        (MOST_OF_TWO_BYTES, MOST_OF_A_BYTE, MOST_OF_A_BYTE, fitted)
     };
-    for (name, value, most) in [
-        ("owner", line.uid, owners),
-        ("group", line.gid, groups),
-        ("major number", line.major, devices),
-        ("minor number", line.minor, devices),
+    for (name, value, most, fitted) in [
+        ("owner", line.uid, owners, fitted),
+        ("group", line.gid, groups, fitted),
+        ("major number", line.major, devices, ""),
+        ("minor number", line.minor, devices, ""),
     ] {
         if value > most {
-            return format!(in alloc; "{name} {value}, at most {most}");
+            return format!(in alloc; "{name} {value}, at most {most}{fitted}");
         }
     }
     if is_romfs {
-        return format!(in alloc; "mode {:04o}, romfs has {}", line.mode, romfs_modes(line));
+        let modes = romfs_modes(line);
+        return format!(in alloc; "mode {:04o}, romfs has {modes}{fitted}", line.mode);
     }
     Ok(String::new(alloc))
 }

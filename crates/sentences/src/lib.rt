@@ -12,6 +12,7 @@ pub mod fields;
 pub mod image;
 pub mod manifest_line;
 pub mod manifests;
+mod path_rule;
 pub mod plan_line;
 pub mod reasons;
 pub mod replies;

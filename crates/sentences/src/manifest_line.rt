@@ -2,6 +2,7 @@
 use crate::fields::{
     count_of, field_of, folder_of, is_decimal, is_mode, line_of, numbers_of, wanted_count,
 };
+use crate::path_rule::{Meant, broken};
 use crate::words::field_shown;
 use manifest::error::{BAD_ALIGN, BAD_NUMBER, BAD_TARGET, BAD_WORD, EXISTS, NO_PARENT};
 use std::alloc::{AllocError, Global};
@@ -50,16 +51,27 @@ fn wrong_number(alloc: Global, line: &[u8]) -> Result<String, AllocError> {
     Ok(String::new(alloc))
 }
 
-/// Of a line with a wrong path: its paths and texts.
-fn wrong_path(alloc: Global, line: &[u8]) -> Result<String, AllocError> {
-    let path = field_shown(alloc, field_of(line, 1))?;
+/// What the fields of a line are that are paths or texts: their places, and what they are to be.
+fn texts_of(line: &[u8]) -> [(usize, Meant); 2] {
+    let last = count_of(line).saturating_sub(1);
     match field_of(line, 0) {
-        b"slink" | b"hard" | b"same" => {
-            let last = field_of(line, count_of(line).saturating_sub(1));
-            format!(in alloc; "{path} or {}", field_shown(alloc, last)?)
-        }
-        _ => Ok(path),
+        b"dir" => [(1, Meant::Folder), (1, Meant::Folder)],
+        b"volume" => [(1, Meant::Volume), (1, Meant::Volume)],
+        b"slink" => [(1, Meant::Path), (last, Meant::Target)],
+        b"hard" | b"same" => [(1, Meant::Path), (last, Meant::Path)],
+        _ => [(1, Meant::Path), (1, Meant::Path)],
     }
+}
+
+/// Of a line with a wrong path, text or name: it, and which rule it breaks.
+fn wrong_path(alloc: Global, line: &[u8]) -> Result<String, AllocError> {
+    for (place, meant) in texts_of(line) {
+        let field = field_of(line, place);
+        if let Some(rule) = broken(alloc, field, meant)? {
+            return format!(in alloc; "{} {rule}", field_shown(alloc, field)?);
+        }
+    }
+    field_shown(alloc, field_of(line, 1))
 }
 
 /// What stands in the line of this number of a text, where it has the fault of this number.

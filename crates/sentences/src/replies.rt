@@ -19,13 +19,15 @@ pub fn call_sentence(text: &[u8]) -> Option<&'static str>
         return Some("the path has more than 4,095 bytes, or a name in it more than 255");
     }
     if text == b"EINVAL".as_slice() {
-        return Some("the path has no slash in front, or the call does not fit what it names");
+        return Some(
+            "no slash in front, a file of another kind, or a range that is empty or past the end",
+        );
     }
     if text == b"EBADF".as_slice() {
         return Some("no open file has this number");
     }
     if text == b"EISDIR".as_slice() {
-        return Some("the open file is a directory");
+        return Some("it is a directory, which has no bytes");
     }
     if text == b"ENXIO".as_slice() {
         return Some("only directories and regular files are opened");

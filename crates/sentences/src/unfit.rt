@@ -12,7 +12,8 @@ pub fn misfit_sentence(number: u32) -> &'static str
         ATTRIBUTE => "the format cannot say an owner, a group, a mode or a device's number",
         TOO_LARGE => "a file, a list or the whole is too large",
         NAME_TOO_LONG => "a name is longer than those of the format",
-        HARD_LINK => "cramfs has no further names of a file: write same in place of hard",
+        HARD_LINK =>
+            "cramfs has no further names of a file: write same PATH MODE UID GID OLD in place of hard",
         _ => "no rule has this number",
     }
 }

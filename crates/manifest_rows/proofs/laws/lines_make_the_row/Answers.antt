@@ -1,4 +1,4 @@
-use Rattle.manifest_rows.proofs.Rows.{tree_row, row_rises}
+use Rattle.manifest_rows.proofs.EntryRows.{tree_row, row_rises}
 use Rattle.manifest_rows.proofs.laws.lines_make_the_row.Goals as goal
 
 pub returns-clause-row : goal.returns-clause-row

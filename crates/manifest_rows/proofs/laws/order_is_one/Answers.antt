@@ -1,4 +1,4 @@
-use Rattle.manifest_rows.proofs.Order.{same_row}
+use Rattle.manifest_rows.proofs.Rising.{same_row}
 use Rattle.manifest_rows.proofs.laws.order_is_one.Goals as goal
 
 pub returns : goal.returns

@@ -16,7 +16,7 @@ use Rattle.manifest_layout.proofs.Plain.{names_no_zero}
 use Rattle.manifest_layout.proofs.Sorted.{AreSorted, put_at_sorted, put_at_hold, last_of}
 use Rattle.manifest_rows.specs.Entries.{entries, entries_by, entries_of, put_line_entry, Rise}
 use Rattle.manifest_rows.proofs.Keys.{HasNoZero}
-use Rattle.manifest_rows.proofs.Order.{tree_rises}
+use Rattle.manifest_rows.proofs.Rising.{tree_rises}
 use Rattle.manifest_rows.proofs.Putting.{HaveNoZeros, put_at_entries}
 
 -- names have these entries as their row
