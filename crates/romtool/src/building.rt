@@ -9,7 +9,7 @@ use crate::origin::Origin;
 use crate::progress::Progress;
 use crate::stamp::{Identity, Stamp, has_changed, let_rest, stamp_of};
 use crate::streams::Held;
-use crate::target::{KeepError, Target};
+use crate::target::{KeepError, Target, Writer};
 use crate::trouble::Teller;
 use crate::{explained, reading};
 use build_commands::building::{tell_bad_manifest, tell_built, tell_misfit};
@@ -21,7 +21,6 @@ use rom_fields::bytes::{Failed, Plain};
 use sentences::reasons::{
     NO_TEXT, NOT_TAKEN, OWN_INPUT, PART_REPLACED, SOURCE_CHANGED, SOURCE_UNREAD, SUM_DIFFERS,
 };
-use std::fs::File;
 use std::{fs, io, str};
 
 /// How many bytes of a source are read at once, where there is memory for them.
@@ -198,13 +197,22 @@ impl Files<'_> {
         }
     }
 
-    /// Says why an image was not written whole.
-    fn say_unwritten(&self, teller: &Teller<'_>, e: StreamError, out: &str) -> Status {
+    /// Says why an image was not written whole: where OUT did not take it, by what the system said.
+    fn say_unwritten(
+        &self,
+        teller: &Teller<'_>,
+        e: StreamError,
+        writer: Writer,
+        out: &str,
+    ) -> Status {
         match e {
             StreamError::SizeDiffers { file } | StreamError::SourceFault { file } => {
                 self.say_fault(teller, file)
             }
-            StreamError::WriteFault => teller.failed(out.as_bytes(), &NOT_TAKEN),
+            StreamError::WriteFault => match writer.into_inner().error() {
+                Some(e) => teller.failed_by(out.as_bytes(), &e),
+                None => teller.failed(out.as_bytes(), &NOT_TAKEN),
+            },
             StreamError::Changed => match first_changed(teller.rt, self.names, self.stamps) {
                 Some(file) => self.say_changed(teller, file),
                 None => teller.changed(out.as_bytes(), &SUM_DIFFERS),
@@ -251,7 +259,7 @@ fn streamed(
     rt: &HostRuntime,
     plan: &Plan,
     disk: &mut Disk<'_>,
-    writer: &mut Plain<Held<File>>,
+    writer: &mut Writer,
 ) -> Result<(), StreamError>
     requires { length plan.now.sizes ≡ length disk.old.names.now }
 {
@@ -293,7 +301,7 @@ fn write_to(
     let written = streamed(rt, plan, &mut disk, &mut writer);
     disk.end();
     if let Err(e) = written {
-        return Err(files.say_unwritten(teller, e, out));
+        return Err(files.say_unwritten(teller, e, writer, out));
     }
     match first_changed(rt, files.names, files.stamps) {
         Some(file) => Err(files.say_changed(teller, file)),

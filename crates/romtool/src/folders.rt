@@ -2,13 +2,23 @@
 use crate::stamp::{Stamp, let_rest};
 use crate::trouble::Teller;
 use command_line::Status;
-use sentences::reasons::{FOLDER_CHANGED, NO_FOLDER};
+use sentences::reasons::{FOLDER_CHANGED, FOREIGN_NAME, NO_FOLDER};
 use std::fs::{self, Metadata};
 use std::io;
 
 /// A folder without the slashes at its end, before which the names of what it holds are put.
 pub fn base(folder: &str) -> &str {
     folder.trim_end_matches('/')
+}
+
+/// Says why an entry of the folder of this name cannot be read: which one it is, the system does not
+/// tell.
+pub fn refused_entry(teller: &Teller<'_>, folder: &str, e: &io::Error) -> Status {
+    if e.kind() == io::ErrorKind::InvalidFilename {
+        teller.failed(folder.as_bytes(), &FOREIGN_NAME)
+    } else {
+        teller.refused(folder.as_bytes(), e)
+    }
 }
 
 /// A folder that a scan found, by the place that it has in the manifest's names, with the state in

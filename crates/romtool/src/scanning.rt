@@ -1,5 +1,5 @@
 //! A folder as a manifest.
-use crate::folders::{self, Folder, all_stayed, base};
+use crate::folders::{self, Folder, all_stayed, base, refused_entry};
 use crate::streams::Again;
 use crate::trouble::Teller;
 use build_commands::scanning::{Found, put_scan};
@@ -102,7 +102,7 @@ impl Below {
         for entry in entries {
             match entry {
                 Ok(entry) => self.add_named(teller, &folder.place, &entry)?,
-                Err(e) => return Err(teller.refused(named.as_bytes(), &e)),
+                Err(e) => return Err(refused_entry(teller, named, &e)),
             }
         }
         Ok(())

@@ -1,7 +1,7 @@
 //! Where an image is written: under its name only once it is whole.
 use crate::place::{behind_links, folder_of};
 use crate::stamp::Identity;
-use crate::streams::Held;
+use crate::streams::{Held, Remembering};
 use rom_fields::bytes::Plain;
 use sentences::reasons::{HUNDRED_PARTS, REPLACED};
 use std::fs::{File, Metadata, OpenFile, OpenOptions};
@@ -29,6 +29,9 @@ struct Beside {
     // how many parts of other builds are there
     left: u32,
 }
+
+/// A writer of an image, which holds back what is short and remembers why the system took no more.
+pub type Writer = Plain<Remembering<Held<File>>>;
 
 /// What an image is written to: a new file beside the one of its name, or what has its name, where
 /// that is no regular file.
@@ -189,9 +192,10 @@ impl Target {
         }
     }
 
-    /// A writer to it, which holds back what is short.
-    pub fn writer(&self, rt: &HostRuntime) -> io::Result<Plain<Held<File>>> {
-        Ok(Plain::new(Held::new(rt, self.file.try_clone()?)))
+    /// A writer to it.
+    pub fn writer(&self, rt: &HostRuntime) -> io::Result<Writer> {
+        let held = Held::new(rt, self.file.try_clone()?);
+        Ok(Plain::new(Remembering::new(held)))
     }
 
     /// Gives what was written its name, once the system has taken all of it, and hands the folder

@@ -130,6 +130,13 @@ impl<'a> Teller<'a> {
         if e.kind() == io::ErrorKind::OutOfMemory {
             return self.say(Trouble::Memory);
         }
+        self.failed_by(name, e)
+    }
+
+    /// Says that a file could not be written, and the system's reason.
+    pub fn failed_by(&self, name: &[u8], e: &io::Error) -> Status
+        ensures { result ≡ Status.Fault }
+    {
         let status = self.say(Trouble::File(name));
         if self.is_explained
             && let Ok(words) = self.words_of(e)

@@ -74,3 +74,6 @@ pub const LONG_PATH: &str = "a path in it has more than 4095 bytes, which no man
 
 /// No manifest tells the image, since its volume's name is too long.
 pub const LONG_VOLUME: &str = "its volume's name has more than 255 bytes, which no manifest takes";
+
+/// A folder that is scanned has a name that cannot be read, which only the folder is told of.
+pub const FOREIGN_NAME: &str = "a name in it is no UTF-8; ls -b shows it";
