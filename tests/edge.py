@@ -446,6 +446,36 @@ def device_without_end(binary):
 # signals, lines and streams
 
 
+def what_follows_the_last_line(binary):
+    """Behind `quit` a file of lines is left as it stands there, and read ahead before; where its end is the end, it is used."""
+    hello()
+    put("image", wanted(binary))
+    asked = b"0 lookup /a\n" * 1000
+    for last, left in ((b"quit\n", b"what follows\n" * 500), (b"quit\n", b""), (b"", b"")):
+        for words in (["serve", "image"], ["space", "image"]):
+            lines = asked if words[0] == "space" else asked.replace(b"0 ", b"")
+            put("lines", lines + last + left)
+            with open("lines", "rb") as given:
+                done = run(binary, *words, stdin=given)
+                at = os.lseek(given.fileno(), 0, os.SEEK_CUR)
+            replies = done.stdout.count(b"\n")
+            if done.returncode or at != len(lines + last) or replies != 1000 + bool(last):
+                yield "%s: at %d of %d, %d replies, %r" % (words, at, len(lines + last), replies, done.stderr)
+
+
+@needs_strace
+def lines_of_a_file_are_read_in_blocks(binary):
+    """Lines that stand in a file take few calls of the system, and those of a pipe one a byte."""
+    hello()
+    put("image", wanted(binary))
+    put("lines", b"lookup /a\n" * 1000)
+    with open("lines", "rb") as given:
+        made, done = traced.calls(binary, "serve", "image", stdin=given)
+    of_lines = sum(call.name == "read" and "(0," in call.text for call in made)
+    if done.returncode or not 0 < of_lines <= 8:
+        yield "%d calls, %r" % (of_lines, done.stderr)
+
+
 @needs_strace
 def interrupted_calls(binary):
     """Each call that a signal cuts short is made again: the answers are the same."""
@@ -631,6 +661,7 @@ TESTS = [
     private_while_written, owner_is_kept, owner_that_cannot_be_set, handed_to_the_disk,
     kinds_that_are_not_handed_on, folder_that_is_not_handed_on, part_of_another_file, parts_that_are_left,
     rewritten_while_read, changed_while_read, no_further_than_stated, image_from_a_pipe, device_without_end,
+    what_follows_the_last_line, lines_of_a_file_are_read_in_blocks,
     interrupted_calls, a_line_is_one_write, first_word_is_no_text, closed_streams, closed_streams_and_a_pipe,
     closed_input_of_a_server, entries_of_a_scan, each_call_failed,
 ]  # fmt: skip
