@@ -451,16 +451,19 @@ def what_follows_the_last_line(binary):
     hello()
     put("image", wanted(binary))
     asked = b"0 lookup /a\n" * 1000
-    for last, left in ((b"quit\n", b"what follows\n" * 500), (b"quit\n", b""), (b"", b"")):
-        for words in (["serve", "image"], ["space", "image"]):
-            lines = asked if words[0] == "space" else asked.replace(b"0 ", b"")
-            put("lines", lines + last + left)
-            with open("lines", "rb") as given:
-                done = run(binary, *words, stdin=given)
-                at = os.lseek(given.fileno(), 0, os.SEEK_CUR)
-            replies = done.stdout.count(b"\n")
-            if done.returncode or at != len(lines + last) or replies != 1000 + bool(last):
-                yield "%s: at %d of %d, %d replies, %r" % (words, at, len(lines + last), replies, done.stderr)
+    for command, used, left in (
+        ("serve", asked.replace(b"0 ", b"") + b"quit\n", b"what follows\n" * 500),
+        ("serve", asked.replace(b"0 ", b"") + b"quit\n", b""),
+        ("serve", asked.replace(b"0 ", b""), b""),
+        ("space", asked + b"0 quit\n" + asked, b""),
+    ):
+        put("lines", used + left)
+        with open("lines", "rb") as given:
+            done = run(binary, command, "image", stdin=given)
+            at = os.lseek(given.fileno(), 0, os.SEEK_CUR)
+        replies = done.stdout.count(b"\n")
+        if done.returncode or at != len(used) or replies != used.count(b"\n"):
+            yield "%s: at %d of %d, %d replies, %r" % (command, at, len(used), replies, done.stderr)
 
 
 @needs_strace
