@@ -1,9 +1,7 @@
 -- What the reader of a manifest keeps between two lines, in the words of the grammar. (This project's own.)
 use Rattle.std.specs.Prelude.{◌≡◌, ℕ, ◌||◌, Bool, true, false, if◌then◌else◌, List, ◌∷◌, reverse, Option, Some, None, Result, Ok, Err, Vec}
 use Rattle.std.specs.Option.{is_some, option_map}
-use Rattle.std.specs.Ordering.{nat_cmp}
-use Rattle.std.specs.Cmp.Lexicographic.{slice_cmp}
-use Rattle.std.specs.BTreeMap.{get_by, BTreeMap}
+use Rattle.std.specs.HashMap.{get_by, HashMap}
 use Rattle.std.specs.Str.{bytes_eq}
 use Rattle.manifest.specs.Lines.{is_dir, is_file, is_hard, is_same, line_at, led, filed, sources_of}
 use Rattle.manifest.specs.Grammar.{Fault, Seen, is_target}
@@ -28,11 +26,11 @@ abbrev pub seen : Reader → Seen
 seen r = record { latest = reverse r.lines.items; volume = r.volume; volume_line = r.volume_line }
 
 -- what the map has at a path
-abbrev pub found : {A : Type 0} → BTreeMap (Vec ℕ A) Reached → List ℕ → Option Reached
-found m path = get_by (λ k. slice_cmp nat_cmp path k.items) m
+abbrev pub found : {A S : Type 0} → HashMap (Vec ℕ A) Reached S → List ℕ → Option Reached
+found m path = get_by (λ k. bytes_eq path k.items) m
 
 -- the map has this at a path now, and at others what it had
-abbrev pub HasMore : {A : Type 0} → List ℕ → Reached → BTreeMap (Vec ℕ A) Reached → BTreeMap (Vec ℕ A) Reached → Type 0
+abbrev pub HasMore : {A S : Type 0} → List ℕ → Reached → HashMap (Vec ℕ A) Reached S → HashMap (Vec ℕ A) Reached S → Type 0
 HasMore path reached old new = (q : List ℕ) → found new q ≡ (if bytes_eq path q then Some reached else found old q)
 
 -- what a line leads to, by its word and by whether that has contents

@@ -19,7 +19,7 @@ use crate::path::{NAME_MAX, PATH_MAX, is_bad_path, parent};
 use crate::text::{decoded, is_bad};
 use rom_fields::memory::OutOfMemory;
 use std::alloc::Global;
-use std::collections::BTreeMap;
+use std::collections::HashMap;
 
 /// The alignments that a `file` line may ask for, in bytes.
 const ALIGNMENTS: [u32; 15] = [
@@ -42,7 +42,7 @@ pub struct Reader {
     pub sources: Vec<Name>,
     pub volume: Name,
     pub volume_line: u64,
-    paths: BTreeMap<Vec<u8>, Reached>,
+    paths: HashMap<Vec<u8>, Reached>,
 }
 
 /// Whether an alignment is a power of two from 4 to 65,536.
@@ -95,7 +95,7 @@ fn bad(line: u64, number: u32) -> ManifestError
 /// Puts a path into the map with what it leads to.
 fn note_path(
     alloc: Global,
-    paths: &mut BTreeMap<Vec<u8>, Reached>,
+    paths: &mut HashMap<Vec<u8>, Reached>,
     path: &[u8],
     reached: Reached,
 ) -> Result<(), OutOfMemory>
@@ -128,7 +128,7 @@ impl Reader {
             sources: Vec::new(alloc),
             volume: Vec::new(alloc).into(),
             volume_line: 0,
-            paths: BTreeMap::new(alloc),
+            paths: HashMap::new(alloc),
         }
     }
 

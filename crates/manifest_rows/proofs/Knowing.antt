@@ -4,7 +4,7 @@ use Rattle.std.proofs.lemmas.Bool.{lt-ltb, le-ltb}
 use Rattle.std.proofs.lemmas.List.{reverse-append, take_more, length-append}
 use Rattle.std.proofs.lemmas.Option.{slice_get-get_or}
 use Rattle.std.proofs.Math.Seq.{split_at}
-use Rattle.std.specs.BTreeMap.{BTreeMap}
+use Rattle.std.specs.HashMap.{HashMap}
 use Rattle.std.specs.List.{AllByRecursion as Every, slice_get}
 use Rattle.std.specs.Option.{option_map}
 use Rattle.std.specs.Str.{bytes_eq}
@@ -82,8 +82,8 @@ pub nothing_known : (all : List Line) (sizes : List ℕ) (path : List ℕ) → I
 nothing_known all sizes path = record { line = refl; contents = refl }
 
 -- one more line, of this index
-module _ {A : Type 0} (all : List Line) (sizes : List ℕ) (latest : List Line) (l : Line) (source index : ℕ)
-    (old : BTreeMap (Vec ℕ A) Target) (e : source ≡ sources_before l.number all) (at : slice_get all index ≡ Some l)
+module _ {A S : Type 0} (all : List Line) (sizes : List ℕ) (latest : List Line) (l : Line) (source index : ℕ)
+    (old : HashMap (Vec ℕ A) Target S) (e : source ≡ sources_before l.number all) (at : slice_get all index ≡ Some l)
     (h : Knows all sizes latest old) where
   -- what a `file` line has
   own_source : (if is_file l.word then Some (record { align = l.align; size = get_or sizes source 0; source = source }) else None)
@@ -112,7 +112,7 @@ module _ {A : Type 0} (all : List Line) (sizes : List ℕ) (latest : List Line) 
     | false ↦ own_bytes
   ]
 
-  pub knows_more : (new : BTreeMap (Vec ℕ A) Target) → HasMore l.path (own_target old sizes source index l) old new
+  pub knows_more : (new : HashMap (Vec ℕ A) Target S) → HasMore l.path (own_target old sizes source index l) old new
       → Knows all sizes (l ∷ latest) new
   knows_more new more q = subst (λ (o : Option Target). IsTarget all sizes (l ∷ latest) q (or_nowhere o)) (sym (more q)) (record { line = line; contents = contents })
     where

@@ -3,9 +3,7 @@
 use Rattle.std.specs.Prelude.{◌≡◌, ℕ, if◌then◌else◌, List, get_or, reverse, Option, Some, None, Vec}
 use Rattle.std.specs.List.{slice_get}
 use Rattle.std.specs.Option.{option_map}
-use Rattle.std.specs.Ordering.{nat_cmp}
-use Rattle.std.specs.Cmp.Lexicographic.{slice_cmp}
-use Rattle.std.specs.BTreeMap.{get_by, BTreeMap}
+use Rattle.std.specs.HashMap.{get_by, HashMap}
 use Rattle.std.specs.Str.{bytes_eq}
 use Rattle.manifest.specs.declared.line.Line.{Line}
 use Rattle.manifest.specs.Lines.{is_file, is_hard, is_same, filed, led}
@@ -40,26 +38,26 @@ or_nowhere None = record { line = None; contents = None }
 or_nowhere (Some t) = t
 
 -- what the map has at a path
-abbrev pub noted : {A : Type 0} → BTreeMap (Vec ℕ A) Target → List ℕ → Option Target
-noted m path = get_by (λ k. slice_cmp nat_cmp path k.items) m
+abbrev pub noted : {A S : Type 0} → HashMap (Vec ℕ A) Target S → List ℕ → Option Target
+noted m path = get_by (λ k. bytes_eq path k.items) m
 
 -- the map has this at a path now, and at others what it had
-abbrev pub HasMore : {A : Type 0} → List ℕ → Target → BTreeMap (Vec ℕ A) Target → BTreeMap (Vec ℕ A) Target → Type 0
+abbrev pub HasMore : {A S : Type 0} → List ℕ → Target → HashMap (Vec ℕ A) Target S → HashMap (Vec ℕ A) Target S → Type 0
 HasMore path t old new = (q : List ℕ) → noted new q ≡ (if bytes_eq path q then Some t else noted old q)
 
 -- the map tells of each path what these lines do
-abbrev pub Knows : {A : Type 0} → List Line → List ℕ → List Line → BTreeMap (Vec ℕ A) Target → Type 0
+abbrev pub Knows : {A S : Type 0} → List Line → List ℕ → List Line → HashMap (Vec ℕ A) Target S → Type 0
 Knows all sizes latest m = (path : List ℕ) → IsTarget all sizes latest path (or_nowhere (noted m path))
 
 -- the contents of a line that is not `hard`, where so many sources come before it
-abbrev pub own_contents : {A : Type 0} → BTreeMap (Vec ℕ A) Target → List ℕ → ℕ → Line → Option Contents
+abbrev pub own_contents : {A S : Type 0} → HashMap (Vec ℕ A) Target S → List ℕ → ℕ → Line → Option Contents
 own_contents m sizes source l =
     if is_same l.word then (or_nowhere (noted m l.text)).contents
     else (if is_file l.word then Some (record { align = l.align; size = get_or sizes source 0; source = source })
     else None)
 
 -- what the path of a line of this index leads to, where the map has what the paths before it do
-abbrev pub own_target : {A : Type 0} → BTreeMap (Vec ℕ A) Target → List ℕ → ℕ → ℕ → Line → Target
+abbrev pub own_target : {A S : Type 0} → HashMap (Vec ℕ A) Target S → List ℕ → ℕ → ℕ → Line → Target
 own_target m sizes source index l =
     if is_hard l.word then or_nowhere (noted m l.text)
     else record { line = Some index; contents = own_contents m sizes source l }

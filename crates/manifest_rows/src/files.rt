@@ -9,7 +9,7 @@ ghost use Rattle.manifest_rows.specs.Files.{HasMore, IsIndexOf, IsOf};
 use manifest::{Line, Manifest, Word};
 use rom_fields::memory::OutOfMemory;
 use std::alloc::Global;
-use std::collections::BTreeMap;
+use std::collections::HashMap;
 
 /// The contents of a regular file.
 #[derive(Clone, Copy, PartialEq, Eq)]
@@ -33,7 +33,7 @@ struct Target {
 /// What the paths of the lines that were read lead to.
 #[derive(Drop)]
 pub struct Files {
-    paths: BTreeMap<Vec<u8>, Target>,
+    paths: HashMap<Vec<u8>, Target>,
 }
 
 /// Whether a line is a `file` line.
@@ -46,7 +46,7 @@ fn is_file(line: &Line) -> bool
 /// Puts a path into the map with what it leads to.
 fn note_path(
     alloc: Global,
-    paths: &mut BTreeMap<Vec<u8>, Target>,
+    paths: &mut HashMap<Vec<u8>, Target>,
     path: &[u8],
     target: Target,
 ) -> Result<(), OutOfMemory>
@@ -58,7 +58,7 @@ fn note_path(
 }
 
 /// What a path leads to, and nothing where the map does not have it.
-fn leads_to(paths: &BTreeMap<Vec<u8>, Target>, path: &[u8]) -> Target
+fn leads_to(paths: &HashMap<Vec<u8>, Target>, path: &[u8]) -> Target
     ensures { result ≡ or_nowhere (noted paths.now path.now) }
 {
     match paths.get(path) {
@@ -72,7 +72,7 @@ fn leads_to(paths: &BTreeMap<Vec<u8>, Target>, path: &[u8]) -> Target
 
 /// What the path of a line of this index leads to, where so many sources come before it.
 fn own_target(
-    paths: &BTreeMap<Vec<u8>, Target>,
+    paths: &HashMap<Vec<u8>, Target>,
     sizes: &[u64],
     source: usize,
     index: usize,
@@ -105,7 +105,7 @@ impl Files {
         requires { length sizes.now ≡ length (lines.sources_of m.now.lines) }
         ensures { IfOk result (IsOf m.now.lines sizes.now) }
     {
-        let mut paths = BTreeMap::new(alloc);
+        let mut paths = HashMap::new(alloc);
         let mut source = 0;
         let mut index = 0;
         let all = m.lines();
