@@ -6,3 +6,4 @@ pub mod Errors
 pub mod Grammar
 pub mod Views
 pub mod Reading
+pub mod Seeds

@@ -13,6 +13,7 @@ mod numbers;
 mod path;
 mod reader;
 mod reading;
+pub mod seeded;
 #[cfg(test)]
 mod tests;
 mod text;

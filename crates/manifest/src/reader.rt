@@ -16,6 +16,7 @@ use crate::line::{Line, Word};
 use crate::names::Name;
 use crate::numbers::line_of;
 use crate::path::{NAME_MAX, PATH_MAX, is_bad_path, parent};
+use crate::seeded::Seeded;
 use crate::text::{decoded, is_bad};
 use rom_fields::memory::OutOfMemory;
 use std::alloc::Global;
@@ -34,15 +35,15 @@ pub enum Reached {
     Other,
 }
 
-/// What has been read of a manifest. Each path stands in an ordered map with what it leads to, so
-/// that a line is read in time that grows with the logarithm of their number.
+/// What has been read of a manifest. Each path stands in a map with what it leads to, so that the
+/// time in which a line is read does not grow with their number.
 #[derive(Drop)]
 pub struct Reader {
     pub lines: Vec<Line>,
     pub sources: Vec<Name>,
     pub volume: Name,
     pub volume_line: u64,
-    paths: HashMap<Vec<u8>, Reached>,
+    paths: HashMap<Vec<u8>, Reached, Seeded>,
 }
 
 /// Whether an alignment is a power of two from 4 to 65,536.
@@ -95,7 +96,7 @@ fn bad(line: u64, number: u32) -> ManifestError
 /// Puts a path into the map with what it leads to.
 fn note_path(
     alloc: Global,
-    paths: &mut HashMap<Vec<u8>, Reached>,
+    paths: &mut HashMap<Vec<u8>, Reached, Seeded>,
     path: &[u8],
     reached: Reached,
 ) -> Result<(), OutOfMemory>
@@ -118,8 +119,8 @@ fn note_source(alloc: Global, sources: &mut Vec<Name>, line: &Line) -> Result<()
 }
 
 impl Reader {
-    /// A reader that has read nothing.
-    pub fn new(alloc: Global) -> Reader
+    /// A reader that has read nothing, with these hashes of paths.
+    pub fn new(alloc: Global, seeded: Seeded) -> Reader
         ensures seen { seen result ≡ grammar.nothing_read }
         ensures kept { IsKept result }
     {
@@ -128,7 +129,7 @@ impl Reader {
             sources: Vec::new(alloc),
             volume: Vec::new(alloc).into(),
             volume_line: 0,
-            paths: HashMap::new(alloc),
+            paths: HashMap::with_hasher(alloc, seeded),
         }
     }
 

@@ -8,6 +8,7 @@ use crate::error::ManifestError;
 use crate::line::Line;
 use crate::names::Name;
 use crate::reader::Reader;
+use crate::seeded::Seeded;
 use crate::text::{cut, is_skipped};
 use std::alloc::Global;
 use std::marker::Model;
@@ -73,7 +74,8 @@ impl Manifest {
 }
 
 /// Reads a manifest. Of a text that is none, the first faulty line is answered, and there the fault
-/// of the least number. A text of n lines takes time in n log n.
+/// of the least number. The time that a text takes grows with its
+/// length alone.
 ///
 /// # Errors
 ///
@@ -83,7 +85,9 @@ impl Manifest {
 pub fn parse(alloc: Global, text: &[u8]) -> Result<Manifest, ManifestError>
     ensures { Gives result (manifest_of text.now) }
 {
-    let mut reader = Reader::new(alloc);
+    let mut seeded = Seeded::new();
+    seeded.add(text);
+    let mut reader = Reader::new(alloc, seeded);
     let mut rest = Some(text);
     let mut number = 0u64;
     while let Some(bytes) = rest {

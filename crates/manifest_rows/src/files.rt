@@ -6,6 +6,7 @@ ghost use Rattle.manifest.specs.declared.line.Line.{Line};
 ghost use Rattle.manifest_rows.specs.Files.{contents_at, noted, own_target, or_nowhere};
 ghost use Rattle.manifest_rows.specs.Files.{HasMore, IsIndexOf, IsOf};
 
+use manifest::seeded::{Seeded, seeded_by};
 use manifest::{Line, Manifest, Word};
 use rom_fields::memory::OutOfMemory;
 use std::alloc::Global;
@@ -33,7 +34,7 @@ struct Target {
 /// What the paths of the lines that were read lead to.
 #[derive(Drop)]
 pub struct Files {
-    paths: HashMap<Vec<u8>, Target>,
+    paths: HashMap<Vec<u8>, Target, Seeded>,
 }
 
 /// Whether a line is a `file` line.
@@ -46,7 +47,7 @@ fn is_file(line: &Line) -> bool
 /// Puts a path into the map with what it leads to.
 fn note_path(
     alloc: Global,
-    paths: &mut HashMap<Vec<u8>, Target>,
+    paths: &mut HashMap<Vec<u8>, Target, Seeded>,
     path: &[u8],
     target: Target,
 ) -> Result<(), OutOfMemory>
@@ -58,7 +59,7 @@ fn note_path(
 }
 
 /// What a path leads to, and nothing where the map does not have it.
-fn leads_to(paths: &HashMap<Vec<u8>, Target>, path: &[u8]) -> Target
+fn leads_to(paths: &HashMap<Vec<u8>, Target, Seeded>, path: &[u8]) -> Target
     ensures { result ≡ or_nowhere (noted paths.now path.now) }
 {
     match paths.get(path) {
@@ -72,7 +73,7 @@ fn leads_to(paths: &HashMap<Vec<u8>, Target>, path: &[u8]) -> Target
 
 /// What the path of a line of this index leads to, where so many sources come before it.
 fn own_target(
-    paths: &HashMap<Vec<u8>, Target>,
+    paths: &HashMap<Vec<u8>, Target, Seeded>,
     sizes: &[u64],
     source: usize,
     index: usize,
@@ -99,13 +100,13 @@ fn own_target(
 }
 
 impl Files {
-    /// What the paths of a manifest lead to, where its sources have these sizes. It takes time in
-    /// n log n for n lines.
+    /// What the paths of a manifest lead to, where its sources have these sizes. The time that it
+    /// takes grows with the number of lines.
     pub fn new(alloc: Global, m: &Manifest, sizes: &[u64]) -> Result<Files, OutOfMemory>
         requires { length sizes.now ≡ length (lines.sources_of m.now.lines) }
         ensures { IfOk result (IsOf m.now.lines sizes.now) }
     {
-        let mut paths = HashMap::new(alloc);
+        let mut paths = HashMap::with_hasher(alloc, seeded_by(m.lines()));
         let mut source = 0;
         let mut index = 0;
         let all = m.lines();

@@ -1,0 +1,55 @@
+//! Hashes of paths that nobody can choose to be alike.
+//!
+//! A manifest may be a stranger's text. Its paths are hashed by SipHash-1-3 behind the text itself,
+//! so that whoever changes a path changes all hashes.
+ghost use Rattle.std.specs.Prelude.{◌≡◌};
+ghost use Rattle.std.specs.Hash.DefaultHasher.{initial, write};
+ghost use Rattle.manifest.specs.Seeds.{behind};
+
+use crate::line::Line;
+use std::hash::{BuildHasher, DefaultHasher, Hasher};
+
+/// Makes hashes of what follows a text.
+#[derive(Clone, Copy)]
+pub struct Seeded {
+    begun: DefaultHasher,
+}
+
+impl Seeded {
+    /// Behind no text.
+    pub fn new() -> Seeded
+        ensures { result.begun ≡ initial }
+    {
+        Seeded {
+            begun: DefaultHasher::new(),
+        }
+    }
+
+    /// Behind one more text.
+    pub fn add(&mut self, text: &[u8])
+        ensures { self.new.begun ≡ write self.old.begun text.now }
+    {
+        self.begun.write(text);
+    }
+}
+
+/// Behind the paths of these lines.
+pub fn seeded_by(lines: &[Line]) -> Seeded
+    ensures { result.begun ≡ behind lines.now }
+{
+    let mut seeded = Seeded::new();
+    for line in lines {
+        seeded.add(line.path.as_bytes());
+    }
+    seeded
+}
+
+impl BuildHasher for Seeded {
+    type Hasher = DefaultHasher;
+
+    ghost build_hasher = { λ s. s.begun };
+
+    fn build_hasher(&self) -> DefaultHasher {
+        self.begun
+    }
+}
