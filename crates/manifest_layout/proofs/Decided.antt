@@ -17,11 +17,8 @@ use Rattle.romfs_format.specs.Tree.{mode_named}
 use Rattle.romfs_layout.specs.Layout.{number_of, runnable}
 use Rattle.cramfs_layout.specs.Layout.{list_len}
 use Rattle.manifest_layout.specs.Format.{Format, romfs, cramfs, len_of, references_of}
+use Rattle.manifest_layout.specs.Tests.{bad_attribute, is_large, is_long, is_long_volume, has_no_links, fault, number_by, number_of_line, at_line, of_lines, volume_by}
 use Rattle.manifest_layout.specs.Misfit.{HasBadAttribute, IsLarge, IsLong, IsLongVolume, HasNoLinks, name_len, HasMisfit, attribute, large, long_name, hard_link, HasLineMisfit, of_line, of_volume, HasLongList, HasLongLists, HasWholeMisfit, long, long_list, deep, many, IsLeastMisfit, line_misfit, whole_misfit, HasNoMisfit}
-
-abbrev pub bad_attribute : Format → Inode → Bool
-bad_attribute romfs i = not (i.uid == 0) || (not (i.gid == 0) || (not (mode_named (number_of i.kind) (i.mode == runnable) == i.mode) || (nat_lt 65535 i.major || nat_lt 65535 i.minor)))
-bad_attribute (cramfs o) i = nat_lt 65535 i.uid || (nat_lt 255 i.gid || (nat_lt 255 i.major || nat_lt 255 i.minor))
 
 attribute_decides : (f : Format) (i : Inode) → Decides (bad_attribute f i) (HasBadAttribute f i)
 attribute_decides romfs i =
@@ -34,10 +31,6 @@ attribute_decides (cramfs o) i =
     (Decides-or (nat_lt 255 i.gid) _ (Decides-ltb 255 i.gid)
     (Decides-or (nat_lt 255 i.major) (nat_lt 255 i.minor) (Decides-ltb 255 i.major) (Decides-ltb 255 i.minor)))
 
-abbrev pub is_large : Format → ℕ → Bool
-is_large romfs n = nat_lt (2 ^ 28) n
-is_large (cramfs o) n = not (nat_lt n (2 ^ 24))
-
 le_decides : (a b : ℕ) → Decides (not (nat_lt a b)) (b ≤ a)
 le_decides a b =
     let d = Decides-not (nat_lt a b) (Decides-ltb a b) in
@@ -46,10 +39,6 @@ le_decides a b =
 large_decides : (f : Format) (n : ℕ) → Decides (is_large f n) (IsLarge f n)
 large_decides romfs n = Decides-ltb (2 ^ 28) n
 large_decides (cramfs o) n = le_decides n (2 ^ 24)
-
-abbrev pub is_long : Format → ℕ → Bool
-is_long romfs n = false
-is_long (cramfs o) n = nat_lt 252 n
 
 never : Decides false ⊥
 never = (λ e. absurd (cc), λ e. absurd e)
@@ -61,41 +50,13 @@ long_decides : (f : Format) (n : ℕ) → Decides (is_long f n) (IsLong f n)
 long_decides romfs n = never
 long_decides (cramfs o) n = Decides-ltb 252 n
 
-abbrev pub is_long_volume : Format → ℕ → Bool
-is_long_volume romfs n = false
-is_long_volume (cramfs o) n = nat_lt 16 n
-
 volume_decides : (f : Format) (n : ℕ) → Decides (is_long_volume f n) (IsLongVolume f n)
 volume_decides romfs n = never
 volume_decides (cramfs o) n = Decides-ltb 16 n
 
-abbrev pub has_no_links : Format → Bool
-has_no_links romfs = false
-has_no_links (cramfs o) = true
-
 links_decides : (f : Format) → Decides (has_no_links f) (HasNoLinks f)
 links_decides romfs = never
 links_decides (cramfs o) = always
-
-abbrev pub fault : ℕ → ℕ → Fault
-fault number at = record { number = number; at = at }
-
--- the least number of those that hold
-abbrev pub number_by : Bool → Bool → Bool → Bool → Bool → Option ℕ
-number_by false true l n k = Some 1
-number_by false false true n k = Some 2
-number_by false false false true k = Some 3
-number_by false false false false k = None
-number_by true b true n k = Some 2
-number_by true b false true k = Some 3
-number_by true b false false true = Some 4
-number_by true b false false false = None
-
--- the least number of the misfits of a line
-abbrev pub number_of_line : Format → ManifestLines → List ℕ → Line → Option ℕ
-number_of_line f m sizes l =
-    let i = inode_of m.lines sizes l in
-    number_by (is_hard l.word) (bad_attribute f i) (is_large f i.size) (is_long f (name_len (names_of l.path))) (has_no_links f)
 
 -- a number is the least of those that P tells, or there is none
 abbrev LeastNumber : (ℕ → Type 0) → Option ℕ → Type 0
@@ -166,18 +127,10 @@ number_is f m sizes l true a false false false e p q r s = λ k x. none k x
 abbrev OfLine : Format → ManifestLines → List ℕ → Line → Fault → Type 0
 OfLine f m sizes l e = (e.at ≡ l.number) × HasMisfit f m sizes l e.number
 
-abbrev pub at_line : ℕ → Option ℕ → Option Fault
-at_line n None = None
-at_line n (Some k) = Some (fault k n)
-
 line_is : (f : Format) (m : ManifestLines) (sizes : List ℕ) (l : Line) (o : Option ℕ)
     → LeastNumber (HasMisfit f m sizes l) o → IsLeastFaultOf (OfLine f m sizes l) (at_line l.number o)
 line_is f m sizes l None h = record { here = tt; least = λ d x. h d.number x.1 }
 line_is f m sizes l (Some k) h = record { here = (refl, h.0); least = λ d x. inr (sym x.0, h.1 d.number x.1) }
-
-abbrev pub of_lines : Format → ManifestLines → List ℕ → List Line → Option Fault
-of_lines f m sizes [] = None
-of_lines f m sizes (l ∷ ls) = lesser_of_both (at_line l.number (number_of_line f m sizes l)) (of_lines f m sizes ls)
 
 lines_are : (f : Format) (m : ManifestLines) (sizes : List ℕ) (ls : List Line)
     → IsLeastFaultOf (λ e. Has (λ l. OfLine f m sizes l e) ls) (of_lines f m sizes ls)
@@ -191,10 +144,6 @@ lines_are f m sizes (l ∷ ls) =
 
 abbrev OfVolume : Format → ManifestLines → Fault → Type 0
 OfVolume f m e = IsLongVolume f (length m.volume) × (e ≡ fault 3 m.volume_line)
-
-abbrev pub volume_by : Bool → ℕ → Option Fault
-volume_by true n = Some (fault 3 n)
-volume_by false n = None
 
 volume_is : (f : Format) (m : ManifestLines) (b : Bool) → Decides b (IsLongVolume f (length m.volume))
     → IsLeastFaultOf (OfVolume f m) (volume_by b m.volume_line)

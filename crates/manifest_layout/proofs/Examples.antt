@@ -13,7 +13,8 @@ use Rattle.romfs_layout.specs.Layout.{place_of, data_align, device_of, code_of}
 use Rattle.cramfs_layout.specs.Layout.{size_of, kept, data_of}
 use Rattle.manifest_layout.specs.Format.{Format, romfs, cramfs, len_of}
 use Rattle.manifest_layout.specs.Misfit.{ATTRIBUTE, TOO_LARGE, NAME_TOO_LONG, HARD_LINK}
-use Rattle.manifest_layout.proofs.Decided.{least_misfit, Told, told, fault}
+use Rattle.manifest_layout.specs.Tests.{fault}
+use Rattle.manifest_layout.proofs.Decided.{least_misfit, Told, told}
 
 -- what is said of a text, where it is a manifest
 abbrev Tells : Format → List ℕ → Result ManifestLines grammar.Fault → Option Fault → Type 0

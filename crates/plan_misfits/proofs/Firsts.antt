@@ -12,7 +12,7 @@ use Rattle.manifest.specs.declared.line.Line.{Line}
 use Rattle.manifest.specs.Grammar.{IsManifest}
 use Rattle.manifest.specs.Lines.{ManifestLines}
 use Rattle.manifest_layout.specs.Format.{Format}
-use Rattle.manifest_layout.proofs.Decided.{fault, at_line, number_of_line, of_lines}
+use Rattle.manifest_layout.specs.Tests.{fault, at_line, number_of_line, of_lines}
 use Rattle.manifest_rows.proofs.Knowing.{Rise, rise}
 
 nothing_less : (o : Option Fault) → lesser_of_both None o ≡ o

@@ -10,7 +10,7 @@ use Rattle.manifest_rows.specs.Files.{contents_at, contents_of}
 use Rattle.manifest_layout.specs.Format.{Format, romfs, cramfs}
 use Rattle.manifest.specs.Paths.{names_of}
 use Rattle.manifest_layout.specs.Misfit.{name_len}
-use Rattle.manifest_layout.proofs.Decided.{bad_attribute, is_large, is_long, has_no_links, number_by, number_of_line}
+use Rattle.manifest_layout.specs.Tests.{bad_attribute, is_large, is_long, has_no_links, number_by, number_of_line}
 use Rattle.plan_misfits.specs.Misfits.{kind_by, without_bytes, size_by, size_or}
 
 contents_attribute : (f : Format) (all : List Line) (sizes : List ℕ) (l : Line) (o : Option Line)

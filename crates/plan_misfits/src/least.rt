@@ -2,7 +2,7 @@
 ghost use Rattle.std.specs.Prelude.{◌≡◌, List, ℕ, Some, length};
 ghost use Rattle.std.specs.Option.{option_map};
 ghost use Rattle.manifest.specs.Grammar.{IsManifest};
-ghost use Rattle.manifest_layout.proofs.Decided as decided;
+ghost use Rattle.manifest_layout.specs.Tests as tests;
 ghost use Rattle.manifest_layout.specs.Misfit.{HasLineMisfit};
 ghost use Rattle.manifest_rows.specs.Files.{IsOf};
 ghost use Rattle.plan_misfits.specs.Formats.{format_of};
@@ -20,7 +20,7 @@ use manifest_rows::Files;
 fn first_of_lines(format: Format, m: &Manifest, files: &Files) -> Option<Misfit>
     ensures first { (sizes : List ℕ) → IsOf m.now.lines sizes files.now
         → option_map misfit_fault result
-        ≡ decided.of_lines (format_of format) m.now sizes m.now.lines }
+        ≡ tests.of_lines (format_of format) m.now sizes m.now.lines }
     ensures of_text { IsManifest m.now }
 {
     let all = m.lines();
@@ -37,8 +37,8 @@ fn first_of_lines(format: Format, m: &Manifest, files: &Files) -> Option<Misfit>
 
 /// The misfit of the volume's name.
 fn of_volume(format: Format, m: &Manifest) -> Option<Misfit>
-    ensures { option_map misfit_fault result ≡ decided.volume_by
-        (decided.is_long_volume (format_of format) (length m.now.volume)) m.now.volume_line }
+    ensures { option_map misfit_fault result ≡ tests.volume_by
+        (tests.is_long_volume (format_of format) (length m.now.volume)) m.now.volume_line }
 {
     if is_long_volume(format, m.volume().len()) {
         Some(Misfit {

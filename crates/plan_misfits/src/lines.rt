@@ -5,7 +5,7 @@ ghost use Rattle.manifest.specs.Lines as lines;
 ghost use Rattle.manifest.specs.Lines.{ManifestLines};
 ghost use Rattle.manifest.specs.declared.line.Line as decl;
 ghost use Rattle.manifest.specs.Paths.{names_of};
-ghost use Rattle.manifest_layout.proofs.Decided as decided;
+ghost use Rattle.manifest_layout.specs.Tests as tests;
 ghost use Rattle.manifest_layout.specs.Misfit.{name_len};
 ghost use Rattle.manifest_rows.specs.Files.{IsOf, contents_at};
 ghost use Rattle.plan_misfits.specs.Formats.{format_of};
@@ -53,7 +53,7 @@ fn romfs_mode(line: &Line) -> u32
 
 /// Whether the format cannot say an attribute of a line.
 fn has_bad_attribute(format: Format, line: &Line) -> bool
-    ensures { result ≡ decided.bad_attribute (format_of format) (without_bytes line.now) }
+    ensures { result ≡ tests.bad_attribute (format_of format) (without_bytes line.now) }
 {
     let devices = match format {
         Format::Romfs => MOST_OF_TWO_BYTES,
@@ -69,7 +69,7 @@ fn has_bad_attribute(format: Format, line: &Line) -> bool
 
 /// Whether a file of so many bytes is too large.
 fn is_large(format: Format, size: u64) -> bool
-    ensures { result ≡ decided.is_large (format_of format) size }
+    ensures { result ≡ tests.is_large (format_of format) size }
 {
     match format {
         Format::Romfs => size > ROMFS_FILE_MOST,
@@ -79,7 +79,7 @@ fn is_large(format: Format, size: u64) -> bool
 
 /// Whether a name of so many bytes is too long.
 fn is_long(format: Format, len: usize) -> bool
-    ensures { result ≡ decided.is_long (format_of format) len }
+    ensures { result ≡ tests.is_long (format_of format) len }
 {
     match format {
         Format::Romfs => false,
@@ -89,7 +89,7 @@ fn is_long(format: Format, len: usize) -> bool
 
 /// Whether a volume's name of so many bytes is too long.
 pub fn is_long_volume(format: Format, len: usize) -> bool
-    ensures { result ≡ decided.is_long_volume (format_of format) len }
+    ensures { result ≡ tests.is_long_volume (format_of format) len }
 {
     match format {
         Format::Romfs => false,
@@ -99,7 +99,7 @@ pub fn is_long_volume(format: Format, len: usize) -> bool
 
 /// Whether files cannot have further names.
 fn has_no_links(format: Format) -> bool
-    ensures { result ≡ decided.has_no_links (format_of format) }
+    ensures { result ≡ tests.has_no_links (format_of format) }
 {
     match format {
         Format::Romfs => false,
@@ -150,7 +150,7 @@ fn least_number(
     long: bool,
     no_links: bool,
 ) -> Option<u32>
-    ensures { result ≡ decided.number_by hard bad_attribute large long no_links }
+    ensures { result ≡ tests.number_by hard bad_attribute large long no_links }
 {
     if !hard && bad_attribute {
         return Some(ATTRIBUTE);
@@ -171,7 +171,7 @@ fn least_number(
 pub fn number_of_line(format: Format, files: &Files, line: &Line) -> Option<u32>
     requires { is_some (names_of line.now.path) ≡ true }
     ensures { (m : ManifestLines) (sizes : List ℕ) → IsOf m.lines sizes files.now
-        → result ≡ decided.number_of_line (format_of format) m sizes line.now }
+        → result ≡ tests.number_of_line (format_of format) m sizes line.now }
 {
     let bad_attribute = has_bad_attribute(format, line);
     let large = is_large(format, size_of(files, line));

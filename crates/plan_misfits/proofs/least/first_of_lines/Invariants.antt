@@ -1,5 +1,5 @@
 use Rattle.std.proofs.Common.{◌≡◌, drop, List, ℕ}
-use Rattle.manifest_layout.proofs.Decided.{of_lines}
+use Rattle.manifest_layout.specs.Tests.{of_lines}
 use Rattle.manifest_rows.specs.Files.{IsOf}
 use Rattle.plan_misfits.specs.Formats.{format_of}
 use Rattle.plan_misfits.proofs.least.first_of_lines.Given as goal

@@ -1,5 +1,5 @@
 use Rattle.std.proofs.Common.{ap, ◌∙◌}
-use Rattle.manifest_layout.proofs.Decided.{is_large, is_long}
+use Rattle.manifest_layout.specs.Tests.{is_large, is_long}
 use Rattle.manifest_layout.specs.Misfit.{name_len}
 use Rattle.manifest.specs.Paths.{names_of}
 use Rattle.plan_misfits.specs.Formats.{format_of}
