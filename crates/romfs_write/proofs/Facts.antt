@@ -1,6 +1,5 @@
 -- What is known of a romfs plan.
-use Rattle.std.proofs.Common.{◌≡◌, ℕ, ◌+◌, ◌-◌, ◌^◌, ◌<◌, List, [], ◌∷◌, ◌++◌, map, length, get_or, replicate, refl, sym, ap, subst, ◌∙◌, arith}
-use Rattle.std.proofs.lemmas.List.{length-replicate}
+use Rattle.std.proofs.Common.{◌≡◌, ℕ, ◌+◌, ◌-◌, ◌^◌, ◌<◌, List, [], ◌∷◌, ◌++◌, map, length, get_or, refl, sym, ap, subst, ◌∙◌, arith}
 use Rattle.manifest.specs.Grammar.{IsManifest}
 use Rattle.manifest.specs.Lines.{ManifestLines, sources_of}
 use Rattle.manifest_tree.specs.Names.{Inode, Names, nothing, leaf, link, folder}
@@ -10,6 +9,7 @@ use Rattle.image_parts.specs.Padding.{pad}
 use Rattle.layout_terms.specs.Items.{Item, Section, SectionsRise}
 use Rattle.layout_terms.specs.Bodies.{item_at}
 use Rattle.romfs_layout.specs.Layout.{Header, record_len, leaf_end, header_end, ends, headers, all_headers, place_with, placed, root_at, full_size_of}
+use Rattle.romfs_layout.specs.Items as romfs_items
 use Rattle.romfs_layout.specs.Items.{item_of, items_of, sections_from}
 use Rattle.romfs_layout.specs.Planned.{IsPlanned}
 use Rattle.romfs_layout.proofs.Image.{planned_headers}
@@ -74,16 +74,22 @@ full_is volume root n =
     let hs = all_headers (root_at volume) root n in
     ap pad16 (last_of hs hs refl (omega arith) ∙ all_last (root_at volume) root n)
 
--- the plan of a manifest
+-- the plan of names
+abbrev pub planned_by : List ℕ → Inode → Names → List ℕ → Planned
+planned_by volume root n sizes =
+    let items = items_of volume root n in
+    record {
+      format = romfs;
+      volume = volume;
+      image_len = pad (full_size_of (root_at volume) n) 1024;
+      items = items;
+      sections = romfs_items.sections_of volume items;
+      sizes = sizes;
+    }
+
+-- of a manifest
 abbrev pub planned : ManifestLines → List ℕ → Planned
-planned m sizes = record {
-  format = romfs;
-  volume = m.volume;
-  image_len = len_of romfs m sizes;
-  items = of_format.items_of romfs m sizes;
-  sections = sections_of romfs m sizes;
-  sizes = sizes;
-}
+planned m sizes = planned_by m.volume (root_of m.lines sizes) (tree_of m.lines sizes) sizes
 
 same_plan : (p : Planned) (f : Format) (v : List ℕ) (l : ℕ) (i : List Item) (s : List Section) (z : List ℕ) → p.format ≡ f → p.volume ≡ v
     → p.image_len ≡ l → p.items ≡ i → p.sections ≡ s → p.sizes ≡ z
@@ -100,16 +106,13 @@ pub planned_is : (m : ManifestLines) (sizes : List ℕ) (p : Planned) → IsPlan
 planned_is m sizes p h =
     same_plan p romfs m.volume (len_of romfs m sizes) (of_format.items_of romfs m sizes) (sections_of romfs m sizes) sizes h.format h.volume h.image_len h.items h.sections h.of_sources
 
-of_contents : (m : ManifestLines) (cs : List (List ℕ)) → IsPlanned m.volume (root_of m.lines (map length cs)) (tree_of m.lines (map length cs)) cs
-    → ((file : ℕ) → get_or (map length cs) file 0 < 2 ^ 32) → IsRomfsPlan (planned m (map length cs))
-of_contents m cs h sized =
-    let sizes = map length cs in
-    let root = root_of m.lines sizes in
-    let n = tree_of m.lines sizes in
-    let r = root_at m.volume in
-    let all = items_of m.volume root n in
-    let e = full_is m.volume root n in
-    let up = in_romfs.rise m.volume root n cs h in
+pub of_names : (volume : List ℕ) (root : Inode) (n : Names) (cs : List (List ℕ)) → IsPlanned volume root n cs
+    → ((file : ℕ) → get_or (map length cs) file 0 < 2 ^ 32) → IsRomfsPlan (planned_by volume root n (map length cs))
+of_names volume root n cs h sized =
+    let r = root_at volume in
+    let all = items_of volume root n in
+    let e = full_is volume root n in
+    let up = in_romfs.rise volume root n cs h in
     let room = h.room in
     let z : 0 + r ≡ r = omega arith in
     let up' = subst (λ (k : ℕ). SectionsRise k (full_size_of r n) (sections_from 0 all)) z up.2 in
@@ -120,7 +123,7 @@ of_contents m cs h sized =
       end = ap (λ (k : ℕ). pad k 1024) (sym e);
       sections = refl;
       rises = subst (λ (k : ℕ). SectionsRise r k (sections_from 0 all)) (sym e) up';
-      bodies = are_parts cs all 0 (all_headers r root n) refl (planned_headers m.volume root n cs h);
+      bodies = are_parts cs all 0 (all_headers r root n) refl (planned_headers volume root n cs h);
       sized = sized;
     }
 
@@ -130,7 +133,7 @@ known fitting m sizes h l n =
     let cs = zeros sizes in
     let n' = subst (HasNoMisfit romfs m) (sym e) n in
     let sized = subst (λ (xs : List ℕ). (file : ℕ) → get_or xs file 0 < 2 ^ 32) (sym e) (sizes_small romfs m sizes h l n) in
-    subst (λ (xs : List ℕ). IsRomfsPlan (planned m xs)) e (of_contents m cs (fitting romfs m cs h n') sized)
+    subst (λ (xs : List ℕ). IsRomfsPlan (planned m xs)) e (of_names m.volume (root_of m.lines (map length cs)) (tree_of m.lines (map length cs)) cs (fitting romfs m cs h n') sized)
 
 pub plan_known : Fitting → (p : Planned) → IsPlan p → p.format ≡ romfs → IsRomfsPlan p
 plan_known fitting p h e =

@@ -1,14 +1,9 @@
 -- Sections and items by their index.
-use Rattle.std.proofs.Common.{◌≡◌, ℕ, zero, suc, ◌+◌, ◌<◌, List, [], ◌∷◌, map, length, drop, get_or, Option, Some, None, refl, sym, ap, ◌∙◌, arith}
-use Rattle.std.proofs.lemmas.List.{get_or-drop, length-drop}
-use Rattle.std.specs.Option.{option_map}
-use Rattle.std.specs.List.{AllByRecursion as Every}
-use Rattle.layout_terms.specs.Items.{Item, Section, section, super, record_of}
+use Rattle.std.proofs.Common.{◌≡◌, ℕ, zero, suc, ◌<◌, List, [], ◌∷◌, map, length, get_or, refl, sym, ◌∙◌, arith}
+use Rattle.layout_terms.specs.Items.{Item, Section, record_of}
 use Rattle.layout_terms.specs.Bodies.{item_at}
-use Rattle.layout_plan.specs.Plans.{section_at}
 use Rattle.plan_items.specs.declared.item.Item as code_item
-use Rattle.plan_items.specs.declared.section.Section as code_section
-use Rattle.plan_items.specs.Views.{item_view, section_view}
+use Rattle.plan_items.specs.Views.{item_view}
 use Rattle.image_stream.specs.Segments.{segment_at}
 use Rattle.romfs_layout.specs.Layout.{record_len}
 use Rattle.romfs_layout.proofs.ReadBack.{length-header}

@@ -14,17 +14,16 @@ use Rattle.image_stream.specs.Outcomes.{AreSized}
 use Rattle.image_stream.specs.WordSums.{weighted, weight, balance_of, term}
 use Rattle.image_stream.proofs.Laid.{image_laid}
 use Rattle.image_stream.proofs.ByWords.{weighted_words}
-use Rattle.manifest_tree.specs.Names.{Fill, bytes_of}
+use Rattle.manifest_tree.specs.Names.{Fill, Inode, Names, bytes_of}
 use Rattle.layout_plan.specs.Plans.{Planned, IsPlanOf}
 use Rattle.layout_terms.specs.Items.{Item, Section, Body, super, record_of, table_of, text_of, contents_of, section, SectionsRise}
 use Rattle.layout_terms.specs.Bodies.{item_at}
 use Rattle.layout_terms.proofs.Bodies.{sections_are}
-use Rattle.romfs_layout.specs.Layout.{root_at, superblock}
+use Rattle.romfs_layout.specs.Layout.{root_at, superblock, layout}
 use Rattle.romfs_layout.specs.Composed.{romfs_part, composed}
 use Rattle.romfs_layout.specs.Items.{sections_of, sections_from}
 use Rattle.romfs_write.specs.Form.{item_end, full_size, segment_by, segment_of, form_of, superblock_storing}
 use Rattle.romfs_write.specs.Known.{IsBody, IsRomfsPlan}
-use Rattle.std.specs.Prelude.{Result, Ok, Err, OnOk, OnErr}
 use Rattle.manifest.specs.Grammar.{IsManifest}
 use Rattle.manifest.specs.Lines.{ManifestLines}
 use Rattle.manifest_tree.specs.Tree.{tree_of, root_of}
@@ -36,7 +35,7 @@ use Rattle.romfs_layout.proofs.Composed.{is_composed, are_long}
 use Rattle.romfs_layout.proofs.Sectioned as in_romfs
 use Rattle.image_stream.proofs.Results.{sizes_are}
 use Rattle.layout_plan.proofs.Sized.{Fitting, size_is}
-use Rattle.romfs_write.proofs.Facts.{planned, planned_is, full_is}
+use Rattle.romfs_write.proofs.Facts.{planned_by, planned_is, full_is}
 use Rattle.romfs_write.proofs.Laid.{laid_out}
 
 -- zeros count nothing
@@ -135,17 +134,12 @@ rise_low : (from end : ℕ) (ss : List Section) → SectionsRise from end ss →
 rise_low from end [] r = r
 rise_low from end (s ∷ ss) r = let l = rise_low (s.place + s.len) end ss r.2 in let k = r.0 in omega (arith, l, k)
 
--- so is that of a manifest's plan
-planned_means : (m : ManifestLines) (cs : List (List ℕ))
-    → IsPlanned m.volume (root_of m.lines (map length cs)) (tree_of m.lines (map length cs)) cs
-    → IsRomfsPlan (planned m (map length cs))
-    → image_of (form_of (planned m (map length cs))) balance_of cs ≡ layout_of romfs m cs
-planned_means m cs h known =
-    let sizes = map length cs in
-    let p = planned m sizes in
-    let volume = m.volume in
-    let root = root_of m.lines sizes in
-    let n = tree_of m.lines sizes in
+-- so is that of the plan of names
+pub names_mean : (volume : List ℕ) (root : Inode) (n : Names) (cs : List (List ℕ)) → IsPlanned volume root n cs
+    → IsRomfsPlan (planned_by volume root n (map length cs))
+    → image_of (form_of (planned_by volume root n (map length cs))) balance_of cs ≡ layout volume root n cs
+names_mean volume root n cs h known =
+    let p = planned_by volume root n (map length cs) in
     let is = items_of volume root n in
     let ss = sections_from 0 is in
     let size = full_size is in
@@ -171,7 +165,7 @@ pub means : Fitting → (p : Planned) (m : ManifestLines) (cs : List (List ℕ))
 means fitting p m cs hm known is =
     let e = planned_is m (map length cs) p is in
     subst (λ (q : Planned). image_of (form_of q) balance_of cs ≡ layout_of romfs m cs) (sym e)
-    (planned_means m cs (fitting romfs m cs hm is.fits) (subst IsRomfsPlan e known))
+    (names_mean m.volume (root_of m.lines (map length cs)) (tree_of m.lines (map length cs)) cs (fitting romfs m cs hm is.fits) (subst IsRomfsPlan e known))
 
 pub sized_means : Fitting → (p : Planned) (m : ManifestLines) (sizes : List ℕ) (cs : List (List ℕ)) → IsManifest m → IsRomfsPlan p
     → IsPlanOf romfs m sizes p → length cs ≡ length p.sizes → AreSized p.sizes cs
