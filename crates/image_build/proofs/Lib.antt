@@ -2,3 +2,16 @@ pub mod Answered
 pub mod Whole
 mod Filled
 mod Streams
+mod Given
+mod Differ
+mod InCramfs
+mod InRomfs
+mod OwnSources
+mod Untold
+mod Owned
+mod Alike
+mod Moved
+mod Sizes
+mod Each
+mod Meaning
+mod Accepting

@@ -1,3 +1,4 @@
 pub mod Builds
 pub mod Accepted
 pub mod Streamed
+pub mod Each

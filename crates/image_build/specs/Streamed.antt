@@ -1,14 +1,16 @@
 -- What streams into a writer, in each format. (This project's own.)
-use Rattle.std.specs.Prelude.{◌≡◌, ℕ, List, length, Ok}
+use Rattle.std.specs.Prelude.{◌≡◌, ℕ, false, List, map, length, Ok}
+use Rattle.std.specs.List.{AllByRecursion as Every}
 use Rattle.crc.specs.Crc.{crc_of}
 use Rattle.cramfs_write.specs.Form as in_cramfs
-use Rattle.image_stream.specs.Segments.{Form}
+use Rattle.image_stream.specs.Segments.{Form, checked}
 use Rattle.image_stream.specs.WordSums.{balance_of}
 use Rattle.layout_plan.specs.Plans.{Planned, IsPlanOf}
 use Rattle.manifest.specs.Grammar.{manifest_of}
-use Rattle.manifest.specs.Lines.{ManifestLines, sources_of}
+use Rattle.manifest.specs.Lines.{ManifestLines, sources_of, is_same}
 use Rattle.manifest_layout.specs.Format.{Format, romfs, cramfs}
 use Rattle.romfs_write.specs.Form as in_romfs
+use Rattle.image_build.specs.Builds.{Builds}
 
 -- the text is a manifest, and this is its plan, with a size for each source
 pub record IsPlanOfText (text : List ℕ) (p : Planned) : Type 0 where
@@ -26,3 +28,18 @@ form_in (cramfs o) p = in_cramfs.form_of o p
 abbrev pub stored_in : Format → List ℕ → ℕ
 stored_in romfs = balance_of
 stored_in (cramfs o) = crc_of
+
+-- the image of a plan, of which this is what stands behind the superblock
+abbrev pub image_with : Planned → List ℕ → List ℕ
+image_with p rest = checked (form_in p.format p).head (stored_in p.format) rest
+
+-- Each source stands in the image once: there is no `same` line, for which romfs has a copy, that is read again.
+abbrev pub HasNoCopies : Format → ManifestLines → Type 0
+HasNoCopies romfs m = Every (λ l. is_same l.word ≡ false) m.lines
+HasNoCopies (cramfs o) m = Unit {0}
+
+-- the bytes are what a build answers to the text and some contents of the planned sizes
+pub record IsBuiltOfSome (text : List ℕ) (p : Planned) (bytes : List ℕ) : Type 0 where
+  pub contents : List (List ℕ)
+  pub sized : map length contents ≡ p.sizes
+  pub built : Builds p.format text contents (Ok bytes)

@@ -1,9 +1,13 @@
 //! Laws about what is built.
-ghost use Rattle.std.specs.Prelude.{◌≡◌, ◌≢◌, ℕ, List, map, length, Result, Ok, Err};
+ghost use Rattle.std.specs.Prelude.{◌≡◌, ◌≢◌, ℕ, List, Option, map, length, Result, Ok, Err};
 ghost use Rattle.image_build.specs.Accepted.{usual};
 ghost use Rattle.image_build.specs.Builds.{Builds};
+ghost use Rattle.image_build.specs.Each.{IsMeantEach};
+ghost use Rattle.image_build.specs.Streamed.{HasNoCopies, IsBuiltOfSome, IsPlanOfText, form_in, image_with, stored_in};
 ghost use Rattle.image_build.specs.declared.error.BuildError.{BuildError};
 ghost use Rattle.image_check.specs.Checked.{HasTree, IsFaultless, IsRefused};
+ghost use Rattle.image_stream.specs.Outcomes.{IsWritten};
+ghost use Rattle.layout_plan.specs.Plans.{Planned};
 ghost use Rattle.manifest.specs.Grammar.{manifest_of};
 ghost use Rattle.manifest.specs.Lines.{ManifestLines};
 ghost use Rattle.manifest_layout.specs.Format.{Format};
@@ -39,6 +43,38 @@ pub fn built_is_accepted()
         → (m : ManifestLines) × (manifest_of text ≡ Ok m)
         × IsMeant bytes t contents m (map length contents) }
 {
+    image_check::laws::exact();
+    image_check::laws::one_tree();
+}
+
+/// What `stream` writes at `Ok` is an image, whatever the sources tell, so where they tell nothing, as
+/// files do, too: a check finds no fault in it and refuses nothing but memory, and the tree that it
+/// finds is what the manifest means, where each `file` and each `same` line has contents of its own,
+/// of the planned size. Where no source has a copy, it is what a build answers to some contents of
+/// the sources: those that they gave. The bytes are those that `w` says were written.
+pub fn streamed_is_accepted()
+    ensures faultless { (text : List ℕ) (p : Planned) (told : Option (List (List ℕ)))
+        (old new : Option (List ℕ)) → IsPlanOfText text p
+        → (w : IsWritten told (form_in p.format p) (stored_in p.format) old new)
+        → IsFaultless (image_with p w.rest) usual }
+    ensures refused { (text : List ℕ) (p : Planned) (told : Option (List (List ℕ)))
+        (old new : Option (List ℕ)) (e : CheckError) → IsPlanOfText text p
+        → (w : IsWritten told (form_in p.format p) (stored_in p.format) old new)
+        → IsRefused (image_with p w.rest) usual e → e ≡ CheckError.OutOfMemory }
+    ensures each { (text : List ℕ) (p : Planned) (told : Option (List (List ℕ)))
+        (old new : Option (List ℕ)) (t : Node) → (is : IsPlanOfText text p)
+        → (w : IsWritten told (form_in p.format p) (stored_in p.format) old new)
+        → HasTree (image_with p w.rest) usual t
+        → (b : ℕ → List ℕ) × IsMeantEach (image_with p w.rest) t b is.lines p.sizes }
+    ensures built { (text : List ℕ) (p : Planned) (told : Option (List (List ℕ)))
+        (old new : Option (List ℕ)) → (is : IsPlanOfText text p) → HasNoCopies p.format is.lines
+        → (w : IsWritten told (form_in p.format p) (stored_in p.format) old new)
+        → IsBuiltOfSome text p (image_with p w.rest) }
+{
+    manifest_layout::laws::layout_is_meant();
+    manifest_layout::laws::fitting_is_planned();
+    romfs_layout::laws::layout_has_tree();
+    manifest_tree::laws::names_lead_to_files();
     image_check::laws::exact();
     image_check::laws::one_tree();
 }

@@ -18,7 +18,7 @@ use rom_fields::bytes::ByteWrite;
 ///
 /// At `Ok` just the image was written that a build in memory answers, where the sources tell their
 /// contents; else a whole image of some contents of the planned sizes, with the check value of just
-/// these bytes.
+/// these bytes, which a check accepts (`laws::streamed_is_accepted`).
 ///
 /// # Errors
 ///

@@ -1,0 +1,25 @@
+use Rattle.image_build.specs.Accepted.{usual}
+use Rattle.image_build.specs.Streamed.{image_with}
+use Rattle.image_build.proofs.Accepting.{laid_each, each_tree}
+use Rattle.image_build.proofs.Untold.{untold}
+use Rattle.image_build.proofs.Whole.{refused}
+use Rattle.image_build.proofs.laws.streamed_is_accepted.Goals as goal
+
+pub returns-clause-faultless : goal.returns-clause-faultless
+returns-clause-faultless c = λ text p told old new is w.
+    let x = laid_each c.fitting_is_planned.ensures c.layout_is_meant.ensures.tree c.layout_has_tree.ensures c.names_lead_to_files.ensures text p is told w.rest w.stands in
+    c.exact.ensures.tree (image_with p w.rest) usual x.0 x.1
+
+pub returns-clause-refused : goal.returns-clause-refused
+returns-clause-refused c = λ text p told old new e is w r.
+    let x = laid_each c.fitting_is_planned.ensures c.layout_is_meant.ensures.tree c.layout_has_tree.ensures c.names_lead_to_files.ensures text p is told w.rest w.stands in
+    refused (image_with p w.rest) e (x.0, x.1) r
+
+pub returns-clause-each : goal.returns-clause-each
+returns-clause-each c = λ text p told old new t is w h.
+    let x = laid_each c.fitting_is_planned.ensures c.layout_is_meant.ensures.tree c.layout_has_tree.ensures c.names_lead_to_files.ensures text p is told w.rest w.stands in
+    each_tree text p is (image_with p w.rest) (λ t u. c.one_tree.ensures (image_with p w.rest) usual usual t u) x t h
+
+pub returns-clause-built : goal.returns-clause-built
+returns-clause-built c = λ text p told old new is none w.
+    untold c.fitting_is_planned.ensures c.layout_is_meant.ensures.tree text p is none told w.rest w.stands

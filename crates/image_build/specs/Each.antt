@@ -1,0 +1,38 @@
+-- What a manifest means where each of its regular files has contents of its own. (This project's own.)
+use Rattle.std.specs.Prelude.{◌≡◌, ℕ, List, [], length, Some, ◌↔◌}
+use Rattle.std.specs.Option.{option_map}
+use Rattle.rom_tree.specs.Tree.{Node, ino_of}
+use Rattle.manifest.specs.Lines.{ManifestLines}
+use Rattle.manifest_tree.specs.Names.{Fill, no_bytes, text, source, Inode}
+use Rattle.manifest_tree.specs.Shape.{Value, node_value, node_under}
+use Rattle.manifest_tree.specs.Tree.{file_named}
+
+-- the bytes of a file, where b are those of a source
+abbrev pub bytes_given : List ℕ → Fill → List ℕ
+bytes_given b no_bytes = []
+bytes_given b (text t) = t
+bytes_given b (source k) = b
+
+-- a file of a manifest, where b are the bytes of each line's own
+unfoldable pub value_given : (ℕ → List ℕ) → Inode → Value
+value_given b i = record {
+  kind = i.kind;
+  mode = i.mode;
+  uid = i.uid;
+  gid = i.gid;
+  major = i.major;
+  minor = i.minor;
+  bytes = bytes_given (b i.line) i.fill;
+}
+
+-- The tree t of an image is what a manifest means, but that each `file` and each `same` line has contents of its own,
+-- told by its number, of the planned size: at each path stands the file of the line with its names, and one node at two
+-- paths exactly where one line is behind both.
+pub record IsMeantEach (image : List ℕ) (t : Node) (b : ℕ → List ℕ) (m : ManifestLines) (sizes : List ℕ) : Type 0 where
+  pub values : (q : List (List ℕ))
+      → option_map (node_value image) (node_under q t) ≡ option_map (value_given b) (file_named m.lines sizes q)
+  pub sized : (q : List (List ℕ)) (i : Inode) (k : ℕ) → file_named m.lines sizes q ≡ Some i → i.fill ≡ source k
+      → length (b i.line) ≡ i.size
+  pub shared : (p q : List (List ℕ)) (x y : Node) (i j : Inode) → node_under p t ≡ Some x → node_under q t ≡ Some y
+      → file_named m.lines sizes p ≡ Some i → file_named m.lines sizes q ≡ Some j
+      → (ino_of x ≡ ino_of y) ↔ (i.line ≡ j.line)
