@@ -1,1 +1,6 @@
 mod Served
+mod Pieces
+mod Opened
+mod Links
+mod Replies
+mod Lines

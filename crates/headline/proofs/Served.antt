@@ -7,6 +7,7 @@ use Rattle.rom_fields.specs.Written.{Output}
 use Rattle.rom_tree.specs.Tree.{Node}
 use Rattle.rom_tree.specs.Image.{Image}
 use Rattle.rom_tree.specs.declared.types.Report.{Report}
+use Rattle.image_build.specs.Each.{IsMeantEach}
 use Rattle.image_check.specs.Checked.{HasTree, Shows, IsRefused, romfs, cramfs}
 use Rattle.manifest.specs.Grammar.{manifest_of}
 use Rattle.manifest.specs.Lines.{ManifestLines}
@@ -17,7 +18,7 @@ use Rattle.rom_commands.specs.Answers.{Holds, HasFault, IsFaultText, usual_limit
 use Rattle.rom_commands.specs.Serving.{Input, Answers, Refuses, ServingEnds}
 use Rattle.rom_commands.specs.declared.serving.Serving.{Serving}
 use Rattle.rom_commands.specs.declared.serving.Serving.TheVariants.{Served, Refused, Memory, ReadFault, WriteFault, TooManyReads}
-use Rattle.headline.specs.Headline.{IsServedAs, IsServedAsMeant, IsUnserved}
+use Rattle.headline.specs.Headline.{IsServedAs, IsServedAsMeant, IsServedAsGiven, IsUnserved}
 
 shown : (bytes : List ℕ) (m : Image) (report : Report) → Shows bytes usual_limits m report → HasTree bytes usual_limits m.tree
 shown bytes m report (romfs x) = inl x.tree
@@ -56,3 +57,20 @@ built text contents bytes r₀ r w₀ w o memory meant (inl x) =
     inl (record { lines = is.0; manifest = is.1; tree = x.0.tree; meant = is.2; served = served bytes x.0 r₀ r w₀ w o x.1 x.2 })
 built text contents bytes r₀ r w₀ w o memory meant (inr x) =
     inr (unserved bytes r₀ r w₀ w o (no_fault bytes memory) x)
+
+pub given : (lines : ManifestLines) (sizes bytes : List ℕ) (r₀ r : Input) (w₀ w : Output) (o : Serving) → ((e : CheckError) → IsRefused bytes usual_limits e → e ≡ check.OutOfMemory)
+    → ((t : Node) → HasTree bytes usual_limits t → (b : ℕ → List ℕ) × IsMeantEach bytes t b lines sizes)
+    → ServingEnds bytes r₀ r w₀ w o → IsServedAsGiven lines sizes bytes r₀ r w₀ w o ⊎ IsUnserved r₀ r w₀ w o
+given lines sizes bytes r₀ r w₀ w o memory meant (inl x) =
+    let is = meant x.0.tree (has_tree bytes x.0 x.1) in
+    inl (record { tree = x.0.tree; given = is.0; meant = is.1; served = served bytes x.0 r₀ r w₀ w o x.1 x.2 })
+given lines sizes bytes r₀ r w₀ w o memory meant (inr x) = inr (unserved bytes r₀ r w₀ w o (no_fault bytes memory) x)
+
+abbrev pub IsOfSome : (text sizes bytes : List ℕ) (r₀ r : Input) (w₀ w : Output) → Serving → Type 0
+IsOfSome text sizes bytes r₀ r w₀ w o = (contents : List (List ℕ)) × (map length contents ≡ sizes) × IsServedAsMeant text contents bytes r₀ r w₀ w o
+
+pub of_some : (text sizes bytes : List ℕ) (contents : List (List ℕ)) (r₀ r : Input) (w₀ w : Output) (o : Serving) → map length contents ≡ sizes
+    → IsServedAsMeant text contents bytes r₀ r w₀ w o ⊎ IsUnserved r₀ r w₀ w o
+    → IsOfSome text sizes bytes r₀ r w₀ w o ⊎ IsUnserved r₀ r w₀ w o
+of_some text sizes bytes contents r₀ r w₀ w o e (inl x) = inl (contents, e, x)
+of_some text sizes bytes contents r₀ r w₀ w o e (inr x) = inr x

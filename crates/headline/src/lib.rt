@@ -3,26 +3,35 @@
 //! For every image that the check accepts, whatever lines come, the server writes the replies of a
 //! plain tree of files with a table of open descriptors, the tree being the one that the format gives
 //! those bytes; and an image that was built from a manifest is accepted, and is served as the tree
-//! that the manifest means. `specs/Headline.antt` says each of these words. And an image that is taken
-//! apart and built again has a tree like its own.
+//! that the manifest means; so is one that was streamed from files. `specs/Headline.antt` says each of
+//! these words. What is lent is a slice of the image, as `specs/Lent.antt` says. And an image that is
+//! taken apart and built again has a tree like its own.
 #![tactic(auto)]
 
-ghost use Rattle.std.specs.Prelude.{◌≡◌, ◌⊎◌, ℕ, List, Ok};
-ghost use Rattle.headline.specs.Headline.{IsServedAs, IsServedAsMeant, IsUnserved};
+ghost use Rattle.std.specs.Prelude.{◌≡◌, ◌⊎◌, ◌≤◌, ℕ, List, Option, Some, Ok, false, length, map};
+ghost use Rattle.headline.specs.Headline.{IsServedAs, IsServedAsMeant, IsServedAsGiven, IsUnserved};
+ghost use Rattle.headline.specs.Lent.{IsPieceOf, open_after};
 ghost use Rattle.image_build.specs.Builds.{Builds};
+ghost use Rattle.image_build.specs.Streamed.{HasNoCopies, IsPlanOfText, form_in, image_with, stored_in};
 ghost use Rattle.image_check.specs.Checked.{HasTree, IsFaultless};
 ghost use Rattle.image_manifest.specs.Lines.{lines_of};
 ghost use Rattle.image_manifest.specs.Sources.{sources_of};
 ghost use Rattle.image_manifest.specs.Tellable.{IsToldWhole};
 ghost use Rattle.image_told.specs.Alike.{AreAlike};
+ghost use Rattle.image_stream.specs.Outcomes.{IsWritten};
+ghost use Rattle.layout_plan.specs.Plans.{Planned};
 ghost use Rattle.manifest_text.specs.Printed.{manifest_text};
 ghost use Rattle.manifest_layout.specs.Format.{Format};
+ghost use Rattle.open_files.specs.Calls.{Of, Lent};
+ghost use Rattle.open_files.specs.Machine.{Open, image_calls, open_at};
+ghost use Rattle.path_walk.specs.Resolution.{resolution, tree_namespace};
 ghost use Rattle.rom_commands.specs.Answers.{IsFaultText, usual_limits};
 ghost use Rattle.rom_commands.specs.Serving.{Input, Refuses, ServingEnds};
 ghost use Rattle.rom_commands.specs.declared.serving.Serving.{Serving};
 ghost use Rattle.rom_fields.specs.Written.{Output};
 ghost use Rattle.rom_tree.specs.Image.{Image};
-ghost use Rattle.rom_tree.specs.Tree.{Node};
+ghost use Rattle.rom_tree.specs.Tree.{Node, places_of};
+ghost use Rattle.rom_tree.specs.declared.types.Limits.{Limits};
 
 /// What follows from the clause of `rom_commands::serving::serve_image`, for all bytes: lines are
 /// answered from the one tree that the format gives the bytes, or the bytes are refused with their
@@ -58,3 +67,49 @@ pub fn built_again()
     image_build::laws::built_is_accepted();
     image_told::laws::built_again_is_alike();
 }
+
+/// What follows of an image that was streamed, whatever the sources of the files tell: so of files,
+/// too, which tell nothing. What `image_build::stream` wrote at `Ok` is refused for memory alone:
+/// else it is served as the tree that the manifest means, where each `file` and each `same` line has
+/// contents of its own, of the planned size; and where no source has a copy in the image, as what
+/// it means with some contents of the sources.
+pub fn streamed()
+    ensures each { (text : List ℕ) (p : Planned) (told : Option (List (List ℕ)))
+        (old new : Option (List ℕ)) (r₀ r : Input) (w₀ w : Output) (o : Serving)
+        → (is : IsPlanOfText text p)
+        → (s : IsWritten told (form_in p.format p) (stored_in p.format) old new)
+        → ServingEnds (image_with p s.rest) r₀ r w₀ w o
+        → IsServedAsGiven is.lines p.sizes (image_with p s.rest) r₀ r w₀ w o
+        ⊎ IsUnserved r₀ r w₀ w o }
+    ensures built { (text : List ℕ) (p : Planned) (told : Option (List (List ℕ)))
+        (old new : Option (List ℕ)) (r₀ r : Input) (w₀ w : Output) (o : Serving)
+        → (is : IsPlanOfText text p) → HasNoCopies p.format is.lines
+        → (s : IsWritten told (form_in p.format p) (stored_in p.format) old new)
+        → ServingEnds (image_with p s.rest) r₀ r w₀ w o
+        → ((contents : List (List ℕ)) × (map length contents ≡ p.sizes)
+        × IsServedAsMeant text contents (image_with p s.rest) r₀ r w₀ w o)
+        ⊎ IsUnserved r₀ r w₀ w o }
+{
+    image_build::laws::streamed_is_accepted();
+    image_build::laws::built_is_accepted();
+}
+
+/// What is lent, whatever lines came before: a reply to `lend` or `map` has a slice of the image's
+/// own bytes, from the place on that it tells, and these are just the bytes of the open file, from
+/// its position or from the offset on. So is a link's text that `readlink` tells, whole, where the
+/// tree of the image is the one that a format gives some bytes.
+pub fn lent()
+    ensures lend { (m : Image) (lines : List (List ℕ)) (fd most : ℕ) (l : Of Lent)
+        → ((image_calls 64 m).lend_piece (open_after m lines) fd most).reply ≡ Ok l
+        → (o : Open Node) × (open_at (open_after m lines) fd ≡ Some o)
+        × IsPieceOf m o.place o.position l.1 × (length l.1.bytes ≤ most) }
+    ensures map { (m : Image) (lines : List (List ℕ)) (fd off len : ℕ) (l : Of Lent)
+        → ((image_calls 64 m).map_piece (open_after m lines) fd off len).reply ≡ Ok l
+        → (o : Open Node) × (open_at (open_after m lines) fd ≡ Some o)
+        × IsPieceOf m o.place off l.1 × (length l.1.bytes ≡ len) }
+    ensures link { (all : List ℕ) (limits : Limits) (m : Image) (lines : List (List ℕ))
+        (path : List ℕ) (l : Of Lent) → HasTree all limits m.tree
+        → ((image_calls 64 m).readlink (open_after m lines) path).reply ≡ Ok l
+        → (x : Node) × (resolution (tree_namespace m.bytes m.tree) path false ≡ Ok x)
+        × IsPieceOf m x 0 l.1 × (length l.1.bytes ≡ length (places_of x)) }
+{}

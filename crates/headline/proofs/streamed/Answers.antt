@@ -1,0 +1,16 @@
+use Rattle.image_build.specs.Streamed.{image_with}
+use Rattle.headline.proofs.Served.{built, given, of_some}
+use Rattle.headline.proofs.streamed.Goals as goal
+
+pub returns-clause-each : goal.returns-clause-each
+returns-clause-each c = λ text p told old new r₀ r w₀ w o is s.
+    let law = c.streamed_is_accepted.ensures in
+    given is.lines p.sizes (image_with p s.rest) r₀ r w₀ w o (λ e. law.refused text p told old new e is s) (λ t. law.each text p told old new t is s)
+
+pub returns-clause-built : goal.returns-clause-built
+returns-clause-built c = λ text p told old new r₀ r w₀ w o is none s ends.
+    let bytes = image_with p s.rest in
+    let b = c.streamed_is_accepted.ensures.built text p told old new is none s in
+    let law = c.built_is_accepted.ensures in
+    of_some text p.sizes bytes b.contents r₀ r w₀ w o b.sized
+    (built text b.contents bytes r₀ r w₀ w o (λ e. law.refused p.format text b.contents bytes e b.built) (law.meant p.format text b.contents bytes b.built) ends)
