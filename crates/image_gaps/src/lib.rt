@@ -1,0 +1,4 @@
+//! The bytes of a sound image that nothing uses.
+#![tactic(auto)]
+
+mod spans;
