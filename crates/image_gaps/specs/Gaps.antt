@@ -21,10 +21,14 @@ use Rattle.image_check.specs.declared.any.AnyImage.{AnyImage}
 use Rattle.image_check.specs.declared.any.AnyImage.TheVariants.{Romfs, Cramfs}
 use Rattle.image_gaps.specs.Unused.{unused}
 
--- the records of a romfs image whose root is at r, of which there are fewer than 2^32: the root, its list, and what
--- comes after it, where it heads its own list
+-- no image has more records
+unfoldable pub most_records : ℕ
+most_records = 2 ^ 32
+
+-- the records of a romfs image whose root is at r: the root, its list, and what comes after it, where it heads its own
+-- list
 unfoldable pub romfs_forest : List ℕ → ℕ → Forest
-romfs_forest b r = at r (romfs_grow (2 ^ 32) b (list_of b r r)) (romfs_grow (2 ^ 32) b (following b r r))
+romfs_forest b r = at r (romfs_grow most_records b (list_of b r r)) (romfs_grow most_records b (following b r r))
 
 -- what they and the superblock take
 unfoldable pub romfs_extents : List ℕ → ℕ → List Span
@@ -38,7 +42,7 @@ romfs_gaps all =
 -- the records of a cramfs image: the root and its list
 unfoldable pub cramfs_forest : Order → List ℕ → Forest
 cramfs_forest o b =
-    at root_place (cramfs_grow (2 ^ 32) o b (list_end o b root_place) (list_start o b root_place)) none
+    at root_place (cramfs_grow most_records o b (list_end o b root_place) (list_start o b root_place)) none
 
 -- what they and the superblock take
 unfoldable pub cramfs_extents : Order → List ℕ → List Span

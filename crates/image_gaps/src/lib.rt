@@ -1,4 +1,5 @@
 //! The bytes of a sound image that nothing uses.
 #![tactic(auto)]
 
+mod romfs_records;
 mod spans;
