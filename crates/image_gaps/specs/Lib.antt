@@ -1,3 +1,4 @@
 pub mod Unused
 pub mod Gaps
 pub mod Records
+pub mod Held

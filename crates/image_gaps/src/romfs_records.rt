@@ -15,7 +15,7 @@ use std::alloc::Global;
 
 /// The word at `at`.
 #[tactic(auto, unfolding(rom_fields::specs::Words::word_be))]
-fn word(b: &[u8], at: usize) -> u32
+pub(crate) fn word(b: &[u8], at: usize) -> u32
     requires { at + 4 ≤ length b.now }
     ensures { result ≡ word_be b.now at }
 {

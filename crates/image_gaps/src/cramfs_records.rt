@@ -1,0 +1,251 @@
+//! What the superblock and the records of a cramfs image take.
+ghost use Rattle.std.specs.Prelude.{◌≡◌, ◌+◌, ◌*◌, ◌<◌, ◌≤◌, ◌^◌, ◌++◌, ℕ, length, true, OnOk, IfOk, Some};
+ghost use Rattle.std.specs.Bool.{OnTrue};
+ghost use Rattle.std.specs.BTreeMap.{get};
+ghost use Rattle.std.specs.Ordering.{nat_cmp};
+ghost use Rattle.cramfs_format.specs.Inode.{type_of, size_of, offset_of, end_of, list_start, list_end, block_count, block_start, TableLies};
+ghost use Rattle.cramfs_format.specs.Tree.{data_from};
+ghost use Rattle.cramfs_format.specs.Made.{IsCramfs};
+ghost use Rattle.image_gaps.specs.Gaps.{cramfs_extents};
+ghost use Rattle.image_gaps.specs.Records.{cramfs_list, cramfs_file, cramfs_contents, cramfs_record, CoverTheSame, AreMet};
+
+use crate::spans::add;
+use cramfs_format::order::Order;
+use rom_fields::memory::OutOfMemory;
+use rom_fields::span::{Extent, Span};
+use std::alloc::Global;
+use std::collections::BTreeMap;
+
+/// The type of the record at `at`.
+#[tactic(auto, unfolding(cramfs_format::specs::Inode::type_of, cramfs_format::specs::Inode::mode_of))]
+fn type_at(order: Order, b: &[u8], at: usize) -> u32
+    requires { at + 12 ≤ length b.now }
+    ensures { result ≡ type_of order b.now at }
+{
+    order.first_field(16, order.word(b, at)) / 4_096
+}
+
+/// The size of the record at `at`.
+#[tactic(auto, unfolding(cramfs_format::specs::Inode::size_of))]
+fn size_at(order: Order, b: &[u8], at: usize) -> u32
+    requires { at + 12 ≤ length b.now }
+    ensures size { result ≡ size_of order b.now at }
+    ensures small { result < 2 ^ 24 }
+{
+    order.first_field(24, order.word(b, at + 4))
+}
+
+/// Where the list or the block pointers of the record at `at` begin.
+#[tactic(auto, unfolding(cramfs_format::specs::Inode::offset_of, cramfs_format::specs::Inode::list_start))]
+fn offset_at(order: Order, b: &[u8], at: usize) -> u32
+    requires { at + 12 ≤ length b.now }
+    ensures offset { result ≡ offset_of order b.now at }
+    ensures start { result ≡ list_start order b.now at }
+    ensures small { result < 2 ^ 28 }
+{
+    order.field_after(6, order.word(b, at + 8)) * 4
+}
+
+/// Where the list of the record at `at` ends; 0 where it has none.
+#[tactic(auto, unfolding(cramfs_format::specs::Inode::list_end))]
+fn list_end_at(order: Order, b: &[u8], at: usize) -> u32
+    requires { at + 12 ≤ length b.now }
+    ensures { result ≡ list_end order b.now at }
+{
+    if type_at(order, b, at) == 4 {
+        offset_at(order, b, at) + size_at(order, b, at)
+    } else {
+        0
+    }
+}
+
+/// Where the record at `at` ends, and the next of its list begins.
+#[tactic(auto, unfolding(cramfs_format::specs::Inode::end_of, cramfs_format::specs::Inode::name_room))]
+fn end_at(order: Order, b: &[u8], at: u32) -> u32
+    requires header { at + 12 ≤ length b.now }
+    requires within { end_of order b.now at ≤ length b.now }
+    requires small { length b.now < 2 ^ 32 }
+    ensures { result ≡ end_of order b.now at }
+{
+    let room = order.first_field(6, order.word(b, at as usize + 8)) * 4;
+    at + 12 + room
+}
+
+/// How many blocks hold so many bytes.
+fn blocks_of(size: u32) -> u32
+    requires { size < 2 ^ 24 }
+    ensures { result ≡ block_count size }
+{
+    (size + 4_095) / 4_096
+}
+
+/// Where the block of a pointer begins.
+fn start_of(pointer: u32) -> u32
+    ensures { result ≡ block_start pointer }
+{
+    pointer % 1_073_741_824 * 4
+}
+
+/// Adds the blocks of `size` bytes, whose pointers begin at `table`.
+fn add_blocks(
+    spans: &mut Vec<Span>,
+    order: Order,
+    b: &[u8],
+    table: u32,
+    size: u32,
+) -> Result<(), OutOfMemory>
+    requires small { size < 2 ^ 24 }
+    requires table { 0 < size → table + 4 * block_count size ≤ length b.now }
+    ensures { OnOk result (spans.new.items
+        ≡ spans.old.items ++ data_from order b.now (block_count size) table size) }
+{
+    let count = blocks_of(size);
+    'pointers: for i in 0..count {
+        let pointer = order.word(b, table as usize + 4 * i as usize);
+        let len = (size - 4_096 * i).min(4_096);
+        add(spans, Extent::Data, start_of(pointer), len)?;
+    }
+    Ok(())
+}
+
+/// Adds the block pointers from `table` on, and the blocks.
+fn add_file(
+    spans: &mut Vec<Span>,
+    order: Order,
+    b: &[u8],
+    table: u32,
+    size: u32,
+) -> Result<(), OutOfMemory>
+    requires small { size < 2 ^ 24 }
+    requires table { 0 < size → table + 4 * block_count size ≤ length b.now }
+    ensures { OnOk result (spans.new.items
+        ≡ spans.old.items ++ cramfs_file order b.now table size) }
+{
+    add(spans, Extent::Table, table, 4 * blocks_of(size))?;
+    add_blocks(spans, order, b, table, size)
+}
+
+/// Whether a table of just this size was met.
+fn is_met(met: &BTreeMap<u32, u32>, table: u32, size: u32) -> bool
+    ensures { OnTrue result (get nat_cmp met.now table ≡ Some size) }
+{
+    match met.get(&table) {
+        Some(known) => *known == size,
+        None => false,
+    }
+}
+
+/// Adds the block pointers and the blocks of a file or a link, where these were not met.
+fn add_once(
+    spans: &mut Vec<Span>,
+    met: &mut BTreeMap<u32, u32>,
+    order: Order,
+    b: &[u8],
+    table: u32,
+    size: u32,
+) -> Result<(), OutOfMemory>
+    requires small { size < 2 ^ 24 }
+    requires table { 0 < size → table + 4 * block_count size ≤ length b.now }
+    requires met { AreMet order b.now met.old spans.old.items }
+    ensures same { OnOk result (CoverTheSame spans.new.items
+        (spans.old.items ++ cramfs_file order b.now table size)) }
+    ensures met { OnOk result (AreMet order b.now met.new spans.new.items) }
+{
+    if is_met(met, table, size) {
+        return Ok(());
+    }
+    add_file(spans, order, b, table, size)?;
+    met.insert(table, size)?;
+    Ok(())
+}
+
+/// Adds the list of the record at `at`, where it is a directory.
+fn add_list(
+    spans: &mut Vec<Span>,
+    order: Order,
+    b: &[u8],
+    at: usize,
+) -> Result<(), OutOfMemory>
+    requires { at + 12 ≤ length b.now }
+    ensures { OnOk result (spans.new.items ≡ spans.old.items ++ cramfs_list order b.now at) }
+{
+    if type_at(order, b, at) == 4 {
+        add(spans, Extent::List, offset_at(order, b, at), size_at(order, b, at))?;
+    }
+    Ok(())
+}
+
+/// Adds the block pointers and the blocks of the record at `at`, where it is a file or a link whose
+/// table was not met.
+fn add_contents(
+    spans: &mut Vec<Span>,
+    met: &mut BTreeMap<u32, u32>,
+    order: Order,
+    b: &[u8],
+    at: usize,
+) -> Result<(), OutOfMemory>
+    requires header { at + 12 ≤ length b.now }
+    requires table { TableLies order b.now at }
+    requires met { AreMet order b.now met.old spans.old.items }
+    ensures same { OnOk result (CoverTheSame spans.new.items
+        (spans.old.items ++ cramfs_contents order b.now at)) }
+    ensures met { OnOk result (AreMet order b.now met.new spans.new.items) }
+{
+    let kind = type_at(order, b, at);
+    if kind == 8 || kind == 10 {
+        let table = offset_at(order, b, at);
+        return add_once(spans, met, order, b, table, size_at(order, b, at));
+    }
+    Ok(())
+}
+
+/// Adds what the record at `at` takes beside its place in a list.
+fn add_record(
+    spans: &mut Vec<Span>,
+    met: &mut BTreeMap<u32, u32>,
+    order: Order,
+    b: &[u8],
+    at: u32,
+) -> Result<(), OutOfMemory>
+    requires header { at + 12 ≤ length b.now }
+    requires table { TableLies order b.now at }
+    requires met { AreMet order b.now met.old spans.old.items }
+    ensures same { OnOk result (CoverTheSame spans.new.items
+        (spans.old.items ++ cramfs_record order b.now at)) }
+    ensures met { OnOk result (AreMet order b.now met.new spans.new.items) }
+{
+    add_list(spans, order, b, at as usize)?;
+    add_contents(spans, met, order, b, at as usize)
+}
+
+/// Extents of just the bytes that the superblock and the records of a cramfs image take, `b` being
+/// its accessible bytes. Of files with one table the blocks are there once.
+///
+/// # Errors
+///
+/// `OutOfMemory` where memory was refused.
+pub(crate) fn cramfs_spans(
+    alloc: Global,
+    order: Order,
+    b: &[u8],
+) -> Result<Vec<Span>, OutOfMemory>
+    requires { (k : ℕ) × (k ≤ 2 ^ 32) × IsCramfs order b.now k }
+    ensures { IfOk result (λ v. CoverTheSame v.items (cramfs_extents order b.now)) }
+{
+    let mut spans = Vec::new(alloc);
+    let mut met = BTreeMap::new(alloc);
+    add(&mut spans, Extent::Super, 0, 76)?;
+    add_record(&mut spans, &mut met, order, b, 64)?;
+    let mut lists = Vec::new(alloc);
+    lists.push((offset_at(order, b, 64), list_end_at(order, b, 64)))?;
+    while let Some(list) = lists.pop() {
+        let at = list.0;
+        if at >= list.1 {
+            continue;
+        }
+        add_record(&mut spans, &mut met, order, b, at)?;
+        lists.push((end_at(order, b, at), list.1))?;
+        lists.push((offset_at(order, b, at as usize), list_end_at(order, b, at as usize)))?;
+    }
+    Ok(spans)
+}
