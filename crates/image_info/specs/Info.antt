@@ -15,6 +15,7 @@ use Rattle.cramfs_image.specs.Reported.{order_in}
 use Rattle.image_check.specs.declared.any.AnyImage.{AnyImage}
 use Rattle.image_check.specs.declared.any.AnyImage.TheVariants.{Romfs, Cramfs}
 use Rattle.image_check.specs.Any.{any_view, report_of}
+use Rattle.image_gaps.specs.Gaps.{gaps_of}
 use Rattle.image_map.specs.Map.{eight_digits}
 use Rattle.image_info.specs.declared.tally.Tally.{Tally}
 use Rattle.image_info.specs.Volumes.{romfs_volume, cramfs_volume}
@@ -79,6 +80,9 @@ tally_text t =
     ++ (number_line (codes "others ") t.others
     ++ number_line (codes "contents ") t.contents)))
 
--- all lines, of an image in a file of so many bytes
+-- all lines, of an image in a file of so many bytes; the last tells how many of the accessible bytes nothing uses
 unfoldable pub info_text : ℕ → AnyImage → List ℕ
-info_text file a = superblock_text file a ++ (report_text (report_of a) ++ tally_text (tally_of (names (any_view a).tree)))
+info_text file a =
+    superblock_text file a
+    ++ (report_text (report_of a)
+    ++ (tally_text (tally_of (names (any_view a).tree)) ++ number_line (codes "gaps ") (gaps_of a)))

@@ -5,11 +5,13 @@ ghost use Rattle.rom_tree.specs.Tree.{levels};
 ghost use Rattle.image_check.specs.Any.{any_view};
 ghost use Rattle.image_info.specs.Info.{report_text, tally_text, info_text};
 ghost use Rattle.image_info.specs.Endings.{WritesAll};
+ghost use Rattle.image_gaps.specs.Gaps.{IsChecked};
 
 use crate::line::put_number;
 use crate::superblock::put_superblock;
 use crate::tally::{Tally, count_names};
 use image_check::AnyImage;
+use image_gaps::count_gaps;
 use rom_fields::bytes::ByteWrite;
 use rom_tree::types::Report;
 use std::alloc::Global;
@@ -51,9 +53,10 @@ fn put_tally<W: ByteWrite>(w: &mut W, failed: &mut bool, tally: Tally)
 /// superblock; `sum` is the checksum word of romfs or the CRC of cramfs, as it is stored;
 /// `references` and `depth` are those of a check's report; `files`, `folders`, `links` and `others`
 /// count the names of the tree, the root's among them, by what they lead to; `contents` are the
-/// bytes of all regular files, each counted once. `flags` and `sum` are `0x` and eight hexadecimal
-/// digits, and other numbers are decimal.
-/// Directories may lie 64 deep.
+/// bytes of all regular files, each counted once; `gaps` are those of the `size` bytes that nothing
+/// uses: no superblock, record with its name, list, table or contents. `flags` and `sum` are `0x`
+/// and eight hexadecimal digits, and other numbers are decimal. A check gave the image, and its
+/// directories lie no more than 64 deep.
 ///
 /// # Errors
 ///
@@ -65,17 +68,22 @@ pub fn write_info<W: ByteWrite>(
     file: u64,
     w: &mut W,
 ) -> Result<(), Trouble>
-    requires { levels (any_view image.now).tree ≤ 65 }
+    requires shallow { levels (any_view image.now).tree ≤ 65 }
+    requires checked { IsChecked image.now }
     ensures { WritesAll (W.output w.old) (W.output w.new) (info_text file image.now) result }
 {
     let report = image.report();
     let Ok(tally) = count_names(alloc, image) else {
         return Err(Trouble::OutOfMemory);
     };
+    let Ok(gaps) = count_gaps(alloc, image) else {
+        return Err(Trouble::OutOfMemory);
+    };
     let mut failed = false;
     put_superblock(w, &mut failed, file, image);
     put_report(w, &mut failed, report);
     put_tally(w, &mut failed, tally);
+    put_number(w, &mut failed, b"gaps ", gaps as u64);
     if failed {
         Err(Trouble::WriteFault)
     } else {

@@ -46,7 +46,7 @@ fn tells_of_both_formats(rt: HostRuntime) -> Result<(), Fail> {
     assert_eq!(rt;
         romfs.as_slice(),
         b"format romfs\nsize 144\nfile 144\nvolume \nsum 0xc9c1b06a\n\
-        references 3\ndepth 1\nfiles 1\nfolders 1\nlinks 0\nothers 0\ncontents 5\n"
+        references 3\ndepth 1\nfiles 1\nfolders 1\nlinks 0\nothers 0\ncontents 5\ngaps 11\n"
             .as_slice()
     );
     let Some(cramfs) = told(rt.alloc(), EMPTY, 1024) else {
@@ -56,7 +56,7 @@ fn tells_of_both_formats(rt: HostRuntime) -> Result<(), Fail> {
         cramfs.as_slice(),
         b"format cramfs\nsize 76\nfile 1024\nvolume a%20boot%20volume\n\
         flags 0x00000802\nsum 0x00000000\n\
-        references 1\ndepth 0\nfiles 0\nfolders 1\nlinks 0\nothers 0\ncontents 0\n"
+        references 1\ndepth 0\nfiles 0\nfolders 1\nlinks 0\nothers 0\ncontents 0\ngaps 0\n"
             .as_slice()
     );
     Ok(())
