@@ -4,8 +4,8 @@
     info.py [--binary PATH] [--count N] [--first SEED]
 
 Of each small image of the cases (see run.py), and of images of manifests made by chance (see manifests.py), with bytes
-behind some: each line is worked out here, of the superblock's words, of the list and of the check's line. An image that
-`check` refuses has that line alone. The last line is `N passed, M failed`.
+behind some: each line is worked out here, of the superblock's words, of the records, of the list and of the check's
+line. An image that `check` refuses has that line alone. The last line is `N passed, M failed`.
 """
 
 import os
@@ -32,6 +32,74 @@ def superblock(data, format):
     return size if flags & HAS_SIZE else min(len(data), LONGEST), flags, int.from_bytes(data[32:36], order)
 
 
+def romfs_parts(b):
+    """The place and the length of each part of a romfs image with these accessible bytes."""
+
+    def word(at):
+        return int.from_bytes(b[at : at + 4], "big")
+
+    def behind_name(at):
+        return at + (b.index(0, at) - at) // 16 * 16 + 16
+
+    root = behind_name(16)
+    yield 0, root
+    heads_itself = word(root + 4) // 16 * 16 == root
+    lists, met = [root], set()
+    while lists:
+        at = lists.pop()
+        if at == 0 or at in met:
+            continue
+        met.add(at)
+        kind, end = word(at) % 8, behind_name(at + 16)
+        yield at, end - at
+        if kind in (2, 3):
+            yield end, word(at + 8)
+        if kind == 1:
+            lists.append(word(at + 4) // 16 * 16)
+        if at != root or heads_itself:
+            lists.append(word(at) // 16 * 16)
+
+
+def cramfs_parts(b, order):
+    """The same of a cramfs image in this byte order."""
+
+    def word(at):
+        return int.from_bytes(b[at : at + 4], order)
+
+    def fields(at, bits):
+        """The first field of a word, of so many bits, and the rest."""
+        if order == "little":
+            return word(at) % 2**bits, word(at) >> bits
+        return word(at) >> (32 - bits), word(at) % 2 ** (32 - bits)
+
+    yield 0, 76
+    inodes = [64]
+    while inodes:
+        at = inodes.pop()
+        kind, size, place = fields(at, 16)[0] >> 12, fields(at + 4, 24)[0], 4 * fields(at + 8, 6)[1]
+        if kind == 4:
+            yield place, size
+            entry = place
+            while entry < place + size:
+                inodes.append(entry)
+                entry += 12 + 4 * fields(entry + 8, 6)[0]
+        if kind in (8, 10):
+            pointers = range(place, place + 4 * ((size + 4095) // 4096), 4)
+            yield place, len(pointers) * 4
+            for n, pointer in enumerate(pointers):
+                yield word(pointer) % 2**30 * 4, min(4096, size - 4096 * n)
+
+
+def unused(data, format, size):
+    """How many of the accessible bytes are in no part of the image."""
+    b = data[:size]
+    parts = romfs_parts(b) if format == "romfs" else cramfs_parts(b, "big" if format == "cramfs-be" else "little")
+    used = bytearray(size)
+    for place, length in parts:
+        used[place : place + length] = b"\1" * length
+    return used.count(0)
+
+
 def facts(binary, image):
     """The lines that `info` is to print of an image that `check` accepts."""
     data, names = bytes_in(image), list(names_in(binary, image))
@@ -50,6 +118,7 @@ def facts(binary, image):
     for key, some in (("files", "f"), ("folders", "d"), ("links", "l"), ("others", "bcps")):
         yield "%s %d" % (key, sum(kind in some for kind in kinds))
     yield "contents %d" % sum({name.number: name.size for name in names if name.kind == "f"}.values())
+    yield "gaps %d" % unused(data, format, size)
 
 
 def wrong(binary, image):

@@ -144,9 +144,8 @@ module _ {o : Order} {b : List ℕ} {met : BTreeMap ℕ ℕ} {spans : List Span}
       let s1 : to_come o b some ≡ N ++ Q = ap (to_come o b) one ∙ come_push o b xs Y in
       let s2 : to_come o b all ≡ F ++ (N ++ Q) = ap (to_come o b) two ∙ come_push o b some G ∙ ap (λ (v : List Span). F ++ v) s1 in
       let turn : (spans ++ R) ++ to_come o b all ≡ spans ++ (list_takes o b x ++ Q) =
-          ap (λ (v : List Span). (spans ++ R) ++ v) s2 ∙ append_assoc spans R (F ++ (N ++ Q))
-          ∙ ap (λ (v : List Span). spans ++ v) (ap (λ (v : List Span). R ++ v) (sym (append_assoc F N Q)) ∙ sym (append_assoc R (F ++ N) Q) ∙ ap (λ (v : List Span). v ++ Q) (sym here)) in
-      (
+      ap (λ (v : List Span). (spans ++ R) ++ v) s2 ∙ append_assoc spans R (F ++ (N ++ Q))
+      ∙ ap (λ (v : List Span). spans ++ v) (ap (λ (v : List Span). R ++ v) (sym (append_assoc F N Q)) ∙ sym (append_assoc R (F ++ N) Q) ∙ ap (λ (v : List Span). v ++ Q) (sym here)) in (
         record {
           stand = subst (Every (λ (v : ℕ × ℕ). IsList o b most_records v.1 v.0)) (sym two) (every_push (λ (v : ℕ × ℕ). IsList o b most_records v.1 v.0) some G
               (subst (Every (λ (v : ℕ × ℕ). IsList o b most_records v.1 v.0)) (sym one) (every_push (λ (v : ℕ × ℕ). IsList o b most_records v.1 v.0) xs Y parted.0 st.next)) st.own);

@@ -1,5 +1,5 @@
 -- The forest of an image's tree is a function of its bytes.
-use Rattle.std.proofs.Common.{◌≡◌, ◌≢◌, ℕ, suc, ◌+◌, ◌^◌, ◌≤◌, List, [], ◌∷◌, ◌++◌, length, length-append, None, Some, refl, sym, ap, subst, ◌∙◌, arith}
+use Rattle.std.proofs.Common.{◌≡◌, ◌≢◌, ℕ, suc, ◌^◌, ◌≤◌, List, ◌++◌, length, length-append, None, Some, refl, sym, ap, subst, ◌∙◌, arith}
 use Rattle.std.proofs.lemmas.Bool.{ne_eqb}
 use Rattle.std.proofs.lemmas.List.Elements.{recursion_from_All}
 use Rattle.std.specs.List.{AllByRecursion as Every}
@@ -14,7 +14,7 @@ use Rattle.romfs_format.proofs.Same.{grown}
 use Rattle.cramfs_format.specs.declared.order.Order.{Order}
 use Rattle.cramfs_format.specs.Inode.{list_start, list_end, end_of}
 use Rattle.cramfs_format.specs.Refers.{root_place, reference_target, references as cramfs_references}
-use Rattle.cramfs_format.specs.Tree.{IsTree as IsCramfsTree, below_root}
+use Rattle.cramfs_format.specs.Tree.{IsTree as IsCramfsTree}
 use Rattle.cramfs_format.proofs.Bridge.{below_of}
 use Rattle.cramfs_format.proofs.Lawful.{top_target}
 use Rattle.cramfs_format.proofs.Lists.{end_after}

@@ -1,5 +1,5 @@
 -- What the image that a check gave tells of its bytes.
-use Rattle.std.proofs.Common.{◌≡◌, ◌≢◌, ℕ, ◌+◌, ◌^◌, ◌<◌, ◌≤◌, min, true, false, cond, List, length, take, length-take, refl, sym, ap, subst, ◌∙◌, arith}
+use Rattle.std.proofs.Common.{◌≡◌, ◌≢◌, ℕ, ◌^◌, ◌<◌, ◌≤◌, min, true, false, cond, List, length, take, length-take, refl, sym, ap, subst, ◌∙◌, arith}
 use Rattle.rom_fields.specs.declared.span.Span.{Span}
 use Rattle.rom_fields.specs.Words.{word_be}
 use Rattle.rom_tree.specs.Tree.{Node, ino_of}
@@ -20,7 +20,6 @@ use Rattle.cramfs_format.specs.Made.{IsCramfs}
 use Rattle.cramfs_format.proofs.Bridge.{accepted as cramfs_accepted}
 use Rattle.cramfs_image.specs.declared.image.Cramfs.{Cramfs}
 use Rattle.cramfs_image.specs.Reported.{order_in}
-use Rattle.image_check.specs.declared.any.AnyImage.{AnyImage}
 use Rattle.image_check.specs.declared.any.AnyImage.TheVariants.{Romfs as InRomfs, Cramfs as InCramfs}
 use Rattle.image_check.specs.Any.{any_view, report_of}
 use Rattle.image_check.specs.Checked.{Shows, romfs, cramfs}
@@ -112,9 +111,11 @@ cramfs_known o all size h small e =
     let w = cramfs_size o all h in
     let l : length b ≡ min (accessible_size o all) (length all) = length-take (accessible_size o all) all in
     let n : length b ≡ accessible_size o all = (let y = w.0 in grind (arith, l, y)) in
-    subst (λ (v : ℕ). (k : ℕ) × (k ≤ 2 ^ 32) × IsCramfs o (take v all) k) (sym e)
-    (length (all_rows (cramfs_references o b) h.forest), h.few,
-    (cramfs_accepted o b h.most h.deepest h.forest h.whole (let y = w.1 in omega (arith, n, y)) (omega (arith, n, e, small)) h.superblock.root.directory).0)
+    subst (λ (v : ℕ). (k : ℕ) × (k ≤ 2 ^ 32) × IsCramfs o (take v all) k) (sym e) (
+      length (all_rows (cramfs_references o b) h.forest),
+      h.few,
+      (cramfs_accepted o b h.most h.deepest h.forest h.whole (let y = w.1 in omega (arith, n, y)) (omega (arith, n, e, small)) h.superblock.root.directory).0,
+    )
 
 pub cramfs_counted : (o : Order) (all : List ℕ) (size result : ℕ) (given spans : List Span) → HoldsCramfs o all → size ≡ accessible_size o all → given ≡ spans → CoverTheSame spans (cramfs_extents o (take size all))
     → result ≡ unused given 0 size → result ≡ cramfs_gaps o all

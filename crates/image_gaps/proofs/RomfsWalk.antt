@@ -1,5 +1,5 @@
 -- The records of a romfs image, list by list.
-use Rattle.std.proofs.Common.{◌≡◌, ◌≢◌, ℕ, zero, suc, ◌+◌, ◌*◌, ◌^◌, ◌<◌, ◌≤◌, Bool, true, false, eqb, cond, List, [], ◌∷◌, ◌++◌, length, refl, sym, ap, subst, ◌∙◌, arith, append_assoc, append-nil}
+use Rattle.std.proofs.Common.{◌≡◌, ◌≢◌, ℕ, zero, suc, ◌+◌, ◌*◌, ◌^◌, ◌<◌, ◌≤◌, Bool, true, false, List, [], ◌∷◌, ◌++◌, length, refl, sym, ap, subst, ◌∙◌, arith, append_assoc, append-nil}
 use Rattle.std.proofs.lemmas.Bool.{eq-eqb}
 use Rattle.std.proofs.lemmas.Grind.{flat_map-append}
 use Rattle.std.specs.List.{flat_map, AllByRecursion as Every}
@@ -7,7 +7,6 @@ use Rattle.rom_fields.specs.declared.span.Extent.TheVariants.{Super}
 use Rattle.rom_fields.specs.declared.span.Span.{Span}
 use Rattle.rom_fields.specs.Extents.{added}
 use Rattle.record_forest.specs.declared.reference.Reference.{Reference}
-use Rattle.record_forest.specs.declared.reference.Row.{Row}
 use Rattle.record_forest.specs.Forest.{Forest, none, at, rows, count}
 use Rattle.romfs_format.specs.Record.{first_of, next_of}
 use Rattle.romfs_format.specs.Refers.{references, heads_itself, list_of, following}
@@ -133,8 +132,7 @@ module _ {b : List ℕ} {r : ℕ} {spans : List Span} {items : List ℕ} (qs : L
       let s1 : to_come most_records b some ≡ N ++ Q = ap (to_come most_records b) one ∙ come_push most_records b qs n in
       let s2 : to_come most_records b all ≡ F ++ (N ++ Q) = ap (to_come most_records b) two ∙ come_push most_records b some f ∙ ap (λ (v : List Span). F ++ v) s1 in
       let turn : romfs_record b q ++ (F ++ (N ++ Q)) ≡ (romfs_record b q ++ (F ++ N)) ++ Q =
-          ap (λ (v : List Span). romfs_record b q ++ v) (sym (append_assoc F N Q)) ∙ sym (append_assoc (romfs_record b q) (F ++ N) Q) in
-      (
+      ap (λ (v : List Span). romfs_record b q ++ v) (sym (append_assoc F N Q)) ∙ sym (append_assoc (romfs_record b q) (F ++ N) Q) in (
         record {
           stand = subst (Every (IsList b r most_records)) (sym two) (every_push (IsList b r most_records) some f (subst (Every (IsList b r most_records)) (sym one) (every_push (IsList b r most_records) qs n parted.0 st.next)) st.first);
           all = ap (λ (v : List Span). v ++ to_come most_records b all) e ∙ ap (λ (v : List Span). (spans ++ romfs_record b q) ++ v) s2

@@ -160,17 +160,13 @@ fn add_once(
 }
 
 /// Adds the list of the record at `at`, where it is a directory.
-fn add_list(
-    spans: &mut Vec<Span>,
-    order: Order,
-    b: &[u8],
-    at: usize,
-) -> Result<(), OutOfMemory>
+fn add_list(spans: &mut Vec<Span>, order: Order, b: &[u8], at: usize) -> Result<(), OutOfMemory>
     requires { at + 12 ≤ length b.now }
     ensures { OnOk result (spans.new.items ≡ spans.old.items ++ cramfs_list order b.now at) }
 {
     if type_at(order, b, at) == 4 {
-        add(spans, Extent::List, offset_at(order, b, at), size_at(order, b, at))?;
+        let len = size_at(order, b, at);
+        add(spans, Extent::List, offset_at(order, b, at), len)?;
     }
     Ok(())
 }
@@ -224,11 +220,7 @@ fn add_record(
 /// # Errors
 ///
 /// `OutOfMemory` where memory was refused.
-pub(crate) fn cramfs_spans(
-    alloc: Global,
-    order: Order,
-    b: &[u8],
-) -> Result<Vec<Span>, OutOfMemory>
+pub(crate) fn cramfs_spans(alloc: Global, order: Order, b: &[u8]) -> Result<Vec<Span>, OutOfMemory>
     requires { (k : ℕ) × (k ≤ 2 ^ 32) × IsCramfs order b.now k }
     ensures { IfOk result (λ v. CoverTheSame v.items (cramfs_extents order b.now)) }
 {
@@ -245,7 +237,10 @@ pub(crate) fn cramfs_spans(
         }
         add_record(&mut spans, &mut met, order, b, at)?;
         lists.push((end_at(order, b, at), list.1))?;
-        lists.push((offset_at(order, b, at as usize), list_end_at(order, b, at as usize)))?;
+        lists.push((
+            offset_at(order, b, at as usize),
+            list_end_at(order, b, at as usize),
+        ))?;
     }
     Ok(spans)
 }

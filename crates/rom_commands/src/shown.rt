@@ -6,6 +6,7 @@ ghost use Rattle.rom_tree.specs.Tree.{levels};
 ghost use Rattle.image_info.specs.Endings.{WritesAll};
 ghost use Rattle.image_info.specs.Info.{info_text};
 ghost use Rattle.image_check.specs.Any.{any_view, report_of};
+ghost use Rattle.image_gaps.specs.Gaps.{IsChecked};
 ghost use Rattle.rom_commands.specs.Lines.{fault_line, ok_line};
 ghost use Rattle.rom_commands.specs.Asked.{sound_text, warns, Fits};
 ghost use Rattle.rom_commands.specs.Answers.{status_of, Ends};
@@ -110,7 +111,8 @@ fn write_facts<W: ByteWrite>(
     file: u64,
     w: &mut W,
 ) -> Result<bool, Trouble>
-    requires { levels (any_view image.now).tree ≤ 65 }
+    requires shallow { levels (any_view image.now).tree ≤ 65 }
+    requires checked { IsChecked image.now }
     ensures text { WritesAll (W.output w.old) (W.output w.new) (info_text file image.now) result }
     ensures quiet { IfOk result (λ b. b ≡ false) }
 {
@@ -128,6 +130,7 @@ fn write_sound<W: ByteWrite>(
     w: &mut W,
 ) -> Result<bool, Trouble>
     requires shallow { levels (any_view image.now).tree ≤ 65 }
+    requires checked { IsChecked image.now }
     requires fits { Fits asked (length (any_view image.now).bytes) }
     ensures text { WritesAll (W.output w.old) (W.output w.new) (sound_text asked image.now) result }
     ensures warns { IfOk result (λ b. b ≡ warns asked (sound_text asked image.now)) }

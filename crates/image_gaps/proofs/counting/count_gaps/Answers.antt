@@ -1,4 +1,4 @@
-use Rattle.std.proofs.Common.{◌≡◌, ◌∙◌, ℕ, List, sym, ap, subst, arith}
+use Rattle.std.proofs.Common.{◌∙◌, ℕ, List, sym, ap, subst, arith}
 use Rattle.rom_tree.specs.Tree.{ino_of}
 use Rattle.romfs_format.proofs.Trees.{made_ino}
 use Rattle.cramfs_format.specs.declared.order.Order.{Order}

@@ -1,7 +1,5 @@
-use Rattle.std.proofs.Common.{◌++◌, List, subst, append_assoc}
-use Rattle.rom_fields.specs.declared.span.Span.{Span}
-use Rattle.image_gaps.specs.Records.{cramfs_list, cramfs_contents, CoverTheSame}
-use Rattle.image_gaps.proofs.Covered.{met_more, met_list, added_then}
+use Rattle.image_gaps.specs.Records.{cramfs_list}
+use Rattle.image_gaps.proofs.Covered.{met_more, met_list}
 use Rattle.image_gaps.proofs.cramfs_records.add_record.Goals as goal
 
 pub add_contents-requires-clause-met : goal.add_contents-requires-clause-met

@@ -1,7 +1,6 @@
 use Rattle.std.proofs.Common.{◌≡◌, ℕ, ◌∙◌, ap, length, arith}
-use Rattle.cramfs_format.specs.Inode.{list_start, list_end, end_of}
+use Rattle.cramfs_format.specs.Inode.{list_start, end_of}
 use Rattle.cramfs_format.specs.Refers.{root_place}
-use Rattle.image_gaps.proofs.Covered.{none_met, met_more, met_list}
 use Rattle.image_gaps.proofs.CramfsWalk.{walk_start, walk_done, walk_on, walk_end, step_at, list_of}
 use Rattle.image_gaps.proofs.cramfs_records.cramfs_spans.Goals as goal
 

@@ -1,5 +1,5 @@
-use Rattle.std.proofs.Common.{◌≡◌, ◌+◌, ◌-◌, min, ap, arith, ◌∙◌}
-use Rattle.image_gaps.proofs.Left.{blank, left_more, left_done}
+use Rattle.std.proofs.Common.{◌+◌, arith}
+use Rattle.image_gaps.proofs.Left.{left_more, left_done}
 use Rattle.image_gaps.proofs.spans.left_by.Goals as goal
 
 pub spans-preserved : goal.spans-preserved
