@@ -3,6 +3,7 @@ use Rattle.std.proofs.Common.{◌≡◌, ◌≢◌, ℕ, ◌^◌, ◌<◌, ◌�
 use Rattle.rom_fields.specs.declared.span.Span.{Span}
 use Rattle.rom_fields.specs.Words.{word_be}
 use Rattle.rom_tree.specs.Tree.{Node, ino_of}
+use Rattle.rom_tree.specs.declared.types.Limits.{Limits}
 use Rattle.record_forest.specs.Forest.{Forest, all_rows}
 use Rattle.romfs_format.specs.Refers.{references}
 use Rattle.romfs_format.specs.Superblock.{accessible}
@@ -20,15 +21,30 @@ use Rattle.cramfs_format.specs.Made.{IsCramfs}
 use Rattle.cramfs_format.proofs.Bridge.{accepted as cramfs_accepted}
 use Rattle.cramfs_image.specs.declared.image.Cramfs.{Cramfs}
 use Rattle.cramfs_image.specs.Reported.{order_in}
+use Rattle.image_check.specs.declared.any.AnyImage.{AnyImage}
 use Rattle.image_check.specs.declared.any.AnyImage.TheVariants.{Romfs as InRomfs, Cramfs as InCramfs}
 use Rattle.image_check.specs.Any.{any_view, report_of}
-use Rattle.image_check.specs.Checked.{Shows, romfs, cramfs}
+use Rattle.image_check.specs.Checked.{Shows, romfs, cramfs, HasFormat}
 use Rattle.image_check.proofs.Formats.{apart}
 use Rattle.image_gaps.specs.Unused.{unused}
 use Rattle.image_gaps.specs.Gaps.{romfs_extents, romfs_gaps, cramfs_extents, cramfs_gaps, IsChecked}
 use Rattle.image_gaps.specs.Held.{HoldsRomfs, HoldsCramfs}
 use Rattle.image_gaps.specs.Records.{CoverTheSame}
 use Rattle.image_gaps.proofs.Covered.{unused_same}
+
+-- an image that a check shows is one that it gave
+shown_bytes : (all : List ℕ) (l : Limits) (a : AnyImage) → Shows all l (any_view a) (report_of a) → all ≡ (any_view a).bytes
+shown_bytes all l a (romfs h) = sym h.bytes
+shown_bytes all l a (cramfs h) = sym h.bytes
+
+pub check_gave : (all : List ℕ) (l : Limits) (a : AnyImage) → Shows all l (any_view a) (report_of a) → HasFormat all a → IsChecked a
+check_gave all l a h f =
+    let e = shown_bytes all l a h in
+    record {
+      limits = l;
+      shows = subst (λ (u : List ℕ). Shows u l (any_view a) (report_of a)) e h;
+      format = subst (λ (u : List ℕ). HasFormat u a) e f;
+    }
 
 root_number : (b : List ℕ) (r : ℕ) (f : Forest) → ino_of (tree_of b r f) ≡ r
 unfolding tree_of

@@ -9,7 +9,6 @@ use Rattle.rom_tree.specs.declared.types.Report.{Report}
 use Rattle.image_check.specs.Checked.{romfs as shows_romfs, cramfs as shows_cramfs}
 use Rattle.image_check.specs.Checked.{Shows, IsRefused, HasFormat, IsFaultless, IsLeastFault}
 use Rattle.rom_fields.specs.Written.{Output}
-use Rattle.image_gaps.specs.Gaps.{IsChecked}
 use Rattle.image_info.specs.Endings.{WritesAll}
 use Rattle.image_info.specs.declared.info.Trouble.{Trouble}
 use Rattle.image_info.specs.declared.info.Trouble.TheVariants.{OutOfMemory, WriteFault}
@@ -47,16 +46,6 @@ shown_bytes bytes l m r (shows_cramfs h) = h.bytes
 -- so its addresses fit where theirs do
 pub shown_fits : (asked : Asked) (bytes : List ℕ) (l : Limits) (v : AnyImage) → Shows bytes l (any_view v) (report_of v) → Fits asked (length bytes) → Fits asked (length (any_view v).bytes)
 shown_fits asked bytes l v h f = let P : List ℕ → Type 0 = λ u. Fits asked (length u) in subst P (sym (shown_bytes bytes l (any_view v) (report_of v) h)) f
-
--- and it is one that a check gave
-pub shown_checked : (bytes : List ℕ) (l : Limits) (v : AnyImage) → Shows bytes l (any_view v) (report_of v) → HasFormat bytes v → IsChecked v
-shown_checked bytes l v h f =
-    let e : bytes ≡ (any_view v).bytes = sym (shown_bytes bytes l (any_view v) (report_of v) h) in
-    record {
-      limits = l;
-      shows = subst (λ (u : List ℕ). Shows u l (any_view v) (report_of v)) e h;
-      format = subst (λ (u : List ℕ). HasFormat u v) e f;
-    }
 
 -- the fault that a check found
 pub fault_of : (bytes : List ℕ) (l : Limits) (number at : ℕ) → l ≡ usual_limits → IsRefused bytes l (Fault number at) → IsLeastFault bytes l (Fault number at) → HasFault bytes number at

@@ -2,10 +2,11 @@ use Rattle.std.proofs.Common.{◌≡◌, ℕ, inl, inr, sym, ◌∙◌}
 use Rattle.rom_fields.specs.Failures.{Rose}
 use Rattle.rom_fields.specs.Written.{AppendsPrefix, Output}
 use Rattle.image_check.specs.declared.any.AnyImage.{AnyImage}
+use Rattle.image_gaps.proofs.Given.{check_gave}
 use Rattle.rom_commands.specs.Asked.{sound_text}
 use Rattle.rom_commands.specs.Lines.{fault_line}
 use Rattle.rom_commands.specs.Answers.{usual_limits}
-use Rattle.rom_commands.proofs.Texts.{usual, sound, faulty, shown_fits, shown_checked}
+use Rattle.rom_commands.proofs.Texts.{usual, sound, faulty, shown_fits}
 use Rattle.rom_commands.proofs.shown.show.Goals as goal
 
 pub write_sound-requires : goal.write_sound-requires
@@ -13,7 +14,7 @@ write_sound-requires g c =
     let v : AnyImage = c.in-Ok.image in
     record {
       shallow = c.in-Ok.ensures.shallow;
-      checked = shown_checked c.args.bytes.now c.usual.result v c.in-Ok.ensures.ok c.in-Ok.ensures.format;
+      checked = check_gave c.args.bytes.now c.usual.result v c.in-Ok.ensures.ok c.in-Ok.ensures.format;
       fits = shown_fits c.args.asked c.args.bytes.now c.usual.result v c.in-Ok.ensures.ok c.requires;
     }
 
