@@ -15,11 +15,11 @@ use Rattle.romfs_layout.specs.Wells.{FitsKind, AreWell}
 use Rattle.romfs_layout.proofs.Places.{ends_after, first_within}
 use Rattle.manifest_rows.specs.Rows.{rows, row_view}
 use Rattle.manifest_rows.specs.declared.row.Row.{Row as CodeRow}
-use Rattle.romfs_rows.specs.declared.rows.Place.{Place}
-use Rattle.romfs_rows.specs.declared.rows.Row.{Row as PlaceRow}
-use Rattle.romfs_rows.specs.Passes.{named_places, places, places_of}
-use Rattle.romfs_rows.specs.Rows.{IsRow}
-use Rattle.romfs_rows.proofs.Passing.{computes}
+use Rattle.romfs_plan.specs.declared.rows.Place.{Place}
+use Rattle.romfs_plan.specs.declared.rows.Row.{Row as PlaceRow}
+use Rattle.romfs_plan.specs.Passes.{named_places, places, places_of}
+use Rattle.romfs_plan.specs.Places.{IsRow}
+use Rattle.romfs_plan.proofs.Passing.{computes}
 use Rattle.romfs_plan.specs.Headers.{IsNear, IsFineWhat, IsFineRow}
 use Rattle.romfs_plan.specs.Rows.{place_row, held}
 use Rattle.romfs_plan.proofs.Sizes.{counted, fewer, placed_rows, twice}

@@ -14,10 +14,10 @@ use Rattle.romfs_layout.specs.Items.{item_of, items_of}
 use Rattle.manifest_rows.proofs.Depths.{deepest_is}
 use Rattle.manifest_rows.specs.Rows.{Row, rows, deepest, row_view}
 use Rattle.manifest_rows.specs.declared.row.Row.{Row as CodeRow}
-use Rattle.romfs_rows.specs.declared.rows.Row.{Row as PlaceRow}
-use Rattle.romfs_rows.specs.Passes.{places_end}
-use Rattle.romfs_rows.specs.Rows.{IsRow, rows as place_rows, leaf_row, link_row, folder_row}
-use Rattle.romfs_rows.proofs.Passing.{rows_end_is}
+use Rattle.romfs_plan.specs.declared.rows.Row.{Row as PlaceRow}
+use Rattle.romfs_plan.specs.Passes.{places_end}
+use Rattle.romfs_plan.specs.Places.{IsRow, rows as place_rows, leaf_row, link_row, folder_row}
+use Rattle.romfs_plan.proofs.Passing.{rows_end_is}
 use Rattle.romfs_plan.specs.Rows.{place_row, count_of, header_count, held, IsFitWhat, IsFitRow, too_large}
 
 -- the rows are those that the two passes go over

@@ -8,9 +8,9 @@ use Rattle.layout_terms.specs.Files.{height}
 use Rattle.romfs_layout.specs.Layout.{root_at, full_size_of}
 use Rattle.romfs_layout.specs.Items.{items_of}
 use Rattle.manifest_rows.specs.Rows.{Row}
-use Rattle.romfs_rows.specs.declared.rows.Row.{Row as PlaceRow}
-use Rattle.romfs_rows.specs.declared.rows.Holds.{Holds}
-use Rattle.romfs_rows.specs.declared.rows.Holds.TheVariants.{Bytes, Nothing, List as Own}
+use Rattle.romfs_plan.specs.declared.rows.Row.{Row as PlaceRow}
+use Rattle.romfs_plan.specs.declared.rows.Holds.{Holds}
+use Rattle.romfs_plan.specs.declared.rows.Holds.TheVariants.{Bytes, Nothing, List as Own}
 
 -- what follows a header
 abbrev pub held : What → Holds

@@ -8,13 +8,13 @@ ghost use Rattle.romfs_layout.specs.Layout.{code_of, device_of, header_alone, pl
 ghost use Rattle.rom_tree.specs.Dots.{dot, dot_dot};
 ghost use Rattle.romfs_plan.specs.Headers.{leaf_header, folder_headers, headers_by, root_headers, noted, IsNear, IsFineRow};
 
+use crate::rows::Place;
 use crate::section_list::record_len;
 use manifest::Name;
 use manifest_rows::{Bytes, Inode, Row, What};
 use plan_items::{Fill, Item};
 use rom_fields::memory::OutOfMemory;
 use rom_tree::Kind;
-use romfs_rows::Place;
 use std::alloc::Global;
 use std::collections::BTreeMap;
 

@@ -10,14 +10,15 @@ ghost use Rattle.romfs_layout.specs.Layout.{place_with};
 ghost use Rattle.romfs_layout.specs.Planned.{IsPlanned};
 ghost use Rattle.romfs_plan.specs.Headers.{root_headers, headers_of, noted, noted_by, placed_of, first_of, IsNear, IsFineRow};
 ghost use Rattle.romfs_plan.specs.Rows.{place_row};
-ghost use Rattle.romfs_rows.specs.Passes.{named_places};
+ghost use Rattle.romfs_plan.specs.Passes.{named_places};
 
 use crate::headers::{push_root, push_row};
+use crate::passes::places_of;
+use crate::rows::{Place, Row as PlaceRow};
 use crate::size::{place_row, root_at};
 use manifest_rows::{Inode, Row, What};
 use plan_items::Item;
 use rom_fields::memory::OutOfMemory;
-use romfs_rows::{Place, places_of};
 use std::alloc::Global;
 use std::collections::BTreeMap;
 
@@ -25,7 +26,7 @@ use std::collections::BTreeMap;
 const DEPTHS: usize = 66;
 
 /// What of each row its header's place depends on.
-fn place_rows(alloc: Global, rows: &[Row<'_>]) -> Result<Vec<romfs_rows::Row>, OutOfMemory>
+fn place_rows(alloc: Global, rows: &[Row<'_>]) -> Result<Vec<PlaceRow>, OutOfMemory>
     ensures { IfOk result (λ v. v.items ≡ map (λ r. place_row (row_view r)) rows.now) }
 {
     let mut found = Vec::new(alloc);

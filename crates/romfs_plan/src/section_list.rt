@@ -7,10 +7,10 @@ ghost use Rattle.plan_items.specs.Views.{item_view, section_view};
 ghost use Rattle.romfs_layout.specs.Items.{sections_of};
 ghost use Rattle.romfs_layout.specs.Layout.{record_len};
 
+use crate::rows::padded;
 use crate::size::root_at;
 use plan_items::{Body, Fill, Item, Section};
 use rom_fields::memory::OutOfMemory;
-use romfs_rows::rows::padded;
 use std::alloc::Global;
 
 /// How many bytes a header with this name has.

@@ -6,12 +6,11 @@ ghost use Rattle.manifest_tree.specs.Names.{Inode, Names};
 ghost use Rattle.manifest_rows.specs.Rows.{rows as rows_of, row_view};
 ghost use Rattle.romfs_layout.specs.Layout.{full_size_of, root_at};
 ghost use Rattle.romfs_plan.specs.Rows.{place_row, count_of, header_count, IsFitRow, too_large};
-ghost use Rattle.romfs_rows.specs.Passes.{places_end};
-ghost use Rattle.romfs_rows.specs.Rows.{IsRow};
+ghost use Rattle.romfs_plan.specs.Passes.{places_end};
+ghost use Rattle.romfs_plan.specs.Places.{IsRow};
 
+use crate::rows::{Holds, Row as PlaceRow, padded, row_end};
 use manifest_rows::{Row, What, deepest};
-use romfs_rows::Holds;
-use romfs_rows::rows::{padded, row_end};
 
 /// The most headers of an image: 2^20, this project's limit of references.
 const MOST_HEADERS: usize = 1 << 20;
@@ -23,7 +22,7 @@ const MOST_NAMES: usize = 64;
 const MOST_BYTES: u64 = 1 << 28;
 
 /// What of a row its header's place depends on.
-pub fn place_row(row: &Row<'_>) -> romfs_rows::Row
+pub fn place_row(row: &Row<'_>) -> PlaceRow
     ensures { result ≡ place_row (row_view row.now) }
 {
     let holds = match row.what {
@@ -31,7 +30,7 @@ pub fn place_row(row: &Row<'_>) -> romfs_rows::Row
         What::Link => Holds::Nothing,
         What::Folder => Holds::List,
     };
-    romfs_rows::Row {
+    PlaceRow {
         depth: row.depth,
         name_len: row.name.len(),
         holds,

@@ -6,7 +6,7 @@ use Rattle.plan_items.specs.Views.{item_view}
 use Rattle.manifest_rows.specs.Rows.{inode_view, row_view}
 use Rattle.romfs_layout.specs.Items.{item_of}
 use Rattle.romfs_layout.specs.Layout.{root_at}
-use Rattle.romfs_rows.specs.Passes.{named_places}
+use Rattle.romfs_plan.specs.Passes.{named_places}
 use Rattle.romfs_plan.specs.Headers.{root_headers, headers_of, noted, first_of}
 use Rattle.romfs_plan.proofs.Fine.{fine_rows, near_places, few_rows, each_fine}
 use Rattle.romfs_plan.proofs.Walked.{length-named, first_is, whole}

@@ -1,9 +1,9 @@
 use Rattle.std.proofs.Common.{◌≡◌, ℕ, List, replicate, sym, ap, subst, ◌∙◌, IfOk}
 use Rattle.std.specs.List.{All}
-use Rattle.romfs_rows.specs.declared.rows.Place.{Place}
-use Rattle.romfs_rows.specs.declared.rows.Row.{Row as PlaceRow}
-use Rattle.romfs_rows.specs.Passes.{places, places_of}
-use Rattle.romfs_rows.specs.Rows.{IsRow}
+use Rattle.romfs_plan.specs.declared.rows.Place.{Place}
+use Rattle.romfs_plan.specs.declared.rows.Row.{Row as PlaceRow}
+use Rattle.romfs_plan.specs.Passes.{places, places_of}
+use Rattle.romfs_plan.specs.Places.{IsRow}
 use Rattle.romfs_plan.proofs.Fine.{each_placed, places_are}
 use Rattle.romfs_plan.proofs.item_list.row_places.Goals as goal
 

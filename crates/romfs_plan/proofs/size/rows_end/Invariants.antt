@@ -1,7 +1,7 @@
 use Rattle.std.proofs.Common.{◌≡◌, ◌+◌, ◌*◌, ◌≤◌, ◌^◌, drop, map}
 use Rattle.manifest_rows.specs.Rows.{row_view}
 use Rattle.romfs_plan.specs.Rows.{place_row}
-use Rattle.romfs_rows.specs.Passes.{places_end}
+use Rattle.romfs_plan.specs.Passes.{places_end}
 use Rattle.romfs_plan.proofs.size.rows_end.Given as goal
 
 abbrev pub invariant-loop-row : goal.invariant-loop-row

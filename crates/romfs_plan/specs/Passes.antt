@@ -3,9 +3,9 @@ use Rattle.std.specs.Prelude.{ℕ, ◌+◌, List, [], ◌∷◌, ◌++◌, slice
 use Rattle.manifest_tree.specs.Names.{Names, nothing, leaf, link, folder}
 use Rattle.romfs_format.specs.Record.{pad16}
 use Rattle.romfs_layout.specs.Layout.{place_of, leaf_end, header_end, ends, first_place}
-use Rattle.romfs_rows.specs.declared.rows.Row.{Row}
-use Rattle.romfs_rows.specs.declared.rows.Place.{Place}
-use Rattle.romfs_rows.specs.Rows.{row_place, row_end}
+use Rattle.romfs_plan.specs.declared.rows.Row.{Row}
+use Rattle.romfs_plan.specs.declared.rows.Place.{Place}
+use Rattle.romfs_plan.specs.Places.{row_place, row_end}
 
 -- forwards: where each header stands
 abbrev pub places : ℕ → List Row → List ℕ

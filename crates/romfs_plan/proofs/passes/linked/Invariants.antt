@@ -1,7 +1,7 @@
 use Rattle.std.proofs.Common.{◌≡◌, length, drop, replicate, ℕ}
 use Rattle.std.specs.Prelude.{reverse}
-use Rattle.romfs_rows.specs.Passes.{heads_of, places_of}
-use Rattle.romfs_rows.proofs.passes.linked.Given as goal
+use Rattle.romfs_plan.specs.Passes.{heads_of, places_of}
+use Rattle.romfs_plan.proofs.passes.linked.Given as goal
 
 abbrev pub invariant-loop-i : goal.invariant-loop-i
 invariant-loop-i l = record {

@@ -1,7 +1,7 @@
 //! Rows of names, and their places.
 ghost use Rattle.std.specs.Prelude.{◌≡◌, ◌+◌, ◌*◌, ◌<◌, ◌≤◌, ◌^◌};
 ghost use Rattle.image_parts.specs.Padding.{pad};
-ghost use Rattle.romfs_rows.specs.Rows.{row_place, row_end, header_len, IsRow};
+ghost use Rattle.romfs_plan.specs.Places.{row_place, row_end, header_len, IsRow};
 
 use std::cmp::max;
 
@@ -57,7 +57,7 @@ fn header_len(name_len: usize) -> u64
 }
 
 /// Where the header of a row stands, if what was placed before ends at `from`.
-#[tactic(auto, unfolding(crate::specs::Rows::row_place))]
+#[tactic(auto, unfolding(crate::specs::Places::row_place))]
 pub fn row_place(from: u64, row: Row) -> u64
     requires row { IsRow row }
     requires from { from < 2 ^ 56 }
@@ -76,7 +76,7 @@ pub fn row_place(from: u64, row: Row) -> u64
 }
 
 /// Where what a row places ends.
-#[tactic(auto, unfolding(crate::specs::Rows::row_end))]
+#[tactic(auto, unfolding(crate::specs::Places::row_end))]
 pub fn row_end(from: u64, row: Row) -> u64
     requires row { IsRow row }
     requires from { from < 2 ^ 56 }

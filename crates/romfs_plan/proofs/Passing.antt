@@ -6,10 +6,10 @@ use Rattle.romfs_format.specs.Record.{pad16}
 use Rattle.manifest_tree.specs.Names.{Inode, Names, nothing, leaf, link, folder}
 use Rattle.layout_terms.specs.Files.{height}
 use Rattle.romfs_layout.specs.Layout.{place_of, data_align, record_len, leaf_end, header_end, ends, first_place}
-use Rattle.romfs_rows.specs.declared.rows.Row.{Row}
-use Rattle.romfs_rows.specs.declared.rows.Place.{Place}
-use Rattle.romfs_rows.specs.Rows.{rows, leaf_row, link_row, folder_row, row_place, row_end}
-use Rattle.romfs_rows.specs.Passes.{places, places_end, place, placed, heads_with, heads_of, places_of, named_places}
+use Rattle.romfs_plan.specs.declared.rows.Row.{Row}
+use Rattle.romfs_plan.specs.declared.rows.Place.{Place}
+use Rattle.romfs_plan.specs.Places.{rows, leaf_row, link_row, folder_row, row_place, row_end}
+use Rattle.romfs_plan.specs.Passes.{places, places_end, place, placed, heads_with, heads_of, places_of, named_places}
 
 -- a row stands, and ends, where the layout says
 leaf_at : (d from : ℕ) (name : List ℕ) (i : Inode) → row_place from (leaf_row d name i) ≡ place_of from name i

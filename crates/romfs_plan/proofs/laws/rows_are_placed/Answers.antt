@@ -1,6 +1,6 @@
 use Rattle.std.proofs.Common.{ℕ, ◌≡◌, get_or, replicate, refl, arith, zero, suc}
-use Rattle.romfs_rows.proofs.Passing.{computes, rows_end_is}
-use Rattle.romfs_rows.proofs.laws.rows_are_placed.Goals as goal
+use Rattle.romfs_plan.proofs.Passing.{computes, rows_end_is}
+use Rattle.romfs_plan.proofs.laws.rows_are_placed.Goals as goal
 
 zeros : (n j : ℕ) → ◌≡◌ {A = ℕ} (get_or (replicate {A = ℕ} n 0) j 0) 0
 zeros zero j = refl

@@ -1,6 +1,6 @@
 use Rattle.std.proofs.Common.{◌≡◌, ◌+◌, ◌*◌, ◌≤◌, ◌^◌, ◌++◌, drop}
-use Rattle.romfs_rows.specs.Passes.{places}
-use Rattle.romfs_rows.proofs.passes.row_places.Given as goal
+use Rattle.romfs_plan.specs.Passes.{places}
+use Rattle.romfs_plan.proofs.passes.row_places.Given as goal
 
 abbrev pub invariant-loop-row : goal.invariant-loop-row
 invariant-loop-row l = record {

@@ -1,8 +1,8 @@
 //! The two passes over rows.
 ghost use Rattle.std.specs.Prelude.{◌≡◌, ◌<◌, ◌^◌, IfOk, length, replicate};
 ghost use Rattle.std.specs.List.{All};
-ghost use Rattle.romfs_rows.specs.Rows.{IsRow};
-ghost use Rattle.romfs_rows.specs.Passes.{places, places_end, places_of};
+ghost use Rattle.romfs_plan.specs.Places.{IsRow};
+ghost use Rattle.romfs_plan.specs.Passes.{places, places_of};
 
 use crate::rows::{Place, Row, row_end, row_place};
 use rom_fields::memory::OutOfMemory;
@@ -25,20 +25,6 @@ fn row_places(alloc: Global, rows: &[Row], from: u64) -> Result<Vec<u64>, OutOfM
         at = row_end(at, *row);
     }
     Ok(found)
-}
-
-/// Where all that rows place ends, if what was placed before ends at `from`.
-pub fn rows_end(rows: &[Row], from: u64) -> u64
-    requires rows { All IsRow rows.now }
-    requires few { length rows.now < 2 ^ 21 }
-    requires from { from < 2 ^ 30 }
-    ensures { result ≡ places_end from rows.now }
-{
-    let mut at = from;
-    for row in rows {
-        at = row_end(at, *row);
-    }
-    at
 }
 
 /// What rows lead on to, where their headers stand at these places.

@@ -1,6 +1,6 @@
 use Rattle.std.proofs.Common.{ap, ◌∙◌, length}
-use Rattle.romfs_rows.proofs.Passing.{length-places}
-use Rattle.romfs_rows.proofs.passes.places_of.Goals as goal
+use Rattle.romfs_plan.proofs.Passing.{length-places}
+use Rattle.romfs_plan.proofs.passes.places_of.Goals as goal
 
 pub linked-requires-clause-places : goal.linked-requires-clause-places
 linked-requires-clause-places c =

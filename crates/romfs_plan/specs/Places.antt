@@ -4,9 +4,9 @@ use Rattle.std.specs.Prelude.{ℕ, ◌+◌, ◌-◌, ◌^◌, ◌<◌, ◌≤◌
 use Rattle.image_parts.specs.Padding.{pad}
 use Rattle.romfs_format.specs.Record.{pad16}
 use Rattle.manifest_tree.specs.Names.{Inode, Names, nothing, leaf, link, folder}
-use Rattle.romfs_rows.specs.declared.rows.Row.{Row}
-use Rattle.romfs_rows.specs.declared.rows.Holds.{Holds}
-use Rattle.romfs_rows.specs.declared.rows.Holds.TheVariants.{Bytes, Nothing, List as Own}
+use Rattle.romfs_plan.specs.declared.rows.Row.{Row}
+use Rattle.romfs_plan.specs.declared.rows.Holds.{Holds}
+use Rattle.romfs_plan.specs.declared.rows.Holds.TheVariants.{Bytes, Nothing, List as Own}
 
 abbrev pub leaf_row : ℕ → List ℕ → Inode → Row
 leaf_row depth name i = record { depth = depth; name_len = length name; holds = Bytes i.size i.align }
