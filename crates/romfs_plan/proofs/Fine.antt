@@ -1,7 +1,7 @@
 -- What is planned has places and words within their limits.
-use Rattle.std.proofs.Common.{◌≡◌, ◌+◌, ◌<◌, ◌≤◌, ◌^◌, ℕ, List, [], ◌∷◌, length, map, replicate, get_or, zero, suc, refl, sym, ap, subst, ◌∙◌, arith}
+use Rattle.std.proofs.Common.{◌≡◌, ◌+◌, ◌<◌, ◌≤◌, ◌^◌, ℕ, List, length, map, get_or, sym, ap, subst, ◌∙◌, arith}
 use Rattle.std.proofs.lemmas.List.{length-map}
-use Rattle.std.proofs.lemmas.List.Elements.{All-from_recursion, All-map}
+use Rattle.std.proofs.lemmas.List.Elements.{All-from_recursion}
 use Rattle.std.specs.List.{All, AllByRecursion as Every}
 use Rattle.record_forest.proofs.Lists.{every_join}
 use Rattle.rom_tree.specs.declared.types.Kind.{Kind}
@@ -15,14 +15,11 @@ use Rattle.romfs_layout.specs.Wells.{FitsKind, AreWell}
 use Rattle.romfs_layout.proofs.Places.{ends_after, first_within}
 use Rattle.manifest_rows.specs.Rows.{rows, row_view}
 use Rattle.manifest_rows.specs.declared.row.Row.{Row as CodeRow}
-use Rattle.romfs_plan.specs.declared.rows.Place.{Place}
-use Rattle.romfs_plan.specs.declared.rows.Row.{Row as PlaceRow}
-use Rattle.romfs_plan.specs.Passes.{named_places, places, places_of}
-use Rattle.romfs_plan.specs.Places.{IsRow}
-use Rattle.romfs_plan.proofs.Passing.{computes}
+use Rattle.romfs_plan.specs.declared.places.Place.{Place}
+use Rattle.romfs_plan.specs.Passes.{named_places}
 use Rattle.romfs_plan.specs.Headers.{IsNear, IsFineWhat, IsFineRow}
-use Rattle.romfs_plan.specs.Rows.{place_row, held}
-use Rattle.romfs_plan.proofs.Sizes.{counted, fewer, placed_rows, twice}
+use Rattle.romfs_plan.specs.Rows.{IsFitWhat, IsFitRow}
+use Rattle.romfs_plan.proofs.Sizes.{counted, fewer}
 
 numbers : (k : Kind) (i : Inode) → FitsKind k i → (i.major < 65536) × (i.minor < 65536)
 numbers Directory i h = absurd h
@@ -100,30 +97,11 @@ few_rows volume root n cs rs e p =
     let f = p.few in
     omega (arith, a, b, c, f)
 
-every_map : {A B : Type 0} (P : B → Type 0) (f : A → B) (xs : List A) → Every P (map f xs) → Every (λ x. P (f x)) xs
-every_map P f [] h = tt
-every_map P f (x ∷ xs) h = (h.0, every_map P f xs h.1)
-
-pub each_fine : (rs : List CodeRow) → Every IsFineRow (map row_view rs) → All (λ r. IsFineRow (row_view r)) rs
-each_fine rs h = All-from_recursion (λ r. IsFineRow (row_view r)) rs (every_map IsFineRow row_view rs h)
-
--- fine rows have their places
-pub each_placed : (rs : List CodeRow) → All (λ r. IsFineRow (row_view r)) rs → All IsRow (map (λ r. place_row (row_view r)) rs)
-each_placed rs h = All-map IsRow (λ r. place_row (row_view r)) rs (λ k d l. held_is (row_view (get_or rs k d)).what (h k d l))
+-- fine rows are fit
+pub each_fit : (rs : List CodeRow) → All (λ r. IsFineRow (row_view r)) rs → All (λ r. IsFitRow (row_view r)) rs
+each_fit rs h k d l = let f = h k d l in (f.0, fit (row_view (get_or rs k d)).what f.2)
   where
-    held_is : {n d : ℕ} (w : What) → (n < 256) × (d < 65) × IsFineWhat w → IsRow (record { depth = d; name_len = n; holds = held w })
-    held_is (a_leaf i) h = (h.0, h.1, h.2.0)
-    held_is (a_link i) h = (h.0, h.1, tt)
-    held_is (a_folder i) h = (h.0, h.1, tt)
-
-zeros : (n j : ℕ) → ◌≡◌ {A = ℕ} (get_or (replicate {A = ℕ} n 0) j 0) 0
-zeros zero j = refl
-zeros (suc n) zero = refl
-zeros (suc n) (suc j) = zeros n j
-
--- the places are those of the names
-pub places_are : (from : ℕ) (rs : List CodeRow) (n : Names) → map row_view rs ≡ rows 1 n → height n ≤ 64
-    → places_of (replicate 66 0) (map (λ r. place_row (row_view r)) rs) (places from (map (λ r. place_row (row_view r)) rs)) ≡ named_places from n
-places_are from rs n e low =
-    ap (λ (qs : List PlaceRow). places_of (replicate {A = ℕ} 66 0) qs (places from qs)) (twice rs ∙ ap (map place_row) e ∙ placed_rows 1 n)
-    ∙ (computes 1 from (replicate 66 0) n (omega (arith, low)) (λ j k. zeros 66 j)).places_are
+    fit : (w : What) → IsFineWhat w → IsFitWhat w
+    fit (a_leaf i) h = h.0
+    fit (a_link i) h = tt
+    fit (a_folder i) h = tt

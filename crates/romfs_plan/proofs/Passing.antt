@@ -1,43 +1,15 @@
 -- The two passes over the rows of names compute the places of the layout.
-use Rattle.std.proofs.Common.{◌≡◌, ◌≢◌, ◌+◌, ◌<◌, ◌≤◌, ℕ, suc, List, [], ◌∷◌, ◌++◌, length, get_or, refl, sym, ap, ◌∙◌, arith}
+use Rattle.std.proofs.Common.{◌≡◌, ◌≢◌, ◌+◌, ◌<◌, ◌≤◌, ℕ, zero, suc, List, [], ◌∷◌, ◌++◌, length, get_or, replicate, refl, sym, ap, ◌∙◌, arith}
 use Rattle.std.proofs.Math.ListN.{set}
 use Rattle.std.proofs.lemmas.List.{set-set, set-get_or, get_or-set_same, get_or-set_other, length-set}
 use Rattle.romfs_format.specs.Record.{pad16}
-use Rattle.manifest_tree.specs.Names.{Inode, Names, nothing, leaf, link, folder}
+use Rattle.manifest_tree.specs.Names.{Names, nothing, leaf, link, folder}
+use Rattle.manifest_tree.specs.Tree.{a_leaf, a_link, a_folder}
 use Rattle.layout_terms.specs.Files.{height}
-use Rattle.romfs_layout.specs.Layout.{place_of, data_align, record_len, leaf_end, header_end, ends, first_place}
-use Rattle.romfs_plan.specs.declared.rows.Row.{Row}
-use Rattle.romfs_plan.specs.declared.rows.Place.{Place}
-use Rattle.romfs_plan.specs.Places.{rows, leaf_row, link_row, folder_row, row_place, row_end}
-use Rattle.romfs_plan.specs.Passes.{places, places_end, place, placed, heads_with, heads_of, places_of, named_places}
-
--- a row stands, and ends, where the layout says
-leaf_at : (d from : ℕ) (name : List ℕ) (i : Inode) → row_place from (leaf_row d name i) ≡ place_of from name i
-unfolding row_place place_of data_align
-leaf_at d from name i = refl
-
-leaf_ends : (d from : ℕ) (name : List ℕ) (i : Inode) → row_end from (leaf_row d name i) ≡ leaf_end from name i
-unfolding row_end
-leaf_ends d from name i = ap (λ (n : ℕ). n + record_len name + i.size) (leaf_at d from name i)
-
-link_at : (d from : ℕ) (name : List ℕ) → row_place from (link_row d name) ≡ pad16 from
-unfolding row_place
-link_at d from name = refl
-
-more_nothing : (n : ℕ) → n + 0 ≡ n
-more_nothing n = omega arith
-
-link_ends : (d from : ℕ) (name : List ℕ) → row_end from (link_row d name) ≡ header_end from name
-unfolding row_end
-link_ends d from name = ap (λ (n : ℕ). n + record_len name + 0) (link_at d from name) ∙ more_nothing (header_end from name)
-
-folder_at : (d from : ℕ) (name : List ℕ) → row_place from (folder_row d name) ≡ pad16 from
-unfolding row_place
-folder_at d from name = refl
-
-folder_ends : (d from : ℕ) (name : List ℕ) → row_end from (folder_row d name) ≡ header_end from name + 64
-unfolding row_end
-folder_ends d from name = ap (λ (n : ℕ). n + record_len name + 64) (folder_at d from name)
+use Rattle.romfs_layout.specs.Layout.{place_of, leaf_end, header_end, ends, first_place}
+use Rattle.manifest_rows.specs.Rows.{Row, row, rows}
+use Rattle.romfs_plan.specs.declared.places.Place.{Place}
+use Rattle.romfs_plan.specs.Passes.{row_place, row_end, places, places_end, place, placed, heads_with, heads_of, places_of, named_places}
 
 places-append : (from : ℕ) (rs qs : List Row) → places from (rs ++ qs) ≡ places from rs ++ places (places_end from rs) qs
 places-append from [] qs = refl
@@ -50,12 +22,11 @@ places_end-append from (r ∷ rs) qs = places_end-append (row_end from r) rs qs
 -- all that the rows place ends where the names do
 pub rows_end_is : (d from : ℕ) (n : Names) → places_end from (rows d n) ≡ ends from n
 rows_end_is d from nothing = refl
-rows_end_is d from (leaf name i after) = ap (λ (x : ℕ). places_end x (rows d after)) (leaf_ends d from name i) ∙ rows_end_is d (leaf_end from name i) after
-rows_end_is d from (link name i after) = ap (λ (x : ℕ). places_end x (rows d after)) (link_ends d from name) ∙ rows_end_is d (header_end from name) after
+rows_end_is d from (leaf name i after) = rows_end_is d (leaf_end from name i) after
+rows_end_is d from (link name i after) = rows_end_is d (header_end from name) after
 rows_end_is d from (folder name i own after) =
     let h = header_end from name + 64 in
-    ap (λ (x : ℕ). places_end x (rows (d + 1) own ++ rows d after)) (folder_ends d from name)
-    ∙ places_end-append h (rows (d + 1) own) (rows d after) ∙ ap (λ (x : ℕ). places_end x (rows d after)) (rows_end_is (d + 1) h own)
+    places_end-append h (rows (d + 1) own) (rows d after) ∙ ap (λ (x : ℕ). places_end x (rows d after)) (rows_end_is (d + 1) h own)
     ∙ rows_end_is d (ends h own) after
 
 pub length-places : (from : ℕ) (rs : List Row) → length (places from rs) ≡ length rs
@@ -89,7 +60,7 @@ settle heads d x p h =
     ap (λ (z : List ℕ). set z d p) f ∙ set-set heads d x p
 
 -- what the passes give of names at depth d that are placed from `from` on
-pub record Computes (d from : ℕ) (heads : List ℕ) (n : Names) : Type 0 where
+record Computes (d from : ℕ) (heads : List ℕ) (n : Names) : Type 0 where
   pub heads_are : heads_of heads (rows d n) (places from (rows d n)) ≡ set heads d (first_place from n)
   pub places_are : places_of heads (rows d n) (places from (rows d n)) ≡ named_places from n
 
@@ -111,7 +82,7 @@ single d p q heads r n at wide z later =
       ap (λ (m : Place). m ∷ places_of heads (rows d n) (places q (rows d n))) l ∙ ap (λ (ms : List Place). place p x 0 ∷ ms) later.places_are,
     )
 
-pub computes : (d from : ℕ) (heads : List ℕ) (n : Names) → d + height n < length heads
+computes : (d from : ℕ) (heads : List ℕ) (n : Names) → d + height n < length heads
     → ((j : ℕ) → d ≤ j → get_or heads j 0 ≡ 0) → Computes d from heads n
 computes d from heads nothing room zeros = record {
   heads_are = sym (ap (λ (v : ℕ). set heads d v) (sym (zeros d (omega arith))) ∙ set-get_or heads d 0);
@@ -120,19 +91,15 @@ computes d from heads nothing room zeros = record {
 computes d from heads (leaf name i after) room zeros =
     let q = leaf_end from name i in
     let later = computes d q heads after (omega (arith, room)) zeros in
-    let s = single d (place_of from name i) q heads (leaf_row d name i) after refl (omega (arith, room)) (zeros (d + 1) (omega arith)) later in
-    let e = leaf_at d from name i in
-    let g = leaf_ends d from name i in
-    record { heads_are = rw (e, g) s.0; places_are = rw (e, g) s.1 }
+    let s = single d (place_of from name i) q heads (row d name (a_leaf i)) after refl (omega (arith, room)) (zeros (d + 1) (omega arith)) later in
+    record { heads_are = s.0; places_are = s.1 }
 computes d from heads (link name i after) room zeros =
     let q = header_end from name in
     let later = computes d q heads after (omega (arith, room)) zeros in
-    let s = single d (pad16 from) q heads (link_row d name) after refl (omega (arith, room)) (zeros (d + 1) (omega arith)) later in
-    let e = link_at d from name in
-    let g = link_ends d from name in
-    record { heads_are = rw (e, g) s.0; places_are = rw (e, g) s.1 }
+    let s = single d (pad16 from) q heads (row d name (a_link i)) after refl (omega (arith, room)) (zeros (d + 1) (omega arith)) later in
+    record { heads_are = s.0; places_are = s.1 }
 computes d from heads (folder name i own after) room zeros =
-    let r = folder_row d name in
+    let r = row d name (a_folder i) in
     let p = pad16 from in
     let s = header_end from name + 64 in
     let q = ends s own in
@@ -170,6 +137,16 @@ computes d from heads (folder name i own after) room zeros =
     let all : placed (heads_of heads (rows (d + 1) own ++ rows d after) (places s (rows (d + 1) own ++ rows d after))) r p
     ∷ places_of heads (rows (d + 1) own ++ rows d after) (places s (rows (d + 1) own ++ rows d after)) ≡ place p x y ∷ (named_places s own ++ named_places q after) =
     ap (λ (m : Place). m ∷ places_of heads (rows (d + 1) own ++ rows d after) (places s (rows (d + 1) own ++ rows d after))) l ∙ ap (λ (ms : List Place). place p x y ∷ ms) links2 in
-    let e = folder_at d from name in
-    let g = folder_ends d from name in
-    record { heads_are = rw (e, g) h3; places_are = rw (e, g) all }
+    record { heads_are = h3; places_are = all }
+
+no_heads : (n j : ℕ) → ◌≡◌ {A = ℕ} (get_or (replicate {A = ℕ} n 0) j 0) 0
+no_heads zero j = refl
+no_heads (suc n) zero = refl
+no_heads (suc n) (suc j) = no_heads n j
+
+-- the places are those of the names
+pub places_are : (from : ℕ) (rs : List Row) (ps : List ℕ) (n : Names) → rs ≡ rows 1 n → ps ≡ places from rs → height n ≤ 64
+    → places_of (replicate 66 0) rs ps ≡ named_places from n
+places_are from rs ps n e f low =
+    ap (places_of (replicate 66 0) rs) f ∙ ap (λ (qs : List Row). places_of (replicate {A = ℕ} 66 0) qs (places from qs)) e
+    ∙ (computes 1 from (replicate 66 0) n (omega (arith, low)) (λ j k. no_heads 66 j)).places_are

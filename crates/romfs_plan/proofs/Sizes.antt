@@ -1,9 +1,7 @@
 -- The rows of names tell how long the image is, and whether it is too large.
-use Rattle.std.proofs.Common.{◌≡◌, ◌+◌, ◌<◌, ◌≤◌, ◌^◌, ◌||◌, ℕ, Bool, true, false, nat_lt, List, [], ◌∷◌, ◌++◌, length, map, refl, ap, ◌∙◌, arith}
+use Rattle.std.proofs.Common.{◌≡◌, ◌+◌, ◌<◌, ◌≤◌, ◌^◌, ◌||◌, ℕ, Bool, true, false, nat_lt, List, [], ◌∷◌, ◌++◌, length, refl, ap, ◌∙◌, arith}
 use Rattle.std.proofs.lemmas.Bool.{lt-ltb, le-ltb}
-use Rattle.std.proofs.lemmas.List.{map-append, length-append, length-map}
-use Rattle.std.proofs.lemmas.List.Elements.{All-from_recursion}
-use Rattle.std.specs.List.{All, AllByRecursion as Every}
+use Rattle.std.proofs.lemmas.List.{length-append, length-map}
 use Rattle.image_parts.specs.Padding.{pad}
 use Rattle.romfs_format.specs.Record.{pad16}
 use Rattle.manifest_tree.specs.Names.{Inode, Names, nothing, leaf, link, folder}
@@ -12,24 +10,8 @@ use Rattle.layout_terms.specs.Files.{height}
 use Rattle.romfs_layout.specs.Layout.{root_at, full_size_of, headers, all_headers, leaf_end, header_end, ends, placed, place_with}
 use Rattle.romfs_layout.specs.Items.{item_of, items_of}
 use Rattle.manifest_rows.proofs.Depths.{deepest_is}
-use Rattle.manifest_rows.specs.Rows.{Row, rows, deepest, row_view}
-use Rattle.manifest_rows.specs.declared.row.Row.{Row as CodeRow}
-use Rattle.romfs_plan.specs.declared.rows.Row.{Row as PlaceRow}
-use Rattle.romfs_plan.specs.Passes.{places_end}
-use Rattle.romfs_plan.specs.Places.{IsRow, rows as place_rows, leaf_row, link_row, folder_row}
-use Rattle.romfs_plan.proofs.Passing.{rows_end_is}
-use Rattle.romfs_plan.specs.Rows.{place_row, count_of, header_count, held, IsFitWhat, IsFitRow, too_large}
-
--- the rows are those that the two passes go over
-pub placed_rows : (d : ℕ) (n : Names) → map place_row (rows d n) ≡ place_rows d n
-placed_rows d nothing = refl
-placed_rows d (leaf name i after) = ap (λ (rs : List PlaceRow). leaf_row d name i ∷ rs) (placed_rows d after)
-placed_rows d (link name i after) = ap (λ (rs : List PlaceRow). link_row d name ∷ rs) (placed_rows d after)
-placed_rows d (folder name i own after) =
-    let e = placed_rows (d + 1) own in
-    let f = placed_rows d after in
-    ap (λ (rs : List PlaceRow). folder_row d name ∷ rs)
-    (map-append place_row (rows (d + 1) own) (rows d after) ∙ ap (λ (rs : List PlaceRow). rs ++ map place_row (rows d after)) e ∙ ap (λ (rs : List PlaceRow). place_rows (d + 1) own ++ rs) f)
+use Rattle.manifest_rows.specs.Rows.{Row, rows, deepest}
+use Rattle.romfs_plan.specs.Rows.{count_of, header_count, too_large}
 
 header_count-append : (rs qs : List Row) → header_count (rs ++ qs) ≡ header_count rs + header_count qs
 header_count-append [] qs = omega arith
@@ -63,35 +45,6 @@ fewer (r ∷ rs) = let e = fewer rs in let f = some r.what in omega (arith, e, f
     some (a_leaf i) = omega arith
     some (a_link i) = omega arith
     some (a_folder i) = omega arith
-
-pub twice : (rs : List CodeRow) → map (λ r. place_row (row_view r)) rs ≡ map place_row (map row_view rs)
-twice [] = refl
-twice (r ∷ rs) = ap (λ (ps : List PlaceRow). place_row (row_view r) ∷ ps) (twice rs)
-
--- all that the rows place ends where the names do
-pub end_is : (from : ℕ) (rs : List CodeRow) (n : Names) → map row_view rs ≡ rows 1 n
-    → places_end from (map (λ r. place_row (row_view r)) rs) ≡ ends from n
-end_is from rs n e =
-    ap (places_end from) (twice rs ∙ ap (map place_row) e ∙ placed_rows 1 n) ∙ rows_end_is 1 from n
-
--- each row has its place
-pub all_fit : (rs : List CodeRow) → Every IsFitRow (map row_view rs) → deepest (map row_view rs) ≤ 64
-    → All (λ r. IsRow (place_row (row_view r))) rs
-all_fit rs h k = All-from_recursion (λ r. IsRow (place_row (row_view r))) rs (each rs h k)
-  where
-    held_is : (n : ℕ) (d : ℕ) (w : What) → n < 256 → IsFitWhat w → d < 65 → IsRow (record { depth = d; name_len = n; holds = held w })
-    held_is n d (a_leaf i) s h k = (s, k, h)
-    held_is n d (a_link i) s h k = (s, k, tt)
-    held_is n d (a_folder i) s h k = (s, k, tt)
-
-    each : (qs : List CodeRow) → Every IsFitRow (map row_view qs) → deepest (map row_view qs) ≤ 64
-        → Every (λ r. IsRow (place_row (row_view r))) qs
-    each [] h k = tt
-    each (q ∷ qs) h k =
-        let v = row_view q in
-        let here : v.depth < 65 = omega (arith, k) in
-        let rest : deepest (map row_view qs) ≤ 64 = omega (arith, k) in
-        (held_is (length v.name) v.depth v.what h.0.0 h.0.1 here, each qs h.1 rest)
 
 or_true : (b : Bool) → b || true ≡ true
 or_true true = refl

@@ -12,7 +12,7 @@ use Rattle.layout_terms.specs.Files.{Placed, at_place, height}
 use Rattle.romfs_layout.specs.Layout.{Header, headers, place_of, leaf_end, header_end, ends, first_place, placed, place_with, root_at}
 use Rattle.romfs_layout.specs.Items.{item_of, items_of}
 use Rattle.manifest_rows.specs.Rows.{Row, rows}
-use Rattle.romfs_plan.specs.declared.rows.Place.{Place}
+use Rattle.romfs_plan.specs.declared.places.Place.{Place}
 use Rattle.romfs_plan.specs.Passes.{place, named_places}
 use Rattle.romfs_plan.specs.Headers.{headers_by, headers_of, root_headers, placed_by, placed_of, first_of}
 

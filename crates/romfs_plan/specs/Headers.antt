@@ -9,7 +9,7 @@ use Rattle.manifest_tree.specs.Tree.{What, a_leaf, a_link, a_folder}
 use Rattle.layout_terms.specs.Files.{Placed, at_place}
 use Rattle.romfs_layout.specs.Layout.{Header, header_alone, code_of, device_of, record_len}
 use Rattle.manifest_rows.specs.Rows.{Row}
-use Rattle.romfs_plan.specs.declared.rows.Place.{Place}
+use Rattle.romfs_plan.specs.declared.places.Place.{Place}
 
 -- the header of a file whose header has this place
 abbrev pub leaf_header : List ℕ → Inode → Place → Header

@@ -1,11 +1,30 @@
--- Two passes over rows: forwards for their places, and backwards for what each leads on to. (This project's own.)
+-- Two passes over rows: forwards for the places of their headers, and backwards for what each leads on to. (This
+-- project's own.)
 use Rattle.std.specs.Prelude.{ℕ, ◌+◌, List, [], ◌∷◌, ◌++◌, slice_index, slice_set}
 use Rattle.manifest_tree.specs.Names.{Names, nothing, leaf, link, folder}
+use Rattle.manifest_tree.specs.Tree.{What, a_leaf, a_link, a_folder}
 use Rattle.romfs_format.specs.Record.{pad16}
 use Rattle.romfs_layout.specs.Layout.{place_of, leaf_end, header_end, ends, first_place}
-use Rattle.romfs_plan.specs.declared.rows.Row.{Row}
-use Rattle.romfs_plan.specs.declared.rows.Place.{Place}
-use Rattle.romfs_plan.specs.Places.{row_place, row_end}
+use Rattle.manifest_rows.specs.Rows.{Row}
+use Rattle.romfs_plan.specs.declared.places.Place.{Place}
+
+-- where the header of a row stands, if what was placed before ends at `from`
+abbrev pub place_by : ℕ → List ℕ → What → ℕ
+place_by from name (a_leaf i) = place_of from name i
+place_by from name (a_link i) = pad16 from
+place_by from name (a_folder i) = pad16 from
+
+abbrev pub row_place : ℕ → Row → ℕ
+row_place from r = place_by from r.name r.what
+
+-- where what the row places ends: a directory's list begins with two headers of 32 bytes
+abbrev pub end_by : ℕ → List ℕ → What → ℕ
+end_by from name (a_leaf i) = leaf_end from name i
+end_by from name (a_link i) = header_end from name
+end_by from name (a_folder i) = header_end from name + 64
+
+abbrev pub row_end : ℕ → Row → ℕ
+row_end from r = end_by from r.name r.what
 
 -- forwards: where each header stands
 abbrev pub places : ℕ → List Row → List ℕ

@@ -8,19 +8,6 @@ use Rattle.layout_terms.specs.Files.{height}
 use Rattle.romfs_layout.specs.Layout.{root_at, full_size_of}
 use Rattle.romfs_layout.specs.Items.{items_of}
 use Rattle.manifest_rows.specs.Rows.{Row}
-use Rattle.romfs_plan.specs.declared.rows.Row.{Row as PlaceRow}
-use Rattle.romfs_plan.specs.declared.rows.Holds.{Holds}
-use Rattle.romfs_plan.specs.declared.rows.Holds.TheVariants.{Bytes, Nothing, List as Own}
-
--- what follows a header
-abbrev pub held : What → Holds
-held (a_leaf i) = Bytes i.size i.align
-held (a_link i) = Nothing
-held (a_folder i) = Own
-
--- what of a row its header's place depends on
-abbrev pub place_row : Row → PlaceRow
-place_row r = record { depth = r.depth; name_len = length r.name; holds = held r.what }
 
 -- how many headers are written for what a name is: a directory's list begins with `.` and `..`
 abbrev pub count_of : What → ℕ

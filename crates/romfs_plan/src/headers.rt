@@ -1,15 +1,12 @@
 //! The headers of a romfs image.
-ghost use Rattle.std.specs.Prelude.{◌≡◌, ◌+◌, ◌<◌, ◌≤◌, ◌^◌, ◌∷◌, [], ◌++◌, ℕ, IfOk, OnOk, length, map, replicate};
-ghost use Rattle.std.specs.List.{All};
+ghost use Rattle.std.specs.Prelude.{◌≡◌, ◌+◌, ◌<◌, ◌≤◌, ◌^◌, ◌++◌, IfOk, OnOk, length, map};
 ghost use Rattle.plan_items.specs.Views.{item_view, fill_view};
 ghost use Rattle.manifest_rows.specs.Rows.{bytes_view, inode_view, row_view};
 ghost use Rattle.romfs_layout.specs.Items.{item_of};
-ghost use Rattle.romfs_layout.specs.Layout.{code_of, device_of, header_alone, place_with, mode_bit, number_of};
-ghost use Rattle.rom_tree.specs.Dots.{dot, dot_dot};
+ghost use Rattle.romfs_layout.specs.Layout.{code_of, device_of, header_alone, mode_bit, number_of};
 ghost use Rattle.romfs_plan.specs.Headers.{leaf_header, folder_headers, headers_by, root_headers, noted, IsNear, IsFineRow};
 
-use crate::rows::Place;
-use crate::section_list::record_len;
+use crate::places::{Place, record_len};
 use manifest::Name;
 use manifest_rows::{Bytes, Inode, Row, What};
 use plan_items::{Fill, Item};

@@ -1,53 +1,23 @@
 //! The items of a romfs image.
-ghost use Rattle.std.specs.Prelude.{◌≡◌, ◌+◌, ◌<◌, ◌≤◌, ◌^◌, ◌++◌, ℕ, List, IfOk, OnOk, length, map, replicate};
+ghost use Rattle.std.specs.Prelude.{◌≡◌, ◌++◌, ℕ, List, IfOk, OnOk, length, map, replicate};
 ghost use Rattle.std.specs.List.{All};
-ghost use Rattle.layout_terms.specs.Files.{height};
 ghost use Rattle.manifest_tree.specs.Names.{Names};
 ghost use Rattle.plan_items.specs.Views.{item_view};
 ghost use Rattle.manifest_rows.specs.Rows.{rows as rows_of, inode_view, row_view};
 ghost use Rattle.romfs_layout.specs.Items.{item_of, items_of};
 ghost use Rattle.romfs_layout.specs.Layout.{place_with};
 ghost use Rattle.romfs_layout.specs.Planned.{IsPlanned};
-ghost use Rattle.romfs_plan.specs.Headers.{root_headers, headers_of, noted, noted_by, placed_of, first_of, IsNear, IsFineRow};
-ghost use Rattle.romfs_plan.specs.Rows.{place_row};
-ghost use Rattle.romfs_plan.specs.Passes.{named_places};
+ghost use Rattle.romfs_plan.specs.Headers.{headers_of, noted, noted_by, placed_of, first_of, IsNear, IsFineRow};
 
 use crate::headers::{push_root, push_row};
-use crate::passes::places_of;
-use crate::rows::{Place, Row as PlaceRow};
-use crate::size::{place_row, root_at};
+use crate::passes::{DEPTHS, places_of};
+use crate::places::Place;
+use crate::size::root_at;
 use manifest_rows::{Inode, Row, What};
 use plan_items::Item;
 use rom_fields::memory::OutOfMemory;
 use std::alloc::Global;
 use std::collections::BTreeMap;
-
-/// One more than the greatest depth of a row, and one for the list below it.
-const DEPTHS: usize = 66;
-
-/// What of each row its header's place depends on.
-fn place_rows(alloc: Global, rows: &[Row<'_>]) -> Result<Vec<PlaceRow>, OutOfMemory>
-    ensures { IfOk result (λ v. v.items ≡ map (λ r. place_row (row_view r)) rows.now) }
-{
-    let mut found = Vec::new(alloc);
-    for row in rows {
-        found.push(place_row(row))?;
-    }
-    Ok(found)
-}
-
-/// Where the headers of rows stand, and what they lead on to, if what was placed before ends at
-/// `from`.
-fn row_places(alloc: Global, rows: &[Row<'_>], from: u64) -> Result<Vec<Place>, OutOfMemory>
-    requires rows { All (λ r. IsFineRow (row_view r)) rows.now }
-    requires few { length rows.now ≤ 2 ^ 20 }
-    requires from { from < 2 ^ 30 }
-    ensures { (n : Names) → map row_view rows.now ≡ rows_of 1 n → height n ≤ 64
-        → IfOk result (λ v. v.items ≡ named_places from n) }
-{
-    let placing = place_rows(alloc, rows)?;
-    places_of(alloc, &placing, from)
-}
 
 /// Notes where the header of a file stands, if the row is no further name of one.
 fn note_row(lines: &mut BTreeMap<u64, u32>, row: &Row<'_>, at: u32) -> Result<(), OutOfMemory>
@@ -132,7 +102,7 @@ pub fn items(
         → IfOk result (λ v. map item_view v.items ≡ items_of volume.now (inode_view root.now) n) }
 {
     let at = root_at(volume);
-    let places = row_places(alloc, rows, at + 64)?;
+    let places = places_of(alloc, rows, at + 64)?;
     let lines = lines_of(alloc, rows, &places)?;
     let mut found = Vec::new(alloc);
     push_root(alloc, &mut found, root, at as u32, first_of(&places))?;

@@ -2,9 +2,9 @@
 ghost use Rattle.std.specs.Prelude.{◌≡◌, ◌≤◌, ℕ, replicate};
 ghost use Rattle.layout_terms.specs.Files.{height};
 ghost use Rattle.manifest_tree.specs.Names.{Names};
+ghost use Rattle.manifest_rows.specs.Rows.{rows};
 ghost use Rattle.romfs_layout.specs.Layout.{ends};
 ghost use Rattle.romfs_plan.specs.Passes.{places, places_end, places_of, named_places};
-ghost use Rattle.romfs_plan.specs.Places.{rows};
 
 /// The passes over the rows of names give the places of the layout.
 pub fn rows_are_placed()

@@ -3,15 +3,15 @@
 //! `image_len` says how long the image is, and whether it is too large; `items` are its headers,
 //! and `sections` its bytes that stand together. Proved: they are those of the layout.
 //!
-//! `specs/Places.antt` has what of the rows tells where headers stand, and `specs/Passes.antt` the
-//! two passes over them, forwards and backwards, which need no recursion.
+//! `specs/Passes.antt` has the two passes over the rows that give places, forwards and backwards;
+//! they need no recursion.
 #![tactic(auto)]
 
 mod headers;
 mod item_list;
 pub mod laws;
 mod passes;
-mod rows;
+mod places;
 mod section_list;
 mod size;
 #[cfg(test)]

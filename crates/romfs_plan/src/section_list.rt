@@ -7,20 +7,11 @@ ghost use Rattle.plan_items.specs.Views.{item_view, section_view};
 ghost use Rattle.romfs_layout.specs.Items.{sections_of};
 ghost use Rattle.romfs_layout.specs.Layout.{record_len};
 
-use crate::rows::padded;
+use crate::places::record_len;
 use crate::size::root_at;
 use plan_items::{Body, Fill, Item, Section};
 use rom_fields::memory::OutOfMemory;
 use std::alloc::Global;
-
-/// How many bytes a header with this name has.
-pub fn record_len(name: &[u8]) -> u32
-    requires { length name.now < 256 }
-    ensures len { result ≡ record_len name.now }
-    ensures short { result < 300 }
-{
-    16 + padded(name.len() as u64 + 1, 16) as u32
-}
 
 /// The section of an item's header.
 fn record_section(index: usize, item: &Item) -> Section

@@ -1,15 +1,14 @@
 //! How long a romfs image is.
 ghost use Rattle.std.specs.Prelude.{◌≡◌, ◌+◌, ◌*◌, ◌<◌, ◌≤◌, ◌^◌, if◌then◌else◌, Some, None, map, length};
-ghost use Rattle.std.specs.List.{All, AllByRecursion as Every};
+ghost use Rattle.std.specs.List.{AllByRecursion as Every};
 ghost use Rattle.image_parts.specs.Padding.{pad};
 ghost use Rattle.manifest_tree.specs.Names.{Inode, Names};
 ghost use Rattle.manifest_rows.specs.Rows.{rows as rows_of, row_view};
 ghost use Rattle.romfs_layout.specs.Layout.{full_size_of, root_at};
-ghost use Rattle.romfs_plan.specs.Rows.{place_row, count_of, header_count, IsFitRow, too_large};
-ghost use Rattle.romfs_plan.specs.Passes.{places_end};
-ghost use Rattle.romfs_plan.specs.Places.{IsRow};
+ghost use Rattle.romfs_plan.specs.Rows.{count_of, header_count, IsFitRow, too_large};
 
-use crate::rows::{Holds, Row as PlaceRow, padded, row_end};
+use crate::passes::rows_end;
+use crate::places::{padded, record_len};
 use manifest_rows::{Row, What, deepest};
 
 /// The most headers of an image: 2^20, this project's limit of references.
@@ -20,22 +19,6 @@ const MOST_NAMES: usize = 64;
 
 /// The most bytes of an image: 2^28, this project's limit.
 const MOST_BYTES: u64 = 1 << 28;
-
-/// What of a row its header's place depends on.
-pub fn place_row(row: &Row<'_>) -> PlaceRow
-    ensures { result ≡ place_row (row_view row.now) }
-{
-    let holds = match row.what {
-        What::Leaf => Holds::Bytes(row.inode.size, row.inode.align),
-        What::Link => Holds::Nothing,
-        What::Folder => Holds::List,
-    };
-    PlaceRow {
-        depth: row.depth,
-        name_len: row.name.len(),
-        holds,
-    }
-}
 
 /// How many headers are written for a row.
 fn count_of(row: &Row<'_>) -> usize
@@ -61,28 +44,13 @@ fn header_count(rows: &[Row<'_>]) -> usize
     count
 }
 
-/// Where all that rows place ends, if what was placed before ends at `from`.
-fn rows_end(rows: &[Row<'_>], from: u64) -> u64
-    requires rows { All (λ r. IsRow (place_row (row_view r))) rows.now }
-    requires few { length rows.now ≤ 2 ^ 20 }
-    requires from { from < 2 ^ 30 }
-    ensures end { result ≡ places_end from (map (λ r. place_row (row_view r)) rows.now) }
-    ensures near { result < 2 ^ 56 }
-{
-    let mut at = from;
-    for row in rows {
-        at = row_end(at, place_row(row));
-    }
-    at
-}
-
 /// Where the root's header stands, behind the superblock with the volume's name.
 pub fn root_at(volume: &[u8]) -> u64
     requires { length volume.now < 256 }
     ensures root { result ≡ root_at volume.now }
     ensures near { result < 300 }
 {
-    16 + padded(volume.len() as u64 + 1, 16)
+    record_len(volume) as u64
 }
 
 /// How many bytes the image of rows has, and nothing where it is too large: where it has more than

@@ -7,62 +7,63 @@ use Rattle.manifest_rows.specs.Rows.{inode_view, row_view}
 use Rattle.romfs_layout.specs.Items.{item_of}
 use Rattle.romfs_layout.specs.Layout.{root_at}
 use Rattle.romfs_plan.specs.Passes.{named_places}
-use Rattle.romfs_plan.specs.Headers.{root_headers, headers_of, noted, first_of}
-use Rattle.romfs_plan.proofs.Fine.{fine_rows, near_places, few_rows, each_fine}
+use Rattle.romfs_plan.specs.Headers.{root_headers, headers_of, noted, first_of, IsFineRow}
+use Rattle.romfs_plan.proofs.Fine.{fine_rows, near_places, few_rows}
+use Rattle.romfs_plan.proofs.Lists.{each}
 use Rattle.romfs_plan.proofs.Walked.{length-named, first_is, whole}
 use Rattle.romfs_plan.proofs.item_list.items.Goals as goal
 
-pub row_places-requires-clause-rows : goal.row_places-requires-clause-rows
-row_places-requires-clause-rows c =
+pub places_of-requires-clause-rows : goal.places_of-requires-clause-rows
+places_of-requires-clause-rows c =
     let p = c.requires.planned in
-    each_fine c.args.rows.now (fine_rows c.args.volume.now (inode_view c.args.root.now) p.0 p.1 c.args.rows.now p.2 p.3)
+    each IsFineRow row_view c.args.rows.now (fine_rows c.args.volume.now (inode_view c.args.root.now) p.0 p.1 c.args.rows.now p.2 p.3)
 
-pub row_places-requires-clause-few : goal.row_places-requires-clause-few
-row_places-requires-clause-few c =
+pub places_of-requires-clause-few : goal.places_of-requires-clause-few
+places_of-requires-clause-few c =
     let p = c.requires.planned in
     few_rows c.args.volume.now (inode_view c.args.root.now) p.0 p.1 c.args.rows.now p.2 p.3
 
 pub lines_of-requires-clause-places : goal.lines_of-requires-clause-places
 lines_of-requires-clause-places c =
     let p = c.requires.planned in
-    ap length (c.deref.ensures.value ∙ c.in_ok-places.ensures p.0 p.2 p.3.shallow) ∙ length-named 1 (c.root_at-at.result + 64) p.0
+    ap length (c.deref.ensures.value ∙ c.in_ok-places.ensures.named p.0 p.2 p.3.shallow) ∙ length-named 1 (c.root_at-at.result + 64) p.0
     ∙ sym (ap length p.2) ∙ length-map c.args.rows.now row_view
 
 pub lines_of-requires-clause-near : goal.lines_of-requires-clause-near
 lines_of-requires-clause-near c =
     let p = c.requires.planned in
     let at = ap (λ (k : ℕ). named_places (k + 64) p.0) c.root_at-at.ensures.root in
-    near_places c.args.volume.now (inode_view c.args.root.now) p.0 p.1 c.deref.result.now p.3 (c.deref.ensures.value ∙ c.in_ok-places.ensures p.0 p.2 p.3.shallow ∙ at)
+    near_places c.args.volume.now (inode_view c.args.root.now) p.0 p.1 c.deref.result.now p.3 (c.deref.ensures.value ∙ c.in_ok-places.ensures.named p.0 p.2 p.3.shallow ∙ at)
 
 pub first_of-requires : goal.first_of-requires
 first_of-requires c =
     let p = c.requires.planned in
     let at = ap (λ (k : ℕ). named_places (k + 64) p.0) c.root_at-at.ensures.root in
-    near_places c.args.volume.now (inode_view c.args.root.now) p.0 p.1 c.deref-2.result.now p.3 (c.deref-2.ensures.value ∙ c.in_ok-places.ensures p.0 p.2 p.3.shallow ∙ at)
+    near_places c.args.volume.now (inode_view c.args.root.now) p.0 p.1 c.deref-2.result.now p.3 (c.deref-2.ensures.value ∙ c.in_ok-places.ensures.named p.0 p.2 p.3.shallow ∙ at)
 
 pub push_rows-requires-clause-rows : goal.push_rows-requires-clause-rows
 push_rows-requires-clause-rows c =
     let p = c.requires.planned in
-    each_fine c.args.rows.now (fine_rows c.args.volume.now (inode_view c.args.root.now) p.0 p.1 c.args.rows.now p.2 p.3)
+    each IsFineRow row_view c.args.rows.now (fine_rows c.args.volume.now (inode_view c.args.root.now) p.0 p.1 c.args.rows.now p.2 p.3)
 
 pub push_rows-requires-clause-places : goal.push_rows-requires-clause-places
 push_rows-requires-clause-places c =
     let p = c.requires.planned in
-    ap length (c.deref-3.ensures.value ∙ c.in_ok-places.ensures p.0 p.2 p.3.shallow) ∙ length-named 1 (c.root_at-at.result + 64) p.0
+    ap length (c.deref-3.ensures.value ∙ c.in_ok-places.ensures.named p.0 p.2 p.3.shallow) ∙ length-named 1 (c.root_at-at.result + 64) p.0
     ∙ sym (ap length p.2) ∙ length-map c.args.rows.now row_view
 
 pub push_rows-requires-clause-near : goal.push_rows-requires-clause-near
 push_rows-requires-clause-near c =
     let p = c.requires.planned in
     let at = ap (λ (k : ℕ). named_places (k + 64) p.0) c.root_at-at.ensures.root in
-    near_places c.args.volume.now (inode_view c.args.root.now) p.0 p.1 c.deref-3.result.now p.3 (c.deref-3.ensures.value ∙ c.in_ok-places.ensures p.0 p.2 p.3.shallow ∙ at)
+    near_places c.args.volume.now (inode_view c.args.root.now) p.0 p.1 c.deref-3.result.now p.3 (c.deref-3.ensures.value ∙ c.in_ok-places.ensures.named p.0 p.2 p.3.shallow ∙ at)
 
 pub returns : goal.returns
 returns c = λ n cs e p.
     let volume = c.args.volume.now in
     let root = inode_view c.args.root.now in
     let r = c.root_at-at.result in
-    let stand = c.in_ok-places.ensures n e p.shallow ∙ ap (λ (k : ℕ). named_places (k + 64) n) c.root_at-at.ensures.root in
+    let stand = c.in_ok-places.ensures.named n e p.shallow ∙ ap (λ (k : ℕ). named_places (k + 64) n) c.root_at-at.ensures.root in
     let first = c.first_of.ensures ∙ ap first_of (c.deref-2.ensures.value ∙ stand) ∙ first_is (root_at volume + 64) n in
     let rest = map item_of (headers_of (noted c.in_ok-lines.lines) (replicate 66 r) (map row_view c.args.rows.now) c.deref-3.result.now) in
     let own = map item_of (root_headers r c.first_of.result root) in

@@ -3,8 +3,11 @@ use Rattle.image_parts.specs.Padding.{pad}
 use Rattle.manifest_rows.specs.Rows.{deepest, row_view}
 use Rattle.romfs_layout.specs.Layout.{ends}
 use Rattle.romfs_format.specs.Record.{pad16}
-use Rattle.romfs_plan.specs.Rows.{header_count}
-use Rattle.romfs_plan.proofs.Sizes.{fewer, too_many, too_deep, too_long, not_large, end_is, all_fit}
+use Rattle.romfs_plan.specs.Passes.{places_end}
+use Rattle.romfs_plan.specs.Rows.{header_count, IsFitRow}
+use Rattle.romfs_plan.proofs.Lists.{each}
+use Rattle.romfs_plan.proofs.Passing.{rows_end_is}
+use Rattle.romfs_plan.proofs.Sizes.{fewer, too_many, too_deep, too_long, not_large}
 use Rattle.std.proofs.lemmas.List.{length-map}
 use Rattle.romfs_plan.proofs.size.image_len.Goals as goal
 
@@ -39,15 +42,12 @@ returns-then-deepest-gt-MOST_NAMES c = λ root n e.
     large _ _ (too_deep c.args.volume.now root n (omega (arith, g, h, k)))
 
 pub rows_end-requires-clause-rows : goal.rows_end-requires-clause-rows
-rows_end-requires-clause-rows c =
-    let g = c.deepest.ensures in
-    let k = c.if-deepest-gt-MOST_NAMES.false in
-    all_fit c.args.rows.now c.requires.fit (omega (arith, g, k))
+rows_end-requires-clause-rows c = each IsFitRow row_view c.args.rows.now c.requires.fit
 
 pub returns-then-len-gt-MOST_BYTES : goal.returns-then-len-gt-MOST_BYTES
 returns-then-len-gt-MOST_BYTES c = λ root n e.
     let r = c.root_at.ensures.root in
-    let end = c.rows_end.ensures.end ∙ end_is (c.root_at.result + 64) c.args.rows.now n e ∙ ap (λ (k : ℕ). ends (k + 64) n) r in
+    let end = c.rows_end.ensures.end ∙ ap (places_end (c.root_at.result + 64)) e ∙ rows_end_is 1 (c.root_at.result + 64) n ∙ ap (λ (k : ℕ). ends (k + 64) n) r in
     let len = c.padded-len.ensures.padded ∙ ap (λ (k : ℕ). pad k 1024) (c.padded.ensures.padded ∙ ap pad16 end) in
     let k = c.if-len-gt-MOST_BYTES.true in
     large _ _ (too_long c.args.volume.now root n (omega (arith, len, k)))
@@ -55,7 +55,7 @@ returns-then-len-gt-MOST_BYTES c = λ root n e.
 pub returns : goal.returns
 returns c = λ root n e.
     let r = c.root_at.ensures.root in
-    let end = c.rows_end.ensures.end ∙ end_is (c.root_at.result + 64) c.args.rows.now n e ∙ ap (λ (k : ℕ). ends (k + 64) n) r in
+    let end = c.rows_end.ensures.end ∙ ap (places_end (c.root_at.result + 64)) e ∙ rows_end_is 1 (c.root_at.result + 64) n ∙ ap (λ (k : ℕ). ends (k + 64) n) r in
     let len = c.padded-len.ensures.padded ∙ ap (λ (k : ℕ). pad k 1024) (c.padded.ensures.padded ∙ ap pad16 end) in
     let few = c.header_count.ensures.count in
     let a = ap header_count e in
