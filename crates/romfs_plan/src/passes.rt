@@ -4,7 +4,6 @@ ghost use Rattle.std.specs.List.{All};
 ghost use Rattle.layout_terms.specs.Files.{height};
 ghost use Rattle.manifest_tree.specs.Names.{Names};
 ghost use Rattle.manifest_rows.specs.Rows.{rows as rows_of, row_view};
-ghost use Rattle.romfs_plan.specs.Headers.{IsFineRow};
 ghost use Rattle.romfs_plan.specs.Passes.{places, places_end, places_of, named_places};
 ghost use Rattle.romfs_plan.specs.Rows.{IsFitRow};
 
@@ -18,7 +17,7 @@ pub const DEPTHS: usize = 66;
 
 /// Where the headers of rows stand, if what was placed before ends at `from`.
 fn row_places(alloc: Global, rows: &[Row<'_>], from: u64) -> Result<Vec<u64>, OutOfMemory>
-    requires rows { All (λ r. IsFitRow (row_view r)) rows.now }
+    requires fit { All (λ r. IsFitRow (row_view r)) rows.now }
     requires few { length rows.now ≤ 2 ^ 20 }
     requires from { from < 2 ^ 30 }
     ensures { IfOk result (λ v. v.items ≡ places from (map row_view rows.now)) }
@@ -34,7 +33,7 @@ fn row_places(alloc: Global, rows: &[Row<'_>], from: u64) -> Result<Vec<u64>, Ou
 
 /// Where all that rows place ends, if what was placed before ends at `from`.
 pub fn rows_end(rows: &[Row<'_>], from: u64) -> u64
-    requires rows { All (λ r. IsFitRow (row_view r)) rows.now }
+    requires fit { All (λ r. IsFitRow (row_view r)) rows.now }
     requires few { length rows.now ≤ 2 ^ 20 }
     requires from { from < 2 ^ 30 }
     ensures end { result ≡ places_end from (map row_view rows.now) }
@@ -49,7 +48,7 @@ pub fn rows_end(rows: &[Row<'_>], from: u64) -> u64
 
 /// What rows lead on to, where their headers stand at these places.
 fn linked(alloc: Global, rows: &[Row<'_>], places: &[u64]) -> Result<Vec<Place>, OutOfMemory>
-    requires rows { All (λ r. IsFineRow (row_view r)) rows.now }
+    requires shallow { All (λ r. r.depth < 65) rows.now }
     requires places { length places.now ≡ length rows.now }
     ensures { IfOk result (λ v. v.items
         ≡ places_of (replicate 66 0) (map row_view rows.now) places.now) }
@@ -74,7 +73,8 @@ fn linked(alloc: Global, rows: &[Row<'_>], places: &[u64]) -> Result<Vec<Place>,
 /// Where the headers of rows stand and what they lead on to, if what was placed before ends at
 /// `from`.
 pub fn places_of(alloc: Global, rows: &[Row<'_>], from: u64) -> Result<Vec<Place>, OutOfMemory>
-    requires rows { All (λ r. IsFineRow (row_view r)) rows.now }
+    requires fit { All (λ r. IsFitRow (row_view r)) rows.now }
+    requires shallow { All (λ r. r.depth < 65) rows.now }
     requires few { length rows.now ≤ 2 ^ 20 }
     requires from { from < 2 ^ 30 }
     ensures passes { IfOk result (λ v. v.items

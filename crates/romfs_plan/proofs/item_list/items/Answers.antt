@@ -8,15 +8,20 @@ use Rattle.romfs_layout.specs.Items.{item_of}
 use Rattle.romfs_layout.specs.Layout.{root_at}
 use Rattle.romfs_plan.specs.Passes.{named_places}
 use Rattle.romfs_plan.specs.Headers.{root_headers, headers_of, noted, first_of, IsFineRow}
-use Rattle.romfs_plan.proofs.Fine.{fine_rows, near_places, few_rows}
+use Rattle.romfs_plan.proofs.Fine.{fine_rows, near_places, few_rows, each_fit}
 use Rattle.romfs_plan.proofs.Lists.{each}
 use Rattle.romfs_plan.proofs.Walked.{length-named, first_is, whole}
 use Rattle.romfs_plan.proofs.item_list.items.Goals as goal
 
-pub places_of-requires-clause-rows : goal.places_of-requires-clause-rows
-places_of-requires-clause-rows c =
+pub places_of-requires-clause-fit : goal.places_of-requires-clause-fit
+places_of-requires-clause-fit c =
     let p = c.requires.planned in
-    each IsFineRow row_view c.args.rows.now (fine_rows c.args.volume.now (inode_view c.args.root.now) p.0 p.1 c.args.rows.now p.2 p.3)
+    each_fit c.args.rows.now (each IsFineRow row_view c.args.rows.now (fine_rows c.args.volume.now (inode_view c.args.root.now) p.0 p.1 c.args.rows.now p.2 p.3))
+
+pub places_of-requires-clause-shallow : goal.places_of-requires-clause-shallow
+places_of-requires-clause-shallow c = λ k d l.
+    let p = c.requires.planned in
+    (each IsFineRow row_view c.args.rows.now (fine_rows c.args.volume.now (inode_view c.args.root.now) p.0 p.1 c.args.rows.now p.2 p.3) k d l).1
 
 pub places_of-requires-clause-few : goal.places_of-requires-clause-few
 places_of-requires-clause-few c =

@@ -2,12 +2,8 @@ use Rattle.std.proofs.Common.{◌≡◌, List, IfOk, length, map, ap, subst, ◌
 use Rattle.std.proofs.lemmas.List.{length-map}
 use Rattle.manifest_rows.specs.Rows.{row_view}
 use Rattle.romfs_plan.specs.declared.places.Place.{Place}
-use Rattle.romfs_plan.proofs.Fine.{each_fit}
 use Rattle.romfs_plan.proofs.Passing.{length-places, places_are}
 use Rattle.romfs_plan.proofs.passes.places_of.Goals as goal
-
-pub row_places-requires-clause-rows : goal.row_places-requires-clause-rows
-row_places-requires-clause-rows c = each_fit c.args.rows.now c.requires.rows
 
 pub linked-requires-clause-places : goal.linked-requires-clause-places
 linked-requires-clause-places c =

@@ -41,8 +41,8 @@ returns-then-deepest-gt-MOST_NAMES c = λ root n e.
     let k = c.if-deepest-gt-MOST_NAMES.true in
     large _ _ (too_deep c.args.volume.now root n (omega (arith, g, h, k)))
 
-pub rows_end-requires-clause-rows : goal.rows_end-requires-clause-rows
-rows_end-requires-clause-rows c = each IsFitRow row_view c.args.rows.now c.requires.fit
+pub rows_end-requires-clause-fit : goal.rows_end-requires-clause-fit
+rows_end-requires-clause-fit c = each IsFitRow row_view c.args.rows.now c.requires.fit
 
 pub returns-then-len-gt-MOST_BYTES : goal.returns-then-len-gt-MOST_BYTES
 returns-then-len-gt-MOST_BYTES c = λ root n e.
