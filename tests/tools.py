@@ -3,7 +3,8 @@
 
 A small repository is made with edits of each kind, the gate is run on it, and each edit has to be told rightly: those
 that turn a meaning as refused, those that change nothing as not refused, beside others in one check too, and those
-that cannot be made as bad. The last line is `N passed, M failed`.
+that cannot be made as bad. Tests that are proved and tests that are not begin from what was proved of their crate, and
+are told rightly too. The last line is `N passed, M failed`.
 """
 
 import os
@@ -26,6 +27,8 @@ ROOT = """//! Small functions, by which the gate is tried.
 ghost use Rattle.std.specs.Prelude.{◌≡◌, ◌+◌, ◌*◌};
 
 pub mod lower;
+#[cfg(test)]
+mod tests;
 pub mod upper;
 
 /// Twice the number.
@@ -66,8 +69,45 @@ pub fn after(n: u32) -> u64
     u64::from(n) + {0}
 }}
 """
+TESTS = """//! Tests of the root's functions.
+use crate::{most, twice};
+
+#[test]
+fn of_the_most(rt: HostRuntime) {
+    assert!(rt; twice(most()) == 14);
+}
+"""
+ODD = """//! A function, and a test that cannot be proved.
+#![tactic(auto)]
+
+ghost use Rattle.std.specs.Prelude.{◌≡◌, ◌+◌};
+
+#[cfg(test)]
+mod tests;
+
+/// The number after.
+pub fn next(n: u32) -> u64
+    ensures { result ≡ n + 1 }
+{
+    u64::from(n) + 1
+}
+"""
+ODD_TESTS = """//! A test that reads behind its array's end.
+use crate::next;
+
+#[test]
+fn of_the_last(rt: HostRuntime) {
+    let numbers = [1u64, 2];
+    assert!(rt; numbers[next(1) as usize] == 2);
+}
+"""
 FILES = {
-    "crates.txt": "small:\n",
+    "crates.txt": "small:\nodd:\n",
+    "crates/odd/src/lib.rt": ODD,
+    "crates/odd/src/tests.rt": ODD_TESTS,
+    "crates/odd/must-fail/next_is_itself.edit": "file: src/lib.rt\nold:     u64::from(n) + 1\nnew:     u64::from(n)\n",
+    "crates/odd/must-fail/next_but_one.edit": "file: src/lib.rt\nold:     u64::from(n) + 1\nnew:     u64::from(n) + 2\n",
+    "crates/small/src/tests.rt": TESTS,
     "HANDLES": "Handles allowed: none.\n",
     "crates/small/src/lib.rt": ROOT,
     "crates/small/src/lower.rt": PLUS.format(1),
@@ -109,8 +149,12 @@ def try_gate(counts):
     for name, (_, _, _, wanted) in EDITS.items():
         told = [it for it in said if it.startswith(f"rt: must-fail small/{name}.edit: {wanted}")]
         expect(counts, f"the gate on the edit {name}", len(told), 1, ran.stdout)
+    for wanted in ("small: its tests are proved", "odd proved", "odd: its tests are NOT PROVED"):
+        expect(counts, f"the gate says: {wanted}", said.count(f"rt: {wanted}"), 1, ran.stdout)
+    begun = [it for it in said if it.startswith("logic=proved tests=1 ") and it.endswith(" incremental=trusted")]
+    expect(counts, "how many tests begin from what was proved of their crate", len(begun), 1, ran.stdout)
     of = lambda verdict: sum(it[3].startswith(verdict) for it in EDITS.values())
-    last = f"{1 + of('refused')} passed, {of('NOT REFUSED')} failed"
+    last = f"{1 + of('refused')} passed, {1 + of('NOT REFUSED')} failed"
     expect(counts, "the gate's last line", said[-1:], [last], ran.stdout)
     expect(counts, "the gate's status", ran.returncode, 1, ran.stdout)
 
