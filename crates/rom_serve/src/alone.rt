@@ -6,7 +6,7 @@ ghost use Rattle.rom_serve.specs.Machines.{lines_alone};
 use crate::calls::OpenCalls;
 use crate::commands::put_answer;
 use rom_fields::bytes::ByteWrite;
-use serve_lines::{Command, LineMachine, read_line};
+use serve_lines::LineMachine;
 use std::marker::PhantomData;
 
 /// Open files that answer lines. `quit` ends the serving.
@@ -23,14 +23,7 @@ impl<'a, C: OpenCalls<'a>> LineMachine for Alone<'a, C> {
 
     ghost machine = { λ s. lines_alone (C.calls s.calls 0) };
 
-    fn is_last(&self, line: &[u8]) -> bool {
-        match read_line(line, false) {
-            Ok(Command::Quit) => true,
-            _ => false,
-        }
-    }
-
-    fn answer<W: ByteWrite>(&mut self, line: &[u8], w: &mut W, failed: &mut bool) {
-        put_answer(&mut self.calls, 0, line, false, w, failed);
+    fn answer<W: ByteWrite>(&mut self, line: &[u8], w: &mut W, failed: &mut bool) -> bool {
+        put_answer(&mut self.calls, 0, line, false, w, failed)
     }
 }

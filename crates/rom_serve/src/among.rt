@@ -47,14 +47,10 @@ impl<'a, C: OpenCalls<'a>> LineMachine for Among<'a, C> {
 
     ghost machine = { λ s. lines_among (C.calls s.calls) };
 
-    fn is_last(&self, _line: &[u8]) -> bool {
-        false
-    }
-
-    fn answer<W: ByteWrite>(&mut self, line: &[u8], w: &mut W, failed: &mut bool) {
+    fn answer<W: ByteWrite>(&mut self, line: &[u8], w: &mut W, failed: &mut bool) -> bool {
         if line.len() > 8191 {
             put_reply(w, failed, Reply::Bad(Bad::Line));
-            return;
+            return false;
         }
         match session_of(line) {
             None => put_reply(w, failed, Reply::Bad(Bad::Session)),
@@ -70,5 +66,6 @@ impl<'a, C: OpenCalls<'a>> LineMachine for Among<'a, C> {
                 );
             }
         }
+        false
     }
 }

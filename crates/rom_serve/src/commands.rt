@@ -4,6 +4,7 @@ ghost use Rattle.rom_fields.specs.Written.{Puts, sink};
 ghost use Rattle.serve_lines.specs.Commands.{on_path, on_fd, read, quit, line_of};
 ghost use Rattle.serve_lines.specs.Reading.{call_by, is_small};
 ghost use Rattle.serve_lines.specs.Replies.{reply_text};
+ghost use Rattle.rom_serve.specs.Machines.{is_quit_call, is_quit as is_quit_line};
 ghost use Rattle.rom_serve.specs.Obeyed.{says, obeyed, answered};
 
 use crate::calls::OpenCalls;
@@ -150,8 +151,15 @@ fn put_obeyed<'a, C: OpenCalls<'a>, W: ByteWrite>(
     }
 }
 
-/// Answers what a line asks for that names no session. `mounts` says whether `mount` and `umount`
-/// are words.
+/// Whether a command is `quit`.
+fn is_quit(command: &Command<'_>) -> bool
+    ensures { result ≡ is_quit_call (call_by command.now) }
+{
+    matches!(command, Command::Quit)
+}
+
+/// Answers what a line asks for that names no session, and tells whether this is `quit`. `mounts`
+/// says whether `mount` and `umount` are words.
 pub(crate) fn put_answer<'a, C: OpenCalls<'a>, W: ByteWrite>(
     calls: &mut C,
     session: u32,
@@ -159,8 +167,9 @@ pub(crate) fn put_answer<'a, C: OpenCalls<'a>, W: ByteWrite>(
     mounts: bool,
     w: &mut W,
     failed: &mut bool,
-)
+) -> bool
     requires { session < 8 }
+    ensures last { result ≡ is_quit_line (line_of mounts line.now) }
     ensures text { Puts (sink (W.output w.old) failed.old) (sink (W.output w.new) failed.new)
         (answered (C.calls calls.old session) (C.state calls.old) (line_of mounts line.now)).text }
     ensures step { C.state calls.new
@@ -169,7 +178,14 @@ pub(crate) fn put_answer<'a, C: OpenCalls<'a>, W: ByteWrite>(
     ensures stays { C.calls calls.new ≡ C.calls calls.old }
 {
     match read_line(line, mounts) {
-        Err(bad) => put_reply(w, failed, Reply::Bad(bad)),
-        Ok(command) => put_obeyed(calls, session, command, w, failed),
+        Err(bad) => {
+            put_reply(w, failed, Reply::Bad(bad));
+            false
+        }
+        Ok(command) => {
+            let last = is_quit(&command);
+            put_obeyed(calls, session, command, w, failed);
+            last
+        }
     }
 }

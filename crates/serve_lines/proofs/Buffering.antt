@@ -6,7 +6,7 @@ use Rattle.std.proofs.lemmas.Bool.{false≢true}
 use Rattle.std.proofs.lemmas.List.{take_rest, drop-drop}
 use Rattle.std.proofs.lemmas.Slice.Eq.{bytes_eq-Decides}
 use Rattle.std.specs.Io.KnownBytes.{Appends, Keeps, append_known}
-use Rattle.rom_fields.specs.Written.{AppendsPrefix, WritesText}
+use Rattle.rom_fields.specs.Written.{AppendsPrefix}
 use Rattle.rom_fields.proofs.Joins.{within_tail}
 use Rattle.serve_lines.specs.Starts.{begins_with}
 
@@ -87,12 +87,6 @@ all_held None v rest t e a = tt
 all_held (Some xs) None rest t e a = absurd a
 all_held (Some xs) (Some ys) rest t e a =
     sym (append-nil ys) ∙ ap (λ z. ys ++ z) (sym e) ∙ a ∙ append_assoc xs [] t
-
--- what a flush makes of it
-pub flushed : {V E : Type 0} (r : Result V E) (start v : Option (List ℕ)) (rest t : List ℕ) → begins_with start v ≡ true
-    → OnOk r (rest ≡ []) → Appends (append_known start []) (append_known v rest) t → WritesText start v r t
-flushed (Ok x) start v rest t h e a = all_held start v rest t e a
-flushed (Err x) start v rest t h e a = prefix_held start v rest t h a
 
 pub none_left : (h : List ℕ) (s : ℕ) → h ≡ [] → drop s h ≡ []
 none_left h zero e = e

@@ -14,12 +14,9 @@ pub trait LineMachine {
     // What each line is answered, and the state after it.
     ghost machine: { Self → Machine State };
 
-    /// Whether a line ends the serving.
-    fn is_last(&self, line: &[u8]) -> bool
-        ensures { result ≡ (machine self.now).ends line.now };
-
-    /// Puts the reply to a line into a sink.
-    fn answer<W: ByteWrite>(&mut self, line: &[u8], w: &mut W, failed: &mut bool)
+    /// Puts the reply to a line into a sink, and tells whether the line ends the serving.
+    fn answer<W: ByteWrite>(&mut self, line: &[u8], w: &mut W, failed: &mut bool) -> bool
+        ensures last { result ≡ (machine self.old).ends line.now }
         ensures text { Puts (sink (W.output w.old) failed.old) (sink (W.output w.new) failed.new)
             ((machine self.old).reply (state self.old) line.now) }
         ensures step { state self.new ≡ (machine self.old).next (state self.old) line.now }

@@ -1,5 +1,5 @@
 //! The serving of lines.
-ghost use Rattle.std.specs.Prelude.{◌≡◌, ℕ, List, ◌∷◌, [], ◌++◌, take, length, ◌<◌, Err, OnOk, OnErr};
+ghost use Rattle.std.specs.Prelude.{◌≡◌, ℕ, List, ◌∷◌, [], ◌++◌, take, length, ◌<◌, Err, IfOk, OnOk, OnErr};
 ghost use Rattle.std.specs.Io.KnownBytes.{Appends};
 ghost use Rattle.rom_fields.specs.Failures.{Rose, Counts, after_flush, after_flushes};
 ghost use Rattle.rom_fields.specs.Written.{WritesText, AppendsPrefix};
@@ -30,24 +30,25 @@ fn keep(line: &mut Line, b: u8)
     line.push(b);
 }
 
-/// Writes the reply to a line through a buffer, and flushes it. `ended` then says whether this
-/// failed.
+/// Writes the reply to a line through a buffer, and flushes it. `answered` then says whether the
+/// line ends the serving, or that this failed.
 fn answer_through<'w, M: LineMachine, W: ByteWrite, K: Lent>(
     m: &mut M,
     line: &Line,
     reached: Reached<'w, W>,
-    ended: &mut Result<(), Failed>,
+    answered: &mut Result<bool, Failed>,
 ) -> Reached<'w, W>
     requires loan { reached.w.ghost_name ≡ K.loan }
     requires start { (W.output reached.w.now).contents ≡ K.start }
     ensures loan { result.w.ghost_name ≡ reached.entry.w.ghost_name }
+    ensures last { IfOk answered.new (λ last. last ≡ (M.machine m.old).ends line.now.items) }
     ensures text { WritesText (W.output reached.entry.w.now).contents
-        (W.output result.w.now).contents ended.new
+        (W.output result.w.now).contents answered.new
         ((M.machine m.old).reply (M.state m.old) line.now.items) }
     ensures count { Counts (W.output reached.entry.w.now).failures
-        (W.output result.w.now).failures ended.new }
+        (W.output result.w.now).failures answered.new }
     ensures flushed { (W.output result.w.now).flushes
-        ≡ after_flush (W.output reached.entry.w.now).flushes ended.new }
+        ≡ after_flush (W.output reached.entry.w.now).flushes answered.new }
     ensures step { M.state m.new ≡ (M.machine m.old).next (M.state m.old) line.now.items }
     ensures stays { M.machine m.new ≡ M.machine m.old }
 {
@@ -58,23 +59,27 @@ fn answer_through<'w, M: LineMachine, W: ByteWrite, K: Lent>(
         lent: PhantomData,
     };
     let mut failed = false;
-    m.answer(line.as_slice(), &mut out, &mut failed);
+    let last = m.answer(line.as_slice(), &mut out, &mut failed);
     if failed {
-        *ended = Err(Failed);
+        *answered = Err(Failed);
         let Buffered { reached, .. } = out;
         return reached;
     }
-    *ended = out.flush();
+    *answered = match out.flush() {
+        Ok(()) => Ok(last),
+        Err(Failed) => Err(Failed),
+    };
     let Buffered { reached, .. } = out;
     reached
 }
 
-/// Writes the reply to a line, and flushes it.
+/// Writes the reply to a line, and flushes it. Tells whether the line ends the serving.
 fn answer_line<M: LineMachine, W: ByteWrite>(
     m: &mut M,
     line: &Line,
     w: &mut W,
-) -> Result<(), Failed>
+) -> Result<bool, Failed>
+    ensures last { IfOk result (λ last. last ≡ (M.machine m.old).ends line.now.items) }
     ensures text { WritesText (W.output w.old).contents (W.output w.new).contents result
         ((M.machine m.old).reply (M.state m.old) line.now.items) }
     ensures count { Counts (W.output w.old).failures (W.output w.new).failures result }
@@ -83,7 +88,7 @@ fn answer_line<M: LineMachine, W: ByteWrite>(
     ensures stays { M.machine m.new ≡ M.machine m.old }
 {
     let mut reached = Reached { w };
-    let mut answered = Ok(());
+    let mut answered = Ok(false);
     // The reference comes back: so it is known here what was written through it.
     reached = answer_through::<M, W, Brand>(m, line, reached, &mut answered);
     answered
@@ -108,7 +113,10 @@ fn answer_last<M: LineMachine, W: ByteWrite>(
     if line.is_empty() {
         return Ok(());
     }
-    answer_line(m, line, w)
+    match answer_line(m, line, w) {
+        Ok(_) => Ok(()),
+        Err(Failed) => Err(Failed),
+    }
 }
 
 /// Answers the lines of `r` on `w`, up to the end of the input or to the first line that ends the
@@ -160,11 +168,10 @@ pub fn serve_lines<M: LineMachine, R: ByteRead, W: ByteWrite>(
             keep(&mut line, b);
             continue;
         }
-        let last = m.is_last(line.as_slice());
-        match answer_line(m, &line, w) {
-            Ok(()) => {}
+        let last = match answer_line(m, &line, w) {
+            Ok(last) => last,
             Err(Failed) => return Err(ServeError::WriteFault),
-        }
+        };
         if last {
             return Ok(());
         }

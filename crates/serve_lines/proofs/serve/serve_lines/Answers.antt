@@ -1,4 +1,4 @@
-use Rattle.std.proofs.Common.{◌≡◌, refl, ap, ◌∙◌, arith, List, ℕ}
+use Rattle.std.proofs.Common.{◌≡◌, refl, ◌∙◌, arith}
 use Rattle.serve_lines.proofs.Runs.{run-begins, run-stops, run-fails, run-ends, run-breaks_at_end, run-goes_on, run-answers, run-quits, run-breaks, rose-from}
 use Rattle.serve_lines.proofs.serve.serve_lines.Goals as goal
 
@@ -44,12 +44,12 @@ returns-in-Err-answer_line-clause-write_fault g c = λ _. (
 pub returns-then-last-clause-ok : goal.returns-then-last-clause-ok
 returns-then-last-clause-ok g c =
     run-quits _ c.requires _ _ _ _ _ _ (g.W.ByteWrite.output c.answer_line.new.w) _ _ _ _ _ _ c.loop.invariant.same c.loop.invariant.runs c.in-Byte.ensures.0 c.if-b-ne-LINE_FEED.false
-    (c.is_last-last.ensures ∙ ap (λ (t : List ℕ). (g.M.LineMachine.machine c.loop.m).ends t) c.as_slice.ensures.value) c.if-last.true c.in-Ok-answer_line.ensures.text c.in-Ok-answer_line.ensures.flushed
+    c.in-Ok-answer_line.ensures.last c.if-last.true c.in-Ok-answer_line.ensures.text c.in-Ok-answer_line.ensures.flushed
 
 pub loop-preserved : goal.loop-preserved
 loop-preserved g c = record {
   runs = run-answers _ c.requires _ _ _ _ _ _ _ _ _ _ _ _ _ _ _ c.loop.invariant.same c.loop.invariant.runs c.in-Byte.ensures.0 c.if-b-ne-LINE_FEED.false
-      (c.is_last-last.ensures ∙ ap (λ (t : List ℕ). (g.M.LineMachine.machine c.loop.m).ends t) c.as_slice.ensures.value) c.if-last.false c.in-Ok-answer_line.ensures.text c.in-Ok-answer_line.ensures.flushed
+      c.in-Ok-answer_line.ensures.last c.if-last.false c.in-Ok-answer_line.ensures.text c.in-Ok-answer_line.ensures.flushed
       c.in-Ok-answer_line.ensures.step c.clear.ensures;
   same = c.in-Ok-answer_line.ensures.stays ∙ c.loop.invariant.same;
   read = c.in-Byte.ensures.1 ∙ c.loop.invariant.read;
