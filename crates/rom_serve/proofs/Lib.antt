@@ -1,4 +1,5 @@
 pub mod LongLines
+pub mod PathSaid
 pub mod CallKinds
 pub mod Separate
 pub mod SameWalk

@@ -1,12 +1,8 @@
 -- What a line is answered, over the calls on open files. (This project's own.)
 use Rattle.std.specs.Prelude.{ℕ, List, Option, Some, None, Result, Ok, Err}
 use Rattle.rom_tree.specs.declared.types.Stat.{Stat}
-use Rattle.rom_tree.specs.declared.types.NodeId.{NodeId}
-use Rattle.rom_tree.specs.declared.types.Piece.{Piece}
-use Rattle.rom_tree.specs.declared.types.Entry.{Entry}
 use Rattle.open_files.specs.declared.error.CallError.{CallError}
 use Rattle.open_files.specs.Calls.{Answer, Of, Lent, Named, Calls}
-use Rattle.open_files.specs.Slots.{lent_by, named_by}
 use Rattle.serve_lines.specs.declared.word.PathCall.TheVariants as path_call
 use Rattle.serve_lines.specs.declared.word.FdCall.TheVariants as fd_call
 use Rattle.serve_lines.specs.Commands.{Call, on_path, on_fd, read, lend, seek, map_part, quit, mount, umount, Line, asks, is_bad}
@@ -65,14 +61,3 @@ obeyed c s (umount image) = said of_done (c.unmount s image)
 abbrev pub answered : {S : Type 0} → Calls S → S → Line → Said S
 answered c s (asks call) = obeyed c s call
 answered c s (is_bad b) = says (bad_text b) s
-
--- what the code gives, with the number of its image, read as a reply
-abbrev pub node_by : Option ℕ × NodeId → Of ℕ
-node_by x = (x.0, x.1.0)
-
-abbrev pub piece_by : Option ℕ × Piece → Of Lent
-piece_by x = (x.0, lent_by x.1)
-
-abbrev pub entry_by : Option (Option ℕ × Entry) → Option (Of Named)
-entry_by None = None
-entry_by (Some x) = Some (x.0, named_by x.1)

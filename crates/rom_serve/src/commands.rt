@@ -1,55 +1,17 @@
 //! Commands, obeyed over open files of any kind.
 ghost use Rattle.std.specs.Prelude.{◌≡◌, ◌<◌, length, take};
 ghost use Rattle.rom_fields.specs.Written.{Puts, sink};
-ghost use Rattle.serve_lines.specs.Commands.{on_path, on_fd, read, quit, line_of};
+ghost use Rattle.serve_lines.specs.Commands.{read, quit, line_of};
 ghost use Rattle.serve_lines.specs.Reading.{call_by, is_small};
 ghost use Rattle.serve_lines.specs.Replies.{reply_text};
 ghost use Rattle.rom_serve.specs.Machines.{is_quit_call, is_quit as is_quit_line};
 ghost use Rattle.rom_serve.specs.Obeyed.{says, obeyed, answered};
 
 use crate::calls::OpenCalls;
-use crate::replies::{
-    descriptor_reply, done_reply, entry_reply, node_reply, piece_reply, stat_reply,
-};
+use crate::replies::done_reply;
 use open_files::Fd;
 use rom_fields::bytes::ByteWrite;
-use serve_lines::{Command, FdCall, PathCall, Reply, put_reply, read_line};
-
-/// What is asked about a path.
-fn path_reply<'a, C: OpenCalls<'a>>(
-    calls: &mut C,
-    session: u32,
-    call: PathCall,
-    path: &[u8],
-) -> Reply<'a>
-    requires { session < 8 }
-    ensures reply { obeyed (C.calls calls.old session) (C.state calls.old) (on_path call path.now)
-        ≡ says (reply_text result) (C.state calls.new) }
-    ensures stays { C.calls calls.new ≡ C.calls calls.old }
-{
-    match call {
-        PathCall::Lookup => node_reply(calls.lookup(session, path)),
-        PathCall::Stat => stat_reply(calls.stat(session, path)),
-        PathCall::Lstat => stat_reply(calls.lstat(session, path)),
-        PathCall::Readlink => piece_reply(calls.readlink(session, path)),
-        PathCall::Open => descriptor_reply(calls.open(session, path)),
-    }
-}
-
-/// What is asked of a descriptor alone.
-fn fd_reply<'a, C: OpenCalls<'a>>(calls: &mut C, session: u32, call: FdCall, fd: Fd) -> Reply<'a>
-    requires { session < 8 }
-    ensures reply { obeyed (C.calls calls.old session) (C.state calls.old) (on_fd call fd.0)
-        ≡ says (reply_text result) (C.state calls.new) }
-    ensures stays { C.calls calls.new ≡ C.calls calls.old }
-{
-    match call {
-        FdCall::Fstat => stat_reply(calls.fstat(session, fd)),
-        FdCall::Readdir => entry_reply(calls.readdir(session, fd)),
-        FdCall::Rewind => done_reply(calls.rewind(session, fd)),
-        FdCall::Close => done_reply(calls.close(session, fd)),
-    }
-}
+use serve_lines::{Command, Reply, put_reply, read_line};
 
 /// Closes all that a session has open.
 fn quit_reply<'a, C: OpenCalls<'a>>(calls: &mut C, session: u32) -> Reply<'a>
@@ -111,19 +73,15 @@ fn put_obeyed<'a, C: OpenCalls<'a>, W: ByteWrite>(
     match command {
         Command::Path(call, path) => {
             let path = path.decoded();
-            put_reply(w, failed, path_reply(calls, session, call, path.as_slice()));
+            put_reply(w, failed, calls.path_reply(session, call, path.as_slice()));
         }
-        Command::Fd(call, fd) => put_reply(w, failed, fd_reply(calls, session, call, fd)),
+        Command::Fd(call, fd) => put_reply(w, failed, calls.fd_reply(session, call, fd)),
         Command::Read(fd, len) => {
             let mut room = [0u8; 4096];
             put_read(calls, session, fd, &mut room[..len as usize], w, failed);
         }
         Command::Lend(fd, max) => {
-            put_reply(
-                w,
-                failed,
-                piece_reply(calls.lend(session, fd, u64::from(max))),
-            );
+            put_reply(w, failed, calls.lend_reply(session, fd, u64::from(max)));
         }
         Command::Seek(fd, position) => {
             put_reply(
@@ -133,8 +91,8 @@ fn put_obeyed<'a, C: OpenCalls<'a>, W: ByteWrite>(
             );
         }
         Command::Map(fd, off, len) => {
-            let piece = calls.map(session, fd, u64::from(off), u64::from(len));
-            put_reply(w, failed, piece_reply(piece));
+            let reply = calls.map_reply(session, fd, u64::from(off), u64::from(len));
+            put_reply(w, failed, reply);
         }
         Command::Quit => put_reply(w, failed, quit_reply(calls, session)),
         Command::Mount(image, path) => {

@@ -1,15 +1,69 @@
 //! The open files of several images.
-ghost use Rattle.std.specs.Prelude.{List, map};
+ghost use Rattle.std.specs.Prelude.{◌≡◌, List, map, Some, option_map};
 ghost use Rattle.path_walk.specs.declared.mount.Mount.{Mount};
 ghost use Rattle.path_walk.specs.Graft.{GraftNode};
+ghost use Rattle.open_files.specs.Calls.{Of, Named, viewed};
 ghost use Rattle.open_files.specs.Machine.{Table};
 ghost use Rattle.open_files.specs.Sessions.{Sessions, space_calls};
+ghost use Rattle.open_files.specs.Slots.{labelled, lent_by, named_by};
 ghost use Rattle.open_files.specs.Space.{space_state};
+ghost use Rattle.serve_lines.specs.Replies.{reply_text};
+ghost use Rattle.rom_serve.specs.Obeyed.{result_text, of_node, of_stat, of_piece, of_entry};
 
 use crate::calls::OpenCalls;
+use crate::replies::{descriptor_reply, done_reply};
 use open_files::{CallError, Fd, Space};
 use rom_tree::image::TreeImage;
 use rom_tree::types::{Entry, NodeId, Piece, Stat};
+use serve_lines::{FdCall, PathCall, Reply};
+
+// The replies that the results of calls on several images give, with the number of the image.
+
+#[tactic(auto, unfolding(serve_lines::specs::Replies::reply_text))]
+fn node_reply(r: Result<(u32, NodeId), CallError>) -> Reply<'static>
+    ensures { reply_text result
+        ≡ result_text of_node (viewed (labelled (λ i. Some i) (λ n. n.0)) r) }
+{
+    match r {
+        Ok((image, node)) => Reply::Node(Some(image), node),
+        Err(error) => Reply::Refused(error),
+    }
+}
+
+#[tactic(auto, unfolding(serve_lines::specs::Replies::reply_text))]
+fn stat_reply(r: Result<(u32, Stat), CallError>) -> Reply<'static>
+    ensures { reply_text result
+        ≡ result_text of_stat (viewed (labelled (λ i. Some i) (λ s. s)) r) }
+{
+    match r {
+        Ok((image, stat)) => Reply::Stat(Some(image), stat),
+        Err(error) => Reply::Refused(error),
+    }
+}
+
+#[tactic(auto, unfolding(serve_lines::specs::Replies::reply_text))]
+fn piece_reply<'a>(r: Result<(u32, Piece<'a>), CallError>) -> Reply<'a>
+    ensures { reply_text result
+        ≡ result_text of_piece (viewed (labelled (λ i. Some i) lent_by) r.entry) }
+{
+    match r {
+        Ok((image, piece)) => Reply::Piece(Some(image), piece),
+        Err(error) => Reply::Refused(error),
+    }
+}
+
+#[tactic(auto, unfolding(serve_lines::specs::Replies::reply_text))]
+fn entry_reply<'a>(r: Result<Option<(u32, Entry<'a>)>, CallError>) -> Reply<'a>
+    ensures { reply_text result
+        ≡ result_text of_entry
+        (viewed (option_map {U = Of Named} (labelled (λ i. Some i) named_by)) r.entry) }
+{
+    match r {
+        Ok(Some((image, entry))) => Reply::Entry(Some(image), entry),
+        Ok(None) => Reply::End,
+        Err(error) => Reply::Refused(error),
+    }
+}
 
 /// Several images, with 64 descriptors for each session.
 impl<'a, T: TreeImage<'a>> OpenCalls<'a> for Space<'a, T, 64> {
@@ -20,46 +74,22 @@ impl<'a, T: TreeImage<'a>> OpenCalls<'a> for Space<'a, T, 64> {
 
     ghost calls = { λ s k. space_calls 64 (map T.image s.images.items) k };
 
-    fn lookup(&mut self, session: u32, path: &[u8]) -> Result<(Option<u32>, NodeId), CallError> {
-        match Space::lookup(self, session, path) {
-            Ok((image, node)) => Ok((Some(image), node)),
-            Err(error) => Err(error),
+    fn path_reply(&mut self, session: u32, call: PathCall, path: &[u8]) -> Reply<'a> {
+        match call {
+            PathCall::Lookup => node_reply(self.lookup(session, path)),
+            PathCall::Stat => stat_reply(self.stat(session, path)),
+            PathCall::Lstat => stat_reply(self.lstat(session, path)),
+            PathCall::Readlink => piece_reply(self.readlink(session, path)),
+            PathCall::Open => descriptor_reply(self.open(session, path)),
         }
     }
 
-    fn stat(&mut self, session: u32, path: &[u8]) -> Result<(Option<u32>, Stat), CallError> {
-        match Space::stat(self, session, path) {
-            Ok((image, stat)) => Ok((Some(image), stat)),
-            Err(error) => Err(error),
-        }
-    }
-
-    fn lstat(&mut self, session: u32, path: &[u8]) -> Result<(Option<u32>, Stat), CallError> {
-        match Space::lstat(self, session, path) {
-            Ok((image, stat)) => Ok((Some(image), stat)),
-            Err(error) => Err(error),
-        }
-    }
-
-    fn readlink(
-        &mut self,
-        session: u32,
-        path: &[u8],
-    ) -> Result<(Option<u32>, Piece<'a>), CallError> {
-        match Space::readlink(self, session, path) {
-            Ok((image, piece)) => Ok((Some(image), piece)),
-            Err(error) => Err(error),
-        }
-    }
-
-    fn open(&mut self, session: u32, path: &[u8]) -> Result<Fd, CallError> {
-        Space::open(self, session, path)
-    }
-
-    fn fstat(&mut self, session: u32, fd: Fd) -> Result<(Option<u32>, Stat), CallError> {
-        match Space::fstat(self, session, fd) {
-            Ok((image, stat)) => Ok((Some(image), stat)),
-            Err(error) => Err(error),
+    fn fd_reply(&mut self, session: u32, call: FdCall, fd: Fd) -> Reply<'a> {
+        match call {
+            FdCall::Fstat => stat_reply(self.fstat(session, fd)),
+            FdCall::Readdir => entry_reply(self.readdir(session, fd)),
+            FdCall::Rewind => done_reply(self.rewind(session, fd)),
+            FdCall::Close => done_reply(self.close(session, fd)),
         }
     }
 
@@ -67,53 +97,16 @@ impl<'a, T: TreeImage<'a>> OpenCalls<'a> for Space<'a, T, 64> {
         Space::read(self, session, fd, buf)
     }
 
-    fn lend(
-        &mut self,
-        session: u32,
-        fd: Fd,
-        max: u64,
-    ) -> Result<(Option<u32>, Piece<'a>), CallError> {
-        match Space::lend(self, session, fd, max) {
-            Ok((image, piece)) => Ok((Some(image), piece)),
-            Err(error) => Err(error),
-        }
+    fn lend_reply(&mut self, session: u32, fd: Fd, max: u64) -> Reply<'a> {
+        piece_reply(self.lend(session, fd, max))
     }
 
-    fn map(
-        &mut self,
-        session: u32,
-        fd: Fd,
-        off: u64,
-        len: u64,
-    ) -> Result<(Option<u32>, Piece<'a>), CallError> {
-        match Space::map(self, session, fd, off, len) {
-            Ok((image, piece)) => Ok((Some(image), piece)),
-            Err(error) => Err(error),
-        }
+    fn map_reply(&mut self, session: u32, fd: Fd, off: u64, len: u64) -> Reply<'a> {
+        piece_reply(self.map(session, fd, off, len))
     }
 
     fn seek(&mut self, session: u32, fd: Fd, position: u64) -> Result<(), CallError> {
         Space::seek(self, session, fd, position)
-    }
-
-    fn readdir(
-        &mut self,
-        session: u32,
-        fd: Fd,
-    ) -> Result<Option<(Option<u32>, Entry<'a>)>, CallError> {
-        match Space::readdir(self, session, fd) {
-            Ok(Some((image, entry))) => Ok(Some((Some(image), entry))),
-            Ok(None) => Ok(None),
-            Err(error) => Err(error),
-        }
-    }
-
-    fn rewind(&mut self, session: u32, fd: Fd) -> Result<(), CallError> {
-        Space::rewind(self, session, fd)
-    }
-
-    fn close(&mut self, session: u32, fd: Fd) -> Result<(), CallError> {
-        Space::close(self, session, fd)
     }
 
     fn close_all(&mut self, session: u32) {

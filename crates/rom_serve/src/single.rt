@@ -1,13 +1,62 @@
 //! The open files of one image.
-ghost use Rattle.std.specs.Prelude.{◌≡◌, ◌≤◌, true};
+ghost use Rattle.std.specs.Prelude.{◌≡◌, ◌≤◌, true, option_map};
 ghost use Rattle.rom_tree.specs.Tree.{Node, levels};
+ghost use Rattle.open_files.specs.Calls.{Of, Named, viewed};
 ghost use Rattle.open_files.specs.Machine.{Table, image_calls};
-ghost use Rattle.open_files.specs.Slots.{image_view, are_sound, table_of};
+ghost use Rattle.open_files.specs.Slots.{image_view, are_sound, table_of, unlabelled, lent_by, named_by};
+ghost use Rattle.serve_lines.specs.Replies.{reply_text};
+ghost use Rattle.rom_serve.specs.Obeyed.{result_text, of_node, of_stat, of_piece, of_entry};
 
 use crate::calls::OpenCalls;
+use crate::replies::{descriptor_reply, done_reply};
 use open_files::{CallError, Fd, Slots, one_image};
 use rom_tree::image::{TreeImage, Viewed};
 use rom_tree::types::{Entry, NodeId, Piece, Stat};
+use serve_lines::{FdCall, PathCall, Reply};
+
+// The replies that the results of calls on one image give: no image is named.
+
+#[tactic(auto, unfolding(serve_lines::specs::Replies::reply_text))]
+fn node_reply(r: Result<NodeId, CallError>) -> Reply<'static>
+    ensures { reply_text result ≡ result_text of_node (viewed (unlabelled (λ n. n.0)) r) }
+{
+    match r {
+        Ok(node) => Reply::Node(None, node),
+        Err(error) => Reply::Refused(error),
+    }
+}
+
+#[tactic(auto, unfolding(serve_lines::specs::Replies::reply_text))]
+fn stat_reply(r: Result<Stat, CallError>) -> Reply<'static>
+    ensures { reply_text result ≡ result_text of_stat (viewed (unlabelled (λ s. s)) r) }
+{
+    match r {
+        Ok(stat) => Reply::Stat(None, stat),
+        Err(error) => Reply::Refused(error),
+    }
+}
+
+#[tactic(auto, unfolding(serve_lines::specs::Replies::reply_text))]
+fn piece_reply<'a>(r: Result<Piece<'a>, CallError>) -> Reply<'a>
+    ensures { reply_text result ≡ result_text of_piece (viewed (unlabelled lent_by) r.entry) }
+{
+    match r {
+        Ok(piece) => Reply::Piece(None, piece),
+        Err(error) => Reply::Refused(error),
+    }
+}
+
+#[tactic(auto, unfolding(serve_lines::specs::Replies::reply_text))]
+fn entry_reply<'a>(r: Result<Option<Entry<'a>>, CallError>) -> Reply<'a>
+    ensures { reply_text result
+        ≡ result_text of_entry (viewed (option_map {U = Of Named} (unlabelled named_by)) r.entry) }
+{
+    match r {
+        Ok(Some(entry)) => Reply::Entry(None, entry),
+        Ok(None) => Reply::End,
+        Err(error) => Reply::Refused(error),
+    }
+}
 
 /// One image with 64 descriptors, whatever the session. Nothing is ever mounted.
 #[derive(Drop)]
@@ -25,46 +74,23 @@ impl<'s, 'a, T: TreeImage<'a>> OpenCalls<'a> for Single<'s, T> {
 
     ghost calls = { λ s k. image_calls 64 (T.image s.image.now) };
 
-    fn lookup(&mut self, _session: u32, path: &[u8]) -> Result<(Option<u32>, NodeId), CallError> {
-        match one_image::lookup(self.image, path) {
-            Ok(node) => Ok((None, node)),
-            Err(error) => Err(error),
+    fn path_reply(&mut self, _session: u32, call: PathCall, path: &[u8]) -> Reply<'a> {
+        match call {
+            PathCall::Lookup => node_reply(one_image::lookup(self.image, path)),
+            PathCall::Stat => stat_reply(one_image::stat(self.image, path)),
+            PathCall::Lstat => stat_reply(one_image::lstat(self.image, path)),
+            PathCall::Readlink => piece_reply(one_image::readlink(self.image, path)),
+            PathCall::Open => descriptor_reply(one_image::open(self.image, &mut self.slots, path)),
         }
     }
 
-    fn stat(&mut self, _session: u32, path: &[u8]) -> Result<(Option<u32>, Stat), CallError> {
-        match one_image::stat(self.image, path) {
-            Ok(stat) => Ok((None, stat)),
-            Err(error) => Err(error),
-        }
-    }
-
-    fn lstat(&mut self, _session: u32, path: &[u8]) -> Result<(Option<u32>, Stat), CallError> {
-        match one_image::lstat(self.image, path) {
-            Ok(stat) => Ok((None, stat)),
-            Err(error) => Err(error),
-        }
-    }
-
-    fn readlink(
-        &mut self,
-        _session: u32,
-        path: &[u8],
-    ) -> Result<(Option<u32>, Piece<'a>), CallError> {
-        match one_image::readlink(self.image, path) {
-            Ok(piece) => Ok((None, piece)),
-            Err(error) => Err(error),
-        }
-    }
-
-    fn open(&mut self, _session: u32, path: &[u8]) -> Result<Fd, CallError> {
-        one_image::open(self.image, &mut self.slots, path)
-    }
-
-    fn fstat(&mut self, _session: u32, fd: Fd) -> Result<(Option<u32>, Stat), CallError> {
-        match one_image::fstat(self.image, &self.slots, fd) {
-            Ok(stat) => Ok((None, stat)),
-            Err(error) => Err(error),
+    fn fd_reply(&mut self, _session: u32, call: FdCall, fd: Fd) -> Reply<'a> {
+        let slots = &mut self.slots;
+        match call {
+            FdCall::Fstat => stat_reply(one_image::fstat(self.image, slots, fd)),
+            FdCall::Readdir => entry_reply(one_image::readdir(self.image, slots, fd)),
+            FdCall::Rewind => done_reply(one_image::rewind(self.image, slots, fd)),
+            FdCall::Close => done_reply(one_image::close(self.image, slots, fd)),
         }
     }
 
@@ -72,53 +98,16 @@ impl<'s, 'a, T: TreeImage<'a>> OpenCalls<'a> for Single<'s, T> {
         one_image::read(self.image, &mut self.slots, fd, buf)
     }
 
-    fn lend(
-        &mut self,
-        _session: u32,
-        fd: Fd,
-        max: u64,
-    ) -> Result<(Option<u32>, Piece<'a>), CallError> {
-        match one_image::lend(self.image, &mut self.slots, fd, max) {
-            Ok(piece) => Ok((None, piece)),
-            Err(error) => Err(error),
-        }
+    fn lend_reply(&mut self, _session: u32, fd: Fd, max: u64) -> Reply<'a> {
+        piece_reply(one_image::lend(self.image, &mut self.slots, fd, max))
     }
 
-    fn map(
-        &mut self,
-        _session: u32,
-        fd: Fd,
-        off: u64,
-        len: u64,
-    ) -> Result<(Option<u32>, Piece<'a>), CallError> {
-        match one_image::map(self.image, &self.slots, fd, off, len) {
-            Ok(piece) => Ok((None, piece)),
-            Err(error) => Err(error),
-        }
+    fn map_reply(&mut self, _session: u32, fd: Fd, off: u64, len: u64) -> Reply<'a> {
+        piece_reply(one_image::map(self.image, &self.slots, fd, off, len))
     }
 
     fn seek(&mut self, _session: u32, fd: Fd, position: u64) -> Result<(), CallError> {
         one_image::seek(self.image, &mut self.slots, fd, position)
-    }
-
-    fn readdir(
-        &mut self,
-        _session: u32,
-        fd: Fd,
-    ) -> Result<Option<(Option<u32>, Entry<'a>)>, CallError> {
-        match one_image::readdir(self.image, &mut self.slots, fd) {
-            Ok(Some(entry)) => Ok(Some((None, entry))),
-            Ok(None) => Ok(None),
-            Err(error) => Err(error),
-        }
-    }
-
-    fn rewind(&mut self, _session: u32, fd: Fd) -> Result<(), CallError> {
-        one_image::rewind(self.image, &mut self.slots, fd)
-    }
-
-    fn close(&mut self, _session: u32, fd: Fd) -> Result<(), CallError> {
-        one_image::close(self.image, &mut self.slots, fd)
     }
 
     fn close_all(&mut self, _session: u32) {
