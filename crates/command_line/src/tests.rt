@@ -1,7 +1,5 @@
-use crate::status::{Status, Trouble, tell};
 use crate::words::{Request, WordsError, read};
 use plan_misfits::Format;
-use rom_fields::bytes::Plain;
 use std::alloc::{AllocError, Global};
 use std::test::Fail;
 
@@ -134,26 +132,5 @@ fn words_that_are_refused_say_why(rt: HostRuntime) -> Result<(), Fail> {
         let said = format!(in rt.alloc(); "{error}")?;
         assert!(rt; said.as_str().starts_with(text));
     }
-    Ok(())
-}
-
-#[test]
-fn troubles_are_told(rt: HostRuntime) -> Result<(), Fail> {
-    for (trouble, status, text) in [
-        (Trouble::Memory, Status::Fault, b"memory\n".as_slice()),
-        (Trouble::Usage, Status::Usage, b"usage\n"),
-        (Trouble::File(b"a b"), Status::Fault, b"file a%20b\n"),
-        (Trouble::Changed, Status::Fault, b"changed\n"),
-        (Trouble::WriteFault, Status::Fault, b"write fault\n"),
-    ] {
-        let mut err = Plain::new(Vec::new(rt.alloc()));
-        assert_eq!(rt; tell(trouble, &mut err), status);
-        let said: Vec<u8> = err.into_inner();
-        assert_eq!(rt; said.as_slice(), text);
-    }
-    assert_eq!(rt; Status::Done.code(), 0);
-    assert_eq!(rt; Status::Refused.code(), 1);
-    assert_eq!(rt; Status::Usage.code(), 2);
-    assert_eq!(rt; Status::Fault.code(), 3);
     Ok(())
 }

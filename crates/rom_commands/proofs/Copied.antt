@@ -1,33 +1,32 @@
 -- How the copying of a file ended, once what was held back is handed on.
-use Rattle.std.proofs.Common.{◌≡◌, ℕ, ◌<◌, inl, inr, sym, ◌∙◌, subst, arith, List, []}
+use Rattle.std.proofs.Common.{◌≡◌, ℕ, ◌<◌, inl, inr, sym, ◌∙◌, arith, List}
 use Rattle.std.specs.Io.KnownBytes.{Keeps}
 use Rattle.rom_fields.specs.Failures.{Rose}
 use Rattle.rom_fields.specs.Written.{Output, AppendsPrefix}
 use Rattle.rom_fields.proofs.Joins.{appends_keep, front_all}
-use Rattle.rom_commands.specs.Answers.{Prints}
-use Rattle.rom_commands.specs.Copying.{CopyEnds, Flushes, copied_status, copied_complaint}
+use Rattle.rom_commands.specs.Answers.{Flushes, Prints}
+use Rattle.rom_commands.specs.Copying.{CopyEnds, copied_status, copied_complaint}
+use Rattle.rom_commands.specs.declared.status.Status.{Status}
+use Rattle.rom_commands.specs.declared.status.Status.TheVariants as status
 use Rattle.rom_commands.specs.declared.copying.Copied.{Copied}
 use Rattle.rom_commands.specs.declared.copying.Copied.TheVariants.{Done, Refused, WriteFault}
-use Rattle.rom_commands.proofs.Printed.{prints_nothing, rose_counted}
+use Rattle.rom_commands.proofs.Printed.{unsaid, rose_counted}
 
 -- how it ended, what the status is, and what was said
-pub record Told (bytes path : List ℕ) (old new err err' : Output) (result : ℕ) : Type 0 where
+pub record Told (bytes path : List ℕ) (old new err err' : Output) (result : Status) : Type 0 where
   pub outcome : Copied
   pub status : result ≡ copied_status outcome
   pub ends : CopyEnds bytes path old new outcome
   pub said : Prints err err' (copied_complaint outcome)
 
-unsaid : (err err' : Output) → err' ≡ err → Prints err err' []
-unsaid err err' e = let P : Output → Type 0 = λ v. Prints err v [] in subst P (sym e) (prints_nothing err)
-
 prefix_keep : (old mid new : Output) (text : List ℕ) → AppendsPrefix old.contents mid.contents text → Keeps mid.contents new.contents → AppendsPrefix old.contents new.contents text
 prefix_keep old mid new text a k = (a.0, a.1, appends_keep old.contents mid.contents new.contents a.0 a.2 k, a.3)
 
-module _ (bytes path : List ℕ) (old mid new err err' : Output) (result : ℕ) (fresh : old.failures ≡ 0) (k : Keeps mid.contents new.contents) where
+module _ (bytes path : List ℕ) (old mid new err err' : Output) (result : Status) (fresh : old.failures ≡ 0) (k : Keeps mid.contents new.contents) where
   risen : 0 < new.failures → Rose old.failures new.failures
   risen l = inl (omega (arith, fresh, l))
 
-  pub done_told : CopyEnds bytes path old mid Done → Flushes mid new err err' 0 result → Told bytes path old new err err' result
+  pub done_told : CopyEnds bytes path old mid Done → Flushes mid new err err' status.Done result → Told bytes path old new err err' result
   done_told h (inl f) =
       let c = h.2 in
       record {
@@ -45,7 +44,7 @@ module _ (bytes path : List ℕ) (old mid new err err' : Output) (result : ℕ) 
         said = unsaid err err' f.3;
       }
 
-  pub refused_told : CopyEnds bytes path old mid Refused → Flushes mid new err err' 1 result → Told bytes path old new err err' result
+  pub refused_told : CopyEnds bytes path old mid Refused → Flushes mid new err err' status.Refused result → Told bytes path old new err err' result
   refused_told h (inl f) = record {
     outcome = WriteFault;
     status = f.1;
@@ -67,6 +66,6 @@ module _ (bytes path : List ℕ) (old mid new err err' : Output) (result : ℕ) 
   failed_before (inl h) e = let c = h.2 in rose_counted old.failures mid.failures fresh c.3 e
   failed_before (inr h) e = rose_counted old.failures mid.failures fresh h.3 e
 
-  pub fault_told : CopyEnds bytes path old mid WriteFault → Flushes mid new err err' 3 result → Told bytes path old new err err' result
+  pub fault_told : CopyEnds bytes path old mid WriteFault → Flushes mid new err err' status.Fault result → Told bytes path old new err err' result
   fault_told h (inl f) = record { outcome = WriteFault; status = f.1; ends = kept_fault h f.0; said = f.2 }
   fault_told h (inr f) = absurd (failed_before h f.0)

@@ -1,49 +1,85 @@
--- How a printing ended, by its status and the count of failed writes.
-use Rattle.std.proofs.Common.{◌≡◌, ℕ, ◌+◌, ◌-◌, ◌^◌, ◌<◌, min, false, List, [], Result, Ok, Err, inl, inr, refl, sym, ap, ◌∙◌, arith}
+-- How a printing ended, once what was held back is handed on.
+use Rattle.std.proofs.Common.{◌≡◌, ℕ, ◌<◌, false, List, [], inl, inr, sym, ◌∙◌, subst, arith}
 use Rattle.std.specs.Io.KnownBytes.{Keeps}
-use Rattle.rom_fields.specs.Failures.{after_read, Rose}
+use Rattle.rom_fields.specs.Failures.{Rose}
 use Rattle.rom_fields.specs.Written.{Output, sink}
 use Rattle.rom_fields.proofs.Joins.{appends_keep, front_all, puts_nothing}
 use Rattle.rom_commands.specs.declared.asked.Asked.{Asked}
 use Rattle.rom_commands.specs.declared.shown.Outcome.{Outcome}
-use Rattle.rom_commands.specs.declared.shown.Outcome.TheVariants.{Done, Warned, Refused, Memory, WriteFault}
-use Rattle.rom_commands.specs.Answers.{Ends, Prints, complaint_of, status_of}
+use Rattle.rom_commands.specs.declared.shown.Outcome.TheVariants.{Done, Warned, Refused, WriteFault}
+use Rattle.rom_commands.specs.declared.status.Status.{Status}
+use Rattle.rom_commands.specs.declared.status.Status.TheVariants as status
+use Rattle.rom_commands.specs.Answers.{Ends, Flushes, Prints, complaint_of, status_of}
 
 pub prints_nothing : (o : Output) → Prints o o []
 prints_nothing o = (false, puts_nothing (sink o false))
 
+pub unsaid : (err err' : Output) → err' ≡ err → Prints err err' []
+unsaid err err' e = let P : Output → Type 0 = λ v. Prints err v [] in subst P (sym e) (prints_nothing err)
+
 pub rose_counted : (old new : ℕ) → old ≡ 0 → Rose old new → new ≡ 0 → ⊥
 rose_counted old new z r e = elim r [ inl l ↦ omega arith | inr l ↦ omega arith ]
 
--- status 3 and no failed write: memory was refused
-pub memory_told : (bytes : List ℕ) (asked : Asked) (old new : Output) (o : Outcome) → Ends bytes asked old new o → old.failures ≡ 0 → 3 ≡ status_of o → new.failures ≡ 0 → Ends bytes asked old new Memory
-memory_told bytes asked old new Done h z e f = absurd (omega arith)
-memory_told bytes asked old new Warned h z e f = absurd (omega arith)
-memory_told bytes asked old new Refused h z e f = absurd (omega arith)
-memory_told bytes asked old new Memory h z e f = h
-memory_told bytes asked old new WriteFault h z e f = absurd (rose_counted old.failures new.failures z h.3 f)
+-- how it ended, what the status is, and what was said
+pub record Told (bytes : List ℕ) (asked : Asked) (old new err err' : Output) (result : Status) : Type 0 where
+  pub outcome : Outcome
+  pub status : result ≡ status_of outcome
+  pub ends : Ends bytes asked old new outcome
+  pub said : Prints err err' (complaint_of outcome)
 
--- a failed write, or a failed flush after the text
-pub fault_told : (bytes : List ℕ) (asked : Asked) (old mid new : Output) (o : Outcome) → Ends bytes asked old mid o → old.failures ≡ 0 → Keeps mid.contents new.contents → 0 < new.failures
-    → (3 ≡ status_of o → mid.failures ≡ 0 → ⊥) → Ends bytes asked old new WriteFault
-fault_told bytes asked old mid new Done h z k l n = (h.0, inl h.1, front_all old.contents new.contents h.0 (appends_keep old.contents mid.contents new.contents h.0 h.2 k), inl (omega arith))
-fault_told bytes asked old mid new Warned h z k l n = (h.0, inl h.1, front_all old.contents new.contents h.0 (appends_keep old.contents mid.contents new.contents h.0 h.2 k), inl (omega arith))
-fault_told bytes asked old mid new Refused h z k l n = (h.0, inr h.1, front_all old.contents new.contents h.0 (appends_keep old.contents mid.contents new.contents h.0 h.2 k), inl (omega arith))
-fault_told bytes asked old mid new Memory h z k l n = absurd (n (omega arith) (ap (λ (v : Output). v.failures) h ∙ z))
-fault_told bytes asked old mid new WriteFault h z k l n =
-    let a = h.2 in
-    (h.0, h.1, (a.0, a.1, appends_keep old.contents mid.contents new.contents a.0 a.2 k, a.3), inl (omega arith))
+module _ (bytes : List ℕ) (asked : Asked) (old mid new err err' : Output) (result : Status) (fresh : old.failures ≡ 0) (k : Keeps mid.contents new.contents) where
+  risen : 0 < new.failures → Rose old.failures new.failures
+  risen l = inl (omega (arith, fresh, l))
 
--- a count that is 0 after a flush was 0 before it
-pub count_before : {A E : Type 0} (n m : ℕ) (r : Result A E) → m ≡ after_read n r → m ≡ 0 → n ≡ 0
-count_before n m (Ok v) e z = sym e ∙ z
-count_before n m (Err v) e z = let k : min (n + 1) (2 ^ 64 - 1) ≡ 0 = sym e ∙ z in absurd (omega arith)
+  pub done_told : Ends bytes asked old mid Done → Flushes mid new err err' status.Done result → Told bytes asked old new err err' result
+  done_told h (inl f) = record {
+    outcome = WriteFault;
+    status = f.1;
+    ends = (h.0, inl h.1, front_all old.contents new.contents h.0 (appends_keep old.contents mid.contents new.contents h.0 h.2 k), risen f.0);
+    said = f.2;
+  }
+  done_told h (inr f) = record {
+    outcome = Done;
+    status = f.2;
+    ends = (h.0, h.1, appends_keep old.contents mid.contents new.contents h.0 h.2 k, f.1 ∙ sym fresh, h.4);
+    said = unsaid err err' f.3;
+  }
 
--- no failure, and memory was not refused: the text is there, and nothing is said of an error
-pub shown_told : (bytes : List ℕ) (asked : Asked) (old mid new err : Output) (o : Outcome) → Ends bytes asked old mid o → Keeps mid.contents new.contents
-    → new.failures ≡ old.failures → (3 ≡ status_of o → ⊥) → Ends bytes asked old new o × Prints err err (complaint_of o)
-shown_told bytes asked old mid new err Done h k e n = ((h.0, h.1, appends_keep old.contents mid.contents new.contents h.0 h.2 k, e, h.4), prints_nothing err)
-shown_told bytes asked old mid new err Warned h k e n = ((h.0, h.1, appends_keep old.contents mid.contents new.contents h.0 h.2 k, e, h.4), prints_nothing err)
-shown_told bytes asked old mid new err Refused h k e n = ((h.0, h.1, appends_keep old.contents mid.contents new.contents h.0 h.2 k, e), prints_nothing err)
-shown_told bytes asked old mid new err Memory h k e n = absurd (n refl)
-shown_told bytes asked old mid new err WriteFault h k e n = absurd (n refl)
+  pub warned_told : Ends bytes asked old mid Warned → Flushes mid new err err' status.Refused result → Told bytes asked old new err err' result
+  warned_told h (inl f) = record {
+    outcome = WriteFault;
+    status = f.1;
+    ends = (h.0, inl h.1, front_all old.contents new.contents h.0 (appends_keep old.contents mid.contents new.contents h.0 h.2 k), risen f.0);
+    said = f.2;
+  }
+  warned_told h (inr f) = record {
+    outcome = Warned;
+    status = f.2;
+    ends = (h.0, h.1, appends_keep old.contents mid.contents new.contents h.0 h.2 k, f.1 ∙ sym fresh, h.4);
+    said = unsaid err err' f.3;
+  }
+
+  pub refused_told : Ends bytes asked old mid Refused → Flushes mid new err err' status.Refused result → Told bytes asked old new err err' result
+  refused_told h (inl f) = record {
+    outcome = WriteFault;
+    status = f.1;
+    ends = (h.0, inr h.1, front_all old.contents new.contents h.0 (appends_keep old.contents mid.contents new.contents h.0 h.2 k), risen f.0);
+    said = f.2;
+  }
+  refused_told h (inr f) = record {
+    outcome = Refused;
+    status = f.2;
+    ends = (h.0, h.1, appends_keep old.contents mid.contents new.contents h.0 h.2 k, f.1 ∙ sym fresh);
+    said = unsaid err err' f.3;
+  }
+
+  pub fault_told : Ends bytes asked old mid WriteFault → Flushes mid new err err' status.Fault result → Told bytes asked old new err err' result
+  fault_told h (inl f) =
+      let a = h.2 in
+      record {
+        outcome = WriteFault;
+        status = f.1;
+        ends = (h.0, h.1, (a.0, a.1, appends_keep old.contents mid.contents new.contents a.0 a.2 k, a.3), risen f.0);
+        said = f.2;
+      }
+  fault_told h (inr f) = absurd (rose_counted old.failures mid.failures fresh h.3 f.0)

@@ -1,5 +1,5 @@
 -- What is printed of an image, and how the printing ends. (This project's own.)
-use Rattle.std.specs.Prelude.{◌≡◌, ℕ, ◌⊎◌, Bool, true, false, List, [], codes}
+use Rattle.std.specs.Prelude.{◌≡◌, ◌<◌, ℕ, ◌⊎◌, Bool, true, false, List, [], codes}
 use Rattle.std.specs.Io.KnownBytes.{Appends}
 use Rattle.rom_fields.specs.Failures.{Rose}
 use Rattle.rom_fields.specs.Written.{AppendsPrefix, Output, Puts, sink}
@@ -13,6 +13,8 @@ use Rattle.rom_commands.specs.declared.asked.Asked.{Asked}
 use Rattle.image_check.specs.declared.any.AnyImage.{AnyImage}
 use Rattle.image_check.specs.Any.{any_view, report_of}
 use Rattle.image_check.specs.Checked.{Shows, IsRefused, HasFormat, IsFaultless, IsLeastFault}
+use Rattle.rom_commands.specs.declared.status.Status.{Status}
+use Rattle.rom_commands.specs.declared.status.Status.TheVariants as status
 use Rattle.rom_commands.specs.declared.shown.Outcome.{Outcome}
 use Rattle.rom_commands.specs.declared.shown.Outcome.TheVariants.{Done, Warned, Refused, Memory, WriteFault}
 
@@ -62,16 +64,22 @@ Ends bytes asked old new WriteFault =
     × AppendsPrefix old.contents new.contents text × Rose old.failures new.failures
 
 -- the status with which the program ends
-abbrev pub status_of : Outcome → ℕ
-status_of Done = 0
-status_of Warned = 1
-status_of Refused = 1
-status_of Memory = 3
-status_of WriteFault = 3
+abbrev pub status_of : Outcome → Status
+status_of Done = status.Done
+status_of Warned = status.Refused
+status_of Refused = status.Refused
+status_of Memory = status.Fault
+status_of WriteFault = status.Fault
 
 -- the text was put into a writer, or a prefix of it where a write failed
 abbrev pub Prints : Output → Output → List ℕ → Type 0
 Prints old new text = (failed : Bool) × Puts (sink old false) (sink new failed) text
+
+-- what was held back was handed on, and the status stays; or a write failed, which is told
+abbrev pub Flushes : Output → Output → Output → Output → Status → Status → Type 0
+Flushes old new err err' given result =
+    ((0 < new.failures) × (result ≡ status.Fault) × Prints err err' (codes "write fault\n"))
+    ⊎ ((old.failures ≡ 0) × (new.failures ≡ 0) × (result ≡ given) × (err' ≡ err))
 
 -- what standard error says of how the printing ended
 abbrev pub complaint_of : Outcome → List ℕ

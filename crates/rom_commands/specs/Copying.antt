@@ -1,5 +1,5 @@
 -- The bytes of one file of an image, written out: what is written, and how it ends. (This project's own.)
-use Rattle.std.specs.Prelude.{◌≡◌, ◌<◌, ℕ, ◌⊎◌, true, false, List, [], ◌++◌, Ok, Err, codes}
+use Rattle.std.specs.Prelude.{◌≡◌, ℕ, ◌⊎◌, true, false, List, [], ◌++◌, Ok, Err, codes}
 use Rattle.std.specs.Io.KnownBytes.{Appends}
 use Rattle.rom_fields.specs.Failures.{Rose}
 use Rattle.rom_fields.specs.Written.{AppendsPrefix, Output}
@@ -7,7 +7,9 @@ use Rattle.rom_tree.specs.Tree.{Node, is_directory, is_regular}
 use Rattle.rom_tree.specs.Image.{Image, contents_of}
 use Rattle.path_walk.specs.Errors.{error_name}
 use Rattle.path_walk.specs.Resolution.{resolution, tree_namespace}
-use Rattle.rom_commands.specs.Answers.{Holds, IsFaultText, Prints}
+use Rattle.rom_commands.specs.Answers.{Holds, IsFaultText}
+use Rattle.rom_commands.specs.declared.status.Status.{Status}
+use Rattle.rom_commands.specs.declared.status.Status.TheVariants as status
 use Rattle.rom_commands.specs.declared.copying.NoFile.{NoFile}
 use Rattle.rom_commands.specs.declared.copying.NoFile.TheVariants.{Nowhere, Directory, Special}
 use Rattle.rom_commands.specs.declared.copying.Copied.{Copied}
@@ -56,12 +58,12 @@ CopyEnds bytes path old new WriteFault =
     × Rose old.failures new.failures)
 
 -- the status with which the program ends
-abbrev pub copied_status : Copied → ℕ
-copied_status Done = 0
-copied_status (Fileless e) = 1
-copied_status Refused = 1
-copied_status Memory = 3
-copied_status WriteFault = 3
+abbrev pub copied_status : Copied → Status
+copied_status Done = status.Done
+copied_status (Fileless e) = status.Refused
+copied_status Refused = status.Refused
+copied_status Memory = status.Fault
+copied_status WriteFault = status.Fault
 
 -- `err `, and the name of an error of POSIX
 abbrev pub no_file_text : NoFile → List ℕ
@@ -76,9 +78,3 @@ copied_complaint (Fileless e) = no_file_text e ++ codes "\n"
 copied_complaint Refused = []
 copied_complaint Memory = codes "memory\n"
 copied_complaint WriteFault = codes "write fault\n"
-
--- what was held back was handed on, and the status stays; or a write failed, which is told
-abbrev pub Flushes : Output → Output → Output → Output → ℕ → ℕ → Type 0
-Flushes old new err err' status result =
-    ((0 < new.failures) × (result ≡ 3) × Prints err err' (codes "write fault\n"))
-    ⊎ ((old.failures ≡ 0) × (new.failures ≡ 0) × (result ≡ status) × (err' ≡ err))

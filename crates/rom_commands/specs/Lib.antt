@@ -1,4 +1,5 @@
 pub mod Lines
+pub mod Endings
 pub mod Asked
 pub mod Answers
 pub mod Formats

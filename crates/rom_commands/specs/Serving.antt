@@ -14,6 +14,8 @@ use Rattle.serve_lines.specs.declared.error.ServeError.TheVariants as serve
 use Rattle.rom_serve.specs.Machines.{image_machine, space_machine}
 use Rattle.rom_commands.specs.Lines.{fault_text}
 use Rattle.rom_commands.specs.Answers.{Holds, HasFault, IsFaultText}
+use Rattle.rom_commands.specs.declared.status.Status.{Status}
+use Rattle.rom_commands.specs.declared.status.Status.TheVariants as status
 use Rattle.rom_commands.specs.declared.serving.Serving.{Serving}
 use Rattle.rom_commands.specs.declared.serving.Serving.TheVariants.{Served, Refused, Memory, ReadFault, WriteFault, TooManyReads}
 
@@ -112,13 +114,13 @@ SpaceEnds all r₀ r w₀ w o =
     ⊎ Refuses (IsFirstFaultText all) r₀ r w₀ w o
 
 -- the status with which the program ends
-abbrev pub serving_status : Serving → ℕ
-serving_status Served = 0
-serving_status Refused = 1
-serving_status Memory = 3
-serving_status ReadFault = 3
-serving_status WriteFault = 3
-serving_status TooManyReads = 3
+abbrev pub serving_status : Serving → Status
+serving_status Served = status.Done
+serving_status Refused = status.Refused
+serving_status Memory = status.Fault
+serving_status ReadFault = status.Fault
+serving_status WriteFault = status.Fault
+serving_status TooManyReads = status.Fault
 
 -- what standard error says of how the serving ended
 abbrev pub serving_complaint : Serving → List ℕ

@@ -1,13 +1,13 @@
 //! The bytes of one file of an image, written out.
 ghost use Rattle.std.specs.Prelude.{◌≡◌, ◌≤◌};
-ghost use Rattle.std.specs.Io.KnownBytes.{Keeps};
 ghost use Rattle.rom_tree.specs.Tree.{levels};
 ghost use Rattle.image_check.specs.Any.{any_view};
 ghost use Rattle.rom_commands.specs.Answers.{Prints};
-ghost use Rattle.rom_commands.specs.Copying.{Copies, CopyEnds, Flushes, copied_status, copied_complaint, no_file_text};
+ghost use Rattle.rom_commands.specs.Copying.{Copies, CopyEnds, copied_status, copied_complaint, no_file_text};
 
-use crate::printing::{FAULT, complain};
+use crate::printing::{complain, flushed};
 use crate::shown::write_fault_line;
+use crate::status::Status;
 use image_check::{AnyImage, check};
 use image_map::cat;
 use path_walk::{WalkError, walk};
@@ -97,52 +97,32 @@ fn no_file_name(error: NoFile) -> &'static [u8]
 
 /// Prints the bytes of the regular file to which a path leads in an image to `out`, and to `err` why
 /// there are none, that memory was refused or that a write failed. What `out` holds back is handed
-/// on. The status is 0, 1 where the image has a fault or the path leads to no regular file, 3 where
-/// memory was refused or a write failed.
+/// on. The status is `Done`, `Refused` where the image has a fault or the path leads to no regular
+/// file, `Fault` where memory was refused or a write failed.
 pub fn print_file<X: Write, E: ByteWrite>(
     alloc: Global,
     bytes: &[u8],
     path: &[u8],
     out: &mut Plain<X>,
     err: &mut E,
-) -> u8
+) -> Status
     requires { out.old.failures ≡ 0 }
-    ensures small { result ≤ 3 }
     ensures ends { (o : Copied) × (result ≡ copied_status o)
         × CopyEnds bytes.now path.now (⟦<Plain<X> as ByteWrite>⟧.output out.old)
         (⟦<Plain<X> as ByteWrite>⟧.output out.new) o
         × Prints (E.output err.old) (E.output err.new) (copied_complaint o) }
 {
     match copy(alloc, bytes, path, out) {
-        Copied::Done => flushed(out, err, 0),
-        Copied::Refused => flushed(out, err, 1),
-        Copied::WriteFault => flushed(out, err, FAULT),
+        Copied::Done => flushed(out, err, Status::Done),
+        Copied::Refused => flushed(out, err, Status::Refused),
+        Copied::WriteFault => flushed(out, err, Status::Fault),
         Copied::NoFile(error) => {
             complain(err, no_file_name(error), b"");
-            1
+            Status::Refused
         }
         Copied::Memory => {
             complain(err, b"memory", b"");
-            FAULT
+            Status::Fault
         }
     }
-}
-
-/// Hands on what `out` holds back. The status is 3, and `err` says so, where that or a write before
-/// failed, and else the one that is given.
-pub(crate) fn flushed<X: Write, E: ByteWrite>(out: &mut Plain<X>, err: &mut E, status: u8) -> u8
-    requires { status ≤ 3 }
-    ensures small { result ≤ 3 }
-    ensures kept { Keeps (⟦<Plain<X> as ByteWrite>⟧.output out.old).contents
-        (⟦<Plain<X> as ByteWrite>⟧.output out.new).contents }
-    ensures ends { Flushes (⟦<Plain<X> as ByteWrite>⟧.output out.old)
-        (⟦<Plain<X> as ByteWrite>⟧.output out.new) (E.output err.old) (E.output err.new)
-        status result }
-{
-    let _ = out.flush();
-    if out.failures() > 0 {
-        complain(err, b"write fault", b"");
-        return FAULT;
-    }
-    status
 }

@@ -13,5 +13,6 @@ pub mod printing;
 pub mod serving;
 pub mod several;
 pub mod shown;
+pub mod status;
 #[cfg(test)]
 mod tests;

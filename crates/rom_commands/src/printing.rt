@@ -1,20 +1,19 @@
 //! What is printed on standard output and on standard error.
-ghost use Rattle.std.specs.Prelude.{◌≡◌, ◌≤◌, ◌++◌, codes, length};
+ghost use Rattle.std.specs.Prelude.{◌≡◌, ◌++◌, codes, length};
+ghost use Rattle.std.specs.Io.KnownBytes.{Keeps};
 ghost use Rattle.rom_fields.specs.Texts.{escaped};
 ghost use Rattle.rom_commands.specs.Asked.{Fits};
-ghost use Rattle.rom_commands.specs.Answers.{Ends, Prints, complaint_of, status_of};
+ghost use Rattle.rom_commands.specs.Answers.{Ends, Flushes, Prints, complaint_of, status_of};
 ghost use Rattle.rom_commands.specs.declared.shown.Outcome.{Outcome};
 
 use crate::asked::Asked;
-use crate::shown::shown;
+use crate::shown::{Outcome, show};
+use crate::status::Status;
 use rom_fields::bytes::{ByteWrite, Plain};
 use rom_fields::sink::put;
 use rom_fields::text::put_escaped;
 use std::alloc::Global;
 use std::io::Write;
-
-/// The status where a file, memory or a stream failed.
-pub const FAULT: u8 = 3;
 
 /// Prints a line: a text, and a name after it, escaped.
 pub fn complain<W: ByteWrite>(w: &mut W, text: &[u8], name: &[u8])
@@ -27,32 +26,53 @@ pub fn complain<W: ByteWrite>(w: &mut W, text: &[u8], name: &[u8])
     put(w, &mut failed, b"\n");
 }
 
-/// Prints what is shown of an image to `out`, and to `err` that memory was refused or a write
-/// failed. What `out` holds back is handed on.
+/// Hands on what `out` holds back. The status is `Fault`, and `err` says so, where that or a write
+/// before failed, and else the one that is given.
+pub(crate) fn flushed<X: Write, E: ByteWrite>(
+    out: &mut Plain<X>,
+    err: &mut E,
+    status: Status,
+) -> Status
+    ensures kept { Keeps (⟦<Plain<X> as ByteWrite>⟧.output out.old).contents
+        (⟦<Plain<X> as ByteWrite>⟧.output out.new).contents }
+    ensures ends { Flushes (⟦<Plain<X> as ByteWrite>⟧.output out.old)
+        (⟦<Plain<X> as ByteWrite>⟧.output out.new) (E.output err.old) (E.output err.new)
+        status result }
+{
+    let _ = out.flush();
+    if out.failures() > 0 {
+        complain(err, b"write fault", b"");
+        return Status::Fault;
+    }
+    status
+}
+
+/// Prints what `check`, `list`, `map`, `linux` or `info` says of an image to `out`, and to `err` that
+/// memory was refused or a write failed. What `out` holds back is handed on. The status is `Done`
+/// where the image is sound, `Refused` where it has a fault or Linux gets something of it wrong that
+/// was asked for, `Fault` where memory was refused or a write failed.
 pub fn print<X: Write, E: ByteWrite>(
     alloc: Global,
     bytes: &[u8],
     asked: Asked,
     out: &mut Plain<X>,
     err: &mut E,
-) -> u8
+) -> Status
     requires fresh { out.old.failures ≡ 0 }
     requires fits { Fits asked (length bytes.now) }
-    ensures small { result ≤ 3 }
     ensures ends { (o : Outcome) × (result ≡ status_of o)
         × Ends bytes.now asked (⟦<Plain<X> as ByteWrite>⟧.output out.old)
         (⟦<Plain<X> as ByteWrite>⟧.output out.new) o
         × Prints (E.output err.old) (E.output err.new) (complaint_of o) }
 {
-    let status = shown(alloc, bytes, asked, out);
-    if status == FAULT && out.failures() == 0 {
-        complain(err, b"memory", b"");
-        return FAULT;
+    match show(alloc, bytes, asked, out) {
+        Outcome::Done => flushed(out, err, Status::Done),
+        Outcome::Warned => flushed(out, err, Status::Refused),
+        Outcome::Refused => flushed(out, err, Status::Refused),
+        Outcome::WriteFault => flushed(out, err, Status::Fault),
+        Outcome::Memory => {
+            complain(err, b"memory", b"");
+            Status::Fault
+        }
     }
-    let _ = out.flush();
-    if out.failures() > 0 {
-        complain(err, b"write fault", b"");
-        return FAULT;
-    }
-    status
 }

@@ -1,5 +1,5 @@
 //! Serving images to lines, and how it ends.
-ghost use Rattle.std.specs.Prelude.{◌≡◌, ◌≤◌, ◌<◌, ℕ, length, map};
+ghost use Rattle.std.specs.Prelude.{◌≡◌, ◌≤◌, ℕ, length, map};
 ghost use Rattle.rom_fields.specs.Failures.{Counts};
 ghost use Rattle.rom_fields.specs.Written.{WritesText};
 ghost use Rattle.rom_tree.specs.Tree.{levels};
@@ -11,6 +11,7 @@ ghost use Rattle.rom_commands.specs.Answers.{Prints};
 ghost use Rattle.rom_commands.specs.Serving.{input_of, Answers, serving_of, refusal_of, ServingEnds, serving_status, serving_complaint};
 
 use crate::shown::write_fault_line;
+use crate::status::Status;
 use image_check::{AnyImage, check};
 use name_index::Indexed;
 use rom_faults::CheckError;
@@ -41,14 +42,15 @@ pub enum Serving {
 }
 
 /// The status with which the program ends.
-pub fn status(serving: Serving) -> u8
-    ensures value { result ≡ serving_status serving }
-    ensures small { result ≤ 3 }
+fn status(serving: Serving) -> Status
+    ensures { result ≡ serving_status serving }
 {
     match serving {
-        Serving::Served => 0,
-        Serving::Refused => 1,
-        Serving::Memory | Serving::ReadFault | Serving::WriteFault | Serving::TooManyReads => 3,
+        Serving::Served => Status::Done,
+        Serving::Refused => Status::Refused,
+        Serving::Memory | Serving::ReadFault | Serving::WriteFault | Serving::TooManyReads => {
+            Status::Fault
+        }
     }
 }
 
@@ -141,9 +143,8 @@ pub fn serve_image<R: ByteRead, W: ByteWrite>(
 }
 
 /// Says on `err` how serving ended, where it did not end well, and gives the status.
-pub(crate) fn conclude<E: ByteWrite>(serving: Serving, err: &mut E) -> u8
+pub(crate) fn conclude<E: ByteWrite>(serving: Serving, err: &mut E) -> Status
     ensures value { result ≡ serving_status serving }
-    ensures small { result ≤ 3 }
     ensures said { Prints (E.output err.old) (E.output err.new) (serving_complaint serving) }
 {
     let mut failed = false;
@@ -151,17 +152,16 @@ pub(crate) fn conclude<E: ByteWrite>(serving: Serving, err: &mut E) -> u8
     status(serving)
 }
 
-/// Serves an image as `serve_image` does, says on `err` what went wrong, and gives the status: 0
-/// where all replies were written, 1 where the image has a fault, 3 where memory was refused or a
-/// stream failed.
+/// Serves an image as `serve_image` does, says on `err` what went wrong, and gives the status:
+/// `Done` where all replies were written, `Refused` where the image has a fault, `Fault` where memory
+/// was refused or a stream failed.
 pub fn serve_on<R: ByteRead, W: ByteWrite, E: ByteWrite>(
     alloc: Global,
     bytes: &[u8],
     r: &mut R,
     w: &mut W,
     err: &mut E,
-) -> u8
-    ensures small { result ≤ 3 }
+) -> Status
     ensures ends { (o : Serving) × (result ≡ serving_status o)
         × ServingEnds bytes.now
         (input_of (R.remaining r.old) (R.failures r.old))

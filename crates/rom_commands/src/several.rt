@@ -12,6 +12,7 @@ ghost use Rattle.rom_commands.specs.Refused.{IsFaultAt, IsFirst};
 
 use crate::fault::put_fault;
 use crate::serving::{Serving, conclude, ended, refused};
+use crate::status::Status;
 use image_check::{AnyImage, check};
 use name_index::Indexed;
 use rom_faults::CheckError;
@@ -139,10 +140,9 @@ pub fn serve_several_on<R: ByteRead, W: ByteWrite, E: ByteWrite>(
     r: &mut R,
     w: &mut W,
     err: &mut E,
-) -> u8
+) -> Status
     requires some { 0 < length files.now }
     requires few { length files.now ≤ 8 }
-    ensures small { result ≤ 3 }
     ensures ends { (o : Serving) × (result ≡ serving_status o)
         × SpaceEnds (map (λ f. f.items) files.now)
         (input_of (R.remaining r.old) (R.failures r.old))

@@ -9,7 +9,7 @@ ghost use Rattle.image_check.specs.Any.{any_view, report_of};
 ghost use Rattle.image_gaps.specs.Gaps.{IsChecked};
 ghost use Rattle.rom_commands.specs.Lines.{fault_line, ok_line};
 ghost use Rattle.rom_commands.specs.Asked.{sound_text, warns, Fits};
-ghost use Rattle.rom_commands.specs.Answers.{status_of, Ends};
+ghost use Rattle.rom_commands.specs.Answers.{Ends};
 ghost use Rattle.rom_commands.specs.Formats.{format_of};
 ghost use Rattle.rom_commands.specs.declared.shown.Outcome.{Outcome};
 
@@ -40,18 +40,6 @@ pub enum Outcome {
     Memory,
     /// A write failed. A prefix of the text was written.
     WriteFault,
-}
-
-/// The status with which the program ends.
-pub fn status(outcome: Outcome) -> u8
-    ensures value { result ≡ status_of outcome }
-    ensures small { result ≤ 3 }
-{
-    match outcome {
-        Outcome::Done => 0,
-        Outcome::Warned | Outcome::Refused => 1,
-        Outcome::Memory | Outcome::WriteFault => 3,
-    }
 }
 
 /// Whether each byte of an image of this length has an address of 64 bits, where addresses are asked
@@ -176,15 +164,4 @@ pub fn show<W: ByteWrite>(alloc: Global, bytes: &[u8], asked: Asked, w: &mut W) 
         },
         Err(CheckError::OutOfMemory) => Outcome::Memory,
     }
-}
-
-/// Writes what `check`, `list`, `map`, `linux` or `info` prints of an image on standard output, and gives
-/// the status: 0 where the image is sound, 1 where it has a fault or Linux gets something of it
-/// wrong that was asked for, 3 where memory was refused or a write failed.
-pub fn shown<W: ByteWrite>(alloc: Global, bytes: &[u8], asked: Asked, w: &mut W) -> u8
-    requires { Fits asked (length bytes.now) }
-    ensures { (o : Outcome) × (result ≡ status_of o)
-        × Ends bytes.now asked (W.output w.old) (W.output w.new) o }
-{
-    status(show(alloc, bytes, asked, w))
 }

@@ -5,7 +5,8 @@ use crate::asked::Asked;
 use crate::copying::print_file;
 use crate::hello::hello;
 use crate::printing::{complain, print};
-use crate::shown::shown;
+use crate::shown::{Outcome, show};
+use crate::status::{Status, Trouble, tell};
 use rom_fields::bytes::Plain;
 use rom_fields::faulty::Faulty;
 use rom_fields::word::put_be32;
@@ -28,33 +29,33 @@ impl Write for Unflushed {
 
 const LISTED: &[u8] = b"32 d 0755 0 0 0 0 0 /\n96 f 0644 0 0 5 0 0 /a\n";
 
-/// What is shown of some bytes, after the status.
-fn answer(rt: &HostRuntime, bytes: &[u8], asked: Asked) -> (u8, Vec<u8>)
+/// What is shown of some bytes, after how that ended.
+fn answer(rt: &HostRuntime, bytes: &[u8], asked: Asked) -> (Outcome, Vec<u8>)
     requires { Fits asked (length bytes.now) }
 {
     let mut w = Plain::new(Vec::new(rt.alloc()));
-    let status = shown(rt.alloc(), bytes, asked, &mut w);
-    (status, w.into_inner())
+    let outcome = show(rt.alloc(), bytes, asked, &mut w);
+    (outcome, w.into_inner())
 }
 
 #[test]
 fn shows_hello(rt: HostRuntime) -> Result<(), Fail> {
-    let (status, text) = answer(&rt, &hello(), Asked::Report);
-    assert_eq!(rt; status, 0);
+    let (outcome, text) = answer(&rt, &hello(), Asked::Report);
+    assert!(rt; outcome == Outcome::Done);
     assert_eq!(rt; text.as_slice(), b"ok romfs 3 1\n".as_slice());
-    let (status, text) = answer(&rt, &hello(), Asked::List);
-    assert_eq!(rt; status, 0);
+    let (outcome, text) = answer(&rt, &hello(), Asked::List);
+    assert!(rt; outcome == Outcome::Done);
     assert_eq!(rt; text.as_slice(), LISTED);
     Ok(())
 }
 
 #[test]
 fn maps_hello(rt: HostRuntime) -> Result<(), Fail> {
-    let (status, text) = answer(&rt, &hello(), Asked::Map(0x0800_1000));
-    assert_eq!(rt; status, 0);
+    let (outcome, text) = answer(&rt, &hello(), Asked::Map(0x0800_1000));
+    assert!(rt; outcome == Outcome::Done);
     assert_eq!(rt; text.as_slice(), b"0x08001080 5 0 /a\n".as_slice());
-    let (status, text) = answer(&rt, &hello(), Asked::Misreads);
-    assert_eq!(rt; status, 0);
+    let (outcome, text) = answer(&rt, &hello(), Asked::Misreads);
+    assert!(rt; outcome == Outcome::Done);
     assert!(rt; text.is_empty());
     Ok(())
 }
@@ -62,11 +63,16 @@ fn maps_hello(rt: HostRuntime) -> Result<(), Fail> {
 #[test]
 fn copies_a_file(rt: HostRuntime) -> Result<(), Fail> {
     for (path, status, text, said) in [
-        (b"/a".as_slice(), 0, b"hello".as_slice(), b"".as_slice()),
-        (b"/", 1, b"", b"err EISDIR\n"),
-        (b"/b", 1, b"", b"err ENOENT\n"),
-        (b"/a/b", 1, b"", b"err ENOTDIR\n"),
-        (b"a", 1, b"", b"err EINVAL\n"),
+        (
+            b"/a".as_slice(),
+            Status::Done,
+            b"hello".as_slice(),
+            b"".as_slice(),
+        ),
+        (b"/", Status::Refused, b"", b"err EISDIR\n"),
+        (b"/b", Status::Refused, b"", b"err ENOENT\n"),
+        (b"/a/b", Status::Refused, b"", b"err ENOTDIR\n"),
+        (b"a", Status::Refused, b"", b"err EINVAL\n"),
     ] {
         let mut out = Plain::new(Vec::new(rt.alloc()));
         let mut err = Plain::new(Vec::new(rt.alloc()));
@@ -114,14 +120,14 @@ fn shows_faults(rt: HostRuntime) -> Result<(), Fail> {
         (&zeros, b"fault 3 Magic at 0\n"),
         (&[], b"fault 2 Short at 0\n"),
     ] {
-        let (status, text) = answer(&rt, bytes, Asked::Report);
-        assert_eq!(rt; status, 1);
+        let (outcome, text) = answer(&rt, bytes, Asked::Report);
+        assert!(rt; outcome == Outcome::Refused);
         assert_eq!(rt; text.as_slice(), line);
-        let (status, text) = answer(&rt, bytes, Asked::List);
-        assert_eq!(rt; status, 1);
+        let (outcome, text) = answer(&rt, bytes, Asked::List);
+        assert!(rt; outcome == Outcome::Refused);
         assert_eq!(rt; text.as_slice(), line);
-        let (status, text) = answer(&rt, bytes, Asked::Misreads);
-        assert_eq!(rt; status, 1);
+        let (outcome, text) = answer(&rt, bytes, Asked::Misreads);
+        assert!(rt; outcome == Outcome::Refused);
         assert_eq!(rt; text.as_slice(), line);
     }
     Ok(())
@@ -130,7 +136,7 @@ fn shows_faults(rt: HostRuntime) -> Result<(), Fail> {
 #[test]
 fn writes_byte_by_byte(rt: HostRuntime) -> Result<(), Fail> {
     let mut w = Faulty::new(Plain::new(Vec::new(rt.alloc())), u64::MAX, 1);
-    assert_eq!(rt; shown(rt.alloc(), &hello(), Asked::List, &mut w), 0);
+    assert!(rt; show(rt.alloc(), &hello(), Asked::List, &mut w) == Outcome::Done);
     let held: Vec<u8> = w.into_inner().into_inner();
     assert_eq!(rt; held.as_slice(), LISTED);
     Ok(())
@@ -141,16 +147,14 @@ fn a_failed_write_ends_it(rt: HostRuntime) -> Result<(), Fail> {
     let image = hello();
     for calls in 0..LISTED.len() {
         let mut w = Faulty::new(Plain::new(Vec::new(rt.alloc())), calls as u64, 1);
-        assert_eq!(rt;
-            shown(rt.alloc(), &image, Asked::List, &mut w),
-            3,
-            "at {calls}"
-        );
+        let outcome = show(rt.alloc(), &image, Asked::List, &mut w);
+        assert!(rt; outcome == Outcome::WriteFault, "at {calls}");
         let held: Vec<u8> = w.into_inner().into_inner();
         assert_eq!(rt; held.as_slice(), &LISTED[..calls], "at {calls}");
     }
     let mut w = Faulty::new(Plain::new(Vec::new(rt.alloc())), 2, 4);
-    assert_eq!(rt; shown(rt.alloc(), &image[..8], Asked::Report, &mut w), 3);
+    let outcome = show(rt.alloc(), &image[..8], Asked::Report, &mut w);
+    assert!(rt; outcome == Outcome::WriteFault);
     let held: Vec<u8> = w.into_inner().into_inner();
     assert_eq!(rt; held.as_slice(), b"fault ".as_slice());
     Ok(())
@@ -162,7 +166,7 @@ fn prints_and_flushes(rt: HostRuntime) -> Result<(), Fail> {
     let mut err = Plain::new(Vec::new(rt.alloc()));
     assert_eq!(rt;
         print(rt.alloc(), &hello(), Asked::List, &mut out, &mut err),
-        0
+        Status::Done
     );
     assert_eq!(rt; out.into_inner().as_slice(), LISTED);
     assert!(rt; err.into_inner().is_empty());
@@ -175,7 +179,7 @@ fn a_failed_flush_is_a_write_fault(rt: HostRuntime) -> Result<(), Fail> {
     let mut err = Plain::new(Vec::new(rt.alloc()));
     assert_eq!(rt;
         print(rt.alloc(), &hello(), Asked::Report, &mut out, &mut err),
-        3
+        Status::Fault
     );
     assert_eq!(rt; err.into_inner().as_slice(), b"write fault\n".as_slice());
     Ok(())
@@ -186,5 +190,26 @@ fn complains_with_an_escaped_name(rt: HostRuntime) -> Result<(), Fail> {
     let mut w = Plain::new(Vec::new(rt.alloc()));
     complain(&mut w, b"file ", b"a b");
     assert_eq!(rt; w.into_inner().as_slice(), b"file a%20b\n".as_slice());
+    Ok(())
+}
+
+#[test]
+fn troubles_are_told(rt: HostRuntime) -> Result<(), Fail> {
+    for (trouble, status, text) in [
+        (Trouble::Memory, Status::Fault, b"memory\n".as_slice()),
+        (Trouble::Usage, Status::Usage, b"usage\n"),
+        (Trouble::File(b"a b"), Status::Fault, b"file a%20b\n"),
+        (Trouble::Changed, Status::Fault, b"changed\n"),
+        (Trouble::WriteFault, Status::Fault, b"write fault\n"),
+    ] {
+        let mut err = Plain::new(Vec::new(rt.alloc()));
+        assert_eq!(rt; tell(trouble, &mut err), status);
+        let said: Vec<u8> = err.into_inner();
+        assert_eq!(rt; said.as_slice(), text);
+    }
+    assert_eq!(rt; Status::Done.code(), 0);
+    assert_eq!(rt; Status::Refused.code(), 1);
+    assert_eq!(rt; Status::Usage.code(), 2);
+    assert_eq!(rt; Status::Fault.code(), 3);
     Ok(())
 }

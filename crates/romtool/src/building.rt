@@ -13,10 +13,10 @@ use crate::target::{KeepError, Target, Writer};
 use crate::trouble::Teller;
 use crate::{explained, reading};
 use build_commands::building::{tell_bad_manifest, tell_built, tell_misfit};
-use command_line::{Status, Trouble};
 use image_build::{StreamError, stream, stream_through};
 use layout_plan::{Format, Plan, PlanError, plan};
 use manifest::{Manifest, ManifestError, Name, parse};
+use rom_commands::status::{Status, Trouble};
 use rom_fields::bytes::{Failed, Plain};
 use sentences::reasons::{
     NO_TEXT, NOT_TAKEN, OWN_INPUT, PART_REPLACED, SOURCE_CHANGED, SOURCE_UNREAD, SUM_DIFFERS,

@@ -7,7 +7,7 @@ use crate::replies::Replies;
 use crate::streams::{Again, Ahead, Held, hold_closed};
 use crate::trouble::Teller;
 use crate::{building, extracting, inventory, reading, scanning};
-use command_line::{Extract, Request, Status, Trouble, read};
+use command_line::{Extract, Request, read};
 use image_check::check;
 use rom_commands::asked::Asked;
 use rom_commands::copying::print_file;
@@ -16,14 +16,12 @@ use rom_commands::printing::print;
 use rom_commands::serving::serve_on;
 use rom_commands::several::serve_several_on;
 use rom_commands::shown::has_addresses;
+use rom_commands::status::{Status, Trouble};
 use rom_faults::CheckError;
 use rom_fields::bytes::{ByteRead, ByteWrite, Plain};
 use rom_tree::types::Limits;
 use sentences::reasons::{MISREAD, NO_ADDRESS};
 use std::io::{self, BufWriter};
-
-/// The status of a refusal, whose line standard output has.
-const REFUSED: u8 = 1;
 
 /// What is said behind the list of the example image.
 const EXAMPLE: &str =
@@ -43,15 +41,13 @@ pub fn run(rt: &HostRuntime) -> u8
         Err(wrong) => return teller.refused_word(wrong).code(),
     };
     match read(rt.alloc(), words.as_slice()) {
-        Ok(request) => done(teller, request),
+        Ok(request) => done(teller, request).code(),
         Err(error) => teller.refused_words(error).code(),
     }
 }
 
 /// Does what is asked for.
-fn done(teller: &Teller<'_>, request: Request<'_>) -> u8
-    ensures { result ≤ 3 }
-{
+fn done(teller: &Teller<'_>, request: Request<'_>) -> Status {
     match request {
         Request::Example => example(teller),
         Request::Check(image) => file(teller, image, Asked::Report),
@@ -62,24 +58,20 @@ fn done(teller: &Teller<'_>, request: Request<'_>) -> u8
         Request::Linux(image) => file(teller, image, Asked::Misreads),
         Request::Serve(image) => serve(teller, image),
         Request::Space(images) => space(teller, images.as_slice()),
-        Request::Build(build) => {
-            building::run(teller, build.format, build.manifest, build.out).code()
-        }
-        Request::Scan(folder) => scanning::run(teller, folder).code(),
-        Request::ScanAll(scan) => inventory::run(teller, scan).code(),
+        Request::Build(build) => building::run(teller, build.format, build.manifest, build.out),
+        Request::Scan(folder) => scanning::run(teller, folder),
+        Request::ScanAll(scan) => inventory::run(teller, scan),
         Request::Extract(extract) => take_apart(teller, extract),
     }
 }
 
 /// Checks and lists the example image.
-fn example(teller: &Teller<'_>) -> u8
-    ensures { result ≤ 3 }
-{
+fn example(teller: &Teller<'_>) -> Status {
     let image = hello();
     let checked = print_out(teller, b"hello", &image, Asked::Report);
-    if checked == 0 {
+    if checked == Status::Done {
         let listed = print_out(teller, b"hello", &image, Asked::List);
-        if listed == 0 {
+        if listed == Status::Done {
             teller.explain(b"hello", &EXAMPLE);
         }
         listed
@@ -102,31 +94,25 @@ fn bytes_of(teller: &Teller<'_>, name: &str) -> Result<Vec<u8>, Status> {
 }
 
 /// Prints what is asked of the image in a file.
-fn file(teller: &Teller<'_>, name: &str, asked: Asked) -> u8
-    ensures { result ≤ 3 }
-{
+fn file(teller: &Teller<'_>, name: &str, asked: Asked) -> Status {
     match bytes_of(teller, name) {
         Ok(bytes) => shown(teller, name, &bytes, asked),
-        Err(status) => status.code(),
+        Err(status) => status,
     }
 }
 
 /// Prints the facts of the image in a file.
-fn facts(teller: &Teller<'_>, name: &str) -> u8
-    ensures { result ≤ 3 }
-{
+fn facts(teller: &Teller<'_>, name: &str) -> Status {
     match image_in(teller, name) {
         Ok(image) => shown(teller, name, &image.bytes, Asked::Facts(image.file)),
-        Err(status) => status.code(),
+        Err(status) => status,
     }
 }
 
 /// Prints what is asked of an image, where its bytes have addresses.
-fn shown(teller: &Teller<'_>, name: &str, bytes: &[u8], asked: Asked) -> u8
-    ensures { result ≤ 3 }
-{
+fn shown(teller: &Teller<'_>, name: &str, bytes: &[u8], asked: Asked) -> Status {
     if !has_addresses(asked, bytes.len()) {
-        let status = teller.say(Trouble::Usage).code();
+        let status = teller.say(Trouble::Usage);
         teller.explain(name.as_bytes(), &NO_ADDRESS);
         return status;
     }
@@ -134,21 +120,19 @@ fn shown(teller: &Teller<'_>, name: &str, bytes: &[u8], asked: Asked) -> u8
 }
 
 /// Prints the bytes of the file to which a path leads in the image in a file.
-fn copy(teller: &Teller<'_>, name: &str, path: &str) -> u8
-    ensures { result ≤ 3 }
-{
+fn copy(teller: &Teller<'_>, name: &str, path: &str) -> Status {
     let rt = teller.rt;
     let bytes = match bytes_of(teller, name) {
         Ok(bytes) => bytes,
-        Err(status) => return status.code(),
+        Err(status) => return status,
     };
     let Ok(out) = BufWriter::new(rt.alloc(), Again::new(io::writer(rt))) else {
-        return teller.say(Trouble::Memory).code();
+        return teller.say(Trouble::Memory);
     };
     let mut err = Plain::new(Held::new(rt, rt.stderr()));
     let path = path.as_bytes();
     let status = print_file(rt.alloc(), &bytes, path, &mut Plain::new(out), &mut err);
-    if status == REFUSED {
+    if status == Status::Refused {
         teller.explain_image(name.as_bytes(), &bytes);
     }
     teller.hand_on_about(err, path);
@@ -156,16 +140,14 @@ fn copy(teller: &Teller<'_>, name: &str, path: &str) -> u8
 }
 
 /// Takes the image in a file apart.
-fn take_apart(teller: &Teller<'_>, asked: Extract<'_>) -> u8
-    ensures { result ≤ 3 }
-{
+fn take_apart(teller: &Teller<'_>, asked: Extract<'_>) -> Status {
     let bytes = match bytes_of(teller, asked.image) {
         Ok(bytes) => bytes,
-        Err(status) => return status.code(),
+        Err(status) => return status,
     };
     match check(teller.rt.alloc(), &bytes, Limits::usual()) {
-        Ok(image) => extracting::run(teller, &image, asked).code(),
-        Err(CheckError::OutOfMemory) => teller.say(Trouble::Memory).code(),
+        Ok(image) => extracting::run(teller, &image, asked),
+        Err(CheckError::OutOfMemory) => teller.say(Trouble::Memory),
         Err(CheckError::Fault { .. }) => {
             print_out(teller, asked.image.as_bytes(), &bytes, Asked::Report)
         }
@@ -173,13 +155,11 @@ fn take_apart(teller: &Teller<'_>, asked: Extract<'_>) -> u8
 }
 
 /// Serves the image in a file.
-fn serve(teller: &Teller<'_>, name: &str) -> u8
-    ensures { result ≤ 3 }
-{
+fn serve(teller: &Teller<'_>, name: &str) -> Status {
     let rt = teller.rt;
     let bytes = match bytes_of(teller, name) {
         Ok(bytes) => bytes,
-        Err(status) => return status.code(),
+        Err(status) => return status,
     };
     let mut err = Plain::new(Held::new(rt, rt.stderr()));
     let status = serve_on(
@@ -189,7 +169,7 @@ fn serve(teller: &Teller<'_>, name: &str) -> u8
         &mut Plain::new(Replies::new(*teller, io::writer(rt))),
         &mut err,
     );
-    if status == REFUSED {
+    if status == Status::Refused {
         teller.explain_image(name.as_bytes(), &bytes);
     }
     teller.hand_on(err);
@@ -222,17 +202,15 @@ fn serve_files<R: ByteRead>(
     names: &[&str],
     files: &[Vec<u8>],
     lines: &mut R,
-) -> u8
-    ensures { result ≤ 3 }
-{
+) -> Status {
     let rt = teller.rt;
     if files.is_empty() || files.len() > 8 {
-        return teller.say(Trouble::Usage).code();
+        return teller.say(Trouble::Usage);
     }
     let mut err = Plain::new(Held::new(rt, rt.stderr()));
     let out = &mut Plain::new(Replies::new(*teller, io::writer(rt)));
     let status = serve_several_on(rt.alloc(), files, lines, out, &mut err);
-    if status == REFUSED {
+    if status == Status::Refused {
         teller.explain_images(names, files);
     }
     teller.hand_on(err);
@@ -241,9 +219,7 @@ fn serve_files<R: ByteRead>(
 
 /// Serves the images in one to eight files. Where one of these cannot be read, a fault of an image
 /// before it comes first: these are served no lines, to see whether they have one.
-fn space(teller: &Teller<'_>, names: &[&str]) -> u8
-    ensures { result ≤ 3 }
-{
+fn space(teller: &Teller<'_>, names: &[&str]) -> Status {
     let rt = teller.rt;
     let mut files = Vec::new(rt.alloc());
     match read_all(rt, names, &mut files) {
@@ -256,12 +232,12 @@ fn space(teller: &Teller<'_>, names: &[&str]) -> u8
         Err((name, e)) => {
             let no_lines: &[u8] = &[];
             let status = if files.is_empty() {
-                0
+                Status::Done
             } else {
                 serve_files(teller, names, &files, &mut Plain::new(no_lines))
             };
-            if status == 0 {
-                teller.refused(name.as_bytes(), &e).code()
+            if status == Status::Done {
+                teller.refused(name.as_bytes(), &e)
             } else {
                 status
             }
@@ -270,17 +246,16 @@ fn space(teller: &Teller<'_>, names: &[&str]) -> u8
 }
 
 /// Prints what is shown of an image on the standard streams. The image has this name.
-fn print_out(teller: &Teller<'_>, name: &[u8], bytes: &[u8], asked: Asked) -> u8
+fn print_out(teller: &Teller<'_>, name: &[u8], bytes: &[u8], asked: Asked) -> Status
     requires { Fits asked (length bytes.now) }
-    ensures { result ≤ 3 }
 {
     let rt = teller.rt;
     let Ok(out) = BufWriter::new(rt.alloc(), Again::new(io::writer(rt))) else {
-        return teller.say(Trouble::Memory).code();
+        return teller.say(Trouble::Memory);
     };
     let mut err = Plain::new(Held::new(rt, rt.stderr()));
     let status = print(rt.alloc(), bytes, asked, &mut Plain::new(out), &mut err);
-    if status == REFUSED && teller.explain_image(name, bytes) && asked == Asked::Misreads {
+    if status == Status::Refused && teller.explain_image(name, bytes) && asked == Asked::Misreads {
         teller.explain(name, &MISREAD);
     }
     teller.hand_on(err);

@@ -3,7 +3,7 @@ use crate::folders::{self, Folder, all_stayed, base, refused_entry};
 use crate::streams::Again;
 use crate::trouble::Teller;
 use build_commands::scanning::{Found, put_scan};
-use command_line::{Status, Trouble};
+use rom_commands::status::{Status, Trouble};
 use rom_fields::bytes::{Failed, Plain};
 use std::alloc::AllocError;
 use std::fs::{self, DirEntry, FileType};

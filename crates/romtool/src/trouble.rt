@@ -1,13 +1,14 @@
 //! What standard error says: a line of the protocol, and where it is asked for or a person reads it,
 //! a line in words behind it.
 ghost use Rattle.std.specs.Prelude.{◌≡◌};
-ghost use Rattle.command_line.specs.Endings.{trouble_status};
+ghost use Rattle.rom_commands.specs.Endings.{trouble_status};
 
 use crate::arguments::NoWords;
 use crate::origin::Origin;
 use crate::streams::Held;
-use command_line::{Status, Trouble, WordsError, is_explain, tell};
+use command_line::{WordsError, is_explain};
 use image_check::check;
+use rom_commands::status::{Status, Trouble, tell};
 use rom_faults::CheckError;
 use rom_fields::bytes::{ByteWrite, Plain};
 use rom_tree::types::Limits;

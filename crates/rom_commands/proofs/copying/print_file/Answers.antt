@@ -7,36 +7,36 @@ use Rattle.rom_commands.specs.Answers.{Prints}
 use Rattle.rom_commands.proofs.Copied.{done_told, refused_told, fault_told}
 use Rattle.rom_commands.proofs.copying.print_file.Goals as goal
 
-pub returns-in-Done-clause-ends : goal.returns-in-Done-clause-ends
-returns-in-Done-clause-ends g c =
+pub returns-in-Done : goal.returns-in-Done
+returns-in-Done g c =
     let old : Output = output_of (g.X.Write.contents c.args.out.now.inner) c.args.out.now.failures c.args.out.now.flushes in
     let mid : Output = output_of (g.X.Write.contents c.copy.new.w.inner) c.copy.new.w.failures c.copy.new.w.flushes in
     let new : Output = output_of (g.X.Write.contents c.flushed.new.out.inner) c.flushed.new.out.failures c.flushed.new.out.flushes in
     let t = done_told c.args.bytes.now c.args.path.now old mid new (g.E.ByteWrite.output c.args.err.now) (g.E.ByteWrite.output c.flushed.new.err) c.flushed.result c.requires c.flushed.ensures.kept c.in-Done.ensures c.flushed.ensures.ends in
-    (t.outcome, t.status, t.ends, t.said)
+    record { ends = (t.outcome, t.status, t.ends, t.said) }
 
-pub returns-in-Refused-clause-ends : goal.returns-in-Refused-clause-ends
-returns-in-Refused-clause-ends g c =
+pub returns-in-Refused : goal.returns-in-Refused
+returns-in-Refused g c =
     let old : Output = output_of (g.X.Write.contents c.args.out.now.inner) c.args.out.now.failures c.args.out.now.flushes in
     let mid : Output = output_of (g.X.Write.contents c.copy.new.w.inner) c.copy.new.w.failures c.copy.new.w.flushes in
     let new : Output = output_of (g.X.Write.contents c.flushed-in-Refused.new.out.inner) c.flushed-in-Refused.new.out.failures c.flushed-in-Refused.new.out.flushes in
     let t = refused_told c.args.bytes.now c.args.path.now old mid new (g.E.ByteWrite.output c.args.err.now) (g.E.ByteWrite.output c.flushed-in-Refused.new.err) c.flushed-in-Refused.result c.requires c.flushed-in-Refused.ensures.kept c.in-Refused.ensures c.flushed-in-Refused.ensures.ends in
-    (t.outcome, t.status, t.ends, t.said)
+    record { ends = (t.outcome, t.status, t.ends, t.said) }
 
-pub returns-in-WriteFault-clause-ends : goal.returns-in-WriteFault-clause-ends
-returns-in-WriteFault-clause-ends g c =
+pub returns-in-WriteFault : goal.returns-in-WriteFault
+returns-in-WriteFault g c =
     let old : Output = output_of (g.X.Write.contents c.args.out.now.inner) c.args.out.now.failures c.args.out.now.flushes in
     let mid : Output = output_of (g.X.Write.contents c.copy.new.w.inner) c.copy.new.w.failures c.copy.new.w.flushes in
     let new : Output = output_of (g.X.Write.contents c.flushed-in-WriteFault.new.out.inner) c.flushed-in-WriteFault.new.out.failures c.flushed-in-WriteFault.new.out.flushes in
     let t = fault_told c.args.bytes.now c.args.path.now old mid new (g.E.ByteWrite.output c.args.err.now) (g.E.ByteWrite.output c.flushed-in-WriteFault.new.err) c.flushed-in-WriteFault.result c.requires c.flushed-in-WriteFault.ensures.kept c.in-WriteFault.ensures c.flushed-in-WriteFault.ensures.ends in
-    (t.outcome, t.status, t.ends, t.said)
+    record { ends = (t.outcome, t.status, t.ends, t.said) }
 
-pub returns-in-NoFile-clause-ends : goal.returns-in-NoFile-clause-ends
+pub returns-in-NoFile : goal.returns-in-NoFile
 unfolding escaped
-returns-in-NoFile-clause-ends g c =
+returns-in-NoFile g c =
     let P : List ℕ → Type 0 = λ v. Prints (g.E.ByteWrite.output c.args.err.now) (g.E.ByteWrite.output c.complain.new.w) (v ++ codes "\n") in
-    (Fileless c.in-NoFile.error, refl, c.in-NoFile.ensures, subst P c.no_file_name.ensures c.complain.ensures)
+    record { ends = (Fileless c.in-NoFile.error, refl, c.in-NoFile.ensures, subst P c.no_file_name.ensures c.complain.ensures) }
 
-pub returns-in-Memory-clause-ends : goal.returns-in-Memory-clause-ends
+pub returns-in-Memory : goal.returns-in-Memory
 unfolding escaped
-returns-in-Memory-clause-ends g c = (Memory, refl, c.in-Memory.ensures, c.complain-in-Memory.ensures)
+returns-in-Memory g c = record { ends = (Memory, refl, c.in-Memory.ensures, c.complain-in-Memory.ensures) }

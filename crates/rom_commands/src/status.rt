@@ -1,9 +1,9 @@
 //! How a command ends, and what standard error says then.
 ghost use Rattle.std.specs.Prelude.{◌≡◌, ◌≤◌};
-ghost use Rattle.command_line.specs.Endings.{code_of, trouble_line, trouble_status};
 ghost use Rattle.rom_commands.specs.Answers.{Prints};
+ghost use Rattle.rom_commands.specs.Endings.{code_of, trouble_line, trouble_status};
 
-use rom_commands::printing::complain;
+use crate::printing::complain;
 use rom_fields::bytes::ByteWrite;
 use rom_fields::sink::put;
 

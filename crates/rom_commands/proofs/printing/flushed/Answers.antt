@@ -1,6 +1,6 @@
 use Rattle.std.proofs.Common.{inl, refl, arith}
 use Rattle.rom_fields.specs.Texts.{escaped}
-use Rattle.rom_commands.proofs.copying.flushed.Goals as goal
+use Rattle.rom_commands.proofs.printing.flushed.Goals as goal
 
 pub returns-then-failures-gt0-clause-ends : goal.returns-then-failures-gt0-clause-ends
 unfolding escaped

@@ -1,4 +1,4 @@
-use Rattle.command_line.proofs.status.complain_of.Goals as goal
+use Rattle.rom_commands.proofs.status.complain_of.Goals as goal
 
 pub returns-in-Memory : goal.returns-in-Memory
 returns-in-Memory g c = (c.put.new.failed, rw c.in-Memory.is c.put.ensures)

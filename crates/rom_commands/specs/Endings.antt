@@ -1,9 +1,9 @@
 -- How commands end. (This project's own.)
 use Rattle.std.specs.Prelude.{ℕ, List, ◌++◌, codes}
 use Rattle.rom_fields.specs.Texts.{escaped}
-use Rattle.command_line.specs.declared.status.Status.{Status}
-use Rattle.command_line.specs.declared.status.Status.TheVariants.{Done, Refused, Usage, Fault}
-use Rattle.command_line.specs.declared.status.Trouble as trouble
+use Rattle.rom_commands.specs.declared.status.Status.{Status}
+use Rattle.rom_commands.specs.declared.status.Status.TheVariants.{Done, Refused, Usage, Fault}
+use Rattle.rom_commands.specs.declared.status.Trouble as trouble
 
 -- the number with which the program ends
 abbrev pub code_of : Status → ℕ
