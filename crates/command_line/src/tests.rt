@@ -37,7 +37,7 @@ fn commands_of_several_values(rt: HostRuntime) -> Result<(), Fail> {
     let Ok(Request::Space(images)) = read(rt.alloc(), &words) else {
         return Err(AllocError.into());
     };
-    assert_eq!(rt; images.as_slice(), ["x", "y", "x"].as_slice());
+    assert!(rt; images.as_slice() == ["x", "y", "x"].as_slice());
     for (word, format) in [
         ("romfs", Format::Romfs),
         ("cramfs", Format::Cramfs),
@@ -48,7 +48,7 @@ fn commands_of_several_values(rt: HostRuntime) -> Result<(), Fail> {
             return Err(AllocError.into());
         };
         assert!(rt; build.format == format);
-        assert_eq!(rt; (build.manifest, build.out), ("m", "o"));
+        assert!(rt; (build.manifest, build.out) == ("m", "o"));
     }
     Ok(())
 }
@@ -60,7 +60,7 @@ fn scans_of_all(rt: HostRuntime) -> Result<(), Fail> {
         return Err(AllocError.into());
     };
     assert!(rt; scan.format.is_none());
-    assert_eq!(rt; (scan.folder, scan.align), ("x", 4));
+    assert!(rt; (scan.folder, scan.align) == ("x", 4));
     let words = [
         "romtool", "scan", "--align", "4096", "x", "--all", "--for", "romfs",
     ];
@@ -69,7 +69,7 @@ fn scans_of_all(rt: HostRuntime) -> Result<(), Fail> {
         return Err(AllocError.into());
     };
     assert!(rt; scan.format == Some(Format::Romfs));
-    assert_eq!(rt; (scan.folder, scan.align), ("x", 4096));
+    assert!(rt; (scan.folder, scan.align) == ("x", 4096));
     Ok(())
 }
 

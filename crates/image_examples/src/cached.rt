@@ -50,9 +50,9 @@ fn the_same_with_and_without(rt: HostRuntime) -> Result<(), Fail> {
         Err(WalkError::Enoent),
     ];
     let mut image = check(rt.alloc(), SAME_NAMES, Limits::usual())?;
-    assert_eq!(rt; walked(&mut image), want);
-    assert_eq!(rt; walked_twice(rt.alloc(), 1), Some((want, want, 1)));
-    assert_eq!(rt; walked_twice(rt.alloc(), 256), Some((want, want, 5)));
+    assert!(rt; walked(&mut image) == want);
+    assert!(rt; walked_twice(rt.alloc(), 1) == Some((want, want, 1)));
+    assert!(rt; walked_twice(rt.alloc(), 256) == Some((want, want, 5)));
     Ok(())
 }
 
@@ -77,7 +77,7 @@ fn names_of_a_long_list(rt: HostRuntime) -> Result<(), Fail> {
         Err(WalkError::Enoent),
         Ok(NodeId(76)),
     ];
-    assert_eq!(rt; walked_in_a_long_list(rt.alloc()), Some(want));
+    assert!(rt; walked_in_a_long_list(rt.alloc()) == Some(want));
     Ok(())
 }
 
@@ -138,11 +138,11 @@ fn the_same_replies(rt: HostRuntime) -> Result<(), Fail> {
         let plain = replies(rt.alloc(), image, 0);
         assert!(rt; plain.is_some());
         for names in [1, 2, 3, 256] {
-            assert_eq!(rt; replies(rt.alloc(), image, names), plain, "{names} names");
+            assert!(rt; replies(rt.alloc(), image, names) == plain);
         }
         for names in [0, 1, 256] {
             let sorted = indexed_replies(rt.alloc(), image, names);
-            assert_eq!(rt; sorted, plain, "indices and {names} names");
+            assert!(rt; sorted == plain);
         }
     }
     let plain = replies(rt.alloc(), SAME_NAMES, 0);

@@ -4,8 +4,8 @@
 //! The bytes are those that the documents of the formats give (Linux
 //! Documentation/filesystems/romfs.rst and cramfs.rst), laid out by hand. The tests stand here and
 //! not in the crates below, since they go through several of them, and since a crate with tests is
-//! proved a second time for them. The modules `sample_..` test `path_walk`, `name_cache`,
-//! `open_files` and `rom_serve` over the image in memory of `rom_tree_examples`.
+//! proved a second time for them. The modules `sample_..` test `path_walk`, `lookup_cache`,
+//! `open_files` and `rom_serve` over the image in memory of `sample_image`.
 #![tactic(auto)]
 
 #[cfg(test)]

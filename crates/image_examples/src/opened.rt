@@ -39,42 +39,35 @@ fn a_file(rt: HostRuntime) -> Result<(), Fail> {
         major: 0,
         minor: 0,
     };
-    assert_eq!(rt; files.lookup(b"/a"), Ok(NodeId(96)));
-    assert_eq!(rt; files.stat(b"/a"), Ok(stat));
-    assert_eq!(rt; files.open(b"/a"), Ok(Fd(0)));
-    assert_eq!(rt; files.fstat(Fd(0)), Ok(stat));
-    assert_eq!(rt; files.fstat(Fd(7)), Err(CallError::Ebadf));
+    assert!(rt; files.lookup(b"/a") == Ok(NodeId(96)));
+    assert!(rt; files.stat(b"/a") == Ok(stat));
+    assert!(rt; files.open(b"/a") == Ok(Fd(0)));
+    assert!(rt; files.fstat(Fd(0)) == Ok(stat));
+    assert!(rt; files.fstat(Fd(7)) == Err(CallError::Ebadf));
     for (off, len) in [
         (4_294_967_295, 4_294_967_295),
         (0, 0),
         (0, 6),
         (u64::MAX, 2),
     ] {
-        assert_eq!(rt;
-            lent(files.map(Fd(0), off, len)),
-            Err(CallError::Einval),
-            "{off} {len}"
-        );
+        assert!(rt; lent(files.map(Fd(0), off, len)) == Err(CallError::Einval));
     }
-    assert_eq!(rt;
-        lent(files.map(Fd(0), 0, 5)),
-        Ok((128, b"hello".as_slice()))
-    );
-    assert_eq!(rt; lent(files.map(Fd(0), 1, 3)), Ok((129, b"ell".as_slice())));
-    assert_eq!(rt; lent(files.lend(Fd(0), 2)), Ok((128, b"he".as_slice())));
+    assert!(rt; lent(files.map(Fd(0), 0, 5)) == Ok((128, b"hello".as_slice())));
+    assert!(rt; lent(files.map(Fd(0), 1, 3)) == Ok((129, b"ell".as_slice())));
+    assert!(rt; lent(files.lend(Fd(0), 2)) == Ok((128, b"he".as_slice())));
     let mut room = *b".........";
-    assert_eq!(rt; files.read(Fd(0), &mut room), Ok(3));
-    assert_eq!(rt; room, *b"llo......");
-    assert_eq!(rt; lent(files.lend(Fd(0), 1)), Ok((0, b"".as_slice())));
-    assert_eq!(rt; files.seek(Fd(0), 4), Ok(()));
-    assert_eq!(rt; files.read(Fd(0), &mut room), Ok(1));
-    assert_eq!(rt; room, *b"olo......");
-    assert_eq!(rt; files.seek(Fd(0), 9), Ok(()));
-    assert_eq!(rt; files.read(Fd(0), &mut room), Ok(0));
-    assert_eq!(rt; listed(files.readdir(Fd(0))), Err(CallError::Enotdir));
-    assert_eq!(rt; files.rewind(Fd(0)), Err(CallError::Enotdir));
-    assert_eq!(rt; files.close(Fd(0)), Ok(()));
-    assert_eq!(rt; files.close(Fd(0)), Err(CallError::Ebadf));
+    assert!(rt; files.read(Fd(0), &mut room) == Ok(3));
+    assert!(rt; room == *b"llo......");
+    assert!(rt; lent(files.lend(Fd(0), 1)) == Ok((0, b"".as_slice())));
+    assert!(rt; files.seek(Fd(0), 4) == Ok(()));
+    assert!(rt; files.read(Fd(0), &mut room) == Ok(1));
+    assert!(rt; room == *b"olo......");
+    assert!(rt; files.seek(Fd(0), 9) == Ok(()));
+    assert!(rt; files.read(Fd(0), &mut room) == Ok(0));
+    assert!(rt; listed(files.readdir(Fd(0))) == Err(CallError::Enotdir));
+    assert!(rt; files.rewind(Fd(0)) == Err(CallError::Enotdir));
+    assert!(rt; files.close(Fd(0)) == Ok(()));
+    assert!(rt; files.close(Fd(0)) == Err(CallError::Ebadf));
     Ok(())
 }
 
@@ -82,34 +75,25 @@ fn a_file(rt: HostRuntime) -> Result<(), Fail> {
 fn a_directory(rt: HostRuntime) -> Result<(), Fail> {
     let image = check(rt.alloc(), LINK_AND_DEVICE, Limits::usual())?;
     let mut files: Files<_, 2> = Files::new(image);
-    assert_eq!(rt; files.open(b"/"), Ok(Fd(0)));
-    assert_eq!(rt;
-        listed(files.readdir(Fd(0))),
-        Ok(Some((b"d".as_slice(), 96)))
-    );
-    assert_eq!(rt; files.rewind(Fd(0)), Ok(()));
-    assert_eq!(rt;
-        listed(files.readdir(Fd(0))),
-        Ok(Some((b"d".as_slice(), 96)))
-    );
-    assert_eq!(rt;
-        listed(files.readdir(Fd(0))),
-        Ok(Some((b"n".as_slice(), 240)))
-    );
-    assert_eq!(rt; listed(files.readdir(Fd(0))), Ok(None));
-    assert_eq!(rt; listed(files.readdir(Fd(0))), Ok(None));
-    assert_eq!(rt; files.read(Fd(0), &mut [0; 1]), Err(CallError::Eisdir));
-    assert_eq!(rt; lent(files.map(Fd(0), 0, 0)), Err(CallError::Eisdir));
-    assert_eq!(rt; lent(files.lend(Fd(0), 1)), Err(CallError::Eisdir));
-    assert_eq!(rt; files.seek(Fd(0), 1), Err(CallError::Eisdir));
-    assert_eq!(rt; lent(files.readlink(b"/d/l")), Ok((224, b"/x".as_slice())));
-    assert_eq!(rt; lent(files.readlink(b"/n")), Err(CallError::Einval));
-    assert_eq!(rt; files.lookup(b"/d/l"), Err(CallError::Enoent));
-    assert_eq!(rt; files.lstat(b"/d/l").is_ok(), true);
-    assert_eq!(rt; files.open(b"/n"), Err(CallError::Enxio));
-    assert_eq!(rt; files.open(b"/d"), Ok(Fd(1)));
-    assert_eq!(rt; files.open(b"/n"), Err(CallError::Enxio));
-    assert_eq!(rt; files.open(b"/d"), Err(CallError::Emfile));
+    assert!(rt; files.open(b"/") == Ok(Fd(0)));
+    assert!(rt; listed(files.readdir(Fd(0))) == Ok(Some((b"d".as_slice(), 96))));
+    assert!(rt; files.rewind(Fd(0)) == Ok(()));
+    assert!(rt; listed(files.readdir(Fd(0))) == Ok(Some((b"d".as_slice(), 96))));
+    assert!(rt; listed(files.readdir(Fd(0))) == Ok(Some((b"n".as_slice(), 240))));
+    assert!(rt; listed(files.readdir(Fd(0))) == Ok(None));
+    assert!(rt; listed(files.readdir(Fd(0))) == Ok(None));
+    assert!(rt; files.read(Fd(0), &mut [0; 1]) == Err(CallError::Eisdir));
+    assert!(rt; lent(files.map(Fd(0), 0, 0)) == Err(CallError::Eisdir));
+    assert!(rt; lent(files.lend(Fd(0), 1)) == Err(CallError::Eisdir));
+    assert!(rt; files.seek(Fd(0), 1) == Err(CallError::Eisdir));
+    assert!(rt; lent(files.readlink(b"/d/l")) == Ok((224, b"/x".as_slice())));
+    assert!(rt; lent(files.readlink(b"/n")) == Err(CallError::Einval));
+    assert!(rt; files.lookup(b"/d/l") == Err(CallError::Enoent));
+    assert!(rt; files.lstat(b"/d/l").is_ok());
+    assert!(rt; files.open(b"/n") == Err(CallError::Enxio));
+    assert!(rt; files.open(b"/d") == Ok(Fd(1)));
+    assert!(rt; files.open(b"/n") == Err(CallError::Enxio));
+    assert!(rt; files.open(b"/d") == Err(CallError::Emfile));
     Ok(())
 }
 
@@ -134,6 +118,6 @@ fn kept<'a>(alloc: Global, bytes: &'a [u8]) -> Option<Piece<'a>> {
 #[test]
 fn a_piece_outlives_its_files(rt: HostRuntime) -> Result<(), Fail> {
     let piece = kept(rt.alloc(), HELLO);
-    assert_eq!(rt; piece.map(|piece| piece.bytes), Some(b"hello".as_slice()));
+    assert!(rt; piece.map(|piece| piece.bytes) == Some(b"hello".as_slice()));
     Ok(())
 }

@@ -59,10 +59,10 @@ fn lines_of_one_image(rt: HostRuntime) -> Result<(), Fail> {
     ] {
         let mut r = Plain::new(input);
         let mut w = Plain::new(Vec::new(rt.alloc()));
-        assert_eq!(rt; serve(Sample, &mut r, &mut w), Ok(()));
-        assert_eq!(rt; r.into_inner().len(), left);
+        assert!(rt; serve(Sample, &mut r, &mut w) == Ok(()));
+        assert!(rt; r.into_inner().len() == left);
         let held: Vec<u8> = w.into_inner();
-        assert_eq!(rt; held.as_slice(), text);
+        assert!(rt; held.as_slice() == text);
     }
     Ok(())
 }
@@ -80,10 +80,10 @@ fn lines_of_sessions(rt: HostRuntime) -> Result<(), Fail> {
         7 err EINVAL\n";
     let mut r = Plain::new(input);
     let mut w = Plain::new(Vec::new(rt.alloc()));
-    assert_eq!(rt; serve_space(images, &mut r, &mut w), Ok(()));
-    assert_eq!(rt; w.flushes(), 14);
+    assert!(rt; serve_space(images, &mut r, &mut w) == Ok(()));
+    assert!(rt; w.flushes() == 14);
     let held: Vec<u8> = w.into_inner();
-    assert_eq!(rt; held.as_slice(), text);
+    assert!(rt; held.as_slice() == text);
     Ok(())
 }
 
@@ -92,7 +92,7 @@ fn each_failing_read(rt: HostRuntime) -> Result<(), Fail> {
     for calls in 0..SESSION.len() {
         let mut r = Faulty::new(Plain::new(SESSION), calls as u64, 1);
         let mut w = Plain::new(Vec::new(rt.alloc()));
-        assert_eq!(rt; serve(Sample, &mut r, &mut w), Err(ServeError::ReadFault));
+        assert!(rt; serve(Sample, &mut r, &mut w) == Err(ServeError::ReadFault));
         let held: Vec<u8> = w.into_inner();
         assert!(rt; REPLIES.starts_with(held.as_slice()));
     }
@@ -109,10 +109,10 @@ fn each_failing_write(rt: HostRuntime) -> Result<(), Fail> {
         let held: Vec<u8> = w.into_inner().into_inner();
         assert!(rt; REPLIES.starts_with(held.as_slice()));
         if result == Ok(()) {
-            assert_eq!(rt; held.as_slice(), REPLIES);
+            assert!(rt; held.as_slice() == REPLIES);
             passed = true;
         } else {
-            assert_eq!(rt; result, Err(ServeError::WriteFault));
+            assert!(rt; result == Err(ServeError::WriteFault));
             assert!(rt; !passed);
         }
     }
@@ -132,10 +132,10 @@ fn the_first_failures(rt: HostRuntime) -> Result<(), Fail> {
     ] {
         let mut r = Plain::new(input);
         let mut w = Faulty::new(Plain::new(Vec::new(rt.alloc())), calls, most);
-        assert_eq!(rt; serve(Sample, &mut r, &mut w).is_err(), left == 11);
-        assert_eq!(rt; r.into_inner().len(), left);
+        assert!(rt; serve(Sample, &mut r, &mut w).is_err() == left == 11);
+        assert!(rt; r.into_inner().len() == left);
         let held: Vec<u8> = w.into_inner().into_inner();
-        assert_eq!(rt; held.as_slice(), text);
+        assert!(rt; held.as_slice() == text);
     }
     Ok(())
 }
@@ -147,13 +147,10 @@ fn a_failing_flush_of_sessions(rt: HostRuntime) -> Result<(), Fail> {
     images.push(Sample)?;
     let mut r = Plain::new(input);
     let mut w = Faulty::new(Plain::new(Vec::new(rt.alloc())), 1, 100);
-    assert_eq!(rt;
-        serve_space(images, &mut r, &mut w),
-        Err(ServeError::WriteFault)
-    );
-    assert_eq!(rt; r.into_inner().len(), 11);
+    assert!(rt; serve_space(images, &mut r, &mut w) == Err(ServeError::WriteFault));
+    assert!(rt; r.into_inner().len() == 11);
     let held: Vec<u8> = w.into_inner().into_inner();
-    assert_eq!(rt; held.as_slice(), b"0 ok 0:1\n".as_slice());
+    assert!(rt; held.as_slice() == b"0 ok 0:1\n".as_slice());
     Ok(())
 }
 
@@ -171,13 +168,10 @@ fn bounded_reads(rt: HostRuntime) -> Result<(), Fail> {
     ] {
         let mut r = Plain::new(input);
         let mut w = Plain::new(Vec::new(rt.alloc()));
-        assert_eq!(rt; serve_bounded(Sample, &mut r, &mut w, reads), result);
+        assert!(rt; serve_bounded(Sample, &mut r, &mut w, reads) == result);
         let held: Vec<u8> = w.into_inner();
-        assert_eq!(rt; held.as_slice(), text);
+        assert!(rt; held.as_slice() == text);
     }
-    assert_eq!(rt;
-        ServeError::TooManyReads.to_string(rt.alloc())?.as_str(),
-        "too many reads"
-    );
+    assert!(rt; ServeError::TooManyReads.to_string(rt.alloc())?.as_str() == "too many reads");
     Ok(())
 }

@@ -35,11 +35,11 @@ fn held_after_three(alloc: Global, names: usize) -> Option<usize>
 
 #[test]
 fn as_many_names_as_there_is_room_for(rt: HostRuntime) -> Result<(), Fail> {
-    assert_eq!(rt; held_after_three(rt.alloc(), 1), Some(1));
-    assert_eq!(rt; held_after_three(rt.alloc(), 2), Some(2));
-    assert_eq!(rt; held_after_three(rt.alloc(), 3), Some(3));
-    assert_eq!(rt; held_after_three(rt.alloc(), 256), Some(3));
-    assert_eq!(rt; held_after_three(rt.alloc(), 65_536), Some(3));
+    assert!(rt; held_after_three(rt.alloc(), 1) == Some(1));
+    assert!(rt; held_after_three(rt.alloc(), 2) == Some(2));
+    assert!(rt; held_after_three(rt.alloc(), 3) == Some(3));
+    assert!(rt; held_after_three(rt.alloc(), 256) == Some(3));
+    assert!(rt; held_after_three(rt.alloc(), 65_536) == Some(3));
     Ok(())
 }
 
@@ -49,16 +49,16 @@ fn names_that_are_found(rt: HostRuntime) -> Result<(), Fail> {
         let mut image = Cached::new(rt.alloc(), Sample, names)
             .ok()
             .ok_or("has memory")?;
-        assert_eq!(rt; image.held(), 0);
+        assert!(rt; image.held() == 0);
         for _ in 0..3 {
-            assert_eq!(rt; in_root(&mut image, b"bin"), Some(NodeId(2)));
-            assert_eq!(rt; in_bin(&mut image, b"bin"), None);
-            assert_eq!(rt; in_bin(&mut image, b"sh"), Some(NodeId(3)));
-            assert_eq!(rt; in_root(&mut image, b"sh"), None);
-            assert_eq!(rt; in_root(&mut image, b"\xc3\xa9\x7f"), Some(NodeId(3)));
-            assert_eq!(rt; in_root(&mut image, b"disk"), Some(NodeId(7)));
+            assert!(rt; in_root(&mut image, b"bin") == Some(NodeId(2)));
+            assert!(rt; in_bin(&mut image, b"bin") == None);
+            assert!(rt; in_bin(&mut image, b"sh") == Some(NodeId(3)));
+            assert!(rt; in_root(&mut image, b"sh") == None);
+            assert!(rt; in_root(&mut image, b"\xc3\xa9\x7f") == Some(NodeId(3)));
+            assert!(rt; in_root(&mut image, b"disk") == Some(NodeId(7)));
         }
-        assert_eq!(rt; image.held(), held, "of {names}");
+        assert!(rt; image.held() == held);
     }
     Ok(())
 }
@@ -69,11 +69,11 @@ fn a_name_that_is_absent(rt: HostRuntime) -> Result<(), Fail> {
         let mut image = Cached::new(rt.alloc(), Sample, names)
             .ok()
             .ok_or("has memory")?;
-        assert_eq!(rt; in_bin(&mut image, b"tty"), None);
-        assert_eq!(rt; image.held(), 1);
-        assert_eq!(rt; in_bin(&mut image, b"tty"), None);
-        assert_eq!(rt; image.held(), 1);
-        assert_eq!(rt; in_root(&mut image, b"tty"), Some(NodeId(8)));
+        assert!(rt; in_bin(&mut image, b"tty") == None);
+        assert!(rt; image.held() == 1);
+        assert!(rt; in_bin(&mut image, b"tty") == None);
+        assert!(rt; image.held() == 1);
+        assert!(rt; in_root(&mut image, b"tty") == Some(NodeId(8)));
     }
     Ok(())
 }
@@ -85,14 +85,14 @@ fn long_names(rt: HostRuntime) -> Result<(), Fail> {
         let mut image = Cached::new(rt.alloc(), Sample, names)
             .ok()
             .ok_or("has memory")?;
-        assert_eq!(rt; in_root(&mut image, &name), None);
-        assert_eq!(rt; image.held(), 0);
-        assert_eq!(rt; in_root(&mut image, &name[..255]), None);
-        assert_eq!(rt; image.held(), 1);
-        assert_eq!(rt; in_root(&mut image, &name), None);
-        assert_eq!(rt; in_root(&mut image, b""), None);
-        assert_eq!(rt; in_root(&mut image, b"log"), Some(NodeId(9)));
-        assert_eq!(rt; in_root(&mut image, &name[..255]), None);
+        assert!(rt; in_root(&mut image, &name) == None);
+        assert!(rt; image.held() == 0);
+        assert!(rt; in_root(&mut image, &name[..255]) == None);
+        assert!(rt; image.held() == 1);
+        assert!(rt; in_root(&mut image, &name) == None);
+        assert!(rt; in_root(&mut image, b"") == None);
+        assert!(rt; in_root(&mut image, b"log") == Some(NodeId(9)));
+        assert!(rt; in_root(&mut image, &name[..255]) == None);
     }
     Ok(())
 }
@@ -100,27 +100,24 @@ fn long_names(rt: HostRuntime) -> Result<(), Fail> {
 #[test]
 fn the_other_calls(rt: HostRuntime) -> Result<(), Fail> {
     let mut image = Cached::new(rt.alloc(), Sample, 1).ok().ok_or("has memory")?;
-    assert_eq!(rt; in_root(&mut image, b"log"), Some(NodeId(9)));
-    assert_eq!(rt;
-        image.bytes(),
-        b"helloa b%bindiskttylog\xc3\xa9\x7femptyshdeepp".as_slice()
-    );
-    assert_eq!(rt; image.root(), NodeId(1));
+    assert!(rt; in_root(&mut image, b"log") == Some(NodeId(9)));
+    assert!(rt; image.bytes() == b"helloa b%bindiskttylog\xc3\xa9\x7femptyshdeepp".as_slice());
+    assert!(rt; image.root() == NodeId(1));
     assert!(rt; image.is_node(NodeId(10)));
     assert!(rt; !image.is_node(NodeId(11)));
-    assert_eq!(rt; image.stat(NodeId(8)).kind, Kind::Character);
+    assert!(rt; image.stat(NodeId(8)).kind == Kind::Character);
     assert!(rt; is_directory_at(&image, NodeId(4)));
     let first = image.entry(NodeId(2), Cursor::START).ok_or("has an entry")?;
-    assert_eq!(rt; first.name, b"sh".as_slice());
+    assert!(rt; first.name == b"sh".as_slice());
     let run = image.run(NodeId(3), 2).ok_or("has a third byte")?;
-    assert_eq!(rt; (run.place, run.len), (2, 3));
+    assert!(rt; (run.place, run.len) == (2, 3));
     let mut w = Plain::new(Vec::new(rt.alloc()));
-    assert_eq!(rt; list(&image, &mut w), Ok(()));
+    assert!(rt; list(&image, &mut w) == Ok(()));
     let listed: Vec<u8> = w.into_inner();
     let mut w = Plain::new(Vec::new(rt.alloc()));
-    assert_eq!(rt; list(&Sample, &mut w), Ok(()));
+    assert!(rt; list(&Sample, &mut w) == Ok(()));
     let plain: Vec<u8> = w.into_inner();
-    assert_eq!(rt; listed.as_slice(), plain.as_slice());
-    assert_eq!(rt; image.held(), 1);
+    assert!(rt; listed.as_slice() == plain.as_slice());
+    assert!(rt; image.held() == 1);
     Ok(())
 }

@@ -13,9 +13,9 @@ fn numbers_and_names(rt: HostRuntime) -> Result<(), Fail> {
         (WalkError::Enametoolong, 4, "ENAMETOOLONG", "4 ENAMETOOLONG"),
         (WalkError::Einval, 5, "EINVAL", "5 EINVAL"),
     ] {
-        assert_eq!(rt; error.number(), number);
-        assert_eq!(rt; error.name(), name);
-        assert_eq!(rt; error.to_string(rt.alloc())?.as_str(), shown);
+        assert!(rt; error.number() == number);
+        assert!(rt; error.name() == name);
+        assert!(rt; error.to_string(rt.alloc())?.as_str() == shown);
     }
     Ok(())
 }
@@ -33,7 +33,7 @@ fn paths_of_the_sample(rt: HostRuntime) -> Result<(), Fail> {
         (b"/disk/", true, Err(WalkError::Enotdir)),
         (b"/bin/bin", true, Err(WalkError::Enoent)),
     ] {
-        assert_eq!(rt; walk(&mut image, path, follow_last), want, "at {path:?}");
+        assert!(rt; walk(&mut image, path, follow_last) == want);
     }
     Ok(())
 }
@@ -55,7 +55,7 @@ fn paths_of_mounted_samples(rt: HostRuntime) -> Result<(), Fail> {
         (b"/tty", Ok((0, NodeId(8)))),
     ] {
         let led = walk_mounts(&mut images, &mounts, path, true);
-        assert_eq!(rt; led, want, "at {path:?}");
+        assert!(rt; led == want);
     }
     Ok(())
 }

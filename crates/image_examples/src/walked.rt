@@ -63,7 +63,10 @@ fn components_and_refusals(rt: HostRuntime) -> Result<(), Fail> {
         (&relative, Err(WalkError::Enametoolong)),
         (&name, Err(WalkError::Einval)),
     ] {
-        assert_eq!(rt; walked(rt.alloc(), HELLO, path, true)?, want, "at {path:?}");
+        assert!(rt;
+            walked(rt.alloc(), HELLO, path, true)? == want,
+            "at {path:?}"
+        );
     }
     Ok(())
 }
