@@ -15,9 +15,9 @@ use Rattle.manifest_tree.specs.Names.{Inode}
 use Rattle.manifest_tree.specs.Tree.{inode_by, inode_of, with_contents}
 use Rattle.manifest_layout.specs.Format.{romfs, cramfs}
 use Rattle.manifest_layout.specs.Misfit.{HasBadAttribute}
-use Rattle.plan_misfits.specs.Formats.{format_of}
-use Rattle.plan_misfits.specs.declared.format.Format.{Format}
-use Rattle.plan_misfits.specs.declared.format.Format.TheVariants.{Romfs, Cramfs, CramfsBig}
+use Rattle.plan_types.specs.Formats.{format_of}
+use Rattle.plan_types.specs.declared.format.Format.{Format}
+use Rattle.plan_types.specs.declared.format.Format.TheVariants.{Romfs, Cramfs, CramfsBig}
 use Rattle.build_commands.specs.Nearest.{is_runnable, runnable_mode, romfs_mode, in_romfs, in_cramfs, nearest_in, HasSmallNumbers}
 
 -- What an inode has of a line.

@@ -3,8 +3,8 @@ use Rattle.std.specs.Prelude.{ℕ, ◌==◌, ◌&&◌, Bool, true, false, if◌t
 use Rattle.manifest.specs.declared.line.Line.{Line}
 use Rattle.manifest.specs.declared.line.Word.{Word}
 use Rattle.manifest.specs.declared.line.Word.TheVariants.{Dir, File, Slink, Block, Character, Fifo, Socket, Hard, Same}
-use Rattle.plan_misfits.specs.declared.format.Format.{Format}
-use Rattle.plan_misfits.specs.declared.format.Format.TheVariants.{Cramfs, CramfsBig}
+use Rattle.plan_types.specs.declared.format.Format.{Format}
+use Rattle.plan_types.specs.declared.format.Format.TheVariants.{Cramfs, CramfsBig}
 use Rattle.build_commands.specs.Nearest.{is_runnable, nearest_in}
 use Rattle.build_commands.specs.declared.inventory.FileKind.{FileKind}
 use Rattle.build_commands.specs.declared.inventory.FileKind.TheVariants as kind

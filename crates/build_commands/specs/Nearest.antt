@@ -4,8 +4,8 @@ use Rattle.std.specs.Prelude.{ℕ, ◌/◌, ◌%◌, ◌≤◌, ◌==◌, ◌||�
 use Rattle.manifest.specs.declared.line.Line.{Line}
 use Rattle.manifest.specs.declared.line.Word.{Word}
 use Rattle.manifest.specs.declared.line.Word.TheVariants.{Dir, File, Slink, Block, Character, Fifo, Socket, Hard, Same}
-use Rattle.plan_misfits.specs.declared.format.Format.{Format}
-use Rattle.plan_misfits.specs.declared.format.Format.TheVariants.{Romfs, Cramfs, CramfsBig}
+use Rattle.plan_types.specs.declared.format.Format.{Format}
+use Rattle.plan_types.specs.declared.format.Format.TheVariants.{Romfs, Cramfs, CramfsBig}
 
 -- the owner, the group or others may execute a file of this mode
 abbrev pub is_runnable : ℕ → Bool

@@ -12,7 +12,7 @@ ghost use Rattle.rom_fields.specs.Written.{WritesText};
 use crate::nearest::{is_executable, nearest};
 use manifest::Word;
 use manifest_text::{Entry, write_manifest};
-use plan_misfits::Format;
+use plan_types::Format;
 use rom_fields::bytes::{ByteWrite, Failed};
 use rom_fields::memory::OutOfMemory;
 use std::alloc::Global;

@@ -12,8 +12,8 @@ ghost use Rattle.manifest_text.specs.Printed as printed;
 ghost use Rattle.manifest_text.specs.Printed.{as_read, lines_text};
 ghost use Rattle.manifest_layout.specs.Misfit.{HasBadAttribute};
 ghost use Rattle.manifest_tree.specs.Tree.{inode_of};
-ghost use Rattle.plan_misfits.specs.Formats.{format_of};
-ghost use Rattle.plan_misfits.specs.declared.format.Format as code;
+ghost use Rattle.plan_types.specs.Formats.{format_of};
+ghost use Rattle.plan_types.specs.declared.format.Format as code;
 
 /// What a scan prints is a manifest, with a line for each entry, of just its names, where the
 /// grammar takes each entry behind the ones before it. The same of a folder as it is: its manifest

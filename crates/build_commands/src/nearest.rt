@@ -5,7 +5,7 @@ ghost use Rattle.manifest_text.specs.Views.{line_of};
 
 use manifest::Word;
 use manifest_text::Entry;
-use plan_misfits::Format;
+use plan_types::Format;
 
 /// The highest user of cramfs, which keeps 16 bits of it.
 const MOST_UID: u32 = 65_535;

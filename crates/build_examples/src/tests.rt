@@ -1,8 +1,9 @@
 use crate::spoiled::{Fault, Spoiled};
 use image_build::{BuildError, StreamError, build_cramfs, build_cramfs_big, build_romfs, stream};
 use image_check::check;
-use layout_plan::{Format, Plan, Slices, Sources, plan};
+use layout_plan::{Slices, Sources, plan};
 use manifest::parse;
+use plan_types::{Format, Plan};
 use rom_fields::bytes::{ByteWrite, Plain};
 use rom_fields::contents::Contents;
 use rom_fields::faulty::Faulty;

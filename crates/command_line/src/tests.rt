@@ -1,5 +1,5 @@
 use crate::words::{Request, WordsError, read};
-use plan_misfits::Format;
+use plan_types::Format;
 use std::alloc::{AllocError, Global};
 use std::test::Fail;
 

@@ -7,18 +7,18 @@ ghost use Rattle.std.specs.Str.{bytes_eq};
 ghost use Rattle.std.specs.Str.Parse.{IsNumeral, digits_value};
 ghost use Rattle.clap.specs.Words.{all_of, first_of, found_of, rows_of};
 ghost use Rattle.clap.specs.Words.{subcommand_of, subcommand_rows_of};
+ghost use Rattle.plan_types.specs.declared.format.Format.{Format};
 ghost use Rattle.command_line.specs.Commands.{romtool_app};
 ghost use Rattle.command_line.specs.Words.{IsAlignOf, IsAskedBy, IsAskedOf, IsBase, IsBaseOf, align_named};
 ghost use Rattle.command_line.specs.Words.{format_word, is_bare, word_of};
 ghost use Rattle.command_line.specs.declared.words.Request.TheVariants as request;
 ghost use Rattle.command_line.specs.declared.words.Request.TheVariants.{Example};
-ghost use Rattle.plan_misfits.specs.declared.format.Format.{Format};
 
 use crate::commands::command;
 use arrayvec::ArrayVec;
 use clap::error::ErrorKind;
 use clap::{ArgMatches, Error};
-use plan_misfits::Format;
+use plan_types::Format;
 use std::alloc::{AllocError, Global};
 use std::fmt::{self, Display, Formatter};
 

@@ -11,9 +11,9 @@ use Rattle.std.proofs.lemmas.List.{append_assoc}
 use Rattle.std.proofs.lemmas.List.Sorted.{IsPermutation-refl, IsPermutation-cons, IsPermutation-trans, IsPermutation-middle, IsPermutation-map}
 use Rattle.cramfs_format.specs.Inode.{block_count}
 use Rattle.layout_terms.specs.Items.{Item, Section, section, record_of, table_of, bytes_section, put_section, in_order, SectionsRise}
-use Rattle.plan_items.specs.declared.section.Section as code
-use Rattle.plan_items.specs.declared.item.Item as code_item
-use Rattle.plan_items.specs.Views.{item_view, section_view}
+use Rattle.plan_types.specs.declared.section.Section as code
+use Rattle.plan_types.specs.declared.item.Item as code_item
+use Rattle.plan_types.specs.Views.{item_view, section_view}
 use Rattle.cramfs_layout.specs.Items.{has_table, sections_from, sections_of}
 use Rattle.cramfs_layout.specs.Layout.{entry_len}
 use Rattle.cramfs_plan.specs.Orders.{Rises}

@@ -8,13 +8,13 @@ ghost use Rattle.cramfs_plan.specs.Orders.{Rises};
 ghost use Rattle.cramfs_plan.specs.Small.{IsSmall, cut};
 ghost use Rattle.layout_terms.specs.Items as terms;
 ghost use Rattle.manifest_tree.specs.Names.{no_bytes};
-ghost use Rattle.plan_items.specs.Views.{fill_view, item_view};
 ghost use Rattle.manifest_rows.specs.Rows.{bytes_view, inode_view};
+ghost use Rattle.plan_types.specs.Views.{fill_view, item_view};
 
 use crate::entry::Entry;
 use manifest::Name;
 use manifest_rows::Bytes;
-use plan_items::{Fill, Item};
+use plan_types::{Fill, Item};
 use rom_fields::memory::OutOfMemory;
 use std::alloc::Global;
 

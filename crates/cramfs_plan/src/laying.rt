@@ -12,9 +12,9 @@ ghost use Rattle.cramfs_plan.specs.Wholes.{is_long_list, too_large};
 ghost use Rattle.layout_terms.specs.Items as terms;
 ghost use Rattle.manifest_layout.specs.Format.{cramfs};
 ghost use Rattle.manifest_tree.specs.Names.{Names, no_bytes};
-ghost use Rattle.plan_items.specs.Views.{item_view};
 ghost use Rattle.manifest_rows.specs.Fits.{IsFit};
 ghost use Rattle.manifest_rows.specs.Rows.{rows as rows_of, row_view, inode_view};
+ghost use Rattle.plan_types.specs.Views.{item_view};
 
 use crate::entry::Entry;
 use crate::items::sorted_items;
@@ -23,7 +23,7 @@ use crate::walk::{Placed, ROOT_LIST, place_rows};
 use crate::words::{first_word, second_word, third_word};
 use cramfs_format::order::Order;
 use manifest_rows::{Bytes, Inode, Row, deepest};
-use plan_items::Item;
+use plan_types::{Item, Laid};
 use rom_fields::memory::OutOfMemory;
 use rom_fields::word::pad;
 use std::alloc::Global;
@@ -42,13 +42,6 @@ const MOST_BYTES: u64 = 1 << 28;
 
 /// What the length of a list is below: 2^24, as its inode has 24 bits for it.
 const LIST_LIMIT: u64 = 1 << 24;
-
-/// How long an image is, and its items in the order of their places, the root's first.
-#[derive(Drop)]
-pub struct Laid {
-    pub image_len: usize,
-    pub items: Vec<Item>,
-}
 
 /// Whether one of these lists is too long for its inode.
 fn has_long(lens: &[u64]) -> bool

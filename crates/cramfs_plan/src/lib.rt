@@ -15,5 +15,5 @@ mod section_list;
 mod walk;
 mod words;
 
-pub use laying::{Laid, layout};
+pub use laying::layout;
 pub use section_list::sections;

@@ -6,10 +6,10 @@ ghost use Rattle.cramfs_layout.specs.Items.{sections_of};
 ghost use Rattle.cramfs_plan.specs.Tables.{own_sections, unsorted};
 ghost use Rattle.layout_terms.specs.Items as terms;
 ghost use Rattle.layout_terms.specs.Items.{SectionsRise, bytes_section};
-ghost use Rattle.plan_items.specs.Views.{item_view, section_view};
+ghost use Rattle.plan_types.specs.Views.{item_view, section_view};
 
 use crate::words::entry_len;
-use plan_items::{Body, Fill, Item, Section};
+use plan_types::{Body, Fill, Item, Section};
 use rom_fields::memory::OutOfMemory;
 use std::alloc::Global;
 use std::collections::BTreeSet;

@@ -12,7 +12,7 @@ use Rattle.image_stream.specs.Outcomes.{AreSized}
 use Rattle.manifest_tree.specs.Names.{Fill, bytes_of}
 use Rattle.layout_terms.specs.Items.{Item, Section, Body, super, record_of, table_of, text_of, contents_of, SectionsRise}
 use Rattle.layout_terms.specs.Bodies.{item_at}
-use Rattle.layout_plan.specs.Plans.{Planned}
+use Rattle.plan_types.specs.Plans.{Planned}
 use Rattle.cramfs_layout.specs.Layout.{with_crc}
 use Rattle.cramfs_layout.specs.Composed.{cramfs_part}
 use Rattle.cramfs_layout.proofs.Held.{length-written}

@@ -5,7 +5,7 @@ use Rattle.cramfs_format.specs.Superblock.{magic, signature}
 use Rattle.cramfs_layout.specs.Composed.{written, table}
 use Rattle.cramfs_layout.specs.Layout.{word_bytes, pad4, flags}
 use Rattle.image_stream.specs.Segments.{Segment, fixed, content, Form}
-use Rattle.layout_plan.specs.Plans.{Planned}
+use Rattle.plan_types.specs.Plans.{Planned}
 use Rattle.layout_terms.specs.Bodies.{item_at}
 use Rattle.layout_terms.specs.Items.{Item, Section, Body, super, record_of, table_of, text_of, contents_of}
 use Rattle.manifest_tree.specs.Names.{bytes_of}

@@ -8,7 +8,7 @@ ghost use Rattle.image_stream.specs.Segments.{fixed};
 ghost use Rattle.layout_terms.specs.Items.{section, super};
 ghost use Rattle.manifest_layout.specs.Format.{cramfs};
 ghost use Rattle.manifest_tree.specs.Names.{bytes_of};
-ghost use Rattle.plan_items.specs.Views.{fill_view, item_view, section_view};
+ghost use Rattle.plan_types.specs.Views.{fill_view, item_view, section_view};
 ghost use Rattle.cramfs_write.specs.Form.{form_of, segment_of};
 ghost use Rattle.cramfs_write.specs.Known.{IsBody, IsCramfsPlan};
 
@@ -16,7 +16,7 @@ use crate::record::{put_inode, put_pointers, put_superblock};
 use cramfs_format::order::Order;
 use image_stream::layout::Layout;
 use image_stream::outline::Outline;
-use layout_plan::{Body, Fill, Format, Item, Plan, Section};
+use plan_types::{Body, Fill, Format, Item, Plan, Section};
 
 /// The plan of a cramfs image.
 #[derive(Clone, Copy)]

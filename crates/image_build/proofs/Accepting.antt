@@ -12,8 +12,8 @@ use Rattle.manifest_layout.specs.Format.{Format, romfs, cramfs}
 use Rattle.manifest_layout.specs.Misfit.{HasNoMisfit}
 use Rattle.image_check.specs.Checked.{HasTree}
 use Rattle.image_stream.specs.Segments.{IsImage, checked}
-use Rattle.layout_plan.specs.Plans.{Planned}
-use Rattle.layout_plan.proofs.Sized.{Fitting}
+use Rattle.plan_types.specs.Plans.{Planned}
+use Rattle.plan_types.proofs.Sized.{Fitting}
 use Rattle.romfs_format.specs.Tree.{RomfsTree}
 use Rattle.romfs_layout.specs.Layout.{layout}
 use Rattle.romfs_layout.specs.Planned as romfs_planned

@@ -17,9 +17,9 @@ use Rattle.romfs_layout.specs.Wells.{IsFile, AreWell, AreLinks}
 use Rattle.romfs_layout.specs.Planned.{IsPlanned}
 use Rattle.image_stream.specs.Segments.{IsImage, image_of, checked}
 use Rattle.image_stream.specs.WordSums.{balance_of}
-use Rattle.layout_plan.specs.Plans.{Planned, IsPlanOf}
-use Rattle.layout_plan.proofs.Sized.{Fitting, zeros, lengths, size_is}
-use Rattle.layout_plan.proofs.SourceSizes.{sizes_small}
+use Rattle.plan_types.specs.Plans.{Planned, IsPlanOf}
+use Rattle.plan_types.proofs.Sized.{Fitting, zeros, lengths, size_is}
+use Rattle.plan_types.proofs.SourceSizes.{sizes_small}
 use Rattle.romfs_write.specs.Form.{full_size, superblock_storing, segment_of, form_of}
 use Rattle.romfs_write.specs.Known.{IsRomfsPlan}
 use Rattle.romfs_write.proofs.Facts.{planned_by, planned_is, full_is, of_names}

@@ -14,8 +14,8 @@ use Rattle.romfs_layout.specs.Layout as romfs_layout
 use Rattle.manifest_layout.specs.Format.{Format, romfs, cramfs, layout_of, sections_of}
 use Rattle.image_stream.specs.Segments.{Segment, fixed, content, Form, IsImage, IsLaidOut, image_of, checked}
 use Rattle.image_stream.specs.WordSums.{balance_of}
-use Rattle.layout_plan.specs.Plans.{Planned, IsPlanOf}
-use Rattle.layout_plan.proofs.Sized.{Fitting, zeros, lengths}
+use Rattle.plan_types.specs.Plans.{Planned, IsPlanOf}
+use Rattle.plan_types.proofs.Sized.{Fitting, zeros, lengths}
 use Rattle.romfs_write.specs.Form as in_romfs
 use Rattle.romfs_write.proofs.Facts as romfs_facts
 use Rattle.romfs_write.proofs.Laid as romfs_laid

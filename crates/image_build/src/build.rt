@@ -3,15 +3,16 @@ ghost use Rattle.std.specs.Prelude.{◌≡◌, map, length, IfOk, IfErr, Ok, Err
 ghost use Rattle.cramfs_format.specs.declared.order.Order.{Order};
 ghost use Rattle.cramfs_format.specs.declared.order.Order.TheVariants.{Little, Big};
 ghost use Rattle.image_build.specs.Builds.{Builds};
-ghost use Rattle.layout_plan.specs.Plans.{IsPlanOf};
 ghost use Rattle.manifest.specs.Grammar.{IsManifest};
 ghost use Rattle.manifest.specs.Lines.{ManifestLines};
 ghost use Rattle.manifest_layout.specs.Format.{romfs, cramfs, layout_of};
-ghost use Rattle.plan_misfits.specs.Formats.{format_of};
+ghost use Rattle.plan_types.specs.Formats.{format_of};
+ghost use Rattle.plan_types.specs.Plans.{IsPlanOf};
 
 use crate::error::BuildError;
-use layout_plan::{Format, Plan, plan};
+use layout_plan::plan;
 use manifest::parse;
+use plan_types::{Format, Plan};
 use rom_fields::contents::Contents;
 use rom_fields::memory::OutOfMemory;
 use std::alloc::Global;

@@ -7,11 +7,11 @@ ghost use Rattle.image_build.specs.Streamed.{HasNoCopies, IsBuiltOfSome, IsPlanO
 ghost use Rattle.image_build.specs.declared.error.BuildError.{BuildError};
 ghost use Rattle.image_check.specs.Checked.{HasTree, IsFaultless, IsRefused};
 ghost use Rattle.image_stream.specs.Outcomes.{IsWritten};
-ghost use Rattle.layout_plan.specs.Plans.{Planned};
 ghost use Rattle.manifest.specs.Grammar.{manifest_of};
 ghost use Rattle.manifest.specs.Lines.{ManifestLines};
 ghost use Rattle.manifest_layout.specs.Format.{Format};
 ghost use Rattle.manifest_tree.specs.Meant.{IsMeant};
+ghost use Rattle.plan_types.specs.Plans.{Planned};
 ghost use Rattle.rom_faults.specs.declared.error.CheckError.{CheckError};
 ghost use Rattle.rom_tree.specs.Tree.{Node};
 

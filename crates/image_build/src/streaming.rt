@@ -8,7 +8,8 @@ ghost use Rattle.image_stream.specs.Sources.{Told};
 ghost use Rattle.rom_fields.specs.Written.{AppendsPrefix};
 
 use image_stream::fault::StreamError;
-use layout_plan::{Format, Plan, Sources};
+use image_stream::sources::Sources;
+use plan_types::{Format, Plan};
 use rom_fields::bytes::ByteWrite;
 
 /// Writes the image of a plan, in the plan's format, through a buffer of the caller's, without

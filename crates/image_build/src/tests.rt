@@ -1,6 +1,7 @@
 use crate::{BuildError, StreamError, build_cramfs, build_cramfs_big, build_romfs, stream};
-use layout_plan::{Format, Plan, Slices, plan};
+use layout_plan::{Slices, plan};
 use manifest::parse;
+use plan_types::{Format, Plan};
 use rom_fields::bytes::{ByteWrite, Plain};
 use rom_fields::contents::Contents;
 use rom_fields::faulty::Faulty;

@@ -1,5 +1,1 @@
-mod Places
 pub mod Readying
-pub mod Indexed
-pub mod Sized
-pub mod SourceSizes

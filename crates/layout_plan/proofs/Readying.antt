@@ -1,5 +1,5 @@
 -- From what a plan begins with to the plan of a manifest.
-use Rattle.std.proofs.Common.{◌≡◌, ◌<◌, ℕ, Bool, true, false, if◌then◌else◌, ◌⊎◌, inl, inr, List, map, length, Option, Some, None, refl, sym, ap, subst, ◌∙◌, arith}
+use Rattle.std.proofs.Common.{◌≡◌, ◌<◌, ℕ, Bool, true, false, if◌then◌else◌, ◌⊎◌, inl, inr, List, map, length, Option, Some, None, Result, Ok, Err, IfOk, MatchOption, refl, sym, ap, subst, ◌∙◌, arith}
 use Rattle.std.specs.List.{AllByRecursion as Every}
 use Rattle.record_forest.specs.Faults.{IsNone, IsLeastFaultOf}
 use Rattle.cramfs_format.specs.declared.order.Order.{Order}
@@ -14,6 +14,7 @@ use Rattle.romfs_layout.specs.Layout.{full_size_of, root_at}
 use Rattle.romfs_layout.specs.Items as romfs_items
 use Rattle.romfs_layout.specs.Planned as romfs_planned
 use Rattle.cramfs_layout.specs.Items as cramfs_items
+use Rattle.cramfs_layout.specs.Layout.{size_of}
 use Rattle.cramfs_layout.specs.Planned as cramfs_planned
 use Rattle.manifest_layout.specs.Format.{Format, romfs, cramfs, len_of, items_of}
 use Rattle.manifest_layout.specs.Misfit.{HasLineMisfit, HasWholeMisfit, HasNoMisfit}
@@ -21,12 +22,14 @@ use Rattle.manifest_layout.proofs.Decided.{whole_test, whole_decides}
 use Rattle.manifest_layout.proofs.Known.{known}
 use Rattle.manifest_layout.proofs.Plain.{good_text}
 use Rattle.manifest_layout.proofs.Sectioned.{planned}
-use Rattle.plan_misfits.specs.declared.format.Format as code_format
-use Rattle.plan_misfits.specs.declared.format.Format.TheVariants as format
+use Rattle.plan_types.specs.declared.format.Format as code_format
+use Rattle.plan_types.specs.declared.format.Format.TheVariants as format
+use Rattle.plan_types.specs.declared.laid.Laid.{Laid}
+use Rattle.plan_types.specs.Views.{item_view}
 use Rattle.std.specs.Option.{option_map}
 use Rattle.plan_misfits.specs.declared.misfit.Misfit.{Misfit}
 use Rattle.plan_misfits.specs.Misfits.{misfit_fault}
-use Rattle.plan_misfits.specs.Formats.{format_of}
+use Rattle.plan_types.specs.Formats.{format_of}
 use Rattle.manifest_rows.specs.Fits.{IsFit}
 use Rattle.manifest_rows.specs.Rows.{Row}
 use Rattle.manifest_rows.proofs.Fitting.{rows_fit}
@@ -122,6 +125,19 @@ module _ (o : Order) (m : ManifestLines) (sizes volume : List ℕ) (root : Inode
 
   pub cramfs_items_are : (is : List Item) → is ≡ cramfs_items.items_of o root (tree_of m.lines sizes) → is ≡ items_of (cramfs o) m sizes
   cramfs_items_are is e = e ∙ ap (λ (i : Inode). cramfs_items.items_of o i (tree_of m.lines sizes)) r.root_is
+
+  -- what is laid out is the layout of the manifest
+  pub cramfs_laid : {E : Type 0} (x : Result (Option Laid) E)
+      → IfOk x (λ l. MatchOption l (of_cramfs.too_large o root (tree_of m.lines sizes) ≡ true) (λ l. (of_cramfs.too_large o root (tree_of m.lines sizes) ≡ false) × (l.image_len ≡ size_of (tree_of m.lines sizes))))
+      → ((cs : List (List ℕ)) → cramfs_planned.IsPlanned volume root (tree_of m.lines sizes) cs
+      → IfOk x (λ l. MatchOption l (Unit {0}) (λ l. map item_view l.items.items ≡ cramfs_items.items_of o root (tree_of m.lines sizes))))
+      → IfOk x (λ l. MatchOption l (HasWholeMisfit (cramfs o) m sizes) (λ l. HasNoMisfit (cramfs o) m sizes × (l.image_len ≡ len_of (cramfs o) m sizes) × (map item_view l.items.items ≡ items_of (cramfs o) m sizes)))
+  cramfs_laid (Err e) h k = tt
+  cramfs_laid (Ok None) h k = cramfs_whole h
+  cramfs_laid (Ok (Some l)) h k =
+      let fit = cramfs_fits h.0 in
+      let p = cramfs_planned_in fit in
+      (fit, h.1, cramfs_items_are (map item_view l.items.items) (k p.0 p.1))
 
 -- items have short names
 pub names_short : (f : Format) (m : ManifestLines) (sizes : List ℕ) → IsManifest m → HasNoMisfit f m sizes

@@ -1,3 +1,3 @@
 pub mod Errors
-pub mod Plans
 pub mod Ready
+pub mod Refusals

@@ -7,23 +7,15 @@ ghost use Rattle.manifest.specs.Grammar.{IsManifest};
 ghost use Rattle.manifest.specs.Lines.{ManifestLines};
 ghost use Rattle.manifest_layout.specs.Format.{romfs, cramfs, items_of, sections_of, len_of};
 ghost use Rattle.manifest_layout.specs.Misfit.{HasWholeMisfit, HasNoMisfit};
-ghost use Rattle.plan_items.specs.Views.{item_view, section_view};
-ghost use Rattle.plan_misfits.specs.Formats.{format_of};
 ghost use Rattle.manifest_rows.specs.Rows.{inode_view, row_view};
+ghost use Rattle.plan_types.specs.Formats.{format_of};
+ghost use Rattle.plan_types.specs.Views.{item_view, section_view};
 
 use cramfs_format::order::Order;
 use manifest_rows::{Inode, Row};
-use plan_items::{Item, Section};
-use plan_misfits::Format;
+use plan_types::{Format, Item, Laid, Section};
 use rom_fields::memory::OutOfMemory;
 use std::alloc::Global;
-
-/// How long an image is, and its items.
-#[derive(Drop)]
-pub struct Laid {
-    pub image_len: usize,
-    pub items: Vec<Item>,
-}
 
 /// The layout in romfs of a manifest whose lines fit, and nothing where the whole is too large.
 fn place_romfs<'a>(
@@ -63,13 +55,7 @@ fn place_cramfs<'a>(
         (λ l. HasNoMisfit (cramfs order) m sizes × (l.image_len ≡ len_of (cramfs order) m sizes)
         × (map item_view l.items.items ≡ items_of (cramfs order) m sizes))) }
 {
-    match cramfs_plan::layout(alloc, order, root, rows)? {
-        None => Ok(None),
-        Some(laid) => Ok(Some(Laid {
-            image_len: laid.image_len,
-            items: laid.items,
-        })),
-    }
+    cramfs_plan::layout(alloc, order, root, rows)
 }
 
 /// The layout of a manifest whose lines fit, and nothing where the whole is too large.

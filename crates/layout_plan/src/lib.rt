@@ -1,13 +1,12 @@
 //! The plan of an image: from a manifest and the sizes of its sources to the places of all that the
 //! image holds, or the least misfit.
 //!
-//! `misfits` says what does not fit and what the layout is; `specs/Plans.antt` says it of a `Plan`.
+//! `manifest_layout` says what does not fit and what the layout is; `plan_types` says it of a `Plan`.
 //! Nothing is written, and no content is read.
 #![tactic(auto)]
 
 pub mod error;
 mod laid;
-pub mod planned;
 pub mod planning;
 #[cfg(test)]
 mod tests;
@@ -15,7 +14,5 @@ mod tests;
 pub use error::{PlanError, name};
 pub use image_stream::slices::Slices;
 pub use image_stream::sources::{SourceFailed, Sources};
-pub use plan_items::{Body, Fill, Item, Section};
-pub use plan_misfits::Format;
-pub use planned::Plan;
+pub use plan_types::{Body, Fill, Format, Item, Plan, Section};
 pub use planning::plan;

@@ -1,16 +1,17 @@
 //! The plan of a manifest.
 ghost use Rattle.std.specs.Prelude.{◌≡◌, length, IfOk, IfErr};
-ghost use Rattle.layout_plan.specs.Plans.{IsPlanOf, IsRefusal};
+ghost use Rattle.layout_plan.specs.Refusals.{IsRefusal};
 ghost use Rattle.manifest.specs.Lines.{sources_of};
-ghost use Rattle.plan_misfits.specs.Formats.{format_of};
+ghost use Rattle.plan_types.specs.Formats.{format_of};
+ghost use Rattle.plan_types.specs.Plans.{IsPlanOf};
 
 use crate::error::PlanError;
-use crate::laid::{Laid, place, sections};
-use crate::planned::Plan;
+use crate::laid::{place, sections};
 use manifest::{Manifest, Name};
 use manifest_rows::{Files, root, rows};
+use plan_misfits::least_of_lines;
 use plan_misfits::misfit::TOO_LARGE;
-use plan_misfits::{Format, least_of_lines};
+use plan_types::{Format, Plan};
 use rom_fields::memory::OutOfMemory;
 use std::alloc::Global;
 
@@ -51,21 +52,14 @@ pub fn plan(alloc: Global, m: &Manifest, sizes: &[u64], format: Format) -> Resul
     }
     let root = root(m, &files);
     let rows = rows(alloc, m, &files)?;
-    let Some(Laid { image_len, items }) = place(alloc, format, m.volume(), &root, &rows)? else {
+    let Some(laid) = place(alloc, format, m.volume(), &root, &rows)? else {
         return Err(PlanError::Refused {
             line: 0,
             number: TOO_LARGE,
         });
     };
-    let sections = sections(alloc, format, m.volume(), &items)?;
+    let sections = sections(alloc, format, m.volume(), &laid.items)?;
     let volume = volume_of(alloc, m)?;
     let sizes = copied(alloc, sizes)?;
-    Ok(Plan {
-        format,
-        volume,
-        image_len,
-        items,
-        sections,
-        sizes,
-    })
+    Ok(Plan::new(format, volume, laid, sections, sizes))
 }

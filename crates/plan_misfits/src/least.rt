@@ -5,16 +5,16 @@ ghost use Rattle.manifest.specs.Grammar.{IsManifest};
 ghost use Rattle.manifest_layout.specs.Tests as tests;
 ghost use Rattle.manifest_layout.specs.Misfit.{HasLineMisfit};
 ghost use Rattle.manifest_rows.specs.Files.{IsOf};
-ghost use Rattle.plan_misfits.specs.Formats.{format_of};
+ghost use Rattle.plan_types.specs.Formats.{format_of};
 ghost use Rattle.plan_misfits.specs.Misfits.{misfit_fault};
 ghost use Rattle.record_forest.specs.Faults.{IsLeastFaultOf};
 ghost use Rattle.record_forest.specs.Lesser.{lesser_of_both};
 
-use crate::format::Format;
 use crate::lines::{is_long_volume, number_of_line};
 use crate::misfit::{Misfit, NAME_TOO_LONG};
 use manifest::Manifest;
 use manifest_rows::Files;
+use plan_types::Format;
 
 /// The misfit of the first line that does not fit.
 fn first_of_lines(format: Format, m: &Manifest, files: &Files) -> Option<Misfit>

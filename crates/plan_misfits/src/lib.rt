@@ -1,11 +1,10 @@
 //! What of the lines of a manifest does not fit a format.
 #![tactic(auto)]
 
-pub mod format;
 pub mod least;
 mod lines;
 pub mod misfit;
 
-pub use format::Format;
 pub use least::least_of_lines;
 pub use misfit::Misfit;
+pub use plan_types::Format;

@@ -8,16 +8,16 @@ ghost use Rattle.manifest.specs.Paths.{names_of};
 ghost use Rattle.manifest_layout.specs.Tests as tests;
 ghost use Rattle.manifest_layout.specs.Misfit.{name_len};
 ghost use Rattle.manifest_rows.specs.Files.{IsOf, contents_at};
-ghost use Rattle.plan_misfits.specs.Formats.{format_of};
+ghost use Rattle.plan_types.specs.Formats.{format_of};
 ghost use Rattle.plan_misfits.specs.Misfits.{kind_by, without_bytes, size_by};
 ghost use Rattle.romfs_format.specs.Tree.{mode_named};
 ghost use Rattle.romfs_layout.specs.Layout.{number_of};
 
-use crate::format::Format;
 use crate::misfit::{ATTRIBUTE, HARD_LINK, NAME_TOO_LONG, TOO_LARGE};
 use manifest::{Line, Word};
 use manifest_rows::Files;
 use memchr::memrchr;
+use plan_types::Format;
 
 /// The greatest number of a romfs device, and the greatest owner in cramfs.
 const MOST_OF_TWO_BYTES: u32 = 65_535;

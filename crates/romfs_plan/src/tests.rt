@@ -1,6 +1,6 @@
 use crate::{image_len, items, sections};
 use manifest_rows::{Bytes, Inode, Row, What};
-use plan_items::{Body, Item, Section};
+use plan_types::{Body, Item, Section};
 use rom_tree::Kind;
 use std::test::Fail;
 

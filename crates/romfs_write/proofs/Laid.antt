@@ -5,7 +5,7 @@ use Rattle.image_parts.proofs.Padding.{pad-after}
 use Rattle.image_stream.specs.Segments.{place, len, segment_at, SegmentsRise, HasSource, IsLaidOut}
 use Rattle.manifest_tree.specs.Names.{Fill, bytes_of}
 use Rattle.layout_terms.specs.Items.{Item, Section, Body, super, record_of, table_of, text_of, contents_of, SectionsRise}
-use Rattle.layout_plan.specs.Plans.{Planned}
+use Rattle.plan_types.specs.Plans.{Planned}
 use Rattle.romfs_layout.specs.Layout.{root_at}
 use Rattle.romfs_write.specs.Form.{full_size, segment_by, segment_of, form_of}
 use Rattle.romfs_write.specs.Known.{IsBody, IsRomfsPlan}

@@ -15,7 +15,7 @@ use Rattle.image_stream.specs.WordSums.{weighted, weight, balance_of, term}
 use Rattle.image_stream.proofs.Laid.{image_laid}
 use Rattle.image_stream.proofs.ByWords.{weighted_words}
 use Rattle.manifest_tree.specs.Names.{Fill, Inode, Names, bytes_of}
-use Rattle.layout_plan.specs.Plans.{Planned, IsPlanOf}
+use Rattle.plan_types.specs.Plans.{Planned, IsPlanOf}
 use Rattle.layout_terms.specs.Items.{Item, Section, Body, super, record_of, table_of, text_of, contents_of, section, SectionsRise}
 use Rattle.layout_terms.specs.Bodies.{item_at}
 use Rattle.layout_terms.proofs.Bodies.{sections_are}
@@ -34,7 +34,7 @@ use Rattle.romfs_layout.proofs.ReadBack.{length-padded_name}
 use Rattle.romfs_layout.proofs.Composed.{is_composed, are_long}
 use Rattle.romfs_layout.proofs.Sectioned as in_romfs
 use Rattle.image_stream.proofs.Results.{sizes_are}
-use Rattle.layout_plan.proofs.Sized.{Fitting, size_is}
+use Rattle.plan_types.proofs.Sized.{Fitting, size_is}
 use Rattle.romfs_write.proofs.Facts.{planned_by, planned_is, full_is}
 use Rattle.romfs_write.proofs.Laid.{laid_out}
 

@@ -8,7 +8,7 @@ use Rattle.manifest_tree.specs.Names.{Fill, no_bytes, text, source, bytes_of}
 use Rattle.layout_terms.specs.Items.{Item, Section, fill_section, bytes_section}
 use Rattle.layout_terms.specs.Bodies.{item_at}
 use Rattle.layout_terms.proofs.Bodies.{item_here, items_later}
-use Rattle.layout_plan.proofs.Sized.{size_is}
+use Rattle.plan_types.proofs.Sized.{size_is}
 use Rattle.romfs_write.specs.Known.{IsBody}
 use Rattle.romfs_layout.specs.Layout.{Header}
 use Rattle.romfs_layout.specs.Composed.{written}

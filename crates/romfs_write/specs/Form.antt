@@ -2,7 +2,7 @@
 use Rattle.std.specs.Prelude.{ℕ, ◌+◌, ◌-◌, List, [], ◌++◌, map, length, drop}
 use Rattle.byteorder.specs.Endian.{big_bytes}
 use Rattle.image_stream.specs.Segments.{Segment, fixed, content, Form}
-use Rattle.layout_plan.specs.Plans.{Planned}
+use Rattle.plan_types.specs.Plans.{Planned}
 use Rattle.layout_terms.specs.Bodies.{item_at}
 use Rattle.layout_terms.specs.Items.{Item, Section, Body, super, record_of, table_of, text_of, contents_of}
 use Rattle.manifest_tree.specs.Names.{bytes_of}

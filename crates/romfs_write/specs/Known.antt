@@ -3,7 +3,7 @@ use Rattle.std.specs.Prelude.{◌≡◌, ℕ, ◌+◌, ◌^◌, ◌<◌, List, �
 use Rattle.std.specs.List.{AllByRecursion as Every}
 use Rattle.manifest_tree.specs.Names.{text}
 use Rattle.image_parts.specs.Padding.{pad}
-use Rattle.layout_plan.specs.Plans.{Planned}
+use Rattle.plan_types.specs.Plans.{Planned}
 use Rattle.layout_terms.specs.Items.{Item, Body, super, record_of, table_of, text_of, contents_of, section, SectionsRise}
 use Rattle.layout_terms.specs.Bodies.{item_at}
 use Rattle.romfs_layout.specs.Composed.{written}

@@ -3,18 +3,19 @@ ghost use Rattle.std.specs.Prelude.{◌≡◌, ◌%◌, ◌≤◌, ℕ, List, ma
 ghost use Rattle.image_stream.specs.Outcomes.{AreSized, IsLeastWrong, IsStreamFault, IsWritten};
 ghost use Rattle.image_stream.specs.Sources.{Told};
 ghost use Rattle.image_stream.specs.WordSums.{balance_of};
-ghost use Rattle.layout_plan.specs.Plans.{IsPlanOf};
 ghost use Rattle.manifest.specs.Grammar.{IsManifest};
 ghost use Rattle.manifest.specs.Lines.{ManifestLines};
 ghost use Rattle.manifest_layout.specs.Format.{romfs, layout_of};
+ghost use Rattle.plan_types.specs.Plans.{IsPlanOf};
 ghost use Rattle.rom_fields.specs.Written.{AppendsPrefix};
 ghost use Rattle.std.specs.Io.KnownBytes.{Appends};
 ghost use Rattle.romfs_write.specs.Form.{form_of};
 
 use crate::form::{RomfsForm, known};
 use image_stream::fault::{SizeDiffers, StreamError};
+use image_stream::sources::Sources;
 use image_stream::word_sum::WordSum;
-use layout_plan::{Plan, Sources};
+use plan_types::Plan;
 use rom_fields::bytes::ByteWrite;
 use rom_fields::contents::Contents;
 

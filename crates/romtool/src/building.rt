@@ -1,8 +1,8 @@
 //! Building an image from a manifest and files.
 ghost use Rattle.std.specs.Prelude.{◌≡◌, length, IfOk, IfSome};
-ghost use Rattle.layout_plan.specs.Plans.{IsPlanOf};
 ghost use Rattle.manifest.specs.Lines.{sources_of};
-ghost use Rattle.plan_misfits.specs.Formats.{format_of};
+ghost use Rattle.plan_types.specs.Formats.{format_of};
+ghost use Rattle.plan_types.specs.Plans.{IsPlanOf};
 
 use crate::disk::{Disk, first_changed};
 use crate::origin::Origin;
@@ -14,8 +14,9 @@ use crate::trouble::Teller;
 use crate::{explained, reading};
 use build_commands::building::{tell_bad_manifest, tell_built, tell_misfit};
 use image_build::{StreamError, stream, stream_through};
-use layout_plan::{Format, Plan, PlanError, plan};
+use layout_plan::{PlanError, plan};
 use manifest::{Manifest, ManifestError, Name, parse};
+use plan_types::{Format, Plan};
 use rom_commands::status::{Status, Trouble};
 use rom_fields::bytes::{Failed, Plain};
 use sentences::reasons::{

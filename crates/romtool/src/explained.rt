@@ -2,7 +2,7 @@
 use crate::origin::Origin;
 use crate::target::Target;
 use crate::trouble::Teller;
-use plan_misfits::Format;
+use plan_types::Format;
 use sentences::{manifest_line, manifest_sentence, misfit_sentence, plan_line, words};
 use std::alloc::AllocError;
 use std::fmt::Display;

@@ -1,6 +1,6 @@
 //! Which attribute of a line a format cannot say.
 use manifest::{Line, Word};
-use plan_misfits::Format;
+use plan_types::Format;
 use std::alloc::{AllocError, Global};
 
 /// The greatest number of an owner in cramfs, and of a device in romfs.

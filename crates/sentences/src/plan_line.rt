@@ -2,8 +2,8 @@
 use crate::attribute;
 use crate::words::shown;
 use manifest::{Line, Manifest, Word};
-use plan_misfits::Format;
 use plan_misfits::misfit::{ATTRIBUTE, NAME_TOO_LONG, TOO_LARGE};
+use plan_types::Format;
 use std::alloc::{AllocError, Global};
 
 /// The most bytes of an image, and of a file in romfs.

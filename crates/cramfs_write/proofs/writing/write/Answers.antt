@@ -2,7 +2,7 @@ use Rattle.std.proofs.Common.{length, sym, ap, subst, ◌∙◌}
 use Rattle.cramfs_format.specs.declared.order.Order.{Order}
 use Rattle.crc.specs.Crc.{crc_of}
 use Rattle.image_stream.specs.Segments.{image_of}
-use Rattle.layout_plan.specs.Plans.{Planned, IsPlanOf}
+use Rattle.plan_types.specs.Plans.{Planned, IsPlanOf}
 use Rattle.manifest_layout.specs.Format.{cramfs}
 use Rattle.image_stream.proofs.Results.{ok_weaker}
 use Rattle.cramfs_write.specs.Form.{form_of}

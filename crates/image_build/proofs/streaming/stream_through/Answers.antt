@@ -2,7 +2,7 @@ use Rattle.std.proofs.Common.{◌≡◌, sym, ap, subst, ◌∙◌}
 use Rattle.std.specs.Prelude.{IfErr}
 use Rattle.image_stream.specs.Outcomes.{IsStreamFault}
 use Rattle.manifest_layout.specs.Format.{Format, romfs, cramfs}
-use Rattle.plan_misfits.specs.Formats.{format_of}
+use Rattle.plan_types.specs.Formats.{format_of}
 use Rattle.image_build.specs.Streamed.{form_in, stored_in}
 use Rattle.image_build.proofs.Streams.{in_cramfs, planned_in, whole, front}
 use Rattle.image_build.proofs.streaming.stream_through.Goals as goal

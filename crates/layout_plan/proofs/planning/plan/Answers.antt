@@ -1,10 +1,11 @@
-use Rattle.std.proofs.Common.{◌≡◌, MatchOption, map, refl, ap, subst, ◌∙◌}
+use Rattle.std.proofs.Common.{◌≡◌, MatchOption, map, refl, sym, ap, subst, ◌∙◌}
 use Rattle.std.specs.Option.{option_map}
 use Rattle.record_forest.specs.Faults.{IsLeastFaultOf}
 use Rattle.manifest_layout.specs.Format.{len_of, items_of}
 use Rattle.manifest_layout.specs.Misfit.{HasLineMisfit, HasWholeMisfit, HasNoMisfit, line_misfit, whole_misfit}
-use Rattle.plan_items.specs.Views.{item_view}
-use Rattle.plan_misfits.specs.Formats.{format_of}
+use Rattle.plan_types.specs.Plans.{IsPlanOf}
+use Rattle.plan_types.specs.Views.{item_view}
+use Rattle.plan_types.specs.Formats.{format_of}
 use Rattle.plan_misfits.specs.Misfits.{misfit_fault}
 use Rattle.manifest_rows.specs.Rows.{inode_view, row_view}
 use Rattle.layout_plan.specs.Ready.{IsReady}
@@ -49,7 +50,7 @@ returns-in_default-2-clause-err c =
       root_is = c.root-root.ensures sizes of;
       rows_are = ap (map row_view) c.deref.ensures.value ∙ c.in_ok-rows.ensures sizes of;
     } in
-    let told = subst (λ o. MatchOption o (HasWholeMisfit f m sizes) (λ l. HasNoMisfit f m sizes × (l.image_len ≡ len_of f m sizes) × (map item_view l.items.items ≡ items_of f m sizes))) c.in_default-2.is (c.in_ok-image_len.ensures m sizes ready) in
+    let told = subst (λ o. MatchOption o (HasWholeMisfit f m sizes) (λ l. HasNoMisfit f m sizes × (l.image_len ≡ len_of f m sizes) × (map item_view l.items.items ≡ items_of f m sizes))) c.in_default-2.is (c.in_ok-laid.ensures m sizes ready) in
     whole_misfit none told refl
 
 pub sections-requires : goal.sections-requires
@@ -66,11 +67,11 @@ sections-requires c =
       root_is = c.root-root.ensures sizes of;
       rows_are = ap (map row_view) c.deref.ensures.value ∙ c.in_ok-rows.ensures sizes of;
     } in
-    let told = subst (λ o. MatchOption o (HasWholeMisfit f m sizes) (λ l. HasNoMisfit f m sizes × (l.image_len ≡ len_of f m sizes) × (map item_view l.items.items ≡ items_of f m sizes))) c.in-Some-2.is (c.in_ok-image_len.ensures m sizes ready) in
+    let told = subst (λ o. MatchOption o (HasWholeMisfit f m sizes) (λ l. HasNoMisfit f m sizes × (l.image_len ≡ len_of f m sizes) × (map item_view l.items.items ≡ items_of f m sizes))) c.in-Some-2.is (c.in_ok-laid.ensures m sizes ready) in
     (m, sizes, c.least_of_lines.ensures.of_text, told.0, c.volume-2.ensures, ap (map item_view) c.deref-2.ensures.value ∙ told.2)
 
-pub invariant_of-result : goal.invariant_of-result
-invariant_of-result c =
+pub new-requires-2 : goal.new-requires-2
+new-requires-2 c =
     let f = format_of c.args.format in
     let m = c.args.m.now in
     let sizes = c.args.sizes.now in
@@ -83,7 +84,7 @@ invariant_of-result c =
       root_is = c.root-root.ensures sizes of;
       rows_are = ap (map row_view) c.deref.ensures.value ∙ c.in_ok-rows.ensures sizes of;
     } in
-    let told = subst (λ o. MatchOption o (HasWholeMisfit f m sizes) (λ l. HasNoMisfit f m sizes × (l.image_len ≡ len_of f m sizes) × (map item_view l.items.items ≡ items_of f m sizes))) c.in-Some-2.is (c.in_ok-image_len.ensures m sizes ready) in
+    let told = subst (λ o. MatchOption o (HasWholeMisfit f m sizes) (λ l. HasNoMisfit f m sizes × (l.image_len ≡ len_of f m sizes) × (map item_view l.items.items ≡ items_of f m sizes))) c.in-Some-2.is (c.in_ok-laid.ensures m sizes ready) in
     let items = ap (map item_view) c.deref-2.ensures.value ∙ told.2 in (
       m,
       sizes,
@@ -114,9 +115,9 @@ returns-clause-ok c =
       root_is = c.root-root.ensures sizes of;
       rows_are = ap (map row_view) c.deref.ensures.value ∙ c.in_ok-rows.ensures sizes of;
     } in
-    let told = subst (λ o. MatchOption o (HasWholeMisfit f m sizes) (λ l. HasNoMisfit f m sizes × (l.image_len ≡ len_of f m sizes) × (map item_view l.items.items ≡ items_of f m sizes))) c.in-Some-2.is (c.in_ok-image_len.ensures m sizes ready) in
+    let told = subst (λ o. MatchOption o (HasWholeMisfit f m sizes) (λ l. HasNoMisfit f m sizes × (l.image_len ≡ len_of f m sizes) × (map item_view l.items.items ≡ items_of f m sizes))) c.in-Some-2.is (c.in_ok-laid.ensures m sizes ready) in
     let items = ap (map item_view) c.deref-2.ensures.value ∙ told.2 in
-    record {
+    subst (IsPlanOf f m sizes) (sym c.new-2.ensures) (record {
       fits = told.0;
       format = refl;
       volume = c.in_ok-volume.ensures;
@@ -124,4 +125,4 @@ returns-clause-ok c =
       items = told.2;
       sections = c.in_ok-sections.ensures m sizes c.least_of_lines.ensures.of_text told.0 c.volume-2.ensures items;
       of_sources = c.in_ok-sizes.ensures;
-    }
+    })

@@ -1,5 +1,5 @@
 use Rattle.std.proofs.Common.{sym, ◌∙◌}
-use Rattle.plan_misfits.specs.Formats.{format_of}
+use Rattle.plan_types.specs.Formats.{format_of}
 use Rattle.plan_misfits.proofs.Firsts.{misfit_at}
 use Rattle.plan_misfits.proofs.Paths.{path_at}
 use Rattle.plan_misfits.proofs.least.first_of_lines.Goals as goal

@@ -1,7 +1,7 @@
 use Rattle.std.proofs.Common.{◌<◌, List, length, map, codes, refl, sym, ap, subst, ◌∙◌}
 use Rattle.std.specs.List.{AllByRecursion as Every}
 use Rattle.layout_terms.specs.Items.{Item}
-use Rattle.plan_items.specs.Views.{item_view}
+use Rattle.plan_types.specs.Views.{item_view}
 use Rattle.romfs_plan.proofs.Example.{names, contents, directory, planned}
 use Rattle.romfs_plan.proofs.Short.{short_names}
 use Rattle.romfs_plan.proofs.tests.a_file_and_its_further_name.Goals as goal

@@ -2,9 +2,9 @@ use Rattle.std.proofs.Common.{drop, sym, ap, subst, ◌∙◌, arith}
 use Rattle.std.proofs.lemmas.List.{length-drop}
 use Rattle.std.specs.Option.{option_map}
 use Rattle.layout_terms.specs.Items.{Section, section, super}
-use Rattle.plan_items.specs.Views.{section_view}
+use Rattle.plan_types.specs.Views.{section_view}
 use Rattle.cramfs_write.specs.Known.{IsBody}
-use Rattle.layout_plan.proofs.Indexed.{section_found, section_lost, every_at}
+use Rattle.plan_types.proofs.Indexed.{section_found, section_lost, every_at}
 use Rattle.cramfs_write.proofs.form.CramfsForm.section_behind.Goals as goal
 
 pub overflow_add-i : goal.overflow_add-i

@@ -1,6 +1,6 @@
 use Rattle.std.proofs.Common.{drop, ap, subst, sym, ◌∙◌, ◌+◌, ◌≤◌, ◌%◌, ℕ, length}
 use Rattle.layout_terms.specs.Items.{section, super}
-use Rattle.plan_items.specs.Views.{section_view}
+use Rattle.plan_types.specs.Views.{section_view}
 use Rattle.cramfs_write.proofs.Indexed.{segment_found, segment_is_long}
 use Rattle.cramfs_write.proofs.form.CramfsFormLayout.fill.Goals as goal
 

@@ -1,7 +1,7 @@
 use Rattle.std.proofs.Common.{drop, ap, sym, ◌∙◌}
 use Rattle.image_stream.specs.Segments.{outline}
 use Rattle.layout_terms.specs.Items.{section, super}
-use Rattle.plan_items.specs.Views.{section_view}
+use Rattle.plan_types.specs.Views.{section_view}
 use Rattle.cramfs_write.proofs.Indexed.{segment_found, outline_by}
 use Rattle.cramfs_write.proofs.form.CramfsFormLayout.segment.Goals as goal
 

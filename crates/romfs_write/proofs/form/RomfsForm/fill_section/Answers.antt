@@ -2,8 +2,8 @@ use Rattle.std.proofs.Common.{◌≡◌, List, length, sym, ap, subst, ◌∙◌
 use Rattle.std.proofs.lemmas.List.{length-map}
 use Rattle.layout_terms.specs.Items.{Item}
 use Rattle.layout_terms.specs.Bodies.{item_at}
-use Rattle.plan_items.specs.declared.section.Body as code_body
-use Rattle.plan_items.specs.Views.{item_view, body_view}
+use Rattle.plan_types.specs.declared.section.Body as code_body
+use Rattle.plan_types.specs.Views.{item_view, body_view}
 use Rattle.romfs_layout.specs.Layout.{record_len}
 use Rattle.romfs_write.specs.Known.{IsBody}
 use Rattle.romfs_write.proofs.Indexed.{item_seen, record_is_long}

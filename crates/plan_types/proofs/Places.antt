@@ -1,8 +1,8 @@
 -- The section of an index.
 use Rattle.std.proofs.Common.{◌≡◌, ◌<◌, ◌≤◌, ℕ, zero, suc, List, [], ◌∷◌, map, length, get_or, Some, None, refl, arith}
-use Rattle.plan_items.specs.declared.section.Section.{Section}
-use Rattle.plan_items.specs.Views.{section_view}
-use Rattle.layout_plan.specs.Plans.{section_at}
+use Rattle.plan_types.specs.declared.section.Section.{Section}
+use Rattle.plan_types.specs.Views.{section_view}
+use Rattle.plan_types.specs.Plans.{section_at}
 
 pub section_some : (ss : List Section) (i : ℕ) (d : Section) → i < length ss
     → Some (section_view (get_or ss i d)) ≡ section_at (map section_view ss) i

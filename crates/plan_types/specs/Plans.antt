@@ -5,9 +5,7 @@ use Rattle.layout_terms.specs.Items.{Item, Section}
 use Rattle.manifest.specs.Grammar.{IsManifest}
 use Rattle.manifest.specs.Lines.{ManifestLines, sources_of}
 use Rattle.manifest_layout.specs.Format.{Format, items_of, sections_of, len_of}
-use Rattle.manifest_layout.specs.Misfit.{IsLeastMisfit, HasNoMisfit}
-use Rattle.layout_plan.specs.declared.error.PlanError.{PlanError}
-use Rattle.layout_plan.specs.declared.error.PlanError.TheVariants as error
+use Rattle.manifest_layout.specs.Misfit.{HasNoMisfit}
 
 -- what a plan holds
 pub record Planned : Type 0 where
@@ -34,11 +32,6 @@ abbrev pub IsPlan : Planned → Type 0
 IsPlan p =
     (m : ManifestLines) × (sizes : List ℕ) × IsManifest m × (length sizes ≡ length (sources_of m.lines))
     × IsPlanOf p.format m sizes p
-
--- what a refusal says: the least misfit, at the number of its line; memory may be refused at any call
-abbrev pub IsRefusal : Format → ManifestLines → List ℕ → PlanError → Type 0
-IsRefusal f m sizes error.OutOfMemory = Unit {0}
-IsRefusal f m sizes (error.Refused line number) = IsLeastMisfit f m sizes (record { number = number; at = line })
 
 -- the section of an index
 abbrev pub section_at : List Section → ℕ → Option Section

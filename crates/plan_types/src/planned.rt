@@ -1,55 +1,66 @@
 //! The plan of an image.
 ghost use Rattle.std.specs.Prelude.{◌≡◌, map, length};
 ghost use Rattle.std.specs.Option.{option_map};
-ghost use Rattle.layout_plan.specs.Plans.{IsPlan, section_at};
-ghost use Rattle.plan_items.specs.Views.{item_view, section_view};
-ghost use Rattle.plan_misfits.specs.Formats.{format_of};
+ghost use Rattle.plan_types.specs.Formats.{format_of};
+ghost use Rattle.plan_types.specs.Plans.{IsPlan, section_at};
+ghost use Rattle.plan_types.specs.Views.{item_view, plan_view, section_view};
 
+use crate::format::Format;
+use crate::item::Item;
+use crate::laid::Laid;
+use crate::section::Section;
 use manifest::Name;
-use plan_items::{Item, Section};
-use plan_misfits::Format;
 use std::marker::Model;
 
 /// The places of all that an image of some manifest holds. A contract sees it in the words of the
 /// layout's definitions.
 #[derive(Drop)]
 pub struct Plan {
-    pub(crate) format: Format,
-    pub(crate) volume: Name,
-    pub(crate) image_len: usize,
-    pub(crate) items: Vec<Item>,
-    pub(crate) sections: Vec<Section>,
-    pub(crate) sizes: Vec<u64>,
+    format: Format,
+    volume: Name,
+    image_len: usize,
+    items: Vec<Item>,
+    sections: Vec<Section>,
+    sizes: Vec<u64>,
 }
 
 impl Model for Plan {
-    ghost use Rattle.std.specs.Prelude.{map};
-    ghost use Rattle.layout_plan.specs.Plans.{IsPlan, Planned};
-    ghost use Rattle.plan_items.specs.Views.{item_view, section_view};
-    ghost use Rattle.plan_misfits.specs.Formats.{format_of};
+    ghost use Rattle.plan_types.specs.Plans.{IsPlan, Planned};
+    ghost use Rattle.plan_types.specs.Views.{plan_view};
 
     ghost Value = { Planned };
 
-    ghost view = { λ p. record {
-      format = format_of p.format;
-      volume = p.volume;
-      image_len = p.image_len;
-      items = map item_view p.items.items;
-      sections = map section_view p.sections.items;
-      sizes = p.sizes.items;
-    } };
+    ghost view = { λ p. plan_view p.format p.volume p.image_len p.items.items p.sections.items
+        p.sizes.items };
 
-    ghost invariant = { λ p. IsPlan (record {
-      format = format_of p.format;
-      volume = p.volume;
-      image_len = p.image_len;
-      items = map item_view p.items.items;
-      sections = map section_view p.sections.items;
-      sizes = p.sizes.items;
-    }) };
+    ghost invariant = { λ p. IsPlan (plan_view p.format p.volume p.image_len p.items.items
+        p.sections.items p.sizes.items) };
 }
 
 impl Plan {
+    /// The plan of what was laid out, in this format, where the sources have these sizes.
+    pub fn new(
+        format: Format,
+        volume: Name,
+        laid: Laid,
+        sections: Vec<Section>,
+        sizes: Vec<u64>,
+    ) -> Plan
+        requires { IsPlan (plan_view format volume laid.image_len laid.items.items sections.items
+            sizes.items) }
+        ensures { result ≡ plan_view format volume laid.image_len laid.items.items sections.items
+            sizes.items }
+    {
+        Plan {
+            format,
+            volume,
+            image_len: laid.image_len,
+            items: laid.items,
+            sections,
+            sizes,
+        }
+    }
+
     /// How many bytes the image has. It is the image of a manifest that fits.
     pub fn image_len(&self) -> usize
         ensures len { result ≡ self.now.image_len }

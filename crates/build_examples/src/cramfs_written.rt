@@ -1,11 +1,13 @@
+//! The bytes of a cramfs image, in both byte orders.
 ghost use Rattle.std.specs.Prelude.{◌≡◌, length, IfOk};
 ghost use Rattle.cramfs_format.specs.declared.order.Order.{Order};
 ghost use Rattle.manifest_layout.specs.Format.{cramfs};
-ghost use Rattle.plan_misfits.specs.Formats.{format_of};
+ghost use Rattle.plan_types.specs.Formats.{format_of};
 
-use crate::{stream, write};
-use layout_plan::{Format, Plan, Slices, plan};
+use cramfs_write::{stream, write};
+use layout_plan::{Slices, plan};
 use manifest::parse;
+use plan_types::{Format, Plan};
 use rom_fields::bytes::Plain;
 use rom_fields::contents::Contents;
 use std::alloc::{AllocError, Global};

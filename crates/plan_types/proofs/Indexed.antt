@@ -4,9 +4,9 @@ use Rattle.std.proofs.lemmas.List.{get_or-drop, length-drop}
 use Rattle.std.specs.Option.{option_map}
 use Rattle.std.specs.List.{AllByRecursion as Every}
 use Rattle.layout_terms.specs.Items.{Section, section, super}
-use Rattle.layout_plan.specs.Plans.{section_at}
-use Rattle.plan_items.specs.declared.section.Section as code_section
-use Rattle.plan_items.specs.Views.{section_view}
+use Rattle.plan_types.specs.Plans.{section_at}
+use Rattle.plan_types.specs.declared.section.Section as code_section
+use Rattle.plan_types.specs.Views.{section_view}
 
 pub some_section : (ss : List Section) (i : ℕ) (d : Section) → i < length ss → section_at ss i ≡ Some (get_or ss i d)
 some_section [] i d h = absurd (omega arith)

@@ -1,8 +1,8 @@
 use Rattle.std.proofs.Common.{ap, ◌∙◌, arith, Some}
-use Rattle.plan_items.specs.Views.{section_view}
-use Rattle.layout_plan.specs.Plans.{Planned, section_at}
-use Rattle.layout_plan.proofs.Places.{section_some, section_none}
-use Rattle.layout_plan.proofs.planned.Plan.section.Goals as goal
+use Rattle.plan_types.specs.Views.{section_view}
+use Rattle.plan_types.specs.Plans.{Planned, section_at}
+use Rattle.plan_types.proofs.Places.{section_some, section_none}
+use Rattle.plan_types.proofs.planned.Plan.section.Goals as goal
 
 pub returns-then-i-len : goal.returns-then-i-len
 returns-then-i-len c =

@@ -1,0 +1,4 @@
+mod Places
+pub mod Indexed
+pub mod Sized
+pub mod SourceSizes

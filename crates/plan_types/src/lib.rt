@@ -1,0 +1,19 @@
+//! What a planned image consists of, as values of the code: items and sections, and the plan that
+//! puts them together, in one of the formats.
+//!
+//! `layout_terms` and `manifest_layout` say what they are; `specs/Views.antt` and
+//! `specs/Formats.antt` say which of their values one of the code stands for, and
+//! `specs/Plans.antt` what a plan is to be.
+#![tactic(auto)]
+
+pub mod format;
+pub mod item;
+pub mod laid;
+pub mod planned;
+pub mod section;
+
+pub use format::Format;
+pub use item::{Fill, Item};
+pub use laid::Laid;
+pub use planned::Plan;
+pub use section::{Body, Section};
