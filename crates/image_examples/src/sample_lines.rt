@@ -132,7 +132,7 @@ fn the_first_failures(rt: HostRuntime) -> Result<(), Fail> {
     ] {
         let mut r = Plain::new(input);
         let mut w = Faulty::new(Plain::new(Vec::new(rt.alloc())), calls, most);
-        assert!(rt; serve(Sample, &mut r, &mut w).is_err() == left == 11);
+        assert!(rt; serve(Sample, &mut r, &mut w).is_err() == (left == 11));
         assert!(rt; r.into_inner().len() == left);
         let held: Vec<u8> = w.into_inner().into_inner();
         assert!(rt; held.as_slice() == text);
