@@ -101,8 +101,41 @@ fn of_the_last(rt: HostRuntime) {
     assert!(rt; numbers[next(1) as usize] == 2);
 }
 """
+EMPTY = """//! A function that nothing can call, by its condition.
+#![tactic(auto)]
+
+ghost use Rattle.std.specs.Prelude.{◌≡◌, ◌<◌};
+
+#[cfg(test)]
+mod tests;
+
+/// A number that is below itself.
+pub fn below(n: u32) -> u32
+    requires { n < n }
+    ensures { result < n }
+{
+    n
+}
+
+/// The number.
+pub fn same(n: u32) -> u32
+    ensures { result ≡ n }
+{
+    n
+}
+"""
+EMPTY_TESTS = """//! A test of the other function.
+use crate::same;
+
+#[test]
+fn of_one(rt: HostRuntime) {
+    assert!(rt; same(1) == 1);
+}
+"""
 FILES = {
-    "crates.txt": "small:\nodd:\n",
+    "crates.txt": "small:\nodd:\nempty:\n",
+    "crates/empty/src/lib.rt": EMPTY,
+    "crates/empty/src/tests.rt": EMPTY_TESTS,
     "crates/odd/src/lib.rt": ODD,
     "crates/odd/src/tests.rt": ODD_TESTS,
     "crates/odd/must-fail/next_is_itself.edit": "file: src/lib.rt\nold:     u64::from(n) + 1\nnew:     u64::from(n)\n",
@@ -149,12 +182,12 @@ def try_gate(counts):
     for name, (_, _, _, wanted) in EDITS.items():
         told = [it for it in said if it.startswith(f"rt: must-fail small/{name}.edit: {wanted}")]
         expect(counts, f"the gate on the edit {name}", len(told), 1, ran.stdout)
-    for wanted in ("small: its tests are proved", "odd proved", "odd: its tests are NOT PROVED"):
+    for wanted in ("small: its tests are proved", "odd proved", "odd: its tests are NOT PROVED", "empty NOT PROVED"):
         expect(counts, f"the gate says: {wanted}", said.count(f"rt: {wanted}"), 1, ran.stdout)
     begun = [it for it in said if it.startswith("logic=proved tests=1 ") and it.endswith(" incremental=trusted")]
-    expect(counts, "how many tests begin from what was proved of their crate", len(begun), 1, ran.stdout)
+    expect(counts, "how many tests begin from what was proved of their crate", len(begun), 2, ran.stdout)
     of = lambda verdict: sum(it[3].startswith(verdict) for it in EDITS.values())
-    last = f"{1 + of('refused')} passed, {1 + of('NOT REFUSED')} failed"
+    last = f"{1 + of('refused')} passed, {2 + of('NOT REFUSED')} failed"
     expect(counts, "the gate's last line", said[-1:], [last], ran.stdout)
     expect(counts, "the gate's status", ran.returncode, 1, ran.stdout)
 
