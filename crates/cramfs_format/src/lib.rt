@@ -9,5 +9,6 @@
 //! a function of the bytes.
 #![tactic(auto)]
 
+pub mod disk;
 pub mod laws;
 pub mod order;

@@ -9,7 +9,7 @@ ghost use Rattle.cramfs_image.specs.Phases.{IsWhole};
 
 use crate::soundness::{entry_fault, list_lies};
 use cramfs_format::order::Order;
-use record_forest::known::Known;
+use record_forest::known::VerifiedRanges;
 use record_forest::records::Records;
 use record_forest::reference::{Edge, Edges, Reference};
 use rom_faults::Fault;
@@ -38,7 +38,7 @@ fn edge_to(source: u32, which: u32, end: u32) -> Edge
 }
 
 /// The least fault of the record that a reference leads to, if it is not sound.
-fn fault_of(b: &Accessible<'_>, known: &mut Known, x: Reference) -> Option<Fault>
+fn fault_of(b: &Accessible<'_>, known: &mut VerifiedRanges, x: Reference) -> Option<Fault>
     requires known { AreKnown (IsWhole b.now.order b.now.bytes.now) known.old }
     requires root { x.source ≡ 0 → x.which + 12 ≤ length b.now.bytes.now }
     requires source { x.source ≢ 0 → x.source + 12 ≤ length b.now.bytes.now }
@@ -91,7 +91,7 @@ impl Records for Accessible<'_> {
         false
     }
 
-    fn edges(&self, known: &mut Known, x: Reference, at: u32) -> Result<Edges, Fault> {
+    fn edges(&self, known: &mut VerifiedRanges, x: Reference, at: u32) -> Result<Edges, Fault> {
         if let Some(fault) = fault_of(self, known, x) {
             return Err(fault);
         }

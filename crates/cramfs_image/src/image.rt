@@ -7,13 +7,11 @@ use crate::accessible::Accessible;
 use crate::depth::greatest_depth;
 use crate::fields::{kind_named_by, of_device, start_of};
 use arrayvec::ArrayVec;
+use cramfs_format::disk::ROOT;
 use cramfs_format::order::Order;
 use record_forest::reference::Row;
 use rom_tree::image::{TreeImage, Viewed};
 use rom_tree::types::{Cursor, Entry, Limits, NodeId, Report, Run, Stat};
-
-/// Where the root's inode stands, in the superblock.
-pub(crate) const ROOT: u32 = 64;
 
 /// An image that has been checked.
 #[derive(Drop)]
@@ -200,7 +198,7 @@ impl<'a> Cramfs<'a> {
     }
 
     /// Whether the image is big-endian: its first bytes are `28 cd 3d 45`.
-    pub fn big(&self) -> bool
+    pub fn is_big_endian(&self) -> bool
         ensures { result ≡ is_big (order_in self.now) }
     {
         match self.accessible.order {

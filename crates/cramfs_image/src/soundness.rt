@@ -12,7 +12,7 @@ ghost use Rattle.record_forest.specs.Lesser.{lesser_of_both};
 
 use crate::accessible::Accessible;
 use crate::fields::start_of;
-use record_forest::known::{Known, Range};
+use record_forest::known::{Range, VerifiedRanges};
 use record_forest::least::lesser_of_both;
 use rom_faults::Fault;
 use rom_faults::fault::{BAD_NAME, BLOCK_KIND, BOUNDS, KIND, LINK_SIZE, LIST_END};
@@ -154,7 +154,7 @@ const WORTH_KNOWING: u32 = 16;
 
 /// Up to where the words from `first` to `end`, counted in words, are pointers of whole blocks; it
 /// may be further. What is known is not looked at again.
-fn whole_up_to(b: &Accessible<'_>, known: &mut Known, first: u32, end: u32) -> u32
+fn whole_up_to(b: &Accessible<'_>, known: &mut VerifiedRanges, first: u32, end: u32) -> u32
     requires words { 4 * end ≤ length b.now.bytes.now }
     requires known { AreKnown (IsWhole b.now.order b.now.bytes.now) known.old }
     ensures known { AreKnown (IsWhole b.now.order b.now.bytes.now) known.new }
@@ -180,7 +180,7 @@ fn whole_up_to(b: &Accessible<'_>, known: &mut Known, first: u32, end: u32) -> u
 }
 
 /// How many pointers of the `count` from `table` on lead, one after the other, to whole blocks.
-fn whole_pointers(b: &Accessible<'_>, known: &mut Known, table: u32, count: u32) -> u32
+fn whole_pointers(b: &Accessible<'_>, known: &mut VerifiedRanges, table: u32, count: u32) -> u32
     requires aligned { table % 4 ≡ 0 }
     requires pointers { 0 < count → table + 4 * count ≤ length b.now.bytes.now }
     requires known { AreKnown (IsWhole b.now.order b.now.bytes.now) known.old }
@@ -201,7 +201,7 @@ fn whole_pointers(b: &Accessible<'_>, known: &mut Known, table: u32, count: u32)
 
 /// The least fault of the block pointers. Those that are known to lead to whole blocks are not
 /// looked at again.
-fn pointer_fault(b: &Accessible<'_>, known: &mut Known, at: usize) -> Option<Fault>
+fn pointer_fault(b: &Accessible<'_>, known: &mut VerifiedRanges, at: usize) -> Option<Fault>
     requires header { at + 12 ≤ length b.now.bytes.now }
     requires known { AreKnown (IsWhole b.now.order b.now.bytes.now) known.old }
     ensures known { AreKnown (IsWhole b.now.order b.now.bytes.now) known.new }
@@ -233,7 +233,12 @@ fn pointer_fault(b: &Accessible<'_>, known: &mut Known, at: usize) -> Option<Fau
 }
 
 /// The least fault of the entry at `at` of a list that ends at `end`.
-pub fn entry_fault(b: &Accessible<'_>, known: &mut Known, end: usize, at: usize) -> Option<Fault>
+pub fn entry_fault(
+    b: &Accessible<'_>,
+    known: &mut VerifiedRanges,
+    end: usize,
+    at: usize,
+) -> Option<Fault>
     requires known { AreKnown (IsWhole b.now.order b.now.bytes.now) known.old }
     requires end { end ≤ length b.now.bytes.now }
     requires at { at < 2 ^ 32 }

@@ -6,21 +6,10 @@ ghost use Rattle.crc.specs.Crc.{crc_of};
 ghost use Rattle.cramfs_format.specs.Superblock.{order_of, accessible, HasSize, without_crc, HasCrc, HasSignature, HasRoot, IsSuperblock, HasImageFault};
 
 use crate::accessible::Accessible;
+use cramfs_format::disk::{ALL_FLAGS, MAGIC, MOST_BYTES, SHIFTED_ROOT, SIGNATURE};
 use cramfs_format::order::Order;
 use crc::{crc32, crc32_more};
 use rom_faults::{Fault, fault};
-
-/// The first word of an image.
-const MAGIC: u32 = 0x28cd_3d45;
-
-/// The flag that the root's list may stand anywhere.
-const SHIFTED_ROOT: u32 = 0x400;
-
-/// Flags from here on are not known.
-const ALL_FLAGS: u32 = 0x1000;
-
-/// `Compressed ROMFS`, which stands at 16.
-const SIGNATURE: [u8; 16] = *b"Compressed ROMFS";
 
 /// What the field of the CRC is taken as.
 const NO_CRC: [u8; 4] = [0; 4];
@@ -55,7 +44,7 @@ fn accessible_bytes<'a>(order: Order, bytes: &'a [u8]) -> Option<&'a [u8]>
         }
         return Some(&bytes[..size]);
     }
-    Some(&bytes[..bytes.len().min(268_435_456)])
+    Some(&bytes[..bytes.len().min(MOST_BYTES as usize)])
 }
 
 /// The CRC of the bytes with the field that holds it taken as zero.

@@ -4,7 +4,7 @@ use Rattle.std.specs.List.{AllByRecursion as Every}
 use Rattle.std.specs.List.Sorted.{IsNonDecreasingBy}
 use Rattle.std.proofs.lemmas.List.Sorted.{IsPermutation-trans, IsPermutation-map}
 use Rattle.layout_terms.specs.Items.{Item}
-use Rattle.cramfs_plan.specs.declared.entry.Entry.{Entry}
+use Rattle.cramfs_plan.specs.declared.wide_inode.WideInode.{WideInode}
 use Rattle.cramfs_plan.specs.Entries.{entry_view}
 use Rattle.cramfs_plan.specs.Orders.{Rises}
 use Rattle.cramfs_plan.specs.Small.{IsSmall, cut}
@@ -29,24 +29,24 @@ pub all_uncut : (is : List Item) → Every IsSmall is → map cut is ≡ is
 all_uncut [] h = refl
 all_uncut (i ∷ is) h = ap₂ ◌∷◌ (uncut i h.0) (all_uncut is h.1)
 
-viewed : (f : Item → Item) (es : List Entry) → map (λ e. f (entry_view e)) es ≡ map f (map entry_view es)
+viewed : (f : Item → Item) (es : List WideInode) → map (λ e. f (entry_view e)) es ≡ map f (map entry_view es)
 viewed f [] = refl
 viewed f (e ∷ es) = ap (λ (is : List Item). f (entry_view e) ∷ is) (viewed f es)
 
-ascends_viewed : (es : List Entry) → Ascends (λ (e : Entry). e.place) es → Ascends (λ (i : Item). i.place) (map entry_view es)
+ascends_viewed : (es : List WideInode) → Ascends (λ (e : WideInode). e.place) es → Ascends (λ (i : Item). i.place) (map entry_view es)
 ascends_viewed [] h = tt
 ascends_viewed (e ∷ es) h = (all es h.0, ascends_viewed es h.1)
   where
-    all : (fs : List Entry) → Every (λ (f : Entry). e.place ≤ f.place) fs → Every (λ (i : Item). e.place ≤ i.place) (map entry_view fs)
+    all : (fs : List WideInode) → Every (λ (f : WideInode). e.place ≤ f.place) fs → Every (λ (i : Item). e.place ≤ i.place) (map entry_view fs)
     all [] k = tt
     all (f ∷ fs) k = (k.0, all fs k.1)
 
-pub sorted_are : (es fs : List Entry) (is : List Item) → Rises (λ (i : Item). i.place) is → Every IsSmall is
-    → IsPermutation is (map entry_view es) → IsPermutation es fs → IsNonDecreasingBy (λ (f : Entry). f.place) fs
+pub sorted_are : (es fs : List WideInode) (is : List Item) → Rises (λ (i : Item). i.place) is → Every IsSmall is
+    → IsPermutation is (map entry_view es) → IsPermutation es fs → IsNonDecreasingBy (λ (f : WideInode). f.place) fs
     → map (λ e. cut (entry_view e)) fs ≡ is
 sorted_are es fs is up small same moved sorted =
     let whole = IsPermutation-trans is (map entry_view es) (map entry_view fs) same (IsPermutation-map entry_view es fs moved) in
-    let they = same_order (λ (i : Item). i.place) is (map entry_view fs) up whole (ascends_viewed fs (ascends (λ (f : Entry). f.place) fs sorted)) in
+    let they = same_order (λ (i : Item). i.place) is (map entry_view fs) up whole (ascends_viewed fs (ascends (λ (f : WideInode). f.place) fs sorted)) in
     viewed cut fs ∙ ap (map cut) they ∙ all_uncut is small
 
 pub ok_then : {A E : Type 0} (P Q : A → Type 0) (r : Result A E) → ((a : A) → P a → Q a) → IfOk r P → IfOk r Q

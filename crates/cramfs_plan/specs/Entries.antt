@@ -8,13 +8,13 @@ use Rattle.layout_terms.specs.Items.{Item}
 use Rattle.cramfs_layout.specs.Layout.{Table, Kept, nowhere, shared, fresh, pad4, with_table, table_with, table_by, size_by, after_by}
 use Rattle.cramfs_layout.specs.Items.{item_of, start_by}
 use Rattle.manifest_rows.specs.Rows.{bytes_view}
-use Rattle.cramfs_plan.specs.declared.entry.Entry as code_entry
+use Rattle.cramfs_plan.specs.declared.wide_inode.WideInode as code_wide_inode
 use Rattle.cramfs_plan.specs.declared.kept.Kept as code_kept
 use Rattle.cramfs_plan.specs.declared.kept.Kept.TheVariants as kept
 use Rattle.cramfs_plan.specs.declared.kept.Stored as code_stored
 use Rattle.cramfs_plan.specs.Passes.{offset_by}
 
-abbrev pub entry_view : code_entry.Entry → Item
+abbrev pub entry_view : code_wide_inode.WideInode → Item
 entry_view e = record {
   place = e.place;
   first = get_or e.words 0 0;

@@ -11,7 +11,7 @@ ghost use Rattle.manifest_tree.specs.Names.{no_bytes};
 ghost use Rattle.manifest_rows.specs.Rows.{bytes_view, inode_view};
 ghost use Rattle.plan_types.specs.Views.{fill_view, item_view};
 
-use crate::entry::Entry;
+use crate::wide_inode::WideInode;
 use manifest::Name;
 use manifest_rows::Bytes;
 use plan_types::{Fill, Item};
@@ -45,7 +45,7 @@ fn low(n: u64) -> u32
 }
 
 /// The item of an entry, whose numbers are cut to 32 bits.
-fn item_of(alloc: Global, entry: &Entry<'_>) -> Result<Item, OutOfMemory>
+fn item_of(alloc: Global, entry: &WideInode<'_>) -> Result<Item, OutOfMemory>
     ensures { IfOk result (λ item. item_view item ≡ cut (entry_view entry.now)) }
 {
     let name = name_of(alloc, entry.name)?;
@@ -66,7 +66,7 @@ fn item_of(alloc: Global, entry: &Entry<'_>) -> Result<Item, OutOfMemory>
 }
 
 /// The items of entries, in their order.
-fn items_of(alloc: Global, entries: &[Entry<'_>]) -> Result<Vec<Item>, OutOfMemory>
+fn items_of(alloc: Global, entries: &[WideInode<'_>]) -> Result<Vec<Item>, OutOfMemory>
     ensures { IfOk result (λ items. map item_view items.items
         ≡ map (λ e. cut (entry_view e)) entries.now) }
 {
@@ -78,7 +78,7 @@ fn items_of(alloc: Global, entries: &[Entry<'_>]) -> Result<Vec<Item>, OutOfMemo
 }
 
 /// The items of entries, in the order of their places.
-pub fn sorted_items(alloc: Global, entries: Vec<Entry<'_>>) -> Result<Vec<Item>, OutOfMemory>
+pub fn sorted_items(alloc: Global, entries: Vec<WideInode<'_>>) -> Result<Vec<Item>, OutOfMemory>
     ensures { (is : List terms.Item) → Rises (λ (i : terms.Item). i.place) is → Every IsSmall is
         → IsPermutation is (map entry_view entries.entry.items)
         → IfOk result (λ items. map item_view items.items ≡ is) }

@@ -16,11 +16,12 @@ ghost use Rattle.manifest_rows.specs.Fits.{IsFit};
 ghost use Rattle.manifest_rows.specs.Rows.{rows as rows_of, row_view, inode_view};
 ghost use Rattle.plan_types.specs.Views.{item_view};
 
-use crate::entry::Entry;
 use crate::items::sorted_items;
 use crate::lens::{Lens, list_lens};
 use crate::walk::{Placed, ROOT_LIST, place_rows};
+use crate::wide_inode::WideInode;
 use crate::words::{first_word, second_word, third_word};
+use cramfs_format::disk;
 use cramfs_format::order::Order;
 use manifest_rows::{Bytes, Inode, Row, deepest};
 use plan_types::{Item, Laid};
@@ -28,8 +29,8 @@ use rom_fields::memory::OutOfMemory;
 use rom_fields::word::pad;
 use std::alloc::Global;
 
-/// Where the root's inode stands, in the superblock.
-const ROOT_PLACE: u64 = 64;
+/// Where the root's inode stands.
+const ROOT_PLACE: u64 = disk::ROOT as u64;
 
 /// The most items of an image: 2^20, this project's limit of references.
 const MOST_ITEMS: usize = 1 << 20;
@@ -37,8 +38,8 @@ const MOST_ITEMS: usize = 1 << 20;
 /// The most names on the way to a file, this project's limit.
 const MOST_NAMES: usize = 64;
 
-/// The most bytes of an image: 2^28, this project's limit.
-const MOST_BYTES: u64 = 1 << 28;
+/// The most bytes of an image.
+const MOST_BYTES: u64 = disk::MOST_BYTES as u64;
 
 /// What the length of a list is below: 2^24, as its inode has 24 bits for it.
 const LIST_LIMIT: u64 = 1 << 24;
@@ -58,13 +59,13 @@ fn has_long_list(lens: &Lens) -> bool
 }
 
 /// The entry of the root's inode, whose list has this length.
-fn root_entry<'a>(order: Order, root: &Inode<'a>, len: u64) -> Entry<'a>
+fn root_entry<'a>(order: Order, root: &Inode<'a>, len: u64) -> WideInode<'a>
     requires { len < 2 ^ 24 }
     ensures { entry_view result ≡ item_of order root_place [] (inode_view root.now) len
         (if len == 0 then 0 else 76) 0 0 0 no_bytes }
 {
     let offset = if len == 0 { 0 } else { ROOT_LIST };
-    Entry {
+    WideInode {
         place: ROOT_PLACE,
         words: [
             first_word(order, root),
@@ -85,7 +86,7 @@ fn all_items<'a>(
     order: Order,
     root: &Inode<'a>,
     len: u64,
-    entries: Vec<Entry<'a>>,
+    entries: Vec<WideInode<'a>>,
 ) -> Result<Vec<Item>, OutOfMemory>
     requires { len < 2 ^ 24 }
     ensures { (is : List terms.Item) → Rises (λ (i : terms.Item). i.place) is → Every IsSmall is
@@ -99,7 +100,7 @@ fn all_items<'a>(
 }
 
 /// The layout of names in a byte order, and nothing where the whole is too large.
-pub fn layout<'a>(
+pub fn lay_out<'a>(
     alloc: Global,
     order: Order,
     root: &Inode<'a>,

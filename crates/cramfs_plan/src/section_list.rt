@@ -9,13 +9,14 @@ ghost use Rattle.layout_terms.specs.Items.{SectionsRise, bytes_section};
 ghost use Rattle.plan_types.specs.Views.{item_view, section_view};
 
 use crate::words::entry_len;
+use cramfs_format::disk::HEAD;
 use plan_types::{Body, Fill, Item, Section};
 use rom_fields::memory::OutOfMemory;
 use std::alloc::Global;
 use std::collections::BTreeSet;
 
 /// How many bytes the superblock has, with the root's inode.
-const SUPER: u32 = 76;
+const SUPER: u32 = HEAD as u32;
 
 /// How many bytes the block pointers of so many bytes take, four for each block of 4,096.
 fn table_len(len: u32) -> u32

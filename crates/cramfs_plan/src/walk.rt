@@ -8,10 +8,11 @@ ghost use Rattle.cramfs_plan.specs.Passes.{Walk, first_walk, item_by, state_by, 
 ghost use Rattle.cramfs_plan.specs.Placers.{StandsAt, IsNear};
 ghost use Rattle.manifest_rows.specs.Rows.{bytes_view, inode_view, row_view};
 
-use crate::entry::Entry;
 use crate::kept::{Stored, stored_file, stored_list};
 use crate::lens::DEPTHS;
+use crate::wide_inode::WideInode;
 use crate::words::{entry_len, first_word, second_word, third_word};
+use cramfs_format::disk::HEAD;
 use cramfs_format::order::Order;
 use manifest_rows::{Bytes, Row, What};
 use rom_fields::memory::OutOfMemory;
@@ -20,7 +21,7 @@ use std::alloc::Global;
 use std::collections::BTreeMap;
 
 /// Where the root's list begins, behind the superblock and the root's inode.
-pub const ROOT_LIST: u64 = 76;
+pub const ROOT_LIST: u64 = HEAD as u64;
 
 /// What is placed so far.
 #[derive(Drop)]
@@ -36,19 +37,25 @@ pub struct Placer {
 /// What the rows place, and where it ends.
 #[derive(Drop)]
 pub struct Placed<'a> {
-    pub entries: Vec<Entry<'a>>,
+    pub entries: Vec<WideInode<'a>>,
     pub end: u64,
 }
 
 /// An inode with its name.
-fn entry<'a>(order: Order, place: u64, row: Row<'a>, stored: Stored, bytes: Bytes<'a>) -> Entry<'a>
+fn entry<'a>(
+    order: Order,
+    place: u64,
+    row: Row<'a>,
+    stored: Stored,
+    bytes: Bytes<'a>,
+) -> WideInode<'a>
     requires short { length row.name.now < 256 }
     requires size { stored.size < 2 ^ 41 }
     requires offset { stored.offset < 2 ^ 52 }
     ensures { entry_view result ≡ stored_item order place row.entry.name.now
         (inode_view row.entry.inode) stored (bytes_view bytes.entry) }
 {
-    Entry {
+    WideInode {
         place,
         words: [
             first_word(order, &row.inode),
@@ -103,7 +110,12 @@ impl Placer {
     }
 
     /// Places a row whose own list has this length.
-    fn place<'a>(&mut self, order: Order, row: Row<'a>, len: u64) -> Result<Entry<'a>, OutOfMemory>
+    fn place<'a>(
+        &mut self,
+        order: Order,
+        row: Row<'a>,
+        len: u64,
+    ) -> Result<WideInode<'a>, OutOfMemory>
         requires row { IsRow row }
         requires len { len < 2 ^ 24 }
         requires near { IsNear (2 ^ 48) self.old }

@@ -14,8 +14,8 @@ ghost use Rattle.cramfs_write.specs.Known.{IsBody, IsCramfsPlan};
 
 use crate::record::{put_inode, put_pointers, put_superblock};
 use cramfs_format::order::Order;
-use image_stream::layout::Layout;
 use image_stream::outline::Outline;
+use image_stream::segmented::Segmented;
 use plan_types::{Body, Fill, Format, Item, Plan, Section};
 
 /// The plan of a cramfs image.
@@ -154,7 +154,7 @@ impl<'p> CramfsForm<'p> {
     }
 }
 
-impl Layout for CramfsForm<'_> {
+impl Segmented for CramfsForm<'_> {
     ghost form = { λ s. form_of s.order s.plan.now };
 
     fn files(&self) -> usize {

@@ -3,6 +3,7 @@ ghost use Rattle.std.specs.Prelude.{◌≡◌, ◌+◌, ◌-◌, ◌*◌, ◌/�
 ghost use Rattle.cramfs_layout.specs.Layout.{word_bytes, entry_len, pointers};
 ghost use Rattle.cramfs_write.specs.Form.{words_bytes, inode_bytes, front_storing, superblock_storing};
 
+use cramfs_format::disk::{MAGIC, SIGNATURE};
 use cramfs_format::order::Order;
 
 /// Size and crc are stored, lists are sorted, pointers have bits for the kind of their blocks.
@@ -89,11 +90,11 @@ fn put_front(order: Order, size: u32, crc: u32, out: &mut [u8]) -> usize
     ensures length { length out.new ≡ length out.old }
     ensures put { take 40 out.new ≡ front_storing order crc size }
 {
-    let at = put_word(order, out, 0, 0x28cd_3d45);
+    let at = put_word(order, out, 0, MAGIC);
     let at = put_word(order, out, at, size);
     let at = put_word(order, out, at, FLAGS);
     let at = put_word(order, out, at, 0);
-    let at = put(out, at, b"Compressed ROMFS");
+    let at = put(out, at, SIGNATURE.as_slice());
     let at = put_word(order, out, at, crc);
     put_word(order, out, at, 0)
 }

@@ -6,16 +6,15 @@ ghost use Rattle.image_check.specs.Any.{any_view, report_of};
 ghost use Rattle.image_check.specs.Checked.{Shows, IsRefused, BeginsRomfs, BeginsCramfs, HasFormat, IsFaultless, IsLeastFault, neither};
 
 use crate::any::AnyImage;
+use cramfs_format::disk::MAGIC as CRAMFS_MAGIC;
 use cramfs_format::order::Order;
 use cramfs_image::image::Cramfs;
 use rom_faults::CheckError;
 use rom_faults::fault::{MAGIC, SHORT};
 use rom_tree::types::Limits;
+use romfs_format::disk::MAGIC as ROMFS_MAGIC;
 use romfs_image::image::Romfs;
 use std::alloc::Global;
-
-/// The first word of a cramfs image.
-const CRAMFS_MAGIC: u32 = 0x28cd_3d45;
 
 /// Fewer bytes are too short to name a format.
 const SHORTEST: usize = 8;
@@ -24,7 +23,7 @@ const SHORTEST: usize = 8;
 fn is_romfs(bytes: &[u8]) -> bool
     ensures { IsTrue result ↔ BeginsRomfs bytes.now }
 {
-    bytes.len() >= 8 && &bytes[..8] == b"-rom1fs-".as_slice()
+    bytes.len() >= 8 && &bytes[..8] == ROMFS_MAGIC.as_slice()
 }
 
 /// Whether the bytes begin as a cramfs image does, in either byte order.

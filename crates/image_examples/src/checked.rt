@@ -12,7 +12,7 @@ use std::test::Fail;
 fn is_big(alloc: Global, bytes: &[u8]) -> Result<Option<bool>, CheckError> {
     match check(alloc, bytes, Limits::usual())? {
         AnyImage::Romfs(_) => Ok(None),
-        AnyImage::Cramfs(image) => Ok(Some(image.big())),
+        AnyImage::Cramfs(image) => Ok(Some(image.is_big_endian())),
     }
 }
 

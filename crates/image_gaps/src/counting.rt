@@ -7,6 +7,7 @@ ghost use Rattle.image_gaps.specs.Held.{HoldsRomfs, HoldsCramfs};
 use crate::cramfs_records::cramfs_spans;
 use crate::romfs_records::{romfs_spans, word};
 use crate::spans::unused_bytes;
+use cramfs_format::disk::MOST_BYTES;
 use cramfs_format::order::Order;
 use image_check::AnyImage;
 use rom_fields::memory::OutOfMemory;
@@ -33,7 +34,7 @@ fn size_of_cramfs(order: Order, all: &[u8]) -> u32
     if order.word(all, 8) % 2 == 1 {
         order.word(all, 4)
     } else {
-        all.len().min(268_435_456) as u32
+        all.len().min(MOST_BYTES as usize) as u32
     }
 }
 

@@ -18,7 +18,7 @@ use std::alloc::Global;
 
 /// Why the facts of an image were not written whole.
 #[derive(Clone, Copy, Debug, PartialEq, Eq)]
-pub enum Trouble {
+pub enum InfoError {
     /// Memory was refused, and nothing was written.
     OutOfMemory,
     /// A write failed. A prefix of the text was written.
@@ -67,17 +67,17 @@ pub fn write_info<W: ByteWrite>(
     image: &AnyImage<'_>,
     file: u64,
     w: &mut W,
-) -> Result<(), Trouble>
+) -> Result<(), InfoError>
     requires shallow { levels (any_view image.now).tree ≤ 65 }
     requires checked { IsChecked image.now }
     ensures { WritesAll (W.output w.old) (W.output w.new) (info_text file image.now) result }
 {
     let report = image.report();
     let Ok(tally) = count_names(alloc, image) else {
-        return Err(Trouble::OutOfMemory);
+        return Err(InfoError::OutOfMemory);
     };
     let Ok(gaps) = count_gaps(alloc, image) else {
-        return Err(Trouble::OutOfMemory);
+        return Err(InfoError::OutOfMemory);
     };
     let mut failed = false;
     put_superblock(w, &mut failed, file, image);
@@ -85,7 +85,7 @@ pub fn write_info<W: ByteWrite>(
     put_tally(w, &mut failed, tally);
     put_number(w, &mut failed, b"gaps ", gaps as u64);
     if failed {
-        Err(Trouble::WriteFault)
+        Err(InfoError::WriteFault)
     } else {
         Ok(())
     }

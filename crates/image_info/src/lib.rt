@@ -12,5 +12,5 @@ mod tally;
 #[cfg(test)]
 mod tests;
 
-pub use info::{Trouble, write_info};
+pub use info::{InfoError, write_info};
 pub use superblock::volume;

@@ -9,6 +9,7 @@ ghost use Rattle.image_info.specs.Info.{cramfs_name, romfs_text, cramfs_text, su
 
 use crate::line::{put_number, put_plain, put_text, put_word};
 use byteorder::{BigEndian, ByteOrder};
+use cramfs_format::disk::MOST_BYTES;
 use cramfs_format::order::Order;
 use image_check::AnyImage;
 use memchr::memchr;
@@ -109,7 +110,7 @@ fn size_of_cramfs(order: Order, bytes: &[u8]) -> u64
     if order.word(bytes, 8) % 2 == 1 {
         order.word(bytes, 4) as u64
     } else {
-        bytes.len().min(268_435_456) as u64
+        bytes.len().min(MOST_BYTES as usize) as u64
     }
 }
 

@@ -5,24 +5,20 @@ ghost use Rattle.image_check.specs.Checked.{BeginsRomfs, BeginsCramfs};
 ghost use Rattle.image_reach.specs.Reach.{Reaches, size_in};
 ghost use Rattle.romfs_format.specs.Tree.{full_size};
 
+use cramfs_format::disk::{MAGIC as CRAMFS_MAGIC, MOST_BYTES};
 use cramfs_format::order::Order;
 use rom_fields::word::be32;
+use romfs_format::disk::MAGIC as ROMFS_MAGIC;
 
 /// How many bytes at the front of a file say how far its image goes.
 pub const HEAD: usize = 76;
-
-/// The first word of a cramfs image.
-const CRAMFS_MAGIC: u32 = 0x28cd_3d45;
-
-/// How far a cramfs image goes at most that states no size.
-const MOST: u64 = 268_435_456;
 
 /// Whether the bytes begin as a romfs image does.
 fn begins_romfs(head: &[u8]) -> bool
     requires { 76 ≤ length head.now }
     ensures { IsTrue result ↔ BeginsRomfs head.now }
 {
-    &head[..8] == b"-rom1fs-".as_slice()
+    &head[..8] == ROMFS_MAGIC.as_slice()
 }
 
 /// The byte order of the cramfs image as which the bytes begin, in either order.
@@ -61,7 +57,7 @@ fn cramfs_size(order: Order, head: &[u8]) -> u64
         let size = order.word(head, 4);
         return u64::from(size).max(HEAD as u64);
     }
-    MOST
+    MOST_BYTES as u64
 }
 
 /// How many bytes at the front of a file a check of it looks at, by the first 76 of them, or all,

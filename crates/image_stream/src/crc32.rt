@@ -2,7 +2,7 @@
 ghost use Rattle.std.specs.Prelude.{◌≡◌};
 ghost use Rattle.crc.specs.Crc.{crc_of};
 
-use crate::check::Check;
+use crate::checksum::Checksum;
 use crc::crc32_more;
 
 /// The CRC-32 of the bytes so far.
@@ -11,7 +11,7 @@ pub struct Crc32 {
     value: u32,
 }
 
-impl Check for Crc32 {
+impl Checksum for Crc32 {
     ghost Is = { λ s xs. s.value ≡ crc_of xs };
 
     ghost stored = { crc_of };

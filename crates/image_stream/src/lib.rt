@@ -7,15 +7,15 @@
 //! `specs/Outcomes.antt` says what each error means.
 #![tactic(auto)]
 
-pub mod check;
+pub mod checksum;
 pub mod crc32;
 pub mod fault;
 pub mod laws;
-pub mod layout;
 pub mod measure;
 pub mod nowhere;
 pub mod outline;
 pub mod pieces;
+pub mod segmented;
 pub mod slices;
 #[cfg(test)]
 mod small;

@@ -5,7 +5,7 @@ ghost use Rattle.image_stream.specs.Outcomes.{AreSized};
 ghost use Rattle.image_stream.specs.Steps.{IsSizeFault, IsLeastFault};
 
 use crate::fault::StreamError;
-use crate::layout::Layout;
+use crate::segmented::Segmented;
 use crate::sources::{SourceFailed, Sources};
 
 /// Whether a file has at least so many bytes, which a read of the last one of them tells.
@@ -67,7 +67,7 @@ fn measure<S: Sources>(
 }
 
 /// Measures all files, in order.
-pub fn measure_all<L: Layout, S: Sources>(
+pub fn measure_all<L: Segmented, S: Sources>(
     layout: &L,
     sources: &mut S,
     buffer: &mut [u8],

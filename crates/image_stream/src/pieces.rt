@@ -6,10 +6,10 @@ ghost use Rattle.image_stream.specs.Sources.{Told, content_of};
 ghost use Rattle.image_stream.specs.Segments.{Segment, place, len, segment_at, outline, IsBody, HasSource, bytes_of, zeros, IsLaidOut, IsImage, image_from};
 ghost use Rattle.image_stream.specs.Steps.{IsPiece, IsNext, next_bytes, IsReadFault, IsFault, Gone};
 
-use crate::check::Check;
+use crate::checksum::Checksum;
 use crate::fault::StreamError;
-use crate::layout::Layout;
 use crate::outline::Outline;
+use crate::segmented::Segmented;
 use crate::sources::{SourceFailed, Sources};
 use rom_fields::bytes::{ByteWrite, Failed};
 use rom_fields::sink::write_whole;
@@ -43,7 +43,7 @@ pub fn read_exactly<S: Sources>(
 }
 
 /// Writes the bytes, and adds them to the check value.
-pub fn emit<W: ByteWrite, C: Check>(w: &mut W, check: &mut C, bytes: &[u8]) -> Result<(), Failed>
+pub fn emit<W: ByteWrite, C: Checksum>(w: &mut W, check: &mut C, bytes: &[u8]) -> Result<(), Failed>
     ensures text { WritesText (W.output w.old).contents (W.output w.new).contents result bytes.now }
     ensures count { Counts (W.output w.old).failures (W.output w.new).failures result }
     ensures check { (xs : List ℕ) → C.Is check.old xs → C.Is check.new (xs ++ bytes.now) }
@@ -53,7 +53,7 @@ pub fn emit<W: ByteWrite, C: Check>(w: &mut W, check: &mut C, bytes: &[u8]) -> R
 }
 
 /// Fills the buffer with the bytes of a segment from `from` on.
-pub fn piece<L: Layout, S: Sources>(
+pub fn piece<L: Segmented, S: Sources>(
     layout: &L,
     sources: &mut S,
     i: usize,
@@ -89,7 +89,7 @@ pub fn piece<L: Layout, S: Sources>(
 }
 
 /// Sends a segment out, piece by piece.
-pub fn copy_segment<L: Layout, S: Sources, W: ByteWrite, C: Check>(
+pub fn copy_segment<L: Segmented, S: Sources, W: ByteWrite, C: Checksum>(
     layout: &L,
     sources: &mut S,
     i: usize,
@@ -146,7 +146,7 @@ fn clear(out: &mut [u8])
 }
 
 /// Sends zeros out.
-pub fn emit_zeros<W: ByteWrite, C: Check>(
+pub fn emit_zeros<W: ByteWrite, C: Checksum>(
     w: &mut W,
     check: &mut C,
     count: usize,
@@ -177,7 +177,7 @@ pub fn emit_zeros<W: ByteWrite, C: Check>(
 }
 
 /// Sends out the zeros before a segment, and the segment. Its end.
-fn next_segment<L: Layout, S: Sources, W: ByteWrite, C: Check>(
+fn next_segment<L: Segmented, S: Sources, W: ByteWrite, C: Checksum>(
     layout: &L,
     sources: &mut S,
     i: usize,
@@ -226,7 +226,7 @@ fn next_segment<L: Layout, S: Sources, W: ByteWrite, C: Check>(
 }
 
 /// Sends out all that follows the superblock.
-pub fn walk<L: Layout, S: Sources, W: ByteWrite, C: Check>(
+pub fn walk<L: Segmented, S: Sources, W: ByteWrite, C: Checksum>(
     layout: &L,
     sources: &mut S,
     w: &mut W,

@@ -4,14 +4,14 @@ ghost use Rattle.std.specs.Prelude.{◌∷◌, []};
 ghost use Rattle.byteorder.specs.Endian.{little_bytes};
 ghost use Rattle.image_stream.specs.Segments.{fixed, content};
 
-use crate::layout::Layout;
 use crate::outline::Outline;
+use crate::segmented::Segmented;
 use byteorder::{ByteOrder, LittleEndian};
 
 #[derive(Drop)]
 pub struct Small;
 
-impl Layout for Small {
+impl Segmented for Small {
     ghost form = { λ _. record {
       head = λ v. 109 ∷ 105 ∷ 110 ∷ 105 ∷ little_bytes 4 v;
       start = 8;

@@ -8,18 +8,18 @@ ghost use Rattle.image_stream.specs.declared.fault.StreamError.TheVariants.{Chan
 ghost use Rattle.image_stream.specs.Segments.{IsLaidOut, image_of};
 ghost use Rattle.image_stream.specs.Outcomes.{AreSized, IsStreamFault, IsWritten};
 
-use crate::check::Check;
+use crate::checksum::Checksum;
 use crate::fault::StreamError;
-use crate::layout::Layout;
 use crate::measure::measure_all;
 use crate::pieces::walk;
+use crate::segmented::Segmented;
 use crate::sources::Sources;
 use crate::summing::sum_walk;
 use rom_fields::bytes::{ByteWrite, Failed};
 use rom_fields::sink::write_whole;
 
 /// Adds the superblock that stores no value.
-fn add_head<L: Layout, C: Check>(layout: &L, check: &mut C, buffer: &mut [u8])
+fn add_head<L: Segmented, C: Checksum>(layout: &L, check: &mut C, buffer: &mut [u8])
     requires { (L.form layout.now).start ≤ length buffer.old }
     ensures { (xs : List ℕ) → C.Is check.old xs
         → C.Is check.new (xs ++ (L.form layout.now).head 0) }
@@ -30,7 +30,7 @@ fn add_head<L: Layout, C: Check>(layout: &L, check: &mut C, buffer: &mut [u8])
 }
 
 /// Writes the superblock.
-fn write_head<L: Layout, W: ByteWrite>(
+fn write_head<L: Segmented, W: ByteWrite>(
     layout: &L,
     stored: u32,
     w: &mut W,
@@ -47,7 +47,7 @@ fn write_head<L: Layout, W: ByteWrite>(
 }
 
 /// Compares the check value that was stored with that of what was written.
-fn confirm<C: Check>(written: &C, stored: u32) -> Result<(), StreamError>
+fn confirm<C: Checksum>(written: &C, stored: u32) -> Result<(), StreamError>
     ensures ok { OnOk result ((xs : List ℕ) → C.Is written.now xs → stored ≡ C.stored xs) }
     ensures err { IfErr result (λ e. (e ≡ Changed)
         × ((xs : List ℕ) → C.Is written.now xs → stored ≢ C.stored xs)) }
@@ -65,7 +65,7 @@ fn confirm<C: Check>(written: &C, stored: u32) -> Result<(), StreamError>
 ///
 /// At `Ok` just the image was written, whatever the sources told. After an error a prefix of it
 /// was, where the sources tell their contents.
-pub fn stream_through<L: Layout, S: Sources, W: ByteWrite, C: Check>(
+pub fn stream_through<L: Segmented, S: Sources, W: ByteWrite, C: Checksum>(
     layout: &L,
     sources: &mut S,
     w: &mut W,
@@ -124,7 +124,7 @@ pub fn stream_through<L: Layout, S: Sources, W: ByteWrite, C: Check>(
 }
 
 /// Writes an image as `stream_through` does, through one buffer of 4,096 bytes.
-pub fn stream<L: Layout, S: Sources, W: ByteWrite, C: Check>(
+pub fn stream<L: Segmented, S: Sources, W: ByteWrite, C: Checksum>(
     layout: &L,
     sources: &mut S,
     w: &mut W,

@@ -5,16 +5,16 @@ ghost use Rattle.image_stream.specs.Segments.{place, len, segment_at, IsBody, Ha
 ghost use Rattle.image_stream.specs.Outcomes.{AreSized};
 ghost use Rattle.image_stream.specs.Steps.{IsNext, IsFault, Gone};
 
-use crate::check::Check;
+use crate::checksum::Checksum;
 use crate::fault::StreamError;
-use crate::layout::Layout;
 use crate::nowhere::Nowhere;
 use crate::pieces::{emit_zeros, piece};
+use crate::segmented::Segmented;
 use crate::sources::Sources;
 use rom_fields::bytes::Failed;
 
 /// Adds a segment to the check value, piece by piece, until no further byte counts.
-fn sum_segment<L: Layout, S: Sources, C: Check>(
+fn sum_segment<L: Segmented, S: Sources, C: Checksum>(
     layout: &L,
     sources: &mut S,
     i: usize,
@@ -58,7 +58,7 @@ fn sum_segment<L: Layout, S: Sources, C: Check>(
 }
 
 /// Adds the zeros before a segment, and the segment. Its end.
-fn sum_next<L: Layout, S: Sources, C: Check>(
+fn sum_next<L: Segmented, S: Sources, C: Checksum>(
     layout: &L,
     sources: &mut S,
     i: usize,
@@ -101,7 +101,7 @@ fn sum_next<L: Layout, S: Sources, C: Check>(
 }
 
 /// Adds all that follows the superblock to the check value. What no longer counts is not read.
-pub fn sum_walk<L: Layout, S: Sources, C: Check>(
+pub fn sum_walk<L: Segmented, S: Sources, C: Checksum>(
     layout: &L,
     sources: &mut S,
     check: &mut C,

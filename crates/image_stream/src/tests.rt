@@ -1,6 +1,6 @@
 ghost use Rattle.std.specs.Prelude.{◌≡◌, ◌%◌, ◌≤◌, length};
 
-use crate::check::Check;
+use crate::checksum::Checksum;
 use crate::crc32::Crc32;
 use crate::fault::{SizeDiffers, StreamError};
 use crate::slices::Slices;

@@ -3,7 +3,7 @@ ghost use Rattle.std.specs.Prelude.{◌≡◌, ◌∷◌, [], ◌++◌, ◌+◌,
 ghost use Rattle.std.specs.Bool.{OnTrue};
 ghost use Rattle.image_stream.specs.WordSums.{IsSum, balance_of, weight};
 
-use crate::check::Check;
+use crate::checksum::Checksum;
 
 /// How many of the first 512 bytes there were, and the sum of their words so far.
 #[derive(Clone, Copy)]
@@ -54,7 +54,7 @@ fn with_bytes(s: WordSum, bytes: &[u8]) -> WordSum
     sum
 }
 
-impl Check for WordSum {
+impl Checksum for WordSum {
     ghost Is = { λ s xs. IsSum s.place s.sum xs };
 
     ghost stored = { balance_of };

@@ -4,14 +4,14 @@ ghost use Rattle.image_stream.specs.Segments.{place, len, segment_at, outline, H
 ghost use Rattle.image_stream.specs.Outcomes.{FrontSized, AreSized, IsLeastWrong};
 ghost use Rattle.image_stream.specs.Steps.{next_bytes};
 
-use crate::check::Check;
+use crate::checksum::Checksum;
 use crate::fault::SizeDiffers;
-use crate::layout::Layout;
 use crate::outline::Outline;
+use crate::segmented::Segmented;
 use rom_fields::contents::Contents;
 
 /// Whether all contents have the planned sizes.
-fn sizes_agree<L: Layout>(layout: &L, contents: &Contents<'_>) -> Result<(), SizeDiffers>
+fn sizes_agree<L: Segmented>(layout: &L, contents: &Contents<'_>) -> Result<(), SizeDiffers>
     requires { length contents.now ≡ length (L.form layout.now).sizes }
     ensures ok { OnOk result (AreSized (L.form layout.now).sizes contents.now) }
     ensures err { IfErr result
@@ -31,7 +31,7 @@ fn sizes_agree<L: Layout>(layout: &L, contents: &Contents<'_>) -> Result<(), Siz
 }
 
 /// Fills a window with a segment.
-fn fill_segment<L: Layout>(layout: &L, contents: &Contents<'_>, i: usize, out: &mut [u8])
+fn fill_segment<L: Segmented>(layout: &L, contents: &Contents<'_>, i: usize, out: &mut [u8])
     requires index { i < length (L.form layout.now).segments }
     requires room { length out.old ≡ len (segment_at (L.form layout.now).segments i) }
     requires count { length contents.now ≡ length (L.form layout.now).sizes }
@@ -61,7 +61,7 @@ fn zero(out: &mut [u8], from: usize, to: usize)
 }
 
 /// Puts a segment at its place.
-fn put_segment<L: Layout>(
+fn put_segment<L: Segmented>(
     layout: &L,
     contents: &Contents<'_>,
     i: usize,
@@ -84,7 +84,7 @@ fn put_segment<L: Layout>(
 }
 
 /// Puts the superblock.
-fn put_head<L: Layout>(layout: &L, stored: u32, out: &mut [u8])
+fn put_head<L: Segmented>(layout: &L, stored: u32, out: &mut [u8])
     requires { (L.form layout.now).start ≤ length out.old }
     ensures put { out.new ≡ (L.form layout.now).head stored
         ++ drop (L.form layout.now).start out.old }
@@ -95,7 +95,7 @@ fn put_head<L: Layout>(layout: &L, stored: u32, out: &mut [u8])
 }
 
 /// Puts the zeros before a segment, and the segment. Its end.
-fn put_next<L: Layout>(
+fn put_next<L: Segmented>(
     layout: &L,
     contents: &Contents<'_>,
     i: usize,
@@ -122,7 +122,7 @@ fn put_next<L: Layout>(
 }
 
 /// Writes an image. After an error the buffer is as it was.
-pub fn write<L: Layout, C: Check>(
+pub fn write<L: Segmented, C: Checksum>(
     layout: &L,
     contents: &Contents<'_>,
     out: &mut [u8],

@@ -55,7 +55,7 @@ fn place_cramfs<'a>(
         (λ l. HasNoMisfit (cramfs order) m sizes × (l.image_len ≡ len_of (cramfs order) m sizes)
         × (map item_view l.items.items ≡ items_of (cramfs order) m sizes))) }
 {
-    cramfs_plan::layout(alloc, order, root, rows)
+    cramfs_plan::lay_out(alloc, order, root, rows)
 }
 
 /// The layout of a manifest whose lines fit, and nothing where the whole is too large.

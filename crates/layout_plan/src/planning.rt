@@ -8,7 +8,7 @@ ghost use Rattle.plan_types.specs.Plans.{IsPlanOf};
 use crate::error::PlanError;
 use crate::laid::{place, sections};
 use manifest::{Manifest, Name};
-use manifest_rows::{Files, root, rows};
+use manifest_rows::{PathTargets, root, rows};
 use plan_misfits::least_of_lines;
 use plan_misfits::misfit::TOO_LARGE;
 use plan_types::{Format, Plan};
@@ -43,7 +43,7 @@ pub fn plan(alloc: Global, m: &Manifest, sizes: &[u64], format: Format) -> Resul
     ensures ok { IfOk result (IsPlanOf (format_of format) m.now sizes.now) }
     ensures err { IfErr result (IsRefusal (format_of format) m.now sizes.now) }
 {
-    let files = Files::new(alloc, m, sizes)?;
+    let files = PathTargets::new(alloc, m, sizes)?;
     if let Some(misfit) = least_of_lines(format, m, &files) {
         return Err(PlanError::Refused {
             line: misfit.line,

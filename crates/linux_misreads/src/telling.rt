@@ -9,7 +9,7 @@ ghost use Rattle.linux_misreads.specs.Misreads.{is_told, misreads_text, volume_m
 use crate::files::first_files;
 use crate::names::put_misreads;
 use image_check::AnyImage;
-use image_info::{Trouble, volume};
+use image_info::{InfoError, volume};
 use rom_fields::bytes::ByteWrite;
 use rom_fields::sink::put;
 use rom_tree::Walk;
@@ -51,13 +51,13 @@ pub fn misreads<W: ByteWrite>(
     alloc: Global,
     image: &AnyImage<'_>,
     w: &mut W,
-) -> Result<bool, Trouble>
+) -> Result<bool, InfoError>
     requires { levels (any_view image.now).tree ≤ 65 }
     ensures text { WritesAll (W.output w.old) (W.output w.new) (misreads_text image.now) result }
     ensures told { IfOk result (λ b. b ≡ is_told (misreads_text image.now)) }
 {
     let Ok(first) = first_files(alloc, image) else {
-        return Err(Trouble::OutOfMemory);
+        return Err(InfoError::OutOfMemory);
     };
     let mut failed = false;
     let mut told = put_volume(image, w, &mut failed);
@@ -70,5 +70,5 @@ pub fn misreads<W: ByteWrite>(
             told = true;
         }
     }
-    Err(Trouble::WriteFault)
+    Err(InfoError::WriteFault)
 }

@@ -8,20 +8,20 @@ use Rattle.std.specs.Str.{bytes_eq}
 use Rattle.manifest.specs.declared.line.Line.{Line}
 use Rattle.manifest.specs.Lines.{is_file, is_hard, is_same, filed, led}
 use Rattle.manifest_tree.specs.Tree.{sources_before}
-use Rattle.manifest_rows.specs.declared.files.Contents.{Contents}
+use Rattle.manifest_rows.specs.declared.files.SourceUse.{SourceUse}
 use Rattle.manifest_rows.specs.declared.files.Target.{Target}
-use Rattle.manifest_rows.specs.declared.files.Files.{Files}
+use Rattle.manifest_rows.specs.declared.files.PathTargets.{PathTargets}
 
 -- the contents of a `file` line: those of its source, aligned as it asks for
-abbrev pub contents_of : List Line → List ℕ → Line → Contents
+abbrev pub contents_of : List Line → List ℕ → Line → SourceUse
 contents_of lines sizes l =
     let k = sources_before l.number lines in record { align = l.align; size = get_or sizes k 0; source = k }
 
 -- The contents that a path leads to. Of all lines, the `latest` are those that count, from the last to the first.
-abbrev pub contents_in : List Line → List ℕ → List Line → List ℕ → Option Contents
+abbrev pub contents_in : List Line → List ℕ → List Line → List ℕ → Option SourceUse
 contents_in all sizes latest path = option_map (contents_of all sizes) (filed latest path)
 
-abbrev pub contents_at : List Line → List ℕ → List ℕ → Option Contents
+abbrev pub contents_at : List Line → List ℕ → List ℕ → Option SourceUse
 contents_at lines sizes path = contents_in lines sizes (reverse lines) path
 
 -- the index, if any, is that of the line, if any
@@ -50,7 +50,7 @@ abbrev pub Knows : {A S : Type 0} → List Line → List ℕ → List Line → H
 Knows all sizes latest m = (path : List ℕ) → IsTarget all sizes latest path (or_nowhere (noted m path))
 
 -- the contents of a line that is not `hard`, where so many sources come before it
-abbrev pub own_contents : {A S : Type 0} → HashMap (Vec ℕ A) Target S → List ℕ → ℕ → Line → Option Contents
+abbrev pub own_contents : {A S : Type 0} → HashMap (Vec ℕ A) Target S → List ℕ → ℕ → Line → Option SourceUse
 own_contents m sizes source l =
     if is_same l.word then (or_nowhere (noted m l.text)).contents
     else (if is_file l.word then Some (record { align = l.align; size = get_or sizes source 0; source = source })
@@ -63,5 +63,5 @@ own_target m sizes source index l =
     else record { line = Some index; contents = own_contents m sizes source l }
 
 -- what is known of the paths of a manifest
-abbrev pub IsOf : List Line → List ℕ → Files → Type 0
+abbrev pub IsOf : List Line → List ℕ → PathTargets → Type 0
 IsOf lines sizes f = Knows lines sizes (reverse lines) f.paths

@@ -6,13 +6,13 @@ use Rattle.manifest.specs.declared.line.Word.{Word}
 use Rattle.manifest.specs.declared.line.Word.TheVariants.{Dir, File, Slink, Block, Character, Fifo, Socket, Hard, Same}
 use Rattle.manifest_tree.specs.Names.{no_bytes, text, source, Inode}
 use Rattle.manifest_tree.specs.Tree.{plain}
-use Rattle.manifest_rows.specs.declared.files.Contents.{Contents}
+use Rattle.manifest_rows.specs.declared.files.SourceUse.{SourceUse}
 
-abbrev pub regular_from : Line → Option Contents → Inode
+abbrev pub regular_from : Line → Option SourceUse → Inode
 regular_from l None = plain l kind.Regular 4 0 no_bytes
 regular_from l (Some c) = plain l kind.Regular c.align c.size (source c.source)
 
-abbrev pub inode_from : Word → Line → Option Contents → Inode
+abbrev pub inode_from : Word → Line → Option SourceUse → Inode
 inode_from Dir l o = plain l kind.Directory 4 0 no_bytes
 inode_from File l o = regular_from l o
 inode_from Same l o = regular_from l o

@@ -14,7 +14,7 @@ use std::collections::HashMap;
 
 /// The contents of a regular file.
 #[derive(Clone, Copy, PartialEq, Eq)]
-pub struct Contents {
+pub struct SourceUse {
     /// Their place is to be a multiple of this, in bytes.
     pub align: u32,
     /// How many bytes they are.
@@ -28,12 +28,12 @@ pub struct Contents {
 struct Target {
     /// The index of a line.
     line: Option<usize>,
-    contents: Option<Contents>,
+    contents: Option<SourceUse>,
 }
 
 /// What the paths of the lines that were read lead to.
 #[derive(Drop)]
-pub struct Files {
+pub struct PathTargets {
     paths: HashMap<Vec<u8>, Target, Seeded>,
 }
 
@@ -85,7 +85,7 @@ fn own_target(
     let contents = match line.word {
         Word::Hard => return leads_to(paths, line.text.as_bytes()),
         Word::Same => leads_to(paths, line.text.as_bytes()).contents,
-        Word::File => Some(Contents {
+        Word::File => Some(SourceUse {
             align: line.align,
             size: sizes[source],
             source,
@@ -99,10 +99,10 @@ fn own_target(
     }
 }
 
-impl Files {
+impl PathTargets {
     /// What the paths of a manifest lead to, where its sources have these sizes. The time that it
     /// takes grows with the number of lines.
-    pub fn new(alloc: Global, m: &Manifest, sizes: &[u64]) -> Result<Files, OutOfMemory>
+    pub fn new(alloc: Global, m: &Manifest, sizes: &[u64]) -> Result<PathTargets, OutOfMemory>
         requires { length sizes.now ≡ length (lines.sources_of m.now.lines) }
         ensures { IfOk result (IsOf m.now.lines sizes.now) }
     {
@@ -118,11 +118,11 @@ impl Files {
                 source += 1;
             }
         }
-        Ok(Files { paths })
+        Ok(PathTargets { paths })
     }
 
     /// The contents that a path leads to, if it leads to a regular file.
-    pub fn contents(&self, path: &[u8]) -> Option<Contents>
+    pub fn contents(&self, path: &[u8]) -> Option<SourceUse>
         ensures { (lines : List Line) (sizes : List ℕ) → IsOf lines sizes self.now
             → result ≡ contents_at lines sizes path.now }
     {

@@ -7,7 +7,7 @@ ghost use Rattle.manifest_rows.specs.Files.{IsOf};
 ghost use Rattle.manifest_rows.specs.Made.{inode_from, regular_from};
 ghost use Rattle.manifest_rows.specs.Rows.{bytes_view, inode_view};
 
-use crate::files::{Contents, Files};
+use crate::files::{PathTargets, SourceUse};
 use crate::row::{Bytes, Inode};
 use manifest::{Line, Manifest, Word};
 use rom_tree::Kind;
@@ -38,7 +38,7 @@ fn plain<'a>(line: &Line, kind: Kind, align: u32, size: u64, bytes: Bytes<'a>) -
 }
 
 /// A regular file with these contents, or an empty one.
-fn regular<'a>(line: &Line, contents: Option<Contents>) -> Inode<'a>
+fn regular<'a>(line: &Line, contents: Option<SourceUse>) -> Inode<'a>
     ensures { inode_view result ≡ regular_from line.now contents }
 {
     match contents {
@@ -54,7 +54,7 @@ fn regular<'a>(line: &Line, contents: Option<Contents>) -> Inode<'a>
 }
 
 /// The file that a line makes, where its path leads to these contents.
-fn inode_from<'a>(line: &'a Line, contents: Option<Contents>) -> Inode<'a>
+fn inode_from<'a>(line: &'a Line, contents: Option<SourceUse>) -> Inode<'a>
     ensures { inode_view result ≡ inode_from line.now.word line.now contents }
 {
     let kind = match line.word {
@@ -80,7 +80,7 @@ fn inode_from<'a>(line: &'a Line, contents: Option<Contents>) -> Inode<'a>
 }
 
 /// The file that a line makes.
-fn inode_of<'a>(line: &'a Line, files: &Files) -> Inode<'a>
+fn inode_of<'a>(line: &'a Line, files: &PathTargets) -> Inode<'a>
     ensures { (lines : List decl.Line) (sizes : List ℕ) → IsOf lines sizes files.now
         → inode_view result ≡ tree.inode_of lines sizes line.now }
 {
@@ -88,7 +88,7 @@ fn inode_of<'a>(line: &'a Line, files: &Files) -> Inode<'a>
 }
 
 /// The file that a path leads to, if it leads to one.
-pub fn inode_at<'a>(m: &'a Manifest, files: &Files, path: &[u8]) -> Option<Inode<'a>>
+pub fn inode_at<'a>(m: &'a Manifest, files: &PathTargets, path: &[u8]) -> Option<Inode<'a>>
     ensures { (sizes : List ℕ) → IsOf m.now.lines sizes files.now
         → option_map inode_view result ≡ tree.file_at m.now.lines sizes path.now }
 {
@@ -103,7 +103,7 @@ pub fn inode_at<'a>(m: &'a Manifest, files: &Files, path: &[u8]) -> Option<Inode
 
 /// The root's file: that of the line about it, or of a directory of mode 0755 that belongs to 0.
 #[tactic(auto, unfolding(manifest_tree::specs::Tree::root_of))]
-pub fn root<'a>(m: &'a Manifest, files: &Files) -> Inode<'a>
+pub fn root<'a>(m: &'a Manifest, files: &PathTargets) -> Inode<'a>
     ensures { (sizes : List ℕ) → IsOf m.now.lines sizes files.now
         → inode_view result ≡ tree.root_of m.now.lines sizes }
 {

@@ -7,7 +7,7 @@ ghost use Rattle.manifest_rows.specs.Keyed.{behind, count, zeroed};
 ghost use Rattle.manifest_rows.specs.Keyed.{keyed, listed, put_file, put_keyed, row_at};
 ghost use Rattle.manifest_rows.specs.Rows.{inode_view, row_view, what_view};
 
-use crate::files::Files;
+use crate::files::PathTargets;
 use crate::inodes::inode_at;
 use crate::row::{Inode, Row, What};
 use manifest::{Line, Manifest, Word};
@@ -99,7 +99,7 @@ pub fn put_line<'a>(
     alloc: Global,
     rows: &mut BTreeMap<Vec<u8>, Row<'a>>,
     m: &'a Manifest,
-    files: &Files,
+    files: &PathTargets,
     line: &'a Line,
 ) -> Result<(), OutOfMemory>
     ensures { (sizes : List ℕ) → IsOf m.now.lines sizes files.now → OnOk result

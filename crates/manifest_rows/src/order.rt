@@ -5,7 +5,7 @@ ghost use Rattle.manifest_tree.specs.Tree.{tree_of};
 ghost use Rattle.manifest_rows.specs.Files.{IsOf};
 ghost use Rattle.manifest_rows.specs.Rows.{row_view, rows};
 
-use crate::files::Files;
+use crate::files::PathTargets;
 use crate::keyed::put_line;
 use crate::row::Row;
 use manifest::Manifest;
@@ -31,7 +31,11 @@ fn in_order<'a>(
 /// # Errors
 ///
 /// `OutOfMemory` where memory was refused.
-pub fn rows<'a>(alloc: Global, m: &'a Manifest, files: &Files) -> Result<Vec<Row<'a>>, OutOfMemory>
+pub fn rows<'a>(
+    alloc: Global,
+    m: &'a Manifest,
+    files: &PathTargets,
+) -> Result<Vec<Row<'a>>, OutOfMemory>
     ensures { (sizes : List ℕ) → IsOf m.now.lines sizes files.now
         → IfOk result (λ v. map row_view v.items ≡ rows 1 (tree_of m.now.lines sizes)) }
 {

@@ -1,4 +1,4 @@
-use crate::files::Files;
+use crate::files::PathTargets;
 use crate::{Bytes, Inode, Row, What, root, rows};
 use manifest::parse;
 use rom_tree::Kind;
@@ -83,7 +83,7 @@ fn expected() -> [Row<'static>; 7] {
 fn rows_of_a_manifest(rt: HostRuntime) -> Result<(), Fail> {
     let manifest = parse(rt.alloc(), TEXT)?;
     assert_eq!(rt; manifest.sources().len(), SIZES.len());
-    let files = Files::new(rt.alloc(), &manifest, &SIZES)?;
+    let files = PathTargets::new(rt.alloc(), &manifest, &SIZES)?;
     let found = rows(rt.alloc(), &manifest, &files)?;
     let wanted = expected();
     assert_eq!(rt; found.len(), wanted.len());
@@ -101,7 +101,7 @@ fn rows_of_a_manifest(rt: HostRuntime) -> Result<(), Fail> {
 fn a_root_without_a_line(rt: HostRuntime) -> Result<(), Fail> {
     let manifest = parse(rt.alloc(), b"")?;
     assert_eq!(rt; manifest.sources().len(), 0);
-    let files = Files::new(rt.alloc(), &manifest, &[])?;
+    let files = PathTargets::new(rt.alloc(), &manifest, &[])?;
     assert_eq!(rt; rows(rt.alloc(), &manifest, &files)?.len(), 0);
     assert_eq!(rt;
         root(&manifest, &files),

@@ -6,7 +6,7 @@ use Rattle.std.specs.BTreeMap.{BTreeMap, get, Updates, is_at}
 use Rattle.std.specs.Ordering.{nat_cmp}
 use Rattle.std.specs.Result.{is_err}
 use Rattle.rom_tree.specs.Tree.{Entries}
-use Rattle.name_index.specs.declared.rows.Row.{Row}
+use Rattle.name_index.specs.declared.rows.NamedNode.{NamedNode}
 use Rattle.name_index.specs.Indices.{IsIndexOf, AreIndices}
 
 at_tells : (p q : ℕ) → ((is_at (nat_cmp p) q ≡ true) × (p ≡ q)) ⊎ ((is_at (nat_cmp p) q ≡ false) × (p ≢ q))
@@ -25,7 +25,7 @@ not_err (Ok v) P h e = h
 not_err (Err v) P h e = absurd (false≢true e)
 
 -- one more index
-pub kept_more : {A : Type 0} (list : ℕ → Entries) (m n : BTreeMap ℕ (Vec Row A)) (k : ℕ) (v : Vec Row A) → AreIndices list m → IsIndexOf (list k) v.items → Updates nat_cmp m n k (Some v) → AreIndices list n
+pub kept_more : {A : Type 0} (list : ℕ → Entries) (m n : BTreeMap ℕ (Vec NamedNode A)) (k : ℕ) (v : Vec NamedNode A) → AreIndices list m → IsIndexOf (list k) v.items → Updates nat_cmp m n k (Some v) → AreIndices list n
 kept_more list m n k v old is u d rows h = elim (at_tells k d) [
   | inl w ↦
       let got : get nat_cmp n d ≡ Some v = u.0 d ∙ rw w.0 refl in

@@ -7,7 +7,7 @@ use Rattle.rom_tree.specs.declared.types.NodeId.{NodeId}
 use Rattle.rom_tree.specs.declared.types.Entry.{Entry}
 use Rattle.rom_tree.proofs.Nodes.{drop_entries-some, drop_entries-none}
 use Rattle.rom_tree.proofs.Named.{directory_by, index_by, next_cursor}
-use Rattle.name_index.specs.declared.rows.Row.{Row}
+use Rattle.name_index.specs.declared.rows.NamedNode.{NamedNode}
 use Rattle.name_index.specs.Indices.{entries_at, entries_in, number_of, first_of}
 use Rattle.name_index.proofs.Firsts.{or_else, first_joined}
 
@@ -61,7 +61,7 @@ abbrev pub number_in : Entries → List ℕ → Option NodeId
 number_in es name = number_of (find_entry es name)
 
 -- the rows so far, and then what is still to come, tell of each name what the list does
-pub record Tells (m : Image) (d c : ℕ) (rows : List Row) : Type 0 where
+pub record Tells (m : Image) (d c : ℕ) (rows : List NamedNode) : Type 0 where
   pub cursor : HasCursor m d c
   pub first : (name : List ℕ) → or_else (first_of rows name) (number_in (left m d c) name) ≡ number_in (entries_in m d) name
 
@@ -77,11 +77,11 @@ one_named : (b : Bool) (n : NodeId) (x : Node) (found : Option Node) → ino_of 
 one_named true n x found e = ap (λ (k : ℕ). let r : NodeId = record { 0 = k } in Some r) (sym e)
 one_named false n x found e = refl
 
-pub tells_more : (m : Image) (d c : ℕ) (rows : List Row) (e : Entry) (more : List Row) → Tells m d c rows → IsNext m d c e → more ≡ rows ++ record { name = e.name; node = e.node } ∷ [] → Tells m d e.cursor.0 more
+pub tells_more : (m : Image) (d c : ℕ) (rows : List NamedNode) (e : Entry) (more : List NamedNode) → Tells m d c rows → IsNext m d c e → more ≡ rows ++ record { name = e.name; node = e.node } ∷ [] → Tells m d e.cursor.0 more
 tells_more m d c rows e more told next is = subst (Tells m d e.cursor.0) (sym is) (record {
   cursor = next.cursor;
   first = λ name.
-      let r : Row = record { name = e.name; node = e.node } in
+      let r : NamedNode = record { name = e.name; node = e.node } in
       let after : Entries = left m d e.cursor.0 in
       ap (λ (o : Option NodeId). or_else o (number_in after name)) (first_joined rows (r ∷ []) name)
       ∙ (else_joined (first_of rows name) (first_of (r ∷ []) name) (number_in after name)
@@ -90,6 +90,6 @@ tells_more m d c rows e more told next is = subst (Tells m d e.cursor.0) (sym is
       ∙ told.first name));
 })
 
-pub tells_end : (m : Image) (d c : ℕ) (rows : List Row) (name : List ℕ) → Tells m d c rows → left m d c ≡ no_entries → first_of rows name ≡ number_in (entries_in m d) name
+pub tells_end : (m : Image) (d c : ℕ) (rows : List NamedNode) (name : List ℕ) → Tells m d c rows → left m d c ≡ no_entries → first_of rows name ≡ number_in (entries_in m d) name
 tells_end m d c rows name told none =
     sym (else_none (first_of rows name)) ∙ (ap (λ (es : Entries). or_else (first_of rows name) (number_in es name)) (sym none) ∙ told.first name)

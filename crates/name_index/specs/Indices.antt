@@ -11,7 +11,7 @@ use Rattle.rom_tree.specs.Image.{Image, image_node, find_entry}
 use Rattle.rom_tree.specs.declared.types.NodeId.{NodeId}
 use Rattle.name_index.specs.declared.front.Front.{Front}
 use Rattle.name_index.specs.declared.front.Front.TheVariants.{Leads, Absent, Longer}
-use Rattle.name_index.specs.declared.rows.Row.{Row}
+use Rattle.name_index.specs.declared.rows.NamedNode.{NamedNode}
 
 abbrev pub entries_at : Option Node → Entries
 entries_at None = no_entries
@@ -33,22 +33,22 @@ IsTold es name Absent = number_of (find_entry es name) ≡ None
 IsTold es name Longer = 16 < entry_count es
 
 -- names in the order of their bytes
-abbrev pub by_name : Row → Row → Ordering
+abbrev pub by_name : NamedNode → NamedNode → Ordering
 by_name x y = slice_cmp nat_cmp x.name.now y.name.now
 
 -- whether a row's name comes before this one
-abbrev pub is_below : List ℕ → Row → Bool
+abbrev pub is_below : List ℕ → NamedNode → Bool
 is_below name x = is_lt (slice_cmp nat_cmp x.name.now name)
 
 -- where the first row with just this name leads
-abbrev pub first_of : List Row → List ℕ → Option NodeId
+abbrev pub first_of : List NamedNode → List ℕ → Option NodeId
 first_of [] name = None
 first_of (x ∷ xs) name = if bytes_eq x.name.now name then Some x.node else first_of xs name
 
 -- The rows are sorted by names, and the first row with a name leads where the list's first entry with it does.
-abbrev pub IsIndexOf : Entries → List Row → Type 0
+abbrev pub IsIndexOf : Entries → List NamedNode → Type 0
 IsIndexOf es rows = IsSorted by_name rows × ((name : List ℕ) → first_of rows name ≡ number_of (find_entry es name))
 
 -- each kept index is that of its directory's list
-abbrev pub AreIndices : {A : Type 0} → (ℕ → Entries) → BTreeMap ℕ (Vec Row A) → Type 0
-AreIndices {A} list kept = (d : ℕ) (rows : Vec Row A) → get nat_cmp kept d ≡ Some rows → IsIndexOf (list d) rows.items
+abbrev pub AreIndices : {A : Type 0} → (ℕ → Entries) → BTreeMap ℕ (Vec NamedNode A) → Type 0
+AreIndices {A} list kept = (d : ℕ) (rows : Vec NamedNode A) → get nat_cmp kept d ≡ Some rows → IsIndexOf (list d) rows.items

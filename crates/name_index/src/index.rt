@@ -5,7 +5,7 @@ ghost use Rattle.rom_tree.specs.Image.{image_node, HasDirectory, find_entry};
 ghost use Rattle.name_index.specs.Indices.{AreIndices, entries_in};
 
 use crate::front::{Front, front_of};
-use crate::rows::{Row, rows_of};
+use crate::rows::{NamedNode, rows_of};
 use crate::search::find;
 use rom_tree::image::{TreeImage, Viewed};
 use rom_tree::types::{Cursor, Entry, NodeId, Run, Stat};
@@ -22,7 +22,7 @@ use std::collections::BTreeMap;
 pub struct Indexed<'a, T: Viewed> {
     image: T,
     alloc: Global,
-    indices: BTreeMap<u32, Vec<Row<'a>>>,
+    indices: BTreeMap<u32, Vec<NamedNode<'a>>>,
     full: bool,
     ghost right: { AreIndices (entries_in (T.image image)) indices },
 }

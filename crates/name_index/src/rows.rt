@@ -10,7 +10,7 @@ use std::alloc::Global;
 
 /// A name of a list, whose bytes are the image's own, and the node to which it leads.
 #[derive(Clone, Copy)]
-pub(crate) struct Row<'a> {
+pub(crate) struct NamedNode<'a> {
     pub(crate) name: &'a [u8],
     pub(crate) node: NodeId,
 }
@@ -25,14 +25,14 @@ pub(crate) fn rows_of<'a, T: TreeImage<'a>>(
     alloc: Global,
     image: &T,
     d: NodeId,
-) -> Result<Vec<Row<'a>>, OutOfMemory>
+) -> Result<Vec<NamedNode<'a>>, OutOfMemory>
     requires { HasDirectory (T.image image.now) d.0 }
     ensures { IfOk result (λ rows. IsIndexOf (entries_in (T.image image.now) d.0) rows.items) }
 {
-    let mut rows: Vec<Row<'a>> = Vec::new(alloc);
+    let mut rows: Vec<NamedNode<'a>> = Vec::new(alloc);
     let mut cursor = Cursor::START;
     while let Some(entry) = image.entry(d, cursor) {
-        rows.push(Row {
+        rows.push(NamedNode {
             name: entry.name,
             node: entry.node,
         })?;

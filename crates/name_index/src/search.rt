@@ -4,11 +4,11 @@ ghost use Rattle.std.specs.List.Sorted.{IsSorted, IsPartitionPoint};
 ghost use Rattle.name_index.specs.Indices.{by_name, first_of, is_below};
 
 use crate::names::{is_before, is_same};
-use crate::rows::Row;
+use crate::rows::NamedNode;
 use rom_tree::types::NodeId;
 
 /// How many of the rows of an index have a name that comes before this one, by halves.
-fn rows_before(rows: &[Row<'_>], name: &[u8]) -> usize
+fn rows_before(rows: &[NamedNode<'_>], name: &[u8]) -> usize
     ensures within { result ≤ length rows.now }
     ensures parts { IsSorted by_name rows.now
         → IsPartitionPoint (λ x. is_below name.now x ≡ true) (λ x. is_below name.now x ≡ false)
@@ -28,7 +28,7 @@ fn rows_before(rows: &[Row<'_>], name: &[u8]) -> usize
 }
 
 /// Where the first row with just this name leads. `None` where no row has it.
-pub(crate) fn find(rows: &[Row<'_>], name: &[u8]) -> Option<NodeId>
+pub(crate) fn find(rows: &[NamedNode<'_>], name: &[u8]) -> Option<NodeId>
     ensures { IsSorted by_name rows.now → result ≡ first_of rows.now name.now }
 {
     let place = rows_before(rows, name);

@@ -10,7 +10,7 @@ use Rattle.rom_tree.specs.Tree.{is_directory, ino_of}
 use Rattle.rom_tree.specs.Image.{Image}
 use Rattle.path_walk.specs.declared.mount.Mount.{Mount}
 use Rattle.path_walk.specs.Resolution.{resolution}
-use Rattle.path_walk.specs.Graft.{GraftNode, Names, graft, covers, tree_in, node_in, is_mount, is_apart, are_apart, are_mounts, is_directory_node}
+use Rattle.path_walk.specs.Graft.{MountedNode, Names, graft, covers, tree_in, node_in, is_mount, is_apart, are_apart, are_mounts, is_directory_node}
 use Rattle.path_walk.specs.Trails.{IsMember, first, later}
 use Rattle.path_walk.proofs.Mounts.{and_left, and_right, good_mount}
 use Rattle.path_walk.proofs.GraftNodes.{none_some, node_in-number, node_below}
@@ -125,7 +125,7 @@ lt_true a b h = search (rules, tests)
 not_zero : (n : ℕ) → 0 < n → not (n == 0) ≡ true
 not_zero n h = ap not (false_from_ne_true (n == 0) (λ t. absurd (omega (arith, h, eqb-true n 0 t))))
 
-pub new_mount : (ms : List Image) (u : Mount) (s : GraftNode) → Names ms u.on u.dir.0 s → 0 < u.image → u.image < length ms → is_directory s.node ≡ true → (ino_of s.node == ino_of (tree_in ms s.image)) ≡ false → is_mount ms u ≡ true
+pub new_mount : (ms : List Image) (u : Mount) (s : MountedNode) → Names ms u.on u.dir.0 s → 0 < u.image → u.image < length ms → is_directory s.node ≡ true → (ino_of s.node == ino_of (tree_in ms s.image)) ≡ false → is_mount ms u ≡ true
 new_mount ms u s n z l d r =
     let b : u.on < length ms = node_below ms u.on u.dir.0 s.node n.node in
     let t : (u.dir.0 == ino_of (tree_in ms u.on)) ≡ false = ap (λ (v : ℕ). v == ino_of (tree_in ms u.on)) (sym (node_in-number ms u.on u.dir.0 s.node n.node)) ∙ (ap (λ (v : ℕ). ino_of s.node == ino_of (tree_in ms v)) n.image ∙ r) in
@@ -141,7 +141,7 @@ mounting_goes ms us i path l z m =
     let t : nat_lt i (length ms) ≡ true = lt_true i (length ms) l in
     rw (t, n, m) refl
 
-pub mounting_over : (ms : List Image) (us : List Mount) (u : Mount) (s : GraftNode) → Names ms u.on u.dir.0 s → is_directory s.node ≡ true → (ino_of s.node == ino_of (tree_in ms s.image)) ≡ false
+pub mounting_over : (ms : List Image) (us : List Mount) (u : Mount) (s : MountedNode) → Names ms u.on u.dir.0 s → is_directory s.node ≡ true → (ino_of s.node == ino_of (tree_in ms s.image)) ≡ false
     → mount_over us u.image s (is_directory s.node) (ino_of s.node == ino_of (tree_in ms s.image)) ≡ give tt (us ++ u ∷ [])
 mounting_over ms us u s n d r =
     let q : mount_over us u.image s (is_directory s.node) (ino_of s.node == ino_of (tree_in ms s.image)) ≡ give tt (us ++ (record { image = u.image; on = s.image; dir = record { 0 = ino_of s.node } }) ∷ []) = rw (d, r) refl in

@@ -8,7 +8,7 @@ use Rattle.rom_tree.specs.Tree.{ino_of}
 use Rattle.rom_tree.specs.Image.{Image}
 use Rattle.path_walk.specs.declared.mount.Mount.{Mount}
 use Rattle.path_walk.specs.declared.error.WalkError.{WalkError}
-use Rattle.path_walk.specs.Graft.{GraftNode, Names, node_in, IsUncovered}
+use Rattle.path_walk.specs.Graft.{MountedNode, Names, node_in, IsUncovered}
 use Rattle.path_walk.proofs.GraftNodes.{node_in-number}
 use Rattle.path_walk.proofs.Mounts.{and_left, and_right}
 use Rattle.open_files.specs.declared.error.CallError.{CallError}
@@ -23,12 +23,12 @@ use Rattle.open_files.proofs.Standing.{by_map}
 use Rattle.open_files.proofs.Tables.{and_both, table-replicate, stand-replicate}
 
 -- a node of a number in the graft
-pub names_by : (ms : List Image) (us : List Mount) (i n : ℕ) (s : GraftNode) → (graft_view ms us).place i n ≡ Some s → Names ms i n s
+pub names_by : (ms : List Image) (us : List Mount) (i n : ℕ) (s : MountedNode) → (graft_view ms us).place i n ≡ Some s → Names ms i n s
 names_by ms us i n s h =
     let r = by_map (graft_node i) (node_in ms i n) s h in
-    record { image = ap (λ (v : GraftNode). v.image) r.2; node = r.1 ∙ ap (λ (v : GraftNode). Some v.node) r.2 }
+    record { image = ap (λ (v : MountedNode). v.image) r.2; node = r.1 ∙ ap (λ (v : MountedNode). Some v.node) r.2 }
 
-pub place_by : (ms : List Image) (us : List Mount) (i n : ℕ) (s : GraftNode) → Names ms i n s → (graft_view ms us).place i n ≡ Some s
+pub place_by : (ms : List Image) (us : List Mount) (i n : ℕ) (s : MountedNode) → Names ms i n s → (graft_view ms us).place i n ≡ Some s
 place_by ms us i n s h = rw h.node (ap (λ (v : ℕ). Some (record { image = v; node = s.node })) h.image)
 
 module _ (n : ℕ) (ms : List Image) (us : List Mount) where
@@ -76,14 +76,14 @@ module _ {S : Type 0} (f : S → List (Option OpenNode)) where
   all_sound_set ms us (t ∷ ts) (suc k) z h e = and_both (are_sound (graft_view ms us) (f t)) (all_sound ms us (map f (slice_set ts k z))) (and_left (are_sound (graft_view ms us) (f t)) (all_sound ms us (map f ts)) h) (all_sound_set ms us ts k z (and_right (are_sound (graft_view ms us) (f t)) (all_sound ms us (map f ts)) h) e)
 
   -- a session's answer is that on its own slots, which then stand in their place
-  pub own_sets : {R : Type 0} (n : ℕ) (ms : List Image) (us : List Mount) (ts : List S) (k : ℕ) (d z : S) (a : Table GraftNode → Answer (Table GraftNode) R) (r : Result R CallError) → k < length ts
+  pub own_sets : {R : Type 0} (n : ℕ) (ms : List Image) (us : List Mount) (ts : List S) (k : ℕ) (d z : S) (a : Table MountedNode → Answer (Table MountedNode) R) (r : Result R CallError) → k < length ts
       → a (table_of (graft_view ms us) (f (get_or ts k d))) ≡ answer r (table_of (graft_view ms us) (f z))
       → own_answer (space_state n ms us (map f ts)) k (a (table_of (graft_view ms us) (slots_at n (map f ts) k))) ≡ answer r (space_state n ms us (map f (slice_set ts k z)))
   own_sets n ms us ts k d z a r l e =
-      let g : List (Option OpenNode) → Table GraftNode = λ x. table_of (graft_view ms us) x in
+      let g : List (Option OpenNode) → Table MountedNode = λ x. table_of (graft_view ms us) x in
       let q : a (g (slots_at n (map f ts) k)) ≡ answer r (g (f z)) = ap (λ x. a (g x)) (slots_index n ts k d l) ∙ e in
       ap (own_answer (space_state n ms us (map f ts)) k) q
-      ∙ ap (λ (o : ℕ → Table GraftNode). answer r (record { shared = us; own = o })) (sym (fun_ext (slots_set g n ts k z l)))
+      ∙ ap (λ (o : ℕ → Table MountedNode). answer r (record { shared = us; own = o })) (sym (fun_ext (slots_set g n ts k z l)))
 
 same_number : (j k : ℕ) → (j == k) ≡ true → j ≡ k
 same_number j k e = eqb-true j k e
@@ -96,13 +96,13 @@ own_same g k j =
     ] refl
 
 -- a session's answer that leaves its slots
-pub own_stays : {R : Type 0} (n : ℕ) (ms ms' : List Image) (us us' : List Mount) (ts ts' : List (List (Option OpenNode))) (k : ℕ) (a : Answer (Table GraftNode) R) (r : Result R CallError)
+pub own_stays : {R : Type 0} (n : ℕ) (ms ms' : List Image) (us us' : List Mount) (ts ts' : List (List (Option OpenNode))) (k : ℕ) (a : Answer (Table MountedNode) R) (r : Result R CallError)
     → ms' ≡ ms → us' ≡ us → ts' ≡ ts → a ≡ answer r (table_of (graft_view ms us) (slots_at n ts k))
     → own_answer (space_state n ms us ts) k a ≡ answer r (space_state n ms' us' ts')
 own_stays n ms ms' us us' ts ts' k a r e f h q =
-    let g : ℕ → Table GraftNode = λ j. table_of (graft_view ms us) (slots_at n ts j) in
+    let g : ℕ → Table MountedNode = λ j. table_of (graft_view ms us) (slots_at n ts j) in
     ap (own_answer (space_state n ms us ts) k) q
-    ∙ (ap (λ (o : ℕ → Table GraftNode). answer r (record { shared = us; own = o })) (fun_ext (own_same g k))
+    ∙ (ap (λ (o : ℕ → Table MountedNode). answer r (record { shared = us; own = o })) (fun_ext (own_same g k))
     ∙ (ap (λ z. answer r (space_state n z us ts)) (sym e) ∙ (ap (λ z. answer r (space_state n ms' z ts)) (sym f) ∙ ap (λ z. answer r (space_state n ms' us' z)) (sym h))))
 
 -- other mounts: the tables are the same
@@ -132,20 +132,20 @@ pub eight_empty : (n : ℕ) (ms : List Image) (us : List Mount) (v : List (Optio
 eight_empty n ms us v e h =
     let q : (k : ℕ) → table_of (graft_view ms us) (slots_at n (v ∷ v ∷ v ∷ v ∷ v ∷ v ∷ v ∷ v ∷ []) k) ≡ replicate n None
     = λ k. ap (λ z. table_of (graft_view ms us) z) (eight_at n v h k) ∙ table-replicate (stands (graft_view ms us)) n in
-    ap (λ (o : ℕ → Table GraftNode). record { shared = us; own = o }) (fun_ext q) ∙ ap (λ (z : List Mount). record { shared = z; own = λ k. replicate n None }) e
+    ap (λ (o : ℕ → Table MountedNode). record { shared = us; own = o }) (fun_ext q) ∙ ap (λ (z : List Mount). record { shared = z; own = λ k. replicate n None }) e
 
 -- A call on a state, by parts of it that are equal.
-pub same_state : {R : Type 0} (n : ℕ) (call : List Image → Sessions (List Mount) (Table GraftNode) → R) (ms ms' : List Image) (us us' : List Mount) (ts ts' : List (List (Option OpenNode)))
+pub same_state : {R : Type 0} (n : ℕ) (call : List Image → Sessions (List Mount) (Table MountedNode) → R) (ms ms' : List Image) (us us' : List Mount) (ts ts' : List (List (Option OpenNode)))
     → ms' ≡ ms → us' ≡ us → ts' ≡ ts → call ms (space_state n ms us ts) ≡ call ms' (space_state n ms' us' ts')
 same_state n call ms ms' us us' ts ts' e f h =
     ap (λ z. call z (space_state n z us ts)) (sym e) ∙ (ap (λ z. call ms' (space_state n ms' z ts)) (sym f) ∙ ap (λ z. call ms' (space_state n ms' us' z)) (sym h))
 
 -- what a walk led to, seen as a reply
-pub looked_up : (ms : List Image) (us : List Mount) (t : Table GraftNode) (a : Result GraftNode WalkError) (r : Result (ℕ × NodeId) CallError)
-    → MatchResult r (λ p. (s : GraftNode) × (a ≡ Ok s) × ((graft_view ms us).place p.0 p.1.0 ≡ Some s) × IsUncovered us p.0 p.1.0) (λ e. (w : WalkError) × (a ≡ Err w) × (e ≡ error_of w))
+pub looked_up : (ms : List Image) (us : List Mount) (t : Table MountedNode) (a : Result MountedNode WalkError) (r : Result (ℕ × NodeId) CallError)
+    → MatchResult r (λ p. (s : MountedNode) × (a ≡ Ok s) × ((graft_view ms us).place p.0 p.1.0 ≡ Some s) × IsUncovered us p.0 p.1.0) (λ e. (w : WalkError) × (a ≡ Err w) × (e ≡ error_of w))
     → walked {R = Of ℕ} t (λ x. give (Some x.image, ino_of x.node) t) a ≡ answer (viewed (labelled (λ i. Some i) (λ n. n.0)) r) t
 looked_up ms us t a (Ok p) h =
     let m = names_by ms us p.0 p.1.0 h.0 h.2 in
-    let ok : ℕ → ℕ → Answer (Table GraftNode) (Of ℕ) = λ i n. answer (Ok (Some i, n)) t in
+    let ok : ℕ → ℕ → Answer (Table MountedNode) (Of ℕ) = λ i n. answer (Ok (Some i, n)) t in
     ap (walked {R = Of ℕ} t (λ x. give (Some x.image, ino_of x.node) t)) h.1 ∙ (ap (λ (i : ℕ). ok i (ino_of h.0.node)) (sym m.image) ∙ ap (ok p.0) (node_in-number ms p.0 p.1.0 h.0.node m.node))
 looked_up ms us t a (Err e) h = ap (walked {R = Of ℕ} t (λ x. give (Some x.image, ino_of x.node) t)) h.1 ∙ ap (λ (e : CallError). answer {R = Of ℕ} (Err e) t) (sym h.2)

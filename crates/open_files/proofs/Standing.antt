@@ -5,7 +5,7 @@ use Rattle.std.proofs.lemmas.Bool.{false≢true}
 use Rattle.rom_tree.specs.Tree.{Node, is_directory, is_regular}
 use Rattle.rom_tree.specs.Image.{Image, image_node}
 use Rattle.path_walk.specs.declared.mount.Mount.{Mount}
-use Rattle.path_walk.specs.Graft.{GraftNode, node_in, bytes_in}
+use Rattle.path_walk.specs.Graft.{MountedNode, node_in, bytes_in}
 use Rattle.path_walk.proofs.GraftNodes.{node_below, map_node, map_bytes, map_below}
 use Rattle.open_files.specs.declared.error.CallError.{CallError}
 use Rattle.open_files.specs.declared.slot.OpenNode.{OpenNode}
@@ -135,10 +135,10 @@ pub image_in : {T : Type 0} (f : T → Image) (xs : List T) (us : List Mount) (i
 image_in f xs us i y e l =
     record {
       node = λ n x h. let r = by_map (graft_node i) (node_in (map f xs) i n) x h in
-          ap (λ z. image_node (f z) n) e ∙ (map_node f xs i n y r.0 r.1 ∙ ap (λ (s : GraftNode). Some s.node) r.2);
+          ap (λ z. image_node (f z) n) e ∙ (map_node f xs i n y r.0 r.1 ∙ ap (λ (s : MountedNode). Some s.node) r.2);
       bytes = λ n x h. let r = by_map (graft_node i) (node_in (map f xs) i n) x h in
-          ap (λ (s : GraftNode). bytes_in (map f xs) s.image) (sym r.2) ∙ (map_bytes f xs i y l ∙ ap (λ z. (f z).bytes) (sym e));
-      number = λ n x h. let r = by_map (graft_node i) (node_in (map f xs) i n) x h in ap (λ (s : GraftNode). Some s.image) (sym r.2);
+          ap (λ (s : MountedNode). bytes_in (map f xs) s.image) (sym r.2) ∙ (map_bytes f xs i y l ∙ ap (λ z. (f z).bytes) (sym e));
+      number = λ n x h. let r = by_map (graft_node i) (node_in (map f xs) i n) x h in ap (λ (s : MountedNode). Some s.image) (sym r.2);
       index = λ d c. index_map f xs i y d c l ∙ ap (λ z. (f z).cursor_index d c) (sym e);
     }
 

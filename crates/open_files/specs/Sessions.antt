@@ -6,7 +6,7 @@ use Rattle.rom_tree.specs.Image.{Image}
 use Rattle.path_walk.specs.declared.error.WalkError.{WalkError}
 use Rattle.path_walk.specs.declared.mount.Mount.{Mount}
 use Rattle.path_walk.specs.Resolution.{resolution}
-use Rattle.path_walk.specs.Graft.{GraftNode, graft, tree_in}
+use Rattle.path_walk.specs.Graft.{MountedNode, graft, tree_in}
 use Rattle.open_files.specs.declared.error.CallError.TheVariants.{Enotdir, Einval, Enodev, Ebusy}
 use Rattle.open_files.specs.Errors.{error_of}
 use Rattle.open_files.specs.Calls.{Answer, answer, refuse, give, Calls}
@@ -27,13 +27,13 @@ abbrev pub without : ℕ → List Mount → List Mount
 without i [] = []
 without i (u ∷ us) = if u.image == i then us else u ∷ without i us
 
-abbrev pub mount_over : List Mount → ℕ → GraftNode → Bool → Bool → Answer (List Mount) (Unit {0})
+abbrev pub mount_over : List Mount → ℕ → MountedNode → Bool → Bool → Answer (List Mount) (Unit {0})
 mount_over us i s is_directory is_root =
     if not is_directory then refuse Enotdir us
     else if is_root then refuse Ebusy us
     else give tt (us ++ (record { image = i; on = s.image; dir = record { 0 = ino_of s.node } }) ∷ [])
 
-abbrev pub mount_at_place : List Image → List Mount → ℕ → Result GraftNode WalkError → Answer (List Mount) (Unit {0})
+abbrev pub mount_at_place : List Image → List Mount → ℕ → Result MountedNode WalkError → Answer (List Mount) (Unit {0})
 mount_at_place ms us i (Err e) = refuse (error_of e) us
 mount_at_place ms us i (Ok s) =
     mount_over us i s (is_directory s.node) (ino_of s.node == ino_of (tree_in ms s.image))
@@ -101,16 +101,16 @@ module _ {Shared Own : Type 0} where
   }
 
 -- several images: the mounts are shared, and each session has a table of n numbers
-abbrev pub graft_parts : ℕ → List Image → Parts (List Mount) (Table GraftNode)
+abbrev pub graft_parts : ℕ → List Image → Parts (List Mount) (Table MountedNode)
 graft_parts n ms = record {
   over = λ us. calls_over n (graft ms us) (λ s. Some s.image);
   mounted = λ us i path. mounting ms us i path;
   unmounted = λ us i. unmounting ms us i;
 }
 
-abbrev pub space_calls : ℕ → List Image → ℕ → Calls (Sessions (List Mount) (Table GraftNode))
+abbrev pub space_calls : ℕ → List Image → ℕ → Calls (Sessions (List Mount) (Table MountedNode))
 space_calls n ms k = session_calls (graft_parts n ms) k
 
 -- nothing is mounted, and no session has anything open
-abbrev pub no_sessions : ℕ → Sessions (List Mount) (Table GraftNode)
+abbrev pub no_sessions : ℕ → Sessions (List Mount) (Table MountedNode)
 no_sessions n = record { shared = []; own = λ k. no_files n }

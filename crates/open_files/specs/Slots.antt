@@ -6,7 +6,7 @@ use Rattle.rom_tree.specs.Tree.{Node, ino_of, is_directory, is_regular}
 use Rattle.rom_tree.specs.Image.{Image, image_node}
 use Rattle.path_walk.specs.declared.mount.Mount.{Mount}
 use Rattle.path_walk.specs.Resolution.{Namespace, tree_namespace}
-use Rattle.path_walk.specs.Graft.{GraftNode, graft, node_in}
+use Rattle.path_walk.specs.Graft.{MountedNode, graft, node_in}
 use Rattle.open_files.specs.declared.error.CallError.{CallError}
 use Rattle.open_files.specs.declared.slot.OpenNode.{OpenNode}
 use Rattle.open_files.specs.Calls.{Calls, Of, Lent, Named}
@@ -36,7 +36,7 @@ image_view m = record {
   index = λ i d c. m.cursor_index d c;
 }
 
-abbrev pub graft_node : ℕ → Node → GraftNode
+abbrev pub graft_node : ℕ → Node → MountedNode
 graft_node i x = record { image = i; node = x }
 
 abbrev pub index_in : List Image → ℕ → ℕ → ℕ → Option ℕ
@@ -45,7 +45,7 @@ index_in (m ∷ ms) zero d c = m.cursor_index d c
 index_in (m ∷ ms) (suc i) d c = index_in ms i d c
 
 -- several images with mounts
-abbrev pub graft_view : List Image → List Mount → View GraftNode
+abbrev pub graft_view : List Image → List Mount → View MountedNode
 graft_view ms us = record {
   names = graft ms us;
   number = λ s. Some s.image;

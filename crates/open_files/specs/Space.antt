@@ -2,7 +2,7 @@
 use Rattle.std.specs.Prelude.{ℕ, zero, suc, Bool, true, ◌&&◌, List, [], ◌∷◌, Option, None, replicate}
 use Rattle.rom_tree.specs.Image.{Image}
 use Rattle.path_walk.specs.declared.mount.Mount.{Mount}
-use Rattle.path_walk.specs.Graft.{GraftNode}
+use Rattle.path_walk.specs.Graft.{MountedNode}
 use Rattle.open_files.specs.declared.slot.OpenNode.{OpenNode}
 use Rattle.open_files.specs.Machine.{Table}
 use Rattle.open_files.specs.Slots.{graft_view, are_sound, table_of}
@@ -20,5 +20,5 @@ all_sound ms us (t ∷ ts) = are_sound (graft_view ms us) t && all_sound ms us t
 
 -- the mounts, and the table of each session
 abbrev pub space_state : ℕ → List Image → List Mount → List (List (Option OpenNode))
-    → Sessions (List Mount) (Table GraftNode)
+    → Sessions (List Mount) (Table MountedNode)
 space_state n ms us ts = record { shared = us; own = λ k. table_of (graft_view ms us) (slots_at n ts k) }

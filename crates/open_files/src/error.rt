@@ -3,47 +3,36 @@ ghost use Rattle.std.specs.Prelude.{◌≡◌};
 ghost use Rattle.open_files.specs.Errors.{error_name, error_number, error_of};
 
 use path_walk::WalkError;
+use std::fmt::{self, Display, Formatter};
 use thiserror::Error;
 
-/// Why a call is refused, by the names of POSIX. It is shown as its number and its name.
+/// Why a call is refused, by the names of POSIX.
 #[derive(Clone, Copy, Debug, PartialEq, Eq, Error)]
 pub enum CallError {
     /// The path is empty, or a directory has no entry of a component's name.
-    #[error("1 ENOENT")]
     Enoent,
     /// A component stands behind what is no directory, or what is open is no directory.
-    #[error("2 ENOTDIR")]
     Enotdir,
     /// More than 40 symbolic links were met.
-    #[error("3 ELOOP")]
     Eloop,
     /// The path has more than 4095 bytes, or a component more than 255.
-    #[error("4 ENAMETOOLONG")]
     Enametoolong,
     /// The path begins with no slash, what it leads to is no symbolic link, a range is empty or
     /// does not lie in the file, or the image is not mounted.
-    #[error("5 EINVAL")]
     Einval,
     /// Nothing is open at the number.
-    #[error("6 EBADF")]
     Ebadf,
     /// What is open is a directory.
-    #[error("7 EISDIR")]
     Eisdir,
     /// What the path leads to is neither a directory nor a regular file.
-    #[error("8 ENXIO")]
     Enxio,
     /// All numbers are taken.
-    #[error("9 EMFILE")]
     Emfile,
     /// The bytes do not follow one another in the image.
-    #[error("10 ERANGE")]
     Erange,
     /// There is no such image.
-    #[error("11 ENODEV")]
     Enodev,
     /// The image is mounted, or another is mounted in it, or the directory is the root of an image.
-    #[error("12 EBUSY")]
     Ebusy,
 }
 
@@ -87,6 +76,13 @@ impl CallError {
             CallError::Enodev => "ENODEV",
             CallError::Ebusy => "EBUSY",
         }
+    }
+}
+
+/// A refusal as `6 EBADF`: its number and its name.
+impl Display for CallError {
+    fn fmt<W: fmt::Write>(&self, f: &mut Formatter<W>) -> fmt::Result {
+        write!(f, "{} {}", self.number(), self.name())
     }
 }
 

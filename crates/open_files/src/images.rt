@@ -1,7 +1,7 @@
 //! One image or several, by their numbers.
 ghost use Rattle.std.specs.Prelude.{◌≡◌, ◌<◌, length, map, slice_index_or};
 ghost use Rattle.rom_tree.specs.Tree.{Node};
-ghost use Rattle.path_walk.specs.Graft.{GraftNode};
+ghost use Rattle.path_walk.specs.Graft.{MountedNode};
 ghost use Rattle.open_files.specs.Slots.{View, IsImage, HasPlace, image_view, graft_view};
 
 use arrayvec::ArrayVec;
@@ -58,7 +58,7 @@ pub(crate) struct Several<'s, T> {
 }
 
 impl<'s, T: Viewed> Served for Several<'s, T> {
-    ghost Place = { GraftNode };
+    ghost Place = { MountedNode };
 
     ghost view = { λ s. graft_view (map T.image s.images.now.items) s.mounts.now.items };
 }

@@ -3,7 +3,7 @@ ghost use Rattle.std.specs.Prelude.{◌≡◌, ◌==◌, ◌<◌, ℕ, List, tru
 ghost use Rattle.rom_tree.specs.Tree.{Node, ino_of, is_directory};
 ghost use Rattle.rom_tree.specs.Image.{image_node, HasNode};
 ghost use Rattle.path_walk.specs.declared.mount.Mount.{Mount};
-ghost use Rattle.path_walk.specs.Graft.{GraftNode};
+ghost use Rattle.path_walk.specs.Graft.{MountedNode};
 ghost use Rattle.open_files.specs.Calls.{refuse};
 ghost use Rattle.open_files.specs.Sessions.{is_mounted, has_mount, mount_over};
 
@@ -49,7 +49,7 @@ pub(crate) fn check_cover<'a, T: TreeImage<'a>>(image: &T, dir: NodeId) -> Resul
     requires { HasNode (T.image image.now) dir.0 }
     ensures { (x : Node) → image_node (T.image image.now) dir.0 ≡ Some x → MatchResult result
         (λ _. (is_directory x ≡ true) × ((ino_of x == ino_of (T.image image.now).tree) ≡ false))
-        (λ e. (us : List Mount) (i : ℕ) (s : GraftNode)
+        (λ e. (us : List Mount) (i : ℕ) (s : MountedNode)
         → mount_over us i s (is_directory x) (ino_of x == ino_of (T.image image.now).tree)
         ≡ refuse e us) }
 {

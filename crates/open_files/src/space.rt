@@ -4,7 +4,7 @@ ghost use Rattle.rom_tree.specs.Image.{Image};
 ghost use Rattle.path_walk.specs.declared.error.WalkError.{WalkError};
 ghost use Rattle.path_walk.specs.declared.mount.Mount.{Mount};
 ghost use Rattle.path_walk.specs.Resolution.{resolution};
-ghost use Rattle.path_walk.specs.Graft.{GraftNode, graft, are_mounts, AreShallow, IsUncovered};
+ghost use Rattle.path_walk.specs.Graft.{MountedNode, graft, are_mounts, AreShallow, IsUncovered};
 ghost use Rattle.open_files.specs.Errors.{error_of};
 ghost use Rattle.open_files.specs.Calls.{Of, Named, answer, give, viewed};
 ghost use Rattle.open_files.specs.Sessions.{space_calls, no_sessions};
@@ -66,7 +66,7 @@ impl<'a, T: TreeImage<'a>, const N: usize> Space<'a, T, N> {
     /// The place that a path leads to, which no mount covers.
     fn walk(&mut self, path: &[u8], follow_last: bool) -> Result<(u32, NodeId), CallError>
         ensures leads { MatchResult result
-            (λ p. (s : GraftNode)
+            (λ p. (s : MountedNode)
             × (resolution (graft (map T.image self.old.images.items) self.old.mounts.items)
             path.now follow_last ≡ Ok s)
             × ((graft_view (map T.image self.old.images.items) self.old.mounts.items).place

@@ -7,10 +7,10 @@ use Rattle.rom_tree.specs.Tree.{Node, is_link, is_directory, entries_of, levels}
 use Rattle.rom_tree.specs.Image.{Image, image_node, find_entry, contents_of}
 use Rattle.path_walk.specs.declared.error.WalkError.{WalkError}
 use Rattle.path_walk.specs.declared.error.WalkError.TheVariants.{Enotdir, Eloop, Enametoolong}
-use Rattle.path_walk.specs.declared.mount.Place.{Place}
+use Rattle.path_walk.specs.declared.mount.Location.{Location}
 use Rattle.path_walk.specs.Components.{is_empty, begins_with_slash, components}
 use Rattle.path_walk.specs.Resolution.{Namespace, tree_namespace, Trail, Step, fails, goes, follows, ascend, parent, root_of, to_root, enter, found, step, link_text_at, after_link, onward, resolve, resolution}
-use Rattle.path_walk.specs.Graft.{GraftNode, graft, shown, are_mounts, AreShallow}
+use Rattle.path_walk.specs.Graft.{MountedNode, graft, shown, are_mounts, AreShallow}
 use Rattle.path_walk.specs.Trails.{NamesAt}
 use Rattle.path_walk.proofs.GraftNodes.{one_node}
 
@@ -113,7 +113,7 @@ module _ {F G : Type 0} (a : Namespace F) (b : Namespace G) (h : F → G) where
   err_by (Err e') e k = cc
 
 -- the graft of one image is its tree
-abbrev pub alone : Node → GraftNode
+abbrev pub alone : Node → MountedNode
 alone x = record { image = 0; node = x }
 
 shown_alone : (m : Image) (o : Option Node) → option_map (λ x. shown (m ∷ []) [] (alone x)) o ≡ option_map alone o
@@ -133,11 +133,11 @@ one_shallow m l zero = l
 one_shallow m l (suc i) = omega arith
 
 -- where a path leads in one image
-pub one_ok : (m : Image) (p : Place) (s : GraftNode) (path : List ℕ) (follow : Bool) → resolution (graft (m ∷ []) []) path follow ≡ Ok s → NamesAt (m ∷ []) p s
+pub one_ok : (m : Image) (p : Location) (s : MountedNode) (path : List ℕ) (follow : Bool) → resolution (graft (m ∷ []) []) path follow ≡ Ok s → NamesAt (m ∷ []) p s
     → (x : Node) × (resolution (tree_namespace m.bytes m.tree) path follow ≡ Ok x) × (image_node m p.node.0 ≡ Some x)
 one_ok m p s path follow e i =
     let r = ok_by (tree_namespace m.bytes m.tree) (graft (m ∷ []) []) alone (resolution (tree_namespace m.bytes m.tree) path follow) s (sym (walk_alone m path follow) ∙ e) in
-    (r.0, r.1, one_node m p.image p.node.0 s.node i.node ∙ ap (λ (v : GraftNode). Some v.node) (sym r.2))
+    (r.0, r.1, one_node m p.image p.node.0 s.node i.node ∙ ap (λ (v : MountedNode). Some v.node) (sym r.2))
 
 pub one_err : (m : Image) (e : WalkError) (path : List ℕ) (follow : Bool) → resolution (graft (m ∷ []) []) path follow ≡ Err e → resolution (tree_namespace m.bytes m.tree) path follow ≡ Err e
 one_err m e path follow k = err_by (tree_namespace m.bytes m.tree) (graft (m ∷ []) []) alone (resolution (tree_namespace m.bytes m.tree) path follow) e (sym (walk_alone m path follow) ∙ k)

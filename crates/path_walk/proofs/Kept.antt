@@ -9,10 +9,10 @@ use Rattle.rom_tree.specs.Image.{Image, find_entry}
 use Rattle.path_walk.specs.declared.error.WalkError.{WalkError}
 use Rattle.path_walk.specs.declared.error.WalkError.TheVariants.{Eloop}
 use Rattle.path_walk.specs.declared.mount.Mount.{Mount}
-use Rattle.path_walk.specs.declared.mount.Place.{Place}
+use Rattle.path_walk.specs.declared.mount.Location.{Location}
 use Rattle.path_walk.specs.Components.{is_empty, begins_with_slash, components}
 use Rattle.path_walk.specs.Resolution.{Namespace, Trail, Step, fails, goes, follows, ascend, root_of, to_root, enter, found, step, link_text_at, after_link, onward, resolve, resolution}
-use Rattle.path_walk.specs.Graft.{GraftNode, graft, over, shown, covers, tree_in, are_mounts, IsUncovered}
+use Rattle.path_walk.specs.Graft.{MountedNode, graft, over, shown, covers, tree_in, are_mounts, IsUncovered}
 use Rattle.path_walk.specs.Trails.{NamesAt}
 use Rattle.path_walk.proofs.GraftNodes.{none_some}
 use Rattle.path_walk.proofs.Mounts.{find_member, good_mount, and_left, and_right}
@@ -115,24 +115,24 @@ root_uncovered ms us i (Some u) h e =
     absurd (false≢true (sym not_dir ∙ (ap (λ (v : ℕ). u.dir.0 == ino_of (tree_in ms v)) on ∙ dir)))
 
 module _ (ms : List Image) (us : List Mount) (h : are_mounts ms us ≡ true) where
-  IsOpenNode : GraftNode → Type 0
+  IsOpenNode : MountedNode → Type 0
   IsOpenNode s = IsUncovered us s.image (ino_of s.node)
 
-  over_open : (s : GraftNode) (o : Option Mount) → find (covers s.image (ino_of s.node)) us ≡ o → IsOpenNode (over ms s o)
+  over_open : (s : MountedNode) (o : Option Mount) → find (covers s.image (ino_of s.node)) us ≡ o → IsOpenNode (over ms s o)
   unfolding IsOpenNode
   over_open s None e = e
   over_open s (Some u) e = root_uncovered ms us u.image (find (covers u.image (ino_of (tree_in ms u.image))) us) h refl
 
-  entry_open : (i : ℕ) (o : Option Node) (y : GraftNode) → option_map (λ x. shown ms us (record { image = i; node = x })) o ≡ Some y → IsOpenNode y
+  entry_open : (i : ℕ) (o : Option Node) (y : MountedNode) → option_map (λ x. shown ms us (record { image = i; node = x })) o ≡ Some y → IsOpenNode y
   unfolding shown
   entry_open i None y e = absurd (none_some y e)
   entry_open i (Some x) y e =
-      let s : GraftNode = record { image = i; node = x } in
+      let s : MountedNode = record { image = i; node = x } in
       let q : over ms s (find (covers s.image (ino_of s.node)) us) ≡ y = cc in
       subst IsOpenNode q (over_open s (find (covers s.image (ino_of s.node)) us) refl)
 
   -- a path leads to no directory that a mount covers
-  pub walk_uncovered : (path : List ℕ) (follow : Bool) (p : Place) (s : GraftNode) → resolution (graft ms us) path follow ≡ Ok s → NamesAt ms p s → IsUncovered us p.image p.node.0
+  pub walk_uncovered : (path : List ℕ) (follow : Bool) (p : Location) (s : MountedNode) → resolution (graft ms us) path follow ≡ Ok s → NamesAt ms p s → IsUncovered us p.image p.node.0
   unfolding IsOpenNode
   walk_uncovered path follow p s e n =
       let root : IsOpenNode (graft ms us).root = root_uncovered ms us 0 (find (covers 0 (ino_of (tree_in ms 0))) us) h refl in

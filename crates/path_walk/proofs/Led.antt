@@ -4,28 +4,28 @@ use Rattle.rom_tree.specs.Tree.{is_link}
 use Rattle.rom_tree.specs.Image.{contents_of}
 use Rattle.path_walk.specs.declared.error.WalkError.{WalkError}
 use Rattle.path_walk.specs.declared.mount.Mount.{Mount}
-use Rattle.path_walk.specs.declared.mount.Place.{Place}
+use Rattle.path_walk.specs.declared.mount.Location.{Location}
 use Rattle.path_walk.specs.Resolution.{Trail, step}
-use Rattle.path_walk.specs.Graft.{GraftNode, graft, bytes_in}
+use Rattle.path_walk.specs.Graft.{MountedNode, graft, bytes_in}
 use Rattle.path_walk.specs.Trails.{Held, NamesAt, IsTrail, Leads}
 use Rattle.path_walk.proofs.GraftNodes.{link_length}
 
 -- a step from the images of `k`, which are those of `h`
-module _ (k h : Held) (e : k ≡ h) (us : List Mount) (current : Place) (ancestors : List Place) (s : Trail GraftNode) (p : List ℕ) (stays : Bool) (current' : Place) (ancestors' : List Place) where
-  abbrev pub Told : Held → Result (Option Place) WalkError → Type 0
+module _ (k h : Held) (e : k ≡ h) (us : List Mount) (current : Location) (ancestors : List Location) (s : Trail MountedNode) (p : List ℕ) (stays : Bool) (current' : Location) (ancestors' : List Location) where
+  abbrev pub Told : Held → Result (Option Location) WalkError → Type 0
   Told v r = IsTrail v.images us current ancestors s → Leads v.images us s (step (graft v.images us) s p stays) current' ancestors' r
 
-  pub led : (r : Result (Option Place) WalkError) → IsTrail h.images us current ancestors s → Told k r → Leads h.images us s (step (graft h.images us) s p stays) current' ancestors' r
+  pub led : (r : Result (Option Location) WalkError) → IsTrail h.images us current ancestors s → Told k r → Leads h.images us s (step (graft h.images us) s p stays) current' ancestors' r
   led r i f = let told : Held → Type 0 = λ v. Told v r in subst told e f i
 
-  pub led_on : (o : Option Place) → o ≡ None → IsTrail h.images us current ancestors s → Told k (Ok o) → Leads h.images us s (step (graft h.images us) s p stays) current' ancestors' (Ok None)
-  led_on o q i f = let told : Option Place → Type 0 = λ v. Told k (Ok v) in led (Ok None) i (subst told q f)
+  pub led_on : (o : Option Location) → o ≡ None → IsTrail h.images us current ancestors s → Told k (Ok o) → Leads h.images us s (step (graft h.images us) s p stays) current' ancestors' (Ok None)
+  led_on o q i f = let told : Option Location → Type 0 = λ v. Told k (Ok v) in led (Ok None) i (subst told q f)
 
-  pub led_link : (o : Option Place) (x : Place) → o ≡ Some x → IsTrail h.images us current ancestors s → Told k (Ok o) → Leads h.images us s (step (graft h.images us) s p stays) current' ancestors' (Ok (Some x))
-  led_link o x q i f = let told : Option Place → Type 0 = λ v. Told k (Ok v) in led (Ok (Some x)) i (subst told q f)
+  pub led_link : (o : Option Location) (x : Location) → o ≡ Some x → IsTrail h.images us current ancestors s → Told k (Ok o) → Leads h.images us s (step (graft h.images us) s p stays) current' ancestors' (Ok (Some x))
+  led_link o x q i f = let told : Option Location → Type 0 = λ v. Told k (Ok v) in led (Ok (Some x)) i (subst told q f)
 
 -- the text that was read at a link
-pub link_read : (k h : Held) → k ≡ h → (p : Place) (x : GraftNode) (text : List ℕ) → NamesAt h.images p x → is_link x.node ≡ true
+pub link_read : (k h : Held) → k ≡ h → (p : Location) (x : MountedNode) (text : List ℕ) → NamesAt h.images p x → is_link x.node ≡ true
     → (NamesAt k.images p x → text ≡ contents_of (bytes_in k.images x.image) x.node) → (text ≡ contents_of (bytes_in h.images x.image) x.node) × (0 < length text) × (length text ≤ 4095)
 link_read k h e p x text n l f =
     let read : Held → Type 0 = λ v. NamesAt v.images p x → text ≡ contents_of (bytes_in v.images x.image) x.node in

@@ -8,7 +8,7 @@ use Rattle.path_walk.specs.declared.mount.Mount.{Mount}
 use Rattle.path_walk.specs.Resolution.{Namespace}
 
 -- a node, and the number of its image
-pub record GraftNode : Type 0 where
+pub record MountedNode : Type 0 where
   pub image : ℕ
   pub node : Node
 
@@ -31,7 +31,7 @@ node_in (m ∷ ms) zero n = image_node m n
 node_in (m ∷ ms) (suc i) n = node_in ms i n
 
 -- the number of an image and the number of one of its nodes name a node of the graft
-pub record Names (ms : List Image) (i n : ℕ) (s : GraftNode) : Type 0 where
+pub record Names (ms : List Image) (i n : ℕ) (s : MountedNode) : Type 0 where
   pub image : i ≡ s.image
   pub node : node_in ms i n ≡ Some s.node
 
@@ -44,14 +44,14 @@ abbrev pub IsUncovered : List Mount → ℕ → ℕ → Type 0
 IsUncovered us i n = find (covers i n) us ≡ None
 
 -- what stands at a node: the root of the image that covers it, or the node itself
-abbrev pub over : List Image → GraftNode → Option Mount → GraftNode
+abbrev pub over : List Image → MountedNode → Option Mount → MountedNode
 over ms s None = s
 over ms s (Some u) = record { image = u.image; node = tree_in ms u.image }
 
-unfoldable pub shown : List Image → List Mount → GraftNode → GraftNode
+unfoldable pub shown : List Image → List Mount → MountedNode → MountedNode
 shown ms us s = over ms s (find (covers s.image (ino_of s.node)) us)
 
-abbrev pub graft : List Image → List Mount → Namespace GraftNode
+abbrev pub graft : List Image → List Mount → Namespace MountedNode
 graft ms us = record {
   root = record { image = 0; node = tree_in ms 0 };
   node = λ s. s.node;

@@ -7,10 +7,10 @@ use Rattle.rom_tree.specs.Tree.{Node, levels, is_link}
 use Rattle.rom_tree.specs.Image.{Image}
 use Rattle.path_walk.specs.declared.error.WalkError.{WalkError}
 use Rattle.path_walk.specs.declared.mount.Mount.{Mount}
-use Rattle.path_walk.specs.declared.mount.Place.{Place}
+use Rattle.path_walk.specs.declared.mount.Location.{Location}
 use Rattle.path_walk.specs.Components.{components}
 use Rattle.path_walk.specs.Resolution.{Trail, Step, fails, goes, follows, root_of, resolution}
-use Rattle.path_walk.specs.Graft.{GraftNode, Names, graft}
+use Rattle.path_walk.specs.Graft.{MountedNode, Names, graft}
 
 -- images, and the reference through which they are reached
 pub record Held : Type 0 where
@@ -18,12 +18,12 @@ pub record Held : Type 0 where
   pub loan : GName
 
 -- a place names a node of the graft
-abbrev pub NamesAt : List Image → Place → GraftNode → Type 0
+abbrev pub NamesAt : List Image → Location → MountedNode → Type 0
 NamesAt ms p s = Names ms p.image p.node.0 s
 
 -- it names one that passes a test
-abbrev pub HasNodeAt : List Image → Place → (Node → Type 0) → Type 0
-HasNodeAt ms p P = (s : GraftNode) × NamesAt ms p s × P s.node
+abbrev pub HasNodeAt : List Image → Location → (Node → Type 0) → Type 0
+HasNodeAt ms p P = (s : MountedNode) × NamesAt ms p s × P s.node
 
 pub data IsMember (u : Mount) : List Mount → Type 0 where
   first : {us : List Mount} → IsMember u (u ∷ us)
@@ -36,42 +36,42 @@ pub data IsLed (us : List Mount) : ℕ → ℕ → Type 0 where
 
 -- Where n places are the ancestors of a node, the stack of 513 has room for those of all directories
 -- below it: each image on the way adds at most 64, and the first 65.
-pub record IsFitting (us : List Mount) (s : GraftNode) (n : ℕ) : Type 0 where
+pub record IsFitting (us : List Mount) (s : MountedNode) (n : ℕ) : Type 0 where
   pub deep : ℕ
   pub led : IsLed us deep s.image
   pub few : deep ≤ 7
   pub room : levels s.node + n ≤ 65 + 64 * deep
 
-abbrev pub AreFitting : List Mount → GraftNode → List GraftNode → Type 0
+abbrev pub AreFitting : List Mount → MountedNode → List MountedNode → Type 0
 AreFitting us s [] = IsFitting us s 0
 AreFitting us s (t ∷ ts) = IsFitting us s (length (t ∷ ts)) × AreFitting us t ts
 
 -- the places name the nodes, of which the first stands last among the places
-abbrev pub AreAncestors : List Image → List Place → List GraftNode → Type 0
+abbrev pub AreAncestors : List Image → List Location → List MountedNode → Type 0
 AreAncestors ms ps [] = ps ≡ []
 AreAncestors ms ps (s ∷ ss) =
-    (front : List Place) × (p : Place) × (ps ≡ front ++ p ∷ []) × NamesAt ms p s × AreAncestors ms front ss
+    (front : List Location) × (p : Location) × (ps ≡ front ++ p ∷ []) × NamesAt ms p s × AreAncestors ms front ss
 
 -- a place and a stack of places are a trail in the graft
-pub record IsTrail (ms : List Image) (us : List Mount) (current : Place) (ancestors : List Place)
-    (s : Trail GraftNode) : Type 0 where
+pub record IsTrail (ms : List Image) (us : List Mount) (current : Location) (ancestors : List Location)
+    (s : Trail MountedNode) : Type 0 where
   pub named : NamesAt ms current s.current
   pub all_named : AreAncestors ms ancestors s.ancestors
   pub fit : AreFitting us s.current s.ancestors
   pub root : root_of s.current s.ancestors ≡ (graft ms us).root
 
 -- what one component led to
-abbrev pub Leads : List Image → List Mount → Trail GraftNode → Step GraftNode → Place → List Place
-    → Result (Option Place) WalkError → Type 0
+abbrev pub Leads : List Image → List Mount → Trail MountedNode → Step MountedNode → Location → List Location
+    → Result (Option Location) WalkError → Type 0
 Leads ms us s t current ancestors (Err e) = t ≡ fails e
-Leads ms us s t current ancestors (Ok None) = (u : Trail GraftNode) × (t ≡ goes u) × IsTrail ms us current ancestors u
+Leads ms us s t current ancestors (Ok None) = (u : Trail MountedNode) × (t ≡ goes u) × IsTrail ms us current ancestors u
 Leads ms us s t current ancestors (Ok (Some p)) =
-    (x : GraftNode) × (t ≡ follows x) × NamesAt ms p x × (is_link x.node ≡ true) × IsTrail ms us current ancestors s
+    (x : MountedNode) × (t ≡ follows x) × NamesAt ms p x × (is_link x.node ≡ true) × IsTrail ms us current ancestors s
 
 -- where a path led to
-abbrev pub IsFound : List Image → List Mount → List ℕ → Bool → Result Place WalkError → Type 0
+abbrev pub IsFound : List Image → List Mount → List ℕ → Bool → Result Location WalkError → Type 0
 IsFound ms us path follow r = MatchResult r
-    (λ p. (s : GraftNode) × (resolution (graft ms us) path follow ≡ Ok s) × NamesAt ms p s)
+    (λ p. (s : MountedNode) × (resolution (graft ms us) path follow ≡ Ok s) × NamesAt ms p s)
     (λ e. resolution (graft ms us) path follow ≡ Err e)
 
 -- the components of all unread texts, those of the last text first

@@ -2,10 +2,10 @@
 ghost use Rattle.std.specs.Prelude.{◌≡◌, ◌∷◌, [], ◌<◌, ℕ, true, length, map, Some, None, MatchOption};
 ghost use Rattle.rom_tree.specs.Tree.{Node, ino_of, is_directory, is_link, entries_of};
 ghost use Rattle.rom_tree.specs.Image.{find_entry, contents_of};
-ghost use Rattle.path_walk.specs.Graft.{GraftNode, tree_in, bytes_in};
+ghost use Rattle.path_walk.specs.Graft.{MountedNode, tree_in, bytes_in};
 ghost use Rattle.path_walk.specs.Trails.{Held, NamesAt, HasNodeAt};
 
-use crate::mount::Place;
+use crate::mount::Location;
 use rom_tree::image::{TreeImage, Viewed, is_directory_at, is_link_at, link_text};
 use rom_tree::types::NodeId;
 
@@ -18,21 +18,21 @@ pub(crate) trait Gathered {
 /// Images that are reached by their numbers.
 pub(crate) trait Images<'a>: Gathered {
     /// Whether a place is a directory.
-    fn is_directory_in(&self, place: Place) -> bool
+    fn is_directory_in(&self, place: Location) -> bool
         requires { HasNodeAt (Self.held self.now).images place (λ x. Unit {0}) }
-        ensures { (s : GraftNode) → NamesAt (Self.held self.now).images place s
+        ensures { (s : MountedNode) → NamesAt (Self.held self.now).images place s
             → result ≡ is_directory s.node };
 
     /// Whether a place is a symbolic link.
-    fn is_link_in(&self, place: Place) -> bool
+    fn is_link_in(&self, place: Location) -> bool
         requires { HasNodeAt (Self.held self.now).images place (λ x. Unit {0}) }
-        ensures { (s : GraftNode) → NamesAt (Self.held self.now).images place s
+        ensures { (s : MountedNode) → NamesAt (Self.held self.now).images place s
             → result ≡ is_link s.node };
 
     /// A link's text.
-    fn link_text_in(&self, place: Place) -> &'a [u8]
+    fn link_text_in(&self, place: Location) -> &'a [u8]
         requires { HasNodeAt (Self.held self.now).images place (λ x. is_link x ≡ true) }
-        ensures { (s : GraftNode) → NamesAt (Self.held self.now).images place s
+        ensures { (s : MountedNode) → NamesAt (Self.held self.now).images place s
             → result.now ≡ contents_of (bytes_in (Self.held self.now).images s.image) s.node };
 
     /// The root of an image.
@@ -42,10 +42,10 @@ pub(crate) trait Images<'a>: Gathered {
 
     /// The node that a directory's entry of this name has, in the same image. The images stay as
     /// they are.
-    fn find_in(&mut self, place: Place, name: &[u8]) -> Option<NodeId>
+    fn find_in(&mut self, place: Location, name: &[u8]) -> Option<NodeId>
         requires { HasNodeAt (Self.held self.old).images place (λ x. is_directory x ≡ true) }
         ensures stays { Self.held self.new ≡ Self.held self.old }
-        ensures found { (s : GraftNode) → NamesAt (Self.held self.old).images place s
+        ensures found { (s : MountedNode) → NamesAt (Self.held self.old).images place s
             → MatchOption result (find_entry (entries_of s.node) name.now ≡ None)
             (λ n. (y : Node) × (find_entry (entries_of s.node) name.now ≡ Some y)
             × (ino_of y ≡ n.0)) };
@@ -62,15 +62,15 @@ impl<'s, T: Viewed> Gathered for One<'s, T> {
 }
 
 impl<'s, 'a, T: TreeImage<'a>> Images<'a> for One<'s, T> {
-    fn is_directory_in(&self, place: Place) -> bool {
+    fn is_directory_in(&self, place: Location) -> bool {
         is_directory_at(&*self.image, place.node)
     }
 
-    fn is_link_in(&self, place: Place) -> bool {
+    fn is_link_in(&self, place: Location) -> bool {
         is_link_at(&*self.image, place.node)
     }
 
-    fn link_text_in(&self, place: Place) -> &'a [u8] {
+    fn link_text_in(&self, place: Location) -> &'a [u8] {
         link_text(&*self.image, place.node)
     }
 
@@ -78,33 +78,33 @@ impl<'s, 'a, T: TreeImage<'a>> Images<'a> for One<'s, T> {
         self.image.root()
     }
 
-    fn find_in(&mut self, place: Place, name: &[u8]) -> Option<NodeId> {
+    fn find_in(&mut self, place: Location, name: &[u8]) -> Option<NodeId> {
         self.image.lookup(place.node, name)
     }
 }
 
 /// The images of a slice, by their indices.
 #[derive(Drop)]
-pub(crate) struct Many<'s, T> {
+pub(crate) struct Several<'s, T> {
     pub(crate) images: &'s mut [T],
 }
 
-impl<'s, T: Viewed> Gathered for Many<'s, T> {
+impl<'s, T: Viewed> Gathered for Several<'s, T> {
     ghost held = { λ s. record { images = map T.image s.images.now; loan = s.images.ghost_name } };
 }
 
-impl<'s, 'a, T: TreeImage<'a>> Images<'a> for Many<'s, T> {
-    fn is_directory_in(&self, place: Place) -> bool {
+impl<'s, 'a, T: TreeImage<'a>> Images<'a> for Several<'s, T> {
+    fn is_directory_in(&self, place: Location) -> bool {
         let images = &*self.images;
         is_directory_at(&images[place.image as usize], place.node)
     }
 
-    fn is_link_in(&self, place: Place) -> bool {
+    fn is_link_in(&self, place: Location) -> bool {
         let images = &*self.images;
         is_link_at(&images[place.image as usize], place.node)
     }
 
-    fn link_text_in(&self, place: Place) -> &'a [u8] {
+    fn link_text_in(&self, place: Location) -> &'a [u8] {
         let images = &*self.images;
         link_text(&images[place.image as usize], place.node)
     }
@@ -114,7 +114,7 @@ impl<'s, 'a, T: TreeImage<'a>> Images<'a> for Many<'s, T> {
         images[image as usize].root()
     }
 
-    fn find_in(&mut self, place: Place, name: &[u8]) -> Option<NodeId> {
+    fn find_in(&mut self, place: Location, name: &[u8]) -> Option<NodeId> {
         self.images[place.image as usize].lookup(place.node, name)
     }
 }

@@ -12,7 +12,7 @@ pub struct Mount {
 
 /// A node of one of several images, and the number of that image.
 #[derive(Clone, Copy, Default, PartialEq, Eq)]
-pub(crate) struct Place {
+pub(crate) struct Location {
     pub(crate) image: u32,
     pub(crate) node: NodeId,
 }

@@ -4,13 +4,13 @@ ghost use Rattle.rom_tree.specs.Tree.{Node, levels};
 ghost use Rattle.rom_tree.specs.Image.{image_node};
 ghost use Rattle.path_walk.specs.Components.{components};
 ghost use Rattle.path_walk.specs.Resolution.{Namespace, at_root, resolution, resolve, tree_namespace};
-ghost use Rattle.path_walk.specs.Graft.{GraftNode, Names, graft, are_mounts, AreShallow, IsUncovered};
+ghost use Rattle.path_walk.specs.Graft.{MountedNode, Names, graft, are_mounts, AreShallow, IsUncovered};
 ghost use Rattle.path_walk.specs.Trails.{IsFound};
 
 use crate::component::take_component;
 use crate::error::WalkError;
-use crate::images::{Images, Many, One};
-use crate::mount::{Mount, Place};
+use crate::images::{Images, One, Several};
+use crate::mount::{Location, Mount};
 use crate::step::{advance, is_absolute, last_stays, start_from};
 use arrayvec::ArrayVec;
 use rom_tree::image::TreeImage;
@@ -22,7 +22,7 @@ const LINKS_MAX: u32 = 40;
 
 /// Refuses a path as a whole: by its length, where it is empty, and without a slash in front.
 fn check_path(path: &[u8]) -> Result<(), WalkError>
-    ensures leads { (g : Namespace GraftNode) (follow : Bool) → MatchResult result
+    ensures leads { (g : Namespace MountedNode) (follow : Bool) → MatchResult result
         (λ _. resolution g path.now follow ≡ resolve g follow 40 (at_root g) (components path.now))
         (λ e. resolution g path.now follow ≡ Err e) }
     ensures some { IfOk result (λ _. 0 < length path.now) }
@@ -46,7 +46,7 @@ fn find_place<'a, G: Images<'a>>(
     mounts: &[Mount],
     path: &[u8],
     follow_last: bool,
-) -> Result<Place, WalkError>
+) -> Result<Location, WalkError>
     requires mounts { are_mounts (G.held images.old).images mounts.now ≡ true }
     requires some { 0 < length (G.held images.old).images }
     requires few { length (G.held images.old).images ≤ 8 }
@@ -55,12 +55,12 @@ fn find_place<'a, G: Images<'a>>(
     ensures stays { G.held images.new ≡ G.held images.old }
 {
     check_path(path)?;
-    let root = Place {
+    let root = Location {
         image: 0,
         node: images.root_in(0),
     };
     let mut current = root;
-    let mut ancestors: ArrayVec<Place, 513> = ArrayVec::new();
+    let mut ancestors: ArrayVec<Location, 513> = ArrayVec::new();
     let mut unread: ArrayVec<&[u8], 41> = ArrayVec::new();
     let mut links = LINKS_MAX;
     unread.push(path);
@@ -149,13 +149,13 @@ pub fn walk_mounts<'a, T: TreeImage<'a>>(
     requires shallow { AreShallow (map T.image images.old) }
     requires mounts { are_mounts (map T.image images.old) mounts.now ≡ true }
     ensures leads { MatchResult result
-        (λ p. (s : GraftNode)
+        (λ p. (s : MountedNode)
         × (resolution (graft (map T.image images.old) mounts.now) path.now follow_last ≡ Ok s)
         × Names (map T.image images.old) p.0 p.1.0 s)
         (λ e. resolution (graft (map T.image images.old) mounts.now) path.now follow_last ≡ Err e) }
     ensures uncovered { IfOk result (λ p. IsUncovered mounts.now p.0 p.1.0) }
     ensures stays { map T.image images.new ≡ map T.image images.old }
 {
-    let place = find_place(&mut Many { images }, mounts, path, follow_last)?;
+    let place = find_place(&mut Several { images }, mounts, path, follow_last)?;
     Ok((place.image, place.node))
 }

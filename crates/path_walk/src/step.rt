@@ -5,12 +5,12 @@ ghost use Rattle.rom_tree.specs.Image.{Image};
 ghost use Rattle.path_walk.specs.declared.mount.Mount.{Mount};
 ghost use Rattle.path_walk.specs.Components.{begins_with_slash};
 ghost use Rattle.path_walk.specs.Resolution.{Trail, step, to_root};
-ghost use Rattle.path_walk.specs.Graft.{GraftNode, graft, covers, shown, are_mounts, AreShallow};
+ghost use Rattle.path_walk.specs.Graft.{MountedNode, graft, covers, shown, are_mounts, AreShallow};
 ghost use Rattle.path_walk.specs.Trails.{NamesAt, IsTrail, Leads};
 
 use crate::error::WalkError;
 use crate::images::Images;
-use crate::mount::{Mount, Place};
+use crate::mount::{Location, Mount};
 use arrayvec::ArrayVec;
 use rom_tree::dots::{is_dot, is_dot_dot};
 use rom_tree::types::NodeId;
@@ -40,16 +40,21 @@ fn mounted_on(mounts: &[Mount], image: u32, dir: NodeId) -> Option<Mount>
 }
 
 /// What stands at a node: the root of the image that covers it, or the node itself.
-fn shown_place<'a, G: Images<'a>>(images: &G, mounts: &[Mount], image: u32, node: NodeId) -> Place
+fn shown_place<'a, G: Images<'a>>(
+    images: &G,
+    mounts: &[Mount],
+    image: u32,
+    node: NodeId,
+) -> Location
     requires { are_mounts (G.held images.now).images mounts.now ≡ true }
-    ensures { (s : GraftNode)
+    ensures { (s : MountedNode)
         → NamesAt (G.held images.now).images (record { image = image; node = node }) s
         → NamesAt (G.held images.now).images result
         (shown (G.held images.now).images mounts.now s) }
 {
     match mounted_on(mounts, image, node) {
-        None => Place { image, node },
-        Some(mount) => Place {
+        None => Location { image, node },
+        Some(mount) => Location {
             image: mount.image,
             node: images.root_in(mount.image),
         },
@@ -61,17 +66,17 @@ fn shown_place<'a, G: Images<'a>>(images: &G, mounts: &[Mount], image: u32, node
 pub(crate) fn advance<'a, G: Images<'a>>(
     images: &mut G,
     mounts: &[Mount],
-    current: &mut Place,
-    ancestors: &mut ArrayVec<Place, 513>,
+    current: &mut Location,
+    ancestors: &mut ArrayVec<Location, 513>,
     component: &[u8],
     stays: bool,
-) -> Result<Option<Place>, WalkError>
+) -> Result<Option<Location>, WalkError>
     requires mounts { are_mounts (G.held images.old).images mounts.now ≡ true }
     requires few { length (G.held images.old).images ≤ 8 }
     requires shallow { AreShallow (G.held images.old).images }
-    requires trail { (s : Trail GraftNode)
+    requires trail { (s : Trail MountedNode)
         × IsTrail (G.held images.old).images mounts.now current.old ancestors.old.items s }
-    ensures leads { (s : Trail GraftNode)
+    ensures leads { (s : Trail MountedNode)
         → IsTrail (G.held images.old).images mounts.now current.old ancestors.old.items s
         → Leads (G.held images.old).images mounts.now s
         (step (graft (G.held images.old).images mounts.now) s component.now stays)
@@ -112,12 +117,12 @@ pub(crate) fn last_stays(follow_last: bool, is_last: bool) -> bool
 
 /// Goes to the root where a text begins with a slash.
 pub(crate) fn start_from(
-    root: Place,
-    current: &mut Place,
-    ancestors: &mut ArrayVec<Place, 513>,
+    root: Location,
+    current: &mut Location,
+    ancestors: &mut ArrayVec<Location, 513>,
     text: &[u8],
 )
-    ensures { (ms : List Image) (us : List Mount) (s : Trail GraftNode)
+    ensures { (ms : List Image) (us : List Mount) (s : Trail MountedNode)
         → IsTrail ms us current.old ancestors.old.items s → AreShallow ms
         → NamesAt ms root (graft ms us).root
         → IsTrail ms us current.new ancestors.new.items

@@ -8,7 +8,7 @@ use Rattle.manifest.specs.declared.line.Word.{Word}
 use Rattle.manifest.specs.declared.line.Word.TheVariants.{Dir, File, Slink, Block, Character, Fifo, Socket, Hard, Same}
 use Rattle.manifest_tree.specs.Names.{no_bytes, Inode}
 use Rattle.manifest_tree.specs.Tree.{plain}
-use Rattle.manifest_rows.specs.declared.files.Contents.{Contents}
+use Rattle.manifest_rows.specs.declared.files.SourceUse.{SourceUse}
 use Rattle.plan_misfits.specs.declared.misfit.Misfit.{Misfit}
 
 -- what a word makes; a `hard` line makes nothing, and stands for a regular file here
@@ -27,12 +27,12 @@ kind_by Same = kind.Regular
 abbrev pub without_bytes : Line → Inode
 without_bytes l = plain l (kind_by l.word) 4 0 no_bytes
 
-abbrev pub size_or : Option Contents → ℕ
+abbrev pub size_or : Option SourceUse → ℕ
 size_or None = 0
 size_or (Some c) = c.size
 
 -- how many bytes the file of a line has, where its path leads to these contents
-abbrev pub size_by : Word → Line → Option Contents → ℕ
+abbrev pub size_by : Word → Line → Option SourceUse → ℕ
 size_by Slink l o = length l.text
 size_by File l o = size_or o
 size_by Same l o = size_or o

@@ -13,11 +13,11 @@ ghost use Rattle.record_forest.specs.Lesser.{lesser_of_both};
 use crate::lines::{is_long_volume, number_of_line};
 use crate::misfit::{Misfit, NAME_TOO_LONG};
 use manifest::Manifest;
-use manifest_rows::Files;
+use manifest_rows::PathTargets;
 use plan_types::Format;
 
 /// The misfit of the first line that does not fit.
-fn first_of_lines(format: Format, m: &Manifest, files: &Files) -> Option<Misfit>
+fn first_of_lines(format: Format, m: &Manifest, files: &PathTargets) -> Option<Misfit>
     ensures first { (sizes : List ℕ) → IsOf m.now.lines sizes files.now
         → option_map misfit_fault result
         ≡ tests.of_lines (format_of format) m.now sizes m.now.lines }
@@ -75,7 +75,7 @@ fn lesser_of_both(one: Option<Misfit>, other: Option<Misfit>) -> Option<Misfit>
 
 /// The least misfit of a manifest's lines and its volume, by line and then by number, where its
 /// sources have the sizes that `files` was made with. A manifest is that of some text.
-pub fn least_of_lines(format: Format, m: &Manifest, files: &Files) -> Option<Misfit>
+pub fn least_of_lines(format: Format, m: &Manifest, files: &PathTargets) -> Option<Misfit>
     ensures of_text { IsManifest m.now }
     ensures least { (sizes : List ℕ) → IsOf m.now.lines sizes files.now
         → IsLeastFaultOf (HasLineMisfit (format_of format) m.now sizes)

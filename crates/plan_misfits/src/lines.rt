@@ -15,9 +15,10 @@ ghost use Rattle.romfs_layout.specs.Layout.{number_of};
 
 use crate::misfit::{ATTRIBUTE, HARD_LINK, NAME_TOO_LONG, TOO_LARGE};
 use manifest::{Line, Word};
-use manifest_rows::Files;
+use manifest_rows::PathTargets;
 use memchr::memrchr;
 use plan_types::Format;
+use romfs_format::disk;
 
 /// The greatest number of a romfs device, and the greatest owner in cramfs.
 const MOST_OF_TWO_BYTES: u32 = 65_535;
@@ -25,8 +26,8 @@ const MOST_OF_TWO_BYTES: u32 = 65_535;
 /// The greatest group and the greatest number of a device in cramfs.
 const MOST_OF_A_BYTE: u32 = 255;
 
-/// The most bytes of a file in romfs: 2^28, this project's limit of an image.
-const ROMFS_FILE_MOST: u64 = 1 << 28;
+/// The most bytes of a file in romfs, as of an image.
+const ROMFS_FILE_MOST: u64 = disk::MOST_BYTES as u64;
 
 /// What the size of a file in cramfs is below: 2^24.
 const CRAMFS_FILE_LIMIT: u64 = 1 << 24;
@@ -119,7 +120,7 @@ fn name_len(path: &[u8]) -> usize
 }
 
 /// How many bytes the file of a line has.
-fn size_of(files: &Files, line: &Line) -> u64
+fn size_of(files: &PathTargets, line: &Line) -> u64
     ensures { (lines : List decl.Line) (sizes : List ℕ) → IsOf lines sizes files.now
         → result ≡ size_by line.now.word line.now (contents_at lines sizes line.now.path) }
 {
@@ -168,7 +169,7 @@ fn least_number(
 }
 
 /// The least number of the misfits of a line.
-pub fn number_of_line(format: Format, files: &Files, line: &Line) -> Option<u32>
+pub fn number_of_line(format: Format, files: &PathTargets, line: &Line) -> Option<u32>
     requires { is_some (names_of line.now.path) ≡ true }
     ensures { (m : ManifestLines) (sizes : List ℕ) → IsOf m.lines sizes files.now
         → result ≡ tests.number_of_line (format_of format) m sizes line.now }

@@ -2,16 +2,16 @@
 use Rattle.std.specs.Prelude.{◌≡◌, ℕ, ◌≤◌, ◌<◌, Option, Some}
 use Rattle.std.specs.BTreeMap.{get}
 use Rattle.std.specs.Ordering.{nat_cmp}
-use Rattle.record_forest.specs.declared.known.Known.{Known}
+use Rattle.record_forest.specs.declared.known.VerifiedRanges.{VerifiedRanges}
 
 -- where the range that begins at `start` ends
-abbrev pub end_of : Known → ℕ → Option ℕ
+abbrev pub end_of : VerifiedRanges → ℕ → Option ℕ
 end_of k start = get nat_cmp k.ends start
 
 -- each range of the one is one of the other
-abbrev pub IsPartOf : Known → Known → Type 0
+abbrev pub IsPartOf : VerifiedRanges → VerifiedRanges → Type 0
 IsPartOf k l = (start end : ℕ) → end_of k start ≡ Some end → end_of l start ≡ Some end
 
 -- P holds of each number in a range
-abbrev pub AreKnown : (ℕ → Type 0) → Known → Type 0
+abbrev pub AreKnown : (ℕ → Type 0) → VerifiedRanges → Type 0
 AreKnown P k = (start end : ℕ) → end_of k start ≡ Some end → (n : ℕ) → start ≤ n → n < end → P n

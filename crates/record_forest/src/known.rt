@@ -15,16 +15,16 @@ pub struct Range {
 /// Ranges of numbers that were looked at and found well, so that none is looked at again. What is
 /// not known may be looked at again: a refused growth loses a range, and nothing else.
 #[derive(Drop)]
-pub struct Known {
+pub struct VerifiedRanges {
     ends: BTreeMap<u32, u32, Global>,
 }
 
-impl Known {
+impl VerifiedRanges {
     /// Nothing is known. Takes no memory.
-    pub fn new(alloc: Global) -> Known
+    pub fn new(alloc: Global) -> VerifiedRanges
         ensures { (start : ℕ) → end_of result start ≡ None }
     {
-        Known {
+        VerifiedRanges {
             ends: BTreeMap::new(alloc),
         }
     }

@@ -6,7 +6,7 @@ ghost use Rattle.record_forest.specs.References.{References, Reached};
 ghost use Rattle.record_forest.specs.Faults.{IsLeastFault};
 ghost use Rattle.record_forest.specs.Known.{AreKnown};
 
-use crate::known::Known;
+use crate::known::VerifiedRanges;
 use crate::reference::{Edge, Edges, Reference};
 use rom_faults::Fault;
 
@@ -36,7 +36,7 @@ pub trait Records {
 
     /// What follows from a reached reference to the record at `at`, or the record's least fault. It
     /// may note in `known` what it looked at.
-    fn edges(&self, known: &mut Known, x: Reference, at: u32) -> Result<Edges, Fault>
+    fn edges(&self, known: &mut VerifiedRanges, x: Reference, at: u32) -> Result<Edges, Fault>
         requires known { AreKnown (well self.now) known.old }
         requires reached { Reached (references self.now) (sound self.now) x }
         requires target { (references self.now).target x ≡ Some at }

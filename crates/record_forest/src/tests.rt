@@ -1,7 +1,7 @@
 ghost use Rattle.std.specs.Prelude.{◌≡◌, Some};
 ghost use Rattle.record_forest.specs.Table.{offset, table_references, table_sound, table_faulty};
 
-use crate::known::Known;
+use crate::known::VerifiedRanges;
 use crate::least::{lesser_fault, lesser_of_both};
 use crate::records::Records;
 use crate::reference::{Edge, Edges, Reference, Row};
@@ -48,7 +48,7 @@ impl Records for Table {
         true
     }
 
-    fn edges(&self, _: &mut Known, _: Reference, at: u32) -> Result<Edges, Fault> {
+    fn edges(&self, _: &mut VerifiedRanges, _: Reference, at: u32) -> Result<Edges, Fault> {
         if at >= 8 {
             return Err(Fault { number: 1, at });
         }

@@ -8,7 +8,7 @@ ghost use Rattle.record_forest.specs.Known.{AreKnown};
 ghost use Rattle.record_forest.specs.Lesser.{lesser};
 ghost use Rattle.record_forest.specs.Traversal.{IsLeastRefusal};
 
-use crate::known::Known;
+use crate::known::VerifiedRanges;
 use crate::least::lesser_fault;
 use crate::records::Records;
 use crate::reference::{Edge, Edges, Reference, Row};
@@ -219,7 +219,7 @@ pub fn traverse<R: Records>(
     let Some(root) = top.target else {
         unreachable!();
     };
-    let mut known = Known::new(alloc);
+    let mut known = VerifiedRanges::new(alloc);
     match records.edges(&mut known, top.reference, root) {
         Err(fault) => Err(TraversalError::Record(fault)),
         Ok(edges) => traverse_below(alloc, records, known, most, root, edges),
@@ -230,7 +230,7 @@ pub fn traverse<R: Records>(
 fn traverse_below<R: Records>(
     alloc: Global,
     records: &R,
-    known: Known,
+    known: VerifiedRanges,
     most: u32,
     root: u32,
     edges: Edges,

@@ -66,6 +66,6 @@ module _ (bytes path : List ℕ) (old mid new err err' : Output) (result : Statu
   failed_before (inl h) e = let c = h.2 in rose_counted old.failures mid.failures fresh c.3 e
   failed_before (inr h) e = rose_counted old.failures mid.failures fresh h.3 e
 
-  pub fault_told : CopyEnds bytes path old mid WriteFault → Flushes mid new err err' status.Fault result → Told bytes path old new err err' result
+  pub fault_told : CopyEnds bytes path old mid WriteFault → Flushes mid new err err' status.Failed result → Told bytes path old new err err' result
   fault_told h (inl f) = record { outcome = WriteFault; status = f.1; ends = kept_fault h f.0; said = f.2 }
   fault_told h (inr f) = absurd (failed_before h f.0)

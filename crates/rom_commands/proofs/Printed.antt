@@ -73,7 +73,7 @@ module _ (bytes : List ℕ) (asked : Asked) (old mid new err err' : Output) (res
     said = unsaid err err' f.3;
   }
 
-  pub fault_told : Ends bytes asked old mid WriteFault → Flushes mid new err err' status.Fault result → Told bytes asked old new err err' result
+  pub fault_told : Ends bytes asked old mid WriteFault → Flushes mid new err err' status.Failed result → Told bytes asked old new err err' result
   fault_told h (inl f) =
       let a = h.2 in
       record {

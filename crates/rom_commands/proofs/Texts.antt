@@ -10,8 +10,8 @@ use Rattle.image_check.specs.Checked.{romfs as shows_romfs, cramfs as shows_cram
 use Rattle.image_check.specs.Checked.{Shows, IsRefused, HasFormat, IsFaultless, IsLeastFault}
 use Rattle.rom_fields.specs.Written.{Output}
 use Rattle.image_info.specs.Endings.{WritesAll}
-use Rattle.image_info.specs.declared.info.Trouble.{Trouble}
-use Rattle.image_info.specs.declared.info.Trouble.TheVariants.{OutOfMemory, WriteFault}
+use Rattle.image_info.specs.declared.info.InfoError.{InfoError}
+use Rattle.image_info.specs.declared.info.InfoError.TheVariants.{OutOfMemory, WriteFault}
 use Rattle.rom_commands.specs.declared.asked.Asked.{Asked}
 use Rattle.rom_commands.specs.Lines.{fault_line}
 use Rattle.rom_commands.specs.Asked.{sound_text, Fits}
@@ -59,6 +59,6 @@ pub faulty : (bytes : List ℕ) (l : Limits) (number at : ℕ) → l ≡ usual_l
 faulty bytes l number at e h k = record { number = number; at = at; fault = fault_of bytes l number at e h k; same = refl }
 
 -- a failure with nothing to tell is one with something to tell
-pub failed_as_well : (old new : Output) (text : List ℕ) (e : Trouble) → WritesAll {T = Unit {0}} old new text (Err e) → WritesAll {T = Bool} old new text (Err e)
+pub failed_as_well : (old new : Output) (text : List ℕ) (e : InfoError) → WritesAll {T = Unit {0}} old new text (Err e) → WritesAll {T = Bool} old new text (Err e)
 failed_as_well old new text OutOfMemory h = h
 failed_as_well old new text WriteFault h = h

@@ -68,8 +68,8 @@ abbrev pub status_of : Outcome → Status
 status_of Done = status.Done
 status_of Warned = status.Refused
 status_of Refused = status.Refused
-status_of Memory = status.Fault
-status_of WriteFault = status.Fault
+status_of Memory = status.Failed
+status_of WriteFault = status.Failed
 
 -- the text was put into a writer, or a prefix of it where a write failed
 abbrev pub Prints : Output → Output → List ℕ → Type 0
@@ -78,7 +78,7 @@ Prints old new text = (failed : Bool) × Puts (sink old false) (sink new failed)
 -- what was held back was handed on, and the status stays; or a write failed, which is told
 abbrev pub Flushes : Output → Output → Output → Output → Status → Status → Type 0
 Flushes old new err err' given result =
-    ((0 < new.failures) × (result ≡ status.Fault) × Prints err err' (codes "write fault\n"))
+    ((0 < new.failures) × (result ≡ status.Failed) × Prints err err' (codes "write fault\n"))
     ⊎ ((old.failures ≡ 0) × (new.failures ≡ 0) × (result ≡ given) × (err' ≡ err))
 
 -- what standard error says of how the printing ended

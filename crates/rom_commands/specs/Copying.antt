@@ -62,8 +62,8 @@ abbrev pub copied_status : Copied → Status
 copied_status Done = status.Done
 copied_status (Fileless e) = status.Refused
 copied_status Refused = status.Refused
-copied_status Memory = status.Fault
-copied_status WriteFault = status.Fault
+copied_status Memory = status.Failed
+copied_status WriteFault = status.Failed
 
 -- `err `, and the name of an error of POSIX
 abbrev pub no_file_text : NoFile → List ℕ

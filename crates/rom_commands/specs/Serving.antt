@@ -117,10 +117,10 @@ SpaceEnds all r₀ r w₀ w o =
 abbrev pub serving_status : Serving → Status
 serving_status Served = status.Done
 serving_status Refused = status.Refused
-serving_status Memory = status.Fault
-serving_status ReadFault = status.Fault
-serving_status WriteFault = status.Fault
-serving_status TooManyReads = status.Fault
+serving_status Memory = status.Failed
+serving_status ReadFault = status.Failed
+serving_status WriteFault = status.Failed
+serving_status TooManyReads = status.Failed
 
 -- what standard error says of how the serving ended
 abbrev pub serving_complaint : Serving → List ℕ

@@ -98,7 +98,7 @@ fn no_file_name(error: NoFile) -> &'static [u8]
 /// Prints the bytes of the regular file to which a path leads in an image to `out`, and to `err` why
 /// there are none, that memory was refused or that a write failed. What `out` holds back is handed
 /// on. The status is `Done`, `Refused` where the image has a fault or the path leads to no regular
-/// file, `Fault` where memory was refused or a write failed.
+/// file, `Failed` where memory was refused or a write failed.
 pub fn print_file<X: Write, E: ByteWrite>(
     alloc: Global,
     bytes: &[u8],
@@ -115,14 +115,14 @@ pub fn print_file<X: Write, E: ByteWrite>(
     match copy(alloc, bytes, path, out) {
         Copied::Done => flushed(out, err, Status::Done),
         Copied::Refused => flushed(out, err, Status::Refused),
-        Copied::WriteFault => flushed(out, err, Status::Fault),
+        Copied::WriteFault => flushed(out, err, Status::Failed),
         Copied::NoFile(error) => {
             complain(err, no_file_name(error), b"");
             Status::Refused
         }
         Copied::Memory => {
             complain(err, b"memory", b"");
-            Status::Fault
+            Status::Failed
         }
     }
 }

@@ -26,7 +26,7 @@ pub fn complain<W: ByteWrite>(w: &mut W, text: &[u8], name: &[u8])
     put(w, &mut failed, b"\n");
 }
 
-/// Hands on what `out` holds back. The status is `Fault`, and `err` says so, where that or a write
+/// Hands on what `out` holds back. The status is `Failed`, and `err` says so, where that or a write
 /// before failed, and else the one that is given.
 pub(crate) fn flushed<X: Write, E: ByteWrite>(
     out: &mut Plain<X>,
@@ -42,7 +42,7 @@ pub(crate) fn flushed<X: Write, E: ByteWrite>(
     let _ = out.flush();
     if out.failures() > 0 {
         complain(err, b"write fault", b"");
-        return Status::Fault;
+        return Status::Failed;
     }
     status
 }
@@ -50,7 +50,7 @@ pub(crate) fn flushed<X: Write, E: ByteWrite>(
 /// Prints what `check`, `list`, `map`, `linux` or `info` says of an image to `out`, and to `err` that
 /// memory was refused or a write failed. What `out` holds back is handed on. The status is `Done`
 /// where the image is sound, `Refused` where it has a fault or Linux gets something of it wrong that
-/// was asked for, `Fault` where memory was refused or a write failed.
+/// was asked for, `Failed` where memory was refused or a write failed.
 pub fn print<X: Write, E: ByteWrite>(
     alloc: Global,
     bytes: &[u8],
@@ -69,10 +69,10 @@ pub fn print<X: Write, E: ByteWrite>(
         Outcome::Done => flushed(out, err, Status::Done),
         Outcome::Warned => flushed(out, err, Status::Refused),
         Outcome::Refused => flushed(out, err, Status::Refused),
-        Outcome::WriteFault => flushed(out, err, Status::Fault),
+        Outcome::WriteFault => flushed(out, err, Status::Failed),
         Outcome::Memory => {
             complain(err, b"memory", b"");
-            Status::Fault
+            Status::Failed
         }
     }
 }

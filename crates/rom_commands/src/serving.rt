@@ -49,7 +49,7 @@ fn status(serving: Serving) -> Status
         Serving::Served => Status::Done,
         Serving::Refused => Status::Refused,
         Serving::Memory | Serving::ReadFault | Serving::WriteFault | Serving::TooManyReads => {
-            Status::Fault
+            Status::Failed
         }
     }
 }
@@ -153,7 +153,7 @@ pub(crate) fn conclude<E: ByteWrite>(serving: Serving, err: &mut E) -> Status
 }
 
 /// Serves an image as `serve_image` does, says on `err` what went wrong, and gives the status:
-/// `Done` where all replies were written, `Refused` where the image has a fault, `Fault` where memory
+/// `Done` where all replies were written, `Refused` where the image has a fault, `Failed` where memory
 /// was refused or a stream failed.
 pub fn serve_on<R: ByteRead, W: ByteWrite, E: ByteWrite>(
     alloc: Global,

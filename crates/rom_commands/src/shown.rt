@@ -16,7 +16,7 @@ ghost use Rattle.rom_commands.specs.declared.shown.Outcome.{Outcome};
 use crate::asked::Asked;
 use crate::fault::put_fault;
 use image_check::{AnyImage, check};
-use image_info::{Trouble, write_info};
+use image_info::{InfoError, write_info};
 use image_map::map;
 use linux_misreads::misreads;
 use rom_faults::CheckError;
@@ -71,7 +71,13 @@ fn format_name(image: &AnyImage) -> &'static [u8]
 {
     match image {
         AnyImage::Romfs(_) => b"romfs",
-        AnyImage::Cramfs(image) => { if image.big() { b"cramfs-be" } else { b"cramfs" } }
+        AnyImage::Cramfs(image) => {
+            if image.is_big_endian() {
+                b"cramfs-be"
+            } else {
+                b"cramfs"
+            }
+        }
     }
 }
 
@@ -98,7 +104,7 @@ fn write_facts<W: ByteWrite>(
     image: &AnyImage,
     file: u64,
     w: &mut W,
-) -> Result<bool, Trouble>
+) -> Result<bool, InfoError>
     requires shallow { levels (any_view image.now).tree ≤ 65 }
     requires checked { IsChecked image.now }
     ensures text { WritesAll (W.output w.old) (W.output w.new) (info_text file image.now) result }
@@ -106,7 +112,7 @@ fn write_facts<W: ByteWrite>(
 {
     match write_info(alloc, image, file, w) {
         Ok(()) => Ok(false),
-        Err(trouble) => Err(trouble),
+        Err(error) => Err(error),
     }
 }
 
@@ -116,7 +122,7 @@ fn write_sound<W: ByteWrite>(
     image: &AnyImage,
     asked: Asked,
     w: &mut W,
-) -> Result<bool, Trouble>
+) -> Result<bool, InfoError>
     requires shallow { levels (any_view image.now).tree ≤ 65 }
     requires checked { IsChecked image.now }
     requires fits { Fits asked (length (any_view image.now).bytes) }
@@ -126,15 +132,15 @@ fn write_sound<W: ByteWrite>(
     match asked {
         Asked::Report => match write_ok_line(w, format_name(image), image.report()) {
             Ok(()) => Ok(false),
-            Err(_) => Err(Trouble::WriteFault),
+            Err(_) => Err(InfoError::WriteFault),
         },
         Asked::List => match list(image, w) {
             Ok(()) => Ok(false),
-            Err(_) => Err(Trouble::WriteFault),
+            Err(_) => Err(InfoError::WriteFault),
         },
         Asked::Map(base) => match map(image, base, w) {
             Ok(()) => Ok(false),
-            Err(_) => Err(Trouble::WriteFault),
+            Err(_) => Err(InfoError::WriteFault),
         },
         Asked::Misreads => misreads(alloc, image, w),
         Asked::Facts(file) => write_facts(alloc, image, file, w),
@@ -155,8 +161,8 @@ pub fn show<W: ByteWrite>(alloc: Global, bytes: &[u8], asked: Asked, w: &mut W) 
                     Outcome::Done
                 }
             }
-            Err(Trouble::OutOfMemory) => Outcome::Memory,
-            Err(Trouble::WriteFault) => Outcome::WriteFault,
+            Err(InfoError::OutOfMemory) => Outcome::Memory,
+            Err(InfoError::WriteFault) => Outcome::WriteFault,
         },
         Err(CheckError::Fault { number, at }) => match write_fault_line(w, number, at) {
             Ok(()) => Outcome::Refused,

@@ -1,7 +1,7 @@
 //! How a command ends, and what standard error says then.
 ghost use Rattle.std.specs.Prelude.{◌≡◌, ◌≤◌};
 ghost use Rattle.rom_commands.specs.Answers.{Prints};
-ghost use Rattle.rom_commands.specs.Endings.{code_of, trouble_line, trouble_status};
+ghost use Rattle.rom_commands.specs.Endings.{code_of, failure_line, failure_status};
 
 use crate::printing::complain;
 use rom_fields::bytes::ByteWrite;
@@ -17,7 +17,7 @@ pub enum Status {
     /// The words ask for nothing.
     Usage,
     /// A file, memory or a stream failed.
-    Fault,
+    Failed,
 }
 
 impl Status {
@@ -30,14 +30,14 @@ impl Status {
             Status::Done => 0,
             Status::Refused => 1,
             Status::Usage => 2,
-            Status::Fault => 3,
+            Status::Failed => 3,
         }
     }
 }
 
 /// Why a command did not do what was asked for.
 #[derive(Clone, Copy, PartialEq, Eq)]
-pub enum Trouble<'a> {
+pub enum Failure<'a> {
     /// Memory was refused.
     Memory,
     /// The words ask for nothing.
@@ -55,37 +55,37 @@ pub enum Trouble<'a> {
 }
 
 /// Says on `err` why a command did not do what was asked for.
-fn complain_of<E: ByteWrite>(trouble: Trouble<'_>, err: &mut E)
-    ensures { Prints (E.output err.old) (E.output err.new) (trouble_line trouble.entry) }
+fn complain_of<E: ByteWrite>(failure: Failure<'_>, err: &mut E)
+    ensures { Prints (E.output err.old) (E.output err.new) (failure_line failure.entry) }
 {
     let mut failed = false;
-    match trouble {
-        Trouble::Memory => put(err, &mut failed, b"memory\n"),
-        Trouble::Usage => put(err, &mut failed, b"usage\n"),
-        Trouble::File(name) => complain(err, b"file ", name),
-        Trouble::Changed => put(err, &mut failed, b"changed\n"),
-        Trouble::LongPath => put(err, &mut failed, b"path\n"),
-        Trouble::LongVolume => put(err, &mut failed, b"volume\n"),
-        Trouble::WriteFault => put(err, &mut failed, b"write fault\n"),
+    match failure {
+        Failure::Memory => put(err, &mut failed, b"memory\n"),
+        Failure::Usage => put(err, &mut failed, b"usage\n"),
+        Failure::File(name) => complain(err, b"file ", name),
+        Failure::Changed => put(err, &mut failed, b"changed\n"),
+        Failure::LongPath => put(err, &mut failed, b"path\n"),
+        Failure::LongVolume => put(err, &mut failed, b"volume\n"),
+        Failure::WriteFault => put(err, &mut failed, b"write fault\n"),
     }
 }
 
 /// How a command ends that did not do what was asked for.
-fn status_of(trouble: Trouble<'_>) -> Status
-    ensures { result ≡ trouble_status trouble.entry }
+fn status_of(failure: Failure<'_>) -> Status
+    ensures { result ≡ failure_status failure.entry }
 {
-    match trouble {
-        Trouble::Usage => Status::Usage,
-        _ => Status::Fault,
+    match failure {
+        Failure::Usage => Status::Usage,
+        _ => Status::Failed,
     }
 }
 
 /// Says on `err`, the standard error, why a command did not do what was asked for: one line. A name
 /// stands in it escaped.
-pub fn tell<E: ByteWrite>(trouble: Trouble<'_>, err: &mut E) -> Status
-    ensures said { Prints (E.output err.old) (E.output err.new) (trouble_line trouble.entry) }
-    ensures status { result ≡ trouble_status trouble.entry }
+pub fn tell<E: ByteWrite>(failure: Failure<'_>, err: &mut E) -> Status
+    ensures said { Prints (E.output err.old) (E.output err.new) (failure_line failure.entry) }
+    ensures status { result ≡ failure_status failure.entry }
 {
-    complain_of(trouble, err);
-    status_of(trouble)
+    complain_of(failure, err);
+    status_of(failure)
 }

@@ -6,7 +6,7 @@ use crate::copying::print_file;
 use crate::hello::hello;
 use crate::printing::{complain, print};
 use crate::shown::{Outcome, show};
-use crate::status::{Status, Trouble, tell};
+use crate::status::{Failure, Status, tell};
 use rom_fields::bytes::Plain;
 use rom_fields::faulty::Faulty;
 use rom_fields::word::put_be32;
@@ -179,7 +179,7 @@ fn a_failed_flush_is_a_write_fault(rt: HostRuntime) -> Result<(), Fail> {
     let mut err = Plain::new(Vec::new(rt.alloc()));
     assert_eq!(rt;
         print(rt.alloc(), &hello(), Asked::Report, &mut out, &mut err),
-        Status::Fault
+        Status::Failed
     );
     assert_eq!(rt; err.into_inner().as_slice(), b"write fault\n".as_slice());
     Ok(())
@@ -194,22 +194,22 @@ fn complains_with_an_escaped_name(rt: HostRuntime) -> Result<(), Fail> {
 }
 
 #[test]
-fn troubles_are_told(rt: HostRuntime) -> Result<(), Fail> {
-    for (trouble, status, text) in [
-        (Trouble::Memory, Status::Fault, b"memory\n".as_slice()),
-        (Trouble::Usage, Status::Usage, b"usage\n"),
-        (Trouble::File(b"a b"), Status::Fault, b"file a%20b\n"),
-        (Trouble::Changed, Status::Fault, b"changed\n"),
-        (Trouble::WriteFault, Status::Fault, b"write fault\n"),
+fn failures_are_told(rt: HostRuntime) -> Result<(), Fail> {
+    for (failure, status, text) in [
+        (Failure::Memory, Status::Failed, b"memory\n".as_slice()),
+        (Failure::Usage, Status::Usage, b"usage\n"),
+        (Failure::File(b"a b"), Status::Failed, b"file a%20b\n"),
+        (Failure::Changed, Status::Failed, b"changed\n"),
+        (Failure::WriteFault, Status::Failed, b"write fault\n"),
     ] {
         let mut err = Plain::new(Vec::new(rt.alloc()));
-        assert_eq!(rt; tell(trouble, &mut err), status);
+        assert_eq!(rt; tell(failure, &mut err), status);
         let said: Vec<u8> = err.into_inner();
         assert_eq!(rt; said.as_slice(), text);
     }
     assert_eq!(rt; Status::Done.code(), 0);
     assert_eq!(rt; Status::Refused.code(), 1);
     assert_eq!(rt; Status::Usage.code(), 2);
-    assert_eq!(rt; Status::Fault.code(), 3);
+    assert_eq!(rt; Status::Failed.code(), 3);
     Ok(())
 }

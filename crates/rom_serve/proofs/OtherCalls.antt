@@ -6,7 +6,7 @@ use Rattle.rom_tree.specs.Image.{Image, stat_of}
 use Rattle.path_walk.specs.declared.error.WalkError.{WalkError}
 use Rattle.path_walk.specs.declared.mount.Mount.{Mount}
 use Rattle.path_walk.specs.Resolution.{resolution}
-use Rattle.path_walk.specs.Graft.{GraftNode, bytes_in, graft}
+use Rattle.path_walk.specs.Graft.{MountedNode, bytes_in, graft}
 use Rattle.open_files.specs.Calls.{Answer, give, Calls}
 use Rattle.open_files.specs.Machine.{Outcome, Open, Table, open_at, put, walked, after, opened, closed, open_free, open_place, lowest_free, read_link, calls_over, fstat_on, read_on, lend_on, map_on, seek_on, readdir_on, rewind_on}
 use Rattle.open_files.specs.Sessions.{is_mounted}
@@ -18,11 +18,11 @@ use Rattle.rom_serve.specs.Obeyed.{said, obeyed, of_node, of_stat, of_piece}
 use Rattle.rom_serve.proofs.OtherImage.{Fine, bytes_other, leads_same, leads_fine}
 
 -- what is open is of other images than i
-abbrev pub IsOther : ℕ → Option (Open GraftNode) → Type 0
+abbrev pub IsOther : ℕ → Option (Open MountedNode) → Type 0
 IsOther i None = Unit {0}
 IsOther i (Some o) = Fine i o.place
 
-abbrev pub AreOther : ℕ → Table GraftNode → Type 0
+abbrev pub AreOther : ℕ → Table MountedNode → Type 0
 AreOther i [] = Unit {0}
 AreOther i (o ∷ t) = IsOther i o × AreOther i t
 
@@ -30,79 +30,79 @@ pub none_other : (i n : ℕ) → AreOther i (replicate n None)
 none_other i zero = tt
 none_other i (suc n) = (tt, none_other i n)
 
-set_other : (i : ℕ) (t : Table GraftNode) (fd : ℕ) (o : Option (Open GraftNode)) → AreOther i t → IsOther i o → AreOther i (slice_set t fd o)
+set_other : (i : ℕ) (t : Table MountedNode) (fd : ℕ) (o : Option (Open MountedNode)) → AreOther i t → IsOther i o → AreOther i (slice_set t fd o)
 set_other i [] fd o h k = tt
 set_other i (p ∷ t) zero o h k = (k, h.1)
 set_other i (p ∷ t) (suc fd) o h k = (h.0, set_other i t fd o h.1 k)
 
-put_other : (i : ℕ) (t : Table GraftNode) (fd : ℕ) (o : Option (Open GraftNode)) → AreOther i t → IsOther i o → AreOther i (put t fd o)
+put_other : (i : ℕ) (t : Table MountedNode) (fd : ℕ) (o : Option (Open MountedNode)) → AreOther i t → IsOther i o → AreOther i (put t fd o)
 unfolding put
 put_other i t fd o h k = set_other i t fd o h k
 
-get_other : (i : ℕ) (t : Table GraftNode) (fd : ℕ) → AreOther i t → IsOther i (option_and_then (λ o. o) (slice_get t fd))
+get_other : (i : ℕ) (t : Table MountedNode) (fd : ℕ) → AreOther i t → IsOther i (option_and_then (λ o. o) (slice_get t fd))
 get_other i [] fd h = tt
 get_other i (p ∷ t) zero h = h.0
 get_other i (p ∷ t) (suc fd) h = get_other i t fd h.1
 
-at_other : (i : ℕ) (t : Table GraftNode) (fd : ℕ) → AreOther i t → IsOther i (open_at t fd)
+at_other : (i : ℕ) (t : Table MountedNode) (fd : ℕ) → AreOther i t → IsOther i (open_at t fd)
 unfolding open_at
 at_other i t fd h = get_other i t fd h
 
 module _ (i : ℕ) {R : Type 0} where
   -- calls that do the same at places of other images do the same
-  walked_same : (t : Table GraftNode) (f g : GraftNode → Answer (Table GraftNode) R) → ((s : GraftNode) → Fine i s → f s ≡ g s)
-      → (r : Result GraftNode WalkError) → ((s : GraftNode) → r ≡ Ok s → Fine i s) → walked t f r ≡ walked t g r
+  walked_same : (t : Table MountedNode) (f g : MountedNode → Answer (Table MountedNode) R) → ((s : MountedNode) → Fine i s → f s ≡ g s)
+      → (r : Result MountedNode WalkError) → ((s : MountedNode) → r ≡ Ok s → Fine i s) → walked t f r ≡ walked t g r
   walked_same t f g same (Err e) h = refl
   walked_same t f g same (Ok s) h = same s (h s refl)
 
-  opened_same : (t : Table GraftNode) (fd : ℕ) (f g : GraftNode → ℕ → Outcome R) → ((s : GraftNode) (p : ℕ) → Fine i s → f s p ≡ g s p)
-      → (o : Option (Open GraftNode)) → IsOther i o → opened t fd f o ≡ opened t fd g o
+  opened_same : (t : Table MountedNode) (fd : ℕ) (f g : MountedNode → ℕ → Outcome R) → ((s : MountedNode) (p : ℕ) → Fine i s → f s p ≡ g s p)
+      → (o : Option (Open MountedNode)) → IsOther i o → opened t fd f o ≡ opened t fd g o
   opened_same t fd f g same None h = refl
   opened_same t fd f g same (Some o) h = ap (after t fd o.place) (same o.place o.position h)
 
   -- and leave only files of other images open
-  walked_other : (t : Table GraftNode) (f : GraftNode → Answer (Table GraftNode) R) → AreOther i t
-      → ((s : GraftNode) → Fine i s → AreOther i (f s).state)
-      → (r : Result GraftNode WalkError) → ((s : GraftNode) → r ≡ Ok s → Fine i s) → AreOther i (walked t f r).state
+  walked_other : (t : Table MountedNode) (f : MountedNode → Answer (Table MountedNode) R) → AreOther i t
+      → ((s : MountedNode) → Fine i s → AreOther i (f s).state)
+      → (r : Result MountedNode WalkError) → ((s : MountedNode) → r ≡ Ok s → Fine i s) → AreOther i (walked t f r).state
   walked_other t f h k (Err e) fine = h
   walked_other t f h k (Ok s) fine = k s (fine s refl)
 
-  after_other : (t : Table GraftNode) (fd : ℕ) (s : GraftNode) (a : Outcome R) → AreOther i t → Fine i s → AreOther i (after t fd s a).state
+  after_other : (t : Table MountedNode) (fd : ℕ) (s : MountedNode) (a : Outcome R) → AreOther i t → Fine i s → AreOther i (after t fd s a).state
   after_other t fd s (Err e) h k = h
   after_other t fd s (Ok a) h k = put_other i t fd (Some (record { place = s; position = a.1 })) h k
 
-  opened_other : (t : Table GraftNode) (fd : ℕ) (f : GraftNode → ℕ → Outcome R) (o : Option (Open GraftNode)) → AreOther i t → IsOther i o
+  opened_other : (t : Table MountedNode) (fd : ℕ) (f : MountedNode → ℕ → Outcome R) (o : Option (Open MountedNode)) → AreOther i t → IsOther i o
       → AreOther i (opened t fd f o).state
   opened_other t fd f None h k = h
   opened_other t fd f (Some o) h k = after_other t fd o.place (f o.place o.position) h k
 
-closed_other : (i : ℕ) (t : Table GraftNode) (fd : ℕ) (o : Option (Open GraftNode)) → AreOther i t → AreOther i (closed t fd o).state
+closed_other : (i : ℕ) (t : Table MountedNode) (fd : ℕ) (o : Option (Open MountedNode)) → AreOther i t → AreOther i (closed t fd o).state
 closed_other i t fd None h = h
 closed_other i t fd (Some o) h = put_other i t fd None h tt
 
-free_other : (i : ℕ) (t : Table GraftNode) (s : GraftNode) (o : Option ℕ) → AreOther i t → Fine i s → AreOther i (open_free t s o).state
+free_other : (i : ℕ) (t : Table MountedNode) (s : MountedNode) (o : Option ℕ) → AreOther i t → Fine i s → AreOther i (open_free t s o).state
 free_other i t s None h k = h
 free_other i t s (Some fd) h k = put_other i t fd (Some (record { place = s; position = 0 })) h k
 
-place_other : (i : ℕ) (t : Table GraftNode) (s : GraftNode) (b : Bool) → AreOther i t → Fine i s → AreOther i (open_place t s b).state
+place_other : (i : ℕ) (t : Table MountedNode) (s : MountedNode) (b : Bool) → AreOther i t → Fine i s → AreOther i (open_place t s b).state
 place_other i t s true h k = free_other i t s (lowest_free t) h k
 place_other i t s false h k = h
 
-link_other : (i : ℕ) (n : Option ℕ) (b : List ℕ) (t : Table GraftNode) (x : Node) (l : Bool) → AreOther i t → AreOther i (read_link n b t x l).state
+link_other : (i : ℕ) (n : Option ℕ) (b : List ℕ) (t : Table MountedNode) (x : Node) (l : Bool) → AreOther i t → AreOther i (read_link n b t x l).state
 link_other i n b t x true h = h
 link_other i n b t x false h = h
 
 -- the calls on a table over several images
-abbrev pub graft_calls : List Image → List Mount → Calls (Table GraftNode)
+abbrev pub graft_calls : List Image → List Mount → Calls (Table MountedNode)
 graft_calls ms us = calls_over 64 (graft ms us) (λ s. Some s.image)
 
 module _ (i : ℕ) (m : Image) (ms : List Image) (us : List Mount) (some : 0 < i) (free : is_mounted i us ≡ false) where
   -- a path leads to the same place, and what is done there does not need the images
-  at_path : {R : Type 0} (text : R → List ℕ) (t : Table GraftNode) (path : List ℕ) (follow : Bool) (f : GraftNode → Answer (Table GraftNode) R)
+  at_path : {R : Type 0} (text : R → List ℕ) (t : Table MountedNode) (path : List ℕ) (follow : Bool) (f : MountedNode → Answer (Table MountedNode) R)
       → said text (walked t f (resolution (graft (slice_set ms i m) us) path follow)) ≡ said text (walked t f (resolution (graft ms us) path follow))
   at_path text t path follow f = ap (λ r. said text (walked t f r)) (leads_same i m ms us some free path follow)
 
-  pub obeyed_same : (t : Table GraftNode) (c : Call) → AreOther i t
+  pub obeyed_same : (t : Table MountedNode) (c : Call) → AreOther i t
       → obeyed (graft_calls (slice_set ms i m) us) t c ≡ obeyed (graft_calls ms us) t c
   obeyed_same t (on_path path_call.Lookup x) h = at_path of_node t x true (λ s. give (Some s.image, ino_of s.node) t)
   obeyed_same t (on_path path_call.Stat x) h = at_path of_stat t x true (λ s. give (Some s.image, stat_of s.node) t)
@@ -133,7 +133,7 @@ module _ (i : ℕ) (m : Image) (ms : List Image) (us : List Mount) (some : 0 < i
   obeyed_same t (mount j x) h = refl
   obeyed_same t (umount j) h = refl
 
-  pub obeyed_other : (t : Table GraftNode) (c : Call) → AreOther i t → AreOther i (obeyed (graft_calls ms us) t c).state
+  pub obeyed_other : (t : Table MountedNode) (c : Call) → AreOther i t → AreOther i (obeyed (graft_calls ms us) t c).state
   obeyed_other t (on_path path_call.Lookup x) h =
       walked_other i t (λ s. give (Some s.image, ino_of s.node) t) h (λ s k. h) (resolution (graft ms us) x true) (leads_fine i m ms us some free x true)
   obeyed_other t (on_path path_call.Stat x) h =

@@ -9,7 +9,7 @@ use Rattle.rom_tree.specs.Image.{Image, find_entry}
 use Rattle.path_walk.specs.declared.error.WalkError.{WalkError}
 use Rattle.path_walk.specs.declared.mount.Mount.{Mount}
 use Rattle.path_walk.specs.Resolution.{resolution}
-use Rattle.path_walk.specs.Graft.{GraftNode, tree_in, bytes_in, covers, over, shown, graft}
+use Rattle.path_walk.specs.Graft.{MountedNode, tree_in, bytes_in, covers, over, shown, graft}
 use Rattle.open_files.specs.Calls.{Answer, refuse, give}
 use Rattle.open_files.specs.Sessions.{is_mounted, has_mount, without, mount_over, mount_at_place, mounting, unmounting}
 use Rattle.open_files.specs.declared.error.CallError.TheVariants.{Einval, Enodev, Ebusy}
@@ -51,11 +51,11 @@ some_same : {A : Type 0} (x y : A) → Some x ≡ Some y → x ≡ y
 some_same x y e = cc
 
 -- a place of another image than i
-abbrev pub Fine : ℕ → GraftNode → Type 0
+abbrev pub Fine : ℕ → MountedNode → Type 0
 Fine i s = (s.image == i) ≡ false
 
 module _ (i : ℕ) (m : Image) (ms : List Image) where
-  over_other : (us : List Mount) → is_mounted i us ≡ false → (p : Mount → Bool) (s : GraftNode)
+  over_other : (us : List Mount) → is_mounted i us ≡ false → (p : Mount → Bool) (s : MountedNode)
       → over (slice_set ms i m) s (find p us) ≡ over ms s (find p us)
   over_other [] h p s = refl
   over_other (u ∷ us) h p s =
@@ -63,7 +63,7 @@ module _ (i : ℕ) (m : Image) (ms : List Image) where
       of_both (λ o. over (slice_set ms i m) s o ≡ over ms s o) (p u) (Some u) (find p us)
       (ap (λ (t : Node). record { image = u.image; node = t }) (tree_other ms i u.image m both.0)) (over_other us both.1 p s)
 
-  over_fine : (us : List Mount) → is_mounted i us ≡ false → (p : Mount → Bool) (s : GraftNode) → Fine i s
+  over_fine : (us : List Mount) → is_mounted i us ≡ false → (p : Mount → Bool) (s : MountedNode) → Fine i s
       → Fine i (over ms s (find p us))
   over_fine [] h p s k = k
   over_fine (u ∷ us) h p s k =
@@ -71,20 +71,20 @@ module _ (i : ℕ) (m : Image) (ms : List Image) where
       of_both (λ o. Fine i (over ms s o)) (p u) (Some u) (find p us) both.0 (over_fine us both.1 p s k)
 
 module _ (i : ℕ) (m : Image) (ms : List Image) (us : List Mount) (some : 0 < i) (free : is_mounted i us ≡ false) where
-  shown_other : (s : GraftNode) → shown (slice_set ms i m) us s ≡ shown ms us s
+  shown_other : (s : MountedNode) → shown (slice_set ms i m) us s ≡ shown ms us s
   unfolding shown
   shown_other s = over_other i m ms us free (covers s.image (ino_of s.node)) s
 
-  shown_fine : (s : GraftNode) → Fine i s → Fine i (shown ms us s)
+  shown_fine : (s : MountedNode) → Fine i s → Fine i (shown ms us s)
   unfolding shown
   shown_fine s h = over_fine i m ms us free (covers s.image (ino_of s.node)) s h
 
   entry_other : (j : ℕ) (o : Option Node) → option_map (λ x. shown (slice_set ms i m) us (record { image = j; node = x })) o
       ≡ option_map (λ x. shown ms us (record { image = j; node = x })) o
   entry_other j None = refl
-  entry_other j (Some x) = ap (λ (s : GraftNode). Some s) (shown_other (record { image = j; node = x }))
+  entry_other j (Some x) = ap (λ (s : MountedNode). Some s) (shown_other (record { image = j; node = x }))
 
-  entry_fine : (j : ℕ) (o : Option Node) (y : GraftNode) → (j == i) ≡ false
+  entry_fine : (j : ℕ) (o : Option Node) (y : MountedNode) → (j == i) ≡ false
       → option_map (λ x. shown ms us (record { image = j; node = x })) o ≡ Some y → Fine i y
   entry_fine j None y h e = absurd (none_some y e)
   entry_fine j (Some x) y h e =
@@ -97,14 +97,14 @@ module _ (i : ℕ) (m : Image) (ms : List Image) (us : List Mount) (some : 0 < i
       (λ x n y h e. entry_fine x.image (find_entry (entries_of x.node) n) y h e) (first_other i some)
       (ap (λ (t : Node). record { image = 0; node = t }) (tree_other ms i 0 m (first_other i some)))
 
-  pub leads_fine : (path : List ℕ) (follow : Bool) (s : GraftNode) → resolution (graft ms us) path follow ≡ Ok s → Fine i s
+  pub leads_fine : (path : List ℕ) (follow : Bool) (s : MountedNode) → resolution (graft ms us) path follow ≡ Ok s → Fine i s
   leads_fine = walk_fine (Fine i) (graft ms us) (graft (slice_set ms i m) us)
       (λ x h. refl) (λ x h. bytes_other ms i x.image m h) (λ x n h. entry_other x.image (find_entry (entries_of x.node) n))
       (λ x n y h e. entry_fine x.image (find_entry (entries_of x.node) n) y h e) (first_other i some)
       (ap (λ (t : Node). record { image = 0; node = t }) (tree_other ms i 0 m (first_other i some)))
 
   -- another image is mounted alike
-  at_place_other : (j : ℕ) (r : Result GraftNode WalkError) → ((s : GraftNode) → r ≡ Ok s → Fine i s)
+  at_place_other : (j : ℕ) (r : Result MountedNode WalkError) → ((s : MountedNode) → r ≡ Ok s → Fine i s)
       → mount_at_place (slice_set ms i m) us j r ≡ mount_at_place ms us j r
   at_place_other j (Err e) h = refl
   at_place_other j (Ok s) h =
@@ -115,7 +115,7 @@ module _ (i : ℕ) (m : Image) (ms : List Image) (us : List Mount) (some : 0 < i
       ap (λ n. cond (not (nat_lt j n)) (refuse Enodev us) (cond ((j == 0) || is_mounted j us) (refuse Ebusy us)
       (mount_at_place (slice_set ms i m) us j (resolution (graft (slice_set ms i m) us) path true)))) (length-set ms i m)
       ∙ ap (λ (a : Answer (List Mount) (Unit {0})). cond (not (nat_lt j (length ms))) (refuse Enodev us) (cond ((j == 0) || is_mounted j us) (refuse Ebusy us) a))
-      (ap (λ (r : Result GraftNode WalkError). mount_at_place (slice_set ms i m) us j r) (leads_same path true)
+      (ap (λ (r : Result MountedNode WalkError). mount_at_place (slice_set ms i m) us j r) (leads_same path true)
       ∙ at_place_other j (resolution (graft ms us) path true) (leads_fine path true))
 
   pub unmounting_other : (j : ℕ) → unmounting (slice_set ms i m) us j ≡ unmounting ms us j
@@ -130,12 +130,12 @@ module _ (i : ℕ) (m : Image) (ms : List Image) (us : List Mount) (some : 0 < i
       let both = neither (v.image == i) (is_mounted i vs) h in
       ap (λ (t : Bool). t || is_mounted i (vs ++ u ∷ [])) both.0 ∙ push_free vs u both.1 k
 
-  over_free : (j : ℕ) (s : GraftNode) (a b : Bool) → (j == i) ≡ false → is_mounted i (mount_over us j s a b).state ≡ false
+  over_free : (j : ℕ) (s : MountedNode) (a b : Bool) → (j == i) ≡ false → is_mounted i (mount_over us j s a b).state ≡ false
   over_free j s false b h = free
   over_free j s true true h = free
   over_free j s true false h = push_free us (record { image = j; on = s.image; dir = record { 0 = ino_of s.node } }) free h
 
-  place_free : (j : ℕ) (r : Result GraftNode WalkError) → (j == i) ≡ false → is_mounted i (mount_at_place ms us j r).state ≡ false
+  place_free : (j : ℕ) (r : Result MountedNode WalkError) → (j == i) ≡ false → is_mounted i (mount_at_place ms us j r).state ≡ false
   place_free j (Err e) h = free
   place_free j (Ok s) h = over_free j s (is_directory s.node) (ino_of s.node == ino_of (tree_in ms s.image)) h
 

@@ -3,7 +3,7 @@ use Rattle.std.proofs.Common.{◌≡◌, ℕ, ◌<◌, true, false, List, drop, 
 use Rattle.std.specs.Prelude.{slice_set}
 use Rattle.rom_tree.specs.Image.{Image}
 use Rattle.path_walk.specs.declared.mount.Mount.{Mount}
-use Rattle.path_walk.specs.Graft.{GraftNode}
+use Rattle.path_walk.specs.Graft.{MountedNode}
 use Rattle.open_files.specs.Calls.{Answer}
 use Rattle.open_files.specs.Machine.{Table}
 use Rattle.open_files.specs.Sessions.{Sessions, with_own, shared_answer, graft_parts, space_calls, is_mounted, no_sessions}
@@ -19,7 +19,7 @@ use Rattle.rom_serve.proofs.OtherImage.{of_both, mounting_other, unmounting_othe
 use Rattle.rom_serve.proofs.OtherCalls.{AreOther, none_other, obeyed_same, obeyed_other}
 
 abbrev State : Type 0
-State = Sessions (List Mount) (Table GraftNode)
+State = Sessions (List Mount) (Table MountedNode)
 
 -- image i is not mounted, and nothing of it is open
 record IsClean (i : ℕ) (s : State) : Type 0 where
@@ -32,7 +32,7 @@ module _ (i : ℕ) (m : Image) (ms : List Image) (some : 0 < i) where
   call_same k s h = by_kind (λ c. obeyed (space_calls 64 (slice_set ms i m) k) s c ≡ obeyed (space_calls 64 ms k) s c)
       (λ j x. ap (λ (a : Answer (List Mount) (Unit {0})). said of_done (shared_answer s a)) (mounting_other i m ms s.shared some h.shared j x))
       (λ j. ap (λ (a : Answer (List Mount) (Unit {0})). said of_done (shared_answer s a)) (unmounting_other i m ms s.shared some h.shared j))
-      (λ c e. let F : Said (Table GraftNode) → Said (State) = λ a. says a.text (with_own s k a.state) in
+      (λ c e. let F : Said (Table MountedNode) → Said (State) = λ a. says a.text (with_own s k a.state) in
       lifted (graft_parts 64 (slice_set ms i m)) k s c e ∙ ap F (obeyed_same i m ms s.shared some h.shared (s.own k) c (h.own k))
       ∙ sym (lifted (graft_parts 64 ms) k s c e))
 

@@ -3,7 +3,7 @@ use Rattle.std.specs.Prelude.{ℕ, ◌+◌, ◌-◌, ◌==◌, nat_lt, Bool, tru
 use Rattle.rom_tree.specs.Tree.{Node}
 use Rattle.rom_tree.specs.Image.{Image}
 use Rattle.path_walk.specs.declared.mount.Mount.{Mount}
-use Rattle.path_walk.specs.Graft.{GraftNode}
+use Rattle.path_walk.specs.Graft.{MountedNode}
 use Rattle.open_files.specs.Calls.{Calls}
 use Rattle.open_files.specs.Machine.{Table, image_calls}
 use Rattle.open_files.specs.Sessions.{Sessions, space_calls}
@@ -69,5 +69,5 @@ abbrev pub image_machine : Image → Machine (Table Node)
 image_machine m = lines_alone (image_calls 64 m)
 
 -- several images, with 64 descriptors for each session
-abbrev pub space_machine : List Image → Machine (Sessions (List Mount) (Table GraftNode))
+abbrev pub space_machine : List Image → Machine (Sessions (List Mount) (Table MountedNode))
 space_machine ms = lines_among (space_calls 64 ms)

@@ -2,7 +2,7 @@
 use Rattle.std.specs.Prelude.{◌≡◌, ℕ, ◌==◌, Bool, true, false, List, drop, Option, Some, None}
 use Rattle.rom_tree.specs.Image.{Image}
 use Rattle.path_walk.specs.declared.mount.Mount.{Mount}
-use Rattle.path_walk.specs.Graft.{GraftNode}
+use Rattle.path_walk.specs.Graft.{MountedNode}
 use Rattle.open_files.specs.Machine.{Table}
 use Rattle.open_files.specs.Sessions.{Sessions, Parts, session_calls, graft_parts}
 use Rattle.serve_lines.specs.Commands.{Call, mount, umount, Line, asks, is_bad, line_of}
@@ -37,7 +37,7 @@ session_lines p = record {
 
 -- those over several images: the mounts are shared
 abbrev pub space_lines : List Image
-    → SessionMachine (Sessions (List Mount) (Table GraftNode)) (List Mount) (Table GraftNode)
+    → SessionMachine (Sessions (List Mount) (Table MountedNode)) (List Mount) (Table MountedNode)
 space_lines ms = session_lines (graft_parts 64 ms)
 
 -- `mount` of image i

@@ -2,7 +2,7 @@
 ghost use Rattle.std.specs.Prelude.{◌≡◌, ◌<◌, ℕ, List, None, slice_set};
 ghost use Rattle.rom_tree.specs.Image.{Image};
 ghost use Rattle.path_walk.specs.declared.mount.Mount.{Mount};
-ghost use Rattle.path_walk.specs.Graft.{GraftNode};
+ghost use Rattle.path_walk.specs.Graft.{MountedNode};
 ghost use Rattle.open_files.specs.Machine.{Table};
 ghost use Rattle.open_files.specs.Sessions.{Sessions, no_sessions};
 ghost use Rattle.serve_lines.specs.Served.{used, exchanges, lines_of};
@@ -10,10 +10,10 @@ ghost use Rattle.serve_lines.specs.Views.{SeesItsView, LeavesOwn};
 ghost use Rattle.rom_serve.specs.Machines.{space_machine, session_of};
 ghost use Rattle.rom_serve.specs.SessionLines.{space_lines, NeverMounts};
 
-/// Among the replies to an input, those of one session are the ones that it gets where its view
+/// SeveralSessions the replies to an input, those of one session are the ones that it gets where its view
 /// alone is the input: its own lines, and the `mount` and `umount` lines of all sessions.
 pub fn views()
-    ensures { (ms : List Image) (s : Sessions (List Mount) (Table GraftNode))
+    ensures { (ms : List Image) (s : Sessions (List Mount) (Table MountedNode))
         → SeesItsView (space_lines ms) s }
 {}
 
@@ -25,7 +25,7 @@ pub fn mounts_leave_tables()
 
 /// A line that names no session changes nothing.
 pub fn unnamed_lines()
-    ensures { (ms : List Image) (s : Sessions (List Mount) (Table GraftNode)) (l : List ℕ)
+    ensures { (ms : List Image) (s : Sessions (List Mount) (Table MountedNode)) (l : List ℕ)
         → session_of l ≡ None → (space_machine ms).next s l ≡ s }
 {}
 

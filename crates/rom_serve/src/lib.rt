@@ -8,15 +8,15 @@
 //! that keeps something of them, as a `Cached` one does.
 #![tactic(auto)]
 
-mod alone;
-mod among;
 mod calls;
 mod commands;
 pub mod laws;
+mod one;
+mod one_session;
 mod replies;
 pub mod serving;
 mod several;
-mod single;
+mod several_sessions;
 
 pub use lookup_cache::{Cached, NoCache};
 pub use serve_lines::ServeError;

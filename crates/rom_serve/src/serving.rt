@@ -9,9 +9,9 @@ ghost use Rattle.serve_lines.specs.Served.{Serves, Finishes, Breaks};
 ghost use Rattle.serve_lines.specs.declared.error.ServeError.TheVariants.{ReadFault, WriteFault, TooManyReads};
 ghost use Rattle.rom_serve.specs.Machines.{image_machine, space_machine};
 
-use crate::alone::Alone;
-use crate::among::Among;
-use crate::single::Single;
+use crate::one::One;
+use crate::one_session::OneSession;
+use crate::several_sessions::SeveralSessions;
 use open_files::{Slots, Space};
 use rom_fields::bytes::{ByteRead, ByteWrite};
 use rom_tree::image::TreeImage;
@@ -80,8 +80,8 @@ pub fn serve_bounded<'a, T: TreeImage<'a>, R: ByteRead, W: ByteWrite>(
         × Finishes (image_machine (T.image image)) (no_files 64)
         (R.remaining r.old) (R.remaining r.new) (W.output w.old) (W.output w.new) y }
 {
-    let mut machine = Alone {
-        calls: Single {
+    let mut machine = OneSession {
+        calls: One {
             image: &mut image,
             slots: Slots::new(),
         },
@@ -121,7 +121,7 @@ pub fn serve_space<'a, T: TreeImage<'a>, R: ByteRead, W: ByteWrite>(
         (R.remaining r.old) (R.remaining r.new) (W.output w.old) (W.output w.new) y }
 {
     let calls: Space<'a, T, 64> = Space::new(images);
-    let mut machine = Among {
+    let mut machine = SeveralSessions {
         calls,
         borrows: PhantomData,
     };

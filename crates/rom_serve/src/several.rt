@@ -1,7 +1,7 @@
 //! The open files of several images.
 ghost use Rattle.std.specs.Prelude.{◌≡◌, List, map, Some, option_map};
 ghost use Rattle.path_walk.specs.declared.mount.Mount.{Mount};
-ghost use Rattle.path_walk.specs.Graft.{GraftNode};
+ghost use Rattle.path_walk.specs.Graft.{MountedNode};
 ghost use Rattle.open_files.specs.Calls.{Of, Named, viewed};
 ghost use Rattle.open_files.specs.Machine.{Table};
 ghost use Rattle.open_files.specs.Sessions.{Sessions, space_calls};
@@ -67,7 +67,7 @@ fn entry_reply<'a>(r: Result<Option<(u32, Entry<'a>)>, CallError>) -> Reply<'a>
 
 /// Several images, with 64 descriptors for each session.
 impl<'a, T: TreeImage<'a>> OpenCalls<'a> for Space<'a, T, 64> {
-    ghost State = { Sessions (List Mount) (Table GraftNode) };
+    ghost State = { Sessions (List Mount) (Table MountedNode) };
 
     ghost state = { λ s. space_state 64 (map T.image s.images.items) s.mounts.items
         (map (λ t. t.slots) s.tables) };

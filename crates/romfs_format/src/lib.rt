@@ -7,4 +7,5 @@
 //! a function of the bytes.
 #![tactic(auto)]
 
+pub mod disk;
 pub mod laws;

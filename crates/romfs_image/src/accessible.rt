@@ -4,7 +4,7 @@ ghost use Rattle.std.specs.Prelude.{◌≡◌, ◌≢◌, ◌+◌, ◌<◌, ◌�
 ghost use Rattle.romfs_format.specs.Refers.{references, LeadsToSound, LeadsToFault, some_offset, list_of, following, reference_offset};
 
 use crate::soundness::record_fault;
-use record_forest::known::Known;
+use record_forest::known::VerifiedRanges;
 use record_forest::records::Records;
 use record_forest::reference::{Edge, Edges, Reference};
 use rom_faults::Fault;
@@ -80,7 +80,7 @@ impl Records for Accessible<'_> {
         true
     }
 
-    fn edges(&self, _: &mut Known, x: Reference, at: u32) -> Result<Edges, Fault> {
+    fn edges(&self, _: &mut VerifiedRanges, x: Reference, at: u32) -> Result<Edges, Fault> {
         if let Some(number) = record_fault(self, at as usize) {
             return Err(Fault { number, at });
         }

@@ -10,9 +10,7 @@ use crate::fields::word;
 use memchr::memchr;
 use rom_faults::{Fault, fault};
 use rom_fields::word::word_sum;
-
-/// `-rom1fs-`, with which an image begins.
-const MAGIC: [u8; 8] = *b"-rom1fs-";
+use romfs_format::disk::MAGIC;
 
 /// Whether the bytes begin with the magic.
 fn has_magic(bytes: &[u8]) -> bool

@@ -10,6 +10,7 @@ ghost use Rattle.romfs_plan.specs.Rows.{count_of, header_count, IsFitRow, too_la
 use crate::passes::rows_end;
 use crate::places::{padded, record_len};
 use manifest_rows::{Row, What, deepest};
+use romfs_format::disk;
 
 /// The most headers of an image: 2^20, this project's limit of references.
 const MOST_HEADERS: usize = 1 << 20;
@@ -17,8 +18,8 @@ const MOST_HEADERS: usize = 1 << 20;
 /// The most names on the way to a file, this project's limit.
 const MOST_NAMES: usize = 64;
 
-/// The most bytes of an image: 2^28, this project's limit.
-const MOST_BYTES: u64 = 1 << 28;
+/// The most bytes of an image.
+const MOST_BYTES: u64 = disk::MOST_BYTES as u64;
 
 /// How many headers are written for a row.
 fn count_of(row: &Row<'_>) -> usize

@@ -13,8 +13,8 @@ ghost use Rattle.romfs_write.specs.Form.{form_of, full_size, segment_of};
 ghost use Rattle.romfs_write.specs.Known.{IsBody, IsRomfsPlan};
 
 use crate::header::{put_header, put_superblock};
-use image_stream::layout::Layout;
 use image_stream::outline::Outline;
+use image_stream::segmented::Segmented;
 use plan_types::{Body, Fill, Item, Plan, Section};
 
 /// The plan of a romfs image.
@@ -121,7 +121,7 @@ impl<'p> RomfsForm<'p> {
     }
 }
 
-impl Layout for RomfsForm<'_> {
+impl Segmented for RomfsForm<'_> {
     ghost form = { λ s. form_of s.plan.now };
 
     fn files(&self) -> usize {

@@ -5,6 +5,7 @@ ghost use Rattle.romfs_layout.specs.Layout.{header_bytes, record_len, root_at};
 ghost use Rattle.romfs_write.specs.Form.{superblock_storing};
 
 use rom_fields::word::{put_be32, word_sum};
+use romfs_format::disk::MAGIC;
 
 /// Sets all bytes to zero.
 fn clear(out: &mut [u8])
@@ -37,7 +38,7 @@ pub fn put_superblock(volume: &[u8], size: u32, sum: u32, out: &mut [u8])
     ensures { out.new ≡ superblock_storing sum size volume.now }
 {
     clear(out);
-    put(out, 0, b"-rom1fs-");
+    put(out, 0, MAGIC.as_slice());
     put_word(out, 8, size);
     put_word(out, 12, sum);
     put(out, 16, volume);

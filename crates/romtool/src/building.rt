@@ -10,14 +10,14 @@ use crate::progress::Progress;
 use crate::stamp::{Identity, Stamp, has_changed, let_rest, stamp_of};
 use crate::streams::Held;
 use crate::target::{KeepError, Target, Writer};
-use crate::trouble::Teller;
+use crate::teller::Teller;
 use crate::{explained, reading};
 use build_commands::building::{tell_bad_manifest, tell_built, tell_misfit};
 use image_build::{StreamError, stream, stream_through};
 use layout_plan::{PlanError, plan};
 use manifest::{Manifest, ManifestError, Name, parse};
 use plan_types::{Format, Plan};
-use rom_commands::status::{Status, Trouble};
+use rom_commands::status::{Failure, Status};
 use rom_fields::bytes::{Failed, Plain};
 use sentences::reasons::{
     NO_TEXT, NOT_TAKEN, OWN_INPUT, PART_REPLACED, SOURCE_CHANGED, SOURCE_UNREAD, SUM_DIFFERS,
@@ -31,7 +31,7 @@ const LARGE: usize = 256 << 10;
 fn told(teller: &Teller<'_>, written: Result<(), Failed>) -> Status {
     match written {
         Ok(()) => Status::Refused,
-        Err(Failed) => teller.say(Trouble::WriteFault),
+        Err(Failed) => teller.say(Failure::WriteFault),
     }
 }
 
@@ -51,7 +51,7 @@ fn manifest_of(teller: &Teller<'_>, name: &str, text: &[u8]) -> Result<Manifest,
     let rt = teller.rt;
     match parse(rt.alloc(), text) {
         Ok(manifest) => Ok(manifest),
-        Err(ManifestError::OutOfMemory) => Err(teller.say(Trouble::Memory)),
+        Err(ManifestError::OutOfMemory) => Err(teller.say(Failure::Memory)),
         Err(ManifestError::Bad { line, number }) => {
             let out = &mut Plain::new(Held::new(rt, io::writer(rt)));
             let status = told(teller, tell_bad_manifest(out, line, number));
@@ -83,7 +83,7 @@ fn first_refused(teller: &Teller<'_>, origin: Origin<'_>, before: &[&str]) -> St
         }
     }
     let number = before.len();
-    let status = teller.say(Trouble::File(origin.source(number)));
+    let status = teller.say(Failure::File(origin.source(number)));
     teller.explain_source(origin, number, &NO_TEXT);
     status
 }
@@ -102,7 +102,7 @@ fn names_of<'m>(
             return Err(first_refused(teller, origin, &names));
         };
         if names.push(name).is_err() {
-            return Err(teller.say(Trouble::Memory));
+            return Err(teller.say(Failure::Memory));
         }
     }
     Ok(names)
@@ -119,7 +119,7 @@ fn stamps_of(teller: &Teller<'_>, origin: Origin<'_>, names: &[&str]) -> Result<
             Err(status) => return Err(status),
         };
         if stamps.push(stamp).is_err() {
-            return Err(teller.say(Trouble::Memory));
+            return Err(teller.say(Failure::Memory));
         }
     }
     Ok(stamps)
@@ -132,7 +132,7 @@ fn sizes_of(teller: &Teller<'_>, stamps: &[Stamp]) -> Result<Vec<u64>, Status>
     let mut sizes = Vec::new(teller.rt.alloc());
     for stamp in stamps {
         if sizes.push(stamp.len()).is_err() {
-            return Err(teller.say(Trouble::Memory));
+            return Err(teller.say(Failure::Memory));
         }
     }
     Ok(sizes)
@@ -152,7 +152,7 @@ fn planned(
     let rt = teller.rt;
     match plan(rt.alloc(), origin.manifest, sizes, format) {
         Ok(plan) => Ok(plan),
-        Err(PlanError::OutOfMemory) => Err(teller.say(Trouble::Memory)),
+        Err(PlanError::OutOfMemory) => Err(teller.say(Failure::Memory)),
         Err(PlanError::Refused { line, number }) => {
             let out = &mut Plain::new(Held::new(rt, io::writer(rt)));
             let status = told(teller, tell_misfit(out, line, number));
@@ -173,7 +173,7 @@ struct Files<'a> {
 impl Files<'_> {
     /// Says that a source changed.
     fn say_changed(&self, teller: &Teller<'_>, file: usize) -> Status {
-        let status = teller.say(Trouble::Changed);
+        let status = teller.say(Failure::Changed);
         teller.explain_source(self.origin, file, &SOURCE_CHANGED);
         status
     }
@@ -181,17 +181,17 @@ impl Files<'_> {
     /// Says that a source could not be read as it was: it changed, or it is at fault.
     fn say_fault(&self, teller: &Teller<'_>, file: usize) -> Status {
         let (Some(name), Some(stamp)) = (self.names.get(file), self.stamps.get(file)) else {
-            return teller.say(Trouble::Changed);
+            return teller.say(Failure::Changed);
         };
         match has_changed(teller.rt, name, stamp) {
             Ok(true) => self.say_changed(teller, file),
             Ok(false) => {
-                let status = teller.say(Trouble::File(name.as_bytes()));
+                let status = teller.say(Failure::File(name.as_bytes()));
                 teller.explain_source(self.origin, file, &SOURCE_UNREAD);
                 status
             }
             Err(e) => {
-                let status = teller.say(Trouble::File(name.as_bytes()));
+                let status = teller.say(Failure::File(name.as_bytes()));
                 teller.explain_error(self.origin, file, &e);
                 status
             }
@@ -360,7 +360,7 @@ pub fn run(teller: &Teller<'_>, format: Format, manifest: &str, out: &str) -> St
             let line = &mut Plain::new(Held::new(teller.rt, io::writer(teller.rt)));
             match tell_built(line, len) {
                 Ok(()) => Status::Done,
-                Err(Failed) => teller.say(Trouble::WriteFault),
+                Err(Failed) => teller.say(Failure::WriteFault),
             }
         }
         Err(status) => status,

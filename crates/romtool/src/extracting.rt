@@ -8,13 +8,13 @@ ghost use Rattle.image_manifest.specs.Members.{AreMembers};
 use crate::folders::base;
 use crate::making::{Owner, Rights, Top, new_file, new_folder, new_link, set_folder};
 use crate::streams::{Again, Remembering};
-use crate::trouble::Teller;
+use crate::teller::Teller;
 use command_line::Extract;
 use image_check::AnyImage;
 use image_info::volume;
 use image_manifest::{Member, Refused, members, write_manifest};
 use image_map::cat;
-use rom_commands::status::{Status, Trouble};
+use rom_commands::status::{Failure, Status};
 use rom_fields::bytes::{ByteWrite, Plain};
 use rom_tree::image::TreeImage;
 use rom_tree::types::{Kind, NodeId, Stat};
@@ -126,7 +126,7 @@ impl Extraction<'_> {
         if name.extend_from_slice(self.folder.as_bytes()).is_err()
             || name.extend_from_slice(&member.path).is_err()
         {
-            return self.teller.say(Trouble::Memory);
+            return self.teller.say(Failure::Memory);
         }
         self.teller.refused(&name, e)
     }
@@ -355,12 +355,12 @@ fn print(teller: &Teller<'_>, image: &AnyImage<'_>, members: &[Member], folder: 
     requires { AreMembers (any_view image.now) members.now }
 {
     let Ok(out) = BufWriter::new(teller.rt.alloc(), Again::new(io::writer(teller.rt))) else {
-        return teller.say(Trouble::Memory);
+        return teller.say(Failure::Memory);
     };
     let mut out = Plain::new(out);
     let written = write_manifest(image, members, volume(image), folder.as_bytes(), &mut out);
     if written.is_err() || out.flush().is_err() {
-        return teller.say(Trouble::WriteFault);
+        return teller.say(Failure::WriteFault);
     }
     Status::Done
 }
@@ -397,15 +397,15 @@ pub fn run<'a>(teller: &'a Teller<'a>, image: &'a AnyImage<'a>, asked: Extract<'
 {
     let name = asked.image.as_bytes();
     if volume(image).len() > LONGEST_VOLUME {
-        let status = teller.say(Trouble::LongVolume);
+        let status = teller.say(Failure::LongVolume);
         teller.explain(name, &LONG_VOLUME);
         return status;
     }
     match members(teller.rt.alloc(), image) {
         Ok(members) => take_apart(teller, image, &members, asked),
-        Err(Refused::OutOfMemory) => teller.say(Trouble::Memory),
+        Err(Refused::OutOfMemory) => teller.say(Failure::Memory),
         Err(Refused::LongPath) => {
-            let status = teller.say(Trouble::LongPath);
+            let status = teller.say(Failure::LongPath);
             teller.explain(name, &LONG_PATH);
             status
         }

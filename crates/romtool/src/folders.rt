@@ -1,6 +1,6 @@
 //! Folders that a scan looks into, and whether they stay as they were found.
 use crate::stamp::{Stamp, let_rest};
-use crate::trouble::Teller;
+use crate::teller::Teller;
 use rom_commands::status::Status;
 use sentences::reasons::{FOLDER_CHANGED, FOREIGN_NAME, NO_FOLDER};
 use std::fs::{self, Metadata};

@@ -1,10 +1,10 @@
 //! A folder as it is, as a manifest.
 use crate::folders::{self, Folder, all_stayed, base, refused_entry};
 use crate::streams::Again;
-use crate::trouble::Teller;
+use crate::teller::Teller;
 use build_commands::inventory::{Device, FileKind, Inode, NamedFile, Wishes, lines, put_found};
 use command_line::ScanAll;
-use rom_commands::status::{Status, Trouble};
+use rom_commands::status::{Failure, Status};
 use rom_fields::bytes::{Failed, Plain};
 use sentences::reasons::NO_KIND;
 use std::fs::{self, DirEntry, Metadata};
@@ -84,7 +84,7 @@ impl Below {
         entry: &DirEntry,
     ) -> Result<(), Status> {
         let Ok(place) = format!(in teller.rt.alloc(); "{folder}/{}", entry.file_name()) else {
-            return Err(teller.say(Trouble::Memory));
+            return Err(teller.say(Failure::Memory));
         };
         let added = match entry.metadata() {
             Ok(told) => self.add(teller.rt, place, &told),
@@ -144,14 +144,14 @@ fn all_below(teller: &Teller<'_>, folder: &str) -> Result<Vec<NamedFile>, Status
         };
         below.look_into(teller, &waiting, waiting.name(folder))?;
         if below.seen.push(waiting).is_err() {
-            return Err(teller.say(Trouble::Memory));
+            return Err(teller.say(Failure::Memory));
         }
     }
     all_stayed(teller, folder, &below.seen)?;
     let Below { mut found, .. } = below;
     match found.sort_by(|a, b| a.place.cmp(&b.place)) {
         Ok(()) => Ok(found),
-        Err(_) => Err(teller.say(Trouble::Memory)),
+        Err(_) => Err(teller.say(Failure::Memory)),
     }
 }
 
@@ -167,13 +167,13 @@ pub fn run(teller: &Teller<'_>, scan: ScanAll<'_>) -> Status {
         align: scan.align,
     };
     let Ok(lines) = lines(teller.rt.alloc(), base(scan.folder).len(), wishes, &found) else {
-        return teller.say(Trouble::Memory);
+        return teller.say(Failure::Memory);
     };
     let Ok(out) = BufWriter::new(teller.rt.alloc(), Again::new(io::writer(teller.rt))) else {
-        return teller.say(Trouble::Memory);
+        return teller.say(Failure::Memory);
     };
     match put_found(&mut Plain::new(out), &lines) {
         Ok(()) => Status::Done,
-        Err(Failed) => teller.say(Trouble::WriteFault),
+        Err(Failed) => teller.say(Failure::WriteFault),
     }
 }

@@ -29,7 +29,7 @@ mod scanning;
 mod stamp;
 mod streams;
 mod target;
-mod trouble;
+mod teller;
 
 use std::process::ExitCode;
 

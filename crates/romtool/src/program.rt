@@ -5,7 +5,7 @@ ghost use Rattle.rom_commands.specs.Asked.{Fits};
 use crate::arguments::words;
 use crate::replies::Replies;
 use crate::streams::{Again, Ahead, Held, hold_closed};
-use crate::trouble::Teller;
+use crate::teller::Teller;
 use crate::{building, extracting, inventory, reading, scanning};
 use command_line::{Extract, Request, read};
 use image_check::check;
@@ -16,7 +16,7 @@ use rom_commands::printing::print;
 use rom_commands::serving::serve_on;
 use rom_commands::several::serve_several_on;
 use rom_commands::shown::has_addresses;
-use rom_commands::status::{Status, Trouble};
+use rom_commands::status::{Failure, Status};
 use rom_faults::CheckError;
 use rom_fields::bytes::{ByteRead, ByteWrite, Plain};
 use rom_tree::types::Limits;
@@ -112,7 +112,7 @@ fn facts(teller: &Teller<'_>, name: &str) -> Status {
 /// Prints what is asked of an image, where its bytes have addresses.
 fn shown(teller: &Teller<'_>, name: &str, bytes: &[u8], asked: Asked) -> Status {
     if !has_addresses(asked, bytes.len()) {
-        let status = teller.say(Trouble::Usage);
+        let status = teller.say(Failure::Usage);
         teller.explain(name.as_bytes(), &NO_ADDRESS);
         return status;
     }
@@ -127,7 +127,7 @@ fn copy(teller: &Teller<'_>, name: &str, path: &str) -> Status {
         Err(status) => return status,
     };
     let Ok(out) = BufWriter::new(rt.alloc(), Again::new(io::writer(rt))) else {
-        return teller.say(Trouble::Memory);
+        return teller.say(Failure::Memory);
     };
     let mut err = Plain::new(Held::new(rt, rt.stderr()));
     let path = path.as_bytes();
@@ -147,7 +147,7 @@ fn take_apart(teller: &Teller<'_>, asked: Extract<'_>) -> Status {
     };
     match check(teller.rt.alloc(), &bytes, Limits::usual()) {
         Ok(image) => extracting::run(teller, &image, asked),
-        Err(CheckError::OutOfMemory) => teller.say(Trouble::Memory),
+        Err(CheckError::OutOfMemory) => teller.say(Failure::Memory),
         Err(CheckError::Fault { .. }) => {
             print_out(teller, asked.image.as_bytes(), &bytes, Asked::Report)
         }
@@ -205,7 +205,7 @@ fn serve_files<R: ByteRead>(
 ) -> Status {
     let rt = teller.rt;
     if files.is_empty() || files.len() > 8 {
-        return teller.say(Trouble::Usage);
+        return teller.say(Failure::Usage);
     }
     let mut err = Plain::new(Held::new(rt, rt.stderr()));
     let out = &mut Plain::new(Replies::new(*teller, io::writer(rt)));
@@ -251,7 +251,7 @@ fn print_out(teller: &Teller<'_>, name: &[u8], bytes: &[u8], asked: Asked) -> St
 {
     let rt = teller.rt;
     let Ok(out) = BufWriter::new(rt.alloc(), Again::new(io::writer(rt))) else {
-        return teller.say(Trouble::Memory);
+        return teller.say(Failure::Memory);
     };
     let mut err = Plain::new(Held::new(rt, rt.stderr()));
     let status = print(rt.alloc(), bytes, asked, &mut Plain::new(out), &mut err);

@@ -1,6 +1,6 @@
 //! Replies to lines, and in words why a line was refused.
 use crate::streams::Held;
-use crate::trouble::Teller;
+use crate::teller::Teller;
 use sentences::{call_sentence, line_sentence};
 use std::io::{self, Write};
 

@@ -1,9 +1,9 @@
 //! A folder as a manifest.
 use crate::folders::{self, Folder, all_stayed, base, refused_entry};
 use crate::streams::Again;
-use crate::trouble::Teller;
+use crate::teller::Teller;
 use build_commands::scanning::{Found, put_scan};
-use rom_commands::status::{Status, Trouble};
+use rom_commands::status::{Failure, Status};
 use rom_fields::bytes::{Failed, Plain};
 use std::alloc::AllocError;
 use std::fs::{self, DirEntry, FileType};
@@ -116,7 +116,7 @@ impl Below {
         entry: &DirEntry,
     ) -> Result<(), Status> {
         let Ok(place) = format!(in teller.rt.alloc(); "{folder}/{}", entry.file_name()) else {
-            return Err(teller.say(Trouble::Memory));
+            return Err(teller.say(Failure::Memory));
         };
         match self.add(teller.rt, entry, place) {
             Ok(()) => Ok(()),
@@ -151,13 +151,13 @@ fn all_below(teller: &Teller<'_>, folder: &str) -> Result<Below, Status> {
         };
         below.look_into(teller, &waiting, waiting.name(folder))?;
         if below.seen.push(waiting).is_err() {
-            return Err(teller.say(Trouble::Memory));
+            return Err(teller.say(Failure::Memory));
         }
     }
     all_stayed(teller, folder, &below.seen)?;
     match below.found.sort() {
         Ok(()) => Ok(below),
-        Err(_) => Err(teller.say(Trouble::Memory)),
+        Err(_) => Err(teller.say(Failure::Memory)),
     }
 }
 
@@ -169,13 +169,13 @@ pub fn run(teller: &Teller<'_>, folder: &str) -> Status {
         Err(status) => return status,
     };
     let Ok(out) = BufWriter::new(teller.rt.alloc(), Again::new(io::writer(teller.rt))) else {
-        return teller.say(Trouble::Memory);
+        return teller.say(Failure::Memory);
     };
     match put_scan(&mut Plain::new(out), base(folder).len(), &below.found) {
         Ok(()) => {
             below.passed.explain(teller, folder);
             Status::Done
         }
-        Err(Failed) => teller.say(Trouble::WriteFault),
+        Err(Failed) => teller.say(Failure::WriteFault),
     }
 }

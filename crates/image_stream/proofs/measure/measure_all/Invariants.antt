@@ -9,5 +9,5 @@ invariant-loop-file g l = record {
   told : g.S.Sources.told l.sources ≡ g.S.Sources.told l.initial.sources;
   files : g.S.Sources.files l.sources ≡ g.S.Sources.files l.initial.sources;
   read : g.S.Sources.reads l.sources ≡ g.S.Sources.reads l.initial.sources;
-  sized : Told (g.S.Sources.told l.initial.sources) (FrontSized (g.L.Layout.form l.layout).sizes l.file);
+  sized : Told (g.S.Sources.told l.initial.sources) (FrontSized (g.L.Segmented.form l.layout).sizes l.file);
 }

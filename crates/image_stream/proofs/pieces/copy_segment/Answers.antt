@@ -5,14 +5,14 @@ use Rattle.image_stream.proofs.pieces.copy_segment.Goals as goal
 
 pub returns-in-Err-clause-front : goal.returns-in-Err-clause-front
 returns-in-Err-clause-front g c = λ cs is.
-    let p = segment_at (g.L.Layout.form c.args.layout.now).segments c.args.i in
+    let p = segment_at (g.L.Segmented.form c.args.layout.now).segments c.args.i in
     let inv = c.loop-from.invariant in
     let n : c.segment-segment.result.len ≡ len p = outline_len p c.segment-segment.result c.segment-segment.ensures in
     front_written (g.S.Sources.told c.args.sources.now) p inv.gone.bytes c.loop-from.from cs _ _ is (omega arith) inv.gone.are inv.gone.written
 
 pub returns-in-Err-emit-clause-front : goal.returns-in-Err-emit-clause-front
 returns-in-Err-emit-clause-front g c = λ cs is.
-    let p = segment_at (g.L.Layout.form c.args.layout.now).segments c.args.i in
+    let p = segment_at (g.L.Segmented.form c.args.layout.now).segments c.args.i in
     let inv = c.loop-from.invariant in
     let n : c.segment-segment.result.len ≡ len p = outline_len p c.segment-segment.result c.segment-segment.ensures in
     let m : length c.piece.new.out ≡ c.min-n.result = c.piece.auto.out ∙ length-take c.min-n.result c.loop-from.buffer ∙ omega arith in
@@ -20,7 +20,7 @@ returns-in-Err-emit-clause-front g c = λ cs is.
 
 pub loop-from-preserved : goal.loop-from-preserved
 loop-from-preserved g c =
-    let p = segment_at (g.L.Layout.form c.args.layout.now).segments c.args.i in
+    let p = segment_at (g.L.Segmented.form c.args.layout.now).segments c.args.i in
     let inv = c.loop-from.invariant in
     let m : length c.piece.new.out ≡ c.min-n.result = c.piece.auto.out ∙ length-take c.min-n.result c.loop-from.buffer ∙ omega arith in
     record {

@@ -8,7 +8,7 @@ use Rattle.image_stream.proofs.pieces.walk.Goals as goal
 
 pub loop-i-init : goal.loop-i-init
 loop-i-init g c =
-    let L = g.L.Layout in
+    let L = g.L.Segmented in
     let parts = (L.form c.args.layout.now).segments in
     let told = g.S.Sources.told c.args.sources.now in
     let D : ℕ → Type 0 = λ v. IsDone told (L.form c.args.layout.now).start parts (L.form c.args.layout.now).end v parts [] in
@@ -25,21 +25,21 @@ loop-i-init g c =
 
 pub next_segment-requires-clause-small : goal.next_segment-requires-clause-small
 next_segment-requires-clause-small g c =
-    let L = g.L.Layout in
+    let L = g.L.Segmented in
     let h = rises_here (L.form c.args.layout.now).segments c.loop-i.i c.loop-i.at (L.form c.args.layout.now).end (omega arith) c.loop-i.invariant.rises in
     let s = c.requires.laid.small in
     omega arith
 
 pub returns-in-Err-clause-front : goal.returns-in-Err-clause-front
 returns-in-Err-clause-front g c = λ cs is.
-    let L = g.L.Layout in
+    let L = g.L.Segmented in
     let inv = c.loop-i.invariant in
     broken_next (g.S.Sources.told c.args.sources.now) (g.S.Sources.told c.loop-i.sources) (L.form c.args.layout.now).start (L.form c.args.layout.now).segments (L.form c.args.layout.now).end c.loop-i.at c.loop-i.i
     _ _ _ inv.gone.bytes cs inv.told is (omega arith) inv.gone.are inv.gone.written c.in-Err.ensures.front
 
 pub loop-i-preserved : goal.loop-i-preserved
 loop-i-preserved g c =
-    let L = g.L.Layout in
+    let L = g.L.Segmented in
     let parts = (L.form c.args.layout.now).segments in
     let end = (L.form c.args.layout.now).end in
     let p = segment_at parts c.loop-i.i in
@@ -48,7 +48,7 @@ loop-i-preserved g c =
     let small : c.loop-i.i < length parts = omega arith in
     let h = rises_here parts c.loop-i.i c.loop-i.at end small inv.rises in
     let R : ℕ → Type 0 = λ v. SegmentsRise v (drop (c.loop-i.i + 1) parts) end in
-    let G : ℕ → Type 0 = λ v. Gone (IsDone told (L.form c.args.layout.now).start parts end v (drop (c.loop-i.i + 1) parts)) (g.W.ByteWrite.output c.args.w.now).contents (g.W.ByteWrite.output c.next_segment.new.w).contents (g.C.Check.Is c.args.check.now) (g.C.Check.Is c.next_segment.new.check) in
+    let G : ℕ → Type 0 = λ v. Gone (IsDone told (L.form c.args.layout.now).start parts end v (drop (c.loop-i.i + 1) parts)) (g.W.ByteWrite.output c.args.w.now).contents (g.W.ByteWrite.output c.next_segment.new.w).contents (g.C.Checksum.Is c.args.check.now) (g.C.Checksum.Is c.next_segment.new.check) in
     record {
       room = c.next_segment.auto.buffer ∙ inv.room;
       told = c.next_segment.ensures.told ∙ inv.told;
@@ -61,15 +61,15 @@ loop-i-preserved g c =
 
 pub returns-in-Ok-emit_zeros-clause-ok : goal.returns-in-Ok-emit_zeros-clause-ok
 returns-in-Ok-emit_zeros-clause-ok g c =
-    let L = g.L.Layout in
+    let L = g.L.Segmented in
     let end = (L.form c.args.layout.now).end in
     let told = g.S.Sources.told c.args.sources.now in
-    let Z : ℕ → Type 0 = λ v. Gone (λ xs. xs ≡ zeros (v - c.loop-i.at)) (g.W.ByteWrite.output c.loop-i.w).contents (g.W.ByteWrite.output c.emit_zeros.new.w).contents (g.C.Check.Is c.loop-i.check) (g.C.Check.Is c.emit_zeros.new.check) in
+    let Z : ℕ → Type 0 = λ v. Gone (λ xs. xs ≡ zeros (v - c.loop-i.at)) (g.W.ByteWrite.output c.loop-i.w).contents (g.W.ByteWrite.output c.emit_zeros.new.w).contents (g.C.Checksum.Is c.loop-i.check) (g.C.Checksum.Is c.emit_zeros.new.check) in
     gone_all told (L.form c.args.layout.now).start (L.form c.args.layout.now).segments end c.loop-i.at c.loop-i.i _ _ _ _ _ _ (omega arith) c.loop-i.invariant.gone (subst Z c.image_len.ensures c.in-Ok-emit_zeros.ensures.ok)
 
 pub returns-in-Err-emit_zeros-clause-front : goal.returns-in-Err-emit_zeros-clause-front
 returns-in-Err-emit_zeros-clause-front g c = λ cs is.
-    let L = g.L.Layout in
+    let L = g.L.Segmented in
     let end = (L.form c.args.layout.now).end in
     let inv = c.loop-i.invariant in
     let Z : ℕ → Type 0 = λ v. AppendsPrefix (g.W.ByteWrite.output c.loop-i.w).contents (g.W.ByteWrite.output c.emit_zeros.new.w).contents (zeros (v - c.loop-i.at)) in

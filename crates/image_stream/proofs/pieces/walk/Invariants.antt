@@ -10,7 +10,7 @@ invariant-loop-i g l = record {
   files : g.S.Sources.files l.sources ≡ g.S.Sources.files l.initial.sources;
   read : g.S.Sources.reads l.sources ≡ g.S.Sources.reads l.initial.sources;
   wrote : (g.W.ByteWrite.output l.w).failures ≡ (g.W.ByteWrite.output l.initial.w).failures;
-  rises : SegmentsRise l.at (drop l.i (g.L.Layout.form l.layout).segments) (g.L.Layout.form l.layout).end;
-  gone : Gone (IsDone (g.S.Sources.told l.initial.sources) (g.L.Layout.form l.layout).start (g.L.Layout.form l.layout).segments (g.L.Layout.form l.layout).end l.at (drop l.i (g.L.Layout.form l.layout).segments))
-      (g.W.ByteWrite.output l.initial.w).contents (g.W.ByteWrite.output l.w).contents (g.C.Check.Is l.initial.check) (g.C.Check.Is l.check);
+  rises : SegmentsRise l.at (drop l.i (g.L.Segmented.form l.layout).segments) (g.L.Segmented.form l.layout).end;
+  gone : Gone (IsDone (g.S.Sources.told l.initial.sources) (g.L.Segmented.form l.layout).start (g.L.Segmented.form l.layout).segments (g.L.Segmented.form l.layout).end l.at (drop l.i (g.L.Segmented.form l.layout).segments))
+      (g.W.ByteWrite.output l.initial.w).contents (g.W.ByteWrite.output l.w).contents (g.C.Checksum.Is l.initial.check) (g.C.Checksum.Is l.check);
 }

@@ -10,41 +10,41 @@ use Rattle.image_stream.proofs.Streams.{image_known, value_of, front_head, front
 use Rattle.image_stream.proofs.stream.stream_through.Goals as goal
 
 pub returns-in-Err-clause-fault : goal.returns-in-Err-clause-fault
-returns-in-Err-clause-fault g c = size_fault _ (g.L.Layout.form c.args.layout.now) g.C.Check.stored _ _ (g.W.ByteWrite.output c.args.w.now) c.in-Err.e c.in-Err.ensures.fault
+returns-in-Err-clause-fault g c = size_fault _ (g.L.Segmented.form c.args.layout.now) g.C.Checksum.stored _ _ (g.W.ByteWrite.output c.args.w.now) c.in-Err.e c.in-Err.ensures.fault
 
 pub returns-in-Err-sum_walk-clause-fault : goal.returns-in-Err-sum_walk-clause-fault
 returns-in-Err-sum_walk-clause-fault g c =
-    nowhere_fault (g.S.Sources.told c.args.sources.now) (g.S.Sources.told c.measure_all.new.sources) (g.L.Layout.form c.args.layout.now) g.C.Check.stored
+    nowhere_fault (g.S.Sources.told c.args.sources.now) (g.S.Sources.told c.measure_all.new.sources) (g.L.Segmented.form c.args.layout.now) g.C.Checksum.stored
     (g.S.Sources.reads c.args.sources.now) (g.S.Sources.reads c.measure_all.new.sources) _ (g.W.ByteWrite.output c.args.w.now)
     c.in-Err-sum_walk.e c.measure_all.ensures.told c.in-Ok.ensures.quiet c.in-Ok.ensures.ok c.in-Err-sum_walk.ensures.fault
 
 pub returns-in-Err-write_head-clause-front : goal.returns-in-Err-write_head-clause-front
 returns-in-Err-write_head-clause-front g c = λ cs is.
-    let L = g.L.Layout in
+    let L = g.L.Segmented in
     let one = c.in-Ok-sum_walk.ensures.ok in
     let image = image_from cs (L.form c.args.layout.now).start (L.form c.args.layout.now).segments (L.form c.args.layout.now).end in
     let same : one.bytes ≡ image = image_known _ cs _ _ _ _ (c.measure_all.ensures.told ∙ is) one.are in
-    let right : c.value-stored.result ≡ g.C.Check.stored ((L.form c.args.layout.now).head 0 ++ image) =
-    value_of _ _ _ ((L.form c.args.layout.now).head 0) g.C.Check.stored c.value-stored.result c.start-first.ensures c.add_head.ensures one c.value-stored.ensures
-    ∙ ap (λ (v : List ℕ). g.C.Check.stored ((L.form c.args.layout.now).head 0 ++ v)) same in
-    front_head (L.form c.args.layout.now).head g.C.Check.stored c.value-stored.result image right _ _ c.in-Err-write_head.ensures.text
+    let right : c.value-stored.result ≡ g.C.Checksum.stored ((L.form c.args.layout.now).head 0 ++ image) =
+    value_of _ _ _ ((L.form c.args.layout.now).head 0) g.C.Checksum.stored c.value-stored.result c.start-first.ensures c.add_head.ensures one c.value-stored.ensures
+    ∙ ap (λ (v : List ℕ). g.C.Checksum.stored ((L.form c.args.layout.now).head 0 ++ v)) same in
+    front_head (L.form c.args.layout.now).head g.C.Checksum.stored c.value-stored.result image right _ _ c.in-Err-write_head.ensures.text
 
 pub returns-in-Err-walk-clause-front : goal.returns-in-Err-walk-clause-front
 returns-in-Err-walk-clause-front g c = λ cs is.
-    let L = g.L.Layout in
+    let L = g.L.Segmented in
     let one = c.in-Ok-sum_walk.ensures.ok in
     let image = image_from cs (L.form c.args.layout.now).start (L.form c.args.layout.now).segments (L.form c.args.layout.now).end in
     let same : one.bytes ≡ image = image_known _ cs _ _ _ _ (c.measure_all.ensures.told ∙ is) one.are in
-    let right : c.value-stored.result ≡ g.C.Check.stored ((L.form c.args.layout.now).head 0 ++ image) =
-    value_of _ _ _ ((L.form c.args.layout.now).head 0) g.C.Check.stored c.value-stored.result c.start-first.ensures c.add_head.ensures one c.value-stored.ensures
-    ∙ ap (λ (v : List ℕ). g.C.Check.stored ((L.form c.args.layout.now).head 0 ++ v)) same in
-    front_image (L.form c.args.layout.now).head g.C.Check.stored c.value-stored.result image right _ _ _ c.in-Ok-write_head.ensures.text (c.in-Err-walk.ensures.front cs (c.sum_walk.ensures.told ∙ c.measure_all.ensures.told ∙ is))
+    let right : c.value-stored.result ≡ g.C.Checksum.stored ((L.form c.args.layout.now).head 0 ++ image) =
+    value_of _ _ _ ((L.form c.args.layout.now).head 0) g.C.Checksum.stored c.value-stored.result c.start-first.ensures c.add_head.ensures one c.value-stored.ensures
+    ∙ ap (λ (v : List ℕ). g.C.Checksum.stored ((L.form c.args.layout.now).head 0 ++ v)) same in
+    front_image (L.form c.args.layout.now).head g.C.Checksum.stored c.value-stored.result image right _ _ _ c.in-Ok-write_head.ensures.text (c.in-Err-walk.ensures.front cs (c.sum_walk.ensures.told ∙ c.measure_all.ensures.told ∙ is))
 
 pub returns-in-Err-walk-clause-fault : goal.returns-in-Err-walk-clause-fault
 returns-in-Err-walk-clause-fault g c =
     let old = g.W.ByteWrite.output c.args.w.now in
     let new = g.W.ByteWrite.output c.walk.new.w in
-    pass_fault (g.S.Sources.told c.args.sources.now) (g.S.Sources.told c.sum_walk.new.sources) (g.L.Layout.form c.args.layout.now) g.C.Check.stored
+    pass_fault (g.S.Sources.told c.args.sources.now) (g.S.Sources.told c.sum_walk.new.sources) (g.L.Segmented.form c.args.layout.now) g.C.Checksum.stored
     (g.S.Sources.reads c.args.sources.now) (g.S.Sources.reads c.sum_walk.new.sources) _ old (g.W.ByteWrite.output c.write_head.new.w) new
     c.in-Err-walk.e (c.sum_walk.ensures.told ∙ c.measure_all.ensures.told) (c.in-Ok-sum_walk.ensures.quiet ∙ c.in-Ok.ensures.quiet)
     (λ r. let R : ℕ → Type 0 = λ v. Rose v new.failures in subst R c.in-Ok-write_head.ensures.count r)
@@ -52,39 +52,39 @@ returns-in-Err-walk-clause-fault g c =
 
 pub returns-in-Err-flush-clause-front : goal.returns-in-Err-flush-clause-front
 returns-in-Err-flush-clause-front g c = λ cs is.
-    let L = g.L.Layout in
+    let L = g.L.Segmented in
     let one = c.in-Ok-sum_walk.ensures.ok in
     let two = c.in-Ok-walk.ensures.ok in
     let image = image_from cs (L.form c.args.layout.now).start (L.form c.args.layout.now).segments (L.form c.args.layout.now).end in
     let same : one.bytes ≡ image = image_known _ cs _ _ _ _ (c.measure_all.ensures.told ∙ is) one.are in
-    let right : c.value-stored.result ≡ g.C.Check.stored ((L.form c.args.layout.now).head 0 ++ image) =
-    value_of _ _ _ ((L.form c.args.layout.now).head 0) g.C.Check.stored c.value-stored.result c.start-first.ensures c.add_head.ensures one c.value-stored.ensures
-    ∙ ap (λ (v : List ℕ). g.C.Check.stored ((L.form c.args.layout.now).head 0 ++ v)) same in
+    let right : c.value-stored.result ≡ g.C.Checksum.stored ((L.form c.args.layout.now).head 0 ++ image) =
+    value_of _ _ _ ((L.form c.args.layout.now).head 0) g.C.Checksum.stored c.value-stored.result c.start-first.ensures c.add_head.ensures one c.value-stored.ensures
+    ∙ ap (λ (v : List ℕ). g.C.Checksum.stored ((L.form c.args.layout.now).head 0 ++ v)) same in
     let A : List ℕ → Type 0 = λ v. Appends (g.W.ByteWrite.output c.write_head.new.w).contents (g.W.ByteWrite.output c.walk.new.w).contents v in
-    front_all _ _ _ (whole_image (L.form c.args.layout.now).head g.C.Check.stored c.value-stored.result image right _ _ _ _ c.in-Ok-write_head.ensures.text
+    front_all _ _ _ (whole_image (L.form c.args.layout.now).head g.C.Checksum.stored c.value-stored.result image right _ _ _ _ c.in-Ok-write_head.ensures.text
     (subst A (image_known _ cs _ _ _ _ (c.sum_walk.ensures.told ∙ c.measure_all.ensures.told ∙ is) two.are) two.written) c.flush.ensures.bytes)
 
 pub returns-in-Err-confirm-clause-front : goal.returns-in-Err-confirm-clause-front
 returns-in-Err-confirm-clause-front g c = λ cs is.
-    let L = g.L.Layout in
+    let L = g.L.Segmented in
     let one = c.in-Ok-sum_walk.ensures.ok in
     let two = c.in-Ok-walk.ensures.ok in
     let image = image_from cs (L.form c.args.layout.now).start (L.form c.args.layout.now).segments (L.form c.args.layout.now).end in
     let same : one.bytes ≡ image = image_known _ cs _ _ _ _ (c.measure_all.ensures.told ∙ is) one.are in
-    let right : c.value-stored.result ≡ g.C.Check.stored ((L.form c.args.layout.now).head 0 ++ image) =
-    value_of _ _ _ ((L.form c.args.layout.now).head 0) g.C.Check.stored c.value-stored.result c.start-first.ensures c.add_head.ensures one c.value-stored.ensures
-    ∙ ap (λ (v : List ℕ). g.C.Check.stored ((L.form c.args.layout.now).head 0 ++ v)) same in
+    let right : c.value-stored.result ≡ g.C.Checksum.stored ((L.form c.args.layout.now).head 0 ++ image) =
+    value_of _ _ _ ((L.form c.args.layout.now).head 0) g.C.Checksum.stored c.value-stored.result c.start-first.ensures c.add_head.ensures one c.value-stored.ensures
+    ∙ ap (λ (v : List ℕ). g.C.Checksum.stored ((L.form c.args.layout.now).head 0 ++ v)) same in
     let A : List ℕ → Type 0 = λ v. Appends (g.W.ByteWrite.output c.write_head.new.w).contents (g.W.ByteWrite.output c.walk.new.w).contents v in
-    front_all _ _ _ (whole_image (L.form c.args.layout.now).head g.C.Check.stored c.value-stored.result image right _ _ _ _ c.in-Ok-write_head.ensures.text
+    front_all _ _ _ (whole_image (L.form c.args.layout.now).head g.C.Checksum.stored c.value-stored.result image right _ _ _ _ c.in-Ok-write_head.ensures.text
     (subst A (image_known _ cs _ _ _ _ (c.sum_walk.ensures.told ∙ c.measure_all.ensures.told ∙ is) two.are) two.written) c.flush.ensures.bytes)
 
 pub returns-in-Err-confirm-clause-fault : goal.returns-in-Err-confirm-clause-fault
 returns-in-Err-confirm-clause-fault g c =
     let told = g.S.Sources.told c.args.sources.now in
-    let f = g.L.Layout.form c.args.layout.now in
+    let f = g.L.Segmented.form c.args.layout.now in
     let one = c.in-Ok-sum_walk.ensures.ok in
     let two = c.in-Ok-walk.ensures.ok in
-    let S = g.C.Check.stored in
+    let S = g.C.Checksum.stored in
     let err = c.in-Err-confirm.ensures.err in
     let v = value_of _ _ _ (f.head 0) S c.value-stored.result c.start-first.ensures c.add_head.ensures one c.value-stored.ensures in
     let again = two.added (f.head 0) (c.add_head.ensures [] c.start-first.ensures) in
@@ -107,14 +107,14 @@ returns-in-Err-confirm-clause-fault g c =
 
 pub returns-clause-whole : goal.returns-clause-whole
 returns-clause-whole g c = λ cs is.
-    let L = g.L.Layout in
+    let L = g.L.Segmented in
     let one = c.in-Ok-sum_walk.ensures.ok in
     let two = c.in-Ok-walk.ensures.ok in
     let image = image_from cs (L.form c.args.layout.now).start (L.form c.args.layout.now).segments (L.form c.args.layout.now).end in
     let same : one.bytes ≡ image = image_known _ cs _ _ _ _ (c.measure_all.ensures.told ∙ is) one.are in
-    let right : c.value-stored.result ≡ g.C.Check.stored ((L.form c.args.layout.now).head 0 ++ image) =
-    value_of _ _ _ ((L.form c.args.layout.now).head 0) g.C.Check.stored c.value-stored.result c.start-first.ensures c.add_head.ensures one c.value-stored.ensures
-    ∙ ap (λ (v : List ℕ). g.C.Check.stored ((L.form c.args.layout.now).head 0 ++ v)) same in
+    let right : c.value-stored.result ≡ g.C.Checksum.stored ((L.form c.args.layout.now).head 0 ++ image) =
+    value_of _ _ _ ((L.form c.args.layout.now).head 0) g.C.Checksum.stored c.value-stored.result c.start-first.ensures c.add_head.ensures one c.value-stored.ensures
+    ∙ ap (λ (v : List ℕ). g.C.Checksum.stored ((L.form c.args.layout.now).head 0 ++ v)) same in
     let A : List ℕ → Type 0 = λ v. Appends (g.W.ByteWrite.output c.write_head.new.w).contents (g.W.ByteWrite.output c.walk.new.w).contents v in
-    whole_image (L.form c.args.layout.now).head g.C.Check.stored c.value-stored.result image right _ _ _ _ c.in-Ok-write_head.ensures.text
+    whole_image (L.form c.args.layout.now).head g.C.Checksum.stored c.value-stored.result image right _ _ _ _ c.in-Ok-write_head.ensures.text
     (subst A (image_known _ cs _ _ _ _ (c.sum_walk.ensures.told ∙ c.measure_all.ensures.told ∙ is) two.are) two.written) c.flush.ensures.bytes

@@ -6,7 +6,7 @@ use Rattle.image_stream.proofs.summing.sum_segment.Goals as goal
 
 pub returns-then-is_full-clause-ok : goal.returns-then-is_full-clause-ok
 returns-then-is_full-clause-ok g c =
-    let f = g.L.Layout.form c.args.layout.now in
+    let f = g.L.Segmented.form c.args.layout.now in
     let p = segment_at f.segments c.args.i in
     let inv = c.loop-from.invariant in
     let n : c.segment-segment.result.len ≡ len p = outline_len p c.segment-segment.result c.segment-segment.ensures in
@@ -14,7 +14,7 @@ returns-then-is_full-clause-ok g c =
 
 pub loop-from-preserved : goal.loop-from-preserved
 loop-from-preserved g c =
-    let p = segment_at (g.L.Layout.form c.args.layout.now).segments c.args.i in
+    let p = segment_at (g.L.Segmented.form c.args.layout.now).segments c.args.i in
     let inv = c.loop-from.invariant in
     let m : length c.piece.new.out ≡ c.min-n.result = c.piece.auto.out ∙ length-take c.min-n.result c.loop-from.buffer ∙ omega arith in
     record {

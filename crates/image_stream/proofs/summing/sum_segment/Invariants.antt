@@ -11,8 +11,8 @@ invariant-loop-from g l = record {
   told : g.S.Sources.told l.sources ≡ g.S.Sources.told l.initial.sources;
   files : g.S.Sources.files l.sources ≡ g.S.Sources.files l.initial.sources;
   read : g.S.Sources.reads l.sources ≡ g.S.Sources.reads l.initial.sources;
-  gone : Gone (IsFront (g.S.Sources.told l.initial.sources) (segment_at (g.L.Layout.form l.layout).segments l.i) l.from)
-      None None (g.C.Check.Is l.initial.check) (g.C.Check.Is l.check);
+  gone : Gone (IsFront (g.S.Sources.told l.initial.sources) (segment_at (g.L.Segmented.form l.layout).segments l.i) l.from)
+      None None (g.C.Checksum.Is l.initial.check) (g.C.Checksum.Is l.check);
 }
 
 abbrev pub decreases-loop-from : goal.decreases-loop-from

@@ -7,7 +7,7 @@ use Rattle.image_stream.proofs.summing.sum_walk.Goals as goal
 
 pub loop-i-init : goal.loop-i-init
 loop-i-init g c =
-    let L = g.L.Layout in
+    let L = g.L.Segmented in
     let parts = (L.form c.args.layout.now).segments in
     let told = g.S.Sources.told c.args.sources.now in
     let D : ℕ → Type 0 = λ v. IsDone told (L.form c.args.layout.now).start parts (L.form c.args.layout.now).end v parts [] in
@@ -23,14 +23,14 @@ loop-i-init g c =
 
 pub sum_next-requires-clause-small : goal.sum_next-requires-clause-small
 sum_next-requires-clause-small g c =
-    let L = g.L.Layout in
+    let L = g.L.Segmented in
     let h = rises_here (L.form c.args.layout.now).segments c.loop-i.i c.loop-i.at (L.form c.args.layout.now).end (omega arith) c.loop-i.invariant.rises in
     let s = c.requires.laid.small in
     omega arith
 
 pub loop-i-preserved : goal.loop-i-preserved
 loop-i-preserved g c =
-    let L = g.L.Layout in
+    let L = g.L.Segmented in
     let parts = (L.form c.args.layout.now).segments in
     let end = (L.form c.args.layout.now).end in
     let p = segment_at parts c.loop-i.i in
@@ -39,7 +39,7 @@ loop-i-preserved g c =
     let small : c.loop-i.i < length parts = omega arith in
     let h = rises_here parts c.loop-i.i c.loop-i.at end small inv.rises in
     let R : ℕ → Type 0 = λ v. SegmentsRise v (drop (c.loop-i.i + 1) parts) end in
-    let G : ℕ → Type 0 = λ v. Gone (IsDone told (L.form c.args.layout.now).start parts end v (drop (c.loop-i.i + 1) parts)) None None (g.C.Check.Is c.args.check.now) (g.C.Check.Is c.sum_next.new.check) in
+    let G : ℕ → Type 0 = λ v. Gone (IsDone told (L.form c.args.layout.now).start parts end v (drop (c.loop-i.i + 1) parts)) None None (g.C.Checksum.Is c.args.check.now) (g.C.Checksum.Is c.sum_next.new.check) in
     record {
       room = c.sum_next.auto.buffer ∙ inv.room;
       told = c.sum_next.ensures.told ∙ inv.told;
@@ -51,8 +51,8 @@ loop-i-preserved g c =
 
 pub returns-in-Ok-emit_zeros-clause-ok : goal.returns-in-Ok-emit_zeros-clause-ok
 returns-in-Ok-emit_zeros-clause-ok g c =
-    let L = g.L.Layout in
+    let L = g.L.Segmented in
     let end = (L.form c.args.layout.now).end in
     let told = g.S.Sources.told c.args.sources.now in
-    let Z : ℕ → Type 0 = λ v. Gone (λ xs. xs ≡ zeros (v - c.loop-i.at)) None None (g.C.Check.Is c.loop-i.check) (g.C.Check.Is c.emit_zeros.new.check) in
+    let Z : ℕ → Type 0 = λ v. Gone (λ xs. xs ≡ zeros (v - c.loop-i.at)) None None (g.C.Checksum.Is c.loop-i.check) (g.C.Checksum.Is c.emit_zeros.new.check) in
     gone_all told (L.form c.args.layout.now).start (L.form c.args.layout.now).segments end c.loop-i.at c.loop-i.i _ _ _ _ _ _ (omega arith) c.loop-i.invariant.gone (subst Z c.image_len.ensures c.in-Ok-emit_zeros.ensures.ok)

@@ -9,7 +9,7 @@ invariant-loop-i g l = record {
   told : g.S.Sources.told l.sources ≡ g.S.Sources.told l.initial.sources;
   files : g.S.Sources.files l.sources ≡ g.S.Sources.files l.initial.sources;
   read : g.S.Sources.reads l.sources ≡ g.S.Sources.reads l.initial.sources;
-  rises : SegmentsRise l.at (drop l.i (g.L.Layout.form l.layout).segments) (g.L.Layout.form l.layout).end;
-  gone : Gone (IsDone (g.S.Sources.told l.initial.sources) (g.L.Layout.form l.layout).start (g.L.Layout.form l.layout).segments (g.L.Layout.form l.layout).end l.at (drop l.i (g.L.Layout.form l.layout).segments))
-      None None (g.C.Check.Is l.initial.check) (g.C.Check.Is l.check);
+  rises : SegmentsRise l.at (drop l.i (g.L.Segmented.form l.layout).segments) (g.L.Segmented.form l.layout).end;
+  gone : Gone (IsDone (g.S.Sources.told l.initial.sources) (g.L.Segmented.form l.layout).start (g.L.Segmented.form l.layout).segments (g.L.Segmented.form l.layout).end l.at (drop l.i (g.L.Segmented.form l.layout).segments))
+      None None (g.C.Checksum.Is l.initial.check) (g.C.Checksum.Is l.check);
 }

@@ -2,4 +2,4 @@ use Rattle.image_stream.specs.Outcomes.{FrontSized}
 use Rattle.image_stream.proofs.write.sizes_agree.Given as goal
 
 abbrev pub invariant-loop-file : goal.invariant-loop-file
-invariant-loop-file g l = FrontSized (g.L.Layout.form l.layout).sizes l.file l.contents
+invariant-loop-file g l = FrontSized (g.L.Segmented.form l.layout).sizes l.file l.contents

@@ -4,7 +4,7 @@ use Rattle.image_stream.proofs.write.write.Given as goal
 
 abbrev pub invariant-loop-i : goal.invariant-loop-i
 invariant-loop-i g l =
-    let L = g.L.Layout in
+    let L = g.L.Segmented in
     record {
       room : length l.out ≡ (L.form l.layout).end;
       rises : SegmentsRise l.at (drop l.i (L.form l.layout).segments) (L.form l.layout).end;

@@ -1,19 +1,19 @@
 use Rattle.std.proofs.Common.{◌∙◌, List, sym}
 use Rattle.std.proofs.lemmas.Bool.{true≢false}
 use Rattle.std.specs.Cmp.Lexicographic.{bytes_decides}
-use Rattle.name_index.specs.declared.rows.Row.{Row}
+use Rattle.name_index.specs.declared.rows.NamedNode.{NamedNode}
 use Rattle.name_index.proofs.Firsts.{found_there, found_nowhere, found_past}
 use Rattle.name_index.proofs.search.find.Goals as goal
 use Rattle.name_index.proofs.search.find.Goals.{else-place-rows-via-then-place-rows+else-is_same, else-place-rows-via-else-place-rows}
 
 pub returns-then-is_same : goal.returns-then-is_same
 returns-then-is_same c = λ up.
-    let ys : List Row = c.args.rows.now in
+    let ys : List NamedNode = c.args.rows.now in
     sym (found_there ys c.args.name.now up c.rows_before-place.result (c.rows_before-place.ensures.parts up) _ c.if-place-rows.true ((bytes_decides _ c.args.name.now).0 (sym c.is_same.ensures ∙ c.if-is_same.true)))
 
 pub returns : goal.returns
 returns c = λ up.
-    let ys : List Row = c.args.rows.now in
+    let ys : List NamedNode = c.args.rows.now in
     let parts = c.rows_before-place.ensures.parts up in
     elim c.else-place-rows.branch [
       | else-place-rows-via-then-place-rows+else-is_same w ↦

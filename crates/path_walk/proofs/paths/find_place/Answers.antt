@@ -4,10 +4,10 @@ use Rattle.std.specs.Borrow.{Bor}
 use Rattle.rom_tree.specs.Image.{Image, contents_of}
 use Rattle.path_walk.specs.declared.error.WalkError.{WalkError}
 use Rattle.path_walk.specs.declared.mount.Mount.{Mount}
-use Rattle.path_walk.specs.declared.mount.Place.{Place}
+use Rattle.path_walk.specs.declared.mount.Location.{Location}
 use Rattle.path_walk.specs.Components.{begins_with_slash}
 use Rattle.path_walk.specs.Resolution.{Namespace, at_root, Trail, resolution, resolve, to_root}
-use Rattle.path_walk.specs.Graft.{GraftNode, graft, bytes_in, are_mounts, AreShallow}
+use Rattle.path_walk.specs.Graft.{MountedNode, graft, bytes_in, are_mounts, AreShallow}
 use Rattle.path_walk.specs.Trails.{Held, NamesAt, IsTrail, NoneEmpty, unread_bytes}
 use Rattle.path_walk.proofs.Texts.{none-push, none-nil, bytes-push}
 use Rattle.path_walk.proofs.Trails.{first_trail, root_named}
@@ -19,22 +19,22 @@ use Rattle.path_walk.proofs.paths.find_place.Goals as goal
 pub returns-in_err-check_path-clause-leads : goal.returns-in_err-check_path-clause-leads
 returns-in_err-check_path-clause-leads g c =
     let ms : List Image = (g.G.Gathered.held c.args.images.now).images in
-    let gr : Namespace GraftNode = graft ms c.args.mounts.now in
+    let gr : Namespace MountedNode = graft ms c.args.mounts.now in
     let follow : Bool = c.args.follow_last in
-    let all : Result GraftNode WalkError = resolution gr c.args.path.now follow in
+    let all : Result MountedNode WalkError = resolution gr c.args.path.now follow in
     let e : WalkError = c.in_err-check_path.field-0.0 in
-    handed_on (λ p. (x : GraftNode) × (all ≡ Ok x) × NamesAt ms p x) (λ v. all ≡ Err v) c.from_residual.result e c.from_residual.ensures.1 (c.in_err-check_path.ensures.leads gr follow)
+    handed_on (λ p. (x : MountedNode) × (all ≡ Ok x) × NamesAt ms p x) (λ v. all ≡ Err v) c.from_residual.result e c.from_residual.ensures.1 (c.in_err-check_path.ensures.leads gr follow)
 
 pub loop-component-init : goal.loop-component-init
 loop-component-init g c =
     let ms : List Image = (g.G.Gathered.held c.args.images.now).images in
     let us : List Mount = c.args.mounts.now in
-    let gr : Namespace GraftNode = graft ms us in
+    let gr : Namespace MountedNode = graft ms us in
     let path : List ℕ = c.args.path.now in
     let follow : Bool = c.args.follow_last in
     let u : c.push.new.self.items ≡ c.args.path ∷ [] = c.push.ensures.items ∙ ap (λ (v : List (Bor (List ℕ))). v ++ c.args.path ∷ []) c.new-unread.ensures in
     let P : List (Bor (List ℕ)) → Type 0 = λ v. NoneEmpty v in
-    let root : Place = record { image = 0; node = c.root_in.result } in
+    let root : Location = record { image = 0; node = c.root_in.result } in
     let rs : NamesAt ms root gr.root = root_named ms us root c.requires.some refl c.root_in.ensures in
     record {
       held = refl;
@@ -58,24 +58,24 @@ pub returns-in_err-link-clause-leads : goal.returns-in_err-link-clause-leads
 returns-in_err-link-clause-leads g c =
     let h : Held = g.G.Gathered.held c.args.images.now in
     let us : List Mount = c.args.mounts.now in
-    let gr : Namespace GraftNode = graft h.images us in
+    let gr : Namespace MountedNode = graft h.images us in
     let follow : Bool = c.args.follow_last in
-    let all : Result GraftNode WalkError = resolution gr c.args.path.now follow in
+    let all : Result MountedNode WalkError = resolution gr c.args.path.now follow in
     let i = c.loop-component.invariant in
     let st : Bool = c.last_stays-stays.result in
     let t : st ≡ ((length c.take_component.new.unread.items == 0) && not follow) = c.last_stays-stays.ensures ∙ ap (λ (v : Bool). v && not follow) c.is_empty.ensures in
     let e : WalkError = c.in_err-link.field-0.0 in
     let d = led (g.G.Gathered.held c.loop-component.images) h i.held us c.loop-component.current c.loop-component.ancestors.items i.trail c.in-Some.component.now st c.advance.new.current c.advance.new.ancestors.items (Err e) i.is (c.in_err-link.ensures.leads i.trail) in
-    handed_on (λ p. (x : GraftNode) × (all ≡ Ok x) × NamesAt h.images p x) (λ v. all ≡ Err v) c.from_residual-in_err-link.result e c.from_residual-in_err-link.ensures.1
+    handed_on (λ p. (x : MountedNode) × (all ≡ Ok x) × NamesAt h.images p x) (λ v. all ≡ Err v) c.from_residual-in_err-link.result e c.from_residual-in_err-link.ensures.1
     (turn_fails gr follow c.loop-component.links i.trail c.in-Some.component.now c.loop-component.unread.items c.take_component.new.unread.items st all i.rest c.in-Some.ensures.component c.take_component.ensures.none_empty t e d)
 
 pub returns-then-links-eq0-clause-leads : goal.returns-then-links-eq0-clause-leads
 returns-then-links-eq0-clause-leads g c =
     let h : Held = g.G.Gathered.held c.args.images.now in
     let us : List Mount = c.args.mounts.now in
-    let gr : Namespace GraftNode = graft h.images us in
+    let gr : Namespace MountedNode = graft h.images us in
     let follow : Bool = c.args.follow_last in
-    let all : Result GraftNode WalkError = resolution gr c.args.path.now follow in
+    let all : Result MountedNode WalkError = resolution gr c.args.path.now follow in
     let i = c.loop-component.invariant in
     let st : Bool = c.last_stays-stays.result in
     let t : st ≡ ((length c.take_component.new.unread.items == 0) && not follow) = c.last_stays-stays.ensures ∙ ap (λ (v : Bool). v && not follow) c.is_empty.ensures in
@@ -107,18 +107,18 @@ loop-component-preserved-in-Some-link g c =
     let h : Held = g.G.Gathered.held c.args.images.now in
     let ms : List Image = h.images in
     let us : List Mount = c.args.mounts.now in
-    let gr : Namespace GraftNode = graft ms us in
+    let gr : Namespace MountedNode = graft ms us in
     let follow : Bool = c.args.follow_last in
-    let all : Result GraftNode WalkError = resolution gr c.args.path.now follow in
+    let all : Result MountedNode WalkError = resolution gr c.args.path.now follow in
     let i = c.loop-component.invariant in
-    let s : Trail GraftNode = i.trail in
+    let s : Trail MountedNode = i.trail in
     let st : Bool = c.last_stays-stays.result in
     let t : st ≡ ((length c.take_component.new.unread.items == 0) && not follow) = c.last_stays-stays.ensures ∙ ap (λ (v : Bool). v && not follow) c.is_empty.ensures in
     let d = led_link (g.G.Gathered.held c.loop-component.images) h i.held us c.loop-component.current c.loop-component.ancestors.items s c.in-Some.component.now st c.advance.new.current c.advance.new.ancestors.items c.in_ok-link.link c.in-Some-link.link c.in-Some-link.is i.is (c.in_ok-link.ensures.leads s) in
     let text : List ℕ = contents_of (bytes_in ms d.0.image) d.0.node in
     let x = link_read (g.G.Gathered.held c.advance.new.images) h (c.advance.ensures.stays ∙ i.held) c.in-Some-link.link d.0 c.link_text_in-text.result.now d.2 d.3 (c.link_text_in-text.ensures d.0) in
     let full : List (Bor (List ℕ)) → Type 0 = λ v. NoneEmpty v in
-    let root : Place = record { image = 0; node = c.root_in.result } in
+    let root : Location = record { image = 0; node = c.root_in.result } in
     let rs : NamesAt ms root gr.root = root_named ms us root c.requires.some refl c.root_in.ensures in
     let from : List ℕ → Type 0 = λ v. IsTrail ms us c.start_from.new.current c.start_from.new.ancestors.items (if begins_with_slash v then to_root s else s) in
     record {
@@ -135,9 +135,9 @@ pub loop-component-preserved : goal.loop-component-preserved
 loop-component-preserved g c =
     let h : Held = g.G.Gathered.held c.args.images.now in
     let us : List Mount = c.args.mounts.now in
-    let gr : Namespace GraftNode = graft h.images us in
+    let gr : Namespace MountedNode = graft h.images us in
     let follow : Bool = c.args.follow_last in
-    let all : Result GraftNode WalkError = resolution gr c.args.path.now follow in
+    let all : Result MountedNode WalkError = resolution gr c.args.path.now follow in
     let i = c.loop-component.invariant in
     let st : Bool = c.last_stays-stays.result in
     let t : st ≡ ((length c.take_component.new.unread.items == 0) && not follow) = c.last_stays-stays.ensures ∙ ap (λ (v : Bool). v && not follow) c.is_empty.ensures in
@@ -154,7 +154,7 @@ loop-component-preserved g c =
 
 pub returns-clause-leads : goal.returns-clause-leads
 returns-clause-leads g c =
-    let gr : Namespace GraftNode = graft (g.G.Gathered.held c.args.images.now).images c.args.mounts.now in
+    let gr : Namespace MountedNode = graft (g.G.Gathered.held c.args.images.now).images c.args.mounts.now in
     let follow : Bool = c.args.follow_last in
     let i = c.loop-component.invariant in
     (i.trail.current, walk_ends gr follow c.loop-component.links i.trail c.loop-component.unread.items (resolution gr c.args.path.now follow) i.rest c.in_default.ensures.component, i.is.named)

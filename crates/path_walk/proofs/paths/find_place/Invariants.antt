@@ -1,13 +1,13 @@
 use Rattle.std.proofs.Common.{◌≡◌, ◌+◌, ◌*◌, ◌≤◌, length}
 use Rattle.path_walk.specs.Resolution.{Trail, resolve, resolution}
-use Rattle.path_walk.specs.Graft.{GraftNode, graft}
+use Rattle.path_walk.specs.Graft.{MountedNode, graft}
 use Rattle.path_walk.specs.Trails.{IsTrail, NoneEmpty, unread_components, unread_bytes}
 use Rattle.path_walk.proofs.paths.find_place.Given as goal
 
 abbrev pub invariant-loop-component : goal.invariant-loop-component
 invariant-loop-component g l = record {
   held : g.G.Gathered.held l.images ≡ g.G.Gathered.held l.fn.images;
-  trail : Trail GraftNode;
+  trail : Trail MountedNode;
   is : IsTrail (g.G.Gathered.held l.fn.images).images l.mounts l.current l.ancestors.items trail;
   links : l.links ≤ 40;
   full : length l.unread.items + l.links ≤ 41;

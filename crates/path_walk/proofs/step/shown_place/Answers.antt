@@ -3,7 +3,7 @@ use Rattle.std.specs.Prelude.{find}
 use Rattle.rom_tree.specs.Tree.{ino_of}
 use Rattle.rom_tree.specs.Image.{Image}
 use Rattle.path_walk.specs.declared.mount.Mount.{Mount}
-use Rattle.path_walk.specs.declared.mount.Place.{Place}
+use Rattle.path_walk.specs.declared.mount.Location.{Location}
 use Rattle.path_walk.specs.Graft.{covers, tree_in}
 use Rattle.path_walk.proofs.Mounts.{find_member, good_mount}
 use Rattle.path_walk.proofs.GraftNodes.{none_some}
@@ -14,7 +14,7 @@ pub returns-in-None : goal.returns-in-None
 returns-in-None g c = λ s i.
     let ms : List Image = (g.G.Gathered.held c.args.images.now).images in
     let us : List Mount = c.args.mounts.now in
-    let p : Place = record { image = c.args.image; node = c.args.node } in
+    let p : Location = record { image = c.args.image; node = c.args.node } in
     let w : find (covers s.image (ino_of s.node)) us ≡ None = same_cover ms us p s i ∙ sym c.in-None.ensures in
     shown_named ms us p p s c.requires i (λ e. refl) (λ u e. absurd (none_some u (sym w ∙ e)))
 
@@ -28,8 +28,8 @@ pub returns-in-Some : goal.returns-in-Some
 returns-in-Some g c = λ s i.
     let ms : List Image = (g.G.Gathered.held c.args.images.now).images in
     let us : List Mount = c.args.mounts.now in
-    let p : Place = record { image = c.args.image; node = c.args.node } in
-    let q : Place = record { image = c.in-Some.mount.image; node = c.root_in.result } in
+    let p : Location = record { image = c.args.image; node = c.args.node } in
+    let q : Location = record { image = c.in-Some.mount.image; node = c.root_in.result } in
     let w : find (covers s.image (ino_of s.node)) us ≡ Some c.in-Some.mount = same_cover ms us p s i ∙ sym c.in-Some.ensures in
     shown_named ms us p q s c.requires i (λ e. absurd (none_some c.in-Some.mount (sym e ∙ w)))
     (λ v e.

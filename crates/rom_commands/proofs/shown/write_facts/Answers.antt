@@ -5,4 +5,4 @@ use Rattle.rom_commands.proofs.shown.write_facts.Goals as goal
 pub returns-in-Err-clause-text : goal.returns-in-Err-clause-text
 returns-in-Err-clause-text g c =
     failed_as_well (g.W.ByteWrite.output c.args.w.now) (g.W.ByteWrite.output c.write_info.new.w)
-    (info_text c.args.file c.args.image.now) c.in-Err.trouble c.in-Err.ensures
+    (info_text c.args.file c.args.image.now) c.in-Err.error c.in-Err.ensures

@@ -1,7 +1,7 @@
 use Rattle.std.proofs.Common.{◌≡◌, ℕ, ◌<◌, List, Option, true, Ok, sym, ap, ◌∙◌, subst, arith, length, map}
 use Rattle.rom_tree.specs.Image.{Image}
 use Rattle.path_walk.specs.declared.mount.Mount.{Mount}
-use Rattle.path_walk.specs.Graft.{GraftNode}
+use Rattle.path_walk.specs.Graft.{MountedNode}
 use Rattle.open_files.specs.declared.slot.OpenNode.{OpenNode}
 use Rattle.open_files.specs.Calls.{give}
 use Rattle.open_files.specs.Machine.{Table}
@@ -19,7 +19,7 @@ invariant_of-self-clause-sound g c =
     let us : List Mount = c.args.self.now.mounts.items in
     let n : ℕ = g.row.N in
     let k : ℕ = c.args.session in
-    let v : View GraftNode = graft_view ms us in
+    let v : View MountedNode = graft_view ms us in
     let P : List (Option OpenNode) → Type 0 = λ z. are_sound v z ≡ true in
     all_sound_set (λ t. t.slots) ms us c.args.self.now.tables k c.new.result c.args.self.now.sound (subst P (sym c.new.ensures.blank) (stand-replicate (stands v) n))
 
@@ -30,8 +30,8 @@ returns-clause-reply g c =
     let us : List Mount = c.args.self.now.mounts.items in
     let n : ℕ = g.row.N in
     let k : ℕ = c.args.session in
-    let v : View GraftNode = graft_view ms us in
+    let v : View MountedNode = graft_view ms us in
     let ts = c.args.self.now.tables in
     let l : k < length ts = (let e = c.args.self.now.sessions in omega (arith, e, c.requires)) in
     let e : table_of v c.new.result.slots ≡ no_files n = ap (table_of v) c.new.ensures.blank ∙ table-replicate (stands v) n in
-    own_sets (λ t. t.slots) n ms us ts k c.new.result c.new.result (λ t. (calls_of n v).close_all t) (Ok tt) l (ap (λ (z : Table GraftNode). give tt z) (sym e))
+    own_sets (λ t. t.slots) n ms us ts k c.new.result c.new.result (λ t. (calls_of n v).close_all t) (Ok tt) l (ap (λ (z : Table MountedNode). give tt z) (sym e))

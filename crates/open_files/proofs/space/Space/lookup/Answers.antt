@@ -3,7 +3,7 @@ use Rattle.rom_tree.specs.Tree.{ino_of}
 use Rattle.rom_tree.specs.Image.{Image}
 use Rattle.path_walk.specs.declared.mount.Mount.{Mount}
 use Rattle.path_walk.specs.Resolution.{resolution}
-use Rattle.path_walk.specs.Graft.{GraftNode, graft}
+use Rattle.path_walk.specs.Graft.{MountedNode, graft}
 use Rattle.open_files.specs.declared.slot.OpenNode.{OpenNode}
 use Rattle.open_files.specs.Calls.{give, Of, viewed}
 use Rattle.open_files.specs.Machine.{Table, walked}
@@ -19,12 +19,12 @@ returns-clause-reply g c =
     let us : List Mount = c.args.self.now.mounts.items in
     let n : ℕ = g.row.N in
     let k : ℕ = c.args.session in
-    let v : View GraftNode = graft_view ms us in
+    let v : View MountedNode = graft_view ms us in
     let ms' : List Image = map f c.walk.new.self.images.items in
     let us' : List Mount = c.walk.new.self.mounts.items in
     let tss : List (List (Option OpenNode)) = map (λ t. t.slots) c.args.self.now.tables in
     let tss' : List (List (Option OpenNode)) = map (λ t. t.slots) c.walk.new.self.tables in
-    let t : Table GraftNode = table_of v (slots_at n tss k) in
+    let t : Table MountedNode = table_of v (slots_at n tss k) in
     let em : ms' ≡ ms = c.walk.ensures.images in
     let eu : us' ≡ us = ap (λ z. z.items) c.walk.ensures.mounts in
     let et : tss' ≡ tss = ap (map (λ z. z.slots)) c.walk.ensures.tables in

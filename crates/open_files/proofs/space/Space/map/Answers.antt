@@ -1,7 +1,7 @@
 use Rattle.std.proofs.Common.{◌≡◌, ℕ, ◌<◌, List, Option, Some, true, refl, sym, subst, arith, rules, length, get_or, map}
 use Rattle.rom_tree.specs.Image.{Image}
 use Rattle.path_walk.specs.declared.mount.Mount.{Mount}
-use Rattle.path_walk.specs.Graft.{GraftNode}
+use Rattle.path_walk.specs.Graft.{MountedNode}
 use Rattle.open_files.specs.declared.slot.OpenNode.{OpenNode}
 use Rattle.open_files.specs.Calls.{Answer, answer, Of, Lent, viewed}
 use Rattle.open_files.specs.Machine.{Table}
@@ -17,7 +17,7 @@ map-requires g c κs =
     let us : List Mount = c.args.self.now.mounts.items in
     let n : ℕ = g.row.N in
     let k : ℕ = c.args.session in
-    let v : View GraftNode = graft_view ms us in
+    let v : View MountedNode = graft_view ms us in
     let ts = c.args.self.now.tables in
     let l : k < length ts = (let e = c.args.self.now.sessions in omega (arith, e, c.requires.session)) in
     let d = c.index-self-session.result in
@@ -34,7 +34,7 @@ returns g c =
     let us : List Mount = c.args.self.now.mounts.items in
     let n : ℕ = g.row.N in
     let k : ℕ = c.args.session in
-    let v : View GraftNode = graft_view ms us in
+    let v : View MountedNode = graft_view ms us in
     let ts = c.args.self.now.tables in
     let l : k < length ts = (let e = c.args.self.now.sessions in omega (arith, e, c.requires.session)) in
     let d = c.index-self-session.result in
@@ -42,6 +42,6 @@ returns g c =
     let P : List (Option OpenNode) → Type 0 = λ z. are_sound v z ≡ true in
     let h : are_sound v (get_or ts k d).slots ≡ true = subst P q (sound_at n ms us (map (λ t. t.slots) ts) k c.args.self.now.sound) in
     let tss : List (List (Option OpenNode)) = map (λ t. t.slots) ts in
-    let a : Table GraftNode → Answer (Table GraftNode) (Of Lent) = λ t. (calls_of n v).map_piece t c.args.fd.0 c.args.off c.args.len in
+    let a : Table MountedNode → Answer (Table MountedNode) (Of Lent) = λ t. (calls_of n v).map_piece t c.args.fd.0 c.args.off c.args.len in
     let E : List (Option OpenNode) → Type 0 = λ z. a (table_of v z) ≡ answer (viewed (labelled (λ i. Some i) lent_by) c.map.result) (table_of v z) in
     own_stays n ms ms us us tss tss k (a (table_of v (slots_at n tss k))) (viewed (labelled (λ i. Some i) lent_by) c.map.result) refl refl refl (subst E (sym q) c.map.ensures)

@@ -1,7 +1,7 @@
 use Rattle.std.proofs.Common.{◌≡◌, ℕ, ◌<◌, List, Option, true, subst, arith, rules, length, get_or, map, take}
 use Rattle.rom_tree.specs.Image.{Image}
 use Rattle.path_walk.specs.declared.mount.Mount.{Mount}
-use Rattle.path_walk.specs.Graft.{GraftNode}
+use Rattle.path_walk.specs.Graft.{MountedNode}
 use Rattle.open_files.specs.declared.slot.OpenNode.{OpenNode}
 use Rattle.open_files.specs.Calls.{viewed}
 use Rattle.open_files.specs.Slots.{View, graft_view, are_sound, calls_of}
@@ -16,7 +16,7 @@ read-requires g c κs =
     let us : List Mount = c.args.self.now.mounts.items in
     let n : ℕ = g.row.N in
     let k : ℕ = c.args.session in
-    let v : View GraftNode = graft_view ms us in
+    let v : View MountedNode = graft_view ms us in
     let ts = c.args.self.now.tables in
     let l : k < length ts = (let e = c.args.self.now.sessions in omega (arith, e, c.requires.session)) in
     let d = c.index-tables-session.result in
@@ -33,7 +33,7 @@ invariant_of-self-clause-sound g c =
     let us : List Mount = c.args.self.now.mounts.items in
     let n : ℕ = g.row.N in
     let k : ℕ = c.args.session in
-    let v : View GraftNode = graft_view ms us in
+    let v : View MountedNode = graft_view ms us in
     all_sound_set (λ t. t.slots) ms us c.args.self.now.tables k c.read.new.slots c.args.self.now.sound c.read.ensures.sound
 
 pub returns-clause-reply : goal.returns-clause-reply
@@ -43,7 +43,7 @@ returns-clause-reply g c =
     let us : List Mount = c.args.self.now.mounts.items in
     let n : ℕ = g.row.N in
     let k : ℕ = c.args.session in
-    let v : View GraftNode = graft_view ms us in
+    let v : View MountedNode = graft_view ms us in
     let ts = c.args.self.now.tables in
     let l : k < length ts = (let e = c.args.self.now.sessions in omega (arith, e, c.requires.session)) in
     let d = c.index-tables-session.result in

@@ -2,7 +2,7 @@ use Rattle.std.proofs.Common.{◌≡◌, ℕ, ◌<◌, List, Option, Some, true,
 use Rattle.std.specs.Prelude.{option_map, MatchResult, MatchOption}
 use Rattle.rom_tree.specs.Image.{Image}
 use Rattle.path_walk.specs.declared.mount.Mount.{Mount}
-use Rattle.path_walk.specs.Graft.{GraftNode}
+use Rattle.path_walk.specs.Graft.{MountedNode}
 use Rattle.open_files.specs.declared.slot.OpenNode.{OpenNode}
 use Rattle.open_files.specs.Calls.{Of, Named, viewed}
 use Rattle.open_files.specs.Slots.{View, graft_view, are_sound, table_of, calls_of, labelled, named_by, LeadsOn}
@@ -17,7 +17,7 @@ readdir-requires g c κs =
     let us : List Mount = c.args.self.now.mounts.items in
     let n : ℕ = g.row.N in
     let k : ℕ = c.args.session in
-    let v : View GraftNode = graft_view ms us in
+    let v : View MountedNode = graft_view ms us in
     let ts = c.args.self.now.tables in
     let l : k < length ts = (let e = c.args.self.now.sessions in omega (arith, e, c.requires.session)) in
     let d = c.index-tables-session.result in
@@ -34,7 +34,7 @@ invariant_of-self-clause-sound g c =
     let us : List Mount = c.args.self.now.mounts.items in
     let n : ℕ = g.row.N in
     let k : ℕ = c.args.session in
-    let v : View GraftNode = graft_view ms us in
+    let v : View MountedNode = graft_view ms us in
     all_sound_set (λ t. t.slots) ms us c.args.self.now.tables k c.readdir.new.slots c.args.self.now.sound c.readdir.ensures.sound
 
 pub returns-clause-reply : goal.returns-clause-reply
@@ -44,7 +44,7 @@ returns-clause-reply g c =
     let us : List Mount = c.args.self.now.mounts.items in
     let n : ℕ = g.row.N in
     let k : ℕ = c.args.session in
-    let v : View GraftNode = graft_view ms us in
+    let v : View MountedNode = graft_view ms us in
     let ts = c.args.self.now.tables in
     let l : k < length ts = (let e = c.args.self.now.sessions in omega (arith, e, c.requires.session)) in
     let d = c.index-tables-session.result in
@@ -60,7 +60,7 @@ returns-clause-cursor g c =
     let us : List Mount = c.args.self.now.mounts.items in
     let n : ℕ = g.row.N in
     let k : ℕ = c.args.session in
-    let v : View GraftNode = graft_view ms us in
+    let v : View MountedNode = graft_view ms us in
     let ts = c.args.self.now.tables in
     let l : k < length ts = (let e = c.args.self.now.sessions in omega (arith, e, c.requires.session)) in
     let E : List (Option OpenNode) → Type 0 = λ z. MatchResult c.readdir.result (λ r. MatchOption r (Unit {0}) (λ e. LeadsOn v (table_of v z) c.args.fd.0 e.0 e.1.cursor.0)) (λ e. Unit {0}) in

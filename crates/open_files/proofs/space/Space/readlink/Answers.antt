@@ -4,7 +4,7 @@ use Rattle.rom_tree.specs.Tree.{is_link}
 use Rattle.rom_tree.specs.Image.{Image}
 use Rattle.path_walk.specs.declared.mount.Mount.{Mount}
 use Rattle.path_walk.specs.Resolution.{resolution}
-use Rattle.path_walk.specs.Graft.{GraftNode, graft, bytes_in}
+use Rattle.path_walk.specs.Graft.{MountedNode, graft, bytes_in}
 use Rattle.open_files.specs.declared.error.CallError.{CallError}
 use Rattle.open_files.specs.declared.slot.OpenNode.{OpenNode}
 use Rattle.open_files.specs.Calls.{Answer, answer, Of, Lent, viewed}
@@ -22,17 +22,17 @@ returns-in_err-image-clause-reply g c =
     let us : List Mount = c.args.self.now.mounts.items in
     let n : ℕ = g.row.N in
     let k : ℕ = c.args.session in
-    let v : View GraftNode = graft_view ms us in
+    let v : View MountedNode = graft_view ms us in
     let ms' : List Image = map f c.walk.new.self.images.items in
     let us' : List Mount = c.walk.new.self.mounts.items in
     let tss : List (List (Option OpenNode)) = map (λ t. t.slots) c.args.self.now.tables in
     let tss' : List (List (Option OpenNode)) = map (λ t. t.slots) c.walk.new.self.tables in
-    let t : Table GraftNode = table_of v (slots_at n tss k) in
+    let t : Table MountedNode = table_of v (slots_at n tss k) in
     let em : ms' ≡ ms = c.in_err-image.ensures.images in
     let eu : us' ≡ us = ap (λ z. z.items) c.in_err-image.ensures.mounts in
     let et : tss' ≡ tss = ap (map (λ z. z.slots)) c.in_err-image.ensures.tables in
     let w = c.in_err-image.ensures.leads in
-    let F : GraftNode → Answer (Table GraftNode) (Of Lent) = λ x. read_link (Some x.image) (bytes_in ms x.image) t x.node (is_link x.node) in
+    let F : MountedNode → Answer (Table MountedNode) (Of Lent) = λ x. read_link (Some x.image) (bytes_in ms x.image) t x.node (is_link x.node) in
     let r = refused c.from_residual.result c.in_err-image.field-0.0 c.from_residual.ensures.1 in
     let p : walked t F (resolution (graft ms us) c.args.path.now false) ≡ answer (viewed (labelled (λ i. Some i) lent_by) c.from_residual.result) t =
     ap (walked t F) w.1 ∙ (ap (λ (e : CallError). answer {R = Of Lent} (Err e) t) (sym w.2) ∙ ap (λ (z : Result (ℕ × Piece) CallError). answer (viewed (labelled (λ i. Some i) lent_by) z) t) (sym r)) in
@@ -45,20 +45,20 @@ returns-clause-reply g c =
     let us : List Mount = c.args.self.now.mounts.items in
     let n : ℕ = g.row.N in
     let k : ℕ = c.args.session in
-    let v : View GraftNode = graft_view ms us in
+    let v : View MountedNode = graft_view ms us in
     let ms' : List Image = map f c.walk.new.self.images.items in
     let us' : List Mount = c.walk.new.self.mounts.items in
     let tss : List (List (Option OpenNode)) = map (λ t. t.slots) c.args.self.now.tables in
     let tss' : List (List (Option OpenNode)) = map (λ t. t.slots) c.walk.new.self.tables in
-    let t : Table GraftNode = table_of v (slots_at n tss k) in
+    let t : Table MountedNode = table_of v (slots_at n tss k) in
     let em : ms' ≡ ms = c.in_ok-image.ensures.images in
     let eu : us' ≡ us = ap (λ z. z.items) c.in_ok-image.ensures.mounts in
     let et : tss' ≡ tss = ap (map (λ z. z.slots)) c.in_ok-image.ensures.tables in
     let w = c.in_ok-image.ensures.leads in
-    let s : GraftNode = w.0 in
+    let s : MountedNode = w.0 in
     let Q : List Image → Type 0 = λ z. (graft_view z us).place c.in_ok-image.image c.in_ok-image.node.0 ≡ Some s in
     let e : (graft_view ms' us).place c.in_ok-image.image c.in_ok-image.node.0 ≡ Some s = subst Q (sym em) w.2 in
-    let F : GraftNode → Answer (Table GraftNode) (Of Lent) = λ x. read_link (Some x.image) (bytes_in ms x.image) t x.node (is_link x.node) in
+    let F : MountedNode → Answer (Table MountedNode) (Of Lent) = λ x. read_link (Some x.image) (bytes_in ms x.image) t x.node (is_link x.node) in
     let r : Result (Of Lent) CallError = viewed (labelled (λ i. Some i) lent_by) c.readlink.result in
     let p : walked t F (resolution (graft ms us) c.args.path.now false) ≡ answer r t =
     ap (walked t F) w.1 ∙ (ap (λ z. read_link (Some s.image) (bytes_in z s.image) t s.node (is_link s.node)) (sym em) ∙ c.readlink.ensures s t e) in

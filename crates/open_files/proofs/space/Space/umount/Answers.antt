@@ -2,7 +2,7 @@ use Rattle.std.proofs.Common.{◌≡◌, ℕ, ◌<◌, List, Option, true, false
 use Rattle.std.proofs.lemmas.List.{length-map}
 use Rattle.rom_tree.specs.Image.{Image}
 use Rattle.path_walk.specs.declared.mount.Mount.{Mount}
-use Rattle.path_walk.specs.Graft.{GraftNode}
+use Rattle.path_walk.specs.Graft.{MountedNode}
 use Rattle.open_files.specs.declared.slot.OpenNode.{OpenNode}
 use Rattle.open_files.specs.Calls.{give}
 use Rattle.open_files.specs.Machine.{Table}
@@ -23,10 +23,10 @@ returns-in_default-clause-reply g c =
     let us : List Mount = c.args.self.now.mounts.items in
     let n : ℕ = g.row.N in
     let k : ℕ = c.args.session in
-    let v : View GraftNode = graft_view ms us in
+    let v : View MountedNode = graft_view ms us in
     let j : ℕ = c.args.image in
     let tss : List (List (Option OpenNode)) = map (λ t. t.slots) c.args.self.now.tables in
-    let S : Sessions (List Mount) (Table GraftNode) = space_state n ms us tss in
+    let S : Sessions (List Mount) (Table MountedNode) = space_state n ms us tss in
     let l : j < length ms = omega (arith, c.if-image-len.false, c.len.ensures, length-map c.args.self.now.images.items f) in
     let u0 : c.as_slice.result.now ≡ us = c.as_slice.ensures.value in
     ap (shared_answer S) (unmounting_free ms us j l (ap (is_mounted j) (sym u0) ∙ index_none j c.as_slice.result.now c.in_default.ensures.first))
@@ -38,10 +38,10 @@ returns-then-has_mount_in-clause-reply g c =
     let us : List Mount = c.args.self.now.mounts.items in
     let n : ℕ = g.row.N in
     let k : ℕ = c.args.session in
-    let v : View GraftNode = graft_view ms us in
+    let v : View MountedNode = graft_view ms us in
     let j : ℕ = c.args.image in
     let tss : List (List (Option OpenNode)) = map (λ t. t.slots) c.args.self.now.tables in
-    let S : Sessions (List Mount) (Table GraftNode) = space_state n ms us tss in
+    let S : Sessions (List Mount) (Table MountedNode) = space_state n ms us tss in
     let l : j < length ms = omega (arith, c.if-image-len.false, c.len.ensures, length-map c.args.self.now.images.items f) in
     let u0 : c.as_slice.result.now ≡ us = c.as_slice.ensures.value in
     let r = index_some j c.as_slice.result.now c.in-Some.i c.in-Some.ensures.first in
@@ -56,10 +56,10 @@ invariant_of-self-clause-mounted g c =
     let us : List Mount = c.args.self.now.mounts.items in
     let n : ℕ = g.row.N in
     let k : ℕ = c.args.session in
-    let v : View GraftNode = graft_view ms us in
+    let v : View MountedNode = graft_view ms us in
     let j : ℕ = c.args.image in
     let tss : List (List (Option OpenNode)) = map (λ t. t.slots) c.args.self.now.tables in
-    let S : Sessions (List Mount) (Table GraftNode) = space_state n ms us tss in
+    let S : Sessions (List Mount) (Table MountedNode) = space_state n ms us tss in
     let l : j < length ms = omega (arith, c.if-image-len.false, c.len.ensures, length-map c.args.self.now.images.items f) in
     let u0 : c.as_slice.result.now ≡ us = c.as_slice.ensures.value in
     let r = index_some j c.as_slice.result.now c.in-Some.i c.in-Some.ensures.first in
@@ -75,7 +75,7 @@ invariant_of-self-clause-sound g c =
     let us : List Mount = c.args.self.now.mounts.items in
     let n : ℕ = g.row.N in
     let k : ℕ = c.args.session in
-    let v : View GraftNode = graft_view ms us in
+    let v : View MountedNode = graft_view ms us in
     other_mounts ms us c.remove.new.self.items (map (λ t. t.slots) c.args.self.now.tables) c.args.self.now.sound
 
 pub returns-clause-reply : goal.returns-clause-reply
@@ -85,10 +85,10 @@ returns-clause-reply g c =
     let us : List Mount = c.args.self.now.mounts.items in
     let n : ℕ = g.row.N in
     let k : ℕ = c.args.session in
-    let v : View GraftNode = graft_view ms us in
+    let v : View MountedNode = graft_view ms us in
     let j : ℕ = c.args.image in
     let tss : List (List (Option OpenNode)) = map (λ t. t.slots) c.args.self.now.tables in
-    let S : Sessions (List Mount) (Table GraftNode) = space_state n ms us tss in
+    let S : Sessions (List Mount) (Table MountedNode) = space_state n ms us tss in
     let l : j < length ms = omega (arith, c.if-image-len.false, c.len.ensures, length-map c.args.self.now.images.items f) in
     let u0 : c.as_slice.result.now ≡ us = c.as_slice.ensures.value in
     let r = index_some j c.as_slice.result.now c.in-Some.i c.in-Some.ensures.first in

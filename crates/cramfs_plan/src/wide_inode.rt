@@ -1,0 +1,15 @@
+//! An inode with its name, and where its bytes stand.
+
+use manifest_rows::Bytes;
+
+/// An inode with its name, at its place. Its numbers are as the format has them, in 64 bits.
+#[derive(Clone, Copy, PartialEq, Eq)]
+pub struct WideInode<'a> {
+    pub place: u64,
+    pub words: [u64; 3],
+    pub name: &'a [u8],
+    pub table: u64,
+    pub start: u64,
+    pub len: u64,
+    pub bytes: Bytes<'a>,
+}

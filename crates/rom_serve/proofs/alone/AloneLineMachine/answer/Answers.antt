@@ -1,7 +1,0 @@
-use Rattle.rom_serve.proofs.alone.AloneLineMachine.answer.Goals as goal
-
-pub returns-clause-text : goal.returns-clause-text
-returns-clause-text g c = c.put_answer.ensures.text
-
-pub returns-clause-step : goal.returns-clause-step
-returns-clause-step g c = c.put_answer.ensures.step

@@ -1,0 +1,7 @@
+//! The numbers of the format (Linux Documentation/filesystems/romfs.rst).
+
+/// The bytes with which an image begins.
+pub const MAGIC: [u8; 8] = *b"-rom1fs-";
+
+/// How many bytes an image has at most: 2^28, this project's limit.
+pub const MOST_BYTES: u32 = 1 << 28;

@@ -1,0 +1,263 @@
+//! What standard error says: a line of the protocol, and where it is asked for or a person reads it,
+//! a line in words behind it.
+ghost use Rattle.std.specs.Prelude.{◌≡◌};
+ghost use Rattle.rom_commands.specs.Endings.{failure_status};
+
+use crate::arguments::NoWords;
+use crate::origin::Origin;
+use crate::streams::Held;
+use command_line::{WordsError, is_explain};
+use image_check::check;
+use rom_commands::status::{Failure, Status, tell};
+use rom_faults::CheckError;
+use rom_fields::bytes::{ByteWrite, Plain};
+use rom_tree::types::Limits;
+use sentences::reasons::NO_WORD;
+use sentences::words::escaped;
+use sentences::{call_sentence, ending_sentence, fault_sentence, image};
+use std::alloc::AllocError;
+use std::env::Env;
+use std::fmt::Display;
+use std::io::{self, IsTerminal, Write};
+
+/// How many bytes the word has that asks to explain.
+const EXPLAIN_LEN: usize = 9;
+
+/// Says how a command ends, and explains it in words where standard error is a terminal or the words
+/// ask for it. What it fails to say in words changes nothing.
+#[derive(Clone, Copy)]
+pub struct Teller<'a> {
+    pub rt: &'a HostRuntime,
+    is_explained: bool,
+}
+
+impl<'a> Teller<'a> {
+    /// As the first word behind the program's name has it, and standard error.
+    pub fn new(rt: &'a HostRuntime) -> Teller<'a> {
+        let mut word = [0; EXPLAIN_LEN];
+        let is_asked = match rt.arg(1, &mut word) {
+            Ok(len) => is_explain(word.get(..len).unwrap_or(&[])),
+            Err(_) => false,
+        };
+        Teller {
+            rt,
+            is_explained: is_asked || rt.stderr().is_terminal(),
+        }
+    }
+
+    /// Whether words are said besides.
+    pub fn is_explained(&self) -> bool {
+        self.is_explained
+    }
+
+    /// Writes a text on standard error as it is.
+    fn put(&self, text: &[u8]) {
+        let mut err = Held::new(self.rt, self.rt.stderr());
+        let _ = err.write_all(text);
+        let _ = err.flush();
+    }
+
+    /// Says in words, where they are asked for, what is so of a file or of a place.
+    pub fn explain<W: Display>(&self, place: &[u8], what: &W) {
+        if self.is_explained {
+            let _ = self.try_explain(place, what);
+        }
+    }
+
+    fn try_explain<W: Display>(&self, place: &[u8], what: &W) -> Result<(), AllocError> {
+        let alloc = self.rt.alloc();
+        let line = format!(in alloc; "romtool: {}: {what}\n", escaped(alloc, place)?)?;
+        self.put(line.as_bytes());
+        Ok(())
+    }
+
+    /// Says why a command did not do what was asked for, by one write.
+    pub fn say(&self, failure: Failure<'_>) -> Status
+        ensures { result ≡ failure_status failure.entry }
+    {
+        let mut err = Plain::new(Held::new(self.rt, self.rt.stderr()));
+        let status = tell(failure, &mut err);
+        self.hand_on(err);
+        status
+    }
+
+    /// Hands on what a command held back for standard error, and says it in words.
+    pub fn hand_on<X: Write + Drop>(&self, err: Plain<Held<X>>) {
+        self.hand_on_about(err, b"stdout");
+    }
+
+    /// The same of a command that is about the file of this path in an image.
+    pub fn hand_on_about<X: Write + Drop>(&self, err: Plain<Held<X>>, path: &[u8]) {
+        let mut held = err.into_inner();
+        let ending = match held.held() {
+            [b'e', b'r', b'r', b' ', name @ .., b'\n'] if self.is_explained => call_sentence(name),
+            [line @ .., b'\n'] if self.is_explained => ending_sentence(line),
+            _ => None,
+        };
+        let place = match held.held() {
+            b"memory\n" => b"memory".as_slice(),
+            b"read fault\n" | b"too many reads\n" => b"stdin",
+            b"write fault\n" => b"stdout",
+            _ => path,
+        };
+        let _ = held.flush();
+        if let Some(sentence) = ending {
+            self.explain(place, &sentence);
+        }
+    }
+
+    /// Says that a file could not be read, listed or written, and why.
+    pub fn failed<W: Display>(&self, name: &[u8], why: &W) -> Status
+        ensures { result ≡ Status.Failed }
+    {
+        let status = self.say(Failure::File(name));
+        self.explain(name, why);
+        status
+    }
+
+    /// Says that a file changed while it was read, and how that was seen.
+    pub fn changed<W: Display>(&self, name: &[u8], why: &W) -> Status
+        ensures { result ≡ Status.Failed }
+    {
+        let status = self.say(Failure::Changed);
+        self.explain(name, why);
+        status
+    }
+
+    /// Says why the system refused what was asked of a file: memory, or the file.
+    pub fn refused(&self, name: &[u8], e: &io::Error) -> Status
+        ensures { result ≡ Status.Failed }
+    {
+        if e.kind() == io::ErrorKind::OutOfMemory {
+            return self.say(Failure::Memory);
+        }
+        self.failed_by(name, e)
+    }
+
+    /// Says that a file could not be written, and the system's reason.
+    pub fn failed_by(&self, name: &[u8], e: &io::Error) -> Status
+        ensures { result ≡ Status.Failed }
+    {
+        let status = self.say(Failure::File(name));
+        if self.is_explained
+            && let Ok(words) = self.words_of(e)
+        {
+            self.explain(name, &words);
+        }
+        status
+    }
+
+    /// The same of a source, whose line of the manifest is told, too.
+    pub fn refused_source(&self, origin: Origin<'_>, number: usize, e: &io::Error) -> Status
+        ensures { result ≡ Status.Failed }
+    {
+        let name = origin.source(number);
+        if e.kind() == io::ErrorKind::OutOfMemory {
+            return self.say(Failure::Memory);
+        }
+        let status = self.say(Failure::File(name));
+        self.explain_error(origin, number, e);
+        status
+    }
+
+    /// Says in words why the system refused a source.
+    pub fn explain_error(&self, origin: Origin<'_>, number: usize, e: &io::Error) {
+        if self.is_explained
+            && let Ok(words) = self.words_of(e)
+        {
+            self.explain_source(origin, number, &words);
+        }
+    }
+
+    /// Says in words what is so of a source, and where the manifest names it.
+    pub fn explain_source<W: Display>(&self, origin: Origin<'_>, number: usize, what: &W) {
+        if self.is_explained {
+            let _ = self.try_explain_source(origin, number, what);
+        }
+    }
+
+    fn try_explain_source<W: Display>(
+        &self,
+        origin: Origin<'_>,
+        number: usize,
+        what: &W,
+    ) -> Result<(), AllocError> {
+        let alloc = self.rt.alloc();
+        let manifest = escaped(alloc, origin.name.as_bytes())?;
+        let line = origin.line(number);
+        let what = format!(in alloc; "{what} ({manifest}:{line})")?;
+        self.try_explain(origin.source(number), &what)
+    }
+
+    /// The system's words for a refusal, without its number.
+    fn words_of(&self, e: &io::Error) -> Result<String, AllocError> {
+        let alloc = self.rt.alloc();
+        let words = format!(in alloc; "{e}")?;
+        match words.as_str().split_once(" (os error ") {
+            Some((front, _)) => String::from_str(alloc, front),
+            None => Ok(words),
+        }
+    }
+
+    /// Says in words which fault the image in a file has, where it has one. Where words are wanted, it
+    /// gives whether the image has none.
+    pub fn explain_image(&self, name: &[u8], bytes: &[u8]) -> bool {
+        self.is_explained && matches!(self.try_explain_image(name, bytes), Ok(false))
+    }
+
+    /// Says it where there is one, and whether there is one.
+    fn try_explain_image(&self, name: &[u8], bytes: &[u8]) -> Result<bool, AllocError> {
+        let alloc = self.rt.alloc();
+        let Err(CheckError::Fault { number, at }) = check(alloc, bytes, Limits::usual()) else {
+            return Ok(false);
+        };
+        let (short, sentence) = (rom_faults::name(number), fault_sentence(number));
+        let seen = image::seen(alloc, bytes, number, at)?;
+        let colon = if seen.is_empty() { "" } else { ": " };
+        let what = format!(in alloc; "{short} ({number}) at {at}: {sentence}{colon}{seen}")?;
+        self.try_explain(name, &what)?;
+        Ok(true)
+    }
+
+    /// Says in words which fault the first of some images has that has one.
+    pub fn explain_images(&self, names: &[&str], files: &[Vec<u8>]) {
+        if !self.is_explained {
+            return;
+        }
+        for (name, file) in names.iter().zip(files) {
+            if let Ok(true) = self.try_explain_image(name.as_bytes(), file) {
+                return;
+            }
+        }
+    }
+
+    /// Says that a word of the command line cannot be read.
+    pub fn refused_word(&self, wrong: NoWords) -> Status {
+        match wrong {
+            NoWords::OutOfMemory => self.say(Failure::Memory),
+            NoWords::NoText(number) => {
+                let status = self.say(Failure::Usage);
+                if self.is_explained
+                    && let Ok(place) = format!(in self.rt.alloc(); "word:{number}")
+                {
+                    self.explain(place.as_bytes(), &NO_WORD);
+                }
+                status
+            }
+        }
+    }
+
+    /// Says that the words ask for nothing, and why, by clap's own text where it refused them.
+    pub fn refused_words(&self, error: WordsError<'_>) -> Status {
+        if matches!(error, WordsError::OutOfMemory) {
+            return self.say(Failure::Memory);
+        }
+        let status = self.say(Failure::Usage);
+        if self.is_explained
+            && let Ok(text) = format!(in self.rt.alloc(); "{error}")
+        {
+            self.put(text.as_bytes());
+        }
+        status
+    }
+}
