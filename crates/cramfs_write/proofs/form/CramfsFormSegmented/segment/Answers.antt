@@ -3,7 +3,7 @@ use Rattle.image_stream.specs.Segments.{outline}
 use Rattle.layout_terms.specs.Items.{section, super}
 use Rattle.plan_types.specs.Views.{section_view}
 use Rattle.cramfs_write.proofs.Indexed.{segment_found, outline_by}
-use Rattle.cramfs_write.proofs.form.CramfsFormLayout.segment.Goals as goal
+use Rattle.cramfs_write.proofs.form.CramfsFormSegmented.segment.Goals as goal
 
 pub returns-in_default : goal.returns-in_default
 returns-in_default c =

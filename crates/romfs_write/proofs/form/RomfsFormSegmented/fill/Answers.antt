@@ -3,7 +3,7 @@ use Rattle.std.proofs.lemmas.List.{length-map}
 use Rattle.layout_terms.specs.Items.{section, super}
 use Rattle.romfs_write.specs.Form.{segment_of}
 use Rattle.romfs_write.proofs.Indexed.{segment_seen}
-use Rattle.romfs_write.proofs.form.RomfsFormLayout.fill.Goals as goal
+use Rattle.romfs_write.proofs.form.RomfsFormSegmented.fill.Goals as goal
 
 pub returns : goal.returns
 returns c = λ place bytes e.

@@ -2,7 +2,7 @@ use Rattle.std.proofs.Common.{◌≡◌, ◌++◌, List, ℕ, true, leb}
 use Rattle.std.proofs.lemmas.Bool.{OnTrue_from, leb-true, le-leb}
 use Rattle.image_stream.specs.WordSums.{IsSum}
 use Rattle.image_stream.proofs.Weights.{sum_behind, place_after}
-use Rattle.image_stream.proofs.word_sum.WordSumCheck.is_full.Goals as goal
+use Rattle.image_stream.proofs.word_sum.WordSumChecksum.is_full.Goals as goal
 
 pub returns-clause-full : goal.returns-clause-full
 returns-clause-full c =

@@ -2,7 +2,7 @@ use Rattle.std.proofs.Common.{drop, ap, subst, sym, ◌∙◌, ◌+◌, ◌≤�
 use Rattle.layout_terms.specs.Items.{section, super}
 use Rattle.plan_types.specs.Views.{section_view}
 use Rattle.cramfs_write.proofs.Indexed.{segment_found, segment_is_long}
-use Rattle.cramfs_write.proofs.form.CramfsFormLayout.fill.Goals as goal
+use Rattle.cramfs_write.proofs.form.CramfsFormSegmented.fill.Goals as goal
 
 pub fill_section-requires-clause-within : goal.fill_section-requires-clause-within
 fill_section-requires-clause-within c =
