@@ -38,7 +38,7 @@ pub fn put_superblock(volume: &[u8], size: u32, sum: u32, out: &mut [u8])
     ensures { out.new ≡ superblock_storing sum size volume.now }
 {
     clear(out);
-    put(out, 0, MAGIC.as_slice());
+    put(out, 0, &MAGIC);
     put_word(out, 8, size);
     put_word(out, 12, sum);
     put(out, 16, volume);
