@@ -3,8 +3,8 @@
 
 A small repository is made with edits of each kind, the gate is run on it, and each edit has to be told rightly: those
 that turn a meaning as refused, those that change nothing as not refused, beside others in one check too, and those
-that cannot be made as bad. Tests that are proved and tests that are not begin from what was proved of their crate, and
-are told rightly too. The last line is `N passed, M failed`.
+that cannot be made as bad. A contract that no call can meet fails its crate. Tests that are proved and tests that are
+not begin from what was proved of their crate, and are told rightly too. The last line is `N passed, M failed`.
 """
 
 import os

@@ -6,7 +6,7 @@
 //! as bytes is that of a tree. Proved: the rows are those of the manifest's tree, and each fits a
 //! format where no line misfits it (`specs/Fits.antt`).
 //!
-//! `specs/PathTargets.antt` says which line and contents each path leads to: a path that `hard` lines lead
+//! `specs/Files.antt` says which line and contents each path leads to: a path that `hard` lines lead
 //! on from leads to the line behind them. Of a `file` line the contents are those of its source, and
 //! of a path that `hard` and `same` lines lead on from, those of the `file` line behind them.
 #![tactic(auto)]
