@@ -204,11 +204,12 @@ def try_rounds(counts):
     """What may share a check, and what a report of one says, on texts alone."""
     files = {"src/lib.rt": "fn even(n: u32) -> bool {\n    odd(n)\n}\n\nfn odd(n: u32) -> bool {\n    third(n)\n}\n\n"
              "fn third(n: u32) -> bool {\n    even(n)\n}\n\nfn alone(n: u32) -> u32 {\n    n\n}\n\nfn above(n: u32) -> u32 {\n    top(n)\n}\n\n"
-             "fn top(n: u32) -> u32 {\n    alone(n)\n}\n"}  # fmt: skip
+             "fn top(n: u32) -> u32 {\n    alone(n)\n}\n\nstruct Kept;\n\nimpl Kept {\n    fn held(&self) -> u32 {\n        1\n    }\n}\n\n"
+             "fn named(held: u32) -> u32 {\n    held\n}\n\nfn asked(it: &Kept) -> u32 {\n    it.held()\n}\n"}  # fmt: skip
     calls = edit_rounds.Calls(files)
     for one, other, wanted in (
         ("even", "odd", False), ("even", "third", False), ("odd", "even", False), ("even", "alone", True),
-        ("top", "alone", False), ("above", "alone", True), ("alone", "alone", False),
+        ("top", "alone", False), ("above", "alone", False), ("alone", "alone", False), ("held", "named", True), ("asked", "held", False),
     ):  # fmt: skip
         expect(counts, f"{one} beside {other}", calls.go_together(one, other), wanted)
     function = edit_rounds.Function("put", "bytes::sink", False, 3, 5)
@@ -229,6 +230,9 @@ def try_rounds(counts):
         ("fn a::bytes::sink::put: proved\nfn a::other: no proof: it calls `a::bytes::sink::put`, which is not proved", 0),
     ):  # fmt: skip
         expect(counts, f"what is refused by: {report}", len(edit_rounds.refusals(report, [edit])), wanted)
+    other = edit_rounds.Edit("other.edit", "", (edit_rounds.Function("other", "", False, 7, 9),))
+    report = "fn a::bytes::sink::put: no proof of a kind that is new\nfn a::other: not proved"
+    expect(counts, "what is refused beside a kind that is new", [*edit_rounds.refusals(report, [edit, other])], [other])
 
 
 OTHER_KIT = """#!/usr/bin/env python3

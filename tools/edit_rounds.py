@@ -12,6 +12,8 @@ import os
 import re
 
 HEAD = re.compile(r'^(\s*)(?:pub(?:\([^)]*\))? )?(const )?(?:unsafe )?(?:extern "C" )?fn (\w+)')
+# a call in a body: what stands before the name, where that is a point or a type, and the name
+CALL = re.compile(r"(\.|\b[A-Z]\w*::)?\b([a-z_]\w*)(?:::<[^()]*>)?\(")
 # what the check says of a function that is not proved
 UNPROVED = re.compile(r"^fn (.+?): (not proved|no proof)(.*)$", re.M)
 # and of one that is
@@ -148,29 +150,50 @@ def sources_of(folder):
     return texts
 
 
+def calls_of_bodies(sources):
+    """The names that each function's body calls, by the function's name, over all files of a crate: those of methods where
+    a point or a type stands before the name, and else those of other functions."""
+    called, methods = {}, set()
+    for file, text in sources.items():
+        lines = text.split("\n")
+        for it in functions_of(text, module_of(file)):
+            if lines[it.first].startswith(" "):
+                methods.add(it.name)
+            body = "\n".join(lines[it.first + 1 : it.last])
+            called.setdefault(it.name, set()).update(CALL.findall(body))
+    is_one = lambda before, name: name in called and bool(before) == (name in methods)
+    return {name: {it for before, it in found if is_one(before, it)} - {name} for name, found in called.items()}
+
+
+def reached(name, called):
+    """The names of the functions that one of that name comes to, where each calls these."""
+    found, left = set(), [name]
+    while left:
+        for it in called.get(left.pop(), ()):
+            if it not in found:
+                found.add(it)
+                left.append(it)
+    return found
+
+
 class Calls:
-    """Which functions of a crate may call which, told by names alone, so that it tells too many and never too few."""
+    """Which functions of a crate may call which, told by names: by all words of a body, which are too many and never too
+    few, and by what is written as a call."""
 
     def __init__(self, sources):
         words = words_of_bodies(sources)
-        self.called = {name: body & words.keys() - {name} for name, body in words.items()}
-
-    def reached(self, name):
-        """The names of the functions that one of that name may come to."""
-        found, left = set(), [name]
-        while left:
-            for it in self.called.get(left.pop(), ()):
-                if it not in found:
-                    found.add(it)
-                    left.append(it)
-        return found
+        named = {name: body & words.keys() - {name} for name, body in words.items()}
+        called = calls_of_bodies(sources)
+        self.named = {name: reached(name, named) for name in named}
+        self.called = {name: reached(name, called) for name in called}
 
     def go_together(self, one, other):
-        """Whether functions of these names can share a round: they differ, neither names the other, and they are on no ring
-        of calls, of which the check refuses all or none."""
+        """Whether functions of these names can share a round: they differ, neither calls the other, itself or through
+        others, since a caller of what is refused is not looked at, and they are on no ring of calls, of which the check
+        refuses all or none."""
         if one == other or other in self.called.get(one, ()) or one in self.called.get(other, ()):
             return False
-        return not (other in self.reached(one) and one in self.reached(other))
+        return not (other in self.named.get(one, ()) and one in self.named.get(other, ()))
 
 
 def next_round(edits, calls):
@@ -205,28 +228,22 @@ def is_unproved(last):
     return bool(said) and int(said[2]) < int(said[1])
 
 
-def refused_for_themselves(report):
-    """The check's names of the functions that it refuses for themselves; nothing where one is not proved in a way that is not known here."""
-    found = []
-    for told, verdict, rest in UNPROVED.findall(report):
-        if OF_CALLEE.search(rest):
-            continue
-        if not any(verdict == of and (rest == start or start and rest.startswith(start)) for of, start in FOR_ITSELF):
-            return []
-        found.append(told)
-    return found
+def is_for_itself(verdict, rest):
+    """Whether a verdict, with the rest of its line, refuses a function for itself."""
+    return any(verdict == of and (rest == start or start and rest.startswith(start)) for of, start in FOR_ITSELF)
 
 
 def refusals(report, group):
     """What a round's report says: for each edit that it speaks of, the name of a function of its own that is refused for
-    itself. Where a function is refused that no edit of the round changes, the round says nothing."""
-    own = refused_for_themselves(report)
+    itself. Where a function is refused that no edit of the round changes, the round says nothing; and nothing of an edit
+    whose function is not proved in a way that is not known here."""
+    told = [(it, is_for_itself(verdict, rest)) for it, verdict, rest in UNPROVED.findall(report) if not OF_CALLEE.search(rest)]
     functions = [function for edit in group for function in edit.functions]
-    if not all(any(function.is_told_by(it) for function in functions) for it in own):
+    if not all(any(function.is_told_by(it) for function in functions) for it, _ in told):
         return {}
     found = {}
     for edit in group:
-        told = [it for it in own if any(function.is_told_by(it) for function in edit.functions)]
-        if told:
-            found[edit] = told[0]
+        own = [(it, is_own) for it, is_own in told if any(function.is_told_by(it) for function in edit.functions)]
+        if own and all(is_own for _, is_own in own):
+            found[edit] = own[0][0]
     return found

@@ -6,5 +6,3 @@ pub mod inventory;
 pub mod laws;
 pub mod nearest;
 pub mod scanning;
-#[cfg(test)]
-mod tests;

@@ -1,16 +1,14 @@
 //! The bytes of a cramfs image, in both byte orders.
-ghost use Rattle.std.specs.Prelude.{◌≡◌, length, IfOk};
+ghost use Rattle.std.specs.Prelude.{◌≡◌};
 ghost use Rattle.cramfs_format.specs.declared.order.Order.{Order};
 ghost use Rattle.manifest_layout.specs.Format.{cramfs};
-ghost use Rattle.plan_types.specs.Formats.{format_of};
 
+use crate::made::{contents_of, has_front, planned};
 use cramfs_write::{stream, write};
-use layout_plan::{Slices, plan};
-use manifest::parse;
+use layout_plan::Slices;
 use plan_types::{Format, Plan};
 use rom_fields::bytes::Plain;
 use rom_fields::contents::Contents;
-use std::alloc::{AllocError, Global};
 use std::test::Fail;
 
 /// A volume with a file of five bytes.
@@ -43,19 +41,6 @@ const BIG: [&[u8]; 9] = [
     b"hello",
 ];
 
-fn planned(alloc: Global, format: Format) -> Result<Plan, Fail>
-    ensures { IfOk result (λ p. p.format ≡ format_of format) }
-{
-    let manifest = parse(alloc, TEXT)?;
-    if manifest.sources().len() != 1 {
-        return Err(AllocError.into());
-    }
-    match plan(alloc, &manifest, &[5], format) {
-        Ok(plan) => Ok(plan),
-        Err(_) => Err(AllocError.into()),
-    }
-}
-
 /// The image as it is written into a buffer, whatever that held.
 fn written(plan: &Plan, contents: &Contents<'_>, out: &mut [u8]) -> bool
     requires { (o : Order) × (plan.now.format ≡ cramfs o) }
@@ -72,32 +57,28 @@ fn streamed(plan: &Plan, contents: &Contents<'_>, w: &mut Plain<Vec<u8>>) -> boo
     contents.len() == plan.sizes().len() && stream(plan, &mut Slices::new(contents), w).is_ok()
 }
 
-/// Whether an image has this front, and zeros behind it.
-fn has_front(image: &[u8], front: &[&[u8]]) -> bool {
-    let mut rest = image;
-    for piece in front {
-        if rest.get(..piece.len()) != Some(*piece) {
-            return false;
-        }
-        rest = rest.get(piece.len()..).unwrap_or(&[]);
+#[test]
+fn in_both_orders(rt: HostRuntime) -> Result<(), Fail> {
+    let contents = contents_of(rt.alloc(), &[b"hello"])?;
+    for (format, front) in [
+        (Format::Cramfs, LITTLE.as_slice()),
+        (Format::CramfsBig, &BIG),
+    ] {
+        let plan = planned(rt.alloc(), TEXT, &[5], format)?;
+        let mut space: [u8; 4096] = [7; 4096];
+        assert!(rt; written(&plan, &contents, space.as_mut_slice()));
+        assert!(rt; has_front(space.as_slice(), front, 4096 - 101));
     }
-    rest.len() == 4096 - 101 && rest.iter().all(|byte| *byte == 0)
+    Ok(())
 }
 
 #[test]
-fn in_both_orders(rt: HostRuntime) -> Result<(), Fail> {
-    let mut contents = Contents::new(rt.alloc());
-    contents.add(b"hello")?;
-    let little = planned(rt.alloc(), Format::Cramfs)?;
-    let mut space: [u8; 4096] = [7; 4096];
-    assert!(rt; written(&little, &contents, space.as_mut_slice()));
-    assert!(rt; has_front(space.as_slice(), LITTLE.as_slice()));
-    let big = planned(rt.alloc(), Format::CramfsBig)?;
-    assert!(rt; written(&big, &contents, space.as_mut_slice()));
-    assert!(rt; has_front(space.as_slice(), BIG.as_slice()));
+fn streamed_as_it_is_written(rt: HostRuntime) -> Result<(), Fail> {
+    let contents = contents_of(rt.alloc(), &[b"hello"])?;
+    let plan = planned(rt.alloc(), TEXT, &[5], Format::CramfsBig)?;
     let mut w = Plain::new(Vec::new(rt.alloc()));
-    assert!(rt; streamed(&big, &contents, &mut w));
+    assert!(rt; streamed(&plan, &contents, &mut w));
     let held: Vec<u8> = w.into_inner();
-    assert!(rt; has_front(held.as_slice(), BIG.as_slice()));
+    assert!(rt; has_front(held.as_slice(), &BIG, 4096 - 101));
     Ok(())
 }

@@ -1,13 +1,30 @@
-//! Tests of building that go through several crates: images of manifests with all kinds of lines, in
-//! each format, built in memory, written into a buffer and streamed, with readers and writers that
-//! fail; and the bytes of one image in each. Nothing stands on this crate.
+//! Tests of building that go through several crates: the lines, rows and plans of manifests, the
+//! bytes of one image in each format, images that are built in memory, written into a buffer and
+//! streamed, with readers and writers that fail, and manifests that are written. Nothing stands on
+//! this crate.
 #![tactic(auto)]
 
 #[cfg(test)]
+mod commands;
+#[cfg(test)]
 mod cramfs_written;
+#[cfg(test)]
+mod images;
+#[cfg(test)]
+mod layouts;
+#[cfg(test)]
+mod lines;
+#[cfg(test)]
+mod made;
 #[cfg(test)]
 mod romfs_written;
 #[cfg(test)]
+mod rows;
+#[cfg(test)]
 mod spoiled;
 #[cfg(test)]
-mod tests;
+mod streams;
+#[cfg(test)]
+mod texts;
+#[cfg(test)]
+mod told;

@@ -1,14 +1,13 @@
 //! The bytes of a romfs image.
-ghost use Rattle.std.specs.Prelude.{◌≡◌, IfOk};
+ghost use Rattle.std.specs.Prelude.{◌≡◌};
 ghost use Rattle.manifest_layout.specs.Format.{romfs};
 
-use layout_plan::{Slices, plan};
-use manifest::parse;
+use crate::made::{contents_of, has_front, planned};
+use layout_plan::Slices;
 use plan_types::{Format, Plan};
 use rom_fields::bytes::Plain;
 use rom_fields::contents::Contents;
 use romfs_write::{SizeDiffers, stream, write};
-use std::alloc::{AllocError, Global};
 use std::test::Fail;
 
 /// A volume with a file of five bytes and a link.
@@ -16,7 +15,7 @@ const TEXT: &[u8] = b"volume vol\nfile /a 0644 0 0 4 s\nslink /l 0777 0 0 a";
 
 /// The front of its image, as Python's struct packs it by romfs.rst: the superblock, the root, its
 /// `..`, the file with its bytes at 128, and the link at 144.
-const FRONT: [&[u8; 16]; 12] = [
+const FRONT: [&[u8]; 12] = [
     b"-rom1fs-\x00\x00\x00\xc0\xf2RD:",
     b"vol\x00\x00\x00\x00\x00\x00\x00\x00\x00\x00\x00\x00\x00",
     b"\x00\x00\x00I\x00\x00\x00 \x00\x00\x00\x00\xd1\xff\xff\x97",
@@ -30,31 +29,6 @@ const FRONT: [&[u8; 16]; 12] = [
     b"l\x00\x00\x00\x00\x00\x00\x00\x00\x00\x00\x00\x00\x00\x00\x00",
     b"a\x00\x00\x00\x00\x00\x00\x00\x00\x00\x00\x00\x00\x00\x00\x00",
 ];
-
-fn planned(alloc: Global) -> Result<Plan, Fail>
-    ensures { IfOk result (λ p. p.format ≡ romfs) }
-{
-    let manifest = parse(alloc, TEXT)?;
-    if manifest.sources().len() != 1 {
-        return Err(AllocError.into());
-    }
-    match plan(alloc, &manifest, &[5], Format::Romfs) {
-        Ok(plan) => Ok(plan),
-        Err(_) => Err(AllocError.into()),
-    }
-}
-
-/// Whether an image of 1,024 bytes has this front, and zeros behind it.
-fn has_front(image: &[u8]) -> bool {
-    let mut rest = image;
-    for piece in FRONT {
-        if rest.get(..16) != Some(piece.as_slice()) {
-            return false;
-        }
-        rest = rest.get(16..).unwrap_or(&[]);
-    }
-    rest.len() == 1024 - 192 && rest.iter().all(|byte| *byte == 0)
-}
 
 /// Whether contents of another size are refused by the number of their file, and the buffer is as it
 /// was.
@@ -76,21 +50,25 @@ fn is_written(plan: &Plan, contents: &Contents<'_>, w: &mut Plain<Vec<u8>>) -> b
     contents.len() == plan.sizes().len()
         && plan.image_len() == 1024
         && write(plan, contents, space.as_mut_slice()).is_ok()
-        && has_front(space.as_slice())
+        && has_front(space.as_slice(), &FRONT, 1024 - 192)
         && stream(plan, &mut Slices::new(contents), w).is_ok()
 }
 
 #[test]
 fn an_image(rt: HostRuntime) -> Result<(), Fail> {
-    let mut contents = Contents::new(rt.alloc());
-    contents.add(b"hello")?;
-    let plan = planned(rt.alloc())?;
+    let contents = contents_of(rt.alloc(), &[b"hello"])?;
+    let plan = planned(rt.alloc(), TEXT, &[5], Format::Romfs)?;
     let mut w = Plain::new(Vec::new(rt.alloc()));
     assert!(rt; is_written(&plan, &contents, &mut w));
     let held: Vec<u8> = w.into_inner();
-    assert!(rt; has_front(held.as_slice()));
-    let mut others = Contents::new(rt.alloc());
-    others.add(b"hell")?;
-    assert!(rt; is_refused(&plan, &others));
+    assert!(rt; has_front(held.as_slice(), &FRONT, 1024 - 192));
+    Ok(())
+}
+
+#[test]
+fn contents_of_another_size(rt: HostRuntime) -> Result<(), Fail> {
+    let contents = contents_of(rt.alloc(), &[b"hell"])?;
+    let plan = planned(rt.alloc(), TEXT, &[5], Format::Romfs)?;
+    assert!(rt; is_refused(&plan, &contents));
     Ok(())
 }

@@ -20,8 +20,6 @@ mod overlap;
 mod phases;
 mod soundness;
 mod superblock;
-#[cfg(test)]
-mod tests;
 
 pub use crc::{crc32, crc32_more};
 pub use image::Cramfs;

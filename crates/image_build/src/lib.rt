@@ -9,8 +9,6 @@ mod build;
 pub mod error;
 pub mod laws;
 mod streaming;
-#[cfg(test)]
-mod tests;
 
 pub use build::{build_cramfs, build_cramfs_big, build_romfs};
 pub use error::BuildError;

@@ -9,8 +9,6 @@
 pub mod any;
 pub mod checking;
 pub mod laws;
-#[cfg(test)]
-mod tests;
 
 pub use any::AnyImage;
 pub use checking::check;

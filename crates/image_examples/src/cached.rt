@@ -56,28 +56,26 @@ fn the_same_with_and_without(rt: HostRuntime) -> Result<(), Fail> {
     Ok(())
 }
 
-/// Where five paths lead in a list of 42 names, through its index: a name behind the first 17, one
-/// among them, two that are absent, and one that leads over 40 links.
-fn walked_in_a_long_list(alloc: Global) -> Option<[Led; 5]> {
+/// Where a path leads in a list of 42 names, through its index.
+fn walked_in_a_long_list(alloc: Global, path: &[u8], follow_last: bool) -> Option<Led> {
     let image = check(alloc, LINK_CHAIN, Limits::usual()).ok()?;
     let mut image = Indexed::new(alloc, image);
-    let last = walk(&mut image, b"/l41", false);
-    let first = walk(&mut image, b"/l00", false);
-    let absent = walk(&mut image, b"/l4", false);
-    let behind = walk(&mut image, b"/l411", false);
-    Some([last, first, absent, behind, walk(&mut image, b"/l40", true)])
+    Some(walk(&mut image, path, follow_last))
 }
 
+/// A name behind the first 17, one among them, two that are absent, and one that leads over 40
+/// links.
 #[test]
 fn names_of_a_long_list(rt: HostRuntime) -> Result<(), Fail> {
-    let want = [
-        Ok(NodeId(732)),
-        Ok(NodeId(76)),
-        Err(WalkError::Enoent),
-        Err(WalkError::Enoent),
-        Ok(NodeId(76)),
-    ];
-    assert!(rt; walked_in_a_long_list(rt.alloc()) == Some(want));
+    for (path, follow_last, want) in [
+        (b"/l41".as_slice(), false, Ok(NodeId(732))),
+        (b"/l00", false, Ok(NodeId(76))),
+        (b"/l4", false, Err(WalkError::Enoent)),
+        (b"/l411", false, Err(WalkError::Enoent)),
+        (b"/l40", true, Ok(NodeId(76))),
+    ] {
+        assert!(rt; walked_in_a_long_list(rt.alloc(), path, follow_last) == Some(want));
+    }
     Ok(())
 }
 
@@ -91,61 +89,86 @@ const LINES: &[u8] = b"\
     stat /n\nclose 0\nlookup /b/x\nlookup /a/x\nlookup /b\nlookup /a\nfly\nread 9 9\nlookup /\n\
     lstat /l00\nlstat /l17\nlstat /l41\nlookup /l40\nlookup /l4\nlookup /l411\nlstat /l18\n";
 
-/// What the lines are answered from an image, through a cache of so many names, or through none.
-fn replies(alloc: Global, bytes: &[u8], names: usize) -> Option<Vec<u8>>
-    requires { names ≤ 65536 }
+/// What the lines are answered from an image.
+fn served<'a, T: TreeImage<'a>>(alloc: Global, image: T) -> Option<Vec<u8>>
+    requires { levels (T.image image).tree ≤ 65 }
 {
-    let image = check(alloc, bytes, Limits::usual()).ok()?;
     let mut r = Plain::new(LINES);
     let mut w = Plain::new(Vec::new(alloc));
-    if names == 0 {
-        serve(image, &mut r, &mut w).ok()?;
-    } else {
-        let cached = Cached::new(alloc, image, names).ok()?;
-        serve(cached, &mut r, &mut w).ok()?;
-    }
+    serve(image, &mut r, &mut w).ok()?;
     Some(w.into_inner())
 }
 
-/// What the lines are answered through indices, behind a cache of so many names, or behind none.
-fn indexed_replies(alloc: Global, bytes: &[u8], names: usize) -> Option<Vec<u8>>
-    requires { names ≤ 65536 }
+/// What they are answered from the image of these bytes.
+fn replies(alloc: Global, bytes: &[u8]) -> Option<Vec<u8>> {
+    served(alloc, check(alloc, bytes, Limits::usual()).ok()?)
+}
+
+/// The same through a cache of so many names.
+fn cached_replies(alloc: Global, bytes: &[u8], names: usize) -> Option<Vec<u8>>
+    requires some { 1 ≤ names }
+    requires few { names ≤ 65536 }
+{
+    let image = check(alloc, bytes, Limits::usual()).ok()?;
+    served(alloc, Cached::new(alloc, image, names).ok()?)
+}
+
+/// The same through indices.
+fn indexed_replies(alloc: Global, bytes: &[u8]) -> Option<Vec<u8>> {
+    let image = check(alloc, bytes, Limits::usual()).ok()?;
+    served(alloc, Indexed::new(alloc, image))
+}
+
+/// The same through indices behind a cache of so many names.
+fn cached_and_indexed_replies(alloc: Global, bytes: &[u8], names: usize) -> Option<Vec<u8>>
+    requires some { 1 ≤ names }
+    requires few { names ≤ 65536 }
 {
     let image = check(alloc, bytes, Limits::usual()).ok()?;
     let image = Indexed::new(alloc, image);
-    let mut r = Plain::new(LINES);
-    let mut w = Plain::new(Vec::new(alloc));
-    if names == 0 {
-        serve(image, &mut r, &mut w).ok()?;
-    } else {
-        let cached = Cached::new(alloc, image, names).ok()?;
-        serve(cached, &mut r, &mut w).ok()?;
-    }
-    Some(w.into_inner())
+    served(alloc, Cached::new(alloc, image, names).ok()?)
+}
+
+/// Images that are read in each way.
+const IMAGES: [&[u8]; 6] = [
+    HELLO,
+    LINK_AND_DEVICE,
+    LINK_CHAIN,
+    LINKS_AND_DOTS,
+    SAME_NAMES,
+    EMPTY_CRAMFS,
+];
+
+#[test]
+fn the_first_replies(rt: HostRuntime) -> Result<(), Fail> {
+    let plain = replies(rt.alloc(), SAME_NAMES).ok_or("is served")?;
+    let first = b"ok 108\nok 124\nok 108\nerr ENOENT\nerr ENOENT\nok 76 d 0755 0 0 0 0 0\n";
+    assert!(rt; plain.starts_with(first.as_slice()));
+    Ok(())
 }
 
 #[test]
-fn the_same_replies(rt: HostRuntime) -> Result<(), Fail> {
-    let first = b"ok 108\nok 124\nok 108\nerr ENOENT\nerr ENOENT\nok 76 d 0755 0 0 0 0 0\n";
-    for image in [
-        HELLO.as_slice(),
-        LINK_AND_DEVICE,
-        LINK_CHAIN,
-        LINKS_AND_DOTS,
-        SAME_NAMES,
-        EMPTY_CRAMFS,
-    ] {
-        let plain = replies(rt.alloc(), image, 0);
-        assert!(rt; plain.is_some());
+fn the_same_through_a_cache(rt: HostRuntime) -> Result<(), Fail> {
+    for image in IMAGES {
+        let plain = replies(rt.alloc(), image).ok_or("is served")?;
         for names in [1, 2, 3, 256] {
-            assert!(rt; replies(rt.alloc(), image, names) == plain);
-        }
-        for names in [0, 1, 256] {
-            let sorted = indexed_replies(rt.alloc(), image, names);
-            assert!(rt; sorted == plain);
+            let cached = cached_replies(rt.alloc(), image, names).ok_or("is served")?;
+            assert!(rt; cached.as_slice() == plain.as_slice());
         }
     }
-    let plain = replies(rt.alloc(), SAME_NAMES, 0);
-    assert!(rt; plain.is_some_and(|text| text.starts_with(first.as_slice())));
+    Ok(())
+}
+
+#[test]
+fn the_same_through_indices(rt: HostRuntime) -> Result<(), Fail> {
+    for image in IMAGES {
+        let plain = replies(rt.alloc(), image).ok_or("is served")?;
+        let indexed = indexed_replies(rt.alloc(), image).ok_or("is served")?;
+        assert!(rt; indexed.as_slice() == plain.as_slice());
+        for names in [1, 256] {
+            let cached = cached_and_indexed_replies(rt.alloc(), image, names).ok_or("is served")?;
+            assert!(rt; cached.as_slice() == plain.as_slice());
+        }
+    }
     Ok(())
 }

@@ -4,6 +4,7 @@ use cramfs_format::order::Order;
 use image_check::{AnyImage, check};
 use path_walk::{WalkError, walk};
 use rom_tree::CheckError;
+use rom_tree::image::TreeImage;
 use rom_tree::types::{Limits, NodeId, Report};
 use std::alloc::Global;
 use std::test::Fail;
@@ -53,5 +54,36 @@ fn a_report_after_look_ups(rt: HostRuntime) -> Result<(), Fail> {
         depth: 0,
     };
     assert!(rt; cramfs.report() == told);
+    Ok(())
+}
+
+#[test]
+fn bytes_of_neither_format(rt: HostRuntime) -> Result<(), Fail> {
+    let short = Err(CheckError::Fault { number: 2, at: 0 });
+    let magic = Err(CheckError::Fault { number: 3, at: 0 });
+    for (bytes, want) in [
+        (b"".as_slice(), short),
+        (b"-rom1fs", short),
+        (b"-rom1fs+", magic),
+        (b"-rom1fs-", short),
+        (&[0x45, 0x3d, 0xcd, 0x28], short),
+        (&[0x28, 0xcd, 0x3d, 0x45, 0, 0, 0, 0], short),
+        (&[0x28, 0xcd, 0x3d, 0x46, 0, 0, 0, 0], magic),
+    ] {
+        assert!(rt; is_big(rt.alloc(), bytes) == want);
+    }
+    Ok(())
+}
+
+#[test]
+fn nodes_of_both_formats(rt: HostRuntime) -> Result<(), Fail> {
+    for (bytes, root) in [(HELLO.as_slice(), 32), (EMPTY_CRAMFS, 64)] {
+        let image = check(rt.alloc(), bytes, Limits::usual())?;
+        assert!(rt; image.root() == NodeId(root));
+        assert!(rt; image.bytes() == bytes);
+        for (at, is_node) in [(root, true), (48, false)] {
+            assert!(rt; image.is_node(NodeId(at)) == is_node);
+        }
+    }
     Ok(())
 }

@@ -1,22 +1,38 @@
-//! Small images, byte by byte, and what the crates that check them, walk in them and open their
-//! files answer.
+//! Small images, byte by byte, and what the crates that check them, tell of them, walk in them, open
+//! their files and print them answer.
 //!
 //! The bytes are those that the documents of the formats give (Linux
 //! Documentation/filesystems/romfs.rst and cramfs.rst), laid out by hand. The tests stand here and
 //! not in the crates below, since they go through several of them, and since a crate with tests is
-//! proved a second time for them. The modules `sample_..` test `path_walk`, `lookup_cache`,
-//! `open_files` and `rom_serve` over the image in memory of `sample_image`.
+//! proved a second time for them. The modules `sample_..` are over the image in memory of
+//! `sample_image`.
 #![tactic(auto)]
 
 #[cfg(test)]
 mod cached;
 #[cfg(test)]
 mod checked;
+#[cfg(test)]
+mod cramfs_checked;
+#[cfg(test)]
+mod facts;
+#[cfg(test)]
+mod faults;
+#[cfg(test)]
+mod fields;
+#[cfg(test)]
+mod forest;
 mod images;
 #[cfg(test)]
 mod mounted;
 #[cfg(test)]
 mod opened;
+#[cfg(test)]
+mod printed;
+#[cfg(test)]
+mod reach;
+#[cfg(test)]
+mod romfs_checked;
 #[cfg(test)]
 mod sample_files;
 #[cfg(test)]
@@ -25,6 +41,10 @@ mod sample_lines;
 mod sample_names;
 #[cfg(test)]
 mod sample_paths;
+#[cfg(test)]
+mod sample_tree;
+#[cfg(test)]
+mod sentences_told;
 #[cfg(test)]
 mod sessions;
 #[cfg(test)]

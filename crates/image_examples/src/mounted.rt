@@ -123,7 +123,13 @@ fn one_mount(rt: HostRuntime) -> Result<(), Fail> {
     ] {
         assert!(rt; walked(rt.alloc(), images, &[mount(1, 0, 96)], path, true)? == Some(want));
     }
-    // A cramfs image covers `/d` of a romfs image. 40 links are followed in it.
+    Ok(())
+}
+
+/// A cramfs image covers `/d` of a romfs image. 40 links are followed in it.
+#[test]
+fn mount_of_the_other_format(rt: HostRuntime) -> Result<(), Fail> {
+    let images = [LINK_AND_DEVICE.as_slice(), HELLO, LINK_CHAIN];
     for (path, want) in [
         (b"/d".as_slice(), Ok((2, 64))),
         (b"/d/l40", Ok((2, 76))),
@@ -132,9 +138,18 @@ fn one_mount(rt: HostRuntime) -> Result<(), Fail> {
     ] {
         assert!(rt; walked(rt.alloc(), images, &[mount(2, 0, 96)], path, true)? == Some(want));
     }
-    // Without mounts, image 0 alone.
-    assert!(rt; walked(rt.alloc(), images, &[], b"/d", true)? == Some(Ok((0, 96))));
-    assert!(rt; walked(rt.alloc(), images, &[], b"/d/a", true)? == Some(Err(WalkError::Enoent)));
+    Ok(())
+}
+
+#[test]
+fn no_mount(rt: HostRuntime) -> Result<(), Fail> {
+    let images = [LINK_AND_DEVICE.as_slice(), HELLO, LINK_CHAIN];
+    for (path, want) in [
+        (b"/d".as_slice(), Ok((0, 96))),
+        (b"/d/a", Err(WalkError::Enoent)),
+    ] {
+        assert!(rt; walked(rt.alloc(), images, &[], path, true)? == Some(want));
+    }
     Ok(())
 }
 
@@ -151,9 +166,15 @@ fn mount_in_a_mounted_image(rt: HostRuntime) -> Result<(), Fail> {
     ] {
         assert!(rt; walked(rt.alloc(), images, &mounts, path, true)? == Some(want));
     }
-    // A directory that is not met: the mount in it has no effect.
-    let unmet = [mount(2, 1, 96)];
-    assert!(rt; walked(rt.alloc(), images, &unmet, b"/d", true)? == Some(Ok((0, 96))));
+    Ok(())
+}
+
+/// A mount in a directory that is not met has no effect.
+#[test]
+fn mount_that_is_not_met(rt: HostRuntime) -> Result<(), Fail> {
+    let images = [LINK_AND_DEVICE.as_slice(), LINK_AND_DEVICE, HELLO];
+    let mounts = [mount(2, 1, 96)];
+    assert!(rt; walked(rt.alloc(), images, &mounts, b"/d", true)? == Some(Ok((0, 96))));
     Ok(())
 }
 

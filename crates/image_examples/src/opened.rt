@@ -1,6 +1,6 @@
 //! Open files of one image.
 use crate::images::{HELLO, LINK_AND_DEVICE};
-use image_check::check;
+use image_check::{AnyImage, check};
 use open_files::{CallError, Fd, Files};
 use rom_tree::types::{Cursor, Entry, Kind, Limits, NodeId, Piece, Stat};
 use std::alloc::Global;
@@ -25,8 +25,17 @@ fn listed<'a>(
     }
 }
 
+/// Open files of the image that holds the file `a`, with that open.
+fn with_a_open(alloc: Global) -> Result<Files<'static, AnyImage<'static>, 64>, Fail> {
+    let mut files = Files::new(check(alloc, HELLO, Limits::usual())?);
+    match files.open(b"/a") {
+        Ok(_) => Ok(files),
+        Err(_) => Err(Fail::new("is opened")),
+    }
+}
+
 #[test]
-fn a_file(rt: HostRuntime) -> Result<(), Fail> {
+fn a_file_by_its_path(rt: HostRuntime) -> Result<(), Fail> {
     let image = check(rt.alloc(), HELLO, Limits::usual())?;
     let mut files: Files<_, 64> = Files::new(image);
     let stat = Stat {
@@ -44,26 +53,51 @@ fn a_file(rt: HostRuntime) -> Result<(), Fail> {
     assert!(rt; files.open(b"/a") == Ok(Fd(0)));
     assert!(rt; files.fstat(Fd(0)) == Ok(stat));
     assert!(rt; files.fstat(Fd(7)) == Err(CallError::Ebadf));
-    for (off, len) in [
-        (4_294_967_295, 4_294_967_295),
-        (0, 0),
-        (0, 6),
-        (u64::MAX, 2),
+    Ok(())
+}
+
+#[test]
+fn pieces_of_a_file(rt: HostRuntime) -> Result<(), Fail> {
+    let files = with_a_open(rt.alloc())?;
+    for (off, len, want) in [
+        (4_294_967_295, 4_294_967_295, Err(CallError::Einval)),
+        (0, 0, Err(CallError::Einval)),
+        (0, 6, Err(CallError::Einval)),
+        (u64::MAX, 2, Err(CallError::Einval)),
+        (0, 5, Ok((128, b"hello".as_slice()))),
+        (1, 3, Ok((129, b"ell".as_slice()))),
     ] {
-        assert!(rt; lent(files.map(Fd(0), off, len)) == Err(CallError::Einval));
+        assert!(rt; lent(files.map(Fd(0), off, len)) == want);
     }
-    assert!(rt; lent(files.map(Fd(0), 0, 5)) == Ok((128, b"hello".as_slice())));
-    assert!(rt; lent(files.map(Fd(0), 1, 3)) == Ok((129, b"ell".as_slice())));
+    Ok(())
+}
+
+#[test]
+fn a_file_is_read_from_its_position(rt: HostRuntime) -> Result<(), Fail> {
+    let mut files = with_a_open(rt.alloc())?;
     assert!(rt; lent(files.lend(Fd(0), 2)) == Ok((128, b"he".as_slice())));
     let mut room = *b".........";
     assert!(rt; files.read(Fd(0), &mut room) == Ok(3));
     assert!(rt; room == *b"llo......");
     assert!(rt; lent(files.lend(Fd(0), 1)) == Ok((0, b"".as_slice())));
-    assert!(rt; files.seek(Fd(0), 4) == Ok(()));
-    assert!(rt; files.read(Fd(0), &mut room) == Ok(1));
-    assert!(rt; room == *b"olo......");
-    assert!(rt; files.seek(Fd(0), 9) == Ok(()));
-    assert!(rt; files.read(Fd(0), &mut room) == Ok(0));
+    Ok(())
+}
+
+#[test]
+fn a_position_is_set(rt: HostRuntime) -> Result<(), Fail> {
+    for (at, count, held) in [(4, 1, b"o........"), (9, 0, b".........")] {
+        let mut files = with_a_open(rt.alloc())?;
+        let mut room = *b".........";
+        assert!(rt; files.seek(Fd(0), at) == Ok(()));
+        assert!(rt; files.read(Fd(0), &mut room) == Ok(count));
+        assert!(rt; room == *held);
+    }
+    Ok(())
+}
+
+#[test]
+fn a_file_is_no_directory(rt: HostRuntime) -> Result<(), Fail> {
+    let mut files = with_a_open(rt.alloc())?;
     assert!(rt; listed(files.readdir(Fd(0))) == Err(CallError::Enotdir));
     assert!(rt; files.rewind(Fd(0)) == Err(CallError::Enotdir));
     assert!(rt; files.close(Fd(0)) == Ok(()));
@@ -71,29 +105,52 @@ fn a_file(rt: HostRuntime) -> Result<(), Fail> {
     Ok(())
 }
 
+/// Two open files at most of the image with a directory, and that or the root open.
+fn with_open(alloc: Global, path: &[u8]) -> Result<Files<'static, AnyImage<'static>, 2>, Fail> {
+    let mut files = Files::new(check(alloc, LINK_AND_DEVICE, Limits::usual())?);
+    match files.open(path) {
+        Ok(_) => Ok(files),
+        Err(_) => Err(Fail::new("is opened")),
+    }
+}
+
 #[test]
-fn a_directory(rt: HostRuntime) -> Result<(), Fail> {
-    let image = check(rt.alloc(), LINK_AND_DEVICE, Limits::usual())?;
-    let mut files: Files<_, 2> = Files::new(image);
-    assert!(rt; files.open(b"/") == Ok(Fd(0)));
-    assert!(rt; listed(files.readdir(Fd(0))) == Ok(Some((b"d".as_slice(), 96))));
+fn a_directory_is_listed(rt: HostRuntime) -> Result<(), Fail> {
+    let mut files = with_open(rt.alloc(), b"/")?;
+    let first = Ok(Some((b"d".as_slice(), 96)));
+    for want in [first, Ok(Some((b"n".as_slice(), 240))), Ok(None), Ok(None)] {
+        assert!(rt; listed(files.readdir(Fd(0))) == want);
+    }
     assert!(rt; files.rewind(Fd(0)) == Ok(()));
-    assert!(rt; listed(files.readdir(Fd(0))) == Ok(Some((b"d".as_slice(), 96))));
-    assert!(rt; listed(files.readdir(Fd(0))) == Ok(Some((b"n".as_slice(), 240))));
-    assert!(rt; listed(files.readdir(Fd(0))) == Ok(None));
-    assert!(rt; listed(files.readdir(Fd(0))) == Ok(None));
+    assert!(rt; listed(files.readdir(Fd(0))) == first);
+    Ok(())
+}
+
+#[test]
+fn a_directory_has_no_bytes(rt: HostRuntime) -> Result<(), Fail> {
+    let mut files = with_open(rt.alloc(), b"/")?;
     assert!(rt; files.read(Fd(0), &mut [0; 1]) == Err(CallError::Eisdir));
     assert!(rt; lent(files.map(Fd(0), 0, 0)) == Err(CallError::Eisdir));
     assert!(rt; lent(files.lend(Fd(0), 1)) == Err(CallError::Eisdir));
     assert!(rt; files.seek(Fd(0), 1) == Err(CallError::Eisdir));
+    Ok(())
+}
+
+#[test]
+fn links_and_what_is_not_opened(rt: HostRuntime) -> Result<(), Fail> {
+    let mut files = with_open(rt.alloc(), b"/")?;
     assert!(rt; lent(files.readlink(b"/d/l")) == Ok((224, b"/x".as_slice())));
     assert!(rt; lent(files.readlink(b"/n")) == Err(CallError::Einval));
     assert!(rt; files.lookup(b"/d/l") == Err(CallError::Enoent));
     assert!(rt; files.lstat(b"/d/l").is_ok());
-    assert!(rt; files.open(b"/n") == Err(CallError::Enxio));
-    assert!(rt; files.open(b"/d") == Ok(Fd(1)));
-    assert!(rt; files.open(b"/n") == Err(CallError::Enxio));
-    assert!(rt; files.open(b"/d") == Err(CallError::Emfile));
+    for (path, want) in [
+        (b"/n".as_slice(), Err(CallError::Enxio)),
+        (b"/d", Ok(Fd(1))),
+        (b"/n", Err(CallError::Enxio)),
+        (b"/d", Err(CallError::Emfile)),
+    ] {
+        assert!(rt; files.open(path) == want);
+    }
     Ok(())
 }
 

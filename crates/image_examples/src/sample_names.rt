@@ -3,7 +3,7 @@ ghost use Rattle.std.specs.Prelude.{◌≤◌, IfSome};
 
 use lookup_cache::Cached;
 use rom_fields::bytes::Plain;
-use rom_tree::image::{TreeImage, is_directory_at};
+use rom_tree::image::TreeImage;
 use rom_tree::list;
 use rom_tree::types::{Cursor, Kind, NodeId};
 use sample_image::sample::Sample;
@@ -18,6 +18,27 @@ fn in_root<'a>(image: &mut Cached<'a, Sample>, name: &[u8]) -> Option<NodeId> {
 /// A name in the sample's `bin`.
 fn in_bin<'a>(image: &mut Cached<'a, Sample>, name: &[u8]) -> Option<NodeId> {
     image.lookup(NodeId(2), name)
+}
+
+/// A name in the one or the other, and how many names are held then.
+fn found<'a>(image: &mut Cached<'a, Sample>, bin: bool, name: &[u8]) -> (Option<u32>, usize) {
+    let node = if bin {
+        in_bin(image, name)
+    } else {
+        in_root(image, name)
+    };
+    (node.map(|node| node.0), image.held())
+}
+
+/// A cache of so many names over the sample.
+fn cached(alloc: Global, names: usize) -> Result<Cached<'static, Sample>, Fail>
+    requires some { 1 ≤ names }
+    requires few { names ≤ 65536 }
+{
+    match Cached::new(alloc, Sample, names) {
+        Ok(image) => Ok(image),
+        Err(_) => Err(Fail::new("has memory")),
+    }
 }
 
 /// How many names are kept after three look-ups.
@@ -35,89 +56,95 @@ fn held_after_three(alloc: Global, names: usize) -> Option<usize>
 
 #[test]
 fn as_many_names_as_there_is_room_for(rt: HostRuntime) -> Result<(), Fail> {
-    assert!(rt; held_after_three(rt.alloc(), 1) == Some(1));
-    assert!(rt; held_after_three(rt.alloc(), 2) == Some(2));
-    assert!(rt; held_after_three(rt.alloc(), 3) == Some(3));
-    assert!(rt; held_after_three(rt.alloc(), 256) == Some(3));
-    assert!(rt; held_after_three(rt.alloc(), 65_536) == Some(3));
+    for (names, held) in [(1, 1), (2, 2), (3, 3), (256, 3), (65_536, 3)] {
+        assert!(rt; held_after_three(rt.alloc(), names) == Some(held));
+    }
     Ok(())
 }
 
 #[test]
 fn names_that_are_found(rt: HostRuntime) -> Result<(), Fail> {
-    for (names, held) in [(1, 1), (2, 2), (4, 4), (256, 6)] {
-        let mut image = Cached::new(rt.alloc(), Sample, names)
-            .ok()
-            .ok_or("has memory")?;
-        assert!(rt; image.held() == 0);
-        for _ in 0..3 {
-            assert!(rt; in_root(&mut image, b"bin") == Some(NodeId(2)));
-            assert!(rt; in_bin(&mut image, b"bin") == None);
-            assert!(rt; in_bin(&mut image, b"sh") == Some(NodeId(3)));
-            assert!(rt; in_root(&mut image, b"sh") == None);
-            assert!(rt; in_root(&mut image, b"\xc3\xa9\x7f") == Some(NodeId(3)));
-            assert!(rt; in_root(&mut image, b"disk") == Some(NodeId(7)));
+    for names in [1, 2, 4, 256] {
+        let mut image = cached(rt.alloc(), names)?;
+        for round in 0..3usize {
+            for (i, (bin, name, want)) in [
+                (false, b"bin".as_slice(), Some(2)),
+                (true, b"bin", None),
+                (true, b"sh", Some(3)),
+                (false, b"sh", None),
+                (false, b"\xc3\xa9\x7f", Some(3)),
+                (false, b"disk", Some(7)),
+            ]
+            .iter()
+            .enumerate()
+            {
+                let held = if round == 0 {
+                    names.min(i + 1)
+                } else {
+                    names.min(6)
+                };
+                assert!(rt; found(&mut image, *bin, name) == (*want, held));
+            }
         }
-        assert!(rt; image.held() == held);
     }
     Ok(())
 }
 
 #[test]
 fn a_name_that_is_absent(rt: HostRuntime) -> Result<(), Fail> {
-    for names in [1, 256] {
-        let mut image = Cached::new(rt.alloc(), Sample, names)
-            .ok()
-            .ok_or("has memory")?;
-        assert!(rt; in_bin(&mut image, b"tty") == None);
-        assert!(rt; image.held() == 1);
-        assert!(rt; in_bin(&mut image, b"tty") == None);
-        assert!(rt; image.held() == 1);
-        assert!(rt; in_root(&mut image, b"tty") == Some(NodeId(8)));
+    let mut image = cached(rt.alloc(), 256)?;
+    for (bin, want) in [(true, (None, 1)), (true, (None, 1)), (false, (Some(8), 2))] {
+        assert!(rt; found(&mut image, bin, b"tty") == want);
     }
     Ok(())
 }
 
+/// A name of 255 bytes is held, and a longer one is not.
 #[test]
 fn long_names(rt: HostRuntime) -> Result<(), Fail> {
     let name = [b'x'; 256];
-    for names in [1, 256] {
-        let mut image = Cached::new(rt.alloc(), Sample, names)
-            .ok()
-            .ok_or("has memory")?;
-        assert!(rt; in_root(&mut image, &name) == None);
-        assert!(rt; image.held() == 0);
-        assert!(rt; in_root(&mut image, &name[..255]) == None);
-        assert!(rt; image.held() == 1);
-        assert!(rt; in_root(&mut image, &name) == None);
-        assert!(rt; in_root(&mut image, b"") == None);
-        assert!(rt; in_root(&mut image, b"log") == Some(NodeId(9)));
-        assert!(rt; in_root(&mut image, &name[..255]) == None);
+    let mut image = cached(rt.alloc(), 256)?;
+    for (name, want) in [
+        (name.as_slice(), (None, 0)),
+        (&name[..255], (None, 1)),
+        (&name, (None, 1)),
+        (b"", (None, 2)),
+        (b"log", (Some(9), 3)),
+        (&name[..255], (None, 3)),
+    ] {
+        assert!(rt; found(&mut image, false, name) == want);
     }
     Ok(())
 }
 
 #[test]
 fn the_other_calls(rt: HostRuntime) -> Result<(), Fail> {
-    let mut image = Cached::new(rt.alloc(), Sample, 1).ok().ok_or("has memory")?;
-    assert!(rt; in_root(&mut image, b"log") == Some(NodeId(9)));
-    assert!(rt; image.bytes() == b"helloa b%bindiskttylog\xc3\xa9\x7femptyshdeepp".as_slice());
+    let image = cached(rt.alloc(), 1)?;
+    assert!(rt; image.bytes() == Sample.bytes());
     assert!(rt; image.root() == NodeId(1));
-    assert!(rt; image.is_node(NodeId(10)));
-    assert!(rt; !image.is_node(NodeId(11)));
     assert!(rt; image.stat(NodeId(8)).kind == Kind::Character);
-    assert!(rt; is_directory_at(&image, NodeId(4)));
-    let first = image.entry(NodeId(2), Cursor::START).ok_or("has an entry")?;
-    assert!(rt; first.name == b"sh".as_slice());
-    let run = image.run(NodeId(3), 2).ok_or("has a third byte")?;
-    assert!(rt; (run.place, run.len) == (2, 3));
+    assert!(rt;
+        image
+            .entry(NodeId(2), Cursor::START)
+            .map(|entry| entry.node)
+            == Some(NodeId(3))
+    );
+    assert!(rt; image.run(NodeId(3), 2).map(|run| (run.place, run.len)) == Some((2, 3)));
+    for (node, is_node) in [(10, true), (11, false)] {
+        assert!(rt; image.is_node(NodeId(node)) == is_node);
+    }
+    Ok(())
+}
+
+#[test]
+fn the_same_list(rt: HostRuntime) -> Result<(), Fail> {
+    let image = cached(rt.alloc(), 1)?;
     let mut w = Plain::new(Vec::new(rt.alloc()));
+    let mut plain = Plain::new(Vec::new(rt.alloc()));
     assert!(rt; list(&image, &mut w) == Ok(()));
-    let listed: Vec<u8> = w.into_inner();
-    let mut w = Plain::new(Vec::new(rt.alloc()));
-    assert!(rt; list(&Sample, &mut w) == Ok(()));
-    let plain: Vec<u8> = w.into_inner();
-    assert!(rt; listed.as_slice() == plain.as_slice());
-    assert!(rt; image.held() == 1);
+    assert!(rt; list(&Sample, &mut plain) == Ok(()));
+    let (listed, wanted): (Vec<u8>, Vec<u8>) = (w.into_inner(), plain.into_inner());
+    assert!(rt; listed.as_slice() == wanted.as_slice());
+    assert!(rt; image.held() == 0);
     Ok(())
 }

@@ -9,8 +9,6 @@ mod info;
 mod line;
 mod superblock;
 mod tally;
-#[cfg(test)]
-mod tests;
 
 pub use info::{InfoError, write_info};
 pub use superblock::volume;

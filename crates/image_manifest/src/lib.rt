@@ -10,8 +10,6 @@
 pub mod laws;
 mod line;
 mod naming;
-#[cfg(test)]
-mod tests;
 mod writing;
 
 pub use naming::{Member, Refused, members};

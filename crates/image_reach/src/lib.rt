@@ -4,7 +4,5 @@
 
 pub mod laws;
 pub mod reading;
-#[cfg(test)]
-mod tests;
 
 pub use reading::{HEAD, reach_of};

@@ -8,8 +8,6 @@
 pub mod error;
 mod laid;
 pub mod planning;
-#[cfg(test)]
-mod tests;
 
 pub use error::{PlanError, name};
 pub use image_stream::slices::Slices;

@@ -14,8 +14,6 @@ mod path;
 mod reader;
 mod reading;
 pub mod seeded;
-#[cfg(test)]
-mod tests;
 mod text;
 
 pub use error::{ManifestError, name};

@@ -18,8 +18,6 @@ mod keyed;
 pub mod laws;
 mod order;
 pub mod row;
-#[cfg(test)]
-mod tests;
 
 pub use depth::deepest;
 pub use files::{PathTargets, SourceUse};

@@ -14,6 +14,4 @@ pub mod least;
 pub mod listed;
 pub mod records;
 pub mod reference;
-#[cfg(test)]
-mod tests;
 pub mod traversal;

@@ -14,5 +14,3 @@ pub mod serving;
 pub mod several;
 pub mod shown;
 pub mod status;
-#[cfg(test)]
-mod tests;

@@ -6,8 +6,6 @@
 
 pub mod error;
 pub mod fault;
-#[cfg(test)]
-mod tests;
 
 pub use error::CheckError;
 pub use fault::{Fault, name};

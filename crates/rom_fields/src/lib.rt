@@ -15,7 +15,5 @@ pub mod faulty;
 pub mod memory;
 pub mod sink;
 pub mod span;
-#[cfg(test)]
-mod tests;
 pub mod text;
 pub mod word;

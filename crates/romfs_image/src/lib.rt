@@ -20,7 +20,5 @@ mod phases;
 mod rows;
 mod soundness;
 mod superblock;
-#[cfg(test)]
-mod tests;
 
 pub use image::Romfs;

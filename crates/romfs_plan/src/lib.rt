@@ -14,8 +14,6 @@ mod passes;
 mod places;
 mod section_list;
 mod size;
-#[cfg(test)]
-mod tests;
 
 pub use item_list::items;
 pub use section_list::sections;

@@ -5,8 +5,6 @@
 
 mod form;
 mod header;
-#[cfg(test)]
-mod tests;
 mod writing;
 
 pub use image_stream::fault::{SizeDiffers, StreamError};

@@ -6,5 +6,3 @@
 #![tactic(auto)]
 
 pub mod sample;
-#[cfg(test)]
-mod tests;

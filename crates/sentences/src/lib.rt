@@ -16,8 +16,6 @@ mod path_rule;
 pub mod plan_line;
 pub mod reasons;
 pub mod replies;
-#[cfg(test)]
-mod tests;
 pub mod unfit;
 pub mod words;
 

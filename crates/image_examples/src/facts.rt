@@ -1,0 +1,60 @@
+//! The facts of small images, as they are told.
+use crate::images::HELLO;
+use image_check::check;
+use image_info::{volume, write_info};
+use rom_fields::bytes::Plain;
+use rom_tree::types::Limits;
+use std::alloc::Global;
+use std::test::Fail;
+
+/// A cramfs image without a CRC, whose root holds nothing and whose volume is `a boot volume`.
+const EMPTY: &[u8; 76] = b"\
+    \x45\x3d\xcd\x28\0\0\0\0\x02\x08\0\0\0\0\0\0\
+    Compressed ROMFS\
+    \0\0\0\0\0\0\0\0\0\0\0\0\0\0\0\0\
+    a boot volume\0\0\0\
+    \xed\x41\0\0\0\0\0\0\0\0\0\0";
+
+/// What is told of an image.
+fn told(alloc: Global, bytes: &[u8], file: u64) -> Option<Vec<u8>> {
+    let Ok(image) = check(alloc, bytes, Limits::usual()) else {
+        return None;
+    };
+    let mut w = Plain::new(Vec::new(alloc));
+    if write_info(alloc, &image, file, &mut w).is_err() {
+        return None;
+    }
+    Some(w.into_inner())
+}
+
+#[test]
+fn tells_of_both_formats(rt: HostRuntime) -> Result<(), Fail> {
+    for (bytes, file, text) in [
+        (
+            HELLO.as_slice(),
+            144,
+            b"format romfs\nsize 144\nfile 144\nvolume \nsum 0xc9c1b06a\n\
+            references 3\ndepth 1\nfiles 1\nfolders 1\nlinks 0\nothers 0\ncontents 5\n\
+            gaps 11\n"
+                .as_slice(),
+        ),
+        (
+            EMPTY,
+            1024,
+            b"format cramfs\nsize 76\nfile 1024\nvolume a%20boot%20volume\n\
+            flags 0x00000802\nsum 0x00000000\n\
+            references 1\ndepth 0\nfiles 0\nfolders 1\nlinks 0\nothers 0\ncontents 0\ngaps 0\n",
+        ),
+    ] {
+        let found = told(rt.alloc(), bytes, file).ok_or("is accepted")?;
+        assert!(rt; found.as_slice() == text);
+    }
+    Ok(())
+}
+
+#[test]
+fn names_a_volume(rt: HostRuntime) -> Result<(), Fail> {
+    let image = check(rt.alloc(), EMPTY, Limits::usual())?;
+    assert!(rt; volume(&image) == b"a boot volume".as_slice());
+    Ok(())
+}
