@@ -98,6 +98,42 @@ fn has_root(b: &Accessible<'_>) -> bool
     true
 }
 
+// The faults of an image as a whole, each at the place of what it is about.
+const SHORT: Fault = Fault {
+    number: fault::SHORT,
+    at: 0,
+};
+
+const NO_MAGIC: Fault = Fault {
+    number: fault::MAGIC,
+    at: 0,
+};
+
+const BAD_SIZE: Fault = Fault {
+    number: fault::SIZE,
+    at: 4,
+};
+
+const UNKNOWN_FLAGS: Fault = Fault {
+    number: fault::FLAGS,
+    at: 8,
+};
+
+const NO_SIGNATURE: Fault = Fault {
+    number: fault::SIGNATURE,
+    at: 16,
+};
+
+const OTHER_CRC: Fault = Fault {
+    number: fault::CRC,
+    at: 32,
+};
+
+const BAD_ROOT: Fault = Fault {
+    number: fault::ROOT,
+    at: 64,
+};
+
 /// The accessible bytes in this byte order, or the first fault of the image as a whole in that
 /// order, from its magic on.
 fn read_in_order<'a>(order: Order, bytes: &'a [u8]) -> Result<Accessible<'a>, Fault>
@@ -107,41 +143,23 @@ fn read_in_order<'a>(order: Order, bytes: &'a [u8]) -> Result<Accessible<'a>, Fa
     ensures fault { IfErr result (HasImageFault order bytes.now) }
 {
     if order.word(bytes, 0) != MAGIC {
-        return Err(Fault {
-            number: fault::MAGIC,
-            at: 0,
-        });
+        return Err(NO_MAGIC);
     }
     let Some(part) = accessible_bytes(order, bytes) else {
-        return Err(Fault {
-            number: fault::SIZE,
-            at: 4,
-        });
+        return Err(BAD_SIZE);
     };
     let b = Accessible { bytes: part, order };
     if b.word(8) >= ALL_FLAGS {
-        return Err(Fault {
-            number: fault::FLAGS,
-            at: 8,
-        });
+        return Err(UNKNOWN_FLAGS);
     }
     if !has_crc(&b) {
-        return Err(Fault {
-            number: fault::CRC,
-            at: 32,
-        });
+        return Err(OTHER_CRC);
     }
     if !has_signature(part) {
-        return Err(Fault {
-            number: fault::SIGNATURE,
-            at: 16,
-        });
+        return Err(NO_SIGNATURE);
     }
     if !has_root(&b) {
-        return Err(Fault {
-            number: fault::ROOT,
-            at: 64,
-        });
+        return Err(BAD_ROOT);
     }
     Ok(b)
 }
@@ -154,10 +172,7 @@ pub fn read_superblock<'a>(bytes: &'a [u8]) -> Result<Accessible<'a>, Fault>
     ensures fault { IfErr result (HasImageFault (order_of bytes.now) bytes.now) }
 {
     if bytes.len() < 76 {
-        return Err(Fault {
-            number: fault::SHORT,
-            at: 0,
-        });
+        return Err(SHORT);
     }
     let order = order_at(bytes);
     read_in_order(order, bytes)

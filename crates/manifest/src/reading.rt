@@ -74,8 +74,8 @@ impl Manifest {
 }
 
 /// Reads a manifest. Of a text that is none, the first faulty line is answered, and there the fault
-/// of the least number. The time that a text takes grows with its
-/// length alone.
+/// of the least number. Its paths stand in a hash map that the text seeds, so that the time that it
+/// takes is expected to grow with its length.
 ///
 /// # Errors
 ///

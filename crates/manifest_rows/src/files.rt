@@ -101,7 +101,7 @@ fn own_target(
 
 impl PathTargets {
     /// What the paths of a manifest lead to, where its sources have these sizes. The time that it
-    /// takes grows with the number of lines.
+    /// takes is expected to grow with the number of lines.
     pub fn new(alloc: Global, m: &Manifest, sizes: &[u64]) -> Result<PathTargets, OutOfMemory>
         requires { length sizes.now ≡ length (lines.sources_of m.now.lines) }
         ensures { IfOk result (IsOf m.now.lines sizes.now) }

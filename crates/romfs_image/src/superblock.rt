@@ -66,6 +66,32 @@ fn root_offset(b: &[u8]) -> Option<u32>
     Some(root as u32)
 }
 
+// The faults of an image as a whole, each at the place of the word that it is about.
+const SHORT: Fault = Fault {
+    number: fault::SHORT,
+    at: 0,
+};
+
+const NO_MAGIC: Fault = Fault {
+    number: fault::MAGIC,
+    at: 0,
+};
+
+const BAD_SIZE: Fault = Fault {
+    number: fault::SIZE,
+    at: 8,
+};
+
+const BAD_SUM: Fault = Fault {
+    number: fault::SUM,
+    at: 12,
+};
+
+const NO_ROOT: Fault = Fault {
+    number: fault::ROOT,
+    at: 16,
+};
+
 /// The accessible bytes with the place of the root, or the first fault of the image as a whole: 2
 /// Short, 3 Magic, 4 Size, 5 Sum, 9 Root.
 pub fn read_superblock<'a>(bytes: &'a [u8]) -> Result<Accessible<'a>, Fault>
@@ -73,34 +99,19 @@ pub fn read_superblock<'a>(bytes: &'a [u8]) -> Result<Accessible<'a>, Fault>
     ensures fault { IfErr result (HasImageFault bytes.now) }
 {
     if bytes.len() < 32 {
-        return Err(Fault {
-            number: fault::SHORT,
-            at: 0,
-        });
+        return Err(SHORT);
     }
     if !has_magic(bytes) {
-        return Err(Fault {
-            number: fault::MAGIC,
-            at: 0,
-        });
+        return Err(NO_MAGIC);
     }
     let Some(part) = accessible_bytes(bytes) else {
-        return Err(Fault {
-            number: fault::SIZE,
-            at: 8,
-        });
+        return Err(BAD_SIZE);
     };
     if !has_sum(part) {
-        return Err(Fault {
-            number: fault::SUM,
-            at: 12,
-        });
+        return Err(BAD_SUM);
     }
     let Some(root) = root_offset(part) else {
-        return Err(Fault {
-            number: fault::ROOT,
-            at: 16,
-        });
+        return Err(NO_ROOT);
     };
     let b = Accessible { bytes: part, root };
     if b.type_at(root as usize) != 1 {
