@@ -229,10 +229,21 @@ def try_rounds(counts):
         ("fn a::bytes::sink::put: not proved\nfn a::other: not proved", 0),
         ("fn a::bytes::sink::put: proved\nfn a::other: no proof: it calls `a::bytes::sink::put`, which is not proved", 0),
     ):  # fmt: skip
-        expect(counts, f"what is refused by: {report}", len(edit_rounds.refusals(report, [edit])), wanted)
+        expect(counts, f"what is refused by: {report}", len(edit_rounds.refusals(report, [edit], [])), wanted)
     other = edit_rounds.Edit("other.edit", "", (edit_rounds.Function("other", "", False, 7, 9),))
     report = "fn a::bytes::sink::put: no proof of a kind that is new\nfn a::other: not proved"
-    expect(counts, "what is refused beside a kind that is new", [*edit_rounds.refusals(report, [edit, other])], [other])
+    expect(counts, "what is refused beside a kind that is new", [*edit_rounds.refusals(report, [edit, other], [])], [other])
+    begin = edit_rounds.Edit("begin.edit", "", (edit_rounds.Function("begin", "walk", False, 3, 5),))
+    for names, wanted in (
+        (["a::walk::begin", "a::frame::Walk::begin"], ["a::walk::begin"]), (["a::frame::Walk::begin"], ["a::frame::Walk::begin"]),
+        (["a::frame::Walk::begin", "a::line::begin"], []), (["a::frame::fn::Walk::begin"], []),
+    ):  # fmt: skip
+        expect(counts, f"names of begin of walk among {names}", edit_rounds.told_of([begin], names), wanted)
+    report = "fn a::frame::Walk::begin: not proved"
+    expect(counts, "a method of another module's type", [*edit_rounds.refusals(report, [begin], ["a::frame::Walk::begin"])], [begin])
+    expect(counts, "a name that is not known", edit_rounds.refusals(report, [begin], []), {})
+    group = edit_rounds.next_round([edit, other, begin], calls, lambda group: begin not in group)
+    expect(counts, "edits that cannot all be made", group, [edit, other])
 
 
 OTHER_KIT = """#!/usr/bin/env python3

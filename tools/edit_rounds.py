@@ -196,12 +196,13 @@ class Calls:
         return not (other in self.named.get(one, ()) and one in self.named.get(other, ()))
 
 
-def next_round(edits, calls):
-    """The first of these edits, and as many of the others as can share a round with it."""
+def next_round(edits, calls, can_be_made):
+    """The first of these edits, and as many of the others as can share a round with it and can all be made in one copy."""
     group = []
     for edit in edits:
         taken = [name for it in group for name in it.names()]
-        if all(calls.go_together(one, other) for one in edit.names() for other in taken):
+        goes = all(calls.go_together(one, other) for one in edit.names() for other in taken)
+        if not group or goes and can_be_made([*group, edit]):
             group.append(edit)
     return group
 
@@ -211,15 +212,18 @@ def proved_in(report):
     return PROVED.findall(report)
 
 
+def names_of(function, names):
+    """The check's names of a function, of those of all functions of its crate: by the module of its file, or, of a method
+    that stands in another module than its type, the only one of that name."""
+    whole = [it for it in names if "fn" not in it.split("::")]
+    named = [it for it in whole if it.split("::")[-1] == function.name]
+    return [it for it in whole if function.is_told_by(it)] or (named if len(named) == 1 else [])
+
+
 def told_of(group, names):
-    """Of the check's names of a crate's functions those that the edits change, where it has one for each; else none."""
-    found = {}
-    for function in {it: None for edit in group for it in edit.functions}:
-        told = [it for it in names if function.is_told_by(it) and "fn" not in it.split("::")]
-        if not told:
-            return []
-        found.update(dict.fromkeys(told))
-    return list(found)
+    """The check's names of the functions that these edits change, where it has one for each; else none."""
+    found = [names_of(function, names) for edit in group for function in edit.functions]
+    return [*dict.fromkeys(it for told in found for it in told)] if all(found) else []
 
 
 def is_unproved(last):
@@ -233,17 +237,18 @@ def is_for_itself(verdict, rest):
     return any(verdict == of and (rest == start or start and rest.startswith(start)) for of, start in FOR_ITSELF)
 
 
-def refusals(report, group):
+def refusals(report, group, names):
     """What a round's report says: for each edit that it speaks of, the name of a function of its own that is refused for
     itself. Where a function is refused that no edit of the round changes, the round says nothing; and nothing of an edit
-    whose function is not proved in a way that is not known here."""
+    whose function is not proved in a way that is not known here. The names are the check's, of all functions of the crate."""
     told = [(it, is_for_itself(verdict, rest)) for it, verdict, rest in UNPROVED.findall(report) if not OF_CALLEE.search(rest)]
-    functions = [function for edit in group for function in edit.functions]
-    if not all(any(function.is_told_by(it) for function in functions) for it, _ in told):
+    own_names = {edit: {it for function in edit.functions for it in names_of(function, names)} for edit in group}
+    is_of = lambda edit, it: it in own_names[edit] or any(function.is_told_by(it) for function in edit.functions)
+    if not all(any(is_of(edit, it) for edit in group) for it, _ in told):
         return {}
     found = {}
     for edit in group:
-        own = [(it, is_own) for it, is_own in told if any(function.is_told_by(it) for function in edit.functions)]
+        own = [(it, is_own) for it, is_own in told if is_of(edit, it)]
         if own and all(is_own for _, is_own in own):
             found[edit] = own[0][0]
     return found
