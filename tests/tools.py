@@ -7,11 +7,13 @@ that cannot be made as bad. A contract that no call can meet fails its crate. Te
 not begin from what was proved of their crate, and are told rightly too. The last line is `N passed, M failed`.
 """
 
+import glob
 import os
 import shutil
 import subprocess
 import sys
 import tempfile
+import uuid
 
 from harness import HERE, Counts
 
@@ -162,8 +164,9 @@ EDITS = {
 
 
 def made(top):
-    """Makes the small repository."""
-    texts = dict(FILES)
+    """Makes the small repository. Its crates have a text that is another one each time, so that nothing of them is kept from
+    an earlier run on this machine."""
+    texts = {path: text + f"// {uuid.uuid4()}\n" * path.endswith("/lib.rt") for path, text in FILES.items()}
     for name, (file, old, new, _) in EDITS.items():
         texts[f"crates/small/must-fail/{name}.edit"] = f"file: src/{file}.rt\nold: {old}\nnew: {new}\n"
     for path, text in texts.items():
@@ -178,7 +181,9 @@ def try_gate(counts):
         made(top)
         gate = [os.path.join(TOOLS, "gate")]
         ran = subprocess.run(gate, cwd=top, stdout=subprocess.PIPE, stderr=subprocess.STDOUT, text=True)
+        stamped = sorted(glob.glob("crates/*/out/rlib/stamp", root_dir=top))
     said = ran.stdout.splitlines()
+    expect(counts, "libraries that other commands take as built", stamped, [f"crates/{it}/out/rlib/stamp" for it in ("odd", "small")], ran.stdout)
     for name, (_, _, _, wanted) in EDITS.items():
         told = [it for it in said if it.startswith(f"rt: must-fail small/{name}.edit: {wanted}")]
         expect(counts, f"the gate on the edit {name}", len(told), 1, ran.stdout)
