@@ -9,6 +9,16 @@ use rom_tree::types::{Limits, NodeId, Report};
 use std::alloc::Global;
 use std::test::Fail;
 
+/// What is answered of an image with so many references, and names on a path.
+pub fn counts(references: u32, depth: u32) -> Result<Report, CheckError> {
+    Ok(Report { references, depth })
+}
+
+/// What is answered of an image with this fault.
+pub fn fault(number: u32, at: u32) -> Result<Report, CheckError> {
+    Err(CheckError::Fault { number, at })
+}
+
 /// Whether these bytes are a cramfs image in big-endian order.
 fn is_big(alloc: Global, bytes: &[u8]) -> Result<Option<bool>, CheckError> {
     match check(alloc, bytes, Limits::usual())? {

@@ -1,4 +1,5 @@
 //! Images of cramfs that are accepted, and faults that are found in others.
+use crate::checked::{counts, fault};
 use cramfs_image::{Cramfs, crc32};
 use rom_faults::CheckError;
 use rom_fields::word::{part, put_le32};
@@ -64,14 +65,6 @@ fn shared_table(one: &[u8], other: &[u8], size: u32) -> [u8; 117] {
 fn answer(alloc: Global, b: &[u8], limits: Limits) -> Result<Report, CheckError> {
     let image = Cramfs::check(alloc, b, limits)?;
     Ok(image.report())
-}
-
-fn counts(references: u32, depth: u32) -> Result<Report, CheckError> {
-    Ok(Report { references, depth })
-}
-
-fn fault(number: u32, at: u32) -> Result<Report, CheckError> {
-    Err(CheckError::Fault { number, at })
 }
 
 /// The file with another word at a place.

@@ -13,7 +13,7 @@ use std::test::Fail;
 
 /// Takes all bytes, and fails each flush.
 #[derive(Drop)]
-struct Unflushed;
+pub struct Unflushed;
 
 impl Write for Unflushed {
     fn write(&mut self, buf: &[u8]) -> io::Result<usize> {

@@ -2,6 +2,7 @@
 ghost use Rattle.std.specs.Prelude.{length};
 ghost use Rattle.rom_commands.specs.Asked.{Fits};
 
+use crate::fields::Unflushed;
 use rom_commands::asked::Asked;
 use rom_commands::copying::print_file;
 use rom_commands::hello::hello;
@@ -11,22 +12,7 @@ use rom_commands::status::{Failure, Status, tell};
 use rom_fields::bytes::Plain;
 use rom_fields::faulty::Faulty;
 use rom_fields::word::put_be32;
-use std::io::{self, ErrorKind, Write};
 use std::test::Fail;
-
-/// Takes all bytes, and fails each flush.
-#[derive(Drop)]
-struct Unflushed;
-
-impl Write for Unflushed {
-    fn write(&mut self, buf: &[u8]) -> io::Result<usize> {
-        Ok(buf.len())
-    }
-
-    fn flush(&mut self) -> io::Result<()> {
-        Err(ErrorKind::BrokenPipe.into())
-    }
-}
 
 const LISTED: &[u8] = b"32 d 0755 0 0 0 0 0 /\n96 f 0644 0 0 5 0 0 /a\n";
 

@@ -1,4 +1,5 @@
 //! Images of romfs that are accepted, and faults that are found in others.
+use crate::checked::{counts, fault};
 use rom_faults::CheckError;
 use rom_fields::word::{part, put_be32};
 use rom_tree::image::TreeImage;
@@ -74,14 +75,6 @@ fn hard_link(spec: u32, sum: u32) -> [u8; 288] {
 fn answer(alloc: Global, b: &[u8], limits: Limits) -> Result<Report, CheckError> {
     let image = Romfs::check(alloc, b, limits)?;
     Ok(image.report())
-}
-
-fn counts(references: u32, depth: u32) -> Result<Report, CheckError> {
-    Ok(Report { references, depth })
-}
-
-fn fault(number: u32, at: u32) -> Result<Report, CheckError> {
-    Err(CheckError::Fault { number, at })
 }
 
 #[test]
