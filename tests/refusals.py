@@ -12,9 +12,9 @@ case limits. The last line is `N passed, M failed`, with `, K skipped` where not
 """
 
 import concurrent.futures
-import itertools
 import os
 import shutil
+import struct
 import subprocess
 import sys
 import tempfile
@@ -22,33 +22,45 @@ import tempfile
 import run
 from harness import HERE, Counts, parser, program_of
 
+# what refuse.c writes of a run before its outputs
+TOLD = struct.Struct("=5I")
+# how long all runs of a case may take
+SECONDS_FOR_ALL = 900
+
 
 def is_well(told, whole, done):
     """Whether a run that had memory refused answers as the whole one, or `memory` in place of an answer."""
-    if (done.returncode, done.stdout, done.stderr) == (whole.returncode, whole.stdout, whole.stderr):
+    printed, wanted = done.stdout, whole.stdout or b""
+    if (done.returncode, printed, done.stderr) == (whole.returncode, wanted, whole.stderr):
         return True
-    printed = done.stdout or b""
-    first = not told["words"] and printed.endswith(b"\n") and whole.stdout.startswith(printed)
+    first = not told["words"] and printed.endswith(b"\n") and wanted.startswith(printed)
     return (done.returncode, done.stderr) == (3, b"memory\n") and (printed == b"" or first)
 
 
-def refused(binary, told, top, refuse, mark):
+def runs_told(path):
+    """What refuse.c tells of each run: which allocation was refused, whether all later ones were, and how it ended."""
+    with open(path, "rb") as file:
+        while head := file.read(TOLD.size):
+            number, is_all, status, out, err = TOLD.unpack(head)
+            ended = os.waitstatus_to_exitcode(status)
+            yield number, is_all, subprocess.CompletedProcess([], ended, file.read(out), file.read(err))
+
+
+def refused(binary, told, top, refuse, aside):
     """How many runs end well with memory refused, and what is wrong with the others."""
     whole = run.started(binary, told, top)
+    to = os.path.join(aside, "told")
+    keeps_out = {"REFUSE_KEEPS_OUT": "yes"} if "out_to" in told else {}
+    all_runs = run.started(binary, told, top, {"LD_PRELOAD": refuse, "REFUSE_TO": to, **keeps_out}, SECONDS_FOR_ALL)
     good, failures = 0, []
-    for more in ({}, {"REFUSE_ALL": "yes"}):
-        for number in itertools.count(1):
-            preload = {"LD_PRELOAD": refuse, "REFUSE_AT": str(number), "REFUSED": mark}
-            done = run.started(binary, told, top, {**preload, **more})
-            if not os.path.exists(mark):
-                break
-            os.unlink(mark)
-            if is_well(told, whole, done):
-                good += 1
-            else:
-                which = "%d and all later" % number if more else "%d" % number
-                answer = (done.returncode, done.stdout, done.stderr)
-                failures.append("allocation %s refused: %r" % (which, answer))
+    if all_runs.returncode:
+        failures.append("the runs ended with status %d: %r" % (all_runs.returncode, all_runs.stderr))
+    for number, is_all, done in runs_told(to):
+        if is_well(told, whole, done):
+            good += 1
+        else:
+            which = "%d and all later" % number if is_all else "%d" % number
+            failures.append("allocation %s refused: %r" % (which, (done.returncode, done.stdout, done.stderr)))
     return good, failures
 
 
@@ -60,7 +72,7 @@ def done_case(binary, topic, case, refuse):
         for told in case["runs"]:
             if "memory" in told:
                 continue
-            well, failures = refused(binary, told, top, refuse, os.path.join(aside, "refused"))
+            well, failures = refused(binary, told, top, refuse, aside)
             good += well
             place = "%s: %s: romtool %s" % (topic, case["name"], " ".join(map(str, told["words"])))
             lines += ["refusals of %s: %s" % (place, failure) for failure in failures]

@@ -1,43 +1,160 @@
-/* Refuses memory to a program that is started with this as LD_PRELOAD: its REFUSE_ATth allocation, or
- * from that one on each, where REFUSE_ALL is set. A growth or a move counts as an allocation. With the
- * first refusal it makes the file REFUSED. */
+/* Runs a program once for each of its allocations, which is refused memory then: first that allocation
+ * alone, and after the first run that does not come to it, the same with all later ones. A growth or a
+ * move counts as an allocation. The program is started with this as LD_PRELOAD; with the file REFUSE_TO
+ * it runs in copies of the process, made before `main`, of which each reads the standard input from
+ * where it stood. What each run printed, which is taken from it unless REFUSE_KEEPS_OUT is set, and how
+ * it ended go to that file. */
 #define _GNU_SOURCE
 #include <dlfcn.h>
 #include <errno.h>
 #include <fcntl.h>
 #include <stdlib.h>
+#include <sys/mman.h>
+#include <sys/wait.h>
 #include <unistd.h>
 
-static unsigned long made;
+/* What is told of a run, before what it printed: which allocation was refused, whether the later ones
+ * were too, how the run ended, as `wait` tells it, and the bytes of its two outputs. */
+struct told {
+    unsigned at, all, status, out, err;
+};
+
+enum { SECONDS = 60, ABOVE_THE_STANDARD_ONES = 10 };
+
+static void *(*plain_malloc)(size_t);
+static void *(*plain_realloc)(void *, size_t);
+/* which allocation is refused, or none; whether the later ones are; and those that were made */
+static unsigned long refused_at, made;
+static unsigned refuses_later;
+/* whether this run came to it, for the process that it was copied from */
+static volatile unsigned *came_to_it;
 
 static int refused(void)
 {
-    const char *at = getenv("REFUSE_AT");
-    unsigned long first = at ? strtoul(at, NULL, 10) : 0;
-
     made++;
-    if (!first || made < first || (made > first && !getenv("REFUSE_ALL")))
+    if (!refused_at || made < refused_at || (made > refused_at && !refuses_later))
         return 0;
-    if (made == first && getenv("REFUSED"))
-        close(open(getenv("REFUSED"), O_CREAT | O_WRONLY, 0600));
+    *came_to_it = 1;
     errno = ENOMEM;
     return 1;
 }
 
+static void find_plain(void)
+{
+    plain_malloc = (void *(*)(size_t))dlsym(RTLD_NEXT, "malloc");
+    plain_realloc = (void *(*)(void *, size_t))dlsym(RTLD_NEXT, "realloc");
+}
+
 void *malloc(size_t size)
 {
-    static void *(*next)(size_t);
-
-    if (!next)
-        next = (void *(*)(size_t))dlsym(RTLD_NEXT, "malloc");
-    return refused() ? NULL : next(size);
+    if (!plain_malloc)
+        find_plain();
+    return refused() ? NULL : plain_malloc(size);
 }
 
 void *realloc(void *old, size_t size)
 {
-    static void *(*next)(void *, size_t);
+    if (!plain_realloc)
+        find_plain();
+    return refused() ? NULL : plain_realloc(old, size);
+}
 
-    if (!next)
-        next = (void *(*)(void *, size_t))dlsym(RTLD_NEXT, "realloc");
-    return refused() ? NULL : next(old, size);
+/* A descriptor that is none of the three that a program starts with, though these may be closed. */
+static int moved(int it)
+{
+    int higher = fcntl(it, F_DUPFD_CLOEXEC, ABOVE_THE_STANDARD_ONES);
+
+    if (higher < 0)
+        _exit(127);
+    close(it);
+    return higher;
+}
+
+/* A file without a name. */
+static int new_file(void)
+{
+    return moved(memfd_create("told", 0));
+}
+
+static void empty(int file)
+{
+    if (lseek(file, 0, SEEK_SET) < 0 || ftruncate(file, 0))
+        _exit(127);
+}
+
+/* Writes the bytes of a file to another one. */
+static void hand_on(int from, int to)
+{
+    char buffer[4096];
+    ssize_t got;
+
+    lseek(from, 0, SEEK_SET);
+    while ((got = read(from, buffer, sizeof buffer)) > 0)
+        if (write(to, buffer, got) != got)
+            _exit(127);
+}
+
+/* The standard outputs of the copies, and where it is told what they held. */
+struct files {
+    int out, err, to;
+};
+
+static void tell(const struct files *files, int status)
+{
+    struct told told = {
+        refused_at, refuses_later, status, lseek(files->out, 0, SEEK_END), lseek(files->err, 0, SEEK_END)
+    };
+
+    if (write(files->to, &told, sizeof told) != sizeof told)
+        _exit(127);
+    hand_on(files->out, files->to);
+    hand_on(files->err, files->to);
+}
+
+/* Makes a copy of the process. It is -1 there; where it was made, it is how the copy ended. */
+static int ended(const struct files *files)
+{
+    int keeps_out = getenv("REFUSE_KEEPS_OUT") != NULL, status;
+    pid_t copy = fork();
+
+    if (!copy) {
+        if ((!keeps_out && dup2(files->out, 1) < 0) || dup2(files->err, 2) < 0)
+            _exit(127);
+        made = 0;
+        alarm(SECONDS);
+        return -1;
+    }
+    if (copy < 0 || waitpid(copy, &status, 0) != copy)
+        _exit(127);
+    return status;
+}
+
+/* Makes the copies, each of which goes on from here as the program, and ends where they all have ended. */
+__attribute__((constructor)) static void run_all(void)
+{
+    const char *name = getenv("REFUSE_TO");
+    off_t input = lseek(0, 0, SEEK_CUR);
+
+    if (!name)
+        return;
+    find_plain();
+    struct files files = {new_file(), new_file(), moved(open(name, O_CREAT | O_TRUNC | O_WRONLY, 0600))};
+    came_to_it = mmap(NULL, sizeof *came_to_it, PROT_READ | PROT_WRITE, MAP_SHARED | MAP_ANONYMOUS, -1, 0);
+    if (came_to_it == MAP_FAILED)
+        _exit(127);
+    for (refuses_later = 0; refuses_later < 2; refuses_later++) {
+        *came_to_it = 1;
+        for (refused_at = 1; *came_to_it; refused_at++) {
+            *came_to_it = 0;
+            lseek(0, input, SEEK_SET);
+            int status = ended(&files);
+            if (status == -1)
+                return;
+            if (*came_to_it)
+                tell(&files, status);
+            empty(files.out);
+            empty(files.err);
+        }
+    }
+    _exit(0);
 }

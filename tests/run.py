@@ -176,7 +176,7 @@ def left_of(descriptor):
     return os.fstat(descriptor).st_size - os.lseek(descriptor, 0, os.SEEK_CUR)
 
 
-def started(binary, run, top, environment=None):
+def started(binary, run, top, environment=None, seconds=SECONDS):
     """The finished program, with what is `left` of its input; its environment has what is told, too."""
     words = [os.fsencode(binary)] + [bytes_of(word) for word in run["words"]]
     limit, out_to = run.get("memory"), run.get("out_to")
@@ -191,7 +191,7 @@ def started(binary, run, top, environment=None):
     try:
         done = subprocess.run(
             words, cwd=top, stdin=given, stdout=out, stderr=subprocess.PIPE,
-            timeout=SECONDS, preexec_fn=prepare if limit or out_to == "closed" else None,
+            timeout=seconds, preexec_fn=prepare if limit or out_to == "closed" else None,
             env={**os.environ, **(environment or {})},
         )  # fmt: skip
         done.left = left_of(given)

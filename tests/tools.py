@@ -249,6 +249,11 @@ def try_rounds(counts):
     expect(counts, "a name that is not known", edit_rounds.refusals(report, [begin], []), {})
     group = edit_rounds.next_round([edit, other, begin], calls, lambda group: begin not in group)
     expect(counts, "edits that cannot all be made", group, [edit, other])
+    with tempfile.TemporaryDirectory() as folder:
+        for at, name in (("bytes/sink/Plain/put", "Answers.antt"), ("walk/other", "Proof.antt"), ("walk/begin", "Invariants.antt")):
+            os.makedirs(f"{folder}/proofs/{at}")
+            open(f"{folder}/proofs/{at}/{name}", "w", encoding="utf-8").close()
+        expect(counts, "edits of what no file answers", edit_rounds.offered_first([edit, other, begin], folder), [begin, edit, other])
 
 
 OTHER_KIT = """#!/usr/bin/env python3

@@ -128,6 +128,25 @@ def function_at(folder, file, old):
     return around[-1]
 
 
+def answered_in(folder):
+    """The functions of a crate whose proofs have a file, by their folders below proofs/."""
+    below = lambda at: os.path.relpath(at, f"{folder}/proofs").split(os.sep)
+    return [below(at) for at, _, names in os.walk(f"{folder}/proofs") if {"Answers.antt", "Proof.antt"} & {*names}]
+
+
+def is_answered(function, answered):
+    """Whether the proof of a function has a file, where these do."""
+    module = function.module.split("::") if function.module else []
+    return any(it[-1] == function.name and it[: len(module)] == module for it in answered)
+
+
+def offered_first(edits, folder):
+    """The edits, first those that change a function whose proof has no file. Where such a one is refused the check offers a
+    file, which takes it some five seconds, of however many functions: so they are to share few checks."""
+    answered = answered_in(folder)
+    return sorted(edits, key=lambda edit: all(is_answered(it, answered) for it in edit.functions))
+
+
 def words_of_bodies(sources):
     """The words of each function's body, by the function's name, over all files of a crate."""
     words = {}
