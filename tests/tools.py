@@ -22,6 +22,7 @@ sys.path.insert(0, TOOLS)
 sys.dont_write_bytecode = True
 
 import edit_rounds  # noqa: E402
+import edit_twins  # noqa: E402
 
 ROOT = """//! Small functions, by which the gate is tried.
 #![tactic(auto)]
@@ -59,6 +60,22 @@ pub const fn most() -> u32
     ensures { result ≡ 7 }
 {
     7
+}
+
+/// What has a number.
+pub trait Numbered {
+    /// Its number.
+    fn number(&self) -> u32
+        ensures { result ≡ 3 };
+}
+
+/// The third of some.
+pub struct Third;
+
+impl Numbered for Third {
+    fn number(&self) -> u32 {
+        3
+    }
 }
 """
 PLUS = """//! One function, whose name stands in two modules.
@@ -149,17 +166,18 @@ FILES = {
     "crates/small/src/upper.rt": PLUS.format(2),
 }
 # what the gate says of an edit that it tried together with others
-SHARED = "refused, as it must be: small::six_times is not proved (with 2 other edits)"
+SHARED = "refused, as it must be: small::{} is not proved (with 5 other edits)"
 # name -> file, old text, new text, and what the gate has to say of it
 EDITS = {
-    "twice_is_thrice": ("lib", "    u64::from(n) * 2", "    u64::from(n) * 3", "refused, as it must be"),
-    "six_times_is_five": ("lib", "    u64::from(n) * 6", "    u64::from(n) * 5", SHARED),
+    "twice_is_thrice": ("lib", "    u64::from(n) * 2", "    u64::from(n) * 3", SHARED.format("twice")),
+    "six_times_is_five": ("lib", "    u64::from(n) * 6", "    u64::from(n) * 5", SHARED.format("six_times")),
     "caller_unchanged": ("lib", "    twice(n) * 2", "    2 * twice(n)", "NOT REFUSED"),
     "constant_function": ("lib", "    7", "    8", "refused, as it must be"),
     "lower_unchanged": ("lower", "    u64::from(n) + 1", "    1 + u64::from(n)", "NOT REFUSED"),
-    "upper_after_one": ("upper", "    u64::from(n) + 2", "    u64::from(n) + 1", "refused, as it must be"),
+    "upper_after_one": ("upper", "    u64::from(n) + 2", "    u64::from(n) + 1", SHARED.format("upper::after")),
+    "number_of_the_fourth": ("lib", "        3", "        4", SHARED.format("ThirdNumbered::number")),
+    "without_its_name": ("lib", "        3", "        m", "BAD EDIT"),
     "nowhere": ("lib", "    thrice(n)", "    twice(n)", "BAD EDIT: an 'old:' text is in src/lib.rt 0 times"),
-    "no_such_name": ("upper", "    u64::from(n) + 2", "    u64::from(m) + 2", "BAD EDIT"),
 }
 
 
@@ -169,10 +187,7 @@ def made(top):
     texts = {path: text + f"// {uuid.uuid4()}\n" * path.endswith("/lib.rt") for path, text in FILES.items()}
     for name, (file, old, new, _) in EDITS.items():
         texts[f"crates/small/must-fail/{name}.edit"] = f"file: src/{file}.rt\nold: {old}\nnew: {new}\n"
-    for path, text in texts.items():
-        os.makedirs(os.path.dirname(os.path.join(top, path)), exist_ok=True)
-        with open(os.path.join(top, path), "w", encoding="utf-8") as it:
-            it.write(text)
+    write_below(top, texts)
 
 
 def try_gate(counts):
@@ -205,26 +220,106 @@ def expect(counts, what, got, wanted, said=""):
         counts.fails(what, [f"{got!r}", f"expected {wanted!r}", *said.splitlines()[-40:]])
 
 
+BODIES = """fn even(n: u32) -> bool {
+    odd(n)
+}
+
+fn odd(n: u32) -> bool {
+    third(n)
+}
+
+fn third(n: u32) -> bool {
+    even(n)
+}
+
+fn down(n: u32) -> u32 {
+    down(n)
+}
+
+fn alone(n: u32) -> u32 {
+    n
+}
+
+fn top(it: &Kept<Few>) -> u32 {
+    alone(it.held())
+}
+
+struct Kept<X>(X);
+
+impl<X: Fn() -> u32> Kept<X> {
+    fn bounded(&self) -> u32 {
+        3
+    }
+}
+
+impl<X> Kept<X>
+where
+    X: Count,
+{
+    fn within(&self) -> u32 {
+        4
+    }
+}
+
+impl<'a, X: Count<Kept<&'a X>>> Kept<X> {
+    #[inline]
+    fn own(&self) -> u32
+        ensures { result ≡ 2 }
+    {
+        2
+    }
+}
+
+impl<X> Count for Kept<X> {
+    fn held(&self) -> u32 {
+        1
+    }
+}
+
+fn named(held: u32) -> u32 {
+    held
+}
+"""
+
+
+def functions_in(text):
+    """The functions of a text that is the root of its crate, by their names."""
+    return {it.name: it for it in edit_rounds.functions_of(text, "src/lib.rt")}
+
+
+def edit_in(name, *functions):
+    """An edit of that name, which changes these functions."""
+    return edit_rounds.Edit(f"{name}.edit", "", functions)
+
+
 def try_rounds(counts):
-    """What may share a check, and what a report of one says, on texts alone."""
-    files = {"src/lib.rt": "fn even(n: u32) -> bool {\n    odd(n)\n}\n\nfn odd(n: u32) -> bool {\n    third(n)\n}\n\n"
-             "fn third(n: u32) -> bool {\n    even(n)\n}\n\nfn alone(n: u32) -> u32 {\n    n\n}\n\nfn above(n: u32) -> u32 {\n    top(n)\n}\n\n"
-             "fn top(n: u32) -> u32 {\n    alone(n)\n}\n\nstruct Kept;\n\nimpl Kept {\n    fn held(&self) -> u32 {\n        1\n    }\n}\n\n"
-             "fn named(held: u32) -> u32 {\n    held\n}\n\nfn asked(it: &Kept) -> u32 {\n    it.held()\n}\n"}  # fmt: skip
-    calls = edit_rounds.Calls(files)
+    """What may share a check, on texts alone."""
+    calls, bodies = edit_rounds.Calls({"src/lib.rt": BODIES}), functions_in(BODIES)
+    edit_of = lambda name: edit_in(name, bodies[name])
+    owners = {"even": "", "own": "Kept", "held": None, "within": None, "bounded": None}
+    expect(counts, "where functions stand", {it: bodies[it].owner for it in owners}, owners)
+    alone = {it for it in bodies if not calls.can_have_twin(bodies[it])}
+    expect(counts, "functions that have no twin", alone, {"even", "odd", "third", "down", "held", "within", "bounded"})
     for one, other, wanted in (
-        ("even", "odd", False), ("even", "third", False), ("odd", "even", False), ("even", "alone", True),
-        ("top", "alone", False), ("above", "alone", False), ("alone", "alone", False), ("held", "named", True), ("asked", "held", False),
+        ("even", "odd", False), ("even", "third", False), ("odd", "even", False), ("even", "alone", True), ("held", "held", False),
+        ("top", "alone", True), ("alone", "alone", True), ("held", "named", True), ("top", "held", False), ("held", "top", False),
     ):  # fmt: skip
-        expect(counts, f"{one} beside {other}", calls.go_together(one, other), wanted)
-    function = edit_rounds.Function("put", "bytes::sink", False, 3, 5)
+        expect(counts, f"{one} beside {other}", calls.go_together(edit_of(one), edit_of(other)), wanted)
+    group = [edit_of(it) for it in ("even", "down", "held", "alone", "top", "alone")]
+    taken = edit_rounds.next_round(group, calls, lambda edits: len(edits) < 3)
+    expect(counts, "edits of a round", [it.path for it in taken], [f"{it}.edit" for it in ("even", "down", "alone", "top", "alone")])
+
+
+def try_reports(counts):
+    """What a report of a shared check says of its edits."""
+    function = edit_rounds.Function("put", "src/bytes/sink.rt", "", False, 3, 3, 5)
     for told, wanted in (
         ("rom_fields::bytes::sink::put", True), ("rom_fields::bytes::sink::Plain::put", True), ("rom_fields::bytes::put", False),
         ("rom_fields::bytes::sink::output", False), ("rom_fields::sink::put", False),
         ("rom_fields::bytes::sink::fn::put::each", True), ("rom_fields::bytes::sink::fn::output::put", False),
     ):  # fmt: skip
         expect(counts, f"{told} as put of bytes::sink", function.is_told_by(told), wanted)
-    edit = edit_rounds.Edit("put.edit", "", (function,))
+    edit = edit_in("put", function)
     for report, wanted in (
         ("fn a::bytes::sink::put: not proved", 1),
         ("fn a::bytes::sink::put: no proof: expected answers in ./proofs/bytes/sink/put/Answers.antt; `search` did not prove `returns`", 1),
@@ -235,10 +330,10 @@ def try_rounds(counts):
         ("fn a::bytes::sink::put: proved\nfn a::other: no proof: it calls `a::bytes::sink::put`, which is not proved", 0),
     ):  # fmt: skip
         expect(counts, f"what is refused by: {report}", len(edit_rounds.refusals(report, [edit], [])), wanted)
-    other = edit_rounds.Edit("other.edit", "", (edit_rounds.Function("other", "", False, 7, 9),))
+    other = edit_in("other", edit_rounds.Function("other", "src/lib.rt", "", False, 7, 7, 9))
     report = "fn a::bytes::sink::put: no proof of a kind that is new\nfn a::other: not proved"
     expect(counts, "what is refused beside a kind that is new", [*edit_rounds.refusals(report, [edit, other], [])], [other])
-    begin = edit_rounds.Edit("begin.edit", "", (edit_rounds.Function("begin", "walk", False, 3, 5),))
+    begin = edit_in("begin", edit_rounds.Function("begin", "src/walk.rt", "Walk", False, 3, 3, 5))
     for names, wanted in (
         (["a::walk::begin", "a::frame::Walk::begin"], ["a::walk::begin"]), (["a::frame::Walk::begin"], ["a::frame::Walk::begin"]),
         (["a::frame::Walk::begin", "a::line::begin"], []), (["a::frame::fn::Walk::begin"], []),
@@ -247,13 +342,53 @@ def try_rounds(counts):
     report = "fn a::frame::Walk::begin: not proved"
     expect(counts, "a method of another module's type", [*edit_rounds.refusals(report, [begin], ["a::frame::Walk::begin"])], [begin])
     expect(counts, "a name that is not known", edit_rounds.refusals(report, [begin], []), {})
-    group = edit_rounds.next_round([edit, other, begin], calls, lambda group: begin not in group)
-    expect(counts, "edits that cannot all be made", group, [edit, other])
+
+
+ANSWERS = "use Rattle.a.proofs.Kept.own.Goals as goal\nuse Rattle.a.proofs.Kept.ownness.Goals as other\n"
+OWN_TWIN = """    #[inline]
+    fn own_tried_0(&self) -> u32
+        ensures { result ≡ 2 }
+    {
+        3
+    }
+"""
+
+
+def try_twins(counts):
+    """The copy of a crate in which a function has a twin, and which functions have none."""
+    files = {"src/lib.rt": BODIES, "proofs/Kept/own/Answers.antt": ANSWERS, "proofs/Kept/own/Other.antt": "not of the proof\n"}
+    own, names = functions_in(BODIES)["own"], ["a::even", "a::Kept::own", "a::Other::own"]
+    edited = {"src/lib.rt": BODIES.replace("        2\n", "        3\n")}
     with tempfile.TemporaryDirectory() as folder:
-        for at, name in (("bytes/sink/Plain/put", "Answers.antt"), ("walk/other", "Proof.antt"), ("walk/begin", "Invariants.antt")):
-            os.makedirs(f"{folder}/proofs/{at}")
-            open(f"{folder}/proofs/{at}/{name}", "w", encoding="utf-8").close()
-        expect(counts, "edits of what no file answers", edit_rounds.offered_first([edit, other, begin], folder), [begin, edit, other])
+        write_below(folder, files)
+        copy = edit_twins.Copy(folder, names)
+        copy.put_twins(edit_in("own", own), edited)
+        texts = copy.whole()
+        wanted = {"src/lib.rt", "proofs/Kept/own_tried_0/Answers.antt"}
+        expect(counts, "texts of a copy", {*texts}, wanted)
+        lines = BODIES.split("\n")
+        lines[own.last + 1 : own.last + 1] = ["", *OWN_TWIN.rstrip("\n").split("\n")]
+        expect(counts, "a twin behind its function", texts["src/lib.rt"].split("\n"), lines)
+        expect(counts, "a twin's proof", texts["proofs/Kept/own_tried_0/Answers.antt"], ANSWERS.replace("Kept.own.", "Kept.own_tried_0."))
+        expect(counts, "a twin's name", (copy.names[3:], copy.edits[0].functions[0].name), (["a::Kept::own_tried_0"], "own_tried_0"))
+        expect(counts, "a twin's name as its function's", edit_twins.untwinned("a::Kept::own_tried_0"), "a::Kept::own")
+        for file, text in (("proofs/Kept/own/Answers.antt", ANSWERS + "use Rattle.a.proofs.Kept.own.Code\n"), ("proofs/Alike.antt", ANSWERS),
+                           ("specs/Said.antt", "use Rattle.a.specs.contracts.Kept.own\n")):  # fmt: skip
+            write_below(folder, {**files, "proofs/Alike.antt": "", "specs/Said.antt": "", file: text})
+            copy = edit_twins.Copy(folder, names)
+            copy.put_twins(edit_in("own", own), edited)
+            expect(counts, f"a proof that {file} names", (copy.edits, copy.whole()), ([], {}))
+        copy = edit_twins.Copy(folder, ["a::even", "a::Kept::own", "a::other::Kept::own"])
+        copy.put_twins(edit_in("own", own), edited)
+        expect(counts, "a function of two names", copy.edits, [])
+
+
+def write_below(top, texts):
+    """Writes texts to files below a folder, by their paths."""
+    for path, text in texts.items():
+        os.makedirs(os.path.dirname(os.path.join(top, path)), exist_ok=True)
+        with open(os.path.join(top, path), "w", encoding="utf-8") as it:
+            it.write(text)
 
 
 OTHER_KIT = """#!/usr/bin/env python3
@@ -295,6 +430,8 @@ def try_words(counts):
 def main():
     counts = Counts()
     try_rounds(counts)
+    try_reports(counts)
+    try_twins(counts)
     if shutil.which("rt"):
         try_words(counts)
         try_other_kit(counts)

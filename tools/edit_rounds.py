@@ -1,17 +1,24 @@
 """Which must-fail edits may share a check, and what a shared check says of each.
 
 An edit that changes just the bodies of functions leaves every contract as it was. So whether one of these functions
-is proved depends on no other such edit, and edits of different functions can be made in one copy of the crate and
-checked together: a round. A round speaks of an edit only where the check refuses a function of its own for itself.
+is proved depends on no other such edit, and the edits of a crate can be made in one copy of it and checked together:
+a round. There a function that an edit changes stands as a twin: under a name of its own behind the function that it is
+made from, which stays as it is, with the same contract and the same proof. So edits of one function share a round, and
+so do edits of a function and of its callers. A method of a trait can have no twin, nor a function whose name is part of
+its proof or of another one; such an edit is made in its place. A round speaks of an edit only where the check refuses a
+function of its own for itself.
 
 Here is no call of the toolchain: texts go in, and groups and verdicts come out.
 """
 
 import dataclasses
+import itertools
 import os
 import re
 
 HEAD = re.compile(r'^(\s*)(?:pub(?:\([^)]*\))? )?(const )?(?:unsafe )?(?:extern "C" )?fn (\w+)')
+# the head of an impl that is of no trait, without what stands in angles
+OF_TYPE = re.compile(r"impl (\w+) (?:where .*)?$")
 # a call in a body: what stands before the name, where that is a point or a type, and the name
 CALL = re.compile(r"(\.|\b[A-Z]\w*::)?\b([a-z_]\w*)(?:::<[^()]*>)?\(")
 # what the check says of a function that is not proved
@@ -28,13 +35,21 @@ FOR_ITSELF = (("not proved", ""), ("no proof", ": expected answers in "))
 
 @dataclasses.dataclass(frozen=True)
 class Function:
-    """A function of a source file, and the lines of its body, counted from 0."""
+    """A function of a source file, the line of its head, and those at which its body opens and ends, counted from 0."""
 
     name: str
-    module: str
+    file: str
+    # the type that it is a method of, nothing where it stands alone, and None where it stands in anything else
+    owner: str | None
     is_const: bool
+    head: int
     first: int
     last: int
+
+    @property
+    def module(self):
+        """The module of its file."""
+        return module_of(self.file)
 
     def is_told_by(self, told):
         """Whether the check's name of a function may be this one's, or that of a closure in it: `crate::module::name`,
@@ -68,7 +83,7 @@ def module_of(file):
     return "::".join(parts[:-1] if parts[-1] in ("lib", "main", "mod") else parts)
 
 
-def functions_of(text, module):
+def functions_of(text, file):
     """The functions of a file that is laid out by `rt fmt`: a body opens and closes at its head's own depth."""
     lines = text.split("\n")
     for at, line in enumerate(lines):
@@ -80,13 +95,26 @@ def functions_of(text, module):
             opens += 1
         ends = next((it for it in range(opens + 1, len(lines)) if lines[it] == depth + "}"), None)
         if ends is not None:
-            yield Function(head[3], module, bool(head[2]), opens, ends)
+            yield Function(head[3], file, owner_of(lines, at), bool(head[2]), at, opens, ends)
 
 
 def is_opening(lines, head, at, depth):
     """Whether the body of the function with that head opens at this line: its clauses stand deeper than it."""
     line = lines[at]
     return line == depth + "{" or line.endswith("{") and (at == head or line.startswith(depth + ")"))
+
+
+def owner_of(lines, head):
+    """The type that the function with that head is a method of, nothing where it stands alone, and None where it stands in
+    anything else, as in an impl of a trait."""
+    if not lines[head].startswith(" "):
+        return ""
+    begins = next((at for at in range(head, -1, -1) if lines[at] and not lines[at].startswith((" ", "{"))), 0)
+    header, was = " ".join(lines[begins:head]).split("{")[0], None
+    while header != was:
+        header, was = re.sub(r"<[^<>]*>", "", header), header
+    found = OF_TYPE.match(header)
+    return found and found[1]
 
 
 def edit_of(path, folder):
@@ -121,30 +149,11 @@ def function_at(folder, file, old):
     if text.count(old) != 1:
         return None
     at = text[: text.index(old)].count("\n")
-    around = [it for it in functions_of(text, module_of(file)) if it.first < at < it.last]
+    around = [it for it in functions_of(text, file) if it.first < at < it.last]
     # the body of a constant function, and a constant, may be read where it is used
     if not around or any(it.is_const for it in around) or re.match(r"\s*(const|static|ghost) ", text.split("\n")[at]):
         return None
     return around[-1]
-
-
-def answered_in(folder):
-    """The functions of a crate whose proofs have a file, by their folders below proofs/."""
-    below = lambda at: os.path.relpath(at, f"{folder}/proofs").split(os.sep)
-    return [below(at) for at, _, names in os.walk(f"{folder}/proofs") if {"Answers.antt", "Proof.antt"} & {*names}]
-
-
-def is_answered(function, answered):
-    """Whether the proof of a function has a file, where these do."""
-    module = function.module.split("::") if function.module else []
-    return any(it[-1] == function.name and it[: len(module)] == module for it in answered)
-
-
-def offered_first(edits, folder):
-    """The edits, first those that change a function whose proof has no file. Where such a one is refused the check offers a
-    file, which takes it some five seconds, of however many functions: so they are to share few checks."""
-    answered = answered_in(folder)
-    return sorted(edits, key=lambda edit: all(is_answered(it, answered) for it in edit.functions))
 
 
 def words_of_bodies(sources):
@@ -152,8 +161,8 @@ def words_of_bodies(sources):
     words = {}
     for file, text in sources.items():
         lines = text.split("\n")
-        for it in functions_of(text, module_of(file)):
-            body = "\n".join(lines[it.first : it.last])
+        for it in functions_of(text, file):
+            body = "\n".join(lines[it.first + 1 : it.last])
             words.setdefault(it.name, set()).update(re.findall(r"\w+", body))
     return words
 
@@ -175,7 +184,7 @@ def calls_of_bodies(sources):
     called, methods = {}, set()
     for file, text in sources.items():
         lines = text.split("\n")
-        for it in functions_of(text, module_of(file)):
+        for it in functions_of(text, file):
             if lines[it.first].startswith(" "):
                 methods.add(it.name)
             body = "\n".join(lines[it.first + 1 : it.last])
@@ -185,7 +194,7 @@ def calls_of_bodies(sources):
 
 
 def reached(name, called):
-    """The names of the functions that one of that name comes to, where each calls these."""
+    """The names of the functions that one of that name comes to, where each calls these: its own, where it comes back."""
     found, left = set(), [name]
     while left:
         for it in called.get(left.pop(), ()):
@@ -201,27 +210,40 @@ class Calls:
 
     def __init__(self, sources):
         words = words_of_bodies(sources)
-        named = {name: body & words.keys() - {name} for name, body in words.items()}
+        named = {name: body & words.keys() for name, body in words.items()}
         called = calls_of_bodies(sources)
         self.named = {name: reached(name, named) for name in named}
         self.called = {name: reached(name, called) for name in called}
 
+    def can_have_twin(self, function):
+        """Whether a function can stand in a crate twice, under two names: it is of no trait, and does not come to itself."""
+        return function.owner is not None and function.name not in self.named[function.name]
+
+    def have_twins(self, edit):
+        """Whether each function that an edit changes can have a twin."""
+        return all(map(self.can_have_twin, edit.functions))
+
     def go_together(self, one, other):
-        """Whether functions of these names can share a round: they differ, neither calls the other, itself or through
-        others, since a caller of what is refused is not looked at, and they are on no ring of calls, of which the check
-        refuses all or none."""
-        if one == other or other in self.called.get(one, ()) or one in self.called.get(other, ()):
-            return False
-        return not (other in self.named.get(one, ()) and one in self.named.get(other, ()))
+        """Whether two edits can share a round. No function comes to a twin. Of others the check does not look at what calls one
+        that is refused, itself or through others, and it refuses all that are on a ring of calls or none."""
+        if self.have_twins(one) and self.have_twins(other):
+            return True
+        return not any(self.is_in_way(*pair) for pair in ((one, other), (other, one)))
+
+    def is_in_way(self, edit, other):
+        """Whether an edit that is made in its place may hide what the check says of the other one."""
+        pairs = [] if self.have_twins(edit) else itertools.product(edit.names(), other.names())
+        return any(own == its or own in self.called[its] or own in self.named[its] and its in self.named[own] for own, its in pairs)
 
 
 def next_round(edits, calls, can_be_made):
-    """The first of these edits, and as many of the others as can share a round with it and can all be made in one copy."""
+    """The first of these edits, and as many of the others as can share a round with it; all that are made in their places can
+    be made in one copy."""
     group = []
     for edit in edits:
-        taken = [name for it in group for name in it.names()]
-        goes = all(calls.go_together(one, other) for one in edit.names() for other in taken)
-        if not group or goes and can_be_made([*group, edit]):
+        goes = all(calls.go_together(edit, it) for it in group)
+        in_place = [it for it in [*group, edit] if not calls.have_twins(it)]
+        if not group or goes and (calls.have_twins(edit) or can_be_made(in_place)):
             group.append(edit)
     return group
 
