@@ -279,6 +279,16 @@ impl<X> Count for Kept<X> {
 fn named(held: u32) -> u32 {
     held
 }
+
+impl From<u32> for Few {
+    fn from(_: u32) -> Few {
+        Few
+    }
+}
+
+fn handed_on() -> Result<u32, Few> {
+    Ok(tried()? + 1)
+}
 """
 
 
@@ -299,10 +309,11 @@ def try_rounds(counts):
     owners = {"even": "", "own": "Kept", "held": None, "within": None, "bounded": None}
     expect(counts, "where functions stand", {it: bodies[it].owner for it in owners}, owners)
     alone = {it for it in bodies if not calls.can_have_twin(bodies[it])}
-    expect(counts, "functions that have no twin", alone, {"even", "odd", "third", "down", "held", "within", "bounded"})
+    expect(counts, "functions that have no twin", alone, {"even", "odd", "third", "down", "held", "within", "bounded", "from"})
     for one, other, wanted in (
         ("even", "odd", False), ("even", "third", False), ("odd", "even", False), ("even", "alone", True), ("held", "held", False),
         ("top", "alone", True), ("alone", "alone", True), ("held", "named", True), ("top", "held", False), ("held", "top", False),
+        ("from", "handed_on", False), ("from", "top", True),
     ):  # fmt: skip
         expect(counts, f"{one} beside {other}", calls.go_together(edit_of(one), edit_of(other)), wanted)
     group = [edit_of(it) for it in ("even", "down", "held", "alone", "top", "alone")]

@@ -180,7 +180,7 @@ def sources_of(folder):
 
 def calls_of_bodies(sources):
     """The names that each function's body calls, by the function's name, over all files of a crate: those of methods where
-    a point or a type stands before the name, and else those of other functions."""
+    a point or a type stands before the name, and else those of other functions. A `?` calls `from`, for the error."""
     called, methods = {}, set()
     for file, text in sources.items():
         lines = text.split("\n")
@@ -188,7 +188,7 @@ def calls_of_bodies(sources):
             if lines[it.first].startswith(" "):
                 methods.add(it.name)
             body = "\n".join(lines[it.first + 1 : it.last])
-            called.setdefault(it.name, set()).update(CALL.findall(body))
+            called.setdefault(it.name, set()).update([*CALL.findall(body), *[(".", "from")] * ("?" in body)])
     is_one = lambda before, name: name in called and bool(before) == (name in methods)
     return {name: {it for before, it in found if is_one(before, it)} - {name} for name, found in called.items()}
 
