@@ -151,8 +151,23 @@ fn of_one(rt: HostRuntime) {
     assert!(rt; same(1) == 1);
 }
 """
+BARE = """//! Tests alone.
+#![tactic(auto)]
+
+#[cfg(test)]
+mod tests;
+"""
+BARE_TESTS = """//! A test of no function of its crate.
+
+#[test]
+fn of_two(rt: HostRuntime) {
+    assert!(rt; 1 + 1 == 2);
+}
+"""
 FILES = {
-    "crates.txt": "small:\nodd:\nempty:\n",
+    "crates.txt": "small:\nodd:\nempty:\nbare:\n",
+    "crates/bare/src/lib.rt": BARE,
+    "crates/bare/src/tests.rt": BARE_TESTS,
     "crates/empty/src/lib.rt": EMPTY,
     "crates/empty/src/tests.rt": EMPTY_TESTS,
     "crates/odd/src/lib.rt": ODD,
@@ -166,7 +181,7 @@ FILES = {
     "crates/small/src/upper.rt": PLUS.format(2),
 }
 # what the gate says of an edit that it tried together with others
-SHARED = "refused, as it must be: small::{} is not proved (with 5 other edits)"
+SHARED = "refused, as it must be: small::{} is not proved (with 7 other edits)"
 # name -> file, old text, new text, and what the gate has to say of it
 EDITS = {
     "twice_is_thrice": ("lib", "    u64::from(n) * 2", "    u64::from(n) * 3", SHARED.format("twice")),
@@ -176,6 +191,8 @@ EDITS = {
     "lower_unchanged": ("lower", "    u64::from(n) + 1", "    1 + u64::from(n)", "NOT REFUSED"),
     "upper_after_one": ("upper", "    u64::from(n) + 2", "    u64::from(n) + 1", SHARED.format("upper::after")),
     "number_of_the_fourth": ("lib", "        3", "        4", SHARED.format("ThirdNumbered::number")),
+    "six_times_of_clauses": ("lib", "    ensures { result ≡ n * 6 }", "    ensures { result ≡ n * 5 }", SHARED.format("six_times")),
+    "clause_unchanged": ("lib", "    ensures { result ≡ n * 2 }", "    ensures { result ≡ n + n }", "NOT REFUSED"),
     "without_its_name": ("lib", "        3", "        m", "BAD EDIT"),
     "nowhere": ("lib", "    thrice(n)", "    twice(n)", "BAD EDIT: an 'old:' text is in src/lib.rt 0 times"),
 }
@@ -198,16 +215,18 @@ def try_gate(counts):
         ran = subprocess.run(gate, cwd=top, stdout=subprocess.PIPE, stderr=subprocess.STDOUT, text=True)
         stamped = sorted(glob.glob("crates/*/out/rlib/stamp", root_dir=top))
     said = ran.stdout.splitlines()
-    expect(counts, "libraries that other commands take as built", stamped, [f"crates/{it}/out/rlib/stamp" for it in ("odd", "small")], ran.stdout)
+    expect(counts, "libraries that other commands take as built", stamped, [f"crates/{it}/out/rlib/stamp" for it in ("bare", "odd", "small")], ran.stdout)
     for name, (_, _, _, wanted) in EDITS.items():
         told = [it for it in said if it.startswith(f"rt: must-fail small/{name}.edit: {wanted}")]
         expect(counts, f"the gate on the edit {name}", len(told), 1, ran.stdout)
-    for wanted in ("small: its tests are proved", "odd proved", "odd: its tests are NOT PROVED", "empty NOT PROVED"):
+    for wanted in ("small: its tests are proved", "bare: its tests are proved", "odd proved", "odd: its tests are NOT PROVED", "empty NOT PROVED"):
         expect(counts, f"the gate says: {wanted}", said.count(f"rt: {wanted}"), 1, ran.stdout)
     begun = [it for it in said if it.startswith("logic=proved tests=1 ") and it.endswith(" incremental=trusted")]
     expect(counts, "how many tests begin from what was proved of their crate", len(begun), 2, ran.stdout)
+    anew = [it for it in said if it.startswith("logic=proved tests=1 ") and not it.endswith(" incremental=trusted")]
+    expect(counts, "how many tests begin from nothing, their crate having no function", len(anew), 1, ran.stdout)
     of = lambda verdict: sum(it[3].startswith(verdict) for it in EDITS.values())
-    last = f"{1 + of('refused')} passed, {2 + of('NOT REFUSED')} failed"
+    last = f"{2 + of('refused')} passed, {2 + of('NOT REFUSED')} failed"
     expect(counts, "the gate's last line", said[-1:], [last], ran.stdout)
     expect(counts, "the gate's status", ran.returncode, 1, ran.stdout)
 
@@ -276,6 +295,12 @@ impl<X> Count for Kept<X> {
     }
 }
 
+impl<X> Count for &X {
+    fn lent(&self) -> u32 {
+        1
+    }
+}
+
 fn named(held: u32) -> u32 {
     held
 }
@@ -289,12 +314,28 @@ impl From<u32> for Few {
 fn handed_on() -> Result<u32, Few> {
     Ok(tried()? + 1)
 }
+
+fn law()
+    ensures { (n : ℕ) → n + 0 ≡ n }
+{}
+
+fn behind() {}
 """
 
 
-def functions_in(text):
-    """The functions of a text that is the root of its crate, by their names."""
-    return {it.name: it for it in edit_rounds.functions_of(text, "src/lib.rt")}
+BOUNDS = """fn bound<X: Count>(it: &X) -> u32 {
+    it.held()
+}
+
+fn lends<X: Count>(it: &X) -> u32 {
+    it.lent()
+}
+"""
+
+
+def functions_in(text, file="src/lib.rt"):
+    """The functions of a text, by their names. It is the root of its crate unless another file is named."""
+    return {it.name: it for it in edit_rounds.functions_of(text, file)}
 
 
 def edit_in(name, *functions):
@@ -304,26 +345,59 @@ def edit_in(name, *functions):
 
 def try_rounds(counts):
     """What may share a check, on texts alone."""
-    calls, bodies = edit_rounds.Calls({"src/lib.rt": BODIES}), functions_in(BODIES)
-    edit_of = lambda name: edit_in(name, bodies[name])
-    owners = {"even": "", "own": "Kept", "held": None, "within": None, "bounded": None}
-    expect(counts, "where functions stand", {it: bodies[it].owner for it in owners}, owners)
-    alone = {it for it in bodies if not calls.can_have_twin(bodies[it])}
-    expect(counts, "functions that have no twin", alone, {"even", "odd", "third", "down", "held", "within", "bounded", "from"})
+    calls, bodies = edit_rounds.Calls({"src/lib.rt": BODIES, "src/bounds.rt": BOUNDS}, {"down"}), functions_in(BODIES)
+    bounds = functions_in(BOUNDS, "src/bounds.rt")
+    edit_of = lambda name: edit_in(name, bodies.get(name) or bounds[name])
+    owners = {"even": ("", ""), "own": ("Kept", ""), "held": (None, "Kept"), "lent": (None, ""), "within": (None, ""), "bounded": (None, "")}
+    expect(counts, "where functions stand", {it: (bodies[it].owner, bodies[it].by_trait) for it in owners}, owners)
+    lines = BODIES.split("\n")
+    expect(counts, "where a body ends", [lines[bodies[it].last] for it in ("even", "within", "law", "behind")], ["}", "    }", "{}", "fn behind() {}"])
+    alone = {it for it in bodies if not calls.have_twins(edit_of(it))}
+    expect(counts, "functions that have no twin", alone, {"held", "lent", "within", "bounded", "from"})
+    alone = {it for it in bodies if not calls.can_share(edit_of(it))}
+    expect(counts, "functions whose edits are tried alone", alone, {"down"})
+    of_clauses = lambda name: edit_rounds.Edit("", "", (bodies[name],), True)
+    shared = [it for it in ("alone", "held") if calls.can_share(of_clauses(it))]
+    expect(counts, "functions whose contracts' edits share a check", shared, ["alone"])
     for one, other, wanted in (
-        ("even", "odd", False), ("even", "third", False), ("odd", "even", False), ("even", "alone", True), ("held", "held", False),
+        ("even", "odd", True), ("even", "alone", True), ("held", "held", False), ("held", "lent", True), ("held", "bound", True),
         ("top", "alone", True), ("alone", "alone", True), ("held", "named", True), ("top", "held", False), ("held", "top", False),
-        ("from", "handed_on", False), ("from", "top", True),
+        ("from", "handed_on", False), ("from", "top", True), ("lent", "lends", False), ("lent", "bound", True),
     ):  # fmt: skip
         expect(counts, f"{one} beside {other}", calls.go_together(edit_of(one), edit_of(other)), wanted)
-    group = [edit_of(it) for it in ("even", "down", "held", "alone", "top", "alone")]
+    group = [edit_of(it) for it in ("held", "lent", "from", "alone", "top", "alone")]
     taken = edit_rounds.next_round(group, calls, lambda edits: len(edits) < 3)
-    expect(counts, "edits of a round", [it.path for it in taken], [f"{it}.edit" for it in ("even", "down", "alone", "top", "alone")])
+    expect(counts, "edits of a round", [it.path for it in taken], [f"{it}.edit" for it in ("held", "lent", "alone", "alone")])
+
+
+def try_rings(counts):
+    """Which functions are on a ring of calls, by the folders of proofs and by what stands above them."""
+    marked = BODIES.replace("fn odd(", "/// Odd.\n#[cycle(parity)]\n#[inline]\nfn odd(")
+    with tempfile.TemporaryDirectory() as folder:
+        write_below(folder, {"src/lib.rt": marked, "proofs/+down/Proof.antt": "", "proofs/even/Answers.antt": ""})
+        expect(counts, "functions on rings", edit_rounds.rings_of(folder), {"down", "odd"})
+
+
+def try_changes(counts):
+    """Which functions an edit changes, and whether it changes more of them than bodies."""
+    with tempfile.TemporaryDirectory() as folder:
+        write_below(folder, {"src/lib.rt": BODIES, "specs/Said.antt": "said = 1\n"})
+        for text, wanted in (
+            ("file: src/lib.rt\nold:     third(n)\nnew:     even(n)\n", (["odd"], False)),
+            ("file: src/lib.rt\nold:         ensures { result ≡ 2 }\nnew:         ensures { result ≡ 3 }\n", (["own"], True)),
+            ("file: src/lib.rt\nold: n + 0 ≡ n\nnew: n + 1 ≡ n\n", (["law"], True)),
+            ("file: src/lib.rt\nold: fn named(held: u32) -> u32 {\nnew: fn named(held: u32) -> u64 {\n", ([], False)),
+            ("file: src/lib.rt\nold: fn named(held: u32) -> u32 {\nnew: fn named(held: u32) -> u32 { return 1;\n", (["named"], False)),
+            ("file: src/lib.rt\nold: struct Kept<X>(X);\nnew: struct Kept<X>(u8);\n", ([], False)),
+            ("file: specs/Said.antt\nold: said = 1\nnew: said = 2\n", ([], False)),
+        ):  # fmt: skip
+            found, is_of_contract = edit_rounds.functions_changed(text, folder)
+            expect(counts, f"what is changed by {text}", ([it.name for it in found], is_of_contract), wanted)
 
 
 def try_reports(counts):
     """What a report of a shared check says of its edits."""
-    function = edit_rounds.Function("put", "src/bytes/sink.rt", "", False, 3, 3, 5)
+    function = edit_rounds.Function("put", "src/bytes/sink.rt", "", "", False, 3, 3, 5)
     for told, wanted in (
         ("rom_fields::bytes::sink::put", True), ("rom_fields::bytes::sink::Plain::put", True), ("rom_fields::bytes::put", False),
         ("rom_fields::bytes::sink::output", False), ("rom_fields::sink::put", False),
@@ -341,10 +415,10 @@ def try_reports(counts):
         ("fn a::bytes::sink::put: proved\nfn a::other: no proof: it calls `a::bytes::sink::put`, which is not proved", 0),
     ):  # fmt: skip
         expect(counts, f"what is refused by: {report}", len(edit_rounds.refusals(report, [edit], [])), wanted)
-    other = edit_in("other", edit_rounds.Function("other", "src/lib.rt", "", False, 7, 7, 9))
+    other = edit_in("other", edit_rounds.Function("other", "src/lib.rt", "", "", False, 7, 7, 9))
     report = "fn a::bytes::sink::put: no proof of a kind that is new\nfn a::other: not proved"
     expect(counts, "what is refused beside a kind that is new", [*edit_rounds.refusals(report, [edit, other], [])], [other])
-    begin = edit_in("begin", edit_rounds.Function("begin", "src/walk.rt", "Walk", False, 3, 3, 5))
+    begin = edit_in("begin", edit_rounds.Function("begin", "src/walk.rt", "Walk", "", False, 3, 3, 5))
     for names, wanted in (
         (["a::walk::begin", "a::frame::Walk::begin"], ["a::walk::begin"]), (["a::frame::Walk::begin"], ["a::frame::Walk::begin"]),
         (["a::frame::Walk::begin", "a::line::begin"], []), (["a::frame::fn::Walk::begin"], []),
@@ -441,6 +515,8 @@ def try_words(counts):
 def main():
     counts = Counts()
     try_rounds(counts)
+    try_rings(counts)
+    try_changes(counts)
     try_reports(counts)
     try_twins(counts)
     if shutil.which("rt"):

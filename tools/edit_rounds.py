@@ -4,9 +4,9 @@ An edit that changes just the bodies of functions leaves every contract as it wa
 is proved depends on no other such edit, and the edits of a crate can be made in one copy of it and checked together:
 a round. There a function that an edit changes stands as a twin: under a name of its own behind the function that it is
 made from, which stays as it is, with the same contract and the same proof. So edits of one function share a round, and
-so do edits of a function and of its callers. A method of a trait can have no twin, nor a function whose name is part of
-its proof or of another one; such an edit is made in its place. A round speaks of an edit only where the check refuses a
-function of its own for itself.
+so do edits of a function and of its callers, and edits of a contract, which is then the twin's alone. A method of a trait
+can have no twin, nor a function whose name is part of its proof or of another one; an edit of its body is made in its
+place. A round speaks of an edit only where the check refuses a function of its own for itself.
 
 Here is no call of the toolchain: texts go in, and groups and verdicts come out.
 """
@@ -19,6 +19,8 @@ import re
 HEAD = re.compile(r'^(\s*)(?:pub(?:\([^)]*\))? )?(const )?(?:unsafe )?(?:extern "C" )?fn (\w+)')
 # the head of an impl that is of no trait, without what stands in angles
 OF_TYPE = re.compile(r"impl (\w+) (?:where .*)?$")
+# the head of an impl of a trait for a type, likewise
+OF_TRAIT = re.compile(r"impl [\w:]+ for (\w+) (?:where .*)?$")
 # a call in a body: what stands before the name, where that is a point or a type, and the name
 CALL = re.compile(r"(\.|\b[A-Z]\w*::)?\b([a-z_]\w*)(?:::<[^()]*>)?\(")
 # what the check says of a function that is not proved
@@ -41,6 +43,8 @@ class Function:
     file: str
     # the type that it is a method of, nothing where it stands alone, and None where it stands in anything else
     owner: str | None
+    # the type that it is a method of by a trait, nothing where it is of none or the type is not known
+    by_trait: str
     is_const: bool
     head: int
     first: int
@@ -66,15 +70,13 @@ class Function:
 
 @dataclasses.dataclass(frozen=True)
 class Edit:
-    """A must-fail edit: its path, its text, and the functions whose bodies it changes, where it changes nothing else."""
+    """A must-fail edit: its path, its text, the functions that it changes, where it changes nothing else, and whether it
+    changes more of them than their bodies."""
 
     path: str
     text: str
     functions: tuple
-
-    def names(self):
-        """The names of its functions."""
-        return {it.name for it in self.functions}
+    is_of_contract: bool = False
 
 
 def module_of(file):
@@ -93,78 +95,74 @@ def functions_of(text, file):
         depth, opens = head[1], at
         while opens < len(lines) and not is_opening(lines, at, opens, depth):
             opens += 1
-        ends = next((it for it in range(opens + 1, len(lines)) if lines[it] == depth + "}"), None)
+        is_closed = opens < len(lines) and lines[opens].endswith("{}")
+        ends = opens if is_closed else next((it for it in range(opens + 1, len(lines)) if lines[it] == depth + "}"), None)
         if ends is not None:
-            yield Function(head[3], file, owner_of(lines, at), bool(head[2]), at, opens, ends)
+            yield Function(head[3], file, *owner_of(lines, at), bool(head[2]), at, opens, ends)
 
 
 def is_opening(lines, head, at, depth):
     """Whether the body of the function with that head opens at this line: its clauses stand deeper than it."""
-    line = lines[at]
+    line = lines[at].removesuffix("}")
     return line == depth + "{" or line.endswith("{") and (at == head or line.startswith(depth + ")"))
 
 
 def owner_of(lines, head):
     """The type that the function with that head is a method of, nothing where it stands alone, and None where it stands in
-    anything else, as in an impl of a trait."""
+    anything else, as in an impl of a trait; and then the type that this is for, or nothing where it is in none."""
     if not lines[head].startswith(" "):
-        return ""
+        return "", ""
     begins = next((at for at in range(head, -1, -1) if lines[at] and not lines[at].startswith((" ", "{"))), 0)
     header, was = " ".join(lines[begins:head]).split("{")[0], None
     while header != was:
         header, was = re.sub(r"<[^<>]*>", "", header), header
-    found = OF_TYPE.match(header)
-    return found and found[1]
+    own, by_trait = OF_TYPE.match(header), OF_TRAIT.match(header)
+    return own and own[1], by_trait[1] if by_trait else ""
 
 
 def edit_of(path, folder):
-    """Reads an edit. Its functions are none where it changes anything but the bodies of functions."""
+    """Reads an edit. Its functions are none where it changes anything but functions."""
     with open(path, encoding="utf-8") as it:
         text = it.read()
-    return Edit(path, text, functions_changed(text, folder))
+    return Edit(path, text, *functions_changed(text, folder))
 
 
 def functions_changed(text, folder):
-    """The functions in whose bodies alone all lines of an edit stand; none where one stands elsewhere."""
-    found, file = {}, ""
+    """The functions in which alone all lines of an edit stand, none where one stands elsewhere; and whether one of the lines
+    stands before a body."""
+    found, is_of_contract, file, old = {}, False, "", ""
     for line in text.split("\n"):
         if line.startswith("file: "):
             file = line[len("file: ") :].strip()
         elif line.startswith("old: "):
-            function = function_at(folder, file, line[len("old: ") :])
+            old = line[len("old: ") :]
+        elif line.startswith("new: "):
+            function, is_before = function_at(folder, file, old, line[len("new: ") :])
             if function is None:
-                return ()
+                return (), False
             found[function] = None
-    return tuple(found)
+            is_of_contract |= is_before
+    return tuple(found), is_of_contract
 
 
-def function_at(folder, file, old):
-    """The function in whose body a text stands that is in its file once, where a change of the body changes no more
-    than what that function does."""
-    path = f"{folder}/{file}"
+def function_at(folder, file, old, new):
+    """The function in which a text stands that is in its file once, where a change of it to the new one changes no more than that
+    function; and whether it stands before the body, in the clauses."""
+    path, none = f"{folder}/{file}", (None, False)
     if not file.startswith("src/") or not os.path.isfile(path):
-        return None
+        return none
     with open(path, encoding="utf-8") as it:
         text = it.read()
     if text.count(old) != 1:
-        return None
+        return none
     at = text[: text.index(old)].count("\n")
-    around = [it for it in functions_of(text, file) if it.first < at < it.last]
+    # what is put behind the line that opens a body
+    is_behind = old.endswith("{") and new.startswith(old)
+    around = [it for it in functions_of(text, file) if it.head < at < it.last or is_behind and at == it.first < it.last]
     # the body of a constant function, and a constant, may be read where it is used
     if not around or any(it.is_const for it in around) or re.match(r"\s*(const|static|ghost) ", text.split("\n")[at]):
-        return None
-    return around[-1]
-
-
-def words_of_bodies(sources):
-    """The words of each function's body, by the function's name, over all files of a crate."""
-    words = {}
-    for file, text in sources.items():
-        lines = text.split("\n")
-        for it in functions_of(text, file):
-            body = "\n".join(lines[it.first + 1 : it.last])
-            words.setdefault(it.name, set()).update(re.findall(r"\w+", body))
-    return words
+        return none
+    return around[-1], at <= around[-1].first and not is_behind
 
 
 def sources_of(folder):
@@ -204,36 +202,66 @@ def reached(name, called):
     return found
 
 
+def rings_of(folder):
+    """The names of a crate's functions that come to themselves by calls. Such a one has no proof of its own: what is on a ring
+    of calls has one proof, in a folder by its name with a plus, and where others are on the ring each says so above its head."""
+    proofs = [name[1:] for _, names, _ in os.walk(f"{folder}/proofs") for name in names if name.startswith("+")]
+    sources = sources_of(folder).items()
+    said = [it.name for file, text in sources for it in functions_of(text, file) if is_said_on_ring(text.split("\n"), it)]
+    return {*proofs, *said}
+
+
+def is_said_on_ring(lines, function):
+    """Whether the lines above a function's head say that it is on a ring of calls."""
+    above = itertools.takewhile(lambda line: line.lstrip().startswith(("#[", "///")), reversed(lines[: function.head]))
+    return any("#[cycle(" in line for line in above)
+
+
 class Calls:
-    """Which functions of a crate may call which, told by names: by all words of a body, which are too many and never too
-    few, and by what is written as a call."""
+    """Which functions of a crate may call which, told by names and by what is written as a call, and which are on a ring."""
 
-    def __init__(self, sources):
-        words = words_of_bodies(sources)
-        named = {name: body & words.keys() for name, body in words.items()}
+    def __init__(self, sources, rings):
         called = calls_of_bodies(sources)
-        self.named = {name: reached(name, named) for name in named}
+        self.rings = rings
         self.called = {name: reached(name, called) for name in called}
-
-    def can_have_twin(self, function):
-        """Whether a function can stand in a crate twice, under two names: it is of no trait, and does not come to itself."""
-        return function.owner is not None and function.name not in self.named[function.name]
+        self.words = {file: {*re.findall(r"\w+", text)} for file, text in sources.items()}
+        self.files = {}
+        for file, text in sources.items():
+            for it in functions_of(text, file):
+                self.files.setdefault(it.name, set()).add(file)
 
     def have_twins(self, edit):
-        """Whether each function that an edit changes can have a twin."""
-        return all(map(self.can_have_twin, edit.functions))
+        """Whether each function that an edit changes can stand in a crate twice, under two names: it is of no trait."""
+        return all(it.owner is not None for it in edit.functions)
+
+    def can_share(self, edit):
+        """Whether an edit can be tried beside others: it changes nothing but functions that are on no ring, and more of them
+        than bodies just in twins."""
+        is_of_rings = any(it.name in self.rings for it in edit.functions)
+        return bool(edit.functions) and not is_of_rings and (not edit.is_of_contract or self.have_twins(edit))
 
     def go_together(self, one, other):
         """Whether two edits can share a round. No function comes to a twin. Of others the check does not look at what calls one
-        that is refused, itself or through others, and it refuses all that are on a ring of calls or none."""
+        that is refused, itself or through others."""
         if self.have_twins(one) and self.have_twins(other):
             return True
         return not any(self.is_in_way(*pair) for pair in ((one, other), (other, one)))
 
     def is_in_way(self, edit, other):
         """Whether an edit that is made in its place may hide what the check says of the other one."""
-        pairs = [] if self.have_twins(edit) else itertools.product(edit.names(), other.names())
-        return any(own == its or own in self.called[its] or own in self.named[its] and its in self.named[own] for own, its in pairs)
+        pairs = [] if self.have_twins(edit) else itertools.product(edit.functions, other.functions)
+        return any((own.name, own.file) == (its.name, its.file) or self.comes_to(its, own) for own, its in pairs)
+
+    def comes_to(self, function, method):
+        """Whether a function comes to a method of a trait, as far as can be told: by a call that is written, or, in another file,
+        through another crate that it hands the method's type to. Either is so only where the type is known, and not where a bound
+        alone is: a file on the way names it."""
+        called, names = self.called[function.name], lambda file: not method.by_trait or method.by_trait in self.words[file]
+        way = {it for it in called if method.name in self.called[it]}
+        if method.name in called and any(map(names, {function.file}.union(*(self.files[it] for it in way)))):
+            return True
+        others = {function.file}.union(*(self.files[it] for it in called)) - {method.file}
+        return bool(method.by_trait) and any(map(names, others))
 
 
 def next_round(edits, calls, can_be_made):
