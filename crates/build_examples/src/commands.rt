@@ -1,8 +1,8 @@
 //! What is told of a build and of a scan, and a built image that is served.
-use crate::made::{FORMATS, built, contents_of};
+use crate::made::{FORMATS, built, contents_of, read};
 use build_commands::building::{tell_bad_manifest, tell_built, tell_misfit};
 use build_commands::scanning::{Found, put_scan};
-use manifest::{Word, parse};
+use manifest::Word;
 use rom_commands::serving::{Serving, serve_image};
 use rom_fields::bytes::{Failed, Plain};
 use rom_fields::faulty::Faulty;
@@ -90,7 +90,7 @@ fn a_scan_is_a_manifest(rt: HostRuntime) -> Result<(), Fail> {
     let mut w = Plain::new(Vec::new(rt.alloc()));
     assert!(rt; put_scan(&mut w, 1, &found) == Ok(()));
     let held: Vec<u8> = w.into_inner();
-    let manifest = parse(rt.alloc(), &held)?;
+    let manifest = read(rt.alloc(), &held)?;
     for (line, (word, path, text)) in manifest.lines().iter().zip([
         (Word::Dir, "/a b", ""),
         (Word::File, "/a b/é%\n", "x/a b/é%\n"),

@@ -1,6 +1,7 @@
 //! The calls of `manifest`, each once. Texts that are refused, lengths and long texts are cases of the program,
 //! in `tests/cases/build.json`.
-use manifest::{ManifestError, Name, Word, name, parse};
+use crate::made::read;
+use manifest::{ManifestError, Name, Word, name};
 use rom_fields::memory::OutOfMemory;
 use std::test::Fail;
 
@@ -38,13 +39,13 @@ const LINES: [(u64, Word, &[u8], &[u8]); 11] = [
 
 #[test]
 fn every_word(rt: HostRuntime) -> Result<(), Fail> {
-    let manifest = parse(rt.alloc(), EXAMPLE)?;
+    let manifest = read(rt.alloc(), EXAMPLE)?;
     assert_eq!(rt; manifest.volume(), b"boot rom".as_slice());
     assert_eq!(rt; manifest.volume_line(), 2);
     let lines = manifest.lines();
     assert_eq!(rt; lines.len(), LINES.len());
-    for (line, want) in lines.iter().zip(LINES) {
-        let (number, word, path, text) = want;
+    for (line, want) in lines.iter().zip(&LINES) {
+        let &(number, word, path, text) = want;
         assert!(rt; (line.number, line.word) == (number, word));
         assert!(rt; line.path.as_bytes() == path);
         assert!(rt; line.text.as_bytes() == text);
@@ -54,7 +55,7 @@ fn every_word(rt: HostRuntime) -> Result<(), Fail> {
 
 #[test]
 fn attributes(rt: HostRuntime) -> Result<(), Fail> {
-    let manifest = parse(rt.alloc(), EXAMPLE)?;
+    let manifest = read(rt.alloc(), EXAMPLE)?;
     for line in manifest.lines() {
         let owners = (line.mode, line.uid, line.gid);
         let others = (line.align, line.major, line.minor);
@@ -71,7 +72,7 @@ fn attributes(rt: HostRuntime) -> Result<(), Fail> {
 #[test]
 fn sources_stand_in_order(rt: HostRuntime) -> Result<(), Fail> {
     let text = b"file /b 0644 0 0 4 two\nfile /a 0644 0 0 4 one\nfile /c 0644 0 0 4 two";
-    let manifest = parse(rt.alloc(), text)?;
+    let manifest = read(rt.alloc(), text)?;
     let sources = manifest.sources();
     assert_eq!(rt; sources.len(), 3);
     for (source, want) in sources.iter().zip([b"two", b"one", b"two"]) {

@@ -4,7 +4,7 @@ ghost use Rattle.plan_types.specs.Formats.{format_of};
 
 use image_build::{BuildError, build_cramfs, build_cramfs_big, build_romfs};
 use layout_plan::plan;
-use manifest::parse;
+use manifest::{Manifest, parse};
 use plan_types::{Format, Plan};
 use rom_fields::contents::Contents;
 use std::alloc::Global;
@@ -20,6 +20,12 @@ pub fn contents_of<'c>(alloc: Global, all: &[&'c [u8]]) -> Result<Contents<'c>, 
         contents.add(content)?;
     }
     Ok(contents)
+}
+
+/// The manifest that a text is. Nothing is promised of it, so that what is proved over it is proved
+/// sooner.
+pub fn read(alloc: Global, text: &[u8]) -> Result<Manifest, Fail> {
+    Ok(parse(alloc, text)?)
 }
 
 /// The plan of a manifest that fits, for sources of these sizes.

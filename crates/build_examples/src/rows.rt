@@ -1,5 +1,5 @@
 //! The rows of a manifest, in the order of their paths.
-use manifest::parse;
+use crate::made::read;
 use manifest_rows::{Bytes, Inode, PathTargets, Row, What, root, rows};
 use rom_tree::Kind;
 use std::test::Fail;
@@ -89,7 +89,7 @@ fn expected() -> [Row<'static>; 7] {
 
 #[test]
 fn rows_of_a_manifest(rt: HostRuntime) -> Result<(), Fail> {
-    let manifest = parse(rt.alloc(), TEXT)?;
+    let manifest = read(rt.alloc(), TEXT)?;
     assert_eq!(rt; manifest.sources().len(), SIZES.len());
     let files = PathTargets::new(rt.alloc(), &manifest, &SIZES)?;
     let found = rows(rt.alloc(), &manifest, &files)?;
@@ -107,7 +107,7 @@ fn rows_of_a_manifest(rt: HostRuntime) -> Result<(), Fail> {
 
 #[test]
 fn a_root_without_a_line(rt: HostRuntime) -> Result<(), Fail> {
-    let manifest = parse(rt.alloc(), b"")?;
+    let manifest = read(rt.alloc(), b"")?;
     assert_eq!(rt; manifest.sources().len(), 0);
     let files = PathTargets::new(rt.alloc(), &manifest, &[])?;
     assert_eq!(rt; rows(rt.alloc(), &manifest, &files)?.len(), 0);

@@ -111,6 +111,11 @@ fn spoiled(
     Ok((w.into_inner(), ended))
 }
 
+/// Whether a check accepts an image.
+fn is_accepted(alloc: Global, image: &[u8]) -> bool {
+    check(alloc, image, Limits::usual()).is_ok()
+}
+
 /// The image of a manifest with these contents.
 fn image_of(alloc: Global, text: &[u8], all: &[&[u8]], format: Format) -> Result<Vec<u8>, Fail> {
     let contents = contents_of(alloc, all)?;
@@ -125,7 +130,7 @@ fn images_are_accepted_and_streamed(rt: HostRuntime) -> Result<(), Fail> {
     for (text, all, sizes) in FITTING {
         for format in FORMATS {
             let image = image_of(rt.alloc(), text, all, format)?;
-            assert!(rt; check(rt.alloc(), &image, Limits::usual()).is_ok());
+            assert!(rt; is_accepted(rt.alloc(), &image));
             let plan = planned(rt.alloc(), text, sizes, format)?;
             for most in [1, 100, usize::MAX] {
                 let (held, ended) = sent(rt.alloc(), &plan, all, u64::MAX, most)?;

@@ -2,14 +2,14 @@
 ghost use Rattle.std.specs.Prelude.{◌≡◌, ◌≤◌};
 ghost use Rattle.rom_tree.specs.Tree.{levels};
 
+use crate::checked::sound;
 use crate::images::{EMPTY_CRAMFS, HELLO, LINK_AND_DEVICE, LINK_CHAIN, LINKS_AND_DOTS, SAME_NAMES};
-use image_check::check;
 use name_index::Indexed;
 use path_walk::{WalkError, walk};
 use rom_fields::bytes::Plain;
 use rom_serve::{Cached, serve};
 use rom_tree::image::TreeImage;
-use rom_tree::types::{Limits, NodeId};
+use rom_tree::types::NodeId;
 use std::alloc::Global;
 use std::test::Fail;
 
@@ -33,7 +33,7 @@ fn walked_twice(alloc: Global, names: usize) -> Option<([Led; 5], [Led; 5], usiz
     requires some { 1 ≤ names }
     requires few { names ≤ 65536 }
 {
-    let image = check(alloc, SAME_NAMES, Limits::usual()).ok()?;
+    let image = sound(alloc, SAME_NAMES).ok()?;
     let mut image = Cached::new(alloc, image, names).ok()?;
     let first = walked(&mut image);
     let second = walked(&mut image);
@@ -49,7 +49,7 @@ fn the_same_with_and_without(rt: HostRuntime) -> Result<(), Fail> {
         Err(WalkError::Enoent),
         Err(WalkError::Enoent),
     ];
-    let mut image = check(rt.alloc(), SAME_NAMES, Limits::usual())?;
+    let mut image = sound(rt.alloc(), SAME_NAMES)?;
     assert!(rt; walked(&mut image) == want);
     assert!(rt; walked_twice(rt.alloc(), 1) == Some((want, want, 1)));
     assert!(rt; walked_twice(rt.alloc(), 256) == Some((want, want, 5)));
@@ -58,7 +58,7 @@ fn the_same_with_and_without(rt: HostRuntime) -> Result<(), Fail> {
 
 /// Where a path leads in a list of 42 names, through its index.
 fn walked_in_a_long_list(alloc: Global, path: &[u8], follow_last: bool) -> Option<Led> {
-    let image = check(alloc, LINK_CHAIN, Limits::usual()).ok()?;
+    let image = sound(alloc, LINK_CHAIN).ok()?;
     let mut image = Indexed::new(alloc, image);
     Some(walk(&mut image, path, follow_last))
 }
@@ -101,7 +101,7 @@ fn served<'a, T: TreeImage<'a>>(alloc: Global, image: T) -> Option<Vec<u8>>
 
 /// What they are answered from the image of these bytes.
 fn replies(alloc: Global, bytes: &[u8]) -> Option<Vec<u8>> {
-    served(alloc, check(alloc, bytes, Limits::usual()).ok()?)
+    served(alloc, sound(alloc, bytes).ok()?)
 }
 
 /// The same through a cache of so many names.
@@ -109,13 +109,13 @@ fn cached_replies(alloc: Global, bytes: &[u8], names: usize) -> Option<Vec<u8>>
     requires some { 1 ≤ names }
     requires few { names ≤ 65536 }
 {
-    let image = check(alloc, bytes, Limits::usual()).ok()?;
+    let image = sound(alloc, bytes).ok()?;
     served(alloc, Cached::new(alloc, image, names).ok()?)
 }
 
 /// The same through indices.
 fn indexed_replies(alloc: Global, bytes: &[u8]) -> Option<Vec<u8>> {
-    let image = check(alloc, bytes, Limits::usual()).ok()?;
+    let image = sound(alloc, bytes).ok()?;
     served(alloc, Indexed::new(alloc, image))
 }
 
@@ -124,7 +124,7 @@ fn cached_and_indexed_replies(alloc: Global, bytes: &[u8], names: usize) -> Opti
     requires some { 1 ≤ names }
     requires few { names ≤ 65536 }
 {
-    let image = check(alloc, bytes, Limits::usual()).ok()?;
+    let image = sound(alloc, bytes).ok()?;
     let image = Indexed::new(alloc, image);
     served(alloc, Cached::new(alloc, image, names).ok()?)
 }

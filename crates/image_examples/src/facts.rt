@@ -1,4 +1,5 @@
 //! The facts of small images, as they are told.
+use crate::checked::sound;
 use crate::images::HELLO;
 use image_check::check;
 use image_info::{volume, write_info};
@@ -54,7 +55,7 @@ fn tells_of_both_formats(rt: HostRuntime) -> Result<(), Fail> {
 
 #[test]
 fn names_a_volume(rt: HostRuntime) -> Result<(), Fail> {
-    let image = check(rt.alloc(), EMPTY, Limits::usual())?;
+    let image = sound(rt.alloc(), EMPTY)?;
     assert!(rt; volume(&image) == b"a boot volume".as_slice());
     Ok(())
 }

@@ -1,8 +1,9 @@
 //! Open files of one image.
+use crate::checked::sound;
 use crate::images::{HELLO, LINK_AND_DEVICE};
-use image_check::{AnyImage, check};
+use image_check::AnyImage;
 use open_files::{CallError, Fd, Files};
-use rom_tree::types::{Cursor, Entry, Kind, Limits, NodeId, Piece, Stat};
+use rom_tree::types::{Cursor, Entry, Kind, NodeId, Piece, Stat};
 use std::alloc::Global;
 use std::test::Fail;
 
@@ -27,7 +28,7 @@ fn listed<'a>(
 
 /// Open files of the image that holds the file `a`, with that open.
 fn with_a_open(alloc: Global) -> Result<Files<'static, AnyImage<'static>, 64>, Fail> {
-    let mut files = Files::new(check(alloc, HELLO, Limits::usual())?);
+    let mut files = Files::new(sound(alloc, HELLO)?);
     match files.open(b"/a") {
         Ok(_) => Ok(files),
         Err(_) => Err(Fail::new("is opened")),
@@ -36,7 +37,7 @@ fn with_a_open(alloc: Global) -> Result<Files<'static, AnyImage<'static>, 64>, F
 
 #[test]
 fn a_file_by_its_path(rt: HostRuntime) -> Result<(), Fail> {
-    let image = check(rt.alloc(), HELLO, Limits::usual())?;
+    let image = sound(rt.alloc(), HELLO)?;
     let mut files: Files<_, 64> = Files::new(image);
     let stat = Stat {
         ino: 96,
@@ -107,7 +108,7 @@ fn a_file_is_no_directory(rt: HostRuntime) -> Result<(), Fail> {
 
 /// Two open files at most of the image with a directory, and that or the root open.
 fn with_open(alloc: Global, path: &[u8]) -> Result<Files<'static, AnyImage<'static>, 2>, Fail> {
-    let mut files = Files::new(check(alloc, LINK_AND_DEVICE, Limits::usual())?);
+    let mut files = Files::new(sound(alloc, LINK_AND_DEVICE)?);
     match files.open(path) {
         Ok(_) => Ok(files),
         Err(_) => Err(Fail::new("is opened")),
@@ -156,7 +157,7 @@ fn links_and_what_is_not_opened(rt: HostRuntime) -> Result<(), Fail> {
 
 /// The first bytes of a file, lent and then closed, with all that was open.
 fn kept<'a>(alloc: Global, bytes: &'a [u8]) -> Option<Piece<'a>> {
-    let Ok(image) = check(alloc, bytes, Limits::usual()) else {
+    let Ok(image) = sound(alloc, bytes) else {
         return None;
     };
     let mut files: Files<_, 1> = Files::new(image);

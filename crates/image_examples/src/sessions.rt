@@ -1,8 +1,9 @@
 //! Several images with mounts and sessions.
+use crate::checked::sound;
 use crate::images::{HELLO, LINK_AND_DEVICE};
-use image_check::{AnyImage, check};
+use image_check::AnyImage;
 use open_files::{CallError, Fd, Space};
-use rom_tree::types::{Limits, NodeId, Piece};
+use rom_tree::types::{NodeId, Piece};
 use std::alloc::Global;
 use std::test::Fail;
 
@@ -17,8 +18,8 @@ fn lent<'a>(piece: Result<(u32, Piece<'a>), CallError>) -> Result<(u32, u32, &'a
 /// Two images: one with the directory `d`, and one with the file `a`.
 fn two_images(alloc: Global) -> Result<Space<'static, AnyImage<'static>, 64>, Fail> {
     let mut images = Vec::new(alloc);
-    images.push(check(alloc, LINK_AND_DEVICE, Limits::usual())?)?;
-    images.push(check(alloc, HELLO, Limits::usual())?)?;
+    images.push(sound(alloc, LINK_AND_DEVICE)?)?;
+    images.push(sound(alloc, HELLO)?)?;
     Ok(Space::new(images))
 }
 
