@@ -4,12 +4,13 @@ ghost use Rattle.rom_tree.specs.Tree.{levels};
 
 use crate::checked::sound;
 use crate::images::{EMPTY_CRAMFS, HELLO, LINK_AND_DEVICE, LINK_CHAIN, LINKS_AND_DOTS, SAME_NAMES};
+use image_check::check;
 use name_index::Indexed;
 use path_walk::{WalkError, walk};
 use rom_fields::bytes::Plain;
 use rom_serve::{Cached, serve};
 use rom_tree::image::TreeImage;
-use rom_tree::types::NodeId;
+use rom_tree::types::{Limits, NodeId};
 use std::alloc::Global;
 use std::test::Fail;
 
@@ -33,7 +34,7 @@ fn walked_twice(alloc: Global, names: usize) -> Option<([Led; 5], [Led; 5], usiz
     requires some { 1 ≤ names }
     requires few { names ≤ 65536 }
 {
-    let image = sound(alloc, SAME_NAMES).ok()?;
+    let image = check(alloc, SAME_NAMES, Limits::usual()).ok()?;
     let mut image = Cached::new(alloc, image, names).ok()?;
     let first = walked(&mut image);
     let second = walked(&mut image);

@@ -1,9 +1,9 @@
 //! Open files of one image.
 use crate::checked::sound;
 use crate::images::{HELLO, LINK_AND_DEVICE};
-use image_check::AnyImage;
+use image_check::{AnyImage, check};
 use open_files::{CallError, Fd, Files};
-use rom_tree::types::{Cursor, Entry, Kind, NodeId, Piece, Stat};
+use rom_tree::types::{Cursor, Entry, Kind, Limits, NodeId, Piece, Stat};
 use std::alloc::Global;
 use std::test::Fail;
 
@@ -37,7 +37,7 @@ fn with_a_open(alloc: Global) -> Result<Files<'static, AnyImage<'static>, 64>, F
 
 #[test]
 fn a_file_by_its_path(rt: HostRuntime) -> Result<(), Fail> {
-    let image = sound(rt.alloc(), HELLO)?;
+    let image = check(rt.alloc(), HELLO, Limits::usual())?;
     let mut files: Files<_, 64> = Files::new(image);
     let stat = Stat {
         ino: 96,

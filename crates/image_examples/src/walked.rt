@@ -1,8 +1,9 @@
 //! Where paths lead in one image.
-use crate::checked::sound;
 use crate::images::HELLO;
+use image_check::check;
 use path_walk::{WalkError, walk};
 use rom_tree::CheckError;
+use rom_tree::types::Limits;
 use std::alloc::Global;
 use std::test::Fail;
 
@@ -13,7 +14,7 @@ fn walked(
     path: &[u8],
     follow_last: bool,
 ) -> Result<Result<u32, WalkError>, CheckError> {
-    let mut image = sound(alloc, bytes)?;
+    let mut image = check(alloc, bytes, Limits::usual())?;
     match walk(&mut image, path, follow_last) {
         Ok(node) => Ok(Ok(node.0)),
         Err(error) => Ok(Err(error)),
