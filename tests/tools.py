@@ -359,6 +359,8 @@ def try_rounds(counts):
     of_clauses = lambda name: edit_rounds.Edit("", "", (bodies[name],), True)
     shared = [it for it in ("alone", "held") if calls.can_share(of_clauses(it))]
     expect(counts, "functions whose contracts' edits share a check", shared, ["alone"])
+    both = edit_rounds.Edit("", "", (bodies["alone"], bodies["top"]), True)
+    expect(counts, "whether an edit of a contract and of a caller shares a check", calls.can_share(both), False)
     for one, other, wanted in (
         ("even", "odd", True), ("even", "alone", True), ("held", "held", False), ("held", "lent", True), ("held", "bound", True),
         ("top", "alone", True), ("alone", "alone", True), ("held", "named", True), ("top", "held", False), ("held", "top", False),

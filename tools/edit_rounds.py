@@ -235,10 +235,11 @@ class Calls:
         return all(it.owner is not None for it in edit.functions)
 
     def can_share(self, edit):
-        """Whether an edit can be tried beside others: it changes nothing but functions that are on no ring, and more of them
-        than bodies just in twins."""
+        """Whether an edit can be tried beside others: it changes nothing but functions that are on no ring, and more than bodies
+        just of one function that can have a twin. With a second one, which may call it, that would meet the contract as it was."""
         is_of_rings = any(it.name in self.rings for it in edit.functions)
-        return bool(edit.functions) and not is_of_rings and (not edit.is_of_contract or self.have_twins(edit))
+        is_alike = not edit.is_of_contract or len(edit.functions) == 1 and self.have_twins(edit)
+        return bool(edit.functions) and not is_of_rings and is_alike
 
     def go_together(self, one, other):
         """Whether two edits can share a round. No function comes to a twin. Of others the check does not look at what calls one
