@@ -1,5 +1,5 @@
 -- The values of clap's matches, as its rows have them.
-use Rattle.std.proofs.Common.{◌≡◌, ℕ, Bool, true, false, cond, List, [], ◌∷◌, map, Option, Some, None, option_map, slice_get, refl, sym, ap, ap₂, ◌∙◌}
+use Rattle.std.proofs.Common.{◌≡◌, ℕ, Bool, true, false, cond, List, [], ◌∷◌, map, Option, Some, None, option_map, slice_get, refl, sym, ap, ap₂, ◌∙◌, Result, Ok, Err, IfOk}
 use Rattle.std.specs.Prelude.{option_and_then, find, ◌&&◌, not}
 use Rattle.std.specs.Borrow.{Bor}
 use Rattle.std.specs.Str.{bytes_eq}
@@ -76,6 +76,17 @@ pub with_sub : (old sub new : Command) (a : App) (s : Shape) → AddsSubcommand 
     → app_of new ≡ with_subcommand a s
 with_sub old sub new a s h e k p =
     h.shape (not_third _ _ _ _ (ap (λ (x : Shape). x.is_plain) k ∙ p)) ∙ ap₂ with_subcommand e k
+
+-- the same of a result that may have no command
+pub with_last : {E : Type 0} (old sub : Command) (r : Result Command E) (a : App) (s : Shape) → IfOk r (AddsSubcommand old sub) → app_of old ≡ a
+    → shape_of sub ≡ s → s.is_plain ≡ true → IfOk r (λ c. app_of c ≡ with_subcommand a s)
+with_last old sub (Ok new) a s h e k p = with_sub old sub new a s h e k p
+with_last old sub (Err _) a s h e k p = tt
+
+pub put_onto : {E : Type 0} (r : Result Command E) (a b : App) (s : Shape) → a ≡ b → IfOk r (λ c. app_of c ≡ with_subcommand a s)
+    → IfOk r (λ c. app_of c ≡ with_subcommand b s)
+put_onto (Ok c) a b s e h = h ∙ ap (λ x. with_subcommand x s) e
+put_onto (Err _) a b s e h = tt
 
 -- a word that is none of a table
 abbrev pub IsNone : List ℕ → List (List ℕ × ℕ) → Type 0

@@ -1,5 +1,5 @@
 -- The program's subcommands with their arguments, as clap reads words for them. (This project's own.)
-use Rattle.std.specs.Prelude.{◌≡◌, false, true, List, [], ◌∷◌, codes, Some}
+use Rattle.std.specs.Prelude.{◌≡◌, false, true, List, [], ◌∷◌, ◌++◌, codes, Some}
 use Rattle.clap.specs.Words.{App, Rule, Shape, Text, new_rule, shape_of, with_rule}
 use Rattle.clap.specs.Simple.{new_shape}
 use Rattle.clap.specs.declared.builder.action.ArgAction.TheVariants.{SetTrue}
@@ -49,12 +49,18 @@ extract_shape = shape_with (codes "extract")
 abbrev pub romtool_top : App
 romtool_top = with_rule (record { top = record (new_shape (codes "romtool")) { has_version = true }; subs = [] }) (flag_rule (codes "explain"))
 
--- all of them
-abbrev pub romtool_app : App
-romtool_app = record {
+-- with those that tell of one image
+abbrev pub readers_app : App
+readers_app = record {
   top = record romtool_top.top { is_leaf = false };
   subs = image_shape (codes "check") ∷ image_shape (codes "list") ∷ image_shape (codes "info") ∷ map_shape ∷ cat_shape
-      ∷ image_shape (codes "linux") ∷ image_shape (codes "serve")
+      ∷ image_shape (codes "linux") ∷ [];
+}
+
+-- all of them
+abbrev pub romtool_app : App
+romtool_app = record readers_app {
+  subs = readers_app.subs ++ image_shape (codes "serve")
       ∷ shape_with (codes "space") (images_rule ∷ []) ∷ build_shape ∷ scan_shape ∷ extract_shape ∷ [];
 }
 

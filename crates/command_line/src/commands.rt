@@ -1,10 +1,10 @@
 //! The program's subcommands, each in one place: its sentence, its words and its options, as clap
 //! reads them and as help shows them.
 ghost use Rattle.std.specs.Prelude.{◌≡◌, ◌∷◌, [], IfOk, codes, false};
-ghost use Rattle.clap.specs.Words.{app_of, rule_of};
+ghost use Rattle.clap.specs.Words.{app_of, rule_of, with_subcommand};
 ghost use Rattle.command_line.specs.Commands.{IsShaped, build_shape, extract_shape, flag_rule, images_rule};
 ghost use Rattle.command_line.specs.Commands.{cat_shape, map_shape, option_rule, romtool_app};
-ghost use Rattle.command_line.specs.Commands.{romtool_top, scan_shape};
+ghost use Rattle.command_line.specs.Commands.{image_shape, readers_app, romtool_top, scan_shape};
 ghost use Rattle.command_line.specs.Commands.{shape_with, value_rule};
 
 use clap::{Arg, ArgAction, Command};
@@ -89,8 +89,7 @@ fn with_one<'a>(
     requires { arg.global ≡ false }
     ensures { IfOk result (IsShaped (shape_with name.entry.now (rule_of arg.entry ∷ []))) }
 {
-    let command = Command::new(alloc, name).about(about).arg(arg)?;
-    Ok(command)
+    Command::new(alloc, name).about(about).arg(arg)
 }
 
 /// The subcommand `map`.
@@ -100,8 +99,7 @@ fn with_map<'a>(alloc: Global) -> Result<Command<'a>, AllocError>
     let about = "Prints where each file of an image lies, with its address in the flash";
     let command = with_one(alloc, "map", about, image(alloc))?;
     let base = "The address of the image's first byte, in hexadecimal digits; 0 without it";
-    let command = command.arg(option(alloc, "base", "HEX", base))?;
-    Ok(command)
+    command.arg(option(alloc, "base", "HEX", base))
 }
 
 /// The subcommand `cat`.
@@ -116,8 +114,7 @@ fn with_cat<'a>(alloc: Global) -> Result<Command<'a>, AllocError>
         "PATH",
         "The path of the file in the image, from its root",
     );
-    let command = command.arg(path)?;
-    Ok(command)
+    command.arg(path)
 }
 
 /// The subcommand `build`.
@@ -140,8 +137,7 @@ fn with_build<'a>(alloc: Global) -> Result<Command<'a>, AllocError>
         "OUT",
         "The file of the image, which is replaced as a whole",
     );
-    let command = command.arg(out)?;
-    Ok(command)
+    command.arg(out)
 }
 
 /// The subcommand `scan`.
@@ -161,8 +157,7 @@ fn with_scan<'a>(alloc: Global) -> Result<Command<'a>, AllocError>
         "With --all: what romfs, cramfs or cramfs-be does not take is brought to the nearest";
     let command = command.arg(option(alloc, "for", "FORMAT", format))?;
     let align = "With --all: the alignment of executable files, a power of two from 4 to 65536";
-    let command = command.arg(option(alloc, "align", "N", align))?;
-    Ok(command)
+    command.arg(option(alloc, "align", "N", align))
 }
 
 /// The subcommand `extract`.
@@ -183,8 +178,7 @@ fn with_extract<'a>(alloc: Global) -> Result<Command<'a>, AllocError>
         "owners",
         "Sets owners, and all bits of modes; else set-user and set-group are left out",
     );
-    let command = command.arg(owners)?;
-    Ok(command)
+    command.arg(owners)
 }
 
 /// The program without its subcommands.
@@ -196,32 +190,49 @@ fn top<'a>(alloc: Global) -> Result<Command<'a>, AllocError>
         .about(ABOUT)
         .after_help(AFTER);
     let explain = "Says in words, on standard error, why something was refused or failed";
-    let command = command.arg(flag(alloc, "explain", explain))?;
-    Ok(command)
+    command.arg(flag(alloc, "explain", explain))
+}
+
+/// The command with one more subcommand, which takes one image.
+fn with_image<'a>(
+    alloc: Global,
+    command: Command<'a>,
+    name: &'a str,
+    about: &'a str,
+) -> Result<Command<'a>, AllocError>
+    ensures { IfOk result (λ c. app_of c ≡ with_subcommand (app_of command.entry) (image_shape name.entry.now)) }
+{
+    command.subcommand(with_one(alloc, name, about, image(alloc))?)
+}
+
+/// The program with the subcommands that tell of one image.
+fn readers<'a>(alloc: Global) -> Result<Command<'a>, AllocError>
+    ensures { IfOk result (λ c. app_of c ≡ readers_app) }
+{
+    let command = top(alloc)?;
+    let about = "Says whether a file holds a sound image, or which fault it has";
+    let command = with_image(alloc, command, "check", about)?;
+    let about = "Prints a line for each name in an image";
+    let command = with_image(alloc, command, "list", about)?;
+    let about =
+        "Prints the facts of an image: its format, volume, sizes, and how many names of each kind";
+    let command = with_image(alloc, command, "info", about)?;
+    let command = command.subcommand(with_map(alloc)?)?;
+    let command = command.subcommand(with_cat(alloc)?)?;
+    let about = "Prints what Linux gets wrong of a sound image";
+    with_image(alloc, command, "linux", about)
 }
 
 /// The program's subcommands.
 pub fn command<'a>(alloc: Global) -> Result<Command<'a>, AllocError>
     ensures { IfOk result (λ c. app_of c ≡ romtool_app) }
 {
-    let command = top(alloc)?;
-    let about = "Says whether a file holds a sound image, or which fault it has";
-    let command = command.subcommand(with_one(alloc, "check", about, image(alloc))?)?;
-    let about = "Prints a line for each name in an image";
-    let command = command.subcommand(with_one(alloc, "list", about, image(alloc))?)?;
-    let about =
-        "Prints the facts of an image: its format, volume, sizes, and how many names of each kind";
-    let command = command.subcommand(with_one(alloc, "info", about, image(alloc))?)?;
-    let command = command.subcommand(with_map(alloc)?)?;
-    let command = command.subcommand(with_cat(alloc)?)?;
-    let about = "Prints what Linux gets wrong of a sound image";
-    let command = command.subcommand(with_one(alloc, "linux", about, image(alloc))?)?;
+    let command = readers(alloc)?;
     let about = "Answers the lines of standard input from an image";
-    let command = command.subcommand(with_one(alloc, "serve", about, image(alloc))?)?;
+    let command = with_image(alloc, command, "serve", about)?;
     let about = "Answers lines from one to eight images, with sessions and mounts";
     let command = command.subcommand(with_one(alloc, "space", about, images(alloc))?)?;
     let command = command.subcommand(with_build(alloc)?)?;
     let command = command.subcommand(with_scan(alloc)?)?;
-    let command = command.subcommand(with_extract(alloc)?)?;
-    Ok(command)
+    command.subcommand(with_extract(alloc)?)
 }

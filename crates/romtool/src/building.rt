@@ -333,16 +333,19 @@ fn write_image(
 }
 
 /// Builds the image of a manifest in a format into the file `out`, from the files that the manifest
-/// names.
-fn build(teller: &Teller<'_>, format: Format, name: &str, out: &str) -> Result<u64, Status> {
-    let text = text_of(teller, name)?;
-    let manifest = &manifest_of(teller, name, &text.bytes)?;
-    let origin = Origin { name, manifest };
-    let names = names_of(teller, origin, manifest.sources())?;
+/// names. Its text stood in the file of this identity.
+fn build_from(
+    teller: &Teller<'_>,
+    format: Format,
+    origin: Origin<'_>,
+    text: Identity,
+    out: &str,
+) -> Result<u64, Status> {
+    let names = names_of(teller, origin, origin.manifest.sources())?;
     let stamps = stamps_of(teller, origin, &names)?;
     let sizes = sizes_of(teller, &stamps)?;
     let plan = planned(teller, format, origin, &sizes)?;
-    let target = target_of(teller, out, text.identity, &stamps)?;
+    let target = target_of(teller, out, text, &stamps)?;
     let_rest(teller.rt, &stamps);
     let files = Files {
         origin,
@@ -351,6 +354,19 @@ fn build(teller: &Teller<'_>, format: Format, name: &str, out: &str) -> Result<u
     };
     write_image(teller, &plan, files, target, out)?;
     Ok(plan.image_len() as u64)
+}
+
+/// Builds the image of the manifest in a file, in a format, into the file `out`.
+fn build(teller: &Teller<'_>, format: Format, name: &str, out: &str) -> Result<u64, Status> {
+    let text = text_of(teller, name)?;
+    let manifest = &manifest_of(teller, name, &text.bytes)?;
+    build_from(
+        teller,
+        format,
+        Origin { name, manifest },
+        text.identity,
+        out,
+    )
 }
 
 /// Builds as `build` does, says what came of it, and how the command ended.

@@ -23,6 +23,28 @@ use std::io::{self, IsTerminal, Write};
 /// How many bytes the word has that asks to explain.
 const EXPLAIN_LEN: usize = 9;
 
+/// What is to be said in words of a line of standard error.
+fn ending_of(said: &[u8]) -> Option<&'static str> {
+    let line = said.strip_suffix(b"\n")?;
+    match line.strip_prefix(b"err ") {
+        Some(name) => call_sentence(name),
+        None => ending_sentence(line),
+    }
+}
+
+/// What a line of standard error is about: memory, a standard stream, or else what is at this path.
+fn place_of<'a>(said: &[u8], path: &'a [u8]) -> &'a [u8] {
+    if said == b"memory\n".as_slice() {
+        b"memory"
+    } else if said == b"read fault\n".as_slice() || said == b"too many reads\n".as_slice() {
+        b"stdin"
+    } else if said == b"write fault\n".as_slice() {
+        b"stdout"
+    } else {
+        path
+    }
+}
+
 /// Says how a command ends, and explains it in words where standard error is a terminal or the words
 /// ask for it. What it fails to say in words changes nothing.
 #[derive(Clone, Copy)]
@@ -89,17 +111,7 @@ impl<'a> Teller<'a> {
     /// The same of a command that is about the file of this path in an image.
     pub fn hand_on_about<X: Write + Drop>(&self, err: Plain<Held<X>>, path: &[u8]) {
         let mut held = err.into_inner();
-        let ending = match held.held() {
-            [b'e', b'r', b'r', b' ', name @ .., b'\n'] if self.is_explained => call_sentence(name),
-            [line @ .., b'\n'] if self.is_explained => ending_sentence(line),
-            _ => None,
-        };
-        let place = match held.held() {
-            b"memory\n" => b"memory".as_slice(),
-            b"read fault\n" | b"too many reads\n" => b"stdin",
-            b"write fault\n" => b"stdout",
-            _ => path,
-        };
+        let (ending, place) = (ending_of(held.held()), place_of(held.held(), path));
         let _ = held.flush();
         if let Some(sentence) = ending {
             self.explain(place, &sentence);
