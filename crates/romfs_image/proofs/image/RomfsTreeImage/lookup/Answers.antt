@@ -84,3 +84,15 @@ returns-clause-found c =
     let kd = directory_known c.args.self.now.sound c.args.d.0 c.requires in
     let l : IsList b r k (begins b r c.args.d.0) = kd.0.list kd.1 in
     λ x e. found_none b r k c.loop-at.at c.args.d.0 c.args.name.now x (named c.args.self.now.sound c.args.d.0 x e).0 kd.1 c.loop-at.invariant.list c.loop-at-test.false c.loop-at.invariant.same
+
+pub returns-then-eq-clause-stays : goal.returns-then-eq-clause-stays
+returns-then-eq-clause-stays c = refl
+
+pub returns-then-eq-clause-report : goal.returns-then-eq-clause-report
+returns-then-eq-clause-report c = refl
+
+pub returns-clause-stays : goal.returns-clause-stays
+returns-clause-stays c = refl
+
+pub returns-clause-report : goal.returns-clause-report
+returns-clause-report c = refl

@@ -1,0 +1,5 @@
+use Rattle.std.proofs.Common.{refl}
+use Rattle.romfs_image.proofs.image.Romfs.report.Goals as goal
+
+pub returns : goal.returns
+returns c = refl
