@@ -1,64 +1,25 @@
 //! Where paths lead, and what lines are answered, through a cache of look-ups and through indices.
-ghost use Rattle.std.specs.Prelude.{◌≡◌, ◌≤◌};
+ghost use Rattle.std.specs.Prelude.{◌≤◌};
 ghost use Rattle.rom_tree.specs.Tree.{levels};
 
 use crate::checked::sound;
 use crate::images::{EMPTY_CRAMFS, HELLO, LINK_AND_DEVICE, LINK_CHAIN, LINKS_AND_DOTS, SAME_NAMES};
-use image_check::check;
 use name_index::Indexed;
 use path_walk::{WalkError, walk};
+use rom_commands::serving::{Serving, serve_image};
 use rom_fields::bytes::Plain;
 use rom_serve::{Cached, serve};
 use rom_tree::image::TreeImage;
-use rom_tree::types::{Limits, NodeId};
+use rom_tree::types::NodeId;
 use std::alloc::Global;
 use std::test::Fail;
 
-/// Where a path leads.
-type Led = Result<NodeId, WalkError>;
-
-/// Where five paths lead, one after the other.
-fn walked<'a, T: TreeImage<'a>>(image: &mut T) -> [Led; 5]
-    requires { levels (T.image image.old).tree ≤ 65 }
-    ensures { T.image image.new ≡ T.image image.old }
-{
-    let first = walk(image, b"/a/x", true);
-    let other = walk(image, b"/b/x", true);
-    let again = walk(image, b"/a/x", true);
-    let absent = walk(image, b"/b/y", true);
-    [first, other, again, absent, walk(image, b"/b/y", true)]
-}
-
-/// Where the paths lead twice through a cache of so many names, and how many are kept then.
-fn walked_twice(alloc: Global, names: usize) -> Option<([Led; 5], [Led; 5], usize)>
-    requires some { 1 ≤ names }
-    requires few { names ≤ 65536 }
-{
-    let image = check(alloc, SAME_NAMES, Limits::usual()).ok()?;
-    let mut image = Cached::new(alloc, image, names).ok()?;
-    let first = walked(&mut image);
-    let second = walked(&mut image);
-    Some((first, second, image.held()))
-}
-
-#[test]
-fn the_same_with_and_without(rt: HostRuntime) -> Result<(), Fail> {
-    let want = [
-        Ok(NodeId(108)),
-        Ok(NodeId(124)),
-        Ok(NodeId(108)),
-        Err(WalkError::Enoent),
-        Err(WalkError::Enoent),
-    ];
-    let mut image = sound(rt.alloc(), SAME_NAMES)?;
-    assert!(rt; walked(&mut image) == want);
-    assert!(rt; walked_twice(rt.alloc(), 1) == Some((want, want, 1)));
-    assert!(rt; walked_twice(rt.alloc(), 256) == Some((want, want, 5)));
-    Ok(())
-}
-
 /// Where a path leads in a list of 42 names, through its index.
-fn walked_in_a_long_list(alloc: Global, path: &[u8], follow_last: bool) -> Option<Led> {
+fn walked_in_a_long_list(
+    alloc: Global,
+    path: &[u8],
+    follow_last: bool,
+) -> Option<Result<NodeId, WalkError>> {
     let image = sound(alloc, LINK_CHAIN).ok()?;
     let mut image = Indexed::new(alloc, image);
     Some(walk(&mut image, path, follow_last))
@@ -114,20 +75,14 @@ fn cached_replies(alloc: Global, bytes: &[u8], names: usize) -> Option<Vec<u8>>
     served(alloc, Cached::new(alloc, image, names).ok()?)
 }
 
-/// The same through indices.
-fn indexed_replies(alloc: Global, bytes: &[u8]) -> Option<Vec<u8>> {
-    let image = sound(alloc, bytes).ok()?;
-    served(alloc, Indexed::new(alloc, image))
-}
-
-/// The same through indices behind a cache of so many names.
-fn cached_and_indexed_replies(alloc: Global, bytes: &[u8], names: usize) -> Option<Vec<u8>>
-    requires some { 1 ≤ names }
-    requires few { names ≤ 65536 }
-{
-    let image = sound(alloc, bytes).ok()?;
-    let image = Indexed::new(alloc, image);
-    served(alloc, Cached::new(alloc, image, names).ok()?)
+/// The same as the program answers them: through a cache of 256 names, and indices behind it.
+fn program_s_replies(alloc: Global, bytes: &[u8]) -> Option<Vec<u8>> {
+    let mut r = Plain::new(LINES);
+    let mut w = Plain::new(Vec::new(alloc));
+    match serve_image(alloc, bytes, &mut r, &mut w) {
+        Serving::Served => Some(w.into_inner()),
+        _ => None,
+    }
 }
 
 /// Images that are read in each way.
@@ -161,15 +116,11 @@ fn the_same_through_a_cache(rt: HostRuntime) -> Result<(), Fail> {
 }
 
 #[test]
-fn the_same_through_indices(rt: HostRuntime) -> Result<(), Fail> {
+fn the_same_as_the_program_answers(rt: HostRuntime) -> Result<(), Fail> {
     for image in IMAGES {
         let plain = replies(rt.alloc(), image).ok_or("is served")?;
-        let indexed = indexed_replies(rt.alloc(), image).ok_or("is served")?;
-        assert!(rt; indexed.as_slice() == plain.as_slice());
-        for names in [1, 256] {
-            let cached = cached_and_indexed_replies(rt.alloc(), image, names).ok_or("is served")?;
-            assert!(rt; cached.as_slice() == plain.as_slice());
-        }
+        let told = program_s_replies(rt.alloc(), image).ok_or("is served")?;
+        assert!(rt; told.as_slice() == plain.as_slice());
     }
     Ok(())
 }

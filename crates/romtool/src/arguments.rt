@@ -27,7 +27,6 @@ fn word(rt: &HostRuntime, number: usize) -> Result<Option<Vec<u8>>, AllocError> 
 }
 
 /// Why the words of the command line cannot be read.
-#[derive(Clone, Copy, PartialEq, Eq)]
 pub enum NoWords {
     /// Memory was refused.
     OutOfMemory,

@@ -214,7 +214,7 @@ impl<'a> Teller<'a> {
     /// Says in words which fault the image in a file has, where it has one. Where words are wanted, it
     /// gives whether the image has none.
     pub fn explain_image(&self, name: &[u8], bytes: &[u8]) -> bool {
-        self.is_explained && matches!(self.try_explain_image(name, bytes), Ok(false))
+        self.is_explained && !self.try_explain_image(name, bytes).unwrap_or(true)
     }
 
     /// Says it where there is one, and whether there is one.
@@ -237,7 +237,10 @@ impl<'a> Teller<'a> {
             return;
         }
         for (name, file) in names.iter().zip(files) {
-            if let Ok(true) = self.try_explain_image(name.as_bytes(), file) {
+            if self
+                .try_explain_image(name.as_bytes(), file)
+                .unwrap_or(false)
+            {
                 return;
             }
         }
