@@ -22,3 +22,6 @@ loop-done-preserved g c =
           fill_step b c.read_at.new.buf (drop c.args.at (content_of cs c.args.file)) d c.in-Ok.n inv.within (inv.read cs is)
           (next ∙ ap (take c.in-Ok.n) (sym (drop-drop d c.args.at (content_of cs c.args.file))));
     }
+
+pub returns-in-Ok-eq0-clause-ok : goal.returns-in-Ok-eq0-clause-ok
+returns-in-Ok-eq0-clause-ok g c = record {}
