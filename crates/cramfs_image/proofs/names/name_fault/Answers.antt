@@ -11,3 +11,6 @@ returns-then-not-is_other-clause-fault c = λ before t. least_dot (t.new c.if-re
 
 pub returns-then-is_unsorted-clause-fault : goal.returns-then-is_unsorted-clause-fault
 returns-then-is_unsorted-clause-fault c = λ before t. least_unsorted (t.new c.if-repeated.false) (c.is_other.ensures.0 c.if-not-is_other.false) (c.if-is_unsorted.ensures.unsorted before t.last_is)
+
+pub returns-then-is_unsorted-clause-well : goal.returns-then-is_unsorted-clause-well
+returns-then-is_unsorted-clause-well c = λ before t. record {}

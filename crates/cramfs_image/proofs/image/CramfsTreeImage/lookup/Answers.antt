@@ -72,3 +72,15 @@ returns-clause-found c =
     let l = c.loop-at-test.false in
     let past : list_end c.args.self.now.accessible.order b c.args.d.0 ≤ c.loop-at.at = omega arith in
     λ x h. found_none c.args.self.now.accessible.order b k c.loop-at.at c.args.d.0 c.args.name.now x (named c.args.self.now.sound c.args.d.0 x h).0 kd.1 past c.loop-at.invariant.same
+
+pub returns-then-eq-clause-stays : goal.returns-then-eq-clause-stays
+returns-then-eq-clause-stays c = refl
+
+pub returns-clause-stays : goal.returns-clause-stays
+returns-clause-stays c = refl
+
+pub returns-then-eq-clause-report : goal.returns-then-eq-clause-report
+returns-then-eq-clause-report c = refl
+
+pub returns-clause-report : goal.returns-clause-report
+returns-clause-report c = refl
