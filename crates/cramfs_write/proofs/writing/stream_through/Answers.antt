@@ -1,10 +1,10 @@
 use Rattle.std.proofs.Common.{ℕ, List, length, sym, ap, subst, ◌∙◌}
 use Rattle.std.specs.Io.KnownBytes.{Appends}
-use Rattle.std.specs.Prelude.{IfErr}
+use Rattle.std.specs.Prelude.{IfErr, OnOk}
 use Rattle.rom_fields.specs.Written.{AppendsPrefix}
 use Rattle.cramfs_format.specs.declared.order.Order.{Order}
 use Rattle.crc.specs.Crc.{crc_of}
-use Rattle.image_stream.specs.Outcomes.{IsStreamFault}
+use Rattle.image_stream.specs.Outcomes.{IsStreamFault, IsWritten}
 use Rattle.image_stream.specs.Segments.{Form, image_of}
 use Rattle.plan_types.specs.Plans.{Planned, IsPlanOf}
 use Rattle.manifest_layout.specs.Format.{cramfs}
@@ -53,3 +53,10 @@ returns-clause-fault g c = λ o is.
     let same = one_order (sym c.order_of-order.ensures ∙ is) in
     subst (λ (f : Form). IfErr c.stream_through.result (IsStreamFault (g.S.Sources.told c.args.sources.now) f crc_of
     (g.S.Sources.reads c.args.sources.now) (g.S.Sources.reads c.stream_through.new.sources) (g.W.ByteWrite.output c.args.w.now) (g.W.ByteWrite.output c.stream_through.new.w))) (one_form (e.order ∙ same) e.plan) c.stream_through.ensures.fault
+
+pub returns-clause-some : goal.returns-clause-some
+returns-clause-some g c = λ o is.
+    let e = c.new-form.ensures in
+    let same = one_order (sym c.order_of-order.ensures ∙ is) in
+    subst (λ (f : Form). OnOk c.stream_through.result (IsWritten (g.S.Sources.told c.args.sources.now) f crc_of
+    (g.W.ByteWrite.output c.args.w.now).contents (g.W.ByteWrite.output c.stream_through.new.w).contents)) (one_form (e.order ∙ same) e.plan) c.stream_through.ensures.some
