@@ -1,4 +1,4 @@
-use Rattle.std.proofs.Common.{◌≤◌, sym, subst, arith}
+use Rattle.std.proofs.Common.{◌≤◌, sym, subst, arith, rules}
 use Rattle.std.specs.List.{AllByRecursion as Every}
 use Rattle.cramfs_plan.proofs.Placing.{near_lists}
 use Rattle.cramfs_plan.proofs.walk.Placer.place.Goals as goal
@@ -16,3 +16,6 @@ returns-clause-near c = λ near h.
           (subst (λ l. Every (λ n. n ≤ near) l) (sym e.same.1) h.lists) c.entry_len.ensures.short (omega (arith, at, up, same));
       tables = λ k t is. let l = e.near near h k t is in omega (arith, l);
     }
+
+pub returns-clause-stands : goal.returns-clause-stands
+returns-clause-stands c = λ w h. let up = c.pad.ensures in search rules
