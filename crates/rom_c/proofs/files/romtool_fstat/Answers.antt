@@ -34,3 +34,6 @@ returns-clause-shows c = λ z t h.
     let e = same m all n c.node_of.result f.node f.position c.image_of.ensures.cursors c.node_of.ensures.node c.node_of.ensures.position in
     in_tree K all m.bytes t (tree_of_parts all n) m.tree n f.node f.position c.one_tree.ensures (λ o. Prim.hlevel props) (f.image.tree z.0) h
     c.image_of.ensures.bytes c.image_of.ensures.tree s (λ o k. c.fstat_in.ensures o (e ∙ k))
+
+pub returns-then-not-is_open-clause-closed : goal.returns-then-not-is_open-clause-closed
+returns-then-not-is_open-clause-closed c = λ z. c.no_stat.ensures
