@@ -1,6 +1,5 @@
-use Rattle.std.proofs.Common.{arith}
-use Rattle.std.proofs.lemmas.Grind.{common_steps}
+use Rattle.rom_fields.proofs.Joins.{chain}
 use Rattle.rom_commands.proofs.printing.complain.Goals as goal
 
 pub returns : goal.returns
-returns g c = grind (arith, common_steps)
+returns g c = (c.put-2.new.failed, chain c.put.ensures (chain c.put_escaped.ensures c.put-2.ensures))

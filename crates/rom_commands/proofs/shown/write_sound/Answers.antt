@@ -3,3 +3,9 @@ use Rattle.rom_commands.proofs.shown.write_sound.Goals as goal
 
 pub list-requires : goal.list-requires
 list-requires g c κs = ((refl, tt), c.requires.shallow)
+
+pub returns-in-Ok-map-clause-text : goal.returns-in-Ok-map-clause-text
+returns-in-Ok-map-clause-text g c = rw c.in-Map.is (c.in-Ok-map.ensures.ok, c.in-Ok-map.ensures.count)
+
+pub returns-in-Err-map-clause-text : goal.returns-in-Err-map-clause-text
+returns-in-Err-map-clause-text g c = rw c.in-Map.is (c.in-Err-map.ensures.err, c.in-Err-map.ensures.count)
