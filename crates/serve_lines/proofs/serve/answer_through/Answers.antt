@@ -1,4 +1,4 @@
-use Rattle.std.proofs.Common.{◌∙◌, ◌≡◌, sym, subst, arith, true, [], List, ℕ, Option, drop}
+use Rattle.std.proofs.Common.{◌∙◌, ap, ◌≡◌, sym, subst, arith, true, [], List, ℕ, Option, drop}
 use Rattle.std.specs.Io.KnownBytes.{append_known}
 use Rattle.rom_fields.specs.Written.{AppendsPrefix}
 use Rattle.rom_fields.proofs.Joins.{said_ok, said_front, said_rose, said_quiet}
@@ -58,3 +58,13 @@ returns-in-Ok-clause-count g c = c.in-Ok.ensures.count ∙ said_quiet _ _ _ _ c.
 pub returns-in-Err-clause-count : goal.returns-in-Err-clause-count
 returns-in-Err-clause-count g c =
     failed_counts _ _ _ (said_quiet _ _ _ _ c.if-failed.false c.answer-last.ensures.text) c.in-Err.ensures.count
+
+pub returns-in-Ok-clause-last : goal.returns-in-Ok-clause-last
+returns-in-Ok-clause-last g c =
+    c.answer-last.ensures.last ∙ ap (g.M.LineMachine.machine c.args.m.now).ends c.as_slice.ensures.value
+
+pub returns-in-Err-clause-last : goal.returns-in-Err-clause-last
+returns-in-Err-clause-last g c = tt
+
+pub returns-in-Err-clause-flushed : goal.returns-in-Err-clause-flushed
+returns-in-Err-clause-flushed g c = c.in-Err.ensures.flushed ∙ c.answer-last.ensures.text.unflushed
