@@ -5,3 +5,6 @@ returns-clause-text g c = c.put_answer.ensures.text
 
 pub returns-clause-step : goal.returns-clause-step
 returns-clause-step g c = c.put_answer.ensures.step
+
+pub returns-clause-last : goal.returns-clause-last
+returns-clause-last g c = c.put_answer.ensures.last
