@@ -29,9 +29,11 @@ returns-clause-ok g c =
     put_end cs f.segments f.end c.loop-i.at c.loop-i.i c.loop-i.out c.zero.new.out (f.head 0 ++ rest) (omega arith)
     c.loop-i.invariant.room c.loop-i.invariant.put c.zero.ensures in
     let stored : c.value.result ≡ g.C.Checksum.stored (f.head 0 ++ rest) =
-    c.value.ensures c.zero.new.out (c.add.ensures [] c.start-check.ensures) ∙ ap g.C.Checksum.stored whole in
-    (c.in-Ok.ensures.ok, head_over (f.head 0) (f.head c.value.result) c.zero.new.out c.put_head-2.new.out rest f.start c.put_head.ensures.length whole
-    c.put_head-2.ensures.put ∙ ap (λ (v : ℕ). f.head v ++ rest) stored)
+    c.value.ensures c.zero.new.out (c.add.ensures [] c.start-check.ensures) ∙ ap g.C.Checksum.stored whole in (
+      c.in-Ok.ensures.ok,
+      head_over (f.head 0) (f.head c.value.result) c.zero.new.out c.put_head-2.new.out rest f.start c.put_head.ensures.length whole
+          c.put_head-2.ensures.put ∙ ap (λ (v : ℕ). f.head v ++ rest) stored,
+    )
 
 pub loop-i-init : goal.loop-i-init
 loop-i-init g c =

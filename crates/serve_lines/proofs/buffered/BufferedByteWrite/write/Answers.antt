@@ -26,5 +26,5 @@ returns-in-Ok-try_extend_from_slice-clause-bytes g c =
     let s = c.make_room.new.sent in
     let same : take (length t) b ≡ t = search rules in
     let after : drop s c.try_extend_from_slice.new.self.items ≡ drop s h ++ t =
-        ap (drop s) c.in-Ok-try_extend_from_slice.ensures.ok ∙ drop-append-le s h t c.make_room.ensures.within in
+    ap (drop s) c.in-Ok-try_extend_from_slice.ensures.ok ∙ drop-append-le s h t c.make_room.ensures.within in
     rw after (rw same (taken _ _ c.make_room.ensures.text.0 _ _ t c.make_room.ensures.text.1 c.make_room.ensures.text.2))
