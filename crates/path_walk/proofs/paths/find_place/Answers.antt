@@ -8,7 +8,7 @@ use Rattle.path_walk.specs.declared.mount.Location.{Location}
 use Rattle.path_walk.specs.Components.{begins_with_slash}
 use Rattle.path_walk.specs.Resolution.{Namespace, at_root, Trail, resolution, resolve, to_root}
 use Rattle.path_walk.specs.Graft.{MountedNode, graft, bytes_in, are_mounts, AreShallow}
-use Rattle.path_walk.specs.Trails.{Held, NamesAt, IsTrail, NoneEmpty, unread_bytes}
+use Rattle.path_walk.specs.Trails.{Held, NamesAt, IsTrail, NoneEmpty, unread_bytes, unread_components}
 use Rattle.path_walk.proofs.Texts.{none-push, none-nil, bytes-push}
 use Rattle.path_walk.proofs.Trails.{first_trail, root_named}
 use Rattle.path_walk.proofs.Turns.{first_components, turn_fails, turn_goes, turn_loops, turn_follows, walk_ends}
@@ -36,6 +36,9 @@ loop-component-init g c =
     let P : List (Bor (List ℕ)) → Type 0 = λ v. NoneEmpty v in
     let root : Location = record { image = 0; node = c.root_in.result } in
     let rs : NamesAt ms root gr.root = root_named ms us root c.requires.some refl c.root_in.ensures in
+    let all : Result MountedNode WalkError = resolution gr path follow in
+    let R : ℕ → Type 0 = λ n. resolve gr follow n (at_root gr) (unread_components c.push.new.self.items) ≡ all in
+    let r : R 40 = ap (resolve gr follow 40 (at_root gr)) (first_components c.push.new.self.items c.args.path u) ∙ sym (c.in_ok-check_path.ensures.leads gr follow) in
     record {
       held = refl;
       trail = at_root gr;
@@ -43,7 +46,7 @@ loop-component-init g c =
       links = omega arith;
       full = omega (arith, ap length u);
       none_empty = subst P (sym u) (none-push [] c.args.path none-nil c.in_ok-check_path.ensures.some);
-      rest = ap (resolve gr follow 40 (at_root gr)) (first_components c.push.new.self.items c.args.path u) ∙ sym (c.in_ok-check_path.ensures.leads gr follow);
+      rest = subst R refl r;
     }
 
 pub advance-requires : goal.advance-requires
@@ -158,3 +161,10 @@ returns-clause-leads g c =
     let follow : Bool = c.args.follow_last in
     let i = c.loop-component.invariant in
     (i.trail.current, walk_ends gr follow c.loop-component.links i.trail c.loop-component.unread.items (resolution gr c.args.path.now follow) i.rest c.in_default.ensures.component, i.is.named)
+
+pub push-requires-in-Some-link : goal.push-requires-in-Some-link
+push-requires-in-Some-link g c =
+    omega (arith, c.loop-component.invariant.full, c.take_component.ensures.len, c.if-links-eq0.false)
+
+pub loop-component-smaller : goal.loop-component-smaller
+loop-component-smaller g c = omega (arith, c.in-Some.ensures.less)
