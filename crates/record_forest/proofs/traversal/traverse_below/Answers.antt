@@ -1,11 +1,11 @@
-use Rattle.std.proofs.Common.{◌≡◌, ◌+◌, ◌≤◌, ℕ, Some, [], ◌∷◌, ◌++◌, length, sym, ap, subst, ◌∙◌, arith, refl}
+use Rattle.std.proofs.Common.{◌≡◌, ◌+◌, ◌-◌, ◌*◌, ◌≤◌, ◌<◌, ◌^◌, ℕ, Some, [], ◌∷◌, ◌++◌, length, sym, ap, subst, ◌∙◌, arith, refl}
 use Rattle.std.proofs.lemmas.List.Elements.{All-pop, All-push, All-weaker, All-nil}
 use Rattle.std.proofs.lemmas.List.{length_push}
 use Rattle.std.specs.List.{All}
 use Rattle.record_forest.specs.declared.traversal.Pending.{Pending}
 use Rattle.record_forest.specs.declared.reference.Edge.{Edge}
 use Rattle.record_forest.proofs.Grows.{edge_is, row_of, after_of, below_root, root_row}
-use Rattle.record_forest.proofs.Whole.{whole_start, whole_none, whole_reached, whole_faulty, whole_again, whole_beside, whole_new, whole_few, whole_sounds, whole_fault, whole_twice, whole_done, whole_popped, whole_pushed, whole_pushed_two, whole_rows, whole_ended}
+use Rattle.record_forest.proofs.Whole.{whole_start, whole_none, whole_many, whole_reached, whole_faulty, whole_again, whole_beside, whole_new, whole_few, whole_sounds, whole_fault, whole_twice, whole_done, whole_popped, whole_pushed, whole_pushed_two, whole_rows, whole_ended}
 use Rattle.record_forest.proofs.Visited.{Visits, visits_start, visits_more, visits_same, visits_fresh, visits_old}
 use Rattle.record_forest.proofs.traversal.traverse_below.Goals as goal
 
@@ -125,3 +125,48 @@ returns-clause-ok g c =
     let empty : length c.references.stack.items ≡ 0 = omega (arith, c.in_default.ensures.cases) in
     let w = whole_ended _ empty c.references.invariant.whole in
     whole_done w c.in-None-None.is-0 c.in-None-None.is-1
+
+-- one reference fewer is pending or allowed, and at most two are added where one is counted
+popped_less : (m n a b : ℕ) → a ≡ b + 1 → 2 * (m - n) + b < 2 * (m - n) + a
+popped_less m n a b e = omega arith
+
+counted_less : (m n a b k : ℕ) → n ≤ m → (n ≡ m → ⊥) → a ≡ b + 1 → k ≤ b + 2 → 2 * (m - (n + 1)) + k < 2 * (m - n) + a
+counted_less m n a b k l f e h = omega arith
+
+pub references-smaller-in_default-target : goal.references-smaller-in_default-target
+references-smaller-in_default-target g c = popped_less c.args.most c.references.count (length c.references.stack.items) (length c.pop.new.self.items)
+    (ap length c.in-Some.ensures.items ∙ length_push c.pop.new.self.items c.in-Some.next)
+
+pub references-smaller-in-Err : goal.references-smaller-in-Err
+references-smaller-in-Err g c = counted_less c.args.most c.references.count (length c.references.stack.items) (length c.pop.new.self.items) (length c.pop.new.self.items) c.references.invariant.whole.fits
+    c.if-count-most.false (ap length c.in-Some.ensures.items ∙ length_push c.pop.new.self.items c.in-Some.next) (omega arith)
+
+pub references-smaller-then-branch : goal.references-smaller-then-branch
+references-smaller-then-branch g c =
+    let e : length c.enter.new.stack.items ≡ length c.pop.new.self.items + 1 + 1 = ap length c.in_ok-enter.ensures.stack ∙ (length_push _ _ ∙ ap (λ (n : ℕ). n + 1) (length_push c.pop.new.self.items _)) in
+    counted_less c.args.most c.references.count (length c.references.stack.items) (length c.pop.new.self.items) (length c.enter.new.stack.items) c.references.invariant.whole.fits
+    c.if-count-most.false (ap length c.in-Some.ensures.items ∙ length_push c.pop.new.self.items c.in-Some.next) (omega (arith, e))
+
+pub references-smaller-then-is_chained : goal.references-smaller-then-is_chained
+references-smaller-then-is_chained g c = counted_less c.args.most c.references.count (length c.references.stack.items) (length c.pop.new.self.items) (length c.pop.new.self.items) c.references.invariant.whole.fits
+    c.if-count-most.false (ap length c.in-Some.ensures.items ∙ length_push c.pop.new.self.items c.in-Some.next) (omega arith)
+
+pub references-smaller : goal.references-smaller
+references-smaller g c =
+    let e : length c.push.new.self.items ≡ length c.pop.new.self.items + 1 = ap length c.in_ok-push.ensures.items ∙ length_push c.pop.new.self.items _ in
+    counted_less c.args.most c.references.count (length c.references.stack.items) (length c.pop.new.self.items) (length c.push.new.self.items) c.references.invariant.whole.fits
+    c.if-count-most.false (ap length c.in-Some.ensures.items ∙ length_push c.pop.new.self.items c.in-Some.next) (omega (arith, e))
+
+pub returns-then-count-most-clause-fault : goal.returns-then-count-most-clause-fault
+returns-then-count-most-clause-fault g c = whole_many (whole_popped _ _ c.in-Some.next c.in-Some.ensures.items c.references.invariant.whole) c.in-Some-target.at c.in-Some-target.is c.if-count-most.true
+
+below_most : (m n d : ℕ) → n ≤ m → (n ≡ m → ⊥) → d ≤ n → m < 2 ^ 32 → d + 1 < 2 ^ 32
+below_most m n d l f e h = omega arith
+
+pub overflow_add-count : goal.overflow_add-count
+overflow_add-count g c = record { fits = below_most c.args.most c.references.count c.references.count c.references.invariant.whole.fits c.if-count-most.false (omega arith) c.ranges.most.fits }
+
+pub enter-requires : goal.enter-requires
+enter-requires g c =
+    let d = (All-pop (Deep (length c.references.rows.items)) _ _ (Some c.in-Some.next) c.in-Some.ensures.items c.references.invariant.deep).1 in
+    below_most c.args.most c.references.count c.in-Some.next.depth c.references.invariant.whole.fits c.if-count-most.false (omega (arith, d, c.references.invariant.whole.size)) c.ranges.most.fits
