@@ -1,6 +1,4 @@
-use Rattle.std.proofs.Common.{arith}
-use Rattle.std.proofs.lemmas.Grind.{common_steps}
 use Rattle.image_check.proofs.any.AnyImageTreeImage.bytes.Goals as goal
 
 pub returns-in-Cramfs : goal.returns-in-Cramfs
-returns-in-Cramfs c = grind (arith, common_steps)
+returns-in-Cramfs c = rw c.in-Cramfs.is c.bytes-in-Cramfs.ensures
