@@ -16,3 +16,6 @@ pub returns-then-is_dot_dot-clause-astray : goal.returns-then-is_dot_dot-clause-
 returns-then-is_dot_dot-clause-astray c = λ before.
     above_astray refl (sym c.name_at-name.ensures ∙ c.is_dot_dot.ensures.dot_dot.0 c.if-is_dot_dot.true)
     (λ e. false≢true (sym c.if-leads-2.false ∙ c.leads-then-is_dot_dot.ensures.1 (c.led_to-then-is_dot_dot.ensures.leads ∙ e)))
+
+pub returns-then-leads-clause-here : goal.returns-then-leads-clause-here
+returns-then-leads-clause-here c = λ e. sym c.led_to.ensures.leads ∙ c.leads.ensures.0 c.if-leads.true
