@@ -81,3 +81,6 @@ returns-clause-sound g c =
     let t : stands (image_view m) s ≡ Some (in_image v k.what) = stands_in_image v s k.what m i k.stands in
     let w = moves_in_view f v s k.what m i k.stands c.seek.new.opened (Ok (tt)) (c.in_ok-seek.ensures (in_image v k.what) t) in
     moves_sound v slots (λ x p. f (v.number x) (v.names.bytes x) (v.names.node x) p) c.args.fd.0 c.set.new.self.slots s c.seek.new.opened k _ w c.set.ensures c.requires
+
+pub returns-in_err-seek-clause-sound : goal.returns-in_err-seek-clause-sound
+returns-in_err-seek-clause-sound g c = c.requires

@@ -75,3 +75,6 @@ returns-clause-lies g c =
     let k : m.cursor_index s.node.0 s.position ≡ Some o.position = i.directory d in
     let n : IsEntry m s.node.0 (entries_of x) o.position c.in-Some.entry.name.now c.in-Some.entry.node.0 c.in-Some.entry.cursor.0 = c.in-Some.ensures x o.position i.place k in
     n.lies
+
+pub returns-clause-cursor : goal.returns-clause-cursor
+returns-clause-cursor g c = refl

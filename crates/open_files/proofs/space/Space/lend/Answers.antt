@@ -1,4 +1,4 @@
-use Rattle.std.proofs.Common.{◌≡◌, ℕ, ◌<◌, List, Option, Some, true, subst, arith, rules, length, get_or, map}
+use Rattle.std.proofs.Common.{◌≡◌, ℕ, ◌<◌, List, Option, Some, true, refl, subst, arith, rules, length, get_or, map}
 use Rattle.rom_tree.specs.Image.{Image}
 use Rattle.path_walk.specs.declared.mount.Mount.{Mount}
 use Rattle.path_walk.specs.Graft.{MountedNode}
@@ -24,7 +24,7 @@ lend-requires g c κs =
     let P : List (Option OpenNode) → Type 0 = λ z. are_sound v z ≡ true in
     let h : are_sound v (get_or ts k d).slots ≡ true = subst P q (sound_at n ms us (map (λ t. t.slots) ts) k c.args.self.now.sound) in
     let w = c.args.self.now.narrow in
-    search rules
+    (search rules, ((refl, tt), h))
 
 pub invariant_of-self-clause-sound : goal.invariant_of-self-clause-sound
 invariant_of-self-clause-sound g c =
