@@ -1,4 +1,4 @@
-use Rattle.std.proofs.Common.{◌+◌, ◌^◌, ◌%◌, ◌<◌, ℕ, drop, sym, ap, ◌∙◌, arith, add-zero}
+use Rattle.std.proofs.Common.{◌≡◌, ◌+◌, ◌^◌, ◌%◌, ◌<◌, ℕ, drop, sym, ap, ◌∙◌, arith, add-zero}
 use Rattle.std.proofs.Math.Nat.{mod-eq_of_lt}
 use Rattle.std.proofs.lemmas.List.{take_rest}
 use Rattle.rom_fields.specs.Words.{words_total, words_sum}
@@ -20,3 +20,6 @@ loop-rest-preserved c =
     rw (take_rest rest 4) (sum_more c.loop-rest.sum c.read_u32-sum.result next (2 ^ 32)
     ∙ ap (λ (x : ℕ). (c.loop-rest.sum + x) % 2 ^ 32) (ap (λ (x : ℕ). x + next) c.read_u32-sum.ensures ∙ sym step)
     ∙ c.loop-rest.invariant)
+
+pub loop-rest-init : goal.loop-rest-init
+loop-rest-init c = let same : 0 + words_total c.args.b.now ≡ words_total c.args.b.now = omega arith in ap (λ (x : ℕ). x % 2 ^ 32) same
