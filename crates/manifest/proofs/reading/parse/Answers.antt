@@ -1,4 +1,5 @@
-use Rattle.std.proofs.Common.{◌+◌}
+use Rattle.std.proofs.Common.{◌≡◌, ◌+◌, Ok, arith}
+use Rattle.std.proofs.lemmas.Grind.{common_steps}
 use Rattle.manifest.proofs.Whole.{whole}
 use Rattle.manifest.proofs.reading.parse.Goals as goal
 
@@ -8,3 +9,6 @@ invariant_of-result c =
       invariant.kept.sources,
       (c.args.text.now, whole c.loop-rest.reader (c.loop-rest.number + 1) c.loop-rest.rest c.args.text.now c.in_default.not-Some invariant.reads),
     )
+
+pub loop-rest-preserved-in_ok-read : goal.loop-rest-preserved-in_ok-read
+loop-rest-preserved-in_ok-read c = let was : c.read.result ≡ Ok c.in_ok-read.field-0 = c.in_ok-read.was in grind (arith, common_steps)
