@@ -1,4 +1,5 @@
-use Rattle.std.proofs.Common.{◌≡◌, ◌+◌, ap, ◌∙◌, arith, length}
+use Rattle.std.proofs.Common.{◌≡◌, ◌+◌, add-zero, ap, sym, ◌∙◌, arith, length}
+use Rattle.std.specs.Prelude.{slice_index}
 use Rattle.rom_tree.specs.declared.types.Stat.{Stat}
 use Rattle.rom_tree.specs.Tree.{Node, places_of}
 use Rattle.rom_tree.specs.Image.{Image, image_node, IsRun}
@@ -43,4 +44,22 @@ loop-len-preserved g c =
       fits = omega (arith, l, i.fits);
       within = omega (arith, l, r.within);
       row = λ y d. front_more (places_of y) c.args.at c.in-Some.first.place c.loop-len.len c.lesser-len-in-loop-len.result c.in-Some-run.run'.place (i.row y d) (λ k w. (c.in-Some-run.ensures.row y d).row k (omega (arith, l))) (omega arith);
+    }
+
+pub returns-then-from-len : goal.returns-then-from-len
+returns-then-from-len g c = λ x d.
+    let at = c.args.at + c.loop-len.len in
+    let r : IsRun (places_of x) at c.in-Some-run.run' = c.in-Some-run.ensures.row x d in
+    let i = c.loop-len.invariant in
+    let z : c.from-size.result ≡ length (places_of x) = c.from-size.ensures ∙ ap (λ (s : Stat). s.size) (c.stat.ensures x d) in
+    let first : slice_index (places_of x) at ≡ c.in-Some-run.run'.place = ap (slice_index (places_of x)) (sym (add-zero at)) ∙ r.row 0 r.some ∙ add-zero c.in-Some-run.run'.place in
+    let apart : c.in-Some-run.run'.place ≡ c.in-Some.first.place + c.loop-len.len → ⊥ = (λ e. omega arith) in
+    record {
+      within = λ _. omega (arith, i.within, z);
+      fits = i.fits;
+      row = i.row x d;
+      ends = λ _ _ e. apart (sym first ∙ e);
+      some = λ _ _. i.some;
+      small = omega (arith, i.within);
+      none = λ e. absurd (omega (arith, i.some, e));
     }
