@@ -1,5 +1,6 @@
 use Rattle.std.proofs.Common.{◌∙◌, ap, ◌≡◌, sym, subst, arith, true, [], List, ℕ, Option, drop}
 use Rattle.std.specs.Io.KnownBytes.{append_known}
+use Rattle.rom_fields.specs.Failures.{one_more}
 use Rattle.rom_fields.specs.Written.{AppendsPrefix}
 use Rattle.rom_fields.proofs.Joins.{said_ok, said_front, said_rose, said_quiet}
 use Rattle.serve_lines.specs.Starts.{begins_with}
@@ -65,6 +66,9 @@ returns-in-Ok-clause-last g c =
 
 pub returns-in-Err-clause-last : goal.returns-in-Err-clause-last
 returns-in-Err-clause-last g c = tt
+
+pub returns-in-Ok-clause-flushed : goal.returns-in-Ok-clause-flushed
+returns-in-Ok-clause-flushed g c = c.in-Ok.ensures.flushed ∙ ap one_more c.answer-last.ensures.text.unflushed
 
 pub returns-in-Err-clause-flushed : goal.returns-in-Err-clause-flushed
 returns-in-Err-clause-flushed g c = c.in-Err.ensures.flushed ∙ c.answer-last.ensures.text.unflushed
