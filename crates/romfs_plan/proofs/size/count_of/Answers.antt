@@ -1,0 +1,6 @@
+use Rattle.std.proofs.lemmas.Grind.{common_steps}
+use Rattle.std.proofs.Common.{arith}
+use Rattle.romfs_plan.proofs.size.count_of.Goals as goal
+
+pub returns-in-Folder-clause-count : goal.returns-in-Folder-clause-count
+returns-in-Folder-clause-count c = grind (arith, common_steps)
