@@ -1,4 +1,5 @@
-use Rattle.std.proofs.Common.{◌∙◌, sym}
+use Rattle.std.proofs.lemmas.Grind.{common_steps}
+use Rattle.std.proofs.Common.{◌∙◌, sym, arith}
 use Rattle.rom_tree.specs.Image.{Image}
 use Rattle.rom_tree.specs.declared.types.Entry.{Entry}
 use Rattle.name_index.proofs.Lists.{is_next, is_last}
@@ -24,3 +25,6 @@ entries-preserved g c =
     let e : Entry = c.in-Some.entry in
     passed_more m c.args.d.0 c.entries.cursor.0 c.args.name.now c.entries.i e c.entries.invariant
     (is_next m c.args.d.0 c.entries.cursor.0 e c.requires c.entries.invariant.cursor c.in-Some.ensures) (sym c.is_same.ensures ∙ c.if-is_same.false)
+
+pub returns : goal.returns
+returns c = grind (arith, common_steps)
