@@ -118,3 +118,16 @@ returns-clause-whole g c = λ cs is.
     let A : List ℕ → Type 0 = λ v. Appends (g.W.ByteWrite.output c.write_head.new.w).contents (g.W.ByteWrite.output c.walk.new.w).contents v in
     whole_image (L.form c.args.layout.now).head g.C.Checksum.stored c.value-stored.result image right _ _ _ _ c.in-Ok-write_head.ensures.text
     (subst A (image_known _ cs _ _ _ _ (c.sum_walk.ensures.told ∙ c.measure_all.ensures.told ∙ is) two.are) two.written) c.flush.ensures.bytes
+
+pub returns-clause-some : goal.returns-clause-some
+returns-clause-some g c =
+    let f = g.L.Segmented.form c.args.layout.now in
+    let two = c.in-Ok-walk.ensures.ok in
+    let again = two.added (f.head 0) (c.add_head.ensures [] c.start-first.ensures) in
+    let T : Option (List (List ℕ)) → Type 0 = λ t. IsImage t f.start f.segments f.end two.bytes in
+    record {
+      rest = two.bytes;
+      stands = subst T (c.sum_walk.ensures.told ∙ c.measure_all.ensures.told) two.are;
+      written = whole_image f.head g.C.Checksum.stored c.value-stored.result two.bytes (c.in-Ok-confirm.ensures.ok (f.head 0 ++ two.bytes) again)
+          _ _ _ _ c.in-Ok-write_head.ensures.text two.written c.flush.ensures.bytes;
+    }
