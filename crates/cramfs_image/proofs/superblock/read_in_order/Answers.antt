@@ -35,3 +35,15 @@ returns-then-not-has_root-clause-fault c = bad_root c.requires (sym c.word.ensur
     (moved c.args.order (HasCrc c.args.order) _ _ c.in-Some.ensures.part.1 c.if-not-has_crc.ensures.right)
     (moved c.args.order HasSignature _ _ c.in-Some.ensures.part.1 (c.has_signature.ensures.0 c.if-not-has_signature.false))
     (moved c.args.order (λ b. HasRoot c.args.order b → ⊥) _ _ c.in-Some.ensures.part.1 c.if-not-has_root.ensures.other) refl
+
+pub returns-clause-ok : goal.returns-clause-ok
+returns-clause-ok c = record {
+  long = c.requires;
+  begins = sym c.word.ensures ∙ c.if-word-ne-MAGIC.false;
+  size = c.in-Some.ensures.part.0;
+  cut = c.in-Some.ensures.part.1;
+  flags = let e = c.word-2.ensures in let l = c.if-word-ge-ALL_FLAGS.false in omega arith;
+  crc = c.if-not-has_crc.ensures.right;
+  signed = c.has_signature.ensures.0 c.if-not-has_signature.false;
+  root = c.if-not-has_root.ensures.root;
+}

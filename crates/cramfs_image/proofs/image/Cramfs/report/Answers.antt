@@ -1,0 +1,5 @@
+use Rattle.std.proofs.Common.{refl}
+use Rattle.cramfs_image.proofs.image.Cramfs.report.Goals as goal
+
+pub returns : goal.returns
+returns c = refl
