@@ -76,7 +76,7 @@ fn cached_replies(alloc: Global, bytes: &[u8], names: usize) -> Option<Vec<u8>>
 }
 
 /// The same as the program answers them: through a cache of 256 names, and indices behind it.
-fn program_s_replies(alloc: Global, bytes: &[u8]) -> Option<Vec<u8>> {
+fn replies_of_the_program(alloc: Global, bytes: &[u8]) -> Option<Vec<u8>> {
     let mut r = Plain::new(LINES);
     let mut w = Plain::new(Vec::new(alloc));
     match serve_image(alloc, bytes, &mut r, &mut w) {
@@ -119,7 +119,7 @@ fn the_same_through_a_cache(rt: HostRuntime) -> Result<(), Fail> {
 fn the_same_as_the_program_answers(rt: HostRuntime) -> Result<(), Fail> {
     for image in IMAGES {
         let plain = replies(rt.alloc(), image).ok_or("is served")?;
-        let told = program_s_replies(rt.alloc(), image).ok_or("is served")?;
+        let told = replies_of_the_program(rt.alloc(), image).ok_or("is served")?;
         assert!(rt; told.as_slice() == plain.as_slice());
     }
     Ok(())
