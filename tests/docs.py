@@ -6,8 +6,9 @@
 Each block of a document that is marked `console` is run: its lines that begin with `$ ` are given to a shell, one
 after the other in one new folder for each document, with `romtool` on the path, and what they print has to be what
 the block shows. Each line of a block that is marked `from=FILE` has to stand in that file, in this order. Each link
-has to lead to a file that is there, and to a heading of it. Each function that is named by its crate has to be there, and
-each function and type that the table of what is proved names has to be declared in its crate. The last line is `N passed, M failed`, with `, K skipped`.
+has to lead to a file that is there, and to a heading of it. Each function that is named by its crate has to be there, where
+others can name it so, and each function and type that the table of what is proved names has to be declared in its crate.
+The last line is `N passed, M failed`, with `, K skipped`.
 """
 
 import glob
@@ -100,9 +101,10 @@ def links(name, text, counts):
 
 
 def names_in(cell):
-    """The names in a cell of the table: the last part of each path, with what stands in braces one by one."""
+    """The names in a cell of the table: the types and the last part of each path, with what stands in braces one by one."""
     for path in re.findall(r"`([^`]+)`", cell):
         last = re.sub(r"^.*::(?=[^:{]*$|\{)", "", path)
+        yield from re.findall(r"\b([A-Z]\w+)::", path)
         for name in last.strip("{}").split(","):
             yield name.strip()
 
@@ -118,8 +120,21 @@ def is_declared(name, crates):
     return re.search(DECLARED % (re.escape(name), re.escape(name)), sources_of(crates))
 
 
+def is_open(crate, name):
+    """Whether a crate has a name for others: its root declares it, as a module too, or hands it on."""
+    roots = [text_of("crates/%s/src/%s.rt" % (crate, it)) for it in ("lib", "main") if crate_has(crate, it)]
+    handed = re.findall(r"^pub (?:use [^;]+;|(?:const )?(?:mod|fn|struct|enum|trait|const|type) \w+)", "\n".join(roots), re.M)
+    return any(re.search(r"\b%s\b" % name, re.sub(r"\w+::", "", it)) for it in handed)
+
+
+def crate_has(crate, root):
+    """Whether a crate has a root of that name."""
+    return os.path.exists("%s/crates/%s/src/%s.rt" % (TOP, crate, root))
+
+
 def doors(name, counts):
-    """Looks that each function which a document names by its crate, or by a module of one, is there."""
+    """Looks that each function which a document names by its crate, or by a module of one, is there, and that the crate has for
+    others what is named by it."""
     crates = {os.path.basename(it) for it in glob.glob(TOP + "/crates/*")}
     files = glob.glob(TOP + "/crates/*/src/**/*.rt", recursive=True)
     for first, last in set(re.findall(r"`([a-z]\w*)::(?:\w+::)*(\w+)`", text_of(name))):
@@ -129,6 +144,11 @@ def doors(name, counts):
             counts.passes()
         else:
             counts.fails("%s: %s has no %s" % (name, first, last))
+    for crate, second in set(re.findall(r"`([a-z]\w*)::(\w+)", text_of(name))):
+        if crate not in crates or is_open(crate, second):
+            counts.passes()
+        else:
+            counts.fails("%s: others have no %s of %s" % (name, second, crate))
 
 
 def is_given(kind, trait, crates):

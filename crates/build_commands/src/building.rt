@@ -5,9 +5,7 @@ ghost use Rattle.rom_fields.specs.Failures.{Counts};
 ghost use Rattle.rom_fields.specs.Written.{Puts, WritesText, sink};
 
 use itoa::Buffer;
-use rom_fields::bytes::{ByteWrite, Failed};
-use rom_fields::sink::put;
-use rom_fields::text::put_decimal;
+use rom_fields::{ByteWrite, Failed, put, put_decimal};
 
 /// Puts a number in decimal digits.
 fn put_number<W: ByteWrite>(w: &mut W, failed: &mut bool, n: u64)

@@ -13,8 +13,7 @@ use crate::nearest::{is_executable, nearest};
 use manifest::Word;
 use manifest_text::{Entry, write_manifest};
 use plan_types::Format;
-use rom_fields::bytes::{ByteWrite, Failed};
-use rom_fields::memory::OutOfMemory;
+use rom_fields::{ByteWrite, Failed, OutOfMemory};
 use std::alloc::Global;
 use std::collections::BTreeMap;
 

@@ -9,7 +9,7 @@ ghost use Rattle.rom_fields.specs.Written.{Puts, WritesText, sink};
 
 use manifest::Word;
 use manifest_text::{Entry, put_line};
-use rom_fields::bytes::{ByteWrite, Failed};
+use rom_fields::{ByteWrite, Failed};
 
 /// What a scan finds: a folder, or a regular file, by its place on the disk.
 #[derive(PartialEq, Eq, PartialOrd, Ord, Drop)]

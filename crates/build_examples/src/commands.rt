@@ -1,11 +1,9 @@
 //! What is told of a build and of a scan, and a built image that is served.
 use crate::made::{FORMATS, built, contents_of, read};
-use build_commands::building::{tell_bad_manifest, tell_built, tell_misfit};
-use build_commands::scanning::{Found, put_scan};
+use build_commands::{Found, put_scan, tell_bad_manifest, tell_built, tell_misfit};
 use manifest::Word;
-use rom_commands::serving::{Serving, serve_image};
-use rom_fields::bytes::{Failed, Plain};
-use rom_fields::faulty::Faulty;
+use rom_commands::{Serving, serve_image};
+use rom_fields::{Failed, Faulty, Plain};
 use std::alloc::{AllocError, Global};
 use std::test::Fail;
 

@@ -7,8 +7,7 @@ use crate::made::{contents_of, has_front, planned};
 use cramfs_write::{stream, write};
 use layout_plan::Slices;
 use plan_types::{Format, Plan};
-use rom_fields::bytes::Plain;
-use rom_fields::contents::Contents;
+use rom_fields::{Contents, Plain};
 use std::test::Fail;
 
 /// A volume with a file of five bytes.

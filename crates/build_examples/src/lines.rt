@@ -2,7 +2,7 @@
 //! in `tests/cases/build.json`.
 use crate::made::read;
 use manifest::{ManifestError, Name, Word, name};
-use rom_fields::memory::OutOfMemory;
+use rom_fields::OutOfMemory;
 use std::test::Fail;
 
 /// Each word, with a comment, an empty line, and a last line without a line feed.

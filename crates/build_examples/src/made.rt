@@ -2,11 +2,10 @@
 ghost use Rattle.std.specs.Prelude.{◌≡◌, IfOk};
 ghost use Rattle.plan_types.specs.Formats.{format_of};
 
-use image_build::{BuildError, build_cramfs, build_cramfs_big, build_romfs};
-use layout_plan::plan;
+use image_build::{
+    BuildError, Contents, Format, Plan, build_cramfs, build_cramfs_big, build_romfs, plan,
+};
 use manifest::{Manifest, parse};
-use plan_types::{Format, Plan};
-use rom_fields::contents::Contents;
 use std::alloc::Global;
 use std::test::Fail;
 

@@ -5,8 +5,7 @@ ghost use Rattle.manifest_layout.specs.Format.{romfs};
 use crate::made::{contents_of, has_front, planned};
 use layout_plan::Slices;
 use plan_types::{Format, Plan};
-use rom_fields::bytes::Plain;
-use rom_fields::contents::Contents;
+use rom_fields::{Contents, Plain};
 use romfs_write::{SizeDiffers, stream, write};
 use std::test::Fail;
 

@@ -2,7 +2,7 @@
 ghost use Rattle.std.specs.Prelude.{◌≡◌, ◌≤◌, length};
 
 use layout_plan::{SourceFailed, Sources};
-use rom_fields::contents::Contents;
+use rom_fields::Contents;
 
 /// What is wrong with sources from some read on.
 #[derive(Debug, Clone, Copy, PartialEq, Eq)]

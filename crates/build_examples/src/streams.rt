@@ -1,14 +1,9 @@
 //! Images that are built in memory, and streamed from and to what fails.
 use crate::made::{FORMATS, built, contents_of, planned};
 use crate::spoiled::{Fault, Spoiled};
-use image_build::{StreamError, stream};
-use image_check::check;
-use layout_plan::{Slices, Sources};
-use plan_types::{Format, Plan};
-use rom_fields::bytes::{ByteWrite, Plain};
-use rom_fields::contents::Contents;
-use rom_fields::faulty::Faulty;
-use rom_tree::types::Limits;
+use image_build::{Contents, Format, Plan, Slices, Sources, StreamError, stream};
+use image_check::{Limits, check};
+use rom_fields::{ByteWrite, Faulty, Plain};
 use std::alloc::Global;
 use std::test::Fail;
 

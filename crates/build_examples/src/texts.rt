@@ -1,7 +1,7 @@
 //! Lines of a manifest that are written.
 use manifest::{Word, parse};
 use manifest_text::{Entry, write_manifest};
-use rom_fields::bytes::Plain;
+use rom_fields::Plain;
 use std::test::Fail;
 
 const NOTHING: &[u8] = b"";

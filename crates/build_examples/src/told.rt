@@ -1,8 +1,8 @@
 //! The manifest of a tree in memory.
 use image_manifest::{members, write_manifest};
 use manifest::parse;
-use rom_fields::bytes::Plain;
-use sample_image::sample::Sample;
+use rom_fields::Plain;
+use sample_image::Sample;
 use std::test::Fail;
 
 const TOLD: &[u8] = b"volume boot%20rom

@@ -8,6 +8,6 @@
 mod commands;
 #[cfg(test)]
 mod tests;
-pub mod words;
+mod words;
 
-pub use words::{Build, Extract, Request, ScanAll, WordsError, Wrong, is_explain, read};
+pub use words::{Build, Cat, Extract, Map, Request, ScanAll, WordsError, Wrong, is_explain, read};

@@ -11,4 +11,6 @@
 
 pub mod disk;
 pub mod laws;
-pub mod order;
+mod order;
+
+pub use order::Order;

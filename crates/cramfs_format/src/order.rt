@@ -3,7 +3,7 @@ ghost use Rattle.std.specs.Prelude.{◌≡◌, ◌+◌, ◌-◌, ◌≤◌, ◌<
 ghost use Rattle.cramfs_format.specs.Order.{word as word_of, with_word, first_field, field_after, packed};
 
 use byteorder::{BigEndian, ByteOrder, LittleEndian};
-use rom_fields::word::{put_be32, put_le32};
+use rom_fields::{put_be32, put_le32};
 
 /// The byte order of a cramfs image, which is that of the machine that it is made for. It says how
 /// four bytes make a word, and at which end of a word its first field is.

@@ -8,10 +8,8 @@ ghost use Rattle.record_forest.specs.Known.{AreKnown};
 ghost use Rattle.cramfs_image.specs.Phases.{IsWhole};
 
 use crate::soundness::{entry_fault, list_lies};
-use cramfs_format::order::Order;
-use record_forest::known::VerifiedRanges;
-use record_forest::records::Records;
-use record_forest::reference::{Edge, Edges, Reference};
+use cramfs_format::Order;
+use record_forest::{Edge, Edges, Records, Reference, VerifiedRanges};
 use rom_faults::Fault;
 use rom_faults::fault::BOUNDS;
 

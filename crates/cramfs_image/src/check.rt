@@ -4,10 +4,9 @@ ghost use Rattle.std.specs.Prelude.{◌≡◌, ◌≤◌, IfOk, IfErr};
 use crate::image::Cramfs;
 use crate::phases::later_fault;
 use crate::superblock::read_superblock;
-use record_forest::traversal::traverse;
+use record_forest::traverse;
 use rom_faults::CheckError;
-use rom_tree::image::Viewed;
-use rom_tree::types::Limits;
+use rom_tree::{Limits, Viewed};
 use std::alloc::Global;
 
 impl<'a> Cramfs<'a> {

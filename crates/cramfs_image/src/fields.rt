@@ -5,7 +5,7 @@ ghost use Rattle.cramfs_format.specs.Inode.{mode_of, uid_of, size_of, gid_of, na
 ghost use Rattle.cramfs_format.specs.Tree.{kind_named, by_type};
 
 use crate::accessible::Accessible;
-use rom_tree::types::Kind;
+use rom_tree::Kind;
 
 impl<'a> Accessible<'a> {
     /// The word at `at`.

@@ -7,11 +7,10 @@ use crate::accessible::Accessible;
 use crate::depth::greatest_depth;
 use crate::fields::{kind_named_by, of_device, start_of};
 use arrayvec::ArrayVec;
+use cramfs_format::Order;
 use cramfs_format::disk::ROOT;
-use cramfs_format::order::Order;
-use record_forest::reference::Row;
-use rom_tree::image::{TreeImage, Viewed};
-use rom_tree::types::{Cursor, Entry, Limits, NodeId, Report, Run, Stat};
+use record_forest::Row;
+use rom_tree::{Cursor, Entry, Limits, NodeId, Report, Run, Stat, TreeImage, Viewed};
 
 /// An image that has been checked.
 #[derive(Drop)]

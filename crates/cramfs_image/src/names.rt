@@ -13,12 +13,10 @@ ghost use Rattle.cramfs_image.specs.Phases.{TellsEarlier, last_name, name_seen, 
 
 use crate::accessible::Accessible;
 use crate::depth::is_other;
-use record_forest::least::lesser_fault;
-use record_forest::listed::{ListedName, repeats};
-use record_forest::reference::Row;
+use record_forest::{ListedName, Row, lesser_fault, repeats};
 use rom_faults::Fault;
 use rom_faults::fault::{DOT, DUPLICATE_NAME, UNSORTED};
-use rom_fields::memory::OutOfMemory;
+use rom_fields::OutOfMemory;
 use std::alloc::Global;
 use std::collections::BTreeMap;
 

@@ -13,10 +13,8 @@ ghost use Rattle.cramfs_image.specs.Files.{list_part, file_part, FileLies, whole
 use crate::accessible::Accessible;
 use crate::fields::start_of;
 use crate::soundness::{blocks_of, has_contents};
-use record_forest::reference::Row;
-use rom_fields::extents::Extents;
-use rom_fields::memory::OutOfMemory;
-use rom_fields::span::Extent;
+use record_forest::Row;
+use rom_fields::{Extent, Extents, OutOfMemory};
 use std::alloc::Global;
 
 /// A file or a link: where its block pointers begin, and its size.

@@ -12,8 +12,7 @@ ghost use Rattle.record_forest.specs.Lesser.{lesser_of_both};
 
 use crate::accessible::Accessible;
 use crate::fields::start_of;
-use record_forest::known::{Range, VerifiedRanges};
-use record_forest::least::lesser_of_both;
+use record_forest::{Range, VerifiedRanges, lesser_of_both};
 use rom_faults::Fault;
 use rom_faults::fault::{BAD_NAME, BLOCK_KIND, BOUNDS, KIND, LINK_SIZE, LIST_END};
 

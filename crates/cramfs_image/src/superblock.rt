@@ -6,8 +6,8 @@ ghost use Rattle.crc.specs.Crc.{crc_of};
 ghost use Rattle.cramfs_format.specs.Superblock.{order_of, accessible, HasSize, without_crc, HasCrc, HasSignature, HasRoot, IsSuperblock, HasImageFault};
 
 use crate::accessible::Accessible;
+use cramfs_format::Order;
 use cramfs_format::disk::{ALL_FLAGS, MAGIC, MOST_BYTES, SHIFTED_ROOT, SIGNATURE};
-use cramfs_format::order::Order;
 use crc::{crc32, crc32_more};
 use rom_faults::{Fault, fault};
 

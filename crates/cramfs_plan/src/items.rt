@@ -15,7 +15,7 @@ use crate::wide_inode::WideInode;
 use manifest::Name;
 use manifest_rows::Bytes;
 use plan_types::{Fill, Item};
-use rom_fields::memory::OutOfMemory;
+use rom_fields::OutOfMemory;
 use std::alloc::Global;
 
 /// A copy of a name.

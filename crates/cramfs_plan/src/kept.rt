@@ -11,8 +11,7 @@ ghost use Rattle.manifest_rows.specs.Rows.{bytes_view, inode_view};
 
 use crate::words::size_by;
 use manifest_rows::{Bytes, Inode};
-use rom_fields::memory::OutOfMemory;
-use rom_fields::word::pad;
+use rom_fields::{OutOfMemory, pad};
 use std::collections::BTreeMap;
 
 /// How the bytes of a file are kept.

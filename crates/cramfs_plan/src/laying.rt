@@ -21,12 +21,10 @@ use crate::lens::{Lens, list_lens};
 use crate::walk::{Placed, ROOT_LIST, place_rows};
 use crate::wide_inode::WideInode;
 use crate::words::{first_word, second_word, third_word};
-use cramfs_format::disk;
-use cramfs_format::order::Order;
+use cramfs_format::{Order, disk};
 use manifest_rows::{Bytes, Inode, Row, deepest};
 use plan_types::{Item, Laid};
-use rom_fields::memory::OutOfMemory;
-use rom_fields::word::pad;
+use rom_fields::{OutOfMemory, pad};
 use std::alloc::Global;
 
 /// Where the root's inode stands.

@@ -7,7 +7,7 @@ ghost use Rattle.manifest_rows.specs.Rows.{row_view};
 
 use crate::words::entry_len;
 use manifest_rows::Row;
-use rom_fields::memory::OutOfMemory;
+use rom_fields::OutOfMemory;
 use std::alloc::Global;
 
 /// One more than the greatest depth of a row, and one for the list below it.

@@ -11,7 +11,7 @@ ghost use Rattle.plan_types.specs.Views.{item_view, section_view};
 use crate::words::entry_len;
 use cramfs_format::disk::HEAD;
 use plan_types::{Body, Fill, Item, Section};
-use rom_fields::memory::OutOfMemory;
+use rom_fields::OutOfMemory;
 use std::alloc::Global;
 use std::collections::BTreeSet;
 

@@ -12,11 +12,10 @@ use crate::kept::{Stored, stored_file, stored_list};
 use crate::lens::DEPTHS;
 use crate::wide_inode::WideInode;
 use crate::words::{entry_len, first_word, second_word, third_word};
+use cramfs_format::Order;
 use cramfs_format::disk::HEAD;
-use cramfs_format::order::Order;
 use manifest_rows::{Bytes, Row, What};
-use rom_fields::memory::OutOfMemory;
-use rom_fields::word::pad;
+use rom_fields::{OutOfMemory, pad};
 use std::alloc::Global;
 use std::collections::BTreeMap;
 

@@ -4,9 +4,9 @@ ghost use Rattle.std.specs.Prelude.{◌≡◌, ◌+◌, ◌-◌, ◌*◌, ◌^�
 ghost use Rattle.cramfs_layout.specs.Layout as layout;
 ghost use Rattle.manifest_rows.specs.Rows.{inode_view};
 
-use cramfs_format::order::Order;
+use cramfs_format::Order;
 use manifest_rows::Inode;
-use rom_fields::word::pad;
+use rom_fields::pad;
 use rom_tree::Kind;
 
 /// The file type, which is the upper four of the sixteen bits of the mode.

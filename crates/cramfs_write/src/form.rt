@@ -13,9 +13,8 @@ ghost use Rattle.cramfs_write.specs.Form.{form_of, segment_of};
 ghost use Rattle.cramfs_write.specs.Known.{IsBody, IsCramfsPlan};
 
 use crate::record::{put_inode, put_pointers, put_superblock};
-use cramfs_format::order::Order;
-use image_stream::outline::Outline;
-use image_stream::segmented::Segmented;
+use cramfs_format::Order;
+use image_stream::{Outline, Segmented};
 use plan_types::{Body, Fill, Format, Item, Plan, Section};
 
 /// The plan of a cramfs image.

@@ -7,5 +7,5 @@ mod form;
 mod record;
 mod writing;
 
-pub use image_stream::fault::{SizeDiffers, StreamError};
+pub use image_stream::{SizeDiffers, StreamError};
 pub use writing::{stream, stream_through, write};

@@ -3,8 +3,8 @@ ghost use Rattle.std.specs.Prelude.{◌≡◌, ◌+◌, ◌-◌, ◌*◌, ◌/�
 ghost use Rattle.cramfs_layout.specs.Layout.{word_bytes, entry_len, pointers};
 ghost use Rattle.cramfs_write.specs.Form.{words_bytes, inode_bytes, front_storing, superblock_storing};
 
+use cramfs_format::Order;
 use cramfs_format::disk::{MAGIC, SIGNATURE};
-use cramfs_format::order::Order;
 
 /// Size and crc are stored, lists are sorted, pointers have bits for the kind of their blocks.
 const FLAGS: u32 = 0x803;

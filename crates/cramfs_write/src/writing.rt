@@ -13,12 +13,9 @@ ghost use Rattle.std.specs.Io.KnownBytes.{Appends};
 ghost use Rattle.cramfs_write.specs.Form.{form_of};
 
 use crate::form::{CramfsForm, known, order_of};
-use image_stream::crc32::Crc32;
-use image_stream::fault::{SizeDiffers, StreamError};
-use image_stream::sources::Sources;
+use image_stream::{Crc32, SizeDiffers, Sources, StreamError};
 use plan_types::Plan;
-use rom_fields::bytes::ByteWrite;
-use rom_fields::contents::Contents;
+use rom_fields::{ByteWrite, Contents};
 
 /// Writes the image of a plan, with these contents of its files, into a buffer of its length,
 /// whatever the buffer held. It takes no memory.
@@ -41,7 +38,7 @@ pub fn write(plan: &Plan, contents: &Contents<'_>, out: &mut [u8]) -> Result<(),
     known(order, plan);
     manifest_layout::laws::fitting_is_planned();
     let form = CramfsForm::new(plan, order);
-    image_stream::write::write::<CramfsForm<'_>, Crc32>(&form, contents, out)
+    image_stream::write::<CramfsForm<'_>, Crc32>(&form, contents, out)
 }
 
 /// Writes the image of a plan through a buffer of the caller's, without memory, and flushes the
@@ -89,7 +86,7 @@ pub fn stream_through<S: Sources, W: ByteWrite>(
     manifest_layout::laws::fitting_is_planned();
     let _ = sources.count();
     let form = CramfsForm::new(plan, order);
-    image_stream::stream::stream_through::<CramfsForm<'_>, S, W, Crc32>(&form, sources, w, buffer)
+    image_stream::stream_through::<CramfsForm<'_>, S, W, Crc32>(&form, sources, w, buffer)
 }
 
 /// Writes the image of a plan as `stream_through` does, through one buffer of 4,096 bytes.

@@ -33,7 +33,7 @@ ghost use Rattle.rom_tree.specs.Image.{Image};
 ghost use Rattle.rom_tree.specs.Tree.{Node, places_of};
 ghost use Rattle.rom_tree.specs.declared.types.Limits.{Limits};
 
-/// What follows from the clause of `rom_commands::serving::serve_image`, for all bytes: lines are
+/// What follows from the clause of `rom_commands::serve_image`, for all bytes: lines are
 /// answered from the one tree that the format gives the bytes, or the bytes are refused with their
 /// least fault, and no line is read. And the image that was built from a manifest, in each format,
 /// is refused for memory alone: else it is served as the tree that the manifest means.

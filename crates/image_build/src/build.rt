@@ -13,8 +13,7 @@ use crate::error::BuildError;
 use layout_plan::plan;
 use manifest::parse;
 use plan_types::{Format, Plan};
-use rom_fields::contents::Contents;
-use rom_fields::memory::OutOfMemory;
+use rom_fields::{Contents, OutOfMemory};
 use std::alloc::Global;
 
 /// How long the contents are, in their order.

@@ -3,7 +3,7 @@ ghost use Rattle.std.specs.Prelude.{◌≡◌};
 
 use layout_plan::PlanError;
 use manifest::ManifestError;
-use rom_fields::memory::OutOfMemory;
+use rom_fields::OutOfMemory;
 use std::fmt::{self, Display, Formatter};
 
 /// Why nothing was built.

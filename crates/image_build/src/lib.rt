@@ -6,11 +6,13 @@
 #![tactic(auto)]
 
 mod build;
-pub mod error;
+mod error;
 pub mod laws;
 mod streaming;
 
 pub use build::{build_cramfs, build_cramfs_big, build_romfs};
 pub use error::BuildError;
-pub use image_stream::fault::StreamError;
+pub use image_stream::StreamError;
+pub use layout_plan::{Format, Plan, PlanError, Slices, SourceFailed, Sources, plan};
+pub use rom_fields::Contents;
 pub use streaming::{stream, stream_through};

@@ -7,10 +7,9 @@ ghost use Rattle.image_stream.specs.Outcomes.{AreSized, IsStreamFault, IsWritten
 ghost use Rattle.image_stream.specs.Sources.{Told};
 ghost use Rattle.rom_fields.specs.Written.{AppendsPrefix};
 
-use image_stream::fault::StreamError;
-use image_stream::sources::Sources;
+use image_stream::{Sources, StreamError};
 use plan_types::{Format, Plan};
-use rom_fields::bytes::ByteWrite;
+use rom_fields::ByteWrite;
 
 /// Writes the image of a plan, in the plan's format, through a buffer of the caller's, without
 /// memory, and flushes the writer. The larger the buffer is, the fewer are the reads and writes.

@@ -2,10 +2,9 @@
 ghost use Rattle.std.specs.Prelude.{◌≡◌};
 ghost use Rattle.image_check.specs.Any.{any_view, report_of};
 
-use cramfs_image::image::{Cramfs, Parts as CramfsParts};
-use rom_tree::image::{TreeImage, Viewed};
-use rom_tree::types::{Cursor, Entry, NodeId, Report, Run, Stat};
-use romfs_image::image::{Parts as RomfsParts, Romfs};
+use cramfs_image::{Cramfs, Parts as CramfsParts};
+use rom_tree::{Cursor, Entry, NodeId, Report, Run, Stat, TreeImage, Viewed};
+use romfs_image::{Parts as RomfsParts, Romfs};
 
 /// An image that has been checked, of one of the two formats.
 #[derive(Drop)]

@@ -6,14 +6,14 @@ ghost use Rattle.image_check.specs.Any.{any_view, report_of};
 ghost use Rattle.image_check.specs.Checked.{Shows, IsRefused, BeginsRomfs, BeginsCramfs, HasFormat, IsFaultless, IsLeastFault, neither};
 
 use crate::any::AnyImage;
+use cramfs_format::Order;
 use cramfs_format::disk::MAGIC as CRAMFS_MAGIC;
-use cramfs_format::order::Order;
-use cramfs_image::image::Cramfs;
+use cramfs_image::Cramfs;
 use rom_faults::CheckError;
 use rom_faults::fault::{MAGIC, SHORT};
-use rom_tree::types::Limits;
+use rom_tree::Limits;
 use romfs_format::disk::MAGIC as ROMFS_MAGIC;
-use romfs_image::image::Romfs;
+use romfs_image::Romfs;
 use std::alloc::Global;
 
 /// Fewer bytes are too short to name a format.

@@ -6,11 +6,10 @@ use crate::checked::sound;
 use crate::images::{EMPTY_CRAMFS, HELLO, LINK_AND_DEVICE, LINK_CHAIN, LINKS_AND_DOTS, SAME_NAMES};
 use name_index::Indexed;
 use path_walk::{WalkError, walk};
-use rom_commands::serving::{Serving, serve_image};
-use rom_fields::bytes::Plain;
+use rom_commands::{Serving, serve_image};
+use rom_fields::Plain;
 use rom_serve::{Cached, serve};
-use rom_tree::image::TreeImage;
-use rom_tree::types::NodeId;
+use rom_tree::{NodeId, TreeImage};
 use std::alloc::Global;
 use std::test::Fail;
 

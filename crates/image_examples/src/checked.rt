@@ -4,12 +4,10 @@ ghost use Rattle.image_check.specs.Any.{any_view};
 ghost use Rattle.rom_tree.specs.Tree.{levels};
 
 use crate::images::{EMPTY_BIG_CRAMFS, EMPTY_CRAMFS, HELLO};
-use cramfs_format::order::Order;
+use cramfs_format::Order;
 use image_check::{AnyImage, check};
 use path_walk::{WalkError, walk};
-use rom_tree::CheckError;
-use rom_tree::image::TreeImage;
-use rom_tree::types::{Limits, NodeId, Report};
+use rom_tree::{CheckError, Limits, NodeId, Report, TreeImage};
 use std::alloc::Global;
 use std::test::Fail;
 

@@ -2,9 +2,8 @@
 use crate::checked::{counts, fault};
 use cramfs_image::{Cramfs, crc32};
 use rom_faults::CheckError;
-use rom_fields::word::{part, put_le32};
-use rom_tree::image::TreeImage;
-use rom_tree::types::{Limits, NodeId, Report};
+use rom_fields::{part, put_le32};
+use rom_tree::{Limits, NodeId, Report, TreeImage};
 use std::alloc::Global;
 use std::test::Fail;
 

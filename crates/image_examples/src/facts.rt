@@ -3,8 +3,8 @@ use crate::checked::sound;
 use crate::images::HELLO;
 use image_check::check;
 use image_info::{volume, write_info};
-use rom_fields::bytes::Plain;
-use rom_tree::types::Limits;
+use rom_fields::Plain;
+use rom_tree::Limits;
 use std::alloc::Global;
 use std::test::Fail;
 

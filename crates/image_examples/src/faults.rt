@@ -1,6 +1,6 @@
 //! The numbers and names of faults.
 use rom_faults::{CheckError, Fault, name};
-use rom_fields::memory::OutOfMemory;
+use rom_fields::OutOfMemory;
 use std::test::Fail;
 
 #[test]

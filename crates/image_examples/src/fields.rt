@@ -1,12 +1,8 @@
 //! Words, texts, extents and windows, and readers and writers that fail.
-use rom_fields::bytes::{ByteRead, ByteWrite, Failed, Plain};
-use rom_fields::canvas::Canvas;
-use rom_fields::extents::Extents;
-use rom_fields::faulty::Faulty;
-use rom_fields::sink::{put, write_whole};
-use rom_fields::span::Extent;
-use rom_fields::text::{put_decimal, put_escaped, put_octal};
-use rom_fields::word::{be32, le32, pad, part, put_be32, put_le32, word_sum};
+use rom_fields::{
+    ByteRead, ByteWrite, Canvas, Extent, Extents, Failed, Faulty, Plain, be32, le32, pad, part,
+    put, put_be32, put_decimal, put_escaped, put_le32, put_octal, word_sum, write_whole,
+};
 use std::alloc::Global;
 use std::io::{self, ErrorKind, Write};
 use std::test::Fail;

@@ -2,11 +2,10 @@
 ghost use Rattle.std.specs.Prelude.{◌≡◌, Some};
 ghost use Rattle.record_forest.specs.Table.{offset, table_references, table_sound, table_faulty};
 
-use record_forest::known::VerifiedRanges;
-use record_forest::least::{lesser_fault, lesser_of_both};
-use record_forest::records::Records;
-use record_forest::reference::{Edge, Edges, Reference, Row};
-use record_forest::traversal::{TraversalError, traverse};
+use record_forest::{
+    Edge, Edges, Records, Reference, Row, TraversalError, VerifiedRanges, lesser_fault,
+    lesser_of_both, traverse,
+};
 use rom_faults::{CheckError, Fault};
 use std::alloc::Global;
 use std::test::Fail;

@@ -8,9 +8,7 @@ ghost use Rattle.path_walk.specs.Graft.{are_apart, are_mounts, is_mount};
 use crate::images::{HELLO, LINK_AND_DEVICE, LINK_CHAIN, LINKS_AND_DOTS};
 use image_check::{AnyImage, check};
 use path_walk::{Mount, WalkError, walk_mounts};
-use rom_tree::CheckError;
-use rom_tree::image::{TreeImage, is_directory_at};
-use rom_tree::types::{Limits, NodeId};
+use rom_tree::{CheckError, Limits, NodeId, TreeImage, is_directory_at};
 use std::alloc::Global;
 use std::test::Fail;
 

@@ -1,9 +1,9 @@
 //! Open files of one image.
 use crate::checked::sound;
 use crate::images::{HELLO, LINK_AND_DEVICE};
-use image_check::{AnyImage, check};
-use open_files::{CallError, Fd, Files};
-use rom_tree::types::{Cursor, Entry, Kind, Limits, NodeId, Piece, Stat};
+use image_check::{AnyImage, Limits, check};
+use open_files::{CallError, Entry, Fd, Files, Kind, NodeId, Piece, Stat};
+use rom_tree::Cursor;
 use std::alloc::Global;
 use std::test::Fail;
 

@@ -3,15 +3,10 @@ ghost use Rattle.std.specs.Prelude.{length};
 ghost use Rattle.rom_commands.specs.Asked.{Fits};
 
 use crate::fields::Unflushed;
-use rom_commands::asked::Asked;
-use rom_commands::copying::print_file;
-use rom_commands::hello::hello;
-use rom_commands::printing::{complain, print};
-use rom_commands::shown::{Outcome, show};
-use rom_commands::status::{Failure, Status, tell};
-use rom_fields::bytes::Plain;
-use rom_fields::faulty::Faulty;
-use rom_fields::word::put_be32;
+use rom_commands::{
+    Asked, Failure, Outcome, Status, complain, hello, print, print_file, show, tell,
+};
+use rom_fields::{Faulty, Plain, put_be32};
 use std::test::Fail;
 
 const LISTED: &[u8] = b"32 d 0755 0 0 0 0 0 /\n96 f 0644 0 0 5 0 0 /a\n";

@@ -1,6 +1,6 @@
 //! How many bytes of a file an image may need, by its front.
 use image_reach::reach_of;
-use rom_fields::word::{put_be32, put_le32};
+use rom_fields::{put_be32, put_le32};
 use std::test::Fail;
 
 /// A front that begins with two words of a romfs image and has a size.

@@ -1,9 +1,8 @@
 //! Images of romfs that are accepted, and faults that are found in others.
 use crate::checked::{counts, fault};
 use rom_faults::CheckError;
-use rom_fields::word::{part, put_be32};
-use rom_tree::image::TreeImage;
-use rom_tree::types::{Limits, NodeId, Report};
+use rom_fields::{part, put_be32};
+use rom_tree::{Limits, NodeId, Report, TreeImage};
 use romfs_image::Romfs;
 use std::alloc::Global;
 use std::test::Fail;

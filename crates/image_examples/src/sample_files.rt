@@ -1,7 +1,7 @@
 //! Open files of the sample, and the numbers and names of the errors of calls.
 use open_files::{CallError, Fd, Files, Slots, Space, one_image};
-use rom_tree::types::{Cursor, NodeId};
-use sample_image::sample::Sample;
+use rom_tree::{Cursor, NodeId};
+use sample_image::Sample;
 use std::test::Fail;
 
 #[test]

@@ -1,9 +1,8 @@
 //! Lines that are answered from the sample: texts from outside, and what a writer that fails has by
 //! then.
-use rom_fields::bytes::Plain;
-use rom_fields::faulty::Faulty;
-use rom_serve::{ServeError, serve, serve_bounded, serve_space};
-use sample_image::sample::Sample;
+use rom_fields::Faulty;
+use rom_serve::{Plain, ServeError, serve, serve_bounded, serve_space};
+use sample_image::Sample;
 use std::test::Fail;
 
 const SESSION: &[u8] = b"\

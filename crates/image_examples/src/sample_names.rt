@@ -2,11 +2,9 @@
 ghost use Rattle.std.specs.Prelude.{◌≤◌, IfSome};
 
 use lookup_cache::Cached;
-use rom_fields::bytes::Plain;
-use rom_tree::image::TreeImage;
-use rom_tree::list;
-use rom_tree::types::{Cursor, Kind, NodeId};
-use sample_image::sample::Sample;
+use rom_fields::Plain;
+use rom_tree::{Cursor, Kind, NodeId, TreeImage, list};
+use sample_image::Sample;
 use std::alloc::Global;
 use std::test::Fail;
 

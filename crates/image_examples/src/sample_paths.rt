@@ -1,7 +1,7 @@
 //! Where paths lead in the sample, and the numbers and names of the errors of paths.
 use path_walk::{Mount, WalkError, walk, walk_mounts};
-use rom_tree::types::NodeId;
-use sample_image::sample::Sample;
+use rom_tree::NodeId;
+use sample_image::Sample;
 use std::test::Fail;
 
 #[test]

@@ -1,11 +1,10 @@
 //! The sample's answers, and how its tree is listed.
-use rom_fields::bytes::Plain;
-use rom_fields::faulty::Faulty;
-use rom_tree::dots::{is_dot, is_dot_dot, is_dots};
-use rom_tree::image::{TreeImage, is_directory_at, is_link_at, is_regular_at, link_text};
-use rom_tree::list;
-use rom_tree::types::{Cursor, Kind, Limits, ListError, NodeId};
-use sample_image::sample::Sample;
+use rom_fields::{Faulty, Plain};
+use rom_tree::{
+    Cursor, Kind, Limits, ListError, NodeId, TreeImage, is_directory_at, is_dot, is_dot_dot,
+    is_dots, is_link_at, is_regular_at, link_text, list,
+};
+use sample_image::Sample;
 use std::test::Fail;
 
 const LISTED: &[u8] = b"1 d 0755 1000 100 0 0 0 /

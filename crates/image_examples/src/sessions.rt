@@ -3,7 +3,7 @@ use crate::checked::sound;
 use crate::images::{HELLO, LINK_AND_DEVICE};
 use image_check::AnyImage;
 use open_files::{CallError, Fd, Space};
-use rom_tree::types::{NodeId, Piece};
+use rom_tree::{NodeId, Piece};
 use std::alloc::Global;
 use std::test::Fail;
 

@@ -1,9 +1,7 @@
 //! Where paths lead in one image.
 use crate::images::HELLO;
-use image_check::check;
+use image_check::{CheckError, Limits, check};
 use path_walk::{WalkError, walk};
-use rom_tree::CheckError;
-use rom_tree::types::Limits;
 use std::alloc::Global;
 use std::test::Fail;
 

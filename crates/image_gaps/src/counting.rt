@@ -7,11 +7,11 @@ ghost use Rattle.image_gaps.specs.Held.{HoldsRomfs, HoldsCramfs};
 use crate::cramfs_records::cramfs_spans;
 use crate::romfs_records::{romfs_spans, word};
 use crate::spans::unused_bytes;
+use cramfs_format::Order;
 use cramfs_format::disk::MOST_BYTES;
-use cramfs_format::order::Order;
 use image_check::AnyImage;
-use rom_fields::memory::OutOfMemory;
-use rom_tree::image::TreeImage;
+use rom_fields::OutOfMemory;
+use rom_tree::TreeImage;
 use std::alloc::Global;
 
 /// As `count_gaps`, of a romfs image whose root is at `root`.

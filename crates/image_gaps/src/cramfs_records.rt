@@ -10,9 +10,8 @@ ghost use Rattle.image_gaps.specs.Gaps.{cramfs_extents};
 ghost use Rattle.image_gaps.specs.Records.{cramfs_list, cramfs_file, cramfs_contents, cramfs_record, CoverTheSame, AreMet};
 
 use crate::spans::add;
-use cramfs_format::order::Order;
-use rom_fields::memory::OutOfMemory;
-use rom_fields::span::{Extent, Span};
+use cramfs_format::Order;
+use rom_fields::{Extent, OutOfMemory, Span};
 use std::alloc::Global;
 use std::collections::BTreeMap;
 

@@ -9,8 +9,7 @@ ghost use Rattle.image_gaps.specs.Records.{romfs_record};
 use crate::spans::add;
 use byteorder::{BigEndian, ByteOrder};
 use memchr::memchr;
-use rom_fields::memory::OutOfMemory;
-use rom_fields::span::{Extent, Span};
+use rom_fields::{Extent, OutOfMemory, Span};
 use std::alloc::Global;
 
 /// The word at `at`.

@@ -5,8 +5,7 @@ ghost use Rattle.rom_fields.specs.declared.span.Span.{Span};
 ghost use Rattle.rom_fields.specs.Extents.{added};
 ghost use Rattle.image_gaps.specs.Unused.{unused};
 
-use rom_fields::memory::OutOfMemory;
-use rom_fields::span::{Extent, Span};
+use rom_fields::{Extent, OutOfMemory, Span};
 
 /// Adds an extent at the end. One of length 0 is ignored.
 pub(crate) fn add(

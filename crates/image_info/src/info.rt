@@ -12,8 +12,8 @@ use crate::superblock::put_superblock;
 use crate::tally::{Tally, count_names};
 use image_check::AnyImage;
 use image_gaps::count_gaps;
-use rom_fields::bytes::ByteWrite;
-use rom_tree::types::Report;
+use rom_fields::ByteWrite;
+use rom_tree::Report;
 use std::alloc::Global;
 
 /// Why the facts of an image were not written whole.

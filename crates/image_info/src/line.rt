@@ -5,9 +5,7 @@ ghost use Rattle.image_info.specs.Info.{plain_line, text_line, number_line, word
 
 use image_map::put_eight_digits;
 use itoa::Buffer;
-use rom_fields::bytes::ByteWrite;
-use rom_fields::sink::put;
-use rom_fields::text::put_escaped;
+use rom_fields::{ByteWrite, put, put_escaped};
 
 /// Puts a key and a text, as they stand, and a line feed.
 pub(crate) fn put_plain<W: ByteWrite>(w: &mut W, failed: &mut bool, key: &[u8], text: &[u8])

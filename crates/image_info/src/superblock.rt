@@ -9,12 +9,12 @@ ghost use Rattle.image_info.specs.Info.{cramfs_name, romfs_text, cramfs_text, su
 
 use crate::line::{put_number, put_plain, put_text, put_word};
 use byteorder::{BigEndian, ByteOrder};
+use cramfs_format::Order;
 use cramfs_format::disk::MOST_BYTES;
-use cramfs_format::order::Order;
 use image_check::AnyImage;
 use memchr::memchr;
-use rom_fields::bytes::ByteWrite;
-use rom_tree::image::TreeImage;
+use rom_fields::ByteWrite;
+use rom_tree::TreeImage;
 
 /// The bytes before the first zero, or all where there is none.
 fn upto_zero<'a>(bytes: &'a [u8]) -> &'a [u8]

@@ -4,10 +4,8 @@ ghost use Rattle.rom_tree.specs.Tree.{levels};
 ghost use Rattle.rom_tree.specs.Names.{names};
 ghost use Rattle.image_info.specs.Tallies.{is_file, is_folder, is_symlink, is_other, tally_of};
 
-use rom_fields::memory::OutOfMemory;
-use rom_tree::Walk;
-use rom_tree::image::TreeImage;
-use rom_tree::types::{Kind, Stat};
+use rom_fields::OutOfMemory;
+use rom_tree::{Kind, Stat, TreeImage, Walk};
 use std::alloc::Global;
 use std::collections::BTreeSet;
 

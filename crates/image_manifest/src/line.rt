@@ -12,11 +12,8 @@ ghost use Rattle.image_manifest.specs.Told.{line_told};
 use crate::naming::Member;
 use manifest::Word;
 use manifest_text::{Entry, put_line};
-use rom_fields::bytes::ByteWrite;
-use rom_fields::sink::put;
-use rom_fields::text::{put_decimal, put_escaped, put_octal};
-use rom_tree::image::{TreeImage, link_text};
-use rom_tree::types::{Kind, NodeId, Stat};
+use rom_fields::{ByteWrite, put, put_decimal, put_escaped, put_octal};
+use rom_tree::{Kind, NodeId, Stat, TreeImage, link_text};
 
 /// The word of a kind of node.
 fn word_of(kind: Kind) -> Word

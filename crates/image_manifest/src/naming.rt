@@ -9,9 +9,7 @@ ghost use Rattle.image_manifest.specs.Firsts.{noted, noted_with, first_by};
 ghost use Rattle.image_manifest.specs.Members.{AreMembers, has_long_path};
 
 use arrayvec::ArrayVec;
-use rom_tree::Walk;
-use rom_tree::image::{TreeImage, is_directory_at};
-use rom_tree::types::NodeId;
+use rom_tree::{NodeId, TreeImage, Walk, is_directory_at};
 use std::alloc::Global;
 use std::collections::BTreeMap;
 use thiserror::Error;

@@ -8,8 +8,8 @@ ghost use Rattle.image_manifest.specs.Members.{AreMembers};
 use crate::line::put_member;
 use crate::naming::Member;
 use manifest_text::put_volume;
-use rom_fields::bytes::{ByteWrite, Failed};
-use rom_tree::image::TreeImage;
+use rom_fields::{ByteWrite, Failed};
+use rom_tree::TreeImage;
 
 /// Puts the lines of an image's names.
 fn put_members<'a, T: TreeImage<'a>, W: ByteWrite>(

@@ -3,8 +3,7 @@ ghost use Rattle.std.specs.Prelude.{◌≡◌, ◌<◌};
 ghost use Rattle.rom_fields.specs.Written.{Puts, sink};
 ghost use Rattle.image_map.specs.Map.{digit, eight_digits};
 
-use rom_fields::bytes::ByteWrite;
-use rom_fields::sink::put;
+use rom_fields::{ByteWrite, put};
 
 /// The hexadecimal digit of a number below 16.
 fn digit_of(n: u8) -> u8

@@ -6,11 +6,11 @@
 //! to know of runs. Nothing here takes memory.
 #![tactic(auto)]
 
-pub mod contents;
-pub mod digits;
+mod contents;
+mod digits;
 pub mod laws;
 mod line;
-pub mod mapping;
+mod mapping;
 mod runs;
 
 pub use contents::cat;

@@ -10,12 +10,8 @@ ghost use Rattle.image_map.specs.Map.{address_text, run_line, empty_line, run_li
 
 use crate::digits::put_eight_digits;
 use crate::runs::whole_run;
-use rom_fields::bytes::ByteWrite;
-use rom_fields::sink::put;
-use rom_fields::text::put_decimal;
-use rom_tree::Walk;
-use rom_tree::image::{TreeImage, is_regular_at};
-use rom_tree::types::{NodeId, Run};
+use rom_fields::{ByteWrite, put, put_decimal};
+use rom_tree::{NodeId, Run, TreeImage, Walk, is_regular_at};
 
 /// Puts an address: `0x`, and eight digits, or sixteen from 2^32 on.
 fn put_address<W: ByteWrite>(w: &mut W, failed: &mut bool, address: u64)

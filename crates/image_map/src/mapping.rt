@@ -7,9 +7,8 @@ ghost use Rattle.rom_tree.specs.Tree.{levels};
 ghost use Rattle.image_map.specs.Map.{map_text};
 
 use crate::line::put_lines;
-use rom_fields::bytes::{ByteWrite, Failed};
-use rom_tree::Walk;
-use rom_tree::image::TreeImage;
+use rom_fields::{ByteWrite, Failed};
+use rom_tree::{TreeImage, Walk};
 
 /// Writes the map of an image whose first byte has the address `base`: for each name of a regular
 /// file, in the list's order, a line for each run of bytes that follow one another in the image,

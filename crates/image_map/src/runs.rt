@@ -4,9 +4,7 @@ ghost use Rattle.rom_tree.specs.Tree.{Node, places_of};
 ghost use Rattle.rom_tree.specs.Image.{image_node, HasNode};
 ghost use Rattle.image_map.specs.Runs.{GivesWholeRun};
 
-use rom_tree::image::TreeImage;
-use rom_tree::runs::longest_run;
-use rom_tree::types::{NodeId, Run};
+use rom_tree::{NodeId, Run, TreeImage, longest_run};
 
 /// Where byte `at` of a file lies, and how many bytes from there follow one another.
 pub(crate) fn whole_run<'a, T: TreeImage<'a>>(image: &T, node: NodeId, at: u32) -> Option<Run>

@@ -3,6 +3,6 @@
 #![tactic(auto)]
 
 pub mod laws;
-pub mod reading;
+mod reading;
 
 pub use reading::{HEAD, reach_of};

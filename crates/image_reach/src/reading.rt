@@ -5,9 +5,9 @@ ghost use Rattle.image_check.specs.Checked.{BeginsRomfs, BeginsCramfs};
 ghost use Rattle.image_reach.specs.Reach.{Reaches, size_in};
 ghost use Rattle.romfs_format.specs.Tree.{full_size};
 
+use cramfs_format::Order;
 use cramfs_format::disk::{MAGIC as CRAMFS_MAGIC, MOST_BYTES};
-use cramfs_format::order::Order;
-use rom_fields::word::be32;
+use rom_fields::be32;
 use romfs_format::disk::MAGIC as ROMFS_MAGIC;
 
 /// How many bytes at the front of a file say how far its image goes.

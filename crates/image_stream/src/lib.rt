@@ -7,22 +7,33 @@
 //! `specs/Outcomes.antt` says what each error means.
 #![tactic(auto)]
 
-pub mod checksum;
-pub mod crc32;
-pub mod fault;
+mod checksum;
+mod crc32;
+mod fault;
 pub mod laws;
-pub mod measure;
-pub mod nowhere;
-pub mod outline;
-pub mod pieces;
-pub mod segmented;
-pub mod slices;
+mod measure;
+mod nowhere;
+mod outline;
+mod pieces;
+mod segmented;
+mod slices;
 #[cfg(test)]
 mod small;
-pub mod sources;
-pub mod stream;
-pub mod summing;
+mod sources;
+mod streaming;
+mod summing;
 #[cfg(test)]
 mod tests;
-pub mod word_sum;
-pub mod write;
+mod word_sum;
+mod writing;
+
+pub use checksum::Checksum;
+pub use crc32::Crc32;
+pub use fault::{SizeDiffers, StreamError};
+pub use outline::Outline;
+pub use segmented::Segmented;
+pub use slices::Slices;
+pub use sources::{SourceFailed, Sources};
+pub use streaming::{stream, stream_through};
+pub use word_sum::WordSum;
+pub use writing::write;

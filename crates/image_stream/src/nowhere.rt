@@ -2,7 +2,7 @@
 ghost use Rattle.std.specs.Prelude.{None};
 ghost use Rattle.rom_fields.specs.Written.{output_of};
 
-use rom_fields::bytes::{ByteWrite, Failed};
+use rom_fields::{ByteWrite, Failed};
 
 /// Takes all bytes, keeps none, and never fails.
 #[derive(Drop)]

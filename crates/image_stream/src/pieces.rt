@@ -11,8 +11,7 @@ use crate::fault::StreamError;
 use crate::outline::Outline;
 use crate::segmented::Segmented;
 use crate::sources::{SourceFailed, Sources};
-use rom_fields::bytes::{ByteWrite, Failed};
-use rom_fields::sink::write_whole;
+use rom_fields::{ByteWrite, Failed, write_whole};
 
 /// Fills the buffer with the bytes of a file from `at` on.
 pub fn read_exactly<S: Sources>(

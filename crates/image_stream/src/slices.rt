@@ -3,7 +3,7 @@ ghost use Rattle.std.specs.Prelude.{◌≡◌, Some, length};
 ghost use Rattle.image_stream.specs.Sources.{no_failures};
 
 use crate::sources::{SourceFailed, Sources};
-use rom_fields::contents::Contents;
+use rom_fields::Contents;
 
 /// The contents of files in memory, as sources that never fail.
 #[derive(Clone, Copy)]

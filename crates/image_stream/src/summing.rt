@@ -11,7 +11,7 @@ use crate::nowhere::Nowhere;
 use crate::pieces::{emit_zeros, piece};
 use crate::segmented::Segmented;
 use crate::sources::Sources;
-use rom_fields::bytes::Failed;
+use rom_fields::Failed;
 
 /// Adds a segment to the check value, piece by piece, until no further byte counts.
 fn sum_segment<L: Segmented, S: Sources, C: Checksum>(

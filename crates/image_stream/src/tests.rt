@@ -6,12 +6,10 @@ use crate::fault::{SizeDiffers, StreamError};
 use crate::slices::Slices;
 use crate::small::Small;
 use crate::sources::{SourceFailed, Sources};
-use crate::stream::{stream, stream_through};
+use crate::streaming::{stream, stream_through};
 use crate::word_sum::WordSum;
-use crate::write::write;
-use rom_fields::bytes::{ByteWrite, Plain};
-use rom_fields::contents::Contents;
-use rom_fields::faulty::Faulty;
+use crate::writing::write;
+use rom_fields::{ByteWrite, Contents, Faulty, Plain};
 use std::test::Fail;
 
 const IMAGE: [u8; 32] = [

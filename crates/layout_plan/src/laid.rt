@@ -11,10 +11,10 @@ ghost use Rattle.manifest_rows.specs.Rows.{inode_view, row_view};
 ghost use Rattle.plan_types.specs.Formats.{format_of};
 ghost use Rattle.plan_types.specs.Views.{item_view, section_view};
 
-use cramfs_format::order::Order;
+use cramfs_format::Order;
 use manifest_rows::{Inode, Row};
 use plan_types::{Format, Item, Laid, Section};
-use rom_fields::memory::OutOfMemory;
+use rom_fields::OutOfMemory;
 use std::alloc::Global;
 
 /// The layout in romfs of a manifest whose lines fit, and nothing where the whole is too large.

@@ -5,12 +5,11 @@
 //! Nothing is written, and no content is read.
 #![tactic(auto)]
 
-pub mod error;
+mod error;
 mod laid;
-pub mod planning;
+mod planning;
 
 pub use error::{PlanError, name};
-pub use image_stream::slices::Slices;
-pub use image_stream::sources::{SourceFailed, Sources};
+pub use image_stream::{Slices, SourceFailed, Sources};
 pub use plan_types::{Body, Fill, Format, Item, Plan, Section};
 pub use planning::plan;

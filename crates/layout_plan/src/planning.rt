@@ -12,7 +12,7 @@ use manifest_rows::{PathTargets, root, rows};
 use plan_misfits::least_of_lines;
 use plan_misfits::misfit::TOO_LARGE;
 use plan_types::{Format, Plan};
-use rom_fields::memory::OutOfMemory;
+use rom_fields::OutOfMemory;
 use std::alloc::Global;
 
 /// A copy of a volume's name.

@@ -9,12 +9,10 @@ ghost use Rattle.image_check.specs.Any.{any_view};
 ghost use Rattle.linux_misreads.specs.Tables.{AreFirst, AreFirstOf, either, one_known, table_place, view};
 
 use crate::known::{Known, is_known_by_table, kept_of};
-use cramfs_image::image::Cramfs;
+use cramfs_image::Cramfs;
 use image_check::AnyImage;
-use rom_fields::memory::OutOfMemory;
-use rom_tree::Walk;
-use rom_tree::image::TreeImage;
-use rom_tree::types::NodeId;
+use rom_fields::OutOfMemory;
+use rom_tree::{NodeId, TreeImage, Walk};
 use std::alloc::Global;
 use std::collections::BTreeMap;
 

@@ -4,8 +4,7 @@ ghost use Rattle.rom_tree.specs.Tree.{Node};
 ghost use Rattle.rom_tree.specs.Image.{image_node, HasNode};
 ghost use Rattle.linux_misreads.specs.Tables.{has_table, is_same, known_of};
 
-use rom_tree::image::{TreeImage, is_link_at, is_regular_at};
-use rom_tree::types::NodeId;
+use rom_tree::{NodeId, TreeImage, is_link_at, is_regular_at};
 
 /// What Linux keeps of a regular file or of a link, and gives for each name with the same number.
 #[derive(Clone, Copy)]

@@ -11,13 +11,10 @@ ghost use Rattle.linux_misreads.specs.Misreads.{block_line, cramfs_name, ends_wi
 
 use crate::files::table_of;
 use crate::known::{Known, is_known_by_table, is_same_file, kept_of};
-use cramfs_image::image::Cramfs;
+use cramfs_image::Cramfs;
 use image_check::AnyImage;
-use rom_fields::bytes::ByteWrite;
-use rom_fields::sink::put;
-use rom_tree::Walk;
-use rom_tree::image::{TreeImage, is_regular_at};
-use rom_tree::types::NodeId;
+use rom_fields::{ByteWrite, put};
+use rom_tree::{NodeId, TreeImage, Walk, is_regular_at};
 use std::collections::BTreeMap;
 
 /// Puts a text, the path of the node that a walk gave last, and a line feed.

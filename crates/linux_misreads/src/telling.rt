@@ -10,8 +10,7 @@ use crate::files::first_files;
 use crate::names::put_misreads;
 use image_check::AnyImage;
 use image_info::{InfoError, volume};
-use rom_fields::bytes::ByteWrite;
-use rom_fields::sink::put;
+use rom_fields::{ByteWrite, put};
 use rom_tree::Walk;
 use std::alloc::Global;
 

@@ -6,8 +6,7 @@ ghost use Rattle.lookup_cache.specs.Remembers.{Remembers, found_in};
 
 use crate::short::{Key, short_name};
 use lru::LruCache;
-use rom_tree::image::{TreeImage, Viewed};
-use rom_tree::types::{Cursor, Entry, NodeId, Run, Stat};
+use rom_tree::{Cursor, Entry, NodeId, Run, Stat, TreeImage, Viewed};
 use std::alloc::Global;
 use std::marker::PhantomData;
 use std::num::NonZeroUsize;

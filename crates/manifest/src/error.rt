@@ -3,7 +3,7 @@
 ghost use Rattle.std.specs.Prelude.{◌≡◌};
 ghost use Rattle.manifest.specs.Errors.{name_of_fault};
 
-use rom_fields::memory::OutOfMemory;
+use rom_fields::OutOfMemory;
 use std::fmt::{self, Display, Formatter};
 
 /// An unknown word, another number of fields than it has, an empty field, or a device that is

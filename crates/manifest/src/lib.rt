@@ -13,10 +13,11 @@ mod numbers;
 mod path;
 mod reader;
 mod reading;
-pub mod seeded;
+mod seeded;
 mod text;
 
 pub use error::{ManifestError, name};
 pub use line::{Line, Word};
 pub use names::Name;
 pub use reading::{Manifest, parse};
+pub use seeded::{Seeded, seeded_by};

@@ -6,7 +6,7 @@ ghost use Rattle.manifest.specs.Views.{fields_view};
 use crate::fields::Fields;
 use crate::line::Line;
 use crate::text::{decimal, decoded, octal};
-use rom_fields::memory::OutOfMemory;
+use rom_fields::OutOfMemory;
 use std::alloc::Global;
 
 /// The numbers of a line.

@@ -18,7 +18,7 @@ use crate::numbers::line_of;
 use crate::path::{NAME_MAX, PATH_MAX, is_bad_path, parent};
 use crate::seeded::Seeded;
 use crate::text::{decoded, is_bad};
-use rom_fields::memory::OutOfMemory;
+use rom_fields::OutOfMemory;
 use std::alloc::Global;
 use std::collections::HashMap;
 

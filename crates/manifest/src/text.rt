@@ -9,7 +9,7 @@ ghost use Rattle.manifest.specs.Grammar.{is_skipped};
 use crate::names::Name;
 use memchr::memchr;
 use percent_encoding::percent_decode;
-use rom_fields::memory::OutOfMemory;
+use rom_fields::OutOfMemory;
 use std::alloc::Global;
 
 /// The part before the first byte `at`, and what follows that byte.

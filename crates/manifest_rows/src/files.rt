@@ -6,9 +6,8 @@ ghost use Rattle.manifest.specs.declared.line.Line.{Line};
 ghost use Rattle.manifest_rows.specs.Files.{contents_at, noted, own_target, or_nowhere};
 ghost use Rattle.manifest_rows.specs.Files.{HasMore, IsIndexOf, IsOf};
 
-use manifest::seeded::{Seeded, seeded_by};
-use manifest::{Line, Manifest, Word};
-use rom_fields::memory::OutOfMemory;
+use manifest::{Line, Manifest, Seeded, Word, seeded_by};
+use rom_fields::OutOfMemory;
 use std::alloc::Global;
 use std::collections::HashMap;
 

@@ -12,7 +12,7 @@ use crate::inodes::inode_at;
 use crate::row::{Inode, Row, What};
 use manifest::{Line, Manifest, Word};
 use memchr::memrchr;
-use rom_fields::memory::OutOfMemory;
+use rom_fields::OutOfMemory;
 use std::alloc::Global;
 use std::collections::BTreeMap;
 

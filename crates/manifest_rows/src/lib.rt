@@ -11,13 +11,13 @@
 //! of a path that `hard` and `same` lines lead on from, those of the `file` line behind them.
 #![tactic(auto)]
 
-pub mod depth;
-pub mod files;
-pub mod inodes;
+mod depth;
+mod files;
+mod inodes;
 mod keyed;
 pub mod laws;
 mod order;
-pub mod row;
+mod row;
 
 pub use depth::deepest;
 pub use files::{PathTargets, SourceUse};

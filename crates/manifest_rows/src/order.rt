@@ -9,7 +9,7 @@ use crate::files::PathTargets;
 use crate::keyed::put_line;
 use crate::row::Row;
 use manifest::Manifest;
-use rom_fields::memory::OutOfMemory;
+use rom_fields::OutOfMemory;
 use std::alloc::Global;
 use std::collections::BTreeMap;
 

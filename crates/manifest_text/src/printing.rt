@@ -10,9 +10,7 @@ ghost use Rattle.rom_fields.specs.Written.{Puts, WritesText, sink};
 
 use crate::entry::Entry;
 use manifest::Word;
-use rom_fields::bytes::{ByteWrite, Failed};
-use rom_fields::sink::put;
-use rom_fields::text::{put_decimal, put_escaped, put_octal};
+use rom_fields::{ByteWrite, Failed, put, put_decimal, put_escaped, put_octal};
 
 /// Puts `PATH MODE UID GID`.
 fn put_attributes<W: ByteWrite>(w: &mut W, failed: &mut bool, e: &Entry)

@@ -3,8 +3,7 @@ ghost use Rattle.rom_tree.specs.Image.{HasDirectory};
 ghost use Rattle.name_index.specs.Indices.{entries_in, IsTold};
 
 use crate::names::is_same;
-use rom_tree::image::TreeImage;
-use rom_tree::types::{Cursor, NodeId};
+use rom_tree::{Cursor, NodeId, TreeImage};
 
 /// What is known of a name behind the first 17 entries of a list, or behind all of a shorter one.
 pub(crate) enum Front {

@@ -7,8 +7,7 @@ ghost use Rattle.name_index.specs.Indices.{AreIndices, entries_in};
 use crate::front::{Front, front_of};
 use crate::rows::{NamedNode, rows_of};
 use crate::search::find;
-use rom_tree::image::{TreeImage, Viewed};
-use rom_tree::types::{Cursor, Entry, NodeId, Run, Stat};
+use rom_tree::{Cursor, Entry, NodeId, Run, Stat, TreeImage, Viewed};
 use std::alloc::Global;
 use std::collections::BTreeMap;
 

@@ -3,9 +3,8 @@ ghost use Rattle.std.specs.Prelude.{IfOk};
 ghost use Rattle.rom_tree.specs.Image.{HasDirectory};
 ghost use Rattle.name_index.specs.Indices.{IsIndexOf, entries_in};
 
-use rom_fields::memory::OutOfMemory;
-use rom_tree::image::TreeImage;
-use rom_tree::types::{Cursor, NodeId};
+use rom_fields::OutOfMemory;
+use rom_tree::{Cursor, NodeId, TreeImage};
 use std::alloc::Global;
 
 /// A name of a list, whose bytes are the image's own, and the node to which it leads.

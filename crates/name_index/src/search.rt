@@ -5,7 +5,7 @@ ghost use Rattle.name_index.specs.Indices.{by_name, first_of, is_below};
 
 use crate::names::{is_before, is_same};
 use crate::rows::NamedNode;
-use rom_tree::types::NodeId;
+use rom_tree::NodeId;
 
 /// How many of the rows of an index have a name that comes before this one, by halves.
 fn rows_before(rows: &[NamedNode<'_>], name: &[u8]) -> usize

@@ -11,8 +11,7 @@ use crate::images::Images;
 use crate::lent::{is_openable, link_piece};
 use crate::opened;
 use crate::slot::{Fd, OpenNode, Slots};
-use rom_tree::image::{TreeImage, is_link_at};
-use rom_tree::types::{Cursor, Entry, NodeId, Piece, Stat};
+use rom_tree::{Cursor, Entry, NodeId, Piece, Stat, TreeImage, is_link_at};
 
 /// The kind and numbers of the node at a place.
 pub(crate) fn stat<'a, T: TreeImage<'a>, I: Images<'a, T>>(

@@ -5,9 +5,7 @@ ghost use Rattle.rom_tree.specs.Image.{image_node, HasNode};
 ghost use Rattle.open_files.specs.Lending.{bytes_of};
 
 use crate::lent::bytes_at;
-use rom_tree::image::TreeImage;
-use rom_tree::runs::lesser;
-use rom_tree::types::NodeId;
+use rom_tree::{NodeId, TreeImage, lesser};
 
 /// Writes a text over the bytes of a buffer from a place on.
 fn copy_at(buf: &mut [u8], at: usize, text: &[u8])

@@ -8,8 +8,7 @@ ghost use Rattle.open_files.specs.Slots.{image_view, are_sound, table_of, unlabe
 use crate::error::CallError;
 use crate::one_image;
 use crate::slot::{Fd, Slots};
-use rom_tree::image::{TreeImage, Viewed};
-use rom_tree::types::{Entry, NodeId, Piece, Stat};
+use rom_tree::{Entry, NodeId, Piece, Stat, TreeImage, Viewed};
 use std::marker::PhantomData;
 
 /// An image with open files, whose numbers lie below N. What it lends is part of the image's bytes,

@@ -6,7 +6,7 @@ ghost use Rattle.open_files.specs.Slots.{View, IsImage, HasPlace, image_view, gr
 
 use arrayvec::ArrayVec;
 use path_walk::Mount;
-use rom_tree::image::{TreeImage, Viewed};
+use rom_tree::{TreeImage, Viewed};
 
 /// What is served as images.
 pub(crate) trait Served {

@@ -5,8 +5,7 @@ ghost use Rattle.rom_tree.specs.Image.{image_node, HasNode, HasLink};
 ghost use Rattle.open_files.specs.Lending.{lent};
 ghost use Rattle.open_files.specs.Slots.{lent_by};
 
-use rom_tree::image::{TreeImage, is_directory_at, is_regular_at, link_text};
-use rom_tree::types::{NodeId, Piece};
+use rom_tree::{NodeId, Piece, TreeImage, is_directory_at, is_regular_at, link_text};
 
 /// Whether a node can be opened.
 pub(crate) fn is_openable<'a, T: TreeImage<'a>>(image: &T, node: NodeId) -> bool

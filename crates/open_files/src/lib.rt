@@ -4,7 +4,7 @@
 //! `specs/Machine.antt` says what is open, and what each call answers and makes of it, with its
 //! refusals in their order; `specs/Lending.antt` what is lent; `specs/Sessions.antt` how several
 //! images are mounted in one another and used by several sessions. Proved, for each
-//! `rom_tree::image::TreeImage` and each number of descriptors: each call answers as the machine
+//! `rom_tree::TreeImage` and each number of descriptors: each call answers as the machine
 //! does, and leaves the state that the machine has then.
 //!
 //! `Files` is one image with its open files, `Space` up to eight images with eight sessions.
@@ -26,5 +26,6 @@ mod space;
 
 pub use error::CallError;
 pub use files::Files;
+pub use rom_tree::{Entry, Kind, NodeId, Piece, Stat};
 pub use slot::{Fd, OpenNode, Slots};
 pub use space::Space;

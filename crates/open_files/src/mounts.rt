@@ -9,8 +9,7 @@ ghost use Rattle.open_files.specs.Sessions.{is_mounted, has_mount, mount_over};
 
 use crate::error::CallError;
 use path_walk::Mount;
-use rom_tree::image::{TreeImage, is_directory_at};
-use rom_tree::types::NodeId;
+use rom_tree::{NodeId, TreeImage, is_directory_at};
 
 /// Whether an image is mounted.
 pub(crate) fn is_mounted_in(mounts: &[Mount], image: u32) -> bool

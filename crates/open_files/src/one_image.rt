@@ -11,8 +11,7 @@ use crate::error::CallError;
 use crate::images::One;
 use crate::slot::{Fd, Slots};
 use path_walk::walk;
-use rom_tree::image::TreeImage;
-use rom_tree::types::{Entry, NodeId, Piece, Stat};
+use rom_tree::{Entry, NodeId, Piece, Stat, TreeImage};
 
 /// The node that a path leads to; a link in the last place is followed.
 ///

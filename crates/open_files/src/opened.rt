@@ -10,9 +10,7 @@ use crate::copied::copy_bytes;
 use crate::error::CallError;
 use crate::lent::bytes_at;
 use crate::slot::OpenNode;
-use rom_tree::image::{TreeImage, is_directory_at};
-use rom_tree::runs::longest_run;
-use rom_tree::types::{Cursor, Entry, Piece, Stat};
+use rom_tree::{Cursor, Entry, Piece, Stat, TreeImage, is_directory_at, longest_run};
 
 /// A node's kind and numbers.
 pub fn fstat<'a, T: TreeImage<'a>>(image: &T, opened: OpenNode) -> Stat

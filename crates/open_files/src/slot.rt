@@ -6,7 +6,7 @@ ghost use Rattle.open_files.specs.Slots.{image_view, are_sound, table_of};
 ghost use Rattle.open_files.specs.declared.error.CallError.TheVariants.{Ebadf};
 
 use crate::error::CallError;
-use rom_tree::types::NodeId;
+use rom_tree::NodeId;
 
 /// The number of an open directory or file.
 #[derive(Clone, Copy, Debug, PartialEq, Eq)]

@@ -18,8 +18,7 @@ use crate::mounts::{check_cover, has_mount_in, is_mounted_in, mount_index};
 use crate::slot::{Fd, Slots};
 use arrayvec::ArrayVec;
 use path_walk::{Mount, walk_mounts};
-use rom_tree::image::{TreeImage, Viewed};
-use rom_tree::types::{Entry, NodeId, Piece, Stat};
+use rom_tree::{Entry, NodeId, Piece, Stat, TreeImage, Viewed};
 use std::marker::PhantomData;
 
 /// Up to eight images, what is mounted where, and eight sessions, each with open files of its own,

@@ -6,8 +6,7 @@ ghost use Rattle.path_walk.specs.Graft.{MountedNode, tree_in, bytes_in};
 ghost use Rattle.path_walk.specs.Trails.{Held, NamesAt, HasNodeAt};
 
 use crate::mount::Location;
-use rom_tree::image::{TreeImage, Viewed, is_directory_at, is_link_at, link_text};
-use rom_tree::types::NodeId;
+use rom_tree::{NodeId, TreeImage, Viewed, is_directory_at, is_link_at, link_text};
 
 /// What is seen as several images.
 pub(crate) trait Gathered {

@@ -2,7 +2,7 @@
 //! another.
 //!
 //! `specs/Resolution.antt` says where a path leads, after POSIX.1-2017, 4.13 "Pathname Resolution",
-//! and `specs/Graft.antt` what mounts are. Proved, for each `rom_tree::image::TreeImage` and for up
+//! and `specs/Graft.antt` what mounts are. Proved, for each `rom_tree::TreeImage` and for up
 //! to eight of them: `walk` and `walk_mounts` answer with the node that the path leads to, or with
 //! the error that it has, and the images stay as they are. No call takes memory.
 #![tactic(auto)]
@@ -17,3 +17,4 @@ mod step;
 pub use error::WalkError;
 pub use mount::Mount;
 pub use paths::{walk, walk_mounts};
+pub use rom_tree::NodeId;

@@ -1,5 +1,5 @@
 //! Where images are mounted.
-use rom_tree::types::NodeId;
+use rom_tree::NodeId;
 
 /// A mounted image: the root of image number `image` covers the directory `dir` of image number
 /// `on`.

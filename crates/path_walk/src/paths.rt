@@ -13,8 +13,7 @@ use crate::images::{Images, One, Several};
 use crate::mount::{Location, Mount};
 use crate::step::{advance, is_absolute, last_stays, start_from};
 use arrayvec::ArrayVec;
-use rom_tree::image::TreeImage;
-use rom_tree::types::NodeId;
+use rom_tree::{NodeId, TreeImage};
 
 const PATH_MAX: usize = 4095;
 

@@ -12,8 +12,7 @@ use crate::error::WalkError;
 use crate::images::Images;
 use crate::mount::{Location, Mount};
 use arrayvec::ArrayVec;
-use rom_tree::dots::{is_dot, is_dot_dot};
-use rom_tree::types::NodeId;
+use rom_tree::{NodeId, is_dot, is_dot_dot};
 
 const COMPONENT_MAX: usize = 255;
 

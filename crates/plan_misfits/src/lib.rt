@@ -1,7 +1,7 @@
 //! What of the lines of a manifest does not fit a format.
 #![tactic(auto)]
 
-pub mod least;
+mod least;
 mod lines;
 pub mod misfit;
 

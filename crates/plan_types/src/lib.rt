@@ -6,11 +6,11 @@
 //! `specs/Plans.antt` what a plan is to be.
 #![tactic(auto)]
 
-pub mod format;
-pub mod item;
-pub mod laid;
-pub mod planned;
-pub mod section;
+mod format;
+mod item;
+mod laid;
+mod planned;
+mod section;
 
 pub use format::Format;
 pub use item::{Fill, Item};

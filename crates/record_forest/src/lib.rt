@@ -7,11 +7,18 @@
 //! least fault.
 #![tactic(auto)]
 
-pub mod answer;
-pub mod known;
+mod answer;
+mod known;
 pub mod laws;
-pub mod least;
-pub mod listed;
-pub mod records;
-pub mod reference;
-pub mod traversal;
+mod least;
+mod listed;
+mod records;
+mod reference;
+mod traversal;
+
+pub use known::{Range, VerifiedRanges};
+pub use least::{lesser_fault, lesser_of_both};
+pub use listed::{ListedName, repeats};
+pub use records::Records;
+pub use reference::{Edge, Edges, Reference, Row};
+pub use traversal::{TraversalError, traverse};

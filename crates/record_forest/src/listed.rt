@@ -2,7 +2,7 @@
 ghost use Rattle.std.specs.Prelude.{IsTrue, ◌↔◌, IfOk};
 ghost use Rattle.record_forest.specs.Listed.{AreNumbered, AreAlike, MarksRepeats};
 
-use rom_fields::memory::OutOfMemory;
+use rom_fields::OutOfMemory;
 use std::alloc::Global;
 
 /// A name in the list of the directory at `list`, and its index among the names that are looked at.

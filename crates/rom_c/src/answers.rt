@@ -3,7 +3,7 @@ ghost use Rattle.std.specs.Prelude.{◌≡◌};
 ghost use Rattle.rom_c.specs.Told.{kind_number, stat_told};
 ghost use Rattle.rom_c.specs.Told.{no_node as no_node_told, no_stat as no_stat_told, no_place as no_place_told};
 
-use rom_tree::types::{Kind, Stat};
+use rom_tree::{Kind, Stat};
 
 /// No image is open.
 pub(crate) const CLOSED: u32 = 13;

@@ -6,9 +6,9 @@ ghost use Rattle.image_check.specs.Any.{any_view};
 ghost use Rattle.rom_c.specs.Told.{IsText, led_told, shown_told};
 
 use crate::answers::{RomtoolNode, RomtoolPlace, RomtoolStat, no_node, no_place, no_stat, shown};
-use image_check::any::AnyImage;
+use image_check::AnyImage;
 use path_walk::walk;
-use rom_tree::image::{TreeImage, is_link_at};
+use rom_tree::{TreeImage, is_link_at};
 
 /// What a path leads to is no symbolic link.
 const NO_LINK: u32 = 5;

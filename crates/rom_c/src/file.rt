@@ -5,7 +5,7 @@ ghost use Rattle.rom_c.specs.Opened.{stands_at};
 
 use crate::image::RomtoolImage;
 use open_files::OpenNode;
-use rom_tree::types::NodeId;
+use rom_tree::NodeId;
 
 /// What C holds of an open directory or regular file. It is open where the image has status 1 and
 /// `error` is 0.

@@ -11,13 +11,12 @@ ghost use Rattle.image_check.specs.Checked.{BeginsRomfs, BeginsCramfs, HasFormat
 ghost use Rattle.image_check.specs.declared.any.Parts.TheVariants.{Romfs, Cramfs};
 ghost use Rattle.rom_c.specs.Held.{usual, parts_of, romfs_parts, cramfs_parts, IsFormat, IsReported};
 
-use cramfs_format::order::Order;
-use cramfs_image::image::Parts as CramfsParts;
-use image_check::any::{AnyImage, Parts};
-use image_check::check;
+use cramfs_format::Order;
+use cramfs_image::Parts as CramfsParts;
+use image_check::{AnyImage, Parts, check};
 use rom_faults::CheckError;
-use rom_tree::types::Limits;
-use romfs_image::image::Parts as RomfsParts;
+use rom_tree::Limits;
+use romfs_image::Parts as RomfsParts;
 use std::alloc::Global;
 
 /// The status of an image that is open.

@@ -9,10 +9,9 @@ ghost use Rattle.rom_c.specs.Outcomes.{error_told, place_told, file_stat_told, I
 
 use crate::answers::{RomtoolPlace, RomtoolStat, no_place, shown};
 use crate::file::{RomtoolEntry, no_entry};
-use image_check::any::AnyImage;
+use image_check::AnyImage;
 use open_files::{CallError, OpenNode, opened};
-use rom_tree::image::{is_directory_at, is_regular_at};
-use rom_tree::types::{NodeId, Piece};
+use rom_tree::{NodeId, Piece, is_directory_at, is_regular_at};
 
 /// Whether a node can be opened.
 pub(crate) fn can_open(image: &AnyImage<'_>, node: NodeId) -> bool

@@ -12,9 +12,8 @@ use image_check::{AnyImage, check};
 use image_map::cat;
 use path_walk::{WalkError, walk};
 use rom_faults::CheckError;
-use rom_fields::bytes::{ByteWrite, Plain};
-use rom_tree::image::{is_directory_at, is_regular_at};
-use rom_tree::types::Limits;
+use rom_fields::{ByteWrite, Plain};
+use rom_tree::{Limits, is_directory_at, is_regular_at};
 use std::alloc::Global;
 use std::io::Write;
 

@@ -3,9 +3,7 @@ ghost use Rattle.rom_fields.specs.Written.{Puts, sink};
 ghost use Rattle.rom_commands.specs.Lines.{fault_text};
 
 use rom_faults::name;
-use rom_fields::bytes::ByteWrite;
-use rom_fields::sink::put;
-use rom_fields::text::put_decimal;
+use rom_fields::{ByteWrite, put, put_decimal};
 
 /// Puts `fault NUMBER NAME at OFFSET`.
 pub fn put_fault<W: ByteWrite>(w: &mut W, failed: &mut bool, number: u32, at: u32)

@@ -5,12 +5,21 @@
 //! (`specs/Answers.antt`).
 #![tactic(auto)]
 
-pub mod asked;
-pub mod copying;
+mod asked;
+mod copying;
+mod example;
 mod fault;
-pub mod hello;
-pub mod printing;
-pub mod serving;
-pub mod several;
-pub mod shown;
-pub mod status;
+mod printing;
+mod serving;
+mod several;
+mod shown;
+mod status;
+
+pub use asked::Asked;
+pub use copying::{Copied, NoFile, copy, print_file};
+pub use example::hello;
+pub use printing::{complain, print};
+pub use serving::{Serving, serve_image, serve_on};
+pub use several::{serve_images, serve_several_on};
+pub use shown::{Outcome, has_addresses, show};
+pub use status::{Failure, Status, tell};

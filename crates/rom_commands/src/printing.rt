@@ -9,9 +9,7 @@ ghost use Rattle.rom_commands.specs.declared.shown.Outcome.{Outcome};
 use crate::asked::Asked;
 use crate::shown::{Outcome, show};
 use crate::status::Status;
-use rom_fields::bytes::{ByteWrite, Plain};
-use rom_fields::sink::put;
-use rom_fields::text::put_escaped;
+use rom_fields::{ByteWrite, Plain, put, put_escaped};
 use std::alloc::Global;
 use std::io::Write;
 

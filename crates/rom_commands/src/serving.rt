@@ -15,10 +15,9 @@ use crate::status::Status;
 use image_check::{AnyImage, check};
 use name_index::Indexed;
 use rom_faults::CheckError;
-use rom_fields::bytes::{ByteRead, ByteWrite, Failed};
-use rom_fields::sink::put;
+use rom_fields::{ByteRead, ByteWrite, Failed, put};
 use rom_serve::{Cached, NoCache, ServeError, serve};
-use rom_tree::types::Limits;
+use rom_tree::Limits;
 use std::alloc::Global;
 
 /// How many names the server's cache of look-ups holds.

@@ -16,11 +16,9 @@ use crate::status::Status;
 use image_check::{AnyImage, check};
 use name_index::Indexed;
 use rom_faults::CheckError;
-use rom_fields::bytes::{ByteRead, ByteWrite, Failed};
-use rom_fields::sink::put;
-use rom_fields::text::put_decimal;
+use rom_fields::{ByteRead, ByteWrite, Failed, put, put_decimal};
 use rom_serve::serve_space;
-use rom_tree::types::Limits;
+use rom_tree::Limits;
 use std::alloc::Global;
 
 /// Why some bytes are not all images.

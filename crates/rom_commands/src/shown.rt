@@ -20,11 +20,8 @@ use image_info::{InfoError, write_info};
 use image_map::map;
 use linux_misreads::misreads;
 use rom_faults::CheckError;
-use rom_fields::bytes::{ByteWrite, Failed};
-use rom_fields::sink::put;
-use rom_fields::text::put_decimal;
-use rom_tree::list;
-use rom_tree::types::{Limits, Report};
+use rom_fields::{ByteWrite, Failed, put, put_decimal};
+use rom_tree::{Limits, Report, list};
 use std::alloc::Global;
 
 /// How the showing of an image ended.

@@ -4,8 +4,7 @@ ghost use Rattle.rom_commands.specs.Answers.{Prints};
 ghost use Rattle.rom_commands.specs.Endings.{code_of, failure_line, failure_status};
 
 use crate::printing::complain;
-use rom_fields::bytes::ByteWrite;
-use rom_fields::sink::put;
+use rom_fields::{ByteWrite, put};
 
 /// How a command ended. What standard error has to say was said.
 #[derive(Debug, Clone, Copy, PartialEq, Eq)]

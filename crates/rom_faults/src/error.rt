@@ -4,7 +4,7 @@ ghost use Rattle.rom_faults.specs.Faults.{fault_answer};
 ghost use Rattle.rom_faults.specs.declared.error.CheckError.{CheckError};
 
 use crate::fault::{Fault, name};
-use rom_fields::memory::OutOfMemory;
+use rom_fields::OutOfMemory;
 use std::fmt::{self, Display, Formatter};
 
 /// Why an image was not taken: its least fault, by number and offset, or memory that was refused.

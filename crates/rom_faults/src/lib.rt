@@ -4,7 +4,7 @@
 //! `name` gives.
 #![tactic(auto)]
 
-pub mod error;
+mod error;
 pub mod fault;
 
 pub use error::CheckError;

@@ -7,13 +7,24 @@
 //! whole, or a prefix of it where the writer failed.
 #![tactic(auto)]
 
-pub mod bytes;
-pub mod canvas;
-pub mod contents;
-pub mod extents;
-pub mod faulty;
-pub mod memory;
-pub mod sink;
-pub mod span;
-pub mod text;
-pub mod word;
+mod bytes;
+mod canvas;
+mod contents;
+mod extents;
+mod faulty;
+mod memory;
+mod sink;
+mod span;
+mod text;
+mod word;
+
+pub use bytes::{ByteRead, ByteWrite, Failed, Plain};
+pub use canvas::Canvas;
+pub use contents::Contents;
+pub use extents::Extents;
+pub use faulty::Faulty;
+pub use memory::OutOfMemory;
+pub use sink::{put, write_whole};
+pub use span::{Extent, Span, least_overlap, overlap};
+pub use text::{put_decimal, put_escaped, put_octal};
+pub use word::{be32, le32, pad, part, put_be32, put_le32, word_sum};

@@ -10,7 +10,7 @@ ghost use Rattle.rom_serve.specs.Obeyed.{says, obeyed, answered};
 use crate::calls::OpenCalls;
 use crate::replies::done_reply;
 use open_files::Fd;
-use rom_fields::bytes::ByteWrite;
+use rom_fields::ByteWrite;
 use serve_lines::{Command, Reply, put_reply, read_line};
 
 /// Closes all that a session has open.

@@ -14,10 +14,11 @@ pub mod laws;
 mod one;
 mod one_session;
 mod replies;
-pub mod serving;
+mod serving;
 mod several;
 mod several_sessions;
 
 pub use lookup_cache::{Cached, NoCache};
+pub use rom_fields::{ByteRead, ByteWrite, Plain};
 pub use serve_lines::ServeError;
 pub use serving::{serve, serve_bounded, serve_space};

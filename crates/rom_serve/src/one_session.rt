@@ -5,7 +5,7 @@ ghost use Rattle.rom_serve.specs.Machines.{lines_alone};
 
 use crate::calls::OpenCalls;
 use crate::commands::put_answer;
-use rom_fields::bytes::ByteWrite;
+use rom_fields::ByteWrite;
 use serve_lines::LineMachine;
 use std::marker::PhantomData;
 

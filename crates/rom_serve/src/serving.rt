@@ -13,8 +13,8 @@ use crate::one::One;
 use crate::one_session::OneSession;
 use crate::several_sessions::SeveralSessions;
 use open_files::{Slots, Space};
-use rom_fields::bytes::{ByteRead, ByteWrite};
-use rom_tree::image::TreeImage;
+use rom_fields::{ByteRead, ByteWrite};
+use rom_tree::TreeImage;
 use serve_lines::{ServeError, serve_lines};
 use std::marker::PhantomData;
 

@@ -13,8 +13,7 @@ ghost use Rattle.rom_serve.specs.Obeyed.{result_text, of_node, of_stat, of_piece
 use crate::calls::OpenCalls;
 use crate::replies::{descriptor_reply, done_reply};
 use open_files::{CallError, Fd, Space};
-use rom_tree::image::TreeImage;
-use rom_tree::types::{Entry, NodeId, Piece, Stat};
+use rom_tree::{Entry, NodeId, Piece, Stat, TreeImage};
 use serve_lines::{FdCall, PathCall, Reply};
 
 // The replies that the results of calls on several images give, with the number of the image.

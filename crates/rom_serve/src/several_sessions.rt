@@ -5,8 +5,7 @@ ghost use Rattle.rom_serve.specs.Machines.{lines_among, session_digit};
 
 use crate::calls::OpenCalls;
 use crate::commands::put_answer;
-use rom_fields::bytes::ByteWrite;
-use rom_fields::sink::put;
+use rom_fields::{ByteWrite, put};
 use serve_lines::{Bad, LineMachine, Reply, put_reply};
 use std::marker::PhantomData;
 

@@ -8,20 +8,22 @@
 //! writer failed. Nothing here takes memory.
 #![tactic(auto)]
 
-pub mod dots;
+mod dots;
 mod frame;
-pub mod image;
+mod image;
 pub mod laws;
 mod line;
-pub mod listing;
+mod listing;
 mod path;
-pub mod runs;
-pub mod types;
+mod runs;
+mod types;
 mod walk;
 
+pub use dots::{is_dot, is_dot_dot, is_dots};
 pub use frame::Walk;
-pub use image::{TreeImage, Viewed};
+pub use image::{TreeImage, Viewed, is_directory_at, is_link_at, is_regular_at, link_text};
 pub use line::put_stat;
 pub use listing::list;
 pub use rom_faults::CheckError;
+pub use runs::{lesser, longest_run};
 pub use types::{Cursor, Entry, Kind, Limits, ListError, NoRoom, NodeId, Piece, Report, Run, Stat};

@@ -10,9 +10,7 @@ ghost use Rattle.rom_tree.specs.Walks.{given_path};
 use crate::frame::Walk;
 use crate::image::{TreeImage, is_link_at, link_text};
 use crate::types::{Kind, NodeId, Stat};
-use rom_fields::bytes::ByteWrite;
-use rom_fields::sink::put;
-use rom_fields::text::{put_decimal, put_escaped, put_octal};
+use rom_fields::{ByteWrite, put, put_decimal, put_escaped, put_octal};
 
 /// Puts a space and the text of a symbolic link, and nothing for other nodes.
 fn put_target<'a, T: TreeImage<'a>, W: ByteWrite>(

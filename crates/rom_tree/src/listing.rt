@@ -10,7 +10,7 @@ use crate::frame::Walk;
 use crate::image::TreeImage;
 use crate::line::put_line;
 use crate::types::ListError;
-use rom_fields::bytes::ByteWrite;
+use rom_fields::ByteWrite;
 
 /// Writes the list of the image's tree: for each name of a node one line, in preorder and the root
 /// first, `INO KIND MODE UID GID SIZE MAJOR MINOR PATH`. KIND is a letter: d directory, f regular

@@ -8,9 +8,7 @@ ghost use Rattle.rom_tree.specs.Frames.{name_text, path_text, way_of};
 use crate::frame::Frame;
 use crate::types::NoRoom;
 use arrayvec::ArrayVec;
-use rom_fields::bytes::ByteWrite;
-use rom_fields::sink::put;
-use rom_fields::text::put_escaped;
+use rom_fields::{ByteWrite, put, put_escaped};
 
 /// Puts a slash and a name, escaped, and nothing for the root.
 pub(crate) fn put_name<'a, W: ByteWrite>(w: &mut W, failed: &mut bool, name: Option<&'a [u8]>)

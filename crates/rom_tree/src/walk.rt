@@ -14,8 +14,7 @@ use crate::image::{TreeImage, is_directory_at};
 use crate::path::{append_way, put_frames, put_name};
 use crate::types::{Cursor, NoRoom, NodeId};
 use arrayvec::ArrayVec;
-use rom_fields::bytes::ByteWrite;
-use rom_fields::sink::put;
+use rom_fields::{ByteWrite, put};
 
 /// What a step gives: a node, its name, and whether it is a directory that was entered.
 #[derive(Clone, Copy)]

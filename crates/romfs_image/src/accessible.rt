@@ -4,9 +4,7 @@ ghost use Rattle.std.specs.Prelude.{◌≡◌, ◌≢◌, ◌+◌, ◌<◌, ◌�
 ghost use Rattle.romfs_format.specs.Refers.{references, LeadsToSound, LeadsToFault, some_offset, list_of, following, reference_offset};
 
 use crate::soundness::record_fault;
-use record_forest::known::VerifiedRanges;
-use record_forest::records::Records;
-use record_forest::reference::{Edge, Edges, Reference};
+use record_forest::{Edge, Edges, Records, Reference, VerifiedRanges};
 use rom_faults::Fault;
 
 /// The accessible bytes of an image, and where the root's header stands among them.

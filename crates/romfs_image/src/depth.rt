@@ -8,11 +8,10 @@ ghost use Rattle.record_forest.specs.Sweep.{IsLeastRowFault};
 ghost use Rattle.romfs_image.specs.Phases.{IsTooDeep, IsShallow};
 
 use crate::accessible::Accessible;
-use record_forest::least::lesser_fault;
-use record_forest::reference::Row;
+use record_forest::{Row, lesser_fault};
 use rom_faults::Fault;
 use rom_faults::fault::TOO_DEEP;
-use rom_tree::dots::is_dots;
+use rom_tree::is_dots;
 
 /// Whether a row is an entry, and not `.` or `..`.
 fn is_entry(b: &Accessible<'_>, row: Row) -> bool

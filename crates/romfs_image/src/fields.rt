@@ -8,7 +8,7 @@ ghost use Rattle.romfs_format.specs.Made.{begins};
 use crate::accessible::Accessible;
 use byteorder::{BigEndian, ByteOrder};
 use memchr::memchr;
-use rom_tree::types::Kind;
+use rom_tree::Kind;
 
 /// The word at `at`.
 #[tactic(auto, unfolding(rom_fields::specs::Words::word_be))]

@@ -6,10 +6,8 @@ use crate::accessible::Accessible;
 use crate::depth::greatest_depth;
 use crate::fields::{device_at, file_at, kind_at, mode_at};
 use arrayvec::ArrayVec;
-use record_forest::reference::Row;
-use rom_tree::dots::is_dots;
-use rom_tree::image::{TreeImage, Viewed};
-use rom_tree::types::{Cursor, Entry, Limits, NodeId, Report, Run, Stat};
+use record_forest::Row;
+use rom_tree::{Cursor, Entry, Limits, NodeId, Report, Run, Stat, TreeImage, Viewed, is_dots};
 
 /// A cursor other than the start is the offset of the next record from here on: the end of a list,
 /// whose offset is 0, is told from the start in this way.

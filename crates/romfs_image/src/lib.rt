@@ -4,7 +4,7 @@
 //! an image value, or the least fault. Proved: it gives a value only where the bytes hold a tree of
 //! files, as `romfs_format` defines it, and have no fault; it gives a fault only where they hold
 //! none, and that fault is the least one; and each call on the value answers from the tree
-//! (`rom_tree::image::TreeImage`). Contents are never copied. By `laws::exact` the set of faults,
+//! (`rom_tree::TreeImage`). Contents are never copied. By `laws::exact` the set of faults,
 //! which knows no tree, is empty exactly where a tree stands.
 #![tactic(auto)]
 
@@ -12,7 +12,7 @@ mod accessible;
 mod check;
 mod depth;
 mod fields;
-pub mod image;
+mod image;
 pub mod laws;
 mod names;
 mod overlap;
@@ -21,4 +21,4 @@ mod rows;
 mod soundness;
 mod superblock;
 
-pub use image::Romfs;
+pub use image::{Parts, Romfs};

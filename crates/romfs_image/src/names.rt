@@ -13,13 +13,11 @@ ghost use Rattle.romfs_image.specs.Phases.{AreOffsets, TellsRepeated, IsNameFaul
 
 use crate::accessible::Accessible;
 use crate::rows::{led_to, offsets_of};
-use record_forest::least::lesser_fault;
-use record_forest::listed::{ListedName, repeats};
-use record_forest::reference::Row;
+use record_forest::{ListedName, Row, lesser_fault, repeats};
 use rom_faults::Fault;
 use rom_faults::fault::{DOT, DUPLICATE_NAME, HARD_LINK};
-use rom_fields::memory::OutOfMemory;
-use rom_tree::dots::{is_dot, is_dot_dot, is_dots};
+use rom_fields::OutOfMemory;
+use rom_tree::{is_dot, is_dot_dot, is_dots};
 use std::alloc::Global;
 
 /// Whether following a record leads to the one at `to`.

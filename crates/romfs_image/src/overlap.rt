@@ -6,10 +6,8 @@ ghost use Rattle.romfs_format.specs.Record.{IsSound};
 ghost use Rattle.romfs_format.specs.Tree.{row_extents, extents_of};
 
 use crate::accessible::Accessible;
-use record_forest::reference::Row;
-use rom_fields::extents::Extents;
-use rom_fields::memory::OutOfMemory;
-use rom_fields::span::Extent;
+use record_forest::Row;
+use rom_fields::{Extent, Extents, OutOfMemory};
 use std::alloc::Global;
 
 /// Adds what the record of a row takes: its header with its name, and its data where it has any.

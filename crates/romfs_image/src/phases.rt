@@ -9,10 +9,10 @@ use crate::accessible::Accessible;
 use crate::depth::least_too_deep;
 use crate::names::least_name_fault;
 use crate::overlap::least_overlap;
-use record_forest::reference::Row;
+use record_forest::Row;
 use rom_faults::Fault;
 use rom_faults::fault::OVERLAP;
-use rom_fields::memory::OutOfMemory;
+use rom_fields::OutOfMemory;
 use std::alloc::Global;
 
 /// The rows that stand in lists: all, where the root heads its own list, else all but the root's.

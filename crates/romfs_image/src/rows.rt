@@ -6,8 +6,8 @@ ghost use Rattle.romfs_format.specs.Tree.{follow};
 ghost use Rattle.romfs_image.specs.Phases.{AreOffsets};
 
 use crate::accessible::Accessible;
-use record_forest::reference::Row;
-use rom_fields::memory::OutOfMemory;
+use record_forest::Row;
+use rom_fields::OutOfMemory;
 use std::alloc::Global;
 
 /// The offsets of the rows, in rising order.

@@ -9,7 +9,7 @@ ghost use Rattle.romfs_format.specs.Record.{name_of, end_of, next_of, first_of, 
 use crate::accessible::Accessible;
 use crate::fields::name_len;
 use rom_faults::fault::{BAD_NAME, BOUNDS, HEADER_SUM, LINK_SIZE};
-use rom_fields::word::word_sum;
+use rom_fields::word_sum;
 
 /// How long the name of a whole record is, and where the record ends.
 #[derive(Clone, Copy)]

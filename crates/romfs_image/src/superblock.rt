@@ -9,7 +9,7 @@ use crate::accessible::Accessible;
 use crate::fields::word;
 use memchr::memchr;
 use rom_faults::{Fault, fault};
-use rom_fields::word::word_sum;
+use rom_fields::word_sum;
 use romfs_format::disk::MAGIC;
 
 /// Whether the bytes begin with the magic.

@@ -10,7 +10,7 @@ use crate::places::{Place, record_len};
 use manifest::Name;
 use manifest_rows::{Bytes, Inode, Row, What};
 use plan_types::{Fill, Item};
-use rom_fields::memory::OutOfMemory;
+use rom_fields::OutOfMemory;
 use rom_tree::Kind;
 use std::alloc::Global;
 use std::collections::BTreeMap;

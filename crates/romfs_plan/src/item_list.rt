@@ -15,7 +15,7 @@ use crate::places::Place;
 use crate::size::root_at;
 use manifest_rows::{Inode, Row, What};
 use plan_types::Item;
-use rom_fields::memory::OutOfMemory;
+use rom_fields::OutOfMemory;
 use std::alloc::Global;
 use std::collections::BTreeMap;
 

@@ -9,7 +9,7 @@ ghost use Rattle.romfs_plan.specs.Rows.{IsFitRow};
 
 use crate::places::{Place, row_end, row_place};
 use manifest_rows::Row;
-use rom_fields::memory::OutOfMemory;
+use rom_fields::OutOfMemory;
 use std::alloc::Global;
 
 /// One more than the greatest depth of a row, and one for the list below it.

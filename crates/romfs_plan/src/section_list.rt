@@ -10,7 +10,7 @@ ghost use Rattle.romfs_layout.specs.Layout.{record_len};
 use crate::places::record_len;
 use crate::size::root_at;
 use plan_types::{Body, Fill, Item, Section};
-use rom_fields::memory::OutOfMemory;
+use rom_fields::OutOfMemory;
 use std::alloc::Global;
 
 /// The section of an item's header.

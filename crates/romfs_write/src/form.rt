@@ -13,8 +13,7 @@ ghost use Rattle.romfs_write.specs.Form.{form_of, full_size, segment_of};
 ghost use Rattle.romfs_write.specs.Known.{IsBody, IsRomfsPlan};
 
 use crate::header::{put_header, put_superblock};
-use image_stream::outline::Outline;
-use image_stream::segmented::Segmented;
+use image_stream::{Outline, Segmented};
 use plan_types::{Body, Fill, Item, Plan, Section};
 
 /// The plan of a romfs image.

@@ -4,7 +4,7 @@ ghost use Rattle.byteorder.specs.Endian.{big_bytes};
 ghost use Rattle.romfs_layout.specs.Layout.{header_bytes, record_len, root_at};
 ghost use Rattle.romfs_write.specs.Form.{superblock_storing};
 
-use rom_fields::word::{put_be32, word_sum};
+use rom_fields::{put_be32, word_sum};
 use romfs_format::disk::MAGIC;
 
 /// Sets all bytes to zero.

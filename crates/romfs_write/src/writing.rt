@@ -12,12 +12,9 @@ ghost use Rattle.std.specs.Io.KnownBytes.{Appends};
 ghost use Rattle.romfs_write.specs.Form.{form_of};
 
 use crate::form::{RomfsForm, known};
-use image_stream::fault::{SizeDiffers, StreamError};
-use image_stream::sources::Sources;
-use image_stream::word_sum::WordSum;
+use image_stream::{SizeDiffers, Sources, StreamError, WordSum};
 use plan_types::Plan;
-use rom_fields::bytes::ByteWrite;
-use rom_fields::contents::Contents;
+use rom_fields::{ByteWrite, Contents};
 
 /// Writes the image of a plan, with these contents of its files, into a buffer of its length,
 /// whatever the buffer held. It takes no memory.
@@ -39,7 +36,7 @@ pub fn write(plan: &Plan, contents: &Contents<'_>, out: &mut [u8]) -> Result<(),
     known(plan);
     manifest_layout::laws::fitting_is_planned();
     let form = RomfsForm::new(plan);
-    image_stream::write::write::<RomfsForm<'_>, WordSum>(&form, contents, out)
+    image_stream::write::<RomfsForm<'_>, WordSum>(&form, contents, out)
 }
 
 /// Writes the image of a plan through a buffer of the caller's, without memory, and flushes the
@@ -84,7 +81,7 @@ pub fn stream_through<S: Sources, W: ByteWrite>(
     manifest_layout::laws::fitting_is_planned();
     let _ = sources.count();
     let form = RomfsForm::new(plan);
-    image_stream::stream::stream_through::<RomfsForm<'_>, S, W, WordSum>(&form, sources, w, buffer)
+    image_stream::stream_through::<RomfsForm<'_>, S, W, WordSum>(&form, sources, w, buffer)
 }
 
 /// Writes the image of a plan as `stream_through` does, through one buffer of 4,096 bytes.

@@ -12,13 +12,13 @@ use crate::streams::Held;
 use crate::target::{KeepError, Target, Writer};
 use crate::teller::Teller;
 use crate::{explained, reading};
-use build_commands::building::{tell_bad_manifest, tell_built, tell_misfit};
+use build_commands::{tell_bad_manifest, tell_built, tell_misfit};
 use image_build::{StreamError, stream, stream_through};
 use layout_plan::{PlanError, plan};
 use manifest::{Manifest, ManifestError, Name, parse};
 use plan_types::{Format, Plan};
-use rom_commands::status::{Failure, Status};
-use rom_fields::bytes::{Failed, Plain};
+use rom_commands::{Failure, Status};
+use rom_fields::{Failed, Plain};
 use sentences::reasons::{
     NO_TEXT, NOT_TAKEN, OWN_INPUT, PART_REPLACED, SOURCE_CHANGED, SOURCE_UNREAD, SUM_DIFFERS,
 };

@@ -1,7 +1,7 @@
 //! Folders that a scan looks into, and whether they stay as they were found.
 use crate::stamp::{Stamp, let_rest};
 use crate::teller::Teller;
-use rom_commands::status::Status;
+use rom_commands::Status;
 use sentences::reasons::{FOLDER_CHANGED, FOREIGN_NAME, NO_FOLDER};
 use std::fs::{self, Metadata};
 use std::io;

@@ -9,17 +9,12 @@ use crate::teller::Teller;
 use crate::{building, extracting, inventory, reading, scanning};
 use command_line::{Extract, Request, read};
 use image_check::check;
-use rom_commands::asked::Asked;
-use rom_commands::copying::print_file;
-use rom_commands::hello::hello;
-use rom_commands::printing::print;
-use rom_commands::serving::serve_on;
-use rom_commands::several::serve_several_on;
-use rom_commands::shown::has_addresses;
-use rom_commands::status::{Failure, Status};
+use rom_commands::{
+    Asked, Failure, Status, has_addresses, hello, print, print_file, serve_on, serve_several_on,
+};
 use rom_faults::CheckError;
-use rom_fields::bytes::{ByteRead, ByteWrite, Plain};
-use rom_tree::types::Limits;
+use rom_fields::{ByteRead, ByteWrite, Plain};
+use rom_tree::Limits;
 use sentences::reasons::{MISREAD, NO_ADDRESS};
 use std::io::{self, BufWriter};
 

@@ -2,9 +2,9 @@
 use crate::folders::{self, Folder, all_stayed, base, refused_entry};
 use crate::streams::Again;
 use crate::teller::Teller;
-use build_commands::scanning::{Found, put_scan};
-use rom_commands::status::{Failure, Status};
-use rom_fields::bytes::{Failed, Plain};
+use build_commands::{Found, put_scan};
+use rom_commands::{Failure, Status};
+use rom_fields::{Failed, Plain};
 use std::alloc::AllocError;
 use std::fs::{self, DirEntry, FileType};
 use std::io::{self, BufWriter};

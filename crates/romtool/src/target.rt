@@ -2,7 +2,7 @@
 use crate::place::{behind_links, folder_of};
 use crate::stamp::Identity;
 use crate::streams::{Held, Remembering};
-use rom_fields::bytes::Plain;
+use rom_fields::Plain;
 use sentences::reasons::{HUNDRED_PARTS, REPLACED};
 use std::fs::{File, Metadata, OpenFile, OpenOptions};
 use std::os::unix::fs::{MetadataExt, OpenOptionsExt, PermissionsExt, fchown};

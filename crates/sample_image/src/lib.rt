@@ -5,4 +5,6 @@
 //! Proved: each call answers as `specs/Sample.antt` says the tree is.
 #![tactic(auto)]
 
-pub mod sample;
+mod sample;
+
+pub use sample::Sample;

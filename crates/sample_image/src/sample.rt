@@ -5,8 +5,7 @@ ghost use Rattle.rom_tree.specs.Tree.{row_from};
 ghost use Rattle.sample_image.specs.Sample.{IsWhole};
 ghost use Rattle.sample_image.specs.SampleLaws.{sample};
 
-use rom_tree::image::{TreeImage, Viewed};
-use rom_tree::types::{Cursor, Entry, Kind, NodeId, Run, Stat};
+use rom_tree::{Cursor, Entry, Kind, NodeId, Run, Stat, TreeImage, Viewed};
 
 /// The image of `specs/Sample.antt`.
 #[derive(Clone, Copy, Default)]

@@ -5,18 +5,18 @@
 //! values that were read, is text for people and is tested.
 #![tactic(auto)]
 
-pub mod attribute;
-pub mod endings;
-pub mod faults;
-pub mod fields;
+mod attribute;
+mod endings;
+mod faults;
+mod fields;
 pub mod image;
 pub mod manifest_line;
-pub mod manifests;
+mod manifests;
 mod path_rule;
 pub mod plan_line;
 pub mod reasons;
-pub mod replies;
-pub mod unfit;
+mod replies;
+mod unfit;
 pub mod words;
 
 pub use endings::ending_sentence;

@@ -8,7 +8,7 @@ ghost use Rattle.serve_lines.specs.Starts.{begins_with};
 ghost use base.Fml.{GName};
 
 use arrayvec::ArrayVec;
-use rom_fields::bytes::{ByteWrite, Failed};
+use rom_fields::{ByteWrite, Failed};
 use std::marker::{Brand, PhantomData};
 
 /// How many bytes a buffer holds back.

@@ -4,8 +4,7 @@ ghost use Rattle.hex.specs.Hex.{encode_lower};
 ghost use Rattle.rom_fields.specs.Written.{Puts, sink};
 ghost use Rattle.serve_lines.specs.Texts.{hex_text};
 
-use rom_fields::bytes::ByteWrite;
-use rom_fields::sink::put;
+use rom_fields::{ByteWrite, put};
 
 /// Puts up to 256 bytes.
 fn put_hex_part<W: ByteWrite>(w: &mut W, failed: &mut bool, part: &[u8])

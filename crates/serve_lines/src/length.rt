@@ -3,8 +3,7 @@ ghost use Rattle.std.specs.Prelude.{decimal};
 ghost use Rattle.rom_fields.specs.Written.{Puts, sink};
 
 use itoa::Buffer;
-use rom_fields::bytes::ByteWrite;
-use rom_fields::sink::put;
+use rom_fields::{ByteWrite, put};
 
 /// Puts a length in decimal digits.
 pub(crate) fn put_length<W: ByteWrite>(w: &mut W, failed: &mut bool, n: usize)

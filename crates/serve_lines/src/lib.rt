@@ -13,20 +13,20 @@
 //! Neither takes memory; contents go out as hexadecimal digits through a fixed buffer.
 #![tactic(auto)]
 
-pub mod bad;
+mod bad;
 mod buffered;
-pub mod command;
-pub mod error;
+mod command;
+mod error;
 mod field;
 mod hex_digits;
 pub mod laws;
 mod length;
-pub mod machine;
-pub mod one_byte;
-pub mod path_text;
-pub mod reply;
-pub mod serve;
-pub mod word;
+mod machine;
+mod one_byte;
+mod path_text;
+mod reply;
+mod serve;
+mod word;
 
 pub use bad::Bad;
 pub use command::{Command, read_line};

@@ -3,7 +3,7 @@ ghost use Rattle.std.specs.Prelude.{◌≡◌};
 ghost use Rattle.rom_fields.specs.Written.{Puts, sink};
 ghost use Rattle.serve_lines.specs.Served.{Machine};
 
-use rom_fields::bytes::ByteWrite;
+use rom_fields::ByteWrite;
 
 /// What answers lines, each given without its line feed.
 pub trait LineMachine {

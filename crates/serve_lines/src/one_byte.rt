@@ -2,7 +2,7 @@
 ghost use Rattle.std.specs.Prelude.{◌≡◌, [], ◌∷◌};
 ghost use Rattle.serve_lines.specs.Got.{Gets};
 
-use rom_fields::bytes::{ByteRead, Failed};
+use rom_fields::{ByteRead, Failed};
 
 /// What one read of one byte gave.
 #[derive(Clone, Copy, PartialEq, Eq)]

@@ -8,11 +8,8 @@ use crate::bad::Bad;
 use crate::hex_digits::put_hex;
 use crate::length::put_length;
 use open_files::{CallError, Fd};
-use rom_fields::bytes::ByteWrite;
-use rom_fields::sink::put;
-use rom_fields::text::{put_decimal, put_escaped};
-use rom_tree::put_stat;
-use rom_tree::types::{Entry, NodeId, Piece, Stat};
+use rom_fields::{ByteWrite, put, put_decimal, put_escaped};
+use rom_tree::{Entry, NodeId, Piece, Stat, put_stat};
 
 /// What is replied to a line. Where several images are served, what is said of a node comes with
 /// the number of its image.

@@ -11,7 +11,7 @@ use crate::error::ServeError;
 use crate::machine::LineMachine;
 use crate::one_byte::{Got, read_byte};
 use arrayvec::ArrayVec;
-use rom_fields::bytes::{ByteRead, ByteWrite, Failed};
+use rom_fields::{ByteRead, ByteWrite, Failed};
 use std::marker::{Brand, PhantomData};
 
 /// Ends a line.

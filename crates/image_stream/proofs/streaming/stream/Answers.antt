@@ -1,4 +1,4 @@
-use Rattle.image_stream.proofs.stream.stream.Goals as goal
+use Rattle.image_stream.proofs.streaming.stream.Goals as goal
 
 pub returns-clause-told : goal.returns-clause-told
 returns-clause-told g c = c.stream_through.ensures.told

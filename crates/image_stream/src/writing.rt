@@ -8,7 +8,7 @@ use crate::checksum::Checksum;
 use crate::fault::SizeDiffers;
 use crate::outline::Outline;
 use crate::segmented::Segmented;
-use rom_fields::contents::Contents;
+use rom_fields::Contents;
 
 /// Whether all contents have the planned sizes.
 fn sizes_agree<L: Segmented>(layout: &L, contents: &Contents<'_>) -> Result<(), SizeDiffers>

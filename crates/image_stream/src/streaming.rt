@@ -15,8 +15,7 @@ use crate::pieces::walk;
 use crate::segmented::Segmented;
 use crate::sources::Sources;
 use crate::summing::sum_walk;
-use rom_fields::bytes::{ByteWrite, Failed};
-use rom_fields::sink::write_whole;
+use rom_fields::{ByteWrite, Failed, write_whole};
 
 /// Adds the superblock that stores no value.
 fn add_head<L: Segmented, C: Checksum>(layout: &L, check: &mut C, buffer: &mut [u8])

@@ -1,6 +1,6 @@
 use Rattle.std.proofs.Common.{◌≡◌, ◌+◌, ◌*◌, ◌≤◌, length}
 use Rattle.rom_commands.specs.Hello.{with_words}
-use Rattle.rom_commands.proofs.hello.put_words.Given as goal
+use Rattle.rom_commands.proofs.example.put_words.Given as goal
 
 abbrev pub invariant-loop-rest : goal.invariant-loop-rest
 invariant-loop-rest l = record {

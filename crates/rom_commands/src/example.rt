@@ -2,7 +2,7 @@
 ghost use Rattle.std.specs.Prelude.{◌≡◌, ◌+◌, ◌*◌, ◌≤◌, length};
 ghost use Rattle.rom_commands.specs.Hello.{with_words, hello_image};
 
-use rom_fields::word::put_be32;
+use rom_fields::put_be32;
 
 /// Puts words one after the other from `at` on.
 fn put_words(image: &mut [u8], at: usize, words: &[u32])

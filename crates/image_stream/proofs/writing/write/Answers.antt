@@ -2,7 +2,7 @@ use Rattle.std.proofs.Common.{◌≡◌, ℕ, [], ◌++◌, take, ap, sym, subst
 use Rattle.image_stream.proofs.Images.{rises_end, rises_here}
 use Rattle.image_stream.proofs.Puts.{put_end, head_first, head_over}
 use Rattle.image_stream.specs.Segments.{SegmentsRise, image_from}
-use Rattle.image_stream.proofs.write.write.Goals as goal
+use Rattle.image_stream.proofs.writing.write.Goals as goal
 
 pub put_head-requires : goal.put_head-requires
 put_head-requires g c =

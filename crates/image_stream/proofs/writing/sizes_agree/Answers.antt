@@ -1,5 +1,5 @@
 use Rattle.std.proofs.Common.{arith}
-use Rattle.image_stream.proofs.write.sizes_agree.Goals as goal
+use Rattle.image_stream.proofs.writing.sizes_agree.Goals as goal
 
 pub returns-clause-ok : goal.returns-clause-ok
 returns-clause-ok g c = λ k l.

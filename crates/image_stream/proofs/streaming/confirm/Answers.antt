@@ -1,6 +1,6 @@
 use Rattle.std.proofs.lemmas.Grind.{common_steps}
 use Rattle.std.proofs.Common.{arith}
-use Rattle.image_stream.proofs.stream.confirm.Goals as goal
+use Rattle.image_stream.proofs.streaming.confirm.Goals as goal
 
 pub returns-clause-ok : goal.returns-clause-ok
 returns-clause-ok c = grind (arith, common_steps)

@@ -7,7 +7,7 @@ use Rattle.image_stream.specs.declared.fault.StreamError.{StreamError}
 use Rattle.image_stream.specs.declared.fault.StreamError.TheVariants.{Changed}
 use Rattle.image_stream.specs.Outcomes.{IsStreamFault}
 use Rattle.image_stream.proofs.Streams.{image_known, value_of, front_head, front_image, whole_image, size_fault, pass_fault, nowhere_fault}
-use Rattle.image_stream.proofs.stream.stream_through.Goals as goal
+use Rattle.image_stream.proofs.streaming.stream_through.Goals as goal
 
 pub returns-in-Err-clause-fault : goal.returns-in-Err-clause-fault
 returns-in-Err-clause-fault g c = size_fault _ (g.L.Segmented.form c.args.layout.now) g.C.Checksum.stored _ _ (g.W.ByteWrite.output c.args.w.now) c.in-Err.e c.in-Err.ensures.fault

@@ -2,7 +2,7 @@ use Rattle.std.proofs.Common.{◌≡◌, ◌-◌, ℕ, ◌++◌, take, ap, ◌�
 use Rattle.image_stream.specs.Segments.{segment_at, bytes_of, place, len, zeros}
 use Rattle.image_stream.proofs.Fronts.{outline_place, outline_len}
 use Rattle.image_stream.proofs.Puts.{written, length_bytes}
-use Rattle.image_stream.proofs.write.put_next.Goals as goal
+use Rattle.image_stream.proofs.writing.put_next.Goals as goal
 
 pub returns-clause-put : goal.returns-clause-put
 returns-clause-put g c =

@@ -1,6 +1,6 @@
 use Rattle.std.proofs.Common.{◌≡◌, ◌++◌, length, take, drop}
 use Rattle.image_stream.specs.Segments.{SegmentsRise, image_from}
-use Rattle.image_stream.proofs.write.write.Given as goal
+use Rattle.image_stream.proofs.writing.write.Given as goal
 
 abbrev pub invariant-loop-i : goal.invariant-loop-i
 invariant-loop-i g l =

@@ -1,7 +1,7 @@
 use Rattle.std.proofs.Common.{◌∙◌, ℕ, List, [], ◌∷◌, ap}
 use Rattle.rom_fields.specs.Words.{with_word_be}
 use Rattle.rom_commands.specs.Hello.{with_words, hello_image}
-use Rattle.rom_commands.proofs.hello.hello.Goals as goal
+use Rattle.rom_commands.proofs.example.hello.Goals as goal
 
 pub returns : goal.returns
 unfolding hello_image with_word_be

@@ -1,6 +1,6 @@
 use Rattle.std.proofs.Common.{List, ℕ, subst}
 use Rattle.rom_fields.specs.Written.{WritesText}
-use Rattle.image_stream.proofs.stream.write_head.Goals as goal
+use Rattle.image_stream.proofs.streaming.write_head.Goals as goal
 
 pub returns-clause-text : goal.returns-clause-text
 returns-clause-text g c =
