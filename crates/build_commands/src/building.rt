@@ -4,17 +4,7 @@ ghost use Rattle.build_commands.specs.Told.{built_line, manifest_line, misfit_li
 ghost use Rattle.rom_fields.specs.Failures.{Counts};
 ghost use Rattle.rom_fields.specs.Written.{Puts, WritesText, sink};
 
-use itoa::Buffer;
-use rom_fields::{ByteWrite, Failed, put, put_decimal};
-
-/// Puts a number in decimal digits.
-fn put_number<W: ByteWrite>(w: &mut W, failed: &mut bool, n: u64)
-    ensures { Puts (sink (W.output w.old) failed.old) (sink (W.output w.new) failed.new)
-        (decimal n) }
-{
-    let mut buffer = Buffer::new();
-    put(w, failed, buffer.format(n).as_bytes());
-}
+use rom_fields::{ByteWrite, Failed, put, put_decimal, put_long_decimal};
 
 /// Writes the line of a built image.
 fn write_built_line<W: ByteWrite>(w: &mut W, len: u64) -> Result<(), Failed>
@@ -24,7 +14,7 @@ fn write_built_line<W: ByteWrite>(w: &mut W, len: u64) -> Result<(), Failed>
 {
     let mut failed = false;
     put(w, &mut failed, b"ok ");
-    put_number(w, &mut failed, len);
+    put_long_decimal(w, &mut failed, len);
     put(w, &mut failed, b"\n");
     if failed { Err(Failed) } else { Ok(()) }
 }
@@ -44,7 +34,7 @@ fn write_refusal_line<W: ByteWrite>(
     let mut failed = false;
     put(w, &mut failed, who);
     put(w, &mut failed, b" ");
-    put_number(w, &mut failed, line);
+    put_long_decimal(w, &mut failed, line);
     put(w, &mut failed, b" ");
     put_decimal(w, &mut failed, number);
     put(w, &mut failed, b" ");

@@ -1,7 +1,8 @@
 //! Words, texts, extents and windows, and readers and writers that fail.
 use rom_fields::{
     ByteRead, ByteWrite, Canvas, Extent, Extents, Failed, Faulty, Plain, be32, le32, pad, part,
-    put, put_be32, put_decimal, put_escaped, put_le32, put_octal, word_sum, write_whole,
+    put, put_be32, put_decimal, put_escaped, put_le32, put_long_decimal, put_octal, word_sum,
+    write_whole,
 };
 use std::alloc::Global;
 use std::io::{self, ErrorKind, Write};
@@ -79,12 +80,17 @@ fn texts_go_out_byte_by_byte(rt: HostRuntime) -> Result<(), Fail> {
     let mut failed = false;
     put_decimal(&mut w, &mut failed, 4_294_967_295);
     put(&mut w, &mut failed, b" ");
+    put_long_decimal(&mut w, &mut failed, u64::MAX);
+    put(&mut w, &mut failed, b" ");
     put_octal(&mut w, &mut failed, 0o644);
     put(&mut w, &mut failed, b" ");
     put_escaped(&mut w, &mut failed, b"a b%\xff~");
     assert!(rt; !failed);
     let held: Vec<u8> = w.into_inner().into_inner();
-    assert_eq!(rt; held.as_slice(), b"4294967295 0644 a%20b%25%FF~".as_slice());
+    assert_eq!(rt;
+        held.as_slice(),
+        b"4294967295 18446744073709551615 0644 a%20b%25%FF~".as_slice()
+    );
     Ok(())
 }
 

@@ -1,8 +1,8 @@
 //! The sample's answers, and how its tree is listed.
 use rom_fields::{Faulty, Plain};
 use rom_tree::{
-    Cursor, Kind, Limits, ListError, NodeId, TreeImage, is_directory_at, is_dot, is_dot_dot,
-    is_dots, is_link_at, is_regular_at, link_text, list,
+    Cursor, Kind, Limits, ListError, NodeId, TreeImage, bytes_from, is_directory_at, is_dot,
+    is_dot_dot, is_dots, is_link_at, is_regular_at, link_text, list,
 };
 use sample_image::Sample;
 use std::test::Fail;
@@ -86,6 +86,7 @@ fn names_of_the_sample(rt: HostRuntime) -> Result<(), Fail> {
 fn bytes_of_the_sample(rt: HostRuntime) -> Result<(), Fail> {
     let image = Sample;
     assert!(rt; link_text(&image, NodeId(6)) == b"a b%".as_slice());
+    assert!(rt; bytes_from(b"hello", 1, 3) == b"ell".as_slice());
     assert!(rt; image.run(NodeId(3), 2).map(|run| (run.place, run.len)) == Some((2, 3)));
     assert!(rt; image.run(NodeId(3), 5).is_none());
     assert!(rt; image.run(NodeId(1), 0).is_none());

@@ -4,8 +4,7 @@ ghost use Rattle.rom_fields.specs.Written.{Puts, sink};
 ghost use Rattle.image_info.specs.Info.{plain_line, text_line, number_line, word_line};
 
 use image_map::put_eight_digits;
-use itoa::Buffer;
-use rom_fields::{ByteWrite, put, put_escaped};
+use rom_fields::{ByteWrite, put, put_escaped, put_long_decimal};
 
 /// Puts a key and a text, as they stand, and a line feed.
 pub(crate) fn put_plain<W: ByteWrite>(w: &mut W, failed: &mut bool, key: &[u8], text: &[u8])
@@ -32,8 +31,9 @@ pub(crate) fn put_number<W: ByteWrite>(w: &mut W, failed: &mut bool, key: &[u8],
     ensures { Puts (sink (W.output w.old) failed.old) (sink (W.output w.new) failed.new)
         (number_line key.now n) }
 {
-    let mut buffer = Buffer::new();
-    put_plain(w, failed, key, buffer.format(n).as_bytes());
+    put(w, failed, key);
+    put_long_decimal(w, failed, n);
+    put(w, failed, b"\n");
 }
 
 /// Puts a key, `0x`, the eight hexadecimal digits of a word, and a line feed.

@@ -26,5 +26,5 @@ pub use faulty::Faulty;
 pub use memory::OutOfMemory;
 pub use sink::{put, write_whole};
 pub use span::{Extent, Span, least_overlap, overlap};
-pub use text::{put_decimal, put_escaped, put_octal};
+pub use text::{put_decimal, put_escaped, put_long_decimal, put_octal};
 pub use word::{be32, le32, pad, part, put_be32, put_le32, word_sum};

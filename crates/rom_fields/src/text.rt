@@ -10,13 +10,22 @@ use percent_encoding::{AsciiSet, CONTROLS, ascii_set, percent_encode};
 
 const ESCAPED: AsciiSet = ascii_set!(CONTROLS.add(b' ').add(b'%'));
 
-/// Puts a number in decimal digits.
+/// Puts a number of 32 bits in decimal digits.
 pub fn put_decimal<W: ByteWrite>(w: &mut W, failed: &mut bool, n: u32)
     ensures { Puts (sink (W.output w.old) failed.old) (sink (W.output w.new) failed.new)
         (decimal n) }
 {
     let mut buffer = Buffer::new();
     put(w, failed, buffer.format(n).as_bytes());
+}
+
+/// Puts a number of 64 bits in decimal digits.
+pub fn put_long_decimal<W: ByteWrite>(w: &mut W, failed: &mut bool, n: u64)
+    ensures { Puts (sink (W.output w.old) failed.old) (sink (W.output w.new) failed.new)
+        (decimal n) }
+{
+    let mut digits = Buffer::new();
+    put(w, failed, digits.format(n).as_bytes());
 }
 
 /// Puts the last four octal digits of a mode.

@@ -94,8 +94,8 @@ pub fn is_regular_at<'a, T: TreeImage<'a>>(image: &T, n: NodeId) -> bool
     }
 }
 
-// The `len` bytes from `place` on.
-fn bytes_from<'a>(bytes: &'a [u8], place: u32, len: u32) -> &'a [u8]
+/// The `len` bytes from `place` on.
+pub fn bytes_from<'a>(bytes: &'a [u8], place: u32, len: u32) -> &'a [u8]
     requires { place + len ≤ length bytes.now }
     ensures { result.now ≡ take len (drop place bytes.now) }
 {

@@ -21,7 +21,9 @@ mod walk;
 
 pub use dots::{is_dot, is_dot_dot, is_dots};
 pub use frame::Walk;
-pub use image::{TreeImage, Viewed, is_directory_at, is_link_at, is_regular_at, link_text};
+pub use image::{
+    TreeImage, Viewed, bytes_from, is_directory_at, is_link_at, is_regular_at, link_text,
+};
 pub use line::put_stat;
 pub use listing::list;
 pub use rom_faults::CheckError;

@@ -20,7 +20,6 @@ mod error;
 mod field;
 mod hex_digits;
 pub mod laws;
-mod length;
 mod machine;
 mod one_byte;
 mod path_text;

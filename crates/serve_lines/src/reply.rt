@@ -6,9 +6,8 @@ ghost use Rattle.serve_lines.specs.Replies.{reply_text};
 
 use crate::bad::Bad;
 use crate::hex_digits::put_hex;
-use crate::length::put_length;
 use open_files::{CallError, Fd};
-use rom_fields::{ByteWrite, put, put_decimal, put_escaped};
+use rom_fields::{ByteWrite, put, put_decimal, put_escaped, put_long_decimal};
 use rom_tree::{Entry, NodeId, Piece, Stat, put_stat};
 
 /// What is replied to a line. Where several images are served, what is said of a node comes with
@@ -59,7 +58,7 @@ fn put_piece<'r, W: ByteWrite>(w: &mut W, failed: &mut bool, image: Option<u32>,
     put_image(w, failed, image);
     put_decimal(w, failed, piece.place);
     put(w, failed, b" ");
-    put_length(w, failed, piece.bytes.len());
+    put_long_decimal(w, failed, piece.bytes.len() as u64);
     put(w, failed, b" ");
     put_hex(w, failed, piece.bytes);
     put(w, failed, b"\n");
@@ -92,7 +91,7 @@ pub fn put_reply<'r, W: ByteWrite>(w: &mut W, failed: &mut bool, reply: Reply<'r
         Reply::Piece(image, piece) => put_piece(w, failed, image, piece),
         Reply::Bytes(bytes) => {
             put(w, failed, b"ok ");
-            put_length(w, failed, bytes.len());
+            put_long_decimal(w, failed, bytes.len() as u64);
             put(w, failed, b" ");
             put_hex(w, failed, bytes);
             put(w, failed, b"\n");

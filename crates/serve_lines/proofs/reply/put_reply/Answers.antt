@@ -46,7 +46,7 @@ unfolding reply_text
 returns-in-Bytes g c =
     let P : Reply → Type 0 = λ v. Puts (sink (g.W.ByteWrite.output c.args.w.now) c.args.failed.now)
     (sink (g.W.ByteWrite.output c.put-in-Bytes-3.new.w) c.put-in-Bytes-3.new.failed) (reply_text v) in
-    subst P (sym c.in-Bytes.is) (chain c.put-in-Bytes.ensures (chain c.put_length.ensures (chain c.put-in-Bytes-2.ensures (chain c.put_hex.ensures c.put-in-Bytes-3.ensures))))
+    subst P (sym c.in-Bytes.is) (chain c.put-in-Bytes.ensures (chain c.put_long_decimal.ensures (chain c.put-in-Bytes-2.ensures (chain c.put_hex.ensures c.put-in-Bytes-3.ensures))))
 
 pub returns-in-Entry : goal.returns-in-Entry
 unfolding reply_text
