@@ -3,7 +3,8 @@
 //!
 //! `layout_terms` and `manifest_layout` say what they are; `specs/Views.antt` and
 //! `specs/Formats.antt` say which of their values one of the code stands for, and
-//! `specs/Plans.antt` what a plan is to be.
+//! `specs/Plans.antt` what a plan is to be. Proved: each `Plan` is that of some manifest that fits,
+//! and tells what it was made of.
 #![tactic(auto)]
 
 mod format;
