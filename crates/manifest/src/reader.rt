@@ -1,5 +1,7 @@
 //! What has been read of a manifest, and one more line of it.
 ghost use Rattle.std.specs.Prelude.{◌≡◌, ◌++◌, ◌∷◌, [], true, is_some, reverse, None, OnOk};
+ghost use Rattle.std.specs.Hash.DefaultHasher.{initial, write};
+ghost use Rattle.std.specs.HashMap.{hasher_of};
 ghost use Rattle.manifest.specs.Grammar as grammar;
 ghost use Rattle.manifest.specs.Paths.{names_of, parent_of};
 ghost use Rattle.manifest.specs.Reading.{Adds, HasMore, IsKept, Reads, seen, reached, has_contents, reached_by};
@@ -119,11 +121,14 @@ fn note_source(alloc: Global, sources: &mut Vec<Name>, line: &Line) -> Result<()
 }
 
 impl Reader {
-    /// A reader that has read nothing, with these hashes of paths.
-    pub fn new(alloc: Global, seeded: Seeded) -> Reader
+    /// A reader that has read nothing. A text is behind the hashes of its paths.
+    pub fn new(alloc: Global, text: &[u8]) -> Reader
         ensures seen { seen result ≡ grammar.nothing_read }
         ensures kept { IsKept result }
+        ensures seeded { (hasher_of result.paths).begun ≡ write initial text.now }
     {
+        let mut seeded = Seeded::new();
+        seeded.add(text);
         Reader {
             lines: Vec::new(alloc),
             sources: Vec::new(alloc),

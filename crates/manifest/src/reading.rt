@@ -8,7 +8,6 @@ use crate::error::ManifestError;
 use crate::line::Line;
 use crate::names::Name;
 use crate::reader::Reader;
-use crate::seeded::Seeded;
 use crate::text::{cut, is_skipped};
 use std::alloc::Global;
 use std::marker::Model;
@@ -85,9 +84,7 @@ impl Manifest {
 pub fn parse(alloc: Global, text: &[u8]) -> Result<Manifest, ManifestError>
     ensures { Gives result (manifest_of text.now) }
 {
-    let mut seeded = Seeded::new();
-    seeded.add(text);
-    let mut reader = Reader::new(alloc, seeded);
+    let mut reader = Reader::new(alloc, text);
     let mut rest = Some(text);
     let mut number = 0u64;
     while let Some(bytes) = rest {
