@@ -6,8 +6,8 @@ use Rattle.std.specs.Io.KnownBytes.{Appends}
 use Rattle.rom_fields.specs.Written.{AppendsPrefix}
 use Rattle.rom_fields.proofs.Joins.{appends_none, appends_join, front_after, front_first, front_all}
 use Rattle.image_stream.specs.declared.outline.Outline.{Outline}
-use Rattle.image_stream.specs.declared.fault.StreamError.{StreamError}
-use Rattle.image_stream.specs.declared.fault.StreamError.TheVariants.{SizeDiffers, SourceFault, WriteFault, Changed}
+use Rattle.image_stream.specs.declared.error.StreamError.{StreamError}
+use Rattle.image_stream.specs.declared.error.StreamError.TheVariants.{SizeDiffers, SourceFault, WriteFault, Changed}
 use Rattle.image_stream.specs.Sources.{content_of, Told, Reads}
 use Rattle.image_stream.specs.Segments.{Segment, fixed, content, place, len, outline, bytes_of, IsBody, HasSource}
 use Rattle.image_stream.specs.Steps.{IsFront, IsPiece, IsReadFault, IsFault, Gone}

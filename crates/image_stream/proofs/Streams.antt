@@ -6,8 +6,8 @@ use Rattle.std.specs.Io.KnownBytes.{Appends, Keeps}
 use Rattle.rom_fields.specs.Failures.{Rose}
 use Rattle.rom_fields.specs.Written.{AppendsPrefix, Output}
 use Rattle.rom_fields.proofs.Joins.{front_after, front_first, appends_join, appends_keep}
-use Rattle.image_stream.specs.declared.fault.StreamError.{StreamError}
-use Rattle.image_stream.specs.declared.fault.StreamError.TheVariants.{SizeDiffers, SourceFault, WriteFault, Changed}
+use Rattle.image_stream.specs.declared.error.StreamError.{StreamError}
+use Rattle.image_stream.specs.declared.error.StreamError.TheVariants.{SizeDiffers, SourceFault, WriteFault, Changed}
 use Rattle.image_stream.specs.Sources.{content_of, Told, Reads, FailedAt}
 use Rattle.image_stream.specs.Segments.{Form, Segment, place, len, bytes_of, zeros, IsImage, image_from, checked}
 use Rattle.image_stream.specs.Outcomes.{FrontSized, AreSized, IsStreamFault}

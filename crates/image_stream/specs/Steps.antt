@@ -2,8 +2,8 @@
 use Rattle.std.specs.Prelude.{◌≡◌, ◌≢◌, ℕ, ◌-◌, ◌<◌, List, ◌++◌, length, take, drop, get_or, Option}
 use Rattle.std.specs.Io.KnownBytes.{Appends}
 use Rattle.rom_fields.specs.Failures.{Rose}
-use Rattle.image_stream.specs.declared.fault.StreamError.{StreamError}
-use Rattle.image_stream.specs.declared.fault.StreamError.TheVariants.{SizeDiffers, SourceFault, WriteFault, Changed}
+use Rattle.image_stream.specs.declared.error.StreamError.{StreamError}
+use Rattle.image_stream.specs.declared.error.StreamError.TheVariants.{SizeDiffers, SourceFault, WriteFault, Changed}
 use Rattle.image_stream.specs.Sources.{content_of, Told, Reads, FailedAt}
 use Rattle.image_stream.specs.Segments.{Segment, fixed, content, place, bytes_of, zeros, IsBody, IsImage, image_from}
 use Rattle.image_stream.specs.Outcomes.{FrontSized, IsLeastWrong}

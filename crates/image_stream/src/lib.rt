@@ -9,7 +9,7 @@
 
 mod checksum;
 mod crc32;
-mod fault;
+mod error;
 pub mod laws;
 mod measure;
 mod nowhere;
@@ -29,7 +29,7 @@ mod writing;
 
 pub use checksum::Checksum;
 pub use crc32::Crc32;
-pub use fault::{SizeDiffers, StreamError};
+pub use error::{SizeDiffers, StreamError};
 pub use outline::Outline;
 pub use segmented::Segmented;
 pub use slices::Slices;

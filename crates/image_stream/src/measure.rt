@@ -4,7 +4,7 @@ ghost use Rattle.image_stream.specs.Sources.{Told, content_of, FailedAt};
 ghost use Rattle.image_stream.specs.Outcomes.{AreSized};
 ghost use Rattle.image_stream.specs.Steps.{IsSizeFault, IsLeastFault};
 
-use crate::fault::StreamError;
+use crate::error::StreamError;
 use crate::segmented::Segmented;
 use crate::sources::{SourceFailed, Sources};
 

@@ -7,7 +7,7 @@ ghost use Rattle.image_stream.specs.Segments.{Segment, place, len, segment_at, o
 ghost use Rattle.image_stream.specs.Steps.{IsPiece, IsNext, next_bytes, IsReadFault, IsFault, Gone};
 
 use crate::checksum::Checksum;
-use crate::fault::StreamError;
+use crate::error::StreamError;
 use crate::outline::Outline;
 use crate::segmented::Segmented;
 use crate::sources::{SourceFailed, Sources};

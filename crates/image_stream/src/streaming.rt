@@ -4,12 +4,12 @@ ghost use Rattle.std.specs.Io.KnownBytes.{Appends};
 ghost use Rattle.rom_fields.specs.Failures.{Counts};
 ghost use Rattle.rom_fields.specs.Written.{WritesText, AppendsPrefix};
 ghost use Rattle.image_stream.specs.Sources.{Told};
-ghost use Rattle.image_stream.specs.declared.fault.StreamError.TheVariants.{Changed};
+ghost use Rattle.image_stream.specs.declared.error.StreamError.TheVariants.{Changed};
 ghost use Rattle.image_stream.specs.Segments.{IsLaidOut, image_of};
 ghost use Rattle.image_stream.specs.Outcomes.{AreSized, IsStreamFault, IsWritten};
 
 use crate::checksum::Checksum;
-use crate::fault::StreamError;
+use crate::error::StreamError;
 use crate::measure::measure_all;
 use crate::pieces::walk;
 use crate::segmented::Segmented;

@@ -6,7 +6,7 @@ ghost use Rattle.image_stream.specs.Outcomes.{AreSized};
 ghost use Rattle.image_stream.specs.Steps.{IsNext, IsFault, Gone};
 
 use crate::checksum::Checksum;
-use crate::fault::StreamError;
+use crate::error::StreamError;
 use crate::nowhere::Nowhere;
 use crate::pieces::{emit_zeros, piece};
 use crate::segmented::Segmented;

@@ -2,7 +2,7 @@ ghost use Rattle.std.specs.Prelude.{◌≡◌, ◌%◌, ◌≤◌, length};
 
 use crate::checksum::Checksum;
 use crate::crc32::Crc32;
-use crate::fault::{SizeDiffers, StreamError};
+use crate::error::{SizeDiffers, StreamError};
 use crate::slices::Slices;
 use crate::small::Small;
 use crate::sources::{SourceFailed, Sources};

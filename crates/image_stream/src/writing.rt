@@ -5,7 +5,7 @@ ghost use Rattle.image_stream.specs.Outcomes.{FrontSized, AreSized, IsLeastWrong
 ghost use Rattle.image_stream.specs.Steps.{next_bytes};
 
 use crate::checksum::Checksum;
-use crate::fault::SizeDiffers;
+use crate::error::SizeDiffers;
 use crate::outline::Outline;
 use crate::segmented::Segmented;
 use rom_fields::Contents;

@@ -3,8 +3,8 @@ use Rattle.rom_fields.specs.Failures.{Rose}
 use Rattle.std.specs.Io.KnownBytes.{Appends}
 use Rattle.rom_fields.proofs.Joins.{front_all, appends_join, appends_keep}
 use Rattle.image_stream.specs.Segments.{image_from, IsImage}
-use Rattle.image_stream.specs.declared.fault.StreamError.{StreamError}
-use Rattle.image_stream.specs.declared.fault.StreamError.TheVariants.{Changed}
+use Rattle.image_stream.specs.declared.error.StreamError.{StreamError}
+use Rattle.image_stream.specs.declared.error.StreamError.TheVariants.{Changed}
 use Rattle.image_stream.specs.Outcomes.{IsStreamFault}
 use Rattle.image_stream.proofs.Streams.{image_known, value_of, front_head, front_image, whole_image, size_fault, pass_fault, nowhere_fault}
 use Rattle.image_stream.proofs.streaming.stream_through.Goals as goal
