@@ -2,4 +2,4 @@ pub mod Endings
 pub mod Holding
 pub mod Printed
 pub mod Texts
-pub mod Copying
+pub mod Copies

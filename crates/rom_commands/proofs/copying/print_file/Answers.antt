@@ -4,7 +4,7 @@ use Rattle.rom_fields.specs.Texts.{escaped}
 use Rattle.rom_fields.specs.Written.{Output, output_of}
 use Rattle.rom_commands.specs.declared.copying.Copied.TheVariants.{NoFile as Fileless, Memory}
 use Rattle.rom_commands.specs.Answers.{Prints}
-use Rattle.rom_commands.proofs.Copying.{done_told, refused_told, fault_told}
+use Rattle.rom_commands.proofs.Copies.{done_told, refused_told, fault_told}
 use Rattle.rom_commands.proofs.copying.print_file.Goals as goal
 
 pub returns-in-Done : goal.returns-in-Done
