@@ -1,6 +1,6 @@
-//! A caller of each library, as others would write it: short, proved, and run as a test.
+//! Callers of the libraries, as others would write them: short, proved, and run as tests.
 //!
-//! The CALLING.md of a library quotes its caller. What a call asks for is met here by what the calls
+//! The CALLING.md of a library quotes its caller. What a call asks for is met by what the calls
 //! before it promise: `check` says that a tree has at most 65 levels, and that is what `list`,
 //! `walk`, `Files::new` and `serve` ask. Nothing stands on this crate.
 #![tactic(auto)]
