@@ -32,9 +32,8 @@ CRATES = {
 SOURCE = """//! A part of a file in an image.
 #![tactic(auto)]
 
-use image_check::check;
-use open_files::Files;
-use rom_tree::types::{Limits, Piece};
+use image_check::{Limits, check};
+use open_files::{Files, Piece};
 use std::alloc::Global;
 
 /// The first bytes of the file `a`.
