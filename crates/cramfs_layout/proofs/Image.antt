@@ -1,6 +1,6 @@
 -- A planned volume, laid out, is a cramfs image.
-use Rattle.std.proofs.Common.{◌≡◌, ℕ, zero, suc, ◌+◌, ◌-◌, ◌/◌, ◌%◌, ◌^◌, ◌<◌, ◌≤◌, true, false, eqb, if◌then◌else◌, ◌⊎◌, List, [], ◌∷◌, ◌++◌, length, take, drop, replicate, refl, sym, ap, subst, ◌∙◌, arith, inl, inr, length-append}
-use Rattle.std.proofs.lemmas.List.{take_all, length-replicate, append-nil, drop-drop}
+use Rattle.std.proofs.Common.{◌≡◌, append_assoc, ℕ, zero, suc, ◌+◌, ◌-◌, ◌/◌, ◌%◌, ◌^◌, ◌<◌, ◌≤◌, true, false, eqb, if◌then◌else◌, ◌⊎◌, List, [], ◌∷◌, ◌++◌, length, take, drop, replicate, refl, sym, ap, subst, ◌∙◌, arith, inl, inr, length-append}
+use Rattle.std.proofs.lemmas.List.{take_at, take_all, length-replicate, append-nil, drop-drop}
 use Rattle.std.proofs.lemmas.Nat.{xor_lt}
 use Rattle.std.specs.Int.Bits.{bit_xor}
 use Rattle.cramfs_format.specs.Order.{word}
@@ -142,6 +142,31 @@ root_at o b volume root n more l h =
     let at_name = HasAt-moved b (44 + length file_word) 48 (named ++ more) (omega (arith, file_long)) (HasAt-after b 44 file_word (named ++ more) at_files) in
     let behind_name = HasAt-after b 48 volume (zeros ++ entry) (HasAt-before b 48 named more at_name) in
     HasAt-moved b (48 + length volume + length zeros) 64 entry (omega (arith, zeros_long)) (HasAt-after b (48 + length volume) zeros entry behind_name)
+
+-- the volume's name, and zeros up to 16 bytes
+name_at : (o : Order) (b volume : List ℕ) (root : Inode) (n : Names) (more : List ℕ)
+    → HasAt b 36 (behind o volume root n more) → HasAt b 48 (volume ++ replicate (16 - length volume) 0)
+name_at o b volume root n more h =
+    let entry = entry_bytes o [] root (list_len n) (root_offset n) in
+    let zeros = replicate {A = ℕ} (16 - length volume) 0 in
+    let named = volume ++ (zeros ++ entry) in
+    let block_word = word_bytes o (size_of n / 4096) in
+    let file_word = word_bytes o (count n + 1) in
+    let edition_long = length-word o 0 in
+    let block_long = length-word o (size_of n / 4096) in
+    let file_long = length-word o (count n + 1) in
+    let at_blocks = HasAt-moved b (36 + length (word_bytes o 0)) 40 (block_word ++ (file_word ++ (named ++ more))) (omega (arith, edition_long)) (HasAt-after b 36 (word_bytes o 0) (block_word ++ (file_word ++ (named ++ more))) h) in
+    let at_files = HasAt-moved b (40 + length block_word) 44 (file_word ++ (named ++ more)) (omega (arith, block_long)) (HasAt-after b 40 block_word (file_word ++ (named ++ more)) at_blocks) in
+    let at_name = HasAt-moved b (44 + length file_word) 48 (named ++ more) (omega (arith, file_long)) (HasAt-after b 44 file_word (named ++ more) at_files) in
+    let whole : HasAt b 48 named = HasAt-before b 48 named more at_name in
+    HasAt-before b 48 (volume ++ zeros) entry (subst (HasAt b 48) (sym (append_assoc volume zeros entry)) whole)
+
+name_says : (b volume : List ℕ) → length volume ≤ 16 → HasAt b 48 (volume ++ replicate (16 - length volume) 0)
+    → take 16 (drop 48 b) ≡ volume ++ replicate (16 - length volume) 0
+name_says b volume l (back, e) =
+    let zeros = replicate {A = ℕ} (16 - length volume) 0 in
+    let n : length (volume ++ zeros) ≡ 16 = omega (arith, l, length-append volume zeros, length-replicate {A = ℕ} (16 - length volume) 0) in
+    ap (take 16) e ∙ take_at (volume ++ zeros) back 16 n
 
 -- the parts of a layout
 abbrev pub all_parts : Order → List ℕ → Inode → Names → List (List ℕ) → List Part
@@ -286,3 +311,24 @@ has_tree o volume root n cs h =
 pub has_length : (o : Order) (volume : List ℕ) (root : Inode) (n : Names) (cs : List (List ℕ))
     → IsPlanned volume root n cs → length (layout o volume root n cs) ≡ size_of n
 has_length o volume root n cs h = (is_image o volume root n cs h).long
+
+pub has_name : (o : Order) (volume : List ℕ) (root : Inode) (n : Names) (cs : List (List ℕ))
+    → IsPlanned volume root n cs
+    → take 16 (drop 48 (layout o volume root n cs)) ≡ volume ++ replicate (16 - length volume) 0
+unfolding layout with_part size_of superblock
+has_name o volume root n cs h =
+    let s = first_state n in
+    let size = size_of n in
+    let sb = superblock o volume root n in
+    let list = part 76 (list_bytes o s n) in
+    let rest = parts o cs s n in
+    let end = part size [] ∷ [] in
+    let u = laid [] (part 0 sb ∷ list ∷ (rest ++ end)) in
+    let keeps = laid_keeps sb (list ∷ (rest ++ end)) in
+    let back = behind o volume root n keeps.0 in
+    let form : u ≡ front o size (word_bytes o 0 ++ back) = keeps.1 ∙ before_crc o volume root n keeps.0 in
+    let w = crc_of (front o size (word_bytes o 0 ++ back)) in
+    let b = with_crc o u in
+    let bform : b ≡ front o size (word_bytes o w ++ back) = ap (with_crc o) form ∙ after_crc o size back in
+    let has36 : HasAt b 36 back = ([], ap (drop 36) bform ∙ drop_crc o size w back ∙ sym (append-nil back)) in
+    name_says b volume h.short (name_at o b volume root n keeps.0 has36)

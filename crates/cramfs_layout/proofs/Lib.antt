@@ -12,6 +12,8 @@ pub mod Super
 pub mod Image
 pub mod Values
 pub mod Paths
+pub mod Filled
+pub mod InRuns
 pub mod Shaped
 pub mod Tabled
 pub mod Regions
@@ -20,7 +22,6 @@ pub mod Shown
 pub mod Covered
 pub mod Sectioned
 pub mod Composed
-pub mod Filled
 pub mod Held
 pub mod Joined
 mod Examples

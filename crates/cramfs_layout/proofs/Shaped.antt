@@ -1,25 +1,29 @@
 -- The tree of a planned volume has the shape of its names.
-use Rattle.std.proofs.Common.{◌↔◌, ◌≡◌, ◌≢◌, ℕ, ◌+◌, ◌^◌, ◌≤◌, List, ◌∷◌, refl, sym, ap, subst, ◌∙◌, arith, inl, inr}
+use Rattle.std.proofs.Common.{◌↔◌, ◌≡◌, ◌≢◌, ℕ, ◌+◌, ◌^◌, ◌≤◌, List, ◌∷◌, length, refl, sym, ap, subst, ◌∙◌, arith, inl, inr}
 use Rattle.std.specs.List.{AllByRecursion as Every}
-use Rattle.rom_tree.specs.Tree.{Node, Entries, ino_of}
+use Rattle.rom_tree.specs.Tree.{Node, Entries, ino_of, places_of}
 use Rattle.record_forest.specs.declared.reference.Row.{Row}
 use Rattle.record_forest.specs.Forest.{rows}
 use Rattle.record_forest.specs.Members.{Has, Pairs}
-use Rattle.record_forest.proofs.Lists.{every_weaker, every_of, every_map, pairs_map, pairs_weaker}
+use Rattle.record_forest.proofs.Lists.{every_weaker, every_both, every_all, every_of, every_map, pairs_map, pairs_weaker}
 use Rattle.cramfs_format.specs.declared.order.Order.{Order}
 use Rattle.cramfs_format.specs.Refers.{references}
 use Rattle.cramfs_format.specs.Tree.{node_of, attributes_at, tree_of, entries_at}
 use Rattle.manifest_tree.specs.Names.{Inode, Names}
-use Rattle.layout_terms.specs.Files.{Placed}
-use Rattle.manifest_tree.specs.Shape.{Named, node_value, file_value, node_under, file_under, HasShape}
+use Rattle.layout_terms.specs.Files.{Placed, at_place}
+use Rattle.layout_terms.specs.Placement.{IsRun, AreInRuns}
+use Rattle.manifest_tree.specs.Shape.{Named, node_value, file_value, node_under, file_under, with_names, HasShape}
 use Rattle.layout_terms.proofs.Alike.{every_unmap, pairs_unmap}
-use Rattle.layout_terms.proofs.Alike.{alike_map, alike_some, same_both}
+use Rattle.layout_terms.proofs.Alike.{Alike, alike_map, alike_some, same_both}
 use Rattle.cramfs_layout.specs.Layout.{list_len, first_state, after_names, layout}
 use Rattle.cramfs_layout.specs.Planned.{IsPlanned}
 use Rattle.cramfs_layout.specs.Forest.{spots}
 use Rattle.cramfs_layout.proofs.Named.{Located, located, Apart, all_apart}
 use Rattle.cramfs_layout.proofs.Whole.{all_spots}
 use Rattle.cramfs_layout.proofs.Image.{is_image}
+use Rattle.cramfs_layout.specs.Items.{AreAlignedBy}
+use Rattle.cramfs_layout.proofs.Filled.{are_filled}
+use Rattle.cramfs_layout.proofs.InRuns.{IsAligned, files_aligned, node_run}
 use Rattle.cramfs_layout.proofs.Values.{IsAt, file_is, folder_is}
 use Rattle.cramfs_layout.proofs.Paths.{placed, placed_files, placed_rows, IsGood, a_file, a_folder, IsShown, IsEnd, path_alike, entries_one}
 
@@ -40,23 +44,33 @@ good_value : (o : Order) (b : List ℕ) (cs : List (List ℕ)) (high : ℕ) (i :
 good_value o b cs high i p es top (a_file f) a = file_is o b cs high i p es top f a
 good_value o b cs high i p es top (a_folder f) a = folder_is o b cs high i p es f.kind f.numbers f.bytes a
 
-pub has_shape : (o : Order) (volume : List ℕ) (root : Inode) (n : Names) (cs : List (List ℕ))
-    → IsPlanned volume root n cs
-    → HasShape (layout o volume root n cs) (tree_of o (layout o volume root n cs) (all_spots n)) cs root n
+-- all files, the root first
+abbrev pub all_placed : Inode → Names → List Placed
+all_placed root n = at_place root 64 ∷ placed 76 (first_state n) n
+
+-- what is known of a placed file: it stands among all of them, and P
+abbrev pub IsOne : (Placed → Type 0) → Inode → Names → Placed → Type 0
+IsOne P root n x = Has (λ u. u ≡ x) (all_placed root n) × P x
+
+-- what stands at each path of the tree is the file there, and P holds of it
+pub ends_alike : (o : Order) (volume : List ℕ) (root : Inode) (n : Names) (cs : List (List ℕ))
+    → IsPlanned volume root n cs → (P : Placed → Type 0) → P (at_place root 64) → Every P (placed 76 (first_state n) n)
+    → (q : List (List ℕ))
+    → Alike (IsEnd o (layout o volume root n cs) cs (after_names (first_state n) n).at (IsOne P root n))
+    (node_under q (tree_of o (layout o volume root n cs) (all_spots n))) (file_under q (with_names root n))
 unfolding tree_of
-has_shape o volume root n cs h =
+ends_alike o volume root n cs h P first every q =
     let b = layout o volume root n cs in
     let i = is_image o volume root n cs h in
     let held = i.holds in
     let s = first_state n in
     let high = (after_names s n).at in
     let xs = placed 76 s n in
-    let first : Placed = record { inode = root; place = 64 } in
-    let all = first ∷ xs in
-    let Q : Placed → Type 0 = λ x. Has (λ u. u ≡ x) all in
+    let all = all_placed root n in
+    let Q : Placed → Type 0 = IsOne P root n in
     let es = entries_at o b (spots 76 s n) in
     let t = node_of o b 64 es in
-    let m : Named = record { inode = root; own = n } in
+    let m = with_names root n in
     let top : IsShown o b cs high Q t m = record {
       place = 64;
       l = 76;
@@ -66,11 +80,29 @@ has_shape o volume root n cs h =
       list = entries_one o b 64 es held.kind;
       good = a_folder h.folder;
       here = record { type = i.read.type; mode = i.read.mode; uid = i.read.uid; gid = i.read.gid; size_is = λ z. absurd (z h.folder.kind); content = λ z. absurd (z h.folder.kind) };
-      known = inl refl;
+      known = (inl refl, first);
       reads = held.reads;
-      inner = every_of Q xs (λ x k. inr k);
+      inner = every_both (λ (x : Placed). Has (λ u. u ≡ x) all) P xs (every_of (λ (x : Placed). Has (λ u. u ≡ x) all) xs (λ x k. inr k)) every;
       well = h.well;
     } in
+    path_alike o b cs high Q q t m top
+
+pub has_shape : (o : Order) (volume : List ℕ) (root : Inode) (n : Names) (cs : List (List ℕ))
+    → IsPlanned volume root n cs
+    → HasShape (layout o volume root n cs) (tree_of o (layout o volume root n cs) (all_spots n)) cs root n
+has_shape o volume root n cs h =
+    let b = layout o volume root n cs in
+    let i = is_image o volume root n cs h in
+    let held = i.holds in
+    let s = first_state n in
+    let high = (after_names s n).at in
+    let xs = placed 76 s n in
+    let all = all_placed root n in
+    let P : Placed → Type 0 = λ _. Unit {0} in
+    let Q : Placed → Type 0 = IsOne P root n in
+    let t = tree_of o b (all_spots n) in
+    let m : Named = with_names root n in
+    let alike = ends_alike o volume root n cs h P tt (every_all P (λ _. tt) xs) in
     let value : (x : Node) (j : Inode) → IsEnd o b cs high Q x j → node_value b x ≡ file_value cs j = λ x j k. ap (node_value b) k.is ∙ good_value o b cs high j k.place k.entries held.room k.good k.here in
     let x1 = (references o b).own (references o b).top in
     let ys = rows (references o b) x1 64 64 1 (spots 76 s n) in
@@ -87,10 +119,36 @@ has_shape o volume root n cs h =
     let lines : Pairs (λ (u w : Placed). u.inode.line ≢ w.inode.line) all =
     pairs_unmap (λ (x : Placed). x.inode) (λ (i j : Inode). i.line ≢ j.line) all (subst (Pairs (λ (i j : Inode). i.line ≢ j.line)) (ap (λ (js : List Inode). root ∷ js) (sym (placed_files 76 s n))) h.lines) in
     record {
-      values = λ q. alike_map (IsEnd o b cs high Q) (node_value b) (file_value cs) value (node_under q t) (file_under q m) (path_alike o b cs high Q q t m top);
+      values = λ q. alike_map (IsEnd o b cs high Q) (node_value b) (file_value cs) value (node_under q t) (file_under q m) (alike q);
       shared = λ p q x y j k a e f g.
-          let u = alike_some (IsEnd o b cs high Q) (node_under p t) (file_under p m) x j (path_alike o b cs high Q p t m top) a f in
-          let w = alike_some (IsEnd o b cs high Q) (node_under q t) (file_under q m) y k (path_alike o b cs high Q q t m top) e g in
-          let both = same_both all (record { inode = j; place = u.place }) (record { inode = k; place = w.place }) places lines u.known w.known in
+          let u = alike_some (IsEnd o b cs high Q) (node_under p t) (file_under p m) x j (alike p) a f in
+          let w = alike_some (IsEnd o b cs high Q) (node_under q t) (file_under q m) y k (alike q) e g in
+          let both = same_both all (record { inode = j; place = u.place }) (record { inode = k; place = w.place }) places lines u.known.0 w.known.0 in
           same_nodes o b x y u.place w.place u.entries w.entries (j.line ≡ k.line) u.is w.is both;
     }
+
+-- at the end of a path the file has its places in a run
+end_run : (o : Order) (b : List ℕ) (cs : List (List ℕ)) (high : ℕ) (root : Inode) (n : Names) (x : Node) (i : Inode)
+    → length b ≤ 2 ^ 28 → IsEnd o b cs high (IsOne (IsAligned o b cs) root n) x i → IsRun i.align (places_of x)
+end_run o b cs high root n x i l e =
+    let run = node_run o b cs high i e.place e.entries l e.good e.here e.known.1 in
+    subst (λ (y : Node). IsRun i.align (places_of y)) (sym e.is) run
+
+pub has_runs : (o : Order) (volume : List ℕ) (root : Inode) (n : Names) (cs : List (List ℕ)) (A : ℕ → ℕ)
+    → IsPlanned volume root n cs → AreAlignedBy A n
+    → AreInRuns (tree_of o (layout o volume root n cs) (all_spots n)) root n
+has_runs o volume root n cs A h al q x i a f =
+    let b = layout o volume root n cs in
+    let image = is_image o volume root n cs h in
+    let s = first_state n in
+    let high = (after_names s n).at in
+    let P = IsAligned o b cs in
+    let Q = IsOne P root n in
+    let t = tree_of o b (all_spots n) in
+    let filled = are_filled o cs A b 76 s n refl h.well al image.holds.has in
+    let aligned = files_aligned o b cs high 76 s n h.well image.holds.reads filled.0 filled.1 in
+    let first : P (at_place root 64) = λ z. absurd (z h.folder.kind) in
+    let e = alike_some (IsEnd o b cs high Q) (node_under q t) (file_under q (with_names root n)) x i (ends_alike o volume root n cs h P first aligned q) a f in
+    let long = image.long in
+    let room = h.room in
+    end_run o b cs high root n x i (omega (arith, long, room)) e

@@ -40,7 +40,7 @@ row_join p (suc a) c =
     ap (λ (q : ℕ). p ∷ (row_from (p + 1) a ++ row_from q c)) e ∙ ap (λ (xs : List ℕ). p ∷ xs) (row_join (p + 1) a c) ∙ ap (row_from p) f
 
 -- blocks without gaps are one run of places
-one_run : (o : Order) (b : List ℕ) (k q p size : ℕ) → size ≤ 4096 * k
+pub one_run : (o : Order) (b : List ℕ) (k q p size : ℕ) → size ≤ 4096 * k
     → ((i : ℕ) → i < k → block_start (word o b (q + 4 * i)) ≡ p + 4096 * i)
     → blocks_from o b k q size ≡ row_from p size
 one_run o b zero q p size l f = let z : 0 ≡ size = omega arith in ap (row_from p) z

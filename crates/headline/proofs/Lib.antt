@@ -4,3 +4,4 @@ mod Opened
 mod Links
 mod Replies
 mod Lines
+pub mod Whole

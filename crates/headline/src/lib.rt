@@ -8,7 +8,7 @@
 //! taken apart and built again has a tree like its own.
 #![tactic(auto)]
 
-ghost use Rattle.std.specs.Prelude.{◌≡◌, ◌⊎◌, ◌≤◌, ℕ, List, Option, Some, Ok, false, length, map};
+ghost use Rattle.std.specs.Prelude.{◌≡◌, ◌⊎◌, ◌*◌, ◌<◌, ◌≤◌, ℕ, List, Option, Some, Ok, false, length, map};
 ghost use Rattle.headline.specs.Headline.{IsServedAs, IsServedAsMeant, IsServedAsGiven, IsUnserved};
 ghost use Rattle.headline.specs.Lent.{IsPieceOf, open_after};
 ghost use Rattle.image_build.specs.Builds.{Builds};
@@ -20,7 +20,11 @@ ghost use Rattle.image_manifest.specs.Tellable.{IsToldWhole};
 ghost use Rattle.image_told.specs.Alike.{AreAlike};
 ghost use Rattle.image_stream.specs.Outcomes.{IsWritten};
 ghost use Rattle.manifest_text.specs.Printed.{manifest_text};
+ghost use Rattle.layout_terms.specs.Placement.{IsRun};
+ghost use Rattle.manifest.specs.Grammar.{manifest_of};
+ghost use Rattle.manifest.specs.Lines.{ManifestLines};
 ghost use Rattle.manifest_layout.specs.Format.{Format};
+ghost use Rattle.manifest_layout.specs.Placement.{HasVolume, IsPlaced};
 ghost use Rattle.open_files.specs.Calls.{Of, Lent};
 ghost use Rattle.open_files.specs.Machine.{Open, image_calls, open_at};
 ghost use Rattle.path_walk.specs.Resolution.{resolution, tree_namespace};
@@ -36,7 +40,9 @@ ghost use Rattle.rom_tree.specs.declared.types.Limits.{Limits};
 /// What follows from the clause of `rom_commands::serve_image`, for all bytes: lines are
 /// answered from the one tree that the format gives the bytes, or the bytes are refused with their
 /// least fault, and no line is read. And the image that was built from a manifest, in each format,
-/// is refused for memory alone: else it is served as the tree that the manifest means.
+/// is refused for memory alone: else it is served as the tree that the manifest means. In that image
+/// each file with the contents of a `file` line has its bytes in one run, from a multiple of that
+/// line's ALIGN on, and the volume has the manifest's name.
 pub fn headline()
     ensures accepted { (bytes : List ℕ) (r₀ r : Input) (w₀ w : Output) (o : Serving)
         → ServingEnds bytes r₀ r w₀ w o
@@ -48,8 +54,13 @@ pub fn headline()
         (r₀ r : Input) (w₀ w : Output) (o : Serving) → Builds f text contents (Ok bytes)
         → ServingEnds bytes r₀ r w₀ w o
         → IsServedAsMeant text contents bytes r₀ r w₀ w o ⊎ IsUnserved r₀ r w₀ w o }
+    ensures placed { (f : Format) (text : List ℕ) (contents : List (List ℕ)) (bytes : List ℕ)
+        (m : ManifestLines) → Builds f text contents (Ok bytes) → manifest_of text ≡ Ok m
+        → HasVolume f bytes m.volume
+        × ((t : Node) → HasTree bytes usual_limits t → IsPlaced t m) }
 {
     image_build::laws::built_is_accepted();
+    image_build::laws::built_is_placed();
     image_check::laws::one_tree();
 }
 
@@ -72,7 +83,8 @@ pub fn built_again()
 /// too, which tell nothing. What `image_build::stream` wrote at `Ok` is refused for memory alone:
 /// else it is served as the tree that the manifest means, where each `file` and each `same` line has
 /// contents of its own, of the planned size; and where no source has a copy in the image, as what
-/// it means with some contents of the sources.
+/// it means with some contents of the sources. Its files and its volume's name stand as in one that
+/// was built.
 pub fn streamed()
     ensures each { (text : List ℕ) (p : Planned) (told : Option (List (List ℕ)))
         (old new : Option (List ℕ)) (r₀ r : Input) (w₀ w : Output) (o : Serving)
@@ -89,15 +101,22 @@ pub fn streamed()
         → ((contents : List (List ℕ)) × (map length contents ≡ p.sizes)
         × IsServedAsMeant text contents (image_with p s.rest) r₀ r w₀ w o)
         ⊎ IsUnserved r₀ r w₀ w o }
+    ensures placed { (text : List ℕ) (p : Planned) (told : Option (List (List ℕ)))
+        (old new : Option (List ℕ)) → (is : IsPlanOfText text p)
+        → (s : IsWritten told (form_in p.format p) (stored_in p.format) old new)
+        → HasVolume p.format (image_with p s.rest) is.lines.volume
+        × ((t : Node) → HasTree (image_with p s.rest) usual_limits t → IsPlaced t is.lines) }
 {
     image_build::laws::streamed_is_accepted();
+    image_build::laws::streamed_is_placed();
     image_build::laws::built_is_accepted();
 }
 
 /// What is lent, whatever lines came before: a reply to `lend` or `map` has a slice of the image's
 /// own bytes, from the place on that it tells, and these are just the bytes of the open file, from
 /// its position or from the offset on. So is a link's text that `readlink` tells, whole, where the
-/// tree of the image is the one that a format gives some bytes.
+/// tree of the image is the one that a format gives some bytes. And an open file with bytes that lies
+/// in one run is lent whole by `map` from 0 on, whose reply tells a multiple of its alignment.
 pub fn lent()
     ensures lend { (m : Image) (lines : List (List ℕ)) (fd most : ℕ) (l : Of Lent)
         → ((image_calls 64 m).lend_piece (open_after m lines) fd most).reply ≡ Ok l
@@ -112,4 +131,9 @@ pub fn lent()
         → ((image_calls 64 m).readlink (open_after m lines) path).reply ≡ Ok l
         → (x : Node) × (resolution (tree_namespace m.bytes m.tree) path false ≡ Ok x)
         × IsPieceOf m x 0 l.1 × (length l.1.bytes ≡ length (places_of x)) }
+    ensures whole { (m : Image) (lines : List (List ℕ)) (fd align : ℕ) (o : Open Node)
+        → open_at (open_after m lines) fd ≡ Some o → IsRun align (places_of o.place)
+        → 0 < length (places_of o.place) → (l : Of Lent) × (k : ℕ)
+        × (((image_calls 64 m).map_piece (open_after m lines) fd 0 (length (places_of o.place))).reply
+        ≡ Ok l) × (l.1.place ≡ k * align) }
 {}

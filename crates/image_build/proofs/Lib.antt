@@ -15,3 +15,4 @@ mod Sizes
 mod Each
 mod Meaning
 mod Accepting
+pub mod Placing

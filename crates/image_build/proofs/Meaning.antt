@@ -73,7 +73,7 @@ module _ (P : Inode → Type 0) where
       (h.0, links_held all own a (every_left P (files own) (files after) h.1) l.0, links_held all after a (every_right P (files own) (files after) h.1) l.1)
 
 -- names with sources of their own lead to the same files, with these
-abbrev own_named : Named → Named
+abbrev pub own_named : Named → Named
 own_named x = with_names (own_file x.inode) (own_names x.own)
 
 find_own : (n : Names) (m : List ℕ) → find_name (own_names n) m ≡ option_map own_named (find_name n m)
@@ -96,7 +96,7 @@ own_next : (ms : List (List ℕ)) (o : Option Named) → ((y : Named) → file_u
 own_next ms None go = refl
 own_next ms (Some y) go = go y
 
-under_own : (q : List (List ℕ)) (x : Named) → file_under q (own_named x) ≡ option_map own_file (file_under q x)
+pub under_own : (q : List (List ℕ)) (x : Named) → file_under q (own_named x) ≡ option_map own_file (file_under q x)
 under_own [] x = refl
 under_own (m ∷ ms) x =
     ap (option_and_then (λ y. file_under ms y)) (find_own x.own m) ∙ own_next ms (find_name x.own m) (λ y. under_own ms y)

@@ -111,6 +111,8 @@ file_owned zs cs i h o = record {
   sixteens = h.sixteens;
   some = h.some;
   aligned = h.aligned;
+  times = h.times;
+  of_align = h.of_align;
 }
 
 folder_owned : (i : Inode) → IsFolder i → IsFolder (own_file i)

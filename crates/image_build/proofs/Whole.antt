@@ -1,10 +1,12 @@
 -- A built image is whole.
-use Rattle.std.proofs.Common.{◌≡◌, ℕ, List, map, length, Ok, refl, subst, inl, inr}
+use Rattle.std.proofs.Common.{◌≡◌, ℕ, List, map, length, Ok, refl, sym, subst, ◌∙◌, inl, inr}
 use Rattle.image_check.specs.Checked.{HasTree, IsRefused}
-use Rattle.manifest.specs.Grammar.{manifest_of}
+use Rattle.manifest.specs.Grammar.{IsManifest, manifest_of}
 use Rattle.manifest.specs.Lines.{ManifestLines}
 use Rattle.manifest_layout.specs.Format as of_format
-use Rattle.manifest_layout.specs.Format.{Format, romfs, cramfs}
+use Rattle.manifest_layout.specs.Format.{Format, romfs, cramfs, layout_of}
+use Rattle.manifest_layout.specs.Misfit.{HasNoMisfit}
+use Rattle.manifest_layout.specs.Placement.{HasVolume, IsPlaced}
 use Rattle.manifest_tree.specs.Meant.{IsMeant}
 use Rattle.rom_faults.specs.declared.error.CheckError.{CheckError}
 use Rattle.rom_faults.specs.declared.error.CheckError.TheVariants as check
@@ -28,3 +30,36 @@ pub meant : (f : Format) (text : List ℕ) (cs : List (List ℕ)) (bytes : List 
 meant f text cs bytes one_tree x t h =
     let is = one_tree x.3.tree t (has_tree f bytes x.3.tree x.3.holds) h in
     (x.0, x.1.manifest, subst (λ (u : Node). IsMeant bytes u cs x.0 (map length cs)) is x.3.meant)
+
+-- the layout of a manifest that fits has a tree whose files stand where the manifest asks, and the volume has its name
+abbrev pub LaysInPlace : Type 0
+LaysInPlace =
+    (f : Format) (m : ManifestLines) (cs : List (List ℕ)) → IsManifest m → HasNoMisfit f m (map length cs)
+    → (t : Node) × of_format.HasTree f (layout_of f m cs) t × IsPlaced t m
+
+abbrev pub NamesVolume : Type 0
+NamesVolume =
+    (f : Format) (m : ManifestLines) (cs : List (List ℕ)) → IsManifest m → HasNoMisfit f m (map length cs)
+    → HasVolume f (layout_of f m cs) m.volume
+
+same_lines : (text : List ℕ) (f : Format) (cs : List (List ℕ)) (bytes : List ℕ) (x : Builds f text cs (Ok bytes)) (m : ManifestLines)
+    → manifest_of text ≡ Ok m → x.0 ≡ m
+same_lines text f cs bytes x m e = let z = sym x.1.manifest ∙ e in cc
+
+pub laid_placed : LaysInPlace → (f : Format) (text : List ℕ) (cs : List (List ℕ)) (bytes : List ℕ) → Builds f text cs (Ok bytes)
+    → (m : ManifestLines) → manifest_of text ≡ Ok m → (t : Node) × HasTree bytes usual t × IsPlaced t m
+laid_placed law f text cs bytes x m e =
+    let k = law f x.0 cs (text, x.1.manifest) x.2 in
+    let holds = subst (λ (b : List ℕ). of_format.HasTree f b k.0) (sym x.3.layout) k.1 in
+    (k.0, has_tree f bytes k.0 holds, subst (IsPlaced k.0) (same_lines text f cs bytes x m e) k.2)
+
+-- whichever tree the bytes have
+pub placed_in : (bytes : List ℕ) (m : ManifestLines) → ((t u : Node) → HasTree bytes usual t → HasTree bytes usual u → t ≡ u)
+    → (t : Node) × HasTree bytes usual t × IsPlaced t m → (t : Node) → HasTree bytes usual t → IsPlaced t m
+placed_in bytes m one x t h = subst (λ (u : Node). IsPlaced u m) (one x.0 t x.1 h) x.2
+
+pub named : NamesVolume → (f : Format) (text : List ℕ) (cs : List (List ℕ)) (bytes : List ℕ) → Builds f text cs (Ok bytes)
+    → (m : ManifestLines) → manifest_of text ≡ Ok m → HasVolume f bytes m.volume
+named law f text cs bytes x m e =
+    subst (λ (k : ManifestLines). HasVolume f bytes k.volume) (same_lines text f cs bytes x m e)
+    (subst (λ (b : List ℕ). HasVolume f b x.0.volume) (sym x.3.layout) (law f x.0 cs (text, x.1.manifest) x.2))

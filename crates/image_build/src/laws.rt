@@ -10,6 +10,7 @@ ghost use Rattle.image_stream.specs.Outcomes.{IsWritten};
 ghost use Rattle.manifest.specs.Grammar.{manifest_of};
 ghost use Rattle.manifest.specs.Lines.{ManifestLines};
 ghost use Rattle.manifest_layout.specs.Format.{Format};
+ghost use Rattle.manifest_layout.specs.Placement.{HasVolume, IsPlaced};
 ghost use Rattle.manifest_tree.specs.Meant.{IsMeant};
 ghost use Rattle.plan_types.specs.Plans.{Planned};
 ghost use Rattle.rom_faults.specs.declared.error.CheckError.{CheckError};
@@ -76,5 +77,37 @@ pub fn streamed_is_accepted()
     romfs_layout::laws::layout_has_tree();
     manifest_tree::laws::names_lead_to_files();
     image_check::laws::exact();
+    image_check::laws::one_tree();
+}
+
+/// In a built image each file with the contents of a `file` line has its bytes in one run, from a
+/// multiple of that line's ALIGN on, and the volume has the manifest's name.
+pub fn built_is_placed()
+    ensures runs { (f : Format) (text : List ℕ) (contents : List (List ℕ)) (bytes : List ℕ)
+        (m : ManifestLines) → Builds f text contents (Ok bytes) → manifest_of text ≡ Ok m
+        → (t : Node) → HasTree bytes usual t → IsPlaced t m }
+    ensures named { (f : Format) (text : List ℕ) (contents : List (List ℕ)) (bytes : List ℕ)
+        (m : ManifestLines) → Builds f text contents (Ok bytes) → manifest_of text ≡ Ok m
+        → HasVolume f bytes m.volume }
+{
+    manifest_layout::laws::layout_is_placed();
+    image_check::laws::one_tree();
+}
+
+/// The same of what was streamed, whatever the sources tell.
+pub fn streamed_is_placed()
+    ensures runs { (text : List ℕ) (p : Planned) (told : Option (List (List ℕ)))
+        (old new : Option (List ℕ)) (t : Node) → (is : IsPlanOfText text p)
+        → (w : IsWritten told (form_in p.format p) (stored_in p.format) old new)
+        → HasTree (image_with p w.rest) usual t → IsPlaced t is.lines }
+    ensures named { (text : List ℕ) (p : Planned) (told : Option (List (List ℕ)))
+        (old new : Option (List ℕ)) → (is : IsPlanOfText text p)
+        → (w : IsWritten told (form_in p.format p) (stored_in p.format) old new)
+        → HasVolume p.format (image_with p w.rest) is.lines.volume }
+{
+    manifest_layout::laws::layout_is_meant();
+    manifest_layout::laws::fitting_is_planned();
+    manifest_layout::laws::layout_is_placed();
+    romfs_layout::laws::layout_is_placed();
     image_check::laws::one_tree();
 }

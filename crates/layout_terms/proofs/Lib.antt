@@ -1,3 +1,4 @@
 pub mod Alike
 pub mod Sections
 pub mod Bodies
+pub mod Runs

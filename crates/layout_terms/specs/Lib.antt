@@ -2,3 +2,4 @@ pub mod Lists
 pub mod Files
 pub mod Items
 pub mod Bodies
+pub mod Placement

@@ -46,7 +46,7 @@ file_is : (cs : List (List ℕ)) (i : Inode) → IsSayable i → FitsKind i.kind
     → IsAligned i.align → IsFile cs i
 file_is cs i s k e a =
     let d = data_aligned i a in
-    record { kind = k; mode = s.mode; owner = s.owner; bytes = e; sixteens = d.0; some = d.1; aligned = d.2 }
+    record { kind = k; mode = s.mode; owner = s.owner; bytes = e; sixteens = d.0; some = d.1; aligned = d.2; times = a.times; of_align = a.of_times }
 
 -- each alignment of a `file` line is one
 abbrev pub AreAligned : List Line → Type 0

@@ -51,7 +51,7 @@ pub record LedIn (all : List Line) (l : Line) : Type 0 where
   pub other : is_hard l.word ≡ true
       → (k : Line) × (led all l.path ≡ Some k) × Has (λ x. x ≡ k) all × (is_hard k.word ≡ false) × (is_dir k.word ≡ false)
 
-no_path : (ls : List Line) (p : List ℕ) → is_some (line_at ls p) ≡ false → Every (λ k. bytes_eq k.path p ≡ false) ls
+pub no_path : (ls : List Line) (p : List ℕ) → is_some (line_at ls p) ≡ false → Every (λ k. bytes_eq k.path p ≡ false) ls
 no_path [] p h = tt
 no_path (l ∷ ls) p h = elim (bytes_eq l.path p) as (λ t. bytes_eq l.path p ≡ t → is_some (cond t (Some l) (line_at ls p)) ≡ false → (bytes_eq l.path p ≡ false) × Every (λ k. bytes_eq k.path p ≡ false) ls) [
   | true ↦ λ e g. absurd (cc)

@@ -18,3 +18,4 @@ pub mod Sourced
 pub mod Sectioned
 mod Examples
 mod Stands
+pub mod Placing

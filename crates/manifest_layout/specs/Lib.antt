@@ -1,3 +1,4 @@
 pub mod Format
 pub mod Misfit
 pub mod Tests
+pub mod Placement

@@ -5,6 +5,7 @@ ghost use Rattle.manifest.specs.Grammar.{IsManifest};
 ghost use Rattle.manifest.specs.Lines.{ManifestLines};
 ghost use Rattle.manifest_layout.specs.Format.{Format, HasTree, IsPlannedBy, layout_of, len_of, sections_of};
 ghost use Rattle.manifest_layout.specs.Misfit.{IsLeastMisfit, HasNoMisfit};
+ghost use Rattle.manifest_layout.specs.Placement.{HasVolume, IsPlaced};
 ghost use Rattle.manifest_tree.specs.Meant.{IsMeant};
 ghost use Rattle.rom_faults.specs.declared.fault.Fault.{Fault};
 ghost use Rattle.rom_tree.specs.Tree.{Node};
@@ -41,6 +42,22 @@ pub fn layout_is_meant()
     romfs_layout::laws::layout_length();
     cramfs_layout::laws::layout_has_tree();
     cramfs_layout::laws::layout_length();
+    fitting_is_planned();
+}
+
+/// In the tree that the layout of a manifest that fits holds, each file with the contents of a `file`
+/// line has its bytes in one run, from a multiple of that line's ALIGN on; and the volume has the
+/// manifest's name.
+pub fn layout_is_placed()
+    ensures runs { (f : Format) (m : ManifestLines) (contents : List (List ℕ))
+        → IsManifest m → HasNoMisfit f m (map length contents)
+        → (t : Node) × HasTree f (layout_of f m contents) t × IsPlaced t m }
+    ensures named { (f : Format) (m : ManifestLines) (contents : List (List ℕ))
+        → IsManifest m → HasNoMisfit f m (map length contents)
+        → HasVolume f (layout_of f m contents) m.volume }
+{
+    romfs_layout::laws::layout_is_placed();
+    cramfs_layout::laws::layout_is_placed();
     fitting_is_planned();
 }
 

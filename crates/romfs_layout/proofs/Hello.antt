@@ -27,7 +27,7 @@ is_folder line = record { kind = refl; mode = refl; owner = (refl, refl); number
 
 is_file : IsFile (codes "hello" ∷ []) file
 unfolding file data_align
-is_file = record { kind = (refl, refl); mode = refl; owner = (refl, refl); bytes = refl; sixteens = 1; some = omega arith; aligned = refl }
+is_file = record { kind = (refl, refl); mode = refl; owner = (refl, refl); bytes = refl; sixteens = 1; some = omega arith; aligned = refl; times = 4; of_align = refl }
 
 planned : IsPlanned (codes "vol") (directory 0) (leaf (codes "a") file (folder (codes "d") (directory 2) (link (codes "c") file nothing) nothing)) (codes "hello" ∷ [])
 unfolding directory file place_of data_align

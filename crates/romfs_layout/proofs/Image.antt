@@ -1,7 +1,7 @@
 -- A planned volume, laid out, is a romfs image.
-use Rattle.std.proofs.Common.{◌≡◌, ◌≢◌, ℕ, ◌+◌, ◌-◌, ◌%◌, ◌^◌, ◌≤◌, min, true, false, eqb, if◌then◌else◌, List, [], ◌∷◌, ◌++◌, length, take, drop, replicate, refl, sym, ap, subst, ◌∙◌, arith, inl, inr, length-append}
+use Rattle.std.proofs.Common.{◌≡◌, ◌≢◌, ℕ, ◌+◌, ◌-◌, ◌%◌, ◌^◌, ◌<◌, ◌≤◌, suc, min, true, false, eqb, if◌then◌else◌, List, [], ◌∷◌, ◌++◌, length, take, drop, replicate, refl, sym, ap, subst, ◌∙◌, arith, inl, inr, length-append}
 use Rattle.std.proofs.lemmas.Bool.{cases_lt}
-use Rattle.std.proofs.lemmas.List.{length-replicate, length-take, length-drop, take_at, take_all}
+use Rattle.std.proofs.lemmas.List.{length-replicate, length-take, length-drop, take_at, take_all, drop-append-le}
 use Rattle.std.specs.List.{AllByRecursion as Every}
 use Rattle.byteorder.specs.Endian.{big_bytes, big_number}
 use Rattle.byteorder.specs.Numbers.{big_number-reads_back}
@@ -235,3 +235,26 @@ has_length volume root n cs h =
     let e = (is_image volume root n cs h).size in
     let up = pad-after size 1024 (omega arith) in
     omega (arith, length-append b zeros, length-replicate {A = ℕ} (pad size 1024 - size) 0, e, up)
+
+-- what stands before a zero stands there, too, where more follows
+before_zero_more : (xs ys : List ℕ) → length (before_zero xs) < length xs → before_zero (xs ++ ys) ≡ before_zero xs
+before_zero_more [] ys h = absurd (omega (arith, h))
+before_zero_more (x ∷ xs) ys h =
+    elim (eqb x 0) as (λ t. length (if t then [] else x ∷ before_zero xs) < suc (length xs) → (if t then [] else x ∷ before_zero (xs ++ ys)) ≡ (if t then [] else x ∷ before_zero xs)) [
+      | true ↦ λ l. refl
+      | false ↦ λ l. ap (λ (zs : List ℕ). x ∷ zs) (before_zero_more xs ys (omega (arith, l)))
+    ] h
+
+pub has_name : (volume : List ℕ) (root : Inode) (n : Names) (cs : List (List ℕ)) → IsPlanned volume root n cs
+    → before_zero (drop 16 (layout volume root n cs)) ≡ volume
+unfolding layout
+has_name volume root n cs h =
+    let r = root_at volume in
+    let size = full_size_of r n in
+    let b = image_of volume size cs (all_headers r root n) in
+    let i = is_image volume root n cs h in
+    let ls = i.size in
+    let zeros = replicate {A = ℕ} (pad size 1024 - size) 0 in
+    let after = ends_after cs (r + 64) n h.well in
+    let name_len : length (before_zero (drop 16 b)) ≡ length volume = ap length i.name in
+    ap before_zero (drop-append-le 16 b zeros (omega (arith, ls))) ∙ before_zero_more (drop 16 b) zeros (omega (arith, name_len, ls, length-drop 16 b)) ∙ i.name

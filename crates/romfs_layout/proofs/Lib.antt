@@ -11,6 +11,7 @@ pub mod Whole
 pub mod Image
 pub mod Values
 pub mod Paths
+pub mod Runs
 pub mod Shaped
 pub mod Sectioned
 pub mod Composed

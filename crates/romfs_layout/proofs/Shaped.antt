@@ -1,9 +1,9 @@
 -- The tree of a planned volume has the shape of its names.
-use Rattle.layout_terms.proofs.Alike.{alike_map, alike_some, same_both, pairs_unmap}
+use Rattle.layout_terms.proofs.Alike.{Alike, alike_map, alike_some, same_both, pairs_unmap}
 use Rattle.image_parts.proofs.Parts.{moved}
 use Rattle.std.proofs.Common.{◌↔◌, ◌≡◌, ◌≢◌, ℕ, ◌+◌, ◌-◌, ◌<◌, ◌≤◌, ◌⊎◌, List, [], ◌∷◌, ◌++◌, replicate, refl, sym, ap, subst, ◌∙◌, arith, inl, inr}
 use Rattle.std.specs.List.{AllByRecursion as Every}
-use Rattle.rom_tree.specs.Tree.{Node, Entries, ino_of}
+use Rattle.rom_tree.specs.Tree.{Node, Entries, ino_of, places_of}
 use Rattle.record_forest.specs.Members.{Has, Pairs}
 use Rattle.record_forest.proofs.Lists.{every_join, every_weaker, every_both, every_of, every_all, pairs_join}
 use Rattle.romfs_format.specs.Record.{pad16}
@@ -11,10 +11,11 @@ use Rattle.romfs_format.specs.Tree.{node_of, attributes_at}
 use Rattle.manifest_tree.specs.Names.{Inode, Names, nothing, leaf, link, folder}
 use Rattle.romfs_layout.specs.Layout.{Header, placed, place_with, code_of, place_of, leaf_end, header_end, ends, root_at, all_headers, full_size_of, image_of, layout, number_of, headers}
 use Rattle.image_parts.specs.Padding.{pad}
-use Rattle.layout_terms.specs.Files.{Placed}
+use Rattle.layout_terms.specs.Files.{Placed, at_place}
+use Rattle.layout_terms.specs.Placement.{IsRun, AreInRuns}
 use Rattle.romfs_layout.specs.Wells.{IsFile, IsFolder, AreWell, AreLinks}
 use Rattle.romfs_layout.specs.Planned.{IsPlanned}
-use Rattle.manifest_tree.specs.Shape.{node_value, file_value, node_under, file_under, HasShape}
+use Rattle.manifest_tree.specs.Shape.{node_value, file_value, node_under, file_under, with_names, HasShape}
 use Rattle.romfs_layout.proofs.Places.{place_after, ends_after}
 use Rattle.romfs_layout.proofs.Headers.{code_is}
 use Rattle.layout_terms.proofs.Alike.{pairs_unmap}
@@ -23,6 +24,7 @@ use Rattle.romfs_layout.proofs.Stands.{says}
 use Rattle.romfs_layout.proofs.Entries.{made_of}
 use Rattle.romfs_layout.proofs.Image.{tree_in, is_image}
 use Rattle.romfs_layout.proofs.Values.{file_is, folder_is}
+use Rattle.romfs_layout.proofs.Runs.{IsAligned, files_aligned, node_run}
 use Rattle.romfs_layout.proofs.Paths.{KnownAt, IsShown, IsEnd, links_at, path_alike, entries_one}
 
 abbrev IsGood : List (List ℕ) → Inode → Type 0
@@ -88,29 +90,39 @@ same_nodes b x y p q es fs A e f both =
     let n2 : ino_of y ≡ q = ap ino_of f ∙ ino_at b q fs in
     (λ z. both.0 (sym n1 ∙ z ∙ n2), λ a. n1 ∙ both.1 a ∙ sym n2)
 
-pub has_shape : (volume : List ℕ) (root : Inode) (n : Names) (cs : List (List ℕ)) → IsPlanned volume root n cs
-    → HasShape (layout volume root n cs) (tree_in (image_of volume (full_size_of (root_at volume) n) cs (all_headers (root_at volume) root n)) volume n) cs root n
-unfolding layout tree_in
-has_shape volume root n cs h =
+-- what is known of a placed file: it is one, it stands among all of them, and its data are aligned
+abbrev pub IsOne : List ℕ → List (List ℕ) → List Placed → Placed → Type 0
+IsOne b cs all x = IsGood cs x.inode × Has (λ u. u ≡ x) all × IsAligned b x
+
+-- all files, the root first
+abbrev pub all_placed : List ℕ → Inode → Names → List Placed
+all_placed volume root n = at_place root (root_at volume) ∷ placed (root_at volume + 64) n
+
+-- the accessible bytes
+abbrev pub bytes_in : List ℕ → Inode → Names → List (List ℕ) → List ℕ
+bytes_in volume root n cs = image_of volume (full_size_of (root_at volume) n) cs (all_headers (root_at volume) root n)
+
+-- what stands at each path of the tree is the file there
+pub ends_alike : (volume : List ℕ) (root : Inode) (n : Names) (cs : List (List ℕ)) → IsPlanned volume root n cs
+    → (q : List (List ℕ))
+    → Alike (IsEnd (bytes_in volume root n cs) cs (IsOne (bytes_in volume root n cs) cs (all_placed volume root n)))
+    (node_under q (tree_in (bytes_in volume root n cs) volume n)) (file_under q (with_names root n))
+unfolding tree_in
+ends_alike volume root n cs h q =
     let r = root_at volume in
-    let size = full_size_of r n in
-    let b = image_of volume size cs (all_headers r root n) in
-    let zeros = replicate {A = ℕ} (pad size 1024 - size) 0 in
-    let v = b ++ zeros in
+    let b = bytes_in volume root n cs in
     let held = (is_image volume root n cs h).holds in
     let reads = held.reads in
     let xs = placed (r + 64) n in
     let at' = place_with xs in
-    let first : Placed = record { inode = root; place = r } in
-    let all = first ∷ xs in
-    let Q : Placed → Type 0 = λ x. IsGood cs x.inode × Has (λ u. u ≡ x) all in
+    let all = all_placed volume root n in
+    let Q : Placed → Type 0 = IsOne b cs all in
     let c = code_is root in
-    let even = held.even in
-    let s0 = says b r (r + 32) (code_of root) reads.0.word (omega arith) c.small in
+    let s0 = says b r (r + 32) (code_of root) reads.0.word (let even = held.even in omega arith) c.small in
     let root_is : IsAt b cs root r = record {
       even = held.even;
       kind = s0.kind ∙ c.kind;
-      mode = mode_is b root r (r + 32) h.folder.mode reads.0.word (omega arith);
+      mode = mode_is b root r (r + 32) h.folder.mode reads.0.word (let even = held.even in omega arith);
       size = λ z. absurd (z h.folder.kind);
       numbers = λ z. absurd (z h.folder.kind);
       content = λ z. absurd (z h.folder.kind);
@@ -118,23 +130,41 @@ has_shape volume root n cs h =
     let ats = files_at b cs (λ _. Unit {0}) at' r (r + 64) n h.well reads.1.1 (every_all (λ (i : Header). Unit {0}) (λ _. tt) (headers at' r (r + 64) n)) in
     let goods = good_files cs (r + 64) n h.well in
     let listed = every_of (λ (x : Placed). Has (λ u. u ≡ x) all) xs (λ x k. inr k) in
+    let aligned = files_aligned b cs at' r (r + 64) n h.well reads.1.1 in
     let known : Every (KnownAt b cs Q) xs =
-    every_weaker (λ (x : Placed). AtPlace b cs (λ _. Unit {0}) x × (IsGood cs x.inode × Has (λ u. u ≡ x) all)) (KnownAt b cs Q) (λ x k. (k.0.0, k.1)) xs
-    (every_both (AtPlace b cs (λ _. Unit {0})) (λ (x : Placed). IsGood cs x.inode × Has (λ u. u ≡ x) all) xs ats (every_both (λ (x : Placed). IsGood cs x.inode) (λ (x : Placed). Has (λ u. u ≡ x) all) xs goods listed)) in
+    every_weaker (λ (x : Placed). AtPlace b cs (λ _. Unit {0}) x × (IsGood cs x.inode × (Has (λ u. u ≡ x) all × IsAligned b x))) (KnownAt b cs Q) (λ x k. (k.0.0, (k.1.0, k.1.1.0, k.1.1.1))) xs
+    (every_both (AtPlace b cs (λ _. Unit {0})) (λ (x : Placed). IsGood cs x.inode × (Has (λ u. u ≡ x) all × IsAligned b x)) xs ats
+    (every_both (λ (x : Placed). IsGood cs x.inode) (λ (x : Placed). Has (λ u. u ≡ x) all × IsAligned b x) xs goods
+    (every_both (λ (x : Placed). Has (λ u. u ≡ x) all) (IsAligned b) xs listed aligned))) in
     let links = links_at b cs Q xs n (subst (λ (js : List Inode). AreLinks js n) (sym (placed_files (r + 64) n)) h.links) known in
     let es = made_of b at' (r + 64) n in
     let t = node_of b r es in
-    let top : IsShown b cs Q at' t (record { inode = root; own = n }) = record {
+    let top : IsShown b cs Q at' t (with_names root n) = record {
       place = r;
       from = r + 64;
       entries = es;
       is = refl;
       list = entries_one b r es (s0.kind ∙ c.kind ∙ ap number_of h.folder.kind);
-      known = (root_is, (inr h.folder, inl refl));
+      known = (root_is, (inr h.folder, inl refl, λ z. absurd (z h.folder.kind)));
       inner = known;
       links = links;
       well = h.well;
     } in
+    path_alike b cs Q at' q t (with_names root n) top
+
+pub has_shape : (volume : List ℕ) (root : Inode) (n : Names) (cs : List (List ℕ)) → IsPlanned volume root n cs
+    → HasShape (layout volume root n cs) (tree_in (bytes_in volume root n cs) volume n) cs root n
+unfolding layout
+has_shape volume root n cs h =
+    let r = root_at volume in
+    let size = full_size_of r n in
+    let b = bytes_in volume root n cs in
+    let zeros = replicate {A = ℕ} (pad size 1024 - size) 0 in
+    let v = b ++ zeros in
+    let xs = placed (r + 64) n in
+    let all = all_placed volume root n in
+    let Q : Placed → Type 0 = IsOne b cs all in
+    let t = tree_in b volume n in
     let value : (x : Node) (i : Inode) → IsEnd b cs Q x i → node_value v x ≡ file_value cs i =
     λ x i k. ap (node_value v) k.is ∙ elim k.known.1.0 [
       | inl f ↦ file_is v b cs i k.place k.entries (moved b zeros) f k.known.0
@@ -145,11 +175,28 @@ has_shape volume root n cs h =
     (every_weaker (λ (x : Placed). (r + 64 ≤ x.place) × (x.place < ends (r + 64) n)) (λ (x : Placed). r ≢ x.place) (λ x k z. let u = k.0 in absurd (omega (arith, z))) xs apart.within, apart.apart) in
     let lines : Pairs (λ (u w : Placed). u.inode.line ≢ w.inode.line) all =
     pairs_unmap (λ (x : Placed). x.inode) (λ (i j : Inode). i.line ≢ j.line) all (subst (Pairs (λ (i j : Inode). i.line ≢ j.line)) (ap (λ (js : List Inode). root ∷ js) (sym (placed_files (r + 64) n))) h.lines) in
+    let alike = ends_alike volume root n cs h in
     record {
-      values = λ q. alike_map (IsEnd b cs Q) (node_value v) (file_value cs) value (node_under q t) (file_under q (record { inode = root; own = n })) (path_alike b cs Q at' q t (record { inode = root; own = n }) top);
+      values = λ q. alike_map (IsEnd b cs Q) (node_value v) (file_value cs) value (node_under q t) (file_under q (with_names root n)) (alike q);
       shared = λ p q x y i j a e f g.
-          let u = alike_some (IsEnd b cs Q) (node_under p t) (file_under p (record { inode = root; own = n })) x i (path_alike b cs Q at' p t (record { inode = root; own = n }) top) a f in
-          let w = alike_some (IsEnd b cs Q) (node_under q t) (file_under q (record { inode = root; own = n })) y j (path_alike b cs Q at' q t (record { inode = root; own = n }) top) e g in
+          let u = alike_some (IsEnd b cs Q) (node_under p t) (file_under p (with_names root n)) x i (alike p) a f in
+          let w = alike_some (IsEnd b cs Q) (node_under q t) (file_under q (with_names root n)) y j (alike q) e g in
           let both = same_both all (record { inode = i; place = u.place }) (record { inode = j; place = w.place }) places lines u.known.1.1 w.known.1.1 in
           same_nodes b x y u.place w.place u.entries w.entries (i.line ≡ j.line) u.is w.is both;
     }
+
+-- at the end of a path the file has its places in a run
+end_run : (b : List ℕ) (cs : List (List ℕ)) (all : List Placed) (x : Node) (i : Inode) → IsEnd b cs (IsOne b cs all) x i
+    → IsRun i.align (places_of x)
+end_run b cs all x i e =
+    let run = node_run b cs i e.place e.entries e.known.1.0 e.known.0 e.known.1.2 in
+    subst (λ (y : Node). IsRun i.align (places_of y)) (sym e.is) run
+
+pub has_runs : (volume : List ℕ) (root : Inode) (n : Names) (cs : List (List ℕ)) → IsPlanned volume root n cs
+    → AreInRuns (tree_in (bytes_in volume root n cs) volume n) root n
+has_runs volume root n cs h q x i a f =
+    let b = bytes_in volume root n cs in
+    let Q = IsOne b cs (all_placed volume root n) in
+    let t = tree_in b volume n in
+    let e = alike_some (IsEnd b cs Q) (node_under q t) (file_under q (with_names root n)) x i (ends_alike volume root n cs h q) a f in
+    end_run b cs (all_placed volume root n) x i e

@@ -1,6 +1,6 @@
 -- Names and files that a romfs image can hold, where the sources have these contents. Its headers have no owner, of the
 -- mode one bit, and 16 bits for each number of a device (Linux Documentation/filesystems/romfs.rst).
-use Rattle.std.specs.Prelude.{◌≡◌, ℕ, ◌*◌, ◌<◌, ◌≤◌, List, [], ◌∷◌, length, Option, Some, None, if◌then◌else◌, ◌==◌}
+use Rattle.std.specs.Prelude.{◌≡◌, ℕ, ◌*◌, ◌<◌, ◌≤◌, max, List, [], ◌∷◌, length, Option, Some, None, if◌then◌else◌, ◌==◌}
 use Rattle.rom_tree.specs.declared.types.Kind.{Kind}
 use Rattle.rom_tree.specs.declared.types.Kind.TheVariants.{Directory, Regular, Symlink, Block, Character, Socket, Fifo}
 use Rattle.romfs_format.specs.Tree.{mode_named}
@@ -22,7 +22,7 @@ FitsKind Character i = (i.major < 65536) × (i.minor < 65536) × (i.fill ≡ no_
 FitsKind Socket i = (i.major ≡ 0) × (i.minor ≡ 0) × (i.fill ≡ no_bytes)
 FitsKind Fifo i = (i.major ≡ 0) × (i.minor ≡ 0) × (i.fill ≡ no_bytes)
 
--- a file that is no directory; its data stand at a multiple of 16 bytes
+-- a file that is no directory; its data stand at a multiple of 16 bytes, and of its alignment
 pub record IsFile (contents : List (List ℕ)) (i : Inode) : Type 0 where
   pub kind : FitsKind i.kind i
   pub mode : HasMode i
@@ -31,6 +31,8 @@ pub record IsFile (contents : List (List ℕ)) (i : Inode) : Type 0 where
   pub sixteens : ℕ
   pub some : 0 < sixteens
   pub aligned : data_align i ≡ 16 * sixteens
+  pub times : ℕ
+  pub of_align : max 16 i.align ≡ times * i.align
 
 -- a directory
 pub record IsFolder (i : Inode) : Type 0 where

@@ -1,12 +1,14 @@
 //! Laws about the layout of a romfs image.
-ghost use Rattle.std.specs.Prelude.{◌≡◌, List, ℕ, ◌^◌, length};
+ghost use Rattle.std.specs.Prelude.{◌≡◌, List, ℕ, ◌^◌, length, drop};
 ghost use Rattle.image_parts.specs.Padding.{pad};
 ghost use Rattle.std.specs.List.{AllByRecursion as Every};
 ghost use Rattle.manifest_tree.specs.Names.{Inode, Names};
 ghost use Rattle.manifest_tree.specs.Shape.{HasShape};
 ghost use Rattle.rom_tree.specs.Tree.{Node};
+ghost use Rattle.romfs_format.specs.Record.{before_zero};
 ghost use Rattle.romfs_format.specs.Tree.{RomfsTree};
 ghost use Rattle.layout_terms.specs.Items.{SectionsRise};
+ghost use Rattle.layout_terms.specs.Placement.{AreInRuns};
 ghost use Rattle.romfs_layout.specs.Composed.{romfs_part, composed};
 ghost use Rattle.romfs_layout.specs.Items.{items_of, sections_of};
 ghost use Rattle.romfs_layout.specs.Layout.{layout, full_size_of, root_at};
@@ -19,6 +21,17 @@ pub fn layout_has_tree()
         → IsPlanned volume root n contents
         → (t : Node) × RomfsTree (layout volume root n contents) (2 ^ 20) 64 t
         × HasShape (layout volume root n contents) t contents root n }
+{}
+
+/// In that tree each file has its bytes in one run of the image, from a multiple of its alignment
+/// on; and the volume's name stands at 16, up to the first zero.
+pub fn layout_is_placed()
+    ensures runs { (volume : List ℕ) (root : Inode) (n : Names) (contents : List (List ℕ))
+        → IsPlanned volume root n contents
+        → (t : Node) × RomfsTree (layout volume root n contents) (2 ^ 20) 64 t × AreInRuns t root n }
+    ensures named { (volume : List ℕ) (root : Inode) (n : Names) (contents : List (List ℕ))
+        → IsPlanned volume root n contents
+        → before_zero (drop 16 (layout volume root n contents)) ≡ volume }
 {}
 
 /// How long it is depends on the names and sizes alone.

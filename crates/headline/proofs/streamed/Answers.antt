@@ -14,3 +14,8 @@ returns-clause-built c = λ text p told old new r₀ r w₀ w o is none s ends.
     let law = c.built_is_accepted.ensures in
     of_some text p.sizes bytes b.contents r₀ r w₀ w o b.sized
     (built text b.contents bytes r₀ r w₀ w o (λ e. law.refused p.format text b.contents bytes e b.built) (law.meant p.format text b.contents bytes b.built) ends)
+
+pub returns-clause-placed : goal.returns-clause-placed
+returns-clause-placed c = λ text p told old new is s.
+    let law = c.streamed_is_placed.ensures in
+    (law.named text p told old new is s, λ t. law.runs text p told old new t is s)

@@ -1,0 +1,83 @@
+-- The files of what was streamed stand where the manifest asks, and the volume has its name.
+use Rattle.std.proofs.Common.{◌≡◌, ℕ, ◌^◌, List, drop, refl, sym, ap, subst, ◌∙◌, inl, Option, Ok}
+use Rattle.std.specs.Option.{option_map}
+use Rattle.rom_tree.specs.Tree.{Node}
+use Rattle.manifest.specs.Lines.{ManifestLines}
+use Rattle.manifest_tree.specs.Names.{Inode, Names}
+use Rattle.manifest_tree.specs.Shape.{with_names}
+use Rattle.manifest_tree.specs.Tree.{tree_of, root_of}
+use Rattle.layout_terms.specs.Placement.{AreInRuns}
+use Rattle.manifest_layout.specs.Format.{Format, romfs, cramfs}
+use Rattle.manifest_layout.specs.Placement.{HasVolume, IsPlaced}
+use Rattle.manifest_layout.proofs.Placing.{placed}
+use Rattle.image_check.specs.Checked.{HasTree}
+use Rattle.image_stream.specs.Segments.{IsImage, checked}
+use Rattle.plan_types.specs.Plans.{Planned}
+use Rattle.plan_types.proofs.Sized.{Fitting}
+use Rattle.romfs_format.specs.Record.{before_zero}
+use Rattle.romfs_format.specs.Tree.{RomfsTree}
+use Rattle.romfs_layout.specs.Layout.{layout}
+use Rattle.romfs_layout.specs.Planned as romfs_planned
+use Rattle.image_build.specs.Accepted.{usual}
+use Rattle.image_build.specs.Builds.{Builds}
+use Rattle.image_build.specs.Streamed.{IsPlanOfText, form_in, stored_in, image_with, IsBuiltOfSome}
+use Rattle.image_build.proofs.Streams.{HoldsAll, planned_in}
+use Rattle.image_build.proofs.Untold.{in_format}
+use Rattle.image_build.proofs.Owned.{own_file, own_names}
+use Rattle.image_build.proofs.Each.{IsOfFiles, each_of_plan}
+use Rattle.image_build.proofs.Meaning.{under_own}
+use Rattle.image_build.proofs.Whole.{LaysInPlace, NamesVolume, laid_placed, named}
+
+abbrev pub RomfsRuns : Type 0
+RomfsRuns = (volume : List ℕ) (root : Inode) (n : Names) (cs : List (List ℕ)) → romfs_planned.IsPlanned volume root n cs
+    → (t : Node) × RomfsTree (layout volume root n cs) (2 ^ 20) 64 t × AreInRuns t root n
+
+abbrev pub RomfsNamed : Type 0
+RomfsNamed = (volume : List ℕ) (root : Inode) (n : Names) (cs : List (List ℕ)) → romfs_planned.IsPlanned volume root n cs
+    → before_zero (drop 16 (layout volume root n cs)) ≡ volume
+
+-- files with sources of their own are aligned as the others
+runs_own : (t : Node) (root : Inode) (n : Names) → AreInRuns t (own_file root) (own_names n) → AreInRuns t root n
+runs_own t root n h q x i a f = h q x (own_file i) a (under_own q (with_names root n) ∙ ap (option_map own_file) f)
+
+-- a tree whose files stand so, and the name
+pub record IsInPlace (f : Format) (bytes : List ℕ) (m : ManifestLines) : Type 0 where
+  pub tree : (t : Node) × HasTree bytes usual t × IsPlaced t m
+  pub volume : HasVolume f bytes m.volume
+
+of_files : RomfsRuns → RomfsNamed → (text : List ℕ) (p : Planned) (is : IsPlanOfText text p) (bytes : List ℕ)
+    → IsOfFiles is.lines.volume (root_of is.lines.lines p.sizes) (tree_of is.lines.lines p.sizes) bytes
+    → IsInPlace romfs bytes is.lines
+of_files runs name text p is bytes f =
+    let m = is.lines in
+    let root = root_of m.lines p.sizes in
+    let n = tree_of m.lines p.sizes in
+    let x = runs m.volume (own_file root) (own_names n) f.contents f.planned in
+    record {
+      tree = (x.0, inl (subst (λ (b : List ℕ). RomfsTree b (2 ^ 20) 64 x.0) (sym f.is) x.1), placed m p.sizes x.0 (text, is.manifest) (runs_own x.0 root n x.2));
+      volume = subst (λ (b : List ℕ). before_zero (drop 16 b) ≡ m.volume) (sym f.is) (name m.volume (own_file root) (own_names n) f.contents f.planned);
+    }
+
+of_sources : LaysInPlace → NamesVolume → (f : Format) (text : List ℕ) (p : Planned) (is : IsPlanOfText text p) (bytes : List ℕ)
+    → p.format ≡ f → IsBuiltOfSome text p bytes → IsInPlace f bytes is.lines
+of_sources lays names f text p is bytes e b =
+    let built : Builds f text b.contents (Ok bytes) = subst (λ (g : Format). Builds g text b.contents (Ok bytes)) e b.built in
+    record {
+      tree = laid_placed lays f text b.contents bytes built is.lines is.manifest;
+      volume = named names f text b.contents bytes built is.lines is.manifest;
+    }
+
+module _ (fitting : Fitting) (law : HoldsAll) (runs : RomfsRuns) (name : RomfsNamed) (lays : LaysInPlace) (names : NamesVolume)
+    (text : List ℕ) (p : Planned) (is : IsPlanOfText text p) where
+  by_format : (f : Format) → p.format ≡ f → (told : Option (List (List ℕ))) (rest : List ℕ)
+      → IsImage told (form_in f p).start (form_in f p).segments (form_in f p).end rest
+      → IsInPlace f (checked (form_in f p).head (stored_in f) rest) is.lines
+  by_format romfs e told rest h =
+      of_files runs name text p is _ (each_of_plan fitting p is.lines (text, is.manifest) is.count (planned_in romfs p text e is) told rest h)
+  by_format (cramfs o) e told rest h =
+      of_sources lays names (cramfs o) text p is _ e (in_format fitting law text p is (cramfs o) e tt told rest h)
+
+  pub in_place : (told : Option (List (List ℕ))) (rest : List ℕ)
+      → IsImage told (form_in p.format p).start (form_in p.format p).segments (form_in p.format p).end rest
+      → IsInPlace p.format (image_with p rest) is.lines
+  in_place told rest h = by_format p.format refl told rest h

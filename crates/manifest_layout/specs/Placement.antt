@@ -1,0 +1,26 @@
+-- Where a manifest asks the bytes of its files to stand, and what it calls its volume. (This project's own; the places of
+-- the names are those of Linux Documentation/filesystems/romfs.rst and include/uapi/linux/cramfs_fs.h.)
+use Rattle.std.specs.Prelude.{◌≡◌, ℕ, List, ◌∷◌, reverse, take, drop, Some}
+use Rattle.record_forest.specs.Members.{Has}
+use Rattle.rom_tree.specs.Tree.{Node, places_of}
+use Rattle.romfs_format.specs.Record.{before_zero}
+use Rattle.manifest.specs.declared.line.Line.{Line}
+use Rattle.manifest.specs.Lines.{ManifestLines, filed}
+use Rattle.manifest.specs.Paths.{names_of}
+use Rattle.manifest_tree.specs.Shape.{node_under}
+use Rattle.layout_terms.specs.Placement.{IsRun}
+use Rattle.manifest_layout.specs.Format.{Format, romfs, cramfs}
+
+-- Of each line l of the manifest that leads to a regular file, as `file`, `same` and `hard` lines do, and the `file` line
+-- o whose contents that file has: the node at the path of l has its bytes in one run of the image, from a multiple of the
+-- ALIGN of o on.
+abbrev pub IsPlaced : Node → ManifestLines → Type 0
+IsPlaced t m =
+    (l o : Line) (n : List ℕ) (ns : List (List ℕ)) (x : Node) → Has (λ k. k ≡ l) m.lines
+    → filed (reverse m.lines) l.path ≡ Some o → names_of l.path ≡ Some (n ∷ ns) → node_under (n ∷ ns) t ≡ Some x
+    → IsRun o.align (places_of x)
+
+-- the volume's name in the bytes: what stands before the first zero at 16 or, of cramfs, in the 16 bytes at 48
+abbrev pub HasVolume : Format → List ℕ → List ℕ → Type 0
+HasVolume romfs bytes name = before_zero (drop 16 bytes) ≡ name
+HasVolume (cramfs o) bytes name = before_zero (take 16 (drop 48 bytes)) ≡ name
