@@ -1,5 +1,5 @@
 -- Places that follow one another.
-use Rattle.std.proofs.Common.{◌≡◌, ℕ, zero, suc, ◌+◌, ◌-◌, ◌<◌, ◌≤◌, true, false, List, [], ◌∷◌, length, get_or, take, drop, map, refl, sym, ap, ◌∙◌, subst, rules, arith, length-take, length-drop, ◌==◌, eq-eqb, nat_lt, tests, add-zero, min, Option, Some, None, IsSome, Ok, Err}
+use Rattle.std.proofs.Common.{◌≡◌, ℕ, zero, suc, ◌+◌, ◌-◌, ◌<◌, ◌≤◌, true, false, List, [], ◌∷◌, length, get_or, take, drop, map, refl, sym, ap, ◌∙◌, subst, rules, arith, length-take, length-drop, ◌==◌, eq-eqb, nat_lt, tests, add-zero, min, Option, Some, Ok, Err}
 use Rattle.std.specs.Prelude.{slice_index}
 use Rattle.std.proofs.lemmas.Bool.{false_from_ne_true, eqb-true}
 use Rattle.std.proofs.lemmas.List.{get_or-take, get_or-drop}

@@ -4,3 +4,6 @@ pub mod Standing
 pub mod Tables
 pub mod Sessions
 pub mod Mounting
+mod OneSession
+mod OneCall
+mod OneMount

@@ -3,7 +3,8 @@ use Rattle.std.proofs.Common.{◌≡◌, ℕ, zero, suc, ◌<◌, Bool, true, fa
 use Rattle.std.specs.Prelude.{◌||◌, option_map}
 use Rattle.std.proofs.lemmas.Bool.{false≢true}
 use Rattle.rom_tree.specs.Tree.{Node, is_directory, is_regular}
-use Rattle.rom_tree.specs.Image.{Image, image_node}
+use Rattle.rom_tree.specs.Image.{Image, HasNode, image_node}
+use Rattle.rom_tree.proofs.Named.{has_node}
 use Rattle.path_walk.specs.declared.mount.Mount.{Mount}
 use Rattle.path_walk.specs.Graft.{MountedNode, node_in, bytes_in}
 use Rattle.path_walk.proofs.GraftNodes.{node_below, map_node, map_bytes, map_below}
@@ -118,6 +119,10 @@ module _ {F : Type 0} where
   -- what is open has a place in the view
   pub has_place : (v : View F) (s : OpenNode) (o : Open F) → stands v s ≡ Some o → HasPlace v s.image
   has_place v s o h = let k : IsOpen v s o = is_open v s o h in (s.node.0, o.place, k.place)
+
+-- an open node is one of its image
+pub node_asks : (m : Image) (s : OpenNode) → (o : Open Node) × (stands (image_view m) s ≡ Some o) → HasNode m s.node.0
+node_asks m s h = has_node m s.node.0 h.0.place (is_open (image_view m) s h.0 h.1).place
 
 -- the images of a slice
 

@@ -1,5 +1,5 @@
 -- What is lent of a file: bytes of the image itself, whose places follow one another. (This project's own.)
-use Rattle.std.specs.Prelude.{◌≡◌, ℕ, suc, ◌+◌, ◌==◌, ◌≤◌, ◌<◌, ◌^◌, List, [], ◌∷◌, length, take, drop, map, slice_index, if◌then◌else◌}
+use Rattle.std.specs.Prelude.{ℕ, suc, ◌==◌, List, [], ◌∷◌, take, drop, map, slice_index, if◌then◌else◌}
 use Rattle.rom_tree.specs.Tree.{Node, places_of}
 use Rattle.open_files.specs.Calls.{Lent}
 

@@ -5,3 +5,5 @@ pub mod Machine
 pub mod Slots
 pub mod Sessions
 pub mod Space
+pub mod Seen
+pub mod SeenSpace

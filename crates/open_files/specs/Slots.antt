@@ -9,6 +9,7 @@ use Rattle.path_walk.specs.Resolution.{Namespace, tree_namespace}
 use Rattle.path_walk.specs.Graft.{MountedNode, graft, node_in}
 use Rattle.open_files.specs.declared.error.CallError.{CallError}
 use Rattle.open_files.specs.declared.slot.OpenNode.{OpenNode}
+use Rattle.open_files.specs.declared.slot.Slots.{Slots}
 use Rattle.open_files.specs.Calls.{Calls, Of, Lent, Named}
 use Rattle.open_files.specs.Lending.{lent_of}
 use Rattle.open_files.specs.Machine.{Open, Table, open_at, Outcome, named, calls_over}
@@ -123,6 +124,16 @@ module _ {F : Type 0} where
   abbrev pub LeadsOn : View F → Table F → ℕ → ℕ → ℕ → Type 0
   LeadsOn v t fd i cursor =
       (o : Open F) → open_at t fd ≡ Some o → v.index i (ino_of (v.names.node o.place)) cursor ≡ Some o.position
+
+-- the same of one image: what its slots stand for, and that each that is taken stands for something
+abbrev pub table_in : {n : ℕ} → Image → Slots n → Table Node
+table_in m s = table_of (image_view m) s.slots
+
+abbrev pub AreSound : {n : ℕ} → Image → Slots n → Type 0
+AreSound m s = are_sound (image_view m) s.slots ≡ true
+
+abbrev pub LeadsIn : {n : ℕ} → Image → Slots n → ℕ → ℕ → Type 0
+LeadsIn m s fd cursor = LeadsOn (image_view m) (table_in m s) fd 0 cursor
 
 -- what the code gives, read as replies: bytes, an entry, and what comes with the number of its image
 abbrev pub lent_by : Piece → Lent

@@ -15,6 +15,7 @@
 mod calls;
 mod copied;
 mod error;
+mod file_calls;
 mod files;
 mod images;
 mod lent;
@@ -23,6 +24,7 @@ pub mod one_image;
 pub mod opened;
 mod slot;
 mod space;
+mod space_calls;
 
 pub use error::CallError;
 pub use files::Files;

@@ -1,10 +1,10 @@
 //! The calls on one image and on what is open in it, each over references to the two. So code that
 //! is generic over the image can make them, whatever the size of the image's type.
-ghost use Rattle.std.specs.Prelude.{◌≡◌, ◌≤◌, ℕ, true, length, take, drop, Option, Some, None, Ok, Err, MatchResult, MatchOption, option_map};
+ghost use Rattle.std.specs.Prelude.{◌≡◌, ◌≤◌, ℕ, length, take, drop, Option, Some, None, Ok, Err, MatchResult, MatchOption, option_map};
 ghost use Rattle.rom_tree.specs.Tree.{Node, levels};
 ghost use Rattle.open_files.specs.Calls.{Of, Named, answer, give, viewed};
 ghost use Rattle.open_files.specs.Machine.{Table, image_calls};
-ghost use Rattle.open_files.specs.Slots.{image_view, are_sound, table_of, unlabelled, lent_by, named_by, LeadsOn};
+ghost use Rattle.open_files.specs.Slots.{table_in, AreSound, LeadsIn, unlabelled, lent_by, named_by};
 
 use crate::calls;
 use crate::error::CallError;
@@ -93,12 +93,12 @@ pub fn open<'a, T: TreeImage<'a>, const N: usize>(
 ) -> Result<Fd, CallError>
     requires deep { levels (T.image image.old).tree ≤ 65 }
     requires narrow { N ≤ 65536 }
-    requires sound { are_sound (image_view (T.image image.old)) slots.old.slots ≡ true }
+    requires sound { AreSound (T.image image.old) slots.old }
     ensures reply { (image_calls N (T.image image.old)).open_path
-        (table_of (image_view (T.image image.old)) slots.old.slots) path.now
+        (table_in (T.image image.old) slots.old) path.now
         ≡ answer (viewed (λ d. d.0) result)
-        (table_of (image_view (T.image image.old)) slots.new.slots) }
-    ensures sound { are_sound (image_view (T.image image.old)) slots.new.slots ≡ true }
+        (table_in (T.image image.old) slots.new) }
+    ensures sound { AreSound (T.image image.old) slots.new }
     ensures stays { T.image image.new ≡ T.image image.old }
 {
     let node = walk(image, path, true)?;
@@ -115,11 +115,11 @@ pub fn fstat<'a, T: TreeImage<'a>, const N: usize>(
     slots: &Slots<N>,
     fd: Fd,
 ) -> Result<Stat, CallError>
-    requires { are_sound (image_view (T.image image.now)) slots.now.slots ≡ true }
+    requires { AreSound (T.image image.now) slots.now }
     ensures { (image_calls N (T.image image.now)).fstat
-        (table_of (image_view (T.image image.now)) slots.now.slots) fd.0
+        (table_in (T.image image.now) slots.now) fd.0
         ≡ answer (viewed (unlabelled (λ s. s)) result)
-        (table_of (image_view (T.image image.now)) slots.now.slots) }
+        (table_in (T.image image.now) slots.now) }
 {
     let (_, stat) = calls::fstat(&One { image }, slots, fd)?;
     Ok(stat)
@@ -138,14 +138,14 @@ pub fn read<'a, T: TreeImage<'a>, const N: usize>(
     fd: Fd,
     buf: &mut [u8],
 ) -> Result<usize, CallError>
-    requires { are_sound (image_view (T.image image.now)) slots.old.slots ≡ true }
+    requires { AreSound (T.image image.now) slots.old }
     ensures reply { (image_calls N (T.image image.now)).read_bytes
-        (table_of (image_view (T.image image.now)) slots.old.slots) fd.0 (length buf.old)
+        (table_in (T.image image.now) slots.old) fd.0 (length buf.old)
         ≡ answer (viewed (λ n. take n buf.new) result)
-        (table_of (image_view (T.image image.now)) slots.new.slots) }
+        (table_in (T.image image.now) slots.new) }
     ensures rest { MatchResult result (λ n. drop n buf.new ≡ drop n buf.old)
         (λ e. buf.new ≡ buf.old) }
-    ensures sound { are_sound (image_view (T.image image.now)) slots.new.slots ≡ true }
+    ensures sound { AreSound (T.image image.now) slots.new }
 {
     calls::read(&One { image }, slots, fd, buf)
 }
@@ -164,12 +164,12 @@ pub fn lend<'a, T: TreeImage<'a>, const N: usize>(
     fd: Fd,
     max: u64,
 ) -> Result<Piece<'a>, CallError>
-    requires { are_sound (image_view (T.image image.now)) slots.old.slots ≡ true }
+    requires { AreSound (T.image image.now) slots.old }
     ensures reply { (image_calls N (T.image image.now)).lend_piece
-        (table_of (image_view (T.image image.now)) slots.old.slots) fd.0 max
+        (table_in (T.image image.now) slots.old) fd.0 max
         ≡ answer (viewed (unlabelled lent_by) result)
-        (table_of (image_view (T.image image.now)) slots.new.slots) }
-    ensures sound { are_sound (image_view (T.image image.now)) slots.new.slots ≡ true }
+        (table_in (T.image image.now) slots.new) }
+    ensures sound { AreSound (T.image image.now) slots.new }
 {
     let (_, piece) = calls::lend(&One { image }, slots, fd, max)?;
     Ok(piece)
@@ -189,11 +189,11 @@ pub fn map<'a, T: TreeImage<'a>, const N: usize>(
     off: u64,
     len: u64,
 ) -> Result<Piece<'a>, CallError>
-    requires { are_sound (image_view (T.image image.now)) slots.now.slots ≡ true }
+    requires { AreSound (T.image image.now) slots.now }
     ensures { (image_calls N (T.image image.now)).map_piece
-        (table_of (image_view (T.image image.now)) slots.now.slots) fd.0 off len
+        (table_in (T.image image.now) slots.now) fd.0 off len
         ≡ answer (viewed (unlabelled lent_by) result)
-        (table_of (image_view (T.image image.now)) slots.now.slots) }
+        (table_in (T.image image.now) slots.now) }
 {
     let (_, piece) = calls::map(&One { image }, slots, fd, off, len)?;
     Ok(piece)
@@ -210,11 +210,11 @@ pub fn seek<'a, T: TreeImage<'a>, const N: usize>(
     fd: Fd,
     position: u64,
 ) -> Result<(), CallError>
-    requires { are_sound (image_view (T.image image.now)) slots.old.slots ≡ true }
+    requires { AreSound (T.image image.now) slots.old }
     ensures reply { (image_calls N (T.image image.now)).seek_to
-        (table_of (image_view (T.image image.now)) slots.old.slots) fd.0 position
-        ≡ answer result (table_of (image_view (T.image image.now)) slots.new.slots) }
-    ensures sound { are_sound (image_view (T.image image.now)) slots.new.slots ≡ true }
+        (table_in (T.image image.now) slots.old) fd.0 position
+        ≡ answer result (table_in (T.image image.now) slots.new) }
+    ensures sound { AreSound (T.image image.now) slots.new }
 {
     calls::seek(&One { image }, slots, fd, position)
 }
@@ -230,16 +230,15 @@ pub fn readdir<'a, T: TreeImage<'a>, const N: usize>(
     slots: &mut Slots<N>,
     fd: Fd,
 ) -> Result<Option<Entry<'a>>, CallError>
-    requires { are_sound (image_view (T.image image.now)) slots.old.slots ≡ true }
+    requires { AreSound (T.image image.now) slots.old }
     ensures reply { (image_calls N (T.image image.now)).readdir
-        (table_of (image_view (T.image image.now)) slots.old.slots) fd.0
+        (table_in (T.image image.now) slots.old) fd.0
         ≡ answer (viewed (option_map {U = Of Named} (unlabelled named_by)) result)
-        (table_of (image_view (T.image image.now)) slots.new.slots) }
+        (table_in (T.image image.now) slots.new) }
     ensures cursor { MatchResult result (λ r. MatchOption r (Unit {0})
-        (λ e. LeadsOn (image_view (T.image image.now))
-        (table_of (image_view (T.image image.now)) slots.new.slots) fd.0 0 e.cursor.0))
+        (λ e. LeadsIn (T.image image.now) slots.new fd.0 e.cursor.0))
         (λ e. Unit {0}) }
-    ensures sound { are_sound (image_view (T.image image.now)) slots.new.slots ≡ true }
+    ensures sound { AreSound (T.image image.now) slots.new }
 {
     match calls::readdir(&One { image }, slots, fd)? {
         None => Ok(None),
@@ -257,11 +256,11 @@ pub fn rewind<'a, T: TreeImage<'a>, const N: usize>(
     slots: &mut Slots<N>,
     fd: Fd,
 ) -> Result<(), CallError>
-    requires { are_sound (image_view (T.image image.now)) slots.old.slots ≡ true }
+    requires { AreSound (T.image image.now) slots.old }
     ensures reply { (image_calls N (T.image image.now)).rewind
-        (table_of (image_view (T.image image.now)) slots.old.slots) fd.0
-        ≡ answer result (table_of (image_view (T.image image.now)) slots.new.slots) }
-    ensures sound { are_sound (image_view (T.image image.now)) slots.new.slots ≡ true }
+        (table_in (T.image image.now) slots.old) fd.0
+        ≡ answer result (table_in (T.image image.now) slots.new) }
+    ensures sound { AreSound (T.image image.now) slots.new }
 {
     calls::rewind(&One { image }, slots, fd)
 }
@@ -276,11 +275,11 @@ pub fn close<'a, T: TreeImage<'a>, const N: usize>(
     slots: &mut Slots<N>,
     fd: Fd,
 ) -> Result<(), CallError>
-    requires { are_sound (image_view (T.image image.now)) slots.old.slots ≡ true }
+    requires { AreSound (T.image image.now) slots.old }
     ensures reply { (image_calls N (T.image image.now)).close
-        (table_of (image_view (T.image image.now)) slots.old.slots) fd.0
-        ≡ answer result (table_of (image_view (T.image image.now)) slots.new.slots) }
-    ensures sound { are_sound (image_view (T.image image.now)) slots.new.slots ≡ true }
+        (table_in (T.image image.now) slots.old) fd.0
+        ≡ answer result (table_in (T.image image.now) slots.new) }
+    ensures sound { AreSound (T.image image.now) slots.new }
 {
     calls::close(&One { image }, slots, fd)
 }
@@ -288,8 +287,8 @@ pub fn close<'a, T: TreeImage<'a>, const N: usize>(
 /// Closes all that is open.
 pub fn close_all<'a, T: TreeImage<'a>, const N: usize>(image: &T, slots: &mut Slots<N>)
     ensures reply { (t : Table Node) → (image_calls N (T.image image.now)).close_all t
-        ≡ give tt (table_of (image_view (T.image image.now)) slots.new.slots) }
-    ensures sound { are_sound (image_view (T.image image.now)) slots.new.slots ≡ true }
+        ≡ give tt (table_in (T.image image.now) slots.new) }
+    ensures sound { AreSound (T.image image.now) slots.new }
 {
     *slots = Slots::new();
 }

@@ -2,7 +2,7 @@
 ghost use Rattle.std.specs.Prelude.{◌≡◌, ◌<◌, ℕ, MatchOption, MatchResult, Option, Some, None, true, slice_index_or, slice_set, position, is_none, replicate};
 ghost use Rattle.rom_tree.specs.Image.{Image};
 ghost use Rattle.open_files.specs.Machine.{no_files};
-ghost use Rattle.open_files.specs.Slots.{image_view, are_sound, table_of};
+ghost use Rattle.open_files.specs.Slots.{table_in, AreSound};
 ghost use Rattle.open_files.specs.declared.error.CallError.TheVariants.{Ebadf};
 
 use crate::error::CallError;
@@ -31,8 +31,8 @@ impl<const N: usize> Slots<N> {
     /// Nothing is open.
     pub fn new() -> Self
         ensures blank { result.slots ≡ replicate N None }
-        ensures empty { (m : Image) → table_of (image_view m) result.slots ≡ no_files N }
-        ensures sound { (m : Image) → are_sound (image_view m) result.slots ≡ true }
+        ensures empty { (m : Image) → table_in m result ≡ no_files N }
+        ensures sound { (m : Image) → AreSound m result }
     {
         Slots { slots: [None; N] }
     }

@@ -1,84 +1,37 @@
-use Rattle.std.proofs.Common.{◌≡◌, ℕ, List, Option, Some, Result, Ok, Err, refl, sym, ap, ◌∙◌}
-use Rattle.rom_tree.specs.declared.types.Piece.{Piece}
-use Rattle.rom_tree.specs.Tree.{Node}
-use Rattle.rom_tree.specs.Image.{Image}
-use Rattle.open_files.specs.declared.error.CallError.{CallError}
-use Rattle.open_files.specs.declared.slot.OpenNode.{OpenNode}
+use Rattle.std.proofs.Common.{refl, ℕ, Ok, ap, sym, ◌∙◌}
 use Rattle.open_files.specs.Calls.{Of, Lent, answer, viewed}
-use Rattle.open_files.specs.Machine.{Outcome, lend_on}
-use Rattle.open_files.specs.Slots.{View, IsImage, image_view, stands, table_of, labelled, lent_by}
-use Rattle.open_files.proofs.Standing.{in_image, stands_in_image, has_place, moves_in_view}
-use Rattle.open_files.proofs.Tables.{HasOpen, has_open, refused, call_none, call_refused, call_moves, moves_sound}
+use Rattle.open_files.specs.Machine.{lend_on}
+use Rattle.open_files.specs.Slots.{labelled, lent_by, table_of}
+use Rattle.open_files.proofs.OneCall.{nothing_open, image_asks, call_asks, refuses, gives, gives_sound, same_image}
 use Rattle.open_files.proofs.calls.lend.Goals as goal
 
 pub returns-in_err-opened-clause-reply : goal.returns-in_err-opened-clause-reply
 returns-in_err-opened-clause-reply g c =
-    let v : View g.I.Served.Place = g.I.Served.view c.args.images.now in
-    let slots : List (Option OpenNode) = c.args.slots.now.slots in
-    let f : Option ℕ → List ℕ → Node → ℕ → Outcome (Of Lent) = λ i b x p. lend_on i b c.args.max x p in
-    let h : Result (ℕ × Piece) CallError → Result (Of Lent) CallError = λ r. viewed (labelled v.label lent_by) r in
-    let r = refused c.from_residual.result c.in_err-opened.field-0.0 c.from_residual.ensures.1 in
-    call_none v slots (λ x p. f (v.number x) (v.names.bytes x) (v.names.node x) p) c.args.fd.0 (h c.from_residual.result) c.in_err-opened.ensures.slot.0 (ap h (r ∙ ap (λ (w : CallError). Err w) c.in_err-opened.ensures.slot.1))
+    let v = g.I.Served.view c.args.images.now in
+    nothing_open v c.args.slots.now.slots c.args.fd.0 (λ i b x p. lend_on i b c.args.max x p) (viewed (labelled v.label lent_by)) c.from_residual.result c.in_err-opened.field-0.0 (λ e. refl) c.in_err-opened.ensures.slot c.from_residual.ensures.1
 
 pub image-requires : goal.image-requires
-image-requires g c κs =
-    let v : View g.I.Served.Place = g.I.Served.view c.args.images.now in
-    let slots : List (Option OpenNode) = c.args.slots.now.slots in
-    let s : OpenNode = c.in_ok-opened.opened in
-    let k : HasOpen v slots c.args.fd.0 s = has_open v slots c.args.fd.0 s c.requires c.in_ok-opened.ensures.slot in
-    ((refl, tt), has_place v s k.what k.stands)
+image-requires g c κs = ((refl, tt), image_asks (g.I.Served.view c.args.images.now) c.args.slots.now.slots c.args.fd.0 c.in_ok-opened.opened c.requires c.in_ok-opened.ensures.slot)
 
 pub lend-requires : goal.lend-requires
 lend-requires g c κs =
-    let v : View g.I.Served.Place = g.I.Served.view c.args.images.now in
-    let slots : List (Option OpenNode) = c.args.slots.now.slots in
-    let s : OpenNode = c.in_ok-opened.opened in
-    let k : HasOpen v slots c.args.fd.0 s = has_open v slots c.args.fd.0 s c.requires c.in_ok-opened.ensures.slot in
-    let m : Image = g.T.Viewed.image c.image.result.now in
-    let i : IsImage v s.image m = c.image.ensures in
-    let t : stands (image_view m) s ≡ Some (in_image v k.what) = stands_in_image v s k.what m i k.stands in
-    ((refl, tt), (in_image v k.what, t))
+    ((refl, tt), call_asks (g.I.Served.view c.args.images.now) c.args.slots.now.slots c.args.fd.0 c.in_ok-opened.opened c.requires c.in_ok-opened.ensures.slot (g.T.Viewed.image c.image.result.now) c.image.ensures)
 
 pub returns-in_err-piece-clause-reply : goal.returns-in_err-piece-clause-reply
 returns-in_err-piece-clause-reply g c =
-    let v : View g.I.Served.Place = g.I.Served.view c.args.images.now in
-    let slots : List (Option OpenNode) = c.args.slots.now.slots in
-    let f : Option ℕ → List ℕ → Node → ℕ → Outcome (Of Lent) = λ i b x p. lend_on i b c.args.max x p in
-    let h : Result (ℕ × Piece) CallError → Result (Of Lent) CallError = λ r. viewed (labelled v.label lent_by) r in
-    let s : OpenNode = c.in_ok-opened.opened in
-    let k : HasOpen v slots c.args.fd.0 s = has_open v slots c.args.fd.0 s c.requires c.in_ok-opened.ensures.slot in
-    let m : Image = g.T.Viewed.image c.image.result.now in
-    let i : IsImage v s.image m = c.image.ensures in
-    let t : stands (image_view m) s ≡ Some (in_image v k.what) = stands_in_image v s k.what m i k.stands in
-    let e : CallError = c.in_err-piece.field-0.0 in
-    let w = moves_in_view f v s k.what m i k.stands c.lend.new.opened (Err e) (c.in_err-piece.ensures (in_image v k.what) (v.label s.image) t) in
-    let r = refused c.from_residual-in_err-piece.result e c.from_residual-in_err-piece.ensures.1 in
-    call_refused v slots (λ x p. f (v.number x) (v.names.bytes x) (v.names.node x) p) c.args.fd.0 s c.lend.new.opened k e w ∙ ap (λ (z : Result (ℕ × Piece) CallError). answer (h z) (table_of v slots)) (sym r)
+    let v = g.I.Served.view c.args.images.now in
+    refuses v c.args.slots.now.slots c.args.fd.0 (λ i b x p. lend_on i b c.args.max x p) c.in_ok-opened.opened (g.T.Viewed.image c.image.result.now) c.requires c.in_ok-opened.ensures.slot c.image.ensures
+    (viewed (labelled v.label lent_by)) c.from_residual-in_err-piece.result c.in_err-piece.field-0.0 c.lend.new.opened (λ e. refl) (λ o t. c.in_err-piece.ensures o (v.label c.in_ok-opened.opened.image) t) c.from_residual-in_err-piece.ensures.1
 
 pub returns-clause-reply : goal.returns-clause-reply
 returns-clause-reply g c =
-    let v : View g.I.Served.Place = g.I.Served.view c.args.images.now in
-    let slots : List (Option OpenNode) = c.args.slots.now.slots in
-    let f : Option ℕ → List ℕ → Node → ℕ → Outcome (Of Lent) = λ i b x p. lend_on i b c.args.max x p in
-    let h : Result (ℕ × Piece) CallError → Result (Of Lent) CallError = λ r. viewed (labelled v.label lent_by) r in
-    let s : OpenNode = c.in_ok-opened.opened in
-    let k : HasOpen v slots c.args.fd.0 s = has_open v slots c.args.fd.0 s c.requires c.in_ok-opened.ensures.slot in
-    let m : Image = g.T.Viewed.image c.image.result.now in
-    let i : IsImage v s.image m = c.image.ensures in
-    let t : stands (image_view m) s ≡ Some (in_image v k.what) = stands_in_image v s k.what m i k.stands in
-    let w = moves_in_view f v s k.what m i k.stands c.lend.new.opened (Ok ((v.label s.image, lent_by c.in_ok-piece.piece))) (c.in_ok-piece.ensures (in_image v k.what) (v.label s.image) t) in
-    call_moves v slots (λ x p. f (v.number x) (v.names.bytes x) (v.names.node x) p) c.args.fd.0 c.set.new.self.slots s c.lend.new.opened k _ w c.set.ensures ∙ ap (λ (z : ℕ). answer {R = Of Lent} (Ok (v.label z, lent_by c.in_ok-piece.piece)) (table_of v c.set.new.self.slots)) (sym w.3)
+    let v = g.I.Served.view c.args.images.now in
+    gives v c.args.slots.now.slots c.args.fd.0 (λ i b x p. lend_on i b c.args.max x p) c.in_ok-opened.opened (g.T.Viewed.image c.image.result.now) c.requires c.in_ok-opened.ensures.slot c.image.ensures
+    (v.label c.in_ok-opened.opened.image, lent_by c.in_ok-piece.piece) c.set.new.self.slots c.lend.new.opened (λ o t. c.in_ok-piece.ensures o (v.label c.in_ok-opened.opened.image) t) c.set.ensures
+    ∙ ap (λ (z : ℕ). answer {R = Of Lent} (Ok (v.label z, lent_by c.in_ok-piece.piece)) (table_of v c.set.new.self.slots)) (sym (same_image v c.args.slots.now.slots c.args.fd.0 (λ i b x p. lend_on i b c.args.max x p) c.in_ok-opened.opened (g.T.Viewed.image c.image.result.now) c.requires c.in_ok-opened.ensures.slot c.image.ensures c.lend.new.opened (v.label c.in_ok-opened.opened.image, lent_by c.in_ok-piece.piece) (λ o t. c.in_ok-piece.ensures o (v.label c.in_ok-opened.opened.image) t)))
 
 pub returns-clause-sound : goal.returns-clause-sound
 returns-clause-sound g c =
-    let v : View g.I.Served.Place = g.I.Served.view c.args.images.now in
-    let slots : List (Option OpenNode) = c.args.slots.now.slots in
-    let f : Option ℕ → List ℕ → Node → ℕ → Outcome (Of Lent) = λ i b x p. lend_on i b c.args.max x p in
-    let h : Result (ℕ × Piece) CallError → Result (Of Lent) CallError = λ r. viewed (labelled v.label lent_by) r in
-    let s : OpenNode = c.in_ok-opened.opened in
-    let k : HasOpen v slots c.args.fd.0 s = has_open v slots c.args.fd.0 s c.requires c.in_ok-opened.ensures.slot in
-    let m : Image = g.T.Viewed.image c.image.result.now in
-    let i : IsImage v s.image m = c.image.ensures in
-    let t : stands (image_view m) s ≡ Some (in_image v k.what) = stands_in_image v s k.what m i k.stands in
-    let w = moves_in_view f v s k.what m i k.stands c.lend.new.opened (Ok ((v.label s.image, lent_by c.in_ok-piece.piece))) (c.in_ok-piece.ensures (in_image v k.what) (v.label s.image) t) in
-    moves_sound v slots (λ x p. f (v.number x) (v.names.bytes x) (v.names.node x) p) c.args.fd.0 c.set.new.self.slots s c.lend.new.opened k _ w c.set.ensures c.requires
+    let v = g.I.Served.view c.args.images.now in
+    gives_sound v c.args.slots.now.slots c.args.fd.0 (λ i b x p. lend_on i b c.args.max x p) c.in_ok-opened.opened (g.T.Viewed.image c.image.result.now) c.requires c.in_ok-opened.ensures.slot c.image.ensures
+    (v.label c.in_ok-opened.opened.image, lent_by c.in_ok-piece.piece) c.set.new.self.slots c.lend.new.opened (λ o t. c.in_ok-piece.ensures o (v.label c.in_ok-opened.opened.image) t) c.set.ensures

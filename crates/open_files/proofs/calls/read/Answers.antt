@@ -1,83 +1,36 @@
-use Rattle.std.proofs.Common.{◌≡◌, ℕ, length, List, Option, Some, Result, Ok, Err, refl, sym, ap, ◌∙◌, take}
-use Rattle.rom_tree.specs.Tree.{Node}
-use Rattle.rom_tree.specs.Image.{Image}
-use Rattle.open_files.specs.declared.error.CallError.{CallError}
-use Rattle.open_files.specs.declared.slot.OpenNode.{OpenNode}
-use Rattle.open_files.specs.Calls.{answer, viewed}
-use Rattle.open_files.specs.Machine.{Outcome, read_on}
-use Rattle.open_files.specs.Slots.{View, IsImage, image_view, stands, table_of}
-use Rattle.open_files.proofs.Standing.{in_image, stands_in_image, has_place, moves_in_view}
-use Rattle.open_files.proofs.Tables.{HasOpen, has_open, refused, call_none, call_refused, call_moves, moves_sound}
+use Rattle.std.proofs.Common.{refl}
+use Rattle.std.specs.Prelude.{take, length}
+use Rattle.open_files.specs.Calls.{viewed}
+use Rattle.open_files.specs.Machine.{read_on}
+use Rattle.open_files.proofs.OneCall.{nothing_open, image_asks, call_asks, refuses, gives, gives_sound}
 use Rattle.open_files.proofs.calls.read.Goals as goal
 
 pub returns-in_err-opened-clause-reply : goal.returns-in_err-opened-clause-reply
 returns-in_err-opened-clause-reply g c =
-    let v : View g.I.Served.Place = g.I.Served.view c.args.images.now in
-    let slots : List (Option OpenNode) = c.args.slots.now.slots in
-    let f : Option ℕ → List ℕ → Node → ℕ → Outcome (List ℕ) = λ i b x p. read_on b (length c.args.buf.now) x p in
-    let h : Result (ℕ) CallError → Result (List ℕ) CallError = λ r. viewed (λ n. take n c.args.buf.now) r in
-    let r = refused c.from_residual.result c.in_err-opened.field-0.0 c.from_residual.ensures.1 in
-    call_none v slots (λ x p. f (v.number x) (v.names.bytes x) (v.names.node x) p) c.args.fd.0 (h c.from_residual.result) c.in_err-opened.ensures.slot.0 (ap h (r ∙ ap (λ (w : CallError). Err w) c.in_err-opened.ensures.slot.1))
+    let v = g.I.Served.view c.args.images.now in
+    nothing_open v c.args.slots.now.slots c.args.fd.0 (λ i b x p. read_on b (length c.args.buf.now) x p) (viewed (λ n. take n c.args.buf.now)) c.from_residual.result c.in_err-opened.field-0.0 (λ e. refl) c.in_err-opened.ensures.slot c.from_residual.ensures.1
 
 pub image-requires : goal.image-requires
-image-requires g c κs =
-    let v : View g.I.Served.Place = g.I.Served.view c.args.images.now in
-    let slots : List (Option OpenNode) = c.args.slots.now.slots in
-    let s : OpenNode = c.in_ok-opened.opened in
-    let k : HasOpen v slots c.args.fd.0 s = has_open v slots c.args.fd.0 s c.requires c.in_ok-opened.ensures.slot in
-    ((refl, tt), has_place v s k.what k.stands)
+image-requires g c κs = ((refl, tt), image_asks (g.I.Served.view c.args.images.now) c.args.slots.now.slots c.args.fd.0 c.in_ok-opened.opened c.requires c.in_ok-opened.ensures.slot)
 
 pub read-requires : goal.read-requires
 read-requires g c κs =
-    let v : View g.I.Served.Place = g.I.Served.view c.args.images.now in
-    let slots : List (Option OpenNode) = c.args.slots.now.slots in
-    let s : OpenNode = c.in_ok-opened.opened in
-    let k : HasOpen v slots c.args.fd.0 s = has_open v slots c.args.fd.0 s c.requires c.in_ok-opened.ensures.slot in
-    let m : Image = g.T.Viewed.image c.image.result.now in
-    let i : IsImage v s.image m = c.image.ensures in
-    let t : stands (image_view m) s ≡ Some (in_image v k.what) = stands_in_image v s k.what m i k.stands in
-    ((refl, tt), (in_image v k.what, t))
+    ((refl, tt), call_asks (g.I.Served.view c.args.images.now) c.args.slots.now.slots c.args.fd.0 c.in_ok-opened.opened c.requires c.in_ok-opened.ensures.slot (g.T.Viewed.image c.image.result.now) c.image.ensures)
 
 pub returns-in_err-count-clause-reply : goal.returns-in_err-count-clause-reply
 returns-in_err-count-clause-reply g c =
-    let v : View g.I.Served.Place = g.I.Served.view c.args.images.now in
-    let slots : List (Option OpenNode) = c.args.slots.now.slots in
-    let f : Option ℕ → List ℕ → Node → ℕ → Outcome (List ℕ) = λ i b x p. read_on b (length c.args.buf.now) x p in
-    let h : Result (ℕ) CallError → Result (List ℕ) CallError = λ r. viewed (λ n. take n c.read.new.buf) r in
-    let s : OpenNode = c.in_ok-opened.opened in
-    let k : HasOpen v slots c.args.fd.0 s = has_open v slots c.args.fd.0 s c.requires c.in_ok-opened.ensures.slot in
-    let m : Image = g.T.Viewed.image c.image.result.now in
-    let i : IsImage v s.image m = c.image.ensures in
-    let t : stands (image_view m) s ≡ Some (in_image v k.what) = stands_in_image v s k.what m i k.stands in
-    let e : CallError = c.in_err-count.field-0.0 in
-    let w = moves_in_view f v s k.what m i k.stands c.read.new.opened (Err e) (c.in_err-count.ensures.moves (in_image v k.what) t) in
-    let r = refused c.from_residual-in_err-count.result e c.from_residual-in_err-count.ensures.1 in
-    call_refused v slots (λ x p. f (v.number x) (v.names.bytes x) (v.names.node x) p) c.args.fd.0 s c.read.new.opened k e w ∙ ap (λ (z : Result (ℕ) CallError). answer (h z) (table_of v slots)) (sym r)
+    let v = g.I.Served.view c.args.images.now in
+    refuses v c.args.slots.now.slots c.args.fd.0 (λ i b x p. read_on b (length c.args.buf.now) x p) c.in_ok-opened.opened (g.T.Viewed.image c.image.result.now) c.requires c.in_ok-opened.ensures.slot c.image.ensures
+    (viewed (λ n. take n c.read.new.buf)) c.from_residual-in_err-count.result c.in_err-count.field-0.0 c.read.new.opened (λ e. refl) (c.in_err-count.ensures.moves) c.from_residual-in_err-count.ensures.1
 
 pub returns-clause-reply : goal.returns-clause-reply
 returns-clause-reply g c =
-    let v : View g.I.Served.Place = g.I.Served.view c.args.images.now in
-    let slots : List (Option OpenNode) = c.args.slots.now.slots in
-    let f : Option ℕ → List ℕ → Node → ℕ → Outcome (List ℕ) = λ i b x p. read_on b (length c.args.buf.now) x p in
-    let h : Result (ℕ) CallError → Result (List ℕ) CallError = λ r. viewed (λ n. take n c.read.new.buf) r in
-    let s : OpenNode = c.in_ok-opened.opened in
-    let k : HasOpen v slots c.args.fd.0 s = has_open v slots c.args.fd.0 s c.requires c.in_ok-opened.ensures.slot in
-    let m : Image = g.T.Viewed.image c.image.result.now in
-    let i : IsImage v s.image m = c.image.ensures in
-    let t : stands (image_view m) s ≡ Some (in_image v k.what) = stands_in_image v s k.what m i k.stands in
-    let w = moves_in_view f v s k.what m i k.stands c.read.new.opened (Ok (take c.in_ok-count.count c.read.new.buf)) (c.in_ok-count.ensures.moves (in_image v k.what) t) in
-    call_moves v slots (λ x p. f (v.number x) (v.names.bytes x) (v.names.node x) p) c.args.fd.0 c.set.new.self.slots s c.read.new.opened k _ w c.set.ensures
+    let v = g.I.Served.view c.args.images.now in
+    gives v c.args.slots.now.slots c.args.fd.0 (λ i b x p. read_on b (length c.args.buf.now) x p) c.in_ok-opened.opened (g.T.Viewed.image c.image.result.now) c.requires c.in_ok-opened.ensures.slot c.image.ensures
+    (take c.in_ok-count.count c.read.new.buf) c.set.new.self.slots c.read.new.opened (c.in_ok-count.ensures.moves) c.set.ensures
 
 pub returns-clause-sound : goal.returns-clause-sound
 returns-clause-sound g c =
-    let v : View g.I.Served.Place = g.I.Served.view c.args.images.now in
-    let slots : List (Option OpenNode) = c.args.slots.now.slots in
-    let f : Option ℕ → List ℕ → Node → ℕ → Outcome (List ℕ) = λ i b x p. read_on b (length c.args.buf.now) x p in
-    let h : Result (ℕ) CallError → Result (List ℕ) CallError = λ r. viewed (λ n. take n c.read.new.buf) r in
-    let s : OpenNode = c.in_ok-opened.opened in
-    let k : HasOpen v slots c.args.fd.0 s = has_open v slots c.args.fd.0 s c.requires c.in_ok-opened.ensures.slot in
-    let m : Image = g.T.Viewed.image c.image.result.now in
-    let i : IsImage v s.image m = c.image.ensures in
-    let t : stands (image_view m) s ≡ Some (in_image v k.what) = stands_in_image v s k.what m i k.stands in
-    let w = moves_in_view f v s k.what m i k.stands c.read.new.opened (Ok (take c.in_ok-count.count c.read.new.buf)) (c.in_ok-count.ensures.moves (in_image v k.what) t) in
-    moves_sound v slots (λ x p. f (v.number x) (v.names.bytes x) (v.names.node x) p) c.args.fd.0 c.set.new.self.slots s c.read.new.opened k _ w c.set.ensures c.requires
+    let v = g.I.Served.view c.args.images.now in
+    gives_sound v c.args.slots.now.slots c.args.fd.0 (λ i b x p. read_on b (length c.args.buf.now) x p) c.in_ok-opened.opened (g.T.Viewed.image c.image.result.now) c.requires c.in_ok-opened.ensures.slot c.image.ensures
+    (take c.in_ok-count.count c.read.new.buf) c.set.new.self.slots c.read.new.opened (c.in_ok-count.ensures.moves) c.set.ensures

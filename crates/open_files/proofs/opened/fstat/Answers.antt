@@ -1,20 +1,13 @@
 use Rattle.std.proofs.Common.{refl}
 use Rattle.rom_tree.specs.Tree.{Node}
 use Rattle.rom_tree.specs.Image.{Image}
-use Rattle.rom_tree.proofs.Named.{has_node}
 use Rattle.open_files.specs.declared.slot.OpenNode.{OpenNode}
-use Rattle.open_files.specs.Machine.{Open}
 use Rattle.open_files.specs.Slots.{image_view}
-use Rattle.open_files.proofs.Standing.{IsOpen, is_open}
+use Rattle.open_files.proofs.Standing.{node_asks, IsOpen, is_open}
 use Rattle.open_files.proofs.opened.fstat.Goals as goal
 
 pub stat-requires : goal.stat-requires
-stat-requires g c κs =
-    let m : Image = g.T.Viewed.image c.args.image.now in
-    let s : OpenNode = c.args.opened in
-    let o : Open Node = c.requires.0 in
-    let i : IsOpen (image_view m) s o = is_open (image_view m) s o c.requires.1 in
-    ((refl, tt), has_node m s.node.0 o.place i.place)
+stat-requires g c κs = ((refl, tt), node_asks (g.T.Viewed.image c.args.image.now) c.args.opened c.requires)
 
 pub returns : goal.returns
 returns g c = λ o e.

@@ -1,7 +1,6 @@
 use Rattle.std.proofs.Common.{◌≡◌, ℕ, ◌+◌, ◌≤◌, List, Bool, false, refl, sym, ap, ◌∙◌, arith, rules, length, take, drop, Ok}
 use Rattle.rom_tree.specs.Tree.{Node, is_directory, places_of}
 use Rattle.rom_tree.specs.Image.{Image}
-use Rattle.rom_tree.proofs.Named.{has_node}
 use Rattle.open_files.specs.declared.slot.OpenNode.{OpenNode}
 use Rattle.open_files.specs.Calls.{Of, Lent}
 use Rattle.open_files.specs.Lending.{lent, lent_of, consecutive, next_places}
@@ -9,16 +8,11 @@ use Rattle.rom_tree.specs.Runs.{IsLongest}
 use Rattle.open_files.specs.Machine.{Open, Outcome, file_only}
 use Rattle.open_files.specs.Slots.{image_view}
 use Rattle.open_files.proofs.Following.{front_length, front_lent, longest_end}
-use Rattle.open_files.proofs.Standing.{IsOpen, is_open, open_file}
+use Rattle.open_files.proofs.Standing.{node_asks, IsOpen, is_open, open_file}
 use Rattle.open_files.proofs.opened.lend.Goals as goal
 
 pub is_directory_at-requires : goal.is_directory_at-requires
-is_directory_at-requires g c κs =
-    let m : Image = g.T.Viewed.image c.args.image.now in
-    let s : OpenNode = c.args.opened.now in
-    let o : Open Node = c.requires.0 in
-    let i : IsOpen (image_view m) s o = is_open (image_view m) s o c.requires.1 in
-    ((refl, tt), has_node m s.node.0 o.place i.place)
+is_directory_at-requires g c κs = ((refl, tt), node_asks (g.T.Viewed.image c.args.image.now) c.args.opened.now c.requires)
 
 pub returns-then-is_directory_at : goal.returns-then-is_directory_at
 returns-then-is_directory_at g c = λ o j e.
@@ -29,12 +23,7 @@ returns-then-is_directory_at g c = λ o j e.
     (ap (λ (v : Bool). file_only {R = Of Lent} v (Ok ((j, lent m.bytes (consecutive (next_places x o.position c.args.max))), o.position + length (consecutive (next_places x o.position c.args.max))))) (sym (c.is_directory_at.ensures x i.place) ∙ c.if-is_directory_at.true), refl)
 
 pub longest_run-place-requires : goal.longest_run-place-requires
-longest_run-place-requires g c κs =
-    let m : Image = g.T.Viewed.image c.args.image.now in
-    let s : OpenNode = c.args.opened.now in
-    let o : Open Node = c.requires.0 in
-    let i : IsOpen (image_view m) s o = is_open (image_view m) s o c.requires.1 in
-    ((refl, tt), has_node m s.node.0 o.place i.place)
+longest_run-place-requires g c κs = ((refl, tt), node_asks (g.T.Viewed.image c.args.image.now) c.args.opened.now c.requires)
 
 pub overflow_add-opened : goal.overflow_add-opened
 overflow_add-opened g c =

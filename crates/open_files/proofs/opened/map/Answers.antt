@@ -2,7 +2,6 @@ use Rattle.std.proofs.Common.{◌≡◌, ℕ, ◌+◌, ◌<◌, ◌≤◌, List,
 use Rattle.rom_tree.specs.declared.types.Stat.{Stat}
 use Rattle.rom_tree.specs.Tree.{Node, is_directory, places_of}
 use Rattle.rom_tree.specs.Image.{Image}
-use Rattle.rom_tree.proofs.Named.{has_node}
 use Rattle.open_files.specs.declared.slot.OpenNode.{OpenNode}
 use Rattle.open_files.specs.Calls.{Of, Lent}
 use Rattle.open_files.specs.Lending.{lent_of}
@@ -10,32 +9,17 @@ use Rattle.rom_tree.specs.Runs.{IsLongest}
 use Rattle.open_files.specs.Machine.{Open, Outcome, file_only, map_within}
 use Rattle.open_files.specs.Slots.{image_view}
 use Rattle.open_files.proofs.Following.{longest_end, map_none, map_past, map_apart, map_whole}
-use Rattle.open_files.proofs.Standing.{IsOpen, is_open}
+use Rattle.open_files.proofs.Standing.{node_asks, IsOpen, is_open}
 use Rattle.open_files.proofs.opened.map.Goals as goal
 
 pub is_directory_at-requires : goal.is_directory_at-requires
-is_directory_at-requires g c κs =
-    let m : Image = g.T.Viewed.image c.args.image.now in
-    let s : OpenNode = c.args.opened in
-    let o : Open Node = c.requires.0 in
-    let i : IsOpen (image_view m) s o = is_open (image_view m) s o c.requires.1 in
-    ((refl, tt), has_node m s.node.0 o.place i.place)
+is_directory_at-requires g c κs = ((refl, tt), node_asks (g.T.Viewed.image c.args.image.now) c.args.opened c.requires)
 
 pub stat-requires : goal.stat-requires
-stat-requires g c κs =
-    let m : Image = g.T.Viewed.image c.args.image.now in
-    let s : OpenNode = c.args.opened in
-    let o : Open Node = c.requires.0 in
-    let i : IsOpen (image_view m) s o = is_open (image_view m) s o c.requires.1 in
-    ((refl, tt), has_node m s.node.0 o.place i.place)
+stat-requires g c κs = ((refl, tt), node_asks (g.T.Viewed.image c.args.image.now) c.args.opened c.requires)
 
 pub longest_run-place-requires : goal.longest_run-place-requires
-longest_run-place-requires g c κs =
-    let m : Image = g.T.Viewed.image c.args.image.now in
-    let s : OpenNode = c.args.opened in
-    let o : Open Node = c.requires.0 in
-    let i : IsOpen (image_view m) s o = is_open (image_view m) s o c.requires.1 in
-    ((refl, tt), has_node m s.node.0 o.place i.place)
+longest_run-place-requires g c κs = ((refl, tt), node_asks (g.T.Viewed.image c.args.image.now) c.args.opened c.requires)
 
 pub returns-then-is_directory_at : goal.returns-then-is_directory_at
 returns-then-is_directory_at g c = λ o j e.

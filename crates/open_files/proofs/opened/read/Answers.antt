@@ -1,30 +1,19 @@
 use Rattle.std.proofs.Common.{◌≡◌, ℕ, ◌+◌, List, Bool, false, refl, sym, ap, ◌∙◌, length, take, drop, Ok}
 use Rattle.rom_tree.specs.Tree.{Node, is_directory, places_of}
 use Rattle.rom_tree.specs.Image.{Image}
-use Rattle.rom_tree.proofs.Named.{has_node}
 use Rattle.open_files.specs.declared.slot.OpenNode.{OpenNode}
 use Rattle.open_files.specs.Lending.{bytes_of, next_places}
 use Rattle.open_files.specs.Machine.{Open, Outcome, file_only}
 use Rattle.open_files.specs.Slots.{image_view}
 use Rattle.open_files.proofs.Copies.{copied_front, copied_rest}
-use Rattle.open_files.proofs.Standing.{IsOpen, is_open, open_file}
+use Rattle.open_files.proofs.Standing.{node_asks, IsOpen, is_open, open_file}
 use Rattle.open_files.proofs.opened.read.Goals as goal
 
 pub is_directory_at-requires : goal.is_directory_at-requires
-is_directory_at-requires g c κs =
-    let m : Image = g.T.Viewed.image c.args.image.now in
-    let s : OpenNode = c.args.opened.now in
-    let o : Open Node = c.requires.0 in
-    let i : IsOpen (image_view m) s o = is_open (image_view m) s o c.requires.1 in
-    ((refl, tt), has_node m s.node.0 o.place i.place)
+is_directory_at-requires g c κs = ((refl, tt), node_asks (g.T.Viewed.image c.args.image.now) c.args.opened.now c.requires)
 
 pub copy_bytes-count-requires : goal.copy_bytes-count-requires
-copy_bytes-count-requires g c κs =
-    let m : Image = g.T.Viewed.image c.args.image.now in
-    let s : OpenNode = c.args.opened.now in
-    let o : Open Node = c.requires.0 in
-    let i : IsOpen (image_view m) s o = is_open (image_view m) s o c.requires.1 in
-    ((refl, tt), has_node m s.node.0 o.place i.place)
+copy_bytes-count-requires g c κs = ((refl, tt), node_asks (g.T.Viewed.image c.args.image.now) c.args.opened.now c.requires)
 
 pub returns-then-is_directory_at-clause-moves : goal.returns-then-is_directory_at-clause-moves
 returns-then-is_directory_at-clause-moves g c = λ o e.

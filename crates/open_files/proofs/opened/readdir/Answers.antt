@@ -1,21 +1,16 @@
 use Rattle.std.proofs.Common.{◌≡◌, ℕ, ◌+◌, Option, Some, Bool, true, refl, sym, ap, ◌∙◌, Ok}
 use Rattle.rom_tree.specs.Tree.{Node, is_directory, entries_of, entry_at}
 use Rattle.rom_tree.specs.Image.{Image, IsEntry}
-use Rattle.rom_tree.proofs.Named.{has_node, has_directory, some_is}
+use Rattle.rom_tree.proofs.Named.{has_directory, some_is}
 use Rattle.open_files.specs.declared.slot.OpenNode.{OpenNode}
 use Rattle.open_files.specs.Calls.{Of, Named}
 use Rattle.open_files.specs.Machine.{Open, Outcome, named, directory_only, next_entry}
 use Rattle.open_files.specs.Slots.{image_view}
-use Rattle.open_files.proofs.Standing.{IsOpen, is_open, open_directory}
+use Rattle.open_files.proofs.Standing.{node_asks, IsOpen, is_open, open_directory}
 use Rattle.open_files.proofs.opened.readdir.Goals as goal
 
 pub is_directory_at-requires : goal.is_directory_at-requires
-is_directory_at-requires g c κs =
-    let m : Image = g.T.Viewed.image c.args.image.now in
-    let s : OpenNode = c.args.opened.now in
-    let o : Open Node = c.requires.0 in
-    let i : IsOpen (image_view m) s o = is_open (image_view m) s o c.requires.1 in
-    ((refl, tt), has_node m s.node.0 o.place i.place)
+is_directory_at-requires g c κs = ((refl, tt), node_asks (g.T.Viewed.image c.args.image.now) c.args.opened.now c.requires)
 
 pub returns-then-not-is_directory_at-clause-moves : goal.returns-then-not-is_directory_at-clause-moves
 returns-then-not-is_directory_at-clause-moves g c = λ o j e.

@@ -1,20 +1,14 @@
 use Rattle.std.proofs.Common.{◌≡◌, Bool, true, refl, sym, ap, ◌∙◌, Ok}
 use Rattle.rom_tree.specs.Tree.{Node, is_directory}
 use Rattle.rom_tree.specs.Image.{Image}
-use Rattle.rom_tree.proofs.Named.{has_node}
 use Rattle.open_files.specs.declared.slot.OpenNode.{OpenNode}
-use Rattle.open_files.specs.Machine.{Open, directory_only}
+use Rattle.open_files.specs.Machine.{directory_only}
 use Rattle.open_files.specs.Slots.{image_view}
-use Rattle.open_files.proofs.Standing.{IsOpen, is_open, open_directory}
+use Rattle.open_files.proofs.Standing.{node_asks, IsOpen, is_open, open_directory}
 use Rattle.open_files.proofs.opened.rewind.Goals as goal
 
 pub is_directory_at-requires : goal.is_directory_at-requires
-is_directory_at-requires g c κs =
-    let m : Image = g.T.Viewed.image c.args.image.now in
-    let s : OpenNode = c.args.opened.now in
-    let o : Open Node = c.requires.0 in
-    let i : IsOpen (image_view m) s o = is_open (image_view m) s o c.requires.1 in
-    ((refl, tt), has_node m s.node.0 o.place i.place)
+is_directory_at-requires g c κs = ((refl, tt), node_asks (g.T.Viewed.image c.args.image.now) c.args.opened.now c.requires)
 
 pub returns-then-not-is_directory_at : goal.returns-then-not-is_directory_at
 returns-then-not-is_directory_at g c = λ o e.

@@ -1,53 +1,21 @@
-use Rattle.std.proofs.Common.{◌≡◌, ℕ, ◌<◌, List, Option, true, subst, arith, rules, length, get_or, map, take}
-use Rattle.rom_tree.specs.Image.{Image}
-use Rattle.path_walk.specs.declared.mount.Mount.{Mount}
-use Rattle.path_walk.specs.Graft.{MountedNode}
-use Rattle.open_files.specs.declared.slot.OpenNode.{OpenNode}
+use Rattle.std.proofs.Common.{rules}
+use Rattle.std.proofs.Common.{length}
+use Rattle.std.specs.Prelude.{take}
 use Rattle.open_files.specs.Calls.{viewed}
-use Rattle.open_files.specs.Slots.{View, graft_view, are_sound, calls_of}
-use Rattle.open_files.specs.Space.{slots_at}
-use Rattle.open_files.proofs.Sessions.{sound_at, slots_index, all_sound_set, own_sets}
+use Rattle.open_files.specs.Slots.{calls_of}
+use Rattle.open_files.proofs.OneSession.{view_of, slots_sound, still_sound, answers}
 use Rattle.open_files.proofs.space.Space.read.Goals as goal
 
 pub read-requires : goal.read-requires
 read-requires g c κs =
-    let f = g.T.Viewed.image in
-    let ms : List Image = map f c.args.self.now.images.items in
-    let us : List Mount = c.args.self.now.mounts.items in
-    let n : ℕ = g.row.N in
-    let k : ℕ = c.args.session in
-    let v : View MountedNode = graft_view ms us in
-    let ts = c.args.self.now.tables in
-    let l : k < length ts = (let e = c.args.self.now.sessions in omega (arith, e, c.requires.session)) in
-    let d = c.index-tables-session.result in
-    let q : slots_at n (map (λ t. t.slots) ts) k ≡ (get_or ts k d).slots = slots_index (λ t. t.slots) n ts k d l in
-    let P : List (Option OpenNode) → Type 0 = λ z. are_sound v z ≡ true in
-    let h : are_sound v (get_or ts k d).slots ≡ true = subst P q (sound_at n ms us (map (λ t. t.slots) ts) k c.args.self.now.sound) in
+    let h = slots_sound c.args.self.now c.args.session c.requires.session c.index-tables-session.result in
     let w = c.args.self.now.narrow in
     search rules
 
 pub invariant_of-self-clause-sound : goal.invariant_of-self-clause-sound
-invariant_of-self-clause-sound g c =
-    let f = g.T.Viewed.image in
-    let ms : List Image = map f c.args.self.now.images.items in
-    let us : List Mount = c.args.self.now.mounts.items in
-    let n : ℕ = g.row.N in
-    let k : ℕ = c.args.session in
-    let v : View MountedNode = graft_view ms us in
-    all_sound_set (λ t. t.slots) ms us c.args.self.now.tables k c.read.new.slots c.args.self.now.sound c.read.ensures.sound
+invariant_of-self-clause-sound g c = still_sound c.args.self.now c.args.session c.requires.session c.read.new.slots c.read.ensures.sound
 
 pub returns-clause-reply : goal.returns-clause-reply
 returns-clause-reply g c =
-    let f = g.T.Viewed.image in
-    let ms : List Image = map f c.args.self.now.images.items in
-    let us : List Mount = c.args.self.now.mounts.items in
-    let n : ℕ = g.row.N in
-    let k : ℕ = c.args.session in
-    let v : View MountedNode = graft_view ms us in
-    let ts = c.args.self.now.tables in
-    let l : k < length ts = (let e = c.args.self.now.sessions in omega (arith, e, c.requires.session)) in
-    let d = c.index-tables-session.result in
-    let q : slots_at n (map (λ t. t.slots) ts) k ≡ (get_or ts k d).slots = slots_index (λ t. t.slots) n ts k d l in
-    let P : List (Option OpenNode) → Type 0 = λ z. are_sound v z ≡ true in
-    let h : are_sound v (get_or ts k d).slots ≡ true = subst P q (sound_at n ms us (map (λ t. t.slots) ts) k c.args.self.now.sound) in
-    own_sets (λ t. t.slots) n ms us ts k d c.read.new.slots (λ t. (calls_of n v).read_bytes t c.args.fd.0 (length c.args.buf.now)) (viewed (λ x. take x c.read.new.buf) c.read.result) l c.read.ensures.reply
+    answers c.args.self.now c.args.session c.requires.session c.index-tables-session.result c.read.new.slots
+    (λ t. (calls_of g.row.N (view_of c.args.self.now)).read_bytes t c.args.fd.0 (length c.args.buf.now)) (viewed (λ x. take x c.read.new.buf) c.read.result) c.read.ensures.reply

@@ -1,65 +1,26 @@
-use Rattle.std.proofs.Common.{◌≡◌, ℕ, List, Option, Some, false, Result, Err, sym, ap, ◌∙◌, subst, map}
-use Rattle.rom_tree.specs.declared.types.Piece.{Piece}
+use Rattle.std.proofs.Common.{Some, false, ap, sym, ◌∙◌}
 use Rattle.rom_tree.specs.Tree.{is_link}
-use Rattle.rom_tree.specs.Image.{Image}
-use Rattle.path_walk.specs.declared.mount.Mount.{Mount}
+use Rattle.path_walk.specs.Graft.{bytes_in}
+use Rattle.open_files.specs.Machine.{read_link}
+use Rattle.open_files.specs.Slots.{lent_by}
+use Rattle.open_files.specs.Slots.{labelled}
+use Rattle.open_files.specs.Calls.{viewed}
+use Rattle.open_files.specs.Machine.{Table}
+use Rattle.open_files.specs.SeenSpace.{images_in, state}
+use Rattle.open_files.proofs.OneSession.{walk_refused, walk_led, place_still}
+use Rattle.path_walk.specs.Graft.{MountedNode, graft}
 use Rattle.path_walk.specs.Resolution.{resolution}
-use Rattle.path_walk.specs.Graft.{MountedNode, graft, bytes_in}
-use Rattle.open_files.specs.declared.error.CallError.{CallError}
-use Rattle.open_files.specs.declared.slot.OpenNode.{OpenNode}
-use Rattle.open_files.specs.Calls.{Answer, answer, Of, Lent, viewed}
-use Rattle.open_files.specs.Machine.{Table, walked, read_link}
-use Rattle.open_files.specs.Slots.{View, graft_view, table_of, labelled, lent_by}
-use Rattle.open_files.specs.Space.{slots_at}
-use Rattle.open_files.proofs.Tables.{refused}
-use Rattle.open_files.proofs.Sessions.{own_stays}
 use Rattle.open_files.proofs.space.Space.readlink.Goals as goal
 
 pub returns-in_err-image-clause-reply : goal.returns-in_err-image-clause-reply
 returns-in_err-image-clause-reply g c =
-    let f = g.T.Viewed.image in
-    let ms : List Image = map f c.args.self.now.images.items in
-    let us : List Mount = c.args.self.now.mounts.items in
-    let n : ℕ = g.row.N in
-    let k : ℕ = c.args.session in
-    let v : View MountedNode = graft_view ms us in
-    let ms' : List Image = map f c.walk.new.self.images.items in
-    let us' : List Mount = c.walk.new.self.mounts.items in
-    let tss : List (List (Option OpenNode)) = map (λ t. t.slots) c.args.self.now.tables in
-    let tss' : List (List (Option OpenNode)) = map (λ t. t.slots) c.walk.new.self.tables in
-    let t : Table MountedNode = table_of v (slots_at n tss k) in
-    let em : ms' ≡ ms = c.in_err-image.ensures.images in
-    let eu : us' ≡ us = ap (λ z. z.items) c.in_err-image.ensures.mounts in
-    let et : tss' ≡ tss = ap (map (λ z. z.slots)) c.in_err-image.ensures.tables in
-    let w = c.in_err-image.ensures.leads in
-    let F : MountedNode → Answer (Table MountedNode) (Of Lent) = λ x. read_link (Some x.image) (bytes_in ms x.image) t x.node (is_link x.node) in
-    let r = refused c.from_residual.result c.in_err-image.field-0.0 c.from_residual.ensures.1 in
-    let p : walked t F (resolution (graft ms us) c.args.path.now false) ≡ answer (viewed (labelled (λ i. Some i) lent_by) c.from_residual.result) t =
-    ap (walked t F) w.1 ∙ (ap (λ (e : CallError). answer {R = Of Lent} (Err e) t) (sym w.2) ∙ ap (λ (z : Result (ℕ × Piece) CallError). answer (viewed (labelled (λ i. Some i) lent_by) z) t) (sym r)) in
-    own_stays n ms ms' us us' tss tss' k (walked t F (resolution (graft ms us) c.args.path.now false)) (viewed (labelled (λ i. Some i) lent_by) c.from_residual.result) em eu et p
+    let t = (state c.args.self.now).own c.args.session in
+    walk_refused c.args.self.now c.walk.new.self c.args.session c.in_err-image.ensures.images c.in_err-image.ensures.mounts c.in_err-image.ensures.tables (labelled Some lent_by) c.from_residual.result c.in_err-image.field-0.0
+    (λ x. read_link (Some x.image) (bytes_in (images_in c.args.self.now) x.image) t x.node (is_link x.node)) (resolution (graft (images_in c.args.self.now) c.args.self.now.mounts.items) c.args.path.now false) c.in_err-image.ensures.leads c.from_residual.ensures.1
 
 pub returns-clause-reply : goal.returns-clause-reply
 returns-clause-reply g c =
-    let f = g.T.Viewed.image in
-    let ms : List Image = map f c.args.self.now.images.items in
-    let us : List Mount = c.args.self.now.mounts.items in
-    let n : ℕ = g.row.N in
-    let k : ℕ = c.args.session in
-    let v : View MountedNode = graft_view ms us in
-    let ms' : List Image = map f c.walk.new.self.images.items in
-    let us' : List Mount = c.walk.new.self.mounts.items in
-    let tss : List (List (Option OpenNode)) = map (λ t. t.slots) c.args.self.now.tables in
-    let tss' : List (List (Option OpenNode)) = map (λ t. t.slots) c.walk.new.self.tables in
-    let t : Table MountedNode = table_of v (slots_at n tss k) in
-    let em : ms' ≡ ms = c.in_ok-image.ensures.images in
-    let eu : us' ≡ us = ap (λ z. z.items) c.in_ok-image.ensures.mounts in
-    let et : tss' ≡ tss = ap (map (λ z. z.slots)) c.in_ok-image.ensures.tables in
-    let w = c.in_ok-image.ensures.leads in
-    let s : MountedNode = w.0 in
-    let Q : List Image → Type 0 = λ z. (graft_view z us).place c.in_ok-image.image c.in_ok-image.node.0 ≡ Some s in
-    let e : (graft_view ms' us).place c.in_ok-image.image c.in_ok-image.node.0 ≡ Some s = subst Q (sym em) w.2 in
-    let F : MountedNode → Answer (Table MountedNode) (Of Lent) = λ x. read_link (Some x.image) (bytes_in ms x.image) t x.node (is_link x.node) in
-    let r : Result (Of Lent) CallError = viewed (labelled (λ i. Some i) lent_by) c.readlink.result in
-    let p : walked t F (resolution (graft ms us) c.args.path.now false) ≡ answer r t =
-    ap (walked t F) w.1 ∙ (ap (λ z. read_link (Some s.image) (bytes_in z s.image) t s.node (is_link s.node)) (sym em) ∙ c.readlink.ensures s t e) in
-    own_stays n ms ms' us us' tss tss' k (walked t F (resolution (graft ms us) c.args.path.now false)) r em eu et p
+    let t : Table MountedNode = (state c.args.self.now).own c.args.session in
+    let p = c.in_ok-image.ensures.leads in
+    walk_led c.args.self.now c.walk.new.self c.args.session c.in_ok-image.ensures.images c.in_ok-image.ensures.mounts c.in_ok-image.ensures.tables (viewed (labelled Some lent_by) c.readlink.result) (λ x. read_link (Some x.image) (bytes_in (images_in c.args.self.now) x.image) t x.node (is_link x.node)) (resolution (graft (images_in c.args.self.now) c.args.self.now.mounts.items) c.args.path.now false) p.0 p.1
+    (ap (λ z. read_link (Some p.0.image) (bytes_in z p.0.image) t p.0.node (is_link p.0.node)) (sym c.in_ok-image.ensures.images) ∙ c.readlink.ensures p.0 t (place_still c.args.self.now c.walk.new.self c.args.session c.in_ok-image.ensures.images c.in_ok-image.ensures.mounts c.in_ok-image.ensures.tables c.in_ok-image.image c.in_ok-image.node.0 p.0 p.2))

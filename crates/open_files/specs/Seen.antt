@@ -1,0 +1,23 @@
+-- What `Files` is seen as: an image, and what is open in it. (This project's own.)
+use Rattle.std.specs.Prelude.{ℕ}
+use Rattle.rom_tree.specs.declared.image.Viewed.{Ghosts}
+use Rattle.rom_tree.specs.Tree.{Node}
+use Rattle.rom_tree.specs.Image.{Image}
+use Rattle.open_files.specs.declared.files.Files.{Files}
+use Rattle.open_files.specs.Calls.{Calls}
+use Rattle.open_files.specs.Machine.{Table, image_calls}
+use Rattle.open_files.specs.Slots.{table_in, LeadsIn}
+
+module _ {T : Type 0} {n : ℕ} {viewed : Ghosts T} where
+  abbrev pub image_in : Files T n viewed → Image
+  image_in s = viewed.image s.image
+
+  abbrev pub table : Files T n viewed → Table Node
+  table s = table_in (image_in s) s.slots
+
+  abbrev pub calls : Files T n viewed → Calls (Table Node)
+  calls s = image_calls n (image_in s)
+
+  -- a cursor stands where this number now stands
+  abbrev pub EntryLeadsOn : Files T n viewed → ℕ → ℕ → Type 0
+  EntryLeadsOn s fd cursor = LeadsIn (image_in s) s.slots fd cursor
