@@ -7,7 +7,8 @@ Each block of a document that is marked `console` is run: its lines that begin w
 after the other in one new folder for each document, with `romtool` on the path, and what they print has to be what
 the block shows. Each line of a block that is marked `from=FILE` has to stand in that file, in this order. Each link
 has to lead to a file that is there, and to a heading of it. Each function that is named by its crate has to be there, where
-others can name it so, and each function and type that the table of what is proved names has to be declared in its crate.
+others can name it so, and each function and type that the table of what is proved names has to be declared in its crate, a
+method in its type. The list of what to read to trust the theorem has to be what its clauses cite.
 The last line is `N passed, M failed`, with `, K skipped`.
 """
 
@@ -120,6 +121,12 @@ def is_declared(name, crates):
     return re.search(DECLARED % (re.escape(name), re.escape(name)), sources_of(crates))
 
 
+def has_member(kind, name, crates):
+    """Whether one of these crates declares a name in a type or a trait, or in an impl of it."""
+    blocks = re.findall(r"^(?:pub(?:\([^)]*\))? )?(?:impl|trait|enum|struct)\b[^{;]*\b%s\b[^{;]*\{.*?^\}" % re.escape(kind), sources_of(crates), re.M | re.S)
+    return any(re.search(r"\b(?:fn|type|const) %s\b|^    %s\b" % (name, name), it, re.M) for it in blocks)
+
+
 def is_open(crate, name):
     """Whether a crate has a name for others: its root declares it, as a module too, or hands it on."""
     roots = [text_of("crates/%s/src/%s.rt" % (crate, it)) for it in ("lib", "main") if crate_has(crate, it)]
@@ -169,11 +176,26 @@ def promises(counts):
                 counts.passes()
             else:
                 counts.fails("PROVED.md: %s of %s is no %s" % (kind, ", ".join(crates), trait))
+        for kind, name in re.findall(r"`(?:\w+::)*([A-Z]\w+)::(\w+)`", cells[2]):
+            if has_member(kind, name, crates):
+                counts.passes()
+            else:
+                counts.fails("PROVED.md: %s of %s has no %s" % (kind, ", ".join(crates), name))
         for name in names_in(cells[2]):
             if is_declared(name, crates):
                 counts.passes()
             else:
                 counts.fails("PROVED.md: %s of %s is not declared" % (name, ", ".join(crates)))
+
+
+def reading_list(counts):
+    """Compares the list of what to read to trust the theorem with what the clauses cite."""
+    told = re.search(r"<!-- made by tools/reading_list -->\n(.*?)<!-- end -->", text_of("docs/ARCHITECTURE.md"), re.S)
+    made = subprocess.run([os.path.join(TOP, "tools", "reading_list")], stdout=subprocess.PIPE, text=True)
+    if told and made.returncode == 0 and told[1] == made.stdout:
+        counts.passes()
+    else:
+        counts.fails("ARCHITECTURE.md: its reading list is not that of tools/reading_list")
 
 
 def main():
@@ -193,6 +215,7 @@ def main():
         elif sessions:
             session(name, sessions, binary, counts)
     promises(counts)
+    reading_list(counts)
     return counts.close()
 
 
