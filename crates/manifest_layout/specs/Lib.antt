@@ -1,3 +1,4 @@
+pub mod Composed
 pub mod Format
 pub mod Misfit
 pub mod Tests

@@ -3,6 +3,7 @@ ghost use Rattle.std.specs.Prelude.{◌≡◌, List, ℕ, Option, MatchOption, m
 ghost use Rattle.layout_terms.specs.Items.{SectionsRise};
 ghost use Rattle.manifest.specs.Grammar.{IsManifest};
 ghost use Rattle.manifest.specs.Lines.{ManifestLines};
+ghost use Rattle.manifest_layout.specs.Composed.{composed_of};
 ghost use Rattle.manifest_layout.specs.Format.{Format, HasTree, IsPlannedBy, layout_of, len_of, sections_of};
 ghost use Rattle.manifest_layout.specs.Misfit.{IsLeastMisfit, HasNoMisfit};
 ghost use Rattle.manifest_layout.specs.Placement.{HasVolume, IsPlaced};
@@ -67,3 +68,15 @@ pub fn sections_rise()
     ensures { (f : Format) (m : ManifestLines) (sizes : List ℕ) → IsManifest m → HasNoMisfit f m sizes
         → SectionsRise 0 (len_of f m sizes) (sections_of f m sizes) }
 {}
+
+/// The sections of a manifest that fits, each with its bytes at its place, with zeros between them and the
+/// format's check word, are its layout.
+pub fn sections_make_layout()
+    ensures { (f : Format) (m : ManifestLines) (contents : List (List ℕ))
+        → IsManifest m → HasNoMisfit f m (map length contents)
+        → layout_of f m contents ≡ composed_of f m contents }
+{
+    romfs_layout::laws::sections_make_layout();
+    cramfs_layout::laws::sections_make_layout();
+    fitting_is_planned();
+}
