@@ -9,6 +9,8 @@ mod commands;
 #[cfg(test)]
 mod cramfs_written;
 #[cfg(test)]
+mod hello;
+#[cfg(test)]
 mod images;
 #[cfg(test)]
 mod layouts;

@@ -22,6 +22,8 @@ mod faults;
 mod fields;
 #[cfg(test)]
 mod forest;
+#[cfg(test)]
+mod hello_lines;
 mod images;
 #[cfg(test)]
 mod mounted;
