@@ -197,7 +197,7 @@ impl<'a> Cramfs<'a> {
     }
 
     /// Whether the image is big-endian: its first bytes are `28 cd 3d 45`.
-    pub fn is_big_endian(&self) -> bool
+    pub fn big(&self) -> bool
         ensures { result ≡ is_big (order_in self.now) }
     {
         match self.accessible.order {

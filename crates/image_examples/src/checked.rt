@@ -33,7 +33,7 @@ pub fn fault(number: u32, at: u32) -> Result<Report, CheckError> {
 fn is_big(alloc: Global, bytes: &[u8]) -> Result<Option<bool>, CheckError> {
     match sound(alloc, bytes)? {
         AnyImage::Romfs(_) => Ok(None),
-        AnyImage::Cramfs(image) => Ok(Some(image.is_big_endian())),
+        AnyImage::Cramfs(image) => Ok(Some(image.big())),
     }
 }
 
