@@ -27,6 +27,8 @@ mod spoiled;
 #[cfg(test)]
 mod streams;
 #[cfg(test)]
+mod sums;
+#[cfg(test)]
 mod texts;
 #[cfg(test)]
 mod told;

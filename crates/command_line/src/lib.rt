@@ -6,8 +6,6 @@
 #![tactic(auto)]
 
 mod commands;
-#[cfg(test)]
-mod tests;
 mod words;
 
 pub use words::{Build, Cat, Extract, Map, Request, ScanAll, WordsError, Wrong, is_explain, read};

@@ -7,7 +7,5 @@
 mod bits;
 mod blocks;
 mod checksum;
-#[cfg(test)]
-mod tests;
 
 pub use checksum::{crc32, crc32_more};

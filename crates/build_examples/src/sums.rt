@@ -1,5 +1,5 @@
 //! The expected sums are those of Python's `zlib.crc32`.
-use crate::{crc32, crc32_more};
+use crc::{crc32, crc32_more};
 
 /// Fills the bytes with the highest ones of a linear congruence.
 fn fill(bytes: &mut [u8]) {
