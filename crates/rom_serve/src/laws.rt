@@ -10,8 +10,8 @@ ghost use Rattle.serve_lines.specs.Views.{SeesItsView, LeavesOwn};
 ghost use Rattle.rom_serve.specs.Machines.{space_machine, session_of};
 ghost use Rattle.rom_serve.specs.SessionLines.{space_lines, NeverMounts};
 
-/// SeveralSessions the replies to an input, those of one session are the ones that it gets where its view
-/// alone is the input: its own lines, and the `mount` and `umount` lines of all sessions.
+/// Among the replies to an input, those of one session are the ones that it would get if its view were
+/// the whole input: its own lines, and the `mount` and `umount` lines of all sessions.
 pub fn views()
     ensures { (ms : List Image) (s : Sessions (List Mount) (Table MountedNode))
         → SeesItsView (space_lines ms) s }
