@@ -4,7 +4,7 @@ use Rattle.std.specs.Prelude.{slice_get, slice_set, option_and_then, is_some, �
 use Rattle.std.specs.List.{position_or_len}
 use Rattle.std.proofs.lemmas.Bool.{false≢true}
 use Rattle.rom_tree.specs.Tree.{ino_of, is_directory, entries_of, entry_at}
-use Rattle.rom_tree.specs.Image.{Image}
+use Rattle.rom_tree.specs.Image.{LieIn, Image}
 use Rattle.rom_tree.proofs.Named.{node_number}
 use Rattle.path_walk.proofs.Mounts.{and_left, and_right}
 use Rattle.open_files.specs.declared.error.CallError.{CallError}
@@ -12,7 +12,7 @@ use Rattle.open_files.specs.declared.error.CallError.TheVariants.{Ebadf, Enxio, 
 use Rattle.open_files.specs.declared.slot.OpenNode.{OpenNode}
 use Rattle.open_files.specs.Calls.{answer, refuse, give, Of, Named}
 use Rattle.open_files.specs.Machine.{Open, Table, Outcome, open_at, put, opened, on_open, after, closed, lowest_free, open_free, open_place, directory_only, next_entry, readdir_on}
-use Rattle.open_files.specs.Slots.{View, IsImage, stands, moved, Moves, LeadsOn, is_open, all_stand, table_by, are_sound, table_of}
+use Rattle.open_files.specs.Slots.{IsPartThere, View, IsImage, stands, moved, Moves, LeadsOn, is_open, all_stand, table_by, are_sound, table_of}
 use Rattle.open_files.proofs.Standing.{none_some, IsOpen, is_open as opened_is}
 
 pub and_both : (a b : Bool) → a ≡ true → b ≡ true → (a && b) ≡ true
@@ -207,3 +207,15 @@ module _ {F : Type 0} (v : View F) where
       let P : ℕ → Type 0 = λ z. IsImage v z m in
       let b : ino_of (v.names.node o.place) ≡ new.node.0 = node_number m new.node.0 (v.names.node o.place) ((subst P (sym w.3) i).node new.node.0 o.place j.place) in
       ap (λ (z : ℕ). v.index new.image z new.position) b ∙ j.directory d
+
+  pub is_part : (slots slots' : List (Option OpenNode)) (fd : ℕ) (s new : OpenNode) (k : HasOpen v slots fd s) (m : Image) (name : List ℕ) (q : ℕ)
+      → get_or slots fd None ≡ Some s → slots' ≡ slice_set slots fd (Some new) → IsImage v s.image m
+      → (stands v new ≡ Some (moved k.what q)) × (new.image ≡ s.image) → LieIn m.bytes name → IsPartThere v (table_of v slots') fd name
+  is_part slots slots' fd s new k m name q g e i w p =
+      λ o h.
+      let n : get_or slots' fd None ≡ Some new = ap (λ (z : List (Option OpenNode)). get_or z fd None) e ∙ get_set slots fd (Some new) (within_by slots fd s g) in
+      let a : stands v new ≡ Some o = sym (open-table (stands v) slots' fd ∙ ap (option_and_then (stands v)) n) ∙ h in
+      let j : IsOpen v new o = opened_is v new o a in
+      let P : ℕ → Type 0 = λ z. IsImage v z m in
+      let b : v.names.bytes o.place ≡ m.bytes = (subst P (sym w.1) i).bytes new.node.0 o.place j.place in
+      subst (λ (z : List ℕ). LieIn z name) (sym b) p

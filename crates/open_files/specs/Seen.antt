@@ -1,12 +1,12 @@
 -- What `Files` is seen as: an image, and what is open in it. (This project's own.)
-use Rattle.std.specs.Prelude.{ℕ}
+use Rattle.std.specs.Prelude.{ℕ, List}
 use Rattle.rom_tree.specs.declared.image.Viewed.{Ghosts}
 use Rattle.rom_tree.specs.Tree.{Node}
 use Rattle.rom_tree.specs.Image.{Image}
 use Rattle.open_files.specs.declared.files.Files.{Files}
 use Rattle.open_files.specs.Calls.{Calls}
 use Rattle.open_files.specs.Machine.{Table, image_calls}
-use Rattle.open_files.specs.Slots.{table_in, LeadsIn}
+use Rattle.open_files.specs.Slots.{table_in, LeadsIn, IsPartIn}
 
 module _ {T : Type 0} {n : ℕ} {viewed : Ghosts T} where
   abbrev pub image_in : Files T n viewed → Image
@@ -21,3 +21,7 @@ module _ {T : Type 0} {n : ℕ} {viewed : Ghosts T} where
   -- a cursor stands where this number now stands
   abbrev pub EntryLeadsOn : Files T n viewed → ℕ → ℕ → Type 0
   EntryLeadsOn s fd cursor = LeadsIn (image_in s) s.slots fd cursor
+
+  -- a name is a part of the image, if this number is now open
+  abbrev pub IsNamePart : Files T n viewed → ℕ → List ℕ → Type 0
+  IsNamePart s fd name = IsPartIn (image_in s) s.slots fd name

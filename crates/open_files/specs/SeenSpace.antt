@@ -8,7 +8,7 @@ use Rattle.open_files.specs.declared.space.Space.{Space}
 use Rattle.open_files.specs.Calls.{Calls}
 use Rattle.open_files.specs.Machine.{Table}
 use Rattle.open_files.specs.Sessions.{Sessions, space_calls}
-use Rattle.open_files.specs.Slots.{graft_view, LeadsOn}
+use Rattle.open_files.specs.Slots.{graft_view, LeadsOn, IsPartThere}
 use Rattle.open_files.specs.Space.{space_state}
 
 module _ {T : Type 0} {n : ℕ} {viewed : Ghosts T} where
@@ -24,3 +24,7 @@ module _ {T : Type 0} {n : ℕ} {viewed : Ghosts T} where
   -- a cursor of an image stands where this number of a session now stands
   abbrev pub EntryLeadsOn : Space T n viewed → ℕ → ℕ → ℕ → ℕ → Type 0
   EntryLeadsOn s k fd i cursor = LeadsOn (graft_view (images_in s) s.mounts.items) ((state s).own k) fd i cursor
+
+  -- a name is a part of the image of what this number of a session now has open
+  abbrev pub IsNamePart : Space T n viewed → ℕ → ℕ → List ℕ → Type 0
+  IsNamePart s k fd name = IsPartThere (graft_view (images_in s) s.mounts.items) ((state s).own k) fd name

@@ -3,7 +3,7 @@ use Rattle.std.specs.Prelude.{◌≡◌, ℕ, zero, suc, Bool, true, false, ◌&
 use Rattle.rom_tree.specs.declared.types.Piece.{Piece}
 use Rattle.rom_tree.specs.declared.types.Entry.{Entry}
 use Rattle.rom_tree.specs.Tree.{Node, ino_of, is_directory, is_regular}
-use Rattle.rom_tree.specs.Image.{Image, image_node}
+use Rattle.rom_tree.specs.Image.{Image, LieIn, image_node}
 use Rattle.path_walk.specs.declared.mount.Mount.{Mount}
 use Rattle.path_walk.specs.Resolution.{Namespace, tree_namespace}
 use Rattle.path_walk.specs.Graft.{MountedNode, graft, node_in}
@@ -125,6 +125,10 @@ module _ {F : Type 0} where
   LeadsOn v t fd i cursor =
       (o : Open F) → open_at t fd ≡ Some o → v.index i (ino_of (v.names.node o.place)) cursor ≡ Some o.position
 
+  -- a name is a part of the image of what is now open at this number
+  abbrev pub IsPartThere : View F → Table F → ℕ → List ℕ → Type 0
+  IsPartThere v t fd name = (o : Open F) → open_at t fd ≡ Some o → LieIn (v.names.bytes o.place) name
+
 -- the same of one image: what its slots stand for, and that each that is taken stands for something
 abbrev pub table_in : {n : ℕ} → Image → Slots n → Table Node
 table_in m s = table_of (image_view m) s.slots
@@ -134,6 +138,9 @@ AreSound m s = are_sound (image_view m) s.slots ≡ true
 
 abbrev pub LeadsIn : {n : ℕ} → Image → Slots n → ℕ → ℕ → Type 0
 LeadsIn m s fd cursor = LeadsOn (image_view m) (table_in m s) fd 0 cursor
+
+abbrev pub IsPartIn : {n : ℕ} → Image → Slots n → ℕ → List ℕ → Type 0
+IsPartIn m s fd name = IsPartThere (image_view m) (table_in m s) fd name
 
 -- what the code gives, read as replies: bytes, an entry, and what comes with the number of its image
 abbrev pub lent_by : Piece → Lent

@@ -4,7 +4,7 @@ ghost use Rattle.rom_tree.specs.Tree.{is_directory, is_regular, is_link};
 ghost use Rattle.rom_tree.specs.Image.{stat_of};
 ghost use Rattle.open_files.specs.Calls.{Of, Named, answer, viewed};
 ghost use Rattle.open_files.specs.Machine.{Table, open_place, read_link};
-ghost use Rattle.open_files.specs.Slots.{are_sound, table_of, calls_of, labelled, lent_by, named_by, LeadsOn};
+ghost use Rattle.open_files.specs.Slots.{IsPartThere, are_sound, table_of, calls_of, labelled, lent_by, named_by, LeadsOn};
 
 use crate::error::CallError;
 use crate::images::Images;
@@ -208,6 +208,10 @@ pub(crate) fn readdir<'a, T: TreeImage<'a>, I: Images<'a, T>, const N: usize>(
     ensures cursor { MatchResult result (λ r. MatchOption r (Unit {0})
         (λ e. LeadsOn (I.view images.now) (table_of (I.view images.now) slots.new.slots)
         fd.0 e.0 e.1.cursor.0))
+        (λ e. Unit {0}) }
+    ensures part { MatchResult result (λ r. MatchOption r (Unit {0})
+        (λ e. IsPartThere (I.view images.now) (table_of (I.view images.now) slots.new.slots)
+        fd.0 e.1.name.now))
         (λ e. Unit {0}) }
     ensures sound { are_sound (I.view images.now) slots.new.slots ≡ true }
 {

@@ -4,7 +4,7 @@ ghost use Rattle.rom_tree.specs.Tree.{levels};
 ghost use Rattle.open_files.specs.Calls.{Of, Named, answer, viewed};
 ghost use Rattle.open_files.specs.Machine.{no_files};
 ghost use Rattle.open_files.specs.Slots.{unlabelled, lent_by, named_by};
-ghost use Rattle.open_files.specs.Seen.{image_in, table, calls, EntryLeadsOn};
+ghost use Rattle.open_files.specs.Seen.{image_in, table, calls, EntryLeadsOn, IsNamePart};
 
 use crate::error::CallError;
 use crate::files::Files;
@@ -179,6 +179,9 @@ impl<'a, T: TreeImage<'a>, const N: usize> Files<'a, T, N> {
             ≡ answer (viewed (option_map {U = Of Named} (unlabelled named_by)) result) (table self.new) }
         ensures cursor { MatchResult result (λ r. MatchOption r (Unit {0})
             (λ e. EntryLeadsOn self.new fd.0 e.cursor.0))
+            (λ e. Unit {0}) }
+        ensures part { MatchResult result (λ r. MatchOption r (Unit {0})
+            (λ e. IsNamePart self.new fd.0 e.name.now))
             (λ e. Unit {0}) }
         ensures image { image_in self.new ≡ image_in self.old }
     {

@@ -4,7 +4,7 @@ ghost use Rattle.std.specs.Prelude.{◌≡◌, ◌≤◌, ℕ, length, take, dro
 ghost use Rattle.rom_tree.specs.Tree.{Node, levels};
 ghost use Rattle.open_files.specs.Calls.{Of, Named, answer, give, viewed};
 ghost use Rattle.open_files.specs.Machine.{Table, image_calls};
-ghost use Rattle.open_files.specs.Slots.{table_in, AreSound, LeadsIn, unlabelled, lent_by, named_by};
+ghost use Rattle.open_files.specs.Slots.{table_in, AreSound, LeadsIn, IsPartIn, unlabelled, lent_by, named_by};
 
 use crate::calls;
 use crate::error::CallError;
@@ -237,6 +237,9 @@ pub fn readdir<'a, T: TreeImage<'a>, const N: usize>(
         (table_in (T.image image.now) slots.new) }
     ensures cursor { MatchResult result (λ r. MatchOption r (Unit {0})
         (λ e. LeadsIn (T.image image.now) slots.new fd.0 e.cursor.0))
+        (λ e. Unit {0}) }
+    ensures part { MatchResult result (λ r. MatchOption r (Unit {0})
+        (λ e. IsPartIn (T.image image.now) slots.new fd.0 e.name.now))
         (λ e. Unit {0}) }
     ensures sound { AreSound (T.image image.now) slots.new }
 {

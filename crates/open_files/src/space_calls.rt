@@ -7,7 +7,7 @@ ghost use Rattle.open_files.specs.Errors.{error_of};
 ghost use Rattle.open_files.specs.Calls.{Of, Named, answer, give, viewed};
 ghost use Rattle.open_files.specs.Sessions.{no_sessions};
 ghost use Rattle.open_files.specs.Slots.{graft_view, labelled, lent_by, named_by};
-ghost use Rattle.open_files.specs.SeenSpace.{images_in, state, calls, EntryLeadsOn};
+ghost use Rattle.open_files.specs.SeenSpace.{images_in, state, calls, EntryLeadsOn, IsNamePart};
 
 use crate::calls;
 use crate::error::CallError;
@@ -277,6 +277,9 @@ impl<'a, T: TreeImage<'a>, const N: usize> Space<'a, T, N> {
             ≡ answer (viewed (option_map {U = Of Named} (labelled Some named_by)) result) (state self.new) }
         ensures cursor { MatchResult result (λ r. MatchOption r (Unit {0})
             (λ e. EntryLeadsOn self.new session fd.0 e.0 e.1.cursor.0))
+            (λ e. Unit {0}) }
+        ensures part { MatchResult result (λ r. MatchOption r (Unit {0})
+            (λ e. IsNamePart self.new session fd.0 e.1.name.now))
             (λ e. Unit {0}) }
         ensures images { images_in self.new ≡ images_in self.old }
     {

@@ -6,7 +6,8 @@ use Rattle.open_files.specs.Calls.{Of, Named, answer, viewed}
 use Rattle.open_files.specs.Machine.{readdir_on}
 use Rattle.open_files.specs.Slots.{labelled, named_by, table_of}
 use Rattle.open_files.proofs.OneCall.{in_table}
-use Rattle.open_files.proofs.Tables.{has_open, leads_on}
+use Rattle.rom_tree.specs.Image.{LieIn}
+use Rattle.open_files.proofs.Tables.{has_open, leads_on, is_part}
 use Rattle.open_files.proofs.OneCall.{nothing_open, image_asks, call_asks, refuses, gives, gives_sound, same_image}
 use Rattle.open_files.proofs.calls.readdir.Goals as goal
 
@@ -63,3 +64,12 @@ returns-in-Some-clause-cursor g c =
     let l = leads_on v c.args.slots.now.slots c.set.new.self.slots c.args.fd.0 c.in_ok-opened.opened c.readdir.new.opened k (g.T.Viewed.image c.image.result.now) (option_map (λ e. (v.label c.in_ok-opened.opened.image, named_by e)) c.in_ok-entry.entry) c.in_ok-opened.ensures.slot c.set.ensures c.image.ensures w in
     let P : Option Entry → Type 0 = λ z. MatchOption z (Unit {0}) (λ e. e.cursor.0 ≡ c.readdir.new.opened.position) in
     λ o h. ap (λ (z : ℕ). v.index c.readdir.new.opened.image (ino_of (v.names.node o.place)) z) (subst P c.in-Some.is c.in_ok-entry.ensures.cursor) ∙ l o h
+
+pub returns-in-Some-clause-part : goal.returns-in-Some-clause-part
+returns-in-Some-clause-part g c =
+    let v = g.I.Served.view c.args.images.now in
+    let m = g.T.Viewed.image c.image.result.now in
+    let k = has_open v c.args.slots.now.slots c.args.fd.0 c.in_ok-opened.opened c.requires c.in_ok-opened.ensures.slot in
+    let w = in_table v c.args.slots.now.slots c.args.fd.0 (λ i b x p. readdir_on i x p) c.in_ok-opened.opened m c.requires c.in_ok-opened.ensures.slot c.image.ensures c.readdir.new.opened (Ok (option_map (λ e. (v.label c.in_ok-opened.opened.image, named_by e)) c.in_ok-entry.entry)) (λ o t. c.in_ok-entry.ensures.moves o (v.label c.in_ok-opened.opened.image) t) in
+    let P : Option Entry → Type 0 = λ z. MatchOption z (Unit {0}) (λ e. LieIn m.bytes e.name.now) in
+    is_part v c.args.slots.now.slots c.set.new.self.slots c.args.fd.0 c.in_ok-opened.opened c.readdir.new.opened k m c.in-Some.entry.name.now w.0 c.in_ok-opened.ensures.slot c.set.ensures c.image.ensures (w.2, w.3) (subst P c.in-Some.is c.in_ok-entry.ensures.lies)

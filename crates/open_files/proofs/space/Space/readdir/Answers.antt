@@ -4,7 +4,7 @@ use Rattle.std.specs.Prelude.{option_map, MatchResult, MatchOption}
 use Rattle.open_files.specs.Calls.{Of, Named, viewed}
 use Rattle.open_files.specs.declared.slot.OpenNode.{OpenNode}
 use Rattle.open_files.proofs.OneSession.{in_place}
-use Rattle.open_files.specs.Slots.{calls_of, labelled, named_by, LeadsOn, table_of}
+use Rattle.open_files.specs.Slots.{calls_of, labelled, named_by, LeadsOn, IsPartThere, table_of}
 use Rattle.open_files.proofs.OneSession.{view_of, slots_sound, still_sound, answers}
 use Rattle.open_files.proofs.space.Space.readdir.Goals as goal
 
@@ -27,3 +27,9 @@ returns-clause-cursor g c =
     let v = view_of c.args.self.now in
     let E : List (Option OpenNode) → Type 0 = λ z. MatchResult c.readdir.result (λ r. MatchOption r (Unit {0}) (λ e. LeadsOn v (table_of v z) c.args.fd.0 e.0 e.1.cursor.0)) (λ e. Unit {0}) in
     in_place c.args.self.now c.args.session c.requires.session E c.readdir.new.slots c.readdir.ensures.cursor
+
+pub returns-clause-part : goal.returns-clause-part
+returns-clause-part g c =
+    let v = view_of c.args.self.now in
+    let E : List (Option OpenNode) → Type 0 = λ z. MatchResult c.readdir.result (λ r. MatchOption r (Unit {0}) (λ e. IsPartThere v (table_of v z) c.args.fd.0 e.1.name.now)) (λ e. Unit {0}) in
+    in_place c.args.self.now c.args.session c.requires.session E c.readdir.new.slots c.readdir.ensures.part
