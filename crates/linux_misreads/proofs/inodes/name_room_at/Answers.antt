@@ -1,9 +1,9 @@
 use Rattle.std.proofs.Common.{◌≡◌, ◌*◌, ◌+◌, ◌∙◌, ℕ, List, length, ap, arith}
 use Rattle.cramfs_format.proofs.Trees.{known}
 use Rattle.cramfs_format.specs.declared.order.Order.{Order}
-use Rattle.cramfs_format.specs.Inode.{offset_of}
-use Rattle.cramfs_format.specs.Order.{word, field_after}
-use Rattle.linux_misreads.proofs.files.table_of.Goals as goal
+use Rattle.cramfs_format.specs.Inode.{name_room}
+use Rattle.cramfs_format.specs.Order.{word, first_field}
+use Rattle.linux_misreads.proofs.inodes.name_room_at.Goals as goal
 
 pub word-requires : goal.word-requires
 word-requires c =
@@ -13,10 +13,10 @@ word-requires c =
     omega (arith, h, w, e)
 
 pub returns : goal.returns
-unfolding offset_of
+unfolding name_room
 returns c =
     let at : ℕ = c.args.n.0 + 8 in
     ap (λ (v : ℕ). v * 4)
-    (c.field_after.ensures.field
-    ∙ (ap (λ (v : ℕ). field_after c.parts-order.result.order 6 v) (c.word.ensures ∙ ap (λ (v : List ℕ). word c.parts-order.result.order v at) c.bytes.ensures)
-    ∙ ap (λ (o : Order). field_after o 6 (word o c.args.image.now.all.now at)) c.parts-order.ensures.order))
+    (c.first_field.ensures.field
+    ∙ (ap (λ (v : ℕ). first_field c.parts-order.result.order 6 v) (c.word.ensures ∙ ap (λ (v : List ℕ). word c.parts-order.result.order v at) c.bytes.ensures)
+    ∙ ap (λ (o : Order). first_field o 6 (word o c.args.image.now.all.now at)) c.parts-order.ensures.order))
