@@ -5,3 +5,5 @@ mod Links
 mod Replies
 mod Lines
 pub mod Whole
+mod Paths
+mod OpenedWhole
