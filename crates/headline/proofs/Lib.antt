@@ -7,3 +7,4 @@ mod Lines
 pub mod Whole
 mod Paths
 mod OpenedWhole
+mod Volumes
