@@ -1,7 +1,7 @@
 //! What is printed of a build: its line, flushed.
-ghost use Rattle.std.specs.Prelude.{decimal};
+ghost use Rattle.std.specs.Prelude.{◌≡◌, OnOk, decimal};
 ghost use Rattle.build_commands.specs.Told.{built_line, manifest_line, misfit_line, refusal_line};
-ghost use Rattle.rom_fields.specs.Failures.{Counts};
+ghost use Rattle.rom_fields.specs.Failures.{Counts, one_more};
 ghost use Rattle.rom_fields.specs.Written.{Puts, WritesText, sink};
 
 use rom_fields::{ByteWrite, Failed, put, put_decimal, put_long_decimal};
@@ -11,6 +11,7 @@ fn write_built_line<W: ByteWrite>(w: &mut W, len: u64) -> Result<(), Failed>
     ensures text { WritesText (W.output w.old).contents (W.output w.new).contents result
         (built_line len) }
     ensures count { Counts (W.output w.old).failures (W.output w.new).failures result }
+    ensures unflushed { (W.output w.new).flushes ≡ (W.output w.old).flushes }
 {
     let mut failed = false;
     put(w, &mut failed, b"ok ");
@@ -30,6 +31,7 @@ fn write_refusal_line<W: ByteWrite>(
     ensures text { WritesText (W.output w.old).contents (W.output w.new).contents result
         (refusal_line who.now line number name.now) }
     ensures count { Counts (W.output w.old).failures (W.output w.new).failures result }
+    ensures unflushed { (W.output w.new).flushes ≡ (W.output w.old).flushes }
 {
     let mut failed = false;
     put(w, &mut failed, who);
@@ -43,6 +45,23 @@ fn write_refusal_line<W: ByteWrite>(
     if failed { Err(Failed) } else { Ok(()) }
 }
 
+/// Writes the line of a refusal, and flushes it.
+fn tell_refusal<W: ByteWrite>(
+    w: &mut W,
+    who: &[u8],
+    line: u64,
+    number: u32,
+    name: &[u8],
+) -> Result<(), Failed>
+    ensures text { WritesText (W.output w.old).contents (W.output w.new).contents result
+        (refusal_line who.now line number name.now) }
+    ensures count { Counts (W.output w.old).failures (W.output w.new).failures result }
+    ensures flushed { OnOk result ((W.output w.new).flushes ≡ one_more (W.output w.old).flushes) }
+{
+    write_refusal_line(w, who, line, number, name)?;
+    w.flush()
+}
+
 /// Writes `ok LENGTH`: the image of so many bytes was built. Flushes it.
 ///
 /// # Errors
@@ -52,6 +71,7 @@ pub fn tell_built<W: ByteWrite>(w: &mut W, len: u64) -> Result<(), Failed>
     ensures text { WritesText (W.output w.old).contents (W.output w.new).contents result
         (built_line len) }
     ensures count { Counts (W.output w.old).failures (W.output w.new).failures result }
+    ensures flushed { OnOk result ((W.output w.new).flushes ≡ one_more (W.output w.old).flushes) }
 {
     write_built_line(w, len)?;
     w.flush()
@@ -67,15 +87,10 @@ pub fn tell_bad_manifest<W: ByteWrite>(w: &mut W, line: u64, number: u32) -> Res
     ensures text { WritesText (W.output w.old).contents (W.output w.new).contents result
         (manifest_line line number) }
     ensures count { Counts (W.output w.old).failures (W.output w.new).failures result }
+    ensures flushed { OnOk result ((W.output w.new).flushes ≡ one_more (W.output w.old).flushes) }
 {
-    write_refusal_line(
-        w,
-        b"manifest",
-        line,
-        number,
-        manifest::name(number).as_bytes(),
-    )?;
-    w.flush()
+    let name = manifest::name(number);
+    tell_refusal(w, b"manifest", line, number, name.as_bytes())
 }
 
 /// Writes `plan LINE NUMBER NAME`: the manifest does not fit the format, and this is the line of
@@ -88,13 +103,8 @@ pub fn tell_misfit<W: ByteWrite>(w: &mut W, line: u64, number: u32) -> Result<()
     ensures text { WritesText (W.output w.old).contents (W.output w.new).contents result
         (misfit_line line number) }
     ensures count { Counts (W.output w.old).failures (W.output w.new).failures result }
+    ensures flushed { OnOk result ((W.output w.new).flushes ≡ one_more (W.output w.old).flushes) }
 {
-    write_refusal_line(
-        w,
-        b"plan",
-        line,
-        number,
-        layout_plan::name(number).as_bytes(),
-    )?;
-    w.flush()
+    let name = layout_plan::name(number);
+    tell_refusal(w, b"plan", line, number, name.as_bytes())
 }

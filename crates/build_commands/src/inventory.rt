@@ -6,12 +6,12 @@ ghost use Rattle.build_commands.specs.Inventory.{path_behind, same_line};
 ghost use Rattle.build_commands.specs.Noted.{noted, noted_with};
 ghost use Rattle.manifest_text.specs.Printed.{lines_text};
 ghost use Rattle.manifest_text.specs.Views.{line_of};
-ghost use Rattle.rom_fields.specs.Failures.{Counts};
+ghost use Rattle.rom_fields.specs.Failures.{Counts, one_more};
 ghost use Rattle.rom_fields.specs.Written.{WritesText};
 
 use crate::nearest::{is_executable, nearest};
 use manifest::Word;
-use manifest_text::{Entry, write_manifest};
+use manifest_text::{Entry, put_lines};
 use plan_types::Format;
 use rom_fields::{ByteWrite, Failed, OutOfMemory};
 use std::alloc::Global;
@@ -278,6 +278,18 @@ pub fn lines<'a>(
     Ok(made)
 }
 
+/// Writes the lines of a manifest that names no volume.
+fn write_lines<W: ByteWrite>(w: &mut W, lines: &[Entry<'_>]) -> Result<(), Failed>
+    ensures text { WritesText (W.output w.old).contents (W.output w.new).contents result
+        (lines_text (map line_of lines.now)) }
+    ensures count { Counts (W.output w.old).failures (W.output w.new).failures result }
+    ensures unflushed { (W.output w.new).flushes ≡ (W.output w.old).flushes }
+{
+    let mut failed = false;
+    put_lines(w, &mut failed, lines);
+    if failed { Err(Failed) } else { Ok(()) }
+}
+
 /// Writes the lines of a manifest that names no volume, and flushes them.
 ///
 /// # Errors
@@ -287,7 +299,8 @@ pub fn put_found<W: ByteWrite>(w: &mut W, lines: &[Entry<'_>]) -> Result<(), Fai
     ensures text { WritesText (W.output w.old).contents (W.output w.new).contents result
         (lines_text (map line_of lines.now)) }
     ensures count { Counts (W.output w.old).failures (W.output w.new).failures result }
+    ensures flushed { OnOk result ((W.output w.new).flushes ≡ one_more (W.output w.old).flushes) }
 {
-    write_manifest(w, b"", lines)?;
+    write_lines(w, lines)?;
     w.flush()
 }

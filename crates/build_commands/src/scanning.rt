@@ -1,10 +1,10 @@
 //! The manifest that a scan of a folder prints.
-ghost use Rattle.std.specs.Prelude.{◌≡◌, map};
+ghost use Rattle.std.specs.Prelude.{◌≡◌, OnOk, map};
 ghost use Rattle.build_commands.specs.Scanned.{directory_line, entry_line, file_line, plain_of};
 ghost use Rattle.build_commands.specs.Scanned.{scan_text};
 ghost use Rattle.build_commands.specs.Seen.{entry_of};
 ghost use Rattle.manifest_text.specs.Views.{line_of};
-ghost use Rattle.rom_fields.specs.Failures.{Counts};
+ghost use Rattle.rom_fields.specs.Failures.{Counts, one_more};
 ghost use Rattle.rom_fields.specs.Written.{Puts, WritesText, sink};
 
 use manifest::Word;
@@ -87,6 +87,7 @@ fn write_all<W: ByteWrite>(w: &mut W, front: usize, found: &[Found]) -> Result<(
     ensures text { WritesText (W.output w.old).contents (W.output w.new).contents result
         (scan_text (map (entry_of front) found.now)) }
     ensures count { Counts (W.output w.old).failures (W.output w.new).failures result }
+    ensures unflushed { (W.output w.new).flushes ≡ (W.output w.old).flushes }
 {
     let mut failed = false;
     put_all(w, &mut failed, front, found);
@@ -104,6 +105,7 @@ pub fn put_scan<W: ByteWrite>(w: &mut W, front: usize, found: &[Found]) -> Resul
     ensures text { WritesText (W.output w.old).contents (W.output w.new).contents result
         (scan_text (map (entry_of front) found.now)) }
     ensures count { Counts (W.output w.old).failures (W.output w.new).failures result }
+    ensures flushed { OnOk result ((W.output w.new).flushes ≡ one_more (W.output w.old).flushes) }
 {
     write_all(w, front, found)?;
     w.flush()

@@ -5,3 +5,6 @@ mod Links
 mod Replies
 mod Lines
 pub mod Whole
+mod Paths
+mod OpenedWhole
+mod Volumes

@@ -1,11 +1,12 @@
 -- What is served, from how a serving ended.
-use Rattle.std.proofs.Common.{◌≡◌, ℕ, List, map, length, refl, inl, inr, ◌⊎◌, Ok}
+use Rattle.std.proofs.Common.{◌≡◌, ℕ, List, map, length, refl, sym, subst, inl, inr, ◌⊎◌, Ok}
 use Rattle.cramfs_format.specs.Superblock.{order_of}
 use Rattle.rom_faults.specs.declared.error.CheckError.{CheckError}
 use Rattle.rom_faults.specs.declared.error.CheckError.TheVariants as check
 use Rattle.rom_fields.specs.Written.{Output}
 use Rattle.rom_tree.specs.Tree.{Node}
 use Rattle.rom_tree.specs.Image.{Image}
+use Rattle.rom_tree.specs.declared.types.Limits.{Limits}
 use Rattle.rom_tree.specs.declared.types.Report.{Report}
 use Rattle.image_build.specs.Each.{IsMeantEach}
 use Rattle.image_check.specs.Checked.{HasTree, Shows, IsRefused, romfs, cramfs}
@@ -14,26 +15,27 @@ use Rattle.manifest.specs.Lines.{ManifestLines}
 use Rattle.manifest_tree.specs.Meant.{IsMeant}
 use Rattle.open_files.specs.Machine.{no_files}
 use Rattle.rom_serve.specs.Machines.{image_machine}
-use Rattle.rom_commands.specs.Answers.{Holds, HasFault, IsFaultText, usual_limits}
-use Rattle.rom_commands.specs.Serving.{Input, Answers, Refuses, ServingEnds}
+use Rattle.rom_commands.specs.Answers.{HoldsUnder, HasFault, IsFaultText, IsFaultTextUnder, usual_limits}
+use Rattle.rom_commands.specs.Serving.{Input, Answers, Refuses, ServingEnds, ServingEndsUnder}
 use Rattle.rom_commands.specs.declared.serving.Serving.{Serving}
 use Rattle.rom_commands.specs.declared.serving.Serving.TheVariants.{Served, Refused, Memory, ReadFault, WriteFault, TooManyReads}
-use Rattle.headline.specs.Headline.{IsServedAs, IsServedAsMeant, IsServedAsGiven, IsUnserved}
+use Rattle.headline.specs.Headline.{IsServedUnder, IsMeantUnder, IsServedAsMeant, IsServedAsGiven, IsUnserved}
 
-shown : (bytes : List ℕ) (m : Image) (report : Report) → Shows bytes usual_limits m report → HasTree bytes usual_limits m.tree
-shown bytes m report (romfs x) = inl x.tree
-shown bytes m report (cramfs x) = inr (order_of bytes, x.tree)
+shown : (limits : Limits) (bytes : List ℕ) (m : Image) (report : Report) → Shows bytes limits m report → HasTree bytes limits m.tree
+shown limits bytes m report (romfs x) = inl x.tree
+shown limits bytes m report (cramfs x) = inr (order_of bytes, x.tree)
 
-has_tree : (bytes : List ℕ) (m : Image) → Holds bytes m → HasTree bytes usual_limits m.tree
-has_tree bytes m h = shown bytes m h.report h.shows
+has_tree : (limits : Limits) (bytes : List ℕ) (m : Image) → HoldsUnder limits bytes m → HasTree bytes limits m.tree
+has_tree limits bytes m h = shown limits bytes m h.report h.shows
 
-served : (bytes : List ℕ) (m : Image) (r₀ r : Input) (w₀ w : Output) (o : Serving) → Holds bytes m → Answers (image_machine m) (no_files 64) r₀ r w₀ w o → IsServedAs bytes m.tree r₀ r w₀ w o
-served bytes m r₀ r w₀ w o h a = record { tree = has_tree bytes m h; image = m; held = h; same = refl; answers = a }
+served : (limits : Limits) (bytes : List ℕ) (m : Image) (r₀ r : Input) (w₀ w : Output) (o : Serving) → HoldsUnder limits bytes m
+    → Answers (image_machine m) (no_files 64) r₀ r w₀ w o → IsServedUnder limits bytes m.tree r₀ r w₀ w o
+served limits bytes m r₀ r w₀ w o h a = record { tree = has_tree limits bytes m h; image = m; held = h; same = refl; answers = a }
 
-pub accepted : (bytes : List ℕ) (r₀ r : Input) (w₀ w : Output) (o : Serving) → ServingEnds bytes r₀ r w₀ w o
-    → ((t : Node) × IsServedAs bytes t r₀ r w₀ w o) ⊎ Refuses (IsFaultText bytes) r₀ r w₀ w o
-accepted bytes r₀ r w₀ w o (inl x) = inl (x.0.tree, served bytes x.0 r₀ r w₀ w o x.1 x.2)
-accepted bytes r₀ r w₀ w o (inr x) = inr x
+pub accepted : (limits : Limits) (bytes : List ℕ) (r₀ r : Input) (w₀ w : Output) (o : Serving) → ServingEndsUnder limits bytes r₀ r w₀ w o
+    → ((t : Node) × IsServedUnder limits bytes t r₀ r w₀ w o) ⊎ Refuses (IsFaultTextUnder limits bytes) r₀ r w₀ w o
+accepted limits bytes r₀ r w₀ w o (inl x) = inl (x.0.tree, served limits bytes x.0 r₀ r w₀ w o x.1 x.2)
+accepted limits bytes r₀ r w₀ w o (inr x) = inr x
 
 -- bytes without a fault are refused for memory alone
 unserved : (bytes : List ℕ) (r₀ r : Input) (w₀ w : Output) (o : Serving) → ((number at : ℕ) → HasFault bytes number at → ⊥) → Refuses (IsFaultText bytes) r₀ r w₀ w o → IsUnserved r₀ r w₀ w o
@@ -53,17 +55,28 @@ Meant text contents bytes t = (m : ManifestLines) × (manifest_of text ≡ Ok m)
 pub built : (text : List ℕ) (contents : List (List ℕ)) (bytes : List ℕ) (r₀ r : Input) (w₀ w : Output) (o : Serving) → ((e : CheckError) → IsRefused bytes usual_limits e → e ≡ check.OutOfMemory)
     → ((t : Node) → HasTree bytes usual_limits t → Meant text contents bytes t) → ServingEnds bytes r₀ r w₀ w o → IsServedAsMeant text contents bytes r₀ r w₀ w o ⊎ IsUnserved r₀ r w₀ w o
 built text contents bytes r₀ r w₀ w o memory meant (inl x) =
-    let is = meant x.0.tree (has_tree bytes x.0 x.1) in
-    inl (record { lines = is.0; manifest = is.1; tree = x.0.tree; meant = is.2; served = served bytes x.0 r₀ r w₀ w o x.1 x.2 })
+    let is = meant x.0.tree (has_tree usual_limits bytes x.0 x.1) in
+    inl (record { lines = is.0; manifest = is.1; tree = x.0.tree; meant = is.2; served = served usual_limits bytes x.0 r₀ r w₀ w o x.1 x.2 })
 built text contents bytes r₀ r w₀ w o memory meant (inr x) =
     inr (unserved bytes r₀ r w₀ w o (no_fault bytes memory) x)
+
+-- what is built has one tree, under whatever limits
+pub built_under : (limits : Limits) (text : List ℕ) (contents : List (List ℕ)) (bytes : List ℕ) (r₀ r : Input) (w₀ w : Output) (o : Serving)
+    → ((u : Node) × HasTree bytes usual_limits u) → ((t u : Node) → HasTree bytes limits t → HasTree bytes usual_limits u → t ≡ u)
+    → ((t : Node) → HasTree bytes usual_limits t → Meant text contents bytes t) → ServingEndsUnder limits bytes r₀ r w₀ w o
+    → IsMeantUnder limits text contents bytes r₀ r w₀ w o ⊎ Refuses (IsFaultTextUnder limits bytes) r₀ r w₀ w o
+built_under limits text contents bytes r₀ r w₀ w o has one meant (inl x) =
+    let same : x.0.tree ≡ has.0 = one x.0.tree has.0 (has_tree limits bytes x.0 x.1) has.1 in
+    let is : Meant text contents bytes x.0.tree = subst (λ (t : Node). Meant text contents bytes t) (sym same) (meant has.0 has.1) in
+    inl (record { lines = is.0; manifest = is.1; tree = x.0.tree; meant = is.2; served = served limits bytes x.0 r₀ r w₀ w o x.1 x.2 })
+built_under limits text contents bytes r₀ r w₀ w o has one meant (inr x) = inr x
 
 pub given : (lines : ManifestLines) (sizes bytes : List ℕ) (r₀ r : Input) (w₀ w : Output) (o : Serving) → ((e : CheckError) → IsRefused bytes usual_limits e → e ≡ check.OutOfMemory)
     → ((t : Node) → HasTree bytes usual_limits t → (b : ℕ → List ℕ) × IsMeantEach bytes t b lines sizes)
     → ServingEnds bytes r₀ r w₀ w o → IsServedAsGiven lines sizes bytes r₀ r w₀ w o ⊎ IsUnserved r₀ r w₀ w o
 given lines sizes bytes r₀ r w₀ w o memory meant (inl x) =
-    let is = meant x.0.tree (has_tree bytes x.0 x.1) in
-    inl (record { tree = x.0.tree; given = is.0; meant = is.1; served = served bytes x.0 r₀ r w₀ w o x.1 x.2 })
+    let is = meant x.0.tree (has_tree usual_limits bytes x.0 x.1) in
+    inl (record { tree = x.0.tree; given = is.0; meant = is.1; served = served usual_limits bytes x.0 r₀ r w₀ w o x.1 x.2 })
 given lines sizes bytes r₀ r w₀ w o memory meant (inr x) = inr (unserved bytes r₀ r w₀ w o (no_fault bytes memory) x)
 
 abbrev pub IsOfSome : (text sizes bytes : List ℕ) (r₀ r : Input) (w₀ w : Output) → Serving → Type 0

@@ -6,9 +6,10 @@ use Rattle.std.proofs.lemmas.List.{take_all}
 use Rattle.rom_tree.specs.Image.{Image}
 use Rattle.rom_tree.specs.Tree.{Node, node, directory, regular, symlink, block, character, socket, fifo, places_of, is_directory, row_from}
 use Rattle.layout_terms.specs.Placement.{IsRun}
+use Rattle.headline.specs.Lent.{IsMappedWhole}
 use Rattle.open_files.specs.Calls.{Lent, Of}
 use Rattle.open_files.specs.Lending.{first_place, consecutive_from, consecutive, lent}
-use Rattle.open_files.specs.Machine.{Open, Table, Outcome, open_at, opened, map_on, image_calls}
+use Rattle.open_files.specs.Machine.{Open, Table, Outcome, open_at, opened, map_on}
 
 run_on : (p n : ℕ) → consecutive_from p (row_from p n) ≡ row_from p n
 run_on p zero = refl
@@ -53,13 +54,11 @@ first_of p zero h = absurd (omega arith)
 first_of p (suc n) h = refl
 
 pub whole_gives : (m : Image) (t : Table Node) (fd align : ℕ) (o : Open Node) → open_at t fd ≡ Some o
-    → IsRun align (places_of o.place) → 0 < length (places_of o.place)
-    → (l : Of Lent) × (k : ℕ) × (((image_calls 64 m).map_piece t fd 0 (length (places_of o.place))).reply ≡ Ok l)
-    × (l.1.place ≡ k * align)
+    → IsRun align (places_of o.place) → 0 < length (places_of o.place) → IsMappedWhole m t fd o.place align
 whole_gives m t fd align o e r h =
     let ps = places_of o.place in
     let f : Node → ℕ → Outcome (Of Lent) = λ x p. map_on None m.bytes 0 (length ps) x p in
     let gives : f o.place o.position ≡ Ok ((None, lent m.bytes ps), o.position) = map_whole m.bytes o.place o.position align r h in
     let reply : (opened t fd f (open_at t fd)).reply ≡ Ok (None, lent m.bytes ps) = (rw (e, gives) refl) in
     let first : first_place ps ≡ r.0 * align = ap first_place r.1 ∙ first_of (r.0 * align) (length ps) h in
-    ((None, lent m.bytes ps), r.0, reply, first)
+    record { times = r.0; aligned = first; answered = reply }

@@ -3,6 +3,7 @@ use Rattle.std.specs.Prelude.{◌≡◌, ℕ, List, map, length, Ok}
 use Rattle.rom_fields.specs.Written.{Output}
 use Rattle.rom_tree.specs.Tree.{Node}
 use Rattle.rom_tree.specs.Image.{Image}
+use Rattle.rom_tree.specs.declared.types.Limits.{Limits}
 use Rattle.image_build.specs.Each.{IsMeantEach}
 use Rattle.image_check.specs.Checked.{HasTree}
 use Rattle.manifest.specs.Grammar.{manifest_of}
@@ -10,28 +11,38 @@ use Rattle.manifest.specs.Lines.{ManifestLines}
 use Rattle.manifest_tree.specs.Meant.{IsMeant}
 use Rattle.open_files.specs.Machine.{no_files}
 use Rattle.rom_serve.specs.Machines.{image_machine}
-use Rattle.rom_commands.specs.Answers.{Holds, usual_limits}
+use Rattle.rom_commands.specs.Answers.{HoldsUnder, usual_limits}
 use Rattle.rom_commands.specs.Serving.{Input, Answers}
 use Rattle.rom_commands.specs.declared.serving.Serving.{Serving}
 use Rattle.rom_commands.specs.declared.serving.Serving.TheVariants.{Memory}
 
--- The format gives these bytes the tree t, and lines were answered from it, nothing of it open at first. A reader was
--- r₀ and is r, a writer was w₀ and is w.
-pub record IsServedAs (bytes : List ℕ) (t : Node) (r₀ r : Input) (w₀ w : Output) (o : Serving) : Type 0 where
-  pub tree : HasTree bytes usual_limits t
+-- The format gives these bytes the tree t under these limits, and lines were answered from it, nothing of it open at
+-- first. A reader was r₀ and is r, a writer was w₀ and is w.
+pub record IsServedUnder (limits : Limits) (bytes : List ℕ) (t : Node) (r₀ r : Input) (w₀ w : Output)
+    (o : Serving) : Type 0 where
+  pub tree : HasTree bytes limits t
   pub image : Image
-  pub held : Holds bytes image
+  pub held : HoldsUnder limits bytes image
   pub same : image.tree ≡ t
   pub answers : Answers (image_machine image) (no_files 64) r₀ r w₀ w o
 
+-- the same under the usual limits
+abbrev pub IsServedAs : (bytes : List ℕ) (t : Node) (r₀ r : Input) (w₀ w : Output) → Serving → Type 0
+IsServedAs bytes t r₀ r w₀ w o = IsServedUnder usual_limits bytes t r₀ r w₀ w o
+
 -- the tree is what the manifest that the text is means, with these contents of its sources
-pub record IsServedAsMeant (text : List ℕ) (contents : List (List ℕ)) (bytes : List ℕ) (r₀ r : Input) (w₀ w : Output)
-    (o : Serving) : Type 0 where
+pub record IsMeantUnder (limits : Limits) (text : List ℕ) (contents : List (List ℕ)) (bytes : List ℕ)
+    (r₀ r : Input) (w₀ w : Output) (o : Serving) : Type 0 where
   pub lines : ManifestLines
   pub manifest : manifest_of text ≡ Ok lines
   pub tree : Node
   pub meant : IsMeant bytes tree contents lines (map length contents)
-  pub served : IsServedAs bytes tree r₀ r w₀ w o
+  pub served : IsServedUnder limits bytes tree r₀ r w₀ w o
+
+-- the same under the usual limits
+abbrev pub IsServedAsMeant : (text : List ℕ) (contents : List (List ℕ)) (bytes : List ℕ) (r₀ r : Input) (w₀ w : Output)
+    → Serving → Type 0
+IsServedAsMeant text contents bytes r₀ r w₀ w o = IsMeantUnder usual_limits text contents bytes r₀ r w₀ w o
 
 -- the tree is what the manifest means, where each of its regular files has contents of its own, of these sizes
 pub record IsServedAsGiven (lines : ManifestLines) (sizes : List ℕ) (bytes : List ℕ) (r₀ r : Input) (w₀ w : Output)

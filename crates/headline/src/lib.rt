@@ -9,11 +9,14 @@
 #![tactic(auto)]
 
 ghost use Rattle.std.specs.Prelude.{◌≡◌, ◌⊎◌, ◌*◌, ◌<◌, ◌≤◌, ℕ, List, Option, Some, Ok, false, length, map};
-ghost use Rattle.headline.specs.Headline.{IsServedAs, IsServedAsMeant, IsServedAsGiven, IsUnserved};
-ghost use Rattle.headline.specs.Lent.{IsPieceOf, open_after};
+ghost use Rattle.headline.specs.Headline.{IsServedUnder, IsMeantUnder, IsServedAsMeant, IsServedAsGiven, IsUnserved};
+ghost use Rattle.headline.specs.Lent.{AreOpenedWhole, IsMappedWhole, IsPieceOf, open_after};
 ghost use Rattle.image_build.specs.Builds.{Builds};
 ghost use Rattle.image_build.specs.Streamed.{HasNoCopies, IsPlanOfText, form_in, image_with, stored_in};
-ghost use Rattle.image_check.specs.Checked.{HasTree, IsFaultless};
+ghost use Rattle.image_check.specs.Any.{any_view, report_of};
+ghost use Rattle.image_check.specs.Checked.{HasFormat, HasTree, IsFaultless, Shows};
+ghost use Rattle.image_check.specs.declared.any.AnyImage.{AnyImage};
+ghost use Rattle.image_info.specs.Volumes.{volume_of};
 ghost use Rattle.image_manifest.specs.Lines.{lines_of};
 ghost use Rattle.image_manifest.specs.Sources.{sources_of};
 ghost use Rattle.image_manifest.specs.Tellable.{IsToldWhole};
@@ -29,39 +32,57 @@ ghost use Rattle.open_files.specs.Calls.{Of, Lent};
 ghost use Rattle.open_files.specs.Machine.{Open, image_calls, open_at};
 ghost use Rattle.path_walk.specs.Resolution.{resolution, tree_namespace};
 ghost use Rattle.plan_types.specs.Plans.{Planned};
-ghost use Rattle.rom_commands.specs.Answers.{IsFaultText, usual_limits};
-ghost use Rattle.rom_commands.specs.Serving.{Input, Refuses, ServingEnds};
+ghost use Rattle.rom_commands.specs.Answers.{IsFaultTextUnder, usual_limits};
+ghost use Rattle.rom_commands.specs.Serving.{Input, Refuses, ServingEnds, ServingEndsUnder};
 ghost use Rattle.rom_commands.specs.declared.serving.Serving.{Serving};
 ghost use Rattle.rom_fields.specs.Written.{Output};
 ghost use Rattle.rom_tree.specs.Image.{Image};
 ghost use Rattle.rom_tree.specs.Tree.{Node, places_of};
 ghost use Rattle.rom_tree.specs.declared.types.Limits.{Limits};
 
-/// What follows from the clause of `rom_commands::serve_image`, for all bytes: lines are
-/// answered from the one tree that the format gives the bytes, or the bytes are refused with their
-/// least fault, and no line is read. And the image that was built from a manifest, in each format,
-/// is refused for memory alone: else it is served as the tree that the manifest means. In that image
-/// each file with the contents of a `file` line has its bytes in one run, from a multiple of that
-/// line's ALIGN on, and the volume has the manifest's name.
+/// States what follows from the clause of `rom_commands::serve_under`, for all bytes and all limits:
+/// lines are answered from the one tree that the format gives the bytes, or the bytes are refused
+/// with their least fault, and no line is read. `serve_image` is the same under the usual limits.
+///
+/// An image that was built from a manifest, in each format, is refused under the usual limits only
+/// if memory is refused; otherwise it is served as the tree that the manifest means. Under other
+/// limits it is served as that tree if it is served at all. In that image each file with the
+/// contents of a `file` line has its bytes in one run, from a multiple of that line's ALIGN on, and
+/// the volume has the manifest's name, which is the one that `image_info::volume` returns. So `open` of the line's path and then one `map` of the whole
+/// file give all its bytes, and their first place is a multiple of that ALIGN.
 pub fn headline()
-    ensures accepted { (bytes : List ℕ) (r₀ r : Input) (w₀ w : Output) (o : Serving)
-        → ServingEnds bytes r₀ r w₀ w o
-        → ((t : Node) × IsServedAs bytes t r₀ r w₀ w o)
-        ⊎ Refuses (IsFaultText bytes) r₀ r w₀ w o }
-    ensures one { (bytes : List ℕ) (t u : Node) → HasTree bytes usual_limits t
-        → HasTree bytes usual_limits u → t ≡ u }
+    ensures accepted { (limits : Limits) (bytes : List ℕ) (r₀ r : Input) (w₀ w : Output)
+        (o : Serving) → ServingEndsUnder limits bytes r₀ r w₀ w o
+        → ((t : Node) × IsServedUnder limits bytes t r₀ r w₀ w o)
+        ⊎ Refuses (IsFaultTextUnder limits bytes) r₀ r w₀ w o }
+    ensures one { (bytes : List ℕ) (limits others : Limits) (t u : Node)
+        → HasTree bytes limits t → HasTree bytes others u → t ≡ u }
     ensures built { (f : Format) (text : List ℕ) (contents : List (List ℕ)) (bytes : List ℕ)
         (r₀ r : Input) (w₀ w : Output) (o : Serving) → Builds f text contents (Ok bytes)
         → ServingEnds bytes r₀ r w₀ w o
         → IsServedAsMeant text contents bytes r₀ r w₀ w o ⊎ IsUnserved r₀ r w₀ w o }
+    ensures built_under { (limits : Limits) (f : Format) (text : List ℕ)
+        (contents : List (List ℕ)) (bytes : List ℕ) (r₀ r : Input) (w₀ w : Output) (o : Serving)
+        → Builds f text contents (Ok bytes) → ServingEndsUnder limits bytes r₀ r w₀ w o
+        → IsMeantUnder limits text contents bytes r₀ r w₀ w o
+        ⊎ Refuses (IsFaultTextUnder limits bytes) r₀ r w₀ w o }
     ensures placed { (f : Format) (text : List ℕ) (contents : List (List ℕ)) (bytes : List ℕ)
         (m : ManifestLines) → Builds f text contents (Ok bytes) → manifest_of text ≡ Ok m
         → HasVolume f bytes m.volume
         × ((t : Node) → HasTree bytes usual_limits t → IsPlaced t m) }
+    ensures mapped { (f : Format) (text : List ℕ) (contents : List (List ℕ)) (bytes : List ℕ)
+        (m : ManifestLines) (image : Image) → Builds f text contents (Ok bytes)
+        → manifest_of text ≡ Ok m → HasTree bytes usual_limits image.tree
+        → AreOpenedWhole image m }
+    ensures volume { (limits : Limits) (f : Format) (text : List ℕ) (contents : List (List ℕ))
+        (bytes : List ℕ) (m : ManifestLines) (v : AnyImage) → Builds f text contents (Ok bytes)
+        → manifest_of text ≡ Ok m → Shows bytes limits (any_view v) (report_of v)
+        → HasFormat bytes v → volume_of v ≡ m.volume }
 {
     image_build::laws::built_is_accepted();
     image_build::laws::built_is_placed();
     image_check::laws::one_tree();
+    image_check::laws::exact();
 }
 
 /// What follows of an image that is taken apart and built again, in any format: what is built of a
@@ -106,6 +127,10 @@ pub fn streamed()
         → (s : IsWritten told (form_in p.format p) (stored_in p.format) old new)
         → HasVolume p.format (image_with p s.rest) is.lines.volume
         × ((t : Node) → HasTree (image_with p s.rest) usual_limits t → IsPlaced t is.lines) }
+    ensures mapped { (text : List ℕ) (p : Planned) (told : Option (List (List ℕ)))
+        (old new : Option (List ℕ)) (image : Image) → (is : IsPlanOfText text p)
+        → (s : IsWritten told (form_in p.format p) (stored_in p.format) old new)
+        → HasTree (image_with p s.rest) usual_limits image.tree → AreOpenedWhole image is.lines }
 {
     image_build::laws::streamed_is_accepted();
     image_build::laws::streamed_is_placed();
@@ -116,7 +141,8 @@ pub fn streamed()
 /// own bytes, from the place on that it tells, and these are just the bytes of the open file, from
 /// its position or from the offset on. So is a link's text that `readlink` tells, whole, where the
 /// tree of the image is the one that a format gives some bytes. And an open file with bytes that lies
-/// in one run is lent whole by `map` from 0 on, whose reply tells a multiple of its alignment.
+/// in one run is lent whole by `map` from 0 on. The reply has all its bytes and their first place,
+/// which is a multiple of its alignment.
 pub fn lent()
     ensures lend { (m : Image) (lines : List (List ℕ)) (fd most : ℕ) (l : Of Lent)
         → ((image_calls 64 m).lend_piece (open_after m lines) fd most).reply ≡ Ok l
@@ -133,7 +159,6 @@ pub fn lent()
         × IsPieceOf m x 0 l.1 × (length l.1.bytes ≡ length (places_of x)) }
     ensures whole { (m : Image) (lines : List (List ℕ)) (fd align : ℕ) (o : Open Node)
         → open_at (open_after m lines) fd ≡ Some o → IsRun align (places_of o.place)
-        → 0 < length (places_of o.place) → (l : Of Lent) × (k : ℕ)
-        × (((image_calls 64 m).map_piece (open_after m lines) fd 0 (length (places_of o.place))).reply
-        ≡ Ok l) × (l.1.place ≡ k * align) }
+        → 0 < length (places_of o.place)
+        → IsMappedWhole m (open_after m lines) fd o.place align }
 {}

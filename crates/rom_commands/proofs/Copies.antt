@@ -5,18 +5,19 @@ use Rattle.rom_fields.specs.Failures.{Rose}
 use Rattle.rom_fields.specs.Written.{Output, AppendsPrefix}
 use Rattle.rom_fields.proofs.Joins.{appends_keep, front_all}
 use Rattle.rom_commands.specs.Answers.{Flushes, Prints}
-use Rattle.rom_commands.specs.Copying.{CopyEnds, copied_status, copied_complaint}
+use Rattle.rom_commands.specs.Copying.{CopyEnds, IsHandedOn, copied_status, copied_complaint}
 use Rattle.rom_commands.specs.declared.status.Status.{Status}
 use Rattle.rom_commands.specs.declared.status.Status.TheVariants as status
 use Rattle.rom_commands.specs.declared.copying.Copied.{Copied}
 use Rattle.rom_commands.specs.declared.copying.Copied.TheVariants.{Done, Refused, WriteFault}
-use Rattle.rom_commands.proofs.Printed.{unsaid, rose_counted}
+use Rattle.rom_commands.proofs.Printed.{counted, unsaid, rose_counted}
 
 -- how it ended, what the status is, and what was said
 pub record Told (bytes path : List ℕ) (old new err err' : Output) (result : Status) : Type 0 where
   pub outcome : Copied
   pub status : result ≡ copied_status outcome
   pub ends : CopyEnds bytes path old new outcome
+  pub handed : IsHandedOn new outcome
   pub said : Prints err err' (copied_complaint outcome)
 
 prefix_keep : (old mid new : Output) (text : List ℕ) → AppendsPrefix old.contents mid.contents text → Keeps mid.contents new.contents → AppendsPrefix old.contents new.contents text
@@ -33,6 +34,7 @@ module _ (bytes path : List ℕ) (old mid new err err' : Output) (result : Statu
         outcome = WriteFault;
         status = f.1;
         ends = inl (h.0, h.1, (c.0, c.1, front_all old.contents new.contents _ (appends_keep old.contents mid.contents new.contents _ c.2 k), risen f.0));
+        handed = tt;
         said = f.2;
       }
   done_told h (inr f) =
@@ -41,6 +43,7 @@ module _ (bytes path : List ℕ) (old mid new err err' : Output) (result : Statu
         outcome = Done;
         status = f.2;
         ends = (h.0, h.1, (c.0, c.1, appends_keep old.contents mid.contents new.contents _ c.2 k, f.1 ∙ sym fresh));
+        handed = counted new.flushes mid.flushes f.4;
         said = unsaid err err' f.3;
       }
 
@@ -49,12 +52,14 @@ module _ (bytes path : List ℕ) (old mid new err err' : Output) (result : Statu
     outcome = WriteFault;
     status = f.1;
     ends = inr (h.0, h.1, front_all old.contents new.contents h.0 (appends_keep old.contents mid.contents new.contents h.0 h.2 k), risen f.0);
+    handed = tt;
     said = f.2;
   }
   refused_told h (inr f) = record {
     outcome = Refused;
     status = f.2;
     ends = (h.0, h.1, appends_keep old.contents mid.contents new.contents h.0 h.2 k, f.1 ∙ sym fresh);
+    handed = counted new.flushes mid.flushes f.4;
     said = unsaid err err' f.3;
   }
 
@@ -67,5 +72,5 @@ module _ (bytes path : List ℕ) (old mid new err err' : Output) (result : Statu
   failed_before (inr h) e = rose_counted old.failures mid.failures fresh h.3 e
 
   pub fault_told : CopyEnds bytes path old mid WriteFault → Flushes mid new err err' status.Failed result → Told bytes path old new err err' result
-  fault_told h (inl f) = record { outcome = WriteFault; status = f.1; ends = kept_fault h f.0; said = f.2 }
+  fault_told h (inl f) = record { outcome = WriteFault; status = f.1; ends = kept_fault h f.0; handed = tt; said = f.2 }
   fault_told h (inr f) = absurd (failed_before h f.0)

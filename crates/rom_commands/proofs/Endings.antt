@@ -1,16 +1,26 @@
 -- How a serving ended, from what the server and the writer of a fault's line say.
-use Rattle.std.proofs.Common.{◌≡◌, ℕ, ◌^◌, List, length, Result, Ok, Err, OnOk, refl, sym, subst}
+use Rattle.std.proofs.Common.{◌≡◌, ℕ, ◌^◌, List, length, Result, Ok, Err, OnOk, refl, sym, subst, inl, inr}
+use Rattle.std.specs.Prelude.{IfOk, IfErr}
 use Rattle.rom_fields.specs.declared.bytes.Failed.{Failed}
-use Rattle.rom_fields.specs.Failures.{Rose, Counts}
+use Rattle.rom_fields.specs.Failures.{Rose, Counts, one_more}
 use Rattle.rom_fields.specs.Written.{Output, WritesText}
+use Rattle.rom_faults.specs.declared.error.CheckError.{CheckError}
+use Rattle.rom_faults.specs.declared.error.CheckError.TheVariants as check
 use Rattle.rom_tree.specs.Image.{Image}
+use Rattle.rom_tree.specs.declared.types.Limits.{Limits}
+use Rattle.image_check.specs.Any.{any_view, report_of}
+use Rattle.image_check.specs.Checked.{Shows, IsRefused, IsFaultless, IsLeastFault}
+use Rattle.image_check.specs.declared.any.AnyImage.{AnyImage}
 use Rattle.open_files.specs.Machine.{no_files}
 use Rattle.serve_lines.specs.Served.{Machine, Serves, Finishes, Breaks}
 use Rattle.serve_lines.specs.declared.error.ServeError.{ServeError}
 use Rattle.serve_lines.specs.declared.error.ServeError.TheVariants as serve
 use Rattle.rom_serve.specs.Machines.{image_machine}
 use Rattle.rom_commands.specs.declared.serving.Serving.{Serving}
-use Rattle.rom_commands.specs.Serving.{Input, Answers, Refuses, serving_of, refusal_of}
+use Rattle.rom_commands.specs.declared.serving.Serving.TheVariants.{Served, Refused, Memory, ReadFault, WriteFault, TooManyReads}
+use Rattle.rom_commands.specs.Lines.{fault_line}
+use Rattle.rom_commands.specs.Answers.{IsFaultTextUnder}
+use Rattle.rom_commands.specs.Serving.{Input, Answers, Refuses, Tells, CheckedEnds, ServingEndsUnder, serving_of, refusal_of}
 
 -- lines were answered
 pub answers_by : {S : Type 0} (m : Machine S) (s : S) (r₀ r : Input) (w₀ w : Output) (q : Result (Unit {0}) ServeError)
@@ -39,6 +49,40 @@ served_by m m' r₀ r w₀ w q o same is a b c d e =
 
 -- a text was written in place of replies
 pub refuses_by : (IsText : List ℕ → Type 0) (r : Input) (w₀ w : Output) (text : List ℕ) (q : Result (Unit {0}) Failed) → IsText text
-    → WritesText w₀.contents w.contents q text → Counts w₀.failures w.failures q → Refuses IsText r r w₀ w (refusal_of q)
-refuses_by IsText r w₀ w text (Ok _) h a b = (refl, (text, h, a), b)
-refuses_by IsText r w₀ w text (Err _) h a b = (refl, (text, h, a), b)
+    → WritesText w₀.contents w.contents q text → Counts w₀.failures w.failures q → OnOk q (w.flushes ≡ one_more w₀.flushes)
+    → Refuses IsText r r w₀ w (refusal_of q)
+refuses_by IsText r w₀ w text (Ok _) h a b f = (refl, (text, h, a), b, f)
+refuses_by IsText r w₀ w text (Err _) h a b f = (refl, (text, h, a), b)
+
+-- this text was written
+pub tells_by : (r : Input) (w₀ w : Output) (text : List ℕ) (q : Result (Unit {0}) Failed) → WritesText w₀.contents w.contents q text
+    → Counts w₀.failures w.failures q → OnOk q (w.flushes ≡ one_more w₀.flushes) → Tells text r r w₀ w (refusal_of q)
+tells_by r w₀ w text (Ok _) a b f = (refl, a, b, f)
+tells_by r w₀ w text (Err _) a b f = (refl, a, b)
+
+-- a text that was written is one of a fault
+told : (IsText : List ℕ → Type 0) (text : List ℕ) (r₀ r : Input) (w₀ w : Output) (o : Serving) → IsText text → Tells text r₀ r w₀ w o
+    → Refuses IsText r₀ r w₀ w o
+told IsText text r₀ r w₀ w Refused is t = (t.0, (text, is, t.1), t.2, t.3)
+told IsText text r₀ r w₀ w WriteFault is t = (t.0, (text, is, t.1), t.2)
+told IsText text r₀ r w₀ w Memory is t = absurd t
+told IsText text r₀ r w₀ w Served is t = absurd t
+told IsText text r₀ r w₀ w ReadFault is t = absurd t
+told IsText text r₀ r w₀ w TooManyReads is t = absurd t
+
+unserved : (IsText : List ℕ → Type 0) (r₀ r : Input) (w₀ w : Output) (o : Serving) → o ≡ Memory → r ≡ r₀ → w ≡ w₀ → Refuses IsText r₀ r w₀ w o
+unserved IsText r₀ r w₀ w o e a b = subst (λ (v : Serving). Refuses IsText r₀ r w₀ w v) (sym e) (a, b)
+
+-- what a serving did by what the check answered, it did of the bytes that were checked
+pub under_by : (limits : Limits) (bytes : List ℕ) (q : Result AnyImage CheckError) (r₀ r : Input) (w₀ w : Output) (o : Serving)
+    → IfOk q (λ v. Shows bytes limits (any_view v) (report_of v)) → IfOk q (λ v. IsFaultless bytes limits)
+    → IfErr q (IsRefused bytes limits) → IfErr q (IsLeastFault bytes limits)
+    → CheckedEnds q r₀ r w₀ w o → ServingEndsUnder limits bytes r₀ r w₀ w o
+under_by limits bytes (Ok v) r₀ r w₀ w o shows clean refused least ends =
+    inl (any_view v, record { report = report_of v; shows = shows; clean = clean }, ends)
+under_by limits bytes (Err (check.Fault number at)) r₀ r w₀ w o shows clean refused least ends =
+    let is : IsFaultTextUnder limits bytes (fault_line number at) =
+    record { number = number; at = at; fault = record { refused = refused; least = least }; same = refl } in
+    inr (told (IsFaultTextUnder limits bytes) (fault_line number at) r₀ r w₀ w o is ends)
+under_by limits bytes (Err check.OutOfMemory) r₀ r w₀ w o shows clean refused least ends =
+    inr (unserved (IsFaultTextUnder limits bytes) r₀ r w₀ w o ends.0 ends.1 ends.2)

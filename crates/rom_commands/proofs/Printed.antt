@@ -1,7 +1,7 @@
 -- How a printing ended, once what was held back is handed on.
 use Rattle.std.proofs.Common.{◌≡◌, ℕ, ◌<◌, false, List, [], inl, inr, sym, ◌∙◌, subst, arith}
 use Rattle.std.specs.Io.KnownBytes.{Keeps}
-use Rattle.rom_fields.specs.Failures.{Rose}
+use Rattle.rom_fields.specs.Failures.{Rose, one_more}
 use Rattle.rom_fields.specs.Written.{Output, sink}
 use Rattle.rom_fields.proofs.Joins.{appends_keep, front_all, puts_nothing}
 use Rattle.rom_commands.specs.declared.asked.Asked.{Asked}
@@ -9,7 +9,7 @@ use Rattle.rom_commands.specs.declared.shown.Outcome.{Outcome}
 use Rattle.rom_commands.specs.declared.shown.Outcome.TheVariants.{Done, Warned, Refused, WriteFault}
 use Rattle.rom_commands.specs.declared.status.Status.{Status}
 use Rattle.rom_commands.specs.declared.status.Status.TheVariants as status
-use Rattle.rom_commands.specs.Answers.{Ends, Flushes, Prints, complaint_of, status_of}
+use Rattle.rom_commands.specs.Answers.{Ends, Flushes, IsHandedOn, Prints, complaint_of, status_of}
 
 pub prints_nothing : (o : Output) → Prints o o []
 prints_nothing o = (false, puts_nothing (sink o false))
@@ -20,11 +20,16 @@ unsaid err err' e = let P : Output → Type 0 = λ v. Prints err v [] in subst P
 pub rose_counted : (old new : ℕ) → old ≡ 0 → Rose old new → new ≡ 0 → ⊥
 rose_counted old new z r e = elim r [ inl l ↦ omega arith | inr l ↦ omega arith ]
 
+-- a flush was counted
+pub counted : (n m : ℕ) → n ≡ one_more m → 0 < n
+counted n m e = omega (arith, e)
+
 -- how it ended, what the status is, and what was said
 pub record Told (bytes : List ℕ) (asked : Asked) (old new err err' : Output) (result : Status) : Type 0 where
   pub outcome : Outcome
   pub status : result ≡ status_of outcome
   pub ends : Ends bytes asked old new outcome
+  pub handed : IsHandedOn new outcome
   pub said : Prints err err' (complaint_of outcome)
 
 module _ (bytes : List ℕ) (asked : Asked) (old mid new err err' : Output) (result : Status) (fresh : old.failures ≡ 0) (k : Keeps mid.contents new.contents) where
@@ -36,12 +41,14 @@ module _ (bytes : List ℕ) (asked : Asked) (old mid new err err' : Output) (res
     outcome = WriteFault;
     status = f.1;
     ends = (h.0, inl h.1, front_all old.contents new.contents h.0 (appends_keep old.contents mid.contents new.contents h.0 h.2 k), risen f.0);
+    handed = tt;
     said = f.2;
   }
   done_told h (inr f) = record {
     outcome = Done;
     status = f.2;
     ends = (h.0, h.1, appends_keep old.contents mid.contents new.contents h.0 h.2 k, f.1 ∙ sym fresh, h.4);
+    handed = counted new.flushes mid.flushes f.4;
     said = unsaid err err' f.3;
   }
 
@@ -50,12 +57,14 @@ module _ (bytes : List ℕ) (asked : Asked) (old mid new err err' : Output) (res
     outcome = WriteFault;
     status = f.1;
     ends = (h.0, inl h.1, front_all old.contents new.contents h.0 (appends_keep old.contents mid.contents new.contents h.0 h.2 k), risen f.0);
+    handed = tt;
     said = f.2;
   }
   warned_told h (inr f) = record {
     outcome = Warned;
     status = f.2;
     ends = (h.0, h.1, appends_keep old.contents mid.contents new.contents h.0 h.2 k, f.1 ∙ sym fresh, h.4);
+    handed = counted new.flushes mid.flushes f.4;
     said = unsaid err err' f.3;
   }
 
@@ -64,12 +73,14 @@ module _ (bytes : List ℕ) (asked : Asked) (old mid new err err' : Output) (res
     outcome = WriteFault;
     status = f.1;
     ends = (h.0, inr h.1, front_all old.contents new.contents h.0 (appends_keep old.contents mid.contents new.contents h.0 h.2 k), risen f.0);
+    handed = tt;
     said = f.2;
   }
   refused_told h (inr f) = record {
     outcome = Refused;
     status = f.2;
     ends = (h.0, h.1, appends_keep old.contents mid.contents new.contents h.0 h.2 k, f.1 ∙ sym fresh);
+    handed = counted new.flushes mid.flushes f.4;
     said = unsaid err err' f.3;
   }
 
@@ -80,6 +91,7 @@ module _ (bytes : List ℕ) (asked : Asked) (old mid new err err' : Output) (res
         outcome = WriteFault;
         status = f.1;
         ends = (h.0, h.1, (a.0, a.1, appends_keep old.contents mid.contents new.contents a.0 a.2 k, a.3), risen f.0);
+        handed = tt;
         said = f.2;
       }
   fault_told h (inr f) = absurd (rose_counted old.failures mid.failures fresh h.3 f.0)

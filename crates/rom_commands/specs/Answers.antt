@@ -1,7 +1,7 @@
 -- What is printed of an image, and how the printing ends. (This project's own.)
 use Rattle.std.specs.Prelude.{◌≡◌, ◌<◌, ℕ, ◌⊎◌, Bool, true, false, List, [], codes}
 use Rattle.std.specs.Io.KnownBytes.{Appends}
-use Rattle.rom_fields.specs.Failures.{Rose}
+use Rattle.rom_fields.specs.Failures.{Rose, one_more}
 use Rattle.rom_fields.specs.Written.{AppendsPrefix, Output, Puts, sink}
 use Rattle.rom_tree.specs.Image.{Image}
 use Rattle.rom_faults.specs.declared.error.CheckError.TheVariants.{Fault}
@@ -22,11 +22,16 @@ use Rattle.rom_commands.specs.declared.shown.Outcome.TheVariants.{Done, Warned, 
 abbrev pub usual_limits : Limits
 usual_limits = record { references = 1048576; depth = 64 }
 
--- m is the image that these bytes hold: its tree is the one that their format gives them, and they have no fault
-pub record Holds (bytes : List ℕ) (m : Image) : Type 0 where
+-- m is the image that these bytes hold under these limits: its tree is the one that their format gives them, and they
+-- have no fault
+pub record HoldsUnder (limits : Limits) (bytes : List ℕ) (m : Image) : Type 0 where
   pub report : Report
-  pub shows : Shows bytes usual_limits m report
-  pub clean : IsFaultless bytes usual_limits
+  pub shows : Shows bytes limits m report
+  pub clean : IsFaultless bytes limits
+
+-- the same under the usual limits
+abbrev pub Holds : List ℕ → Image → Type 0
+Holds bytes m = HoldsUnder usual_limits bytes m
 
 -- the text is what is written of the sound image that these bytes hold
 pub record IsSoundText (bytes : List ℕ) (asked : Asked) (text : List ℕ) : Type 0 where
@@ -36,17 +41,25 @@ pub record IsSoundText (bytes : List ℕ) (asked : Asked) (text : List ℕ) : Ty
   pub clean : IsFaultless bytes usual_limits
   pub same : text ≡ sound_text asked image
 
--- this is the least fault of these bytes, which hold no tree
-pub record HasFault (bytes : List ℕ) (number at : ℕ) : Type 0 where
-  pub refused : IsRefused bytes usual_limits (Fault number at)
-  pub least : IsLeastFault bytes usual_limits (Fault number at)
+-- this is the least fault of these bytes under these limits, which hold no tree
+pub record HasFaultUnder (limits : Limits) (bytes : List ℕ) (number at : ℕ) : Type 0 where
+  pub refused : IsRefused bytes limits (Fault number at)
+  pub least : IsLeastFault bytes limits (Fault number at)
 
--- the text is the line of the fault of these bytes
-pub record IsFaultText (bytes text : List ℕ) : Type 0 where
+-- the same under the usual limits
+abbrev pub HasFault : List ℕ → (number at : ℕ) → Type 0
+HasFault bytes number at = HasFaultUnder usual_limits bytes number at
+
+-- the text is the line of the fault of these bytes under these limits
+pub record IsFaultTextUnder (limits : Limits) (bytes text : List ℕ) : Type 0 where
   pub number : ℕ
   pub at : ℕ
-  pub fault : HasFault bytes number at
+  pub fault : HasFaultUnder limits bytes number at
   pub same : text ≡ fault_line number at
+
+-- the same under the usual limits
+abbrev pub IsFaultText : (bytes text : List ℕ) → Type 0
+IsFaultText bytes text = IsFaultTextUnder usual_limits bytes text
 
 -- what was written of the image that has these bytes, by how it ended
 abbrev pub Ends : List ℕ → Asked → Output → Output → Outcome → Type 0
@@ -75,11 +88,20 @@ status_of WriteFault = status.Failed
 abbrev pub Prints : Output → Output → List ℕ → Type 0
 Prints old new text = (failed : Bool) × Puts (sink old false) (sink new failed) text
 
--- what was held back was handed on, and the status stays; or a write failed, which is told
+-- what was held back was handed on by one flush, and the status stays; or a write failed, which is told
 abbrev pub Flushes : Output → Output → Output → Output → Status → Status → Type 0
 Flushes old new err err' given result =
     ((0 < new.failures) × (result ≡ status.Failed) × Prints err err' (codes "write fault\n"))
-    ⊎ ((old.failures ≡ 0) × (new.failures ≡ 0) × (result ≡ given) × (err' ≡ err))
+    ⊎ ((old.failures ≡ 0) × (new.failures ≡ 0) × (result ≡ given) × (err' ≡ err)
+    × (new.flushes ≡ one_more old.flushes))
+
+-- a flush succeeded, if the outcome says that a whole text was written
+abbrev pub IsHandedOn : Output → Outcome → Type 0
+IsHandedOn new Done = 0 < new.flushes
+IsHandedOn new Warned = 0 < new.flushes
+IsHandedOn new Refused = 0 < new.flushes
+IsHandedOn new Memory = Unit {0}
+IsHandedOn new WriteFault = Unit {0}
 
 -- what standard error says of how the printing ended
 abbrev pub complaint_of : Outcome → List ℕ

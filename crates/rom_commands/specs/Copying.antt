@@ -1,5 +1,5 @@
 -- The bytes of one file of an image, written out: what is written, and how it ends. (This project's own.)
-use Rattle.std.specs.Prelude.{◌≡◌, ℕ, ◌⊎◌, true, false, List, [], ◌++◌, Ok, Err, codes}
+use Rattle.std.specs.Prelude.{◌≡◌, ◌<◌, ℕ, ◌⊎◌, true, false, List, [], ◌++◌, Ok, Err, codes}
 use Rattle.std.specs.Io.KnownBytes.{Appends}
 use Rattle.rom_fields.specs.Failures.{Rose}
 use Rattle.rom_fields.specs.Written.{AppendsPrefix, Output}
@@ -56,6 +56,14 @@ CopyEnds bytes path old new WriteFault =
     CopiesOf bytes path old new WriteFault
     ⊎ ((text : List ℕ) × IsFaultText bytes text × AppendsPrefix old.contents new.contents text
     × Rose old.failures new.failures)
+
+-- a flush succeeded, if the outcome says that a whole text was written
+abbrev pub IsHandedOn : Output → Copied → Type 0
+IsHandedOn new Done = 0 < new.flushes
+IsHandedOn new (Fileless e) = Unit {0}
+IsHandedOn new Refused = 0 < new.flushes
+IsHandedOn new Memory = Unit {0}
+IsHandedOn new WriteFault = Unit {0}
 
 -- the status with which the program ends
 abbrev pub copied_status : Copied → Status

@@ -3,17 +3,22 @@
 use Rattle.std.specs.Prelude.{◌≡◌, ℕ, ◌^◌, ◌⊎◌, List, [], ◌∷◌, ◌++◌, length, codes, decimal, Option, Result, Ok, Err}
 use Rattle.std.specs.Io.KnownBytes.{Appends}
 use Rattle.rom_fields.specs.declared.bytes.Failed.{Failed}
-use Rattle.rom_fields.specs.Failures.{Rose}
+use Rattle.rom_fields.specs.Failures.{Rose, one_more}
 use Rattle.rom_fields.specs.Written.{AppendsPrefix, Output}
+use Rattle.rom_faults.specs.declared.error.CheckError.{CheckError}
+use Rattle.rom_faults.specs.declared.error.CheckError.TheVariants as check
 use Rattle.rom_tree.specs.Image.{Image}
+use Rattle.rom_tree.specs.declared.types.Limits.{Limits}
+use Rattle.image_check.specs.Any.{any_view}
+use Rattle.image_check.specs.declared.any.AnyImage.{AnyImage}
 use Rattle.open_files.specs.Machine.{no_files}
 use Rattle.open_files.specs.Sessions.{no_sessions}
 use Rattle.serve_lines.specs.Served.{Machine, Serves, Finishes, Breaks}
 use Rattle.serve_lines.specs.declared.error.ServeError.{ServeError}
 use Rattle.serve_lines.specs.declared.error.ServeError.TheVariants as serve
 use Rattle.rom_serve.specs.Machines.{image_machine, space_machine}
-use Rattle.rom_commands.specs.Lines.{fault_text}
-use Rattle.rom_commands.specs.Answers.{Holds, HasFault, IsFaultText}
+use Rattle.rom_commands.specs.Lines.{fault_line, fault_text}
+use Rattle.rom_commands.specs.Answers.{Holds, HoldsUnder, HasFault, IsFaultTextUnder, usual_limits}
 use Rattle.rom_commands.specs.declared.status.Status.{Status}
 use Rattle.rom_commands.specs.declared.status.Status.TheVariants as status
 use Rattle.rom_commands.specs.declared.serving.Serving.{Serving}
@@ -54,11 +59,11 @@ Answers m s r₀ r w₀ w TooManyReads =
 Answers m s r₀ r w₀ w Refused = ⊥
 Answers m s r₀ r w₀ w Memory = ⊥
 
--- No line was answered, and nothing was read: a text of a fault was written, or memory was refused.
+-- No line was answered, and nothing was read: a text of a fault was written and flushed once, or memory was refused.
 abbrev pub Refuses : (List ℕ → Type 0) → Input → Input → Output → Output → Serving → Type 0
 Refuses IsText r₀ r w₀ w Refused =
     (r ≡ r₀) × ((text : List ℕ) × IsText text × Appends w₀.contents w.contents text)
-    × (w.failures ≡ w₀.failures)
+    × (w.failures ≡ w₀.failures) × (w.flushes ≡ one_more w₀.flushes)
 Refuses IsText r₀ r w₀ w WriteFault =
     (r ≡ r₀) × ((text : List ℕ) × IsText text × AppendsPrefix w₀.contents w.contents text)
     × Rose w₀.failures w.failures
@@ -67,12 +72,35 @@ Refuses IsText r₀ r w₀ w Served = ⊥
 Refuses IsText r₀ r w₀ w ReadFault = ⊥
 Refuses IsText r₀ r w₀ w TooManyReads = ⊥
 
--- The bytes hold an image, and lines were answered from its tree, nothing of it open at first; or they were
--- refused.
+-- No line was answered, and nothing was read: this text was written and flushed once, or that failed.
+abbrev pub Tells : List ℕ → Input → Input → Output → Output → Serving → Type 0
+Tells text r₀ r w₀ w Refused =
+    (r ≡ r₀) × Appends w₀.contents w.contents text
+    × (w.failures ≡ w₀.failures) × (w.flushes ≡ one_more w₀.flushes)
+Tells text r₀ r w₀ w WriteFault =
+    (r ≡ r₀) × AppendsPrefix w₀.contents w.contents text × Rose w₀.failures w.failures
+Tells text r₀ r w₀ w Memory = ⊥
+Tells text r₀ r w₀ w Served = ⊥
+Tells text r₀ r w₀ w ReadFault = ⊥
+Tells text r₀ r w₀ w TooManyReads = ⊥
+
+-- What serving does, by what the check of the image answered: lines are answered from the image, nothing of it open at
+-- first; or the line of its fault is written; or nothing is done, if memory was refused to the check.
+abbrev pub CheckedEnds : Result AnyImage CheckError → Input → Input → Output → Output → Serving → Type 0
+CheckedEnds (Ok v) r₀ r w₀ w o = Answers (image_machine (any_view v)) (no_files 64) r₀ r w₀ w o
+CheckedEnds (Err (check.Fault number at)) r₀ r w₀ w o = Tells (fault_line number at) r₀ r w₀ w o
+CheckedEnds (Err check.OutOfMemory) r₀ r w₀ w o = (o ≡ Memory) × (r ≡ r₀) × (w ≡ w₀)
+
+-- The bytes hold an image under these limits, and lines were answered from its tree, nothing of it open at first; or
+-- they were refused.
+abbrev pub ServingEndsUnder : Limits → List ℕ → Input → Input → Output → Output → Serving → Type 0
+ServingEndsUnder limits bytes r₀ r w₀ w o =
+    ((m : Image) × HoldsUnder limits bytes m × Answers (image_machine m) (no_files 64) r₀ r w₀ w o)
+    ⊎ Refuses (IsFaultTextUnder limits bytes) r₀ r w₀ w o
+
+-- the same under the usual limits
 abbrev pub ServingEnds : List ℕ → Input → Input → Output → Output → Serving → Type 0
-ServingEnds bytes r₀ r w₀ w o =
-    ((m : Image) × Holds bytes m × Answers (image_machine m) (no_files 64) r₀ r w₀ w o)
-    ⊎ Refuses (IsFaultText bytes) r₀ r w₀ w o
+ServingEnds bytes r₀ r w₀ w o = ServingEndsUnder usual_limits bytes r₀ r w₀ w o
 
 -- Several images.
 

@@ -3,7 +3,7 @@ ghost use Rattle.std.specs.Prelude.{◌≡◌, ◌≤◌};
 ghost use Rattle.rom_tree.specs.Tree.{levels};
 ghost use Rattle.image_check.specs.Any.{any_view};
 ghost use Rattle.rom_commands.specs.Answers.{Prints};
-ghost use Rattle.rom_commands.specs.Copying.{Copies, CopyEnds, copied_status, copied_complaint, no_file_text};
+ghost use Rattle.rom_commands.specs.Copying.{Copies, CopyEnds, IsHandedOn, copied_status, copied_complaint, no_file_text};
 
 use crate::printing::{complain, flushed};
 use crate::shown::write_fault_line;
@@ -109,6 +109,7 @@ pub fn print_file<X: Write, E: ByteWrite>(
     ensures ends { (o : Copied) × (result ≡ copied_status o)
         × CopyEnds bytes.now path.now (⟦<Plain<X> as ByteWrite>⟧.output out.old)
         (⟦<Plain<X> as ByteWrite>⟧.output out.new) o
+        × IsHandedOn (⟦<Plain<X> as ByteWrite>⟧.output out.new) o
         × Prints (E.output err.old) (E.output err.new) (copied_complaint o) }
 {
     match copy(alloc, bytes, path, out) {

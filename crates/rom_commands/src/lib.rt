@@ -19,7 +19,7 @@ pub use asked::Asked;
 pub use copying::{Copied, NoFile, copy, print_file};
 pub use example::hello;
 pub use printing::{complain, print};
-pub use serving::{Serving, serve_image, serve_on};
+pub use serving::{Serving, serve_checked, serve_image, serve_on, serve_under};
 pub use several::{serve_images, serve_several_on};
 pub use shown::{Outcome, has_addresses, show};
 pub use status::{Failure, Status, tell};

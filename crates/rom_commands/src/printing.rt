@@ -3,7 +3,7 @@ ghost use Rattle.std.specs.Prelude.{◌≡◌, ◌++◌, codes, length};
 ghost use Rattle.std.specs.Io.KnownBytes.{Keeps};
 ghost use Rattle.rom_fields.specs.Texts.{escaped};
 ghost use Rattle.rom_commands.specs.Asked.{Fits};
-ghost use Rattle.rom_commands.specs.Answers.{Ends, Flushes, Prints, complaint_of, status_of};
+ghost use Rattle.rom_commands.specs.Answers.{Ends, Flushes, IsHandedOn, Prints, complaint_of, status_of};
 ghost use Rattle.rom_commands.specs.declared.shown.Outcome.{Outcome};
 
 use crate::asked::Asked;
@@ -61,6 +61,7 @@ pub fn print<X: Write, E: ByteWrite>(
     ensures ends { (o : Outcome) × (result ≡ status_of o)
         × Ends bytes.now asked (⟦<Plain<X> as ByteWrite>⟧.output out.old)
         (⟦<Plain<X> as ByteWrite>⟧.output out.new) o
+        × IsHandedOn (⟦<Plain<X> as ByteWrite>⟧.output out.new) o
         × Prints (E.output err.old) (E.output err.new) (complaint_of o) }
 {
     match show(alloc, bytes, asked, out) {

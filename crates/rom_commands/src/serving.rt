@@ -1,6 +1,6 @@
 //! Serving images to lines, and how it ends.
-ghost use Rattle.std.specs.Prelude.{◌≡◌, ◌≤◌, ℕ, length, map};
-ghost use Rattle.rom_fields.specs.Failures.{Counts};
+ghost use Rattle.std.specs.Prelude.{◌≡◌, ◌≤◌, ℕ, length, map, IfOk, OnOk};
+ghost use Rattle.rom_fields.specs.Failures.{Counts, one_more};
 ghost use Rattle.rom_fields.specs.Written.{WritesText};
 ghost use Rattle.rom_tree.specs.Tree.{levels};
 ghost use Rattle.image_check.specs.Any.{any_view};
@@ -8,7 +8,7 @@ ghost use Rattle.open_files.specs.Machine.{no_files};
 ghost use Rattle.rom_serve.specs.Machines.{image_machine};
 ghost use Rattle.rom_commands.specs.Lines.{fault_line};
 ghost use Rattle.rom_commands.specs.Answers.{Prints};
-ghost use Rattle.rom_commands.specs.Serving.{input_of, Answers, serving_of, refusal_of, ServingEnds, serving_status, serving_complaint};
+ghost use Rattle.rom_commands.specs.Serving.{input_of, Answers, CheckedEnds, serving_of, refusal_of, ServingEnds, ServingEndsUnder, serving_status, serving_complaint};
 
 use crate::shown::write_fault_line;
 use crate::status::Status;
@@ -93,6 +93,7 @@ fn tell_fault<W: ByteWrite>(w: &mut W, number: u32, at: u32) -> Result<(), Faile
     ensures text { WritesText (W.output w.old).contents (W.output w.new).contents result
         (fault_line number at) }
     ensures count { Counts (W.output w.old).failures (W.output w.new).failures result }
+    ensures flushed { OnOk result ((W.output w.new).flushes ≡ one_more (W.output w.old).flushes) }
 {
     write_fault_line(w, number, at)?;
     w.flush()
@@ -118,6 +119,46 @@ fn answer_lines<'a, R: ByteRead, W: ByteWrite>(
     }
 }
 
+/// Serves what a check answered, whatever its limits: answers the lines of `r` on `w` from the image
+/// that it accepted, as `rom_serve::serve` does, or writes the line of the fault that it found, and
+/// flushes it. It ends with `Memory` only if memory was refused to the check.
+pub fn serve_checked<'a, R: ByteRead, W: ByteWrite>(
+    alloc: Global,
+    checked: Result<AnyImage<'a>, CheckError>,
+    r: &mut R,
+    w: &mut W,
+) -> Serving
+    requires { IfOk checked (λ v. levels (any_view v).tree ≤ 65) }
+    ensures { CheckedEnds checked.entry
+        (input_of (R.remaining r.old) (R.failures r.old))
+        (input_of (R.remaining r.new) (R.failures r.new))
+        (W.output w.old) (W.output w.new) result }
+{
+    match checked {
+        Ok(image) => answer_lines(alloc, image, r, w),
+        Err(CheckError::Fault { number, at }) => refused(tell_fault(w, number, at)),
+        Err(CheckError::OutOfMemory) => Serving::Memory,
+    }
+}
+
+/// Checks an image under some limits, and serves it as `serve_checked` does. Directories may lie 64
+/// deep, also if the limits allow more.
+pub fn serve_under<R: ByteRead, W: ByteWrite>(
+    alloc: Global,
+    bytes: &[u8],
+    limits: Limits,
+    r: &mut R,
+    w: &mut W,
+) -> Serving
+    ensures { ServingEndsUnder limits bytes.now
+        (input_of (R.remaining r.old) (R.failures r.old))
+        (input_of (R.remaining r.new) (R.failures r.new))
+        (W.output w.old) (W.output w.new) result }
+{
+    let checked = check(alloc, bytes, limits);
+    serve_checked(alloc, checked, r, w)
+}
+
 /// Checks an image under the usual limits, and answers the lines of `r` from its tree on `w`, as
 /// `rom_serve::serve` does. Of an image with a fault the line of the fault is written.
 ///
@@ -134,11 +175,7 @@ pub fn serve_image<R: ByteRead, W: ByteWrite>(
         (input_of (R.remaining r.new) (R.failures r.new))
         (W.output w.old) (W.output w.new) result }
 {
-    match check(alloc, bytes, Limits::usual()) {
-        Ok(image) => answer_lines(alloc, image, r, w),
-        Err(CheckError::Fault { number, at }) => refused(tell_fault(w, number, at)),
-        Err(CheckError::OutOfMemory) => Serving::Memory,
-    }
+    serve_under(alloc, bytes, Limits::usual(), r, w)
 }
 
 /// Says on `err` how serving ended, where it did not end well, and gives the status.

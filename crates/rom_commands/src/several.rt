@@ -1,6 +1,6 @@
 //! Serving several images to the lines of sessions.
-ghost use Rattle.std.specs.Prelude.{◌≡◌, ◌≤◌, ◌<◌, ℕ, length, map, IfOk, IfErr};
-ghost use Rattle.rom_fields.specs.Failures.{Counts};
+ghost use Rattle.std.specs.Prelude.{◌≡◌, ◌≤◌, ◌<◌, ℕ, length, map, IfOk, IfErr, OnOk};
+ghost use Rattle.rom_fields.specs.Failures.{Counts, one_more};
 ghost use Rattle.rom_fields.specs.Written.{WritesText};
 ghost use Rattle.path_walk.specs.Graft.{AreShallow};
 ghost use Rattle.image_check.specs.Any.{any_view};
@@ -87,6 +87,7 @@ fn write_fault_in_line<W: ByteWrite>(
     ensures text { WritesText (W.output w.old).contents (W.output w.new).contents result
         (fault_in_line number at image) }
     ensures count { Counts (W.output w.old).failures (W.output w.new).failures result }
+    ensures unflushed { (W.output w.new).flushes ≡ (W.output w.old).flushes }
 {
     let mut failed = false;
     put_fault(w, &mut failed, number, at);
@@ -101,6 +102,7 @@ fn tell_fault_in<W: ByteWrite>(w: &mut W, number: u32, at: u32, image: u32) -> R
     ensures text { WritesText (W.output w.old).contents (W.output w.new).contents result
         (fault_in_line number at image) }
     ensures count { Counts (W.output w.old).failures (W.output w.new).failures result }
+    ensures flushed { OnOk result ((W.output w.new).flushes ≡ one_more (W.output w.old).flushes) }
 {
     write_fault_in_line(w, number, at, image)?;
     w.flush()

@@ -55,6 +55,7 @@ pub(crate) fn write_fault_line<W: ByteWrite>(w: &mut W, number: u32, at: u32) ->
     ensures text { WritesText (W.output w.old).contents (W.output w.new).contents result
         (fault_line number at) }
     ensures count { Counts (W.output w.old).failures (W.output w.new).failures result }
+    ensures unflushed { (W.output w.new).flushes ≡ (W.output w.old).flushes }
 {
     let mut failed = false;
     put_fault(w, &mut failed, number, at);

@@ -5,7 +5,7 @@ ghost use Rattle.rom_tree.specs.Tree.{levels};
 ghost use Rattle.path_walk.specs.Graft.{AreShallow};
 ghost use Rattle.open_files.specs.Machine.{no_files};
 ghost use Rattle.open_files.specs.Sessions.{no_sessions};
-ghost use Rattle.serve_lines.specs.Served.{Serves, Finishes, Breaks};
+ghost use Rattle.serve_lines.specs.Served.{Serves, Finishes, Breaks, ReadsUpTo};
 ghost use Rattle.serve_lines.specs.declared.error.ServeError.TheVariants.{ReadFault, WriteFault, TooManyReads};
 ghost use Rattle.rom_serve.specs.Machines.{image_machine, space_machine};
 
@@ -49,6 +49,7 @@ pub fn serve<'a, T: TreeImage<'a>, R: ByteRead, W: ByteWrite>(
     ensures too_many { result ≡ Err TooManyReads → (y : List ℕ) × (length y ≡ 2 ^ 40)
         × Finishes (image_machine (T.image image)) (no_files 64)
         (R.remaining r.old) (R.remaining r.new) (W.output w.old) (W.output w.new) y }
+    ensures bounded { ReadsUpTo (2 ^ 40) (R.remaining r.old) (R.remaining r.new) }
 {
     serve_bounded(image, r, w, 1 << 40)
 }
@@ -79,6 +80,7 @@ pub fn serve_bounded<'a, T: TreeImage<'a>, R: ByteRead, W: ByteWrite>(
     ensures too_many { result ≡ Err TooManyReads → (y : List ℕ) × (length y ≡ reads)
         × Finishes (image_machine (T.image image)) (no_files 64)
         (R.remaining r.old) (R.remaining r.new) (W.output w.old) (W.output w.new) y }
+    ensures bounded { ReadsUpTo reads (R.remaining r.old) (R.remaining r.new) }
 {
     let mut machine = OneSession {
         calls: One {
@@ -119,6 +121,7 @@ pub fn serve_space<'a, T: TreeImage<'a>, R: ByteRead, W: ByteWrite>(
     ensures too_many { result ≡ Err TooManyReads → (y : List ℕ) × (length y ≡ 2 ^ 40)
         × Finishes (space_machine (map T.image images.items)) (no_sessions 64)
         (R.remaining r.old) (R.remaining r.new) (W.output w.old) (W.output w.new) y }
+    ensures bounded { ReadsUpTo (2 ^ 40) (R.remaining r.old) (R.remaining r.new) }
 {
     let calls: Space<'a, T, 64> = Space::new(images);
     let mut machine = SeveralSessions {

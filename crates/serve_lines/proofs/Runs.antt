@@ -1,5 +1,5 @@
 -- What has been read and written at a moment of a run, and how it goes on.
-use Rattle.std.proofs.Common.{◌≡◌, ℕ, ◌+◌, ◌<◌, Bool, true, false, ◌==◌, List, [], ◌∷◌, ◌++◌, Option, length, take, refl, sym, ap, ◌∙◌, append_assoc, append-nil, arith, cond, subst, ◌-◌, length-append, Some, None, zero, suc, ◌≢◌}
+use Rattle.std.proofs.Common.{◌≡◌, ℕ, ◌+◌, ◌<◌, ◌≤◌, Bool, true, false, ◌==◌, List, [], ◌∷◌, ◌++◌, Option, length, take, refl, sym, ap, ◌∙◌, append_assoc, append-nil, arith, cond, subst, ◌-◌, length-append, Some, None, zero, suc, ◌≢◌}
 use Rattle.rom_fields.specs.Failures.{Rose, one_more, after_flushes}
 use Rattle.std.proofs.Math.Seq.{take-append_seam}
 use Rattle.std.proofs.lemmas.List.{take_all}
@@ -9,7 +9,7 @@ use Rattle.std.proofs.KnownBytes.{Appends-trans, Consumes-trans, Appends-nil, Co
 use Rattle.std.specs.Prelude.{map, ◌||◌}
 use Rattle.std.specs.List.{list_any}
 use Rattle.rom_fields.specs.Written.{AppendsPrefix, Output}
-use Rattle.serve_lines.specs.Served.{Machine, Exchange, ForgetsLong, exchanges, replies_text, last_line, lines_after, whole_lines_after, but_last, IsFront, Serves, Finishes, Breaks, last_reply, used_after, line_feed}
+use Rattle.serve_lines.specs.Served.{Machine, Exchange, ForgetsLong, ReadsUpTo, exchanges, replies_text, last_line, lines_after, whole_lines_after, but_last, IsFront, Serves, Finishes, Breaks, last_reply, used_after, line_feed}
 
 -- y was read, these exchanges were told and flushed one after the other, the machine is in state s, and the unfinished
 -- line is `line`
@@ -357,6 +357,22 @@ module _ {S : Type 0} (m : Machine S) where
     pub line : List ℕ
     pub items-is : items ≡ take 8192 line
     pub run : Run m start r₀ r w₀ w s line count
+
+  -- no more was read than there were reads
+  pub run-bounds : (start : S) (r₀ r r' : Option (List ℕ)) (w₀ w : Output) (s : S) (items : List ℕ) (count reads : ℕ) → Runs start r₀ r w₀ w s items count
+      → count ≤ reads → Keeps r r' → ReadsUpTo reads r₀ r'
+  run-bounds start r₀ r r' w₀ w s items count reads runs few kept =
+      let y = runs.run.y in
+      let counted = runs.run.counted in
+      (y, omega (arith, counted, few), Consumes-kept r₀ r r' y runs.run.read kept)
+
+  -- and with one read more
+  pub run-bounds_after : (start : S) (r₀ r r' : Option (List ℕ)) (w₀ w : Output) (s : S) (items : List ℕ) (count reads b : ℕ) → Runs start r₀ r w₀ w s items count
+      → count < reads → Consumes r r' (b ∷ []) → ReadsUpTo reads r₀ r'
+  run-bounds_after start r₀ r r' w₀ w s items count reads b runs few read =
+      let y = runs.run.y in
+      let counted = runs.run.counted in
+      (y ++ b ∷ [], omega (arith, counted, few, length-append y (b ∷ [])), Consumes-trans r₀ r r' y (b ∷ []) runs.run.read read)
 
 module _ {S : Type 0} (m : Machine S) (law : ForgetsLong m) where
   reply-known : (s : S) (items line : List ℕ) → items ≡ take 8192 line → m.reply s items ≡ m.reply s line

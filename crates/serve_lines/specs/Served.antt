@@ -1,5 +1,5 @@
 -- What a server of lines writes for an input, and how much of the input it uses. (This project's own.)
-use Rattle.std.specs.Prelude.{◌≡◌, ℕ, ◌-◌, Bool, false, if◌then◌else◌, ◌==◌, List, [], ◌∷◌, ◌++◌, Option, length, take, IfSome}
+use Rattle.std.specs.Prelude.{◌≡◌, ◌≤◌, ℕ, ◌-◌, Bool, false, if◌then◌else◌, ◌==◌, List, [], ◌∷◌, ◌++◌, Option, length, take, IfSome}
 use Rattle.std.specs.Io.KnownBytes.{Appends, Consumes}
 use Rattle.std.specs.List.{list_any}
 use Rattle.rom_fields.specs.Failures.{after_flushes}
@@ -98,6 +98,10 @@ but_last y = take (length y - 1) y
 
 abbrev pub IsFront : List ℕ → List ℕ → Type 0
 IsFront front whole = (rest : List ℕ) × (whole ≡ front ++ rest)
+
+-- at most n bytes were read
+abbrev pub ReadsUpTo : ℕ → (r₀ r : Option (List ℕ)) → Type 0
+ReadsUpTo n r₀ r = (y : List ℕ) × (length y ≤ n) × Consumes r₀ r y
 
 module _ {S : Type 0} where
   -- none of these lines ends the serving

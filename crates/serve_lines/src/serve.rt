@@ -3,7 +3,7 @@ ghost use Rattle.std.specs.Prelude.{◌≡◌, ℕ, List, ◌∷◌, [], ◌++�
 ghost use Rattle.std.specs.Io.KnownBytes.{Appends};
 ghost use Rattle.rom_fields.specs.Failures.{Rose, Counts, after_flush, after_flushes};
 ghost use Rattle.rom_fields.specs.Written.{WritesText, AppendsPrefix};
-ghost use Rattle.serve_lines.specs.Served.{Serves, Finishes, Breaks, ForgetsLong, last_line, last_reply};
+ghost use Rattle.serve_lines.specs.Served.{Serves, Finishes, Breaks, ForgetsLong, ReadsUpTo, last_line, last_reply};
 ghost use Rattle.serve_lines.specs.declared.error.ServeError.TheVariants.{ReadFault, WriteFault, TooManyReads};
 
 use crate::buffered::{Buffered, Lent, Reached};
@@ -122,7 +122,7 @@ fn answer_last<M: LineMachine, W: ByteWrite>(
 /// Answers the lines of `r` on `w`, up to the end of the input or to the first line that ends the
 /// serving. It reads one byte a call, at most `reads` times, and keeps 8,192 bytes of a line. Each
 /// reply is written whole and flushed before the next byte is read, in one write for each 4,096
-/// bytes of it.
+/// bytes of it. However it ends, at most `reads` bytes were read.
 ///
 /// # Errors
 ///
@@ -151,6 +151,7 @@ pub fn serve_lines<M: LineMachine, R: ByteRead, W: ByteWrite>(
     ensures too_many { result ≡ Err TooManyReads → (y : List ℕ) × (length y ≡ reads)
         × Finishes (M.machine m.old) (M.state m.old) (R.remaining r.old) (R.remaining r.new)
         (W.output w.old) (W.output w.new) y }
+    ensures bounded { ReadsUpTo reads (R.remaining r.old) (R.remaining r.new) }
 {
     let mut line: Line = ArrayVec::new();
     for _ in 0..reads {

@@ -1,12 +1,14 @@
 use Rattle.rom_commands.specs.Answers.{usual_limits}
-use Rattle.headline.proofs.Served.{accepted, built}
+use Rattle.headline.proofs.OpenedWhole.{placed_opened}
+use Rattle.headline.proofs.Volumes.{volume_by}
+use Rattle.headline.proofs.Served.{accepted, built, built_under}
 use Rattle.headline.proofs.headline.Goals as goal
 
 pub returns-clause-accepted : goal.returns-clause-accepted
 returns-clause-accepted c = accepted
 
 pub returns-clause-one : goal.returns-clause-one
-returns-clause-one c = λ bytes. c.one_tree.ensures bytes usual_limits usual_limits
+returns-clause-one c = c.one_tree.ensures
 
 pub returns-clause-built : goal.returns-clause-built
 returns-clause-built c = λ f text contents bytes r₀ r w₀ w o b.
@@ -17,3 +19,17 @@ pub returns-clause-placed : goal.returns-clause-placed
 returns-clause-placed c = λ f text contents bytes m b e.
     let law = c.built_is_placed.ensures in
     (law.named f text contents bytes m b e, law.runs f text contents bytes m b e)
+
+pub returns-clause-built_under : goal.returns-clause-built_under
+returns-clause-built_under c = λ limits f text contents bytes r₀ r w₀ w o b.
+    let law = c.built_is_accepted.ensures in
+    built_under limits text contents bytes r₀ r w₀ w o (c.exact.ensures.faultless bytes usual_limits (law.faultless f text contents bytes b))
+    (c.one_tree.ensures bytes limits usual_limits) (law.meant f text contents bytes b)
+
+pub returns-clause-mapped : goal.returns-clause-mapped
+returns-clause-mapped c = λ f text contents bytes m image b e tree.
+    placed_opened image m (c.built_is_placed.ensures.runs f text contents bytes m b e image.tree tree)
+
+pub returns-clause-volume : goal.returns-clause-volume
+returns-clause-volume c = λ limits f text contents bytes m v b e shows format.
+    volume_by f bytes m.volume limits b.3.tree v b.3.holds (c.built_is_placed.ensures.named f text contents bytes m b e) shows format

@@ -1,4 +1,5 @@
 use Rattle.image_build.specs.Streamed.{image_with}
+use Rattle.headline.proofs.OpenedWhole.{placed_opened}
 use Rattle.headline.proofs.Served.{built, given, of_some}
 use Rattle.headline.proofs.streamed.Goals as goal
 
@@ -19,3 +20,7 @@ pub returns-clause-placed : goal.returns-clause-placed
 returns-clause-placed c = λ text p told old new is s.
     let law = c.streamed_is_placed.ensures in
     (law.named text p told old new is s, λ t. law.runs text p told old new t is s)
+
+pub returns-clause-mapped : goal.returns-clause-mapped
+returns-clause-mapped c = λ text p told old new image is s tree.
+    placed_opened image is.lines (c.streamed_is_placed.ensures.runs text p told old new image.tree is s tree)

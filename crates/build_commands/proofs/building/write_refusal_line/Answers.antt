@@ -17,3 +17,9 @@ returns-else-failed-clause-text g c = said_ok _ _ _ _ c.if-failed.false (chain c
 pub returns-else-failed-clause-count : goal.returns-else-failed-clause-count
 unfolding refusal_line
 returns-else-failed-clause-count g c = said_quiet _ _ _ _ c.if-failed.false (chain c.put.ensures (chain c.put-2.ensures (chain c.put_long_decimal.ensures (chain c.put-3.ensures (chain c.put_decimal.ensures (chain c.put-4.ensures (chain c.put-5.ensures c.put-6.ensures)))))))
+
+pub returns-then-failed-clause-unflushed : goal.returns-then-failed-clause-unflushed
+returns-then-failed-clause-unflushed g c = (chain c.put.ensures (chain c.put-2.ensures (chain c.put_long_decimal.ensures (chain c.put-3.ensures (chain c.put_decimal.ensures (chain c.put-4.ensures (chain c.put-5.ensures c.put-6.ensures))))))).unflushed
+
+pub returns-else-failed-clause-unflushed : goal.returns-else-failed-clause-unflushed
+returns-else-failed-clause-unflushed g c = (chain c.put.ensures (chain c.put-2.ensures (chain c.put_long_decimal.ensures (chain c.put-3.ensures (chain c.put_decimal.ensures (chain c.put-4.ensures (chain c.put-5.ensures c.put-6.ensures))))))).unflushed

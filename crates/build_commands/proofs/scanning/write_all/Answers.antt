@@ -12,3 +12,9 @@ returns-else-failed-clause-text g c = said_ok _ _ _ _ c.if-failed.false c.put_al
 
 pub returns-else-failed-clause-count : goal.returns-else-failed-clause-count
 returns-else-failed-clause-count g c = said_quiet _ _ _ _ c.if-failed.false c.put_all.ensures
+
+pub returns-then-failed-clause-unflushed : goal.returns-then-failed-clause-unflushed
+returns-then-failed-clause-unflushed g c = c.put_all.ensures.unflushed
+
+pub returns-else-failed-clause-unflushed : goal.returns-else-failed-clause-unflushed
+returns-else-failed-clause-unflushed g c = c.put_all.ensures.unflushed

@@ -60,3 +60,6 @@ returns-clause-too_many g c =
     (g.W.ByteWrite.output c.args.w.now) (g.W.ByteWrite.output c.serve_lines.new.w) y in
     subst (λ ms. P ms (no_sessions 64)) same
     (subst (P (map g.T.Viewed.image c.new-calls.result.images.items)) c.new-calls.ensures.empty c.serve_lines.ensures.too_many)
+
+pub returns-clause-bounded : goal.returns-clause-bounded
+returns-clause-bounded g c = c.serve_lines.ensures.bounded

@@ -1,5 +1,5 @@
 use Rattle.std.proofs.Common.{◌≡◌, refl, ◌∙◌, arith}
-use Rattle.serve_lines.proofs.Runs.{run-begins, run-stops, run-fails, run-ends, run-breaks_at_end, run-goes_on, run-answers, run-quits, run-breaks, rose-from}
+use Rattle.serve_lines.proofs.Runs.{run-begins, run-stops, run-fails, run-ends, run-breaks_at_end, run-goes_on, run-answers, run-quits, run-breaks, run-bounds, run-bounds_after, rose-from}
 use Rattle.serve_lines.proofs.serve.serve_lines.Goals as goal
 
 pub loop-init : goal.loop-init
@@ -61,3 +61,26 @@ returns-clause-too_many g c = λ _.
     let found = run-stops _ c.requires _ _ _ _ _ _ _ _ c.loop.invariant.runs in
     let all : c.loop.counter ≡ c.args.reads = omega arith in
     (found.0, found.1 ∙ all, found.2)
+
+pub returns-in-Ok-clause-bounded : goal.returns-in-Ok-clause-bounded
+returns-in-Ok-clause-bounded g c =
+    let few = c.loop-test.true in
+    run-bounds _ _ _ _ _ _ _ _ _ _ _ c.loop.invariant.runs (omega (arith, few)) c.in-End.ensures.0
+
+pub returns-in-Err-clause-bounded : goal.returns-in-Err-clause-bounded
+returns-in-Err-clause-bounded g c =
+    let few = c.loop-test.true in
+    run-bounds _ _ _ _ _ _ _ _ _ _ _ c.loop.invariant.runs (omega (arith, few)) c.in-End.ensures.0
+
+pub returns-in-Err-answer_line-clause-bounded : goal.returns-in-Err-answer_line-clause-bounded
+returns-in-Err-answer_line-clause-bounded g c =
+    run-bounds_after _ _ _ _ _ _ _ _ _ _ _ _ c.loop.invariant.runs c.loop-test.true c.in-Byte.ensures.0
+
+pub returns-then-last-clause-bounded : goal.returns-then-last-clause-bounded
+returns-then-last-clause-bounded g c =
+    run-bounds_after _ _ _ _ _ _ _ _ _ _ _ _ c.loop.invariant.runs c.loop-test.true c.in-Byte.ensures.0
+
+pub returns-in-Fault-clause-bounded : goal.returns-in-Fault-clause-bounded
+returns-in-Fault-clause-bounded g c =
+    let few = c.loop-test.true in
+    run-bounds _ _ _ _ _ _ _ _ _ _ _ c.loop.invariant.runs (omega (arith, few)) c.in-Fault.ensures.0
