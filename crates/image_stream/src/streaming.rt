@@ -3,11 +3,10 @@ ghost use Rattle.std.specs.Prelude.{◌≡◌, ◌≢◌, ◌+◌, ◌%◌, ◌<
 ghost use Rattle.std.specs.Io.KnownBytes.{Appends};
 ghost use Rattle.rom_fields.specs.Failures.{Counts};
 ghost use Rattle.rom_fields.specs.Written.{WritesText, AppendsPrefix};
-ghost use Rattle.image_stream.specs.Answers.{LogsLast};
 ghost use Rattle.image_stream.specs.Sources.{Told};
 ghost use Rattle.image_stream.specs.declared.error.StreamError.TheVariants.{Changed};
 ghost use Rattle.image_stream.specs.Segments.{IsLaidOut, image_of};
-ghost use Rattle.image_stream.specs.Outcomes.{AreSized, IsStreamFault, IsWritten};
+ghost use Rattle.image_stream.specs.Outcomes.{AreSized, IsStreamFault, IsStreamed};
 
 use crate::checksum::Checksum;
 use crate::error::StreamError;
@@ -78,9 +77,9 @@ pub fn stream_through<L: Segmented, S: Sources, W: ByteWrite, C: Checksum>(
     requires words { length buffer.old % 4 ≡ 0 }
     ensures told { S.told sources.new ≡ S.told sources.old }
     ensures files { S.files sources.new ≡ S.files sources.old }
-    ensures some { OnOk result ((written : IsWritten (S.told sources.old) (L.form layout.now)
-        C.stored (W.output w.old).contents (W.output w.new).contents)
-        × LogsLast (S.IsLog sources.old) (S.IsLog sources.new) written.answers) }
+    ensures some { OnOk result (IsStreamed (S.told sources.old) (S.IsLog sources.old)
+        (S.IsLog sources.new) (L.form layout.now) C.stored
+        (W.output w.old).contents (W.output w.new).contents) }
     ensures sized { OnOk result (Told (S.told sources.old) (AreSized (L.form layout.now).sizes)) }
     ensures whole { OnOk result (Told (S.told sources.old) (λ cs. Appends
         (W.output w.old).contents (W.output w.new).contents
@@ -135,9 +134,9 @@ pub fn stream<L: Segmented, S: Sources, W: ByteWrite, C: Checksum>(
     requires files { S.files sources.old ≡ length (L.form layout.now).sizes }
     ensures told { S.told sources.new ≡ S.told sources.old }
     ensures files { S.files sources.new ≡ S.files sources.old }
-    ensures some { OnOk result ((written : IsWritten (S.told sources.old) (L.form layout.now)
-        C.stored (W.output w.old).contents (W.output w.new).contents)
-        × LogsLast (S.IsLog sources.old) (S.IsLog sources.new) written.answers) }
+    ensures some { OnOk result (IsStreamed (S.told sources.old) (S.IsLog sources.old)
+        (S.IsLog sources.new) (L.form layout.now) C.stored
+        (W.output w.old).contents (W.output w.new).contents) }
     ensures sized { OnOk result (Told (S.told sources.old) (AreSized (L.form layout.now).sizes)) }
     ensures whole { OnOk result (Told (S.told sources.old) (λ cs. Appends
         (W.output w.old).contents (W.output w.new).contents

@@ -1,6 +1,6 @@
 use Rattle.std.proofs.Common.{◌≡◌, sym, ap, subst, ◌∙◌}
 use Rattle.std.specs.Prelude.{IfErr, OnOk}
-use Rattle.image_stream.specs.Outcomes.{IsStreamFault, IsWritten}
+use Rattle.image_stream.specs.Outcomes.{IsStreamFault, IsStreamed}
 use Rattle.manifest_layout.specs.Format.{Format, romfs, cramfs}
 use Rattle.plan_types.specs.Formats.{format_of}
 use Rattle.image_build.specs.Streamed.{form_in, stored_in}
@@ -11,7 +11,7 @@ pub returns-in-Romfs-clause-some : goal.returns-in-Romfs-clause-some
 returns-in-Romfs-clause-some g c =
     let p = c.args.plan.now in
     let e : p.format ≡ romfs = sym c.format.ensures ∙ ap format_of c.in-Romfs.is in
-    subst (λ (f : Format). OnOk c.stream_through.result (IsWritten (g.S.Sources.told c.args.sources.now) (form_in f p) (stored_in f)
+    subst (λ (f : Format). OnOk c.stream_through.result (IsStreamed (g.S.Sources.told c.args.sources.now) (g.S.Sources.IsLog c.args.sources.now) (g.S.Sources.IsLog c.stream_through.new.sources) (form_in f p) (stored_in f)
     (g.W.ByteWrite.output c.args.w.now).contents (g.W.ByteWrite.output c.stream_through.new.w).contents)) (sym e) c.stream_through.ensures.some
 
 pub returns-in-Romfs-clause-whole : goal.returns-in-Romfs-clause-whole
