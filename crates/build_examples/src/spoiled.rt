@@ -53,13 +53,15 @@ fn copied(content: &[u8], at: u64, buf: &mut [u8]) -> usize
 }
 
 impl<'c> Sources for Spoiled<'c> {
-    ghost use Rattle.std.specs.Prelude.{None, length};
+    ghost use Rattle.std.specs.Prelude.{None, length, ⊤};
 
     ghost told = { λ _. None };
 
     ghost files = { λ s. length s.contents.now };
 
     ghost reads = { λ s. record { failures = s.failures; failed = s.failed } };
+
+    ghost IsLog = { λ _ _. ⊤ };
 
     fn count(&self) -> usize {
         self.contents.len()

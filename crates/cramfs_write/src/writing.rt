@@ -2,7 +2,7 @@
 ghost use Rattle.std.specs.Prelude.{◌≡◌, ◌%◌, ◌≤◌, ℕ, List, map, length, OnOk, OnErr, IfErr};
 ghost use Rattle.cramfs_format.specs.declared.order.Order.{Order};
 ghost use Rattle.crc.specs.Crc.{crc_of};
-ghost use Rattle.image_stream.specs.Outcomes.{AreSized, IsLeastWrong, IsStreamFault, IsWritten};
+ghost use Rattle.image_stream.specs.Outcomes.{AreSized, IsLeastWrong, IsStreamFault, IsStreamed};
 ghost use Rattle.image_stream.specs.Sources.{Told};
 ghost use Rattle.manifest.specs.Grammar.{IsManifest};
 ghost use Rattle.manifest.specs.Lines.{ManifestLines};
@@ -64,7 +64,8 @@ pub fn stream_through<S: Sources, W: ByteWrite>(
     ensures told { S.told sources.new ≡ S.told sources.old }
     ensures files { S.files sources.new ≡ S.files sources.old }
     ensures some { (o : Order) → plan.now.format ≡ cramfs o
-        → OnOk result (IsWritten (S.told sources.old) (form_of o plan.now) crc_of
+        → OnOk result (IsStreamed (S.told sources.old) (S.IsLog sources.old)
+        (S.IsLog sources.new) (form_of o plan.now) crc_of
         (W.output w.old).contents (W.output w.new).contents) }
     ensures sized { OnOk result (Told (S.told sources.old) (AreSized plan.now.sizes)) }
     ensures whole { (o : Order) (m : ManifestLines) (sizes : List ℕ) → IsManifest m
@@ -100,7 +101,8 @@ pub fn stream<S: Sources, W: ByteWrite>(
     ensures told { S.told sources.new ≡ S.told sources.old }
     ensures files { S.files sources.new ≡ S.files sources.old }
     ensures some { (o : Order) → plan.now.format ≡ cramfs o
-        → OnOk result (IsWritten (S.told sources.old) (form_of o plan.now) crc_of
+        → OnOk result (IsStreamed (S.told sources.old) (S.IsLog sources.old)
+        (S.IsLog sources.new) (form_of o plan.now) crc_of
         (W.output w.old).contents (W.output w.new).contents) }
     ensures sized { OnOk result (Told (S.told sources.old) (AreSized plan.now.sizes)) }
     ensures whole { (o : Order) (m : ManifestLines) (sizes : List ℕ) → IsManifest m

@@ -8,8 +8,9 @@ use Rattle.rom_tree.specs.Tree.{Node}
 use Rattle.rom_tree.specs.Image.{Image}
 use Rattle.rom_tree.specs.declared.types.Limits.{Limits}
 use Rattle.rom_tree.specs.declared.types.Report.{Report}
-use Rattle.image_build.specs.Each.{IsMeantEach}
+use Rattle.image_build.specs.Each.{AreRead, IsMeantEach}
 use Rattle.image_check.specs.Checked.{HasTree, Shows, IsRefused, romfs, cramfs}
+use Rattle.image_stream.specs.Answers.{Answer}
 use Rattle.manifest.specs.Grammar.{manifest_of}
 use Rattle.manifest.specs.Lines.{ManifestLines}
 use Rattle.manifest_tree.specs.Meant.{IsMeant}
@@ -71,13 +72,13 @@ built_under limits text contents bytes r₀ r w₀ w o has one meant (inl x) =
     inl (record { lines = is.0; manifest = is.1; tree = x.0.tree; meant = is.2; served = served limits bytes x.0 r₀ r w₀ w o x.1 x.2 })
 built_under limits text contents bytes r₀ r w₀ w o has one meant (inr x) = inr x
 
-pub given : (lines : ManifestLines) (sizes bytes : List ℕ) (r₀ r : Input) (w₀ w : Output) (o : Serving) → ((e : CheckError) → IsRefused bytes usual_limits e → e ≡ check.OutOfMemory)
-    → ((t : Node) → HasTree bytes usual_limits t → (b : ℕ → List ℕ) × IsMeantEach bytes t b lines sizes)
-    → ServingEnds bytes r₀ r w₀ w o → IsServedAsGiven lines sizes bytes r₀ r w₀ w o ⊎ IsUnserved r₀ r w₀ w o
-given lines sizes bytes r₀ r w₀ w o memory meant (inl x) =
+pub given : (answers : List Answer) (lines : ManifestLines) (sizes bytes : List ℕ) (r₀ r : Input) (w₀ w : Output) (o : Serving) → ((e : CheckError) → IsRefused bytes usual_limits e → e ≡ check.OutOfMemory)
+    → ((t : Node) → HasTree bytes usual_limits t → (b : ℕ → List ℕ) × IsMeantEach bytes t b lines sizes × AreRead answers b lines sizes)
+    → ServingEnds bytes r₀ r w₀ w o → IsServedAsGiven answers lines sizes bytes r₀ r w₀ w o ⊎ IsUnserved r₀ r w₀ w o
+given answers lines sizes bytes r₀ r w₀ w o memory meant (inl x) =
     let is = meant x.0.tree (has_tree usual_limits bytes x.0 x.1) in
-    inl (record { tree = x.0.tree; given = is.0; meant = is.1; served = served usual_limits bytes x.0 r₀ r w₀ w o x.1 x.2 })
-given lines sizes bytes r₀ r w₀ w o memory meant (inr x) = inr (unserved bytes r₀ r w₀ w o (no_fault bytes memory) x)
+    inl (record { tree = x.0.tree; given = is.0; meant = is.1; read = is.2; served = served usual_limits bytes x.0 r₀ r w₀ w o x.1 x.2 })
+given answers lines sizes bytes r₀ r w₀ w o memory meant (inr x) = inr (unserved bytes r₀ r w₀ w o (no_fault bytes memory) x)
 
 abbrev pub IsOfSome : (text sizes bytes : List ℕ) (r₀ r : Input) (w₀ w : Output) → Serving → Type 0
 IsOfSome text sizes bytes r₀ r w₀ w o = (contents : List (List ℕ)) × (map length contents ≡ sizes) × IsServedAsMeant text contents bytes r₀ r w₀ w o

@@ -4,8 +4,9 @@ use Rattle.rom_fields.specs.Written.{Output}
 use Rattle.rom_tree.specs.Tree.{Node}
 use Rattle.rom_tree.specs.Image.{Image}
 use Rattle.rom_tree.specs.declared.types.Limits.{Limits}
-use Rattle.image_build.specs.Each.{IsMeantEach}
+use Rattle.image_build.specs.Each.{AreRead, IsMeantEach}
 use Rattle.image_check.specs.Checked.{HasTree}
+use Rattle.image_stream.specs.Answers.{Answer}
 use Rattle.manifest.specs.Grammar.{manifest_of}
 use Rattle.manifest.specs.Lines.{ManifestLines}
 use Rattle.manifest_tree.specs.Meant.{IsMeant}
@@ -44,12 +45,14 @@ abbrev pub IsServedAsMeant : (text : List ℕ) (contents : List (List ℕ)) (byt
     → Serving → Type 0
 IsServedAsMeant text contents bytes r₀ r w₀ w o = IsMeantUnder usual_limits text contents bytes r₀ r w₀ w o
 
--- the tree is what the manifest means, where each of its regular files has contents of its own, of these sizes
-pub record IsServedAsGiven (lines : ManifestLines) (sizes : List ℕ) (bytes : List ℕ) (r₀ r : Input) (w₀ w : Output)
+-- The tree is what the manifest means, where each of its regular files has contents of its own, of these sizes: what
+-- the reads of its source answered.
+pub record IsServedAsGiven (answers : List Answer) (lines : ManifestLines) (sizes : List ℕ) (bytes : List ℕ) (r₀ r : Input) (w₀ w : Output)
     (o : Serving) : Type 0 where
   pub tree : Node
   pub given : ℕ → List ℕ
   pub meant : IsMeantEach bytes tree given lines sizes
+  pub read : AreRead answers given lines sizes
   pub served : IsServedAs bytes tree r₀ r w₀ w o
 
 -- memory was refused, and nothing was read or written

@@ -103,8 +103,9 @@ pub fn built_again()
 /// What follows of an image that was streamed, whatever the sources of the files tell: so of files,
 /// too, which tell nothing. What `image_build::stream` wrote at `Ok` is refused for memory alone:
 /// else it is served as the tree that the manifest means, where each `file` and each `same` line has
-/// contents of its own, of the planned size; and where no source has a copy in the image, as what
-/// it means with some contents of the sources. Its files and its volume's name stand as in one that
+/// contents of its own, of the planned size: the bytes that the reads of its source answered, one
+/// after the other, in the pass that wrote the image. Where no source has a copy in the image, it is
+/// served as what the manifest means with some contents of the sources. Its files and its volume's name stand as in one that
 /// was built.
 pub fn streamed()
     ensures each { (text : List ℕ) (p : Planned) (told : Option (List (List ℕ)))
@@ -112,7 +113,7 @@ pub fn streamed()
         → (is : IsPlanOfText text p)
         → (s : IsWritten told (form_in p.format p) (stored_in p.format) old new)
         → ServingEnds (image_with p s.rest) r₀ r w₀ w o
-        → IsServedAsGiven is.lines p.sizes (image_with p s.rest) r₀ r w₀ w o
+        → IsServedAsGiven s.answers is.lines p.sizes (image_with p s.rest) r₀ r w₀ w o
         ⊎ IsUnserved r₀ r w₀ w o }
     ensures built { (text : List ℕ) (p : Planned) (told : Option (List (List ℕ)))
         (old new : Option (List ℕ)) (r₀ r : Input) (w₀ w : Output) (o : Serving)

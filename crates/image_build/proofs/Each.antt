@@ -1,5 +1,5 @@
 -- What is streamed as romfs is a layout of files with sources of their own.
-use Rattle.std.proofs.Common.{◌≡◌, ◌≢◌, ℕ, ◌+◌, ◌^◌, ◌<◌, List, map, length, drop, get_or, sym, ap, subst, ◌∙◌, arith, Option, None}
+use Rattle.std.proofs.Common.{◌≡◌, ◌≢◌, ℕ, ◌+◌, ◌^◌, ◌<◌, List, [], map, length, drop, get_or, sym, ap, subst, ◌∙◌, arith, Option, None}
 use Rattle.std.specs.List.{AllByRecursion as Every}
 use Rattle.record_forest.specs.Members.{Pairs}
 use Rattle.record_forest.proofs.Lists.{pairs_map, pairs_weaker, every_join}
@@ -15,7 +15,8 @@ use Rattle.manifest_layout.specs.Misfit.{HasNoMisfit}
 use Rattle.romfs_layout.specs.Layout.{root_at, full_size_of, all_headers, layout}
 use Rattle.romfs_layout.specs.Wells.{IsFile, AreWell, AreLinks}
 use Rattle.romfs_layout.specs.Planned.{IsPlanned}
-use Rattle.image_stream.specs.Segments.{IsImage, image_of, checked}
+use Rattle.image_stream.specs.Sources.{content_of}
+use Rattle.image_stream.specs.Segments.{image_of, checked}
 use Rattle.image_stream.specs.WordSums.{balance_of}
 use Rattle.plan_types.specs.Plans.{Planned, IsPlanOf}
 use Rattle.plan_types.proofs.Sized.{Fitting, zeros, lengths, size_is}
@@ -25,6 +26,8 @@ use Rattle.romfs_write.specs.Known.{IsRomfsPlan}
 use Rattle.romfs_write.proofs.Facts.{planned_by, planned_is, full_is, of_names}
 use Rattle.romfs_write.proofs.Laid.{laid_out}
 use Rattle.romfs_write.proofs.Means.{names_mean}
+use Rattle.image_build.proofs.Bodies.{IsOf}
+use Rattle.image_build.proofs.Found.{source_at, says_source, HasGiven, all_given, have_given, sections_given}
 use Rattle.image_build.proofs.Given.{given}
 use Rattle.image_build.proofs.InRomfs.{Apart, all_apart, sections_differ}
 use Rattle.image_build.proofs.Untold.{once, romfs_of}
@@ -58,9 +61,10 @@ all_small_files zs (folder name i own after) small w =
     (omega (arith, zero), every_join (λ i. own_size i < 2 ^ 32) (files own) (files after) (all_small_files zs own small w.2) (all_small_files zs after small w.3))
 
 -- the image of a volume, each of whose files has contents of its own
-pub record IsOfFiles (volume : List ℕ) (root : Inode) (n : Names) (bytes : List ℕ) : Type 0 where
+pub record IsOfFiles (G : ℕ → List ℕ → Type 0) (volume : List ℕ) (root : Inode) (n : Names) (bytes : List ℕ) : Type 0 where
   pub contents : List (List ℕ)
   pub own : Every (HasOwn contents) (files n)
+  pub read : Every (HasGiven G contents) (files n)
   pub links : AreLinks (files n) n
   pub bare : root.fill ≡ no_bytes
   pub planned : IsPlanned volume (own_file root) (own_names n) contents
@@ -95,10 +99,10 @@ module _ (volume : List ℕ) (root : Inode) (n : Names) (zs : List (List ℕ)) (
       subst (Pairs A) (sym (files_same n)) (pairs_map own_file A (files n)
       (pairs_weaker D E (λ i j d k a b. d (line_of i.line k i.fill a ∙ sym (line_of j.line k j.fill b))) (files n) h.lines.1))
 
-  pub each : (told : Option (List (List ℕ))) (rest planned_sizes : List ℕ)
+  pub each : (G : ℕ → List ℕ → Type 0) → ((k : ℕ) → G k []) → (rest planned_sizes : List ℕ)
       → let f = form_of (planned_by volume root n planned_sizes) in
-      IsImage told f.start f.segments f.end rest → IsOfFiles volume root n (checked f.head balance_of rest)
-  each told rest planned_sizes image =
+      IsOf G f.start f.segments f.end rest → IsOfFiles G volume root n (checked f.head balance_of rest)
+  each G none rest planned_sizes image =
       let r = root_at volume in
       let ns = spread (top_of (files n)) (files n) in
       let old = planned_by volume root n planned_sizes in
@@ -107,16 +111,19 @@ module _ (volume : List ℕ) (root : Inode) (n : Names) (zs : List (List ℕ)) (
       let g = form_of new in
       let hs = all_headers r root n in
       let gs = all_headers r (own_file root) (own_names n) in
-      let alike = all_alike r root n in
+      let S = source_at (files n) in
+      let says = says_source (files n) h.lines.1 in
+      let H : ℕ → List ℕ → Type 0 = λ k ys. G (S k) ys in
+      let alike = all_alike S r root n says in
       let zero = zeros ns in
       let known = known_of zero (lengths ns) in
-      let moved : IsImage None f.start g.segments f.end rest =
-      image_moved told f.segments g.segments f.start f.end rest (segments_alike old.items new.items (λ k. item_alike hs gs k alike) (drop 1 old.sections) (drop 1 new.sections) (sections_alike 0 hs gs alike)) image in
+      let moved : IsOf H f.start g.segments f.end rest =
+      image_moved S G f.segments g.segments f.start f.end rest (segments_alike S old.items new.items (λ k. item_alike S hs gs k alike) (drop 1 old.sections) (drop 1 new.sections) (sections_alike S 0 hs gs alike)) image in
       let full : full_size_of r (own_names n) ≡ full_size_of r n = ap pad16 (ends_same (r + 64) n) in
       let end : f.end ≡ g.end = ap (λ (k : ℕ). pad k 1024) (sym full) in
-      let moved' : IsImage None g.start g.segments g.end rest = subst (λ (k : ℕ). IsImage None g.start g.segments k rest) end moved in
+      let moved' : IsOf H g.start g.segments g.end rest = subst (λ (k : ℕ). IsOf H g.start g.segments k rest) end moved in
       let stand = once (segment_of new.items) (romfs_of new.items) (drop 1 new.sections) (sections_differ 0 gs (all_apart r (own_file root) (own_names n) apart_files)) in
-      let c = given None zero ns (lengths ns) g.start g.segments g.end rest stand (laid_out new known).files moved' in
+      let c = given H zero ns (lengths ns) g.start g.segments g.end rest stand (laid_out new known).files moved' in
       let own = planned_owned volume root n zs c.0 h (have c.0 c.1) in
       let mean = names_mean volume (own_file root) (own_names n) c.0 own (subst (λ (ks : List ℕ). IsRomfsPlan (planned_by volume (own_file root) (own_names n) ks)) (sym c.1) known) in
       let heads : full_size old.items ≡ full_size new.items = full_is volume root n ∙ sym full ∙ sym (full_is volume (own_file root) (own_names n)) in
@@ -125,6 +132,8 @@ module _ (volume : List ℕ) (root : Inode) (n : Names) (zs : List (List ℕ)) (
       record {
         contents = c.0;
         own = have c.0 c.1;
+        read = have_given G none S c.0 (files n) says (have c.0 c.1)
+            (all_given (λ k. H k (content_of c.0 k)) c.0 r root n own.well (sections_given H c.0 new.items (drop 1 new.sections) c.3));
         links = h.links;
         bare = h.folder.bytes;
         planned = own;
@@ -133,9 +142,9 @@ module _ (volume : List ℕ) (root : Inode) (n : Names) (zs : List (List ℕ)) (
 
 -- of the plan of a manifest
 pub each_of_plan : Fitting → (p : Planned) (m : ManifestLines) → IsManifest m → length p.sizes ≡ length (sources_of m.lines) → IsPlanOf romfs m p.sizes p
-    → (told : Option (List (List ℕ))) (rest : List ℕ) → IsImage told (form_of p).start (form_of p).segments (form_of p).end rest
-    → IsOfFiles m.volume (root_of m.lines p.sizes) (tree_of m.lines p.sizes) (checked (form_of p).head balance_of rest)
-each_of_plan fitting p m hm count is told rest image =
+    → (G : ℕ → List ℕ → Type 0) → ((k : ℕ) → G k []) → (rest : List ℕ) → IsOf G (form_of p).start (form_of p).segments (form_of p).end rest
+    → IsOfFiles G m.volume (root_of m.lines p.sizes) (tree_of m.lines p.sizes) (checked (form_of p).head balance_of rest)
+each_of_plan fitting p m hm count is G none rest image =
     let sizes = p.sizes in
     let zs = zeros sizes in
     let e = lengths sizes in
@@ -143,6 +152,6 @@ each_of_plan fitting p m hm count is told rest image =
     let h = subst (λ (ns : List ℕ). IsPlanned m.volume (root_of m.lines ns) (tree_of m.lines ns) zs) e (fitting romfs m zs hm fits) in
     let small = subst (λ (ns : List ℕ). (file : ℕ) → get_or ns file 0 < 2 ^ 32) (sym e) (sizes_small romfs m sizes hm count is.fits) in
     let q = planned_is m sizes p is in
-    let moved = subst (λ (x : Planned). IsImage told (form_of x).start (form_of x).segments (form_of x).end rest) q image in
-    subst (λ (x : Planned). IsOfFiles m.volume (root_of m.lines sizes) (tree_of m.lines sizes) (checked (form_of x).head balance_of rest)) (sym q)
-    (each m.volume (root_of m.lines sizes) (tree_of m.lines sizes) zs h small told rest sizes moved)
+    let moved = subst (λ (x : Planned). IsOf G (form_of x).start (form_of x).segments (form_of x).end rest) q image in
+    subst (λ (x : Planned). IsOfFiles G m.volume (root_of m.lines sizes) (tree_of m.lines sizes) (checked (form_of x).head balance_of rest)) (sym q)
+    (each m.volume (root_of m.lines sizes) (tree_of m.lines sizes) zs h small G none rest sizes moved)

@@ -2,6 +2,7 @@ pub mod Answered
 pub mod Whole
 mod Filled
 mod Streams
+mod Bodies
 mod Given
 mod Differ
 mod InCramfs
@@ -12,7 +13,8 @@ mod Owned
 mod Alike
 mod Moved
 mod Sizes
-mod Each
 mod Meaning
+mod Found
+mod Each
 mod Accepting
 pub mod Placing

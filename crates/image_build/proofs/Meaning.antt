@@ -11,7 +11,7 @@ use Rattle.manifest.specs.Grammar.{IsManifest}
 use Rattle.manifest.specs.Lines.{ManifestLines}
 use Rattle.manifest_tree.specs.Meant.{IsMeant}
 use Rattle.manifest_tree.specs.Names.{Fill, no_bytes, text, source, Inode, Names, nothing, leaf, link, folder, bytes_of}
-use Rattle.manifest_tree.specs.Shape.{Named, with_names, find_name, file_under, file_value, HasShape}
+use Rattle.manifest_tree.specs.Shape.{Value, Named, with_names, find_name, file_under, file_value, HasShape}
 use Rattle.manifest_tree.specs.Tree.{tree_of, root_of, file_named}
 use Rattle.layout_terms.specs.Files.{files}
 use Rattle.romfs_layout.specs.Wells.{AreLinks, file_of}
@@ -19,6 +19,11 @@ use Rattle.cramfs_layout.specs.Wells.{AreWell}
 use Rattle.cramfs_layout.specs.Planned.{IsPlanned}
 use Rattle.image_build.specs.Each.{bytes_given, value_given, IsMeantEach}
 use Rattle.image_build.proofs.Owned.{own_fill, own_file, own_names, HasOwn, found_has}
+
+-- the contents of each line have a property
+abbrev pub IsGivenEach : (ℕ → List ℕ → Type 0) → (ℕ → List ℕ) → ManifestLines → List ℕ → Type 0
+IsGivenEach G b m sizes =
+    (q : List (List ℕ)) (i : Inode) (k : ℕ) → file_named m.lines sizes q ≡ Some i → i.fill ≡ source k → G k (b i.line)
 
 -- what a list of names leads to
 abbrev pub Leads : Type 0
@@ -134,7 +139,7 @@ meant_of_own leads m sizes bytes t cs hm bare own links shape =
     }
 
 -- of cramfs, where files with the contents of one source share them
-every_found : (is : List Inode) → Pairs (λ i j. i.line ≢ j.line) is → Every (λ i. file_of is i.line ≡ Some i) is
+pub every_found : (is : List Inode) → Pairs (λ i j. i.line ≢ j.line) is → Every (λ i. file_of is i.line ≡ Some i) is
 every_found [] p = tt
 every_found (x ∷ xs) p =
     (rw (eq-eqb x.line x.line refl) refl, every_weaker (λ j. (x.line ≢ j.line) × (file_of xs j.line ≡ Some j)) (λ j. file_of (x ∷ xs) j.line ≡ Some j) (λ j k. rw (ne_eqb x.line j.line k.0) k.1) xs (every_both (λ j. x.line ≢ j.line) (λ j. file_of xs j.line ≡ Some j) xs p.0 (every_found xs p.1)))
@@ -196,3 +201,39 @@ meant_of_sources leads m sizes bytes t cs hm plan meant =
       sized = λ q i k e f. long_found cs n i k (found q i e) f;
       shared = meant.shared;
     }
+
+-- what holds of the contents of each file holds at each path
+pub given_of_own : (G : ℕ → List ℕ → Type 0) → Leads → (m : ManifestLines) (sizes : List ℕ) (cs : List (List ℕ)) → IsManifest m
+    → (root_of m.lines sizes).fill ≡ no_bytes → Every (λ i. (k : ℕ) → i.fill ≡ source k → G k (get_or cs i.line [])) (files (tree_of m.lines sizes)) → AreLinks (files (tree_of m.lines sizes)) (tree_of m.lines sizes)
+    → IsGivenEach G (λ line. get_or cs line []) m sizes
+given_of_own G leads m sizes cs hm bare own links =
+    let root = root_of m.lines sizes in
+    let n = tree_of m.lines sizes in
+    let P : Inode → Type 0 = λ i. (k : ℕ) → i.fill ≡ source k → G k (get_or cs i.line []) in
+    let all = links_held P (files n) n own own links in
+    let top : P root = λ k e. let z : no_bytes ≡ source k = sym bare ∙ e in absurd (cc) in
+    λ q i k e f. under_held P q (with_names root n) i top all (leads m sizes q hm ∙ e) k f
+
+-- the bytes of a line with a source
+pub at_source : Leads → (m : ManifestLines) (sizes : List ℕ) (cs : List (List ℕ)) → IsManifest m → IsPlanned m.volume (root_of m.lines sizes) (tree_of m.lines sizes) cs
+    → (q : List (List ℕ)) (i : Inode) (k : ℕ) → file_named m.lines sizes q ≡ Some i → i.fill ≡ source k → bytes_at cs (tree_of m.lines sizes) i.line ≡ get_or cs k []
+at_source leads m sizes cs hm plan q i k e f =
+    let n = tree_of m.lines sizes in
+    let all = files_found cs (files n) n plan.well (every_found (files n) plan.lines.1) in
+    let found = under_held (IsFound cs (files n)) q (with_names (root_of m.lines sizes) n) i (inr plan.folder.bytes) all (leads m sizes q hm ∙ e) in
+    sym (ap (bytes_given (bytes_at cs n i.line)) f) ∙ sym (bytes_found cs n i found) ∙ ap (bytes_of cs) f
+
+one_value : (x y : Value) → Some x ≡ Some y → x ≡ y
+one_value x y e = cc
+
+-- two contents of which one tree is what the manifest means are the same at each path
+same_bytes : (cs ds : List (List ℕ)) (i : Inode) → Some (file_value cs i) ≡ Some (file_value ds i) → bytes_of cs i.fill ≡ bytes_of ds i.fill
+unfolding file_value
+same_bytes cs ds i e = ap (λ (v : Value). v.bytes) (one_value (file_value cs i) (file_value ds i) e)
+
+pub same_source : (m : ManifestLines) (sizes : List ℕ) (bytes : List ℕ) (t : Node) (cs ds : List (List ℕ)) → IsMeant bytes t cs m sizes → IsMeant bytes t ds m sizes
+    → (q : List (List ℕ)) (i : Inode) (k : ℕ) → file_named m.lines sizes q ≡ Some i → i.fill ≡ source k → get_or ds k [] ≡ get_or cs k []
+same_source m sizes bytes t cs ds one two q i k e f =
+    let values : option_map (file_value ds) (file_named m.lines sizes q) ≡ option_map (file_value cs) (file_named m.lines sizes q) = sym (two.values q) ∙ one.values q in
+    let same : Some (file_value ds i) ≡ Some (file_value cs i) = sym (ap (option_map (file_value ds)) e) ∙ values ∙ ap (option_map (file_value cs)) e in
+    sym (ap (bytes_of ds) f) ∙ same_bytes ds cs i same ∙ ap (bytes_of cs) f

@@ -1,5 +1,5 @@
 -- The files of what was streamed stand where the manifest asks, and the volume has its name.
-use Rattle.std.proofs.Common.{◌≡◌, ℕ, ◌^◌, List, drop, refl, sym, ap, subst, ◌∙◌, inl, Option, Ok}
+use Rattle.std.proofs.Common.{◌≡◌, ℕ, ◌^◌, List, [], drop, refl, sym, ap, subst, ◌∙◌, inl, Ok}
 use Rattle.std.specs.Option.{option_map}
 use Rattle.rom_tree.specs.Tree.{Node}
 use Rattle.manifest.specs.Lines.{ManifestLines}
@@ -11,7 +11,7 @@ use Rattle.manifest_layout.specs.Format.{Format, romfs, cramfs}
 use Rattle.manifest_layout.specs.Placement.{HasVolume, IsPlaced}
 use Rattle.manifest_layout.proofs.Placing.{placed}
 use Rattle.image_check.specs.Checked.{HasTree}
-use Rattle.image_stream.specs.Segments.{IsImage, checked}
+use Rattle.image_stream.specs.Segments.{checked}
 use Rattle.plan_types.specs.Plans.{Planned}
 use Rattle.plan_types.proofs.Sized.{Fitting}
 use Rattle.romfs_format.specs.Record.{before_zero}
@@ -22,6 +22,7 @@ use Rattle.image_build.specs.Accepted.{usual}
 use Rattle.image_build.specs.Builds.{Builds}
 use Rattle.image_build.specs.Streamed.{IsPlanOfText, form_in, stored_in, image_with, IsBuiltOfSome}
 use Rattle.image_build.proofs.Streams.{HoldsAll, planned_in}
+use Rattle.image_build.proofs.Bodies.{IsOf}
 use Rattle.image_build.proofs.Untold.{in_format}
 use Rattle.image_build.proofs.Owned.{own_file, own_names}
 use Rattle.image_build.proofs.Each.{IsOfFiles, each_of_plan}
@@ -45,10 +46,10 @@ pub record IsInPlace (f : Format) (bytes : List ℕ) (m : ManifestLines) : Type 
   pub tree : (t : Node) × HasTree bytes usual t × IsPlaced t m
   pub volume : HasVolume f bytes m.volume
 
-of_files : RomfsRuns → RomfsNamed → (text : List ℕ) (p : Planned) (is : IsPlanOfText text p) (bytes : List ℕ)
-    → IsOfFiles is.lines.volume (root_of is.lines.lines p.sizes) (tree_of is.lines.lines p.sizes) bytes
+of_files : (G : ℕ → List ℕ → Type 0) → RomfsRuns → RomfsNamed → (text : List ℕ) (p : Planned) (is : IsPlanOfText text p) (bytes : List ℕ)
+    → IsOfFiles G is.lines.volume (root_of is.lines.lines p.sizes) (tree_of is.lines.lines p.sizes) bytes
     → IsInPlace romfs bytes is.lines
-of_files runs name text p is bytes f =
+of_files G runs name text p is bytes f =
     let m = is.lines in
     let root = root_of m.lines p.sizes in
     let n = tree_of m.lines p.sizes in
@@ -69,15 +70,15 @@ of_sources lays names f text p is bytes e b =
 
 module _ (fitting : Fitting) (law : HoldsAll) (runs : RomfsRuns) (name : RomfsNamed) (lays : LaysInPlace) (names : NamesVolume)
     (text : List ℕ) (p : Planned) (is : IsPlanOfText text p) where
-  by_format : (f : Format) → p.format ≡ f → (told : Option (List (List ℕ))) (rest : List ℕ)
-      → IsImage told (form_in f p).start (form_in f p).segments (form_in f p).end rest
+  by_format : (f : Format) → p.format ≡ f → (G : ℕ → List ℕ → Type 0) → ((k : ℕ) → G k []) → (rest : List ℕ)
+      → IsOf G (form_in f p).start (form_in f p).segments (form_in f p).end rest
       → IsInPlace f (checked (form_in f p).head (stored_in f) rest) is.lines
-  by_format romfs e told rest h =
-      of_files runs name text p is _ (each_of_plan fitting p is.lines (text, is.manifest) is.count (planned_in romfs p text e is) told rest h)
-  by_format (cramfs o) e told rest h =
-      of_sources lays names (cramfs o) text p is _ e (in_format fitting law text p is (cramfs o) e tt told rest h)
+  by_format romfs e G none rest h =
+      of_files G runs name text p is _ (each_of_plan fitting p is.lines (text, is.manifest) is.count (planned_in romfs p text e is) G none rest h)
+  by_format (cramfs o) e G none rest h =
+      of_sources lays names (cramfs o) text p is _ e (in_format fitting law text p is (cramfs o) e tt G rest h).built
 
-  pub in_place : (told : Option (List (List ℕ))) (rest : List ℕ)
-      → IsImage told (form_in p.format p).start (form_in p.format p).segments (form_in p.format p).end rest
+  pub in_place : (G : ℕ → List ℕ → Type 0) → ((k : ℕ) → G k []) → (rest : List ℕ)
+      → IsOf G (form_in p.format p).start (form_in p.format p).segments (form_in p.format p).end rest
       → IsInPlace p.format (image_with p rest) is.lines
-  in_place told rest h = by_format p.format refl told rest h
+  in_place G none rest h = by_format p.format refl G none rest h

@@ -1,5 +1,5 @@
 -- What is streamed from sources that tell nothing is what a build answers of some contents.
-use Rattle.std.proofs.Common.{◌≡◌, ℕ, List, [], ◌∷◌, ◌++◌, map, length, drop, refl, sym, ap, subst, ◌∙◌, Option, Ok}
+use Rattle.std.proofs.Common.{◌≡◌, ℕ, List, [], ◌∷◌, ◌++◌, map, length, drop, refl, sym, ap, subst, ◌∙◌, Ok}
 use Rattle.std.specs.List.{AllByRecursion as Every}
 use Rattle.record_forest.specs.Members.{Pairs}
 use Rattle.cramfs_format.specs.declared.order.Order.{Order}
@@ -12,7 +12,7 @@ use Rattle.cramfs_layout.specs.Layout as cramfs_layout
 use Rattle.cramfs_layout.specs.Items as cramfs_items
 use Rattle.romfs_layout.specs.Layout as romfs_layout
 use Rattle.manifest_layout.specs.Format.{Format, romfs, cramfs, layout_of, sections_of}
-use Rattle.image_stream.specs.Segments.{Segment, fixed, content, Form, IsImage, IsLaidOut, image_of, checked}
+use Rattle.image_stream.specs.Segments.{Segment, fixed, content, Form, IsLaidOut, image_from, image_of, checked}
 use Rattle.image_stream.specs.WordSums.{balance_of}
 use Rattle.plan_types.specs.Plans.{Planned, IsPlanOf}
 use Rattle.plan_types.proofs.Sized.{Fitting, zeros, lengths}
@@ -27,7 +27,8 @@ use Rattle.cramfs_write.proofs.Means as cramfs_means
 use Rattle.image_build.specs.Builds.{Builds}
 use Rattle.image_build.specs.Streamed.{IsPlanOfText, form_in, stored_in, HasNoCopies, IsBuiltOfSome}
 use Rattle.image_build.proofs.Streams.{HoldsAll, built, planned_in}
-use Rattle.image_build.proofs.Given.{Lacks, StandOnce, given}
+use Rattle.image_build.proofs.Given.{AreGiven, Lacks, StandOnce, given}
+use Rattle.image_build.proofs.Bodies.{IsOf}
 use Rattle.image_build.proofs.Differ.{Differ, order_differ}
 use Rattle.image_build.proofs.InCramfs.{all_told, all_differ}
 use Rattle.image_build.proofs.InRomfs.{all_apart, sections_differ}
@@ -101,43 +102,56 @@ cramfs_differ o m sizes p is =
     let all : Pairs Differ (drop 1 (sections_of (cramfs o) m sizes)) = order_differ (cramfs_items.sections_from [] 1 (es ++ bs)) each.1 in
     subst (λ (ss : List Section). Pairs Differ (drop 1 ss)) (sym is.sections) all
 
+-- what a build answers of contents with a property, and of any others whose image is the same
+pub record IsBuiltOf (G : ℕ → List ℕ → Type 0) (text : List ℕ) (p : Planned) (form : Form) (bytes : List ℕ) : Type 0 where
+  pub built : IsBuiltOfSome text p bytes
+  pub given : AreGiven G built.contents form.segments
+  pub others : (ds : List (List ℕ)) → map length ds ≡ p.sizes → image_from ds form.start form.segments form.end ≡ image_from built.contents form.start form.segments form.end
+      → Builds p.format text ds (Ok bytes)
+
 module _ (fitting : Fitting) (law : HoldsAll) (text : List ℕ) (p : Planned) (is : IsPlanOfText text p) where
   -- of a form in which each source stands once
-  of_form : (f : Format) (form : Form) (stored : List ℕ → ℕ) (told : Option (List (List ℕ))) (rest : List ℕ) → p.format ≡ f → form.sizes ≡ p.sizes
+  of_form : (f : Format) (form : Form) (stored : List ℕ → ℕ) (G : ℕ → List ℕ → Type 0) (rest : List ℕ) → p.format ≡ f → form.sizes ≡ p.sizes
       → IsLaidOut form → StandOnce form.segments
       → ((cs : List (List ℕ)) → map length cs ≡ p.sizes → image_of form stored cs ≡ layout_of f is.lines cs)
-      → IsImage told form.start form.segments form.end rest → IsBuiltOfSome text p (checked form.head stored rest)
-  of_form f form stored told rest e z laid o means h =
-      let g = given told (zeros form.sizes) form.sizes (lengths form.sizes) form.start form.segments form.end rest o laid.files h in
+      → IsOf G form.start form.segments form.end rest → IsBuiltOf G text p form (checked form.head stored rest)
+  of_form f form stored G rest e z laid o means h =
+      let g = given G (zeros form.sizes) form.sizes (lengths form.sizes) form.start form.segments form.end rest o laid.files h in
       let sized : map length g.0 ≡ p.sizes = g.1 ∙ z in
       let same : checked form.head stored rest ≡ layout_of f is.lines g.0 = ap (checked form.head stored) g.2 ∙ means g.0 sized in
       record {
-        contents = g.0;
-        sized = sized;
-        built = subst (λ (bytes : List ℕ). Builds p.format text g.0 (Ok bytes)) (sym same) (built law f p text g.0 e is sized);
+        built = record {
+          contents = g.0;
+          sized = sized;
+          built = subst (λ (bytes : List ℕ). Builds p.format text g.0 (Ok bytes)) (sym same) (built law f p text g.0 e is sized);
+        };
+        given = g.3;
+        others = λ ds s alike.
+            let all : layout_of f is.lines ds ≡ checked form.head stored rest = sym (means ds s) ∙ ap (checked form.head stored) (alike ∙ sym g.2) in
+            subst (λ (bytes : List ℕ). Builds p.format text ds (Ok bytes)) all (built law f p text ds e is s);
       }
 
-  pub in_format : (f : Format) → p.format ≡ f → HasNoCopies f is.lines → (told : Option (List (List ℕ))) (rest : List ℕ)
-      → IsImage told (form_in f p).start (form_in f p).segments (form_in f p).end rest
-      → IsBuiltOfSome text p (checked (form_in f p).head (stored_in f) rest)
-  in_format romfs e none told rest h =
+  pub in_format : (f : Format) → p.format ≡ f → HasNoCopies f is.lines → (G : ℕ → List ℕ → Type 0) (rest : List ℕ)
+      → IsOf G (form_in f p).start (form_in f p).segments (form_in f p).end rest
+      → IsBuiltOf G text p (form_in f p) (checked (form_in f p).head (stored_in f) rest)
+  in_format romfs e none G rest h =
       let m = is.lines in
       let hm : IsManifest m = (text, is.manifest) in
       let plan = planned_in romfs p text e is in
       let known = romfs_facts.plan_known fitting p (m, p.sizes, hm, is.count, is.planned) e in
-      of_form romfs (in_romfs.form_of p) balance_of told rest e refl (romfs_laid.laid_out p known)
+      of_form romfs (in_romfs.form_of p) balance_of G rest e refl (romfs_laid.laid_out p known)
       (once (in_romfs.segment_of p.items) (romfs_of p.items) (drop 1 p.sections) (romfs_differ m p.sizes hm none p plan))
       (λ cs s. romfs_means.means fitting p m cs hm known (subst (λ (xs : List ℕ). IsPlanOf romfs m xs p) (sym s) plan)) h
-  in_format (cramfs o) e none told rest h =
+  in_format (cramfs o) e none G rest h =
       let m = is.lines in
       let hm : IsManifest m = (text, is.manifest) in
       let plan = planned_in (cramfs o) p text e is in
       let known = cramfs_facts.plan_known fitting o p (m, p.sizes, hm, is.count, is.planned) e in
-      of_form (cramfs o) (in_cramfs.form_of o p) crc_of told rest e refl (cramfs_laid.laid_out o p known)
+      of_form (cramfs o) (in_cramfs.form_of o p) crc_of G rest e refl (cramfs_laid.laid_out o p known)
       (once (in_cramfs.segment_of o p.items) (cramfs_of o p.items) (drop 1 p.sections) (cramfs_differ o m p.sizes p plan))
       (λ cs s. cramfs_means.means fitting o p m cs hm known (subst (λ (xs : List ℕ). IsPlanOf (cramfs o) m xs p) (sym s) plan)) h
 
-  pub untold : HasNoCopies p.format is.lines → (told : Option (List (List ℕ))) (rest : List ℕ)
-      → IsImage told (form_in p.format p).start (form_in p.format p).segments (form_in p.format p).end rest
+  pub untold : HasNoCopies p.format is.lines → (G : ℕ → List ℕ → Type 0) (rest : List ℕ)
+      → IsOf G (form_in p.format p).start (form_in p.format p).segments (form_in p.format p).end rest
       → IsBuiltOfSome text p (checked (form_in p.format p).head (stored_in p.format) rest)
-  untold none told rest h = in_format p.format refl none told rest h
+  untold none G rest h = (in_format p.format refl none G rest h).built

@@ -1,6 +1,7 @@
 -- What a manifest means where each of its regular files has contents of its own. (This project's own.)
-use Rattle.std.specs.Prelude.{◌≡◌, ℕ, List, [], length, Some, ◌↔◌}
+use Rattle.std.specs.Prelude.{◌≡◌, ℕ, List, [], ◌++◌, length, Some, ◌↔◌}
 use Rattle.std.specs.Option.{option_map}
+use Rattle.image_stream.specs.Answers.{Answer, AreReads}
 use Rattle.rom_tree.specs.Tree.{Node, ino_of}
 use Rattle.manifest.specs.Lines.{ManifestLines}
 use Rattle.manifest_tree.specs.Names.{Fill, no_bytes, text, source, Inode}
@@ -36,3 +37,17 @@ pub record IsMeantEach (image : List ℕ) (t : Node) (b : ℕ → List ℕ) (m :
   pub shared : (p q : List (List ℕ)) (x y : Node) (i j : Inode) → node_under p t ≡ Some x → node_under q t ≡ Some y
       → file_named m.lines sizes p ≡ Some i → file_named m.lines sizes q ≡ Some j
       → (ino_of x ≡ ino_of y) ↔ (i.line ≡ j.line)
+
+-- Somewhere among the answers are those of reads of the file, one after the other from 0 on, and xs are their bytes.
+pub record IsReadIn (answers : List Answer) (file : ℕ) (xs : List ℕ) : Type 0 where
+  pub before : List Answer
+  pub mine : List Answer
+  pub after : List Answer
+  pub among : answers ≡ before ++ (mine ++ after)
+  pub reads : AreReads file 0 mine xs
+
+-- the contents of each line are what reads of its source answered
+abbrev pub AreRead : List Answer → (ℕ → List ℕ) → ManifestLines → List ℕ → Type 0
+AreRead answers b m sizes =
+    (q : List (List ℕ)) (i : Inode) (k : ℕ) → file_named m.lines sizes q ≡ Some i → i.fill ≡ source k
+    → IsReadIn answers k (b i.line)

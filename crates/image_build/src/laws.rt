@@ -2,7 +2,7 @@
 ghost use Rattle.std.specs.Prelude.{◌≡◌, ◌≢◌, ℕ, List, Option, map, length, Result, Ok, Err};
 ghost use Rattle.image_build.specs.Accepted.{usual};
 ghost use Rattle.image_build.specs.Builds.{Builds};
-ghost use Rattle.image_build.specs.Each.{IsMeantEach};
+ghost use Rattle.image_build.specs.Each.{AreRead, IsMeantEach};
 ghost use Rattle.image_build.specs.Streamed.{HasNoCopies, IsBuiltOfSome, IsPlanOfText, form_in, image_with, stored_in};
 ghost use Rattle.image_build.specs.declared.error.BuildError.{BuildError};
 ghost use Rattle.image_check.specs.Checked.{HasTree, IsFaultless, IsRefused};
@@ -51,8 +51,9 @@ pub fn built_is_accepted()
 /// What `stream` writes at `Ok` is an image, whatever the sources tell, so where they tell nothing, as
 /// files do, too: a check finds no fault in it and refuses nothing but memory, and the tree that it
 /// finds is what the manifest means, where each `file` and each `same` line has contents of its own,
-/// of the planned size. Where no source has a copy, it is what a build answers to some contents of
-/// the sources: those that they gave. The bytes are those that `w` says were written.
+/// of the planned size: what the reads of its source answered last. Where no source has a copy, it is
+/// what a build answers to some contents of the sources. The bytes are those that `w` says were
+/// written.
 pub fn streamed_is_accepted()
     ensures faultless { (text : List ℕ) (p : Planned) (told : Option (List (List ℕ)))
         (old new : Option (List ℕ)) → IsPlanOfText text p
@@ -66,7 +67,8 @@ pub fn streamed_is_accepted()
         (old new : Option (List ℕ)) (t : Node) → (is : IsPlanOfText text p)
         → (w : IsWritten told (form_in p.format p) (stored_in p.format) old new)
         → HasTree (image_with p w.rest) usual t
-        → (b : ℕ → List ℕ) × IsMeantEach (image_with p w.rest) t b is.lines p.sizes }
+        → (b : ℕ → List ℕ) × IsMeantEach (image_with p w.rest) t b is.lines p.sizes
+        × AreRead w.answers b is.lines p.sizes }
     ensures built { (text : List ℕ) (p : Planned) (told : Option (List (List ℕ)))
         (old new : Option (List ℕ)) → (is : IsPlanOfText text p) → HasNoCopies p.format is.lines
         → (w : IsWritten told (form_in p.format p) (stored_in p.format) old new)

@@ -3,7 +3,7 @@ ghost use Rattle.std.specs.Prelude.{◌≡◌, ◌%◌, ◌≤◌, ℕ, List, ma
 ghost use Rattle.std.specs.Io.KnownBytes.{Appends};
 ghost use Rattle.image_build.specs.Builds.{Builds};
 ghost use Rattle.image_build.specs.Streamed.{IsPlanOfText, form_in, stored_in};
-ghost use Rattle.image_stream.specs.Outcomes.{AreSized, IsStreamFault, IsWritten};
+ghost use Rattle.image_stream.specs.Outcomes.{AreSized, IsStreamFault, IsStreamed};
 ghost use Rattle.image_stream.specs.Sources.{Told};
 ghost use Rattle.rom_fields.specs.Written.{AppendsPrefix};
 
@@ -35,7 +35,8 @@ pub fn stream_through<S: Sources, W: ByteWrite>(
     requires words { length buffer.old % 4 ≡ 0 }
     ensures told { S.told sources.new ≡ S.told sources.old }
     ensures files { S.files sources.new ≡ S.files sources.old }
-    ensures some { OnOk result (IsWritten (S.told sources.old)
+    ensures some { OnOk result (IsStreamed (S.told sources.old) (S.IsLog sources.old)
+        (S.IsLog sources.new)
         (form_in plan.now.format plan.now) (stored_in plan.now.format)
         (W.output w.old).contents (W.output w.new).contents) }
     ensures sized { OnOk result (Told (S.told sources.old) (AreSized plan.now.sizes)) }
@@ -71,7 +72,8 @@ pub fn stream<S: Sources, W: ByteWrite>(
     requires { S.files sources.old ≡ length plan.now.sizes }
     ensures told { S.told sources.new ≡ S.told sources.old }
     ensures files { S.files sources.new ≡ S.files sources.old }
-    ensures some { OnOk result (IsWritten (S.told sources.old)
+    ensures some { OnOk result (IsStreamed (S.told sources.old) (S.IsLog sources.old)
+        (S.IsLog sources.new)
         (form_in plan.now.format plan.now) (stored_in plan.now.format)
         (W.output w.old).contents (W.output w.new).contents) }
     ensures sized { OnOk result (Told (S.told sources.old) (AreSized plan.now.sizes)) }

@@ -17,5 +17,11 @@ fill_step b ys c d n fits front next =
     let left : take (d + n) (take d b ++ ys) ≡ take d b ++ take n ys = ap (λ (k : ℕ). take (k + n) (take d b ++ ys)) (sym len) ∙ take-append-add (take d b) ys n in
     ap (take (d + n)) (put_rest b ys d fits) ∙ left ∙ ap (λ (x : List ℕ). x ++ take n ys) front ∙ ap (λ (x : List ℕ). take d c ++ x) next ∙ sym (take-add d n c)
 
+-- n more bytes of it are at hand
+pub front_step : (b ys : List ℕ) (d n : ℕ) → d ≤ length b → take (d + n) (put_mid d (length b - d) b ys) ≡ take d b ++ take n ys
+front_step b ys d n fits =
+    let len : length (take d b) ≡ d = length-take-le d b fits in
+    ap (take (d + n)) (put_rest b ys d fits) ∙ ap (λ (k : ℕ). take (k + n) (take d b ++ ys)) (sym len) ∙ take-append-add (take d b) ys n
+
 pub length-put_rest : (b ys : List ℕ) (d : ℕ) → d ≤ length b → length ys ≡ length b - d → length (put_mid d (length b - d) b ys) ≡ length b
 length-put_rest b ys d fits len = ap (length {A = ℕ}) (put_rest b ys d fits) ∙ length-append (take d b) ys ∙ omega (arith, length-take-le d b fits)

@@ -4,6 +4,7 @@ pub mod Zeros
 pub mod Rests
 pub mod Images
 pub mod Streams
+pub mod Answering
 pub mod Puts
 pub mod Laid
 pub mod Weights

@@ -7,6 +7,7 @@ use Rattle.image_stream.specs.declared.error.StreamError.{StreamError}
 use Rattle.image_stream.specs.declared.error.StreamError.TheVariants.{SizeDiffers, SourceFault, WriteFault, Changed}
 use Rattle.image_stream.specs.Sources.{content_of, Told, Reads, FailedAt}
 use Rattle.image_stream.specs.Segments.{Form, IsImage, checked}
+use Rattle.image_stream.specs.Answers.{Answer, LogsLast, IsImageRead}
 
 -- the contents of the first n files have the planned sizes
 abbrev pub FrontSized : List ℕ → ℕ → List (List ℕ) → Type 0
@@ -23,12 +24,20 @@ pub record IsLeastWrong (sizes : List ℕ) (file : ℕ) (cs : List (List ℕ)) :
   pub least : FrontSized sizes file cs
 
 -- Whatever the sources told, a whole image was appended: of these contents where they are told, and else of some
--- contents of the planned sizes, with the check value of just these bytes.
+-- contents of the planned sizes, with the check value of just these bytes. These are the answers of the reads that its
+-- contents were taken from.
 pub record IsWritten (told : Option (List (List ℕ))) (f : Form) (stored : List ℕ → ℕ)
     (old new : Option (List ℕ)) : Type 0 where
   pub rest : List ℕ
   pub stands : IsImage told f.start f.segments f.end rest
+  pub answers : List Answer
+  pub read : IsImageRead answers f.start f.segments f.end rest
   pub written : Appends old new (checked f.head stored rest)
+
+-- And its contents are what reads answered last, of all that the log says of.
+abbrev pub IsStreamed : Option (List (List ℕ)) → (List Answer → Type 0) → (List Answer → Type 0) → Form → (List ℕ → ℕ)
+    → Option (List ℕ) → Option (List ℕ) → Type 0
+IsStreamed told was is f stored old new = (w : IsWritten told f stored old new) × LogsLast was is w.answers
 
 -- a whole image was appended, but with a check value that is not that of its bytes
 pub record IsMisstored (told : Option (List (List ℕ))) (f : Form) (stored : List ℕ → ℕ)

@@ -1,11 +1,12 @@
 -- What the parts of a stream do: pieces of segments, and faults on the way. (This project's own.)
-use Rattle.std.specs.Prelude.{◌≡◌, ◌≢◌, ℕ, ◌-◌, ◌<◌, List, ◌++◌, length, take, drop, get_or, Option}
+use Rattle.std.specs.Prelude.{◌≡◌, ◌≢◌, ℕ, ◌-◌, ◌<◌, List, [], ◌++◌, length, take, drop, get_or, Option}
 use Rattle.std.specs.Io.KnownBytes.{Appends}
 use Rattle.rom_fields.specs.Failures.{Rose}
 use Rattle.image_stream.specs.declared.error.StreamError.{StreamError}
 use Rattle.image_stream.specs.declared.error.StreamError.TheVariants.{SizeDiffers, SourceFault, WriteFault, Changed}
 use Rattle.image_stream.specs.Sources.{content_of, Told, Reads, FailedAt}
 use Rattle.image_stream.specs.Segments.{Segment, fixed, content, place, bytes_of, zeros, IsBody, IsImage, image_from}
+use Rattle.image_stream.specs.Answers.{Answer, Logs, AreReads, IsBodyRead, IsImageRead}
 use Rattle.image_stream.specs.Outcomes.{FrontSized, IsLeastWrong}
 
 -- bytes that may stand for the first k bytes of a segment
@@ -32,6 +33,33 @@ pub record IsDone (told : Option (List (List ℕ))) (start : ℕ) (segments : Li
     (ps : List Segment) (xs : List ℕ) : Type 0 where
   pub more : (rest : List ℕ) → IsImage told at ps end rest → IsImage told start segments end (xs ++ rest)
   pub known : Told told (λ cs. xs ++ image_from cs at ps end ≡ image_from cs start segments end)
+
+-- what was read for the first k bytes of a segment
+abbrev pub IsFrontRead : Segment → ℕ → List Answer → List ℕ → Type 0
+IsFrontRead (fixed p bs) k answers xs = (answers ≡ []) × (xs ≡ take k bs)
+IsFrontRead (content p n f) k answers xs = (length xs ≡ k) × AreReads f 0 answers xs
+
+-- and for those from k on
+abbrev pub IsPieceRead : Segment → ℕ → List Answer → List ℕ → Type 0
+IsPieceRead (fixed p bs) k answers xs = (answers ≡ []) × (xs ≡ take (length xs) (drop k bs))
+IsPieceRead (content p n f) k answers xs = AreReads f k answers xs
+
+-- and for the zeros from `at` up to a segment, and its bytes
+abbrev pub IsNextRead : ℕ → Segment → List Answer → List ℕ → Type 0
+IsNextRead at p answers xs =
+    (body : List ℕ) × IsBodyRead answers p body × (xs ≡ zeros (place p - at) ++ body)
+
+-- and for what goes before what stands from `at` on in the segments ps
+abbrev pub IsDoneRead : ℕ → List Segment → ℕ → ℕ → List Segment → List Answer → List ℕ → Type 0
+IsDoneRead start segments end at ps answers xs =
+    (later : List Answer) (rest : List ℕ) → IsImageRead later at ps end rest
+    → IsImageRead (answers ++ later) start segments end (xs ++ rest)
+
+-- answers were logged that are what P says of the bytes
+pub record Read (P : List Answer → List ℕ → Type 0) (was is : List Answer → Type 0) (xs : List ℕ) : Type 0 where
+  pub answers : List Answer
+  pub are : P answers xs
+  pub logged : Logs was is answers
 
 -- Bytes with this property went out, to the writer and into a check value
 pub record Gone (P : List ℕ → Type 0) (old new : Option (List ℕ)) (Was Is : List ℕ → Type 0) : Type 0 where

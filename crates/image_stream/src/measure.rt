@@ -1,5 +1,6 @@
 //! The sizes of the sources, before anything is written.
 ghost use Rattle.std.specs.Prelude.{◌≡◌, ◌<◌, ◌≤◌, ◌^◌, ℕ, List, true, false, length, get_or, OnOk, OnErr, IfOk, IfErr};
+ghost use Rattle.image_stream.specs.Answers.{Grew};
 ghost use Rattle.image_stream.specs.Sources.{Told, content_of, FailedAt};
 ghost use Rattle.image_stream.specs.Outcomes.{AreSized};
 ghost use Rattle.image_stream.specs.Steps.{IsSizeFault, IsLeastFault};
@@ -23,6 +24,7 @@ fn reaches<S: Sources>(
         (λ cs. size ≤ length (content_of cs file))) }
     ensures no { IfOk result (λ yes. yes ≡ false → Told (S.told sources.old)
         (λ cs. length (content_of cs file) < size)) }
+    ensures grew { OnOk result (Grew (S.IsLog sources.old) (S.IsLog sources.new)) }
     ensures quiet { OnOk result (S.reads sources.new ≡ S.reads sources.old) }
     ensures fault { OnErr result (FailedAt file (S.reads sources.old) (S.reads sources.new)) }
 {
@@ -50,6 +52,7 @@ fn measure<S: Sources>(
     ensures files { S.files sources.new ≡ S.files sources.old }
     ensures ok { OnOk result (Told (S.told sources.old)
         (λ cs. length (content_of cs file) ≡ size)) }
+    ensures grew { OnOk result (Grew (S.IsLog sources.old) (S.IsLog sources.new)) }
     ensures quiet { OnOk result (S.reads sources.new ≡ S.reads sources.old) }
     ensures fault { IfErr result (IsSizeFault (S.told sources.old) file size
         (S.reads sources.old) (S.reads sources.new)) }
@@ -78,6 +81,7 @@ pub fn measure_all<L: Segmented, S: Sources>(
     ensures told { S.told sources.new ≡ S.told sources.old }
     ensures files { S.files sources.new ≡ S.files sources.old }
     ensures ok { OnOk result (Told (S.told sources.old) (AreSized (L.form layout.now).sizes)) }
+    ensures grew { OnOk result (Grew (S.IsLog sources.old) (S.IsLog sources.new)) }
     ensures quiet { OnOk result (S.reads sources.new ≡ S.reads sources.old) }
     ensures fault { IfErr result (IsLeastFault (S.told sources.old) (L.form layout.now).sizes
         (S.reads sources.old) (S.reads sources.new)) }

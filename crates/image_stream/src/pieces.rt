@@ -2,9 +2,10 @@
 ghost use Rattle.std.specs.Prelude.{◌≡◌, ◌+◌, ◌%◌, ◌<◌, ◌≤◌, ◌^◌, ◌++◌, ℕ, List, length, take, drop, replicate, OnOk, OnErr, IfErr, IfOk, MatchResult};
 ghost use Rattle.rom_fields.specs.Failures.{Counts, Rose};
 ghost use Rattle.rom_fields.specs.Written.{WritesText, AppendsPrefix};
+ghost use Rattle.image_stream.specs.Answers.{AreReads, IsBodyRead, IsImageRead};
 ghost use Rattle.image_stream.specs.Sources.{Told, content_of};
 ghost use Rattle.image_stream.specs.Segments.{Segment, place, len, segment_at, outline, IsBody, HasSource, bytes_of, zeros, IsLaidOut, IsImage, image_from};
-ghost use Rattle.image_stream.specs.Steps.{IsPiece, IsNext, next_bytes, IsReadFault, IsFault, Gone};
+ghost use Rattle.image_stream.specs.Steps.{IsPiece, IsPieceRead, IsNext, IsNextRead, next_bytes, IsReadFault, IsFault, Gone, Read};
 
 use crate::checksum::Checksum;
 use crate::error::StreamError;
@@ -26,6 +27,8 @@ pub fn read_exactly<S: Sources>(
     ensures files { S.files sources.new ≡ S.files sources.old }
     ensures ok { OnOk result (Told (S.told sources.old)
         (λ cs. buffer.new ≡ take (length buffer.new) (drop at (content_of cs file)))) }
+    ensures read { OnOk result (Read (λ answers xs. AreReads file at answers xs)
+        (S.IsLog sources.old) (S.IsLog sources.new) buffer.new) }
     ensures quiet { OnOk result (S.reads sources.new ≡ S.reads sources.old) }
     ensures fault { IfErr result (IsReadFault (S.told sources.old) file (at + length buffer.old)
         (S.reads sources.old) (S.reads sources.new)) }
@@ -74,6 +77,9 @@ pub fn piece<L: Segmented, S: Sources>(
     ensures files { S.files sources.new ≡ S.files sources.old }
     ensures ok { OnOk result (IsPiece (S.told sources.old)
         (segment_at (L.form layout.now).segments i) from out.new) }
+    ensures read { OnOk result (Read
+        (λ answers xs. IsPieceRead (segment_at (L.form layout.now).segments i) from answers xs)
+        (S.IsLog sources.old) (S.IsLog sources.new) out.new) }
     ensures quiet { OnOk result (S.reads sources.new ≡ S.reads sources.old) }
     ensures fault { IfErr result (IsFault (S.told sources.old) (L.form layout.now).sizes
         (S.reads sources.old) (S.reads sources.new) 0 0) }
@@ -106,7 +112,9 @@ pub fn copy_segment<L: Segmented, S: Sources, W: ByteWrite, C: Checksum>(
     ensures told { S.told sources.new ≡ S.told sources.old }
     ensures files { S.files sources.new ≡ S.files sources.old }
     ensures ok { OnOk result (Gone
-        (IsBody (S.told sources.old) (segment_at (L.form layout.now).segments i))
+        (λ xs. IsBody (S.told sources.old) (segment_at (L.form layout.now).segments i) xs
+        × Read (λ answers xs. IsBodyRead answers (segment_at (L.form layout.now).segments i) xs)
+        (S.IsLog sources.old) (S.IsLog sources.new) xs)
         (W.output w.old).contents (W.output w.new).contents
         (C.Is check.old) (C.Is check.new)) }
     ensures quiet { OnOk result ((S.reads sources.new ≡ S.reads sources.old)
@@ -199,7 +207,9 @@ fn next_segment<L: Segmented, S: Sources, W: ByteWrite, C: Checksum>(
     ensures end { IfOk result (λ n. n ≡ place (segment_at (L.form layout.now).segments i)
         + len (segment_at (L.form layout.now).segments i)) }
     ensures ok { OnOk result (Gone
-        (IsNext (S.told sources.old) at (segment_at (L.form layout.now).segments i))
+        (λ xs. IsNext (S.told sources.old) at (segment_at (L.form layout.now).segments i) xs
+        × Read (λ answers xs. IsNextRead at (segment_at (L.form layout.now).segments i) answers xs)
+        (S.IsLog sources.old) (S.IsLog sources.new) xs)
         (W.output w.old).contents (W.output w.new).contents
         (C.Is check.old) (C.Is check.new)) }
     ensures quiet { OnOk result ((S.reads sources.new ≡ S.reads sources.old)
@@ -238,8 +248,11 @@ pub fn walk<L: Segmented, S: Sources, W: ByteWrite, C: Checksum>(
     requires words { length buffer.old % 4 ≡ 0 }
     ensures told { S.told sources.new ≡ S.told sources.old }
     ensures files { S.files sources.new ≡ S.files sources.old }
-    ensures ok { OnOk result (Gone (IsImage (S.told sources.old)
-        (L.form layout.now).start (L.form layout.now).segments (L.form layout.now).end)
+    ensures ok { OnOk result (Gone (λ xs. IsImage (S.told sources.old)
+        (L.form layout.now).start (L.form layout.now).segments (L.form layout.now).end xs
+        × Read (λ answers xs. IsImageRead answers (L.form layout.now).start
+        (L.form layout.now).segments (L.form layout.now).end xs)
+        (S.IsLog sources.old) (S.IsLog sources.new) xs)
         (W.output w.old).contents (W.output w.new).contents
         (C.Is check.old) (C.Is check.new)) }
     ensures quiet { OnOk result ((S.reads sources.new ≡ S.reads sources.old)

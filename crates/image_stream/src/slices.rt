@@ -1,5 +1,6 @@
 //! Sources that are in memory.
 ghost use Rattle.std.specs.Prelude.{◌≡◌, Some, length};
+ghost use Rattle.image_stream.specs.Answers.{AreOf};
 ghost use Rattle.image_stream.specs.Sources.{no_failures};
 
 use crate::sources::{SourceFailed, Sources};
@@ -26,6 +27,8 @@ impl<'c> Sources for Slices<'c> {
     ghost files = { λ s. length s.contents.now };
 
     ghost reads = { λ _. no_failures };
+
+    ghost IsLog = { λ s log. AreOf s.contents.now log };
 
     fn count(&self) -> usize {
         self.contents.len()

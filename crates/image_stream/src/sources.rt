@@ -1,6 +1,7 @@
 //! Where the contents of files come from.
 ghost use Rattle.std.specs.Prelude.{◌≡◌, ◌<◌, ℕ, List, Option, Some, length};
 ghost use Rattle.std.specs.Io.{ReadsAtMost};
+ghost use Rattle.image_stream.specs.Answers.{Answer, Logs, answer_of};
 ghost use Rattle.image_stream.specs.Sources.{Told, ReadsAt, Reads, after_read_of};
 
 /// A read of a source failed.
@@ -18,6 +19,9 @@ pub trait Sources {
     // How many reads failed, and of which file the last one that did.
     ghost reads: { Self → Reads };
 
+    // This may be the log: what reads answered, in order. Sources that keep no log take any list.
+    ghost IsLog: { Self → List Answer → Type 0 };
+
     /// How many files there are.
     fn count(&self) -> usize
         ensures number { result ≡ files self.now }
@@ -31,5 +35,7 @@ pub trait Sources {
         ensures bytes { ReadsAt (told self.old) file at result buf.new }
         ensures told { told self.new ≡ told self.old }
         ensures files { files self.new ≡ files self.old }
-        ensures count { reads self.new ≡ after_read_of file (reads self.old) result };
+        ensures count { reads self.new ≡ after_read_of file (reads self.old) result }
+        ensures log { Logs (IsLog self.old) (IsLog self.new)
+            (answer_of file at result buf.new) };
 }

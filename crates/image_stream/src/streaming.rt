@@ -6,7 +6,7 @@ ghost use Rattle.rom_fields.specs.Written.{WritesText, AppendsPrefix};
 ghost use Rattle.image_stream.specs.Sources.{Told};
 ghost use Rattle.image_stream.specs.declared.error.StreamError.TheVariants.{Changed};
 ghost use Rattle.image_stream.specs.Segments.{IsLaidOut, image_of};
-ghost use Rattle.image_stream.specs.Outcomes.{AreSized, IsStreamFault, IsWritten};
+ghost use Rattle.image_stream.specs.Outcomes.{AreSized, IsStreamFault, IsStreamed};
 
 use crate::checksum::Checksum;
 use crate::error::StreamError;
@@ -62,8 +62,9 @@ fn confirm<C: Checksum>(written: &C, stored: u32) -> Result<(), StreamError>
 /// check value, in the order of their places, as far as it covers them; and whole for what is
 /// written. Until then nothing was written.
 ///
-/// At `Ok` just the image was written, whatever the sources told. After an error a prefix of it
-/// was, where the sources tell their contents.
+/// At `Ok` just the image was written, whatever the sources told, and the contents of its files are
+/// what the reads answered last, one after the other. After an error a prefix of it was, where the
+/// sources tell their contents.
 pub fn stream_through<L: Segmented, S: Sources, W: ByteWrite, C: Checksum>(
     layout: &L,
     sources: &mut S,
@@ -76,7 +77,8 @@ pub fn stream_through<L: Segmented, S: Sources, W: ByteWrite, C: Checksum>(
     requires words { length buffer.old % 4 ≡ 0 }
     ensures told { S.told sources.new ≡ S.told sources.old }
     ensures files { S.files sources.new ≡ S.files sources.old }
-    ensures some { OnOk result (IsWritten (S.told sources.old) (L.form layout.now) C.stored
+    ensures some { OnOk result (IsStreamed (S.told sources.old) (S.IsLog sources.old)
+        (S.IsLog sources.new) (L.form layout.now) C.stored
         (W.output w.old).contents (W.output w.new).contents) }
     ensures sized { OnOk result (Told (S.told sources.old) (AreSized (L.form layout.now).sizes)) }
     ensures whole { OnOk result (Told (S.told sources.old) (λ cs. Appends
@@ -132,7 +134,8 @@ pub fn stream<L: Segmented, S: Sources, W: ByteWrite, C: Checksum>(
     requires files { S.files sources.old ≡ length (L.form layout.now).sizes }
     ensures told { S.told sources.new ≡ S.told sources.old }
     ensures files { S.files sources.new ≡ S.files sources.old }
-    ensures some { OnOk result (IsWritten (S.told sources.old) (L.form layout.now) C.stored
+    ensures some { OnOk result (IsStreamed (S.told sources.old) (S.IsLog sources.old)
+        (S.IsLog sources.new) (L.form layout.now) C.stored
         (W.output w.old).contents (W.output w.new).contents) }
     ensures sized { OnOk result (Told (S.told sources.old) (AreSized (L.form layout.now).sizes)) }
     ensures whole { OnOk result (Told (S.told sources.old) (λ cs. Appends

@@ -1,5 +1,6 @@
 //! The check value of an image, before anything of it is written.
 ghost use Rattle.std.specs.Prelude.{◌≡◌, ◌+◌, ◌%◌, ◌<◌, ◌≤◌, ◌^◌, ℕ, List, None, length, OnOk, IfErr, IfOk};
+ghost use Rattle.image_stream.specs.Answers.{Grew};
 ghost use Rattle.image_stream.specs.Sources.{Told};
 ghost use Rattle.image_stream.specs.Segments.{place, len, segment_at, IsBody, HasSource, IsLaidOut, IsImage};
 ghost use Rattle.image_stream.specs.Outcomes.{AreSized};
@@ -34,6 +35,7 @@ fn sum_segment<L: Segmented, S: Sources, C: Checksum>(
     ensures ok { OnOk result (Gone
         (IsBody (S.told sources.old) (segment_at (L.form layout.now).segments i))
         None None (C.Is check.old) (C.Is check.new)) }
+    ensures grew { OnOk result (Grew (S.IsLog sources.old) (S.IsLog sources.new)) }
     ensures quiet { OnOk result (S.reads sources.new ≡ S.reads sources.old) }
     ensures fault { IfErr result (IsFault (S.told sources.old) (L.form layout.now).sizes
         (S.reads sources.old) (S.reads sources.new) 0 0) }
@@ -83,6 +85,7 @@ fn sum_next<L: Segmented, S: Sources, C: Checksum>(
     ensures ok { OnOk result (Gone
         (IsNext (S.told sources.old) at (segment_at (L.form layout.now).segments i))
         None None (C.Is check.old) (C.Is check.new)) }
+    ensures grew { OnOk result (Grew (S.IsLog sources.old) (S.IsLog sources.new)) }
     ensures quiet { OnOk result (S.reads sources.new ≡ S.reads sources.old) }
     ensures fault { IfErr result (IsFault (S.told sources.old) (L.form layout.now).sizes
         (S.reads sources.old) (S.reads sources.new) 0 0) }
@@ -117,6 +120,7 @@ pub fn sum_walk<L: Segmented, S: Sources, C: Checksum>(
     ensures ok { OnOk result (Gone (IsImage (S.told sources.old)
         (L.form layout.now).start (L.form layout.now).segments (L.form layout.now).end)
         None None (C.Is check.old) (C.Is check.new)) }
+    ensures grew { OnOk result (Grew (S.IsLog sources.old) (S.IsLog sources.new)) }
     ensures quiet { OnOk result (S.reads sources.new ≡ S.reads sources.old) }
     ensures fault { IfErr result (IsFault (S.told sources.old) (L.form layout.now).sizes
         (S.reads sources.old) (S.reads sources.new) 0 0) }

@@ -28,13 +28,15 @@ struct Turning {
 }
 
 impl Sources for Turning {
-    ghost use Rattle.std.specs.Prelude.{None};
+    ghost use Rattle.std.specs.Prelude.{None, ⊤};
 
     ghost told = { λ _. None };
 
     ghost files = { λ _. 1 };
 
     ghost reads = { λ s. record { failures = s.failures; failed = s.failed } };
+
+    ghost IsLog = { λ _ _. ⊤ };
 
     fn count(&self) -> usize {
         1

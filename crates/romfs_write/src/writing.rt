@@ -1,6 +1,6 @@
 //! An image into a buffer, or through a writer.
 ghost use Rattle.std.specs.Prelude.{◌≡◌, ◌%◌, ◌≤◌, ℕ, List, map, length, OnOk, OnErr, IfErr};
-ghost use Rattle.image_stream.specs.Outcomes.{AreSized, IsLeastWrong, IsStreamFault, IsWritten};
+ghost use Rattle.image_stream.specs.Outcomes.{AreSized, IsLeastWrong, IsStreamFault, IsStreamed};
 ghost use Rattle.image_stream.specs.Sources.{Told};
 ghost use Rattle.image_stream.specs.WordSums.{balance_of};
 ghost use Rattle.manifest.specs.Grammar.{IsManifest};
@@ -61,7 +61,8 @@ pub fn stream_through<S: Sources, W: ByteWrite>(
     requires words { length buffer.old % 4 ≡ 0 }
     ensures told { S.told sources.new ≡ S.told sources.old }
     ensures files { S.files sources.new ≡ S.files sources.old }
-    ensures some { OnOk result (IsWritten (S.told sources.old) (form_of plan.now) balance_of
+    ensures some { OnOk result (IsStreamed (S.told sources.old) (S.IsLog sources.old)
+        (S.IsLog sources.new) (form_of plan.now) balance_of
         (W.output w.old).contents (W.output w.new).contents) }
     ensures sized { OnOk result (Told (S.told sources.old) (AreSized plan.now.sizes)) }
     ensures whole { (m : ManifestLines) (sizes : List ℕ) → IsManifest m
@@ -94,7 +95,8 @@ pub fn stream<S: Sources, W: ByteWrite>(
     requires files { S.files sources.old ≡ length plan.now.sizes }
     ensures told { S.told sources.new ≡ S.told sources.old }
     ensures files { S.files sources.new ≡ S.files sources.old }
-    ensures some { OnOk result (IsWritten (S.told sources.old) (form_of plan.now) balance_of
+    ensures some { OnOk result (IsStreamed (S.told sources.old) (S.IsLog sources.old)
+        (S.IsLog sources.new) (form_of plan.now) balance_of
         (W.output w.old).contents (W.output w.new).contents) }
     ensures sized { OnOk result (Told (S.told sources.old) (AreSized plan.now.sizes)) }
     ensures whole { (m : ManifestLines) (sizes : List ℕ) → IsManifest m

@@ -122,13 +122,15 @@ impl<'a> Disk<'a> {
 }
 
 impl<'a> Sources for Disk<'a> {
-    ghost use Rattle.std.specs.Prelude.{None, length};
+    ghost use Rattle.std.specs.Prelude.{None, length, ⊤};
 
     ghost told = { λ _. None };
 
     ghost files = { λ s. length s.names.now };
 
     ghost reads = { λ s. record { failures = s.failures; failed = s.failed } };
+
+    ghost IsLog = { λ _ _. ⊤ };
 
     fn count(&self) -> usize {
         self.names.len()

@@ -6,7 +6,7 @@ use Rattle.headline.proofs.streamed.Goals as goal
 pub returns-clause-each : goal.returns-clause-each
 returns-clause-each c = λ text p told old new r₀ r w₀ w o is s.
     let law = c.streamed_is_accepted.ensures in
-    given is.lines p.sizes (image_with p s.rest) r₀ r w₀ w o (λ e. law.refused text p told old new e is s) (λ t. law.each text p told old new t is s)
+    given s.answers is.lines p.sizes (image_with p s.rest) r₀ r w₀ w o (λ e. law.refused text p told old new e is s) (λ t. law.each text p told old new t is s)
 
 pub returns-clause-built : goal.returns-clause-built
 returns-clause-built c = λ text p told old new r₀ r w₀ w o is none s ends.

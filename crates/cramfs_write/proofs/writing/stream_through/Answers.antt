@@ -4,7 +4,7 @@ use Rattle.std.specs.Prelude.{IfErr, OnOk}
 use Rattle.rom_fields.specs.Written.{AppendsPrefix}
 use Rattle.cramfs_format.specs.declared.order.Order.{Order}
 use Rattle.crc.specs.Crc.{crc_of}
-use Rattle.image_stream.specs.Outcomes.{IsStreamFault, IsWritten}
+use Rattle.image_stream.specs.Outcomes.{IsStreamFault, IsStreamed}
 use Rattle.image_stream.specs.Segments.{Form, image_of}
 use Rattle.plan_types.specs.Plans.{Planned, IsPlanOf}
 use Rattle.manifest_layout.specs.Format.{cramfs}
@@ -58,5 +58,5 @@ pub returns-clause-some : goal.returns-clause-some
 returns-clause-some g c = λ o is.
     let e = c.new-form.ensures in
     let same = one_order (sym c.order_of-order.ensures ∙ is) in
-    subst (λ (f : Form). OnOk c.stream_through.result (IsWritten (g.S.Sources.told c.args.sources.now) f crc_of
+    subst (λ (f : Form). OnOk c.stream_through.result (IsStreamed (g.S.Sources.told c.args.sources.now) (g.S.Sources.IsLog c.args.sources.now) (g.S.Sources.IsLog c.stream_through.new.sources) f crc_of
     (g.W.ByteWrite.output c.args.w.now).contents (g.W.ByteWrite.output c.stream_through.new.w).contents)) (one_form (e.order ∙ same) e.plan) c.stream_through.ensures.some

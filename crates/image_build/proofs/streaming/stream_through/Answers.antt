@@ -1,6 +1,6 @@
 use Rattle.std.proofs.Common.{◌≡◌, sym, ap, subst, ◌∙◌}
 use Rattle.std.specs.Prelude.{IfErr, OnOk}
-use Rattle.image_stream.specs.Outcomes.{IsStreamFault, IsWritten}
+use Rattle.image_stream.specs.Outcomes.{IsStreamFault, IsStreamed}
 use Rattle.manifest_layout.specs.Format.{Format, romfs, cramfs}
 use Rattle.plan_types.specs.Formats.{format_of}
 use Rattle.image_build.specs.Streamed.{form_in, stored_in}
@@ -11,7 +11,7 @@ pub returns-in-Romfs-clause-some : goal.returns-in-Romfs-clause-some
 returns-in-Romfs-clause-some g c =
     let p = c.args.plan.now in
     let e : p.format ≡ romfs = sym c.format.ensures ∙ ap format_of c.in-Romfs.is in
-    subst (λ (f : Format). OnOk c.stream_through.result (IsWritten (g.S.Sources.told c.args.sources.now) (form_in f p) (stored_in f)
+    subst (λ (f : Format). OnOk c.stream_through.result (IsStreamed (g.S.Sources.told c.args.sources.now) (g.S.Sources.IsLog c.args.sources.now) (g.S.Sources.IsLog c.stream_through.new.sources) (form_in f p) (stored_in f)
     (g.W.ByteWrite.output c.args.w.now).contents (g.W.ByteWrite.output c.stream_through.new.w).contents)) (sym e) c.stream_through.ensures.some
 
 pub returns-in-Romfs-clause-whole : goal.returns-in-Romfs-clause-whole
@@ -68,3 +68,12 @@ returns-in-Cramfs-clause-fault g c =
     subst (λ (f : Format). IfErr c.stream_through-in-Cramfs.result (IsStreamFault (g.S.Sources.told c.args.sources.now) (form_in f p) (stored_in f)
     (g.S.Sources.reads c.args.sources.now) (g.S.Sources.reads c.stream_through-in-Cramfs.new.sources) (g.W.ByteWrite.output c.args.w.now) (g.W.ByteWrite.output c.stream_through-in-Cramfs.new.w)))
     (sym e) (c.stream_through-in-Cramfs.ensures.fault x.0 e)
+
+pub returns-in-Cramfs-clause-some : goal.returns-in-Cramfs-clause-some
+returns-in-Cramfs-clause-some g c =
+    let p = c.args.plan.now in
+    let x = in_cramfs c.format.result c.in-Cramfs.is in
+    let e : p.format ≡ cramfs x.0 = sym c.format.ensures ∙ x.1 in
+    subst (λ (f : Format). OnOk c.stream_through-in-Cramfs.result (IsStreamed (g.S.Sources.told c.args.sources.now) (g.S.Sources.IsLog c.args.sources.now) (g.S.Sources.IsLog c.stream_through-in-Cramfs.new.sources) (form_in f p) (stored_in f)
+    (g.W.ByteWrite.output c.args.w.now).contents (g.W.ByteWrite.output c.stream_through-in-Cramfs.new.w).contents))
+    (sym e) (c.stream_through-in-Cramfs.ensures.some x.0 e)

@@ -1,4 +1,5 @@
 use Rattle.std.proofs.Common.{length, ◌≡◌}
+use Rattle.image_stream.specs.Answers.{Grew}
 use Rattle.image_stream.specs.Sources.{Told}
 use Rattle.image_stream.specs.Outcomes.{FrontSized}
 use Rattle.image_stream.proofs.measure.measure_all.Given as goal
@@ -8,6 +9,7 @@ invariant-loop-file g l = record {
   room : length l.buffer ≡ length l.initial.buffer;
   told : g.S.Sources.told l.sources ≡ g.S.Sources.told l.initial.sources;
   files : g.S.Sources.files l.sources ≡ g.S.Sources.files l.initial.sources;
+  grew : Grew (g.S.Sources.IsLog l.initial.sources) (g.S.Sources.IsLog l.sources);
   read : g.S.Sources.reads l.sources ≡ g.S.Sources.reads l.initial.sources;
   sized : Told (g.S.Sources.told l.initial.sources) (FrontSized (g.L.Segmented.form l.layout).sizes l.file);
 }

@@ -1,5 +1,7 @@
 use Rattle.std.proofs.Common.{length, ◌-◌, ◌≡◌, ◌≤◌, take, drop}
+use Rattle.image_stream.specs.Answers.{AreReads}
 use Rattle.image_stream.specs.Sources.{Told, content_of}
+use Rattle.image_stream.specs.Steps.{Read}
 use Rattle.image_stream.proofs.pieces.read_exactly.Given as goal
 
 abbrev pub invariant-loop-done : goal.invariant-loop-done
@@ -9,6 +11,7 @@ invariant-loop-done g l = record {
   told : g.S.Sources.told l.sources ≡ g.S.Sources.told l.initial.sources;
   files : g.S.Sources.files l.sources ≡ g.S.Sources.files l.initial.sources;
   quiet : g.S.Sources.reads l.sources ≡ g.S.Sources.reads l.initial.sources;
+  logged : Read (λ answers xs. AreReads l.file l.at answers xs) (g.S.Sources.IsLog l.initial.sources) (g.S.Sources.IsLog l.sources) (take l.done l.buffer);
   read : Told (g.S.Sources.told l.initial.sources) (λ cs. take l.done l.buffer ≡ take l.done (drop l.at (content_of cs l.file)));
 }
 

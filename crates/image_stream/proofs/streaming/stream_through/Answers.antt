@@ -6,6 +6,7 @@ use Rattle.image_stream.specs.Segments.{image_from, IsImage}
 use Rattle.image_stream.specs.declared.error.StreamError.{StreamError}
 use Rattle.image_stream.specs.declared.error.StreamError.TheVariants.{Changed}
 use Rattle.image_stream.specs.Outcomes.{IsStreamFault}
+use Rattle.image_stream.proofs.Answering.{grew_join, logs_join}
 use Rattle.image_stream.proofs.Streams.{image_known, value_of, front_head, front_image, whole_image, size_fault, pass_fault, nowhere_fault}
 use Rattle.image_stream.proofs.streaming.stream_through.Goals as goal
 
@@ -62,7 +63,7 @@ returns-in-Err-flush-clause-front g c = λ cs is.
     ∙ ap (λ (v : List ℕ). g.C.Checksum.stored ((L.form c.args.layout.now).head 0 ++ v)) same in
     let A : List ℕ → Type 0 = λ v. Appends (g.W.ByteWrite.output c.write_head.new.w).contents (g.W.ByteWrite.output c.walk.new.w).contents v in
     front_all _ _ _ (whole_image (L.form c.args.layout.now).head g.C.Checksum.stored c.value-stored.result image right _ _ _ _ c.in-Ok-write_head.ensures.text
-    (subst A (image_known _ cs _ _ _ _ (c.sum_walk.ensures.told ∙ c.measure_all.ensures.told ∙ is) two.are) two.written) c.flush.ensures.bytes)
+    (subst A (image_known _ cs _ _ _ _ (c.sum_walk.ensures.told ∙ c.measure_all.ensures.told ∙ is) two.are.0) two.written) c.flush.ensures.bytes)
 
 pub returns-in-Err-confirm-clause-front : goal.returns-in-Err-confirm-clause-front
 returns-in-Err-confirm-clause-front g c = λ cs is.
@@ -76,7 +77,7 @@ returns-in-Err-confirm-clause-front g c = λ cs is.
     ∙ ap (λ (v : List ℕ). g.C.Checksum.stored ((L.form c.args.layout.now).head 0 ++ v)) same in
     let A : List ℕ → Type 0 = λ v. Appends (g.W.ByteWrite.output c.write_head.new.w).contents (g.W.ByteWrite.output c.walk.new.w).contents v in
     front_all _ _ _ (whole_image (L.form c.args.layout.now).head g.C.Checksum.stored c.value-stored.result image right _ _ _ _ c.in-Ok-write_head.ensures.text
-    (subst A (image_known _ cs _ _ _ _ (c.sum_walk.ensures.told ∙ c.measure_all.ensures.told ∙ is) two.are) two.written) c.flush.ensures.bytes)
+    (subst A (image_known _ cs _ _ _ _ (c.sum_walk.ensures.told ∙ c.measure_all.ensures.told ∙ is) two.are.0) two.written) c.flush.ensures.bytes)
 
 pub returns-in-Err-confirm-clause-fault : goal.returns-in-Err-confirm-clause-fault
 returns-in-Err-confirm-clause-fault g c =
@@ -93,14 +94,14 @@ returns-in-Err-confirm-clause-fault g c =
     let changed : E Changed = (
       record {
         rest = two.bytes;
-        stands = subst T (c.sum_walk.ensures.told ∙ c.measure_all.ensures.told) two.are;
+        stands = subst T (c.sum_walk.ensures.told ∙ c.measure_all.ensures.told) two.are.0;
         value = c.value-stored.result;
         differs = err.1 (f.head 0 ++ two.bytes) again;
         written = appends_keep _ _ _ _ (appends_join _ _ _ _ _ c.in-Ok-write_head.ensures.text two.written) c.flush.ensures.bytes;
       },
       λ cs is.
           let first = image_known _ cs _ _ _ _ (c.measure_all.ensures.told ∙ is) one.are in
-          let second = image_known _ cs _ _ _ _ (c.sum_walk.ensures.told ∙ c.measure_all.ensures.told ∙ is) two.are in
+          let second = image_known _ cs _ _ _ _ (c.sum_walk.ensures.told ∙ c.measure_all.ensures.told ∙ is) two.are.0 in
           err.1 (f.head 0 ++ two.bytes) again (v ∙ ap (λ (x : List ℕ). S (f.head 0 ++ x)) (first ∙ sym second)),
     ) in
     subst E (sym err.0) changed
@@ -117,7 +118,7 @@ returns-clause-whole g c = λ cs is.
     ∙ ap (λ (v : List ℕ). g.C.Checksum.stored ((L.form c.args.layout.now).head 0 ++ v)) same in
     let A : List ℕ → Type 0 = λ v. Appends (g.W.ByteWrite.output c.write_head.new.w).contents (g.W.ByteWrite.output c.walk.new.w).contents v in
     whole_image (L.form c.args.layout.now).head g.C.Checksum.stored c.value-stored.result image right _ _ _ _ c.in-Ok-write_head.ensures.text
-    (subst A (image_known _ cs _ _ _ _ (c.sum_walk.ensures.told ∙ c.measure_all.ensures.told ∙ is) two.are) two.written) c.flush.ensures.bytes
+    (subst A (image_known _ cs _ _ _ _ (c.sum_walk.ensures.told ∙ c.measure_all.ensures.told ∙ is) two.are.0) two.written) c.flush.ensures.bytes
 
 pub returns-clause-some : goal.returns-clause-some
 returns-clause-some g c =
@@ -125,9 +126,16 @@ returns-clause-some g c =
     let two = c.in-Ok-walk.ensures.ok in
     let again = two.added (f.head 0) (c.add_head.ensures [] c.start-first.ensures) in
     let T : Option (List (List ℕ)) → Type 0 = λ t. IsImage t f.start f.segments f.end two.bytes in
-    record {
-      rest = two.bytes;
-      stands = subst T (c.sum_walk.ensures.told ∙ c.measure_all.ensures.told) two.are;
-      written = whole_image f.head g.C.Checksum.stored c.value-stored.result two.bytes (c.in-Ok-confirm.ensures.ok (f.head 0 ++ two.bytes) again)
-          _ _ _ _ c.in-Ok-write_head.ensures.text two.written c.flush.ensures.bytes;
-    }
+    let one = c.in-Ok.ensures.grew in
+    let more = c.in-Ok-sum_walk.ensures.grew in
+    let earlier = grew_join (g.S.Sources.IsLog c.args.sources.now) (g.S.Sources.IsLog c.measure_all.new.sources) (g.S.Sources.IsLog c.sum_walk.new.sources) one more in (
+      record {
+        rest = two.bytes;
+        stands = subst T (c.sum_walk.ensures.told ∙ c.measure_all.ensures.told) two.are.0;
+        answers = two.are.1.answers;
+        read = two.are.1.are;
+        written = whole_image f.head g.C.Checksum.stored c.value-stored.result two.bytes (c.in-Ok-confirm.ensures.ok (f.head 0 ++ two.bytes) again)
+            _ _ _ _ c.in-Ok-write_head.ensures.text two.written c.flush.ensures.bytes;
+      },
+      (earlier.0, logs_join (g.S.Sources.IsLog c.args.sources.now) (g.S.Sources.IsLog c.sum_walk.new.sources) (g.S.Sources.IsLog c.walk.new.sources) earlier.0 two.are.1.answers earlier.1 two.are.1.logged),
+    )

@@ -2,6 +2,7 @@ use Rattle.std.proofs.Common.{◌≡◌, length, drop, ◌∙◌, arith, length-
 use Rattle.image_stream.specs.Segments.{segment_at, len}
 use Rattle.image_stream.proofs.Fronts.{outline_len, gone_piece}
 use Rattle.image_stream.proofs.Rests.{gone_full}
+use Rattle.image_stream.proofs.Answering.{grew_none, grew_join}
 use Rattle.image_stream.proofs.summing.sum_segment.Goals as goal
 
 pub returns-then-is_full-clause-ok : goal.returns-then-is_full-clause-ok
@@ -23,6 +24,7 @@ loop-from-preserved g c =
       room = length-append c.piece.new.out (drop c.min-n.result c.loop-from.buffer) ∙ omega (arith, length-drop c.min-n.result c.loop-from.buffer);
       told = c.piece.ensures.told ∙ inv.told;
       files = c.piece.ensures.files ∙ inv.files;
+      grew = grew_join (g.S.Sources.IsLog c.args.sources.now) (g.S.Sources.IsLog c.loop-from.sources) (g.S.Sources.IsLog c.piece.new.sources) inv.grew (c.in-Ok.ensures.read.answers, c.in-Ok.ensures.read.logged);
       read = c.in-Ok.ensures.quiet ∙ inv.read;
       gone = gone_piece (g.S.Sources.told c.args.sources.now) (g.S.Sources.told c.loop-from.sources) p c.loop-from.from c.min-n.result _ _ _ _ _ _ c.piece.new.out inv.told m inv.gone c.in-Ok.ensures.ok tt c.add.ensures;
     }

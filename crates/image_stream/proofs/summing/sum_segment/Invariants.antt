@@ -1,4 +1,5 @@
 use Rattle.std.proofs.Common.{length, ◌-◌, ◌≡◌, ◌≤◌, ◌<◌, ◌%◌, None}
+use Rattle.image_stream.specs.Answers.{Grew}
 use Rattle.image_stream.specs.Segments.{segment_at}
 use Rattle.image_stream.specs.Steps.{IsFront, Gone}
 use Rattle.image_stream.proofs.summing.sum_segment.Given as goal
@@ -10,6 +11,7 @@ invariant-loop-from g l = record {
   room : length l.buffer ≡ length l.initial.buffer;
   told : g.S.Sources.told l.sources ≡ g.S.Sources.told l.initial.sources;
   files : g.S.Sources.files l.sources ≡ g.S.Sources.files l.initial.sources;
+  grew : Grew (g.S.Sources.IsLog l.initial.sources) (g.S.Sources.IsLog l.sources);
   read : g.S.Sources.reads l.sources ≡ g.S.Sources.reads l.initial.sources;
   gone : Gone (IsFront (g.S.Sources.told l.initial.sources) (segment_at (g.L.Segmented.form l.layout).segments l.i) l.from)
       None None (g.C.Checksum.Is l.initial.check) (g.C.Checksum.Is l.check);

@@ -3,6 +3,7 @@ use Rattle.image_stream.specs.Segments.{segment_at, SegmentsRise, zeros}
 use Rattle.image_stream.specs.Steps.{IsDone, Gone}
 use Rattle.image_stream.proofs.Fronts.{gone_none}
 use Rattle.image_stream.proofs.Images.{rises_here, done_none, gone_next, gone_all}
+use Rattle.image_stream.proofs.Answering.{grew_none, grew_join}
 use Rattle.image_stream.proofs.summing.sum_walk.Goals as goal
 
 pub loop-i-init : goal.loop-i-init
@@ -16,6 +17,7 @@ loop-i-init g c =
       room = refl;
       told = refl;
       files = refl;
+      grew = grew_none (g.S.Sources.IsLog c.args.sources.now);
       read = refl;
       rises = subst R (sym c.head_len-at.ensures) c.requires.laid.rises;
       gone = gone_none (IsDone told (L.form c.args.layout.now).start parts (L.form c.args.layout.now).end c.head_len-at.result parts) _ _ (subst D (sym c.head_len-at.ensures) (done_none told (L.form c.args.layout.now).start parts (L.form c.args.layout.now).end));
@@ -44,6 +46,7 @@ loop-i-preserved g c =
       room = c.sum_next.auto.buffer ∙ inv.room;
       told = c.sum_next.ensures.told ∙ inv.told;
       files = c.sum_next.ensures.files ∙ inv.files;
+      grew = grew_join (g.S.Sources.IsLog c.args.sources.now) (g.S.Sources.IsLog c.loop-i.sources) (g.S.Sources.IsLog c.sum_next.new.sources) inv.grew c.in-Ok.ensures.grew;
       read = c.in-Ok.ensures.quiet ∙ inv.read;
       rises = subst R (sym c.in-Ok.ensures.end) h.2;
       gone = subst G (sym c.in-Ok.ensures.end) (gone_next told (g.S.Sources.told c.loop-i.sources) (L.form c.args.layout.now).start parts end c.loop-i.at c.loop-i.i _ _ _ _ _ _ inv.told small inv.gone c.in-Ok.ensures.ok);

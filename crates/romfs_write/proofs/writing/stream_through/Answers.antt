@@ -1,8 +1,8 @@
 use Rattle.std.proofs.Common.{ℕ, List, length, sym, ap, subst, ◌∙◌}
 use Rattle.std.specs.Io.KnownBytes.{Appends}
-use Rattle.std.specs.Prelude.{IfErr}
+use Rattle.std.specs.Prelude.{IfErr, OnOk}
 use Rattle.rom_fields.specs.Written.{AppendsPrefix}
-use Rattle.image_stream.specs.Outcomes.{IsStreamFault}
+use Rattle.image_stream.specs.Outcomes.{IsStreamFault, IsStreamed}
 use Rattle.image_stream.specs.Segments.{IsLaidOut}
 use Rattle.image_stream.specs.WordSums.{balance_of}
 use Rattle.plan_types.specs.Plans.{Planned, IsPlanOf}
@@ -45,3 +45,8 @@ pub returns-clause-fault : goal.returns-clause-fault
 returns-clause-fault g c =
     subst (λ (p : Planned). IfErr c.stream_through.result (IsStreamFault (g.S.Sources.told c.args.sources.now) (form_of p) balance_of
     (g.S.Sources.reads c.args.sources.now) (g.S.Sources.reads c.stream_through.new.sources) (g.W.ByteWrite.output c.args.w.now) (g.W.ByteWrite.output c.stream_through.new.w))) c.new-form.ensures c.stream_through.ensures.fault
+
+pub returns-clause-some : goal.returns-clause-some
+returns-clause-some g c =
+    subst (λ (p : Planned). OnOk c.stream_through.result (IsStreamed (g.S.Sources.told c.args.sources.now) (g.S.Sources.IsLog c.args.sources.now) (g.S.Sources.IsLog c.stream_through.new.sources) (form_of p) balance_of
+    (g.W.ByteWrite.output c.args.w.now).contents (g.W.ByteWrite.output c.stream_through.new.w).contents)) c.new-form.ensures c.stream_through.ensures.some
