@@ -49,7 +49,16 @@ fn commands_of_several_values(rt: HostRuntime) -> Result<(), Fail> {
         };
         assert!(rt; build.format == format);
         assert!(rt; (build.manifest, build.out) == ("m", "o"));
+        assert!(rt; !build.no_follow);
     }
+    let words = line(
+        rt.alloc(),
+        &["romtool", "build", "romfs", "--no-follow", "m", "o"],
+    )?;
+    let Ok(Request::Build(build)) = read(rt.alloc(), &words) else {
+        return Err(AllocError.into());
+    };
+    assert!(rt; build.no_follow && (build.manifest, build.out) == ("m", "o"));
     Ok(())
 }
 
@@ -120,6 +129,14 @@ fn words_that_are_refused_say_why(rt: HostRuntime) -> Result<(), Fail> {
             "error: the option '--align'",
         ),
         (&["romtool", "fly"], "error: unrecognized subcommand 'fly'"),
+        (
+            &["romtool", "\x1b[31m\n%"],
+            "error: unrecognized subcommand '%1B[31m%0A%25'",
+        ),
+        (
+            &["romtool", "check", "--\u{9b}"],
+            "error: unexpected argument '--%C2%9B' found",
+        ),
         (
             &["romtool", "--explain", "--"],
             "error: a subcommand is wanted",
