@@ -382,7 +382,7 @@ def changed_while_read(binary):
         kinds = list(changes())
         made, _ = traced.calls(binary, "build", format, "m", "wanted")
         last = max(call.number for call in made if call.name == "pread64")
-        for name, call, when in (("before", "fcntl", 1), ("in", "pread64", 3), ("after", "pread64", last)):
+        for name, call, when in (("before", "fchmod", 1), ("in", "pread64", 3), ("after", "pread64", last)):
             for what in kinds:
                 told = after_change(binary, format, call, when, what)
                 lines = (b"changed\n", b"file s\n") if what == "gone" else (b"changed\n",)

@@ -35,7 +35,8 @@ abbrev pub cat_shape : Shape
 cat_shape = shape_with (codes "cat") (value_rule (codes "image") ∷ value_rule (codes "path") ∷ [])
 
 abbrev pub build_shape : Shape
-build_shape = shape_with (codes "build") (value_rule (codes "format") ∷ value_rule (codes "manifest") ∷ value_rule (codes "out") ∷ [])
+build_shape = shape_with (codes "build")
+    (value_rule (codes "format") ∷ value_rule (codes "manifest") ∷ value_rule (codes "out") ∷ flag_rule (codes "no-follow") ∷ [])
 
 abbrev pub scan_shape : Shape
 scan_shape = shape_with (codes "scan")

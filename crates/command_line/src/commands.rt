@@ -137,7 +137,9 @@ fn with_build<'a>(alloc: Global) -> Result<Command<'a>, AllocError>
         "OUT",
         "The file of the image, which is replaced as a whole",
     );
-    command.arg(out)
+    let command = command.arg(out)?;
+    let no_follow = "Refuses a source whose own name is that of a symbolic link";
+    command.arg(flag(alloc, "no-follow", no_follow))
 }
 
 /// The subcommand `scan`.

@@ -18,12 +18,16 @@ use crate::commands::command;
 use arrayvec::ArrayVec;
 use clap::error::ErrorKind;
 use clap::{ArgMatches, Error};
+use percent_encoding::{AsciiSet, CONTROLS, ascii_set, percent_encode};
 use plan_types::Format;
 use std::alloc::{AllocError, Global};
 use std::fmt::{self, Display, Formatter};
 
 /// The alignment of regular files for which none is asked, in bytes.
 const USUAL_ALIGN: u32 = 4;
+
+/// What of a word is escaped where clap shows it.
+const ESCAPED: AsciiSet = ascii_set!(CONTROLS.add(b' ').add(b'%'));
 
 /// What the words ask for.
 #[derive(Drop)]
@@ -76,6 +80,8 @@ pub struct Build<'a> {
     pub format: Format,
     pub manifest: &'a str,
     pub out: &'a str,
+    /// Whether a source that is a symbolic link is refused.
+    pub no_follow: bool,
 }
 
 /// A manifest of a folder as it is: all kinds of files, with their modes and owners.
@@ -253,10 +259,12 @@ fn build_of<'a>(values: &ArgMatches<'a>) -> Option<Build<'a>>
     let format = format_named(value_of(values, "format")?)?;
     let manifest = value_of(values, "manifest")?;
     let out = value_of(values, "out")?;
+    let no_follow = is_given(values, "no-follow");
     Some(Build {
         format,
         manifest,
         out,
+        no_follow,
     })
 }
 
@@ -472,8 +480,26 @@ fn is_bare(words: &[String]) -> bool
     }
 }
 
-/// What clap's refusal is to whoever gave the words.
-fn refused<'a>(error: Error) -> WordsError<'a> {
+/// The words with each byte that is no visible ASCII character, and each `%`, escaped.
+fn escaped(alloc: Global, words: &[String]) -> Result<Vec<String>, AllocError> {
+    let mut line = Vec::new(alloc);
+    for word in words {
+        let word = percent_encode(word.as_bytes(), ESCAPED);
+        line.push(format!(in alloc; "{word}")?)?;
+    }
+    Ok(line)
+}
+
+/// What clap says of words that it refuses, with their bytes escaped as all names are. The escaped
+/// words are refused for the same reason, since no word that clap knows has a byte of these.
+fn refused<'a>(alloc: Global, words: &[String], error: Error) -> WordsError<'a> {
+    let Ok(words) = escaped(alloc, words) else {
+        return WordsError::OutOfMemory;
+    };
+    let error = match command(alloc) {
+        Ok(command) => command.try_get_matches_from(&words).err().unwrap_or(error),
+        Err(AllocError) => return WordsError::OutOfMemory,
+    };
     match error.kind() {
         ErrorKind::OutOfMemory => WordsError::OutOfMemory,
         _ => WordsError::Refused(error),
@@ -495,6 +521,6 @@ pub fn read<'a>(alloc: Global, words: &'a [String]) -> Result<Request<'a>, Words
             Some(request) => Ok(request),
             None => Err(WordsError::Taken(wrong_in(&matches))),
         },
-        Err(error) => Err(refused(error)),
+        Err(error) => Err(refused(alloc, words, error)),
     }
 }

@@ -4,7 +4,7 @@ ghost use Rattle.manifest.specs.Lines.{sources_of};
 ghost use Rattle.plan_types.specs.Formats.{format_of};
 ghost use Rattle.plan_types.specs.Plans.{IsPlanOf};
 
-use crate::disk::{Disk, first_changed};
+use crate::disk::{Disk, first_changed, stamp_unlinked};
 use crate::origin::Origin;
 use crate::progress::Progress;
 use crate::stamp::{Identity, Stamp, has_changed, let_rest, stamp_of};
@@ -13,6 +13,7 @@ use crate::target::{KeepError, Target, Writer};
 use crate::teller::Teller;
 use crate::{explained, reading};
 use build_commands::{tell_bad_manifest, tell_built, tell_misfit};
+use command_line::Build;
 use image_build::{StreamError, stream, stream_through};
 use layout_plan::{PlanError, plan};
 use manifest::{Manifest, ManifestError, Name, parse};
@@ -20,12 +21,21 @@ use plan_types::{Format, Plan};
 use rom_commands::{Failure, Status};
 use rom_fields::{Failed, Plain};
 use sentences::reasons::{
-    NO_TEXT, NOT_TAKEN, OWN_INPUT, PART_REPLACED, SOURCE_CHANGED, SOURCE_UNREAD, SUM_DIFFERS,
+    NO_TEXT, NOT_TAKEN, OWN_INPUT, OWN_OUTPUT, PART_REPLACED, SOURCE_CHANGED, SOURCE_UNREAD,
+    SUM_DIFFERS,
 };
+use std::fs::Metadata;
+use std::os::unix::fs::{FileTypeExt, MetadataExt};
 use std::{fs, io, str};
 
 /// How many bytes of a source are read at once, where there is memory for them.
 const LARGE: usize = 256 << 10;
+
+/// The name by which the system tells of standard output.
+const OUTPUT: &str = "/proc/self/fd/1";
+
+/// The numbers of the device that keeps nothing, 1 and 3, as Linux packs them.
+const NULL_DEVICE: u64 = 0x103;
 
 /// How a refusal ends, whose line was written.
 fn told(teller: &Teller<'_>, written: Result<(), Failed>) -> Status {
@@ -68,7 +78,12 @@ fn stamp_of_source(
     number: usize,
     name: &str,
 ) -> Result<Stamp, Status> {
-    match stamp_of(teller.rt, name) {
+    let stamp = if origin.no_follow {
+        stamp_unlinked(teller.rt, name)
+    } else {
+        stamp_of(teller.rt, name)
+    };
+    match stamp {
         Ok(stamp) => Ok(stamp),
         Err(e) => Err(teller.refused_source(origin, number, &e)),
     }
@@ -178,38 +193,38 @@ impl Files<'_> {
         status
     }
 
-    /// Says that a source could not be read as it was: it changed, or it is at fault.
-    fn say_fault(&self, teller: &Teller<'_>, file: usize) -> Status {
+    /// Says that a source could not be read as it was: it changed, or it is at fault, for the reason
+    /// that the system gave, if it gave one.
+    fn say_fault(&self, teller: &Teller<'_>, file: usize, reason: Option<io::Error>) -> Status {
         let (Some(name), Some(stamp)) = (self.names.get(file), self.stamps.get(file)) else {
             return teller.say(Failure::Changed);
         };
-        match has_changed(teller.rt, name, stamp) {
-            Ok(true) => self.say_changed(teller, file),
-            Ok(false) => {
-                let status = teller.say(Failure::File(name.as_bytes()));
-                teller.explain_source(self.origin, file, &SOURCE_UNREAD);
-                status
-            }
-            Err(e) => {
-                let status = teller.say(Failure::File(name.as_bytes()));
-                teller.explain_error(self.origin, file, &e);
-                status
-            }
+        let reason = match has_changed(teller.rt, name, stamp) {
+            Ok(true) => return self.say_changed(teller, file),
+            Ok(false) => reason,
+            Err(e) => Some(e),
+        };
+        let status = teller.say(Failure::File(name.as_bytes()));
+        match reason {
+            Some(e) => teller.explain_error(self.origin, file, &e),
+            None => teller.explain_source(self.origin, file, &SOURCE_UNREAD),
         }
+        status
     }
 
-    /// Says why an image was not written whole: where OUT did not take it, by what the system said.
+    /// Says why an image was not written whole: where OUT or a source refused, by what the system
+    /// said.
     fn say_unwritten(
         &self,
         teller: &Teller<'_>,
         e: StreamError,
-        writer: Writer,
+        ends: (Disk<'_>, Writer<'_>),
         out: &str,
     ) -> Status {
+        let (disk, writer) = ends;
         match e {
-            StreamError::SizeDiffers { file } | StreamError::SourceFault { file } => {
-                self.say_fault(teller, file)
-            }
+            StreamError::SizeDiffers { file } => self.say_fault(teller, file, None),
+            StreamError::SourceFault { file } => self.say_fault(teller, file, disk.reason()),
             StreamError::WriteFault => match writer.into_inner().error() {
                 Some(e) => teller.failed_by(out.as_bytes(), &e),
                 None => teller.failed(out.as_bytes(), &NOT_TAKEN),
@@ -222,7 +237,18 @@ impl Files<'_> {
     }
 }
 
-/// Opens what an image is written to. That is neither the manifest nor a source.
+/// Whether a file is the program's own standard output, and keeps what is written to it: then the
+/// line `ok LENGTH` would be mixed into the image, or go where no name leads.
+fn is_own_output(rt: &HostRuntime, found: &Metadata) -> bool {
+    let is_null = found.file_type().is_char_device() && found.rdev() == NULL_DEVICE;
+    match fs::metadata(rt, OUTPUT) {
+        Ok(output) => !is_null && Identity::of(&output) == Identity::of(found),
+        Err(_) => false,
+    }
+}
+
+/// Opens what an image is written to. That is neither the manifest nor a source, nor standard
+/// output.
 fn target_of(
     teller: &Teller<'_>,
     out: &str,
@@ -233,6 +259,9 @@ fn target_of(
         let identity = Identity::of(&found);
         if identity == manifest || stamps.iter().any(|stamp| stamp.identity() == identity) {
             return Err(teller.failed(out.as_bytes(), &OWN_INPUT));
+        }
+        if is_own_output(teller.rt, &found) {
+            return Err(teller.failed(out.as_bytes(), &OWN_OUTPUT));
         }
     }
     match Target::open(teller.rt, out) {
@@ -260,7 +289,7 @@ fn streamed(
     rt: &HostRuntime,
     plan: &Plan,
     disk: &mut Disk<'_>,
-    writer: &mut Writer,
+    writer: &mut Writer<'_>,
 ) -> Result<(), StreamError>
     requires { length plan.now.sizes ≡ length disk.old.names.now }
 {
@@ -289,10 +318,7 @@ fn write_to(
     requires { length plan.now.sizes ≡ length files.names.now }
 {
     let rt = teller.rt;
-    let mut writer = match target.writer(rt) {
-        Ok(writer) => writer,
-        Err(e) => return Err(teller.refused(out.as_bytes(), &e)),
-    };
+    let mut writer = target.writer(rt);
     let bytes = plan
         .sizes()
         .iter()
@@ -302,7 +328,7 @@ fn write_to(
     let written = streamed(rt, plan, &mut disk, &mut writer);
     disk.end();
     if let Err(e) = written {
-        return Err(files.say_unwritten(teller, e, writer, out));
+        return Err(files.say_unwritten(teller, e, (disk, writer), out));
     }
     match first_changed(rt, files.names, files.stamps) {
         Some(file) => Err(files.say_changed(teller, file)),
@@ -357,21 +383,21 @@ fn build_from(
 }
 
 /// Builds the image of the manifest in a file, in a format, into the file `out`.
-fn build(teller: &Teller<'_>, format: Format, name: &str, out: &str) -> Result<u64, Status> {
+fn build(teller: &Teller<'_>, asked: Build<'_>) -> Result<u64, Status> {
+    let name = asked.manifest;
     let text = text_of(teller, name)?;
     let manifest = &manifest_of(teller, name, &text.bytes)?;
-    build_from(
-        teller,
-        format,
-        Origin { name, manifest },
-        text.identity,
-        out,
-    )
+    let origin = Origin {
+        name,
+        manifest,
+        no_follow: asked.no_follow,
+    };
+    build_from(teller, asked.format, origin, text.identity, asked.out)
 }
 
 /// Builds as `build` does, says what came of it, and how the command ended.
-pub fn run(teller: &Teller<'_>, format: Format, manifest: &str, out: &str) -> Status {
-    match build(teller, format, manifest, out) {
+pub fn run(teller: &Teller<'_>, asked: Build<'_>) -> Status {
+    match build(teller, asked) {
         Ok(len) => {
             let line = &mut Plain::new(Held::new(teller.rt, io::writer(teller.rt)));
             match tell_built(line, len) {

@@ -3,11 +3,12 @@ ghost use Rattle.std.specs.Prelude.{◌≡◌, IfOk, length};
 ghost use Rattle.std.specs.Io.{ReadsAtMost};
 
 use crate::progress::Progress;
-use crate::stamp::{Stamp, has_changed, open_unchanged};
+use crate::stamp::{Identity, Stamp, has_changed, open_unchanged, stamp_of};
 use layout_plan::{SourceFailed, Sources};
+use sentences::reasons::{REPLACED, SOURCE_CHANGED, SOURCE_LINK};
 use std::fs::File;
-use std::io;
 use std::os::unix::fs::FileExt;
+use std::{fs, io};
 
 /// The file that was opened last, by its number.
 #[derive(Drop)]
@@ -28,6 +29,7 @@ pub struct Disk<'a> {
     progress: Progress<'a>,
     failures: u64,
     failed: Option<usize>,
+    reason: Option<io::Error>,
 }
 
 impl<'a> Disk<'a> {
@@ -48,6 +50,7 @@ impl<'a> Disk<'a> {
             progress,
             failures: 0,
             failed: None,
+            reason: None,
         }
     }
 }
@@ -59,6 +62,28 @@ impl<'a> Disk<'a> {
     {
         self.progress.end();
     }
+
+    /// Why the reading failed last, if the system refused it.
+    pub fn reason(self) -> Option<io::Error> {
+        self.reason
+    }
+}
+
+/// The state of a source, which is refused if its own name is that of a symbolic link.
+///
+/// # Errors
+///
+/// That of the system; `InvalidInput` for a link and for what is no regular file.
+pub fn stamp_unlinked(rt: &HostRuntime, name: &str) -> io::Result<Stamp> {
+    let told = fs::symlink_metadata(rt, name)?;
+    if told.is_symlink() {
+        return Err(io::Error::new(io::ErrorKind::InvalidInput, SOURCE_LINK));
+    }
+    let stamp = stamp_of(rt, name)?;
+    if stamp.identity() != Identity::of(&told) {
+        return Err(io::Error::new(io::ErrorKind::NotFound, REPLACED));
+    }
+    Ok(stamp)
 }
 
 /// The first of the files of these names, by its number, that cannot be found any more or has
@@ -97,7 +122,7 @@ fn read_part(
         _ => {
             let (name, stamp) = source;
             let Some(file) = open_unchanged(rt, name, stamp)? else {
-                return Err(io::Error::from(io::ErrorKind::InvalidData));
+                return Err(io::Error::new(io::ErrorKind::InvalidData, SOURCE_CHANGED));
             };
             let n = read_again(&file, at, buf)?;
             *opened = Some(Opened { number, file });
@@ -142,9 +167,10 @@ impl<'a> Sources for Disk<'a> {
                 self.progress.add(n);
                 Ok(n)
             }
-            Err(_) => {
+            Err(e) => {
                 self.failures = self.failures.saturating_add(1);
                 self.failed = Some(file);
+                self.reason = Some(e);
                 Err(SourceFailed)
             }
         }

@@ -13,6 +13,7 @@
 
 mod arguments;
 mod building;
+mod closing;
 mod disk;
 mod explained;
 mod extracting;

@@ -7,6 +7,8 @@ use sentences::plan_line::line_of_source;
 pub struct Origin<'a> {
     pub name: &'a str,
     pub manifest: &'a Manifest,
+    /// Whether a source is refused whose own name is that of a symbolic link.
+    pub no_follow: bool,
 }
 
 impl<'a> Origin<'a> {

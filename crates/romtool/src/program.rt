@@ -3,6 +3,7 @@ ghost use Rattle.std.specs.Prelude.{◌≤◌, length};
 ghost use Rattle.rom_commands.specs.Asked.{Fits};
 
 use crate::arguments::words;
+use crate::closing::settle_output;
 use crate::replies::Replies;
 use crate::streams::{Again, Ahead, Held, hold_closed};
 use crate::teller::Teller;
@@ -36,8 +37,19 @@ pub fn run(rt: &HostRuntime) -> u8
         Err(wrong) => return teller.refused_word(wrong).code(),
     };
     match read(rt.alloc(), words.as_slice()) {
-        Ok(request) => done(teller, request).code(),
+        Ok(request) => settled(teller, done(teller, request)).code(),
         Err(error) => teller.refused_words(error).code(),
+    }
+}
+
+/// How a command ends that ended so, once its standard output has told whether it keeps what was
+/// written to it.
+fn settled(teller: &Teller<'_>, status: Status) -> Status {
+    match status {
+        Status::Done | Status::Refused if settle_output(teller.rt).is_err() => {
+            teller.say(Failure::WriteFault)
+        }
+        _ => status,
     }
 }
 
@@ -53,7 +65,7 @@ fn done(teller: &Teller<'_>, request: Request<'_>) -> Status {
         Request::Linux(image) => file(teller, image, Asked::Misreads),
         Request::Serve(image) => serve(teller, image),
         Request::Space(images) => space(teller, images.as_slice()),
-        Request::Build(build) => building::run(teller, build.format, build.manifest, build.out),
+        Request::Build(build) => building::run(teller, build),
         Request::Scan(folder) => scanning::run(teller, folder),
         Request::ScanAll(scan) => inventory::run(teller, scan),
         Request::Extract(extract) => take_apart(teller, extract),

@@ -1,4 +1,5 @@
 //! Where an image is written: under its name only once it is whole.
+use crate::closing::close;
 use crate::place::{behind_links, folder_of};
 use crate::stamp::Identity;
 use crate::streams::{Held, Remembering};
@@ -31,7 +32,7 @@ struct Beside {
 }
 
 /// A writer of an image, which holds back what is short and remembers why the system took no more.
-pub type Writer = Plain<Remembering<Held<File>>>;
+pub type Writer<'a> = Plain<Remembering<Held<&'a File>>>;
 
 /// What an image is written to: a new file beside the one of its name, or what has its name, where
 /// that is no regular file.
@@ -91,13 +92,30 @@ fn new_beside(rt: &HostRuntime, whole: &str, mode: u32) -> io::Result<Target> {
     Err(io::Error::new(io::ErrorKind::AlreadyExists, HUNDRED_PARTS))
 }
 
-/// Gives a new file the owner of another one, where the system lets it, and its permissions;
-/// without its owner, none of the bits that lend the owner's rights.
+/// A mode of which a group and others have the rights alone that both of them have.
+fn without_group(mode: u32) -> u32 {
+    let both = (mode >> 3) & mode & 0o7;
+    (mode & 0o700) | (both << 3) | both
+}
+
+/// Gives a new file the owner and the group of another one, as far as the system lets it, and gives
+/// the mode that it has then: without the owner, none of the bits that lend rights; without the
+/// group, no rights of the group that others have not.
+fn take_owner(file: &File, found: &Metadata) -> u32 {
+    let (uid, gid) = (found.uid(), found.gid());
+    if fchown(file, Some(uid), Some(gid)).is_ok() {
+        found.mode()
+    } else if fchown(file, None, Some(gid)).is_ok() {
+        found.mode() & LENDING_NOTHING
+    } else {
+        without_group(found.mode())
+    }
+}
+
+/// Gives a new file the owner, the group and the permissions of another one.
 fn take_after(file: &File, found: &Metadata) -> io::Result<()> {
     let mut permissions = found.permissions();
-    if fchown(file, Some(found.uid()), Some(found.gid())).is_err() {
-        permissions.set_mode(found.mode() & LENDING_NOTHING);
-    }
+    permissions.set_mode(take_owner(file, found));
     file.set_permissions(permissions)
 }
 
@@ -144,24 +162,47 @@ fn sync_any(file: &File) -> Result<(), KeepError> {
 }
 
 impl Beside {
-    /// Whether its name still leads to this file.
-    fn is_of(&self, rt: &HostRuntime, file: &File) -> io::Result<bool> {
-        let found = fs::symlink_metadata(rt, &self.name)?;
-        Ok(Identity::of(&found) == Identity::of(&file.metadata()?))
+    /// Whether its name still leads to the file of this identity.
+    fn leads_to(&self, rt: &HostRuntime, mine: Identity) -> io::Result<bool> {
+        Ok(Identity::of(&fs::symlink_metadata(rt, &self.name)?) == mine)
     }
 
-    /// Gives this file, which is whole, the name that it is to have.
-    fn rename(&self, rt: &HostRuntime, file: &File) -> Result<(), KeepError> {
-        match self.is_of(rt, file) {
-            Ok(true) => {}
-            Ok(false) => return Err(KeepError::Changed),
-            Err(e) if e.kind() == io::ErrorKind::NotFound => return Err(KeepError::Changed),
-            Err(e) => return Err(KeepError::Refused(e)),
+    /// Removes what has its name, if that is the file of this identity.
+    fn remove(&self, rt: &HostRuntime, mine: Identity) {
+        if let Ok(true) = self.leads_to(rt, mine) {
+            let _ = fs::remove_file(rt, &self.name);
         }
-        match fs::rename(rt, &self.name, &self.whole) {
-            Ok(()) => Ok(()),
+    }
+
+    /// Hands this file, which was written, to the disk, sees that the part's name still leads to it,
+    /// and gives its identity.
+    fn settled(&self, rt: &HostRuntime, file: &File) -> Result<Identity, KeepError> {
+        let mine = match file.sync_all().and_then(|()| file.metadata()) {
+            Ok(found) => Identity::of(&found),
+            Err(e) => return Err(KeepError::Refused(e)),
+        };
+        match self.leads_to(rt, mine) {
+            Ok(true) => Ok(mine),
+            Ok(false) => Err(KeepError::Changed),
+            Err(e) if e.kind() == io::ErrorKind::NotFound => Err(KeepError::Changed),
             Err(e) => Err(KeepError::Refused(e)),
         }
+    }
+
+    /// Closes this file, which is whole, and gives it the name that it is to have. A system that
+    /// tells only at the closing what it lost is heard.
+    fn rename(&self, rt: &HostRuntime, file: File) -> io::Result<()> {
+        close(rt, file)?;
+        fs::rename(rt, &self.name, &self.whole)
+    }
+}
+
+/// Hands what is no regular file to the disk, where that can be done, and closes it.
+fn keep_straight(rt: &HostRuntime, file: File) -> Result<(), KeepError> {
+    sync_any(&file)?;
+    match close(rt, file) {
+        Ok(()) => Ok(()),
+        Err(e) => Err(KeepError::Refused(e)),
     }
 }
 
@@ -192,30 +233,35 @@ impl Target {
         }
     }
 
-    /// A writer to it.
-    pub fn writer(&self, rt: &HostRuntime) -> io::Result<Writer> {
-        let held = Held::new(rt, self.file.try_clone()?);
-        Ok(Plain::new(Remembering::new(held)))
+    /// A writer to it, through its one descriptor: another one would tell at its own closing what
+    /// the file system lost, and this one would tell it no more.
+    pub fn writer(&self, rt: &HostRuntime) -> Writer<'_> {
+        Plain::new(Remembering::new(Held::new(rt, &self.file)))
     }
 
     /// Gives what was written its name, once the system has taken all of it, and hands the folder
-    /// to the disk after it.
+    /// to the disk after it. The order is: the file is handed to the disk, closed and renamed.
     ///
     /// # Errors
     ///
     /// `Changed`, or that of the system. The name then leads to what it led to before, but where
     /// the disk did not take the folder: then it leads to what was written.
     pub fn keep(self, rt: &HostRuntime) -> Result<(), KeepError> {
-        let Some(beside) = &self.beside else {
-            return sync_any(&self.file);
+        let Target { file, beside } = self;
+        let Some(beside) = beside else {
+            return keep_straight(rt, file);
         };
-        let renamed = match self.file.sync_all() {
-            Ok(()) => beside.rename(rt, &self.file),
-            Err(e) => Err(KeepError::Refused(e)),
+        let mine = match beside.settled(rt, &file) {
+            Ok(mine) => mine,
+            Err(e) => {
+                let beside = Some(beside);
+                Target { file, beside }.abandon(rt);
+                return Err(e);
+            }
         };
-        if let Err(e) = renamed {
-            self.abandon(rt);
-            return Err(e);
+        if let Err(e) = beside.rename(rt, file) {
+            beside.remove(rt, mine);
+            return Err(KeepError::Refused(e));
         }
         match &beside.folder {
             Some(folder) => sync_any(folder),
@@ -226,9 +272,9 @@ impl Target {
     /// Removes what was written, where it is not what had the name before.
     pub fn abandon(self, rt: &HostRuntime) {
         if let Some(beside) = &self.beside
-            && let Ok(true) = beside.is_of(rt, &self.file)
+            && let Ok(found) = self.file.metadata()
         {
-            let _ = fs::remove_file(rt, &beside.name);
+            beside.remove(rt, Identity::of(&found));
         }
     }
 }

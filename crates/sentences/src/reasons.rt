@@ -35,6 +35,12 @@ pub const FOLDER_CHANGED: &str = "it changed while it was scanned";
 /// The image's name is that of what it is made of.
 pub const OWN_INPUT: &str = "the image would replace its own manifest or source";
 
+/// The image's name is that of standard output.
+pub const OWN_OUTPUT: &str = "it is standard output, and the line ok LENGTH would get into the image";
+
+/// A source is a symbolic link, and none is followed.
+pub const SOURCE_LINK: &str = "it is a symbolic link, and --no-follow refuses these";
+
 /// The system refused to take a part of the image.
 pub const NOT_TAKEN: &str = "it did not take the whole image";
 
