@@ -1,17 +1,18 @@
 -- The values of clap's matches, as its rows have them.
-use Rattle.std.proofs.Common.{◌≡◌, ℕ, Bool, true, false, cond, List, [], ◌∷◌, map, Option, Some, None, option_map, slice_get, refl, sym, ap, ap₂, ◌∙◌, Result, Ok, Err, IfOk}
+use Rattle.std.proofs.Common.{◌≡◌, ℕ, Bool, true, false, cond, List, [], ◌∷◌, ◌++◌, map, Option, Some, None, option_map, slice_get, refl, sym, ap, ap₂, ◌∙◌, Result, Ok, Err, IfOk}
 use Rattle.std.specs.Prelude.{option_and_then, find, ◌&&◌, not}
 use Rattle.std.specs.Borrow.{Bor}
 use Rattle.std.specs.Str.{bytes_eq}
 use Rattle.std.proofs.lemmas.Slice.Eq.{bytes_eq-Decides}
 use Rattle.std.proofs.lemmas.Bool.{cases_Bool}
 use mathlib.Core.Logic.{⊎_elim}
-use Rattle.clap.specs.Words.{AddsSubcommand, App, Shape, all_of, app_of, first_of, first_value, is_simple, matched_of, raw_values, rows_of, shape_of, with_subcommand}
+use Rattle.clap.specs.Words.{AddsArg, AddsSubcommand, App, Rule, Shape, all_of, app_of, first_of, first_value, is_simple, matched_of, raw_values, rows_of, rule_of, shape_of, with_subcommand}
 use Rattle.clap.specs.Walk.{row_of, texts}
 use Rattle.clap.specs.Facts.{Entry}
+use Rattle.clap.specs.declared.builder.arg.Arg.{Arg}
 use Rattle.clap.specs.declared.builder.command.Command.{Command}
 use Rattle.clap.specs.declared.parser.matches.Found.{Found}
-use Rattle.command_line.specs.Commands.{romtool_app}
+use Rattle.command_line.specs.Commands.{IsShaped, romtool_app}
 
 abbrev first_text : List (Bor (List ℕ)) → Option (List ℕ)
 first_text vs = option_map (λ s. s.now) (slice_get vs 0)
@@ -63,6 +64,21 @@ both_parts None None f g h k a b = refl
 both_parts None (Some y) f g h k a b = absurd cc
 both_parts (Some x) None f g h k a b = absurd cc
 both_parts (Some x) (Some y) f g h k a b = cc
+
+-- a shape with one more argument
+abbrev with_more : Shape → Rule → Shape
+with_more s rule = record s { rules = s.rules ++ rule ∷ [] }
+
+-- a command with one more argument
+pub with_arg : (old : Command) (arg : Arg) (new : Command) (s : Shape) (rule : Rule) → AddsArg old arg new → shape_of old ≡ s → rule_of arg ≡ rule
+    → arg.global ≡ false → shape_of new ≡ with_more s rule
+with_arg old arg new s rule h e k l = ap (λ (a : App). a.top) (h.shape l) ∙ ap₂ with_more e k
+
+-- the same of a result that may have no command
+pub with_last_arg : {E : Type 0} (old : Command) (arg : Arg) (r : Result Command E) (s : Shape) (rule : Rule) → IfOk r (AddsArg old arg) → shape_of old ≡ s
+    → rule_of arg ≡ rule → arg.global ≡ false → IfOk r (IsShaped (with_more s rule))
+with_last_arg old arg (Ok new) s rule h e k l = with_arg old arg new s rule h e k l
+with_last_arg old arg (Err _) s rule h e k l = tt
 
 -- a command of this shape has no global argument
 pub not_third : (a b c d : Bool) → (a && (not b && (not c && d))) ≡ true → c ≡ false

@@ -50,20 +50,24 @@ extract_shape = shape_with (codes "extract")
 abbrev pub romtool_top : App
 romtool_top = with_rule (record { top = record (new_shape (codes "romtool")) { has_version = true }; subs = [] }) (flag_rule (codes "explain"))
 
--- with those that tell of one image
-abbrev pub readers_app : App
-readers_app = record {
+-- with those that tell of an image as a whole
+abbrev pub tellers_app : App
+tellers_app = record {
   top = record romtool_top.top { is_leaf = false };
-  subs = image_shape (codes "check") ∷ image_shape (codes "list") ∷ image_shape (codes "info") ∷ map_shape ∷ cat_shape
-      ∷ image_shape (codes "linux") ∷ [];
+  subs = image_shape (codes "check") ∷ image_shape (codes "list") ∷ image_shape (codes "info") ∷ [];
 }
+
+-- with the others that read one image
+abbrev pub readers_app : App
+readers_app = record tellers_app { subs = tellers_app.subs ++ map_shape ∷ cat_shape ∷ image_shape (codes "linux") ∷ [] }
+
+-- with those that answer lines
+abbrev pub servers_app : App
+servers_app = record readers_app { subs = readers_app.subs ++ image_shape (codes "serve") ∷ shape_with (codes "space") (images_rule ∷ []) ∷ [] }
 
 -- all of them
 abbrev pub romtool_app : App
-romtool_app = record readers_app {
-  subs = readers_app.subs ++ image_shape (codes "serve")
-      ∷ shape_with (codes "space") (images_rule ∷ []) ∷ build_shape ∷ scan_shape ∷ extract_shape ∷ [];
-}
+romtool_app = record servers_app { subs = servers_app.subs ++ build_shape ∷ scan_shape ∷ extract_shape ∷ [] }
 
 -- a command that is one of them
 abbrev pub IsShaped : Shape → Command → Type 0

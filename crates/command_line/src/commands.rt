@@ -5,7 +5,7 @@ ghost use Rattle.clap.specs.Words.{app_of, rule_of, with_subcommand};
 ghost use Rattle.command_line.specs.Commands.{IsShaped, build_shape, extract_shape, flag_rule, images_rule};
 ghost use Rattle.command_line.specs.Commands.{cat_shape, map_shape, option_rule, romtool_app};
 ghost use Rattle.command_line.specs.Commands.{image_shape, readers_app, romtool_top, scan_shape};
-ghost use Rattle.command_line.specs.Commands.{shape_with, value_rule};
+ghost use Rattle.command_line.specs.Commands.{servers_app, shape_with, tellers_app, value_rule};
 
 use clap::{Arg, ArgAction, Command};
 use std::alloc::{AllocError, Global};
@@ -207,9 +207,9 @@ fn with_image<'a>(
     command.subcommand(with_one(alloc, name, about, image(alloc))?)
 }
 
-/// The program with the subcommands that tell of one image.
-fn readers<'a>(alloc: Global) -> Result<Command<'a>, AllocError>
-    ensures { IfOk result (λ c. app_of c ≡ readers_app) }
+/// The program with the subcommands that tell of an image as a whole.
+fn tellers<'a>(alloc: Global) -> Result<Command<'a>, AllocError>
+    ensures { IfOk result (λ c. app_of c ≡ tellers_app) }
 {
     let command = top(alloc)?;
     let about = "Says whether a file holds a sound image, or which fault it has";
@@ -218,22 +218,36 @@ fn readers<'a>(alloc: Global) -> Result<Command<'a>, AllocError>
     let command = with_image(alloc, command, "list", about)?;
     let about =
         "Prints the facts of an image: its format, volume, sizes, and how many names of each kind";
-    let command = with_image(alloc, command, "info", about)?;
+    with_image(alloc, command, "info", about)
+}
+
+/// The same with the others that read one image.
+fn readers<'a>(alloc: Global) -> Result<Command<'a>, AllocError>
+    ensures { IfOk result (λ c. app_of c ≡ readers_app) }
+{
+    let command = tellers(alloc)?;
     let command = command.subcommand(with_map(alloc)?)?;
     let command = command.subcommand(with_cat(alloc)?)?;
     let about = "Prints what Linux gets wrong of a sound image";
     with_image(alloc, command, "linux", about)
 }
 
-/// The program's subcommands.
-pub fn command<'a>(alloc: Global) -> Result<Command<'a>, AllocError>
-    ensures { IfOk result (λ c. app_of c ≡ romtool_app) }
+/// The same with those that answer lines.
+fn servers<'a>(alloc: Global) -> Result<Command<'a>, AllocError>
+    ensures { IfOk result (λ c. app_of c ≡ servers_app) }
 {
     let command = readers(alloc)?;
     let about = "Answers the lines of standard input from an image";
     let command = with_image(alloc, command, "serve", about)?;
     let about = "Answers lines from one to eight images, with sessions and mounts";
-    let command = command.subcommand(with_one(alloc, "space", about, images(alloc))?)?;
+    command.subcommand(with_one(alloc, "space", about, images(alloc))?)
+}
+
+/// The program's subcommands.
+pub fn command<'a>(alloc: Global) -> Result<Command<'a>, AllocError>
+    ensures { IfOk result (λ c. app_of c ≡ romtool_app) }
+{
+    let command = servers(alloc)?;
     let command = command.subcommand(with_build(alloc)?)?;
     let command = command.subcommand(with_scan(alloc)?)?;
     command.subcommand(with_extract(alloc)?)

@@ -1,6 +1,7 @@
 //! The words of the lines.
 ghost use Rattle.std.specs.Prelude.{◌≡◌};
-ghost use Rattle.serve_lines.specs.Commands.{word_of as named};
+ghost use Rattle.serve_lines.specs.Commands.{fd_word as named_fd, other_word as named_other};
+ghost use Rattle.serve_lines.specs.Commands.{path_word as named_path, word_of as named};
 
 /// What is asked about a path.
 #[derive(Clone, Copy, Debug, PartialEq, Eq)]
@@ -35,37 +36,51 @@ pub(crate) enum Word {
     Umount,
 }
 
-/// The word that a first field is. `mounts` says whether `mount` and `umount` are words.
-pub(crate) fn word_of(text: &[u8], mounts: bool) -> Option<Word>
-    ensures { result ≡ named mounts text.now }
+/// The call that a first field is, if it is one of a path alone.
+fn path_word(text: &[u8]) -> Option<PathCall>
+    ensures { result ≡ named_path text.now }
 {
     if text == b"lookup".as_slice() {
-        return Some(Word::Path(PathCall::Lookup));
+        return Some(PathCall::Lookup);
     }
     if text == b"stat".as_slice() {
-        return Some(Word::Path(PathCall::Stat));
+        return Some(PathCall::Stat);
     }
     if text == b"lstat".as_slice() {
-        return Some(Word::Path(PathCall::Lstat));
+        return Some(PathCall::Lstat);
     }
     if text == b"readlink".as_slice() {
-        return Some(Word::Path(PathCall::Readlink));
+        return Some(PathCall::Readlink);
     }
     if text == b"open".as_slice() {
-        return Some(Word::Path(PathCall::Open));
+        return Some(PathCall::Open);
     }
+    None
+}
+
+/// The same of a descriptor alone.
+fn fd_word(text: &[u8]) -> Option<FdCall>
+    ensures { result ≡ named_fd text.now }
+{
     if text == b"fstat".as_slice() {
-        return Some(Word::Fd(FdCall::Fstat));
+        return Some(FdCall::Fstat);
     }
     if text == b"readdir".as_slice() {
-        return Some(Word::Fd(FdCall::Readdir));
+        return Some(FdCall::Readdir);
     }
     if text == b"rewind".as_slice() {
-        return Some(Word::Fd(FdCall::Rewind));
+        return Some(FdCall::Rewind);
     }
     if text == b"close".as_slice() {
-        return Some(Word::Fd(FdCall::Close));
+        return Some(FdCall::Close);
     }
+    None
+}
+
+/// The word that is neither.
+fn other_word(text: &[u8], mounts: bool) -> Option<Word>
+    ensures { result ≡ named_other mounts text.now }
+{
     if text == b"read".as_slice() {
         return Some(Word::Read);
     }
@@ -88,4 +103,17 @@ pub(crate) fn word_of(text: &[u8], mounts: bool) -> Option<Word>
         return Some(Word::Umount);
     }
     None
+}
+
+/// The word that a first field is. `mounts` says whether `mount` and `umount` are words.
+pub(crate) fn word_of(text: &[u8], mounts: bool) -> Option<Word>
+    ensures { result ≡ named mounts text.now }
+{
+    if let Some(call) = path_word(text) {
+        return Some(Word::Path(call));
+    }
+    if let Some(call) = fd_word(text) {
+        return Some(Word::Fd(call));
+    }
+    other_word(text, mounts)
 }

@@ -1,15 +1,9 @@
-use Rattle.std.proofs.Common.{codes, refl, ap, [], ◌∷◌, ◌∙◌, ◌≡◌}
-use Rattle.clap.specs.Words.{Rule, shape_of, with_subcommand}
-use Rattle.command_line.specs.Commands.{image_shape, images_rule, shape_with}
+use Rattle.std.proofs.Common.{refl}
 use Rattle.command_line.proofs.Rows.{with_last, with_sub}
 use Rattle.command_line.proofs.commands.command.Goals as goal
 
 pub returns : goal.returns
 returns c =
-    let serve = c.in_ok-command-2.ensures ∙ ap (λ a. with_subcommand a (image_shape (codes "serve"))) c.in_ok-command.ensures in
-    let of_space : shape_of c.in_ok-with_one.field-0 ≡ shape_with (codes "space") (images_rule ∷ []) =
-    c.in_ok-with_one.ensures ∙ ap (λ (r : Rule). shape_with (codes "space") (r ∷ [])) c.images.ensures.rule in
-    let space = with_sub _ _ _ _ _ c.in_ok-command-3.ensures serve of_space refl in
-    let build = with_sub _ _ _ _ _ c.in_ok-command-4.ensures space c.in_ok-with_build.ensures refl in
-    let scan = with_sub _ _ _ _ _ c.in_ok-command-5.ensures build c.in_ok-with_scan.ensures refl in
-    with_last _ _ _ _ _ c.subcommand-4.ensures scan c.in_ok-with_extract.ensures refl
+    let build = with_sub _ _ _ _ _ c.in_ok-command-2.ensures c.in_ok-command.ensures c.in_ok-with_build.ensures refl in
+    let scan = with_sub _ _ _ _ _ c.in_ok-command-3.ensures build c.in_ok-with_scan.ensures refl in
+    with_last _ _ _ _ _ c.subcommand-3.ensures scan c.in_ok-with_extract.ensures refl
