@@ -10,4 +10,6 @@ mod commands;
 mod tests;
 mod words;
 
-pub use words::{Build, Cat, Extract, Map, Request, ScanAll, WordsError, Wrong, is_explain, read};
+pub use words::{
+    Build, Cat, Extract, Map, Request, Scan, ScanAll, WordsError, Wrong, is_explain, read,
+};

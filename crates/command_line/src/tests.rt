@@ -21,7 +21,10 @@ fn commands_of_one_value(rt: HostRuntime) -> Result<(), Fail> {
     let words = line(rt.alloc(), &["romtool", "serve", "x"])?;
     assert!(rt; matches!(read(rt.alloc(), &words), Ok(Request::Serve("x"))));
     let words = line(rt.alloc(), &["romtool", "scan", "x"])?;
-    assert!(rt; matches!(read(rt.alloc(), &words), Ok(Request::Scan("x"))));
+    let Ok(Request::Scan(scan)) = read(rt.alloc(), &words) else {
+        return Err(AllocError.into());
+    };
+    assert!(rt; (scan.folder, scan.one_file_system) == ("x", false));
     for words in [["romtool"].as_slice(), &["romtool", "--explain"]] {
         let words = line(rt.alloc(), words)?;
         assert!(rt; matches!(read(rt.alloc(), &words), Ok(Request::Example)));
@@ -60,16 +63,24 @@ fn scans_of_all(rt: HostRuntime) -> Result<(), Fail> {
         return Err(AllocError.into());
     };
     assert!(rt; scan.format.is_none());
-    assert!(rt; (scan.folder, scan.align) == ("x", 4));
+    assert!(rt; (scan.folder, scan.align, scan.one_file_system) == ("x", 4, false));
     let words = [
-        "romtool", "scan", "--align", "4096", "x", "--all", "--for", "romfs",
+        "romtool",
+        "scan",
+        "--align",
+        "4096",
+        "x",
+        "--all",
+        "--for",
+        "romfs",
+        "--one-file-system",
     ];
     let words = line(rt.alloc(), &words)?;
     let Ok(Request::ScanAll(scan)) = read(rt.alloc(), &words) else {
         return Err(AllocError.into());
     };
     assert!(rt; scan.format == Some(Format::Romfs));
-    assert!(rt; (scan.folder, scan.align) == ("x", 4096));
+    assert!(rt; (scan.folder, scan.align, scan.one_file_system) == ("x", 4096, true));
     Ok(())
 }
 
