@@ -40,7 +40,8 @@ build_shape = shape_with (codes "build")
 
 abbrev pub scan_shape : Shape
 scan_shape = shape_with (codes "scan")
-    (value_rule (codes "folder") ∷ flag_rule (codes "all") ∷ option_rule (codes "for") ∷ option_rule (codes "align") ∷ [])
+    (value_rule (codes "folder") ∷ flag_rule (codes "all") ∷ option_rule (codes "for") ∷ option_rule (codes "align")
+    ∷ flag_rule (codes "one-file-system") ∷ [])
 
 abbrev pub extract_shape : Shape
 extract_shape = shape_with (codes "extract")

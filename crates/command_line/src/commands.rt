@@ -159,7 +159,9 @@ fn with_scan<'a>(alloc: Global) -> Result<Command<'a>, AllocError>
         "With --all: what romfs, cramfs or cramfs-be does not take is brought to the nearest";
     let command = command.arg(option(alloc, "for", "FORMAT", format))?;
     let align = "With --all: the alignment of executable files, a power of two from 4 to 65536";
-    command.arg(option(alloc, "align", "N", align))
+    let command = command.arg(option(alloc, "align", "N", align))?;
+    let mounts = "Does not look into folders that other file systems are mounted on";
+    command.arg(flag(alloc, "one-file-system", mounts))
 }
 
 /// The subcommand `extract`.

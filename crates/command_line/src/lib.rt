@@ -8,4 +8,6 @@
 mod commands;
 mod words;
 
-pub use words::{Build, Cat, Extract, Map, Request, ScanAll, WordsError, Wrong, is_explain, read};
+pub use words::{
+    Build, Cat, Extract, Map, Request, Scan, ScanAll, WordsError, Wrong, is_explain, read,
+};

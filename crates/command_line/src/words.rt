@@ -52,8 +52,8 @@ pub enum Request<'a> {
     Space(ArrayVec<&'a str, 8>),
     /// To build an image.
     Build(Build<'a>),
-    /// To print a manifest of the names and the contents below this folder.
-    Scan(&'a str),
+    /// To print a manifest of the names and the contents below a folder.
+    Scan(Scan<'a>),
     /// To print a manifest of a folder as it is.
     ScanAll(ScanAll<'a>),
     /// To take an image apart.
@@ -84,6 +84,14 @@ pub struct Build<'a> {
     pub no_follow: bool,
 }
 
+/// A manifest of the names and the contents below a folder.
+#[derive(Clone, Copy)]
+pub struct Scan<'a> {
+    pub folder: &'a str,
+    /// Whether folders that other file systems are mounted on are not looked into.
+    pub one_file_system: bool,
+}
+
 /// A manifest of a folder as it is: all kinds of files, with their modes and owners.
 #[derive(Clone, Copy)]
 pub struct ScanAll<'a> {
@@ -92,6 +100,8 @@ pub struct ScanAll<'a> {
     pub format: Option<Format>,
     /// The alignment of regular files that someone may execute.
     pub align: u32,
+    /// Whether folders that other file systems are mounted on are not looked into.
+    pub one_file_system: bool,
 }
 
 /// An image that is taken apart: its files into a folder, its manifest on standard output.
@@ -325,22 +335,29 @@ fn scan_all_of<'a>(values: &ArgMatches<'a>) -> Option<ScanAll<'a>>
     let folder = value_of(values, "folder")?;
     let format = wished_format(values)?;
     let align = wished_align(values)?;
+    let one_file_system = is_given(values, "one-file-system");
     Some(ScanAll {
         folder,
         format,
         align,
+        one_file_system,
     })
 }
 
-/// The folder of which a plain manifest is asked for: the options go with `--all` alone.
-fn scan_of<'a>(values: &ArgMatches<'a>) -> Option<&'a str>
+/// The plain manifest of a folder that is asked for: two options go with `--all` alone.
+fn scan_of<'a>(values: &ArgMatches<'a>) -> Option<Scan<'a>>
     requires { first_of (codes "all") (rows_of (found_of values.now)) ≢ Some (codes "true") }
-    ensures { IfSome result (λ f. IsAskedBy (rows_of (found_of values.now)) (request.Scan f)) }
+    ensures { IfSome result (λ s. IsAskedBy (rows_of (found_of values.now)) (request.Scan s)) }
 {
     if value_of(values, "for").is_some() || value_of(values, "align").is_some() {
         return None;
     }
-    value_of(values, "folder")
+    let folder = value_of(values, "folder")?;
+    let one_file_system = is_given(values, "one-file-system");
+    Some(Scan {
+        folder,
+        one_file_system,
+    })
 }
 
 /// Whether the option of this name, which has no value, is given.

@@ -84,8 +84,8 @@ some_long done new all n path e h l =
     ap (list_any is_long) (sym h) ∙ (list_any-append is_long done (n ∷ new) ∙ rw k (or_true (list_any is_long done)))
 
 -- what a member tells
-pub told_as : (x : Member) (done : List Name) (n : Name) → x.path.items ≡ n.path → x.node.0 ≡ ino_of n.node → x.first ≡ first_behind done n.node → told_of x ≡ told_behind done n
-told_as x done n a b d = rw (a, b, d) refl
+pub told_as : (x : Member) (done : List Name) (n : Name) → x.node.0 ≡ ino_of n.node → x.first ≡ first_behind done n.node → told_of x ≡ told_behind done n
+told_as x done n a b = rw (a, b) refl
 
 -- the first name of a node, as the map has it
 pub first_as : (x : Node) (done : List Name) (number : ℕ) (first o : Option ℕ) → first ≡ first_by x o → o ≡ place_of number done → number ≡ ino_of x → first ≡ first_behind done x

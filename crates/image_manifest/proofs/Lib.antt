@@ -1,4 +1,5 @@
 pub mod Behind
+pub mod Entering
 pub mod Excepted
 pub mod Fit
 pub mod Followed
@@ -10,4 +11,5 @@ pub mod Plain
 pub mod ReadBack
 pub mod Sourced
 pub mod Taken
+pub mod Upwards
 pub mod Ways

@@ -1,6 +1,8 @@
 -- The lines of an image's names, as its members tell them.
-use Rattle.std.proofs.Common.{◌≡◌, ℕ, zero, suc, ◌+◌, ◌<◌, ◌≤◌, Bool, true, false, cond, List, [], ◌∷◌, ◌++◌, length, map, take, drop, take-append-drop, get_or, Option, Some, None, option_map, refl, sym, ap, ap₂, subst, ◌∙◌, append_assoc, append-nil, arith, codes}
+use Rattle.std.proofs.Common.{◌≡◌, ℕ, zero, suc, ◌+◌, ◌<◌, ◌≤◌, Bool, true, false, cond, List, [], ◌∷◌, ◌++◌, length, map, take, drop, take-append-drop, get_or, Option, Some, None, option_map, refl, sym, ap, ap₂, subst, ◌∙◌, append_assoc, append-nil, length-append, arith, codes}
 use Rattle.std.specs.Prelude.{◌==◌, IfSome, decimal}
+use Rattle.std.specs.List.{list_any}
+use Rattle.std.proofs.lemmas.Bool.Decides.{nat_tests}
 use Rattle.std.proofs.lemmas.Fmt.{decimal_digit}
 use Rattle.std.proofs.lemmas.List.{length-take-le, map-append, take_more, take_all}
 use Rattle.manifest.specs.declared.line.Line.{Line}
@@ -17,9 +19,11 @@ use Rattle.rom_tree.proofs.Nodes.{node_at-in}
 use Rattle.rom_tree.proofs.Paths.{escaped_both}
 use Rattle.image_manifest.specs.declared.naming.Member.{Member}
 use Rattle.image_manifest.specs.Lines.{first_name, hard_line, line_behind, line_by, line_with, lines_behind, lines_of}
-use Rattle.image_manifest.specs.Members.{AreMembers, Told, all_behind, members_of, place_of, told_behind, told_of}
+use Rattle.image_manifest.specs.Members.{AreMembers, Told, all_behind, first_behind, is_long, members_of, place_of, told_behind, told_of}
 use Rattle.image_manifest.proofs.Behind.{as_many}
-use Rattle.image_manifest.specs.Told.{line_from, line_told, path_at}
+use Rattle.image_manifest.proofs.Ways.{or_false}
+use Rattle.image_manifest.specs.Composed.{path_at, path_by, way_at, ways_of}
+use Rattle.image_manifest.specs.Told.{line_from, line_told}
 
 -- a path with its attributes, and what stands behind them
 apart : (e o u g t rest : List ℕ) → (e ++ 32 ∷ (o ++ 32 ∷ (u ++ 32 ∷ (g ++ t)))) ++ rest ≡ e ++ 32 ∷ (o ++ 32 ∷ (u ++ 32 ∷ (g ++ (t ++ rest))))
@@ -43,17 +47,33 @@ file_text path folder s h =
 
 -- The path of the member at an index.
 
-pub path_told : (ms : List Member) (i : ℕ) (d : Member) → i < length ms → path_at (map told_of ms) i ≡ (get_or ms i d).path.items
-path_told [] i d h = absurd (omega (arith, h))
-path_told (x ∷ ms) zero d h = refl
-path_told (x ∷ ms) (suc i) d h = path_told ms i d (omega (arith, h))
+way_or : (ws : List (List ℕ)) (i : ℕ) → path_by (way_at ws i) ≡ get_or (map path_by ws) i (47 ∷ [])
+way_or [] i = refl
+way_or (w ∷ ws) zero = refl
+way_or (w ∷ ws) (suc i) = way_or ws i
 
--- a further name's line
-pub hard_told : (m : Image) (folder : List ℕ) (ms : List Member) (x : Member) (n : Node) (i : ℕ) (d : Member) → x.first ≡ Some i → IfSome x.first (λ j. j < length ms)
-    → hard_line x.path.items (get_or ms i d).path.items ≡ line_told m folder (map told_of ms) (told_of x) n
-hard_told m folder ms x n i d h f =
-    let l : i < length ms = subst (λ (o : Option ℕ). IfSome o (λ j. j < length ms)) h f in
-    rw h (ap (hard_line x.path.items) (sym (path_told ms i d l)))
+name_or : (ns : List Name) (i : ℕ) (d : List ℕ) (e : Name) → i < length ns → get_or (map (λ n. n.path) ns) i d ≡ (get_or ns i e).path
+name_or [] i d e h = absurd (omega (arith, h))
+name_or (n ∷ ns) zero d e h = refl
+name_or (n ∷ ns) (suc i) d e h = name_or ns i d e (omega (arith, h))
+
+path_or : (ms : List Member) (ns : List Name) (i : ℕ) → map path_by (ways_of ms) ≡ map (λ n. n.path) ns → path_at ms i ≡ get_or (map (λ (n : Name). n.path) ns) i (47 ∷ [])
+path_or ms ns i h = way_or (ways_of ms) i ∙ ap (λ (v : List (List ℕ)). get_or v i (47 ∷ [])) h
+
+path_here : (ms : List Member) (ns : List Name) (i : ℕ) (e : Name) → map path_by (ways_of ms) ≡ map (λ n. n.path) ns → i < length ns → path_at ms i ≡ (get_or ns i e).path
+path_here ms ns i e h l = path_or ms ns i h ∙ name_or ns i (47 ∷ []) e l
+
+not_long : (n : Name) → is_long n ≡ false → length n.path ≤ 4095
+not_long n h = grind (arith, nat_tests, h)
+
+short_at : (ns : List Name) (i : ℕ) → list_any is_long ns ≡ false → length (get_or (map (λ (n : Name). n.path) ns) i (47 ∷ [])) ≤ 4095
+short_at [] i h = omega arith
+short_at (n ∷ ns) zero h = not_long n (or_false (is_long n) (list_any is_long ns) h).0
+short_at (n ∷ ns) (suc i) h = short_at ns i (or_false (is_long n) (list_any is_long ns) h).1
+
+-- no path is long
+pub all_short : (m : Image) (ms : List Member) → AreMembers m ms → (i : ℕ) → length (path_at ms i) ≤ 4095
+all_short m ms h i = let e : length (path_at ms i) ≡ length (get_or (map (λ (n : Name). n.path) (names m.tree)) i (47 ∷ [])) = ap length (path_or ms (names m.tree) i h.paths) in omega (arith, e, short_at (names m.tree) i h.short)
 
 -- The node of a name.
 
@@ -122,10 +142,10 @@ name_path [] i = []
 name_path (n ∷ ns) zero = n.path
 name_path (n ∷ ns) (suc i) = name_path ns i
 
-paths_behind : (before ns : List Name) (i : ℕ) → path_at (all_behind before ns) i ≡ name_path ns i
-paths_behind before [] i = refl
-paths_behind before (n ∷ ns) zero = refl
-paths_behind before (n ∷ ns) (suc i) = paths_behind (before ++ n ∷ []) ns i
+path_named : (ns : List Name) (i : ℕ) (e : Name) → i < length ns → (get_or ns i e).path ≡ name_path ns i
+path_named [] i e h = absurd (omega (arith, h))
+path_named (n ∷ ns) zero e h = refl
+path_named (n ∷ ns) (suc i) e h = path_named ns i e (omega (arith, h))
 
 one_further : (b : Name) (ns : List Name) (o : Option ℕ) → option_map (name_path (b ∷ ns)) (option_map suc o) ≡ option_map (name_path ns) o
 one_further b ns None = refl
@@ -139,24 +159,6 @@ by_found false b ns o q h = one_further b ns o ∙ h
 first_path : (number : ℕ) (before rest : List Name) → option_map (name_path (before ++ rest)) (place_of number before) ≡ option_map (λ n. n.path) (first_name number before)
 first_path number [] rest = refl
 first_path number (b ∷ before) rest = by_found (ino_of b.node == number) b (before ++ rest) (place_of number before) (first_name number before) (first_path number before rest)
-
-by_first : (m : Image) (folder : List ℕ) (ns : List Name) (n : Name) (o : Option ℕ) (q : Option Name) → option_map (name_path ns) o ≡ option_map (λ v. v.path) q
-    → line_from m folder (all_behind [] ns) n.path n.node o ≡ line_by m folder n q
-by_first m folder ns n None None h = refl
-by_first m folder ns n None (Some v) h = absurd cc
-by_first m folder ns n (Some i) None h = absurd cc
-by_first m folder ns n (Some i) (Some v) h =
-    let e : name_path ns i ≡ v.path = cc in
-    ap (hard_line n.path) (paths_behind [] ns i ∙ e)
-
-by_kind : (m : Image) (folder : List ℕ) (before rest : List Name) (n : Name) (t : Bool)
-    → line_from m folder (all_behind [] (before ++ rest)) n.path n.node (cond t None (place_of (ino_of n.node) before)) ≡ line_by m folder n (cond t None (first_name (ino_of n.node) before))
-by_kind m folder before rest n true = refl
-by_kind m folder before rest n false = by_first m folder (before ++ rest) n (place_of (ino_of n.node) before) (first_name (ino_of n.node) before) (first_path (ino_of n.node) before rest)
-
--- what is told of a name has its line
-line_as : (m : Image) (folder : List ℕ) (before rest : List Name) (n : Name) → line_told m folder (all_behind [] (before ++ rest)) (told_behind before n) n.node ≡ line_behind m folder before n
-line_as m folder before rest n = by_kind m folder before rest n (is_directory n.node)
 
 -- The first name stands before.
 
@@ -174,13 +176,40 @@ first_within true o k l h i = tt
 first_within false None k l h i = tt
 first_within false (Some j) k l h i = omega (arith, h, i)
 
+-- The line of a member.
+
+by_first : (m : Image) (folder : List ℕ) (ms : List Member) (ns : List Name) (n : Name) (o : Option ℕ) (q : Option Name) → map path_by (ways_of ms) ≡ map (λ v. v.path) ns
+    → IfSome o (λ j. j < length ns) → option_map (name_path ns) o ≡ option_map (λ v. v.path) q
+    → line_from m folder ms n.path n.node o ≡ line_by m folder n q
+by_first m folder ms ns n None None p l h = refl
+by_first m folder ms ns n None (Some v) p l h = absurd cc
+by_first m folder ms ns n (Some i) None p l h = absurd cc
+by_first m folder ms ns n (Some i) (Some v) p l h =
+    let e : name_path ns i ≡ v.path = cc in
+    ap (hard_line n.path) (path_here ms ns i n p l ∙ path_named ns i n l ∙ e)
+
+by_kind : (m : Image) (folder : List ℕ) (ms : List Member) (ns : List Name) (n : Name) (t : Bool) (o : Option ℕ) (q : Option Name) → map path_by (ways_of ms) ≡ map (λ v. v.path) ns
+    → IfSome (cond t None o) (λ j. j < length ns) → option_map (name_path ns) o ≡ option_map (λ v. v.path) q
+    → line_from m folder ms n.path n.node (cond t None o) ≡ line_by m folder n (cond t None q)
+by_kind m folder ms ns n true o q p l h = refl
+by_kind m folder ms ns n false o q p l h = by_first m folder ms ns n o q p l h
+
+-- what is told of a name has its line
+line_as : (m : Image) (folder : List ℕ) (ms : List Member) (before rest : List Name) (n : Name) → map path_by (ways_of ms) ≡ map (λ v. v.path) (before ++ rest)
+    → line_from m folder ms n.path n.node (first_behind before n.node) ≡ line_behind m folder before n
+line_as m folder ms before rest n p =
+    let number : ℕ = ino_of n.node in
+    by_kind m folder ms (before ++ rest) n (is_directory n.node) (place_of number before) (first_name number before) p
+    (first_within (is_directory n.node) (place_of number before) (length before) (length (before ++ rest)) (omega (arith, length-append before rest)) (place_within number before))
+    (first_path number before rest)
+
 -- what a member at an index is, and its line
 pub record IsLined (m : Image) (folder : List ℕ) (ms : List Member) (i : ℕ) (x : Member) : Type 0 where
   pub node : Node
   pub at : image_node m x.node.0 ≡ Some node
   pub first : IfSome x.first (λ j. j < length ms)
   pub within : i < length (lines_of m folder)
-  pub line : (d : Line) → get_or (lines_of m folder) i d ≡ line_told m folder (map told_of ms) (told_of x) node
+  pub line : (d : Line) → get_or (lines_of m folder) i d ≡ line_told m folder ms i node x.first
 
 pub lined : (m : Image) (folder : List ℕ) (ms : List Member) (i : ℕ) (d : Member) → AreMembers m ms → i < length ms → IsLined m folder ms i (get_or ms i d)
 unfolding members_of lines_of
@@ -191,25 +220,25 @@ lined m folder ms i d h l =
     let n : Name = get_or ns i e in
     let before : List Name = take i ns in
     let number : ℕ = ino_of n.node in
-    let many : length ms ≡ length ns = as_many ms ns h in
+    let many : length ms ≡ length ns = as_many ms ns h.told in
     let k : i < length ns = omega (arith, many, l) in
     let few : length before ≤ length ms = omega (arith, many, k, length-take-le i ns (omega (arith, k))) in
-    let told : told_of (get_or ms i d) ≡ told_behind before n = sym (map_at ms i d t l) ∙ ap (λ (v : List Told). get_or v i t) h ∙ behind_at [] ns i t e k in
-    let same : all_behind [] (before ++ drop i ns) ≡ map told_of ms = ap (all_behind []) (take-append-drop i ns) ∙ sym h in
+    let told : told_of (get_or ms i d) ≡ told_behind before n = sym (map_at ms i d t l) ∙ ap (λ (v : List Told). get_or v i t) h.told ∙ behind_at [] ns i t e k in
+    let paths : map path_by (ways_of ms) ≡ map (λ v. v.path) (before ++ drop i ns) = h.paths ∙ ap (map (λ (v : Name). v.path)) (sym (take-append-drop i ns)) in
     record {
       node = n.node;
       at = ap (λ (v : Told). image_node m v.number) told ∙ node_of_name m i e k;
       first = subst (λ (o : Option ℕ). IfSome o (λ j. j < length ms)) (sym (ap (λ (v : Told). v.first) told))
           (first_within (is_directory n.node) (place_of number before) (length before) (length ms) few (place_within number before));
       within = omega (arith, k, length-lines m folder [] ns);
-      line = λ x. line_at m folder [] ns i x e k ∙ sym (line_as m folder before (drop i ns) n)
-          ∙ ap₂ (λ (v : List Told) (w : Told). line_told m folder v w n.node) same (sym told);
+      line = λ x. line_at m folder [] ns i x e k ∙ sym (line_as m folder ms before (drop i ns) n paths)
+          ∙ ap₂ (λ (p : List ℕ) (o : Option ℕ). line_from m folder ms p n.node o) (sym (path_here ms ns i e h.paths k)) (sym (ap (λ (v : Told). v.first) told));
     }
 
 -- as many lines as members
 pub as_many_lines : (m : Image) (folder : List ℕ) (ms : List Member) → AreMembers m ms → length (lines_of m folder) ≡ length ms
 unfolding members_of lines_of
-as_many_lines m folder ms h = length-lines m folder [] (names m.tree) ∙ sym (as_many ms (names m.tree) h)
+as_many_lines m folder ms h = length-lines m folder [] (names m.tree) ∙ sym (as_many ms (names m.tree) h.told)
 
 -- The lines so far.
 

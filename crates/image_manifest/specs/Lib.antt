@@ -1,7 +1,9 @@
 pub mod ByPaths
+pub mod Composed
 pub mod Firsts
 pub mod Lines
 pub mod Members
+pub mod Open
 pub mod Sources
 pub mod Tellable
 pub mod Told

@@ -1,16 +1,16 @@
 -- The members of an image: its names in preorder, and which of them lead to a node to which an
 -- earlier one leads. (This project's own.)
-use Rattle.std.specs.Prelude.{◌≡◌, ℕ, suc, ◌==◌, Bool, nat_lt, List, [], ◌∷◌, ◌++◌, map, length}
+use Rattle.std.specs.Prelude.{◌≡◌, ℕ, suc, ◌==◌, Bool, false, nat_lt, List, [], ◌∷◌, ◌++◌, map, length}
 use Rattle.std.specs.Prelude.{Option, Some, None, option_map, if◌then◌else◌}
 use Rattle.std.specs.List.{list_any}
 use Rattle.rom_tree.specs.Tree.{Node, ino_of, is_directory}
 use Rattle.rom_tree.specs.Image.{Image}
 use Rattle.rom_tree.specs.Names.{Name, names}
+use Rattle.image_manifest.specs.Composed.{path_by, ways_of}
 use Rattle.image_manifest.specs.declared.naming.Member.{Member}
 
--- what is told of a name: its path, its node's number, and where the first name of that node stands
+-- what is told of a name: its node's number, and where the first name of that node stands
 pub record Told : Type 0 where
-  pub path : List ℕ
   pub number : ℕ
   pub first : Option ℕ
 
@@ -27,7 +27,6 @@ first_behind before x = if is_directory x then None else place_of (ino_of x) bef
 -- what is told of a name behind others
 abbrev pub told_behind : List Name → Name → Told
 told_behind before n = record {
-  path = n.path;
   number = ino_of n.node;
   first = first_behind before n.node;
 }
@@ -42,11 +41,7 @@ members_of t = all_behind [] (names t)
 
 -- what a member tells
 abbrev pub told_of : Member → Told
-told_of m = record { path = m.path.items; number = m.node.0; first = m.first }
-
--- these are the members of the image
-abbrev pub AreMembers : Image → List Member → Type 0
-AreMembers m ms = map told_of ms ≡ members_of m.tree
+told_of m = record { number = m.node.0; first = m.first }
 
 -- no manifest takes this name
 abbrev pub is_long : Name → Bool
@@ -55,3 +50,9 @@ is_long n = nat_lt 4095 (length n.path)
 -- some path has more than 4,095 bytes
 abbrev pub has_long_path : Node → Bool
 has_long_path t = list_any is_long (names t)
+
+-- these are the members of the image, whose paths are those of its names, none of them long
+pub record AreMembers (m : Image) (ms : List Member) : Type 0 where
+  pub told : map told_of ms ≡ members_of m.tree
+  pub paths : map path_by (ways_of ms) ≡ map (λ n. n.path) (names m.tree)
+  pub short : has_long_path m.tree ≡ false

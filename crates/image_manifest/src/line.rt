@@ -1,15 +1,17 @@
 //! The line of one name.
-ghost use Rattle.std.specs.Prelude.{◌≡◌, ◌≢◌, ◌++◌, ◌<◌, Some, IfSome, codes, length, map};
+ghost use Rattle.std.specs.Prelude.{◌≡◌, ◌≢◌, ◌++◌, ◌<◌, ◌≤◌, ℕ, Some, IfSome, codes, length};
 ghost use Rattle.manifest_text.specs.Printed.{line_text};
 ghost use Rattle.rom_fields.specs.Written.{Puts, sink};
 ghost use Rattle.rom_tree.specs.Tree.{Node};
 ghost use Rattle.rom_tree.specs.Image.{image_node, HasNode};
 ghost use Rattle.rom_tree.specs.declared.types.Kind.TheVariants.{Regular};
+ghost use Rattle.image_manifest.specs.Composed.{path_at};
 ghost use Rattle.image_manifest.specs.Lines.{hard_line, line_with, node_line, word_of};
-ghost use Rattle.image_manifest.specs.Members.{told_of};
 ghost use Rattle.image_manifest.specs.Told.{line_told};
 
+use crate::composing::path_of;
 use crate::naming::Member;
+use arrayvec::ArrayVec;
 use manifest::Word;
 use manifest_text::{Entry, put_line};
 use rom_fields::{ByteWrite, put, put_decimal, put_escaped, put_octal};
@@ -111,24 +113,33 @@ fn put_node<'a, T: TreeImage<'a>, W: ByteWrite>(
     }
 }
 
-/// Puts the line of a member.
+/// Puts the line of the member at an index.
 pub(crate) fn put_member<'a, T: TreeImage<'a>, W: ByteWrite>(
     image: &T,
     w: &mut W,
     failed: &mut bool,
     folder: &[u8],
-    members: &[Member],
-    member: &Member,
+    members: &[Member<'a>],
+    index: usize,
+    member: Member<'a>,
 )
-    requires node { HasNode (T.image image.now) member.now.node.0 }
-    requires first { IfSome member.now.first (λ i. i < length members.now) }
-    ensures { (x : Node) → image_node (T.image image.now) member.now.node.0 ≡ Some x
+    requires node { HasNode (T.image image.now) member.node.0 }
+    requires first { IfSome member.first (λ i. i < length members.now) }
+    requires within { index < length members.now }
+    requires short { (i : ℕ) → length (path_at members.now i) ≤ 4095 }
+    ensures { (x : Node) → image_node (T.image image.now) member.entry.node.0 ≡ Some x
         → Puts (sink (W.output w.old) failed.old) (sink (W.output w.new) failed.new)
-        (line_text (line_told (T.image image.now) folder.now (map told_of members.now)
-        (told_of member.now) x) ++ codes "\n") }
+        (line_text (line_told (T.image image.now) folder.now members.now index x
+        member.entry.first) ++ codes "\n") }
 {
+    let mut path = ArrayVec::new();
+    path_of(members, index, &mut path);
     match member.first {
-        None => put_node(image, w, failed, folder, &member.path, member.node),
-        Some(first) => put_hard(w, failed, &member.path, &members[first].path),
+        None => put_node(image, w, failed, folder, path.as_slice(), member.node),
+        Some(first) => {
+            let mut old = ArrayVec::new();
+            path_of(members, first, &mut old);
+            put_hard(w, failed, path.as_slice(), old.as_slice());
+        }
     }
 }

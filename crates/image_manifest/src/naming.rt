@@ -1,12 +1,14 @@
 //! The names of an image.
-ghost use Rattle.std.specs.Prelude.{◌≡◌, ◌<◌, ◌≤◌, ℕ, true, false, Some, length};
+ghost use Rattle.std.specs.Prelude.{◌≡◌, ◌<◌, ◌≤◌, ℕ, [], ◌∷◌, ◌++◌, true, Some, length};
 ghost use Rattle.std.specs.Prelude.{IfOk, IfErr, OnOk};
 ghost use Rattle.rom_tree.specs.Tree.{Node, levels};
 ghost use Rattle.rom_tree.specs.Image.{image_node, HasNode};
 ghost use Rattle.rom_tree.specs.Walks.{given_path};
+ghost use Rattle.image_manifest.specs.declared.naming.Open.{Open};
 ghost use Rattle.image_manifest.specs.declared.naming.Refused.TheVariants.{LongPath, OutOfMemory};
 ghost use Rattle.image_manifest.specs.Firsts.{noted, noted_with, first_by};
 ghost use Rattle.image_manifest.specs.Members.{AreMembers, has_long_path};
+ghost use Rattle.image_manifest.specs.Open.{opened, parent_in, place_of_length};
 
 use arrayvec::ArrayVec;
 use rom_tree::{NodeId, TreeImage, Walk, is_directory_at};
@@ -15,13 +17,15 @@ use std::collections::BTreeMap;
 use thiserror::Error;
 
 /// The most bytes that a path of a manifest may have.
-const PATH_MAX: usize = 4095;
+pub const PATH_MAX: usize = 4095;
 
-/// A name of an image, as its manifest tells it.
-#[derive(Drop)]
-pub struct Member {
-    /// The path from the root on, as it stands. That of the root is `/`.
-    pub path: Vec<u8>,
+/// A name of an image, as its manifest tells it. `path_of` gives its path.
+#[derive(Clone, Copy)]
+pub struct Member<'a> {
+    /// The index of the member that is its directory. The root has none.
+    pub parent: Option<usize>,
+    /// Its last name, as it stands in the image. The root has none.
+    pub name: &'a [u8],
     /// The node to which the name leads.
     pub node: NodeId,
     /// The index of the earliest earlier member of the same node. A directory has none.
@@ -39,20 +43,52 @@ pub enum Refused {
     LongPath,
 }
 
-/// The path of the name that a walk gave last.
-fn path_of(alloc: Global, walk: &Walk<'_>) -> Result<Vec<u8>, Refused>
-    ensures path { IfOk result (λ v. v.items ≡ given_path walk.now) }
-    ensures short { IfOk result (λ v. length (given_path walk.now) ≤ 4095) }
+/// A name on the way to the one that was given last: the index of its member, and how many bytes its
+/// path has, which are none for the root.
+#[derive(Clone, Copy)]
+pub(crate) struct Open {
+    index: usize,
+    len: usize,
+}
+
+/// How many bytes the path has of the name that a walk gave last.
+fn path_len(walk: &Walk<'_>) -> Result<usize, Refused>
+    ensures path { IfOk result (λ k. k ≡ length (given_path walk.now)) }
+    ensures short { IfOk result (λ k. length (given_path walk.now) ≤ 4095) }
     ensures long { IfErr result (λ e. e ≡ LongPath → 4095 < length (given_path walk.now)) }
+    ensures not_memory { IfErr result (λ e. e ≡ LongPath) }
 {
     let mut path: ArrayVec<u8, PATH_MAX> = ArrayVec::new();
-    if walk.append_path(&mut path).is_err() {
-        return Err(Refused::LongPath);
+    match walk.append_path(&mut path) {
+        Ok(()) => Ok(path.len()),
+        Err(_) => Err(Refused::LongPath),
     }
-    match path.as_slice().to_vec(alloc) {
-        Ok(path) => Ok(path),
-        Err(_) => Err(Refused::OutOfMemory),
+}
+
+/// How many names come before the first one whose path has `len` bytes.
+fn place_of_length(on_way: &[Open], len: usize) -> usize
+    ensures place { result ≡ place_of_length len on_way.now }
+    ensures within { result ≤ length on_way.now }
+{
+    let mut place = 0;
+    while place < on_way.len() && on_way[place].len != len {
+        place += 1;
     }
+    place
+}
+
+/// Closes what is behind the first name whose path has `len` bytes, and gives the index of that name.
+fn close(on_way: &mut Vec<Open>, len: usize) -> Option<usize>
+    ensures parent { result ≡ parent_in len on_way.old.items }
+    ensures left { (new : Open) → opened len new on_way.old.items ≡ on_way.new.items ++ new ∷ [] }
+{
+    let place = place_of_length(on_way, len);
+    if place >= on_way.len() {
+        return None;
+    }
+    let parent = on_way[place].index;
+    on_way.truncate(place + 1);
+    Some(parent)
 }
 
 /// Notes the index of a name of a node, where none is noted.
@@ -85,28 +121,46 @@ fn first_noted<'a, T: TreeImage<'a>>(
     firsts.get(&node.0).copied()
 }
 
-/// The names of an image in preorder, the root's first. Of each name but a directory's it tells the
-/// first name of the same node. Directories may lie 64 deep. It takes time in n log n.
+/// The names of an image in preorder, the root's first. Of each name it tells its directory, and of
+/// each but a directory's the first name of the same node. Directories may lie 64 deep. It takes
+/// time in n log n.
 ///
 /// # Errors
 ///
 /// `LongPath` only where a path has more than 4,095 bytes; then there is no manifest of the image.
 /// `OutOfMemory`, also where there is such a path.
-pub fn members<'a, T: TreeImage<'a>>(alloc: Global, image: &T) -> Result<Vec<Member>, Refused>
+pub fn members<'a, T: TreeImage<'a>>(alloc: Global, image: &T) -> Result<Vec<Member<'a>>, Refused>
     requires { levels (T.image image.now).tree ≤ 65 }
     ensures told { IfOk result (λ v. AreMembers (T.image image.now) v.items) }
-    ensures short { IfOk result (λ v. has_long_path (T.image image.now).tree ≡ false) }
     ensures long { IfErr result (λ e. e ≡ LongPath
         → has_long_path (T.image image.now).tree ≡ true) }
 {
     let mut firsts = BTreeMap::new(alloc);
     let mut found = Vec::new(alloc);
+    let mut on_way = Vec::new(alloc);
     let mut walk = Walk::new();
     while let Some(node) = walk.next(image) {
-        let path = path_of(alloc, &walk)?;
+        let (len, name) = (path_len(&walk)?, walk.name());
+        let index = found.len();
+        let new = Open {
+            index,
+            len: if on_way.is_empty() { 0 } else { len },
+        };
+        let parent = close(
+            &mut on_way,
+            len.saturating_sub(name.len()).saturating_sub(1),
+        );
+        let Ok(()) = on_way.push(new) else {
+            return Err(Refused::OutOfMemory);
+        };
         let first = first_noted(image, &firsts, node);
-        note_first(&mut firsts, node, found.len())?;
-        let Ok(()) = found.push(Member { path, node, first }) else {
+        note_first(&mut firsts, node, index)?;
+        let Ok(()) = found.push(Member {
+            parent,
+            name,
+            node,
+            first,
+        }) else {
             return Err(Refused::OutOfMemory);
         };
     }

@@ -17,14 +17,14 @@ fn put_members<'a, T: TreeImage<'a>, W: ByteWrite>(
     w: &mut W,
     failed: &mut bool,
     folder: &[u8],
-    members: &[Member],
+    members: &[Member<'a>],
 )
     requires { AreMembers (T.image image.now) members.now }
     ensures { Puts (sink (W.output w.old) failed.old) (sink (W.output w.new) failed.new)
         (lines_text (lines_of (T.image image.now) folder.now)) }
 {
-    for member in members {
-        put_member(image, w, failed, folder, members, member);
+    for index in 0..members.len() {
+        put_member(image, w, failed, folder, members, index, members[index]);
     }
 }
 
@@ -42,7 +42,7 @@ fn put_members<'a, T: TreeImage<'a>, W: ByteWrite>(
 /// A write failed; a prefix of the manifest was written.
 pub fn write_manifest<'a, T: TreeImage<'a>, W: ByteWrite>(
     image: &T,
-    members: &[Member],
+    members: &[Member<'a>],
     volume: &[u8],
     folder: &[u8],
     w: &mut W,

@@ -5,7 +5,7 @@ use Rattle.image_manifest.specs.Lines.{lines_of}
 use Rattle.image_manifest.proofs.writing.put_members.Given as goal
 
 -- the lines of the members so far were put
-abbrev pub invariant-loop-member : goal.invariant-loop-member
-invariant-loop-member g l =
+abbrev pub invariant-loop-index : goal.invariant-loop-index
+invariant-loop-index g l =
     Puts (sink (g.W.ByteWrite.output l.fn.w) l.fn.failed) (sink (g.W.ByteWrite.output l.w) l.failed)
-    (lines_text (take l.member-index (lines_of (g.T.Viewed.image l.image) l.folder)))
+    (lines_text (take l.index (lines_of (g.T.Viewed.image l.image) l.folder)))
