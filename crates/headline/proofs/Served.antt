@@ -17,7 +17,7 @@ use Rattle.manifest_tree.specs.Meant.{IsMeant}
 use Rattle.open_files.specs.Machine.{no_files}
 use Rattle.rom_serve.specs.Machines.{image_machine}
 use Rattle.rom_commands.specs.Answers.{HoldsUnder, HasFault, IsFaultText, IsFaultTextUnder, usual_limits}
-use Rattle.rom_commands.specs.Serving.{Input, Answers, Refuses, ServingEnds, ServingEndsUnder}
+use Rattle.rom_commands.specs.Serving.{Input, EndsServed, EndsRefused, ServingEnds, ServingEndsUnder}
 use Rattle.rom_commands.specs.declared.serving.Serving.{Serving}
 use Rattle.rom_commands.specs.declared.serving.Serving.TheVariants.{Served, Refused, Memory, ReadFault, WriteFault, TooManyReads}
 use Rattle.headline.specs.Headline.{IsServedUnder, IsMeantUnder, IsServedAsMeant, IsServedAsGiven, IsUnserved}
@@ -30,16 +30,16 @@ has_tree : (limits : Limits) (bytes : List ℕ) (m : Image) → HoldsUnder limit
 has_tree limits bytes m h = shown limits bytes m h.report h.shows
 
 served : (limits : Limits) (bytes : List ℕ) (m : Image) (r₀ r : Input) (w₀ w : Output) (o : Serving) → HoldsUnder limits bytes m
-    → Answers (image_machine m) (no_files 64) r₀ r w₀ w o → IsServedUnder limits bytes m.tree r₀ r w₀ w o
+    → EndsServed (image_machine m) (no_files 64) r₀ r w₀ w o → IsServedUnder limits bytes m.tree r₀ r w₀ w o
 served limits bytes m r₀ r w₀ w o h a = record { tree = has_tree limits bytes m h; image = m; held = h; same = refl; answers = a }
 
 pub accepted : (limits : Limits) (bytes : List ℕ) (r₀ r : Input) (w₀ w : Output) (o : Serving) → ServingEndsUnder limits bytes r₀ r w₀ w o
-    → ((t : Node) × IsServedUnder limits bytes t r₀ r w₀ w o) ⊎ Refuses (IsFaultTextUnder limits bytes) r₀ r w₀ w o
+    → ((t : Node) × IsServedUnder limits bytes t r₀ r w₀ w o) ⊎ EndsRefused (IsFaultTextUnder limits bytes) r₀ r w₀ w o
 accepted limits bytes r₀ r w₀ w o (inl x) = inl (x.0.tree, served limits bytes x.0 r₀ r w₀ w o x.1 x.2)
 accepted limits bytes r₀ r w₀ w o (inr x) = inr x
 
 -- bytes without a fault are refused for memory alone
-unserved : (bytes : List ℕ) (r₀ r : Input) (w₀ w : Output) (o : Serving) → ((number at : ℕ) → HasFault bytes number at → ⊥) → Refuses (IsFaultText bytes) r₀ r w₀ w o → IsUnserved r₀ r w₀ w o
+unserved : (bytes : List ℕ) (r₀ r : Input) (w₀ w : Output) (o : Serving) → ((number at : ℕ) → HasFault bytes number at → ⊥) → EndsRefused (IsFaultText bytes) r₀ r w₀ w o → IsUnserved r₀ r w₀ w o
 unserved bytes r₀ r w₀ w Served none x = absurd x
 unserved bytes r₀ r w₀ w Refused none x = absurd (none x.1.1.number x.1.1.at x.1.1.fault)
 unserved bytes r₀ r w₀ w Memory none x = record { memory = refl; unread = x.0; unwritten = x.1 }
@@ -65,7 +65,7 @@ built text contents bytes r₀ r w₀ w o memory meant (inr x) =
 pub built_under : (limits : Limits) (text : List ℕ) (contents : List (List ℕ)) (bytes : List ℕ) (r₀ r : Input) (w₀ w : Output) (o : Serving)
     → ((u : Node) × HasTree bytes usual_limits u) → ((t u : Node) → HasTree bytes limits t → HasTree bytes usual_limits u → t ≡ u)
     → ((t : Node) → HasTree bytes usual_limits t → Meant text contents bytes t) → ServingEndsUnder limits bytes r₀ r w₀ w o
-    → IsMeantUnder limits text contents bytes r₀ r w₀ w o ⊎ Refuses (IsFaultTextUnder limits bytes) r₀ r w₀ w o
+    → IsMeantUnder limits text contents bytes r₀ r w₀ w o ⊎ EndsRefused (IsFaultTextUnder limits bytes) r₀ r w₀ w o
 built_under limits text contents bytes r₀ r w₀ w o has one meant (inl x) =
     let same : x.0.tree ≡ has.0 = one x.0.tree has.0 (has_tree limits bytes x.0 x.1) has.1 in
     let is : Meant text contents bytes x.0.tree = subst (λ (t : Node). Meant text contents bytes t) (sym same) (meant has.0 has.1) in

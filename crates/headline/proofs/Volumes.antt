@@ -12,14 +12,14 @@ use Rattle.image_check.specs.declared.any.AnyImage.{AnyImage}
 use Rattle.image_check.specs.declared.any.AnyImage.TheVariants.{Romfs, Cramfs}
 use Rattle.image_check.proofs.Formats.{apart, cramfs_begins, romfs_begins}
 use Rattle.image_info.specs.Volumes.{cramfs_volume, romfs_volume, volume_of}
-use Rattle.manifest_layout.specs.Format.{Format, HasTree, romfs, cramfs}
+use Rattle.manifest_layout.specs.Format.{Format, HasUsualTree, romfs, cramfs}
 use Rattle.manifest_layout.specs.Placement.{HasVolume}
 
 shown_bytes : (bytes : List ℕ) (limits : Limits) (m : Image) (report : Report) → Shows bytes limits m report → m.bytes ≡ bytes
 shown_bytes bytes limits m report (shows_romfs h) = h.bytes
 shown_bytes bytes limits m report (shows_cramfs h) = h.bytes
 
-pub volume_by : (f : Format) (bytes name : List ℕ) (limits : Limits) (t : Node) (v : AnyImage) → HasTree f bytes t → HasVolume f bytes name
+pub volume_by : (f : Format) (bytes name : List ℕ) (limits : Limits) (t : Node) (v : AnyImage) → HasUsualTree f bytes t → HasVolume f bytes name
     → Shows bytes limits (any_view v) (report_of v) → HasFormat bytes v → volume_of v ≡ name
 unfolding romfs_volume cramfs_volume
 volume_by romfs bytes name limits t (Romfs s) tree named shows format =

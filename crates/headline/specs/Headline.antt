@@ -13,7 +13,7 @@ use Rattle.manifest_tree.specs.Meant.{IsMeant}
 use Rattle.open_files.specs.Machine.{no_files}
 use Rattle.rom_serve.specs.Machines.{image_machine}
 use Rattle.rom_commands.specs.Answers.{HoldsUnder, usual_limits}
-use Rattle.rom_commands.specs.Serving.{Input, Answers}
+use Rattle.rom_commands.specs.Serving.{Input, EndsServed}
 use Rattle.rom_commands.specs.declared.serving.Serving.{Serving}
 use Rattle.rom_commands.specs.declared.serving.Serving.TheVariants.{Memory}
 
@@ -25,7 +25,7 @@ pub record IsServedUnder (limits : Limits) (bytes : List ℕ) (t : Node) (r₀ r
   pub image : Image
   pub held : HoldsUnder limits bytes image
   pub same : image.tree ≡ t
-  pub answers : Answers (image_machine image) (no_files 64) r₀ r w₀ w o
+  pub answers : EndsServed (image_machine image) (no_files 64) r₀ r w₀ w o
 
 -- the same under the usual limits
 abbrev pub IsServedAs : (bytes : List ℕ) (t : Node) (r₀ r : Input) (w₀ w : Output) → Serving → Type 0

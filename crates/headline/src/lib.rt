@@ -17,8 +17,8 @@ ghost use Rattle.image_check.specs.Any.{any_view, report_of};
 ghost use Rattle.image_check.specs.Checked.{HasFormat, HasTree, IsFaultless, Shows};
 ghost use Rattle.image_check.specs.declared.any.AnyImage.{AnyImage};
 ghost use Rattle.image_info.specs.Volumes.{volume_of};
-ghost use Rattle.image_manifest.specs.Lines.{lines_of};
-ghost use Rattle.image_manifest.specs.Sources.{sources_of};
+ghost use Rattle.image_manifest.specs.Lines.{member_lines};
+ghost use Rattle.image_manifest.specs.Sources.{file_contents};
 ghost use Rattle.image_manifest.specs.Tellable.{IsToldWhole};
 ghost use Rattle.image_told.specs.Alike.{AreAlike};
 ghost use Rattle.image_stream.specs.Outcomes.{IsWritten};
@@ -33,7 +33,7 @@ ghost use Rattle.open_files.specs.Machine.{Open, image_calls, open_at};
 ghost use Rattle.path_walk.specs.Resolution.{resolution, tree_namespace};
 ghost use Rattle.plan_types.specs.Plans.{Planned};
 ghost use Rattle.rom_commands.specs.Answers.{IsFaultTextUnder, usual_limits};
-ghost use Rattle.rom_commands.specs.Serving.{Input, Refuses, ServingEnds, ServingEndsUnder};
+ghost use Rattle.rom_commands.specs.Serving.{Input, EndsRefused, ServingEnds, ServingEndsUnder};
 ghost use Rattle.rom_commands.specs.declared.serving.Serving.{Serving};
 ghost use Rattle.rom_fields.specs.Written.{Output};
 ghost use Rattle.rom_tree.specs.Image.{Image};
@@ -54,7 +54,7 @@ pub fn headline()
     ensures accepted { (limits : Limits) (bytes : List ℕ) (r₀ r : Input) (w₀ w : Output)
         (o : Serving) → ServingEndsUnder limits bytes r₀ r w₀ w o
         → ((t : Node) × IsServedUnder limits bytes t r₀ r w₀ w o)
-        ⊎ Refuses (IsFaultTextUnder limits bytes) r₀ r w₀ w o }
+        ⊎ EndsRefused (IsFaultTextUnder limits bytes) r₀ r w₀ w o }
     ensures one { (bytes : List ℕ) (limits others : Limits) (t u : Node)
         → HasTree bytes limits t → HasTree bytes others u → t ≡ u }
     ensures built { (f : Format) (text : List ℕ) (contents : List (List ℕ)) (bytes : List ℕ)
@@ -65,7 +65,7 @@ pub fn headline()
         (contents : List (List ℕ)) (bytes : List ℕ) (r₀ r : Input) (w₀ w : Output) (o : Serving)
         → Builds f text contents (Ok bytes) → ServingEndsUnder limits bytes r₀ r w₀ w o
         → IsMeantUnder limits text contents bytes r₀ r w₀ w o
-        ⊎ Refuses (IsFaultTextUnder limits bytes) r₀ r w₀ w o }
+        ⊎ EndsRefused (IsFaultTextUnder limits bytes) r₀ r w₀ w o }
     ensures placed { (f : Format) (text : List ℕ) (contents : List (List ℕ)) (bytes : List ℕ)
         (m : ManifestLines) → Builds f text contents (Ok bytes) → manifest_of text ≡ Ok m
         → HasVolume f bytes m.volume
@@ -92,7 +92,7 @@ pub fn headline()
 pub fn built_again()
     ensures { (m : Image) (volume folder : List ℕ) (f : Format) (bytes : List ℕ)
         → IsToldWhole m volume folder
-        → Builds f (manifest_text volume (lines_of m folder)) (sources_of m) (Ok bytes)
+        → Builds f (manifest_text volume (member_lines m folder)) (file_contents m) (Ok bytes)
         → IsFaultless bytes usual_limits
         × ((t : Node) → HasTree bytes usual_limits t → AreAlike m.bytes m.tree bytes t) }
 {

@@ -3,7 +3,7 @@ use Rattle.std.proofs.Common.{◌≡◌, ◌≢◌, ℕ, List, map, length, refl
 use Rattle.std.proofs.lemmas.Bool.Decides.{eqb_tells}
 use Rattle.manifest.specs.Grammar.{Fault, manifest_of, IsManifest}
 use Rattle.manifest.specs.Lines.{ManifestLines, sources_of}
-use Rattle.manifest_layout.specs.Format.{Format, HasTree, layout_of}
+use Rattle.manifest_layout.specs.Format.{Format, HasUsualTree, layout_of}
 use Rattle.manifest_layout.specs.Misfit.{HasNoMisfit, IsLeastMisfit}
 use Rattle.manifest_tree.specs.Meant.{IsMeant}
 use Rattle.rom_faults.specs.declared.fault.Fault as misfit
@@ -13,13 +13,13 @@ use Rattle.image_build.specs.declared.error.BuildError.{BuildError}
 use Rattle.image_build.specs.declared.error.BuildError.TheVariants.{OutOfMemory, Manifest, Plan, Count}
 
 abbrev pub IsLaid : Format → ManifestLines → List (List ℕ) → Type 0
-IsLaid f m cs = (t : Node) × HasTree f (layout_of f m cs) t × IsMeant (layout_of f m cs) t cs m (map length cs)
+IsLaid f m cs = (t : Node) × HasUsualTree f (layout_of f m cs) t × IsMeant (layout_of f m cs) t cs m (map length cs)
 
 pub image_of : (f : Format) (m : ManifestLines) (cs : List (List ℕ)) (bytes : List ℕ) → bytes ≡ layout_of f m cs → IsLaid f m cs → IsImageOf f m cs bytes
 image_of f m cs bytes e x = record {
   layout = e;
   tree = x.0;
-  holds = subst (λ (b : List ℕ). HasTree f b x.0) (sym e) x.1;
+  holds = subst (λ (b : List ℕ). HasUsualTree f b x.0) (sym e) x.1;
   meant = subst (λ (b : List ℕ). IsMeant b x.0 cs m (map length cs)) (sym e) x.2;
 }
 

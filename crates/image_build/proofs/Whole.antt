@@ -14,7 +14,7 @@ use Rattle.rom_tree.specs.Tree.{Node}
 use Rattle.image_build.specs.Accepted.{usual}
 use Rattle.image_build.specs.Builds.{Builds}
 
-has_tree : (f : Format) (bytes : List ℕ) (t : Node) → of_format.HasTree f bytes t → HasTree bytes usual t
+has_tree : (f : Format) (bytes : List ℕ) (t : Node) → of_format.HasUsualTree f bytes t → HasTree bytes usual t
 has_tree romfs bytes t x = inl x
 has_tree (cramfs o) bytes t x = inr (o, x)
 
@@ -35,7 +35,7 @@ meant f text cs bytes one_tree x t h =
 abbrev pub LaysInPlace : Type 0
 LaysInPlace =
     (f : Format) (m : ManifestLines) (cs : List (List ℕ)) → IsManifest m → HasNoMisfit f m (map length cs)
-    → (t : Node) × of_format.HasTree f (layout_of f m cs) t × IsPlaced t m
+    → (t : Node) × of_format.HasUsualTree f (layout_of f m cs) t × IsPlaced t m
 
 abbrev pub NamesVolume : Type 0
 NamesVolume =
@@ -50,7 +50,7 @@ pub laid_placed : LaysInPlace → (f : Format) (text : List ℕ) (cs : List (Lis
     → (m : ManifestLines) → manifest_of text ≡ Ok m → (t : Node) × HasTree bytes usual t × IsPlaced t m
 laid_placed law f text cs bytes x m e =
     let k = law f x.0 cs (text, x.1.manifest) x.2 in
-    let holds = subst (λ (b : List ℕ). of_format.HasTree f b k.0) (sym x.3.layout) k.1 in
+    let holds = subst (λ (b : List ℕ). of_format.HasUsualTree f b k.0) (sym x.3.layout) k.1 in
     (k.0, has_tree f bytes k.0 holds, subst (IsPlaced k.0) (same_lines text f cs bytes x m e) k.2)
 
 -- whichever tree the bytes have

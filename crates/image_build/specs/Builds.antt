@@ -6,7 +6,7 @@ use Rattle.manifest.specs.Grammar.{manifest_of}
 use Rattle.manifest.specs.Lines.{ManifestLines, sources_of}
 use Rattle.manifest.specs.declared.error.ManifestError.{ManifestError}
 use Rattle.manifest.specs.declared.error.ManifestError.TheVariants as manifest
-use Rattle.manifest_layout.specs.Format.{Format, HasTree, layout_of}
+use Rattle.manifest_layout.specs.Format.{Format, HasUsualTree, layout_of}
 use Rattle.manifest_layout.specs.Misfit.{HasNoMisfit, IsLeastMisfit}
 use Rattle.manifest_tree.specs.Meant.{IsMeant}
 use Rattle.rom_tree.specs.Tree.{Node}
@@ -22,7 +22,7 @@ pub record IsGiven (text : List ℕ) (contents : List (List ℕ)) (m : ManifestL
 pub record IsImageOf (f : Format) (m : ManifestLines) (contents : List (List ℕ)) (bytes : List ℕ) : Type 0 where
   pub layout : bytes ≡ layout_of f m contents
   pub tree : Node
-  pub holds : HasTree f bytes tree
+  pub holds : HasUsualTree f bytes tree
   pub meant : IsMeant bytes tree contents m (map length contents)
 
 -- What a build answers: the image of a manifest that fits the format; else the first fault of a text that is no

@@ -59,7 +59,7 @@ pub data IsFaultless (all : List ℕ) (limits : Limits) : Type 0 where
       → IsFaultless all limits
 
 -- The fault is the least one of the format that the first bytes name, or that of bytes which name none.
-pub data IsLeastFault (all : List ℕ) (limits : Limits) (e : CheckError) : Type 0 where
-  least_of_romfs : BeginsRomfs all → IsLeastRomfsAnswer all limits e → IsLeastFault all limits e
-  least_of_cramfs : BeginsCramfs all → IsLeastCramfsAnswer (order_of all) all limits e → IsLeastFault all limits e
-  of_neither : (BeginsRomfs all → ⊥) → (BeginsCramfs all → ⊥) → e ≡ neither all → IsLeastFault all limits e
+pub data IsLeastFaultUnder (all : List ℕ) (limits : Limits) (e : CheckError) : Type 0 where
+  least_of_romfs : BeginsRomfs all → IsLeastRomfsAnswer all limits e → IsLeastFaultUnder all limits e
+  least_of_cramfs : BeginsCramfs all → IsLeastCramfsAnswer (order_of all) all limits e → IsLeastFaultUnder all limits e
+  of_neither : (BeginsRomfs all → ⊥) → (BeginsCramfs all → ⊥) → e ≡ neither all → IsLeastFaultUnder all limits e

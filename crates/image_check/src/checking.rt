@@ -3,7 +3,7 @@ ghost use Rattle.std.specs.Prelude.{◌≡◌, ◌≤◌, ◌↔◌, IsTrue, IfO
 ghost use Rattle.std.specs.Bool.{OnTrue, OnFalse};
 ghost use Rattle.rom_tree.specs.Tree.{levels};
 ghost use Rattle.image_check.specs.Any.{any_view, report_of};
-ghost use Rattle.image_check.specs.Checked.{Shows, IsRefused, BeginsRomfs, BeginsCramfs, HasFormat, IsFaultless, IsLeastFault, neither};
+ghost use Rattle.image_check.specs.Checked.{Shows, IsRefused, BeginsRomfs, BeginsCramfs, HasFormat, IsFaultless, IsLeastFaultUnder, neither};
 
 use crate::any::AnyImage;
 use cramfs_format::Order;
@@ -55,7 +55,7 @@ pub fn check<'a>(alloc: Global, bytes: &'a [u8], limits: Limits) -> Result<AnyIm
     ensures format { IfOk result (HasFormat bytes.now) }
     ensures shallow { IfOk result (λ v. levels (any_view v).tree ≤ 65) }
     ensures clean { IfOk result (λ v. IsFaultless bytes.now limits) }
-    ensures least { IfErr result (IsLeastFault bytes.now limits) }
+    ensures least { IfErr result (IsLeastFaultUnder bytes.now limits) }
     ensures neither { (BeginsRomfs bytes.now → ⊥) → (BeginsCramfs bytes.now → ⊥)
         → result ≡ Err (neither bytes.now) }
 {

@@ -13,7 +13,7 @@ use Rattle.manifest_text.specs.Printed.{AreTaken, numbered}
 use Rattle.rom_tree.specs.Image.{Image, contents_of}
 use Rattle.rom_tree.specs.Names.{Name, names}
 use Rattle.rom_tree.specs.Tree.{Node, node, directory, regular, symlink, block, character, socket, fifo, IsIn, here, there, is_link, kind_of}
-use Rattle.image_manifest.specs.Lines.{line_behind, line_by, lines_behind, lines_of, node_line, text_of, word_of}
+use Rattle.image_manifest.specs.Lines.{line_behind, line_by, lines_behind, member_lines, node_line, text_of, word_of}
 use Rattle.image_manifest.specs.Members.{has_long_path, is_long}
 use Rattle.image_manifest.specs.Tellable.{HaveNoZeros}
 use Rattle.image_manifest.proofs.Followed.{all_taken, in_tree, is_led, lines_apart, taken_after}
@@ -92,7 +92,7 @@ no_zeros m folder j t x h l =
     let text = sound_text (all_taken m folder j r.before) (numbered (j + length r.before) (node_line m folder o.path o.node)) own in
     subst (λ (v : Node). list_any (λ b. b == 0) (contents_of m.bytes v) ≡ false) same (link_text m (folder ++ o.path) o.node (ap is_link same ∙ l) text)
 
-pub excepted : (m : Image) (folder : List ℕ) (j : ℕ) → AreTaken [] j (lines_of m folder)
+pub excepted : (m : Image) (folder : List ℕ) (j : ℕ) → AreTaken [] j (member_lines m folder)
     → HaveNoZeros m × (has_long_path m.tree ≡ false)
-unfolding lines_of
+unfolding member_lines
 excepted m folder j t = (no_zeros m folder j t, none_long (names m.tree) (λ n i. lawful m folder [] j [] (names m.tree) n t i))

@@ -18,7 +18,7 @@ use Rattle.rom_tree.specs.Tree.{Node, node, directory, regular, symlink, block, 
 use Rattle.rom_tree.proofs.Nodes.{node_at-in}
 use Rattle.rom_tree.proofs.Paths.{escaped_both}
 use Rattle.image_manifest.specs.declared.naming.Member.{Member}
-use Rattle.image_manifest.specs.Lines.{first_name, hard_line, line_behind, line_by, line_with, lines_behind, lines_of}
+use Rattle.image_manifest.specs.Lines.{first_name, hard_line, line_behind, line_by, line_with, lines_behind, member_lines}
 use Rattle.image_manifest.specs.Members.{AreMembers, Told, all_behind, first_behind, is_long, members_of, place_of, told_behind, told_of}
 use Rattle.image_manifest.proofs.Behind.{as_many}
 use Rattle.image_manifest.proofs.Ways.{or_false}
@@ -208,11 +208,11 @@ pub record IsLined (m : Image) (folder : List ℕ) (ms : List Member) (i : ℕ) 
   pub node : Node
   pub at : image_node m x.node.0 ≡ Some node
   pub first : IfSome x.first (λ j. j < length ms)
-  pub within : i < length (lines_of m folder)
-  pub line : (d : Line) → get_or (lines_of m folder) i d ≡ line_told m folder ms i node x.first
+  pub within : i < length (member_lines m folder)
+  pub line : (d : Line) → get_or (member_lines m folder) i d ≡ line_told m folder ms i node x.first
 
 pub lined : (m : Image) (folder : List ℕ) (ms : List Member) (i : ℕ) (d : Member) → AreMembers m ms → i < length ms → IsLined m folder ms i (get_or ms i d)
-unfolding members_of lines_of
+unfolding members_of member_lines
 lined m folder ms i d h l =
     let ns : List Name = names m.tree in
     let e : Name = named [] [] m.tree in
@@ -236,8 +236,8 @@ lined m folder ms i d h l =
     }
 
 -- as many lines as members
-pub as_many_lines : (m : Image) (folder : List ℕ) (ms : List Member) → AreMembers m ms → length (lines_of m folder) ≡ length ms
-unfolding members_of lines_of
+pub as_many_lines : (m : Image) (folder : List ℕ) (ms : List Member) → AreMembers m ms → length (member_lines m folder) ≡ length ms
+unfolding members_of member_lines
 as_many_lines m folder ms h = length-lines m folder [] (names m.tree) ∙ sym (as_many ms (names m.tree) h.told)
 
 -- The lines so far.

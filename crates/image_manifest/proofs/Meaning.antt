@@ -19,8 +19,8 @@ use Rattle.rom_tree.specs.Image.{Image, contents_of}
 use Rattle.rom_tree.specs.Names.{Name, named, names, node_names}
 use Rattle.rom_tree.specs.Tree.{Node, node, directory, regular, symlink, block, character, socket, fifo, IsIn, ino_of, is_directory, is_regular, kind_of, nodes}
 use Rattle.image_manifest.specs.ByPaths.{IsByPaths, has_slash}
-use Rattle.image_manifest.specs.Lines.{first_name, lines_behind, lines_of, node_line}
-use Rattle.image_manifest.specs.Sources.{has_source, sources_behind, sources_of}
+use Rattle.image_manifest.specs.Lines.{first_name, lines_behind, member_lines, node_line}
+use Rattle.image_manifest.specs.Sources.{has_source, sources_behind, file_contents}
 use Rattle.image_manifest.proofs.Followed.{after_reversed, all_taken, in_tree, is_led, other, own_filed}
 use Rattle.image_manifest.proofs.Paths.{has_names, same_names}
 use Rattle.image_manifest.proofs.Plain.{ArePlain, PathsDiffer, has_path, leads, plain_under}
@@ -333,10 +333,10 @@ shared m folder j sizes t w p q x y i k hp hq fp fq =
         → k.line ≡ j + length g.before → ino_of x ≡ ino_of y → i.line ≡ k.line
     one_file f g a b e = by_kind f g a b e (is_directory x) refl
 
-pub meant : (m : Image) (volume folder : List ℕ) → AreTaken [] (first_number volume) (lines_of m folder)
+pub meant : (m : Image) (volume folder : List ℕ) → AreTaken [] (first_number volume) (member_lines m folder)
     → IsByPaths m.tree
-    → IsMeant m.bytes m.tree (sources_of m) (as_read volume (lines_of m folder)) (map length (sources_of m))
-unfolding lines_of sources_of
+    → IsMeant m.bytes m.tree (file_contents m) (as_read volume (member_lines m folder)) (map length (file_contents m))
+unfolding member_lines file_contents
 meant m volume folder t w = record {
   values = λ q. values m folder (first_number volume) (map length (all_sources m)) q t w;
   shared = shared m folder (first_number volume) (map length (all_sources m)) t w;

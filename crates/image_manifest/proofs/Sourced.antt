@@ -10,8 +10,8 @@ use Rattle.manifest_tree.specs.Tree.{sources_before}
 use Rattle.rom_tree.specs.Image.{Image, contents_of}
 use Rattle.rom_tree.specs.Names.{Name, names}
 use Rattle.rom_tree.specs.Tree.{Node, node, directory, regular, symlink, block, character, socket, fifo, ino_of, is_directory, is_regular}
-use Rattle.image_manifest.specs.Lines.{first_name, line_behind, line_by, lines_behind, lines_of}
-use Rattle.image_manifest.specs.Sources.{AreSources, has_source, source_names, source_names_behind, sources_behind, sources_of}
+use Rattle.image_manifest.specs.Lines.{first_name, line_behind, line_by, lines_behind, member_lines}
+use Rattle.image_manifest.specs.Sources.{AreSources, has_source, source_names, source_names_behind, sources_behind, file_contents}
 
 and_false : (a : Bool) → (a && false) ≡ false
 and_false true = refl
@@ -136,5 +136,5 @@ sources_held m before (n ∷ ns) = by (has_source before n) (sources_held m (bef
     by false r = r
 
 pub are_sources : (m : Image) (volume folder : List ℕ) → AreSources m volume folder
-unfolding lines_of source_names sources_of
+unfolding member_lines source_names file_contents
 are_sources m volume folder = record { named = sources_named m folder (first_number volume) [] (names m.tree); held = sources_held m [] (names m.tree) }

@@ -19,7 +19,7 @@ use Rattle.rom_tree.specs.declared.types.Kind.TheVariants.{Directory, Regular, S
 use Rattle.rom_tree.specs.Image.{Image, contents_of}
 use Rattle.rom_tree.specs.Names.{Name, names}
 use Rattle.rom_tree.specs.Tree.{Node, node, directory, regular, symlink, block, character, socket, fifo, IsIn, attributes_of, ino_of, is_directory, is_link, kind_of, nodes}
-use Rattle.image_manifest.specs.Lines.{align_of, first_name, hard_line, line_behind, line_by, lines_behind, lines_of, node_line, text_of, word_of}
+use Rattle.image_manifest.specs.Lines.{align_of, first_name, hard_line, line_behind, line_by, lines_behind, member_lines, node_line, text_of, word_of}
 use Rattle.image_manifest.specs.Tellable.{HasSmallNumbers, IsTellable}
 use Rattle.image_manifest.proofs.Fit.{IsFit, AreFit, fit_at, names_fit, names_differ, differ_at}
 use Rattle.image_manifest.proofs.Followed.{all_taken, first_is, in_tree, lines_apart, none_by, other, other_path, own_led, taken_after}
@@ -326,6 +326,6 @@ fits m folder j b n a h fs e = by (is_directory n.node) (first_name (ino_of n.no
     by false (Some old) g f = further_fits m folder j b n a old here_fit alone e (names_fit m h) g (ap (λ (x : Bool). cond x None (first_name (ino_of n.node) b)) g ∙ f) f
 
 pub are_taken : (m : Image) (folder : List ℕ) (j : ℕ) → IsTellable m → All (λ c. c < 256) folder
-    → AreTaken [] j (lines_of m folder)
-unfolding lines_of
+    → AreTaken [] j (member_lines m folder)
+unfolding member_lines
 are_taken m folder j h fs = taken_from m folder j [] (names m.tree) tt (λ c n a e. fits m folder j c n a h fs e)

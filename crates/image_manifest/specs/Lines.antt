@@ -87,5 +87,5 @@ lines_behind m folder before (n ∷ ns) =
     line_behind m folder before n ∷ lines_behind m folder (before ++ n ∷ []) ns
 
 -- the lines of all names, with sources in this folder
-unfoldable pub lines_of : Image → List ℕ → List Line
-lines_of m folder = lines_behind m folder [] (names m.tree)
+unfoldable pub member_lines : Image → List ℕ → List Line
+member_lines m folder = lines_behind m folder [] (names m.tree)

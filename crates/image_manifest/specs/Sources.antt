@@ -5,7 +5,7 @@ use Rattle.manifest_text.specs.Printed.{as_read}
 use Rattle.rom_tree.specs.Image.{Image, contents_of}
 use Rattle.rom_tree.specs.Names.{Name, names}
 use Rattle.rom_tree.specs.Tree.{Node, ino_of, is_regular}
-use Rattle.image_manifest.specs.Lines.{first_name, lines_of}
+use Rattle.image_manifest.specs.Lines.{first_name, member_lines}
 
 -- a name behind others has a source where it is the first name of a regular file
 abbrev pub has_source : List Name → Name → Bool
@@ -19,8 +19,8 @@ sources_behind m before (n ∷ ns) =
     ++ sources_behind m (before ++ n ∷ []) ns
 
 -- what the sources hold with which the image is built again, in the order of their lines
-unfoldable pub sources_of : Image → List (List ℕ)
-sources_of m = sources_behind m [] (names m.tree)
+unfoldable pub file_contents : Image → List (List ℕ)
+file_contents m = sources_behind m [] (names m.tree)
 
 -- the names that have a source, behind others
 abbrev pub source_names_behind : List Name → List Name → List Name
@@ -35,6 +35,6 @@ source_names t = source_names_behind [] (names t)
 -- The sources that the lines name are, in their order, the regular files of the image, each by its
 -- first name: the path of this name in the folder. What they hold is what these files hold.
 pub record AreSources (m : Image) (volume folder : List ℕ) : Type 0 where
-  pub named : sources_named (as_read volume (lines_of m folder)).lines
+  pub named : sources_named (as_read volume (member_lines m folder)).lines
       ≡ map (λ n. folder ++ n.path) (source_names m.tree)
-  pub held : sources_of m ≡ map (λ n. contents_of m.bytes n.node) (source_names m.tree)
+  pub held : file_contents m ≡ map (λ n. contents_of m.bytes n.node) (source_names m.tree)

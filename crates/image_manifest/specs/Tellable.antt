@@ -9,9 +9,9 @@ use Rattle.rom_tree.specs.Image.{Image, contents_of, find_entry}
 use Rattle.rom_tree.specs.Tree.{Node, Attributes, Entries, no_entries, entry, IsIn, nodes}
 use Rattle.rom_tree.specs.Tree.{attributes_of, entries_of, is_directory, is_link}
 use Rattle.image_manifest.specs.ByPaths.{HaveOnePath, has_slash}
-use Rattle.image_manifest.specs.Lines.{lines_of}
+use Rattle.image_manifest.specs.Lines.{member_lines}
 use Rattle.image_manifest.specs.Members.{has_long_path}
-use Rattle.image_manifest.specs.Sources.{AreSources, sources_of}
+use Rattle.image_manifest.specs.Sources.{AreSources, file_contents}
 
 -- A name that a manifest takes: bytes, none of them zero or a slash, and at most 255 of them; not
 -- empty, `.` or `..`.
@@ -59,8 +59,8 @@ pub record IsTellable (m : Image) : Type 0 where
 -- of its names. Its sources are the image's files, and where they hold what these hold, it means
 -- the image's tree.
 pub record IsToldWhole (m : Image) (volume folder : List ℕ) : Type 0 where
-  pub read : manifest_of (manifest_text volume (lines_of m folder))
-      ≡ Ok (as_read volume (lines_of m folder))
-  pub means : IsMeant m.bytes m.tree (sources_of m) (as_read volume (lines_of m folder))
-      (map length (sources_of m))
+  pub read : manifest_of (manifest_text volume (member_lines m folder))
+      ≡ Ok (as_read volume (member_lines m folder))
+  pub means : IsMeant m.bytes m.tree (file_contents m) (as_read volume (member_lines m folder))
+      (map length (file_contents m))
   pub sources : AreSources m volume folder

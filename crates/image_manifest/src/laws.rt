@@ -9,9 +9,9 @@ ghost use Rattle.manifest_tree.specs.Shape.{HasShape};
 ghost use Rattle.manifest_tree.specs.Tree.{root_of, tree_of};
 ghost use Rattle.rom_tree.specs.Image.{Image};
 ghost use Rattle.image_manifest.specs.ByPaths.{IsByPaths};
-ghost use Rattle.image_manifest.specs.Lines.{lines_of};
+ghost use Rattle.image_manifest.specs.Lines.{member_lines};
 ghost use Rattle.image_manifest.specs.Members.{has_long_path};
-ghost use Rattle.image_manifest.specs.Sources.{AreSources, sources_of};
+ghost use Rattle.image_manifest.specs.Sources.{AreSources, file_contents};
 ghost use Rattle.image_manifest.specs.Tellable.{HaveNoZeros, IsTellable, IsToldWhole};
 
 /// Where the grammar takes the lines of an image's names one behind the other, and the volume's
@@ -19,9 +19,9 @@ ghost use Rattle.image_manifest.specs.Tellable.{HaveNoZeros, IsTellable, IsToldW
 /// of this volume.
 pub fn lines_are_read_back()
     ensures { (m : Image) (volume folder : List ℕ) → IsVolume volume
-        → AreTaken [] (first_number volume) (lines_of m folder)
-        → manifest_of (manifest_text volume (lines_of m folder))
-        ≡ Ok (as_read volume (lines_of m folder)) }
+        → AreTaken [] (first_number volume) (member_lines m folder)
+        → manifest_of (manifest_text volume (member_lines m folder))
+        ≡ Ok (as_read volume (member_lines m folder)) }
 {
     manifest_text::laws::reads_back();
 }
@@ -30,12 +30,12 @@ pub fn lines_are_read_back()
 /// the names that it gives have the shape of the tree.
 pub fn told_by_shape()
     ensures { (m : Image) (volume folder : List ℕ) → IsVolume volume
-        → AreTaken [] (first_number volume) (lines_of m folder)
-        → HasShape m.bytes m.tree (sources_of m)
-        (root_of (as_read volume (lines_of m folder)).lines (map length (sources_of m)))
-        (tree_of (as_read volume (lines_of m folder)).lines (map length (sources_of m)))
-        → IsMeant m.bytes m.tree (sources_of m) (as_read volume (lines_of m folder))
-        (map length (sources_of m)) }
+        → AreTaken [] (first_number volume) (member_lines m folder)
+        → HasShape m.bytes m.tree (file_contents m)
+        (root_of (as_read volume (member_lines m folder)).lines (map length (file_contents m)))
+        (tree_of (as_read volume (member_lines m folder)).lines (map length (file_contents m)))
+        → IsMeant m.bytes m.tree (file_contents m) (as_read volume (member_lines m folder))
+        (map length (file_contents m)) }
 {
     lines_are_read_back();
     manifest_tree::laws::shape_is_meant();
@@ -47,23 +47,23 @@ pub fn told_by_shape()
 /// one file exactly where they lead to one node.
 pub fn means_its_tree()
     ensures { (m : Image) (volume folder : List ℕ)
-        → AreTaken [] (first_number volume) (lines_of m folder) → IsByPaths m.tree
-        → IsMeant m.bytes m.tree (sources_of m) (as_read volume (lines_of m folder))
-        (map length (sources_of m)) }
+        → AreTaken [] (first_number volume) (member_lines m folder) → IsByPaths m.tree
+        → IsMeant m.bytes m.tree (file_contents m) (as_read volume (member_lines m folder))
+        (map length (file_contents m)) }
 {}
 
 /// The grammar takes the lines of an image that a manifest tells whole, one behind the other,
 /// whatever folder its sources are in.
 pub fn lines_are_taken()
     ensures { (m : Image) (volume folder : List ℕ) → IsTellable m → All (λ b. b < 256) folder
-        → AreTaken [] (first_number volume) (lines_of m folder) }
+        → AreTaken [] (first_number volume) (member_lines m folder) }
 {}
 
 /// The grammar takes the lines of an image only where no link's text has a zero byte, and no path
 /// has more than 4,095 bytes.
 pub fn taken_only_then()
     ensures { (m : Image) (volume folder : List ℕ)
-        → AreTaken [] (first_number volume) (lines_of m folder)
+        → AreTaken [] (first_number volume) (member_lines m folder)
         → HaveNoZeros m × (has_long_path m.tree ≡ false) }
 {}
 

@@ -2,7 +2,7 @@
 ghost use Rattle.manifest_text.specs.Printed.{lines_text, manifest_text};
 ghost use Rattle.rom_fields.specs.Failures.{Counts};
 ghost use Rattle.rom_fields.specs.Written.{Puts, WritesText, sink};
-ghost use Rattle.image_manifest.specs.Lines.{lines_of};
+ghost use Rattle.image_manifest.specs.Lines.{member_lines};
 ghost use Rattle.image_manifest.specs.Members.{AreMembers};
 
 use crate::line::put_member;
@@ -21,7 +21,7 @@ fn put_members<'a, T: TreeImage<'a>, W: ByteWrite>(
 )
     requires { AreMembers (T.image image.now) members.now }
     ensures { Puts (sink (W.output w.old) failed.old) (sink (W.output w.new) failed.new)
-        (lines_text (lines_of (T.image image.now) folder.now)) }
+        (lines_text (member_lines (T.image image.now) folder.now)) }
 {
     for index in 0..members.len() {
         put_member(image, w, failed, folder, members, index, members[index]);
@@ -49,7 +49,7 @@ pub fn write_manifest<'a, T: TreeImage<'a>, W: ByteWrite>(
 ) -> Result<(), Failed>
     requires { AreMembers (T.image image.now) members.now }
     ensures text { WritesText (W.output w.old).contents (W.output w.new).contents result
-        (manifest_text volume.now (lines_of (T.image image.now) folder.now)) }
+        (manifest_text volume.now (member_lines (T.image image.now) folder.now)) }
     ensures count { Counts (W.output w.old).failures (W.output w.new).failures result }
 {
     let mut failed = false;

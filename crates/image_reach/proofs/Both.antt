@@ -11,7 +11,7 @@ use Rattle.cramfs_format.specs.Tree.{CramfsTree}
 use Rattle.cramfs_format.specs.Faults.{HasNoFault as HasNoCramfsFault}
 use Rattle.cramfs_format.proofs.Begins.{tree_order}
 use Rattle.cramfs_image.specs.Checked.{Shows as CramfsShows, IsLeastAnswer as IsLeastCramfsAnswer}
-use Rattle.image_check.specs.Checked.{BeginsRomfs, BeginsCramfs, HasTree, IsFaultless, no_romfs_fault, no_cramfs_fault, IsLeastFault, least_of_romfs, least_of_cramfs, of_neither, neither, Shows, romfs, cramfs}
+use Rattle.image_check.specs.Checked.{BeginsRomfs, BeginsCramfs, HasTree, IsFaultless, no_romfs_fault, no_cramfs_fault, IsLeastFaultUnder, least_of_romfs, least_of_cramfs, of_neither, neither, Shows, romfs, cramfs}
 use Rattle.image_check.proofs.Formats.{romfs_begins, cramfs_begins}
 use Rattle.image_reach.proofs.Romfs as of_romfs
 use Rattle.image_reach.proofs.Cramfs as of_cramfs
@@ -57,7 +57,7 @@ tree_over all cut limits t a x = elim x [
       inr (order_of all, of_cramfs.same_tree (order_of all) all cut limits.references limits.depth t (a.in_cramfs (cramfs_begins r.1)) c)
 ]
 
-pub fault_over : (all cut : List ℕ) (limits : Limits) (e : CheckError) → Alike all cut → IsLeastFault all limits e → IsLeastFault cut limits e
+pub fault_over : (all cut : List ℕ) (limits : Limits) (e : CheckError) → Alike all cut → IsLeastFaultUnder all limits e → IsLeastFaultUnder cut limits e
 fault_over all cut limits e a (least_of_romfs b h) =
     least_of_romfs (a.begins_romfs.0 b) (of_romfs.least_answer all cut limits e (a.in_romfs b) h)
 fault_over all cut limits e a (least_of_cramfs b h) =

@@ -2,7 +2,7 @@
 ghost use Rattle.std.specs.Prelude.{◌≡◌, ◌≤◌, ◌↔◌, ℕ, List, take};
 ghost use Rattle.cramfs_format.specs.Superblock.{order_of};
 ghost use Rattle.image_check.specs.Checked.{BeginsRomfs, BeginsCramfs, HasTree};
-ghost use Rattle.image_check.specs.Checked.{IsFaultless, IsLeastFault, Shows};
+ghost use Rattle.image_check.specs.Checked.{IsFaultless, IsLeastFaultUnder, Shows};
 ghost use Rattle.image_reach.specs.Reach.{Reaches};
 ghost use Rattle.rom_faults.specs.declared.error.CheckError.{CheckError};
 ghost use Rattle.rom_tree.specs.Image.{Image};
@@ -19,7 +19,7 @@ pub fn no_further()
         → HasTree (take n all) limits t ↔ HasTree all limits t }
     ensures fault { (all : List ℕ) (reach n : ℕ) (limits : Limits) (e : CheckError)
         → Reaches (take 76 all) reach → reach ≤ n
-        → IsLeastFault (take n all) limits e ↔ IsLeastFault all limits e }
+        → IsLeastFaultUnder (take n all) limits e ↔ IsLeastFaultUnder all limits e }
     ensures faultless { (all : List ℕ) (reach n : ℕ) (limits : Limits)
         → Reaches (take 76 all) reach → reach ≤ n
         → IsFaultless (take n all) limits ↔ IsFaultless all limits }

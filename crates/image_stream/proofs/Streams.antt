@@ -11,7 +11,7 @@ use Rattle.image_stream.specs.declared.error.StreamError.TheVariants.{SizeDiffer
 use Rattle.image_stream.specs.Sources.{content_of, Told, Reads, FailedAt}
 use Rattle.image_stream.specs.Segments.{Form, Segment, place, len, bytes_of, zeros, IsImage, image_from, checked}
 use Rattle.image_stream.specs.Outcomes.{FrontSized, AreSized, IsStreamFault}
-use Rattle.image_stream.specs.Steps.{Gone, IsFault, IsLeastFault}
+use Rattle.image_stream.specs.Steps.{Gone, IsFault, IsLeastStreamFault}
 use Rattle.image_stream.proofs.Images.{body_known}
 
 -- where the contents are known, so is the image
@@ -37,7 +37,7 @@ module _ (head : ℕ → List ℕ) (S : List ℕ → ℕ) (stored : ℕ) (image 
   whole_image a b c d w f k = let H : ℕ → Type 0 = λ v. Appends a d (head v ++ image) in subst H right (appends_keep a c d (head stored ++ image) (appends_join a b c (head stored) image w f) k)
 
 -- nothing was written yet
-pub size_fault : (told : Option (List (List ℕ))) (f : Form) (stored : List ℕ → ℕ) (r r' : Reads) (w : Output) (e : StreamError) → IsLeastFault told f.sizes r r' e
+pub size_fault : (told : Option (List (List ℕ))) (f : Form) (stored : List ℕ → ℕ) (r r' : Reads) (w : Output) (e : StreamError) → IsLeastStreamFault told f.sizes r r' e
     → IsStreamFault told f stored r r' w w e
 size_fault told f stored r r' w (SizeDiffers k) h = (h.0, λ cs is. (h.1 cs is, refl))
 size_fault told f stored r r' w (SourceFault k) h = h

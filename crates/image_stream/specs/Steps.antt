@@ -83,11 +83,11 @@ IsSizeFault told file size r r' WriteFault = ⊥
 IsSizeFault told file size r r' Changed = ⊥
 
 -- the first file of another size, or a file of which a read failed, where those before it have their sizes
-abbrev pub IsLeastFault : Option (List (List ℕ)) → List ℕ → Reads → Reads → StreamError → Type 0
-IsLeastFault told sizes r r' (SizeDiffers f) = (f < length sizes) × Told told (IsLeastWrong sizes f)
-IsLeastFault told sizes r r' (SourceFault f) = (f < length sizes) × FailedAt f r r' × Told told (FrontSized sizes f)
-IsLeastFault told sizes r r' WriteFault = ⊥
-IsLeastFault told sizes r r' Changed = ⊥
+abbrev pub IsLeastStreamFault : Option (List (List ℕ)) → List ℕ → Reads → Reads → StreamError → Type 0
+IsLeastStreamFault told sizes r r' (SizeDiffers f) = (f < length sizes) × Told told (IsLeastWrong sizes f)
+IsLeastStreamFault told sizes r r' (SourceFault f) = (f < length sizes) × FailedAt f r r' × Told told (FrontSized sizes f)
+IsLeastStreamFault told sizes r r' WriteFault = ⊥
+IsLeastStreamFault told sizes r r' Changed = ⊥
 
 -- a fault while segments go out
 abbrev pub IsFault : Option (List (List ℕ)) → List ℕ → Reads → Reads → ℕ → ℕ → StreamError → Type 0

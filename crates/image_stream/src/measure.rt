@@ -3,7 +3,7 @@ ghost use Rattle.std.specs.Prelude.{◌≡◌, ◌<◌, ◌≤◌, ◌^◌, ℕ,
 ghost use Rattle.image_stream.specs.Answers.{Grew};
 ghost use Rattle.image_stream.specs.Sources.{Told, content_of, FailedAt};
 ghost use Rattle.image_stream.specs.Outcomes.{AreSized};
-ghost use Rattle.image_stream.specs.Steps.{IsSizeFault, IsLeastFault};
+ghost use Rattle.image_stream.specs.Steps.{IsSizeFault, IsLeastStreamFault};
 
 use crate::error::StreamError;
 use crate::segmented::Segmented;
@@ -83,7 +83,7 @@ pub fn measure_all<L: Segmented, S: Sources>(
     ensures ok { OnOk result (Told (S.told sources.old) (AreSized (L.form layout.now).sizes)) }
     ensures grew { OnOk result (Grew (S.IsLog sources.old) (S.IsLog sources.new)) }
     ensures quiet { OnOk result (S.reads sources.new ≡ S.reads sources.old) }
-    ensures fault { IfErr result (IsLeastFault (S.told sources.old) (L.form layout.now).sizes
+    ensures fault { IfErr result (IsLeastStreamFault (S.told sources.old) (L.form layout.now).sizes
         (S.reads sources.old) (S.reads sources.new)) }
 {
     for file in 0..layout.files() {

@@ -18,8 +18,8 @@ use Rattle.manifest_tree.specs.Tree.{file_named}
 use Rattle.romfs_format.specs.Record.{before_zero}
 use Rattle.rom_tree.specs.Image.{Image}
 use Rattle.rom_tree.specs.Tree.{Node}
-use Rattle.image_manifest.specs.Lines.{lines_of}
-use Rattle.image_manifest.specs.Sources.{sources_of}
+use Rattle.image_manifest.specs.Lines.{member_lines}
+use Rattle.image_manifest.specs.Sources.{file_contents}
 use Rattle.image_manifest.specs.Tellable.{IsToldWhole}
 use Rattle.image_manifest.proofs.Ways.{neither}
 use Rattle.image_told.specs.Alike.{AreAlike}
@@ -49,12 +49,12 @@ same_lines n m h = cc
 
 -- so what is built of an image's manifest is like the image
 pub built_again : (m : Image) (volume folder : List ℕ) → IsToldWhole m volume folder
-    → (n : ManifestLines) (bytes : List ℕ) (t : Node) → manifest_of (manifest_text volume (lines_of m folder)) ≡ Ok n
-    → IsMeant bytes t (sources_of m) n (map length (sources_of m)) → AreAlike m.bytes m.tree bytes t
+    → (n : ManifestLines) (bytes : List ℕ) (t : Node) → manifest_of (manifest_text volume (member_lines m folder)) ≡ Ok n
+    → IsMeant bytes t (file_contents m) n (map length (file_contents m)) → AreAlike m.bytes m.tree bytes t
 built_again m volume folder h n bytes t e k =
-    let same : n ≡ as_read volume (lines_of m folder) = same_lines n (as_read volume (lines_of m folder)) (sym e ∙ h.read) in
-    alike m.bytes bytes m.tree t (sources_of m) (as_read volume (lines_of m folder)) (map length (sources_of m)) h.means
-    (subst (λ (v : ManifestLines). IsMeant bytes t (sources_of m) v (map length (sources_of m))) same k)
+    let same : n ≡ as_read volume (member_lines m folder) = same_lines n (as_read volume (member_lines m folder)) (sym e ∙ h.read) in
+    alike m.bytes bytes m.tree t (file_contents m) (as_read volume (member_lines m folder)) (map length (file_contents m)) h.means
+    (subst (λ (v : ManifestLines). IsMeant bytes t (file_contents m) v (map length (file_contents m))) same k)
 
 -- what stands before the first zero is a volume's name, if it is not too long
 named : (xs : List ℕ) → All (λ b. b < 256) xs → length (before_zero xs) ≤ 255 → IsVolume (before_zero xs)

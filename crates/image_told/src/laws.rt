@@ -13,9 +13,9 @@ ghost use Rattle.image_check.specs.Any.{any_view, report_of};
 ghost use Rattle.image_check.specs.Checked.{Shows};
 ghost use Rattle.image_check.specs.declared.any.AnyImage.{AnyImage};
 ghost use Rattle.image_info.specs.Volumes.{volume_of};
-ghost use Rattle.image_manifest.specs.Lines.{lines_of};
+ghost use Rattle.image_manifest.specs.Lines.{member_lines};
 ghost use Rattle.image_manifest.specs.Members.{has_long_path};
-ghost use Rattle.image_manifest.specs.Sources.{sources_of};
+ghost use Rattle.image_manifest.specs.Sources.{file_contents};
 ghost use Rattle.image_manifest.specs.Tellable.{HaveNoZeros, IsLawfulTree, IsToldWhole};
 ghost use Rattle.image_told.specs.Alike.{AreAlike};
 
@@ -33,7 +33,7 @@ pub fn accepted_is_taken()
     ensures { (all : List ℕ) (limits : Limits) (m : Image) (report : Report)
         (volume folder : List ℕ) → All (λ b. b < 256) all → Shows all limits m report
         → All (λ b. b < 256) folder
-        → AreTaken [] (first_number volume) (lines_of m folder)
+        → AreTaken [] (first_number volume) (member_lines m folder)
         ↔ (HaveNoZeros m × (has_long_path m.tree ≡ false)) }
 {
     accepted_is_lawful();
@@ -73,7 +73,7 @@ pub fn extracted_is_told()
 pub fn built_again_is_alike()
     ensures { (m : Image) (volume folder : List ℕ) → IsToldWhole m volume folder
         → (n : ManifestLines) (bytes : List ℕ) (t : Node)
-        → manifest_of (manifest_text volume (lines_of m folder)) ≡ Ok n
-        → IsMeant bytes t (sources_of m) n (map length (sources_of m))
+        → manifest_of (manifest_text volume (member_lines m folder)) ≡ Ok n
+        → IsMeant bytes t (file_contents m) n (map length (file_contents m))
         → AreAlike m.bytes m.tree bytes t }
 {}

@@ -45,9 +45,9 @@ abbrev pub references_of : Format → ManifestLines → List ℕ → ℕ
 references_of f m sizes = length (items_of f m sizes)
 
 -- the bytes hold this tree, under the usual limits
-abbrev pub HasTree : Format → List ℕ → Node → Type 0
-HasTree romfs bytes t = RomfsTree bytes (2 ^ 20) 64 t
-HasTree (cramfs o) bytes t = CramfsTree o bytes (2 ^ 20) 64 t
+abbrev pub HasUsualTree : Format → List ℕ → Node → Type 0
+HasUsualTree romfs bytes t = RomfsTree bytes (2 ^ 20) 64 t
+HasUsualTree (cramfs o) bytes t = CramfsTree o bytes (2 ^ 20) 64 t
 
 -- its volume can be laid out
 abbrev pub IsPlannedBy : Format → ManifestLines → List (List ℕ) → Type 0

@@ -4,7 +4,7 @@ ghost use Rattle.layout_terms.specs.Items.{SectionsRise};
 ghost use Rattle.manifest.specs.Grammar.{IsManifest};
 ghost use Rattle.manifest.specs.Lines.{ManifestLines};
 ghost use Rattle.manifest_layout.specs.Composed.{composed_of};
-ghost use Rattle.manifest_layout.specs.Format.{Format, HasTree, IsPlannedBy, layout_of, len_of, sections_of};
+ghost use Rattle.manifest_layout.specs.Format.{Format, HasUsualTree, IsPlannedBy, layout_of, len_of, sections_of};
 ghost use Rattle.manifest_layout.specs.Misfit.{IsLeastMisfit, HasNoMisfit};
 ghost use Rattle.manifest_layout.specs.Placement.{HasVolume, IsPlaced};
 ghost use Rattle.manifest_tree.specs.Meant.{IsMeant};
@@ -32,7 +32,7 @@ pub fn fitting_is_planned()
 pub fn layout_is_meant()
     ensures tree { (f : Format) (m : ManifestLines) (contents : List (List ℕ))
         → IsManifest m → HasNoMisfit f m (map length contents)
-        → (t : Node) × HasTree f (layout_of f m contents) t
+        → (t : Node) × HasUsualTree f (layout_of f m contents) t
         × IsMeant (layout_of f m contents) t contents m (map length contents) }
     ensures length { (f : Format) (m : ManifestLines) (contents : List (List ℕ))
         → IsManifest m → HasNoMisfit f m (map length contents)
@@ -52,7 +52,7 @@ pub fn layout_is_meant()
 pub fn layout_is_placed()
     ensures runs { (f : Format) (m : ManifestLines) (contents : List (List ℕ))
         → IsManifest m → HasNoMisfit f m (map length contents)
-        → (t : Node) × HasTree f (layout_of f m contents) t × IsPlaced t m }
+        → (t : Node) × HasUsualTree f (layout_of f m contents) t × IsPlaced t m }
     ensures named { (f : Format) (m : ManifestLines) (contents : List (List ℕ))
         → IsManifest m → HasNoMisfit f m (map length contents)
         → HasVolume f (layout_of f m contents) m.volume }

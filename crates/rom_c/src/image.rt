@@ -7,7 +7,7 @@ ghost use Rattle.cramfs_image.specs.Parts.{AreParts as AreCramfsParts};
 ghost use Rattle.cramfs_format.specs.Superblock.{order_of};
 ghost use Rattle.image_check.specs.Any.{any_view, report_of};
 ghost use Rattle.image_check.specs.Parts.{AreParts, tree_of_parts, cursors_of_parts};
-ghost use Rattle.image_check.specs.Checked.{BeginsRomfs, BeginsCramfs, HasFormat, HasTree, IsLeastFault, Shows};
+ghost use Rattle.image_check.specs.Checked.{BeginsRomfs, BeginsCramfs, HasFormat, HasTree, IsLeastFaultUnder, Shows};
 ghost use Rattle.image_check.specs.declared.any.Parts.TheVariants.{Romfs, Cramfs};
 ghost use Rattle.rom_c.specs.Held.{usual, parts_of, romfs_parts, cramfs_parts, IsFormat, IsReported};
 
@@ -180,8 +180,8 @@ pub(crate) fn check_into<'a>(alloc: Global, image: &mut RomtoolImage<'a>, bytes:
         × (image.new.references ≡ 0) × (image.new.depth ≡ 0) }
     ensures refused { result ≡ 14 → (t : Node) → HasTree bytes.now usual t → ⊥ }
     ensures least { result ≡ 14
-        → IsLeastFault bytes.now usual (Fault image.new.fault image.new.at) }
-    ensures memory { result ≡ 15 → IsLeastFault bytes.now usual OutOfMemory }
+        → IsLeastFaultUnder bytes.now usual (Fault image.new.fault image.new.at) }
+    ensures memory { result ≡ 15 → IsLeastFaultUnder bytes.now usual OutOfMemory }
     ensures no_fault { result ≡ 15 → (image.new.fault ≡ 0) × (image.new.at ≡ 0) }
     ensures codes { (result ≡ 0) ⊎ ((result ≡ 14) ⊎ (result ≡ 15)) }
 {

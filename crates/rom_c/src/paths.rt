@@ -3,7 +3,7 @@ ghost use Rattle.std.specs.Prelude.{◌≡◌, ◌≢◌, ◌⊎◌, false};
 ghost use Rattle.rom_tree.specs.Tree.{Node};
 ghost use Rattle.path_walk.specs.Resolution.{resolution, tree_namespace};
 ghost use Rattle.rom_faults.specs.declared.error.CheckError.TheVariants.{Fault, OutOfMemory};
-ghost use Rattle.image_check.specs.Checked.{HasTree, IsLeastFault};
+ghost use Rattle.image_check.specs.Checked.{HasTree, IsLeastFaultUnder};
 ghost use Rattle.rom_c.specs.Held.{usual, IsFormat, IsReported};
 ghost use Rattle.rom_c.specs.Told.{IsText, led_told, shown_told};
 ghost use Rattle.rom_c.specs.Told.{no_node as no_node_told, no_stat as no_stat_told, no_place as no_place_told};
@@ -37,8 +37,8 @@ pub extern "C" fn romtool_check<'a>(
         × (image.new.references ≡ 0) × (image.new.depth ≡ 0) }
     ensures refused { result ≡ 14 → (t : Node) → HasTree bytes.now usual t → ⊥ }
     ensures least { result ≡ 14
-        → IsLeastFault bytes.now usual (Fault image.new.fault image.new.at) }
-    ensures memory { result ≡ 15 → IsLeastFault bytes.now usual OutOfMemory }
+        → IsLeastFaultUnder bytes.now usual (Fault image.new.fault image.new.at) }
+    ensures memory { result ≡ 15 → IsLeastFaultUnder bytes.now usual OutOfMemory }
     ensures no_fault { result ≡ 15 → (image.new.fault ≡ 0) × (image.new.at ≡ 0) }
     ensures codes { (result ≡ 0) ⊎ ((result ≡ 14) ⊎ (result ≡ 15)) }
 {

@@ -9,7 +9,7 @@ use Rattle.rom_faults.specs.declared.error.CheckError.TheVariants as check
 use Rattle.rom_tree.specs.Image.{Image}
 use Rattle.rom_tree.specs.declared.types.Limits.{Limits}
 use Rattle.image_check.specs.Any.{any_view, report_of}
-use Rattle.image_check.specs.Checked.{Shows, IsRefused, IsFaultless, IsLeastFault}
+use Rattle.image_check.specs.Checked.{Shows, IsRefused, IsFaultless, IsLeastFaultUnder}
 use Rattle.image_check.specs.declared.any.AnyImage.{AnyImage}
 use Rattle.open_files.specs.Machine.{no_files}
 use Rattle.serve_lines.specs.Served.{Machine, Serves, Finishes, Breaks}
@@ -20,7 +20,7 @@ use Rattle.rom_commands.specs.declared.serving.Serving.{Serving}
 use Rattle.rom_commands.specs.declared.serving.Serving.TheVariants.{Served, Refused, Memory, ReadFault, WriteFault, TooManyReads}
 use Rattle.rom_commands.specs.Lines.{fault_line}
 use Rattle.rom_commands.specs.Answers.{IsFaultTextUnder}
-use Rattle.rom_commands.specs.Serving.{Input, Answers, Refuses, Tells, CheckedEnds, ServingEndsUnder, serving_of, refusal_of}
+use Rattle.rom_commands.specs.Serving.{Input, EndsServed, EndsRefused, Tells, CheckedEnds, ServingEndsUnder, serving_of, refusal_of}
 
 -- lines were answered
 pub answers_by : {S : Type 0} (m : Machine S) (s : S) (r₀ r : Input) (w₀ w : Output) (q : Result (Unit {0}) ServeError)
@@ -29,7 +29,7 @@ pub answers_by : {S : Type 0} (m : Machine S) (s : S) (r₀ r : Input) (w₀ w :
     → (q ≡ Err serve.ReadFault → Rose r₀.failures r.failures × ((y : List ℕ) × Finishes m s r₀.remaining r.remaining w₀ w y))
     → (q ≡ Err serve.WriteFault → Rose w₀.failures w.failures × Breaks m s r₀.remaining r.remaining w₀ w)
     → (q ≡ Err serve.TooManyReads → (y : List ℕ) × (length y ≡ 2 ^ 40) × Finishes m s r₀.remaining r.remaining w₀ w y)
-    → Answers m s r₀ r w₀ w (serving_of q)
+    → EndsServed m s r₀ r w₀ w (serving_of q)
 answers_by m s r₀ r w₀ w (Ok _) a b c d e = (a, b.0, b.1)
 answers_by m s r₀ r w₀ w (Err serve.ReadFault) a b c d e = c refl
 answers_by m s r₀ r w₀ w (Err serve.WriteFault) a b c d e = d refl
@@ -42,15 +42,15 @@ pub served_by : (m m' : Image) (r₀ r : Input) (w₀ w : Output) (q : Result (U
     → (q ≡ Err serve.ReadFault → Rose r₀.failures r.failures × ((y : List ℕ) × Finishes (image_machine m') (no_files 64) r₀.remaining r.remaining w₀ w y))
     → (q ≡ Err serve.WriteFault → Rose w₀.failures w.failures × Breaks (image_machine m') (no_files 64) r₀.remaining r.remaining w₀ w)
     → (q ≡ Err serve.TooManyReads → (y : List ℕ) × (length y ≡ 2 ^ 40) × Finishes (image_machine m') (no_files 64) r₀.remaining r.remaining w₀ w y)
-    → Answers (image_machine m) (no_files 64) r₀ r w₀ w o
+    → EndsServed (image_machine m) (no_files 64) r₀ r w₀ w o
 served_by m m' r₀ r w₀ w q o same is a b c d e =
-    subst (λ (t : Image). Answers (image_machine t) (no_files 64) r₀ r w₀ w o) same
-    (subst (λ v. Answers (image_machine m') (no_files 64) r₀ r w₀ w v) (sym is) (answers_by (image_machine m') (no_files 64) r₀ r w₀ w q a b c d e))
+    subst (λ (t : Image). EndsServed (image_machine t) (no_files 64) r₀ r w₀ w o) same
+    (subst (λ v. EndsServed (image_machine m') (no_files 64) r₀ r w₀ w v) (sym is) (answers_by (image_machine m') (no_files 64) r₀ r w₀ w q a b c d e))
 
 -- a text was written in place of replies
 pub refuses_by : (IsText : List ℕ → Type 0) (r : Input) (w₀ w : Output) (text : List ℕ) (q : Result (Unit {0}) Failed) → IsText text
     → WritesText w₀.contents w.contents q text → Counts w₀.failures w.failures q → OnOk q (w.flushes ≡ one_more w₀.flushes)
-    → Refuses IsText r r w₀ w (refusal_of q)
+    → EndsRefused IsText r r w₀ w (refusal_of q)
 refuses_by IsText r w₀ w text (Ok _) h a b f = (refl, (text, h, a), b, f)
 refuses_by IsText r w₀ w text (Err _) h a b f = (refl, (text, h, a), b)
 
@@ -62,7 +62,7 @@ tells_by r w₀ w text (Err _) a b f = (refl, a, b)
 
 -- a text that was written is one of a fault
 told : (IsText : List ℕ → Type 0) (text : List ℕ) (r₀ r : Input) (w₀ w : Output) (o : Serving) → IsText text → Tells text r₀ r w₀ w o
-    → Refuses IsText r₀ r w₀ w o
+    → EndsRefused IsText r₀ r w₀ w o
 told IsText text r₀ r w₀ w Refused is t = (t.0, (text, is, t.1), t.2, t.3)
 told IsText text r₀ r w₀ w WriteFault is t = (t.0, (text, is, t.1), t.2)
 told IsText text r₀ r w₀ w Memory is t = absurd t
@@ -70,13 +70,13 @@ told IsText text r₀ r w₀ w Served is t = absurd t
 told IsText text r₀ r w₀ w ReadFault is t = absurd t
 told IsText text r₀ r w₀ w TooManyReads is t = absurd t
 
-unserved : (IsText : List ℕ → Type 0) (r₀ r : Input) (w₀ w : Output) (o : Serving) → o ≡ Memory → r ≡ r₀ → w ≡ w₀ → Refuses IsText r₀ r w₀ w o
-unserved IsText r₀ r w₀ w o e a b = subst (λ (v : Serving). Refuses IsText r₀ r w₀ w v) (sym e) (a, b)
+unserved : (IsText : List ℕ → Type 0) (r₀ r : Input) (w₀ w : Output) (o : Serving) → o ≡ Memory → r ≡ r₀ → w ≡ w₀ → EndsRefused IsText r₀ r w₀ w o
+unserved IsText r₀ r w₀ w o e a b = subst (λ (v : Serving). EndsRefused IsText r₀ r w₀ w v) (sym e) (a, b)
 
 -- what a serving did by what the check answered, it did of the bytes that were checked
 pub under_by : (limits : Limits) (bytes : List ℕ) (q : Result AnyImage CheckError) (r₀ r : Input) (w₀ w : Output) (o : Serving)
     → IfOk q (λ v. Shows bytes limits (any_view v) (report_of v)) → IfOk q (λ v. IsFaultless bytes limits)
-    → IfErr q (IsRefused bytes limits) → IfErr q (IsLeastFault bytes limits)
+    → IfErr q (IsRefused bytes limits) → IfErr q (IsLeastFaultUnder bytes limits)
     → CheckedEnds q r₀ r w₀ w o → ServingEndsUnder limits bytes r₀ r w₀ w o
 under_by limits bytes (Ok v) r₀ r w₀ w o shows clean refused least ends =
     inl (any_view v, record { report = report_of v; shows = shows; clean = clean }, ends)

@@ -7,7 +7,7 @@ use Rattle.image_check.specs.Any.{any_view, report_of}
 use Rattle.rom_tree.specs.Image.{Image}
 use Rattle.rom_tree.specs.declared.types.Report.{Report}
 use Rattle.image_check.specs.Checked.{romfs as shows_romfs, cramfs as shows_cramfs}
-use Rattle.image_check.specs.Checked.{Shows, IsRefused, HasFormat, IsFaultless, IsLeastFault}
+use Rattle.image_check.specs.Checked.{Shows, IsRefused, HasFormat, IsFaultless, IsLeastFaultUnder}
 use Rattle.rom_fields.specs.Written.{Output}
 use Rattle.image_info.specs.Endings.{WritesAll}
 use Rattle.image_info.specs.declared.info.InfoError.{InfoError}
@@ -48,14 +48,14 @@ pub shown_fits : (asked : Asked) (bytes : List ℕ) (l : Limits) (v : AnyImage) 
 shown_fits asked bytes l v h f = let P : List ℕ → Type 0 = λ u. Fits asked (length u) in subst P (sym (shown_bytes bytes l (any_view v) (report_of v) h)) f
 
 -- the fault that a check found
-pub fault_of : (bytes : List ℕ) (l : Limits) (number at : ℕ) → l ≡ usual_limits → IsRefused bytes l (Fault number at) → IsLeastFault bytes l (Fault number at) → HasFault bytes number at
+pub fault_of : (bytes : List ℕ) (l : Limits) (number at : ℕ) → l ≡ usual_limits → IsRefused bytes l (Fault number at) → IsLeastFaultUnder bytes l (Fault number at) → HasFault bytes number at
 fault_of bytes l number at e h k =
     let P : Limits → Type 0 = λ v. IsRefused bytes v (Fault number at) in
-    let Q : Limits → Type 0 = λ v. IsLeastFault bytes v (Fault number at) in
+    let Q : Limits → Type 0 = λ v. IsLeastFaultUnder bytes v (Fault number at) in
     record { refused = subst P e h; least = subst Q e k }
 
 -- what is printed of an image with a fault
-pub faulty : (bytes : List ℕ) (l : Limits) (number at : ℕ) → l ≡ usual_limits → IsRefused bytes l (Fault number at) → IsLeastFault bytes l (Fault number at) → IsFaultText bytes (fault_line number at)
+pub faulty : (bytes : List ℕ) (l : Limits) (number at : ℕ) → l ≡ usual_limits → IsRefused bytes l (Fault number at) → IsLeastFaultUnder bytes l (Fault number at) → IsFaultText bytes (fault_line number at)
 faulty bytes l number at e h k = record { number = number; at = at; fault = fault_of bytes l number at e h k; same = refl }
 
 -- a failure with nothing to tell is one with something to tell

@@ -12,7 +12,7 @@ use Rattle.rom_commands.specs.Asked.{sound_text, warns}
 use Rattle.rom_commands.specs.declared.asked.Asked.{Asked}
 use Rattle.image_check.specs.declared.any.AnyImage.{AnyImage}
 use Rattle.image_check.specs.Any.{any_view, report_of}
-use Rattle.image_check.specs.Checked.{Shows, IsRefused, HasFormat, IsFaultless, IsLeastFault}
+use Rattle.image_check.specs.Checked.{Shows, IsRefused, HasFormat, IsFaultless, IsLeastFaultUnder}
 use Rattle.rom_commands.specs.declared.status.Status.{Status}
 use Rattle.rom_commands.specs.declared.status.Status.TheVariants as status
 use Rattle.rom_commands.specs.declared.shown.Outcome.{Outcome}
@@ -44,7 +44,7 @@ pub record IsSoundText (bytes : List ℕ) (asked : Asked) (text : List ℕ) : Ty
 -- this is the least fault of these bytes under these limits, which hold no tree
 pub record HasFaultUnder (limits : Limits) (bytes : List ℕ) (number at : ℕ) : Type 0 where
   pub refused : IsRefused bytes limits (Fault number at)
-  pub least : IsLeastFault bytes limits (Fault number at)
+  pub least : IsLeastFaultUnder bytes limits (Fault number at)
 
 -- the same under the usual limits
 abbrev pub HasFault : List ℕ → (number at : ℕ) → Type 0

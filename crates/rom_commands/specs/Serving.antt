@@ -45,32 +45,32 @@ refusal_of (Err _) = WriteFault
 
 -- Lines were answered by the machine m from its state s on: what was read and written, by how it ended. A reader
 -- was r₀ and is r, a writer was w₀ and is w.
-abbrev pub Answers : {S : Type 0} → Machine S → S → Input → Input → Output → Output → Serving → Type 0
-Answers m s r₀ r w₀ w Served =
+abbrev pub EndsServed : {S : Type 0} → Machine S → S → Input → Input → Output → Output → Serving → Type 0
+EndsServed m s r₀ r w₀ w Served =
     Serves m s r₀.remaining r.remaining w₀ w
     × (r.failures ≡ r₀.failures) × (w.failures ≡ w₀.failures)
-Answers m s r₀ r w₀ w ReadFault =
+EndsServed m s r₀ r w₀ w ReadFault =
     Rose r₀.failures r.failures
     × ((y : List ℕ) × Finishes m s r₀.remaining r.remaining w₀ w y)
-Answers m s r₀ r w₀ w WriteFault =
+EndsServed m s r₀ r w₀ w WriteFault =
     Rose w₀.failures w.failures × Breaks m s r₀.remaining r.remaining w₀ w
-Answers m s r₀ r w₀ w TooManyReads =
+EndsServed m s r₀ r w₀ w TooManyReads =
     (y : List ℕ) × (length y ≡ 2 ^ 40) × Finishes m s r₀.remaining r.remaining w₀ w y
-Answers m s r₀ r w₀ w Refused = ⊥
-Answers m s r₀ r w₀ w Memory = ⊥
+EndsServed m s r₀ r w₀ w Refused = ⊥
+EndsServed m s r₀ r w₀ w Memory = ⊥
 
 -- No line was answered, and nothing was read: a text of a fault was written and flushed once, or memory was refused.
-abbrev pub Refuses : (List ℕ → Type 0) → Input → Input → Output → Output → Serving → Type 0
-Refuses IsText r₀ r w₀ w Refused =
+abbrev pub EndsRefused : (List ℕ → Type 0) → Input → Input → Output → Output → Serving → Type 0
+EndsRefused IsText r₀ r w₀ w Refused =
     (r ≡ r₀) × ((text : List ℕ) × IsText text × Appends w₀.contents w.contents text)
     × (w.failures ≡ w₀.failures) × (w.flushes ≡ one_more w₀.flushes)
-Refuses IsText r₀ r w₀ w WriteFault =
+EndsRefused IsText r₀ r w₀ w WriteFault =
     (r ≡ r₀) × ((text : List ℕ) × IsText text × AppendsPrefix w₀.contents w.contents text)
     × Rose w₀.failures w.failures
-Refuses IsText r₀ r w₀ w Memory = (r ≡ r₀) × (w ≡ w₀)
-Refuses IsText r₀ r w₀ w Served = ⊥
-Refuses IsText r₀ r w₀ w ReadFault = ⊥
-Refuses IsText r₀ r w₀ w TooManyReads = ⊥
+EndsRefused IsText r₀ r w₀ w Memory = (r ≡ r₀) × (w ≡ w₀)
+EndsRefused IsText r₀ r w₀ w Served = ⊥
+EndsRefused IsText r₀ r w₀ w ReadFault = ⊥
+EndsRefused IsText r₀ r w₀ w TooManyReads = ⊥
 
 -- No line was answered, and nothing was read: this text was written and flushed once, or that failed.
 abbrev pub Tells : List ℕ → Input → Input → Output → Output → Serving → Type 0
@@ -87,7 +87,7 @@ Tells text r₀ r w₀ w TooManyReads = ⊥
 -- What serving does, by what the check of the image answered: lines are answered from the image, nothing of it open at
 -- first; or the line of its fault is written; or nothing is done, if memory was refused to the check.
 abbrev pub CheckedEnds : Result AnyImage CheckError → Input → Input → Output → Output → Serving → Type 0
-CheckedEnds (Ok v) r₀ r w₀ w o = Answers (image_machine (any_view v)) (no_files 64) r₀ r w₀ w o
+CheckedEnds (Ok v) r₀ r w₀ w o = EndsServed (image_machine (any_view v)) (no_files 64) r₀ r w₀ w o
 CheckedEnds (Err (check.Fault number at)) r₀ r w₀ w o = Tells (fault_line number at) r₀ r w₀ w o
 CheckedEnds (Err check.OutOfMemory) r₀ r w₀ w o = (o ≡ Memory) × (r ≡ r₀) × (w ≡ w₀)
 
@@ -95,8 +95,8 @@ CheckedEnds (Err check.OutOfMemory) r₀ r w₀ w o = (o ≡ Memory) × (r ≡ r
 -- they were refused.
 abbrev pub ServingEndsUnder : Limits → List ℕ → Input → Input → Output → Output → Serving → Type 0
 ServingEndsUnder limits bytes r₀ r w₀ w o =
-    ((m : Image) × HoldsUnder limits bytes m × Answers (image_machine m) (no_files 64) r₀ r w₀ w o)
-    ⊎ Refuses (IsFaultTextUnder limits bytes) r₀ r w₀ w o
+    ((m : Image) × HoldsUnder limits bytes m × EndsServed (image_machine m) (no_files 64) r₀ r w₀ w o)
+    ⊎ EndsRefused (IsFaultTextUnder limits bytes) r₀ r w₀ w o
 
 -- the same under the usual limits
 abbrev pub ServingEnds : List ℕ → Input → Input → Output → Output → Serving → Type 0
@@ -138,8 +138,8 @@ pub record IsFirstFaultText (all : List (List ℕ)) (text : List ℕ) : Type 0 w
 -- first; or they were refused.
 abbrev pub SpaceEnds : List (List ℕ) → Input → Input → Output → Output → Serving → Type 0
 SpaceEnds all r₀ r w₀ w o =
-    ((ms : List Image) × HoldAll all ms × Answers (space_machine ms) (no_sessions 64) r₀ r w₀ w o)
-    ⊎ Refuses (IsFirstFaultText all) r₀ r w₀ w o
+    ((ms : List Image) × HoldAll all ms × EndsServed (space_machine ms) (no_sessions 64) r₀ r w₀ w o)
+    ⊎ EndsRefused (IsFirstFaultText all) r₀ r w₀ w o
 
 -- the status with which the program ends
 abbrev pub serving_status : Serving → Status

@@ -8,7 +8,7 @@ ghost use Rattle.open_files.specs.Machine.{no_files};
 ghost use Rattle.rom_serve.specs.Machines.{image_machine};
 ghost use Rattle.rom_commands.specs.Lines.{fault_line};
 ghost use Rattle.rom_commands.specs.Answers.{Prints};
-ghost use Rattle.rom_commands.specs.Serving.{input_of, Answers, CheckedEnds, serving_of, refusal_of, ServingEnds, ServingEndsUnder, serving_status, serving_complaint};
+ghost use Rattle.rom_commands.specs.Serving.{input_of, EndsServed, CheckedEnds, serving_of, refusal_of, ServingEnds, ServingEndsUnder, serving_status, serving_complaint};
 
 use crate::shown::write_fault_line;
 use crate::status::Status;
@@ -99,7 +99,7 @@ fn tell_fault<W: ByteWrite>(w: &mut W, number: u32, at: u32) -> Result<(), Faile
     w.flush()
 }
 
-/// Answers the lines of `r` from an image on `w`, through indices of its lists, and before them a
+/// EndsServed the lines of `r` from an image on `w`, through indices of its lists, and before them a
 /// cache of look-ups where there is memory for one. Directories of the image may lie 64 deep.
 fn answer_lines<'a, R: ByteRead, W: ByteWrite>(
     alloc: Global,
@@ -108,7 +108,7 @@ fn answer_lines<'a, R: ByteRead, W: ByteWrite>(
     w: &mut W,
 ) -> Serving
     requires { levels (any_view image).tree ≤ 65 }
-    ensures { Answers (image_machine (any_view image.entry)) (no_files 64)
+    ensures { EndsServed (image_machine (any_view image.entry)) (no_files 64)
         (input_of (R.remaining r.old) (R.failures r.old))
         (input_of (R.remaining r.new) (R.failures r.new))
         (W.output w.old) (W.output w.new) result }

@@ -3,7 +3,7 @@ use Rattle.std.proofs.lemmas.Bool.{false≢true}
 use Rattle.std.specs.Prelude.{if◌then◌else◌}
 use Rattle.rom_faults.specs.declared.error.CheckError.TheVariants.{Fault}
 use Rattle.rom_tree.proofs.Answered.{err_by}
-use Rattle.image_check.specs.Checked.{IsRefused, IsLeastFault, romfs, no_romfs_fault, least_of_romfs, of_neither}
+use Rattle.image_check.specs.Checked.{IsRefused, IsLeastFaultUnder, romfs, no_romfs_fault, least_of_romfs, of_neither}
 use Rattle.image_check.proofs.Formats.{refused_romfs, refused_cramfs, no_tree}
 use Rattle.image_check.proofs.checking.check.Goals as goal
 use Rattle.image_check.proofs.checking.check.Goals.{then-bytes-lt-SHORTEST, else-bytes-lt-SHORTEST}
@@ -21,7 +21,7 @@ returns-in_err-image-clause-fault c = err_by c.from_residual.result c.from_resid
 
 pub returns-in_err-image-clause-least : goal.returns-in_err-image-clause-least
 returns-in_err-image-clause-least c = err_by c.from_residual.result c.from_residual.ensures.1 (λ e is.
-    subst (IsLeastFault c.args.bytes.now c.args.limits) (sym is) (least_of_romfs (c.is_romfs.ensures.0 c.if-is_romfs.true) c.in_err-image.ensures.least))
+    subst (IsLeastFaultUnder c.args.bytes.now c.args.limits) (sym is) (least_of_romfs (c.is_romfs.ensures.0 c.if-is_romfs.true) c.in_err-image.ensures.least))
 
 pub returns-then-is_romfs-clause-ok : goal.returns-then-is_romfs-clause-ok
 returns-then-is_romfs-clause-ok c = romfs c.in_ok-image.ensures.ok

@@ -1,5 +1,5 @@
-use Rattle.image_manifest.specs.Lines.{lines_of}
+use Rattle.image_manifest.specs.Lines.{member_lines}
 use Rattle.image_manifest.proofs.laws.lines_are_read_back.Goals as goal
 
 pub returns : goal.returns
-returns c = λ m volume folder h k. c.reads_back.ensures volume (lines_of m folder) h k
+returns c = λ m volume folder h k. c.reads_back.ensures volume (member_lines m folder) h k

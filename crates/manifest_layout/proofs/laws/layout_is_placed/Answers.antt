@@ -3,7 +3,7 @@ use Rattle.manifest.specs.Grammar.{IsManifest}
 use Rattle.manifest.specs.Lines.{ManifestLines}
 use Rattle.manifest_tree.specs.Tree.{root_of, tree_of}
 use Rattle.rom_tree.specs.Tree.{Node}
-use Rattle.manifest_layout.specs.Format.{Format, romfs, cramfs, HasTree, layout_of}
+use Rattle.manifest_layout.specs.Format.{Format, romfs, cramfs, HasUsualTree, layout_of}
 use Rattle.manifest_layout.specs.Misfit.{HasNoMisfit}
 use Rattle.manifest_layout.specs.Placement.{HasVolume, IsPlaced}
 use Rattle.manifest_layout.proofs.Placing.{placed, named_in_cramfs}
@@ -13,7 +13,7 @@ use Rattle.manifest_layout.proofs.laws.layout_is_placed.Goals as goal
 pub returns-clause-runs : goal.returns-clause-runs
 returns-clause-runs c = by
   where
-    by : (f : Format) (m : ManifestLines) (cs : List (List ℕ)) → IsManifest m → HasNoMisfit f m (map length cs) → (t : Node) × HasTree f (layout_of f m cs) t × IsPlaced t m
+    by : (f : Format) (m : ManifestLines) (cs : List (List ℕ)) → IsManifest m → HasNoMisfit f m (map length cs) → (t : Node) × HasUsualTree f (layout_of f m cs) t × IsPlaced t m
     by romfs m cs h n =
         let sizes = map length cs in
         let t = c.layout_is_placed.ensures.runs m.volume (root_of m.lines sizes) (tree_of m.lines sizes) cs (c.fitting_is_planned.ensures romfs m cs h n) in

@@ -1,7 +1,7 @@
 use Rattle.std.proofs.Common.{subst}
 use Rattle.rom_faults.specs.declared.error.CheckError.{CheckError}
 use Rattle.image_check.specs.Any.{any_view, report_of}
-use Rattle.image_check.specs.Checked.{IsLeastFault, IsRefused}
+use Rattle.image_check.specs.Checked.{IsLeastFaultUnder, IsRefused}
 use Rattle.rom_c.specs.Held.{usual}
 use Rattle.rom_c.proofs.Shown.{shows_tree}
 use Rattle.rom_c.proofs.image.check_into.Goals as goal
@@ -20,6 +20,6 @@ returns-in-Err-Fault-clause-refused c = λ z.
 
 pub returns-in-Err-Fault-clause-least : goal.returns-in-Err-Fault-clause-least
 returns-in-Err-Fault-clause-least c = λ z.
-    let P : CheckError → Type 0 = IsLeastFault c.args.bytes.now usual in
+    let P : CheckError → Type 0 = IsLeastFaultUnder c.args.bytes.now usual in
     rw c.refused.ensures.fault
     (rw c.refused.ensures.at (subst P c.in-Err-Fault.field-0-is c.in-Err-Fault.ensures.least))

@@ -1,7 +1,7 @@
 use Rattle.std.proofs.Common.{◌≡◌, ℕ, List, length, map, inr, refl, sym, subst, arith, Vec, Global}
 use Rattle.std.proofs.lemmas.List.{length-map}
 use Rattle.image_check.specs.Any.{any_view}
-use Rattle.rom_commands.specs.Serving.{Input, input_of, Refuses, IsFirstFaultText, fault_in_line}
+use Rattle.rom_commands.specs.Serving.{Input, input_of, EndsRefused, IsFirstFaultText, fault_in_line}
 use Rattle.rom_commands.proofs.Holding.{held_length}
 use Rattle.rom_commands.proofs.Endings.{refuses_by}
 use Rattle.rom_commands.proofs.several.serve_images.Goals as goal
@@ -27,4 +27,4 @@ returns-in-Err-Fault g c =
     let w₀ = g.W.ByteWrite.output c.args.w.now in
     let w = g.W.ByteWrite.output c.tell_fault_in.new.w in
     let h : IsFirstFaultText all (fault_in_line n at i) = record { number = n; at = at; image = i; first = rw c.in-Err-Fault.field-0-is at c.in-Err-Fault.ensures.fault; same = refl } in
-    inr (subst (λ o. Refuses (IsFirstFaultText all) r₀ r₀ w₀ w o) (sym c.refused.ensures) (refuses_by (IsFirstFaultText all) r₀ w₀ w (fault_in_line n at i) c.tell_fault_in.result h c.tell_fault_in.ensures.text c.tell_fault_in.ensures.count c.tell_fault_in.ensures.flushed))
+    inr (subst (λ o. EndsRefused (IsFirstFaultText all) r₀ r₀ w₀ w o) (sym c.refused.ensures) (refuses_by (IsFirstFaultText all) r₀ w₀ w (fault_in_line n at i) c.tell_fault_in.result h c.tell_fault_in.ensures.text c.tell_fault_in.ensures.count c.tell_fault_in.ensures.flushed))
