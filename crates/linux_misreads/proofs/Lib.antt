@@ -1,2 +1,3 @@
 pub mod Walked
 pub mod Firsts
+pub mod Told

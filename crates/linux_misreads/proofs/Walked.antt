@@ -1,8 +1,7 @@
 -- The texts of the names that a walk has given, and of those that are to come.
-use Rattle.std.proofs.Common.{true, false, ◌≡◌, ℕ, ◌∷◌, [], ◌++◌, List, refl, sym, ap, ◌∙◌, append_assoc, append-nil}
+use Rattle.std.proofs.Common.{◌≡◌, ℕ, ◌∷◌, [], ◌++◌, List, sym, ap, ◌∙◌, append_assoc, append-nil}
 use Rattle.std.specs.List.{flat_map}
 use Rattle.rom_tree.specs.Names.{Name}
-use Rattle.linux_misreads.specs.Misreads.{is_told}
 
 -- the text so far, that of the name that was given, and the rest
 pub more_texts : (text : Name → List ℕ) (done all : List ℕ) (given : Name) (old new : List Name) → old ≡ given ∷ new → done ++ flat_map text old ≡ all → (done ++ text given) ++ flat_map text new ≡ all
@@ -13,13 +12,3 @@ more_texts text done all given old new e h =
 -- nothing is left
 pub last_texts : (text : Name → List ℕ) (done all : List ℕ) (old : List Name) → old ≡ [] → done ++ flat_map text old ≡ all → done ≡ all
 last_texts text done all old e h = sym (append-nil done) ∙ (ap (λ (v : List ℕ). done ++ v) (sym (ap (flat_map text) e)) ∙ h)
-
--- a text with one that is not empty behind it is not empty
-pub told_then : (a b : List ℕ) → true ≡ is_told b → true ≡ is_told (a ++ b)
-told_then [] b h = h
-told_then (x ∷ a) b h = refl
-
--- and with an empty one behind it, it is as it was
-pub told_else : (a b : List ℕ) → false ≡ is_told b → is_told a ≡ is_told (a ++ b)
-told_else [] b h = h
-told_else (x ∷ a) b h = refl

@@ -1,2 +1,4 @@
+pub mod Readers
 pub mod Tables
+pub mod Differences
 pub mod Misreads

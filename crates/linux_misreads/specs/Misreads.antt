@@ -1,16 +1,21 @@
 -- What Linux's readers get wrong of an image that is right: a line for each such thing. (The lines are this project's
 -- own; docs/LINUX.md has what was seen. Linux fs/romfs/super.c and fs/cramfs/inode.c.)
-use Rattle.std.specs.Prelude.{ℕ, Bool, true, false, ◌&&◌, ◌==◌, ◌%◌, nat_lt, if◌then◌else◌, List, [], ◌∷◌, ◌++◌, length, codes}
+use Rattle.std.specs.Prelude.{ℕ, Bool, true, false, ◌&&◌, ◌||◌, ◌≡◌, ◌==◌, ◌%◌, nat_lt, not, if◌then◌else◌, List, [], ◌∷◌, ◌++◌, length, codes}
 use Rattle.std.specs.List.{flat_map}
 use Rattle.rom_fields.specs.Texts.{escaped}
-use Rattle.rom_tree.specs.Tree.{Node, is_regular, places_of}
+use Rattle.rom_fields.specs.Written.{Sink, Puts}
+use Rattle.rom_tree.specs.Tree.{Node, ino_of, is_regular, places_of}
 use Rattle.rom_tree.specs.Names.{Name, names}
+use Rattle.romfs_image.specs.declared.image.Romfs.{Romfs as RomfsImage}
 use Rattle.cramfs_image.specs.declared.image.Cramfs.{Cramfs}
+use Rattle.cramfs_image.specs.Reported.{order_in}
 use Rattle.image_check.specs.declared.any.AnyImage.{AnyImage}
 use Rattle.image_check.specs.declared.any.AnyImage.TheVariants.{Romfs, Cramfs as InCramfs}
 use Rattle.image_check.specs.Any.{any_view}
 use Rattle.image_info.specs.Volumes.{romfs_volume}
+use Rattle.linux_misreads.specs.Readers.{romfs_device, cramfs_device, romfs_finds}
 use Rattle.linux_misreads.specs.Tables.{is_other_file, view}
+use Rattle.linux_misreads.specs.Differences.{is_other_device, is_cut_link, is_cut_name, is_read_elsewhere, is_not_found, is_other_root}
 
 -- a text, PATH (escaped) and a line feed
 abbrev pub misread_line : List ℕ → List ℕ → List ℕ
@@ -27,18 +32,51 @@ block_line n = if ends_with_a_block n.node then misread_line (codes "linux 1 Las
 abbrev pub table_line : Cramfs → List Name → Name → List ℕ
 table_line s ns n = if is_other_file s ns n.node then misread_line (codes "linux 2 SharedTable ") n.path else []
 
-abbrev pub cramfs_name : Cramfs → List Name → Name → List ℕ
-cramfs_name s ns n = block_line n ++ table_line s ns n
+-- a device that has other numbers than the one of this number
+abbrev pub device_line : ℕ → Name → List ℕ
+device_line number n = if is_other_device number n.node then misread_line (codes "linux 6 Device ") n.path else []
 
--- romfs lists 127 bytes of a name, and finds none of more than 128
-abbrev pub romfs_name : Name → List ℕ
-romfs_name n =
-    if length n.last == 128 then misread_line (codes "linux 3 NameCut ") n.path
-    else (if nat_lt 128 (length n.last) then misread_line (codes "linux 4 NameTooLong ") n.path else [])
+-- a name of cramfs that is listed, and not found
+abbrev pub found_line : Cramfs → Name → List ℕ
+found_line s n = if is_not_found s n.last n.node then misread_line (codes "linux 7 NamePadded ") n.path else []
+
+-- a link of an image of these bytes
+abbrev pub link_line : List ℕ → Name → List ℕ
+link_line b n = if is_cut_link b n.node then misread_line (codes "linux 8 LinkCut ") n.path else []
+
+-- the root of cramfs
+abbrev pub root_line : Name → List ℕ
+root_line n = if is_other_root n.last n.node then misread_line (codes "linux 9 RootMode ") n.path else []
+
+-- a file or a link of romfs that is found, and whose own record has a long name: it is read from another place
+abbrev pub place_line : List ℕ → Name → List ℕ
+place_line b n = if is_read_elsewhere b n.last n.node then misread_line (codes "linux 10 OtherPlace ") n.path else []
+
+-- a name of romfs that is found, and of which fewer bytes are listed
+abbrev pub cut_line : Name → List ℕ
+cut_line n = if is_cut_name n.last then misread_line (codes "linux 3 NameCut ") n.path else []
+
+-- a name of romfs that is not found
+abbrev pub long_line : Name → List ℕ
+long_line n = if not (romfs_finds n.last) then misread_line (codes "linux 4 NameTooLong ") n.path else []
+
+abbrev pub cramfs_name : Cramfs → List Name → Name → List ℕ
+cramfs_name s ns n =
+    block_line n
+    ++ (table_line s ns n
+    ++ (device_line (cramfs_device (order_in s) s.all.now (ino_of n.node)) n
+    ++ (found_line s n ++ (link_line s.all.now n ++ root_line n))))
+
+abbrev pub romfs_name : RomfsImage → Name → List ℕ
+romfs_name s n =
+    cut_line n
+    ++ (long_line n
+    ++ (device_line (romfs_device s.all.now (ino_of n.node)) n
+    ++ (link_line s.all.now n ++ place_line s.all.now n)))
 
 -- the lines of a name of this image
 abbrev pub name_misreads : AnyImage → Name → List ℕ
-name_misreads (Romfs s) n = romfs_name n
+name_misreads (Romfs s) n = romfs_name s n
 name_misreads (InCramfs s) n = cramfs_name s (names (view s).tree) n
 
 -- romfs takes a place within a volume's name of more than 143 bytes for the root
@@ -54,3 +92,8 @@ misreads_text a = volume_misreads a ++ flat_map (name_misreads a) (names (any_vi
 abbrev pub is_told : List ℕ → Bool
 is_told [] = false
 is_told (c ∷ cs) = true
+
+-- These lines were put, and whether there is any line was told of them as well.
+pub record Tells (s t : Sink) (before after : Bool) (lines : List ℕ) : Type 0 where
+  pub puts : Puts s t lines
+  pub told : after ≡ (before || is_told lines)

@@ -9,6 +9,7 @@ use Rattle.rom_tree.specs.Image.{Image}
 use Rattle.rom_tree.specs.Names.{Name, names}
 use Rattle.cramfs_format.specs.Inode.{offset_of}
 use Rattle.cramfs_image.specs.Reported.{order_in}
+use Rattle.romfs_image.specs.declared.image.Romfs.{Romfs as RomfsImage}
 use Rattle.cramfs_image.specs.declared.image.Cramfs.{Cramfs}
 use Rattle.image_check.specs.declared.any.AnyImage.{AnyImage}
 use Rattle.image_check.specs.declared.any.AnyImage.TheVariants.{Romfs, Cramfs as InCramfs}
@@ -18,6 +19,10 @@ use Rattle.linux_misreads.specs.declared.known.Known.{Known}
 -- a cramfs image, as the layers above see it
 abbrev pub view : Cramfs → Image
 view s = any_view (InCramfs s)
+
+-- and a romfs image
+abbrev pub romfs_view : RomfsImage → Image
+romfs_view s = any_view (Romfs s)
 
 -- a regular file or a link that is not empty
 abbrev pub has_table : Node → Bool

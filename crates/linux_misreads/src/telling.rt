@@ -65,9 +65,7 @@ pub fn misreads<W: ByteWrite>(
         let Some(node) = walk.next(image) else {
             return Ok(told);
         };
-        if put_misreads(image, &first, w, &mut failed, node, &walk) {
-            told = true;
-        }
+        put_misreads(image, &first, w, &mut failed, &mut told, node, &walk);
     }
     Err(InfoError::WriteFault)
 }

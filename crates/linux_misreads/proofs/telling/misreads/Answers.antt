@@ -1,7 +1,7 @@
-use Rattle.std.proofs.Common.{◌≡◌, ◌∙◌, sym, ap, subst, ℕ, List, ◌++◌}
+use Rattle.std.proofs.Common.{◌≡◌, ap, subst, ℕ, List, ◌++◌}
 use Rattle.std.specs.List.{flat_map}
 use Rattle.std.specs.Io.KnownBytes.{Appends}
-use Rattle.rom_fields.specs.Written.{Puts, sink, AppendsPrefix}
+use Rattle.rom_fields.specs.Written.{sink, AppendsPrefix}
 use Rattle.rom_fields.proofs.Joins.{chain, said_ok, said_front, said_rose, said_quiet, front_first}
 use Rattle.rom_tree.specs.Image.{Image}
 use Rattle.rom_tree.specs.Names.{Name, named}
@@ -9,8 +9,9 @@ use Rattle.rom_tree.specs.Walks.{given_name, to_come}
 use Rattle.rom_tree.proofs.Named.{has_node}
 use Rattle.rom_tree.proofs.Listed.{fewer}
 use Rattle.image_check.specs.Any.{any_view}
-use Rattle.linux_misreads.specs.Misreads.{is_told, name_misreads, misreads_text, volume_misreads}
-use Rattle.linux_misreads.proofs.Walked.{more_texts, last_texts, told_then, told_else}
+use Rattle.linux_misreads.specs.Misreads.{name_misreads, misreads_text, volume_misreads, Tells}
+use Rattle.linux_misreads.proofs.Walked.{more_texts, last_texts}
+use Rattle.linux_misreads.proofs.Told.{told_more}
 use Rattle.linux_misreads.proofs.telling.misreads.Goals as goal
 
 pub loop-failed-init : goal.loop-failed-init
@@ -30,30 +31,6 @@ put_misreads-requires g c =
     let n = c.in-Some.ensures.given in
     record { node = has_node (any_view c.args.image.now) c.in-Some.node.0 n.name.node n.node; first = c.in-Ok.ensures }
 
-pub loop-failed-preserved-then-put_misreads : goal.loop-failed-preserved-then-put_misreads
-loop-failed-preserved-then-put_misreads g c =
-    let m : Image = any_view c.args.image.now in
-    let i = c.loop-failed.invariant in
-    let n = c.in-Some.ensures.given in
-    let line : Name → List ℕ = name_misreads c.args.image.now in
-    let old = sink (g.W.ByteWrite.output c.loop-failed.w) c.loop-failed.failed in
-    let new = sink (g.W.ByteWrite.output c.put_misreads.new.w) c.put_misreads.new.failed in
-    let P : List ℕ → Type 0 = λ v. Puts old new (line (named v (given_name c.next.new.self) n.name.node)) in
-    let Q : List ℕ → Type 0 = λ v. Puts old new (line (named n.name.path v n.name.node)) in
-    let R : List ℕ → Type 0 = λ v. c.put_misreads.result ≡ is_told (line (named v (given_name c.next.new.self) n.name.node)) in
-    let S : List ℕ → Type 0 = λ v. c.put_misreads.result ≡ is_told (line (named n.name.path v n.name.node)) in
-    let t : c.put_misreads.result ≡ is_told (line n.name) =
-    subst S n.last (subst R n.path (c.put_misreads.ensures.told n.name.node n.node)) in
-    record {
-      walk = c.in-Some.ensures.walk;
-      done = i.done ++ line n.name;
-      puts = chain i.puts (subst Q n.last (subst P n.path (c.put_misreads.ensures.puts n.name.node n.node)));
-      told = told_then i.done (line n.name) (sym c.if-put_misreads.true ∙ t);
-      rest =
-          more_texts line i.done (misreads_text c.args.image.now) n.name (to_come m c.loop-failed.walk)
-          (to_come m c.next.new.self) n.first i.rest;
-    }
-
 pub loop-failed-preserved : goal.loop-failed-preserved
 loop-failed-preserved g c =
     let m : Image = any_view c.args.image.now in
@@ -62,17 +39,15 @@ loop-failed-preserved g c =
     let line : Name → List ℕ = name_misreads c.args.image.now in
     let old = sink (g.W.ByteWrite.output c.loop-failed.w) c.loop-failed.failed in
     let new = sink (g.W.ByteWrite.output c.put_misreads.new.w) c.put_misreads.new.failed in
-    let P : List ℕ → Type 0 = λ v. Puts old new (line (named v (given_name c.next.new.self) n.name.node)) in
-    let Q : List ℕ → Type 0 = λ v. Puts old new (line (named n.name.path v n.name.node)) in
-    let R : List ℕ → Type 0 = λ v. c.put_misreads.result ≡ is_told (line (named v (given_name c.next.new.self) n.name.node)) in
-    let S : List ℕ → Type 0 = λ v. c.put_misreads.result ≡ is_told (line (named n.name.path v n.name.node)) in
-    let t : c.put_misreads.result ≡ is_told (line n.name) =
-    subst S n.last (subst R n.path (c.put_misreads.ensures.told n.name.node n.node)) in
+    let P : List ℕ → Type 0 = λ v. Tells old new c.loop-failed.told c.put_misreads.new.told (line (named v (given_name c.next.new.self) n.name.node)) in
+    let Q : List ℕ → Type 0 = λ v. Tells old new c.loop-failed.told c.put_misreads.new.told (line (named n.name.path v n.name.node)) in
+    let t : Tells old new c.loop-failed.told c.put_misreads.new.told (line n.name) =
+    subst Q n.last (subst P n.path (c.put_misreads.ensures n.name.node n.node)) in
     record {
       walk = c.in-Some.ensures.walk;
       done = i.done ++ line n.name;
-      puts = chain i.puts (subst Q n.last (subst P n.path (c.put_misreads.ensures.puts n.name.node n.node)));
-      told = i.told ∙ told_else i.done (line n.name) (sym c.if-put_misreads.false ∙ t);
+      puts = chain i.puts t.puts;
+      told = told_more i.done (line n.name) c.loop-failed.told c.put_misreads.new.told i.told t.told;
       rest =
           more_texts line i.done (misreads_text c.args.image.now) n.name (to_come m c.loop-failed.walk)
           (to_come m c.next.new.self) n.first i.rest;

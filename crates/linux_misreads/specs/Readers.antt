@@ -1,0 +1,53 @@
+-- What Linux 6.1 makes of the fields of a record, where its readers do not keep to the format. Each definition restates
+-- a few lines of the function that it names.
+use Rattle.std.specs.Prelude.{ℕ, ◌+◌, ◌*◌, ◌/◌, ◌%◌, ◌^◌, ◌&&◌, ◌==◌, nat_lt, not, min, bit_or, Bool, List, length, drop}
+use Rattle.rom_fields.specs.Words.{word_be}
+use Rattle.romfs_format.specs.Record.{before_zero}
+use Rattle.cramfs_format.specs.Order.{word, first_field}
+use Rattle.cramfs_format.specs.declared.order.Order.{Order}
+
+-- include/linux/kdev_t.h, `MKDEV`: the number of a device has 32 bits, and the lower 20 are for the minor number
+abbrev pub device_number : ℕ → ℕ → ℕ
+device_number major minor = (major * 2 ^ 20 + minor) % 2 ^ 32
+
+-- include/linux/kdev_t.h, `MAJOR` and `MINOR`: the number of a device has these two
+abbrev pub names_device : ℕ → ℕ → ℕ → Bool
+names_device number major minor = (number / 2 ^ 20 == major) && (number % 2 ^ 20 == minor)
+
+-- fs/romfs/super.c, `romfs_iget`: of the spec, `MKDEV(nextfh >> 16, nextfh & 0xffff)`
+abbrev pub romfs_device : List ℕ → ℕ → ℕ
+romfs_device b p = device_number (word_be b (p + 4) / 2 ^ 16) (word_be b (p + 4) % 2 ^ 16)
+
+-- include/linux/kdev_t.h, `old_decode_dev`: of 16 bits, the upper eight and the lower eight
+abbrev pub old_device : ℕ → ℕ
+old_device bits = device_number (bits % 2 ^ 16 / 2 ^ 8) (bits % 2 ^ 8)
+
+-- fs/cramfs/inode.c, `get_cramfs_inode`: `old_decode_dev(cramfs_inode->size)`
+abbrev pub cramfs_device : Order → List ℕ → ℕ → ℕ
+cramfs_device o b p = old_device (first_field o 24 (word o b (p + 4)))
+
+-- fs/romfs/super.c, `romfs_readdir`: how many bytes of a name are listed (`sizeof(fsname) - 1`)
+abbrev pub listed_len : List ℕ → ℕ
+listed_len name = min (length name) 127
+
+-- fs/romfs/storage.c, `romfs_dev_strcmp`: a name of more than `ROMFS_MAXFN` bytes is not looked for
+abbrev pub romfs_finds : List ℕ → Bool
+romfs_finds name = not (nat_lt 128 (length name))
+
+-- fs/romfs/super.c, `romfs_iget`: where the data of the record at p begin, `romfs_dev_strnlen` counting up to
+-- `ROMFS_MAXFN` bytes of its name
+abbrev pub romfs_data : List ℕ → ℕ → ℕ
+romfs_data b p = p + (16 + min (length (before_zero (drop (p + 16) b))) 128 + 1 + 15) / 16 * 16
+
+-- fs/cramfs/inode.c, `cramfs_lookup`: a record is passed by where its name does not have just the padding that it
+-- needs, `((dentry->d_name.len + 3) & ~3) != namelen`
+abbrev pub cramfs_finds : List ℕ → ℕ → Bool
+cramfs_finds name room = (length name + 3) / 4 * 4 == room
+
+-- fs/cramfs/inode.c, `cramfs_read_super`: of the root, `super->root.mode |= 0555`
+abbrev pub root_mode : ℕ → ℕ
+root_mode mode = bit_or mode 365
+
+-- fs/namei.c, `readlink_copy`: a link's text ends before its first zero
+abbrev pub read_link : List ℕ → List ℕ
+read_link text = before_zero text

@@ -1,0 +1,78 @@
+//! What Linux makes of the fields of a record.
+ghost use Rattle.std.specs.Prelude.{◌≡◌, ◌+◌, ◌≤◌, ◌<◌, ◌^◌, length};
+ghost use Rattle.rom_fields.specs.Words.{word_be};
+ghost use Rattle.romfs_format.specs.Record.{before_zero};
+ghost use Rattle.linux_misreads.specs.Readers.{device_number as number_of, names_device as names, old_device as old_number, romfs_data as data_of, cramfs_finds as finds, romfs_finds as finds_romfs, listed_len as len_listed};
+
+use byteorder::{BigEndian, ByteOrder};
+use memchr::memchr;
+
+/// The word at `at`, its highest byte first.
+#[tactic(auto, unfolding(rom_fields::specs::Words::word_be))]
+pub(crate) fn word(b: &[u8], at: usize) -> u32
+    requires { at + 4 ≤ length b.now }
+    ensures { result ≡ word_be b.now at }
+{
+    BigEndian::read_u32(&b[at..])
+}
+
+/// The bytes before the first zero, or all where there is none.
+pub(crate) fn upto_zero<'a>(bytes: &'a [u8]) -> &'a [u8]
+    ensures { result.now ≡ before_zero bytes.now }
+{
+    match memchr(0, bytes) {
+        Some(len) => &bytes[..len],
+        None => bytes,
+    }
+}
+
+/// The number that Linux gives a device.
+pub(crate) fn device_number(major: u32, minor: u32) -> u64
+    ensures { result ≡ number_of major minor }
+{
+    (u64::from(major) * (1 << 20) + u64::from(minor)) % (1 << 32)
+}
+
+/// The number that Linux gives a device of which 16 bits are kept.
+pub(crate) fn old_device(bits: u32) -> u64
+    ensures { result ≡ old_number bits }
+{
+    device_number(bits % (1 << 16) / (1 << 8), bits % (1 << 8))
+}
+
+/// Whether a device's number has these two.
+pub(crate) fn names_device(number: u64, major: u32, minor: u32) -> bool
+    ensures { result ≡ names number major minor }
+{
+    number / (1 << 20) == u64::from(major) && number % (1 << 20) == u64::from(minor)
+}
+
+/// How many bytes of a name of romfs Linux lists.
+pub(crate) fn listed_len(name: &[u8]) -> usize
+    ensures { result ≡ len_listed name.now }
+{
+    name.len().min(127)
+}
+
+/// Whether Linux finds a name of romfs.
+pub(crate) fn romfs_finds(name: &[u8]) -> bool
+    ensures { result ≡ finds_romfs name.now }
+{
+    !(128 < name.len())
+}
+
+/// Where Linux reads the data of the record at `at` in a romfs image.
+pub(crate) fn romfs_data(b: &[u8], at: u32) -> u64
+    requires { at + 16 ≤ length b.now }
+    ensures { result ≡ data_of b.now at }
+{
+    let name = upto_zero(&b[at as usize + 16..]);
+    u64::from(at) + (16 + name.len().min(128) as u64 + 1 + 15) / 16 * 16
+}
+
+/// Whether Linux finds a name of cramfs that takes so many bytes with its padding.
+pub(crate) fn cramfs_finds(name: &[u8], room: u32) -> bool
+    ensures { result ≡ finds name.now room }
+{
+    (name.len() + 3) / 4 * 4 == room as usize
+}
