@@ -6,14 +6,14 @@
 Of each small image of the cases (see run.py) that the program lists, and of images that are built of manifests made by
 chance (see manifests.py): `map --base` has the runs of each regular file in the list's order, with offsets that go on
 from 0, and no two runs of a file adjoin; the bytes of the image at these addresses, joined, are what `cat` writes, and
-what a server reads (cases) or the manifest's sources have (manifests). `linux` has just the lines that docs/LINUX.md
-tells: files of cramfs that end with a whole block or have the table of another file, names of romfs of 128 bytes and more, and
-a volume of more than 143. Paths that are no UTF-8 cannot
+what a server reads (cases) or the manifest's sources have (manifests). `linux` has exactly the lines that docs/PROTOCOL.md
+tells, as the bytes, the list and the format of an image give them here once more. Paths that are no UTF-8 cannot
 be given to `cat`, and are only mapped. The last line is `N passed, M failed`.
 """
 
 import os
 import random
+import struct
 import sys
 import tempfile
 
@@ -40,10 +40,10 @@ def raw(path):
 
 
 def listed(text):
-    """The lines of a list as pairs of their fields and their path."""
+    """The lines of a list as pairs of their fields, the text of a link behind the others, and their path."""
     for line in text.decode("ascii").split("\n")[:-1]:
         fields = line.split(" ")
-        yield fields[:8], fields[8]
+        yield fields[:8] + fields[9:], fields[8]
 
 
 def mapped(binary, image, base):
@@ -71,10 +71,54 @@ def mapped(binary, image, base):
     return files
 
 
-def table_of(image, kind, node):
-    """Where the inode of a cramfs image with this number has its table."""
-    word = int.from_bytes(image[node + 8 : node + 12], "big" if kind == "cramfs-be" else "little")
-    return 4 * (word & 0x3FFFFFF if kind == "cramfs-be" else word >> 6)
+def parts_of(image, kind, at, bits):
+    """The fields of a word of a cramfs image, of which the first has so many bits."""
+    word = int.from_bytes(image[at : at + 4], "big" if kind == "cramfs-be" else "little")
+    return (word >> 32 - bits, word % 2 ** (32 - bits)) if kind == "cramfs-be" else (word % 2**bits, word >> bits)
+
+
+def is_other_device(fields, major, minor):
+    """Whether a device has other numbers than Linux, which keeps 12 and 20 bits, makes of these."""
+    number = (major << 20 | minor) & 0xFFFFFFFF
+    return fields[1] in "bc" and [number >> 20, number & 0xFFFFF] != [int(it) for it in fields[6:8]]
+
+
+def is_cut(fields):
+    """Whether a link's text, which is escaped, has a zero."""
+    return fields[1] == "l" and "%00" in fields[8]
+
+
+def romfs_misreads(image, fields, name):
+    """The kinds of lines that `linux` has of a name of a romfs image."""
+    node, size = int(fields[0]), int(fields[5])
+    if len(name) > 127:
+        yield "3 NameCut" if len(name) == 128 else "4 NameTooLong"
+    if is_other_device(fields, *struct.unpack_from(">HH", image, node + 4)):
+        yield "6 Device"
+    if is_cut(fields):
+        yield "8 LinkCut"
+    own = image.index(b"\0", node + 16) - node - 16
+    if len(name) <= 128 and size and (own + 16) // 16 != (min(own, 128) + 16) // 16:
+        yield "10 OtherPlace"
+
+
+def cramfs_misreads(image, kind, fields, name, known):
+    """The kinds of lines that `linux` has of a name of a cramfs image; `known` has what is kept of each table."""
+    node, size = int(fields[0]), int(fields[5])
+    if fields[1] == "f" and size and size % 4096 == 0:
+        yield "1 LastBlock"
+    units, table = parts_of(image, kind, node + 8, 6)
+    if fields[1] in "fl" and size and known.setdefault(table, fields[1:6]) != fields[1:6]:
+        yield "2 SharedTable"
+    numbers = parts_of(image, kind, node + 4, 24)[0] & 0xFFFF
+    if is_other_device(fields, numbers >> 8, numbers & 0xFF):
+        yield "6 Device"
+    if name and 4 * units != (len(name) + 3) // 4 * 4:
+        yield "7 NamePadded"
+    if is_cut(fields):
+        yield "8 LinkCut"
+    if not name and int(fields[2], 8) & 0o555 != 0o555:
+        yield "9 RootMode"
 
 
 def misreads(image, lines, kind):
@@ -83,14 +127,13 @@ def misreads(image, lines, kind):
         yield "linux 5 Volume /"
     known = {}
     for fields, path in lines:
-        size, name = int(fields[5]), raw(path).rpartition(b"/")[2]
-        if kind != "romfs" and fields[1] == "f" and size and size % 4096 == 0:
-            yield "linux 1 LastBlock %s" % path
-        if kind != "romfs" and fields[1] in "fl" and size:
-            if known.setdefault(table_of(image, kind, int(fields[0])), fields[1:6]) != fields[1:6]:
-                yield "linux 2 SharedTable %s" % path
-        if kind == "romfs" and len(name) >= 128:
-            yield "linux %s %s" % ("3 NameCut" if len(name) == 128 else "4 NameTooLong", path)
+        name = raw(path).rpartition(b"/")[2]
+        if kind == "romfs":
+            found = romfs_misreads(image, fields, name)
+        else:
+            found = cramfs_misreads(image, kind, fields, name, known)
+        for it in found:
+            yield "linux %s %s" % (it, path)
 
 
 def compare(binary, image, base, contents_of):
