@@ -9,7 +9,7 @@ use Rattle.rom_tree.specs.Tree.{Node, ino_of}
 use Rattle.rom_tree.specs.Names.{Name}
 use Rattle.cramfs_image.specs.declared.image.Cramfs.{Cramfs}
 use Rattle.linux_misreads.specs.declared.known.Known.{Known}
-use Rattle.linux_misreads.specs.Tables.{has_table, table_place, known_of, either, one_known, first_known, is_same, is_other_file, AreFirst}
+use Rattle.linux_misreads.specs.Tables.{has_table, number_in, known_of, either, one_known, first_known, is_same, is_other_file, AreFirst}
 
 at_is : (p q : ℕ) → is_at (nat_cmp p) q ≡ (p == q)
 at_is p q =
@@ -24,7 +24,7 @@ nothing_noted s x t None h = rw h refl
 nothing_noted s x t (Some k) h = refl
 
 -- nor of one whose table is noted
-pub noted_before : (s : Cramfs) (x : Node) (m : BTreeMap ℕ Known) (p : ℕ) → p ≡ table_place s (ino_of x) → true ≡ is_some (get nat_cmp m p) → (t : ℕ)
+pub noted_before : (s : Cramfs) (x : Node) (m : BTreeMap ℕ Known) (p : ℕ) → p ≡ number_in s (ino_of x) → true ≡ is_some (get nat_cmp m p) → (t : ℕ)
     → get nat_cmp m t ≡ either (get nat_cmp m t) (one_known s t x)
 noted_before s x m p e h t = there (get nat_cmp m t) refl
   where
@@ -48,7 +48,7 @@ noted_before s x m p e h t = there (get nat_cmp m t) refl
         ]
 
 -- the first of a table is noted
-pub noted_now : (s : Cramfs) (x : Node) (old new : BTreeMap ℕ Known) (p : ℕ) (k : Known) → has_table x ≡ true → p ≡ table_place s (ino_of x) → k ≡ known_of x
+pub noted_now : (s : Cramfs) (x : Node) (old new : BTreeMap ℕ Known) (p : ℕ) (k : Known) → has_table x ≡ true → p ≡ number_in s (ino_of x) → k ≡ known_of x
     → false ≡ is_some (get nat_cmp old p) → Updates nat_cmp old new p (Some k) → (t : ℕ) → get nat_cmp new t ≡ either (get nat_cmp old t) (one_known s t x)
 noted_now s x old new p k h e i f u t =
     u.0 t ∙ (ap (λ (b : Bool). cond b (Some k) (get nat_cmp old t)) (at_is p t) ∙ by_place)
@@ -101,15 +101,15 @@ all_firsts s m all ns e h t =
 
 -- a node whose table the map has
 pub other_file : (s : Cramfs) (ns : List Name) (m : BTreeMap ℕ Known) (x : Node) (p : ℕ) (kept own : Known) (same : Bool) → AreFirst s ns m → has_table x ≡ true
-    → p ≡ table_place s (ino_of x) → get nat_cmp m p ≡ Some kept → own ≡ known_of x → same ≡ is_same kept own → not same ≡ is_other_file s ns x
+    → p ≡ number_in s (ino_of x) → get nat_cmp m p ≡ Some kept → own ≡ known_of x → same ≡ is_same kept own → not same ≡ is_other_file s ns x
 other_file s ns m x p kept own same a h e g o i =
-    let f : first_known s (table_place s (ino_of x)) ns ≡ Some kept = sym (a (table_place s (ino_of x))) ∙ (ap (get nat_cmp m) (sym e) ∙ g) in
+    let f : first_known s (number_in s (ino_of x)) ns ≡ Some kept = sym (a (number_in s (ino_of x))) ∙ (ap (get nat_cmp m) (sym e) ∙ g) in
     rw (h, f, i, o) refl
 
-pub no_other_file : (s : Cramfs) (ns : List Name) (m : BTreeMap ℕ Known) (x : Node) (p : ℕ) → AreFirst s ns m → p ≡ table_place s (ino_of x) → get nat_cmp m p ≡ None
+pub no_other_file : (s : Cramfs) (ns : List Name) (m : BTreeMap ℕ Known) (x : Node) (p : ℕ) → AreFirst s ns m → p ≡ number_in s (ino_of x) → get nat_cmp m p ≡ None
     → false ≡ is_other_file s ns x
 no_other_file s ns m x p a e g =
-    let f : first_known s (table_place s (ino_of x)) ns ≡ None = sym (a (table_place s (ino_of x))) ∙ (ap (get nat_cmp m) (sym e) ∙ g) in
+    let f : first_known s (number_in s (ino_of x)) ns ≡ None = sym (a (number_in s (ino_of x))) ∙ (ap (get nat_cmp m) (sym e) ∙ g) in
     rw f (last (has_table x))
   where
     last : (b : Bool) → false ≡ (b && false)

@@ -15,7 +15,7 @@ use Rattle.image_check.specs.Any.{any_view}
 use Rattle.image_info.specs.Volumes.{romfs_volume}
 use Rattle.linux_misreads.specs.Readers.{romfs_device, cramfs_device, romfs_finds}
 use Rattle.linux_misreads.specs.Tables.{is_other_file, view}
-use Rattle.linux_misreads.specs.Differences.{is_other_device, is_cut_link, is_cut_name, is_read_elsewhere, is_not_found, is_other_root}
+use Rattle.linux_misreads.specs.Differences.{is_other_device, is_cut_link, is_cut_name, is_read_elsewhere, is_root_missed, is_not_found, is_other_root}
 
 -- a text, PATH (escaped) and a line feed
 abbrev pub misread_line : List ℕ → List ℕ → List ℕ
@@ -79,9 +79,9 @@ abbrev pub name_misreads : AnyImage → Name → List ℕ
 name_misreads (Romfs s) n = romfs_name s n
 name_misreads (InCramfs s) n = cramfs_name s (names (view s).tree) n
 
--- romfs takes a place within a volume's name of more than 143 bytes for the root
+-- romfs takes a place within the volume's name for the root
 abbrev pub volume_misreads : AnyImage → List ℕ
-volume_misreads (Romfs s) = if nat_lt 143 (length (romfs_volume s.all.now)) then codes "linux 5 Volume /\n" else []
+volume_misreads (Romfs s) = if is_root_missed (romfs_volume s.all.now) then codes "linux 5 Volume /\n" else []
 volume_misreads (InCramfs s) = []
 
 -- the line of the volume, and those of all names in preorder

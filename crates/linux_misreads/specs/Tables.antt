@@ -7,13 +7,13 @@ use Rattle.std.specs.Ordering.{nat_cmp}
 use Rattle.rom_tree.specs.Tree.{Node, attributes_of, ino_of, is_link, is_regular, places_of}
 use Rattle.rom_tree.specs.Image.{Image}
 use Rattle.rom_tree.specs.Names.{Name, names}
-use Rattle.cramfs_format.specs.Inode.{offset_of}
 use Rattle.cramfs_image.specs.Reported.{order_in}
 use Rattle.romfs_image.specs.declared.image.Romfs.{Romfs as RomfsImage}
 use Rattle.cramfs_image.specs.declared.image.Cramfs.{Cramfs}
 use Rattle.image_check.specs.declared.any.AnyImage.{AnyImage}
 use Rattle.image_check.specs.declared.any.AnyImage.TheVariants.{Romfs, Cramfs as InCramfs}
 use Rattle.image_check.specs.Any.{any_view}
+use Rattle.linux_misreads.specs.Readers.{file_number}
 use Rattle.linux_misreads.specs.declared.known.Known.{Known}
 
 -- a cramfs image, as the layers above see it
@@ -28,9 +28,9 @@ romfs_view s = any_view (Romfs s)
 abbrev pub has_table : Node → Bool
 has_table x = (is_regular x || is_link x) && nat_lt 0 (length (places_of x))
 
--- where the record of this number has its table
-abbrev pub table_place : Cramfs → ℕ → ℕ
-table_place s n = offset_of (order_in s) s.all.now n
+-- the number that Linux gives the node of this inode
+abbrev pub number_in : Cramfs → ℕ → ℕ
+number_in s n = file_number (order_in s) s.all.now n
 
 -- what is kept of a node
 abbrev pub known_of : Node → Known
@@ -52,11 +52,11 @@ abbrev pub either : {A : Type 0} → Option A → Option A → Option A
 either None y = y
 either (Some x) y = Some x
 
--- what is kept of a node, if its table is the one at t
+-- what is kept of a node, if its number is t
 abbrev pub one_known : Cramfs → ℕ → Node → Option Known
-one_known s t x = if has_table x && (table_place s (ino_of x) == t) then Some (known_of x) else None
+one_known s t x = if has_table x && (number_in s (ino_of x) == t) then Some (known_of x) else None
 
--- what is kept of the first of these names whose table is the one at t
+-- what is kept of the first of these names whose number is t
 abbrev pub first_known : Cramfs → ℕ → List Name → Option Known
 first_known s t [] = None
 first_known s t (n ∷ ns) = either (one_known s t n.node) (first_known s t ns)
@@ -65,11 +65,11 @@ abbrev pub is_other : Known → Option Known → Bool
 is_other k None = false
 is_other k (Some f) = not (is_same f k)
 
--- Linux has another file under the number of this node: the first of these names with its table is not the same
+-- Linux has another file under the number of this node: the first of these names with its number is not the same
 abbrev pub is_other_file : Cramfs → List Name → Node → Bool
-is_other_file s ns x = has_table x && is_other (known_of x) (first_known s (table_place s (ino_of x)) ns)
+is_other_file s ns x = has_table x && is_other (known_of x) (first_known s (number_in s (ino_of x)) ns)
 
--- a map has, for each table, what is kept of the first of these names
+-- a map has, for each number, what is kept of the first of these names
 abbrev pub AreFirst : Cramfs → List Name → BTreeMap ℕ Known → Type 0
 AreFirst s ns m = (t : ℕ) → get nat_cmp m t ≡ first_known s t ns
 

@@ -6,8 +6,9 @@ ghost use Rattle.rom_tree.specs.Tree.{Node, levels};
 ghost use Rattle.rom_tree.specs.Image.{image_node, HasNode};
 ghost use Rattle.rom_tree.specs.Names.{names};
 ghost use Rattle.image_check.specs.Any.{any_view};
-ghost use Rattle.linux_misreads.specs.Tables.{AreFirst, AreFirstOf, either, one_known, table_place, view};
+ghost use Rattle.linux_misreads.specs.Tables.{AreFirst, AreFirstOf, either, one_known, number_in, view};
 
+use crate::inodes::{offset_field, size_field, type_field};
 use crate::known::{Known, is_known_by_table, kept_of};
 use cramfs_image::Cramfs;
 use image_check::AnyImage;
@@ -16,13 +17,21 @@ use rom_tree::{NodeId, TreeImage, Walk};
 use std::alloc::Global;
 use std::collections::BTreeMap;
 
-/// Where the table of a record stands, by the offset field of its inode.
-pub(crate) fn table_of(image: &Cramfs<'_>, n: NodeId) -> u32
+/// The number that Linux gives a node: where its data are, if it has any, and else one above the
+/// place of its inode.
+pub(crate) fn number_of(image: &Cramfs<'_>, n: NodeId) -> u32
     requires { HasNode (view image.now) n.0 }
-    ensures { result ≡ table_place image.now n.0 }
+    ensures { result ≡ number_in image.now n.0 }
 {
-    let order = image.parts().order;
-    order.field_after(6, order.word(image.bytes(), n.0 as usize + 8)) * 4
+    let offset = offset_field(image, n);
+    if offset == 0 || size_field(image, n) == 0 {
+        return n.0 + 1;
+    }
+    let kind = type_field(image, n);
+    if kind == 8 || kind == 4 || kind == 10 {
+        return offset;
+    }
+    n.0 + 1
 }
 
 /// Notes what is kept of a node, where it is known by a table of which nothing is noted yet.
@@ -39,9 +48,9 @@ fn note(first: &mut BTreeMap<u32, Known>, image: &Cramfs<'_>, n: NodeId) -> Resu
     if !is_known_by_table(image, n) {
         return Ok(());
     }
-    let table = table_of(image, n);
-    if !first.contains_key(&table) {
-        first.insert(table, kept_of(image, n))?;
+    let number = number_of(image, n);
+    if !first.contains_key(&number) {
+        first.insert(number, kept_of(image, n))?;
     }
     Ok(())
 }

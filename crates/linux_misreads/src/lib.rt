@@ -8,7 +8,9 @@
 
 mod differences;
 mod files;
+mod inodes;
 mod known;
+pub mod laws;
 mod names;
 mod readers;
 mod telling;

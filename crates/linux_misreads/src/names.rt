@@ -13,7 +13,7 @@ use crate::differences::{
     is_cut_link, is_cut_name, is_not_found, is_other_cramfs_device, is_other_romfs_device,
     is_other_root, is_read_elsewhere,
 };
-use crate::files::table_of;
+use crate::files::number_of;
 use crate::known::{Known, is_known_by_table, is_same_file, kept_of};
 use crate::readers::romfs_finds;
 use cramfs_image::Cramfs;
@@ -67,7 +67,7 @@ fn is_taken_for_another(image: &Cramfs<'_>, first: &BTreeMap<u32, Known>, n: Nod
     if !is_known_by_table(image, n) {
         return false;
     }
-    match first.get(&table_of(image, n)) {
+    match first.get(&number_of(image, n)) {
         Some(kept) => !is_same_file(*kept, kept_of(image, n)),
         None => false,
     }

@@ -2,7 +2,7 @@
 ghost use Rattle.std.specs.Prelude.{◌≡◌, ◌+◌, ◌≤◌, ◌<◌, ◌^◌, length};
 ghost use Rattle.rom_fields.specs.Words.{word_be};
 ghost use Rattle.romfs_format.specs.Record.{before_zero};
-ghost use Rattle.linux_misreads.specs.Readers.{device_number as number_of, names_device as names, old_device as old_number, romfs_data as data_of, cramfs_finds as finds, romfs_finds as finds_romfs, listed_len as len_listed};
+ghost use Rattle.linux_misreads.specs.Readers.{device_number as number_of, names_device as names, old_device as old_number, romfs_data as data_of, cramfs_finds as finds, romfs_finds as finds_romfs, listed_len as len_listed, romfs_root as root_of};
 
 use byteorder::{BigEndian, ByteOrder};
 use memchr::memchr;
@@ -59,6 +59,13 @@ pub(crate) fn romfs_finds(name: &[u8]) -> bool
     ensures { result ≡ finds_romfs name.now }
 {
     !(128 < name.len())
+}
+
+/// Where Linux takes the root of romfs to be, behind a volume's name.
+pub(crate) fn romfs_root(volume: &[u8]) -> usize
+    ensures { result ≡ root_of volume.now }
+{
+    (16 + volume.len().min(128) + 1 + 15) / 16 * 16
 }
 
 /// Where Linux reads the data of the record at `at` in a romfs image.

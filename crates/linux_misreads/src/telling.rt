@@ -6,6 +6,7 @@ ghost use Rattle.image_check.specs.Any.{any_view};
 ghost use Rattle.image_info.specs.Endings.{WritesAll};
 ghost use Rattle.linux_misreads.specs.Misreads.{is_told, misreads_text, volume_misreads};
 
+use crate::differences::is_root_missed;
 use crate::files::first_files;
 use crate::names::put_misreads;
 use image_check::AnyImage;
@@ -21,10 +22,10 @@ fn put_volume<W: ByteWrite>(image: &AnyImage<'_>, w: &mut W, failed: &mut bool) 
         (volume_misreads image.now) }
     ensures told { result ≡ is_told (volume_misreads image.now) }
 {
-    let len = volume(image).len();
+    let name = volume(image);
     match image {
         AnyImage::Romfs(_) => {
-            if 143 < len {
+            if is_root_missed(name) {
                 put(w, failed, b"linux 5 Volume /\n");
                 return true;
             }
@@ -34,13 +35,20 @@ fn put_volume<W: ByteWrite>(image: &AnyImage<'_>, w: &mut W, failed: &mut bool) 
     }
 }
 
-/// Writes a line for each thing that Linux's reader of its format gets wrong of an image:
-/// `linux 5 Volume /` where the volume's name in romfs has more than 143 bytes, and then, in the
-/// list's order, of each name `linux 1 LastBlock PATH` where a file of cramfs ends with a whole block,
-/// `linux 2 SharedTable PATH` where a file or a link of cramfs has the table of an earlier one that
-/// has another kind, mode, owner, group or size, `linux 3 NameCut PATH` and `linux 4 NameTooLong PATH`
-/// where a name of romfs has 128 bytes or more. `true` where there is a line. Directories may lie 64
-/// deep.
+/// Writes a line for each thing that Linux's reader of its format misreads in an image: that of the
+/// volume, and then, in the list's order, those of each name by their numbers. `true` if there is a
+/// line. Directories may be 64 deep. The lines are
+///
+/// - `linux 1 LastBlock PATH`: a file of cramfs that ends with a whole block;
+/// - `linux 2 SharedTable PATH`: a file or a link of cramfs that has the table of an earlier one with
+///   another kind, mode, owner, group or size;
+/// - `linux 3 NameCut PATH`, `linux 4 NameTooLong PATH`: a name of romfs of 128 bytes, or of more;
+/// - `linux 5 Volume /`: a volume's name of romfs of more than 143 bytes;
+/// - `linux 6 Device PATH`: a device that has other numbers in Linux;
+/// - `linux 7 NamePadded PATH`: a name of cramfs with more padding than it needs;
+/// - `linux 8 LinkCut PATH`: a link whose text has a zero byte;
+/// - `linux 9 RootMode /`: a root of cramfs that has another mode in Linux;
+/// - `linux 10 OtherPlace PATH`: a file or a link of romfs whose bytes Linux reads from another place.
 ///
 /// # Errors
 ///

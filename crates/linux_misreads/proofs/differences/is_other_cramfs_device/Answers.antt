@@ -1,7 +1,6 @@
 use Rattle.std.proofs.Common.{◌≡◌, ◌∙◌, ap, sym, ℕ}
 use Rattle.rom_tree.specs.Tree.{ino_of}
 use Rattle.rom_tree.proofs.Named.{node_number}
-use Rattle.cramfs_format.specs.Inode.{size_of}
 use Rattle.cramfs_image.specs.Reported.{order_in}
 use Rattle.linux_misreads.specs.Tables.{view}
 use Rattle.linux_misreads.specs.Readers.{old_device, cramfs_device}
@@ -9,7 +8,6 @@ use Rattle.linux_misreads.specs.Differences.{is_other_device}
 use Rattle.linux_misreads.proofs.differences.is_other_cramfs_device.Goals as goal
 
 pub returns : goal.returns
-unfolding size_of
 returns c = λ x e.
     let n : c.args.n.0 ≡ ino_of x = sym (node_number (view c.args.image.now) c.args.n.0 x e) in
     let p : c.old_device.result ≡ cramfs_device (order_in c.args.image.now) c.args.image.now.all.now (ino_of x) =

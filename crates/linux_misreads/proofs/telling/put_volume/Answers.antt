@@ -2,14 +2,14 @@ use Rattle.std.proofs.lemmas.Grind.{common_steps}
 use Rattle.std.proofs.Common.{arith}
 use Rattle.linux_misreads.proofs.telling.put_volume.Goals as goal
 
-pub returns-then-len-gt143-clause-puts : goal.returns-then-len-gt143-clause-puts
-returns-then-len-gt143-clause-puts c = grind (arith, common_steps)
+pub returns-then-is_root_missed-clause-puts : goal.returns-then-is_root_missed-clause-puts
+returns-then-is_root_missed-clause-puts c = grind (arith, common_steps)
 
-pub returns-then-len-gt143-clause-told : goal.returns-then-len-gt143-clause-told
-returns-then-len-gt143-clause-told c = grind (arith, common_steps)
+pub returns-then-is_root_missed-clause-told : goal.returns-then-is_root_missed-clause-told
+returns-then-is_root_missed-clause-told c = grind (arith, common_steps)
 
-pub returns-else-len-gt143-clause-puts : goal.returns-else-len-gt143-clause-puts
-returns-else-len-gt143-clause-puts c = grind (arith, common_steps)
+pub returns-else-is_root_missed-clause-puts : goal.returns-else-is_root_missed-clause-puts
+returns-else-is_root_missed-clause-puts c = grind (arith, common_steps)
 
-pub returns-else-len-gt143-clause-told : goal.returns-else-len-gt143-clause-told
-returns-else-len-gt143-clause-told c = grind (arith, common_steps)
+pub returns-else-is_root_missed-clause-told : goal.returns-else-is_root_missed-clause-told
+returns-else-is_root_missed-clause-told c = grind (arith, common_steps)

@@ -3,7 +3,7 @@ use Rattle.cramfs_format.proofs.Trees.{known}
 use Rattle.cramfs_format.specs.declared.order.Order.{Order}
 use Rattle.cramfs_format.specs.Inode.{name_room}
 use Rattle.cramfs_format.specs.Order.{word, first_field}
-use Rattle.linux_misreads.proofs.differences.name_room_at.Goals as goal
+use Rattle.linux_misreads.proofs.inodes.name_room_at.Goals as goal
 
 pub word-requires : goal.word-requires
 word-requires c =

@@ -3,7 +3,7 @@ use Rattle.cramfs_format.proofs.Trees.{known}
 use Rattle.cramfs_format.specs.declared.order.Order.{Order}
 use Rattle.cramfs_format.specs.Inode.{offset_of}
 use Rattle.cramfs_format.specs.Order.{word, field_after}
-use Rattle.linux_misreads.proofs.files.table_of.Goals as goal
+use Rattle.linux_misreads.proofs.inodes.offset_field.Goals as goal
 
 pub word-requires : goal.word-requires
 word-requires c =

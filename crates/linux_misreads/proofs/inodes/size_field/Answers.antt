@@ -3,7 +3,7 @@ use Rattle.cramfs_format.proofs.Trees.{known}
 use Rattle.cramfs_format.specs.declared.order.Order.{Order}
 use Rattle.cramfs_format.specs.Inode.{size_of}
 use Rattle.cramfs_format.specs.Order.{word, first_field}
-use Rattle.linux_misreads.proofs.differences.size_field.Goals as goal
+use Rattle.linux_misreads.proofs.inodes.size_field.Goals as goal
 
 pub word-requires : goal.word-requires
 word-requires c =

@@ -1,0 +1,45 @@
+//! The fields of the inode of a node of cramfs.
+ghost use Rattle.std.specs.Prelude.{◌≡◌};
+ghost use Rattle.rom_tree.specs.Image.{HasNode};
+ghost use Rattle.cramfs_format.specs.Inode.{name_room, offset_of, size_of, type_of};
+ghost use Rattle.cramfs_image.specs.Reported.{order_in};
+ghost use Rattle.linux_misreads.specs.Tables.{view};
+
+use cramfs_image::Cramfs;
+use rom_tree::{NodeId, TreeImage};
+
+/// The type, the upper four of the sixteen bits of the mode.
+pub(crate) fn type_field(image: &Cramfs<'_>, n: NodeId) -> u32
+    requires { HasNode (view image.now) n.0 }
+    ensures { result ≡ type_of (order_in image.now) image.now.all.now n.0 }
+{
+    let order = image.parts().order;
+    order.first_field(16, order.word(image.bytes(), n.0 as usize)) / 4096
+}
+
+/// The size, which is that of a device's numbers too.
+pub(crate) fn size_field(image: &Cramfs<'_>, n: NodeId) -> u32
+    requires { HasNode (view image.now) n.0 }
+    ensures { result ≡ size_of (order_in image.now) image.now.all.now n.0 }
+{
+    let order = image.parts().order;
+    order.first_field(24, order.word(image.bytes(), n.0 as usize + 4))
+}
+
+/// How many bytes the name takes with its padding.
+pub(crate) fn name_room_at(image: &Cramfs<'_>, n: NodeId) -> u32
+    requires { HasNode (view image.now) n.0 }
+    ensures { result ≡ name_room (order_in image.now) image.now.all.now n.0 }
+{
+    let order = image.parts().order;
+    order.first_field(6, order.word(image.bytes(), n.0 as usize + 8)) * 4
+}
+
+/// Where its list or its block pointers are.
+pub(crate) fn offset_field(image: &Cramfs<'_>, n: NodeId) -> u32
+    requires { HasNode (view image.now) n.0 }
+    ensures { result ≡ offset_of (order_in image.now) image.now.all.now n.0 }
+{
+    let order = image.parts().order;
+    order.field_after(6, order.word(image.bytes(), n.0 as usize + 8)) * 4
+}
