@@ -1,9 +1,9 @@
 //! Laws over the definitions of what is misread, which have no code of their own.
 ghost use Rattle.std.specs.Prelude.{◌≡◌, ◌≢◌, ◌<◌, ◌≤◌, ◌+◌, ◌*◌, ◌/◌, ◌%◌, ◌^◌, ◌==◌, ◌↔◌, nat_lt, not, true, ℕ, List, length};
 ghost use Rattle.rom_tree.specs.Tree.{Node, is_regular, places_of};
-ghost use Rattle.romfs_format.specs.Record.{pad16};
+ghost use Rattle.romfs_format.specs.Record.{end_of, name_of, pad16};
 ghost use Rattle.cramfs_format.specs.Inode.{block_count, block_len};
-ghost use Rattle.linux_misreads.specs.Readers.{device_number, names_device, old_device, listed_len, romfs_finds, romfs_root, page_filled};
+ghost use Rattle.linux_misreads.specs.Readers.{device_number, names_device, old_device, listed_len, romfs_data, romfs_finds, romfs_root, page_filled};
 ghost use Rattle.linux_misreads.specs.Differences.{is_cut_name};
 ghost use Rattle.linux_misreads.specs.Misreads.{ends_with_a_block};
 
@@ -26,6 +26,13 @@ pub fn long_volume()
 pub fn long_names()
     ensures cut { (name : List ℕ) → is_cut_name name ≡ (length name == 128) }
     ensures lost { (name : List ℕ) → not (romfs_finds name) ≡ nat_lt 128 (length name) }
+{}
+
+/// Linux reads the data of a record of romfs from another place than the record's end exactly if its
+/// name has more than 143 bytes.
+#[tactic(auto, unfolding(romfs_format::specs::Record::end_of, romfs_format::specs::Record::name_of))]
+pub fn long_records()
+    ensures { (b : List ℕ) (p : ℕ) → (romfs_data b p ≢ end_of b p) ↔ (143 < length (name_of b p)) }
 {}
 
 /// A device of romfs keeps its numbers exactly if its major number is below 4,096.
