@@ -120,76 +120,144 @@ fn image_of(alloc: Global, text: &[u8], all: &[&[u8]], format: Format) -> Result
     }
 }
 
+/// Whether the plan of a manifest is streamed as this image, to a writer that takes so many bytes a
+/// call.
+fn is_streamed(
+    alloc: Global,
+    fitting: Fitting,
+    format: Format,
+    most: usize,
+    image: &[u8],
+) -> Result<bool, Fail> {
+    let (text, all, sizes) = fitting;
+    let plan = planned(alloc, text, sizes, format)?;
+    let (held, ended) = sent(alloc, &plan, all, u64::MAX, most)?;
+    Ok(ended == Some(Ok(())) && held.as_slice() == image)
+}
+
+/// Whether the image of a manifest is accepted, and streamed in pieces of so many bytes.
+fn is_image(alloc: Global, fitting: Fitting, format: Format, most: usize) -> Result<bool, Fail> {
+    let (text, all, _) = fitting;
+    let image = image_of(alloc, text, all, format)?;
+    Ok(is_accepted(alloc, &image) && is_streamed(alloc, fitting, format, most, &image)?)
+}
+
 #[test]
 fn images_are_accepted_and_streamed(rt: HostRuntime) -> Result<(), Fail> {
-    for (text, all, sizes) in FITTING {
+    for fitting in FITTING {
         for format in FORMATS {
-            let image = image_of(rt.alloc(), text, all, format)?;
-            assert!(rt; is_accepted(rt.alloc(), &image));
-            let plan = planned(rt.alloc(), text, sizes, format)?;
             for most in [1, 100, usize::MAX] {
-                let (held, ended) = sent(rt.alloc(), &plan, all, u64::MAX, most)?;
-                assert_eq!(rt; ended, Some(Ok(())));
-                assert!(rt; held.as_slice() == image.as_slice());
+                assert!(rt;
+                    is_image(rt.alloc(), fitting, format, most)?,
+                    "{:?} in pieces of {most}",
+                    fitting.0
+                );
             }
         }
     }
     Ok(())
+}
+
+/// Whether a stream to a writer that takes so many calls is whole; if it is not, it ends with a
+/// failed write, and the writer holds a front of the image.
+fn is_whole_in(
+    alloc: Global,
+    plan: &Plan,
+    image: &[u8],
+    all: &[&[u8]],
+    calls: u64,
+) -> Result<bool, Fail> {
+    let (held, ended) = sent(alloc, plan, all, calls, 100)?;
+    match ended {
+        Some(Ok(())) if held.as_slice() == image && calls > 0 => Ok(true),
+        Some(Err(StreamError::WriteFault)) if image.starts_with(&held) => Ok(false),
+        _ => Err(Fail::new("a front of the image and a failed write")),
+    }
+}
+
+/// Whether the streams to writers that take 0 to 399 calls are whole from one of them on.
+fn writes_fail_in_turn(alloc: Global, format: Format) -> Result<bool, Fail> {
+    let (text, all, sizes) = FITTING[5];
+    let image = image_of(alloc, text, all, format)?;
+    let plan = planned(alloc, text, sizes, format)?;
+    let mut is_whole = false;
+    for calls in 0..400u64 {
+        let is_next_whole = is_whole_in(alloc, &plan, &image, all, calls)?;
+        if is_whole && !is_next_whole {
+            return Ok(false);
+        }
+        is_whole = is_next_whole;
+    }
+    Ok(is_whole)
 }
 
 #[test]
 fn each_write_fails_in_turn(rt: HostRuntime) -> Result<(), Fail> {
-    let (text, all, sizes) = FITTING[5];
     for format in FORMATS {
-        let image = image_of(rt.alloc(), text, all, format)?;
-        let plan = planned(rt.alloc(), text, sizes, format)?;
-        let mut is_whole = false;
-        for calls in 0..400u64 {
-            let (held, ended) = sent(rt.alloc(), &plan, all, calls, 100)?;
-            assert!(rt; image.starts_with(&held));
-            if ended == Some(Ok(())) {
-                assert_eq!(rt; held.len(), image.len());
-                assert!(rt; calls > 0);
-                is_whole = true;
-            } else {
-                assert_eq!(rt; ended, Some(Err(StreamError::WriteFault)));
-                assert!(rt; !is_whole);
-            }
-        }
-        assert!(rt; is_whole);
+        assert!(rt; writes_fail_in_turn(rt.alloc(), format)?);
     }
     Ok(())
+}
+
+/// Whether a stream from sources that fail after so many reads is whole; if it is not, it ends with
+/// a fault of a source, and the writer holds a front of the image.
+fn is_whole_after(
+    alloc: Global,
+    plan: &Plan,
+    image: &[u8],
+    all: &[&[u8]],
+    sound: u64,
+) -> Result<bool, Fail> {
+    let (held, ended) = spoiled(alloc, plan, all, Fault::Unreadable, sound)?;
+    match ended {
+        Some(Ok(())) if held.as_slice() == image && sound > 0 => Ok(true),
+        Some(Err(StreamError::SourceFault { file })) if file < 3 && image.starts_with(&held) => {
+            Ok(false)
+        }
+        _ => Err(Fail::new("a front of the image and a fault of a source")),
+    }
+}
+
+/// Whether the streams from sources that fail after 0 to 39 reads are whole from one of them on.
+fn reads_fail_in_turn(alloc: Global, format: Format) -> Result<bool, Fail> {
+    let (text, all, sizes) = FITTING[5];
+    let image = image_of(alloc, text, all, format)?;
+    let plan = planned(alloc, text, sizes, format)?;
+    let mut is_whole = false;
+    for sound in 0..40u64 {
+        let is_next_whole = is_whole_after(alloc, &plan, &image, all, sound)?;
+        if is_whole && !is_next_whole {
+            return Ok(false);
+        }
+        is_whole = is_next_whole;
+    }
+    Ok(is_whole)
 }
 
 #[test]
 fn each_read_fails_in_turn(rt: HostRuntime) -> Result<(), Fail> {
-    let (text, all, sizes) = FITTING[5];
     for format in FORMATS {
-        let image = image_of(rt.alloc(), text, all, format)?;
-        let plan = planned(rt.alloc(), text, sizes, format)?;
-        let mut is_whole = false;
-        for sound in 0..40u64 {
-            let (held, ended) = spoiled(rt.alloc(), &plan, all, Fault::Unreadable, sound)?;
-            assert!(rt; image.starts_with(&held));
-            if ended == Some(Ok(())) {
-                assert_eq!(rt; held.len(), image.len());
-                assert!(rt; sound > 0);
-                is_whole = true;
-            } else {
-                let Some(Err(StreamError::SourceFault { file })) = ended else {
-                    return Err(Fail::new("a fault of a source"));
-                };
-                assert!(rt; file < 3 && !is_whole);
-            }
-        }
-        assert!(rt; is_whole);
+        assert!(rt; reads_fail_in_turn(rt.alloc(), format)?);
     }
     Ok(())
 }
 
+/// How a stream of a manifest's plan ends, from sources with a fault after so many reads.
+fn ended_after(
+    alloc: Global,
+    fitting: Fitting,
+    format: Format,
+    fault: Fault,
+    sound: u64,
+) -> Result<Ended, Fail> {
+    let (text, all, sizes) = fitting;
+    let plan = planned(alloc, text, sizes, format)?;
+    let (_, ended) = spoiled(alloc, &plan, all, fault, sound)?;
+    Ok(ended)
+}
+
 #[test]
 fn contents_are_read_as_far_as_they_count(rt: HostRuntime) -> Result<(), Fail> {
-    let (text, all, sizes) = FITTING[5];
     // for the sizes 2, 2 and 1 reads, and to be written 1, 3 and none; for the sum of romfs, which
     // ends in the first part of /b, 1 read, and for that of cramfs 1, 3 and none
     for (format, reads) in [
@@ -197,33 +265,40 @@ fn contents_are_read_as_far_as_they_count(rt: HostRuntime) -> Result<(), Fail> {
         (Format::Cramfs, 13),
         (Format::CramfsBig, 13),
     ] {
-        let plan = planned(rt.alloc(), text, sizes, format)?;
-        let (_, ended) = spoiled(rt.alloc(), &plan, all, Fault::Unreadable, reads)?;
-        assert_eq!(rt; ended, Some(Ok(())));
-        let (_, ended) = spoiled(rt.alloc(), &plan, all, Fault::Unreadable, reads - 1)?;
-        assert!(rt; matches!(&ended, Some(Err(StreamError::SourceFault { file: _ }))));
+        let (all, one_less) = (
+            ended_after(rt.alloc(), FITTING[5], format, Fault::Unreadable, reads)?,
+            ended_after(rt.alloc(), FITTING[5], format, Fault::Unreadable, reads - 1)?,
+        );
+        assert_eq!(rt; all, Some(Ok(())), "after {reads}");
+        assert!(rt; matches!(&one_less, Some(Err(StreamError::SourceFault { file: _ }))));
     }
     Ok(())
 }
 
 #[test]
 fn contents_that_change_are_told(rt: HostRuntime) -> Result<(), Fail> {
-    let (text, all, sizes) = FITTING[1];
     let (whole, changed) = (Some(Ok(())), Some(Err(StreamError::Changed)));
     for format in FORMATS {
-        let plan = planned(rt.alloc(), text, sizes, format)?;
         // two reads for the size, one for the sum, and one to be written
         for (sound, want) in [(0, whole), (1, whole), (2, whole), (3, changed), (4, whole)] {
-            let (_, ended) = spoiled(rt.alloc(), &plan, all, Fault::Changed, sound)?;
+            let ended = ended_after(rt.alloc(), FITTING[1], format, Fault::Changed, sound)?;
             assert_eq!(rt; ended, want, "after {sound}");
         }
     }
     Ok(())
 }
 
+/// Whether a stream of these contents in place of the manifest's ends before the first byte, since
+/// that source has another size.
+fn is_refused(alloc: Global, format: Format, other: &[&[u8]], file: usize) -> Result<bool, Fail> {
+    let (text, _, sizes) = FITTING[5];
+    let plan = planned(alloc, text, sizes, format)?;
+    let (held, ended) = sent(alloc, &plan, other, u64::MAX, usize::MAX)?;
+    Ok(held.is_empty() && ended == Some(Err(StreamError::SizeDiffers { file })))
+}
+
 #[test]
 fn sources_of_another_size(rt: HostRuntime) -> Result<(), Fail> {
-    let (text, all, sizes) = FITTING[5];
     let others: [(&[&[u8]], usize); 5] = [
         (&[b"on", LARGE, b""], 0),
         (&[b"one!", LARGE, b""], 0),
@@ -232,11 +307,11 @@ fn sources_of_another_size(rt: HostRuntime) -> Result<(), Fail> {
         (&[b"one", b"", b"!"], 1),
     ];
     for format in FORMATS {
-        let plan = planned(rt.alloc(), text, sizes, format)?;
         for (other, file) in others {
-            let (held, ended) = sent(rt.alloc(), &plan, other, u64::MAX, usize::MAX)?;
-            assert_eq!(rt; ended, Some(Err(StreamError::SizeDiffers { file })));
-            assert!(rt; held.is_empty());
+            assert!(rt;
+                is_refused(rt.alloc(), format, other, file)?,
+                "source {file}"
+            );
         }
     }
     Ok(())
