@@ -629,11 +629,51 @@ def folder_within_itself(binary):
             yield "%s: %r" % (words, answer(done))
 
 
+@needs_root
+def on_one_file_system(binary):
+    """`--one-file-system` lists a folder that another file system is mounted on, and does not look into it."""
+    os.makedirs("in/d/mnt")
+    put("in/d/a", b"a")
+    line = 'mount -t tmpfs tmpfs in/d/mnt 2>/dev/null || exit 77; mkdir in/d/mnt/e; echo x >in/d/mnt/x; exec "$@"'
+    plain = ["dir /d", "file /d/a", "dir /d/mnt"]
+    within = ["dir /d/mnt/e", "file /d/mnt/x"]
+    for words, lines in (
+        (["scan"], plain + within), (["scan", "--one-file-system"], plain),
+        (["scan", "--all"], ["dir /", *plain, *within]), (["scan", "--all", "--one-file-system"], ["dir /", *plain]),
+    ):  # fmt: skip
+        done = subprocess.run(
+            ["unshare", "-m", "sh", "-c", line, "sh", binary, *words, "in"],
+            stdout=subprocess.PIPE, stderr=subprocess.PIPE, timeout=SECONDS,
+        )  # fmt: skip
+        if done.returncode == 77:
+            yield None
+            return
+        got = [b" ".join(line.split()[:2]).decode() for line in done.stdout.splitlines()]
+        if sorted(got) != sorted(lines) or (done.stderr, done.returncode) != (b"", 0):
+            yield "%s: %r" % (words, answer(done))
+
+
+@needs_strace
+def folders_that_rest(binary):
+    """A scan of folders that were all made before it rests once or twice, and not for each of them."""
+    for number in range(300):
+        os.makedirs("in/%d" % number)
+    for words in SCANS:
+        done = subprocess.run(
+            ["strace", "-f", "-e", "trace=nanosleep,clock_nanosleep", "-o", "calls", binary, *words, "in"],
+            stdout=subprocess.PIPE, stderr=subprocess.PIPE, timeout=SECONDS,
+        )  # fmt: skip
+        rests = bytes_in("calls").count(b"nanosleep(")
+        if done.returncode or rests > 3:
+            yield "%s: %d rests, status %d" % (words, rests, done.returncode)
+
+
 TESTS = [
     each_call_failed, refusal_that_is_not_taken, memory_that_ends, each_write_failed, room_that_ends,
     readers_that_leave, output_into_the_folder, changed_between_calls, moved_between_folders, entry_that_vanishes,
     odd_folders, what_is_no_folder, folders_that_are_forbidden, every_byte, longest_names, deep_from_inside,
-    many_entries, greatest_numbers, folder_within_itself,
+    many_entries, greatest_numbers, folder_within_itself, on_one_file_system,
+    folders_that_rest,
 ]  # fmt: skip
 
 if __name__ == "__main__":

@@ -22,6 +22,7 @@ import stat
 import subprocess
 import sys
 import tempfile
+import time
 
 import images
 import manifests
@@ -38,7 +39,9 @@ IS_ROOT = os.geteuid() == 0
 WORDS = {"d": "dir", "f": "file", "l": "slink", "b": "nod", "c": "nod", "p": "pipe", "s": "sock"}
 LENDING = 0o6000
 FAULTS = ("error=EIO", "error=ENOSPC", "error=ENOMEM", "error=EACCES", "signal=KILL")
-FAILED = ("openat", "mkdir", "write", "fchmod", "symlink", "link", "statx", "getdents64", "fcntl", "close")
+FAILED = (
+    "openat", "mkdir", "write", "fchmod", "symlink", "link", "statx", "getdents64", "fcntl", "close", "fsync", "unlink",
+)  # fmt: skip
 
 
 class Plain(Made):
@@ -513,7 +516,7 @@ def wrong_after(binary, done, names, wanted, there, fault):
             yield from wrong_in_folder(binary, "image", names, "out")
     elif fault != "signal=KILL" and (done.returncode != 3 or not done.stderr):
         yield "status %d, %r" % (done.returncode, done.stderr)
-    if done.returncode == 3 and there and stat.S_IMODE(os.stat("out").st_mode) not in (0o755, 0o700):
+    if there and stat.S_IMODE(os.stat("out").st_mode) != 0o755:
         yield "the folder's mode is %o" % os.stat("out").st_mode
     if os.path.isdir("out/d") and os.path.islink("out/d/l") and os.readlink("out/d/l") != "a":
         yield "the link leads elsewhere"
@@ -556,10 +559,161 @@ def many_files(binary):
         yield "%d %.300r" % (done.returncode, done.stderr)
 
 
+@needs_strace
+def links_refused(binary):
+    """Only four errors tell that there are no further names here: then files of their own are made, and it is said."""
+    build_image(binary, ["file /a 0644 0 0 4 s", "hard /b /a"], "romfs", [("s", b"text")])
+    copied = b"romtool: out: further names that are copies here, since this file system makes no further names; a build "
+    for error in ("EPERM", "EOPNOTSUPP", "EMLINK", "EXDEV", "EIO", "ENOSPC", "EACCES", "EROFS"):
+        clear_out()
+        done = traced.run(binary, "--explain", "extract", "image", "out", told=traced.inject("link", "error=" + error, 1))
+        if error in ("EPERM", "EOPNOTSUPP", "EMLINK", "EXDEV"):
+            if done.returncode or copied not in done.stderr or bytes_in("out/b") != b"text" or b"hard /b /a" not in done.stdout:
+                yield "%s: %s %r" % (error, shortly(done), done.stderr)
+        elif done.returncode != 3 or done.stdout or not done.stderr.startswith(b"file out/b\n"):
+            yield "%s: %s" % (error, shortly(done))
+
+
+def further_names_are_told(binary):
+    """It is said how many names are further names of a file."""
+    build_image(binary, ["file /a 0644 0 0 4 s", "hard /b /a", "hard /c /a", "file /d 0644 0 0 4 s"], "romfs", [("s", b"s")])
+    done = run(binary, "--explain", "extract", "image", "out")
+    told = b"romtool: out: further names of files, which share the file only until an editor replaces it; "
+    if done.returncode or done.stderr != told + b"a build reads the first name alone: 2\n":
+        yield "%s" % shortly(done)
+    if os.stat("out/c").st_nlink != 3 or os.stat("out/d").st_nlink != 1:
+        yield "links: %d" % os.stat("out/c").st_nlink
+
+
+@needs_root
+def folders_of_another(binary):
+    """An empty folder of another user is refused, also for root, and keeps what it has: nothing."""
+    small(binary)
+    os.mkdir("theirs", 0o777)
+    os.chmod("theirs", 0o777)
+    os.chown("theirs", 65534, 65534)
+    yield from refused(run(binary, "extract", "image", "theirs"), b"theirs")
+    words = b"romtool: theirs: it is owned by another user, who could change what is made in it\n"
+    yield from refused(run(binary, "--explain", "extract", "image", "theirs"), b"theirs", words)
+    os.chmod(".", 0o777)
+    os.mkdir("ours", 0o777)
+    os.chmod("ours", 0o777)
+    yield from refused(run(binary, "extract", "image", "ours", preexec_fn=become_nobody), b"ours")
+    if os.listdir("theirs") or os.listdir("ours") or os.stat("theirs").st_uid != 65534:
+        yield "something was made or changed"
+
+
+def modes_under_a_mask(binary):
+    """The mask of the process is applied to modes, and not with `--owners`; a folder that is there keeps its mode."""
+    modes = ["dir / 0777 0 0", "dir /d 1777 0 0", "file /a 0666 0 0 4 s", "file /x 0755 0 0 4 s"]
+    build_image(binary, modes, "cramfs", [("s", b"s")])
+    cases = [(0o027, [], 0o750, 0o1750, 0o640), (0o777, [], 0, 0o1000, 0), (0, [], 0o777, 0o1777, 0o666)]
+    for mask, words, top, folder, file in cases + ([(0o077, ["--owners"], 0o777, 0o1777, 0o666)] if IS_ROOT else []):
+        clear_out()
+        done = run(binary, "extract", *words, "image", "out", preexec_fn=lambda: os.umask(mask))
+        got = [stat.S_IMODE(os.stat("out").st_mode)]
+        got += [stat.S_IMODE(os.stat("out/" + name).st_mode) for name in "da"] if IS_ROOT else [folder, file]
+        if done.returncode or got != [top, folder, file]:
+            yield "%o %r: %r %s" % (mask, words, [oct(it) for it in got], shortly(done))
+    clear_out()
+    os.mkdir("out")
+    os.chmod("out", 0o1777)
+    if run(binary, "extract", "image", "out").returncode or stat.S_IMODE(os.stat("out").st_mode) != 0o1777:
+        yield "a folder that is there: %o" % os.stat("out").st_mode
+
+
+@needs_strace
+def interrupted(binary):
+    """A signal leaves the mode of a folder that is there, and one that was made is for its owner."""
+    small(binary)
+    for there, mode in ((True, 0o755), (False, 0o700)):
+        for name in ("INT", "TERM"):
+            clear_out()
+            lay(there)
+            traced.run(binary, "extract", "image", "out", told=traced.inject("write", "signal=" + name, 1))
+            if stat.S_IMODE(os.stat("out").st_mode) != mode or os.path.exists("out/.romtool-probe"):
+                yield "%s, %r: %o" % (name, there, os.stat("out").st_mode)
+
+
+def failure_is_told(binary):
+    """What failed is told as incomplete, and stays."""
+    if not shutil.which("strace"):
+        yield None
+        return
+    small(binary)
+    for call in ("write", "fsync"):
+        clear_out()
+        done = traced.run(binary, "--explain", "extract", "image", "out", told=traced.inject(call, "error=ENOSPC", 1))
+        words = b"romtool: out: it is incomplete: what was made in it is left there\n"
+        if done.returncode != 3 or done.stdout or not done.stderr.startswith(b"file out/") or words not in done.stderr:
+            yield "%s: %s" % (call, shortly(done))
+        if not os.path.isdir("out/d/e") or stat.S_IMODE(os.stat("out").st_mode) != 0o700:
+            yield "%s: it was taken away, or opened" % call
+
+
+@needs_root
+def disks_that_fail_at_close(binary):
+    """A file system that tells only at close, or when it is asked to write, that it is full: no manifest is printed."""
+    if not (os.path.exists("/dev/fuse") and shutil.which("cc") and shutil.which("fusermount3")):
+        yield None
+        return
+    flags = subprocess.run(["pkg-config", "--cflags", "--libs", "fuse3"], stdout=subprocess.PIPE, stderr=subprocess.DEVNULL)
+    made = subprocess.run(
+        ["cc", "-w", "-o", "lossy", os.path.join(HERE, "lossy.c"), *flags.stdout.decode().split()], stderr=subprocess.DEVNULL
+    )
+    if flags.returncode or made.returncode:
+        yield None
+        return
+    build_image(binary, ["file /a 0644 0 0 4 s", "file /big 0644 0 0 4 big"], "cramfs", [("s", b"s"), ("big", bytes(100000))])
+    os.mkdir("mnt")
+    server = subprocess.Popen([os.path.abspath("lossy"), os.path.abspath("mnt"), "50000"])
+    try:
+        for _ in range(100):
+            if os.path.ismount("mnt"):
+                break
+            time.sleep(0.05)
+        yield from refused(run(binary, "extract", "image", "mnt/out"), b"mnt/out/big")
+    finally:
+        subprocess.run(["fusermount3", "-uz", "mnt"], check=False)
+        server.wait(timeout=10)
+
+
+def memory_of_names(binary):
+    """Taking an image apart needs at most 100 bytes a name more than checking it, however long the paths are."""
+    count = 20000
+    put("image", deep_files(15, 255, count))
+    most = {}
+    for words in (["check", "image"], ["extract", "image", "no/folder"]):
+        line = "import resource,subprocess,sys; subprocess.run(sys.argv[1:], stdout=-3, stderr=-3); "
+        line += "print(resource.getrusage(resource.RUSAGE_CHILDREN).ru_maxrss)"
+        done = subprocess.run([sys.executable, "-c", line, binary, *words], stdout=subprocess.PIPE, check=True)
+        most[words[0]] = int(done.stdout) * 1024
+    if most["extract"] - most["check"] > 100 * count + 2**20:
+        yield "%r" % most
+
+
+def deep_files(depth, length, count):
+    """A romfs image of folders in folders with names of so many bytes, and so many empty files in the last one."""
+    size = 16 + (length + 16) // 16 * 16
+    parts = [images.header(64, images.DIRECTORY, 32, 0, b"."), images.header(96, images.HARD_LINK, 32, 0, b"..")]
+    above, here = 32, 96
+    for _ in range(depth):
+        first = here + size
+        parts.append(images.header(0, images.DIRECTORY, first, 0, b"n" * length))
+        parts.append(images.header(first + 32, images.HARD_LINK, here, 0, b"."))
+        parts.append(images.header(first + 64, images.HARD_LINK, above, 0, b".."))
+        above, here = here, first + 64
+    for number in range(count):
+        here += 32
+        parts.append(images.header(here if number + 1 < count else 0, images.REGULAR, 0, 0, b"%x" % number))
+    return images.romfs(parts)
+
+
 TESTS = [
     folders_that_are_there, links_that_lead_elsewhere, images_that_are_refused, names_that_no_file_has,
     images_that_no_manifest_tells, without_rights, owners, output_that_is_not_taken, each_call_failed,
-    memory_refused, many_files, of_cases,
+    memory_refused, many_files, of_cases, links_refused, further_names_are_told, folders_of_another,
+    modes_under_a_mask, interrupted, failure_is_told, disks_that_fail_at_close, memory_of_names,
 ]  # fmt: skip
 
 
@@ -570,6 +724,7 @@ def main():
     reader.add_argument("--name", default="", help="the tests alone whose name has this text")
     arguments = reader.parse_args()
     binary, counts = program_of(arguments), Counts()
+    os.umask(0)  # so that what is made has the modes of the image
     for test in TESTS:
         if arguments.name in test.__name__:
             run_one(counts, test, binary)

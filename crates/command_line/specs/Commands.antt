@@ -38,6 +38,11 @@ abbrev pub build_shape : Shape
 build_shape = shape_with (codes "build")
     (value_rule (codes "format") ∷ value_rule (codes "manifest") ∷ value_rule (codes "out") ∷ flag_rule (codes "no-follow") ∷ [])
 
+-- scan without its last option
+abbrev pub unbounded_shape : Shape
+unbounded_shape = shape_with (codes "scan")
+    (value_rule (codes "folder") ∷ flag_rule (codes "all") ∷ option_rule (codes "for") ∷ option_rule (codes "align") ∷ [])
+
 abbrev pub scan_shape : Shape
 scan_shape = shape_with (codes "scan")
     (value_rule (codes "folder") ∷ flag_rule (codes "all") ∷ option_rule (codes "for") ∷ option_rule (codes "align")

@@ -5,7 +5,7 @@ ghost use Rattle.clap.specs.Words.{app_of, rule_of, with_subcommand};
 ghost use Rattle.command_line.specs.Commands.{IsShaped, build_shape, extract_shape, flag_rule, images_rule};
 ghost use Rattle.command_line.specs.Commands.{cat_shape, map_shape, option_rule, romtool_app};
 ghost use Rattle.command_line.specs.Commands.{image_shape, readers_app, romtool_top, scan_shape};
-ghost use Rattle.command_line.specs.Commands.{servers_app, shape_with, tellers_app, value_rule};
+ghost use Rattle.command_line.specs.Commands.{servers_app, shape_with, tellers_app, unbounded_shape, value_rule};
 
 use clap::{Arg, ArgAction, Command};
 use std::alloc::{AllocError, Global};
@@ -142,9 +142,9 @@ fn with_build<'a>(alloc: Global) -> Result<Command<'a>, AllocError>
     command.arg(flag(alloc, "no-follow", no_follow))
 }
 
-/// The subcommand `scan`.
-fn with_scan<'a>(alloc: Global) -> Result<Command<'a>, AllocError>
-    ensures { IfOk result (IsShaped scan_shape) }
+/// The subcommand `scan` without its last option.
+fn with_unbounded<'a>(alloc: Global) -> Result<Command<'a>, AllocError>
+    ensures { IfOk result (IsShaped unbounded_shape) }
 {
     let about = "Prints a manifest of a folder";
     let folder = value(alloc, "folder", "DIR", "The folder");
@@ -159,7 +159,14 @@ fn with_scan<'a>(alloc: Global) -> Result<Command<'a>, AllocError>
         "With --all: what romfs, cramfs or cramfs-be does not take is brought to the nearest";
     let command = command.arg(option(alloc, "for", "FORMAT", format))?;
     let align = "With --all: the alignment of executable files, a power of two from 4 to 65536";
-    let command = command.arg(option(alloc, "align", "N", align))?;
+    command.arg(option(alloc, "align", "N", align))
+}
+
+/// The subcommand `scan`.
+fn with_scan<'a>(alloc: Global) -> Result<Command<'a>, AllocError>
+    ensures { IfOk result (IsShaped scan_shape) }
+{
+    let command = with_unbounded(alloc)?;
     let mounts = "Does not look into folders that other file systems are mounted on";
     command.arg(flag(alloc, "one-file-system", mounts))
 }

@@ -1,23 +1,28 @@
 //! An image taken apart: its folders, files and links in a folder, and its manifest.
-ghost use Rattle.std.specs.Prelude.{◌≤◌};
+ghost use Rattle.std.specs.Prelude.{◌<◌, ◌≤◌, length};
 ghost use Rattle.rom_tree.specs.Image.{HasNode};
 ghost use Rattle.rom_tree.specs.Tree.{levels};
 ghost use Rattle.image_check.specs.Any.{any_view};
 ghost use Rattle.image_manifest.specs.Members.{AreMembers};
 
 use crate::folders::base;
-use crate::making::{Owner, Rights, Top, new_file, new_folder, new_link, set_folder};
+use crate::making::{
+    Owner, Rights, Top, finish_file, new_file, new_folder, new_link, new_name, set_folder,
+};
 use crate::streams::{Again, Remembering};
 use crate::teller::Teller;
+use arrayvec::ArrayVec;
 use command_line::Extract;
 use image_check::AnyImage;
 use image_info::volume;
-use image_manifest::{Member, Refused, members, write_manifest};
+use image_manifest::{Member, PATH_MAX, Refused, members, path_of, write_manifest};
 use image_map::cat;
 use rom_commands::{Failure, Status};
 use rom_fields::{ByteWrite, Plain};
 use rom_tree::{Kind, NodeId, Stat, TreeImage};
-use sentences::reasons::{FILE_NOT_TAKEN, LINK_UNFIT, LONG_PATH, LONG_VOLUME, NAME_UNFIT, NO_TEXT};
+use sentences::reasons::{
+    FILE_NOT_TAKEN, INCOMPLETE, LINK_UNFIT, LONG_PATH, LONG_VOLUME, NAME_UNFIT, NO_TEXT,
+};
 use std::alloc::AllocError;
 use std::io::{self, BufWriter};
 use std::{fs, str};
@@ -37,6 +42,20 @@ const USUAL: Rights = Rights {
     owner: None,
 };
 
+/// What is said of names of nodes of which nothing is made.
+const SPECIALS: &str = "devices, pipes and sockets that stand in the manifest alone";
+
+/// What is said of names whose modes are not those of the image.
+const LENDERS: &str = "names without their set-user and set-group bits, which --owners sets";
+
+/// What is said of further names of files.
+const FURTHER: &str = "further names of files, which share the file only until an editor replaces \
+    it; a build reads the first name alone";
+
+/// What is said of further names that are files of their own.
+const COPIES: &str = "further names that are copies here, since this file system makes no further \
+    names; a build does not see what is changed in them";
+
 /// The bits of a mode that lend the rights of an owner or of a group.
 const LENDING: u32 = 0o6000;
 
@@ -48,16 +67,24 @@ enum Phase {
     Folders,
     Files,
     Links,
+    /// The rights of folders, once they are filled.
+    Rights,
 }
 
-/// What of an image stands in its manifest alone.
+/// What is to be said in words of what was made.
 #[derive(Clone, Copy, Default)]
-struct LeftOut {
+struct Counts {
+    /// Names of nodes that stand in the manifest alone.
     specials: u64,
+    /// Names that lend rights in the image.
     lending: u64,
+    /// Further names of files that were made.
+    further: u64,
+    /// Further names that were made as files of their own.
+    copies: u64,
 }
 
-impl LeftOut {
+impl Counts {
     /// Counts a name of a node.
     fn count(&mut self, stat: Stat) {
         if !is_made(stat.kind) {
@@ -68,20 +95,12 @@ impl LeftOut {
     }
 }
 
-/// A folder that was made, and the rights that it gets once it is filled.
-#[derive(Drop)]
-struct Folder {
-    place: String,
-    rights: Rights,
-}
-
 /// What is noted while names are gone through.
-#[derive(Drop)]
+#[derive(Clone, Copy)]
 struct Notes {
     /// The rights of the image's root.
     root: Rights,
-    folders: Vec<Folder>,
-    left_out: LeftOut,
+    counts: Counts,
 }
 
 /// An image and its names, and the folder that it is taken apart into, without slashes at its end.
@@ -89,12 +108,14 @@ struct Notes {
 struct Extraction<'a> {
     teller: &'a Teller<'a>,
     image: &'a AnyImage<'a>,
-    members: &'a [Member],
+    members: &'a [Member<'a>],
     folder: &'a str,
     owners: bool,
+    /// The bits of a mode that the process takes from what it makes.
+    masked: u32,
 }
 
-impl Extraction<'_> {
+impl<'a> Extraction<'a> {
     /// The rights of what is made of a node.
     fn rights(&self, stat: Stat) -> Rights {
         if self.owners {
@@ -105,29 +126,45 @@ impl Extraction<'_> {
             }
         } else {
             Rights {
-                mode: stat.mode & !LENDING,
+                mode: stat.mode & !LENDING & !self.masked,
                 owner: None,
             }
         }
     }
 
-    /// Where what has this name is made.
-    fn place(&self, member: &Member) -> io::Result<String> {
-        let Ok(path) = str::from_utf8(&member.path) else {
-            return Err(io::Error::new(io::ErrorKind::InvalidFilename, NO_TEXT));
-        };
-        Ok(format!(in self.teller.rt.alloc(); "{}{path}", self.folder)?)
+    /// The path of the name at an index, behind the folder's.
+    fn named(&self, index: usize) -> Result<Vec<u8>, AllocError>
+        requires names { AreMembers (any_view self.now.image.now) self.now.members.now }
+        requires within { index < length self.now.members.now }
+    {
+        let mut path: ArrayVec<u8, PATH_MAX> = ArrayVec::new();
+        path_of(self.members, index, &mut path);
+        let mut name = Vec::new(self.teller.rt.alloc());
+        name.extend_from_slice(self.folder.as_bytes())?;
+        name.extend_from_slice(path.as_slice())?;
+        Ok(name)
     }
 
-    /// Says why nothing can be, or could be, made of a name.
-    fn refused(&self, member: &Member, e: &io::Error) -> Status {
-        let mut name = Vec::new(self.teller.rt.alloc());
-        if name.extend_from_slice(self.folder.as_bytes()).is_err()
-            || name.extend_from_slice(&member.path).is_err()
-        {
-            return self.teller.say(Failure::Memory);
+    /// Where what has the name at an index is made.
+    fn place(&self, index: usize) -> io::Result<String>
+        requires names { AreMembers (any_view self.now.image.now) self.now.members.now }
+        requires within { index < length self.now.members.now }
+    {
+        match String::from_utf8(self.named(index)?) {
+            Ok(place) => Ok(place),
+            Err(_) => Err(io::Error::new(io::ErrorKind::InvalidFilename, NO_TEXT)),
         }
-        self.teller.refused(&name, e)
+    }
+
+    /// Says why nothing can be, or could be, made of the name at an index.
+    fn refused(&self, index: usize, e: &io::Error) -> Status
+        requires names { AreMembers (any_view self.now.image.now) self.now.members.now }
+        requires within { index < length self.now.members.now }
+    {
+        match self.named(index) {
+            Ok(name) => self.teller.refused(&name, e),
+            Err(_) => self.teller.say(Failure::Memory),
+        }
     }
 
     /// The text of a link.
@@ -147,43 +184,56 @@ impl Extraction<'_> {
         Ok(text)
     }
 
-    /// Whether the system takes a name, and a link's text.
-    fn try_name(&self, member: &Member, stat: Stat) -> io::Result<()>
-        requires { HasNode (any_view self.now.image.now) member.now.node.0 }
+    /// Whether the system takes the name at an index, and a link's text.
+    fn try_name(&self, index: usize, node: NodeId, stat: Stat) -> io::Result<()>
+        requires node { HasNode (any_view self.now.image.now) node.0 }
+        requires names { AreMembers (any_view self.now.image.now) self.now.members.now }
+        requires within { index < length self.now.members.now }
     {
         if !is_made(stat.kind) {
             return Ok(());
         }
-        let place = self.place(member)?;
+        let place = self.place(index)?;
         let longest = place.split('/').map(str::len).max().unwrap_or(0);
         if longest > LONGEST_NAME || place.len() > LONGEST_PATH {
             return Err(io::Error::new(io::ErrorKind::InvalidFilename, NAME_UNFIT));
         }
         if stat.kind == Kind::Symlink {
-            self.text(member.node)?;
+            self.text(node)?;
         }
         Ok(())
     }
 
-    /// Makes a folder.
-    fn make_folder(&self, member: &Member, stat: Stat, notes: &mut Notes) -> io::Result<()> {
-        let place = self.place(member)?;
-        let rights = self.rights(stat);
-        if is_root(member) {
-            notes.root = rights;
+    /// Makes a folder into which nobody else may look; the root's is there.
+    fn make_folder(&self, index: usize, stat: Stat, notes: &mut Notes) -> io::Result<()>
+        requires names { AreMembers (any_view self.now.image.now) self.now.members.now }
+        requires within { index < length self.now.members.now }
+    {
+        if index == 0 {
+            notes.root = self.rights(stat);
             return Ok(());
         }
-        new_folder(self.teller.rt, &place)?;
-        notes.folders.push(Folder { place, rights })?;
-        Ok(())
+        new_folder(self.teller.rt, &self.place(index)?)
     }
 
-    /// Makes a file of a node's bytes.
+    /// Gives a folder that is filled its rights; the root's gets them last.
+    fn finish_folder(&self, index: usize, stat: Stat) -> io::Result<()>
+        requires names { AreMembers (any_view self.now.image.now) self.now.members.now }
+        requires within { index < length self.now.members.now }
+    {
+        if index == 0 {
+            return Ok(());
+        }
+        set_folder(self.teller.rt, &self.place(index)?, self.rights(stat))
+    }
+
+    /// Makes a file of a node's bytes. What is written goes through one descriptor, which is closed
+    /// once the disk has taken all.
     fn write_file(&self, place: &str, stat: Stat, node: NodeId) -> io::Result<()>
         requires { HasNode (any_view self.now.image.now) node.0 }
     {
         let file = new_file(self.teller.rt, place)?;
-        let mut out = Plain::new(Remembering::new(Again::new(file.try_clone()?)));
+        let mut out = Plain::new(Remembering::new(Again::new(&file)));
         let copied = cat(self.image, node, &mut out);
         if let Some(e) = out.into_inner().error() {
             return Err(e);
@@ -191,59 +241,76 @@ impl Extraction<'_> {
         if copied.is_err() {
             return Err(io::Error::new(io::ErrorKind::WriteZero, FILE_NOT_TAKEN));
         }
-        self.rights(stat).give(&file)
+        finish_file(&file, self.rights(stat))
     }
 
     /// Makes a further name of a file that was made, where the system lets it, and says whether it did.
-    fn make_again(&self, first: usize, place: &str) -> io::Result<bool> {
-        let Some(first) = self.members.get(first) else {
+    fn make_again(&self, first: usize, place: &str) -> io::Result<bool>
+        requires names { AreMembers (any_view self.now.image.now) self.now.members.now }
+    {
+        if first >= self.members.len() {
             return Ok(false);
-        };
-        match fs::hard_link(self.teller.rt, &self.place(first)?, place) {
-            Ok(()) => Ok(true),
-            Err(e) if e.kind() == io::ErrorKind::AlreadyExists => Err(e),
-            Err(_) => Ok(false),
         }
+        new_name(self.teller.rt, &self.place(first)?, place)
     }
 
     /// Makes a file. A further name of a file that was made leads to the same file; where the system
     /// makes no such names, to a file of its own.
-    fn make_file(&self, member: &Member, stat: Stat) -> io::Result<()>
-        requires { HasNode (any_view self.now.image.now) member.now.node.0 }
+    fn make_file(
+        &self,
+        index: usize,
+        member: Member<'a>,
+        stat: Stat,
+        notes: &mut Notes,
+    ) -> io::Result<()>
+        requires node { HasNode (any_view self.now.image.now) member.node.0 }
+        requires names { AreMembers (any_view self.now.image.now) self.now.members.now }
+        requires within { index < length self.now.members.now }
     {
-        let place = self.place(member)?;
-        if let Some(first) = member.first
-            && self.make_again(first, &place)?
-        {
-            return Ok(());
+        let place = self.place(index)?;
+        if let Some(first) = member.first {
+            if self.make_again(first, &place)? {
+                notes.counts.further = notes.counts.further.saturating_add(1);
+                return Ok(());
+            }
+            notes.counts.copies = notes.counts.copies.saturating_add(1);
         }
         self.write_file(&place, stat, member.node)
     }
 
     /// Makes a symbolic link.
-    fn make_link(&self, member: &Member, stat: Stat) -> io::Result<()>
-        requires { HasNode (any_view self.now.image.now) member.now.node.0 }
+    fn make_link(&self, index: usize, node: NodeId, stat: Stat) -> io::Result<()>
+        requires node { HasNode (any_view self.now.image.now) node.0 }
+        requires names { AreMembers (any_view self.now.image.now) self.now.members.now }
+        requires within { index < length self.now.members.now }
     {
-        let text = self.text(member.node)?;
+        let text = self.text(node)?;
         let owner = self.rights(stat).owner;
-        new_link(self.teller.rt, &text, &self.place(member)?, owner)
+        new_link(self.teller.rt, &text, &self.place(index)?, owner)
     }
 
-    /// Does for a name what comes at this time.
-    fn make(&self, phase: Phase, member: &Member, notes: &mut Notes) -> io::Result<()>
-        requires { HasNode (any_view self.now.image.now) member.now.node.0 }
+    /// Does for the name at an index what comes at this time.
+    fn make(
+        &self,
+        phase: Phase,
+        index: usize,
+        member: Member<'a>,
+        notes: &mut Notes,
+    ) -> io::Result<()>
+        requires node { HasNode (any_view self.now.image.now) member.node.0 }
+        requires names { AreMembers (any_view self.now.image.now) self.now.members.now }
+        requires within { index < length self.now.members.now }
     {
         let stat = self.image.stat(member.node);
-        match phase {
-            Phase::Names => {
-                notes.left_out.count(stat);
-                self.try_name(member, stat)
+        match (phase, stat.kind) {
+            (Phase::Names, _) => {
+                notes.counts.count(stat);
+                self.try_name(index, member.node, stat)
             }
-            Phase::Folders if stat.kind == Kind::Directory => {
-                self.make_folder(member, stat, notes)
-            }
-            Phase::Files if stat.kind == Kind::Regular => self.make_file(member, stat),
-            Phase::Links if stat.kind == Kind::Symlink => self.make_link(member, stat),
+            (Phase::Folders, Kind::Directory) => self.make_folder(index, stat, notes),
+            (Phase::Files, Kind::Regular) => self.make_file(index, member, stat, notes),
+            (Phase::Links, Kind::Symlink) => self.make_link(index, member.node, stat),
+            (Phase::Rights, Kind::Directory) => self.finish_folder(index, stat),
             _ => Ok(()),
         }
     }
@@ -252,19 +319,21 @@ impl Extraction<'_> {
     fn make_all(&self, phase: Phase, notes: &mut Notes) -> Result<(), Status>
         requires { AreMembers (any_view self.now.image.now) self.now.members.now }
     {
-        for member in self.members {
-            if let Err(e) = self.make(phase, member, notes) {
-                return Err(self.refused(member, &e));
+        for index in 0..self.members.len() {
+            if let Err(e) = self.make(phase, index, self.members[index], notes) {
+                return Err(self.refused(index, &e));
             }
         }
         Ok(())
     }
 
     /// Gives the folders their rights, what a folder holds before it.
-    fn set_folders(&self, folders: &[Folder]) -> Result<(), Status> {
-        for folder in folders.iter().rev() {
-            if let Err(e) = set_folder(self.teller.rt, &folder.place, folder.rights) {
-                return Err(self.teller.refused(folder.place.as_bytes(), &e));
+    fn finish_all(&self, notes: &mut Notes) -> Result<(), Status>
+        requires { AreMembers (any_view self.now.image.now) self.now.members.now }
+    {
+        for index in (0..self.members.len()).rev() {
+            if let Err(e) = self.make(Phase::Rights, index, self.members[index], notes) {
+                return Err(self.refused(index, &e));
             }
         }
         Ok(())
@@ -277,60 +346,65 @@ impl Extraction<'_> {
         self.make_all(Phase::Folders, notes)?;
         self.make_all(Phase::Files, notes)?;
         self.make_all(Phase::Links, notes)?;
-        self.set_folders(&notes.folders)
+        self.finish_all(notes)
+    }
+
+    /// Fills the folder of this name, which is open, and hands it to the disk.
+    fn complete(&self, folder: &str, top: Top, notes: &mut Notes) -> Result<(), Status>
+        requires { AreMembers (any_view self.now.image.now) self.now.members.now }
+    {
+        self.fill(notes)?;
+        match top.end(self.teller.rt, folder, notes.root) {
+            Ok(()) => Ok(()),
+            Err(e) => Err(self.teller.refused(folder.as_bytes(), &e)),
+        }
     }
 
     /// Makes everything in the folder of this name. Nothing is made where the system does not take a
     /// name of the image.
-    fn run(&self, folder: &str) -> Result<LeftOut, Status>
+    fn run(&self, folder: &str) -> Result<Counts, Status>
         requires { AreMembers (any_view self.now.image.now) self.now.members.now }
     {
         let (rt, teller) = (self.teller.rt, self.teller);
         let mut notes = Notes {
             root: USUAL,
-            folders: Vec::new(rt.alloc()),
-            left_out: LeftOut::default(),
+            counts: Counts::default(),
         };
         self.make_all(Phase::Names, &mut notes)?;
         let top = match Top::open(rt, folder) {
             Ok(top) => top,
             Err(e) => return Err(teller.refused(folder.as_bytes(), &e)),
         };
-        let filled = self.fill(&mut notes);
-        match top.end(notes.root) {
-            Err(e) if filled.is_ok() => Err(teller.refused(folder.as_bytes(), &e)),
-            _ => {
-                filled?;
-                Ok(notes.left_out)
+        let filling = Extraction {
+            masked: top.masked(),
+            ..*self
+        };
+        match filling.complete(folder, top, &mut notes) {
+            Ok(()) => Ok(notes.counts),
+            Err(status) => {
+                teller.explain(folder.as_bytes(), &INCOMPLETE);
+                Err(status)
             }
         }
     }
 
-    /// Says in words what stands in the manifest alone.
-    fn explain(&self, left_out: LeftOut) {
+    /// Says in words what the folder has not as the image has it.
+    fn explain(&self, counts: Counts) {
         if self.teller.is_explained() {
-            let _ = self.try_explain(left_out);
+            self.explain_one(counts.specials, SPECIALS);
+            self.explain_one(if self.owners { 0 } else { counts.lending }, LENDERS);
+            self.explain_one(counts.further, FURTHER);
+            self.explain_one(counts.copies, COPIES);
         }
     }
 
-    fn try_explain(&self, left_out: LeftOut) -> Result<(), AllocError> {
-        let alloc = self.teller.rt.alloc();
-        let folder = self.folder.as_bytes();
-        if left_out.specials > 0 {
-            let count = left_out.specials;
-            let what = format!(in alloc;
-                "devices, pipes and sockets that stand in the manifest alone: {count}"
-            )?;
-            self.teller.explain(folder, &what);
+    /// Says in words of how many names this is so, if there are some.
+    fn explain_one(&self, count: u64, what: &str) {
+        if count > 0
+            && let Ok(what) = format!(in self.teller.rt.alloc(); "{what}: {count}")
+        {
+            self.teller.explain(self.folder.as_bytes(), &what);
         }
-        if left_out.lending > 0 && !self.owners {
-            let count = left_out.lending;
-            let what = format!(in alloc;
-                "names without their set-user and set-group bits, which --owners sets: {count}"
-            )?;
-            self.teller.explain(folder, &what);
-        }
-        Ok(())
     }
 }
 
@@ -339,18 +413,13 @@ fn is_made(kind: Kind) -> bool {
     matches!(kind, Kind::Directory | Kind::Regular | Kind::Symlink)
 }
 
-/// Whether it is the name of the image's root.
-fn is_root(member: &Member) -> bool {
-    member.path.as_slice() == b"/".as_slice()
-}
-
 /// Whether the system takes a text as that of a link.
 fn is_link_text(text: &str) -> bool {
     !text.is_empty() && text.len() <= LONGEST_PATH && !text.as_bytes().contains(&0)
 }
 
 /// Prints the manifest of an image, whose files are in this folder.
-fn print(teller: &Teller<'_>, image: &AnyImage<'_>, members: &[Member], folder: &str) -> Status
+fn print(teller: &Teller<'_>, image: &AnyImage<'_>, members: &[Member<'_>], folder: &str) -> Status
     requires { AreMembers (any_view image.now) members.now }
 {
     let Ok(out) = BufWriter::new(teller.rt.alloc(), Again::new(io::writer(teller.rt))) else {
@@ -368,7 +437,7 @@ fn print(teller: &Teller<'_>, image: &AnyImage<'_>, members: &[Member], folder: 
 fn take_apart<'a>(
     teller: &'a Teller<'a>,
     image: &'a AnyImage<'a>,
-    members: &'a [Member],
+    members: &'a [Member<'a>],
     asked: Extract<'a>,
 ) -> Status
     requires { AreMembers (any_view image.now) members.now }
@@ -380,10 +449,11 @@ fn take_apart<'a>(
         members,
         folder,
         owners: asked.owners,
+        masked: 0,
     };
     match extraction.run(asked.folder) {
-        Ok(left_out) => {
-            extraction.explain(left_out);
+        Ok(counts) => {
+            extraction.explain(counts);
             print(teller, image, members, folder)
         }
         Err(status) => status,

@@ -5,6 +5,7 @@ use rom_commands::Status;
 use sentences::reasons::{FOLDER_CHANGED, FOREIGN_NAME, NO_FOLDER};
 use std::fs::{self, Metadata};
 use std::io;
+use std::os::unix::fs::MetadataExt;
 
 /// A folder without the slashes at its end, before which the names of what it holds are put.
 pub fn base(folder: &str) -> &str {
@@ -18,6 +19,30 @@ pub fn refused_entry(teller: &Teller<'_>, folder: &str, e: &io::Error) -> Status
         teller.failed(folder.as_bytes(), &FOREIGN_NAME)
     } else {
         teller.refused(folder.as_bytes(), e)
+    }
+}
+
+/// The folders that a scan looks into: all, or those of one file system.
+#[derive(Clone, Copy)]
+pub struct Reach {
+    device: Option<u64>,
+}
+
+impl Reach {
+    /// Of a scan of the folder of which the system says this.
+    pub fn of(top: &Metadata, one_file_system: bool) -> Reach {
+        Reach {
+            device: if one_file_system {
+                Some(top.dev())
+            } else {
+                None
+            },
+        }
+    }
+
+    /// Whether the folder of which the system says this is looked into.
+    pub fn has(&self, folder: &Metadata) -> bool {
+        self.device.is_none_or(|device| device == folder.dev())
     }
 }
 

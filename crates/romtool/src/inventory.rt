@@ -1,5 +1,5 @@
 //! A folder as it is, as a manifest.
-use crate::folders::{self, Folder, all_stayed, base, refused_entry};
+use crate::folders::{self, Folder, Reach, all_stayed, base, refused_entry};
 use crate::streams::Again;
 use crate::teller::Teller;
 use build_commands::inventory::{Device, FileKind, Inode, NamedFile, Wishes, lines, put_found};
@@ -53,13 +53,14 @@ struct Below {
     found: Vec<NamedFile>,
     waiting: Vec<Folder>,
     seen: Vec<Folder>,
+    reach: Reach,
 }
 
 impl Below {
     /// Adds the file at a place, of which the system says this.
     fn add(&mut self, rt: &HostRuntime, place: String, told: &Metadata) -> io::Result<()> {
         let kind = kind_of(rt, &place, told)?;
-        if matches!(kind, FileKind::Directory) {
+        if matches!(kind, FileKind::Directory) && self.reach.has(told) {
             self.waiting.push(Folder::new(rt, &place, told)?)?;
         }
         self.found.push(NamedFile {
@@ -119,22 +120,24 @@ impl Below {
 }
 
 /// The folder that is scanned, as the first that is found.
-fn top(rt: &HostRuntime, folder: &str) -> io::Result<Below> {
+fn top(rt: &HostRuntime, scan: ScanAll<'_>) -> io::Result<Below> {
+    let told = folders::top(rt, scan.folder)?;
     let mut below = Below {
         found: Vec::new(rt.alloc()),
         waiting: Vec::new(rt.alloc()),
         seen: Vec::new(rt.alloc()),
+        reach: Reach::of(&told, scan.one_file_system),
     };
-    let told = folders::top(rt, folder)?;
-    below.add(rt, String::from_str(rt.alloc(), base(folder))?, &told)?;
+    below.add(rt, String::from_str(rt.alloc(), base(scan.folder))?, &told)?;
     Ok(below)
 }
 
 /// A folder and all that is below it, in the order of the bytes of paths, so that a folder comes
 /// before what it holds. What cannot be looked at is named, and so is a folder that changed before
 /// all were looked into; what has no text as its name is the fault of its folder.
-fn all_below(teller: &Teller<'_>, folder: &str) -> Result<Vec<NamedFile>, Status> {
-    let mut below = match top(teller.rt, folder) {
+fn all_below(teller: &Teller<'_>, scan: ScanAll<'_>) -> Result<Vec<NamedFile>, Status> {
+    let folder = scan.folder;
+    let mut below = match top(teller.rt, scan) {
         Ok(below) => below,
         Err(e) => return Err(teller.refused(folder.as_bytes(), &e)),
     };
@@ -158,7 +161,7 @@ fn all_below(teller: &Teller<'_>, folder: &str) -> Result<Vec<NamedFile>, Status
 /// Prints a manifest of a folder as it is, and says how the command ended. Nothing is printed where
 /// something below it cannot be looked at.
 pub fn run(teller: &Teller<'_>, scan: ScanAll<'_>) -> Status {
-    let found = match all_below(teller, scan.folder) {
+    let found = match all_below(teller, scan) {
         Ok(found) => found,
         Err(status) => return status,
     };

@@ -66,7 +66,7 @@ fn done(teller: &Teller<'_>, request: Request<'_>) -> Status {
         Request::Serve(image) => serve(teller, image),
         Request::Space(images) => space(teller, images.as_slice()),
         Request::Build(build) => building::run(teller, build),
-        Request::Scan(folder) => scanning::run(teller, folder),
+        Request::Scan(scan) => scanning::run(teller, scan),
         Request::ScanAll(scan) => inventory::run(teller, scan),
         Request::Extract(extract) => take_apart(teller, extract),
     }

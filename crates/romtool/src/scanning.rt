@@ -1,8 +1,9 @@
 //! A folder as a manifest.
-use crate::folders::{self, Folder, all_stayed, base, refused_entry};
+use crate::folders::{self, Folder, Reach, all_stayed, base, refused_entry};
 use crate::streams::Again;
 use crate::teller::Teller;
 use build_commands::{Found, put_scan};
+use command_line::Scan;
 use rom_commands::{Failure, Status};
 use rom_fields::{Failed, Plain};
 use std::alloc::AllocError;
@@ -69,6 +70,7 @@ struct Below {
     waiting: Vec<Folder>,
     seen: Vec<Folder>,
     passed: PassedOver,
+    reach: Reach,
 }
 
 impl Below {
@@ -76,7 +78,7 @@ impl Below {
     fn add(&mut self, rt: &HostRuntime, entry: &DirEntry, place: String) -> io::Result<()> {
         let told = entry.metadata()?;
         let is_folder = told.is_dir();
-        if is_folder {
+        if is_folder && self.reach.has(&told) {
             self.waiting.push(Folder::new(rt, &place, &told)?)?;
         }
         if is_folder || told.is_file() {
@@ -126,22 +128,25 @@ impl Below {
 }
 
 /// The folder that is scanned, as the first that is to be looked into.
-fn top(rt: &HostRuntime, folder: &str) -> io::Result<Below> {
+fn top(rt: &HostRuntime, scan: Scan<'_>) -> io::Result<Below> {
+    let told = folders::top(rt, scan.folder)?;
     let mut waiting = Vec::new(rt.alloc());
-    waiting.push(Folder::new(rt, base(folder), &folders::top(rt, folder)?)?)?;
+    waiting.push(Folder::new(rt, base(scan.folder), &told)?)?;
     Ok(Below {
         found: Vec::new(rt.alloc()),
         waiting,
         seen: Vec::new(rt.alloc()),
         passed: PassedOver::default(),
+        reach: Reach::of(&told, scan.one_file_system),
     })
 }
 
 /// All that is below a folder, a folder before what it holds, in the order of the bytes of paths.
 /// What cannot be looked at is named, and so is a folder that changed before all were looked into;
 /// what has no text as its name is the fault of its folder.
-fn all_below(teller: &Teller<'_>, folder: &str) -> Result<Below, Status> {
-    let mut below = match top(teller.rt, folder) {
+fn all_below(teller: &Teller<'_>, scan: Scan<'_>) -> Result<Below, Status> {
+    let folder = scan.folder;
+    let mut below = match top(teller.rt, scan) {
         Ok(below) => below,
         Err(e) => return Err(teller.refused(folder.as_bytes(), &e)),
     };
@@ -163,8 +168,9 @@ fn all_below(teller: &Teller<'_>, folder: &str) -> Result<Below, Status> {
 
 /// Prints a manifest of the regular files and the folders below a folder, and says how the command
 /// ended. Nothing is printed where one of the folders cannot be listed.
-pub fn run(teller: &Teller<'_>, folder: &str) -> Status {
-    let below = match all_below(teller, folder) {
+pub fn run(teller: &Teller<'_>, scan: Scan<'_>) -> Status {
+    let folder = scan.folder;
+    let below = match all_below(teller, scan) {
         Ok(below) => below,
         Err(status) => return status,
     };

@@ -70,16 +70,26 @@ impl Stamp {
         self.len
     }
 
-    /// Whether its last change is so near to `now`, a time since 1970, that a later one may have
-    /// the same time.
-    fn is_fresh(&self, now: Duration) -> bool {
-        let Ok(seconds) = u64::try_from(self.changed.seconds) else {
-            return false;
-        };
+    /// When its last change was, as a time since 1970.
+    fn changed(&self) -> Option<Duration> {
+        let seconds = u64::try_from(self.changed.seconds).ok()?;
         let nanoseconds = u64::try_from(self.changed.nanoseconds).unwrap_or(0);
-        let part = Duration::from_nanos(nanoseconds);
-        let changed = Duration::from_secs(seconds).saturating_add(part);
-        now <= changed.saturating_add(Duration::from_millis(LAG))
+        Some(Duration::from_secs(seconds).saturating_add(Duration::from_nanos(nanoseconds)))
+    }
+
+    /// How long it is to rest from `now`, a time since 1970, on, until no later change has the time of
+    /// its last one: nothing where that one lies further off than a clock may lag, on either side.
+    fn rest(&self, now: Duration) -> Option<Duration> {
+        let changed = self.changed()?;
+        let lag = Duration::from_millis(LAG);
+        let end = changed.saturating_add(lag);
+        if end < now || now.saturating_add(lag) < changed {
+            return None;
+        }
+        Some(
+            end.saturating_sub(now)
+                .saturating_add(Duration::from_millis(1)),
+        )
     }
 }
 
@@ -135,7 +145,8 @@ pub fn let_rest(rt: &HostRuntime, stamps: &[Stamp]) {
     let Ok(now) = rt.since_1970() else {
         return;
     };
-    if stamps.iter().any(|stamp| stamp.is_fresh(now)) {
-        thread::sleep(rt, Duration::from_millis(LAG));
+    let rests = stamps.iter().filter_map(|stamp| stamp.rest(now));
+    if let Some(longest) = rests.max() {
+        thread::sleep(rt, longest);
     }
 }

@@ -66,6 +66,12 @@ pub const MISREAD: &str = "it is sound, and Linux gets wrong what the lines say:
 /// A folder that is to be filled holds something.
 pub const NOT_EMPTY: &str = "it is not empty";
 
+/// A folder that is to be filled is one that its owner could change meanwhile.
+pub const OF_ANOTHER_USER: &str = "it is owned by another user, who could change what is made in it";
+
+/// What was being filled has only a part.
+pub const INCOMPLETE: &str = "it is incomplete: what was made in it is left there";
+
 /// A name of an image is longer than the system takes.
 pub const NAME_UNFIT: &str = "a name has at most 255 bytes here, and a whole path 4095";
 

@@ -1,15 +1,15 @@
-use Rattle.std.proofs.Common.{codes, [], ◌∷◌, ap, ◌∙◌}
-use Rattle.clap.specs.Words.{Rule, Shape}
-use Rattle.command_line.specs.Commands.{flag_rule, option_rule, shape_with, value_rule}
-use Rattle.command_line.proofs.Rows.{with_arg, with_last_arg}
+use Rattle.std.proofs.Common.{◌≡◌, codes, false, [], ◌∷◌, ◌++◌, Result, Ok, Err, ap, ap₂, ◌∙◌}
+use Rattle.std.specs.Prelude.{IfOk}
+use Rattle.clap.specs.Words.{AddsArg, App, Rule, Shape, rule_of, shape_of}
+use Rattle.clap.specs.declared.builder.arg.Arg.{Arg}
+use Rattle.clap.specs.declared.builder.command.Command.{Command}
+use Rattle.command_line.specs.Commands.{IsShaped, flag_rule, unbounded_shape}
 use Rattle.command_line.proofs.commands.with_scan.Goals as goal
 
+with_last_rule : {E : Type 0} (old : Command) (arg : Arg) (r : Result Command E) (s : Shape) (rule : Rule) → IfOk r (AddsArg old arg) → shape_of old ≡ s
+    → rule_of arg ≡ rule → arg.global ≡ false → IfOk r (IsShaped (record s { rules = s.rules ++ rule ∷ [] }))
+with_last_rule old arg (Ok new) s rule h e k l = ap (λ (a : App). a.top) (h.shape l) ∙ ap₂ (λ (x : Shape) (q : Rule). record x { rules = x.rules ++ q ∷ [] }) e k
+with_last_rule old arg (Err _) s rule h e k l = tt
+
 pub returns : goal.returns
-returns c =
-    let folder_shape : Shape = shape_with (codes "scan") (value_rule (codes "folder") ∷ []) in
-    let all_shape : Shape = shape_with (codes "scan") (value_rule (codes "folder") ∷ flag_rule (codes "all") ∷ []) in
-    let for_shape : Shape = shape_with (codes "scan") (value_rule (codes "folder") ∷ flag_rule (codes "all") ∷ option_rule (codes "for") ∷ []) in
-    let folder = c.in_ok-command.ensures ∙ ap (λ (r : Rule). shape_with (codes "scan") (r ∷ [])) c.value-folder.ensures.rule in
-    let all = with_arg _ c.flag-all.result _ folder_shape (flag_rule (codes "all")) c.in_ok-command-2.ensures folder c.flag-all.ensures.rule c.flag-all.ensures.local in
-    let for = with_arg _ c.option.result _ all_shape (option_rule (codes "for")) c.in_ok-command-3.ensures all c.option.ensures.rule c.option.ensures.local in
-    with_last_arg _ c.option-2.result _ for_shape (option_rule (codes "align")) c.arg-3.ensures for c.option-2.ensures.rule c.option-2.ensures.local
+returns c = with_last_rule c.in_ok-command.command c.flag.result _ unbounded_shape (flag_rule (codes "one-file-system")) c.arg.ensures c.in_ok-command.ensures c.flag.ensures.rule c.flag.ensures.local
