@@ -69,13 +69,7 @@ fn format_name(image: &AnyImage) -> &'static [u8]
 {
     match image {
         AnyImage::Romfs(_) => b"romfs",
-        AnyImage::Cramfs(image) => {
-            if image.big() {
-                b"cramfs-be"
-            } else {
-                b"cramfs"
-            }
-        }
+        AnyImage::Cramfs(image) => { if image.big() { b"cramfs-be" } else { b"cramfs" } }
     }
 }
 

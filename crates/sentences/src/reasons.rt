@@ -36,7 +36,8 @@ pub const FOLDER_CHANGED: &str = "it changed while it was scanned";
 pub const OWN_INPUT: &str = "the image would replace its own manifest or source";
 
 /// The image's name is that of standard output.
-pub const OWN_OUTPUT: &str = "it is standard output, and the line ok LENGTH would get into the image";
+pub const OWN_OUTPUT: &str =
+    "it is standard output, and the line ok LENGTH would get into the image";
 
 /// A source is a symbolic link, and none is followed.
 pub const SOURCE_LINK: &str = "it is a symbolic link, and --no-follow refuses these";
@@ -67,7 +68,8 @@ pub const MISREAD: &str = "it is sound, and Linux gets wrong what the lines say:
 pub const NOT_EMPTY: &str = "it is not empty";
 
 /// A folder that is to be filled is one that its owner could change meanwhile.
-pub const OF_ANOTHER_USER: &str = "it is owned by another user, who could change what is made in it";
+pub const OF_ANOTHER_USER: &str =
+    "it is owned by another user, who could change what is made in it";
 
 /// What was being filled has only a part.
 pub const INCOMPLETE: &str = "it is incomplete: what was made in it is left there";
