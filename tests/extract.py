@@ -678,6 +678,21 @@ def disks_that_fail_at_close(binary):
         server.wait(timeout=10)
 
 
+def many_times_the_image(binary):
+    """Files that are many times longer than the image are told beforehand in words, and made."""
+    lines = ["file /a 0644 0 0 4 s"] + ["same /b%d 0644 0 0 /a" % number for number in range(59)]
+    build_image(binary, lines, "cramfs", [("s", b"x" * 100000)])
+    told = b"romtool: out: its files have 6000000 bytes, and the image %d\n" % os.path.getsize("image")
+    done = run(binary, "--explain", "extract", "image", "out")
+    if done.returncode or done.stderr != told or os.path.getsize("out/b58") != 100000:
+        yield "%s" % shortly(done)
+    clear_out()
+    build_image(binary, lines[:10], "cramfs")
+    done = run(binary, "--explain", "extract", "image", "out")
+    if done.returncode or done.stderr:
+        yield "10 of them: %s" % shortly(done)
+
+
 def memory_of_names(binary):
     """Taking an image apart needs at most 100 bytes a name more than checking it, however long the paths are."""
     count = 20000
@@ -714,6 +729,7 @@ TESTS = [
     images_that_no_manifest_tells, without_rights, owners, output_that_is_not_taken, each_call_failed,
     memory_refused, many_files, of_cases, links_refused, further_names_are_told, folders_of_another,
     modes_under_a_mask, interrupted, failure_is_told, disks_that_fail_at_close, memory_of_names,
+    many_times_the_image,
 ]  # fmt: skip
 
 

@@ -56,6 +56,9 @@ const FURTHER: &str = "further names of files, which share the file only until a
 const COPIES: &str = "further names that are copies here, since this file system makes no further \
     names; a build does not see what is changed in them";
 
+/// How many times longer than an image its files may be without a word.
+const MANY_TIMES: u64 = 16;
+
 /// The bits of a mode that lend the rights of an owner or of a group.
 const LENDING: u32 = 0o6000;
 
@@ -82,11 +85,16 @@ struct Counts {
     further: u64,
     /// Further names that were made as files of their own.
     copies: u64,
+    /// The bytes of all files, of those that share bytes, too.
+    bytes: u64,
 }
 
 impl Counts {
-    /// Counts a name of a node.
-    fn count(&mut self, stat: Stat) {
+    /// Counts a name of a node, and the bytes of a file by its first name.
+    fn count(&mut self, stat: Stat, is_first: bool) {
+        if is_first && stat.kind == Kind::Regular {
+            self.bytes = self.bytes.saturating_add(u64::from(stat.size));
+        }
         if !is_made(stat.kind) {
             self.specials = self.specials.saturating_add(1);
         } else if stat.kind != Kind::Symlink && stat.mode & LENDING != 0 {
@@ -304,7 +312,7 @@ impl<'a> Extraction<'a> {
         let stat = self.image.stat(member.node);
         match (phase, stat.kind) {
             (Phase::Names, _) => {
-                notes.counts.count(stat);
+                notes.counts.count(stat, member.first.is_none());
                 self.try_name(index, member.node, stat)
             }
             (Phase::Folders, Kind::Directory) => self.make_folder(index, stat, notes),
@@ -371,6 +379,7 @@ impl<'a> Extraction<'a> {
             counts: Counts::default(),
         };
         self.make_all(Phase::Names, &mut notes)?;
+        self.explain_bytes(notes.counts.bytes);
         let top = match Top::open(rt, folder) {
             Ok(top) => top,
             Err(e) => return Err(teller.refused(folder.as_bytes(), &e)),
@@ -395,6 +404,19 @@ impl<'a> Extraction<'a> {
             self.explain_one(if self.owners { 0 } else { counts.lending }, LENDERS);
             self.explain_one(counts.further, FURTHER);
             self.explain_one(counts.copies, COPIES);
+        }
+    }
+
+    /// Says in words how many bytes will be written, if they are many times those of the image.
+    fn explain_bytes(&self, bytes: u64) {
+        let len = self.image.bytes().len() as u64;
+        if self.teller.is_explained()
+            && bytes / MANY_TIMES > len
+            && let Ok(what) = format!(in self.teller.rt.alloc();
+                "its files have {bytes} bytes, and the image {len}"
+            )
+        {
+            self.teller.explain(self.folder.as_bytes(), &what);
         }
     }
 
