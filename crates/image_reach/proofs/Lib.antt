@@ -3,3 +3,4 @@ pub mod Romfs
 pub mod Cramfs
 pub mod Both
 pub mod Reached
+pub mod Refused

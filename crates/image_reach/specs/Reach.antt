@@ -1,8 +1,9 @@
 -- How far an image says that it goes, by the first 76 bytes of its file. (This project's own.)
-use Rattle.std.specs.Prelude.{◌≡◌, ℕ, ◌^◌, ◌<◌, ◌≤◌, max, if◌then◌else◌, List, length}
+use Rattle.std.specs.Prelude.{◌≡◌, ◌≢◌, ℕ, ◌^◌, ◌<◌, ◌≤◌, max, min, if◌then◌else◌, List, length, take}
 use Rattle.cramfs_format.specs.declared.order.Order.{Order}
 use Rattle.cramfs_format.specs.Superblock.{has_crc, order_of, size_word}
 use Rattle.image_check.specs.Checked.{BeginsRomfs, BeginsCramfs}
+use Rattle.rom_fields.specs.Words.{words_sum}
 use Rattle.romfs_format.specs.Tree.{full_size}
 
 -- the size that a cramfs image in this byte order states, but 76 at least; or 2^28, where it states none
@@ -15,3 +16,13 @@ pub data Reaches (head : List ℕ) (n : ℕ) : Type 0 where
   romfs : 76 ≤ length head → BeginsRomfs head → n ≡ max 76 (full_size head) → Reaches head n
   cramfs : 76 ≤ length head → BeginsCramfs head → n ≡ size_in (order_of head) head → Reaches head n
   neither : 76 ≤ length head → (BeginsRomfs head → ⊥) → (BeginsCramfs head → ⊥) → n ≡ 76 → Reaches head n
+
+-- The front of a file of len bytes, 512 of them or all, where it has fewer, begins a romfs image whose size the file has,
+-- and the words of the front, as far as the image goes, do not sum to 0.
+pub record IsSumRefused (front : List ℕ) (len : ℕ) : Type 0 where
+  pub long : 76 ≤ length front
+  pub begins : BeginsRomfs front
+  pub least : 32 ≤ full_size front
+  pub most : full_size front ≤ len
+  pub held : min 512 (full_size front) ≤ length front
+  pub sum : words_sum (take (min 512 (full_size front)) front) ≢ 0

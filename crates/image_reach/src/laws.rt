@@ -1,10 +1,12 @@
 //! A check of an image looks at no bytes behind those that its first 76 bytes tell.
-ghost use Rattle.std.specs.Prelude.{◌≡◌, ◌≤◌, ◌↔◌, ℕ, List, take};
+ghost use Rattle.std.specs.Prelude.{◌≡◌, ◌≤◌, ◌↔◌, ℕ, List, length, take};
 ghost use Rattle.cramfs_format.specs.Superblock.{order_of};
 ghost use Rattle.image_check.specs.Checked.{BeginsRomfs, BeginsCramfs, HasTree};
-ghost use Rattle.image_check.specs.Checked.{IsFaultless, IsLeastFaultUnder, Shows};
-ghost use Rattle.image_reach.specs.Reach.{Reaches};
+ghost use Rattle.image_check.specs.Checked.{IsFaultless, IsLeastFaultUnder, IsRefused, Shows};
+ghost use Rattle.image_reach.specs.Reach.{IsSumRefused, Reaches};
+ghost use Rattle.rom_faults.specs.FaultNumbers.{SUM};
 ghost use Rattle.rom_faults.specs.declared.error.CheckError.{CheckError};
+ghost use Rattle.rom_faults.specs.declared.error.CheckError.TheVariants.{Fault};
 ghost use Rattle.rom_tree.specs.Image.{Image};
 ghost use Rattle.rom_tree.specs.Tree.{Node};
 ghost use Rattle.rom_tree.specs.declared.types.Limits.{Limits};
@@ -35,4 +37,13 @@ pub fn no_further()
     ensures report { (all : List ℕ) (reach n : ℕ) (limits : Limits) (m w : Image) (report : Report)
         → Reaches (take 76 all) reach → reach ≤ n → m.bytes ≡ take n all → w.bytes ≡ all
         → m.tree ≡ w.tree → Shows (take n all) limits m report ↔ Shows all limits w report }
+{}
+
+/// What the first 512 bytes of a file refuse by their sum is what the whole file answers: it has no
+/// tree, and 5 Sum at 12 is its least fault.
+pub fn refused()
+    ensures tree { (all : List ℕ) (limits : Limits) → IsSumRefused (take 512 all) (length all)
+        → IsRefused all limits (Fault SUM 12) }
+    ensures fault { (all : List ℕ) (limits : Limits) → IsSumRefused (take 512 all) (length all)
+        → IsLeastFaultUnder all limits (Fault SUM 12) }
 {}

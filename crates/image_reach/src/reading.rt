@@ -1,17 +1,21 @@
 //! The size that an image states.
-ghost use Rattle.std.specs.Prelude.{◌≡◌, ◌≤◌, ◌↔◌, IsTrue, IfSome, IfNone, length, max};
+ghost use Rattle.std.specs.Prelude.{◌≡◌, ◌≢◌, ◌≤◌, ◌↔◌, IsTrue, IfSome, IfNone, length, max, min, take};
 ghost use Rattle.cramfs_format.specs.Superblock.{order_of};
 ghost use Rattle.image_check.specs.Checked.{BeginsRomfs, BeginsCramfs};
-ghost use Rattle.image_reach.specs.Reach.{Reaches, size_in};
+ghost use Rattle.image_reach.specs.Reach.{IsSumRefused, Reaches, size_in};
+ghost use Rattle.rom_fields.specs.Words.{words_sum};
 ghost use Rattle.romfs_format.specs.Tree.{full_size};
 
 use cramfs_format::Order;
 use cramfs_format::disk::{MAGIC as CRAMFS_MAGIC, MOST_BYTES};
-use rom_fields::be32;
+use rom_fields::{be32, word_sum};
 use romfs_format::disk::MAGIC as ROMFS_MAGIC;
 
 /// How many bytes at the front of a file say how far its image goes.
 pub const HEAD: usize = 76;
+
+/// How many bytes at the front of a file say whether the sum of a romfs image is right.
+pub const SUMMED: usize = 512;
 
 /// Whether the bytes begin as a romfs image does.
 fn begins_romfs(head: &[u8]) -> bool
@@ -38,13 +42,20 @@ fn order_in(head: &[u8]) -> Option<Order>
     None
 }
 
+/// The size that a romfs image states.
+fn stated(head: &[u8]) -> u32
+    requires { 76 ≤ length head.now }
+    ensures { result ≡ full_size head.now }
+{
+    be32(head, 8).unwrap_or(0)
+}
+
 /// The size that a romfs image states, but 76 at least.
 fn romfs_size(head: &[u8]) -> u64
     requires { 76 ≤ length head.now }
     ensures { result ≡ max 76 (full_size head.now) }
 {
-    let size = be32(head, 8).unwrap_or(0);
-    u64::from(size).max(HEAD as u64)
+    u64::from(stated(head)).max(HEAD as u64)
 }
 
 /// The size that a cramfs image in this byte order states, but 76 at least; or 2^28.
@@ -76,4 +87,27 @@ pub fn reach_of(head: &[u8]) -> u64
         return cramfs_size(order, head);
     }
     HEAD as u64
+}
+
+/// Whether the front holds all that the sum of a romfs image of this size is over, and the sum is
+/// wrong.
+fn is_sum_wrong(front: &[u8], size: u32) -> bool
+    ensures { IsTrue result ↔ ((min 512 size ≤ length front.now)
+        × (words_sum (take (min 512 size) front.now) ≢ 0)) }
+{
+    let summed = (size as usize).min(SUMMED);
+    summed <= front.len() && word_sum(&front[..summed]) != 0
+}
+
+/// Whether the first 512 bytes of a file of `len` bytes, or all, where it has fewer, refuse it: they
+/// begin a romfs image whose size the file has, and its sum is wrong. That is then the fault of the
+/// file (`laws::refused`), whatever stands behind them.
+pub fn is_sum_refused(front: &[u8], len: u64) -> bool
+    ensures { IsTrue result ↔ IsSumRefused front.now len }
+{
+    if front.len() < HEAD || !begins_romfs(front) {
+        return false;
+    }
+    let size = stated(front);
+    size >= 32 && u64::from(size) <= len && is_sum_wrong(front, size)
 }
