@@ -9,7 +9,7 @@ use Rattle.romfs_format.specs.Superblock.{accessible, HasSum, bad_sum}
 use Rattle.romfs_format.specs.Faults.{whole}
 use Rattle.romfs_format.specs.Tree.{full_size, RomfsTree}
 use Rattle.cramfs_format.specs.Tree.{CramfsTree}
-use Rattle.image_check.specs.Checked.{BeginsRomfs, HasTree, IsLeastFault, least_of_romfs}
+use Rattle.image_check.specs.Checked.{BeginsRomfs, HasTree, IsLeastFaultUnder, least_of_romfs}
 use Rattle.image_check.proofs.Formats.{apart}
 use Rattle.image_reach.specs.Reach.{IsSumRefused}
 use Rattle.image_reach.proofs.Fronts.{front_be, front_romfs}
@@ -39,7 +39,7 @@ no_tree all limits h t x =
       | inr r ↦ apart r.0 all begins r.1.super.begins
     ]
 
-pub least : (all : List ℕ) (limits : Limits) → IsSumRefused (take 512 all) (length all) → IsLeastFault all limits (Fault SUM 12)
+pub least : (all : List ℕ) (limits : Limits) → IsSumRefused (take 512 all) (length all) → IsLeastFaultUnder all limits (Fault SUM 12)
 least all limits h =
     let e = length-take 512 all in
     let l = h.long in

@@ -99,7 +99,7 @@ fn tell_fault<W: ByteWrite>(w: &mut W, number: u32, at: u32) -> Result<(), Faile
     w.flush()
 }
 
-/// EndsServed the lines of `r` from an image on `w`, through indices of its lists, and before them a
+/// Answers the lines of `r` from an image on `w`, through indices of its lists, and before them a
 /// cache of look-ups where there is memory for one. Directories of the image may lie 64 deep.
 fn answer_lines<'a, R: ByteRead, W: ByteWrite>(
     alloc: Global,
