@@ -8,15 +8,14 @@
 //! taken apart and built again has a tree like its own.
 #![tactic(auto)]
 
+pub mod naming;
+
 ghost use Rattle.std.specs.Prelude.{◌≡◌, ◌⊎◌, ◌*◌, ◌<◌, ◌≤◌, ℕ, List, Option, Some, Ok, false, length, map};
 ghost use Rattle.headline.specs.Headline.{IsServedUnder, IsMeantUnder, IsServedAsMeant, IsServedAsGiven, IsUnserved};
 ghost use Rattle.headline.specs.Lent.{AreOpenedWhole, IsMappedWhole, IsPieceOf, open_after};
 ghost use Rattle.image_build.specs.Builds.{Builds};
 ghost use Rattle.image_build.specs.Streamed.{HasNoCopies, IsPlanOfText, form_in, image_with, stored_in};
-ghost use Rattle.image_check.specs.Any.{any_view, report_of};
-ghost use Rattle.image_check.specs.Checked.{HasFormat, HasTree, IsFaultless, Shows};
-ghost use Rattle.image_check.specs.declared.any.AnyImage.{AnyImage};
-ghost use Rattle.image_info.specs.Volumes.{volume_of};
+ghost use Rattle.image_check.specs.Checked.{HasTree, IsFaultless};
 ghost use Rattle.image_manifest.specs.Lines.{member_lines};
 ghost use Rattle.image_manifest.specs.Sources.{file_contents};
 ghost use Rattle.image_manifest.specs.Tellable.{IsToldWhole};
@@ -48,7 +47,7 @@ ghost use Rattle.rom_tree.specs.declared.types.Limits.{Limits};
 /// if memory is refused; otherwise it is served as the tree that the manifest means. Under other
 /// limits it is served as that tree if it is served at all. In that image each file with the
 /// contents of a `file` line has its bytes in one run, from a multiple of that line's ALIGN on, and
-/// the volume has the manifest's name, which is the one that `image_info::volume` returns. So `open` of the line's path and then one `map` of the whole
+/// the volume has the manifest's name. So `open` of the line's path and then one `map` of the whole
 /// file give all its bytes, and their first place is a multiple of that ALIGN.
 pub fn headline()
     ensures accepted { (limits : Limits) (bytes : List ℕ) (r₀ r : Input) (w₀ w : Output)
@@ -74,10 +73,6 @@ pub fn headline()
         (m : ManifestLines) (image : Image) → Builds f text contents (Ok bytes)
         → manifest_of text ≡ Ok m → HasTree bytes usual_limits image.tree
         → AreOpenedWhole image m }
-    ensures volume { (limits : Limits) (f : Format) (text : List ℕ) (contents : List (List ℕ))
-        (bytes : List ℕ) (m : ManifestLines) (v : AnyImage) → Builds f text contents (Ok bytes)
-        → manifest_of text ≡ Ok m → Shows bytes limits (any_view v) (report_of v)
-        → HasFormat bytes v → volume_of v ≡ m.volume }
 {
     image_build::laws::built_is_accepted();
     image_build::laws::built_is_placed();

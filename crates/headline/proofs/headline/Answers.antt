@@ -1,6 +1,5 @@
 use Rattle.rom_commands.specs.Answers.{usual_limits}
 use Rattle.headline.proofs.OpenedWhole.{placed_opened}
-use Rattle.headline.proofs.Volumes.{volume_by}
 use Rattle.headline.proofs.Served.{accepted, built, built_under}
 use Rattle.headline.proofs.headline.Goals as goal
 
@@ -29,7 +28,3 @@ returns-clause-built_under c = λ limits f text contents bytes r₀ r w₀ w o b
 pub returns-clause-mapped : goal.returns-clause-mapped
 returns-clause-mapped c = λ f text contents bytes m image b e tree.
     placed_opened image m (c.built_is_placed.ensures.runs f text contents bytes m b e image.tree tree)
-
-pub returns-clause-volume : goal.returns-clause-volume
-returns-clause-volume c = λ limits f text contents bytes m v b e shows format.
-    volume_by f bytes m.volume limits b.3.tree v b.3.holds (c.built_is_placed.ensures.named f text contents bytes m b e) shows format

@@ -1,0 +1,22 @@
+//! The name of a built image's volume, as it is printed.
+ghost use Rattle.std.specs.Prelude.{◌≡◌, ℕ, List, Ok};
+ghost use Rattle.image_build.specs.Builds.{Builds};
+ghost use Rattle.image_check.specs.Any.{any_view, report_of};
+ghost use Rattle.image_check.specs.Checked.{HasFormat, Shows};
+ghost use Rattle.image_check.specs.declared.any.AnyImage.{AnyImage};
+ghost use Rattle.image_info.specs.Volumes.{volume_of};
+ghost use Rattle.manifest.specs.Grammar.{manifest_of};
+ghost use Rattle.manifest.specs.Lines.{ManifestLines};
+ghost use Rattle.manifest_layout.specs.Format.{Format};
+ghost use Rattle.rom_tree.specs.declared.types.Limits.{Limits};
+
+/// States that the name of a volume which `image_info::volume` returns, of what a check under any
+/// limits accepts of a built image, is the manifest's.
+pub fn built_is_named()
+    ensures { (limits : Limits) (f : Format) (text : List ℕ) (contents : List (List ℕ))
+        (bytes : List ℕ) (m : ManifestLines) (v : AnyImage) → Builds f text contents (Ok bytes)
+        → manifest_of text ≡ Ok m → Shows bytes limits (any_view v) (report_of v)
+        → HasFormat bytes v → volume_of v ≡ m.volume }
+{
+    image_build::laws::built_is_placed();
+}
