@@ -7,6 +7,7 @@ use layout_plan::Slices;
 use plan_types::{Format, Plan};
 use rom_fields::{Contents, Plain};
 use romfs_write::{SizeDiffers, stream, write};
+use std::alloc::Global;
 use std::test::Fail;
 
 /// A volume with a file of five bytes and a link.
@@ -41,8 +42,8 @@ fn is_refused(plan: &Plan, contents: &Contents<'_>) -> bool
         && space.iter().all(|byte| *byte == 255)
 }
 
-/// Whether the image is written into a buffer, whatever that held, and streamed.
-fn is_written(plan: &Plan, contents: &Contents<'_>, w: &mut Plain<Vec<u8>>) -> bool
+/// Whether the image is written into a buffer, whatever that held.
+fn is_written(plan: &Plan, contents: &Contents<'_>) -> bool
     requires { plan.now.format ≡ romfs }
 {
     let mut space: [u8; 1024] = [255; 1024];
@@ -50,24 +51,41 @@ fn is_written(plan: &Plan, contents: &Contents<'_>, w: &mut Plain<Vec<u8>>) -> b
         && plan.image_len() == 1024
         && write(plan, contents, space.as_mut_slice()).is_ok()
         && has_front(space.as_slice(), &FRONT, 1024 - 192)
-        && stream(plan, &mut Slices::new(contents), w).is_ok()
+}
+
+/// Whether the image is streamed.
+fn is_streamed(alloc: Global, plan: &Plan, contents: &Contents<'_>) -> bool
+    requires { plan.now.format ≡ romfs }
+{
+    let mut w = Plain::new(Vec::new(alloc));
+    let is_whole = contents.len() == plan.sizes().len()
+        && stream(plan, &mut Slices::new(contents), &mut w).is_ok();
+    let held: Vec<u8> = w.into_inner();
+    is_whole && has_front(held.as_slice(), &FRONT, 1024 - 192)
+}
+
+/// Whether the image of the file's five bytes is written and streamed.
+fn is_made(alloc: Global) -> Result<bool, Fail> {
+    let contents = contents_of(alloc, &[b"hello"])?;
+    let plan = planned(alloc, TEXT, &[5], Format::Romfs)?;
+    Ok(is_written(&plan, &contents) && is_streamed(alloc, &plan, &contents))
 }
 
 #[test]
 fn an_image(rt: HostRuntime) -> Result<(), Fail> {
-    let contents = contents_of(rt.alloc(), &[b"hello"])?;
-    let plan = planned(rt.alloc(), TEXT, &[5], Format::Romfs)?;
-    let mut w = Plain::new(Vec::new(rt.alloc()));
-    assert!(rt; is_written(&plan, &contents, &mut w));
-    let held: Vec<u8> = w.into_inner();
-    assert!(rt; has_front(held.as_slice(), &FRONT, 1024 - 192));
+    assert!(rt; is_made(rt.alloc())?);
     Ok(())
+}
+
+/// Whether contents of four bytes are refused.
+fn is_shorter_refused(alloc: Global) -> Result<bool, Fail> {
+    let contents = contents_of(alloc, &[b"hell"])?;
+    let plan = planned(alloc, TEXT, &[5], Format::Romfs)?;
+    Ok(is_refused(&plan, &contents))
 }
 
 #[test]
 fn contents_of_another_size(rt: HostRuntime) -> Result<(), Fail> {
-    let contents = contents_of(rt.alloc(), &[b"hell"])?;
-    let plan = planned(rt.alloc(), TEXT, &[5], Format::Romfs)?;
-    assert!(rt; is_refused(&plan, &contents));
+    assert!(rt; is_shorter_refused(rt.alloc())?);
     Ok(())
 }
