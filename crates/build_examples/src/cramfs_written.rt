@@ -8,6 +8,7 @@ use cramfs_write::{stream, write};
 use layout_plan::Slices;
 use plan_types::{Format, Plan};
 use rom_fields::{Contents, Plain};
+use std::alloc::Global;
 use std::test::Fail;
 
 /// A volume with a file of five bytes.
@@ -40,44 +41,58 @@ const BIG: [&[u8]; 9] = [
     b"hello",
 ];
 
-/// The image as it is written into a buffer, whatever that held.
-fn written(plan: &Plan, contents: &Contents<'_>, out: &mut [u8]) -> bool
+/// Whether the image is written into a buffer, whatever that held.
+fn is_written(plan: &Plan, contents: &Contents<'_>, front: &[&[u8]]) -> bool
     requires { (o : Order) × (plan.now.format ≡ cramfs o) }
 {
+    let mut space: [u8; 4096] = [7; 4096];
     contents.len() == plan.sizes().len()
-        && out.len() == plan.image_len()
-        && write(plan, contents, out).is_ok()
+        && plan.image_len() == 4096
+        && write(plan, contents, space.as_mut_slice()).is_ok()
+        && has_front(space.as_slice(), front, 4096 - 101)
 }
 
-/// The image as it is streamed.
-fn streamed(plan: &Plan, contents: &Contents<'_>, w: &mut Plain<Vec<u8>>) -> bool
+/// Whether the image is streamed.
+fn is_streamed(alloc: Global, plan: &Plan, contents: &Contents<'_>, front: &[&[u8]]) -> bool
     requires { (o : Order) × (plan.now.format ≡ cramfs o) }
 {
-    contents.len() == plan.sizes().len() && stream(plan, &mut Slices::new(contents), w).is_ok()
+    let mut w = Plain::new(Vec::new(alloc));
+    let is_whole = contents.len() == plan.sizes().len()
+        && stream(plan, &mut Slices::new(contents), &mut w).is_ok();
+    let held: Vec<u8> = w.into_inner();
+    is_whole && has_front(held.as_slice(), front, 4096 - 101)
+}
+
+/// Whether the image with the lowest byte first is written.
+fn is_little_written(alloc: Global) -> Result<bool, Fail> {
+    let contents = contents_of(alloc, &[b"hello"])?;
+    let plan = planned(alloc, TEXT, &[5], Format::Cramfs)?;
+    Ok(is_written(&plan, &contents, &LITTLE))
+}
+
+/// Whether the image with the highest byte first is written.
+fn is_big_written(alloc: Global) -> Result<bool, Fail> {
+    let contents = contents_of(alloc, &[b"hello"])?;
+    let plan = planned(alloc, TEXT, &[5], Format::CramfsBig)?;
+    Ok(is_written(&plan, &contents, &BIG))
 }
 
 #[test]
 fn in_both_orders(rt: HostRuntime) -> Result<(), Fail> {
-    let contents = contents_of(rt.alloc(), &[b"hello"])?;
-    for (format, front) in [
-        (Format::Cramfs, LITTLE.as_slice()),
-        (Format::CramfsBig, &BIG),
-    ] {
-        let plan = planned(rt.alloc(), TEXT, &[5], format)?;
-        let mut space: [u8; 4096] = [7; 4096];
-        assert!(rt; written(&plan, &contents, space.as_mut_slice()));
-        assert!(rt; has_front(space.as_slice(), front, 4096 - 101));
-    }
+    assert!(rt; is_little_written(rt.alloc())?);
+    assert!(rt; is_big_written(rt.alloc())?);
     Ok(())
+}
+
+/// Whether the image with the highest byte first is streamed.
+fn is_big_streamed(alloc: Global) -> Result<bool, Fail> {
+    let contents = contents_of(alloc, &[b"hello"])?;
+    let plan = planned(alloc, TEXT, &[5], Format::CramfsBig)?;
+    Ok(is_streamed(alloc, &plan, &contents, &BIG))
 }
 
 #[test]
 fn streamed_as_it_is_written(rt: HostRuntime) -> Result<(), Fail> {
-    let contents = contents_of(rt.alloc(), &[b"hello"])?;
-    let plan = planned(rt.alloc(), TEXT, &[5], Format::CramfsBig)?;
-    let mut w = Plain::new(Vec::new(rt.alloc()));
-    assert!(rt; streamed(&plan, &contents, &mut w));
-    let held: Vec<u8> = w.into_inner();
-    assert!(rt; has_front(held.as_slice(), &BIG, 4096 - 101));
+    assert!(rt; is_big_streamed(rt.alloc())?);
     Ok(())
 }
