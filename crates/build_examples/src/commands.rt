@@ -1,7 +1,8 @@
 //! What is told of a build and of a scan, and a built image that is served.
 use crate::made::{FORMATS, built, contents_of, read};
 use build_commands::{Found, put_scan, tell_bad_manifest, tell_built, tell_misfit};
-use manifest::Word;
+use image_build::Format;
+use manifest::{Manifest, Word};
 use rom_commands::{Serving, serve_image};
 use rom_fields::{Failed, Faulty, Plain};
 use std::alloc::{AllocError, Global};
@@ -14,47 +15,63 @@ const LINES: &[u8] = b"open /d/a\nread 0 9\nopen /e\n";
 
 const REPLIES: &[u8] = b"ok 0\nok 5 68656c6c6f\nerr ENOENT\n";
 
-/// What is answered to the lines, from an image.
-fn replies(alloc: Global, image: &[u8]) -> (Serving, Vec<u8>) {
+/// Whether an image is served, with these replies to the lines.
+fn is_answered(alloc: Global, image: &[u8]) -> bool {
     let mut r = Plain::new(LINES);
     let mut w = Plain::new(Vec::new(alloc));
     let serving = serve_image(alloc, image, &mut r, &mut w);
-    (serving, w.into_inner())
+    let held: Vec<u8> = w.into_inner();
+    serving == Serving::Served && held.as_slice() == REPLIES
+}
+
+/// Whether the built image is served.
+fn is_served(alloc: Global, format: Format) -> Result<bool, Fail> {
+    let contents = contents_of(alloc, &[b"hello"])?;
+    let image = built(alloc, TEXT, &contents, format)?;
+    Ok(is_answered(alloc, &image))
 }
 
 #[test]
 fn a_built_image_is_served(rt: HostRuntime) -> Result<(), Fail> {
-    let contents = contents_of(rt.alloc(), &[b"hello"])?;
     for format in FORMATS {
-        let image = built(rt.alloc(), TEXT, &contents, format)?;
-        let (serving, text) = replies(rt.alloc(), &image);
-        assert!(rt; serving == Serving::Served);
-        assert!(rt; text.as_slice() == REPLIES);
+        assert!(rt; is_served(rt.alloc(), format)?);
     }
     Ok(())
 }
 
+/// The lines of three builds, if all are told.
+fn told_of_builds(alloc: Global) -> Result<Vec<u8>, Failed> {
+    let mut w = Plain::new(Vec::new(alloc));
+    tell_built(&mut w, 4096)?;
+    tell_bad_manifest(&mut w, 18446744073709551615, 5)?;
+    tell_misfit(&mut w, 0, 2)?;
+    Ok(w.into_inner())
+}
+
 #[test]
 fn lines_of_a_build(rt: HostRuntime) -> Result<(), Fail> {
-    let mut w = Plain::new(Vec::new(rt.alloc()));
-    assert_eq!(rt; tell_built(&mut w, 4096), Ok(()));
-    assert_eq!(rt; tell_bad_manifest(&mut w, 18446744073709551615, 5), Ok(()));
-    assert_eq!(rt; tell_misfit(&mut w, 0, 2), Ok(()));
-    let held: Vec<u8> = w.into_inner();
     let text: &[u8] = b"ok 4096\nmanifest 18446744073709551615 5 Exists\nplan 0 2 TooLarge\n";
-    assert_eq!(rt; held.as_slice(), text);
+    match told_of_builds(rt.alloc()) {
+        Ok(held) => assert_eq!(rt; held.as_slice(), text),
+        Err(Failed) => return Err(Fail::new("all are told")),
+    }
     Ok(())
+}
+
+/// How the line of a build ends, by one byte a call for so many calls, and what the writer holds.
+fn built_in(alloc: Global, calls: u64) -> (Result<(), Failed>, Vec<u8>) {
+    let mut w = Faulty::new(Plain::new(Vec::new(alloc)), calls, 1);
+    let told = tell_built(&mut w, 7);
+    (told, w.into_inner().into_inner())
 }
 
 #[test]
 fn a_failed_write_ends_a_line(rt: HostRuntime) -> Result<(), Fail> {
+    let front: &[u8] = b"ok 7\n";
     // `ok 7` and a line feed by one byte a call, and the flush
     for calls in 0..7u64 {
-        let mut w = Faulty::new(Plain::new(Vec::new(rt.alloc())), calls, 1);
-        let told = tell_built(&mut w, 7);
+        let (told, held) = built_in(rt.alloc(), calls);
         assert_eq!(rt; told, if calls < 6 { Err(Failed) } else { Ok(()) });
-        let held: Vec<u8> = w.into_inner().into_inner();
-        let front: &[u8] = b"ok 7\n";
         assert_eq!(rt; Some(held.as_slice()), front.get(..held.len()));
     }
     Ok(())
@@ -70,25 +87,33 @@ fn found_in_x(alloc: Global) -> Result<Vec<Found>, AllocError> {
     Ok(found)
 }
 
+/// The lines of its scan, if all are told.
+fn scanned(alloc: Global) -> Result<Vec<u8>, Fail> {
+    let found = found_in_x(alloc)?;
+    let mut w = Plain::new(Vec::new(alloc));
+    match put_scan(&mut w, 1, &found) {
+        Ok(()) => Ok(w.into_inner()),
+        Err(Failed) => Err(Fail::new("all are told")),
+    }
+}
+
 #[test]
 fn lines_of_a_scan(rt: HostRuntime) -> Result<(), Fail> {
-    let found = found_in_x(rt.alloc())?;
-    let mut w = Plain::new(Vec::new(rt.alloc()));
-    assert_eq!(rt; put_scan(&mut w, 1, &found), Ok(()));
-    let held: Vec<u8> = w.into_inner();
     let text: &[u8] =
         b"dir /a%20b 0755 0 0\nfile /a%20b/%C3%A9%25%0A 0644 0 0 4 x/a%20b/%C3%A9%25%0A\n";
-    assert_eq!(rt; held.as_slice(), text);
+    assert_eq!(rt; scanned(rt.alloc())?.as_slice(), text);
     Ok(())
+}
+
+/// The manifest that its scan is.
+fn scanned_manifest(alloc: Global) -> Result<Manifest, Fail> {
+    let held = scanned(alloc)?;
+    read(alloc, &held)
 }
 
 #[test]
 fn a_scan_is_a_manifest(rt: HostRuntime) -> Result<(), Fail> {
-    let found = found_in_x(rt.alloc())?;
-    let mut w = Plain::new(Vec::new(rt.alloc()));
-    assert!(rt; put_scan(&mut w, 1, &found) == Ok(()));
-    let held: Vec<u8> = w.into_inner();
-    let manifest = read(rt.alloc(), &held)?;
+    let manifest = scanned_manifest(rt.alloc())?;
     for (line, (word, path, text)) in manifest.lines().iter().zip([
         (Word::Dir, "/a b", ""),
         (Word::File, "/a b/é%\n", "x/a b/é%\n"),
@@ -100,16 +125,25 @@ fn a_scan_is_a_manifest(rt: HostRuntime) -> Result<(), Fail> {
     Ok(())
 }
 
+/// Whether the scan fails to a writer that takes three bytes a call for so many calls, which then
+/// holds a front of this text.
+fn is_scan_ended(alloc: Global, calls: u64, text: &[u8]) -> Result<bool, Fail> {
+    let found = found_in_x(alloc)?;
+    let mut w = Faulty::new(Plain::new(Vec::new(alloc)), calls, 3);
+    let told = put_scan(&mut w, 1, &found);
+    let held: Vec<u8> = w.into_inner().into_inner();
+    let both = held.len().min(text.len());
+    Ok(told == Err(Failed) && held.get(..both) == text.get(..both))
+}
+
 #[test]
 fn a_failed_write_ends_a_scan(rt: HostRuntime) -> Result<(), Fail> {
-    let found = found_in_x(rt.alloc())?;
     let text: &[u8] = b"dir /a%20b 0755 0 0\nfile ";
     for calls in 0..20u64 {
-        let mut w = Faulty::new(Plain::new(Vec::new(rt.alloc())), calls, 3);
-        assert_eq!(rt; put_scan(&mut w, 1, &found), Err(Failed));
-        let held: Vec<u8> = w.into_inner().into_inner();
-        let both = held.len().min(text.len());
-        assert_eq!(rt; held.get(..both), text.get(..both), "after {calls} calls");
+        assert!(rt;
+            is_scan_ended(rt.alloc(), calls, text)?,
+            "after {calls} calls"
+        );
     }
     Ok(())
 }
