@@ -32,48 +32,79 @@ fn mounted(alloc: Global) -> Result<Space<'static, AnyImage<'static>, 64>, Fail>
     Ok(space)
 }
 
+/// Whether the second image is mounted on a directory of the first, once, and nothing else is mounted.
+fn is_mounted_once(alloc: Global) -> Result<bool, Fail> {
+    let mut space = two_images(alloc)?;
+    Ok(
+        space.mount(0, 1, b"/n") == Err(CallError::Enotdir)
+            && space.mount(0, 1, b"/") == Err(CallError::Ebusy)
+            && space.mount(0, 2, b"/d") == Err(CallError::Enodev)
+            && space.mount(0, 0, b"/d") == Err(CallError::Ebusy)
+            && space.mount(0, 1, b"/d") == Ok(())
+            && space.mount(0, 1, b"/d") == Err(CallError::Ebusy),
+    )
+}
+
 #[test]
 fn mounts_that_are_refused(rt: HostRuntime) -> Result<(), Fail> {
-    let mut space = two_images(rt.alloc())?;
-    for (image, path, want) in [
-        (1, b"/n".as_slice(), Err(CallError::Enotdir)),
-        (1, b"/", Err(CallError::Ebusy)),
-        (2, b"/d", Err(CallError::Enodev)),
-        (0, b"/d", Err(CallError::Ebusy)),
-        (1, b"/d", Ok(())),
-        (1, b"/d", Err(CallError::Ebusy)),
-    ] {
-        assert!(rt; space.mount(0, image, path) == want);
-    }
+    assert!(rt; is_mounted_once(rt.alloc())?);
     Ok(())
+}
+
+/// Where a path leads before anything is mounted.
+fn led_unmounted(alloc: Global, path: &[u8]) -> Result<Result<(u32, NodeId), CallError>, Fail> {
+    let mut space = two_images(alloc)?;
+    Ok(space.lookup(0, path))
+}
+
+/// Where a path leads through the mount.
+fn led(alloc: Global, path: &[u8]) -> Result<Result<(u32, NodeId), CallError>, Fail> {
+    let mut space = mounted(alloc)?;
+    Ok(space.lookup(1, path))
 }
 
 #[test]
 fn paths_through_a_mount(rt: HostRuntime) -> Result<(), Fail> {
-    let mut space = two_images(rt.alloc())?;
-    assert!(rt; space.lookup(0, b"/d") == Ok((0, NodeId(96))));
-    let mut space = mounted(rt.alloc())?;
-    assert!(rt; space.lookup(1, b"/d") == Ok((1, NodeId(32))));
-    assert!(rt; space.lookup(1, b"/d/..") == Ok((0, NodeId(32))));
+    assert!(rt; led_unmounted(rt.alloc(), b"/d")? == Ok((0, NodeId(96))));
+    assert!(rt; led(rt.alloc(), b"/d")? == Ok((1, NodeId(32))));
+    assert!(rt; led(rt.alloc(), b"/d/..")? == Ok((0, NodeId(32))));
     Ok(())
+}
+
+/// Whether the file that is open is lent after its image is unmounted, and its path leads nowhere.
+fn is_kept(alloc: Global) -> Result<bool, Fail> {
+    let mut space = mounted(alloc)?;
+    Ok(
+        space.fstat(0, Fd(0)) == Err(CallError::Ebadf)
+            && space.umount(0, 1) == Ok(())
+            && space.lookup(1, b"/d/a") == Err(CallError::Enoent)
+            && lent(space.lend(1, Fd(0), 9)) == Ok((1, 128, b"hello".as_slice())),
+    )
 }
 
 #[test]
 fn what_is_open_outlives_its_mount(rt: HostRuntime) -> Result<(), Fail> {
-    let mut space = mounted(rt.alloc())?;
-    assert!(rt; space.fstat(0, Fd(0)) == Err(CallError::Ebadf));
-    assert!(rt; space.umount(0, 1) == Ok(()));
-    assert!(rt; space.lookup(1, b"/d/a") == Err(CallError::Enoent));
-    assert!(rt; lent(space.lend(1, Fd(0), 9)) == Ok((1, 128, b"hello".as_slice())));
+    assert!(rt; is_kept(rt.alloc())?);
     Ok(())
+}
+
+/// Whether the image is unmounted once.
+fn is_unmounted_once(alloc: Global) -> Result<bool, Fail> {
+    let mut space = mounted(alloc)?;
+    Ok(space.umount(0, 1) == Ok(()) && space.umount(0, 1) == Err(CallError::Einval))
+}
+
+/// Whether nothing is open after the image is unmounted and the session ended.
+fn is_closed(alloc: Global) -> Result<bool, Fail> {
+    let mut space = mounted(alloc)?;
+    let is_unmounted = space.umount(0, 1) == Ok(());
+    space.close_all(1);
+    Ok(is_unmounted && space.fstat(1, Fd(0)) == Err(CallError::Ebadf))
 }
 
 #[test]
 fn ended_mounts_and_sessions(rt: HostRuntime) -> Result<(), Fail> {
-    let mut space = mounted(rt.alloc())?;
-    assert!(rt; space.umount(0, 1) == Ok(()));
-    assert!(rt; space.umount(0, 1) == Err(CallError::Einval));
-    space.close_all(1);
-    assert!(rt; space.fstat(1, Fd(0)) == Err(CallError::Ebadf));
+    assert!(rt; is_unmounted_once(rt.alloc())?);
+    assert!(rt; is_closed(rt.alloc())?);
     Ok(())
 }
