@@ -5,10 +5,11 @@ ghost use Rattle.rom_tree.specs.Image.{image_node};
 ghost use Rattle.image_check.specs.Any.{any_view};
 ghost use Rattle.path_walk.specs.Graft.{are_apart, are_mounts, is_mount};
 
+use crate::checked::sound;
 use crate::images::{HELLO, LINK_AND_DEVICE, LINK_CHAIN, LINKS_AND_DOTS};
-use image_check::{AnyImage, check};
+use image_check::AnyImage;
 use path_walk::{Mount, WalkError, walk_mounts};
-use rom_tree::{CheckError, Limits, NodeId, TreeImage, is_directory_at};
+use rom_tree::{CheckError, NodeId, TreeImage, is_directory_at};
 use std::alloc::Global;
 use std::test::Fail;
 
@@ -82,9 +83,9 @@ fn walked(
     path: &[u8],
     follow_last: bool,
 ) -> Result<Option<Result<(u32, u32), WalkError>>, CheckError> {
-    let first = check(alloc, bytes[0], Limits::usual())?;
-    let second = check(alloc, bytes[1], Limits::usual())?;
-    let third = check(alloc, bytes[2], Limits::usual())?;
+    let first = sound(alloc, bytes[0])?;
+    let second = sound(alloc, bytes[1])?;
+    let third = sound(alloc, bytes[2])?;
     let mut images = [first, second, third];
     if !can_mount(&images, mounts) {
         return Ok(None);
