@@ -1,6 +1,7 @@
 //! Where paths lead in one image.
+use crate::checked::sound;
 use crate::images::HELLO;
-use image_check::{CheckError, Limits, check};
+use image_check::CheckError;
 use path_walk::{WalkError, walk};
 use std::alloc::Global;
 use std::test::Fail;
@@ -12,7 +13,7 @@ fn walked(
     path: &[u8],
     follow_last: bool,
 ) -> Result<Result<u32, WalkError>, CheckError> {
-    let mut image = check(alloc, bytes, Limits::usual())?;
+    let mut image = sound(alloc, bytes)?;
     match walk(&mut image, path, follow_last) {
         Ok(node) => Ok(Ok(node.0)),
         Err(error) => Ok(Err(error)),
