@@ -5,8 +5,8 @@ use Rattle.image_check.specs.Any.{any_view}
 use Rattle.image_manifest.proofs.Lined.{lined}
 use Rattle.romtool.proofs.extracting.Extraction.make_all.Goals as goal
 
-pub make-requires : goal.make-requires
-make-requires c =
+pub make-requires-clause-node : goal.make-requires-clause-node
+make-requires-clause-node c =
     let m : Image = any_view c.args.self.now.image.now in
     let is = lined m [] c.args.self.now.members.now c.loop-index.index _ c.requires c.loop-index-test.true in
-    (has_node m _ is.node is.at, (c.requires, c.loop-index-test.true))
+    has_node m _ is.node is.at

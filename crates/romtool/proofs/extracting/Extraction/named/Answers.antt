@@ -2,5 +2,5 @@ use Rattle.image_check.specs.Any.{any_view}
 use Rattle.image_manifest.proofs.Lined.{all_short}
 use Rattle.romtool.proofs.extracting.Extraction.named.Goals as goal
 
-pub path_of-requires : goal.path_of-requires
-path_of-requires c = (c.requires.within, all_short (any_view c.args.self.now.image.now) c.args.self.now.members.now c.requires.names c.args.index)
+pub path_of-requires-clause-short : goal.path_of-requires-clause-short
+path_of-requires-clause-short c = all_short (any_view c.args.self.now.image.now) c.args.self.now.members.now c.requires.names c.args.index
