@@ -3,3 +3,4 @@ pub mod Holding
 pub mod Printed
 pub mod Texts
 pub mod Copies
+pub mod Known

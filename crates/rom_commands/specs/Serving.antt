@@ -18,7 +18,7 @@ use Rattle.serve_lines.specs.declared.error.ServeError.{ServeError}
 use Rattle.serve_lines.specs.declared.error.ServeError.TheVariants as serve
 use Rattle.rom_serve.specs.Machines.{image_machine, space_machine}
 use Rattle.rom_commands.specs.Lines.{fault_line, fault_text}
-use Rattle.rom_commands.specs.Answers.{Holds, HoldsUnder, HasFault, IsFaultTextUnder, usual_limits}
+use Rattle.rom_commands.specs.Answers.{Holds, HoldsUnder, HasFault, IsFaultTextUnder, Prints, usual_limits}
 use Rattle.rom_commands.specs.declared.status.Status.{Status}
 use Rattle.rom_commands.specs.declared.status.Status.TheVariants as status
 use Rattle.rom_commands.specs.declared.serving.Serving.{Serving}
@@ -83,6 +83,19 @@ Tells text r₀ r w₀ w Memory = ⊥
 Tells text r₀ r w₀ w Served = ⊥
 Tells text r₀ r w₀ w ReadFault = ⊥
 Tells text r₀ r w₀ w TooManyReads = ⊥
+
+-- The writing of a fault's line ended so, the status says it, and so does standard error if it failed.
+abbrev pub Says : Result (Unit {0}) Failed → Output → Output → Status → Type 0
+Says (Ok _) err err' result = (result ≡ status.Refused) × Prints err err' []
+Says (Err _) err err' result = (result ≡ status.Failed) × Prints err err' (codes "write fault\n")
+
+-- The line of a fault was written and flushed once, and the status says so; or a write failed, which is told.
+abbrev pub TellsFault : List ℕ → Output → Output → Output → Output → Status → Type 0
+TellsFault text w₀ w err err' result =
+    ((result ≡ status.Refused) × Appends w₀.contents w.contents text × (w.failures ≡ w₀.failures)
+    × (w.flushes ≡ one_more w₀.flushes) × Prints err err' [])
+    ⊎ ((result ≡ status.Failed) × AppendsPrefix w₀.contents w.contents text × Rose w₀.failures w.failures
+    × Prints err err' (codes "write fault\n"))
 
 -- What serving does, by what the check of the image answered: lines are answered from the image, nothing of it open at
 -- first; or the line of its fault is written; or nothing is done, if memory was refused to the check.

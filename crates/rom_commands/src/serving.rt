@@ -1,5 +1,5 @@
 //! Serving images to lines, and how it ends.
-ghost use Rattle.std.specs.Prelude.{◌≡◌, ◌≤◌, ℕ, length, map, IfOk, OnOk};
+ghost use Rattle.std.specs.Prelude.{◌≡◌, ◌≤◌, ℕ, List, length, map, IfOk, OnOk};
 ghost use Rattle.rom_fields.specs.Failures.{Counts, one_more};
 ghost use Rattle.rom_fields.specs.Written.{WritesText};
 ghost use Rattle.rom_tree.specs.Tree.{levels};
@@ -7,14 +7,18 @@ ghost use Rattle.image_check.specs.Any.{any_view};
 ghost use Rattle.open_files.specs.Machine.{no_files};
 ghost use Rattle.rom_serve.specs.Machines.{image_machine};
 ghost use Rattle.rom_commands.specs.Lines.{fault_line};
-ghost use Rattle.rom_commands.specs.Answers.{Prints};
+ghost use Rattle.rom_commands.specs.Answers.{Ends, HasFault, Prints, complaint_of, status_of};
+ghost use Rattle.rom_commands.specs.Serving.{Says, TellsFault};
+ghost use Rattle.rom_commands.specs.declared.asked.Asked.{Asked};
+ghost use Rattle.rom_commands.specs.declared.shown.Outcome.{Outcome};
 ghost use Rattle.rom_commands.specs.Serving.{input_of, EndsServed, CheckedEnds, serving_of, refusal_of, ServingEnds, ServingEndsUnder, serving_status, serving_complaint};
 
+use crate::printing::complain;
 use crate::shown::write_fault_line;
 use crate::status::Status;
 use image_check::{AnyImage, check};
 use name_index::Indexed;
-use rom_faults::CheckError;
+use rom_faults::{CheckError, Fault};
 use rom_fields::{ByteRead, ByteWrite, Failed, put};
 use rom_serve::{Cached, NoCache, ServeError, serve};
 use rom_tree::Limits;
@@ -97,6 +101,34 @@ fn tell_fault<W: ByteWrite>(w: &mut W, number: u32, at: u32) -> Result<(), Faile
 {
     write_fault_line(w, number, at)?;
     w.flush()
+}
+
+/// Ends the telling of a fault. That a write failed is said on `err`.
+pub(crate) fn told<E: ByteWrite>(written: Result<(), Failed>, err: &mut E) -> Status
+    ensures { Says written (E.output err.old) (E.output err.new) result }
+{
+    match written {
+        Ok(()) => Status::Refused,
+        Err(Failed) => {
+            complain(err, b"write fault", b"");
+            Status::Failed
+        }
+    }
+}
+
+/// Writes the line of a file's fault to `w`, and returns the status, as `print`, `print_file` and
+/// `serve_on` do of bytes that have this fault. So a fault that is known by the front of a file needs
+/// no more of it.
+pub fn refuse<W: ByteWrite, E: ByteWrite>(fault: Fault, w: &mut W, err: &mut E) -> Status
+    ensures tells { TellsFault (fault_line fault.number fault.at) (W.output w.old) (W.output w.new)
+        (E.output err.old) (E.output err.new) result }
+    ensures ends { (bytes : List ℕ) (asked : Asked) → HasFault bytes fault.number fault.at
+        → (o : Outcome) × (result ≡ status_of o)
+        × Ends bytes asked (W.output w.old) (W.output w.new) o
+        × Prints (E.output err.old) (E.output err.new) (complaint_of o) }
+{
+    let written = tell_fault(w, fault.number, fault.at);
+    told(written, err)
 }
 
 /// Answers the lines of `r` from an image on `w`, through indices of its lists, and before them a

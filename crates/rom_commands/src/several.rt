@@ -1,5 +1,5 @@
 //! Serving several images to the lines of sessions.
-ghost use Rattle.std.specs.Prelude.{◌≡◌, ◌≤◌, ◌<◌, ℕ, length, map, IfOk, IfErr, OnOk};
+ghost use Rattle.std.specs.Prelude.{◌≡◌, ◌≤◌, ◌<◌, ℕ, List, length, map, IfOk, IfErr, OnOk};
 ghost use Rattle.rom_fields.specs.Failures.{Counts, one_more};
 ghost use Rattle.rom_fields.specs.Written.{WritesText};
 ghost use Rattle.path_walk.specs.Graft.{AreShallow};
@@ -7,15 +7,16 @@ ghost use Rattle.image_check.specs.Any.{any_view};
 ghost use Rattle.rom_tree.specs.Tree.{levels};
 ghost use Rattle.rom_commands.specs.Answers.{Holds, Prints};
 ghost use Rattle.rom_commands.specs.Serving.{input_of, fault_in_line, HoldAll, SpaceEnds, serving_status, serving_complaint};
+ghost use Rattle.rom_commands.specs.Serving.{HasFirstFault, Input, TellsFault};
 ghost use Rattle.rom_commands.specs.declared.serving.Serving.{Serving};
 ghost use Rattle.rom_commands.specs.Refused.{IsFaultAt, IsFirst};
 
 use crate::fault::put_fault;
-use crate::serving::{Serving, conclude, ended, refused};
+use crate::serving::{Serving, conclude, ended, refused, told};
 use crate::status::Status;
 use image_check::{AnyImage, check};
 use name_index::Indexed;
-use rom_faults::CheckError;
+use rom_faults::{CheckError, Fault};
 use rom_fields::{ByteRead, ByteWrite, Failed, put, put_decimal};
 use rom_serve::serve_space;
 use rom_tree::Limits;
@@ -106,6 +107,26 @@ fn tell_fault_in<W: ByteWrite>(w: &mut W, number: u32, at: u32, image: u32) -> R
 {
     write_fault_in_line(w, number, at, image)?;
     w.flush()
+}
+
+/// Writes the line of the fault of the first of several files that has one to `w`, and returns the
+/// status, as `serve_several_on` does of bytes whose first fault is this.
+pub fn refuse_in<W: ByteWrite, E: ByteWrite>(
+    fault: Fault,
+    image: u32,
+    w: &mut W,
+    err: &mut E,
+) -> Status
+    ensures tells { TellsFault (fault_in_line fault.number fault.at image) (W.output w.old)
+        (W.output w.new) (E.output err.old) (E.output err.new) result }
+    ensures ends { (all : List (List ℕ)) (r : Input)
+        → HasFirstFault all fault.number fault.at image
+        → (o : Serving) × (result ≡ serving_status o)
+        × SpaceEnds all r r (W.output w.old) (W.output w.new) o
+        × Prints (E.output err.old) (E.output err.new) (serving_complaint o) }
+{
+    let written = tell_fault_in(w, fault.number, fault.at, image);
+    told(written, err)
 }
 
 /// Checks 1 to 8 images under the usual limits, and answers the lines of `r` from their trees on
