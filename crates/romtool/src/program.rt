@@ -4,6 +4,7 @@ ghost use Rattle.rom_commands.specs.Asked.{Fits};
 
 use crate::arguments::words;
 use crate::closing::settle_output;
+use crate::reading::{Found, Front, Loaded};
 use crate::replies::Replies;
 use crate::streams::{Again, Ahead, Held, hold_closed};
 use crate::teller::Teller;
@@ -11,7 +12,8 @@ use crate::{building, extracting, inventory, reading, scanning};
 use command_line::{Extract, Request, read};
 use image_check::check;
 use rom_commands::{
-    Asked, Failure, Status, has_addresses, hello, print, print_file, serve_on, serve_several_on,
+    Asked, Failure, Status, has_addresses, hello, print, print_file, refuse, refuse_in, serve_on,
+    serve_several_on,
 };
 use rom_faults::CheckError;
 use rom_fields::{ByteRead, ByteWrite, Plain};
@@ -87,30 +89,54 @@ fn example(teller: &Teller<'_>) -> Status {
     }
 }
 
-/// The image in a file; or else it is said why there is none.
-fn image_in(teller: &Teller<'_>, name: &str) -> Result<reading::Loaded, Status> {
+/// The image in a file, of which this is asked; or else it is said why there is none.
+fn image_in(teller: &Teller<'_>, name: &str, asked: Asked) -> Result<Loaded, Status> {
     match reading::image(teller.rt, name) {
-        Ok(image) => Ok(image),
+        Ok(Found::Image(image)) => Ok(image),
+        Ok(Found::Refused(front)) if !has_addresses(asked, front.reach as usize) => {
+            Err(no_address(teller, name))
+        }
+        Ok(Found::Refused(front)) => Err(refuse_front(teller, name, &front)),
         Err(e) => Err(teller.refused(name.as_bytes(), &e)),
     }
 }
 
+/// Prints the fault that a file has by its first bytes.
+fn refuse_front(teller: &Teller<'_>, name: &str, front: &Front) -> Status {
+    let rt = teller.rt;
+    let mut out = Plain::new(Held::new(rt, io::writer(rt)));
+    let mut err = Plain::new(Held::new(rt, rt.stderr()));
+    let status = refuse(front.fault, &mut out, &mut err);
+    if status == Status::Refused {
+        teller.explain_fault(name.as_bytes(), &front.bytes, front.fault);
+    }
+    teller.hand_on(err);
+    status
+}
+
 /// The bytes of the image in a file.
 fn bytes_of(teller: &Teller<'_>, name: &str) -> Result<Vec<u8>, Status> {
-    Ok(image_in(teller, name)?.bytes)
+    Ok(image_in(teller, name, Asked::Report)?.bytes)
+}
+
+/// Says that an image has bytes without an address.
+fn no_address(teller: &Teller<'_>, name: &str) -> Status {
+    let status = teller.say(Failure::Usage);
+    teller.explain(name.as_bytes(), &NO_ADDRESS);
+    status
 }
 
 /// Prints what is asked of the image in a file.
 fn file(teller: &Teller<'_>, name: &str, asked: Asked) -> Status {
-    match bytes_of(teller, name) {
-        Ok(bytes) => shown(teller, name, &bytes, asked),
+    match image_in(teller, name, asked) {
+        Ok(image) => shown(teller, name, &image.bytes, asked),
         Err(status) => status,
     }
 }
 
 /// Prints the facts of the image in a file.
 fn facts(teller: &Teller<'_>, name: &str) -> Status {
-    match image_in(teller, name) {
+    match image_in(teller, name, Asked::Report) {
         Ok(image) => shown(teller, name, &image.bytes, Asked::Facts(image.file)),
         Err(status) => status,
     }
@@ -119,9 +145,7 @@ fn facts(teller: &Teller<'_>, name: &str) -> Status {
 /// Prints what is asked of an image, where its bytes have addresses.
 fn shown(teller: &Teller<'_>, name: &str, bytes: &[u8], asked: Asked) -> Status {
     if !has_addresses(asked, bytes.len()) {
-        let status = teller.say(Failure::Usage);
-        teller.explain(name.as_bytes(), &NO_ADDRESS);
-        return status;
+        return no_address(teller, name);
     }
     print_out(teller, name.as_bytes(), bytes, asked)
 }
@@ -183,23 +207,58 @@ fn serve(teller: &Teller<'_>, name: &str) -> Status {
     status
 }
 
-/// Reads files behind those that are there, in their order, up to the first that cannot be read. Of
-/// that one it gives the name, and why.
+/// Why a file is not among several that are served.
+#[derive(Drop)]
+enum Missing {
+    /// It cannot be read.
+    Unread(io::Error),
+    /// Its first bytes refuse it.
+    Refused(Front),
+}
+
+/// Reads a file behind those that are there.
+fn read_one(rt: &HostRuntime, name: &str, files: &mut Vec<Vec<u8>>) -> Result<(), Missing> {
+    let bytes = match reading::image(rt, name) {
+        Ok(Found::Image(image)) => image.bytes,
+        Ok(Found::Refused(front)) => return Err(Missing::Refused(front)),
+        Err(e) => return Err(Missing::Unread(e)),
+    };
+    match files.push(bytes) {
+        Ok(()) => Ok(()),
+        Err(_) => Err(Missing::Unread(io::Error::from(io::ErrorKind::OutOfMemory))),
+    }
+}
+
+/// Reads files behind those that are there, in their order, up to the first that is missing. Of that
+/// one it gives the name, and why.
 fn read_all<'a>(
     rt: &HostRuntime,
     names: &[&'a str],
     files: &mut Vec<Vec<u8>>,
-) -> Result<(), (&'a str, io::Error)> {
+) -> Result<(), (&'a str, Missing)> {
     for name in names {
-        let image = match reading::image(rt, name) {
-            Ok(image) => image,
-            Err(e) => return Err((*name, e)),
-        };
-        if files.push(image.bytes).is_err() {
-            return Err((*name, io::Error::from(io::ErrorKind::OutOfMemory)));
+        if let Err(missing) = read_one(rt, name, files) {
+            return Err((*name, missing));
         }
     }
     Ok(())
+}
+
+/// Says that the file of this number is missing, and why.
+fn say_missing(teller: &Teller<'_>, name: &str, image: u32, missing: &Missing) -> Status {
+    let front = match missing {
+        Missing::Unread(e) => return teller.refused(name.as_bytes(), e),
+        Missing::Refused(front) => front,
+    };
+    let rt = teller.rt;
+    let mut out = Plain::new(Held::new(rt, io::writer(rt)));
+    let mut err = Plain::new(Held::new(rt, rt.stderr()));
+    let status = refuse_in(front.fault, image, &mut out, &mut err);
+    if status == Status::Refused {
+        teller.explain_fault(name.as_bytes(), &front.bytes, front.fault);
+    }
+    teller.hand_on(err);
+    status
 }
 
 /// Answers lines from the images in one to eight files of these names, or tells the first fault of
@@ -224,8 +283,8 @@ fn serve_files<R: ByteRead>(
     status
 }
 
-/// Serves the images in one to eight files. Where one of these cannot be read, a fault of an image
-/// before it comes first: these are served no lines, to see whether they have one.
+/// Serves the images in one to eight files. Where one of these is missing, a fault of an image before
+/// it comes first: these are served no lines, to see whether they have one.
 fn space(teller: &Teller<'_>, names: &[&str]) -> Status {
     let rt = teller.rt;
     let mut files = Vec::new(rt.alloc());
@@ -236,7 +295,7 @@ fn space(teller: &Teller<'_>, names: &[&str]) -> Status {
             &files,
             &mut Plain::new(Ahead::new(rt.reader())),
         ),
-        Err((name, e)) => {
+        Err((name, missing)) => {
             let no_lines: &[u8] = &[];
             let status = if files.is_empty() {
                 Status::Done
@@ -244,7 +303,7 @@ fn space(teller: &Teller<'_>, names: &[&str]) -> Status {
                 serve_files(teller, names, &files, &mut Plain::new(no_lines))
             };
             if status == Status::Done {
-                teller.refused(name.as_bytes(), &e)
+                say_missing(teller, name, files.len() as u32, &missing)
             } else {
                 status
             }

@@ -9,7 +9,7 @@ use crate::streams::Held;
 use command_line::{WordsError, is_explain};
 use image_check::check;
 use rom_commands::{Failure, Status, tell};
-use rom_faults::CheckError;
+use rom_faults::{CheckError, Fault};
 use rom_fields::{ByteWrite, Plain};
 use rom_tree::Limits;
 use sentences::reasons::NO_WORD;
@@ -219,16 +219,30 @@ impl<'a> Teller<'a> {
 
     /// Says it where there is one, and whether there is one.
     fn try_explain_image(&self, name: &[u8], bytes: &[u8]) -> Result<bool, AllocError> {
+        match check(self.rt.alloc(), bytes, Limits::usual()) {
+            Err(CheckError::Fault { number, at }) => {
+                self.try_explain_fault(name, bytes, Fault { number, at })?;
+                Ok(true)
+            }
+            _ => Ok(false),
+        }
+    }
+
+    /// Says in words which fault a file has, by its bytes or its first ones.
+    pub fn explain_fault(&self, name: &[u8], bytes: &[u8], fault: Fault) {
+        if self.is_explained {
+            let _ = self.try_explain_fault(name, bytes, fault);
+        }
+    }
+
+    fn try_explain_fault(&self, name: &[u8], bytes: &[u8], fault: Fault) -> Result<(), AllocError> {
         let alloc = self.rt.alloc();
-        let Err(CheckError::Fault { number, at }) = check(alloc, bytes, Limits::usual()) else {
-            return Ok(false);
-        };
+        let Fault { number, at } = fault;
         let (short, sentence) = (rom_faults::name(number), fault_sentence(number));
         let seen = image::seen(alloc, bytes, number, at)?;
         let colon = if seen.is_empty() { "" } else { ": " };
         let what = format!(in alloc; "{short} ({number}) at {at}: {sentence}{colon}{seen}")?;
-        self.try_explain(name, &what)?;
-        Ok(true)
+        self.try_explain(name, &what)
     }
 
     /// Says in words which fault the first of some images has that has one.
