@@ -296,6 +296,7 @@ fn space(teller: &Teller<'_>, names: &[&str]) -> Status {
             &mut Plain::new(Ahead::new(rt.reader())),
         ),
         Err((name, missing)) => {
+            let number = u32::try_from(files.len()).unwrap_or(u32::MAX);
             let no_lines: &[u8] = &[];
             let status = if files.is_empty() {
                 Status::Done
@@ -303,7 +304,7 @@ fn space(teller: &Teller<'_>, names: &[&str]) -> Status {
                 serve_files(teller, names, &files, &mut Plain::new(no_lines))
             };
             if status == Status::Done {
-                say_missing(teller, name, files.len() as u32, &missing)
+                say_missing(teller, name, number, &missing)
             } else {
                 status
             }
