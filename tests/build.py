@@ -37,9 +37,9 @@ FILES = {
 FOLDERS = (b"none", b"bin/none")
 
 
-def run(binary, *words, **more):
+def run(binary, *words, timeout=SECONDS, **more):
     """The finished program."""
-    return subprocess.run([binary, *words], stdout=subprocess.PIPE, stderr=subprocess.PIPE, timeout=SECONDS, **more)
+    return subprocess.run([binary, *words], stdout=subprocess.PIPE, stderr=subprocess.PIPE, timeout=timeout, **more)
 
 
 def answer(done):

@@ -30,7 +30,7 @@ import run as cases
 import traced
 from build import answer, bytes_in, put, run
 from edge import become_nobody, needs_root, needs_strace
-from harness import HERE, Counts, parser, program_of
+from harness import HERE, SECONDS, Counts, parser, program_of
 from manifests import Made, escaped
 from map import images as images_of_cases
 from map import listed, raw
@@ -549,12 +549,12 @@ def memory_refused(binary):
 
 
 def many_files(binary):
-    """20,000 files are taken apart."""
+    """20,000 files are taken apart. Each is handed to the disk, which may take milliseconds for each."""
     put("a", b"a")
     folders = ["dir /%d 0755 0 0" % k for k in range(20)]
     files = ["file /%d/%05d 0644 0 0 4 a" % (k % 20, k) for k in range(20000)]
     build_image(binary, folders + files)
-    done = run(binary, "extract", "image", "out")
+    done = run(binary, "extract", "image", "out", timeout=15 * SECONDS)
     if done.returncode or sum(len(held) for _, _, held in os.walk("out")) != 20000:
         yield "%d %.300r" % (done.returncode, done.stderr)
 
