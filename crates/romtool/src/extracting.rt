@@ -249,7 +249,7 @@ impl<'a> Extraction<'a> {
         if copied.is_err() {
             return Err(io::Error::new(io::ErrorKind::WriteZero, FILE_NOT_TAKEN));
         }
-        finish_file(&file, self.rights(stat))
+        finish_file(self.teller.rt, file, self.rights(stat))
     }
 
     /// Makes a further name of a file that was made, where the system lets it, and says whether it did.

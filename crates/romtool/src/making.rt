@@ -1,4 +1,5 @@
 //! Folders, files and links that are made where nothing was, and handed to the disk.
+use crate::closing::close;
 use crate::place::folder_of;
 use crate::stamp::Identity;
 use sentences::reasons::{NOT_EMPTY, OF_ANOTHER_USER, REPLACED};
@@ -108,10 +109,12 @@ pub fn set_folder(rt: &HostRuntime, place: &str, rights: Rights) -> io::Result<(
     sync_folder(&folder)
 }
 
-/// Gives a file that was written its rights, and hands it to the disk. It is not closed before.
-pub fn finish_file(file: &File, rights: Rights) -> io::Result<()> {
-    rights.give(file)?;
-    file.sync_all()
+/// Gives a file that was written its rights, hands it to the disk, and closes it. Some file systems
+/// tell only then that they lost what was written.
+pub fn finish_file(rt: &HostRuntime, file: File, rights: Rights) -> io::Result<()> {
+    rights.give(&file)?;
+    file.sync_all()?;
+    close(rt, file)
 }
 
 /// Makes a further name of a file, where the file system can, and says whether it did. Only what
