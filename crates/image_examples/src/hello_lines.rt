@@ -1,13 +1,14 @@
 //! Two look-ups on the image `hello` with readers and writers that fail, and how many names a cache
 //! holds after walks.
 ghost use Rattle.std.specs.Prelude.{◌≤◌};
+ghost use Rattle.rom_tree.specs.Tree.{levels};
 
 use crate::checked::sound;
 use crate::images::{HELLO, SAME_NAMES};
 use path_walk::{WalkError, walk};
 use rom_fields::{Faulty, Plain};
 use rom_serve::{Cached, ServeError, serve, serve_space};
-use rom_tree::NodeId;
+use rom_tree::{NodeId, TreeImage};
 use std::alloc::Global;
 
 /// Two lines of nine and eleven bytes.
@@ -84,6 +85,14 @@ fn a_writer_of_a_session_that_fails(rt: HostRuntime) {
     assert!(rt; is_ended(found, Err(ServeError::WriteFault), b"0 ok 0:32\n", 11));
 }
 
+/// Where a path leads in an image whose directories are 64 deep at most, as it stays.
+fn led<'a, T: TreeImage<'a>>(image: &mut T, path: &[u8]) -> Result<NodeId, WalkError>
+    requires { levels (T.image image.old).tree ≤ 65 }
+    ensures { levels (T.image image.new).tree ≤ 65 }
+{
+    walk(image, path, true)
+}
+
 /// How many names a cache of so many holds after five walks over four names and an absent one, if each
 /// walk leads where it should.
 fn held_after_walks(alloc: Global, names: usize) -> Option<usize>
@@ -92,11 +101,11 @@ fn held_after_walks(alloc: Global, names: usize) -> Option<usize>
 {
     let mut image = Cached::new(alloc, sound(alloc, SAME_NAMES).ok()?, names).ok()?;
     let found = [
-        walk(&mut image, b"/a/x", true),
-        walk(&mut image, b"/b/x", true),
-        walk(&mut image, b"/a/x", true),
-        walk(&mut image, b"/b/y", true),
-        walk(&mut image, b"/b/y", true),
+        led(&mut image, b"/a/x"),
+        led(&mut image, b"/b/x"),
+        led(&mut image, b"/a/x"),
+        led(&mut image, b"/b/y"),
+        led(&mut image, b"/b/y"),
     ];
     let absent = Err(WalkError::Enoent);
     let wanted = [
