@@ -1,6 +1,6 @@
 /* romtool.h: a proved reader of romfs and cramfs images that are used in place.
  *
- * The library is crates/rom_c/out/librom_c.a; docs/C.md says how it is built and linked.
+ * The library is libromtool.a of a release, or crates/rom_c/out/librom_c.a; docs/C.md says how it is built and linked.
  *
  * An image is checked once, or its numbers are put down by a check on another machine. Then paths are looked up,
  * files are opened, and their bytes are lent where they lie in the image. What is known of an image stands in a struct

@@ -317,13 +317,19 @@ def for_c(prefix, binary, top, counts):
         it.write("dir / 0755 0 0\ndir /bin 0755 0 0\nfile /bin/init 0755 0 0 4096 app/bin/init\n")
     works(counts, [binary, "build", "cramfs", "manifest", "app.cramfs"], cwd=room)
     wanted = "at 4096 of the image: 23 21 2f 62\n"
-    for by, make in (("pkg-config", by_pkg_config), ("cmake", by_cmake)):
+    for by, make in (("cc", with_own_memory), ("pkg-config", by_pkg_config), ("cmake", by_cmake)):
         if not shutil.which(by):
             counts.skips("a C program by %s: there is no %s" % (by, by))
             continue
         program = make(prefix, room, counts)
         if program:
             expect(counts, "the program by " + by, works(counts, [program, "app.cramfs", "/bin/init"], cwd=room), wanted)
+
+
+def with_own_memory(prefix, room, counts):
+    """Builds the program with functions over memory of its own, which take the place of those in the archive."""
+    words = ["cc", "-std=c99", "-I" + prefix + "/include", "first.c", TOP + "/tests/c/heap.c", prefix + "/lib/libromtool.a"]
+    return room + "/own" if works(counts, [*words, "-o", "own"], cwd=room) is not None else None
 
 
 def by_pkg_config(prefix, room, counts):
