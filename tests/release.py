@@ -55,7 +55,7 @@ def text_of(path):
 
 def ran(words, **more):
     """Runs a command, and returns its status with all that it printed."""
-    how = {"stdin": subprocess.DEVNULL, "stdout": subprocess.PIPE, "stderr": subprocess.STDOUT, "timeout": 600, **more}
+    how = {"stdin": subprocess.DEVNULL, "stdout": subprocess.PIPE, "stderr": subprocess.STDOUT, "timeout": 1800, **more}
     done = subprocess.run(words, **how)
     return done.returncode, done.stdout.decode(errors="replace")
 
