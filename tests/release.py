@@ -178,10 +178,11 @@ def installs(binary, library, top, counts):
 
 
 def made_twice(given, top, counts):
-    """Makes the release twice, in folders of other names, and returns one of them; nothing if it cannot be made."""
+    """Makes the release twice, by users with other habits, and returns its folder; nothing if it cannot be made."""
     folders = [top + "/one", top + "/another-one"]
-    for it in folders:
-        if works(counts, [TOOLS + "/release", "--changed", *given, it]) is None:
+    for it, umask, zone in zip(folders, (0o022, 0o077), ("UTC", "Pacific/Chatham")):
+        how = {"umask": umask, "env": {**os.environ, "TZ": zone}}
+        if works(counts, [TOOLS + "/release", "--changed", *given, it], **how) is None:
             return None
     names = [sorted(os.listdir(it)) for it in folders]
     expect(counts, "the files of two runs", names[0], names[1])
