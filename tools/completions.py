@@ -179,8 +179,8 @@ _romtool "$@"
 
 
 def quoted(text):
-    """Returns a text in single quotes, for zsh and fish."""
-    return "'" + text.replace("\\", "\\\\").replace("'", "'\\''") + "'"
+    """Returns a text in single quotes, as zsh reads it, and fish if it has no backslash."""
+    return "'" + text.replace("'", "'\\''") + "'"
 
 
 def in_zsh(kind):
