@@ -139,7 +139,7 @@ def bash(top, subcommands):
     valued = [it for sub in subcommands for it in sub.options if it.value]
     options = [("''", [it.name for it in top] + ["--help", "--version"])]
     options += [(it.name, [option.name for option in it.options] + ["--help"]) for it in subcommands]
-    words = [("''", 0, [it.name for it in subcommands] + ["help"]), ("help", 0, [it.name for it in subcommands])]
+    words = [("", 0, [it.name for it in subcommands] + ["help"]), ("help", 0, [it.name for it in subcommands])]
     for it in subcommands:
         for at, word in enumerate(it.words):
             words.append((it.name, "*" if it.repeats and word == it.words[-1] else at, kind_of(word)))
@@ -147,7 +147,7 @@ def bash(top, subcommands):
         valued='"' + " " + " ".join(it.name for it in valued) + ' "',
         values="\n".join(f"        {it.name}) {in_bash(kind_of(it.value))} ;;" for it in valued),
         options="\n".join(f"        {name}) {in_bash(found)} ;;" for name, found in options),
-        words="\n".join(f"    {name.strip(chr(39))}:{at}) {in_bash(kind)} ;;" for name, at, kind in words),
+        words="\n".join(f"    {name}:{at}) {in_bash(kind)} ;;" for name, at, kind in words),
     )
 
 
