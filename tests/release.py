@@ -34,6 +34,13 @@ COMP_WORDS=("$@") COMP_CWORD=$(($# - 1))
 _romtool
 printf '%s\\n' "${COMPREPLY[@]}"
 """
+# what fish offers behind a line
+FISH = (
+    ("romtool s", ["scan", "serve", "space"]), ("romtool --explain ex", ["extract"]), ("romtool help bu", ["build"]),
+    ("romtool --e", ["--explain"]), ("romtool build cr", ["cramfs", "cramfs-be"]), ("romtool build romfs f", ["file", "folder/"]),
+    ("romtool build --n", ["--no-follow"]), ("romtool scan --for r", ["romfs"]), ("romtool scan --for romfs f", ["folder/"]),
+    ("romtool scan --align 40", ["4096"]), ("romtool extract f", ["file", "folder/"]), ("romtool extract image f", ["folder/"]),
+)  # fmt: skip
 CMAKE = """cmake_minimum_required(VERSION 3.10)
 project(first C)
 find_package(romtool {version} REQUIRED)
@@ -148,6 +155,9 @@ def shells(binary, top, counts):
             expect(counts, "%s reads its completion" % shell, ran([shell, "-n", script]), (0, ""))
         else:
             counts.skips("the completion for %s: there is no %s" % (shell, shell))
+    for line, wanted in FISH if shutil.which("fish") else ():
+        said = ran(["fish", "--no-config", "-c", "source $argv[1]; complete -C$argv[2]", top + "/fish", line], cwd=top + "/here")
+        expect(counts, "fish: " + line, [it.partition("\t")[0] for it in said[1].splitlines()], wanted)
 
 
 def below(folder):
