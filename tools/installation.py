@@ -57,7 +57,7 @@ endif()
 
 def stop(why):
     """Ends the tool with a message on standard error."""
-    sys.exit(f"{os.path.basename(sys.argv[0])}: {why}")
+    sys.exit(f"tools/{os.path.basename(sys.argv[0])}: {why}")
 
 
 def content(path):
