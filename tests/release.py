@@ -215,7 +215,7 @@ def contents(folder, counts):
     with open(folder + "/PROVENANCE.txt", encoding="utf-8") as it:
         told = it.read()
     crates = re.findall(r"^(\w+)(?: staticlib)?:", text_of("crates.txt"), re.M)
-    missing = [it for it in crates if not re.search(r"^%s: (logic=proved functions=\d+ sum=\w+ |kept: |nothing is known$)" % it, told, re.M)]
+    missing = [it for it in crates if not re.search(r"^%s: (logic=proved functions=\d+ .*sum=\w+ |kept: |nothing is known$)" % it, told, re.M)]
     expect(counts, "crates that PROVENANCE.txt leaves out", missing, [])
     if "A TRIAL" not in told:
         expect(counts, "crates of which the gate said nothing", re.findall(r"^(\w+): nothing is known$", told, re.M), [])
@@ -365,8 +365,10 @@ def by_cmake(prefix, room, counts):
     return made + "/first" if works(counts, ["cmake", "--build", made]) is not None else None
 
 
-def lacks(library):
+def lacks(library, is_trial):
     """Returns why no release can be made here, or nothing."""
+    if not is_trial and not os.path.exists(TOP + "/out/gate.log"):
+        return "the gate did not pass here: ./test runs it"
     for tool in ("cc", "ar", "readelf", "dpkg-deb", "dpkg-query", "git", "rt"):
         if not shutil.which(tool):
             return "there is no %s" % tool
@@ -388,7 +390,7 @@ def main():
         bash(binary, top, counts)
         shells(binary, top, counts)
         installs(binary, library if os.path.exists(library) and shutil.which("cc") else None, top, counts)
-        why = lacks(library)
+        why = lacks(library, bool(given))
         folder = None if why else made_twice(given, top, counts)
         if why:
             counts.skips("the release: " + why)
