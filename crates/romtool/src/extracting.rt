@@ -9,7 +9,6 @@ use crate::folders::base;
 use crate::making::{
     Owner, Rights, Top, finish_file, new_file, new_folder, new_link, new_name, set_folder,
 };
-use crate::streams::{Again, Remembering};
 use crate::teller::Teller;
 use arrayvec::ArrayVec;
 use command_line::Extract;
@@ -17,6 +16,7 @@ use image_check::AnyImage;
 use image_info::volume;
 use image_manifest::{Member, PATH_MAX, Refused, members, path_of, write_manifest};
 use image_map::cat;
+use program_streams::{Again, Remembering};
 use rom_commands::{Failure, Status};
 use rom_fields::{ByteWrite, Plain};
 use rom_tree::{Kind, NodeId, Stat, TreeImage};

@@ -4,13 +4,14 @@ ghost use Rattle.rom_commands.specs.Asked.{Fits};
 
 use crate::arguments::words;
 use crate::closing::settle_output;
-use crate::reading::{Found, Front, Loaded};
 use crate::replies::Replies;
-use crate::streams::{Again, Ahead, Held, hold_closed};
+use crate::streams::hold_closed;
 use crate::teller::Teller;
 use crate::{building, extracting, inventory, reading, scanning};
 use command_line::{Extract, Request, read};
 use image_check::check;
+use image_load::{Found, Front, Loaded};
+use program_streams::{Again, Ahead, Held};
 use rom_commands::{
     Asked, Failure, Status, has_addresses, hello, print, print_file, refuse, refuse_in, serve_on,
     serve_several_on,
@@ -104,8 +105,8 @@ fn image_in(teller: &Teller<'_>, name: &str, asked: Asked) -> Result<Loaded, Sta
 /// Prints the fault that a file has by its first bytes.
 fn refuse_front(teller: &Teller<'_>, name: &str, front: &Front) -> Status {
     let rt = teller.rt;
-    let mut out = Plain::new(Held::new(rt, io::writer(rt)));
-    let mut err = Plain::new(Held::new(rt, rt.stderr()));
+    let mut out = Plain::new(Held::new(rt.alloc(), io::writer(rt)));
+    let mut err = Plain::new(Held::new(rt.alloc(), rt.stderr()));
     let status = refuse(front.fault, &mut out, &mut err);
     if status == Status::Refused {
         teller.explain_fault(name.as_bytes(), &front.bytes, front.fault);
@@ -160,7 +161,7 @@ fn copy(teller: &Teller<'_>, name: &str, path: &str) -> Status {
     let Ok(out) = BufWriter::new(rt.alloc(), Again::new(io::writer(rt))) else {
         return teller.say(Failure::Memory);
     };
-    let mut err = Plain::new(Held::new(rt, rt.stderr()));
+    let mut err = Plain::new(Held::new(rt.alloc(), rt.stderr()));
     let path = path.as_bytes();
     let status = print_file(rt.alloc(), &bytes, path, &mut Plain::new(out), &mut err);
     if status == Status::Refused {
@@ -192,7 +193,7 @@ fn serve(teller: &Teller<'_>, name: &str) -> Status {
         Ok(bytes) => bytes,
         Err(status) => return status,
     };
-    let mut err = Plain::new(Held::new(rt, rt.stderr()));
+    let mut err = Plain::new(Held::new(rt.alloc(), rt.stderr()));
     let status = serve_on(
         rt.alloc(),
         &bytes,
@@ -251,8 +252,8 @@ fn say_missing(teller: &Teller<'_>, name: &str, image: u32, missing: &Missing) -
         Missing::Refused(front) => front,
     };
     let rt = teller.rt;
-    let mut out = Plain::new(Held::new(rt, io::writer(rt)));
-    let mut err = Plain::new(Held::new(rt, rt.stderr()));
+    let mut out = Plain::new(Held::new(rt.alloc(), io::writer(rt)));
+    let mut err = Plain::new(Held::new(rt.alloc(), rt.stderr()));
     let status = refuse_in(front.fault, image, &mut out, &mut err);
     if status == Status::Refused {
         teller.explain_fault(name.as_bytes(), &front.bytes, front.fault);
@@ -273,7 +274,7 @@ fn serve_files<R: ByteRead>(
     if files.is_empty() || files.len() > 8 {
         return teller.say(Failure::Usage);
     }
-    let mut err = Plain::new(Held::new(rt, rt.stderr()));
+    let mut err = Plain::new(Held::new(rt.alloc(), rt.stderr()));
     let out = &mut Plain::new(Replies::new(*teller, io::writer(rt)));
     let status = serve_several_on(rt.alloc(), files, lines, out, &mut err);
     if status == Status::Refused {
@@ -320,7 +321,7 @@ fn print_out(teller: &Teller<'_>, name: &[u8], bytes: &[u8], asked: Asked) -> St
     let Ok(out) = BufWriter::new(rt.alloc(), Again::new(io::writer(rt))) else {
         return teller.say(Failure::Memory);
     };
-    let mut err = Plain::new(Held::new(rt, rt.stderr()));
+    let mut err = Plain::new(Held::new(rt.alloc(), rt.stderr()));
     let status = print(rt.alloc(), bytes, asked, &mut Plain::new(out), &mut err);
     if status == Status::Refused && teller.explain_image(name, bytes) && asked == Asked::Misreads {
         teller.explain(name, &MISREAD);
