@@ -12,12 +12,9 @@
 #include "romtool.h"
 
 #define FILES 64
+/* No file of a case has more bytes: a read of more is one of so many. */
+#define MOST ((size_t)1 << 22)
 
-static const char *const fault_names[27] = {
-    "", "TooMany", "Short", "Magic", "Size", "Sum", "Flags", "Crc", "Signature", "Root", "", "Bounds", "HeaderSum",
-    "BadName", "Kind", "LinkSize", "BlockKind", "ListEnd", "", "", "Twice", "TooDeep", "Overlap", "DupName", "Dot",
-    "HardLink", "Unsorted",
-};
 static const char *const error_names[11] = {
     "", "ENOENT", "ENOTDIR", "ELOOP", "ENAMETOOLONG", "EINVAL", "EBADF", "EISDIR", "ENXIO", "EMFILE", "ERANGE",
 };
@@ -98,8 +95,8 @@ static void list(const struct romtool_image *image, size_t len) {
         }
         wants(is_in_image(image, &entry), "a name outside of the image");
         path[len] = '/';
-        memcpy(path + len + 1, entry.name, entry.name_len);
-        list(image, len + 1 + entry.name_len);
+        memcpy(path + len + 1, entry.name, (size_t)entry.name_len);
+        list(image, len + 1 + (size_t)entry.name_len);
     }
 }
 
@@ -215,7 +212,7 @@ static int by_path(const struct romtool_image *image, const char *word, const ch
 
 static void read_one(struct romtool_file *file, size_t most) {
     uint8_t *buffer = malloc(most + 1);
-    size_t count = 99;
+    romtool_size count = 99;
     wants(buffer != NULL, "no memory for a buffer");
     memset(buffer, 0x5a, most + 1);
     const uint32_t error = romtool_read(file, most ? buffer : NULL, most, &count);
@@ -223,8 +220,8 @@ static void read_one(struct romtool_file *file, size_t most) {
     if (error) {
         put_error(error);
     } else {
-        printf("ok %zu ", count);
-        put_hex(buffer, count);
+        printf("ok %" PRIu64 " ", count);
+        put_hex(buffer, (size_t)count);
     }
     free(buffer);
 }
@@ -240,7 +237,7 @@ static void readdir_one(const struct romtool_image *image, struct romtool_file *
     } else {
         wants(is_in_image(image, &entry), "a name outside of the image");
         printf("ok ");
-        escaped(entry.name, entry.name_len);
+        escaped(entry.name, (size_t)entry.name_len);
         printf(" %" PRIu32 "\n", entry.node);
     }
 }
@@ -262,7 +259,7 @@ static void by_file(const struct romtool_image *image, const char *word, uint64_
     if (strcmp(word, "fstat") == 0) {
         put_stat_reply(romtool_fstat(file));
     } else if (strcmp(word, "read") == 0) {
-        read_one(file, (size_t)one);
+        read_one(file, one < MOST ? (size_t)one : MOST);
     } else if (strcmp(word, "lend") == 0) {
         put_place(image, romtool_lend(file, one));
     } else if (strcmp(word, "map") == 0) {
@@ -341,7 +338,7 @@ static int answer(const char *word, const struct romtool_image *image, uint32_t 
     }
     if (error) {
         wants(error == ROMTOOL_FAULT && image->fault < 27 && image->status == 0, "another end of a check");
-        printf("fault %" PRIu32 " %s at %" PRIu32 "\n", image->fault, fault_names[image->fault], image->at);
+        printf("fault %" PRIu32 " %s at %" PRIu32 "\n", image->fault, romtool_fault_name(image->fault), image->at);
         return 1;
     }
     wants(image->status == 1 && image->format >= 1 && image->format <= 3, "an image of no format");
