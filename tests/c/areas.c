@@ -14,9 +14,12 @@
 #include "romtool_heap.h"
 
 #define MOST 24
+#ifndef ROOM
 #define ROOM (1 << 22)
+#endif
 
-static uint64_t area[ROOM / 8 + 2];
+static uint64_t room[ROOM / 8 + 4];
+static uint8_t *area; /* that, from a multiple of 16 on */
 static unsigned long steps, wrong;
 
 static void wants(int holds, const char *what) {
@@ -101,7 +104,7 @@ static void step(struct block *all, uint8_t *from, size_t len) {
 /* Steps by chance over an area of `len` bytes. */
 static void by_chance(size_t skipped, size_t len) {
     static struct block all[MOST];
-    uint8_t *from = (uint8_t *)area + skipped;
+    uint8_t *from = area + skipped;
     memset(area, 0xee, len + 32);
     romtool_area(from, len);
     for (int i = 0; i < 400; i++) {
@@ -123,7 +126,7 @@ static void by_chance(size_t skipped, size_t len) {
     }
     wants(rattle_alloc(whole + 1, 1).given == 0, "more than the area has");
     for (size_t i = 0; i < skipped; i++) {
-        wants(((uint8_t *)area)[i] == 0xee, "a byte before the area that was written");
+        wants(area[i] == 0xee, "a byte before the area that was written");
     }
     for (size_t i = 0; i < 16; i++) {
         wants(from[len + i] == 0xee, "a byte behind the area that was written");
@@ -135,7 +138,7 @@ static void odd_areas(void) {
     wants(!rattle_alloc(0, 1).given && romtool_area_most() == 0, "memory of no area");
     romtool_area(area, 15);
     wants(!rattle_alloc(0, 1).given, "memory of an area without room");
-    romtool_area(area, sizeof area);
+    romtool_area(area, ROOM);
     wants(!rattle_alloc(1, 32).given, "an alignment above 16");
     wants(!rattle_alloc(UINT64_MAX, 1).given && !rattle_alloc((uint64_t)1 << 62, 1).given, "more than there is");
 }
@@ -146,7 +149,7 @@ static int is_same(const struct romtool_image *one, const struct romtool_image *
 
 static void image(const char *name, const uint8_t *data, size_t len) {
     struct romtool_image first = ROMTOOL_INIT, other = ROMTOOL_INIT;
-    romtool_area(area, sizeof area);
+    romtool_area(area, ROOM);
     const uint32_t error = romtool_check(&first, data, len);
     const romtool_size most = romtool_area_most();
     wants(error != ROMTOOL_MEMORY && romtool_area_blocks() == 0, "a check over the whole area");
@@ -162,6 +165,7 @@ static void image(const char *name, const uint8_t *data, size_t len) {
 }
 
 int main(int argc, char **argv) {
+    area = (uint8_t *)room + (size_t)(-(uintptr_t)room % 16);
     for (size_t len = 0; len < 1200; len += 1 + chance(7)) {
         by_chance(chance(17), len);
     }
