@@ -302,6 +302,7 @@ async function look(file) {
 
 function take(files) { if (files.length) look(files[0]).catch(failed); }
 
+at("file").onclick = (event) => { event.target.value = ""; }; // so that the same file can be chosen again
 at("file").onchange = (event) => take(event.target.files);
 at("stop").onclick = () => { begin(); say("Stopped"); at("stop").hidden = true; at("file").focus(); };
 at("more-walk").onclick = () => walkOn().catch(failed);
