@@ -18,7 +18,7 @@ compiler has them.
     areas.c    the heap over an array, c/area.c, by itself and under checks
 The header is compiled as C99, C11 and C++11 to C++20 by each compiler that is installed. What the library takes from its
 surroundings is six functions. Where aarch64-linux-gnu-gcc and qemu-aarch64 are installed, the library is built for
-aarch64, too, and answers.c and closed.c are run over it. The last line is `N passed, M failed`, with `, K skipped` where
+aarch64, too, and answers.c, closed.c and reader.c are run over it. The last line is `N passed, M failed`, with `, K skipped` where
 nothing was run for want of `cc` or `rt`.
 """
 
@@ -253,18 +253,16 @@ def entries(binary, top, first, counts):
         is_as_wanted("no entry in " + form, said([first, form, "/empty"], cwd=top).returncode, 1, counts)
 
 
-def reader(top, archive, numbers, counts):
-    """A reader without check, heap and C library, on x86-64."""
-    if os.uname().machine != "x86_64":
-        counts.skips("the reader without a heap: it is for x86-64")
-        return
+def reader(top, archive, numbers, counts, compiler="cc", emulator=()):
+    """A reader without check, heap and C library, as a process of Linux."""
     for form in FORMATS:
         with open(os.path.join(top, "image.h"), "wb") as file:
             file.write(said([numbers, form], cwd=top).stdout)
-        words = ["cc", "-std=c99", "-O2", *STRICT, "-I" + top, "-ffreestanding", "-fno-stack-protector", "-fno-pie"]
+        words = [compiler, "-std=c99", "-O2", *STRICT, "-I" + top, "-ffreestanding", "-fno-stack-protector", "-fno-pie"]
         words += ["-static", "-nostdlib", "-Wl,--gc-sections", SOURCES + "/reader.c", archive, "-o", top + "/reader"]
         if compiled(words, counts):
-            is_as_wanted("the reader of " + form, said([top + "/reader"]).returncode, sum(CONTENT) % 64, counts)
+            status = said([*emulator, top + "/reader"], timeout=SECONDS).returncode
+            is_as_wanted("the reader of %s by %s" % (form, compiler), status, sum(CONTENT) % 64, counts)
 
 
 def program(name, top, archive, words, counts, over=None):
@@ -288,7 +286,7 @@ def of_aarch64(name, top, archive, counts):
     return script
 
 
-def on_aarch64(binary, top, counts):
+def on_aarch64(binary, top, numbers, counts):
     """The library for aarch64 answers as romtool does on this machine."""
     for tool in ("aarch64-linux-gnu-gcc", "qemu-aarch64"):
         if not shutil.which(tool):
@@ -303,6 +301,8 @@ def on_aarch64(binary, top, counts):
         each_format(binary, top, answers, counts)
     if closed:
         is_as_wanted("closed handles on aarch64", said([closed, top + "/tree"]).stdout, b"closed 92\n", counts)
+    if numbers:
+        reader(top, archive, numbers, counts, "aarch64-linux-gnu-gcc", ["qemu-aarch64"])
 
 
 def images(top):
@@ -383,10 +383,12 @@ def main():
                 file.write(run.file_of("romfs/tree/image"))
             done = said([closed, top + "/tree"])
             is_as_wanted("closed handles", (done.returncode, done.stdout), (0, b"closed 92\n"), counts)
-        if numbers:
+        if numbers and os.uname().machine == "x86_64":
             reader(top, archive, numbers, counts)
+        elif numbers:
+            counts.skips("the reader without a heap: it is tried on x86-64")
         if not arguments.library:
-            on_aarch64(binary, top, counts)
+            on_aarch64(binary, top, numbers, counts)
     return counts.close()
 
 

@@ -5,10 +5,10 @@
 
 tools/rom32 makes the archives, all of one module, which it keeps of the proved build unless one is given; its own test
 is run first. Then
-    armv7a   answers.c (see c.py) on all cases and in each format, closed.c and areas.c, by qemu-arm
+    armv7a   answers.c (see c.py) on all cases and in each format, closed.c and areas.c, by qemu-arm, also with --small
     thumbv7m the same on a board with a Cortex-M3, by qemu-system-arm, but for images that its memory does not hold; and
              firmware with the image in flash and a heap of its own, with and without the check
-    thumbv6m, thumbv7m firmware is linked, and its sizes are printed
+    thumbv6m firmware, on the same board, which has all its instructions; the sizes of both are printed
     riscv32  `check` and `list` of answers.c on all cases, by qemu-system-riscv32
     wasm32   answers.mjs on all cases and in each format, by node
 A target whose compiler or emulator is not installed is skipped. The last line is `N passed, M failed`, with
@@ -122,6 +122,23 @@ def programs(compiler, archive, top, target, counts):
     return made
 
 
+def headers(top, counts):
+    """The headers for machines of 32 bits, in C and C++; a compiler that lays out 64 bits otherwise stops."""
+    if lacks("the headers for 32 bits", ("clang", "clang++"), counts):
+        return
+    with open(top + "/header.c", "w", encoding="utf-8") as file:
+        file.write('#include "romtool_heap.h"\n')
+    shutil.copy2(top + "/header.c", top + "/header.cc")
+    words = [*c.STRICTER, "-ffreestanding", "-fsyntax-only"]
+    for triple in ("thumbv7m-none-eabi", "riscv32-unknown-elf", "wasm32-unknown-unknown"):
+        for standard in ("c99", "c11"):
+            c.compiled(["clang", "--target=" + triple, "-std=" + standard, *words, top + "/header.c"], counts)
+        for standard in ("c++11", "c++14", "c++17", "c++20"):
+            c.compiled(["clang++", "--target=" + triple, "-std=" + standard, *words, top + "/header.cc"], counts)
+    done = c.said(["clang", "--target=i386-linux-gnu", *words, top + "/header.c"])
+    c.is_as_wanted("i386", (done.returncode, b"romtool_layout_is_right" in done.stdout), (1, True), counts)
+
+
 def closed_and_areas(closed, areas, top, name, counts):
     """What closed.c and areas.c say; the areas of a machine of 32 bits have their own sizes."""
     if closed:
@@ -139,15 +156,16 @@ def on_arm(binary, top, archives, counts):
     """A static program for ARMv7-A, which the emulator of programs runs."""
     if lacks("armv7a", ("arm-linux-gnueabihf-gcc", "qemu-arm"), counts):
         return
-    archive = archives.of("armv7a", counts)
-    if not archive:
-        return
-    made = programs(["arm-linux-gnueabihf-gcc", "-static"], archive, top, "armv7a", counts)
-    answers, closed, areas = (it and script(it + ".sh", 'exec qemu-arm %s "$@"\n' % it) for it in made)
-    if answers:
-        cases(binary, answers, ("check", "list", "serve"), 1 << 40, counts)
-        c.each_format(binary, top, answers, counts)
-    closed_and_areas(closed, areas, top, "ARMv7-A", counts)
+    for small in (False, True):
+        archive = archives.of("armv7a", counts, small)
+        if not archive:
+            continue
+        made = programs(["arm-linux-gnueabihf-gcc", "-static"], archive, top, "armv7a", counts)
+        answers, closed, areas = (it and script(it + ".sh", 'exec qemu-arm %s "$@"\n' % it) for it in made)
+        if answers:
+            cases(binary, answers, ("check", "list", "serve"), 1 << 40, counts)
+            c.each_format(binary, top, answers, counts)
+        closed_and_areas(closed, areas, top, "ARMv7-A", counts)
 
 
 BOARD_RUN = """words=
@@ -194,19 +212,21 @@ def in_flash(top, archives, numbers, counts):
     """Firmware with the image in flash: what it answers, its stack and its sizes."""
     if not numbers or lacks("firmware", ("arm-none-eabi-gcc", "qemu-system-arm"), counts):
         return
+    kinds = [(target, small) for target in ("thumbv7m", "thumbv6m") for small in (False, True)]
     for form in c.FORMATS:
         with open(os.path.join(top, "image.h"), "wb") as file:
             file.write(c.said([numbers, form], cwd=top).stdout)
-        for words in (["-DCHECK"], []):
-            for small in (False, True):
-                archive = archives.of("thumbv7m", counts, small)
-                made = archive and firmware(top, archive, "flash", ARM, words, counts)
+        for target, small in kinds:
+            archive = archives.of(target, counts, small)
+            for words in (["-DCHECK"], []) if archive else ():
+                made = firmware(top, archive, "flash", ARM if target == "thumbv7m" else M0, words, counts)
                 if made:
-                    runs_in_flash(top, made, form, words, counts)
+                    what = "%s%s on %s%s" % (form, " with a check" * bool(words), target, ", small" * small)
+                    runs_in_flash(top, made, what, words, counts)
     bare_sizes(top, archives, counts)
 
 
-def runs_in_flash(top, made, form, words, counts):
+def runs_in_flash(top, made, what, words, counts):
     """Runs firmware on the board, and looks at its lines."""
     done = c.said([script(top + "/flash.sh", BOARD_RUN % made)], cwd=top, timeout=SECONDS)
     text = done.stdout.decode(errors="replace")
@@ -214,10 +234,10 @@ def runs_in_flash(top, made, form, words, counts):
     wanted = ["open 0 ", "fstat 0 ", "map 0 ", "read 0 ", "readdir 0 ", "stat 0 ", "sum %d %d in flash 1\n" % (total, total)]
     wanted += ["check 0 ", " left 0 ", " same 1\n"] * bool(words)
     missing = [it for it in wanted if it not in text]
-    c.is_as_wanted("firmware of %s %s" % (form, words), (done.returncode, missing), (0, []), counts)
+    c.is_as_wanted("firmware of " + what, (done.returncode, missing), (0, []), counts)
     stacks = {line.split()[0]: int(line.split()[3]) for line in text.splitlines() if " stack " in line}
-    c.is_as_wanted("stack of firmware of %s" % form, bool(stacks) and max(stacks.values()) <= 16384, True, counts)
-    print("stack of firmware of %s: %s" % (form, ", ".join("%s %d" % it for it in stacks.items())))
+    c.is_as_wanted("stack of firmware of " + what, bool(stacks) and max(stacks.values()) <= 16384, True, counts)
+    print("stack of firmware of %s: %s" % (what, ", ".join("%s %d" % it for it in stacks.items())))
 
 
 def bare_sizes(top, archives, counts):
@@ -306,6 +326,7 @@ def main():
         c.build_all(binary, top, counts)
         with open(top + "/tree", "wb") as file:
             file.write(run.file_of("romfs/tree/image"))
+        headers(top, counts)
         parts = {"armv7a": on_arm, "thumbv7m": on_board, "riscv32": on_riscv, "wasm32": in_node}
         for name, part in parts.items():
             if arguments.only in (None, name):

@@ -11,7 +11,8 @@ const ANSWER = 64, PATH = 256, BYTES = 8192;
 // how much memory a check is offered at first, and at most
 const LEAST = 1 << 20, MOST = 1 << 29;
 
-const aligned = (n) => (n + 63) & ~63;
+// not by bits, of which JavaScript has 32 with a sign
+const aligned = (n) => Math.ceil(n / 64) * 64;
 
 export class Reader {
   // Makes a reader of the bytes of a module.

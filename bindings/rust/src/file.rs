@@ -35,7 +35,7 @@ impl<'a> Open<'a> {
 
 /// An open regular file with a position. A clone has a position of its own.
 ///
-/// It is read by [`Read`], [`BufRead`] and [`Seek`]. Reading fails never. [`as_bytes`](File::as_bytes) has the bytes where
+/// It is read by [`Read`], [`BufRead`] and [`Seek`]. Reading never fails. [`as_bytes`](File::as_bytes) has the bytes where
 /// they lie in the image, without a copy.
 #[derive(Clone, Debug)]
 pub struct File<'a> {
