@@ -50,7 +50,7 @@
 #endif
 
 /* A size or a number of bytes. The library counts in 64 bits on every machine. In a struct on a machine of 32 bits a
- * pointer has the first half of 8 bytes, since the size behind it is aligned to 8; the other half is never read. */
+ * pointer has the first half of 8 bytes, since the size behind it is aligned to 8; the other half is never used. */
 typedef uint64_t romtool_size;
 
 /* The value of a struct that is closed: `struct romtool_image image = ROMTOOL_INIT;` */
@@ -94,8 +94,7 @@ extern "C" {
 
 /* An image. It is open where `status` is 1. After a check that found a fault, `fault` is its number and `at` its offset
  * (docs/FAULTS.md). `at` MAY LIE OUTSIDE of the image: in romfs the record of fault 11 (Bounds) may be beyond the last
- * byte, and an image of fewer bytes than a superblock has no byte where faults 2 and 3 point. Compare `at` with `len`
- * before you read there. */
+ * byte, and of no bytes fault 2 (Short) is at 0. Compare `at` with `len` before you read there. */
 struct romtool_image {
     const uint8_t *data;
     romtool_size len;

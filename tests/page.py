@@ -336,6 +336,18 @@ def nothing_outside(browser, counts):
     c.is_as_wanted("errors", [json.dumps(it)[:300] for it in wrong], [], counts)
 
 
+FETCH = """new Promise((done) => {
+  addEventListener("securitypolicyviolation", (event) => done(event.effectiveDirective));
+  fetch("http://127.0.0.1:9/").catch(() => 0);
+  setTimeout(() => done("nothing"), 5000);
+})"""
+
+
+def forbids(browser, counts):
+    """The page forbids its own code to ask for anything."""
+    c.is_as_wanted("what forbids a request", browser.value(FETCH), "connect-src", counts)
+
+
 def page(given, top, counts):
     """The page, which is made if none is given; or nothing."""
     if given:
@@ -377,6 +389,7 @@ def main():
             dropped(browser, binary, top, counts)
             colours(browser, counts)
             nothing_outside(browser, counts)
+            forbids(browser, counts)
         finally:
             browser.close()
     return counts.close()
