@@ -18,7 +18,8 @@ compiler has them.
     areas.c    the heap over an array, c/area.c, by itself and under checks
 The header is compiled as C99, C11 and C++11 to C++20 by each compiler that is installed. What the library takes from its
 surroundings is six functions. Where aarch64-linux-gnu-gcc and qemu-aarch64 are installed, the library is built for
-aarch64, too, and answers.c, closed.c and reader.c are run over it. The last line is `N passed, M failed`, with `, K skipped` where
+aarch64, too, and answers.c, closed.c and reader.c are run over it; with qemu-x86_64 answers.c is also run as on an old
+processor, over a library that is built for these. The last line is `N passed, M failed`, with `, K skipped` where
 nothing was run for want of `cc` or `rt`.
 """
 
@@ -88,15 +89,15 @@ def library(given, counts):
     return archive
 
 
-def library_of_aarch64(top, counts):
-    """The archive for aarch64, or nothing. It is built where that of this machine is, which is put back."""
+def other_library(words, top, counts):
+    """The archive for another processor, or nothing. It is built where that of this machine is, which is put back."""
     archive, kept = os.path.join(CRATE, "out", "librom_c.a"), os.path.join(top, "librom_c.a")
     shutil.copy2(archive, kept)
     try:
-        done = said([os.path.join(TOP, "tools", "rt"), "lib", "--target", AARCH64], cwd=CRATE)
+        done = said([os.path.join(TOP, "tools", "rt"), "lib", *words], cwd=CRATE)
         if done.returncode == 0:
-            return shutil.copy2(archive, os.path.join(top, "aarch64.a"))
-        counts.fails("rt lib for aarch64", done.stdout.decode(errors="replace").splitlines()[-20:])
+            return shutil.copy2(archive, os.path.join(top, words[-1] + ".a"))
+        counts.fails("rt lib %s" % words, done.stdout.decode(errors="replace").splitlines()[-20:])
         return None
     finally:
         shutil.copy2(kept, archive)
@@ -292,7 +293,7 @@ def on_aarch64(binary, top, numbers, counts):
         if not shutil.which(tool):
             counts.skips("the library for aarch64: there is no %s" % tool)
             return
-    archive = library_of_aarch64(top, counts)
+    archive = other_library(["--target", AARCH64], top, counts)
     if not archive:
         return
     answers, closed = (of_aarch64(it, top, archive, counts) for it in ("answers", "closed"))
@@ -348,6 +349,22 @@ def heaps(binary, top, refused, areas, counts):
             is_as_wanted("an area that is just large enough: %s" % name, line.split()[1], want, counts)
 
 
+def on_old_processor(binary, top, counts):
+    """The library for the first processors of x86-64 runs where that for later ones stops."""
+    if os.uname().machine != "x86_64" or not shutil.which("qemu-x86_64"):
+        counts.skips("the library for the first processors of x86-64: there is no qemu-x86_64")
+        return
+    archive = other_library(["--cpu", "x86-64"], top, counts)
+    words = ["-O2", "-static"]
+    made = archive and program("answers", top, archive, words, counts, os.path.join(HEAPS, "heap.c"))
+    if made:
+        script = made + ".sh"
+        with open(script, "w", encoding="utf-8") as file:
+            file.write('#!/bin/sh\nexec qemu-x86_64 -cpu qemu64 %s "$@"\n' % made)
+        os.chmod(script, 0o755)
+        each_format(binary, top, script, counts)
+
+
 def main():
     reads = parser("Build the library for C, and look that programs over it answer as romtool does.")
     reads.add_argument("--library", help="the archive, if not the one that `rt lib` builds")
@@ -389,6 +406,7 @@ def main():
             counts.skips("the reader without a heap: it is tried on x86-64")
         if not arguments.library:
             on_aarch64(binary, top, numbers, counts)
+            on_old_processor(binary, top, counts)
     return counts.close()
 
 
