@@ -53,7 +53,7 @@ void rattle_dealloc(void *at);
 void romtool_area(void *bytes, romtool_size len);
 
 /* How many bytes an area needs for all that was asked since romtool_area was called, if none of it was refused. For the
- * checks of the same images, an area of so many bytes at a multiple of 16 is enough, and a smaller one is not. */
+ * checks of the same images an area of so many bytes at a multiple of 16 is enough. In a smaller one a call is refused. */
 romtool_size romtool_area_most(void);
 
 /* How many blocks are not given back: 0 while no check runs. */

@@ -10,7 +10,7 @@ is run first. Then
              firmware with the image in flash and a heap of its own, with and without the check
     thumbv6m firmware, on the same board, which has all its instructions; the sizes of both are printed
     riscv32  `check` and `list` of answers.c on all cases, by qemu-system-riscv32
-    wasm32   answers.mjs on all cases and in each format, by node
+    wasm32   answers.mjs on all cases and in each format, by node; in each format also at addresses above 2^31
 A target whose compiler or emulator is not installed is skipped. The last line is `N passed, M failed`, with
 `, K skipped`.
 """
@@ -301,9 +301,14 @@ def in_node(binary, top, archives, counts):
     if not done or done.returncode:
         counts.fails("tools/page --module", done and done.stdout.decode(errors="replace").splitlines()[-20:])
         return
-    answers = script(top + "/node.sh", 'exec node %s/answers.mjs %s "$@"\n' % (c.SOURCES, module))
+    run_it = 'exec node %s/answers.mjs %s "$@"\n' % (c.SOURCES, module)
+    answers, high = script(top + "/node.sh", run_it), script(top + "/high.sh", "export HIGH=1\n" + run_it)
     cases(binary, answers, ("check", "list", "serve"), 1 << 40, counts)
     c.each_format(binary, top, answers, counts)
+    if c.said([high, "check", c.FORMATS[0]], cwd=top).returncode == 77:
+        counts.skips("addresses above 2^31: there is too little memory")
+    else:
+        c.each_format(binary, top, high, counts)
 
 
 def main():

@@ -85,7 +85,14 @@ MADE = (
     "call { i64, i64 } @rom32.alloc(i64 8, i64 8)",
     "declare void @rattle_alloc(ptr sret([16 x i8]) align 8, i64, i64) nounwind",
     "call void @rattle_dealloc(ptr %0)",
+    "%both = load i64, ptr %cell, align 8\n  %at = and i64 %both, 4294967295\n",
 )
+# the search that --small replaces
+SEARCH = """define internal { i8, i64 } @"memchr::bytes::memchr"(i8 noundef %a0, ptr noundef %a1, i64 noundef %a2) #3 {
+  ret { i8, i64 } poison
+}
+
+"""
 GONE = ("target triple", "target datalayout", "alloca ptr", "ptrtoaddr ptr %p to i64", "load { ptr, i64 }")
 COUNTS = {"triple and layout": 2, "cells": 1, "pairs": 2, "addresses": 1, "heap": 2}
 # lines of a function that the pass refuses
@@ -158,10 +165,10 @@ WITHOUT = (
 )
 
 
-def is_refused(text):
+def is_refused(text, small=False):
     """Whether the pass refuses a module."""
     try:
-        to32.to32(text)
+        to32.to32(text, small)
     except to32.Refused:
         return True
     return False
@@ -184,8 +191,13 @@ def main():
         assert SAMPLE.count(old) >= 1, old
         if not is_refused(SAMPLE.replace(old, new, 1)):
             wrong.append(f"is not refused: {new}")
+    if not is_refused(SAMPLE, small=True):
+        wrong.append("a module without a search is not refused")
+    small = to32.to32(SAMPLE.replace("define i32 @romtool_check", SEARCH + "define i32 @romtool_check"), small=True)[0]
+    if "ret { i8, i64 } poison" in small or small.count("phi i64 [ 0, %start ]") != 1:
+        wrong.append("the search is not replaced")
     for it in wrong:
         print(f"tools/rom32 --self-test: {it}")
-    tried = len(MADE) + len(GONE) + len(COUNTS) + len(LINES) + len(TOPS) + len(WITHOUT)
+    tried = 2 + len(MADE) + len(GONE) + len(COUNTS) + len(LINES) + len(TOPS) + len(WITHOUT)
     print(f"tools/rom32 --self-test: {tried - len(wrong)} passed, {len(wrong)} failed")
     return 1 if wrong else 0

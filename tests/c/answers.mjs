@@ -1,6 +1,9 @@
 // Answers `check`, `list` and `serve` as romtool does, over the library in WebAssembly and web/reader.mjs.
 //
 //     node answers.mjs MODULE check|list|serve IMAGE
+//
+// With HIGH in the environment the image and the heap are above 2^31, where addresses have the highest bit of 32; status
+// 77 then says that there is no such memory.
 import { readFileSync, writeSync } from "node:fs";
 import { escaped, joined, KINDS, MEMORY, Reader } from "../../web/reader.mjs";
 
@@ -98,6 +101,10 @@ function serve() {
 
 const image = readFileSync(name);
 if (!reader.room(image.length)) throw new Error("no memory for the image");
+if (process.env.HIGH) {
+  reader.data = 0xa0000040;
+  if (!reader.reaches(reader.data + image.length + 64)) process.exit(77);
+}
 reader.write(0, image);
 const told = reader.check();
 if (told.error === MEMORY) process.exitCode = 3;
