@@ -44,6 +44,14 @@ def lacks(what, tools, counts):
     return bool(missing)
 
 
+def lacks_library(what, compiler, name, package, counts):
+    """Counts a target as skipped if its compiler does not find a file of its C library."""
+    found = c.said([*compiler, "-print-file-name=" + name]).stdout.decode().strip()
+    if found == name:
+        counts.skips("%s: there is no %s" % (what, package))
+    return found == name
+
+
 class Archives:
     """The archives of the targets, each built once, of one module."""
 
@@ -156,6 +164,8 @@ def on_arm(binary, top, archives, counts):
     """A static program for ARMv7-A, which the emulator of programs runs."""
     if lacks("armv7a", ("arm-linux-gnueabihf-gcc", "qemu-arm"), counts):
         return
+    if lacks_library("armv7a", ["arm-linux-gnueabihf-gcc"], "libc.a", "libc6-dev-armhf-cross", counts):
+        return
     for small in (False, True):
         archive = archives.of("armv7a", counts, small)
         if not archive:
@@ -178,6 +188,8 @@ exec qemu-system-arm -M mps2-an385 -nographic -monitor none -serial none \\
 def on_board(binary, top, archives, counts):
     """Programs of newlib on a board with a Cortex-M3."""
     if lacks("thumbv7m", ("arm-none-eabi-gcc", "qemu-system-arm"), counts):
+        return
+    if lacks_library("thumbv7m", ["arm-none-eabi-gcc", *ARM], "rdimon.specs", "libnewlib-arm-none-eabi", counts):
         return
     archive = archives.of("thumbv7m", counts)
     if not archive:
@@ -267,8 +279,8 @@ def on_riscv(binary, top, archives, counts):
     """Programs of picolibc for RV32, on a board of qemu."""
     if lacks("riscv32", ("riscv64-unknown-elf-gcc", "qemu-system-riscv32"), counts):
         return
-    if c.said(["riscv64-unknown-elf-gcc", "-print-file-name=picolibc.specs"]).stdout.strip() == b"picolibc.specs":
-        counts.skips("riscv32: there is no picolibc-riscv64-unknown-elf")
+    package = "picolibc-riscv64-unknown-elf"
+    if lacks_library("riscv32", ["riscv64-unknown-elf-gcc", *RISCV], "picolibc.specs", package, counts):
         return
     archive = archives.of("riscv32", counts)
     if not archive:
