@@ -332,6 +332,9 @@ define internal {{ i64, i64 }} @rom32.{name}({words}) nounwind {{
 def to32(text, small=False):
     """The module for 32 bits, and how many of each change were made."""
     it = Pass(text)
+    for name in re.findall(rf"^define (?!internal )[^@\n]*({NAME})\(", text, re.M):
+        if name not in [f"@romtool_{export}" for export in EXPORTS]:
+            raise Refused(f"an export that is not known: {name}")
     it.machine()
     it.cells()
     it.pairs()

@@ -152,7 +152,7 @@ TOPS = (
     'module asm "nop"',
     "declare void @taken(ptr byval({ ptr, i64 }))",
 )
-# what the sample may not lack or have otherwise
+# what the sample may not lack, have otherwise or have besides
 WITHOUT = (
     ("define i32 @romtool_seek(", "define i32 @romtool_sought("),
     ("define i64 @romtool_lookup(", "define i128 @romtool_lookup("),
@@ -161,6 +161,7 @@ WITHOUT = (
     ("declare { i64, i64 } @rattle_realloc(ptr, i64, i64, i64)\n", "declare ptr @rattle_realloc(ptr, i64, i64, i64)\n"),
     ("@romtool_fstat(ptr %0, ptr %1)", "@romtool_fstat(ptr sret({ ptr, i64 }) align 8 %0, ptr %1)"),
     ("define ptr @romtool_fstat(", "define void @romtool_fstat("),
+    ("define ptr @romtool_fstat(", "define i32 @romtool_further(ptr %0) #0 {\n  ret i32 0\n}\n\ndefine ptr @romtool_fstat("),
     ("define i64 @romtool_lookup(", "define ptr @romtool_lookup("),
 )
 
