@@ -1,25 +1,34 @@
-/* romtool.h: a proved reader of romfs and cramfs images that are used in place.
+/* SPDX-License-Identifier: MIT
  *
- * The library is crates/rom_c/out/librom_c.a; docs/C.md says how it is built and linked.
+ * romtool.h: a proved reader of romfs and cramfs images that are used in place.
+ *
+ * The library is libromtool.a of a release, or crates/rom_c/out/librom_c.a; docs/C.md says how it is built and linked,
+ * and what of it is proved. For machines of 32 bits and WebAssembly tools/rom32 makes it.
  *
  * An image is checked once, or its numbers are put down by a check on another machine. Then paths are looked up,
  * files are opened, and their bytes are lent where they lie in the image. What is known of an image stands in a struct
  * that the caller owns, beside the image's bytes: plain numbers, which may be copied. There is nothing to close.
  *
  * What the caller owes, since no call can look for it:
- *   1. A struct romtool_image or romtool_file is all zeros, as `= {0}` leaves it, or was written by this library alone;
- *      its fields may be read. (Numbers that romtool_check gave for the very same bytes may be put back.)
- *   2. The bytes that an image was checked with stay where they are and as they are, for as long as a struct of them,
+ *   1. A struct romtool_image or romtool_file is all zeros, as ROMTOOL_INIT leaves it, or was written by this library
+ *      alone; its fields may be read. (Numbers that romtool_check gave for the very same bytes may be put back.)
+ *   2. A node's number that is given to romtool_stat_node or romtool_open_node was answered by a call on the same image.
+ *   3. The bytes that an image was checked with stay where they are and as they are, for as long as a struct of them,
  *      or a pointer to them, is used.
  * And, as for any C function: a pointer points to as many bytes as are said to be there (NULL with 0 is fine), and what
  * a call writes overlaps nothing else that the call is given.
  *
- * Memory: romtool_check takes some from malloc, and gives all of it back before it returns. No other call takes any.
+ * Memory: romtool_check takes some by the functions of romtool_heap.h, and gives all of it back before it returns. No
+ * other call takes any.
  * Stack: 16 KiB is enough for each call. Files, streams, locks and globals: none.
  * Threads: calls share nothing but the image's bytes, which they only read. Two calls at one time are safe unless one
  * of them writes a struct that the other uses.
  *
- * A path begins with a slash and needs no zero at its end. Symbolic links in it are followed, at most 40 of them.
+ * A path begins with a slash and needs no zero at its end. Symbolic links in it are followed, at most 40 of them. The
+ * functions whose names end in _str take a path that ends with a zero.
+ *
+ * NO text of an image ends with a zero: neither the name of an entry nor the text of a link. What is behind its last
+ * byte is the rest of the image. Use the length.
  */
 #ifndef ROMTOOL_H
 #define ROMTOOL_H
@@ -30,11 +39,33 @@
 #include <stddef.h>
 #include <stdint.h>
 
-#ifdef __cplusplus
-extern "C" {
+/* The version of the library and of this header: as a number that grows, and as text. */
+#define ROMTOOL_VERSION 10000 /* 10000 * major + 100 * minor + patch */
+#define ROMTOOL_VERSION_TEXT "1.0.0"
+
+/* Whether pointers have 32 bits. Six functions then give their answers through a pointer, behind wrappers. */
+#if UINTPTR_MAX <= 0xffffffffu
+#define ROMTOOL_32 1
+#else
+#define ROMTOOL_32 0
 #endif
 
-/* Errors. 0 is none. In the struct of an answer that has one, all else is 0. */
+/* A size or a number of bytes. The library counts in 64 bits on every machine. In a struct on a machine of 32 bits a
+ * pointer has the first half of 8 bytes, since the size behind it is aligned to 8; the other half is never used. */
+typedef uint64_t romtool_size;
+
+/* The value of a struct that is closed: `struct romtool_image image = ROMTOOL_INIT;` */
+#ifdef __cplusplus
+#define ROMTOOL_INIT {}
+#define ROMTOOL_TEXT(text) static_cast<const uint8_t *>(static_cast<const void *>(text))
+extern "C" {
+#else
+#define ROMTOOL_INIT {0}
+#define ROMTOOL_TEXT(text) ((const uint8_t *)(text))
+#endif
+
+/* Errors. In the struct of an answer that has one, all else is 0. romtool_strerror has them in words. */
+#define ROMTOOL_OK 0u
 #define ROMTOOL_ENOENT 1u        /* a name is not there, or the path is empty */
 #define ROMTOOL_ENOTDIR 2u       /* a name stands behind what is no directory; what is open is none */
 #define ROMTOOL_ELOOP 3u         /* more than 40 symbolic links */
@@ -62,11 +93,12 @@ extern "C" {
 #define ROMTOOL_SOCKET 6u
 #define ROMTOOL_FIFO 7u
 
-/* An image. It is open where `status` is 1; after a check that found a fault, `fault` and `at` are its number and
- * offset (docs/FAULTS.md). */
+/* An image. It is open where `status` is 1. After a check that found a fault, `fault` is its number and `at` its offset
+ * (docs/FAULTS.md). `at` MAY LIE OUTSIDE of the image: in romfs the record of fault 11 (Bounds) may be beyond the last
+ * byte, and of no bytes fault 2 (Short) is at 0. Compare `at` with `len` before you read there. */
 struct romtool_image {
     const uint8_t *data;
-    size_t len;
+    romtool_size len;
     uint32_t status;
     uint32_t format;
     uint32_t fault;
@@ -95,7 +127,7 @@ struct romtool_stat {
     uint32_t minor;
 };
 
-/* Bytes of the image: `len` of them, from `data + at` on. */
+/* Bytes of the image: `len` of them, from `data + at` on. They lie in the image, and no zero ends them. */
 struct romtool_place {
     uint32_t error;
     uint32_t at;
@@ -111,10 +143,11 @@ struct romtool_file {
     uint64_t position;   /* of a file the number of a byte; of a directory, a number that only the library reads */
 };
 
-/* An entry of a directory: its name, which lies in the image, and the number of its node. `some` is 0 at the end. */
+/* An entry of a directory: its name, which lies in the image and is NOT ended by a zero, and the number of its node.
+ * `some` is 0 at the end. */
 struct romtool_entry {
     const uint8_t *name;
-    size_t name_len;
+    romtool_size name_len;
     uint32_t node;
     uint32_t some;
 };
@@ -122,35 +155,115 @@ struct romtool_entry {
 /* Checks `len` bytes as a romfs or cramfs image, and opens it. Gives 0; or ROMTOOL_FAULT or ROMTOOL_MEMORY, and then
  * `image` is closed. The time is as n log n and the memory some 100 bytes for each of the n references; an image has at
  * most 1,048,576 references and 64 names on a path. */
-uint32_t romtool_check(struct romtool_image *image, const uint8_t *data, size_t len);
+uint32_t romtool_check(struct romtool_image *image, const uint8_t *data, romtool_size len);
 
 /* What a path leads to. `follow` says whether a symbolic link in the last place is followed. Errors: ROMTOOL_CLOSED,
  * ROMTOOL_ENOENT, _ENOTDIR, _ELOOP, _ENAMETOOLONG, _EINVAL. */
-struct romtool_node romtool_lookup(const struct romtool_image *image, const uint8_t *path, size_t len, bool follow);
-struct romtool_stat romtool_stat(const struct romtool_image *image, const uint8_t *path, size_t len, bool follow);
+#if ROMTOOL_32
+void rom32_lookup(struct romtool_node *answer, const struct romtool_image *image, const uint8_t *path,
+    romtool_size len, bool follow);
+static inline struct romtool_node romtool_lookup(const struct romtool_image *image, const uint8_t *path,
+    romtool_size len, bool follow) {
+    struct romtool_node answer;
+    rom32_lookup(&answer, image, path, len, follow);
+    return answer;
+}
+#else
+struct romtool_node romtool_lookup(const struct romtool_image *image, const uint8_t *path, romtool_size len,
+    bool follow);
+#endif
+#if ROMTOOL_32
+void rom32_stat(struct romtool_stat *answer, const struct romtool_image *image, const uint8_t *path,
+    romtool_size len, bool follow);
+static inline struct romtool_stat romtool_stat(const struct romtool_image *image, const uint8_t *path,
+    romtool_size len, bool follow) {
+    struct romtool_stat answer;
+    rom32_stat(&answer, image, path, len, follow);
+    return answer;
+}
+#else
+struct romtool_stat romtool_stat(const struct romtool_image *image, const uint8_t *path, romtool_size len, bool follow);
+#endif
+
+/* The kind and numbers of the node with this number. The number has to be one that a call on this image answered, as
+ * that of an entry: no call can look for it. It takes no time to look it up, so a directory's entries and their
+ * kinds are listed in linear time. Error: ROMTOOL_CLOSED. */
+#if ROMTOOL_32
+void rom32_stat_node(struct romtool_stat *answer, const struct romtool_image *image, uint32_t node);
+static inline struct romtool_stat romtool_stat_node(const struct romtool_image *image, uint32_t node) {
+    struct romtool_stat answer;
+    rom32_stat_node(&answer, image, node);
+    return answer;
+}
+#else
+struct romtool_stat romtool_stat_node(const struct romtool_image *image, uint32_t node);
+#endif
 
 /* Where the text of the symbolic link lies that a path leads to. Errors: those of romtool_lookup, and ROMTOOL_EINVAL
  * where it is no link. */
-struct romtool_place romtool_readlink(const struct romtool_image *image, const uint8_t *path, size_t len);
+#if ROMTOOL_32
+void rom32_readlink(struct romtool_place *answer, const struct romtool_image *image, const uint8_t *path,
+    romtool_size len);
+static inline struct romtool_place romtool_readlink(const struct romtool_image *image, const uint8_t *path,
+    romtool_size len) {
+    struct romtool_place answer;
+    rom32_readlink(&answer, image, path, len);
+    return answer;
+}
+#else
+struct romtool_place romtool_readlink(const struct romtool_image *image, const uint8_t *path, romtool_size len);
+#endif
 
 /* Opens the directory or regular file that a path leads to, at its start; a link in the last place is followed. Gives 0
  * or the error, which also stands in `file`: those of romtool_lookup, and ROMTOOL_ENXIO. */
-uint32_t romtool_open(struct romtool_file *file, const struct romtool_image *image, const uint8_t *path, size_t len);
+uint32_t romtool_open(struct romtool_file *file, const struct romtool_image *image, const uint8_t *path,
+    romtool_size len);
+
+/* Opens the directory or regular file with this node number, which has to be one that a call on this image answered, at
+ * its start. Gives 0 or the error, which also stands in `file`: ROMTOOL_CLOSED, and ROMTOOL_ENXIO. */
+uint32_t romtool_open_node(struct romtool_file *file, const struct romtool_image *image, uint32_t node);
 
 /* The kind and numbers of what is open. Error: ROMTOOL_EBADF. */
+#if ROMTOOL_32
+void rom32_fstat(struct romtool_stat *answer, const struct romtool_file *file);
+static inline struct romtool_stat romtool_fstat(const struct romtool_file *file) {
+    struct romtool_stat answer;
+    rom32_fstat(&answer, file);
+    return answer;
+}
+#else
 struct romtool_stat romtool_fstat(const struct romtool_file *file);
+#endif
 
-/* Where just `len` bytes of an open file lie, from its byte `off` on, whatever its position is. Errors, in this order:
- * ROMTOOL_EBADF, _EISDIR, _EINVAL (`len` is 0, or the range does not end within the file), _ERANGE. */
+/* Where exactly `len` bytes of an open file lie, from its byte `off` on, whatever its position is. Errors, in this
+ * order: ROMTOOL_EBADF, _EISDIR, _EINVAL (`len` is 0, or the range does not end within the file), _ERANGE. */
+#if ROMTOOL_32
+void rom32_map(struct romtool_place *answer, const struct romtool_file *file, uint64_t off, uint64_t len);
+static inline struct romtool_place romtool_map(const struct romtool_file *file, uint64_t off, uint64_t len) {
+    struct romtool_place answer;
+    rom32_map(&answer, file, off, len);
+    return answer;
+}
+#else
 struct romtool_place romtool_map(const struct romtool_file *file, uint64_t off, uint64_t len);
+#endif
 
 /* Where the next bytes of an open file lie: as many of at most `max` as follow one another in the image. Of a romfs
  * file that is the rest. The position moves by `len`, which is 0 at the end. Errors: ROMTOOL_EBADF, _EISDIR. */
+#if ROMTOOL_32
+void rom32_lend(struct romtool_place *answer, struct romtool_file *file, uint64_t max);
+static inline struct romtool_place romtool_lend(struct romtool_file *file, uint64_t max) {
+    struct romtool_place answer;
+    rom32_lend(&answer, file, max);
+    return answer;
+}
+#else
 struct romtool_place romtool_lend(struct romtool_file *file, uint64_t max);
+#endif
 
 /* Copies the next bytes of an open file to `buffer`, as many as fit in `len`, and puts their number into `count`; it is
  * 0 at the end and at an error. Gives 0 or the error: ROMTOOL_EBADF, _EISDIR. */
-uint32_t romtool_read(struct romtool_file *file, uint8_t *buffer, size_t len, size_t *count);
+uint32_t romtool_read(struct romtool_file *file, uint8_t *buffer, romtool_size len, romtool_size *count);
 
 /* Sets the position of an open file, also behind its end. Gives 0 or the error: ROMTOOL_EBADF, _EISDIR. */
 uint32_t romtool_seek(struct romtool_file *file, uint64_t position);
@@ -158,6 +271,94 @@ uint32_t romtool_seek(struct romtool_file *file, uint64_t position);
 /* The next entry of an open directory, without `.` and `..`. Gives 0 or the error: ROMTOOL_EBADF, _ENOTDIR. To begin
  * again, open it again. */
 uint32_t romtool_readdir(struct romtool_file *file, struct romtool_entry *entry);
+
+/* The version of this header as text. */
+static inline const char *romtool_version(void) {
+    return ROMTOOL_VERSION_TEXT;
+}
+
+/* What an error of this library says, in words. */
+static inline const char *romtool_strerror(uint32_t error) {
+    switch (error) {
+    case ROMTOOL_OK: return "no error";
+    case ROMTOOL_ENOENT: return "no such file or directory";
+    case ROMTOOL_ENOTDIR: return "not a directory";
+    case ROMTOOL_ELOOP: return "more than 40 symbolic links";
+    case ROMTOOL_ENAMETOOLONG: return "path or name too long";
+    case ROMTOOL_EINVAL: return "invalid argument";
+    case ROMTOOL_EBADF: return "no open file";
+    case ROMTOOL_EISDIR: return "is a directory";
+    case ROMTOOL_ENXIO: return "neither a directory nor a regular file";
+    case ROMTOOL_ERANGE: return "bytes in several pieces";
+    case ROMTOOL_CLOSED: return "no open image";
+    case ROMTOOL_FAULT: return "the image has a fault";
+    case ROMTOOL_MEMORY: return "out of memory";
+    default: return "unknown error";
+    }
+}
+
+/* The name of a fault by its number, as `romtool check` prints it, and "Unknown" for a number that no fault has. */
+static inline const char *romtool_fault_name(uint32_t fault) {
+    switch (fault) {
+    case 1u: return "TooMany";
+    case 2u: return "Short";
+    case 3u: return "Magic";
+    case 4u: return "Size";
+    case 5u: return "Sum";
+    case 6u: return "Flags";
+    case 7u: return "Crc";
+    case 8u: return "Signature";
+    case 9u: return "Root";
+    case 11u: return "Bounds";
+    case 12u: return "HeaderSum";
+    case 13u: return "BadName";
+    case 14u: return "Kind";
+    case 15u: return "LinkSize";
+    case 16u: return "BlockKind";
+    case 17u: return "ListEnd";
+    case 20u: return "Twice";
+    case 21u: return "TooDeep";
+    case 22u: return "Overlap";
+    case 23u: return "DupName";
+    case 24u: return "Dot";
+    case 25u: return "HardLink";
+    case 26u: return "Unsorted";
+    default: return "Unknown";
+    }
+}
+
+/* The length of a path that ends with a zero, up to 4096, which is more than any path has. NULL is the empty path. */
+static inline romtool_size romtool_path_len(const char *path) {
+    romtool_size len = 0;
+    while (path && len < 4096 && path[len]) {
+        len++;
+    }
+    return len;
+}
+
+/* The calls by a path, for a path that ends with a zero. */
+static inline struct romtool_node romtool_lookup_str(const struct romtool_image *image, const char *path, bool follow) {
+    return romtool_lookup(image, ROMTOOL_TEXT(path), romtool_path_len(path), follow);
+}
+
+static inline struct romtool_stat romtool_stat_str(const struct romtool_image *image, const char *path, bool follow) {
+    return romtool_stat(image, ROMTOOL_TEXT(path), romtool_path_len(path), follow);
+}
+
+static inline struct romtool_place romtool_readlink_str(const struct romtool_image *image, const char *path) {
+    return romtool_readlink(image, ROMTOOL_TEXT(path), romtool_path_len(path));
+}
+
+static inline uint32_t romtool_open_str(struct romtool_file *file, const struct romtool_image *image,
+    const char *path) {
+    return romtool_open(file, image, ROMTOOL_TEXT(path), romtool_path_len(path));
+}
+
+/* The layout of the library: a compiler that lays the structs out otherwise stops here. */
+typedef char romtool_layout_is_right[offsetof(struct romtool_image, len) == 8 && sizeof(struct romtool_image) == 48
+        && sizeof(struct romtool_node) == 8 && sizeof(struct romtool_stat) == 36 && sizeof(struct romtool_place) == 16
+        && offsetof(struct romtool_file, position) == 56 && sizeof(struct romtool_file) == 64
+        && offsetof(struct romtool_entry, name_len) == 8 && sizeof(struct romtool_entry) == 24 ? 1 : -1];
 
 #ifdef __cplusplus
 }

@@ -12,33 +12,47 @@ compiler has them.
     first.c    where the entry of a program is that is run in place, as docs/C.md shows it
     numbers.c, reader.c
                a reader without check, heap and C library, of numbers that a check gave before
-The header is compiled as C99, C11 and C++17, the last in a program that is run. What the library takes from its
+    header.c   what the header has by itself: its version is that of romtool, its names of faults are those of the code
+    refused.c, recording.c
+               a heap that records sizes and refuses each call in turn, on the images of the cases
+    areas.c    the heap over an array, c/area.c, by itself and under checks
+The header is compiled as C99, C11 and C++11 to C++20 by each compiler that is installed. What the library takes from its
 surroundings is six functions. Where aarch64-linux-gnu-gcc and qemu-aarch64 are installed, the library is built for
-aarch64, too, and answers.c and closed.c are run over it. The last line is `N passed, M failed`, with `, K skipped` where nothing was run for want
-of `cc` or `rt`.
+aarch64, too, and answers.c, closed.c and reader.c are run over it; with qemu-x86_64 answers.c is also run as on an old
+processor, over a library that is built for these. The last line is `N passed, M failed`, with `, K skipped` where
+nothing was run for want of `cc` or `rt`.
 """
 
 import os
+import re
 import shutil
 import subprocess
 import sys
 import tempfile
 
+import explain
 import run
 from harness import HERE, SECONDS, Counts, parser, program_of
 
 TOP = os.path.join(HERE, "..")
 INCLUDE = os.path.join(TOP, "include")
 SOURCES = os.path.join(HERE, "c")
+HEAPS = os.path.join(TOP, "c")
 CRATE = os.path.join(TOP, "crates", "rom_c")
 STRICT = ["-Wall", "-Wextra", "-pedantic", "-Werror", "-I" + INCLUDE]
+STRICTER = [*STRICT, "-Wconversion"]
 SANITIZERS = ["-g", "-fsanitize=address,undefined", "-fno-sanitize-recover=all"]
 AARCH64 = "aarch64-unknown-linux-gnu"
 TOPICS = ("program", "romfs", "cramfs", "exact", "many", "serve")
 NEEDS = {"memcpy", "memmove", "memset", "rattle_alloc", "rattle_dealloc", "rattle_realloc"}
-CPLUSPLUS = """#include "romtool.h"
+CPLUSPLUS = """#include "romtool_heap.h"
 int main() {
-    romtool_image image{};
+    romtool_image image = ROMTOOL_INIT;
+    romtool_file file = ROMTOOL_INIT;
+    struct romtool_stat stat = romtool_stat_str(&image, "/", true);
+    if (stat.error != ROMTOOL_CLOSED || romtool_open_str(&file, &image, "/") != ROMTOOL_CLOSED) {
+        return 2;
+    }
     return romtool_check(&image, nullptr, 0) == ROMTOOL_FAULT && image.fault == 2 ? 0 : 1;
 }
 """
@@ -75,15 +89,15 @@ def library(given, counts):
     return archive
 
 
-def library_of_aarch64(top, counts):
-    """The archive for aarch64, or nothing. It is built where that of this machine is, which is put back."""
+def other_library(words, top, counts):
+    """The archive for another processor, or nothing. It is built where that of this machine is, which is put back."""
     archive, kept = os.path.join(CRATE, "out", "librom_c.a"), os.path.join(top, "librom_c.a")
     shutil.copy2(archive, kept)
     try:
-        done = said([os.path.join(TOP, "tools", "rt"), "lib", "--target", AARCH64], cwd=CRATE)
+        done = said([os.path.join(TOP, "tools", "rt"), "lib", *words], cwd=CRATE)
         if done.returncode == 0:
-            return shutil.copy2(archive, os.path.join(top, "aarch64.a"))
-        counts.fails("rt lib for aarch64", done.stdout.decode(errors="replace").splitlines()[-20:])
+            return shutil.copy2(archive, os.path.join(top, words[-1] + ".a"))
+        counts.fails("rt lib %s" % words, done.stdout.decode(errors="replace").splitlines()[-20:])
         return None
     finally:
         shutil.copy2(kept, archive)
@@ -122,19 +136,40 @@ def is_as_wanted(what, got, wanted, counts):
 
 
 def standards(top, archive, counts):
-    """The header in each language; in C++ by a program."""
+    """The headers in each language and by each compiler; in C++ by a program, which is run."""
     with open(top + "/header.c", "w", encoding="utf-8") as file:
-        file.write('#include "romtool.h"\nint main(void) { return 0; }\n')
+        file.write('#include "romtool_heap.h"\nint main(void) { return 0; }\n')
     with open(top + "/header.cc", "w", encoding="utf-8") as file:
         file.write(CPLUSPLUS)
-    for standard in ("c99", "c11"):
-        compiled(["cc", "-std=" + standard, *STRICT, top + "/header.c", "-o", top + "/header"], counts)
-    if not shutil.which("c++"):
-        counts.skips("C++: there is no c++")
-        return
-    words = ["c++", "-std=c++17", *STRICT, top + "/header.cc", archive, heap(), "-o", top + "/header"]
-    if compiled(words, counts):
-        is_as_wanted("a program in C++", said([top + "/header"]).returncode, 0, counts)
+    for compiler in ("cc", "clang"):
+        if not shutil.which(compiler):
+            counts.skips("the headers in C by %s: it is not installed" % compiler)
+            continue
+        for standard in ("c99", "c11"):
+            compiled([compiler, "-std=" + standard, *STRICTER, top + "/header.c", "-o", top + "/header"], counts)
+    for compiler in ("c++", "clang++"):
+        if not shutil.which(compiler):
+            counts.skips("the headers in C++ by %s: it is not installed" % compiler)
+            continue
+        for standard in ("c++11", "c++14", "c++17", "c++20"):
+            words = [compiler, "-std=" + standard, *STRICTER, "-Wold-style-cast", top + "/header.cc", archive, heap()]
+            if compiled([*words, "-o", top + "/header"], counts):
+                is_as_wanted("%s in %s" % (compiler, standard), said([top + "/header"]).returncode, 0, counts)
+
+
+def header(binary, top, program, counts):
+    """What the header has by itself, beside the program and the tables of the code."""
+    done = said([program, "cramfs"], cwd=top)
+    lines = done.stdout.decode(errors="replace").splitlines()
+    version = said([binary, "--explain", "--version"]).stdout.decode().split()[-1]
+    major, minor, patch = (int(it) for it in version.split("."))
+    wanted = "%s %d" % (version, 10000 * major + 100 * minor + patch)
+    is_as_wanted("header.c", (done.returncode, lines[:1]), (0, [wanted]), counts)
+    names = {number: name for number, (name, _) in explain.FAULTS.items()}
+    is_as_wanted("names of faults", lines[1:41], [names.get(it, "Unknown") for it in range(40)], counts)
+    words = [it for it, line in enumerate(lines[41:]) if line != "unknown error"]
+    is_as_wanted("errors in words", words, [0, 1, 2, 3, 4, 5, 6, 7, 8, 10, 13, 14, 15], counts)
+    is_as_wanted("errors in words of their own", len(set(lines[41:])), len(words) + 1, counts)
 
 
 def needs(archive, counts):
@@ -219,31 +254,30 @@ def entries(binary, top, first, counts):
         is_as_wanted("no entry in " + form, said([first, form, "/empty"], cwd=top).returncode, 1, counts)
 
 
-def reader(top, archive, numbers, counts):
-    """A reader without check, heap and C library, on x86-64."""
-    if os.uname().machine != "x86_64":
-        counts.skips("the reader without a heap: it is for x86-64")
-        return
+def reader(top, archive, numbers, counts, compiler="cc", emulator=()):
+    """A reader without check, heap and C library, as a process of Linux."""
     for form in FORMATS:
         with open(os.path.join(top, "image.h"), "wb") as file:
             file.write(said([numbers, form], cwd=top).stdout)
-        words = ["cc", "-std=c99", "-O2", *STRICT, "-I" + top, "-ffreestanding", "-fno-stack-protector", "-fno-pie"]
+        words = [compiler, "-std=c99", "-O2", *STRICT, "-I" + top, "-ffreestanding", "-fno-stack-protector", "-fno-pie"]
         words += ["-static", "-nostdlib", "-Wl,--gc-sections", SOURCES + "/reader.c", archive, "-o", top + "/reader"]
         if compiled(words, counts):
-            is_as_wanted("the reader of " + form, said([top + "/reader"]).returncode, sum(CONTENT) % 64, counts)
+            status = said([*emulator, top + "/reader"], timeout=SECONDS).returncode
+            is_as_wanted("the reader of %s by %s" % (form, compiler), status, sum(CONTENT) % 64, counts)
 
 
-def program(name, top, archive, words, counts):
-    """A program of c/, or nothing."""
+def program(name, top, archive, words, counts, over=None):
+    """A program of c/ over a heap, which is the kit's if no other is given; or nothing."""
     made = os.path.join(top, name)
     source = os.path.join(SOURCES, name + ".c")
-    return made if compiled(["cc", "-std=c99", *STRICT, *words, source, archive, heap(), "-o", made], counts) else None
+    words = ["cc", "-std=c99", *STRICT, *words, source, archive, over or heap(), "-o", made]
+    return made if compiled(words, counts) else None
 
 
 def of_aarch64(name, top, archive, counts):
     """A program of c/ for aarch64, as a script that has qemu run it; or nothing."""
     made, script = os.path.join(top, name + "64"), os.path.join(top, name + "64.sh")
-    sources = [os.path.join(SOURCES, name + ".c"), os.path.join(SOURCES, "heap.c")]
+    sources = [os.path.join(SOURCES, name + ".c"), os.path.join(HEAPS, "heap.c")]
     words = ["aarch64-linux-gnu-gcc", "-std=c99", "-O2", "-static", *STRICT, *sources, archive, "-o", made]
     if not compiled(words, counts):
         return None
@@ -253,13 +287,13 @@ def of_aarch64(name, top, archive, counts):
     return script
 
 
-def on_aarch64(binary, top, counts):
+def on_aarch64(binary, top, numbers, counts):
     """The library for aarch64 answers as romtool does on this machine."""
     for tool in ("aarch64-linux-gnu-gcc", "qemu-aarch64"):
         if not shutil.which(tool):
             counts.skips("the library for aarch64: there is no %s" % tool)
             return
-    archive = library_of_aarch64(top, counts)
+    archive = other_library(["--target", AARCH64], top, counts)
     if not archive:
         return
     answers, closed = (of_aarch64(it, top, archive, counts) for it in ("answers", "closed"))
@@ -267,7 +301,68 @@ def on_aarch64(binary, top, counts):
         cases(binary, answers, counts)
         each_format(binary, top, answers, counts)
     if closed:
-        is_as_wanted("closed handles on aarch64", said([closed, top + "/tree"]).stdout, b"closed 92\n", counts)
+        is_as_wanted("closed handles on aarch64", said([closed, top + "/tree"]).stdout, b"closed 107\n", counts)
+    if numbers:
+        reader(top, archive, numbers, counts, "aarch64-linux-gnu-gcc", ["qemu-aarch64"])
+
+
+def images(top):
+    """The images of the cases, each once, in files of a folder; and the files' names."""
+    held = {}
+    for topic in TOPICS:
+        for case in run.load(topic):
+            files = case.get("files", {})
+            for told in case["runs"] if not case.get("large") else []:
+                if is_asked(told) and told["words"][1] in files and "sparse" not in files[told["words"][1]]:
+                    held.setdefault(run.bytes_of(files[told["words"][1]]), None)
+    found = []
+    for at, image in enumerate(it for it in held if len(it) < 1 << 20):
+        found.append("%04d" % at)
+        with open(os.path.join(top, found[-1]), "wb") as file:
+            file.write(image)
+    return found
+
+
+def heaps(binary, top, refused, areas, counts):
+    """Checks over a heap that refuses, and over areas that are just large enough."""
+    os.mkdir(top + "/images")
+    names = images(top + "/images")
+    names += ["../" + form for form in FORMATS]
+    how = {"cwd": top + "/images", "stdout": subprocess.PIPE, "stderr": subprocess.STDOUT}
+    told = [subprocess.run([binary, "check", it], **how) for it in names]
+    if refused:
+        done = subprocess.run([refused, *names], **how)
+        lines = done.stdout.splitlines(True)
+        is_as_wanted("checks that are refused memory", done.returncode, 0, counts)
+        for name, one, line in zip(names, told, lines):
+            is_as_wanted("a check that is refused memory: %s" % name, line, one.stdout, counts)
+        seen = re.match(rb"(\d+) refusals, (\d+) that a check did without, ", lines[-1])
+        are_many = bool(seen) and int(seen[1]) > 3 * len(names) and int(seen[2]) < int(seen[1]) // 20
+        is_as_wanted("refusals of memory: %s" % lines[-1], are_many, True, counts)
+        print("heap: %s" % lines[-1].decode().strip())
+    if areas:
+        done = subprocess.run([areas, *names], **how)
+        wanted = [b"0" if it.returncode == 0 else b"14" for it in told]
+        lines = done.stdout.splitlines()
+        is_as_wanted("areas", (done.returncode, lines[-1][-6:]), (0, b" steps"), counts)
+        for name, line, want in zip(names, lines, wanted):
+            is_as_wanted("an area that is just large enough: %s" % name, line.split()[1], want, counts)
+
+
+def on_old_processor(binary, top, counts):
+    """The library for the first processors of x86-64 runs where that for later ones stops."""
+    if os.uname().machine != "x86_64" or not shutil.which("qemu-x86_64"):
+        counts.skips("the library for the first processors of x86-64: there is no qemu-x86_64")
+        return
+    archive = other_library(["--cpu", "x86-64"], top, counts)
+    words = ["-O2", "-static"]
+    made = archive and program("answers", top, archive, words, counts, os.path.join(HEAPS, "heap.c"))
+    if made:
+        script = made + ".sh"
+        with open(script, "w", encoding="utf-8") as file:
+            file.write('#!/bin/sh\nexec qemu-x86_64 -cpu qemu64 %s "$@"\n' % made)
+        os.chmod(script, 0o755)
+        each_format(binary, top, script, counts)
 
 
 def main():
@@ -286,23 +381,32 @@ def main():
         needs(archive, counts)
         standards(top, archive, counts)
         words = sanitizers(top)
-        names = ("answers", "closed", "numbers", "first")
-        answers, closed, numbers, first = (program(it, top, archive, words, counts) for it in names)
+        names = ("answers", "closed", "numbers", "header")
+        answers, closed, numbers, facts = (program(it, top, archive, words, counts) for it in names)
+        first = program("first", top, archive, words, counts, os.path.join(HEAPS, "heap.c"))
+        refused = program("refused", top, archive, words, counts, os.path.join(SOURCES, "recording.c"))
+        areas = program("areas", top, archive, words, counts, os.path.join(HEAPS, "area.c"))
         build_all(binary, top, counts)
         if answers:
             cases(binary, answers, counts)
             each_format(binary, top, answers, counts)
+        if facts:
+            header(binary, top, facts, counts)
+        heaps(binary, top, refused, areas, counts)
         if first:
             entries(binary, top, first, counts)
         if closed:
             with open(top + "/tree", "wb") as file:
                 file.write(run.file_of("romfs/tree/image"))
             done = said([closed, top + "/tree"])
-            is_as_wanted("closed handles", (done.returncode, done.stdout), (0, b"closed 92\n"), counts)
-        if numbers:
+            is_as_wanted("closed handles", (done.returncode, done.stdout), (0, b"closed 107\n"), counts)
+        if numbers and os.uname().machine == "x86_64":
             reader(top, archive, numbers, counts)
+        elif numbers:
+            counts.skips("the reader without a heap: it is tried on x86-64")
         if not arguments.library:
-            on_aarch64(binary, top, counts)
+            on_aarch64(binary, top, numbers, counts)
+            on_old_processor(binary, top, counts)
     return counts.close()
 
 

@@ -5,7 +5,7 @@
 
 Each block of a document that is marked `console` is run: its lines that begin with `$ ` are given to a shell, one
 after the other in one new folder for each document, with `romtool` on the path, and what they print has to be what
-the block shows. Each line of a block that is marked `from=FILE` has to stand in that file, in this order. Each link
+the block shows; those of the README also as an ordinary user. Each line of a block that is marked `from=FILE` has to stand in that file, in this order. Each link
 has to lead to a file that is there, and to a heading of it. Each function that is named by its crate has to be there, where
 others can name it so, and each function and type that the table of what is proved names has to be declared in its crate, a
 method in its type. The list of what to read to trust the theorem has to be what its clauses cite.
@@ -15,6 +15,7 @@ The last line is `N passed, M failed`, with `, K skipped`.
 import glob
 import os
 import re
+import shutil
 import subprocess
 import sys
 import tempfile
@@ -24,6 +25,8 @@ from harness import HERE, SECONDS, Counts, parser, program_of
 TOP = os.path.dirname(HERE)
 BLOCK = re.compile(r"^```(console|\w+ from=\S+)\n(.*?)^```$", re.M | re.S)
 LINK = re.compile(r"\]\(([^)\s]+)\)")
+# an ordinary user, by whom the walk-through of the README is gone through as well; cramfs holds groups up to 255
+NOBODY = 65534
 # what documents name of the toolchain
 FOREIGN = ("std", "core", "io", "fs", "std_io", "clap")
 # where a name is declared, or a trait of std is given to a type
@@ -38,7 +41,7 @@ def text_of(path):
 
 def documents():
     """The documents, by their paths in the repository."""
-    folders = ("", "docs/", "bench/", "crates/*/")
+    folders = ("", "docs/", "docs/internals/", "bench/", "crates/*/", "bindings/*/", "web/")
     found = [it for folder in folders for it in glob.glob("%s/%s*.md" % (TOP, folder))]
     return sorted(os.path.relpath(it, TOP) for it in found)
 
@@ -54,21 +57,25 @@ def commands(block):
     return found
 
 
-def session(name, blocks, binary, counts):
-    """Runs the sessions of a document."""
+def session(name, blocks, binary, counts, user=0):
+    """Runs the sessions of a document as this user, whose number and group are shown as root's."""
     with tempfile.TemporaryDirectory(prefix="romtool-") as top:
+        os.chmod(top, 0o755)
         os.mkdir(top + "/bin")
         os.mkdir(top + "/here")
-        os.symlink(binary, top + "/bin/romtool")
+        os.chown(top + "/here", user, user)
+        shutil.copy(binary, top + "/bin/romtool")
         path = {**os.environ, "PATH": "%s/bin:%s" % (top, os.environ["PATH"])}
         more = {"cwd": top + "/here", "env": path, "timeout": SECONDS, "umask": 0o022}
+        more |= {"user": user, "group": user, "extra_groups": []} if user else {}
         for command, wanted in [it for block in blocks for it in commands(block)]:
             done = subprocess.run(command, shell=True, stdout=subprocess.PIPE, stderr=subprocess.STDOUT, **more)
             printed = done.stdout.decode(errors="replace")
+            printed = re.sub(r" %d 255\b" % user, " 0 0", printed) if user else printed
             if printed == wanted:
                 counts.passes()
             else:
-                counts.fails("%s: %s" % (name, command.strip()), [repr(printed)])
+                counts.fails("%s: %s (user %d)" % (name, command.strip(), user), [repr(printed)])
 
 
 def quotes(name, file, block, counts):
@@ -166,7 +173,7 @@ def is_given(kind, trait, crates):
 def promises(counts):
     """Looks that each crate of the table of what is proved declares what its rows name."""
     crates = []
-    for row in text_of("docs/PROVED.md").splitlines():
+    for row in text_of("docs/internals/PROVED.md").splitlines():
         cells = [cell.strip() for cell in row.strip("|").split(" | ")]
         if not row.startswith("| ") or len(cells) != 3 or cells[0] == "crate":
             continue
@@ -190,7 +197,7 @@ def promises(counts):
 
 def reading_list(counts):
     """Compares the list of what to read to trust the theorem with what the clauses cite."""
-    told = re.search(r"<!-- made by tools/reading_list -->\n(.*?)<!-- end -->", text_of("docs/ARCHITECTURE.md"), re.S)
+    told = re.search(r"<!-- made by tools/reading_list -->\n(.*?)<!-- end -->", text_of("docs/internals/ARCHITECTURE.md"), re.S)
     made = subprocess.run([os.path.join(TOP, "tools", "reading_list")], stdout=subprocess.PIPE, text=True)
     if told and made.returncode == 0 and told[1] == made.stdout:
         counts.passes()
@@ -214,6 +221,8 @@ def main():
             counts.skips("the sessions of %s: owners are shown as root has them" % name)
         elif sessions:
             session(name, sessions, binary, counts)
+            if name == "README.md":
+                session(name, sessions, binary, counts, NOBODY)
     promises(counts)
     reading_list(counts)
     return counts.close()

@@ -18,6 +18,7 @@ import collections
 import itertools
 import os
 import shutil
+import signal
 import stat
 import subprocess
 import sys
@@ -626,6 +627,8 @@ def modes_under_a_mask(binary):
 def interrupted(binary):
     """A signal leaves the mode of a folder that is there, and one that was made is for its owner."""
     small(binary)
+    # a shell in the background hands on that SIGINT is ignored
+    signal.signal(signal.SIGINT, signal.default_int_handler)
     for there, mode in ((True, 0o755), (False, 0o700)):
         for name in ("INT", "TERM"):
             clear_out()

@@ -265,6 +265,9 @@ def done_case(binary, place, case, keep, counts):
         return
     else:
         counts.fails(place, wrong)
+    for name in case.get("modes", {}):
+        if os.path.isdir(os.path.join(top, name)):
+            os.chmod(os.path.join(top, name), 0o700)
     shutil.rmtree(top)
 
 

@@ -299,7 +299,10 @@ def try_words(counts):
     """`./test` and the tools say what their words are, and do nothing, at words that they do not have."""
     top = os.path.dirname(TOOLS)
     for words, status in ((["test", "--help"], 0), (["test", "--fast"], 2), (["test", "--plain", "x"], 2),
-                          (["tools/gate", "--help"], 2), (["tools/edits", "--help"], 2), (["tools/unproved", "--help"], 2)):  # fmt: skip
+                          (["tools/gate", "--help"], 2), (["tools/edits", "--help"], 2), (["tools/unproved", "--help"], 2),
+                          (["tools/install", "--help"], 0), (["tools/release", "--help"], 0), (["tools/completions.py"], 2),
+                          (["tools/rom32", "--help"], 0), (["tools/rom32"], 2), (["tools/rom32", "i386"], 2),
+                          (["tools/page", "--help"], 0)):  # fmt: skip
         ran = subprocess.run([os.path.join(top, words[0]), *words[1:]], capture_output=True, text=True)
         expect(counts, " ".join(words), ran.returncode, status)
         expect(counts, " ".join(words) + " says its words", words[0] in ran.stdout + ran.stderr, True)

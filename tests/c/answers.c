@@ -12,12 +12,9 @@
 #include "romtool.h"
 
 #define FILES 64
+/* No file of a case has more bytes: a read of more is one of so many. */
+#define MOST ((size_t)1 << 22)
 
-static const char *const fault_names[27] = {
-    "", "TooMany", "Short", "Magic", "Size", "Sum", "Flags", "Crc", "Signature", "Root", "", "Bounds", "HeaderSum",
-    "BadName", "Kind", "LinkSize", "BlockKind", "ListEnd", "", "", "Twice", "TooDeep", "Overlap", "DupName", "Dot",
-    "HardLink", "Unsorted",
-};
 static const char *const error_names[11] = {
     "", "ENOENT", "ENOTDIR", "ELOOP", "ENAMETOOLONG", "EINVAL", "EBADF", "EISDIR", "ENXIO", "EMFILE", "ERANGE",
 };
@@ -69,14 +66,16 @@ static int is_in_image(const struct romtool_image *image, const struct romtool_e
     return name >= first && name - first <= image->len && entry->name_len <= image->len - (name - first);
 }
 
-/* Prints the line of what the first `len` bytes of `path` name, and those below it. */
-static void list(const struct romtool_image *image, size_t len) {
+/* Prints the line of what the first `len` bytes of `path` name, the node of this number, and those below it. */
+static void list(const struct romtool_image *image, size_t len, uint32_t node) {
     const size_t whole = len ? len : 1;
-    struct romtool_file dir = {0};
+    struct romtool_file dir = {0}, by_path = {0};
     struct romtool_entry entry = {0};
     path[0] = '/';
     const struct romtool_stat stat = romtool_stat(image, path, whole, false);
     wants(stat.error == 0, "a listed name leads nowhere");
+    const struct romtool_stat by_node = romtool_stat_node(image, node);
+    wants(memcmp(&stat, &by_node, sizeof stat) == 0, "a node with other numbers than its path");
     put_stat(&stat);
     putchar(' ');
     escaped(path, whole);
@@ -90,7 +89,9 @@ static void list(const struct romtool_image *image, size_t len) {
     if (stat.kind != ROMTOOL_DIRECTORY) {
         return;
     }
-    wants(romtool_open(&dir, image, path, whole) == 0, "a directory that is not opened");
+    wants(romtool_open_node(&dir, image, node) == 0, "a directory that is not opened");
+    wants(romtool_open(&by_path, image, path, whole) == 0 && by_path.node == dir.node && by_path.position == dir.position,
+        "a directory that its path opens otherwise");
     for (;;) {
         wants(romtool_readdir(&dir, &entry) == 0, "a directory that is not read");
         if (!entry.some) {
@@ -98,8 +99,8 @@ static void list(const struct romtool_image *image, size_t len) {
         }
         wants(is_in_image(image, &entry), "a name outside of the image");
         path[len] = '/';
-        memcpy(path + len + 1, entry.name, entry.name_len);
-        list(image, len + 1 + entry.name_len);
+        memcpy(path + len + 1, entry.name, (size_t)entry.name_len);
+        list(image, len + 1 + (size_t)entry.name_len, entry.node);
     }
 }
 
@@ -215,7 +216,7 @@ static int by_path(const struct romtool_image *image, const char *word, const ch
 
 static void read_one(struct romtool_file *file, size_t most) {
     uint8_t *buffer = malloc(most + 1);
-    size_t count = 99;
+    romtool_size count = 99;
     wants(buffer != NULL, "no memory for a buffer");
     memset(buffer, 0x5a, most + 1);
     const uint32_t error = romtool_read(file, most ? buffer : NULL, most, &count);
@@ -223,8 +224,8 @@ static void read_one(struct romtool_file *file, size_t most) {
     if (error) {
         put_error(error);
     } else {
-        printf("ok %zu ", count);
-        put_hex(buffer, count);
+        printf("ok %" PRIu64 " ", count);
+        put_hex(buffer, (size_t)count);
     }
     free(buffer);
 }
@@ -240,7 +241,7 @@ static void readdir_one(const struct romtool_image *image, struct romtool_file *
     } else {
         wants(is_in_image(image, &entry), "a name outside of the image");
         printf("ok ");
-        escaped(entry.name, entry.name_len);
+        escaped(entry.name, (size_t)entry.name_len);
         printf(" %" PRIu32 "\n", entry.node);
     }
 }
@@ -262,7 +263,7 @@ static void by_file(const struct romtool_image *image, const char *word, uint64_
     if (strcmp(word, "fstat") == 0) {
         put_stat_reply(romtool_fstat(file));
     } else if (strcmp(word, "read") == 0) {
-        read_one(file, (size_t)one);
+        read_one(file, one < MOST ? (size_t)one : MOST);
     } else if (strcmp(word, "lend") == 0) {
         put_place(image, romtool_lend(file, one));
     } else if (strcmp(word, "map") == 0) {
@@ -341,14 +342,15 @@ static int answer(const char *word, const struct romtool_image *image, uint32_t 
     }
     if (error) {
         wants(error == ROMTOOL_FAULT && image->fault < 27 && image->status == 0, "another end of a check");
-        printf("fault %" PRIu32 " %s at %" PRIu32 "\n", image->fault, fault_names[image->fault], image->at);
+        printf("fault %" PRIu32 " %s at %" PRIu32 "\n", image->fault, romtool_fault_name(image->fault), image->at);
         return 1;
     }
     wants(image->status == 1 && image->format >= 1 && image->format <= 3, "an image of no format");
     if (strcmp(word, "check") == 0) {
         printf("ok %s %" PRIu32 " %" PRIu32 "\n", formats[image->format], image->references, image->depth);
     } else if (strcmp(word, "list") == 0) {
-        list(image, 0);
+        path[0] = '/';
+        list(image, 0, romtool_lookup(image, path, 1, false).node);
     } else {
         serve(image);
     }

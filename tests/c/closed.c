@@ -38,6 +38,9 @@ static void no_image(const struct romtool_image *image, const uint8_t *path, siz
     wants(is_no_place(romtool_readlink(image, path, len), ROMTOOL_CLOSED), "readlink without an image");
     wants(romtool_open(&file, image, path, len) == ROMTOOL_CLOSED, "open without an image");
     wants(file.error == ROMTOOL_CLOSED && file.node == 0 && file.position == 0, "a file without an image");
+    wants(is_no_stat(romtool_stat_node(image, 32), ROMTOOL_CLOSED), "stat of a node without an image");
+    wants(romtool_open_node(&file, image, 32) == ROMTOOL_CLOSED, "open of a node without an image");
+    wants(file.error == ROMTOOL_CLOSED && file.node == 0 && file.position == 0, "a file of a node without an image");
 }
 
 /* A file that is not open. */
@@ -45,7 +48,7 @@ static void no_file(const struct romtool_file *given) {
     struct romtool_file file = *given;
     struct romtool_entry entry = {(const uint8_t *)"x", 1, 7, 1};
     uint8_t buffer[4] = {1, 2, 3, 4};
-    size_t count = 9;
+    romtool_size count = 9;
     wants(is_no_stat(romtool_fstat(&file), ROMTOOL_EBADF), "fstat without a file");
     wants(is_no_place(romtool_map(&file, 0, 1), ROMTOOL_EBADF), "map without a file");
     wants(is_no_place(romtool_map(&file, UINT64_MAX, UINT64_MAX), ROMTOOL_EBADF), "map far without a file");
@@ -91,7 +94,7 @@ static void open_image(const uint8_t *data, size_t len) {
     struct romtool_file file = {0}, copy;
     struct romtool_entry entry = {0};
     uint8_t buffer[4] = {1, 2, 3, 4};
-    size_t count = 9;
+    romtool_size count = 9;
     wants(romtool_check(&image, data, len) == 0 && image.status == 1, "the image");
     wants(image.data == data && image.len == len && image.fault == 0 && image.at == 0, "what is held of the image");
     wants(romtool_lookup(&image, NULL, 0, true).error == ROMTOOL_ENOENT, "no path");

@@ -4,14 +4,13 @@
 #include <inttypes.h>
 #include <stdio.h>
 #include <stdlib.h>
-#include <string.h>
 
 #include "romtool.h"
 
 /* The first byte of the file of a path, which lies in the image in one piece; or NULL. */
 static const uint8_t *entry_of(const struct romtool_image *image, const char *path) {
-    struct romtool_file file = {0};
-    if (romtool_open(&file, image, (const uint8_t *)path, strlen(path))) {
+    struct romtool_file file = ROMTOOL_INIT;
+    if (romtool_open_str(&file, image, path)) {
         return NULL;
     }
     const struct romtool_stat stat = romtool_fstat(&file);
@@ -41,7 +40,7 @@ static uint8_t *flash_of(const char *name, size_t *len) {
 int main(int argc, char **argv) {
     size_t len = 0;
     uint8_t *flash = argc == 3 ? flash_of(argv[1], &len) : NULL;
-    struct romtool_image image = {0};
+    struct romtool_image image = ROMTOOL_INIT;
     if (!flash) {
         return 2;
     }

@@ -10,12 +10,18 @@
 
 int main(int argc, char **argv) {
     FILE *file = argc == 2 ? fopen(argv[1], "rb") : NULL;
-    uint8_t *data = malloc(1 << 20);
-    struct romtool_image image = {0};
-    if (!file || !data) {
+    struct romtool_image image = ROMTOOL_INIT;
+    if (!file || fseek(file, 0, SEEK_END) != 0) {
         return 2;
     }
-    const size_t len = fread(data, 1, 1 << 20, file);
+    const long end = ftell(file);
+    const size_t len = end > 0 ? (size_t)end : 0;
+    uint8_t *data = malloc(len + 1);
+    rewind(file);
+    if (!data || fread(data, 1, len, file) != len) {
+        fprintf(stderr, "%s is not read\n", argv[1]);
+        return 2;
+    }
     fclose(file);
     if (romtool_check(&image, data, len)) {
         fprintf(stderr, "fault %" PRIu32 " at %" PRIu32 "\n", image.fault, image.at);

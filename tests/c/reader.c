@@ -66,16 +66,18 @@ __attribute__((force_align_arg_pointer)) void _start(void) {
 }
 #elif defined __aarch64__
 void _start(void) {
+    const long sum = sum_of_file(); /* before the registers are set, which a call may change */
     register long number __asm__("x8") = 93;
-    register long status __asm__("x0") = sum_of_file();
+    register long status __asm__("x0") = sum;
     __asm__ volatile("svc 0" : : "r"(number), "r"(status) : "memory");
     for (;;) {
     }
 }
 #elif defined __riscv
 void _start(void) {
+    const long sum = sum_of_file();
     register long number __asm__("a7") = 93;
-    register long status __asm__("a0") = sum_of_file();
+    register long status __asm__("a0") = sum;
     __asm__ volatile("ecall" : : "r"(number), "r"(status) : "memory");
     for (;;) {
     }

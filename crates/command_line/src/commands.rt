@@ -22,7 +22,7 @@ const AFTER: &str = "\
 Without a subcommand the small image that the program carries is checked and listed.
 
 Status: 0 done, 1 refused (standard output has the line), 2 usage, 3 a file, memory or a stream.
-The man page docs/romtool.1 says all of it.";
+The man page romtool(1) says all of it.";
 
 /// A name that has to be given, by its own name and the one that help shows, with its sentence.
 fn value<'a>(alloc: Global, name: &'a str, shown: &'a str, help: &'a str) -> Arg<'a>

@@ -10,7 +10,9 @@
 #![tactic(auto)]
 
 pub mod disk;
+pub mod inode;
 pub mod laws;
 mod order;
+pub mod superblock;
 
 pub use order::Order;

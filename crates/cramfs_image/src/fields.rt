@@ -1,10 +1,11 @@
 //! The fields of a record, which is an inode with its name, and what its type and its pointers say.
 ghost use Rattle.std.specs.Prelude.{◌≡◌, ◌≢◌, ◌+◌, ◌*◌, ◌%◌, ◌≤◌, ◌<◌, ◌^◌, length, if◌then◌else◌};
 ghost use Rattle.cramfs_format.specs.Order.{word as word_of};
-ghost use Rattle.cramfs_format.specs.Inode.{mode_of, uid_of, size_of, gid_of, name_room, offset_of, type_of, has_data, without_zeros, name_of, end_of, list_start, list_end, block_start};
+ghost use Rattle.cramfs_format.specs.Inode.{mode_of, uid_of, size_of, gid_of, name_room, offset_of, type_of, has_data, without_zeros, name_of, end_of, list_start, list_end};
 ghost use Rattle.cramfs_format.specs.Tree.{kind_named, by_type};
 
 use crate::accessible::Accessible;
+use cramfs_format::inode;
 use rom_tree::Kind;
 
 impl<'a> Accessible<'a> {
@@ -17,64 +18,57 @@ impl<'a> Accessible<'a> {
     }
 
     /// File type and permissions.
-    #[tactic(auto, unfolding(cramfs_format::specs::Inode::mode_of))]
     pub fn mode_at(&self, at: usize) -> u32
         requires { at + 12 ≤ length self.now.bytes.now }
         ensures mode { result ≡ mode_of self.now.order self.now.bytes.now at }
         ensures small { result < 2 ^ 16 }
     {
-        self.order.first_field(16, self.word(at))
+        inode::mode_at(self.order, self.bytes, at)
     }
 
     /// The file type alone.
-    #[tactic(auto, unfolding(cramfs_format::specs::Inode::type_of))]
     pub fn type_at(&self, at: usize) -> u32
         requires { at + 12 ≤ length self.now.bytes.now }
         ensures { result ≡ type_of self.now.order self.now.bytes.now at }
     {
-        self.mode_at(at) / 4_096
+        inode::type_at(self.order, self.bytes, at)
     }
 
     /// The owner.
-    #[tactic(auto, unfolding(cramfs_format::specs::Inode::uid_of))]
     pub fn uid_at(&self, at: usize) -> u32
         requires { at + 12 ≤ length self.now.bytes.now }
         ensures { result ≡ uid_of self.now.order self.now.bytes.now at }
     {
-        self.order.field_after(16, self.word(at))
+        inode::uid_at(self.order, self.bytes, at)
     }
 
     /// The size in bytes; of a device its numbers.
-    #[tactic(auto, unfolding(cramfs_format::specs::Inode::size_of))]
     pub fn size_at(&self, at: usize) -> u32
         requires { at + 12 ≤ length self.now.bytes.now }
         ensures size { result ≡ size_of self.now.order self.now.bytes.now at }
         ensures small { result < 2 ^ 24 }
     {
-        self.order.first_field(24, self.word(at + 4))
+        inode::size_at(self.order, self.bytes, at)
     }
 
     /// The group.
-    #[tactic(auto, unfolding(cramfs_format::specs::Inode::gid_of))]
     pub fn gid_at(&self, at: usize) -> u32
         requires { at + 12 ≤ length self.now.bytes.now }
         ensures { result ≡ gid_of self.now.order self.now.bytes.now at }
     {
-        self.order.field_after(24, self.word(at + 4))
+        inode::gid_at(self.order, self.bytes, at)
     }
 
     /// How many bytes the padded name takes.
-    #[tactic(auto, unfolding(cramfs_format::specs::Inode::name_room))]
     pub fn room_at(&self, at: usize) -> u32
         requires { at + 12 ≤ length self.now.bytes.now }
         ensures room { result ≡ name_room self.now.order self.now.bytes.now at }
         ensures small { result < 256 }
     {
-        self.order.first_field(6, self.word(at + 8)) * 4
+        inode::room_at(self.order, self.bytes, at)
     }
 
     /// Where a list or the block pointers begin.
-    #[tactic(auto, unfolding(cramfs_format::specs::Inode::offset_of, cramfs_format::specs::Inode::list_start))]
     pub fn offset_at(&self, at: usize) -> u32
         requires { at + 12 ≤ length self.now.bytes.now }
         ensures offset { result ≡ offset_of self.now.order self.now.bytes.now at }
@@ -82,30 +76,24 @@ impl<'a> Accessible<'a> {
         ensures small { result < 2 ^ 28 }
         ensures aligned { result % 4 ≡ 0 }
     {
-        self.order.field_after(6, self.word(at + 8)) * 4
+        inode::offset_at(self.order, self.bytes, at)
     }
 
     /// Where the list of a directory ends; 0 for all else.
-    #[tactic(auto, unfolding(cramfs_format::specs::Inode::list_end))]
     pub fn list_end_at(&self, at: usize) -> u32
         requires { at + 12 ≤ length self.now.bytes.now }
         ensures { result ≡ list_end self.now.order self.now.bytes.now at }
     {
-        if self.type_at(at) == 4 {
-            self.offset_at(at) + self.size_at(at)
-        } else {
-            0
-        }
+        inode::list_end_at(self.order, self.bytes, at)
     }
 
     /// Where the record ends, and the next of its list begins.
-    #[tactic(auto, unfolding(cramfs_format::specs::Inode::end_of))]
     pub fn end_at(&self, at: usize) -> usize
         requires { at + 12 ≤ length self.now.bytes.now }
         ensures end { result ≡ end_of self.now.order self.now.bytes.now at }
         ensures near { result < at + 268 }
     {
-        at + 12 + self.room_at(at) as usize
+        inode::end_at(self.order, self.bytes, at)
     }
 
     /// The name of the record.
@@ -147,13 +135,6 @@ fn cut_zeros<'a>(bytes: &'a [u8]) -> &'a [u8]
         len -= 1;
     }
     &bytes[..0]
-}
-
-/// Where the block of a pointer begins.
-pub fn start_of(pointer: u32) -> u32
-    ensures { result ≡ block_start pointer }
-{
-    pointer % 1_073_741_824 * 4
 }
 
 /// The kind of an inode by its type.

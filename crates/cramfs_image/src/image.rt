@@ -5,10 +5,11 @@ ghost use Rattle.cramfs_image.specs.Cramfs.{cramfs_view};
 
 use crate::accessible::Accessible;
 use crate::depth::greatest_depth;
-use crate::fields::{kind_named_by, of_device, start_of};
+use crate::fields::{kind_named_by, of_device};
 use arrayvec::ArrayVec;
 use cramfs_format::Order;
 use cramfs_format::disk::ROOT;
+use cramfs_format::inode::start_of;
 use record_forest::Row;
 use rom_tree::{Cursor, Entry, Limits, NodeId, Report, Run, Stat, TreeImage, Viewed};
 

@@ -11,8 +11,8 @@ ghost use Rattle.cramfs_image.specs.Phases.{IsRecord};
 ghost use Rattle.cramfs_image.specs.Files.{list_part, file_part, FileLies, whole_end, whole_blocks, file_added, AddsFiles};
 
 use crate::accessible::Accessible;
-use crate::fields::start_of;
-use crate::soundness::{blocks_of, has_contents};
+use crate::soundness::has_contents;
+use cramfs_format::inode::{blocks_of, start_of};
 use record_forest::Row;
 use rom_fields::{Extent, Extents, OutOfMemory};
 use std::alloc::Global;

@@ -11,7 +11,7 @@ ghost use Rattle.record_forest.specs.Faults.{IsLeastFaultOf};
 ghost use Rattle.record_forest.specs.Lesser.{lesser_of_both};
 
 use crate::accessible::Accessible;
-use crate::fields::start_of;
+use cramfs_format::inode::{blocks_of, start_of};
 use record_forest::{Range, VerifiedRanges, lesser_of_both};
 use rom_faults::Fault;
 use rom_faults::fault::{BAD_NAME, BLOCK_KIND, BOUNDS, KIND, LINK_SIZE, LIST_END};
@@ -40,14 +40,6 @@ pub fn has_contents(b: &Accessible<'_>, at: usize) -> bool
 {
     let kind = b.type_at(at);
     kind == 8 || kind == 10
-}
-
-/// How many blocks hold so many bytes.
-pub fn blocks_of(size: u32) -> u32
-    requires { size < 2 ^ 24 }
-    ensures { result ≡ block_count size }
-{
-    (size + 4_095) / 4_096
 }
 
 /// Whether the block pointers, where there are some, lie there.

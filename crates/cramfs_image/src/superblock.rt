@@ -3,29 +3,18 @@
 ghost use Rattle.std.specs.Prelude.{◌≡◌, ◌≢◌, ◌≤◌, ◌<◌, ◌^◌, ◌↔◌, IsTrue, length, IfOk, IfErr, IfSome, SomeIff, option_copied};
 ghost use Rattle.std.specs.Bool.{OnTrue, OnFalse};
 ghost use Rattle.crc.specs.Crc.{crc_of};
-ghost use Rattle.cramfs_format.specs.Superblock.{order_of, accessible, HasSize, without_crc, HasCrc, HasSignature, HasRoot, IsSuperblock, HasImageFault};
+ghost use Rattle.cramfs_format.specs.Order.{word as word_of};
+ghost use Rattle.cramfs_format.specs.Superblock.{magic, order_of, accessible, HasSize, without_crc, HasCrc, HasSignature, HasRoot, IsSuperblock, HasImageFault};
 
 use crate::accessible::Accessible;
 use cramfs_format::Order;
-use cramfs_format::disk::{ALL_FLAGS, MAGIC, MOST_BYTES, SHIFTED_ROOT, SIGNATURE};
+use cramfs_format::disk::{ALL_FLAGS, MOST_BYTES, SHIFTED_ROOT, SIGNATURE};
+use cramfs_format::superblock::{has_size, order_in, stated_size};
 use crc::{crc32, crc32_more};
 use rom_faults::{Fault, fault};
 
 /// What the field of the CRC is taken as.
 const NO_CRC: [u8; 4] = [0; 4];
-
-/// The byte order of an image: big-endian where its first word is the magic in that order.
-#[tactic(auto, unfolding(cramfs_format::specs::Superblock::order_of))]
-fn order_at(bytes: &[u8]) -> Order
-    requires { 76 ≤ length bytes.now }
-    ensures { result ≡ order_of bytes.now }
-{
-    if Order::Big.word(bytes, 0) == MAGIC {
-        Order::Big
-    } else {
-        Order::Little
-    }
-}
 
 /// The accessible bytes, where the stored size is one that the image can have.
 #[tactic(auto, unfolding(cramfs_format::specs::Superblock::accessible_size))]
@@ -36,9 +25,8 @@ fn accessible_bytes<'a>(order: Order, bytes: &'a [u8]) -> Option<&'a [u8]>
     ensures small { IfSome result (λ b. length b.now < 2 ^ 32) }
     ensures long { IfSome result (λ b. 76 ≤ length b.now) }
 {
-    // The lowest flag says that the size and the CRC are stored.
-    if order.word(bytes, 8) % 2 == 1 {
-        let size = order.word(bytes, 4) as usize;
+    if has_size(order, bytes) {
+        let size = stated_size(order, bytes) as usize;
         if size < 76 || bytes.len() < size {
             return None;
         }
@@ -135,16 +123,14 @@ const BAD_ROOT: Fault = Fault {
 };
 
 /// The accessible bytes in this byte order, or the first fault of the image as a whole in that
-/// order, from its magic on.
+/// order, behind its magic.
 fn read_in_order<'a>(order: Order, bytes: &'a [u8]) -> Result<Accessible<'a>, Fault>
-    requires { 76 ≤ length bytes.now }
+    requires long { 76 ≤ length bytes.now }
+    requires begins { word_of order bytes.now 0 ≡ magic }
     ensures order { IfOk result (λ b. b.order ≡ order) }
     ensures ok { IfOk result (λ b. IsSuperblock order bytes.now b.bytes.now) }
     ensures fault { IfErr result (HasImageFault order bytes.now) }
 {
-    if order.word(bytes, 0) != MAGIC {
-        return Err(NO_MAGIC);
-    }
     let Some(part) = accessible_bytes(order, bytes) else {
         return Err(BAD_SIZE);
     };
@@ -174,6 +160,8 @@ pub fn read_superblock<'a>(bytes: &'a [u8]) -> Result<Accessible<'a>, Fault>
     if bytes.len() < 76 {
         return Err(SHORT);
     }
-    let order = order_at(bytes);
+    let Some(order) = order_in(bytes) else {
+        return Err(NO_MAGIC);
+    };
     read_in_order(order, bytes)
 }

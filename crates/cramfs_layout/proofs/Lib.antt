@@ -15,6 +15,7 @@ pub mod Paths
 pub mod Filled
 pub mod InRuns
 pub mod Shaped
+pub mod SharedTables
 pub mod Tabled
 pub mod Regions
 pub mod Runs

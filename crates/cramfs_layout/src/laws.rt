@@ -7,6 +7,7 @@ ghost use Rattle.cramfs_layout.specs.Composed.{cramfs_part, composed};
 ghost use Rattle.cramfs_layout.specs.Items.{AreAlignedBy, items_of, sections_of};
 ghost use Rattle.cramfs_layout.specs.Layout.{layout, size_of, superblock};
 ghost use Rattle.cramfs_layout.specs.Planned.{IsPlanned};
+ghost use Rattle.cramfs_layout.specs.Sharing.{SourcesAreShared};
 ghost use Rattle.layout_terms.specs.Items.{SectionsRise};
 ghost use Rattle.layout_terms.specs.Placement.{AreInRuns};
 ghost use Rattle.manifest_tree.specs.Names.{Inode, Names};
@@ -23,12 +24,17 @@ pub fn layout_has_tree()
 {}
 
 /// In that tree each file has its bytes in one run of the image, from a multiple of its alignment
-/// on, where files with the contents of one source ask for one alignment; and the volume's name
-/// stands at 48, with zeros up to 16 bytes.
+/// on, where files with the contents of one source ask for one alignment. Files with the contents
+/// of one source have their bytes at the same places. The volume's name stands at 48, with zeros up
+/// to 16 bytes.
 pub fn layout_is_placed()
     ensures runs { (o : Order) (volume : List ℕ) (root : Inode) (n : Names) (contents : List (List ℕ)) (align : ℕ → ℕ)
         → IsPlanned volume root n contents → AreAlignedBy align n
         → (t : Node) × CramfsTree o (layout o volume root n contents) (2 ^ 20) 64 t × AreInRuns t root n }
+    ensures shared { (o : Order) (volume : List ℕ) (root : Inode) (n : Names) (contents : List (List ℕ))
+        → IsPlanned volume root n contents
+        → (t : Node) × CramfsTree o (layout o volume root n contents) (2 ^ 20) 64 t
+        × SourcesAreShared t root n }
     ensures named { (o : Order) (volume : List ℕ) (root : Inode) (n : Names) (contents : List (List ℕ))
         → IsPlanned volume root n contents
         → take 16 (drop 48 (layout o volume root n contents)) ≡ volume ++ replicate (16 - length volume) 0 }

@@ -11,7 +11,7 @@ use Rattle.image_check.specs.Checked.{HasFormat, Shows, romfs as shows_romfs, cr
 use Rattle.image_check.specs.declared.any.AnyImage.{AnyImage}
 use Rattle.image_check.specs.declared.any.AnyImage.TheVariants.{Romfs, Cramfs}
 use Rattle.image_check.proofs.Formats.{apart, cramfs_begins, romfs_begins}
-use Rattle.image_info.specs.Volumes.{cramfs_volume, romfs_volume, volume_of}
+use Rattle.image_info.specs.Volumes.{cramfs_volume, volume_of}
 use Rattle.manifest_layout.specs.Format.{Format, HasUsualTree, romfs, cramfs}
 use Rattle.manifest_layout.specs.Placement.{HasVolume}
 
@@ -21,7 +21,7 @@ shown_bytes bytes limits m report (shows_cramfs h) = h.bytes
 
 pub volume_by : (f : Format) (bytes name : List ℕ) (limits : Limits) (t : Node) (v : AnyImage) → HasUsualTree f bytes t → HasVolume f bytes name
     → Shows bytes limits (any_view v) (report_of v) → HasFormat bytes v → volume_of v ≡ name
-unfolding romfs_volume cramfs_volume
+unfolding cramfs_volume
 volume_by romfs bytes name limits t (Romfs s) tree named shows format =
     ap (λ b. before_zero (drop 16 b)) (shown_bytes bytes limits (any_view (Romfs s)) (report_of (Romfs s)) shows) ∙ named
 volume_by romfs bytes name limits t (Cramfs s) tree named shows format = absurd (apart (order_of bytes) bytes (romfs_begins tree) format.0.1)

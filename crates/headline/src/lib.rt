@@ -26,7 +26,7 @@ ghost use Rattle.layout_terms.specs.Placement.{IsRun};
 ghost use Rattle.manifest.specs.Grammar.{manifest_of};
 ghost use Rattle.manifest.specs.Lines.{ManifestLines};
 ghost use Rattle.manifest_layout.specs.Format.{Format};
-ghost use Rattle.manifest_layout.specs.Placement.{HasVolume, IsPlaced};
+ghost use Rattle.manifest_layout.specs.Placement.{CopiesStand, HasVolume, IsPlaced};
 ghost use Rattle.open_files.specs.Calls.{Of, Lent};
 ghost use Rattle.open_files.specs.Machine.{Open, image_calls, open_at};
 ghost use Rattle.path_walk.specs.Resolution.{resolution, tree_namespace};
@@ -47,8 +47,10 @@ ghost use Rattle.rom_tree.specs.declared.types.Limits.{Limits};
 /// if memory is refused; otherwise it is served as the tree that the manifest means. Under other
 /// limits it is served as that tree if it is served at all. In that image each file with the
 /// contents of a `file` line has its bytes in one run, from a multiple of that line's ALIGN on, and
-/// the volume has the manifest's name. So `open` of the line's path and then one `map` of the whole
-/// file give all its bytes, and their first place is a multiple of that ALIGN.
+/// the volume has the manifest's name. In cramfs all files with the contents of one `file` line
+/// have their bytes at the same places; in romfs the files of different lines have no place in
+/// common. So `open` of the line's path and then one `map` of the whole file give all its bytes,
+/// and their first place is a multiple of that ALIGN.
 pub fn headline()
     ensures accepted { (limits : Limits) (bytes : List ℕ) (r₀ r : Input) (w₀ w : Output)
         (o : Serving) → ServingEndsUnder limits bytes r₀ r w₀ w o
@@ -68,7 +70,7 @@ pub fn headline()
     ensures placed { (f : Format) (text : List ℕ) (contents : List (List ℕ)) (bytes : List ℕ)
         (m : ManifestLines) → Builds f text contents (Ok bytes) → manifest_of text ≡ Ok m
         → HasVolume f bytes m.volume
-        × ((t : Node) → HasTree bytes usual_limits t → IsPlaced t m) }
+        × ((t : Node) → HasTree bytes usual_limits t → IsPlaced t m × CopiesStand f t m) }
     ensures mapped { (f : Format) (text : List ℕ) (contents : List (List ℕ)) (bytes : List ℕ)
         (m : ManifestLines) (image : Image) → Builds f text contents (Ok bytes)
         → manifest_of text ≡ Ok m → HasTree bytes usual_limits image.tree
@@ -100,8 +102,8 @@ pub fn built_again()
 /// else it is served as the tree that the manifest means, where each `file` and each `same` line has
 /// contents of its own, of the planned size: the bytes that the reads of its source answered, one
 /// after the other, in the pass that wrote the image. Where no source has a copy in the image, it is
-/// served as what the manifest means with some contents of the sources. Its files and its volume's name stand as in one that
-/// was built.
+/// served as what the manifest means with some contents of the sources. Its files, their copies and
+/// its volume's name stand as in one that was built.
 pub fn streamed()
     ensures each { (text : List ℕ) (p : Planned) (told : Option (List (List ℕ)))
         (old new : Option (List ℕ)) (r₀ r : Input) (w₀ w : Output) (o : Serving)
@@ -122,7 +124,8 @@ pub fn streamed()
         (old new : Option (List ℕ)) → (is : IsPlanOfText text p)
         → (s : IsWritten told (form_in p.format p) (stored_in p.format) old new)
         → HasVolume p.format (image_with p s.rest) is.lines.volume
-        × ((t : Node) → HasTree (image_with p s.rest) usual_limits t → IsPlaced t is.lines) }
+        × ((t : Node) → HasTree (image_with p s.rest) usual_limits t
+        → IsPlaced t is.lines × CopiesStand p.format t is.lines) }
     ensures mapped { (text : List ℕ) (p : Planned) (told : Option (List (List ℕ)))
         (old new : Option (List ℕ)) (image : Image) → (is : IsPlanOfText text p)
         → (s : IsWritten told (form_in p.format p) (stored_in p.format) old new)

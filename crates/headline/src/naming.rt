@@ -1,13 +1,16 @@
-//! The name of a built image's volume, as it is printed.
-ghost use Rattle.std.specs.Prelude.{◌≡◌, ℕ, List, Ok};
+//! The name of the volume of a built or streamed image, as it is printed.
+ghost use Rattle.std.specs.Prelude.{◌≡◌, ℕ, List, Ok, Option};
 ghost use Rattle.image_build.specs.Builds.{Builds};
+ghost use Rattle.image_build.specs.Streamed.{IsPlanOfText, form_in, image_with, stored_in};
 ghost use Rattle.image_check.specs.Any.{any_view, report_of};
 ghost use Rattle.image_check.specs.Checked.{HasFormat, Shows};
 ghost use Rattle.image_check.specs.declared.any.AnyImage.{AnyImage};
 ghost use Rattle.image_info.specs.Volumes.{volume_of};
+ghost use Rattle.image_stream.specs.Outcomes.{IsWritten};
 ghost use Rattle.manifest.specs.Grammar.{manifest_of};
 ghost use Rattle.manifest.specs.Lines.{ManifestLines};
 ghost use Rattle.manifest_layout.specs.Format.{Format};
+ghost use Rattle.plan_types.specs.Plans.{Planned};
 ghost use Rattle.rom_tree.specs.declared.types.Limits.{Limits};
 
 /// States that the name of a volume which `image_info::volume` returns, of what a check under any
@@ -19,4 +22,15 @@ pub fn built_is_named()
         → HasFormat bytes v → volume_of v ≡ m.volume }
 {
     image_build::laws::built_is_placed();
+}
+
+/// States the same of what `image_build::stream` wrote at `Ok`, whatever the sources tell.
+pub fn streamed_is_named()
+    ensures { (limits : Limits) (text : List ℕ) (p : Planned) (told : Option (List (List ℕ)))
+        (old new : Option (List ℕ)) (v : AnyImage) → (is : IsPlanOfText text p)
+        → (w : IsWritten told (form_in p.format p) (stored_in p.format) old new)
+        → Shows (image_with p w.rest) limits (any_view v) (report_of v)
+        → HasFormat (image_with p w.rest) v → volume_of v ≡ is.lines.volume }
+{
+    image_build::laws::streamed_is_placed();
 }

@@ -9,8 +9,8 @@ ghost use Rattle.image_check.specs.Checked.{HasTree, IsFaultless, IsRefused};
 ghost use Rattle.image_stream.specs.Outcomes.{IsWritten};
 ghost use Rattle.manifest.specs.Grammar.{manifest_of};
 ghost use Rattle.manifest.specs.Lines.{ManifestLines};
-ghost use Rattle.manifest_layout.specs.Format.{Format};
-ghost use Rattle.manifest_layout.specs.Placement.{HasVolume, IsPlaced};
+ghost use Rattle.manifest_layout.specs.Format.{Format, HasUsualTree};
+ghost use Rattle.manifest_layout.specs.Placement.{CopiesStand, HasVolume, IsPlaced};
 ghost use Rattle.manifest_tree.specs.Meant.{IsMeant};
 ghost use Rattle.plan_types.specs.Plans.{Planned};
 ghost use Rattle.rom_faults.specs.declared.error.CheckError.{CheckError};
@@ -83,11 +83,16 @@ pub fn streamed_is_accepted()
 }
 
 /// In a built image each file with the contents of a `file` line has its bytes in one run, from a
-/// multiple of that line's ALIGN on, and the volume has the manifest's name.
+/// multiple of that line's ALIGN on, and the volume has the manifest's name. In cramfs all files
+/// with the contents of one `file` line have their bytes at the same places. In romfs the files of
+/// different lines have no place in common.
 pub fn built_is_placed()
     ensures runs { (f : Format) (text : List ℕ) (contents : List (List ℕ)) (bytes : List ℕ)
         (m : ManifestLines) → Builds f text contents (Ok bytes) → manifest_of text ≡ Ok m
         → (t : Node) → HasTree bytes usual t → IsPlaced t m }
+    ensures copies { (f : Format) (text : List ℕ) (contents : List (List ℕ)) (bytes : List ℕ)
+        (m : ManifestLines) → Builds f text contents (Ok bytes) → manifest_of text ≡ Ok m
+        → (t : Node) → HasTree bytes usual t → CopiesStand f t m }
     ensures named { (f : Format) (text : List ℕ) (contents : List (List ℕ)) (bytes : List ℕ)
         (m : ManifestLines) → Builds f text contents (Ok bytes) → manifest_of text ≡ Ok m
         → HasVolume f bytes m.volume }
@@ -96,12 +101,20 @@ pub fn built_is_placed()
     image_check::laws::one_tree();
 }
 
-/// The same of what was streamed, whatever the sources tell.
+/// The same of what was streamed, whatever the sources tell. It has a tree in the plan's format.
 pub fn streamed_is_placed()
     ensures runs { (text : List ℕ) (p : Planned) (told : Option (List (List ℕ)))
         (old new : Option (List ℕ)) (t : Node) → (is : IsPlanOfText text p)
         → (w : IsWritten told (form_in p.format p) (stored_in p.format) old new)
         → HasTree (image_with p w.rest) usual t → IsPlaced t is.lines }
+    ensures copies { (text : List ℕ) (p : Planned) (told : Option (List (List ℕ)))
+        (old new : Option (List ℕ)) (t : Node) → (is : IsPlanOfText text p)
+        → (w : IsWritten told (form_in p.format p) (stored_in p.format) old new)
+        → HasTree (image_with p w.rest) usual t → CopiesStand p.format t is.lines }
+    ensures holds { (text : List ℕ) (p : Planned) (told : Option (List (List ℕ)))
+        (old new : Option (List ℕ)) → IsPlanOfText text p
+        → (w : IsWritten told (form_in p.format p) (stored_in p.format) old new)
+        → (t : Node) × HasUsualTree p.format (image_with p w.rest) t }
     ensures named { (text : List ℕ) (p : Planned) (told : Option (List (List ℕ)))
         (old new : Option (List ℕ)) → (is : IsPlanOfText text p)
         → (w : IsWritten told (form_in p.format p) (stored_in p.format) old new)

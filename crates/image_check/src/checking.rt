@@ -1,46 +1,32 @@
 //! The check of an image of romfs, or of cramfs in either byte order.
-ghost use Rattle.std.specs.Prelude.{◌≡◌, ◌≤◌, ◌↔◌, IsTrue, IfOk, IfErr, Err};
+ghost use Rattle.std.specs.Prelude.{◌≡◌, ◌≤◌, IfOk, IfErr, Err};
 ghost use Rattle.std.specs.Bool.{OnTrue, OnFalse};
 ghost use Rattle.rom_tree.specs.Tree.{levels};
 ghost use Rattle.image_check.specs.Any.{any_view, report_of};
 ghost use Rattle.image_check.specs.Checked.{Shows, IsRefused, BeginsRomfs, BeginsCramfs, HasFormat, IsFaultless, IsLeastFaultUnder, neither};
 
 use crate::any::AnyImage;
-use cramfs_format::Order;
-use cramfs_format::disk::MAGIC as CRAMFS_MAGIC;
+use cramfs_format::superblock::order_in;
 use cramfs_image::Cramfs;
 use rom_faults::CheckError;
 use rom_faults::fault::{MAGIC, SHORT};
 use rom_tree::Limits;
-use romfs_format::disk::MAGIC as ROMFS_MAGIC;
+use romfs_format::superblock::begins;
 use romfs_image::Romfs;
 use std::alloc::Global;
 
 /// Fewer bytes are too short to name a format.
 const SHORTEST: usize = 8;
 
-/// Whether the bytes begin as a romfs image does.
-fn is_romfs(bytes: &[u8]) -> bool
-    ensures { IsTrue result ↔ BeginsRomfs bytes.now }
-{
-    bytes.len() >= 8 && &bytes[..8] == ROMFS_MAGIC.as_slice()
-}
-
 /// Whether the bytes begin as a cramfs image does, in either byte order.
 fn is_cramfs(bytes: &[u8]) -> bool
     ensures begins { OnTrue result (BeginsCramfs bytes.now) }
     ensures other { OnFalse result (BeginsCramfs bytes.now → ⊥) }
 {
-    if bytes.len() < 4 {
-        return false;
+    match order_in(bytes) {
+        Some(_) => true,
+        None => false,
     }
-    if Order::Little.word(bytes, 0) == CRAMFS_MAGIC {
-        return true;
-    }
-    if Order::Big.word(bytes, 0) == CRAMFS_MAGIC {
-        return true;
-    }
-    false
 }
 
 /// The image of these bytes, where they hold the tree of a romfs image, or of a cramfs image in
@@ -59,7 +45,7 @@ pub fn check<'a>(alloc: Global, bytes: &'a [u8], limits: Limits) -> Result<AnyIm
     ensures neither { (BeginsRomfs bytes.now → ⊥) → (BeginsCramfs bytes.now → ⊥)
         → result ≡ Err (neither bytes.now) }
 {
-    if is_romfs(bytes) {
+    if begins(bytes) {
         let image = Romfs::check(alloc, bytes, limits)?;
         return Ok(AnyImage::Romfs(image));
     }

@@ -3,86 +3,27 @@ ghost use Rattle.std.specs.Prelude.{◌≡◌, ◌+◌, ◌*◌, ◌<◌, ◌≤
 ghost use Rattle.std.specs.Bool.{OnTrue};
 ghost use Rattle.std.specs.BTreeMap.{get};
 ghost use Rattle.std.specs.Ordering.{nat_cmp};
-ghost use Rattle.cramfs_format.specs.Inode.{type_of, size_of, offset_of, end_of, list_start, list_end, block_count, block_start, TableLies};
+ghost use Rattle.cramfs_format.specs.Inode.{block_count, end_of, TableLies};
 ghost use Rattle.cramfs_format.specs.Tree.{data_from};
 ghost use Rattle.cramfs_format.specs.Made.{IsCramfs};
 ghost use Rattle.image_gaps.specs.Gaps.{cramfs_extents};
 ghost use Rattle.image_gaps.specs.Records.{cramfs_list, cramfs_file, cramfs_contents, cramfs_record, CoverTheSame, AreMet};
 
 use crate::spans::add;
-use cramfs_format::Order;
+use cramfs_format::inode::{blocks_of, list_end_at, offset_at, size_at, start_of, type_at};
+use cramfs_format::{Order, inode};
 use rom_fields::{Extent, OutOfMemory, Span};
 use std::alloc::Global;
 use std::collections::BTreeMap;
 
-/// The type of the record at `at`.
-#[tactic(auto, unfolding(cramfs_format::specs::Inode::type_of, cramfs_format::specs::Inode::mode_of))]
-fn type_at(order: Order, b: &[u8], at: usize) -> u32
-    requires { at + 12 ≤ length b.now }
-    ensures { result ≡ type_of order b.now at }
-{
-    order.first_field(16, order.word(b, at)) / 4_096
-}
-
-/// The size of the record at `at`.
-#[tactic(auto, unfolding(cramfs_format::specs::Inode::size_of))]
-fn size_at(order: Order, b: &[u8], at: usize) -> u32
-    requires { at + 12 ≤ length b.now }
-    ensures size { result ≡ size_of order b.now at }
-    ensures small { result < 2 ^ 24 }
-{
-    order.first_field(24, order.word(b, at + 4))
-}
-
-/// Where the list or the block pointers of the record at `at` begin.
-#[tactic(auto, unfolding(cramfs_format::specs::Inode::offset_of, cramfs_format::specs::Inode::list_start))]
-fn offset_at(order: Order, b: &[u8], at: usize) -> u32
-    requires { at + 12 ≤ length b.now }
-    ensures offset { result ≡ offset_of order b.now at }
-    ensures start { result ≡ list_start order b.now at }
-    ensures small { result < 2 ^ 28 }
-{
-    order.field_after(6, order.word(b, at + 8)) * 4
-}
-
-/// Where the list of the record at `at` ends; 0 where it has none.
-#[tactic(auto, unfolding(cramfs_format::specs::Inode::list_end))]
-fn list_end_at(order: Order, b: &[u8], at: usize) -> u32
-    requires { at + 12 ≤ length b.now }
-    ensures { result ≡ list_end order b.now at }
-{
-    if type_at(order, b, at) == 4 {
-        offset_at(order, b, at) + size_at(order, b, at)
-    } else {
-        0
-    }
-}
-
 /// Where the record at `at` ends, and the next of its list begins.
-#[tactic(auto, unfolding(cramfs_format::specs::Inode::end_of, cramfs_format::specs::Inode::name_room))]
 fn end_at(order: Order, b: &[u8], at: u32) -> u32
     requires header { at + 12 ≤ length b.now }
     requires within { end_of order b.now at ≤ length b.now }
     requires small { length b.now < 2 ^ 32 }
     ensures { result ≡ end_of order b.now at }
 {
-    let room = order.first_field(6, order.word(b, at as usize + 8)) * 4;
-    at + 12 + room
-}
-
-/// How many blocks hold so many bytes.
-fn blocks_of(size: u32) -> u32
-    requires { size < 2 ^ 24 }
-    ensures { result ≡ block_count size }
-{
-    (size + 4_095) / 4_096
-}
-
-/// Where the block of a pointer begins.
-fn start_of(pointer: u32) -> u32
-    ensures { result ≡ block_start pointer }
-{
-    pointer % 1_073_741_824 * 4
+    inode::end_at(order, b, at as usize) as u32
 }
 
 /// Adds the blocks of `size` bytes, whose pointers begin at `table`.

@@ -1,4 +1,3 @@
-pub mod Zeros
 pub mod Few
 pub mod Counting
 pub mod Joined

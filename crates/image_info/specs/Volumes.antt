@@ -6,7 +6,7 @@ use Rattle.image_check.specs.declared.any.AnyImage.{AnyImage}
 use Rattle.image_check.specs.declared.any.AnyImage.TheVariants.{Romfs, Cramfs}
 
 -- what stands at 16 before the first zero
-unfoldable pub romfs_volume : List ℕ → List ℕ
+abbrev pub romfs_volume : List ℕ → List ℕ
 romfs_volume b = before_zero (drop 16 b)
 
 -- what stands in the 16 bytes at 48 before the first zero

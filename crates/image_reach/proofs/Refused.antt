@@ -7,9 +7,8 @@ use Rattle.rom_faults.specs.declared.error.CheckError.TheVariants.{Fault}
 use Rattle.rom_fields.specs.Words.{words_sum}
 use Rattle.romfs_format.specs.Superblock.{accessible, HasSum, bad_sum}
 use Rattle.romfs_format.specs.Faults.{whole}
-use Rattle.romfs_format.specs.Tree.{full_size, RomfsTree}
-use Rattle.cramfs_format.specs.Tree.{CramfsTree}
-use Rattle.image_check.specs.Checked.{BeginsRomfs, HasTree, IsLeastFaultUnder, least_of_romfs}
+use Rattle.romfs_format.specs.Tree.{full_size}
+use Rattle.image_check.specs.Checked.{HasTree, IsLeastFaultUnder, least_of_romfs}
 use Rattle.image_check.proofs.Formats.{apart}
 use Rattle.image_reach.specs.Reach.{IsSumRefused}
 use Rattle.image_reach.proofs.Fronts.{front_be, front_romfs}

@@ -1,15 +1,14 @@
 //! The size that an image states.
-ghost use Rattle.std.specs.Prelude.{◌≡◌, ◌≢◌, ◌≤◌, ◌↔◌, IsTrue, IfSome, IfNone, length, max, min, take};
-ghost use Rattle.cramfs_format.specs.Superblock.{order_of};
-ghost use Rattle.image_check.specs.Checked.{BeginsRomfs, BeginsCramfs};
+ghost use Rattle.std.specs.Prelude.{◌≡◌, ◌≢◌, ◌≤◌, ◌↔◌, IsTrue, length, max, min, take};
 ghost use Rattle.image_reach.specs.Reach.{IsSumRefused, Reaches, size_in};
 ghost use Rattle.rom_fields.specs.Words.{words_sum};
 ghost use Rattle.romfs_format.specs.Tree.{full_size};
 
-use cramfs_format::Order;
-use cramfs_format::disk::{MAGIC as CRAMFS_MAGIC, MOST_BYTES};
-use rom_fields::{be32, word_sum};
-use romfs_format::disk::MAGIC as ROMFS_MAGIC;
+use cramfs_format::disk::MOST_BYTES;
+use cramfs_format::superblock::{has_size, order_in};
+use cramfs_format::{Order, superblock as cramfs};
+use rom_fields::word_sum;
+use romfs_format::superblock::{begins, stated_size};
 
 /// How many bytes at the front of a file say how far its image goes.
 pub const HEAD: usize = 76;
@@ -17,45 +16,12 @@ pub const HEAD: usize = 76;
 /// How many bytes at the front of a file say whether the sum of a romfs image is right.
 pub const SUMMED: usize = 512;
 
-/// Whether the bytes begin as a romfs image does.
-fn begins_romfs(head: &[u8]) -> bool
-    requires { 76 ≤ length head.now }
-    ensures { IsTrue result ↔ BeginsRomfs head.now }
-{
-    &head[..8] == ROMFS_MAGIC.as_slice()
-}
-
-/// The byte order of the cramfs image as which the bytes begin, in either order.
-#[tactic(auto, unfolding(cramfs_format::specs::Superblock::order_of))]
-fn order_in(head: &[u8]) -> Option<Order>
-    requires { 76 ≤ length head.now }
-    ensures begins { IfSome result (λ o. BeginsCramfs head.now) }
-    ensures order { IfSome result (λ o. o ≡ order_of head.now) }
-    ensures other { IfNone result (BeginsCramfs head.now → ⊥) }
-{
-    if Order::Big.word(head, 0) == CRAMFS_MAGIC {
-        return Some(Order::Big);
-    }
-    if Order::Little.word(head, 0) == CRAMFS_MAGIC {
-        return Some(Order::Little);
-    }
-    None
-}
-
-/// The size that a romfs image states.
-fn stated(head: &[u8]) -> u32
-    requires { 76 ≤ length head.now }
-    ensures { result ≡ full_size head.now }
-{
-    be32(head, 8).unwrap_or(0)
-}
-
 /// The size that a romfs image states, but 76 at least.
 fn romfs_size(head: &[u8]) -> u64
     requires { 76 ≤ length head.now }
     ensures { result ≡ max 76 (full_size head.now) }
 {
-    u64::from(stated(head)).max(HEAD as u64)
+    u64::from(stated_size(head)).max(HEAD as u64)
 }
 
 /// The size that a cramfs image in this byte order states, but 76 at least; or 2^28.
@@ -63,9 +29,8 @@ fn cramfs_size(order: Order, head: &[u8]) -> u64
     requires { 76 ≤ length head.now }
     ensures { result ≡ size_in order head.now }
 {
-    // The lowest flag says that the size is stored.
-    if order.word(head, 8) % 2 == 1 {
-        let size = order.word(head, 4);
+    if has_size(order, head) {
+        let size = cramfs::stated_size(order, head);
         return u64::from(size).max(HEAD as u64);
     }
     MOST_BYTES as u64
@@ -80,7 +45,7 @@ pub fn reach_of(head: &[u8]) -> u64
     if head.len() < HEAD {
         return HEAD as u64;
     }
-    if begins_romfs(head) {
+    if begins(head) {
         return romfs_size(head);
     }
     if let Some(order) = order_in(head) {
@@ -105,9 +70,9 @@ fn is_sum_wrong(front: &[u8], size: u32) -> bool
 pub fn is_sum_refused(front: &[u8], len: u64) -> bool
     ensures { IsTrue result ↔ IsSumRefused front.now len }
 {
-    if front.len() < HEAD || !begins_romfs(front) {
+    if front.len() < HEAD || !begins(front) {
         return false;
     }
-    let size = stated(front);
+    let size = stated_size(front);
     size >= 32 && u64::from(size) <= len && is_sum_wrong(front, size)
 }

@@ -7,7 +7,7 @@ use Rattle.std.specs.Option.{option_map}
 use Rattle.image_check.specs.Any.{any_view}
 use Rattle.image_check.specs.declared.any.AnyImage.{AnyImage}
 use Rattle.image_check.specs.declared.any.AnyImage.TheVariants.{Romfs, Cramfs}
-use Rattle.image_info.specs.Volumes.{cramfs_volume, romfs_volume, volume_of}
+use Rattle.image_info.specs.Volumes.{cramfs_volume, volume_of}
 use Rattle.manifest.specs.Grammar.{Fault, manifest_of}
 use Rattle.manifest.specs.Lines.{ManifestLines}
 use Rattle.manifest_text.specs.Printed.{IsVolume, as_read, manifest_text}
@@ -62,6 +62,6 @@ named xs h l = record { bytes = front_bytes xs h; good = neither _ _ (le-ltb 255
 
 pub volume_is : (s : AnyImage) → All (λ b. b < 256) (any_view s).bytes → length (volume_of s) ≤ 255
     → IsVolume (volume_of s)
-unfolding romfs_volume cramfs_volume
+unfolding cramfs_volume
 volume_is (Romfs s) h l = named (drop 16 s.all.now) (All-drop (λ b. b < 256) 16 s.all.now h) l
 volume_is (Cramfs s) h l = named (take 16 (drop 48 s.all.now)) (All-take (λ b. b < 256) 16 (drop 48 s.all.now) (All-drop (λ b. b < 256) 48 s.all.now h)) l

@@ -5,6 +5,7 @@ ghost use Rattle.cramfs_format.specs.Inode.{name_room, offset_of, size_of, type_
 ghost use Rattle.cramfs_image.specs.Reported.{order_in};
 ghost use Rattle.linux_misreads.specs.Tables.{view};
 
+use cramfs_format::inode;
 use cramfs_image::Cramfs;
 use rom_tree::{NodeId, TreeImage};
 
@@ -14,7 +15,7 @@ pub(crate) fn type_field(image: &Cramfs<'_>, n: NodeId) -> u32
     ensures { result ≡ type_of (order_in image.now) image.now.all.now n.0 }
 {
     let order = image.parts().order;
-    order.first_field(16, order.word(image.bytes(), n.0 as usize)) / 4096
+    inode::type_at(order, image.bytes(), n.0 as usize)
 }
 
 /// The size, which is that of a device's numbers too.
@@ -23,7 +24,7 @@ pub(crate) fn size_field(image: &Cramfs<'_>, n: NodeId) -> u32
     ensures { result ≡ size_of (order_in image.now) image.now.all.now n.0 }
 {
     let order = image.parts().order;
-    order.first_field(24, order.word(image.bytes(), n.0 as usize + 4))
+    inode::size_at(order, image.bytes(), n.0 as usize)
 }
 
 /// How many bytes the name takes with its padding.
@@ -32,7 +33,7 @@ pub(crate) fn name_room_at(image: &Cramfs<'_>, n: NodeId) -> u32
     ensures { result ≡ name_room (order_in image.now) image.now.all.now n.0 }
 {
     let order = image.parts().order;
-    order.first_field(6, order.word(image.bytes(), n.0 as usize + 8)) * 4
+    inode::room_at(order, image.bytes(), n.0 as usize)
 }
 
 /// Where its list or its block pointers are.
@@ -41,5 +42,5 @@ pub(crate) fn offset_field(image: &Cramfs<'_>, n: NodeId) -> u32
     ensures { result ≡ offset_of (order_in image.now) image.now.all.now n.0 }
 {
     let order = image.parts().order;
-    order.field_after(6, order.word(image.bytes(), n.0 as usize + 8)) * 4
+    inode::offset_at(order, image.bytes(), n.0 as usize)
 }

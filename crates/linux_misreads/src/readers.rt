@@ -1,30 +1,8 @@
 //! What Linux makes of the fields of a record.
 ghost use Rattle.std.specs.Prelude.{◌≡◌, ◌+◌, ◌≤◌, ◌<◌, ◌^◌, length};
-ghost use Rattle.rom_fields.specs.Words.{word_be};
-ghost use Rattle.romfs_format.specs.Record.{before_zero};
 ghost use Rattle.linux_misreads.specs.Readers.{device_number as number_of, names_device as names, old_device as old_number, romfs_data as data_of, cramfs_finds as finds, romfs_finds as finds_romfs, listed_len as len_listed, romfs_root as root_of};
 
-use byteorder::{BigEndian, ByteOrder};
-use memchr::memchr;
-
-/// The word at `at`, its highest byte first.
-#[tactic(auto, unfolding(rom_fields::specs::Words::word_be))]
-pub(crate) fn word(b: &[u8], at: usize) -> u32
-    requires { at + 4 ≤ length b.now }
-    ensures { result ≡ word_be b.now at }
-{
-    BigEndian::read_u32(&b[at..])
-}
-
-/// The bytes before the first zero, or all where there is none.
-pub(crate) fn upto_zero<'a>(bytes: &'a [u8]) -> &'a [u8]
-    ensures { result.now ≡ before_zero bytes.now }
-{
-    match memchr(0, bytes) {
-        Some(len) => &bytes[..len],
-        None => bytes,
-    }
-}
+use romfs_format::superblock::upto_zero;
 
 /// The number that Linux gives a device.
 pub(crate) fn device_number(major: u32, minor: u32) -> u64

@@ -18,12 +18,17 @@ use Rattle.manifest.specs.Lines.{ManifestLines, is_file, is_hard, is_same, led, 
 use Rattle.manifest.specs.Paths.{names_of}
 use Rattle.manifest.proofs.Checked.{AreChecked, checked_lines, sound_place}
 use Rattle.manifest.proofs.Named.{path_with_names}
-use Rattle.manifest_tree.specs.Tree.{with_contents, inode_by, inode_of, file_at, file_named, root_of, tree_of, names_eq, is_named}
+use Rattle.manifest_tree.specs.Names.{source, Inode}
+use Rattle.manifest_tree.specs.Shape.{file_under, with_names}
+use Rattle.manifest_tree.specs.Tree.{with_contents, inode_by, inode_of, file_at, root_of, tree_of, names_eq, is_named, sources_before}
 use Rattle.manifest_tree.proofs.Law.{law_of_names}
 use Rattle.layout_terms.specs.Placement.{IsRun, AreInRuns}
+use Rattle.romfs_layout.specs.Disjoint.{FilesAreApart}
+use Rattle.cramfs_layout.specs.Sharing.{SourcesAreShared}
 use Rattle.manifest_layout.specs.Format.{Format}
 use Rattle.manifest_layout.specs.Misfit.{HasNoMisfit}
-use Rattle.manifest_layout.specs.Placement.{IsPlaced}
+use Rattle.manifest_layout.specs.Placement.{IsPlaced, AreShared, AreApart}
+use Rattle.manifest_layout.proofs.Grown.{inode_line}
 use Rattle.manifest_layout.proofs.Led.{no_path}
 use Rattle.manifest_layout.proofs.Known.{known}
 use Rattle.manifest_layout.proofs.Plain.{good_text}
@@ -104,6 +109,24 @@ align_is : (all : List Line) (sizes : List ℕ) (k o : Line) → (is_file k.word
 unfolding inode_of
 align_is all sizes k o h e = align_by all sizes k o k.word h e
 
+-- and its bytes are those of that line's source
+fill_by : (all : List Line) (sizes : List ℕ) (k o : Line) (w : Word) → (is_file w || is_same w) ≡ true
+    → filed (reverse all) k.path ≡ Some o → (inode_by all sizes w k).fill ≡ source (sources_before o.number all)
+fill_by all sizes k o File h e = ap (λ (f : Option Line). (with_contents all sizes k f).fill) e
+fill_by all sizes k o Same h e = ap (λ (f : Option Line). (with_contents all sizes k f).fill) e
+fill_by all sizes k o Dir h e = absurd (cc)
+fill_by all sizes k o Slink h e = absurd (cc)
+fill_by all sizes k o Block h e = absurd (cc)
+fill_by all sizes k o Character h e = absurd (cc)
+fill_by all sizes k o Fifo h e = absurd (cc)
+fill_by all sizes k o Socket h e = absurd (cc)
+fill_by all sizes k o Hard h e = absurd (cc)
+
+fill_is : (all : List Line) (sizes : List ℕ) (k o : Line) → (is_file k.word || is_same k.word) ≡ true
+    → filed (reverse all) k.path ≡ Some o → (inode_of all sizes k).fill ≡ source (sources_before o.number all)
+unfolding inode_of
+fill_is all sizes k o h e = fill_by all sizes k o k.word h e
+
 -- names are the same where the test says so, and only there
 names_same : (ns : List (List ℕ)) → names_eq ns ns ≡ true
 names_same [] = refl
@@ -143,24 +166,66 @@ first_named (x ∷ xs) q l h e =
       ]
     ] refl
 
-pub placed : (m : ManifestLines) (sizes : List ℕ) (t : Node) → IsManifest m
-    → AreInRuns t (root_of m.lines sizes) (tree_of m.lines sizes) → IsPlaced t m
+-- the file at the path of a line that leads to k
+named_file : (m : ManifestLines) (sizes : List ℕ) → IsManifest m → (l k : Line) (n : List ℕ) (ns : List (List ℕ))
+    → Has (λ z. z ≡ l) m.lines → led (reverse m.lines) l.path ≡ Some k → names_of l.path ≡ Some (n ∷ ns)
+    → file_under (n ∷ ns) (with_names (root_of m.lines sizes) (tree_of m.lines sizes)) ≡ Some (inode_of m.lines sizes k)
 unfolding file_at
-placed m sizes t h runs l o n ns x here f e node =
+named_file m sizes h l k n ns here leads e =
     let all = m.lines in
     let q = n ∷ ns in
+    let first = first_named all q l here e in
+    let same : first.0.path ≡ l.path = (path_with_names first.0.path n ns first.2).joined ∙ sym (path_with_names l.path n ns e).joined in
+    let at_line : file_at all sizes l.path ≡ Some (inode_of all sizes k) = ap (option_map (inode_of all sizes)) leads in
+    law_of_names m sizes q h ∙ ap (option_and_then (λ (y : Line). file_at all sizes y.path)) first.1
+    ∙ ap (file_at all sizes) same ∙ at_line
+
+-- the file at the path of a line that leads to the contents of o
+record FileOf (m : ManifestLines) (sizes : List ℕ) (q : List (List ℕ)) (o : Line) : Type 0 where
+  inode : Inode
+  is : file_under q (with_names (root_of m.lines sizes) (tree_of m.lines sizes)) ≡ Some inode
+  align : inode.align ≡ o.align
+  fill : inode.fill ≡ source (sources_before o.number m.lines)
+
+file_of : (m : ManifestLines) (sizes : List ℕ) → IsManifest m → (l o : Line) (n : List ℕ) (ns : List (List ℕ))
+    → Has (λ z. z ≡ l) m.lines → filed (reverse m.lines) l.path ≡ Some o → names_of l.path ≡ Some (n ∷ ns)
+    → FileOf m sizes (n ∷ ns) o
+file_of m sizes h l o n ns here f e =
+    let all = m.lines in
     let c = checked_lines m h.0 h.1 in
     let back : reverse all ≡ c.latest = ap reverse c.reversed ∙ reverse-reverse c.latest in
-    let k = first_named all q l here e in
-    let same : k.0.path ≡ l.path = (path_with_names k.0.path n ns k.2).joined ∙ sym (path_with_names l.path n ns e).joined in
     let g = filed_leads c.latest c.checked l.path o (ap (λ (ls : List Line). filed ls l.path) (sym back) ∙ f) in
-    let i = inode_of all sizes g.line in
-    let at_line : file_at all sizes l.path ≡ Some i = ap (option_map (inode_of all sizes)) (ap (λ (ls : List Line). led ls l.path) back ∙ g.leads) in
-    let at_names : file_named all sizes q ≡ Some i =
-    ap (option_and_then (λ (y : Line). file_at all sizes y.path)) k.1 ∙ ap (file_at all sizes) same ∙ at_line in
-    let run : IsRun i.align (places_of x) = runs q x i node (law_of_names m sizes q h ∙ at_names) in
-    let align : i.align ≡ o.align = align_is all sizes g.line o g.makes (ap (λ (ls : List Line). filed ls g.line.path) back ∙ g.filed_too) in
-    subst (λ (a : ℕ). IsRun a (places_of x)) align run
+    let leads : led (reverse all) l.path ≡ Some g.line = ap (λ (ls : List Line). led ls l.path) back ∙ g.leads in
+    let own : filed (reverse all) g.line.path ≡ Some o = ap (λ (ls : List Line). filed ls g.line.path) back ∙ g.filed_too in
+    record {
+      inode = inode_of all sizes g.line;
+      is = named_file m sizes h l g.line n ns here leads e;
+      align = align_is all sizes g.line o g.makes own;
+      fill = fill_is all sizes g.line o g.makes own;
+    }
+
+pub placed : (m : ManifestLines) (sizes : List ℕ) (t : Node) → IsManifest m
+    → AreInRuns t (root_of m.lines sizes) (tree_of m.lines sizes) → IsPlaced t m
+placed m sizes t h runs l o n ns x here f e node =
+    let i = file_of m sizes h l o n ns here f e in
+    subst (λ (a : ℕ). IsRun a (places_of x)) i.align (runs (n ∷ ns) x i.inode node i.is)
+
+-- lines with the contents of one `file` line name one source
+pub files_shared : (m : ManifestLines) (sizes : List ℕ) (t : Node) → IsManifest m
+    → SourcesAreShared t (root_of m.lines sizes) (tree_of m.lines sizes) → AreShared t m
+files_shared m sizes t h share k l o n p ns ps x y in_k in_l f g e d at_x at_y =
+    let i = file_of m sizes h k o n ns in_k f e in
+    let j = file_of m sizes h l o p ps in_l g d in
+    share (n ∷ ns) (p ∷ ps) x y i.inode j.inode (sources_before o.number m.lines) at_x at_y i.is j.is i.fill j.fill
+
+-- each line makes one file
+pub files_apart : (m : ManifestLines) (sizes : List ℕ) (t : Node) → IsManifest m
+    → FilesAreApart t (root_of m.lines sizes) (tree_of m.lines sizes) → AreApart t m
+files_apart m sizes t h apart k l a b n p ns ps x y in_k in_l f g differ e d at_x at_y =
+    let i = named_file m sizes h k a n ns in_k f e in
+    let j = named_file m sizes h l b p ps in_l g d in
+    apart (n ∷ ns) (p ∷ ps) x y (inode_of m.lines sizes a) (inode_of m.lines sizes b) at_x at_y i j
+    (λ z. differ (sym (inode_line m.lines sizes a) ∙ z ∙ inode_line m.lines sizes b))
 
 -- a name stands before its zeros
 before_zeros : (name : List ℕ) (k : ℕ) → Every (λ x. x ≢ 0) name → before_zero (name ++ replicate k 0) ≡ name

@@ -1,14 +1,15 @@
 -- Where a manifest asks the bytes of its files to stand, and what it calls its volume. (This project's own; the places of
 -- the names are those of Linux Documentation/filesystems/romfs.rst and include/uapi/linux/cramfs_fs.h.)
-use Rattle.std.specs.Prelude.{◌≡◌, ℕ, List, ◌∷◌, reverse, take, drop, Some}
+use Rattle.std.specs.Prelude.{◌≡◌, ◌≢◌, ℕ, List, ◌∷◌, reverse, take, drop, Some}
 use Rattle.record_forest.specs.Members.{Has}
 use Rattle.rom_tree.specs.Tree.{Node, places_of}
 use Rattle.romfs_format.specs.Record.{before_zero}
 use Rattle.manifest.specs.declared.line.Line.{Line}
-use Rattle.manifest.specs.Lines.{ManifestLines, filed}
+use Rattle.manifest.specs.Lines.{ManifestLines, filed, led}
 use Rattle.manifest.specs.Paths.{names_of}
 use Rattle.manifest_tree.specs.Shape.{node_under}
 use Rattle.layout_terms.specs.Placement.{IsRun}
+use Rattle.romfs_layout.specs.Disjoint.{AreDisjoint}
 use Rattle.manifest_layout.specs.Format.{Format, romfs, cramfs}
 
 -- Of each line l of the manifest that leads to a regular file, as `file`, `same` and `hard` lines do, and the `file` line
@@ -19,6 +20,31 @@ IsPlaced t m =
     (l o : Line) (n : List ℕ) (ns : List (List ℕ)) (x : Node) → Has (λ k. k ≡ l) m.lines
     → filed (reverse m.lines) l.path ≡ Some o → names_of l.path ≡ Some (n ∷ ns) → node_under (n ∷ ns) t ≡ Some x
     → IsRun o.align (places_of x)
+
+-- Any two lines k and l of the manifest that lead to the contents of one `file` line o: the nodes at
+-- their paths have their bytes at the same places of the image.
+abbrev pub AreShared : Node → ManifestLines → Type 0
+AreShared t m =
+    (k l o : Line) (n p : List ℕ) (ns ps : List (List ℕ)) (x y : Node) → Has (λ z. z ≡ k) m.lines
+    → Has (λ z. z ≡ l) m.lines → filed (reverse m.lines) k.path ≡ Some o
+    → filed (reverse m.lines) l.path ≡ Some o → names_of k.path ≡ Some (n ∷ ns)
+    → names_of l.path ≡ Some (p ∷ ps) → node_under (n ∷ ns) t ≡ Some x
+    → node_under (p ∷ ps) t ≡ Some y → places_of x ≡ places_of y
+
+-- Any two lines k and l of the manifest that lead to different lines a and b, each to itself or by
+-- `hard` to another: the nodes at their paths have no place of the image in common.
+abbrev pub AreApart : Node → ManifestLines → Type 0
+AreApart t m =
+    (k l a b : Line) (n p : List ℕ) (ns ps : List (List ℕ)) (x y : Node) → Has (λ z. z ≡ k) m.lines
+    → Has (λ z. z ≡ l) m.lines → led (reverse m.lines) k.path ≡ Some a
+    → led (reverse m.lines) l.path ≡ Some b → a.number ≢ b.number → names_of k.path ≡ Some (n ∷ ns)
+    → names_of l.path ≡ Some (p ∷ ps) → node_under (n ∷ ns) t ≡ Some x
+    → node_under (p ∷ ps) t ≡ Some y → AreDisjoint (places_of x) (places_of y)
+
+-- how files with the same contents stand: in romfs each has a copy, in cramfs they share one
+abbrev pub CopiesStand : Format → Node → ManifestLines → Type 0
+CopiesStand romfs t m = AreApart t m
+CopiesStand (cramfs o) t m = AreShared t m
 
 -- the volume's name in the bytes: what stands before the first zero at 16 or, of cramfs, in the 16 bytes at 48
 abbrev pub HasVolume : Format → List ℕ → List ℕ → Type 0

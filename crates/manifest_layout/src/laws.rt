@@ -6,7 +6,7 @@ ghost use Rattle.manifest.specs.Lines.{ManifestLines};
 ghost use Rattle.manifest_layout.specs.Composed.{composed_of};
 ghost use Rattle.manifest_layout.specs.Format.{Format, HasUsualTree, IsPlannedBy, layout_of, len_of, sections_of};
 ghost use Rattle.manifest_layout.specs.Misfit.{IsLeastMisfit, HasNoMisfit};
-ghost use Rattle.manifest_layout.specs.Placement.{HasVolume, IsPlaced};
+ghost use Rattle.manifest_layout.specs.Placement.{CopiesStand, HasVolume, IsPlaced};
 ghost use Rattle.manifest_tree.specs.Meant.{IsMeant};
 ghost use Rattle.rom_faults.specs.declared.fault.Fault.{Fault};
 ghost use Rattle.rom_tree.specs.Tree.{Node};
@@ -48,11 +48,15 @@ pub fn layout_is_meant()
 
 /// In the tree that the layout of a manifest that fits holds, each file with the contents of a `file`
 /// line has its bytes in one run, from a multiple of that line's ALIGN on; and the volume has the
-/// manifest's name.
+/// manifest's name. In cramfs all files with the contents of one `file` line have their bytes at
+/// the same places. In romfs the files of different lines have no place in common.
 pub fn layout_is_placed()
     ensures runs { (f : Format) (m : ManifestLines) (contents : List (List ℕ))
         → IsManifest m → HasNoMisfit f m (map length contents)
         → (t : Node) × HasUsualTree f (layout_of f m contents) t × IsPlaced t m }
+    ensures copies { (f : Format) (m : ManifestLines) (contents : List (List ℕ))
+        → IsManifest m → HasNoMisfit f m (map length contents)
+        → (t : Node) × HasUsualTree f (layout_of f m contents) t × CopiesStand f t m }
     ensures named { (f : Format) (m : ManifestLines) (contents : List (List ℕ))
         → IsManifest m → HasNoMisfit f m (map length contents)
         → HasVolume f (layout_of f m contents) m.volume }

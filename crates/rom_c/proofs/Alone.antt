@@ -1,10 +1,10 @@
 -- What holds of the tree that an image has been opened with holds of the tree that its bytes have.
-use Rattle.std.proofs.Common.{◌≡◌, ℕ, List, Result, Ok, Err, Bool, true, false, Option, Some, None, refl, subst}
+use Rattle.std.proofs.Common.{◌≡◌, ℕ, List, Result, Ok, Err, Bool, true, false, Option, Some, None, refl, sym, subst}
 use Rattle.std.proofs.lemmas.Bool.{false≢true}
 use Rattle.std.proofs.Math.Logic.{∥∥₁_elim}
 use Rattle.std.proofs.Props.{props}
-use Rattle.std.specs.Prelude.{◌||◌, is_some, IsSomeAnd}
-use Rattle.rom_tree.specs.Tree.{Node, is_link, is_directory, is_regular}
+use Rattle.std.specs.Prelude.{◌||◌, is_some, IsSome, IfSome, IsSomeAnd}
+use Rattle.rom_tree.specs.Tree.{Node, node_at, is_link, is_directory, is_regular}
 use Rattle.rom_tree.specs.declared.types.Limits.{Limits}
 use Rattle.path_walk.specs.declared.error.WalkError.{WalkError}
 use Rattle.open_files.specs.Calls.{Of, Named}
@@ -35,7 +35,7 @@ some_prop (Some o) P h = h o
 at_zero : (v : Option (Open Node)) → IsProp (IsSomeAnd v (λ o. o.position ≡ 0))
 at_zero v = some_prop v (λ o. o.position ≡ 0) (λ o. Prim.hlevel props)
 
-IsOpenAt-prop : (t x : Node) (f : RomtoolFile) (b : Bool) → IsProp (IsOpenAt t x f b)
+pub IsOpenAt-prop : (t x : Node) (f : RomtoolFile) (b : Bool) → IsProp (IsOpenAt t x f b)
 IsOpenAt-prop t x f true = let e = at_zero (file_in t f) in Prim.hlevel (props, e)
 IsOpenAt-prop t x f false = Prim.hlevel props
 
@@ -84,3 +84,19 @@ in_tree K all held t kept shown n node position one proper has h e f s k =
     let P : List ℕ → Node → Type 0 = λ b u. IsSomeAnd (stands_in u all n node position) (K b u) in
     told P all held t kept shown one (some_prop (stands_in t all n node position) (K all t) proper) has h e f
     (some_and (stands_in shown all n node position) (K held shown) s k)
+
+-- what holds of a node, if there is one
+
+pub if_prop : (v : Option Node) (P : Node → Type 0) → ((x : Node) → IsProp (P x)) → IsProp (IfSome v P)
+if_prop None P h = Prim.hlevel props
+if_prop (Some x) P h = h x
+
+pub if_some : (v : Option Node) (P : Node → Type 0) → ((x : Node) → v ≡ Some x → P x) → IfSome v P
+if_some None P h = tt
+if_some (Some x) P h = h x refl
+
+-- a number that each tree of the bytes has is one of the tree that the image has been opened with
+pub node_there : (all : List ℕ) (kept shown : Node) (n : ℕ) → ∥ HasTree all usual kept ∥₁
+    → ((t : Node) → HasTree all usual t → IsSome (node_at t n)) → shown ≡ kept → IsSome (node_at shown n)
+node_there all kept shown n has h e =
+    subst (λ (t : Node). IsSome (node_at t n)) (sym e) (∥∥₁_elim has (Prim.hlevel props) (λ k. h kept k))

@@ -1,14 +1,15 @@
 //! Calls by paths, on an image that is open.
-ghost use Rattle.std.specs.Prelude.{◌≡◌, ◌≤◌, false};
-ghost use Rattle.rom_tree.specs.Tree.{levels};
+ghost use Rattle.std.specs.Prelude.{◌≡◌, ◌≤◌, false, Some};
+ghost use Rattle.rom_tree.specs.Tree.{Node, levels};
+ghost use Rattle.rom_tree.specs.Image.{HasNode, image_node, stat_of};
 ghost use Rattle.path_walk.specs.Resolution.{resolution, tree_namespace};
 ghost use Rattle.image_check.specs.Any.{any_view};
-ghost use Rattle.rom_c.specs.Told.{IsText, led_told, shown_told};
+ghost use Rattle.rom_c.specs.Told.{IsText, led_told, shown_told, stat_told};
 
 use crate::answers::{RomtoolNode, RomtoolPlace, RomtoolStat, no_node, no_place, no_stat, shown};
 use image_check::AnyImage;
 use path_walk::walk;
-use rom_tree::{TreeImage, is_link_at};
+use rom_tree::{NodeId, TreeImage, is_link_at};
 
 /// What a path leads to is no symbolic link.
 const NO_LINK: u32 = 5;
@@ -38,6 +39,15 @@ pub(crate) fn stat_in(image: &mut AnyImage<'_>, path: &[u8], follow: bool) -> Ro
         Ok(node) => shown(image.stat(node)),
         Err(error) => no_stat(error.number()),
     }
+}
+
+/// The kind and numbers of a node of an image.
+pub(crate) fn stat_at(image: &AnyImage<'_>, node: NodeId) -> RomtoolStat
+    requires { HasNode (any_view image.now) node.0 }
+    ensures { (x : Node) → image_node (any_view image.now) node.0 ≡ Some x
+        → result ≡ stat_told (stat_of x) }
+{
+    shown(image.stat(node))
 }
 
 /// Where the text of the link lies that a path leads to in an image.

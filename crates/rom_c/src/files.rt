@@ -1,7 +1,7 @@
 //! What C calls on open files. A file keeps its image, its node and its `error` in each call.
-ghost use Rattle.std.specs.Prelude.{◌≡◌, ◌≢◌, true, length, None, IsSomeAnd};
+ghost use Rattle.std.specs.Prelude.{◌≡◌, ◌≢◌, true, length, None, IsSomeAnd, IsSome, IfSome, ◌||◌};
 ghost use Rattle.std.specs.Bool.{OnTrue, OnFalse};
-ghost use Rattle.rom_tree.specs.Tree.{Node};
+ghost use Rattle.rom_tree.specs.Tree.{Node, node_at, is_directory, is_regular};
 ghost use Rattle.rom_tree.specs.Image.{LieIn};
 ghost use Rattle.path_walk.specs.Resolution.{resolution, tree_namespace};
 ghost use Rattle.open_files.specs.Machine.{fstat_on, seek_on, read_on, lend_on, map_on, readdir_on};
@@ -9,14 +9,15 @@ ghost use Rattle.image_check.specs.Checked.{HasTree};
 ghost use Rattle.rom_c.specs.Held.{usual};
 ghost use Rattle.rom_c.specs.Told.{no_stat as no_stat_told, no_place as no_place_told};
 ghost use Rattle.rom_c.specs.Outcomes.{error_told, place_told, file_stat_told, IsCopied, IsListed, IsNoEntry};
-ghost use Rattle.rom_c.specs.Files.{IsNoFile, IsOpen, IsOpenedBy, MovesTo, file_in};
+ghost use Rattle.rom_c.specs.Files.{IsNoFile, IsOpen, IsOpenAt, IsOpenedBy, MovesTo, file_in};
 
 use crate::answers::{CLOSED, RomtoolPlace, RomtoolStat, no_place, no_stat};
 use crate::file::{RomtoolEntry, RomtoolFile, moved, no_entry, no_file, node_of};
 use crate::image::{OPEN, RomtoolImage, image_of};
 use crate::lending::{fstat_in, lend_in, map_in, read_in, readdir_in, seek_in};
-use crate::opening::open_in;
+use crate::opening::{open_at, open_in};
 use image_check::laws::one_tree;
+use rom_tree::NodeId;
 
 /// Nothing is open at the file.
 const BAD_FILE: u32 = 6;
@@ -52,6 +53,32 @@ pub extern "C" fn romtool_open<'a>(
         return CLOSED;
     }
     *file = open_in(image, path);
+    file.error
+}
+
+/// Opens the directory or regular file with this node number, which a call on the same image
+/// answered, at its start. It takes no time to look it up. Gives 0, or the number of the error, which
+/// stands in the file too: 13 if no image is open, and 8 if the node is neither.
+#[unsafe(no_mangle)]
+pub extern "C" fn romtool_open_node<'a>(
+    file: &mut RomtoolFile<'a>,
+    image: &RomtoolImage<'a>,
+    node: u32,
+) -> u32
+    requires { image.now.status ≡ 1 → (t : Node) → HasTree image.now.bytes.now usual t
+        → IsSome (node_at t node) }
+    ensures error { result ≡ file.new.error }
+    ensures image { file.new.image ≡ image.now }
+    ensures closed { image.now.status ≢ 1 → IsNoFile 13 file.new }
+    ensures opened { image.now.status ≡ 1 → (t : Node) → HasTree image.now.bytes.now usual t
+        → IfSome (node_at t node)
+        (λ x. IsOpenAt t x file.new (is_directory x || is_regular x)) }
+{
+    if image.status != OPEN {
+        *file = no_file(image, CLOSED);
+        return CLOSED;
+    }
+    *file = open_at(image, NodeId(node));
     file.error
 }
 

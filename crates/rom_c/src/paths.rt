@@ -1,17 +1,19 @@
 //! What C calls on an image.
-ghost use Rattle.std.specs.Prelude.{◌≡◌, ◌≢◌, ◌⊎◌, false};
-ghost use Rattle.rom_tree.specs.Tree.{Node};
+ghost use Rattle.std.specs.Prelude.{◌≡◌, ◌≢◌, ◌⊎◌, false, true, IsSome, IfSome};
+ghost use Rattle.rom_tree.specs.Tree.{Node, node_at};
+ghost use Rattle.rom_tree.specs.Image.{stat_of};
 ghost use Rattle.path_walk.specs.Resolution.{resolution, tree_namespace};
 ghost use Rattle.rom_faults.specs.declared.error.CheckError.TheVariants.{Fault, OutOfMemory};
 ghost use Rattle.image_check.specs.Checked.{HasTree, IsLeastFaultUnder};
 ghost use Rattle.rom_c.specs.Held.{usual, IsFormat, IsReported};
-ghost use Rattle.rom_c.specs.Told.{IsText, led_told, shown_told};
+ghost use Rattle.rom_c.specs.Told.{IsText, led_told, shown_told, stat_told};
 ghost use Rattle.rom_c.specs.Told.{no_node as no_node_told, no_stat as no_stat_told, no_place as no_place_told};
 
 use crate::answers::{CLOSED, RomtoolNode, RomtoolPlace, RomtoolStat, no_node, no_place, no_stat};
-use crate::calls::{lookup_in, readlink_in, stat_in};
+use crate::calls::{lookup_in, readlink_in, stat_at, stat_in};
 use crate::image::{OPEN, RomtoolImage, check_into, image_of};
 use image_check::laws::one_tree;
+use rom_tree::NodeId;
 use std::alloc::Global;
 
 /// Checks an image, and puts down what C is to hand back with each call on it.
@@ -74,6 +76,23 @@ pub extern "C" fn romtool_stat(image: &RomtoolImage<'_>, path: &[u8], follow: bo
         return no_stat(CLOSED);
     }
     stat_in(&mut image_of(image), path, follow)
+}
+
+/// The kind and numbers of the node with this number, which a call on the same image answered. It
+/// takes no time to look it up. Error 13 if no image is open.
+#[unsafe(no_mangle)]
+pub extern "C" fn romtool_stat_node(image: &RomtoolImage<'_>, node: u32) -> RomtoolStat
+    requires { image.now.status ≡ 1 → (t : Node) → HasTree image.now.bytes.now usual t
+        → IsSome (node_at t node) }
+    ensures closed { image.now.status ≢ 1 → result ≡ no_stat_told 13 }
+    ensures shows { image.now.status ≡ 1 → (t : Node) → HasTree image.now.bytes.now usual t
+        → IfSome (node_at t node) (λ x. result ≡ stat_told (stat_of x)) }
+{
+    one_tree();
+    if image.status != OPEN {
+        return no_stat(CLOSED);
+    }
+    stat_at(&image_of(image), NodeId(node))
 }
 
 /// Where the text of the symbolic link lies that a path leads to: its bytes follow one another in

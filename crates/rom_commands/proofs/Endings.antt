@@ -12,15 +12,19 @@ use Rattle.image_check.specs.Any.{any_view, report_of}
 use Rattle.image_check.specs.Checked.{Shows, IsRefused, IsFaultless, IsLeastFaultUnder}
 use Rattle.image_check.specs.declared.any.AnyImage.{AnyImage}
 use Rattle.open_files.specs.Machine.{no_files}
+use Rattle.open_files.specs.Sessions.{no_sessions}
 use Rattle.serve_lines.specs.Served.{Machine, Serves, Finishes, Breaks}
 use Rattle.serve_lines.specs.declared.error.ServeError.{ServeError}
 use Rattle.serve_lines.specs.declared.error.ServeError.TheVariants as serve
-use Rattle.rom_serve.specs.Machines.{image_machine}
+use Rattle.rom_serve.specs.Machines.{image_machine, space_machine}
 use Rattle.rom_commands.specs.declared.serving.Serving.{Serving}
 use Rattle.rom_commands.specs.declared.serving.Serving.TheVariants.{Served, Refused, Memory, ReadFault, WriteFault, TooManyReads}
 use Rattle.rom_commands.specs.Lines.{fault_line}
+use Rattle.rom_commands.specs.Refused.{EndsUnserved, IsFirst}
+use Rattle.rom_commands.specs.declared.several.NoImage.{NoImage}
+use Rattle.rom_commands.specs.declared.several.NoImage.TheVariants as none
 use Rattle.rom_commands.specs.Answers.{IsFaultTextUnder}
-use Rattle.rom_commands.specs.Serving.{Input, EndsServed, EndsRefused, Tells, CheckedEnds, ServingEndsUnder, serving_of, refusal_of}
+use Rattle.rom_commands.specs.Serving.{Input, EndsServed, EndsRefused, Tells, CheckedEnds, ServingEndsUnder, HoldAll, IsFirstFaultText, SpaceEnds, fault_in_line, serving_of, refusal_of}
 
 -- lines were answered
 pub answers_by : {S : Type 0} (m : Machine S) (s : S) (r₀ r : Input) (w₀ w : Output) (q : Result (Unit {0}) ServeError)
@@ -86,3 +90,21 @@ under_by limits bytes (Err (check.Fault number at)) r₀ r w₀ w o shows clean 
     inr (told (IsFaultTextUnder limits bytes) (fault_line number at) r₀ r w₀ w o is ends)
 under_by limits bytes (Err check.OutOfMemory) r₀ r w₀ w o shows clean refused least ends =
     inr (unserved (IsFaultTextUnder limits bytes) r₀ r w₀ w o ends.0 ends.1 ends.2)
+
+-- what a serving did by what the checks of several images answered, it did of the bytes that were checked
+pub all_by : {V : Type 0} (images : V → List Image) (all : List (List ℕ)) (q : Result V NoImage) (r₀ r : Input) (w₀ w : Output)
+    (o : Serving) → IfOk q (λ v. HoldAll all (images v)) → IfErr q (IsFirst all)
+    → IfOk q (λ v. EndsServed (space_machine (images v)) (no_sessions 64) r₀ r w₀ w o)
+    → IfErr q (λ e. EndsUnserved e r₀ r w₀ w o) → SpaceEnds all r₀ r w₀ w o
+all_by images all (Ok v) r₀ r w₀ w o held first served unserved_by = inl (images v, held, served)
+all_by images all (Err (none.Fault number at image)) r₀ r w₀ w o held first served unserved_by =
+    let is : IsFirstFaultText all (fault_in_line number at image) =
+    record { number = number; at = at; image = image; first = first; same = refl } in
+    inr (told (IsFirstFaultText all) (fault_in_line number at image) r₀ r w₀ w o is unserved_by)
+all_by images all (Err none.OutOfMemory) r₀ r w₀ w o held first served unserved_by =
+    inr (unserved (IsFirstFaultText all) r₀ r w₀ w o unserved_by.0 unserved_by.1 unserved_by.2)
+
+-- what follows of what is so of an answer that was accepted
+pub ok_by : {T E : Type 0} (q : Result T E) (P Q : T → Type 0) → ((v : T) → P v → Q v) → IfOk q P → IfOk q Q
+ok_by (Ok v) P Q f h = f v h
+ok_by (Err e) P Q f h = h

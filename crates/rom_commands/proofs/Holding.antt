@@ -1,6 +1,6 @@
 -- Images of several files, one more each time.
 use Rattle.std.proofs.lemmas.List.{length-map, take_rest}
-use Rattle.std.proofs.Common.{◌≡◌, ℕ, ◌≤◌, List, [], ◌∷◌, ◌++◌, length, map, refl, sym, ap, ◌∙◌, arith, append_assoc, get_or, zero, suc, length-append, take, drop, ◌-◌}
+use Rattle.std.proofs.Common.{◌≡◌, ℕ, ◌<◌, ◌≤◌, List, [], ◌∷◌, ◌++◌, length, map, refl, sym, ap, ◌∙◌, arith, append_assoc, get_or, zero, suc, length-append, take, drop, ◌-◌}
 use Rattle.rom_tree.specs.Tree.{levels}
 use Rattle.rom_tree.specs.Image.{Image}
 use Rattle.path_walk.specs.Graft.{AreShallow, tree_in}
@@ -21,6 +21,12 @@ held_length [] [] h = refl
 held_length (x ∷ bs) (y ∷ ms) h = ap suc (held_length bs ms h.1)
 held_length [] (y ∷ ms) h = elim h [ ]
 held_length (x ∷ bs) [] h = elim h [ ]
+
+pub some_held : (bs : List (List ℕ)) (ms : List Image) → HoldAll bs ms → 0 < length bs → 0 < length ms
+some_held bs ms h some = let k = held_length bs ms h in omega arith
+
+pub most_held : (bs : List (List ℕ)) (ms : List Image) → HoldAll bs ms → length bs ≤ 8 → length ms ≤ 8
+most_held bs ms h few = let k = held_length bs ms h in omega arith
 
 shallow_at : (ms : List Image) (m : Image) → AreShallow ms → levels m.tree ≤ 65 → (i : ℕ) → levels (tree_in (ms ++ m ∷ []) i) ≤ 65
 shallow_at [] m h k zero = k

@@ -7,9 +7,11 @@ ghost use Rattle.image_check.specs.Any.{any_view};
 ghost use Rattle.rom_tree.specs.Tree.{levels};
 ghost use Rattle.rom_commands.specs.Answers.{Holds, Prints};
 ghost use Rattle.rom_commands.specs.Serving.{input_of, fault_in_line, HoldAll, SpaceEnds, serving_status, serving_complaint};
-ghost use Rattle.rom_commands.specs.Serving.{HasFirstFault, Input, TellsFault};
+ghost use Rattle.open_files.specs.Sessions.{no_sessions};
+ghost use Rattle.rom_serve.specs.Machines.{space_machine};
+ghost use Rattle.rom_commands.specs.Serving.{EndsServed, HasFirstFault, Input, TellsFault};
 ghost use Rattle.rom_commands.specs.declared.serving.Serving.{Serving};
-ghost use Rattle.rom_commands.specs.Refused.{IsFaultAt, IsFirst};
+ghost use Rattle.rom_commands.specs.Refused.{EndsUnserved, IsFaultAt, IsFirst};
 
 use crate::fault::put_fault;
 use crate::serving::{Serving, conclude, ended, refused, told};
@@ -129,6 +131,34 @@ pub fn refuse_in<W: ByteWrite, E: ByteWrite>(
     told(written, err)
 }
 
+/// Serves what the checks of several images answered: answers the lines of `r` from their trees on
+/// `w`, as `rom_serve::serve_space` does, or writes the line of the first fault, and flushes it. It
+/// ends with `Memory` only if memory was refused to the checks.
+fn serve_all_checked<'a, R: ByteRead, W: ByteWrite>(
+    checked: Result<Vec<Indexed<'a, AnyImage<'a>>>, NoImage>,
+    r: &mut R,
+    w: &mut W,
+) -> Serving
+    requires some { IfOk checked (λ v. 0 < length (map (λ x. any_view x.image) v.items)) }
+    requires few { IfOk checked (λ v. length (map (λ x. any_view x.image) v.items) ≤ 8) }
+    requires shallow { IfOk checked (λ v. AreShallow (map (λ x. any_view x.image) v.items)) }
+    ensures served { IfOk checked.entry (λ v.
+        EndsServed (space_machine (map (λ x. any_view x.image) v.items)) (no_sessions 64)
+        (input_of (R.remaining r.old) (R.failures r.old))
+        (input_of (R.remaining r.new) (R.failures r.new))
+        (W.output w.old) (W.output w.new) result) }
+    ensures unserved { IfErr checked.entry (λ e. EndsUnserved e
+        (input_of (R.remaining r.old) (R.failures r.old))
+        (input_of (R.remaining r.new) (R.failures r.new))
+        (W.output w.old) (W.output w.new) result) }
+{
+    match checked {
+        Ok(images) => ended(serve_space(images, r, w)),
+        Err(NoImage::Fault { number, at, image }) => refused(tell_fault_in(w, number, at, image)),
+        Err(NoImage::OutOfMemory) => Serving::Memory,
+    }
+}
+
 /// Checks 1 to 8 images under the usual limits, and answers the lines of `r` from their trees on
 /// `w`, as `rom_serve::serve_space` does. Of the first image with a fault the line of the fault is
 /// written, with the image's number. Names are sorted as `serving::serve_image` does; no answers
@@ -146,11 +176,8 @@ pub fn serve_images<R: ByteRead, W: ByteWrite>(
         (input_of (R.remaining r.new) (R.failures r.new))
         (W.output w.old) (W.output w.new) result }
 {
-    match check_all(alloc, files) {
-        Ok(images) => ended(serve_space(images, r, w)),
-        Err(NoImage::Fault { number, at, image }) => refused(tell_fault_in(w, number, at, image)),
-        Err(NoImage::OutOfMemory) => Serving::Memory,
-    }
+    let checked = check_all(alloc, files);
+    serve_all_checked(checked, r, w)
 }
 
 /// Serves several images as `serve_images` does, says on `err` what went wrong, and gives the

@@ -12,3 +12,5 @@ pub mod Sets
 pub mod Spans
 pub mod Orders
 pub mod Named
+pub mod Zeros
+pub mod Fronts

@@ -8,4 +8,6 @@
 #![tactic(auto)]
 
 pub mod disk;
+pub mod header;
 pub mod laws;
+pub mod superblock;

@@ -1,4 +1,3 @@
-pub mod Zeros
 pub mod Reading
 pub mod Calls
 pub mod Walk

@@ -6,18 +6,9 @@ ghost use Rattle.romfs_format.specs.Tree.{kind_named, mode_named, led, by_type};
 ghost use Rattle.romfs_format.specs.Made.{begins};
 
 use crate::accessible::Accessible;
-use byteorder::{BigEndian, ByteOrder};
 use memchr::memchr;
 use rom_tree::Kind;
-
-/// The word at `at`.
-#[tactic(auto, unfolding(rom_fields::specs::Words::word_be))]
-pub fn word(b: &[u8], at: usize) -> u32
-    requires { at + 4 ≤ length b.now }
-    ensures { result ≡ word_be b.now at }
-{
-    BigEndian::read_u32(&b[at..])
-}
+use romfs_format::header;
 
 /// How long the name at `at` is, where a zero ends it within 256 bytes.
 pub fn name_len(b: &[u8], at: usize) -> Option<usize>
@@ -40,56 +31,47 @@ impl<'a> Accessible<'a> {
         requires { at + 4 ≤ length self.now.bytes.now }
         ensures { result ≡ word_be self.now.bytes.now at }
     {
-        word(self.bytes, at)
+        header::word(self.bytes, at)
     }
 
     /// The record's type, 0 to 7.
-    #[tactic(auto, unfolding(romfs_format::specs::Record::type_of))]
     pub fn type_at(&self, at: usize) -> u32
         requires { at + 16 ≤ length self.now.bytes.now }
         ensures { result ≡ type_of self.now.bytes.now at }
     {
-        self.word(at) % 8
+        header::type_at(self.bytes, at)
     }
 
     /// The offset of the record after it.
-    #[tactic(auto, unfolding(romfs_format::specs::Record::next_of))]
     pub fn next_offset(&self, at: usize) -> u32
         requires { at + 16 ≤ length self.now.bytes.now }
         ensures { result ≡ next_of self.now.bytes.now at }
     {
-        self.word(at) / 16 * 16
+        header::next_at(self.bytes, at)
     }
 
     /// The offset in its spec.
-    #[tactic(auto, unfolding(romfs_format::specs::Record::spec_offset_of))]
     pub fn spec_offset(&self, at: usize) -> u32
         requires { at + 16 ≤ length self.now.bytes.now }
         ensures { result ≡ spec_offset_of self.now.bytes.now at }
     {
-        self.word(at + 4) / 16 * 16
+        header::spec_at(self.bytes, at)
     }
 
     /// Its size.
-    #[tactic(auto, unfolding(romfs_format::specs::Record::size_of))]
     pub fn size_at(&self, at: usize) -> u32
         requires { at + 16 ≤ length self.now.bytes.now }
         ensures { result ≡ size_of self.now.bytes.now at }
     {
-        self.word(at + 8)
+        header::size_at(self.bytes, at)
     }
 
     /// The first record of its list, 0 where it has none.
-    #[tactic(auto, unfolding(romfs_format::specs::Record::first_of))]
     pub fn first_offset(&self, at: usize) -> u32
         requires { at + 16 ≤ length self.now.bytes.now }
         ensures { result ≡ first_of self.now.bytes.now at }
     {
-        if self.type_at(at) == 1 {
-            self.spec_offset(at)
-        } else {
-            0
-        }
+        header::first_at(self.bytes, at)
     }
 
     /// The name of a record.

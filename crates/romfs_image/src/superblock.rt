@@ -2,23 +2,14 @@
 ghost use Rattle.std.specs.Prelude.{◌≡◌, ◌≤◌, ◌<◌, ◌+◌, ◌^◌, length, IfOk, IfErr, IsTrue, ◌↔◌, take, min, drop, SomeIff, IfSome, option_copied};
 ghost use Rattle.rom_fields.specs.Words.{words_sum};
 ghost use Rattle.romfs_format.specs.Record.{type_of, before_zero};
-ghost use Rattle.romfs_format.specs.Tree.{magic, full_size, root_of, IsSuperblock};
+ghost use Rattle.romfs_format.specs.Tree.{root_of, IsSuperblock};
 ghost use Rattle.romfs_format.specs.Superblock.{accessible, HasSize, HasSum, HasRoot, HasImageFault};
 
 use crate::accessible::Accessible;
-use crate::fields::word;
 use memchr::memchr;
 use rom_faults::{Fault, fault};
 use rom_fields::word_sum;
-use romfs_format::disk::MAGIC;
-
-/// Whether the bytes begin with the magic.
-fn has_magic(bytes: &[u8]) -> bool
-    requires { 32 ≤ length bytes.now }
-    ensures { IsTrue result ↔ (take 8 bytes.now ≡ magic) }
-{
-    &bytes[..8] == MAGIC.as_slice()
-}
+use romfs_format::superblock::{begins, stated_size};
 
 /// The accessible bytes, where the size is one that the image can have.
 fn accessible_bytes<'a>(bytes: &'a [u8]) -> Option<&'a [u8]>
@@ -26,7 +17,7 @@ fn accessible_bytes<'a>(bytes: &'a [u8]) -> Option<&'a [u8]>
     ensures part { SomeIff (option_copied result) (HasSize bytes.now) (accessible bytes.now) }
     ensures small { IfSome result (λ b. length b.now < 2 ^ 32) }
 {
-    let size = word(bytes, 8) as usize;
+    let size = stated_size(bytes) as usize;
     if size < 32 || bytes.len() < size {
         return None;
     }
@@ -101,7 +92,7 @@ pub fn read_superblock<'a>(bytes: &'a [u8]) -> Result<Accessible<'a>, Fault>
     if bytes.len() < 32 {
         return Err(SHORT);
     }
-    if !has_magic(bytes) {
+    if !begins(bytes) {
         return Err(NO_MAGIC);
     }
     let Some(part) = accessible_bytes(bytes) else {

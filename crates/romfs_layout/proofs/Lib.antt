@@ -13,6 +13,7 @@ pub mod Values
 pub mod Paths
 pub mod Runs
 pub mod Shaped
+pub mod OwnPlaces
 pub mod Sectioned
 pub mod Composed
 mod Examples

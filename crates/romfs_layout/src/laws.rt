@@ -10,6 +10,7 @@ ghost use Rattle.romfs_format.specs.Tree.{RomfsTree};
 ghost use Rattle.layout_terms.specs.Items.{SectionsRise};
 ghost use Rattle.layout_terms.specs.Placement.{AreInRuns};
 ghost use Rattle.romfs_layout.specs.Composed.{romfs_part, composed};
+ghost use Rattle.romfs_layout.specs.Disjoint.{FilesAreApart};
 ghost use Rattle.romfs_layout.specs.Items.{items_of, sections_of};
 ghost use Rattle.romfs_layout.specs.Layout.{layout, full_size_of, root_at};
 ghost use Rattle.romfs_layout.specs.Planned.{IsPlanned};
@@ -24,11 +25,16 @@ pub fn layout_has_tree()
 {}
 
 /// In that tree each file has its bytes in one run of the image, from a multiple of its alignment
-/// on; and the volume's name stands at 16, up to the first zero.
+/// on. Files of different lines have no place in common. The volume's name stands at 16, up to the
+/// first zero.
 pub fn layout_is_placed()
     ensures runs { (volume : List ℕ) (root : Inode) (n : Names) (contents : List (List ℕ))
         → IsPlanned volume root n contents
         → (t : Node) × RomfsTree (layout volume root n contents) (2 ^ 20) 64 t × AreInRuns t root n }
+    ensures apart { (volume : List ℕ) (root : Inode) (n : Names) (contents : List (List ℕ))
+        → IsPlanned volume root n contents
+        → (t : Node) × RomfsTree (layout volume root n contents) (2 ^ 20) 64 t
+        × FilesAreApart t root n }
     ensures named { (volume : List ℕ) (root : Inode) (n : Names) (contents : List (List ℕ))
         → IsPlanned volume root n contents
         → before_zero (drop 16 (layout volume root n contents)) ≡ volume }

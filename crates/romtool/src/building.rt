@@ -8,7 +8,6 @@ use crate::disk::{Disk, first_changed, stamp_unlinked};
 use crate::origin::Origin;
 use crate::progress::Progress;
 use crate::stamp::{Identity, Stamp, has_changed, let_rest, stamp_of};
-use crate::streams::Held;
 use crate::target::{KeepError, Target, Writer};
 use crate::teller::Teller;
 use crate::{explained, reading};
@@ -18,6 +17,7 @@ use image_build::{StreamError, stream, stream_through};
 use layout_plan::{PlanError, plan};
 use manifest::{Manifest, ManifestError, Name, parse};
 use plan_types::{Format, Plan};
+use program_streams::Held;
 use rom_commands::{Failure, Status};
 use rom_fields::{Failed, Plain};
 use sentences::reasons::{
@@ -63,7 +63,7 @@ fn manifest_of(teller: &Teller<'_>, name: &str, text: &[u8]) -> Result<Manifest,
         Ok(manifest) => Ok(manifest),
         Err(ManifestError::OutOfMemory) => Err(teller.say(Failure::Memory)),
         Err(ManifestError::Bad { line, number }) => {
-            let out = &mut Plain::new(Held::new(rt, io::writer(rt)));
+            let out = &mut Plain::new(Held::new(rt.alloc(), io::writer(rt)));
             let status = told(teller, tell_bad_manifest(out, line, number));
             explained::bad_manifest(teller, name, text, line, number);
             Err(status)
@@ -169,7 +169,7 @@ fn planned(
         Ok(plan) => Ok(plan),
         Err(PlanError::OutOfMemory) => Err(teller.say(Failure::Memory)),
         Err(PlanError::Refused { line, number }) => {
-            let out = &mut Plain::new(Held::new(rt, io::writer(rt)));
+            let out = &mut Plain::new(Held::new(rt.alloc(), io::writer(rt)));
             let status = told(teller, tell_misfit(out, line, number));
             explained::misfit(teller, format, origin, sizes, (line, number));
             Err(status)
@@ -399,7 +399,7 @@ fn build(teller: &Teller<'_>, asked: Build<'_>) -> Result<u64, Status> {
 pub fn run(teller: &Teller<'_>, asked: Build<'_>) -> Status {
     match build(teller, asked) {
         Ok(len) => {
-            let line = &mut Plain::new(Held::new(teller.rt, io::writer(teller.rt)));
+            let line = &mut Plain::new(Held::new(teller.rt.alloc(), io::writer(teller.rt)));
             match tell_built(line, len) {
                 Ok(()) => Status::Done,
                 Err(Failed) => teller.say(Failure::WriteFault),

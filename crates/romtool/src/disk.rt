@@ -5,6 +5,7 @@ ghost use Rattle.std.specs.Io.{ReadsAtMost};
 use crate::progress::Progress;
 use crate::stamp::{Identity, Stamp, has_changed, open_unchanged, stamp_of};
 use layout_plan::{SourceFailed, Sources};
+use program_streams::{ReadAt, read_at_again};
 use sentences::reasons::{REPLACED, SOURCE_CHANGED, SOURCE_LINK};
 use std::fs::File;
 use std::os::unix::fs::FileExt;
@@ -15,6 +16,12 @@ use std::{fs, io};
 struct Opened {
     number: usize,
     file: File,
+}
+
+impl ReadAt for Opened {
+    fn read_at(&self, buf: &mut [u8], at: u64) -> io::Result<usize> {
+        self.file.read_at(buf, at)
+    }
 }
 
 /// Files, one of which is open at a time. A file's bytes are those that it has at each read, so
@@ -93,19 +100,6 @@ pub fn first_changed(rt: &HostRuntime, names: &[&str], stamps: &[Stamp]) -> Opti
     pairs.position(|(name, stamp)| has_changed(rt, name, stamp).unwrap_or(true))
 }
 
-/// Reads a part of a file, again where a signal cut the reading short.
-fn read_again(file: &File, at: u64, buf: &mut [u8]) -> io::Result<usize>
-    ensures { ReadsAtMost result buf.new }
-{
-    for _ in 0..u64::MAX {
-        match file.read_at(buf, at) {
-            Err(e) if e.kind() == io::ErrorKind::Interrupted => {}
-            read => return read,
-        }
-    }
-    Err(io::Error::from(io::ErrorKind::Interrupted))
-}
-
 /// Reads a part of the file of this number, which is opened where another one was.
 fn read_part(
     rt: &HostRuntime,
@@ -118,14 +112,15 @@ fn read_part(
     ensures { ReadsAtMost result buf.new }
 {
     match opened {
-        Some(open) if open.number == number => read_again(&open.file, at, buf),
+        Some(open) if open.number == number => read_at_again(&*open, at, buf),
         _ => {
             let (name, stamp) = source;
             let Some(file) = open_unchanged(rt, name, stamp)? else {
                 return Err(io::Error::new(io::ErrorKind::InvalidData, SOURCE_CHANGED));
             };
-            let n = read_again(&file, at, buf)?;
-            *opened = Some(Opened { number, file });
+            let open = Opened { number, file };
+            let n = read_at_again(&open, at, buf)?;
+            *opened = Some(open);
             Ok(n)
         }
     }

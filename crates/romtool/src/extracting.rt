@@ -9,14 +9,15 @@ use crate::folders::base;
 use crate::making::{
     Owner, Rights, Top, finish_file, new_file, new_folder, new_link, new_name, set_folder,
 };
-use crate::streams::{Again, Remembering};
 use crate::teller::Teller;
+use crate::totals::is_many_times;
 use arrayvec::ArrayVec;
 use command_line::Extract;
 use image_check::AnyImage;
 use image_info::volume;
 use image_manifest::{Member, PATH_MAX, Refused, members, path_of, write_manifest};
 use image_map::cat;
+use program_streams::{Again, Remembering};
 use rom_commands::{Failure, Status};
 use rom_fields::{ByteWrite, Plain};
 use rom_tree::{Kind, NodeId, Stat, TreeImage};
@@ -55,9 +56,6 @@ const FURTHER: &str = "further names of files, which share the file only until a
 /// What is said of further names that are files of their own.
 const COPIES: &str = "further names that are copies here, since this file system makes no further \
     names; a build does not see what is changed in them";
-
-/// How many times longer than an image its files may be without a word.
-const MANY_TIMES: u64 = 16;
 
 /// The bits of a mode that lend the rights of an owner or of a group.
 const LENDING: u32 = 0o6000;
@@ -409,9 +407,9 @@ impl<'a> Extraction<'a> {
 
     /// Says in words how many bytes will be written, if they are many times those of the image.
     fn explain_bytes(&self, bytes: u64) {
-        let len = self.image.bytes().len() as u64;
+        let len = self.image.bytes().len();
         if self.teller.is_explained()
-            && bytes / MANY_TIMES > len
+            && is_many_times(bytes, len)
             && let Ok(what) = format!(in self.teller.rt.alloc();
                 "its files have {bytes} bytes, and the image {len}"
             )

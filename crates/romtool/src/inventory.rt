@@ -1,9 +1,9 @@
 //! A folder as it is, as a manifest.
 use crate::folders::{self, Folder, Reach, all_stayed, base, refused_entry};
-use crate::streams::Again;
 use crate::teller::Teller;
 use build_commands::inventory::{Device, FileKind, Inode, NamedFile, Wishes, lines, put_found};
 use command_line::ScanAll;
+use program_streams::Again;
 use rom_commands::{Failure, Status};
 use rom_fields::{Failed, Plain};
 use sentences::reasons::NO_KIND;

@@ -8,7 +8,8 @@
 //! `romtool space IMAGE..` from the trees of several images, with sessions. Without words the
 //! example image `hello` is checked and listed. What is printed, answered and written is proved in
 //! `rom_commands`, `build_commands`, `image_manifest` and `image_build`, and what standard error
-//! says in `rom_commands` too. The work with files and folders is only tested.
+//! says in `rom_commands` too; what stands in front of the streams, and what is read into memory, in
+//! `program_streams` and `image_load`. The work with files and folders is only tested.
 #![tactic(auto)]
 
 mod arguments;
@@ -22,6 +23,7 @@ mod inventory;
 mod making;
 mod origin;
 mod place;
+mod printed;
 mod program;
 mod progress;
 mod reading;
@@ -31,6 +33,7 @@ mod stamp;
 mod streams;
 mod target;
 mod teller;
+mod totals;
 
 use std::process::ExitCode;
 

@@ -4,13 +4,15 @@ ghost use Rattle.rom_commands.specs.Asked.{Fits};
 
 use crate::arguments::words;
 use crate::closing::settle_output;
-use crate::reading::{Found, Front, Loaded};
+use crate::printed::{asked_by, in_file};
 use crate::replies::Replies;
-use crate::streams::{Again, Ahead, Held, hold_closed};
+use crate::streams::hold_closed;
 use crate::teller::Teller;
-use crate::{building, extracting, inventory, reading, scanning};
+use crate::{building, extracting, inventory, reading, scanning, totals};
 use command_line::{Extract, Request, read};
 use image_check::check;
+use image_load::{Found, Front, Loaded};
+use program_streams::{Again, Ahead, Held};
 use rom_commands::{
     Asked, Failure, Status, has_addresses, hello, print, print_file, refuse, refuse_in, serve_on,
     serve_several_on,
@@ -57,14 +59,15 @@ fn settled(teller: &Teller<'_>, status: Status) -> Status {
 
 /// Does what is asked for.
 fn done(teller: &Teller<'_>, request: Request<'_>) -> Status {
+    let asked = asked_by(&request);
     match request {
         Request::Example => example(teller),
-        Request::Check(image) => file(teller, image, Asked::Report),
-        Request::List(image) => file(teller, image, Asked::List),
-        Request::Info(image) => facts(teller, image),
-        Request::Map(map) => file(teller, map.image, Asked::Map(map.base)),
+        Request::Check(image)
+        | Request::List(image)
+        | Request::Info(image)
+        | Request::Linux(image) => file(teller, image, asked),
+        Request::Map(map) => file(teller, map.image, asked),
         Request::Cat(cat) => copy(teller, cat.image, cat.path),
-        Request::Linux(image) => file(teller, image, Asked::Misreads),
         Request::Serve(image) => serve(teller, image),
         Request::Space(images) => space(teller, images.as_slice()),
         Request::Build(build) => building::run(teller, build),
@@ -104,8 +107,8 @@ fn image_in(teller: &Teller<'_>, name: &str, asked: Asked) -> Result<Loaded, Sta
 /// Prints the fault that a file has by its first bytes.
 fn refuse_front(teller: &Teller<'_>, name: &str, front: &Front) -> Status {
     let rt = teller.rt;
-    let mut out = Plain::new(Held::new(rt, io::writer(rt)));
-    let mut err = Plain::new(Held::new(rt, rt.stderr()));
+    let mut out = Plain::new(Held::new(rt.alloc(), io::writer(rt)));
+    let mut err = Plain::new(Held::new(rt.alloc(), rt.stderr()));
     let status = refuse(front.fault, &mut out, &mut err);
     if status == Status::Refused {
         teller.explain_fault(name.as_bytes(), &front.bytes, front.fault);
@@ -129,15 +132,7 @@ fn no_address(teller: &Teller<'_>, name: &str) -> Status {
 /// Prints what is asked of the image in a file.
 fn file(teller: &Teller<'_>, name: &str, asked: Asked) -> Status {
     match image_in(teller, name, asked) {
-        Ok(image) => shown(teller, name, &image.bytes, asked),
-        Err(status) => status,
-    }
-}
-
-/// Prints the facts of the image in a file.
-fn facts(teller: &Teller<'_>, name: &str) -> Status {
-    match image_in(teller, name, Asked::Report) {
-        Ok(image) => shown(teller, name, &image.bytes, Asked::Facts(image.file)),
+        Ok(image) => shown(teller, name, &image.bytes, in_file(image.file, asked)),
         Err(status) => status,
     }
 }
@@ -147,6 +142,7 @@ fn shown(teller: &Teller<'_>, name: &str, bytes: &[u8], asked: Asked) -> Status 
     if !has_addresses(asked, bytes.len()) {
         return no_address(teller, name);
     }
+    totals::explain(teller, name.as_bytes(), bytes, asked);
     print_out(teller, name.as_bytes(), bytes, asked)
 }
 
@@ -160,7 +156,7 @@ fn copy(teller: &Teller<'_>, name: &str, path: &str) -> Status {
     let Ok(out) = BufWriter::new(rt.alloc(), Again::new(io::writer(rt))) else {
         return teller.say(Failure::Memory);
     };
-    let mut err = Plain::new(Held::new(rt, rt.stderr()));
+    let mut err = Plain::new(Held::new(rt.alloc(), rt.stderr()));
     let path = path.as_bytes();
     let status = print_file(rt.alloc(), &bytes, path, &mut Plain::new(out), &mut err);
     if status == Status::Refused {
@@ -192,7 +188,7 @@ fn serve(teller: &Teller<'_>, name: &str) -> Status {
         Ok(bytes) => bytes,
         Err(status) => return status,
     };
-    let mut err = Plain::new(Held::new(rt, rt.stderr()));
+    let mut err = Plain::new(Held::new(rt.alloc(), rt.stderr()));
     let status = serve_on(
         rt.alloc(),
         &bytes,
@@ -251,8 +247,8 @@ fn say_missing(teller: &Teller<'_>, name: &str, image: u32, missing: &Missing) -
         Missing::Refused(front) => front,
     };
     let rt = teller.rt;
-    let mut out = Plain::new(Held::new(rt, io::writer(rt)));
-    let mut err = Plain::new(Held::new(rt, rt.stderr()));
+    let mut out = Plain::new(Held::new(rt.alloc(), io::writer(rt)));
+    let mut err = Plain::new(Held::new(rt.alloc(), rt.stderr()));
     let status = refuse_in(front.fault, image, &mut out, &mut err);
     if status == Status::Refused {
         teller.explain_fault(name.as_bytes(), &front.bytes, front.fault);
@@ -273,7 +269,7 @@ fn serve_files<R: ByteRead>(
     if files.is_empty() || files.len() > 8 {
         return teller.say(Failure::Usage);
     }
-    let mut err = Plain::new(Held::new(rt, rt.stderr()));
+    let mut err = Plain::new(Held::new(rt.alloc(), rt.stderr()));
     let out = &mut Plain::new(Replies::new(*teller, io::writer(rt)));
     let status = serve_several_on(rt.alloc(), files, lines, out, &mut err);
     if status == Status::Refused {
@@ -320,7 +316,7 @@ fn print_out(teller: &Teller<'_>, name: &[u8], bytes: &[u8], asked: Asked) -> St
     let Ok(out) = BufWriter::new(rt.alloc(), Again::new(io::writer(rt))) else {
         return teller.say(Failure::Memory);
     };
-    let mut err = Plain::new(Held::new(rt, rt.stderr()));
+    let mut err = Plain::new(Held::new(rt.alloc(), rt.stderr()));
     let status = print(rt.alloc(), bytes, asked, &mut Plain::new(out), &mut err);
     if status == Status::Refused && teller.explain_image(name, bytes) && asked == Asked::Misreads {
         teller.explain(name, &MISREAD);

@@ -1,6 +1,10 @@
 //! Replies to lines, and in words why a line was refused.
-use crate::streams::Held;
+ghost use Rattle.std.specs.Prelude.{◌≡◌, [], OnOk};
+ghost use Rattle.std.specs.Io.KnownBytes.{Keeps};
+ghost use Rattle.program_streams.specs.Streams.{held_back, held_contents};
+
 use crate::teller::Teller;
+use program_streams::Held;
 use sentences::{call_sentence, line_sentence};
 use std::io::{self, Write};
 
@@ -34,7 +38,7 @@ impl<'a, X: Write> Replies<'a, X> {
     /// In front of this writer.
     pub fn new(teller: Teller<'a>, inner: X) -> Replies<'a, X> {
         Replies {
-            inner: Held::new(teller.rt, inner),
+            inner: Held::new(teller.rt.alloc(), inner),
             teller,
             front: Vec::new(teller.rt.alloc()),
             lines: 0,
@@ -42,14 +46,18 @@ impl<'a, X: Write> Replies<'a, X> {
     }
 
     /// Keeps the front of a reply.
-    fn note(&mut self, b: &[u8]) {
+    fn note(&mut self, b: &[u8])
+        ensures { self.new.inner ≡ self.old.inner }
+    {
         let room = FRONT.saturating_sub(self.front.len());
         let part = b.get(..room).unwrap_or(b);
         let _ = self.front.extend_from_slice(part);
     }
 
     /// Says in words why the reply refuses its line.
-    fn explain(&mut self) {
+    fn explain(&mut self)
+        ensures { self.new.inner ≡ self.old.inner }
+    {
         self.lines = self.lines.saturating_add(1);
         if let Some(sentence) = refusal(&self.front) {
             let alloc = self.teller.rt.alloc();
@@ -62,6 +70,8 @@ impl<'a, X: Write> Replies<'a, X> {
 }
 
 impl<X: Write> Write for Replies<'_, X> {
+    ghost contents = { λ s. held_contents X.contents s.inner };
+
     fn write(&mut self, b: &[u8]) -> io::Result<usize> {
         if self.teller.is_explained() {
             self.note(b);
@@ -69,7 +79,11 @@ impl<X: Write> Write for Replies<'_, X> {
         self.inner.write(b)
     }
 
-    fn flush(&mut self) -> io::Result<()> {
+    fn flush(&mut self) -> io::Result<()>
+        ensures bytes { Keeps (held_contents X.contents self.old.inner)
+            (held_contents X.contents self.new.inner) }
+        ensures empty { OnOk result (held_back self.new.inner ≡ []) }
+    {
         self.inner.flush()?;
         if self.teller.is_explained() {
             self.explain();

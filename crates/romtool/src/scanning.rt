@@ -1,9 +1,9 @@
 //! A folder as a manifest.
 use crate::folders::{self, Folder, Reach, all_stayed, base, refused_entry};
-use crate::streams::Again;
 use crate::teller::Teller;
 use build_commands::{Found, put_scan};
 use command_line::Scan;
+use program_streams::Again;
 use rom_commands::{Failure, Status};
 use rom_fields::{Failed, Plain};
 use std::alloc::AllocError;

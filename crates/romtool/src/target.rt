@@ -2,7 +2,7 @@
 use crate::closing::close;
 use crate::place::{behind_links, folder_of};
 use crate::stamp::Identity;
-use crate::streams::{Held, Remembering};
+use program_streams::{Held, Remembering};
 use rom_fields::Plain;
 use sentences::reasons::{HUNDRED_PARTS, REPLACED};
 use std::fs::{File, Metadata, OpenFile, OpenOptions};
@@ -236,7 +236,7 @@ impl Target {
     /// A writer to it, through its one descriptor: another one would tell at its own closing what
     /// the file system lost, and this one would tell it no more.
     pub fn writer(&self, rt: &HostRuntime) -> Writer<'_> {
-        Plain::new(Remembering::new(Held::new(rt, &self.file)))
+        Plain::new(Remembering::new(Held::new(rt.alloc(), &self.file)))
     }
 
     /// Gives what was written its name, once the system has taken all of it, and hands the folder

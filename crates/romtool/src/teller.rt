@@ -5,9 +5,9 @@ ghost use Rattle.rom_commands.specs.Endings.{failure_status};
 
 use crate::arguments::NoWords;
 use crate::origin::Origin;
-use crate::streams::Held;
 use command_line::{WordsError, is_explain};
 use image_check::check;
+use program_streams::Held;
 use rom_commands::{Failure, Status, tell};
 use rom_faults::{CheckError, Fault};
 use rom_fields::{ByteWrite, Plain};
@@ -74,7 +74,7 @@ impl<'a> Teller<'a> {
 
     /// Writes a text on standard error as it is.
     fn put(&self, text: &[u8]) {
-        let mut err = Held::new(self.rt, self.rt.stderr());
+        let mut err = Held::new(self.rt.alloc(), self.rt.stderr());
         let _ = err.write_all(text);
         let _ = err.flush();
     }
@@ -97,7 +97,7 @@ impl<'a> Teller<'a> {
     pub fn say(&self, failure: Failure<'_>) -> Status
         ensures { result ≡ failure_status failure.entry }
     {
-        let mut err = Plain::new(Held::new(self.rt, self.rt.stderr()));
+        let mut err = Plain::new(Held::new(self.rt.alloc(), self.rt.stderr()));
         let status = tell(failure, &mut err);
         self.hand_on(err);
         status

@@ -1,9 +1,15 @@
 //! What stands in an image where it has a fault.
+ghost use Rattle.std.specs.Prelude.{◌+◌, ◌≤◌, length};
+ghost use Rattle.std.specs.Bool.{OnTrue};
+
 use crate::words::shown;
+use cramfs_format::{Order, inode, superblock as cramfs};
 use crc::{crc32, crc32_more};
 use rom_faults::fault::{
     BLOCK_KIND, BOUNDS, CRC, FLAGS, MAGIC, ROOT, SHORT, SIGNATURE, SIZE, SUM, TOO_MANY,
 };
+use rom_fields::{be32, word_sum};
+use romfs_format::{header, superblock as romfs};
 use std::alloc::{AllocError, Global};
 
 /// How many bytes romfs sums at most.
@@ -21,42 +27,34 @@ const ROMFS_NAME: usize = 256;
 #[derive(Clone, Copy, PartialEq, Eq)]
 enum Begins {
     Romfs,
-    Cramfs,
-    CramfsBig,
+    Cramfs(Order),
     Neither,
 }
 
 fn beginning(bytes: &[u8]) -> Begins {
-    match bytes {
-        [b'-', b'r', b'o', b'm', b'1', b'f', b's', b'-', ..] => Begins::Romfs,
-        [0x45, 0x3d, 0xcd, 0x28, ..] => Begins::Cramfs,
-        [0x28, 0xcd, 0x3d, 0x45, ..] => Begins::CramfsBig,
-        _ => Begins::Neither,
+    if romfs::begins(bytes) {
+        return Begins::Romfs;
     }
+    match cramfs::order_in(bytes) {
+        Some(order) => Begins::Cramfs(order),
+        None => Begins::Neither,
+    }
+}
+
+/// Whether there are so many bytes from an offset on.
+fn has(bytes: &[u8], at: usize, len: usize) -> bool
+    ensures { OnTrue result (at + len ≤ length bytes.now) }
+{
+    len <= bytes.len() && at <= bytes.len() - len
 }
 
 /// The word at an offset, in the order of the image.
 fn word(bytes: &[u8], at: usize) -> Option<u32> {
-    let end = at.checked_add(4)?;
-    let four = match bytes.get(at..end)? {
-        [a, b, c, d] => [*a, *b, *c, *d],
-        _ => return None,
-    };
     match beginning(bytes) {
-        Begins::Cramfs => Some(u32::from_le_bytes(four)),
-        _ => Some(u32::from_be_bytes(four)),
+        Begins::Cramfs(order) if has(bytes, at, 4) => Some(order.word(bytes, at)),
+        Begins::Cramfs(_) => None,
+        Begins::Romfs | Begins::Neither => be32(bytes, at),
     }
-}
-
-/// A field of a packed word, told by how many of its bits come first in a big-endian word and how
-/// many there are, and by where it begins in a little-endian one.
-fn field(bytes: &[u8], word: u32, big: u32, little: u32, mask: u32) -> u32 {
-    let shift = if beginning(bytes) == Begins::Cramfs {
-        little
-    } else {
-        big
-    };
-    word.checked_shr(shift).unwrap_or(0) & mask
 }
 
 /// The size that the image states.
@@ -83,13 +81,8 @@ fn summed(bytes: &[u8]) -> &[u8] {
 
 /// The sum of the words of the first 512 bytes.
 fn sum_of(bytes: &[u8]) -> u32 {
-    let mut sum = 0u32;
-    for number in 0..SUMMED / 4 {
-        if let Some(more) = word(summed(bytes), number * 4) {
-            sum = sum.wrapping_add(more);
-        }
-    }
-    sum
+    let summed = summed(bytes);
+    word_sum(summed.get(..SUMMED).unwrap_or(summed))
 }
 
 /// The CRC-32 of a cramfs image, its stored sum taken as zero.
@@ -100,62 +93,53 @@ fn crc_of(bytes: &[u8]) -> Option<u32> {
     Some(crc32_more(zeros, summed.get(CRC_END..)?))
 }
 
-/// The bytes from the first on, up to a zero.
-fn until_zero(bytes: &[u8]) -> &[u8] {
-    match bytes.iter().position(|byte| *byte == 0) {
-        Some(end) => bytes.get(..end).unwrap_or(bytes),
-        None => bytes,
-    }
-}
-
 /// The bytes between two offsets, or those that are there.
 fn part(bytes: &[u8], from: usize, len: usize) -> &[u8] {
     let behind = bytes.get(from..).unwrap_or(&[]);
     behind.get(..len).unwrap_or(behind)
 }
 
-/// The record at an offset of a romfs image.
-fn romfs_record(alloc: Global, bytes: &[u8], at: usize) -> Result<String, AllocError> {
-    let (Some(next), Some(spec), Some(size)) = (
-        word(bytes, at),
-        word(bytes, at.saturating_add(4)),
-        word(bytes, at.saturating_add(8)),
-    ) else {
-        return format!(in alloc;
-            "no header fits there, in an image of {} bytes",
-            bytes.len()
-        );
-    };
-    let name = until_zero(part(bytes, at.saturating_add(16), ROMFS_NAME));
-    let name = shown(alloc, name)?;
-    let (kind, next) = (next & 7, next & 0xffff_fff0);
+/// The header at an offset of a romfs image.
+fn romfs_header(alloc: Global, bytes: &[u8], at: usize) -> Result<String, AllocError> {
+    let len = bytes.len();
+    if !has(bytes, at, 16) {
+        return format!(in alloc; "no header fits there, in an image of {len} bytes");
+    }
+    let (kind, next) = (header::type_at(bytes, at), header::next_at(bytes, at));
+    let (spec, size) = (header::word(bytes, at + 4), header::size_at(bytes, at));
+    let name = shown(alloc, romfs::upto_zero(part(bytes, at + 16, ROMFS_NAME)))?;
     format!(in alloc; "type {kind}, next {next}, spec {spec}, size {size}, name {name}")
 }
 
 /// The inode at an offset of a cramfs image.
-fn cramfs_record(alloc: Global, bytes: &[u8], at: usize) -> Result<String, AllocError> {
-    let (Some(first), Some(second), Some(third)) = (
-        word(bytes, at),
-        word(bytes, at.saturating_add(4)),
-        word(bytes, at.saturating_add(8)),
-    ) else {
-        return format!(in alloc; "no inode fits there, in an image of {} bytes", bytes.len());
-    };
-    let mode = field(bytes, first, 16, 0, 0xffff);
-    let size = field(bytes, second, 8, 0, 0x00ff_ffff);
-    let len = field(bytes, third, 26, 0, 63).saturating_mul(4);
-    let offset = field(bytes, third, 0, 6, 0x03ff_ffff).saturating_mul(4);
-    let name = until_zero(part(bytes, at.saturating_add(12), len as usize));
-    let name = shown(alloc, name)?;
+fn cramfs_inode(
+    alloc: Global,
+    order: Order,
+    bytes: &[u8],
+    at: usize,
+) -> Result<String, AllocError> {
+    let len = bytes.len();
+    if !has(bytes, at, 12) {
+        return format!(in alloc; "no inode fits there, in an image of {len} bytes");
+    }
+    let (mode, size) = (
+        inode::mode_at(order, bytes, at),
+        inode::size_at(order, bytes, at),
+    );
+    let (room, offset) = (
+        inode::room_at(order, bytes, at),
+        inode::offset_at(order, bytes, at),
+    );
+    let name = shown(alloc, romfs::upto_zero(part(bytes, at + 12, room as usize)))?;
     format!(in alloc; "mode {mode:o}, size {size}, offset {offset}, name {name}")
 }
 
-/// What stands at the place of a record.
+/// What stands at the offset of a record.
 fn record(alloc: Global, bytes: &[u8], at: usize) -> Result<String, AllocError> {
-    if beginning(bytes) == Begins::Romfs {
-        romfs_record(alloc, bytes, at)
-    } else {
-        cramfs_record(alloc, bytes, at)
+    match beginning(bytes) {
+        Begins::Romfs => romfs_header(alloc, bytes, at),
+        Begins::Cramfs(order) => cramfs_inode(alloc, order, bytes, at),
+        Begins::Neither => Ok(String::new(alloc)),
     }
 }
 

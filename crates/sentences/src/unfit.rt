@@ -4,7 +4,7 @@ ghost use Rattle.sentences.specs.Misfits.{misfit_sentence};
 
 use plan_misfits::misfit::{ATTRIBUTE, HARD_LINK, NAME_TOO_LONG, TOO_LARGE};
 
-/// The misfit of this number, as docs/LAYOUTS.md has it in words.
+/// The misfit of this number, as docs/internals/LAYOUTS.md has it in words.
 pub fn misfit_sentence(number: u32) -> &'static str
     ensures { result.now ≡ misfit_sentence number }
 {

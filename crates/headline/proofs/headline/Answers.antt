@@ -17,7 +17,7 @@ returns-clause-built c = λ f text contents bytes r₀ r w₀ w o b.
 pub returns-clause-placed : goal.returns-clause-placed
 returns-clause-placed c = λ f text contents bytes m b e.
     let law = c.built_is_placed.ensures in
-    (law.named f text contents bytes m b e, law.runs f text contents bytes m b e)
+    (law.named f text contents bytes m b e, λ t h. (law.runs f text contents bytes m b e t h, law.copies f text contents bytes m b e t h))
 
 pub returns-clause-built_under : goal.returns-clause-built_under
 returns-clause-built_under c = λ limits f text contents bytes r₀ r w₀ w o b.

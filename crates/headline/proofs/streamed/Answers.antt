@@ -19,7 +19,7 @@ returns-clause-built c = λ text p told old new r₀ r w₀ w o is none s ends.
 pub returns-clause-placed : goal.returns-clause-placed
 returns-clause-placed c = λ text p told old new is s.
     let law = c.streamed_is_placed.ensures in
-    (law.named text p told old new is s, λ t. law.runs text p told old new t is s)
+    (law.named text p told old new is s, λ t h. (law.runs text p told old new t is s h, law.copies text p told old new t is s h))
 
 pub returns-clause-mapped : goal.returns-clause-mapped
 returns-clause-mapped c = λ text p told old new image is s tree.

@@ -5,5 +5,5 @@ use Rattle.image_reach.proofs.reading.cramfs_size.Goals as goal
 pub returns : goal.returns
 returns c = grind (arith, common_steps)
 
-pub returns-then-word-eq1 : goal.returns-then-word-eq1
-returns-then-word-eq1 c = grind (arith, common_steps)
+pub returns-then-has_size : goal.returns-then-has_size
+returns-then-has_size c = grind (arith, common_steps)

@@ -1,22 +1,19 @@
-use Rattle.std.proofs.Common.{◌≡◌, ◌*◌, ◌+◌, ◌∙◌, ℕ, List, length, ap, arith}
+use Rattle.std.proofs.Common.{◌≡◌, ◌∙◌, ℕ, List, length, ap, arith}
 use Rattle.cramfs_format.proofs.Trees.{known}
 use Rattle.cramfs_format.specs.declared.order.Order.{Order}
 use Rattle.cramfs_format.specs.Inode.{name_room}
-use Rattle.cramfs_format.specs.Order.{word, first_field}
 use Rattle.linux_misreads.proofs.inodes.name_room_at.Goals as goal
 
-pub word-requires : goal.word-requires
-word-requires c =
+pub room_at-requires : goal.room_at-requires
+room_at-requires c =
     let h = (known c.args.image.now.sound c.args.n.0 c.requires).header in
     let w = c.args.image.now.within in
     let e : length c.bytes.result.now ≡ length c.args.image.now.all.now = ap length c.bytes.ensures in
     omega (arith, h, w, e)
 
 pub returns : goal.returns
-unfolding name_room
 returns c =
-    let at : ℕ = c.args.n.0 + 8 in
-    ap (λ (v : ℕ). v * 4)
-    (c.first_field.ensures.field
-    ∙ (ap (λ (v : ℕ). first_field c.parts-order.result.order 6 v) (c.word.ensures ∙ ap (λ (v : List ℕ). word c.parts-order.result.order v at) c.bytes.ensures)
-    ∙ ap (λ (o : Order). first_field o 6 (word o c.args.image.now.all.now at)) c.parts-order.ensures.order))
+    let at : ℕ = c.args.n.0 in
+    c.room_at.ensures.room
+    ∙ (ap (λ (v : List ℕ). name_room c.parts-order.result.order v at) c.bytes.ensures
+    ∙ ap (λ (o : Order). name_room o c.args.image.now.all.now at) c.parts-order.ensures.order)

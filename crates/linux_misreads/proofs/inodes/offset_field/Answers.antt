@@ -1,22 +1,19 @@
-use Rattle.std.proofs.Common.{◌≡◌, ◌*◌, ◌+◌, ◌∙◌, ℕ, List, length, ap, arith}
+use Rattle.std.proofs.Common.{◌≡◌, ◌∙◌, ℕ, List, length, ap, arith}
 use Rattle.cramfs_format.proofs.Trees.{known}
 use Rattle.cramfs_format.specs.declared.order.Order.{Order}
 use Rattle.cramfs_format.specs.Inode.{offset_of}
-use Rattle.cramfs_format.specs.Order.{word, field_after}
 use Rattle.linux_misreads.proofs.inodes.offset_field.Goals as goal
 
-pub word-requires : goal.word-requires
-word-requires c =
+pub offset_at-requires : goal.offset_at-requires
+offset_at-requires c =
     let h = (known c.args.image.now.sound c.args.n.0 c.requires).header in
     let w = c.args.image.now.within in
     let e : length c.bytes.result.now ≡ length c.args.image.now.all.now = ap length c.bytes.ensures in
     omega (arith, h, w, e)
 
 pub returns : goal.returns
-unfolding offset_of
 returns c =
-    let at : ℕ = c.args.n.0 + 8 in
-    ap (λ (v : ℕ). v * 4)
-    (c.field_after.ensures.field
-    ∙ (ap (λ (v : ℕ). field_after c.parts-order.result.order 6 v) (c.word.ensures ∙ ap (λ (v : List ℕ). word c.parts-order.result.order v at) c.bytes.ensures)
-    ∙ ap (λ (o : Order). field_after o 6 (word o c.args.image.now.all.now at)) c.parts-order.ensures.order))
+    let at : ℕ = c.args.n.0 in
+    c.offset_at.ensures.offset
+    ∙ (ap (λ (v : List ℕ). offset_of c.parts-order.result.order v at) c.bytes.ensures
+    ∙ ap (λ (o : Order). offset_of o c.args.image.now.all.now at) c.parts-order.ensures.order)

@@ -1,5 +1,5 @@
 use Rattle.std.proofs.Common.{◌+◌, ◌-◌, ◌<◌, ◌≤◌, ◌≡◌, length, arith}
-use Rattle.romfs_image.proofs.Zeros.{named}
+use Rattle.romfs_format.proofs.Zeros.{named}
 use Rattle.romfs_image.proofs.fields.name_len.Goals as goal
 use Rattle.romfs_image.proofs.fields.name_len.Goals.{then-len-at-lt256, else-len-at-lt256}
 

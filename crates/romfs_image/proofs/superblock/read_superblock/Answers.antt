@@ -10,25 +10,25 @@ use Rattle.romfs_image.proofs.superblock.read_superblock.Goals as goal
 pub returns-then-bytes-lt32-clause-fault : goal.returns-then-bytes-lt32-clause-fault
 returns-then-bytes-lt32-clause-fault c = short (omega arith) refl
 
-pub returns-then-not-has_magic-clause-fault : goal.returns-then-not-has_magic-clause-fault
-returns-then-not-has_magic-clause-fault c = no_magic (omega arith) (λ m. false≢true (sym c.if-not-has_magic.true ∙ c.has_magic.ensures.1 m)) refl
+pub returns-then-not-begins-clause-fault : goal.returns-then-not-begins-clause-fault
+returns-then-not-begins-clause-fault c = no_magic (omega arith) (λ m. false≢true (sym c.if-not-begins.true ∙ c.begins.ensures.1 m)) refl
 
 pub returns-in_default-clause-fault : goal.returns-in_default-clause-fault
-returns-in_default-clause-fault c = bad_size (omega arith) (c.has_magic.ensures.0 c.if-not-has_magic.false) c.in_default.ensures.part refl
+returns-in_default-clause-fault c = bad_size (omega arith) (c.begins.ensures.0 c.if-not-begins.false) c.in_default.ensures.part refl
 
 -- what a test of the accessible bytes says, where they are these
 moved : (P : List ℕ → Type 0) (b bytes : List ℕ) → b ≡ accessible bytes → P b → P (accessible bytes)
 moved P b bytes e h = subst P e h
 
 pub returns-then-not-has_sum-clause-fault : goal.returns-then-not-has_sum-clause-fault
-returns-then-not-has_sum-clause-fault c = bad_sum (omega arith) (c.has_magic.ensures.0 c.if-not-has_magic.false) c.in-Some.ensures.part.0
+returns-then-not-has_sum-clause-fault c = bad_sum (omega arith) (c.begins.ensures.0 c.if-not-begins.false) c.in-Some.ensures.part.0
     (moved (λ b. HasSum b → ⊥) _ _ c.in-Some.ensures.part.1 (λ m. false≢true (sym c.if-not-has_sum.true ∙ c.has_sum.ensures.1 m))) refl
 
 pub root_offset-requires-clause-small : goal.root_offset-requires-clause-small
 root_offset-requires-clause-small c = c.in-Some.ensures.small
 
 pub returns-in_default-root_offset-clause-fault : goal.returns-in_default-root_offset-clause-fault
-returns-in_default-root_offset-clause-fault c = no_root (omega arith) (c.has_magic.ensures.0 c.if-not-has_magic.false) c.in-Some.ensures.part.0
+returns-in_default-root_offset-clause-fault c = no_root (omega arith) (c.begins.ensures.0 c.if-not-begins.false) c.in-Some.ensures.part.0
     (moved HasSum _ _ c.in-Some.ensures.part.1 (c.has_sum.ensures.0 c.if-not-has_sum.false))
     (moved (λ b. HasRoot b → ⊥) _ _ c.in-Some.ensures.part.1 c.in_default-root_offset.ensures) refl
 
@@ -44,6 +44,6 @@ returns-then-type_at-ne1-clause-fault c =
     let cut = c.in-Some.ensures.part.1 in
     let root = c.in-Some-root_offset.ensures.1 in
     let kind : type_of b (root_of b) ≢ 1 = subst (λ (r : ℕ). type_of b r ≢ 1) root (λ z. c.if-type_at-ne1.true (c.type_at.ensures ∙ z)) in
-    root_kind (omega arith) (c.has_magic.ensures.0 c.if-not-has_magic.false) c.in-Some.ensures.part.0
+    root_kind (omega arith) (c.begins.ensures.0 c.if-not-begins.false) c.in-Some.ensures.part.0
     (moved HasSum _ _ cut (c.has_sum.ensures.0 c.if-not-has_sum.false)) (moved HasRoot _ _ cut c.in-Some-root_offset.ensures.0)
     (moved (λ x. type_of x (root_of x) ≢ 1) _ _ cut kind) (ap (λ (r : ℕ). let e : Fault = record { number = 9; at = r } in e) (root ∙ ap root_of cut))

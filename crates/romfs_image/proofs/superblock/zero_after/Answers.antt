@@ -1,4 +1,4 @@
-use Rattle.romfs_image.proofs.Zeros.{ended}
+use Rattle.romfs_format.proofs.Zeros.{ended}
 use Rattle.romfs_image.proofs.superblock.zero_after.Goals as goal
 
 pub returns : goal.returns

@@ -1,0 +1,228 @@
+//! Images that were checked, and what their paths lead to.
+
+use crate::error::{CheckError, Error, Fault};
+use crate::file::{Dir, File};
+use crate::raw;
+
+/// The format of an image.
+#[derive(Clone, Copy, Debug, PartialEq, Eq)]
+pub enum Format {
+    /// romfs.
+    Romfs,
+    /// cramfs, the lowest byte of a word first.
+    Cramfs,
+    /// cramfs, the highest byte of a word first.
+    CramfsBigEndian,
+}
+
+/// The kind of a file.
+#[derive(Clone, Copy, Debug, PartialEq, Eq)]
+pub enum Kind {
+    /// A directory.
+    Directory,
+    /// A regular file.
+    Regular,
+    /// A symbolic link.
+    Symlink,
+    /// A block device.
+    Block,
+    /// A character device.
+    Character,
+    /// A socket.
+    Socket,
+    /// A named pipe.
+    Fifo,
+}
+
+/// The kind and numbers of a file.
+#[derive(Clone, Copy, Debug, PartialEq, Eq)]
+pub struct Metadata {
+    /// The number of the file's node.
+    pub ino: u32,
+    /// The kind.
+    pub kind: Kind,
+    /// The permissions, 0 to 0o7777.
+    pub mode: u32,
+    /// The owner.
+    pub uid: u32,
+    /// The group.
+    pub gid: u32,
+    /// The bytes of a regular file or of a link's text; otherwise 0.
+    pub size: u32,
+    /// The major number of a device; otherwise 0.
+    pub major: u32,
+    /// The minor number of a device; otherwise 0.
+    pub minor: u32,
+}
+
+impl Metadata {
+    pub(crate) fn of(stat: &raw::Stat) -> Result<Metadata, Error> {
+        if stat.error != 0 {
+            return Err(Error::of(stat.error));
+        }
+        let kind = match stat.kind {
+            1 => Kind::Directory,
+            2 => Kind::Regular,
+            3 => Kind::Symlink,
+            4 => Kind::Block,
+            5 => Kind::Character,
+            6 => Kind::Socket,
+            _ => Kind::Fifo,
+        };
+        let (ino, mode, uid, gid) = (stat.ino, stat.mode, stat.uid, stat.gid);
+        Ok(Metadata { ino, kind, mode, uid, gid, size: stat.size, major: stat.major, minor: stat.minor })
+    }
+
+    /// Returns whether it is a directory.
+    pub fn is_dir(&self) -> bool {
+        self.kind == Kind::Directory
+    }
+
+    /// Returns whether it is a regular file.
+    pub fn is_file(&self) -> bool {
+        self.kind == Kind::Regular
+    }
+
+    /// Returns whether it is a symbolic link.
+    pub fn is_symlink(&self) -> bool {
+        self.kind == Kind::Symlink
+    }
+}
+
+/// An image that a check accepted, over its bytes. A copy is the same image.
+#[derive(Clone, Copy)]
+pub struct Image<'a> {
+    bytes: &'a [u8],
+    numbers: raw::Numbers,
+}
+
+impl std::fmt::Debug for Image<'_> {
+    fn fmt(&self, f: &mut std::fmt::Formatter<'_>) -> std::fmt::Result {
+        f.debug_struct("Image").field("format", &self.format()).field("len", &self.bytes.len()).finish()
+    }
+}
+
+impl<'a> Image<'a> {
+    /// Checks bytes as an image of romfs or cramfs. Bytes behind the image's stated size are allowed.
+    ///
+    /// # Errors
+    ///
+    /// The bytes hold no image; the fault is then the same each time. Or memory was refused.
+    pub fn check(bytes: &'a [u8]) -> Result<Image<'a>, CheckError> {
+        let mut made = raw::Image { data: std::ptr::null(), len: 0, numbers: raw::Numbers::default() };
+        let error = unsafe { raw::romtool_check(&mut made, bytes.as_ptr(), bytes.len() as u64) };
+        match error {
+            0 => Ok(Image { bytes, numbers: made.numbers }),
+            14 => Err(CheckError::Fault(Fault { number: made.numbers.fault, at: made.numbers.at })),
+            _ => Err(CheckError::OutOfMemory),
+        }
+    }
+
+    /// The struct that the library is given: the numbers are its own, of the very same bytes.
+    pub(crate) fn raw(&self) -> raw::Image {
+        raw::Image { data: self.bytes.as_ptr(), len: self.bytes.len() as u64, numbers: self.numbers }
+    }
+
+    /// The bytes of a place.
+    pub(crate) fn place(&self, place: &raw::Place) -> Result<&'a [u8], Error> {
+        if place.error != 0 {
+            return Err(Error::of(place.error));
+        }
+        let from = place.at as usize;
+        Ok(&self.bytes[from..from + place.len as usize])
+    }
+
+    /// Returns the bytes that were checked.
+    pub fn as_bytes(&self) -> &'a [u8] {
+        self.bytes
+    }
+
+    /// Returns the format.
+    pub fn format(&self) -> Format {
+        match self.numbers.format {
+            1 => Format::Romfs,
+            2 => Format::Cramfs,
+            _ => Format::CramfsBigEndian,
+        }
+    }
+
+    /// Returns how many of the bytes belong to the image.
+    pub fn size(&self) -> u32 {
+        self.numbers.accessible
+    }
+
+    /// Returns how many references to records the image has, with that of the superblock.
+    pub fn references(&self) -> u32 {
+        self.numbers.references
+    }
+
+    /// Returns the greatest number of names on a path.
+    pub fn depth(&self) -> u32 {
+        self.numbers.depth
+    }
+
+    /// Returns the number of the node that a path leads to; a symbolic link in the last place is followed.
+    ///
+    /// # Errors
+    ///
+    /// The path leads nowhere.
+    pub fn lookup(&self, path: impl AsRef<[u8]>) -> Result<u32, Error> {
+        let path = path.as_ref();
+        let found = unsafe { raw::romtool_lookup(&self.raw(), path.as_ptr(), path.len() as u64, true) };
+        if found.error == 0 {
+            Ok(found.node)
+        } else {
+            Err(Error::of(found.error))
+        }
+    }
+
+    /// Returns the kind and numbers of what a path leads to; a symbolic link in the last place is followed.
+    ///
+    /// # Errors
+    ///
+    /// The path leads nowhere.
+    pub fn metadata(&self, path: impl AsRef<[u8]>) -> Result<Metadata, Error> {
+        self.stat(path.as_ref(), true)
+    }
+
+    /// Returns the same as [`metadata`](Image::metadata), but a symbolic link in the last place is not followed.
+    ///
+    /// # Errors
+    ///
+    /// The path leads nowhere.
+    pub fn symlink_metadata(&self, path: impl AsRef<[u8]>) -> Result<Metadata, Error> {
+        self.stat(path.as_ref(), false)
+    }
+
+    fn stat(&self, path: &[u8], follow: bool) -> Result<Metadata, Error> {
+        Metadata::of(&unsafe { raw::romtool_stat(&self.raw(), path.as_ptr(), path.len() as u64, follow) })
+    }
+
+    /// Returns the text of the symbolic link that a path leads to, where it lies in the image.
+    ///
+    /// # Errors
+    ///
+    /// The path leads nowhere, or to no symbolic link ([`Error::Invalid`]).
+    pub fn read_link(&self, path: impl AsRef<[u8]>) -> Result<&'a [u8], Error> {
+        let path = path.as_ref();
+        self.place(&unsafe { raw::romtool_readlink(&self.raw(), path.as_ptr(), path.len() as u64) })
+    }
+
+    /// Opens the regular file that a path leads to, at its start.
+    ///
+    /// # Errors
+    ///
+    /// The path leads nowhere, to a directory ([`Error::IsADirectory`]) or to a special file.
+    pub fn open(&self, path: impl AsRef<[u8]>) -> Result<File<'a>, Error> {
+        File::open(*self, path.as_ref())
+    }
+
+    /// Opens the directory that a path leads to; the entries `.` and `..` are left out.
+    ///
+    /// # Errors
+    ///
+    /// The path leads nowhere, or to no directory ([`Error::NotADirectory`]).
+    pub fn read_dir(&self, path: impl AsRef<[u8]>) -> Result<Dir<'a>, Error> {
+        Dir::open(*self, path.as_ref())
+    }
+}

@@ -1,0 +1,149 @@
+//! The calls of `romtool.h` as C has them, and what they owe and are owed.
+//!
+//! The structs that the library reads are made anew for each call, of numbers that the library gave for the same bytes.
+//! So nothing outside of this module can hand it any others.
+
+use std::ffi::c_void;
+
+/// `struct romtool_image`.
+#[repr(C)]
+#[derive(Clone, Copy)]
+pub(crate) struct Image {
+    pub data: *const u8,
+    pub len: u64,
+    pub numbers: Numbers,
+}
+
+/// What `struct romtool_image` has beside the bytes.
+#[repr(C)]
+#[derive(Clone, Copy, Debug, Default, PartialEq, Eq)]
+pub(crate) struct Numbers {
+    pub status: u32,
+    pub format: u32,
+    pub fault: u32,
+    pub at: u32,
+    pub accessible: u32,
+    pub root: u32,
+    pub references: u32,
+    pub depth: u32,
+}
+
+/// `struct romtool_node`.
+#[repr(C)]
+pub(crate) struct Node {
+    pub error: u32,
+    pub node: u32,
+}
+
+/// `struct romtool_stat`.
+#[repr(C)]
+pub(crate) struct Stat {
+    pub error: u32,
+    pub ino: u32,
+    pub kind: u32,
+    pub mode: u32,
+    pub uid: u32,
+    pub gid: u32,
+    pub size: u32,
+    pub major: u32,
+    pub minor: u32,
+}
+
+/// `struct romtool_place`.
+#[repr(C)]
+pub(crate) struct Place {
+    pub error: u32,
+    pub at: u32,
+    pub len: u64,
+}
+
+/// `struct romtool_file`.
+#[repr(C)]
+#[derive(Clone, Copy)]
+pub(crate) struct File {
+    pub image: Image,
+    pub error: u32,
+    pub node: u32,
+    pub position: u64,
+}
+
+/// `struct romtool_entry`.
+#[repr(C)]
+pub(crate) struct Entry {
+    pub name: *const u8,
+    pub name_len: u64,
+    pub node: u32,
+    pub some: u32,
+}
+
+// The layout of the library, whose structs the header states.
+const _: () = {
+    assert!(std::mem::size_of::<Image>() == 48 && std::mem::size_of::<File>() == 64);
+    assert!(std::mem::size_of::<Stat>() == 36 && std::mem::size_of::<Place>() == 16);
+    assert!(std::mem::size_of::<Entry>() == 24 && std::mem::size_of::<usize>() == 8);
+};
+
+extern "C" {
+    pub(crate) fn romtool_check(image: *mut Image, data: *const u8, len: u64) -> u32;
+    pub(crate) fn romtool_lookup(image: *const Image, path: *const u8, len: u64, follow: bool) -> Node;
+    pub(crate) fn romtool_stat(image: *const Image, path: *const u8, len: u64, follow: bool) -> Stat;
+    pub(crate) fn romtool_stat_node(image: *const Image, node: u32) -> Stat;
+    pub(crate) fn romtool_readlink(image: *const Image, path: *const u8, len: u64) -> Place;
+    pub(crate) fn romtool_open(file: *mut File, image: *const Image, path: *const u8, len: u64) -> u32;
+    pub(crate) fn romtool_open_node(file: *mut File, image: *const Image, node: u32) -> u32;
+    pub(crate) fn romtool_fstat(file: *const File) -> Stat;
+    pub(crate) fn romtool_map(file: *const File, off: u64, len: u64) -> Place;
+    pub(crate) fn romtool_lend(file: *mut File, max: u64) -> Place;
+    pub(crate) fn romtool_read(file: *mut File, buffer: *mut u8, len: u64, count: *mut u64) -> u32;
+    pub(crate) fn romtool_seek(file: *mut File, position: u64) -> u32;
+    pub(crate) fn romtool_readdir(file: *mut File, entry: *mut Entry) -> u32;
+}
+
+// The three functions of `romtool_heap.h` over the C library that std links.
+extern "C" {
+    fn malloc(size: usize) -> *mut c_void;
+    fn realloc(at: *mut c_void, size: usize) -> *mut c_void;
+    fn free(at: *mut c_void);
+}
+
+/// `struct romtool_memory`.
+#[repr(C)]
+pub struct Memory {
+    given: u64,
+    at: *mut c_void,
+}
+
+fn answer(at: *mut c_void) -> Memory {
+    if at.is_null() {
+        Memory { given: 0, at: std::ptr::NonNull::dangling().as_ptr() }
+    } else {
+        Memory { given: 1, at }
+    }
+}
+
+/// Gives a block, for the library only.
+#[no_mangle]
+extern "C" fn rattle_alloc(size: usize, align: usize) -> Memory {
+    // malloc aligns to 16 on machines of 64 bits
+    answer(if align <= 16 { unsafe { malloc(size.max(1)) } } else { std::ptr::null_mut() })
+}
+
+/// Changes the size of a block, for the library only.
+///
+/// # Safety
+///
+/// `at` is a block that was given and not taken back.
+#[no_mangle]
+unsafe extern "C" fn rattle_realloc(at: *mut c_void, _kept: usize, size: usize, _align: usize) -> Memory {
+    answer(unsafe { realloc(at, size.max(1)) })
+}
+
+/// Takes a block back, for the library only.
+///
+/// # Safety
+///
+/// `at` is a block that was given and not taken back.
+#[no_mangle]
+unsafe extern "C" fn rattle_dealloc(at: *mut c_void) {
+    unsafe { free(at) };
+}

@@ -1,0 +1,144 @@
+//! The crate on one small image: what each call answers, and each error.
+
+use romtool::{CheckError, Error, Fault, Format, Image, Kind};
+use std::io::{BufRead, Read, Seek, SeekFrom};
+
+const SMALL: &[u8] = include_bytes!("small.romfs");
+
+fn image() -> Image<'static> {
+    Image::check(SMALL).expect("a good image")
+}
+
+#[test]
+fn what_an_image_is() {
+    let image = image();
+    assert_eq!((image.format(), image.size() as usize), (Format::Romfs, SMALL.len()));
+    assert_eq!((image.references(), image.depth()), (9, 2));
+    assert_eq!(image.as_bytes().as_ptr(), SMALL.as_ptr());
+    let copy = image;
+    assert_eq!(copy.lookup("/etc"), image.lookup("/etc/."));
+}
+
+#[test]
+fn what_paths_lead_to() {
+    let image = image();
+    let root = image.metadata("/").unwrap();
+    assert!(root.is_dir() && root.ino == image.lookup("/").unwrap());
+    let null = image.metadata("/null").unwrap();
+    assert_eq!((null.kind, null.major, null.minor, null.mode), (Kind::Character, 1, 3, 0o600));
+    assert!(image.symlink_metadata("/message").unwrap().is_symlink());
+    let led = image.metadata("/message").unwrap();
+    assert!(led.is_file() && led.size == 6 && led.ino == image.lookup("/etc/motd").unwrap());
+    assert_eq!(image.read_link("/message"), Ok(b"etc/motd".as_slice()));
+}
+
+#[test]
+fn errors_of_paths() {
+    let image = image();
+    assert_eq!(image.lookup("/none"), Err(Error::NotFound));
+    assert_eq!(image.lookup(""), Err(Error::NotFound));
+    assert_eq!(image.lookup("etc"), Err(Error::Invalid));
+    assert_eq!(image.lookup("/etc/motd/x"), Err(Error::NotADirectory));
+    assert_eq!(image.lookup([b"/".as_slice(), &[b'x'; 256]].concat()), Err(Error::NameTooLong));
+    assert_eq!(image.lookup([b'/'; 4096]), Err(Error::NameTooLong));
+    assert_eq!(image.read_link("/etc"), Err(Error::Invalid));
+    assert_eq!(image.open("/etc").unwrap_err(), Error::IsADirectory);
+    assert_eq!(image.open("/null").unwrap_err(), Error::IsASpecialFile);
+    assert_eq!(image.read_dir("/etc/motd").unwrap_err(), Error::NotADirectory);
+    assert_eq!(image.read_dir("/null").unwrap_err(), Error::IsASpecialFile);
+}
+
+#[test]
+fn a_file_in_place() {
+    let image = image();
+    let file = image.open("/message").unwrap();
+    let bytes = file.as_bytes().unwrap();
+    assert_eq!(bytes, b"hello\n");
+    assert!(SMALL.as_ptr_range().contains(&bytes.as_ptr()));
+    assert_eq!(file.range(1, 4), Ok(b"ello".as_slice()));
+    assert_eq!(file.range(6, 0), Ok(b"".as_slice()));
+    assert_eq!(file.range(6, 1), Err(Error::Invalid));
+    assert_eq!(file.range(7, 0), Err(Error::Invalid));
+    assert_eq!(file.range(u64::MAX, u64::MAX), Err(Error::Invalid));
+    assert_eq!(image.open("/etc/empty").unwrap().as_bytes(), Ok(b"".as_slice()));
+}
+
+#[test]
+fn reading_and_seeking() {
+    let mut file = image().open("/etc/motd").unwrap();
+    let mut two = [0; 2];
+    assert_eq!((file.read(&mut two).unwrap(), &two), (2, b"he"));
+    let mut other = file.clone();
+    assert_eq!(other.next_bytes(2), b"ll");
+    assert_eq!(file.fill_buf().unwrap(), b"llo\n");
+    file.consume(3);
+    assert_eq!(file.stream_position().unwrap(), 5);
+    let mut rest = String::new();
+    assert_eq!((file.read_to_string(&mut rest).unwrap(), rest.as_str()), (1, "\n"));
+    assert_eq!((file.read(&mut two).unwrap(), file.next_bytes(9)), (0, b"".as_slice()));
+    assert_eq!(file.seek(SeekFrom::End(-6)).unwrap(), 0);
+    assert_eq!(file.seek(SeekFrom::Current(100)).unwrap(), 100);
+    assert_eq!((file.read(&mut two).unwrap(), file.read(&mut []).unwrap()), (0, 0));
+    assert!(file.seek(SeekFrom::End(-7)).is_err() && file.stream_position().unwrap() == 100);
+    assert_eq!(other.next_bytes(9), b"o\n");
+}
+
+#[test]
+fn entries() {
+    let image = image();
+    let names: Vec<_> = image.read_dir("/").unwrap().map(|it| it.name()).collect();
+    assert_eq!(names, [b"etc".as_slice(), b"message", b"null"]);
+    let mut dir = image.read_dir("/etc").unwrap();
+    let first = dir.next().unwrap();
+    assert_eq!((first.name(), Ok(first.node())), (b"motd".as_slice(), image.lookup("/etc/motd")));
+    assert_eq!(first.metadata(), image.metadata("/etc/motd").unwrap());
+    assert_eq!(first.open().unwrap().as_bytes(), image.open("/etc/motd").unwrap().as_bytes());
+    assert_eq!(first.read_dir().map(|_| ()), Err(Error::NotADirectory));
+    assert_eq!(dir.clone().count(), 1);
+    assert_eq!(dir.next().unwrap().name(), b"empty");
+    assert!(dir.next().is_none() && dir.next().is_none());
+    assert!(dir.metadata().is_dir());
+}
+
+#[test]
+fn refused_images() {
+    let fault = |bytes: &[u8]| match Image::check(bytes) {
+        Err(CheckError::Fault(fault)) => fault,
+        other => panic!("{other:?}"),
+    };
+    assert_eq!(fault(b""), Fault { number: 2, at: 0 });
+    assert_eq!(fault(&[0; 100]).name(), "Magic");
+    let mut changed = SMALL.to_vec();
+    changed[50] ^= 1;
+    assert_eq!(fault(&changed).to_string(), "5 Sum at 12");
+    for len in 0..SMALL.len() {
+        assert!(matches!(Image::check(&SMALL[..len]), Err(CheckError::Fault(_))), "{len} bytes");
+    }
+    assert_eq!(Fault { number: 10, at: 0 }.name(), "Unknown");
+    assert_eq!(Fault { number: 27, at: 0 }.name(), "Unknown");
+}
+
+#[test]
+fn threads_share_an_image() {
+    let image = image();
+    std::thread::scope(|scope| {
+        for _ in 0..4 {
+            scope.spawn(|| {
+                for _ in 0..200 {
+                    assert_eq!(image.open("/message").unwrap().as_bytes(), Ok(b"hello\n".as_slice()));
+                }
+            });
+        }
+    });
+}
+
+#[test]
+fn errors_have_numbers_and_words() {
+    for number in [1, 2, 3, 4, 5, 7, 8, 10] {
+        let errors = [Error::NotFound, Error::NotADirectory, Error::TooManyLinks, Error::NameTooLong, Error::Invalid];
+        let more = [Error::IsADirectory, Error::IsASpecialFile, Error::InPieces];
+        let found: Vec<_> = errors.iter().chain(&more).filter(|it| it.number() == number).collect();
+        assert!(found.len() == 1 && !found[0].to_string().is_empty());
+    }
+    assert_eq!(std::io::Error::from(Error::NotFound).kind(), std::io::ErrorKind::NotFound);
+}

@@ -1,0 +1,199 @@
+/* SPDX-License-Identifier: MIT
+ *
+ * The memory of romtool_check over an array of the caller's: no malloc, no C library.
+ * include/romtool_heap.h says what each function owes, and of these what they give.
+ *
+ * The area is a row of blocks, each behind a header of 16 bytes; no two free blocks are neighbours. A request gets the
+ * first free block that is large enough. So where a block is does not depend on how much free room is at the end, and
+ * the farthest end that was reached is what an area has to have. */
+#include <stdint.h>
+
+#include "romtool_heap.h"
+
+#define UNIT 16u
+/* Sizes by units, for the places where a search begins; the last one is for all that are larger. */
+#define KINDS 33u
+
+/* A block begins UNIT bytes behind its header. */
+union header {
+    struct {
+        size_t size;   /* the bytes of the block, a multiple of UNIT, and 1 more if it is used */
+        size_t before; /* the bytes of the block before it */
+    } of;
+    uint8_t room[UNIT];
+};
+
+static uint8_t *first, *end; /* the area, at multiples of UNIT */
+static size_t most, blocks;
+/* No free block of so many units or more begins before this. These places do not fall. */
+static uint8_t *lowest[KINDS];
+
+static union header *header_at(uint8_t *at) {
+    return (union header *)(void *)at;
+}
+
+static int is_used(const union header *it) {
+    return (int)(it->of.size & 1);
+}
+
+static size_t size_of(const union header *it) {
+    return it->of.size & ~(size_t)1;
+}
+
+static uint8_t *end_of(union header *it) {
+    return (uint8_t *)it + UNIT + size_of(it);
+}
+
+static size_t kind_of(size_t size) {
+    return size / UNIT < KINDS ? size / UNIT : KINDS - 1;
+}
+
+static void set(union header *it, size_t size, size_t used) {
+    it->of.size = size | used;
+    if (end_of(it) < end) {
+        header_at(end_of(it))->of.before = size;
+    }
+}
+
+/* Lets no search begin within a block, nor behind a free one that it may find. */
+static void settle(union header *it) {
+    uint8_t *at = (uint8_t *)it;
+    for (size_t kind = 0; kind < KINDS; kind++) {
+        const int is_hidden = !is_used(it) && kind <= kind_of(size_of(it));
+        if (lowest[kind] > at && (is_hidden || lowest[kind] < end_of(it))) {
+            lowest[kind] = at;
+        }
+    }
+}
+
+/* Makes a block that is used larger by the free one behind it. */
+static void join(union header *it) {
+    if (end_of(it) < end && !is_used(header_at(end_of(it)))) {
+        set(it, size_of(it) + UNIT + size_of(header_at(end_of(it))), 1);
+        settle(it);
+    }
+}
+
+/* Makes a block free, and joins it with its neighbours that are. */
+static void release(union header *it) {
+    join(it);
+    if ((uint8_t *)it > first) {
+        union header *before = header_at((uint8_t *)it - it->of.before - UNIT);
+        if (!is_used(before)) {
+            set(before, size_of(before) + UNIT + size_of(it), 0);
+            it = before;
+        }
+    }
+    set(it, size_of(it), 0);
+    settle(it);
+}
+
+/* Cuts a block that is used to `size` bytes; what is left becomes free. */
+static void cut(union header *it, size_t size) {
+    const size_t left = size_of(it) - size;
+    if (left >= UNIT) {
+        set(it, size, 1);
+        union header *rest = header_at(end_of(it));
+        rest->of.before = size;
+        set(rest, left - UNIT, 1);
+        release(rest);
+    }
+}
+
+static struct romtool_memory refused(void) {
+    static char none;
+    struct romtool_memory memory;
+    memory.given = 0;
+    memory.at = &none;
+    return memory;
+}
+
+static struct romtool_memory given(union header *it) {
+    struct romtool_memory memory;
+    const size_t reached = (size_t)(end_of(it) - first);
+    most = reached > most ? reached : most;
+    memory.given = 1;
+    memory.at = (uint8_t *)it + UNIT;
+    return memory;
+}
+
+/* The size in whole units, or more than the area has. */
+static size_t whole(romtool_size size) {
+    const size_t all = (size_t)(end - first);
+    return size > all ? all + UNIT : ((size_t)size + UNIT - 1) / UNIT * UNIT;
+}
+
+/* The first free block of at least `size` bytes, or NULL. */
+static union header *found(size_t size) {
+    const size_t kind = kind_of(size);
+    int is_first = 1; /* no free block of this kind was passed */
+    for (uint8_t *at = lowest[kind]; at < end; at = end_of(header_at(at))) {
+        union header *it = header_at(at);
+        if (!is_used(it) && size_of(it) >= size) {
+            for (size_t more = kind; is_first && more < KINDS && lowest[more] < at; more++) {
+                lowest[more] = at;
+            }
+            return it;
+        }
+        is_first = is_first && (is_used(it) || kind_of(size_of(it)) < kind);
+    }
+    return NULL;
+}
+
+void romtool_area(void *bytes, romtool_size len) {
+    const size_t skipped = (size_t)(-(uintptr_t)bytes % UNIT);
+    first = end = NULL;
+    most = blocks = 0;
+    if (bytes && len >= skipped + UNIT && len <= PTRDIFF_MAX) {
+        first = (uint8_t *)bytes + skipped;
+        end = first + ((size_t)len - skipped) / UNIT * UNIT;
+        set(header_at(first), (size_t)(end - first) - UNIT, 0);
+    }
+    for (size_t kind = 0; kind < KINDS; kind++) {
+        lowest[kind] = first;
+    }
+}
+
+romtool_size romtool_area_most(void) {
+    return most;
+}
+
+romtool_size romtool_area_blocks(void) {
+    return blocks;
+}
+
+struct romtool_memory rattle_alloc(romtool_size size, romtool_size align) {
+    const size_t asked = whole(size);
+    union header *it = align <= UNIT ? found(asked) : NULL;
+    if (!it) {
+        return refused();
+    }
+    set(it, size_of(it), 1);
+    cut(it, asked);
+    blocks++;
+    return given(it);
+}
+
+struct romtool_memory rattle_realloc(void *at, romtool_size kept, romtool_size size, romtool_size align) {
+    union header *it = header_at((uint8_t *)at - UNIT);
+    const size_t had = size_of(it), asked = whole(size);
+    join(it);
+    if (align <= UNIT && size_of(it) >= asked) {
+        cut(it, asked);
+        return given(it);
+    }
+    cut(it, had);
+    struct romtool_memory moved = rattle_alloc(size, align);
+    if (moved.given) {
+        for (size_t i = 0; i < kept; i++) {
+            ((uint8_t *)moved.at)[i] = ((const uint8_t *)at)[i];
+        }
+        rattle_dealloc(at);
+    }
+    return moved;
+}
+
+void rattle_dealloc(void *at) {
+    release(header_at((uint8_t *)at - UNIT));
+    blocks--;
+}

@@ -1,0 +1,73 @@
+//! Writers that remember why they failed.
+ghost use Rattle.std.specs.Prelude.{◌≡◌, None};
+ghost use Rattle.std.specs.IoError.{error_kind};
+ghost use Rattle.std.specs.Io.{WritesAtMost};
+ghost use Rattle.std.specs.Io.KnownBytes.{Keeps, WriteAppends};
+ghost use Rattle.program_streams.specs.Streams.{Notes, Remembers, first_error, remembering_inner};
+
+use std::io::{self, Write};
+
+/// A writer that remembers why it failed first.
+#[derive(Drop)]
+pub struct Remembering<X> {
+    inner: X,
+    error: Option<io::Error>,
+}
+
+impl<X: Drop> Remembering<X> {
+    /// Why it failed first, if it failed.
+    pub fn error(self) -> Option<io::Error>
+        ensures { result ≡ first_error self }
+    {
+        self.error
+    }
+}
+
+impl<X> Remembering<X> {
+    /// In front of this writer.
+    pub fn new(inner: X) -> Remembering<X>
+        ensures inner { remembering_inner result ≡ inner }
+        ensures none { first_error result ≡ None }
+    {
+        Remembering { inner, error: None }
+    }
+
+    /// Remembers why a call failed, and gives the kind of it.
+    fn note(&mut self, e: io::Error) -> io::Error
+        ensures inner { remembering_inner self.new ≡ remembering_inner self.old }
+        ensures noted { Notes (first_error self.old) (first_error self.new) result }
+    {
+        let kind = e.kind();
+        if self.error.is_none() {
+            self.error = Some(e);
+        }
+        io::Error::from(kind)
+    }
+}
+
+impl<X: Write> Write for Remembering<X> {
+    ghost contents = { λ s. X.contents (remembering_inner s) };
+
+    fn write(&mut self, b: &[u8]) -> io::Result<usize>
+        ensures bound { WritesAtMost result b.now }
+        ensures bytes { WriteAppends (X.contents (remembering_inner self.old))
+            (X.contents (remembering_inner self.new)) result b.now }
+        ensures noted { Remembers (first_error self.old) (first_error self.new) result }
+    {
+        match self.inner.write(b) {
+            Ok(count) => Ok(count),
+            Err(e) => Err(self.note(e)),
+        }
+    }
+
+    fn flush(&mut self) -> io::Result<()>
+        ensures bytes { Keeps (X.contents (remembering_inner self.old))
+            (X.contents (remembering_inner self.new)) }
+        ensures noted { Remembers (first_error self.old) (first_error self.new) result }
+    {
+        match self.inner.flush() {
+            Ok(()) => Ok(()),
+            Err(e) => Err(self.note(e)),
+        }
+    }
+}

@@ -1,0 +1,29 @@
+//! What a request asks of an image.
+ghost use Rattle.std.specs.Prelude.{◌≡◌};
+ghost use Rattle.romtool.specs.Printed.{asked_by as by_request, in_file as by_file};
+
+use command_line::Request;
+use rom_commands::Asked;
+
+/// What a request asks of an image, whose file is not read yet: the report if nothing else.
+pub fn asked_by(request: &Request<'_>) -> Asked
+    ensures { result ≡ by_request request.now }
+{
+    match request {
+        Request::List(_) => Asked::List,
+        Request::Map(map) => Asked::Map(map.base),
+        Request::Linux(_) => Asked::Misreads,
+        Request::Info(_) => Asked::Facts(0),
+        _ => Asked::Report,
+    }
+}
+
+/// The same once the file is read, which has so many bytes.
+pub fn in_file(len: u64, asked: Asked) -> Asked
+    ensures { result ≡ by_file len asked }
+{
+    match asked {
+        Asked::Facts(_) => Asked::Facts(len),
+        _ => asked,
+    }
+}

@@ -1,0 +1,117 @@
+//! How much the files of an image come to, said in words before it is printed.
+ghost use Rattle.std.specs.Prelude.{◌≤◌};
+ghost use Rattle.rom_tree.specs.Tree.{levels};
+
+use crate::teller::Teller;
+use image_check::check;
+use rom_commands::Asked;
+use rom_fields::Plain;
+use rom_tree::{Kind, Limits, TreeImage, Walk};
+use std::io::{self, Write};
+
+/// How many times longer than an image its files may be without a word.
+const MANY_TIMES: u64 = 16;
+
+/// The most bytes of a file in one block of an image.
+const BLOCK: u64 = 4096;
+
+/// The most bytes of a line of a map without its path: an address of 18 bytes, two numbers below
+/// 2^32, three spaces and a line feed.
+const LINE: u64 = 18 + 10 + 10 + 4;
+
+/// A writer that only counts the bytes.
+#[derive(Drop)]
+struct Counting {
+    count: u64,
+}
+
+impl Write for Counting {
+    fn write(&mut self, b: &[u8]) -> io::Result<usize> {
+        self.count = self.count.saturating_add(b.len() as u64);
+        Ok(b.len())
+    }
+
+    fn flush(&mut self) -> io::Result<()> {
+        Ok(())
+    }
+}
+
+/// The length of the path of the name that a walk gave last, escaped as in a map.
+fn path_len(walk: &Walk<'_>) -> u64 {
+    let mut out = Plain::new(Counting { count: 0 });
+    walk.put_path(&mut out, &mut false);
+    out.into_inner().count
+}
+
+/// What the names of regular files come to.
+#[derive(Clone, Copy, Default)]
+struct Totals {
+    /// The bytes of the files, those of a further name once more.
+    contents: u64,
+    /// How many lines the map has at most: one for each block.
+    lines: u64,
+    /// How many bytes the map has at most.
+    bytes: u64,
+}
+
+impl Totals {
+    /// Adds a name of a file of this size, whose path has this length.
+    fn add(&mut self, size: u64, path_len: u64) {
+        let lines = size.div_ceil(BLOCK).max(1);
+        let bytes = lines.saturating_mul(LINE.saturating_add(path_len));
+        self.contents = self.contents.saturating_add(size);
+        self.lines = self.lines.saturating_add(lines);
+        self.bytes = self.bytes.saturating_add(bytes);
+    }
+}
+
+/// What all names of regular files of an image come to.
+fn totals_of<'a, T: TreeImage<'a>>(image: &T) -> Totals
+    requires depth { levels (T.image image.now).tree ≤ 65 }
+{
+    let mut totals = Totals::default();
+    let mut walk = Walk::new();
+    while let Some(node) = walk.next(image) {
+        let stat = image.stat(node);
+        if stat.kind == Kind::Regular {
+            totals.add(u64::from(stat.size), path_len(&walk));
+        }
+    }
+    totals
+}
+
+/// Whether this many bytes are to be told of an image of this length.
+pub fn is_many_times(bytes: u64, len: usize) -> bool {
+    bytes / MANY_TIMES > len as u64
+}
+
+/// Says in words how long what is printed of an image gets, if its files are many times longer than
+/// the image, as those of cramfs that share blocks and names of one file of romfs can be.
+pub fn explain(teller: &Teller<'_>, name: &[u8], bytes: &[u8], asked: Asked) {
+    let alloc = teller.rt.alloc();
+    if !teller.is_explained() || !matches!(asked, Asked::Map(_) | Asked::Facts(_)) {
+        return;
+    }
+    let Ok(image) = check(alloc, bytes, Limits::usual()) else {
+        return;
+    };
+    let Totals {
+        contents,
+        lines,
+        bytes: most,
+    } = totals_of(&image);
+    if !is_many_times(contents, bytes.len()) {
+        return;
+    }
+    let len = bytes.len();
+    let what = if matches!(asked, Asked::Map(_)) {
+        format!(in alloc;
+            "its files have {contents} bytes and the image {len}, so the map has up to {lines} lines and {most} bytes"
+        )
+    } else {
+        format!(in alloc; "its files have {contents} bytes and the image {len}")
+    };
+    if let Ok(what) = what {
+        teller.explain(name, &what);
+    }
+}

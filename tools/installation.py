@@ -1,0 +1,160 @@
+"""What an installation of romtool consists of: its version, and each file with its path under a prefix."""
+
+import os
+import re
+import subprocess
+import sys
+import tempfile
+
+import completions
+import kit
+
+TOP = kit.TOP
+PROGRAM = f"{TOP}/crates/romtool/out/romtool"
+LIBRARY = f"{TOP}/crates/rom_c/out/librom_c.a"
+# the pages of docs/ that users read
+GUIDES = ("C", "CLIENTS", "FAULTS", "LINES", "LINUX", "MANIFEST", "PROTOCOL")
+DOCUMENTS = "share/doc/romtool"
+COMPLETIONS = {
+    "bash": "share/bash-completion/completions/romtool",
+    "zsh": "share/zsh/site-functions/_romtool",
+    "fish": "share/fish/vendor_completions.d/romtool.fish",
+}
+PKG_CONFIG = """prefix=${{pcfiledir}}/../..
+includedir=${{prefix}}/include
+libdir=${{prefix}}/lib
+
+Name: romtool
+Description: Proved reader of romfs and cramfs images that are used in place
+Version: {version}
+Cflags: -I${{includedir}}
+Libs: -L${{libdir}} -lromtool
+"""
+CMAKE = """# romtool: a proved reader of romfs and cramfs images. The target is romtool::romtool.
+get_filename_component(_romtool_prefix "${CMAKE_CURRENT_LIST_DIR}/../../.." ABSOLUTE)
+if(NOT TARGET romtool::romtool)
+    add_library(romtool::romtool STATIC IMPORTED)
+    set_target_properties(romtool::romtool PROPERTIES
+        IMPORTED_LOCATION "${_romtool_prefix}/lib/libromtool.a"
+        IMPORTED_LINK_INTERFACE_LANGUAGES C
+        INTERFACE_INCLUDE_DIRECTORIES "${_romtool_prefix}/include")
+endif()
+unset(_romtool_prefix)
+"""
+CMAKE_VERSION = """# Versions are semantic: one that is asked for is met by the same major version from there on.
+set(PACKAGE_VERSION "{version}")
+if(PACKAGE_FIND_VERSION_MAJOR STREQUAL "{major}" AND NOT PACKAGE_VERSION VERSION_LESS PACKAGE_FIND_VERSION)
+    set(PACKAGE_VERSION_COMPATIBLE TRUE)
+    if(PACKAGE_VERSION VERSION_EQUAL PACKAGE_FIND_VERSION)
+        set(PACKAGE_VERSION_EXACT TRUE)
+    endif()
+endif()
+if(CMAKE_SIZEOF_VOID_P AND NOT CMAKE_SIZEOF_VOID_P EQUAL 8)
+    set(PACKAGE_VERSION_UNSUITABLE TRUE)
+endif()
+"""
+
+
+def stop(why):
+    """Ends the tool with a message on standard error."""
+    sys.exit(f"tools/{os.path.basename(sys.argv[0])}: {why}")
+
+
+def content(path):
+    """Returns the bytes of a file; a path that is not absolute is one of the repository."""
+    with open(os.path.join(TOP, path), "rb") as it:
+        return it.read()
+
+
+def run(*words, **more):
+    """Runs a command, and returns what it printed. If it fails, the tool ends with that."""
+    ran = subprocess.run(words, stdin=subprocess.DEVNULL, stdout=subprocess.PIPE, stderr=subprocess.STDOUT, **more)
+    if ran.returncode:
+        sys.stderr.buffer.write(ran.stdout)
+        stop(f"{words[0]} failed with status {ran.returncode}")
+    return ran.stdout
+
+
+def version():
+    """Returns the version, which crates/command_line/src/commands.rt has."""
+    source = content("crates/command_line/src/commands.rt").decode()
+    return re.search(r'^const VERSION: &str = "(\d+\.\d+\.\d+)";$', source, re.M)[1]
+
+
+def kit_folder():
+    """Returns the folder of the toolchain's kit."""
+    return os.path.dirname(os.path.dirname(kit.program()))
+
+
+def kit_libraries():
+    """Returns the names of the kit's libraries that the program and the library for C have in them, in order."""
+    rows = re.findall(r"^(\w+)(?: staticlib)?:(.*)$", content("crates.txt").decode(), re.M)
+    below = {name: words.split() for name, words in rows}
+    found, left = set(), ["romtool", "rom_c"]
+    while left:
+        name = left.pop()
+        if name not in found:
+            found.add(name)
+            left += below[name] if name in below else libraries_below(name)
+    return sorted(found - set(below))
+
+
+def libraries_below(name):
+    """Returns the names of the libraries that a library of the kit has in it."""
+    written = content(f"{kit_folder()}/rlibs/{name}.rlib/format").decode(errors="replace")
+    return re.findall(r"^dep (\w+)$", written, re.M)
+
+
+def licences():
+    """Returns the text of the licences of all that is linked: this repository's, and those of the kit's libraries."""
+    parts = ["romtool\n\n" + content("LICENSE").decode()]
+    without = []
+    for name in kit_libraries():
+        folder = f"{kit_folder()}/rattle/{name}"
+        given = sorted(it for it in os.listdir(folder) if it.startswith("LICENSE"))
+        given = [it for it in given if it != "LICENSE-APACHE" or "LICENSE-MIT" not in given]
+        parts += [f"{name} ({it} of the kit's library)\n\n{content(f'{folder}/{it}').decode()}" for it in given]
+        without += [name] * (not given)
+    parts.append(f"The kit has no text of a licence beside these libraries of its own: {', '.join(without)}.\n")
+    return ("\n" + "=" * 78 + "\n\n").join(parts).encode()
+
+
+def whole_archive(archive):
+    """Returns the library for C as one archive: what `rt lib` built, and the three functions over malloc that a check calls.
+    A program that brings these functions along is linked with its own, since a member is only taken if it is needed."""
+    with tempfile.TemporaryDirectory(prefix="romtool-archive-") as room:
+        words = ["-std=c99", "-O2", "-fPIC", "-Iinclude", "-ffunction-sections", "-fdata-sections", "-c", "c/heap.c"]
+        run("cc", *words, "-o", f"{room}/romtool_heap.o", cwd=TOP)
+        with open(f"{room}/libromtool.a", "wb") as it:
+            it.write(content(archive))
+        run("ar", "rsD", "libromtool.a", "romtool_heap.o", cwd=room)
+        return content(f"{room}/libromtool.a")
+
+
+def program_files(program):
+    """Returns the files of the program: for each path under the prefix its bytes and its mode."""
+    found = {"bin/romtool": (content(program), 0o755), "share/man/man1/romtool.1": (content("docs/romtool.1"), 0o644)}
+    for shell, path in COMPLETIONS.items():
+        found[path] = (completions.text(shell, program).encode(), 0o644)
+    for name in ("README.md", "CHANGELOG.md", "LICENSE"):
+        found[f"{DOCUMENTS}/{name}"] = (content(name), 0o644)
+    for name in GUIDES:
+        found[f"{DOCUMENTS}/docs/{name}.md"] = (content(f"docs/{name}.md"), 0o644)
+    found[f"{DOCUMENTS}/LICENSES.txt"] = (licences(), 0o644)
+    return found
+
+
+def library_files(archive):
+    """Returns the files of the library for C, in the same form. None of them names the prefix, so it can be moved."""
+    major = version().partition(".")[0]
+    texts = {
+        "lib/pkgconfig/romtool.pc": PKG_CONFIG.format(version=version()),
+        "lib/cmake/romtool/romtoolConfig.cmake": CMAKE,
+        "lib/cmake/romtool/romtoolConfigVersion.cmake": CMAKE_VERSION.format(version=version(), major=major),
+    }
+    found = {path: (text.encode(), 0o644) for path, text in texts.items()}
+    for header in ("romtool.h", "romtool_heap.h"):
+        found["include/" + header] = (content("include/" + header), 0o644)
+    found["lib/libromtool.a"] = (whole_archive(archive), 0o644)
+    found[f"{DOCUMENTS}/examples/first.c"] = (content("tests/c/first.c"), 0o644)
+    return found
