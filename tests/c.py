@@ -10,6 +10,8 @@ compiler has them.
                nothing, and on one folder that is built in each format
     closed.c   each call on handles that are zeroed or refused, and with NULL for no bytes
     first.c    where the entry of a program is that is run in place, as docs/C.md shows it
+    nodes.c    a directory of 50,000 files, listed and opened by its entries' nodes: a walk that looked names up would take
+               longer than the check
     numbers.c, reader.c
                a reader without check, heap and C library, of numbers that a check gave before
     header.c   what the header has by itself: its version is that of romtool, its names of faults are those of the code
@@ -254,6 +256,21 @@ def entries(binary, top, first, counts):
         is_as_wanted("no entry in " + form, said([first, form, "/empty"], cwd=top).returncode, 1, counts)
 
 
+def by_nodes(binary, top, nodes, counts):
+    """A large directory is listed by the nodes of its entries in linear time: within a second of a processor."""
+    lines = "".join("file /n%05d 0644 0 0 4 one\n" % it for it in range(50000))
+    for name, text in (("many", lines), ("one", "x")):
+        with open(os.path.join(top, name), "w", encoding="utf-8") as file:
+            file.write(text)
+    for form in FORMATS:
+        said([binary, "build", form, "many", "many.image"], cwd=top)
+        before = os.times().children_user
+        done = said([nodes, "many.image"], cwd=top)
+        spent = os.times().children_user - before
+        is_as_wanted("files by their nodes in " + form, done.stdout, b"50000 50000\n", counts)
+        is_as_wanted("time for files by their nodes in %s: %.2f s" % (form, spent), spent < 1, True, counts)
+
+
 def reader(top, archive, numbers, counts, compiler="cc", emulator=()):
     """A reader without check, heap and C library, as a process of Linux."""
     for form in FORMATS:
@@ -384,6 +401,7 @@ def main():
         names = ("answers", "closed", "numbers", "header")
         answers, closed, numbers, facts = (program(it, top, archive, words, counts) for it in names)
         first = program("first", top, archive, words, counts, os.path.join(HEAPS, "heap.c"))
+        nodes = program("nodes", top, archive, ["-O2"], counts, os.path.join(HEAPS, "heap.c"))
         refused = program("refused", top, archive, words, counts, os.path.join(SOURCES, "recording.c"))
         areas = program("areas", top, archive, words, counts, os.path.join(HEAPS, "area.c"))
         build_all(binary, top, counts)
@@ -395,6 +413,8 @@ def main():
         heaps(binary, top, refused, areas, counts)
         if first:
             entries(binary, top, first, counts)
+        if nodes:
+            by_nodes(binary, top, nodes, counts)
         if closed:
             with open(top + "/tree", "wb") as file:
                 file.write(run.file_of("romfs/tree/image"))
