@@ -1,5 +1,6 @@
 -- Lines of attributes that were brought to the nearest have no misfit of attributes.
-use Rattle.std.proofs.Common.{◌≡◌, ℕ, ◌≤◌, inl, inr, true, false, if◌then◌else◌, List, Option, Some, None, refl, sym, ap, ◌∙◌, arith}
+use Rattle.std.proofs.Common.{◌≡◌, ℕ, ◌≤◌, inl, inr, true, false, if◌then◌else◌, List, Option, Some, None, refl, sym}
+use Rattle.std.proofs.Common.{ap, ◌∙◌, arith}
 use Rattle.std.specs.Prelude.{◌==◌, min}
 use Rattle.rom_tree.specs.declared.types.Kind.{Kind}
 use Rattle.rom_tree.specs.declared.types.Kind.TheVariants as kind
@@ -18,7 +19,8 @@ use Rattle.manifest_layout.specs.Misfit.{HasBadAttribute}
 use Rattle.plan_types.specs.Formats.{format_of}
 use Rattle.plan_types.specs.declared.format.Format.{Format}
 use Rattle.plan_types.specs.declared.format.Format.TheVariants.{Romfs, Cramfs, CramfsBig}
-use Rattle.build_commands.specs.Nearest.{is_runnable, runnable_mode, romfs_mode, in_romfs, in_cramfs, nearest_in, HasSmallNumbers}
+use Rattle.build_commands.specs.Nearest.{is_runnable, runnable_mode, romfs_mode, in_romfs, in_cramfs, nearest_in}
+use Rattle.build_commands.specs.Nearest.{HasSmallNumbers}
 
 -- What an inode has of a line.
 record Has (k : Kind) (l : Line) (i : Inode) : Type 0 where
@@ -40,9 +42,11 @@ kind_by Character = kind.Character
 kind_by Fifo = kind.Fifo
 kind_by Socket = kind.Socket
 
-of_contents : (lines : List Line) (sizes : List ℕ) (l : Line) (o : Option Line) → Has kind.Regular l (with_contents lines sizes l o)
+of_contents : (lines : List Line) (sizes : List ℕ) (l : Line) (o : Option Line)
+    → Has kind.Regular l (with_contents lines sizes l o)
 of_contents lines sizes l None = record { kind = refl; mode = refl; uid = refl; gid = refl; major = refl; minor = refl }
-of_contents lines sizes l (Some x) = record { kind = refl; mode = refl; uid = refl; gid = refl; major = refl; minor = refl }
+of_contents lines sizes l (Some x) =
+    record { kind = refl; mode = refl; uid = refl; gid = refl; major = refl; minor = refl }
 
 has : (lines : List Line) (sizes : List ℕ) (w : Word) (l : Line) → Has (kind_by w) l (inode_by lines sizes w l)
 unfolding kind_by
@@ -68,7 +72,8 @@ mode_of kind.Socket m = mode_named 6 (m == 493)
 mode_of kind.Fifo m = mode_named 7 (m == 493)
 
 runs_in : (k : Kind) (m : ℕ) → mode_of k 493 ≡ 493 → mode_of k 420 ≡ 420 → mode_of k (runnable_mode m) ≡ runnable_mode m
-runs_in k m h n = elim (is_runnable m) as (λ b. mode_of k (if b then 493 else 420) ≡ (if b then 493 else 420)) [ true ↦ h | false ↦ n ]
+runs_in k m h n = elim (is_runnable m) as (λ b. mode_of k (if b then 493 else 420) ≡ (if b then 493 else 420))
+    [ true ↦ h | false ↦ n ]
 
 takes_mode : (w : Word) (m : ℕ) → is_hard w ≡ false → mode_of (kind_by w) (romfs_mode w m) ≡ romfs_mode w m
 unfolding kind_by mode_of
@@ -92,23 +97,27 @@ has_mode kind.Character i e h = rw e h
 has_mode kind.Socket i e h = rw e h
 has_mode kind.Fifo i e h = rw e h
 
-romfs_takes : (i : Inode) → i.uid ≡ 0 → i.gid ≡ 0 → HasMode i → i.major ≤ 65535 → i.minor ≤ 65535 → HasBadAttribute romfs i → ⊥
+romfs_takes : (i : Inode) → i.uid ≡ 0 → i.gid ≡ 0 → HasMode i → i.major ≤ 65535 → i.minor ≤ 65535
+    → HasBadAttribute romfs i → ⊥
 romfs_takes i u g m a b (inl h) = h u
 romfs_takes i u g m a b (inr (inl h)) = h g
 romfs_takes i u g m a b (inr (inr (inl h))) = h m
 romfs_takes i u g m a b (inr (inr (inr (inl h)))) = absurd (omega (arith, a, h))
 romfs_takes i u g m a b (inr (inr (inr (inr h)))) = absurd (omega (arith, b, h))
 
-in_romfs_fits : (w : Word) (l : Line) (i : Inode) → is_hard w ≡ false → l.uid ≡ 0 → l.gid ≡ 0 → (m : ℕ) → l.mode ≡ romfs_mode w m
+in_romfs_fits : (w : Word) (l : Line) (i : Inode) → is_hard w ≡ false → l.uid ≡ 0 → l.gid ≡ 0 → (m : ℕ)
+    → l.mode ≡ romfs_mode w m
     → l.major ≤ 65535 → l.minor ≤ 65535 → Has (kind_by w) l i → HasBadAttribute romfs i → ⊥
 in_romfs_fits w l i h u g m e a b s bad =
     let e2 : i.mode ≡ romfs_mode w m = s.mode ∙ e in
     let t : mode_of (kind_by w) i.mode ≡ i.mode = ap (mode_of (kind_by w)) e2 ∙ takes_mode w m h ∙ sym e2 in
-    romfs_takes i (s.uid ∙ u) (s.gid ∙ g) (has_mode (kind_by w) i s.kind t) (omega (arith, a, s.major)) (omega (arith, b, s.minor)) bad
+    romfs_takes i (s.uid ∙ u) (s.gid ∙ g) (has_mode (kind_by w) i s.kind t) (omega (arith, a, s.major))
+    (omega (arith, b, s.minor)) bad
 
 -- cramfs
 
-cramfs_takes : (o : Order) (i : Inode) → i.uid ≤ 65535 → i.gid ≤ 255 → i.major ≤ 255 → i.minor ≤ 255 → HasBadAttribute (cramfs o) i → ⊥
+cramfs_takes : (o : Order) (i : Inode) → i.uid ≤ 65535 → i.gid ≤ 255 → i.major ≤ 255 → i.minor ≤ 255
+    → HasBadAttribute (cramfs o) i → ⊥
 cramfs_takes o i u g a b (inl h) = absurd (omega (arith, u, h))
 cramfs_takes o i u g a b (inr (inl h)) = absurd (omega (arith, g, h))
 cramfs_takes o i u g a b (inr (inr (inl h))) = absurd (omega (arith, a, h))
@@ -122,7 +131,8 @@ in_cramfs_fits : (o : Order) (w : Word) (l : Line) (i : Inode) → l.major ≤ 2
 in_cramfs_fits o w l i a b s bad =
     let u = at_most l.uid 65535 in
     let g = at_most l.gid 255 in
-    cramfs_takes o i (omega (arith, u, s.uid)) (omega (arith, g, s.gid)) (omega (arith, a, s.major)) (omega (arith, b, s.minor)) bad
+    cramfs_takes o i (omega (arith, u, s.uid)) (omega (arith, g, s.gid)) (omega (arith, a, s.major))
+    (omega (arith, b, s.minor)) bad
 
 pub fits : (f : Format) (lines : List Line) (sizes : List ℕ) (l : Line) → is_hard l.word ≡ false → HasSmallNumbers f l
     → HasBadAttribute (format_of f) (inode_of lines sizes (nearest_in f l)) → ⊥

@@ -7,8 +7,10 @@ use Rattle.rom_fields.specs.Written.{Puts, Sink}
 use Rattle.manifest.specs.Grammar.{manifest_of}
 use Rattle.manifest.specs.declared.line.Line.{Line}
 use Rattle.manifest_text.specs.Printed as printed
-use Rattle.manifest_text.specs.Printed.{IsSpelled, IsVolume, as_read, first_number, line_text, lines_text, manifest_text, numbered_from}
-use Rattle.build_commands.specs.Scanned.{Entry, directory, file, IsNamed, AreTaken, directory_text, file_text, directory_line, file_line, directory_of, file_of, line_as, lines_as, scan_text}
+use Rattle.manifest_text.specs.Printed.{IsSpelled, IsVolume, as_read, first_number, line_text, lines_text}
+use Rattle.manifest_text.specs.Printed.{manifest_text, numbered_from}
+use Rattle.build_commands.specs.Scanned.{Entry, directory, file, IsNamed, AreTaken, directory_text, file_text}
+use Rattle.build_commands.specs.Scanned.{directory_line, file_line, directory_of, file_of, line_as, lines_as, scan_text}
 
 directory_is : (n : ℕ) (path : List ℕ) → line_text (directory_of n path) ≡ directory_text path
 unfolding line_text directory_text octal
@@ -19,11 +21,13 @@ unfolding line_text file_text octal
 file_is n path source = rw (decimal_digit 0 (omega arith), decimal_digit 4 (omega arith)) refl
 
 -- a line that is put is the line of an entry
-pub put_directory_is : {s t : Sink} (path : List ℕ) (l : Line) → l ≡ directory_of 0 path → Puts s t (line_text l ++ codes "\n") → Puts s t (directory_line path)
+pub put_directory_is : {s t : Sink} (path : List ℕ) (l : Line) → l ≡ directory_of 0 path
+    → Puts s t (line_text l ++ codes "\n") → Puts s t (directory_line path)
 put_directory_is {s} {t} path l e h =
     let P : List ℕ → Type 0 = λ x. Puts s t (x ++ codes "\n") in subst P (ap line_text e ∙ directory_is 0 path) h
 
-pub put_file_is : {s t : Sink} (path source : List ℕ) (l : Line) → l ≡ file_of 0 path source → Puts s t (line_text l ++ codes "\n") → Puts s t (file_line path source)
+pub put_file_is : {s t : Sink} (path source : List ℕ) (l : Line) → l ≡ file_of 0 path source
+    → Puts s t (line_text l ++ codes "\n") → Puts s t (file_line path source)
 put_file_is {s} {t} path source l e h =
     let P : List ℕ → Type 0 = λ x. Puts s t (x ++ codes "\n") in subst P (ap line_text e ∙ file_is 0 path source) h
 
@@ -60,7 +64,8 @@ spelled n (file path source) h = record {
   only = (refl, refl, h.1.some);
 }
 
-taken : (latest : List Line) (n : ℕ) (es : List Entry) → AreTaken latest n es → printed.AreTaken latest n (lines_as n es)
+taken : (latest : List Line) (n : ℕ) (es : List Entry) → AreTaken latest n es
+    → printed.AreTaken latest n (lines_as n es)
 taken latest n [] h = tt
 taken latest n (directory path ∷ es) h =
     (spelled n (directory path) h.0, h.1, taken (directory_of n path ∷ latest) (n + 1) es h.2)
@@ -80,7 +85,8 @@ abbrev ReadsBack : Type 0
 ReadsBack = (volume : List ℕ) (ls : List Line) → IsVolume volume → printed.AreTaken [] (first_number volume) ls
     → manifest_of (manifest_text volume ls) ≡ Ok (as_read volume ls)
 
-pub is_manifest : ReadsBack → (es : List Entry) → AreTaken [] 1 es → manifest_of (scan_text es) ≡ Ok (record { lines = lines_as 1 es; volume = []; volume_line = 0 })
+pub is_manifest : ReadsBack → (es : List Entry) → AreTaken [] 1 es
+    → manifest_of (scan_text es) ≡ Ok (record { lines = lines_as 1 es; volume = []; volume_line = 0 })
 is_manifest reads es h =
     ap manifest_of (sym (texts 1 es)) ∙ reads [] (lines_as 1 es) no_volume (taken [] 1 es h)
     ∙ ap (λ (ls : List Line). Ok (record { lines = ls; volume = []; volume_line = 0 })) (numbers 1 es)

@@ -4,3 +4,6 @@ pub mod Noted
 pub mod Scanned
 pub mod Seen
 pub mod Told
+pub mod Changed
+pub mod Elf
+pub mod Warnings

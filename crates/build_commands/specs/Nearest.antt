@@ -1,9 +1,11 @@
--- Lines with the attributes that a format takes which are nearest to their own. (This project's own. What a format
--- takes is in Linux Documentation/filesystems/romfs.rst and include/uapi/linux/cramfs_fs.h.)
+-- Lines with the attributes that a format takes which are nearest to their own. (This project's
+-- own. What a format takes is in Linux Documentation/filesystems/romfs.rst and
+-- include/uapi/linux/cramfs_fs.h.)
 use Rattle.std.specs.Prelude.{ℕ, ◌/◌, ◌%◌, ◌≤◌, ◌==◌, ◌||◌, Bool, min, if◌then◌else◌}
 use Rattle.manifest.specs.declared.line.Line.{Line}
 use Rattle.manifest.specs.declared.line.Word.{Word}
-use Rattle.manifest.specs.declared.line.Word.TheVariants.{Dir, File, Slink, Block, Character, Fifo, Socket, Hard, Same}
+use Rattle.manifest.specs.declared.line.Word.TheVariants.{Dir, File, Slink, Block, Character, Fifo}
+use Rattle.manifest.specs.declared.line.Word.TheVariants.{Socket, Hard, Same}
 use Rattle.plan_types.specs.declared.format.Format.{Format}
 use Rattle.plan_types.specs.declared.format.Format.TheVariants.{Romfs, Cramfs, CramfsBig}
 
@@ -15,7 +17,8 @@ is_runnable mode = (mode / 64 % 2 == 1) || ((mode / 8 % 2 == 1) || (mode % 2 == 
 abbrev pub runnable_mode : ℕ → ℕ
 runnable_mode mode = if is_runnable mode then 493 else 420
 
--- The mode that romfs has for a line's kind: it keeps whether someone may execute a directory or a regular file.
+-- The mode that romfs has for a line's kind: it keeps whether someone may execute a directory or a
+-- regular file.
 abbrev pub romfs_mode : Word → ℕ → ℕ
 romfs_mode Dir mode = runnable_mode mode
 romfs_mode File mode = runnable_mode mode

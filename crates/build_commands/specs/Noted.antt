@@ -8,9 +8,11 @@ use Rattle.build_commands.specs.declared.inventory.NamedFile.{NamedFile}
 -- the file that a map has for an inode, by the device and the number
 abbrev pub noted : BTreeMap (ℕ × ℕ) (Bor NamedFile) → ℕ → ℕ → Option NamedFile
 noted m device number =
-    option_map (λ g. g.now) (get (λ x y. ordering_then (nat_cmp x.0 y.0) (nat_cmp x.1 y.1)) m (device, number))
+    option_map (λ g. g.now) (get (λ x y. ordering_then (nat_cmp x.0 y.0) (nat_cmp x.1 y.1)) m
+    (device, number))
 
 -- what stands there once a file is noted, where this stood there
 abbrev pub noted_with : NamedFile → Option NamedFile → ℕ → ℕ → Option NamedFile
 noted_with f (Some g) device number = Some g
-noted_with f None device number = if (f.inode.device == device) && (f.inode.number == number) then Some f else None
+noted_with f None device number =
+    if (f.inode.device == device) && (f.inode.number == number) then Some f else None

@@ -42,7 +42,8 @@ directory_of n path = record (plain_of path 493) { number = n }
 
 -- the file of a path, of mode 0644 and aligned to 4, as line n
 abbrev pub file_of : ℕ → List ℕ → List ℕ → Line
-file_of n path source = record (plain_of path 420) { number = n; word = File; align = 4; text = source }
+file_of n path source =
+    record (plain_of path 420) { number = n; word = File; align = 4; text = source }
 
 -- a byte, or more
 pub record IsName (bytes : List ℕ) : Type 0 where
@@ -77,7 +78,8 @@ abbrev pub IsNamed : Entry → Type 0
 IsNamed (directory path) = IsName path
 IsNamed (file path source) = IsName path × IsName source
 
--- each entry is one that the grammar takes behind the lines before it, which are given from the last to the first
+-- each entry is one that the grammar takes behind the lines before it, which are given from the
+-- last to the first
 abbrev pub AreTaken : List Line → ℕ → List Entry → Type 0
 AreTaken latest n [] = Unit {0}
 AreTaken latest n (e ∷ es) =

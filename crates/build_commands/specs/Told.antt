@@ -2,6 +2,7 @@
 use Rattle.std.specs.Prelude.{ℕ, List, ◌++◌, codes, decimal}
 use Rattle.layout_plan.specs.Errors.{name_of_refusal}
 use Rattle.manifest.specs.Errors.{name_of_fault}
+use Rattle.build_commands.specs.Warnings.{name_of_warning}
 
 -- ok LENGTH, and a line feed
 unfoldable pub built_line : ℕ → List ℕ
@@ -10,7 +11,8 @@ built_line len = codes "ok " ++ (decimal len ++ codes "\n")
 -- WHO LINE NUMBER NAME, and a line feed
 unfoldable pub refusal_line : List ℕ → ℕ → ℕ → List ℕ → List ℕ
 refusal_line who line number name =
-    who ++ (codes " " ++ (decimal line ++ (codes " " ++ (decimal number ++ (codes " " ++ (name ++ codes "\n"))))))
+    who ++ (codes " " ++ (decimal line
+    ++ (codes " " ++ (decimal number ++ (codes " " ++ (name ++ codes "\n"))))))
 
 -- of a text that is no manifest: its first faulty line, and there the least fault
 abbrev pub manifest_line : ℕ → ℕ → List ℕ
@@ -19,3 +21,12 @@ manifest_line line number = refusal_line (codes "manifest") line number (name_of
 -- of a manifest that does not fit: the line of its least misfit, 0 for the whole, and the misfit
 abbrev pub misfit_line : ℕ → ℕ → List ℕ
 misfit_line line number = refusal_line (codes "plan") line number (name_of_refusal number)
+
+-- of an image that would be longer than it may be: size LENGTH MOST, and a line feed
+unfoldable pub size_line : ℕ → ℕ → List ℕ
+size_line len most = codes "size " ++ (decimal len ++ (codes " " ++ (decimal most ++ codes "\n")))
+
+-- of a build that refuses what it would else warn of: the line of the least warning, 0 for the
+-- whole, and the warning
+abbrev pub strict_line : ℕ → ℕ → List ℕ
+strict_line line number = refusal_line (codes "strict") line number (name_of_warning number)

@@ -1,9 +1,11 @@
 //! What is printed of a build: its line, flushed.
 ghost use Rattle.std.specs.Prelude.{◌≡◌, OnOk, decimal};
 ghost use Rattle.build_commands.specs.Told.{built_line, manifest_line, misfit_line, refusal_line};
+ghost use Rattle.build_commands.specs.Told.{size_line, strict_line};
 ghost use Rattle.rom_fields.specs.Failures.{Counts, one_more};
 ghost use Rattle.rom_fields.specs.Written.{Puts, WritesText, sink};
 
+use crate::warnings::warning_name;
 use rom_fields::{ByteWrite, Failed, put, put_decimal, put_long_decimal};
 
 /// Writes the line of a built image.
@@ -107,4 +109,51 @@ pub fn tell_misfit<W: ByteWrite>(w: &mut W, line: u64, number: u32) -> Result<()
 {
     let name = layout_plan::name(number);
     tell_refusal(w, b"plan", line, number, name.as_bytes())
+}
+
+/// Writes the line of an image that would be too long.
+fn write_size_line<W: ByteWrite>(w: &mut W, len: u64, most: u64) -> Result<(), Failed>
+    ensures text { WritesText (W.output w.old).contents (W.output w.new).contents result
+        (size_line len most) }
+    ensures count { Counts (W.output w.old).failures (W.output w.new).failures result }
+    ensures unflushed { (W.output w.new).flushes ≡ (W.output w.old).flushes }
+{
+    let mut failed = false;
+    put(w, &mut failed, b"size ");
+    put_long_decimal(w, &mut failed, len);
+    put(w, &mut failed, b" ");
+    put_long_decimal(w, &mut failed, most);
+    put(w, &mut failed, b"\n");
+    if failed { Err(Failed) } else { Ok(()) }
+}
+
+/// Writes `size LENGTH MOST`: the image would have LENGTH bytes, and may have MOST. Flushes it.
+///
+/// # Errors
+///
+/// A write or the flush failed; a prefix of the line was written.
+pub fn tell_size<W: ByteWrite>(w: &mut W, len: u64, most: u64) -> Result<(), Failed>
+    ensures text { WritesText (W.output w.old).contents (W.output w.new).contents result
+        (size_line len most) }
+    ensures count { Counts (W.output w.old).failures (W.output w.new).failures result }
+    ensures flushed { OnOk result ((W.output w.new).flushes ≡ one_more (W.output w.old).flushes) }
+{
+    write_size_line(w, len, most)?;
+    w.flush()
+}
+
+/// Writes `strict LINE NUMBER NAME`: the build refuses what it would else warn of, and this is the
+/// line of the least warning, 0 for the whole, and the warning. Flushes it.
+///
+/// # Errors
+///
+/// A write or the flush failed; a prefix of the line was written.
+pub fn tell_strict<W: ByteWrite>(w: &mut W, line: u64, number: u32) -> Result<(), Failed>
+    ensures text { WritesText (W.output w.old).contents (W.output w.new).contents result
+        (strict_line line number) }
+    ensures count { Counts (W.output w.old).failures (W.output w.new).failures result }
+    ensures flushed { OnOk result ((W.output w.new).flushes ≡ one_more (W.output w.old).flushes) }
+{
+    let name = warning_name(number);
+    tell_refusal(w, b"strict", line, number, name.as_bytes())
 }

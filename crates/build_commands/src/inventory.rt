@@ -1,17 +1,17 @@
 //! The manifest of a folder as it is: each file below it, of whatever kind.
-ghost use Rattle.std.specs.Prelude.{◌≡◌, ℕ, IfOk, OnOk, map, option_map};
+ghost use Rattle.std.specs.Prelude.{◌≡◌, ℕ, IfOk, OnOk, map, option_map, string_bytes};
 ghost use Rattle.build_commands.specs.Inventory.{aligned, fitted, found_line, further_line};
 ghost use Rattle.build_commands.specs.Inventory.{hard_line, has_hard_links, lines_found, name_line};
 ghost use Rattle.build_commands.specs.Inventory.{path_behind, same_line};
 ghost use Rattle.build_commands.specs.Noted.{noted, noted_with};
-ghost use Rattle.manifest_text.specs.Printed.{lines_text};
+ghost use Rattle.manifest_text.specs.Printed.{manifest_text};
 ghost use Rattle.manifest_text.specs.Views.{line_of};
 ghost use Rattle.rom_fields.specs.Failures.{Counts, one_more};
-ghost use Rattle.rom_fields.specs.Written.{WritesText};
+ghost use Rattle.rom_fields.specs.Written.{Puts, WritesText, sink};
 
 use crate::nearest::{is_executable, nearest};
 use manifest::Word;
-use manifest_text::{Entry, put_lines};
+use manifest_text::{Entry, put_lines, put_volume};
 use plan_types::Format;
 use rom_fields::{ByteWrite, Failed, OutOfMemory};
 use std::alloc::Global;
@@ -50,21 +50,25 @@ pub struct Inode {
 #[derive(Drop)]
 pub struct NamedFile {
     pub place: String,
+    /// How many bytes of the place are in front of the path.
+    pub front: usize,
     pub kind: FileKind,
     /// The last twelve bits of a POSIX mode.
     pub mode: u32,
     pub uid: u32,
     pub gid: u32,
+    /// The alignment of a regular file.
+    pub align: u32,
     pub inode: Inode,
 }
 
-/// What a manifest of a folder as it is is asked for.
-#[derive(Clone, Copy)]
-pub struct Wishes {
-    /// The format that it is to fit as far as that goes.
-    pub format: Option<Format>,
-    /// The alignment of regular files that someone may execute.
-    pub align: u32,
+impl NamedFile {
+    /// Returns the path of the file in an image.
+    pub fn path(&self) -> &[u8]
+        ensures { result.now ≡ path_behind self.now.front (string_bytes self.now.place) }
+    {
+        path_of(self.front, &self.place)
+    }
 }
 
 /// The alignment of other regular files, in bytes.
@@ -83,11 +87,12 @@ fn path_of(front: usize, place: &str) -> &[u8]
     path
 }
 
-/// The alignment of a regular file of this mode.
-fn align_of(mode: u32, align: u32) -> u32
-    ensures { result ≡ aligned align mode }
+/// Returns the alignment of a regular file of this mode: the one that was asked for if someone may
+/// execute it or if it is a program, otherwise the usual one.
+pub fn align_of(mode: u32, is_program: bool, align: u32) -> u32
+    ensures { result ≡ aligned align is_program mode }
 {
-    if is_executable(mode) {
+    if is_executable(mode) || is_program {
         align
     } else {
         USUAL_ALIGN
@@ -95,12 +100,12 @@ fn align_of(mode: u32, align: u32) -> u32
 }
 
 /// The line of a file as the system tells it.
-fn found_line<'a>(front: usize, align: u32, file: &'a NamedFile) -> Entry<'a>
-    ensures { line_of result ≡ found_line front align file.now }
+fn found_line<'a>(file: &'a NamedFile) -> Entry<'a>
+    ensures { line_of result ≡ found_line file.now }
 {
     let plain = Entry {
         word: Word::Dir,
-        path: path_of(front, &file.place),
+        path: file.path(),
         mode: file.mode,
         uid: file.uid,
         gid: file.gid,
@@ -113,7 +118,7 @@ fn found_line<'a>(front: usize, align: u32, file: &'a NamedFile) -> Entry<'a>
         FileKind::Directory => plain,
         FileKind::Regular => Entry {
             word: Word::File,
-            align: align_of(file.mode, align),
+            align: file.align,
             text: file.place.as_bytes(),
             ..plain
         },
@@ -212,20 +217,19 @@ fn fitted<'a>(format: Option<Format>, line: Entry<'a>) -> Entry<'a>
 
 /// The line of a name, where `first` is the first name of the same file among those before it.
 fn name_line<'a>(
-    front: usize,
-    wishes: Wishes,
+    format: Option<Format>,
     first: Option<&'a NamedFile>,
     file: &'a NamedFile,
 ) -> Entry<'a>
     ensures { line_of result
-        ≡ name_line front wishes (option_map (λ g. g.now) first.entry) file.entry.now }
+        ≡ name_line format (option_map (λ g. g.now) first.entry) file.entry.now }
 {
-    let own = found_line(front, wishes.align, file);
+    let own = found_line(file);
     let line = match first {
         None => own,
-        Some(first) => further_line(wishes.format, own, path_of(front, &first.place)),
+        Some(first) => further_line(format, own, first.path()),
     };
-    fitted(wishes.format, line)
+    fitted(format, line)
 }
 
 /// Notes a file, where none of the same inode is noted.
@@ -253,54 +257,62 @@ fn first_noted<'a>(
     firsts.get(&(inode.device, inode.number)).copied()
 }
 
-/// A line for each file that was found, in their order: of what has several names, those behind the
-/// first are further names. What stands at a place has the path that is behind the place's first
-/// `front` bytes: behind the name of the folder that was scanned. It takes time in n log n.
+/// Returns a line for each file that was found, in their order: of what has several names, those
+/// behind the first are further names. If a format is named, each line has what it takes. It takes
+/// time in n log n.
 ///
 /// # Errors
 ///
 /// `OutOfMemory`.
 pub fn lines<'a>(
     alloc: Global,
-    front: usize,
-    wishes: Wishes,
+    format: Option<Format>,
     found: &'a [NamedFile],
 ) -> Result<Vec<Entry<'a>>, OutOfMemory>
-    ensures { IfOk result (λ v. map line_of v.items ≡ lines_found front wishes found.entry.now) }
+    ensures { IfOk result (λ v. map line_of v.items ≡ lines_found format found.entry.now) }
 {
     let mut firsts = BTreeMap::new(alloc);
     let mut made = Vec::new(alloc);
     for file in found {
         let first = first_noted(&firsts, file.inode);
-        made.push(name_line(front, wishes, first, file))?;
+        made.push(name_line(format, first, file))?;
         note_first(&mut firsts, file)?;
     }
     Ok(made)
 }
 
-/// Writes the lines of a manifest that names no volume.
-fn write_lines<W: ByteWrite>(w: &mut W, lines: &[Entry<'_>]) -> Result<(), Failed>
+/// Puts the line of the volume, if it has a name, and the others.
+fn put_all<W: ByteWrite>(w: &mut W, failed: &mut bool, volume: &[u8], lines: &[Entry<'_>])
+    ensures { Puts (sink (W.output w.old) failed.old) (sink (W.output w.new) failed.new)
+        (manifest_text volume.now (map line_of lines.now)) }
+{
+    put_volume(w, failed, volume);
+    put_lines(w, failed, lines);
+}
+
+/// Writes the line of the volume, if it has a name, and the others.
+fn write_lines<W: ByteWrite>(w: &mut W, volume: &[u8], lines: &[Entry<'_>]) -> Result<(), Failed>
     ensures text { WritesText (W.output w.old).contents (W.output w.new).contents result
-        (lines_text (map line_of lines.now)) }
+        (manifest_text volume.now (map line_of lines.now)) }
     ensures count { Counts (W.output w.old).failures (W.output w.new).failures result }
     ensures unflushed { (W.output w.new).flushes ≡ (W.output w.old).flushes }
 {
     let mut failed = false;
-    put_lines(w, &mut failed, lines);
+    put_all(w, &mut failed, volume, lines);
     if failed { Err(Failed) } else { Ok(()) }
 }
 
-/// Writes the lines of a manifest that names no volume, and flushes them.
+/// Writes a manifest, with the name of the volume in front if that is not empty, and flushes it.
 ///
 /// # Errors
 ///
-/// A write or the flush failed; a prefix of the lines was written.
-pub fn put_found<W: ByteWrite>(w: &mut W, lines: &[Entry<'_>]) -> Result<(), Failed>
+/// A write or the flush failed; a prefix of the manifest was written.
+pub fn put_found<W: ByteWrite>(w: &mut W, volume: &[u8], lines: &[Entry<'_>]) -> Result<(), Failed>
     ensures text { WritesText (W.output w.old).contents (W.output w.new).contents result
-        (lines_text (map line_of lines.now)) }
+        (manifest_text volume.now (map line_of lines.now)) }
     ensures count { Counts (W.output w.old).failures (W.output w.new).failures result }
     ensures flushed { OnOk result ((W.output w.new).flushes ≡ one_more (W.output w.old).flushes) }
 {
-    write_lines(w, lines)?;
+    write_lines(w, volume, lines)?;
     w.flush()
 }

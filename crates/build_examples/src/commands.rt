@@ -1,5 +1,7 @@
 //! What is told of a build and of a scan, and a built image that is served.
 use crate::made::{FORMATS, built, contents_of, read};
+use build_commands::elf::is_program;
+use build_commands::inventory::align_of;
 use build_commands::{Found, put_scan, tell_bad_manifest, tell_built, tell_misfit};
 use image_build::Format;
 use manifest::{Manifest, Word};
@@ -145,5 +147,25 @@ fn a_failed_write_ends_a_scan(rt: HostRuntime) -> Result<(), Fail> {
             "after {calls} calls"
         );
     }
+    Ok(())
+}
+
+/// The first bytes of a shared object for 64 bits in little-endian order, as `ld` writes them.
+const SHARED: [u8; 18] = [127, 69, 76, 70, 2, 1, 1, 0, 0, 0, 0, 0, 0, 0, 0, 0, 3, 0];
+
+/// Those of an executable for 32 bits in big-endian order.
+const BIG_ENDIAN: [u8; 18] = [127, 69, 76, 70, 1, 2, 1, 0, 0, 0, 0, 0, 0, 0, 0, 0, 0, 2];
+
+/// Those of an object file.
+const OBJECT: [u8; 18] = [127, 69, 76, 70, 2, 1, 1, 0, 0, 0, 0, 0, 0, 0, 0, 0, 1, 0];
+
+#[test]
+fn programs_and_libraries_are_aligned(rt: HostRuntime) -> Result<(), Fail> {
+    assert!(rt; is_program(&SHARED));
+    assert!(rt; is_program(&BIG_ENDIAN));
+    assert!(rt; !is_program(&OBJECT));
+    assert_eq!(rt; align_of(0o644, true, 4096), 4096);
+    assert_eq!(rt; align_of(0o610, false, 4096), 4096);
+    assert_eq!(rt; align_of(0o644, false, 4096), 4);
     Ok(())
 }

@@ -30,8 +30,8 @@ const FRONT: [&[u8]; 12] = [
     b"a\x00\x00\x00\x00\x00\x00\x00\x00\x00\x00\x00\x00\x00\x00\x00",
 ];
 
-/// Whether contents of another size are refused by the number of their file, and the buffer is as it
-/// was.
+/// Whether contents of another size are refused by the number of their file, and the buffer is as
+/// it was.
 fn is_refused(plan: &Plan, contents: &Contents<'_>) -> bool
     requires { plan.now.format ≡ romfs }
 {

@@ -1,4 +1,4 @@
-//! An image is built in memory, and lines are answered from it.
+//! Builds an image in memory, and answers lines from it.
 use image_build::{Contents, build_romfs};
 use image_check::{Limits, check};
 use rom_serve::{Plain, serve};

@@ -1,4 +1,4 @@
-//! Lines are answered from an image whose look-ups are remembered.
+//! Answers lines from an image whose look-ups are remembered.
 use image_check::{Limits, check};
 use rom_commands::hello;
 use rom_serve::{Cached, Plain, serve};

@@ -1,4 +1,4 @@
-//! Bytes are checked, and the names of their image listed.
+//! Checks bytes, and lists the names of their image.
 use image_check::{Limits, check};
 use rom_commands::hello;
 use rom_fields::Plain;

@@ -1,8 +1,9 @@
-//! Callers of the libraries, as others would write them: short, proved, and run as tests.
+//! Short proved callers of the libraries that others use, which are run as tests. The CALLING.md of
+//! a library quotes its caller.
 //!
-//! The CALLING.md of a library quotes its caller. What a call asks for is met by what the calls
-//! before it promise: `check` says that a tree has at most 65 levels, and that is what `list`,
-//! `walk`, `Files::new` and `serve` ask. Nothing stands on this crate.
+//! Proved: the conditions of each call are met by the contracts of the calls before it. For
+//! example, `check` promises that a tree has at most 65 levels, which is the condition of `list`,
+//! `walk`, `Files::new` and `serve`. No crate depends on this one.
 #![tactic(auto)]
 
 #[cfg(test)]

@@ -1,4 +1,4 @@
-//! Where the files of an image lie in the flash.
+//! Reports the addresses in the flash of the files of an image.
 use image_check::{Limits, check};
 use image_map::map;
 use rom_commands::hello;

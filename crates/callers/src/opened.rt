@@ -1,4 +1,4 @@
-//! A file is opened, and its bytes are lent.
+//! Opens a file, and lends its bytes.
 use image_check::{Limits, check};
 use open_files::{Fd, Files};
 use rom_commands::hello;

@@ -1,4 +1,4 @@
-//! A manifest is read, and its image planned.
+//! Reads a manifest, and plans its image.
 use layout_plan::{Format, plan};
 use manifest::parse;
 use std::test::Fail;

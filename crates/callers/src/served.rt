@@ -1,4 +1,4 @@
-//! Lines are answered from an image.
+//! Answers lines from an image.
 use image_check::{Limits, check};
 use rom_commands::hello;
 use rom_serve::{Plain, serve};

@@ -1,4 +1,4 @@
-//! An image is streamed to a writer, from sources that are read in parts.
+//! Streams an image to a writer, from sources that are read in parts.
 use image_build::{Contents, Format, Plan, Slices, Sources, StreamError, plan, stream};
 use image_check::{Limits, check};
 use manifest::parse;
@@ -6,7 +6,7 @@ use rom_fields::{ByteWrite, Plain};
 use std::alloc::Global;
 use std::test::Fail;
 
-/// Plans the image of a manifest with one source, of five bytes.
+/// Returns the plan of the image of a manifest with one source, of five bytes.
 fn planned(alloc: Global) -> Result<Plan, Fail> {
     let manifest = parse(alloc, b"file /a 0644 0 0 4 a.txt\n")?;
     if manifest.sources().len() != 1 {
@@ -18,7 +18,7 @@ fn planned(alloc: Global) -> Result<Plan, Fail> {
     }
 }
 
-/// Streams a plan from memory; nothing where it has more or fewer sources.
+/// Streams a plan from memory; returns nothing if the number of sources is not the plan's.
 fn streamed<W: ByteWrite>(
     plan: &Plan,
     contents: &Contents<'_>,

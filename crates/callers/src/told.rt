@@ -1,4 +1,4 @@
-//! The manifest of an image.
+//! Writes the manifest of an image.
 use image_check::{Limits, check};
 use image_manifest::{members, write_manifest};
 use rom_commands::hello;

@@ -1,4 +1,4 @@
-//! A path is walked.
+//! Walks a path.
 use image_check::{Limits, check};
 use path_walk::{NodeId, WalkError, walk};
 use rom_commands::hello;

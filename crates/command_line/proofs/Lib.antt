@@ -1,1 +1,3 @@
 mod Rows
+mod Loops
+mod Sizes

@@ -1,80 +1,108 @@
--- The program's subcommands with their arguments, as clap reads words for them. (This project's own.)
-use Rattle.std.specs.Prelude.{◌≡◌, false, true, List, [], ◌∷◌, ◌++◌, codes, Some}
+-- The program's subcommands with their arguments, as clap reads words for them. (This project's
+-- own.)
+use Rattle.std.specs.Prelude.{◌≡◌, ℕ, false, true, List, [], ◌∷◌, ◌++◌, codes, Some}
 use Rattle.clap.specs.Words.{App, Rule, Shape, Text, new_rule, shape_of, with_rule}
+use Rattle.clap.specs.Words.{with_subcommand}
 use Rattle.clap.specs.Simple.{new_shape}
-use Rattle.clap.specs.declared.builder.action.ArgAction.TheVariants.{SetTrue}
+use Rattle.clap.specs.declared.builder.action.ArgAction.TheVariants.{Append, SetTrue}
 use Rattle.clap.specs.declared.builder.command.Command.{Command}
 
--- an argument that has to be given
+-- a value that has to be given
 abbrev pub value_rule : Text → Rule
 value_rule name = record (new_rule name) { required = true; value_names = 1 }
+
+-- one to eight values
+abbrev pub few_rule : Text → Rule
+few_rule name = record (value_rule name)
+    { range = Some (record { start_inclusive = 1; end_inclusive = 8 }) }
+
+-- one value or more, up to 65,535
+abbrev pub several_rule : Text → Rule
+several_rule name = record (value_rule name)
+    { range = Some (record { start_inclusive = 1; end_inclusive = 65535 }) }
 
 -- --NAME VALUE
 abbrev pub option_rule : Text → Rule
 option_rule name = record (new_rule name) { long = Some name; value_names = 1 }
 
+-- --NAME VALUE, or with a letter behind a single -
+abbrev pub lettered_rule : ℕ → Text → Rule
+lettered_rule letter name = record (option_rule name) { short = Some letter }
+
+-- --NAME VALUE, as often as is wished
+abbrev pub repeated_rule : Text → Rule
+repeated_rule name = record (option_rule name) { action = Some Append }
+
 -- --NAME
 abbrev pub flag_rule : Text → Rule
 flag_rule name = record (new_rule name) { long = Some name; action = Some SetTrue }
 
--- one to eight images
-abbrev pub images_rule : Rule
-images_rule = record (value_rule (codes "image")) { range = Some (record { start_inclusive = 1; end_inclusive = 8 }) }
+-- --explain
+abbrev pub explain_rule : Rule
+explain_rule = flag_rule (codes "explain")
 
 abbrev pub shape_with : Text → List Rule → Shape
 shape_with name rules = record (new_shape name) { rules = rules }
 
--- a subcommand that takes one image
-abbrev pub image_shape : Text → Shape
-image_shape name = shape_with name (value_rule (codes "image") ∷ [])
+-- a command with more arguments
+abbrev pub with_rules : App → List Rule → App
+with_rules a [] = a
+with_rules a (r ∷ rs) = with_rules (with_rule a r) rs
 
-abbrev pub map_shape : Shape
-map_shape = shape_with (codes "map") (value_rule (codes "image") ∷ option_rule (codes "base") ∷ [])
-
-abbrev pub cat_shape : Shape
-cat_shape = shape_with (codes "cat") (value_rule (codes "image") ∷ value_rule (codes "path") ∷ [])
-
-abbrev pub build_shape : Shape
-build_shape = shape_with (codes "build")
-    (value_rule (codes "format") ∷ value_rule (codes "manifest") ∷ value_rule (codes "out") ∷ flag_rule (codes "no-follow") ∷ [])
-
--- scan without its last option
-abbrev pub unbounded_shape : Shape
-unbounded_shape = shape_with (codes "scan")
-    (value_rule (codes "folder") ∷ flag_rule (codes "all") ∷ option_rule (codes "for") ∷ option_rule (codes "align") ∷ [])
-
-abbrev pub scan_shape : Shape
-scan_shape = shape_with (codes "scan")
-    (value_rule (codes "folder") ∷ flag_rule (codes "all") ∷ option_rule (codes "for") ∷ option_rule (codes "align")
-    ∷ flag_rule (codes "one-file-system") ∷ [])
-
-abbrev pub extract_shape : Shape
-extract_shape = shape_with (codes "extract")
-    (value_rule (codes "image") ∷ value_rule (codes "folder") ∷ flag_rule (codes "owners") ∷ [])
+-- a command with more subcommands
+abbrev pub with_shapes : App → List Shape → App
+with_shapes a [] = a
+with_shapes a (s ∷ ss) = with_shapes (with_subcommand a s) ss
 
 -- the program without its subcommands: it has a version, and the option --explain
 abbrev pub romtool_top : App
-romtool_top = with_rule (record { top = record (new_shape (codes "romtool")) { has_version = true }; subs = [] }) (flag_rule (codes "explain"))
+romtool_top = with_rule (record
+    { top = record (new_shape (codes "romtool")) { has_version = true }; subs = [] })
+    explain_rule
 
--- with those that tell of an image as a whole
-abbrev pub tellers_app : App
-tellers_app = record {
-  top = record romtool_top.top { is_leaf = false };
-  subs = image_shape (codes "check") ∷ image_shape (codes "list") ∷ image_shape (codes "info") ∷ [];
-}
+-- a subcommand with these arguments, and the option --explain
+abbrev pub sub : Text → List Rule → Shape
+sub name rules = shape_with name (rules ++ explain_rule ∷ [])
 
--- with the others that read one image
-abbrev pub readers_app : App
-readers_app = record tellers_app { subs = tellers_app.subs ++ map_shape ∷ cat_shape ∷ image_shape (codes "linux") ∷ [] }
+-- its subcommands
+abbrev pub romtool_shapes : List Shape
+romtool_shapes =
+    sub (codes "check") (value_rule (codes "image") ∷ [])
+    ∷ sub (codes "list") (value_rule (codes "image") ∷ [])
+    ∷ sub (codes "info") (value_rule (codes "image") ∷ option_rule (codes "size") ∷ [])
+    ∷ sub (codes "map") (value_rule (codes "image") ∷ option_rule (codes "base")
+    ∷ flag_rule (codes "all") ∷ flag_rule (codes "c") ∷ option_rule (codes "prefix")
+    ∷ flag_rule (codes "svg") ∷ [])
+    ∷ sub (codes "which") (value_rule (codes "image") ∷ option_rule (codes "base")
+    ∷ several_rule (codes "address") ∷ [])
+    ∷ sub (codes "diff") (value_rule (codes "old") ∷ value_rule (codes "new")
+    ∷ flag_rule (codes "tree") ∷ [])
+    ∷ sub (codes "digest") (value_rule (codes "file") ∷ flag_rule (codes "image") ∷ [])
+    ∷ sub (codes "verify") (value_rule (codes "image") ∷ value_rule (codes "dump")
+    ∷ option_rule (codes "offset") ∷ [])
+    ∷ sub (codes "cat") (value_rule (codes "image") ∷ value_rule (codes "path") ∷ [])
+    ∷ sub (codes "linux") (value_rule (codes "image") ∷ flag_rule (codes "advice") ∷ [])
+    ∷ sub (codes "serve") (value_rule (codes "image") ∷ [])
+    ∷ sub (codes "space") (few_rule (codes "image") ∷ [])
+    ∷ sub (codes "build") (value_rule (codes "format") ∷ value_rule (codes "manifest")
+    ∷ value_rule (codes "out") ∷ flag_rule (codes "no-follow") ∷ flag_rule (codes "strict")
+    ∷ option_rule (codes "max-size") ∷ lettered_rule 67 (codes "directory")
+    ∷ option_rule (codes "depfile") ∷ [])
+    ∷ sub (codes "scan") (several_rule (codes "folder") ∷ flag_rule (codes "all")
+    ∷ option_rule (codes "for") ∷ repeated_rule (codes "align") ∷ option_rule (codes "owner")
+    ∷ flag_rule (codes "all-root") ∷ repeated_rule (codes "exclude")
+    ∷ option_rule (codes "volume") ∷ option_rule (codes "devices")
+    ∷ lettered_rule 111 (codes "output") ∷ flag_rule (codes "one-file-system")
+    ∷ flag_rule (codes "strict") ∷ [])
+    ∷ sub (codes "extract") (value_rule (codes "image") ∷ value_rule (codes "folder")
+    ∷ flag_rule (codes "owners") ∷ [])
+    ∷ sub (codes "version") ([])
+    ∷ []
 
--- with those that answer lines
-abbrev pub servers_app : App
-servers_app = record readers_app { subs = readers_app.subs ++ image_shape (codes "serve") ∷ shape_with (codes "space") (images_rule ∷ []) ∷ [] }
-
--- all of them
+-- the program
 abbrev pub romtool_app : App
-romtool_app = record servers_app { subs = servers_app.subs ++ build_shape ∷ scan_shape ∷ extract_shape ∷ [] }
+romtool_app = with_shapes romtool_top romtool_shapes
 
--- a command that is one of them
+-- a command of this shape
 abbrev pub IsShaped : Shape → Command → Type 0
 IsShaped s c = shape_of c ≡ s

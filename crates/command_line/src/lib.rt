@@ -1,13 +1,22 @@
 //! The words of a command line.
 //!
-//! Proved: which words name which format and which alignment, and that a request has the values that
-//! the subcommand's arguments have in clap's walk over the words. How that walk tells words apart
-//! from flags is clap's, and is tested.
+//! Proved: which words name which format, alignment, address, number of bytes and owner, and that a
+//! request has the values that the subcommand's arguments have in clap's walk over the words. How
+//! that walk tells words apart from flags is clap's, and is tested.
 #![tactic(auto)]
 
+mod asking;
 mod commands;
+mod error;
+mod numbers;
+mod request;
+mod table;
 mod words;
 
-pub use words::{
-    Build, Cat, Extract, Map, Request, Scan, ScanAll, WordsError, Wrong, is_explain, read,
+pub use commands::VERSION;
+pub use error::{WordsError, Wrong};
+pub use request::{
+    AlignRule, Build, Cat, Diff, Digest, Extract, Info, Linux, Map, MapForm, Owner, Request, Scan,
+    ScanAll, Verify, Which,
 };
+pub use words::{is_explain, read};

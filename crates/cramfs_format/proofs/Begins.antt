@@ -27,5 +27,6 @@ unfolding order_of
 order_is Little b h = rw (ne_eqb (word Big b 0) magic (λ k. not_both b h k)) refl
 order_is Big b h = rw (eq-eqb (word Big b 0) magic h) refl
 
-pub tree_order : (o : Order) (bytes : List ℕ) (most deepest : ℕ) (t : Node) → CramfsTree o bytes most deepest t → o ≡ order_of bytes
+pub tree_order : (o : Order) (bytes : List ℕ) (most deepest : ℕ) (t : Node) → CramfsTree o bytes most deepest t
+    → o ≡ order_of bytes
 tree_order o bytes most deepest t h = order_is o bytes h.super.begins

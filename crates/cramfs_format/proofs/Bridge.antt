@@ -1,5 +1,6 @@
--- A forest of the relation is what stands in the bytes, and its tree is made of them.
-use Rattle.std.proofs.Common.{◌≡◌, ◌≢◌, ℕ, zero, suc, ◌+◌, ◌^◌, ◌<◌, ◌≤◌, min, true, false, List, ◌++◌, length, length-append, None, Some, inl, inr, refl, sym, ap, subst, ◌∙◌, arith, if◌then◌else◌}
+-- A forest of the relation is the one in the bytes, and its tree is made of them.
+use Rattle.std.proofs.Common.{◌≡◌, ◌≢◌, ℕ, zero, suc, ◌+◌, ◌^◌, ◌<◌, ◌≤◌, min, true, false, List, ◌++◌, length}
+use Rattle.std.proofs.Common.{length-append, None, Some, inl, inr, refl, sym, ap, subst, ◌∙◌, arith, if◌then◌else◌}
 use Rattle.std.proofs.lemmas.Bool.{ne_eqb, lt-ltb, le-ltb, false≢true}
 use Rattle.std.proofs.lemmas.Bool.Decides.{eqb_tells}
 use Rattle.std.proofs.lemmas.List.Elements.{recursion_from_All}
@@ -18,27 +19,32 @@ use Rattle.cramfs_format.specs.Refers.{references, reference_target, root_place,
 use Rattle.cramfs_format.specs.Tree.{node_of, tree_of, entries_at, below_root, IsTree, CramfsTree}
 use Rattle.cramfs_format.specs.Made.{StandsAt, grow, list_at, made, ends_within, IsGood, IsCramfs}
 use Rattle.cramfs_format.proofs.Lists.{lt_tells}
-use Rattle.cramfs_format.proofs.Lawful.{IsPlaced, at_top, in_chain, reached_placed, target_placed, references_lawful, top_target}
+use Rattle.cramfs_format.proofs.Lawful.{IsPlaced, at_top, in_chain, reached_placed, target_placed, references_lawful}
+use Rattle.cramfs_format.proofs.Lawful.{top_target}
 use Rattle.cramfs_format.proofs.Same.{grown}
 
--- where an entry's reference leads
-pub target_none : (o : Order) (b : List ℕ) (x : Reference) → x.source ≢ 0 → reference_target o b x ≡ None → list_end o b x.source ≤ x.which
+-- the record to which an entry's reference leads
+pub target_none : (o : Order) (b : List ℕ) (x : Reference) → x.source ≢ 0 → reference_target o b x ≡ None
+    → list_end o b x.source ≤ x.which
 unfolding reference_target
 target_none o b x n h = elim (lt_tells x.which (list_end o b x.source)) [
   | inl k ↦ let z : Some x.which ≡ None = (rw (ne_eqb x.source 0 n, k.0) at h) in absurd (cc)
   | inr k ↦ k.1
 ]
 
-pub target_some : (o : Order) (b : List ℕ) (x : Reference) (p : ℕ) → x.source ≢ 0 → reference_target o b x ≡ Some p → (x.which < list_end o b x.source) × (p ≡ x.which)
+pub target_some : (o : Order) (b : List ℕ) (x : Reference) (p : ℕ) → x.source ≢ 0 → reference_target o b x ≡ Some p
+    → (x.which < list_end o b x.source) × (p ≡ x.which)
 unfolding reference_target
 target_some o b x p n h = elim (lt_tells x.which (list_end o b x.source)) [
   | inl k ↦ let z : Some x.which ≡ Some p = (rw (ne_eqb x.source 0 n, k.0) at h) in (k.1, let y : p ≡ x.which = cc in y)
   | inr k ↦ let z : None ≡ Some p = (rw (ne_eqb x.source 0 n, k.0) at h) in absurd (cc)
 ]
 
--- what stands for the references of a directory stands in its list
-pub standing : (o : Order) (b : List ℕ) (x : Reference) (directory parent deep : ℕ) (f : Forest) → x.source ≢ 0 → Stands (references o b) x f
-    → Every (λ (y : Row). y.offset ≢ 0) (rows (references o b) x directory parent deep f) → StandsAt o b (list_end o b x.source) x.which f
+-- the forest of a directory's references is that of its list
+pub standing : (o : Order) (b : List ℕ) (x : Reference) (directory parent deep : ℕ) (f : Forest) → x.source ≢ 0
+    → Stands (references o b) x f
+    → Every (λ (y : Row). y.offset ≢ 0) (rows (references o b) x directory parent deep f)
+    → StandsAt o b (list_end o b x.source) x.which f
 standing o b x directory parent deep none n s h = target_none o b x n s
 standing o b x directory parent deep (at p own after) n s h =
     let g = references o b in
@@ -56,16 +62,19 @@ standing o b x directory parent deep (at p own after) n s h =
     )
 
 -- how many records a forest has
-pub count_rows : (o : Order) (b : List ℕ) (x : Reference) (directory parent deep : ℕ) (f : Forest) → length (rows (references o b) x directory parent deep f) ≡ count f
+pub count_rows : (o : Order) (b : List ℕ) (x : Reference) (directory parent deep : ℕ) (f : Forest)
+    → length (rows (references o b) x directory parent deep f) ≡ count f
 count_rows o b x directory parent deep none = refl
 count_rows o b x directory parent deep (at p own after) =
     let g = references o b in
     let left = count_rows o b (g.own x) p directory (deep + 1) own in
     let right = count_rows o b (g.after x) directory parent deep after in
-    let both = length-append (rows g (g.own x) p directory (deep + 1) own) (rows g (g.after x) directory parent deep after) in
+    let both =
+    length-append (rows g (g.own x) p directory (deep + 1) own) (rows g (g.after x) directory parent deep after) in
     omega arith
 
-pub ends_by : (k : ℕ) (o : Order) (b : List ℕ) (e q : ℕ) (f : Forest) → StandsAt o b e q f → count f ≤ k → ends_within k o b e q ≡ true
+pub ends_by : (k : ℕ) (o : Order) (b : List ℕ) (e q : ℕ) (f : Forest) → StandsAt o b e q f → count f ≤ k
+    → ends_within k o b e q ≡ true
 ends_by zero o b e q none s c = rw (le-ltb q e s) refl
 ends_by zero o b e q (at p own after) s c = absurd (omega arith)
 ends_by (suc k) o b e q none s c = rw (le-ltb q e s) refl
@@ -75,7 +84,8 @@ ends_by (suc k) o b e q (at p own after) s c =
     rw (lt-ltb q e s.0, ← s.1, x, y) refl
 
 -- what holds of the offset of each row holds of each offset in the forest
-from_rows : (P : ℕ → Type 0) (o : Order) (b : List ℕ) (x : Reference) (directory parent deep : ℕ) (f : Forest) (q : ℕ) → Every (λ (y : Row). P y.offset) (rows (references o b) x directory parent deep f)
+from_rows : (P : ℕ → Type 0) (o : Order) (b : List ℕ) (x : Reference) (directory parent deep : ℕ) (f : Forest) (q : ℕ)
+    → Every (λ (y : Row). P y.offset) (rows (references o b) x directory parent deep f)
     → stands_in f q ≡ true → P q
 from_rows P o b x directory parent deep none q h e = absurd (false≢true e)
 from_rows P o b x directory parent deep (at p own after) q h e =
@@ -94,7 +104,7 @@ from_rows P o b x directory parent deep (at p own after) q h e =
           ] refl e'
     ]
 
--- The row of a reached reference to a sound record is good, and so is the root's.
+-- The row of a reached reference to a valid record is good, and so is the root's.
 pub record IsFine (o : Order) (b : List ℕ) (y : Row) : Type 0 where
   pub reached : Reached (references o b) (LeadsToSound o b) y.reference
   pub leads : reference_target o b y.reference ≡ Some y.offset
@@ -102,7 +112,8 @@ pub record IsFine (o : Order) (b : List ℕ) (y : Row) : Type 0 where
 
 module _ {o : Order} {b : List ℕ} where
   pub fine_which : (y : Row) → IsFine o b y → y.reference.which ≡ y.offset
-  fine_which y f = let z : Some y.reference.which ≡ Some y.offset = sym (target_placed y.reference (reached_placed y.reference f.reached)) ∙ f.leads in cc
+  fine_which y f = let z : Some y.reference.which ≡ Some y.offset =
+      sym (target_placed y.reference (reached_placed y.reference f.reached)) ∙ f.leads in cc
 
   by_place : (y : Row) → IsFine o b y → root_place ≢ y.offset → IsPlaced o b y.reference → IsGood o b y.offset
   by_place y f n (at_top i j) = absurd (n (sym j ∙ fine_which y f))
@@ -125,7 +136,8 @@ module _ {o : Order} {b : List ℕ} where
 
   pub root_body : type_of o b root_place ≡ 4 → ListLies o b root_place → HasBody o b root_place
   root_body t l =
-      let d : has_data (type_of o b root_place) ≡ true → ⊥ = λ e. let z : has_data 4 ≡ true = (rw t at e) in false≢true z in
+      let d : has_data (type_of o b root_place) ≡ true → ⊥ =
+      λ e. let z : has_data 4 ≡ true = (rw t at e) in false≢true z in
       record {
         kind = rw t refl;
         link_size = λ e. absurd (omega arith);
@@ -136,7 +148,8 @@ module _ {o : Order} {b : List ℕ} where
       }
 
 -- all rows of a forest are fine
-pub rows_fine : (o : Order) (b : List ℕ) (most : ℕ) (f : Forest) → IsForest (references o b) (LeadsToSound o b) most f → Every (IsFine o b) (all_rows (references o b) f)
+pub rows_fine : (o : Order) (b : List ℕ) (most : ℕ) (f : Forest) → IsForest (references o b) (LeadsToSound o b) most f
+    → Every (IsFine o b) (all_rows (references o b) f)
 rows_fine o b most f h =
     let g = references o b in
     let Reach : Row → Type 0 = λ y. Reached g (LeadsToSound o b) y.reference in
@@ -144,17 +157,20 @@ rows_fine o b most f h =
     let Firm : Row → Type 0 = λ y. LeadsToSound o b y.reference in
     let lawful = references_lawful o b in
     let all = all_rows g f in
-    every_weaker (λ y. Reach y × (Lead y × Firm y)) (IsFine o b) (λ y k. record { reached = k.0; leads = k.1.0; sound = k.1.1 }) all
-    (every_both Reach (λ y. Lead y × Firm y) all (rows_reached lawful h) (every_both Lead Firm all (rows_lead lawful h) (rows_sound lawful h)))
+    every_weaker (λ y. Reach y × (Lead y × Firm y)) (IsFine o b)
+    (λ y k. record { reached = k.0; leads = k.1.0; sound = k.1.1 }) all
+    (every_both Reach (λ y. Lead y × Firm y) all (rows_reached lawful h)
+    (every_both Lead Firm all (rows_lead lawful h) (rows_sound lawful h)))
 
--- what a whole forest says of the records below its root
+-- the facts that a whole forest has of the records below its root
 pub record IsBelow (o : Order) (b : List ℕ) (k : ℕ) (f : Forest) : Type 0 where
   pub stands : StandsAt o b (list_end o b root_place) (list_start o b root_place) (below_root f)
   pub few : count (below_root f) ≤ k
   pub good : (p : ℕ) → stands_in (below_root f) p ≡ true → IsGood o b p
   pub root : ListLies o b root_place
 
-pub below_of : (o : Order) (b : List ℕ) (most : ℕ) (f : Forest) → IsForest (references o b) (LeadsToSound o b) most f → IsBelow o b (length (all_rows (references o b) f)) f
+pub below_of : (o : Order) (b : List ℕ) (most : ℕ) (f : Forest) → IsForest (references o b) (LeadsToSound o b) most f
+    → IsBelow o b (length (all_rows (references o b) f)) f
 below_of o b most none t = let z : None ≡ Some root_place = sym t.stands ∙ top_target o b in absurd (cc)
 below_of o b most (at p own after) t =
     let g = references o b in
@@ -164,17 +180,23 @@ below_of o b most (at p own after) t =
     let same : p ≡ root_place = cc in
     let fine = rows_fine o b most (at p own after) t in
     let apart : Every (λ (y : Row). root_place ≢ y.offset) (own_rows ++ after_rows) =
-    recursion_from_All (λ (y : Row). root_place ≢ y.offset) (own_rows ++ after_rows) (λ i d l e. t.single 0 (suc i) d (omega arith) (omega arith) (same ∙ e)) in
+    recursion_from_All (λ (y : Row). root_place ≢ y.offset) (own_rows ++ after_rows)
+    (λ i d l e. t.single 0 (suc i) d (omega arith) (omega arith) (same ∙ e)) in
     let good : Every (λ (y : Row). IsGood o b y.offset) (own_rows ++ after_rows) =
-    every_weaker (λ (y : Row). IsFine o b y × (root_place ≢ y.offset)) (λ (y : Row). IsGood o b y.offset) (λ y h. fine_good y h.0 h.1) (own_rows ++ after_rows)
+    every_weaker (λ (y : Row). IsFine o b y × (root_place ≢ y.offset)) (λ (y : Row). IsGood o b y.offset)
+    (λ y h. fine_good y h.0 h.1) (own_rows ++ after_rows)
     (every_both (IsFine o b) (λ (y : Row). root_place ≢ y.offset) (own_rows ++ after_rows) fine.1 apart) in
-    let above : Every (λ (y : Row). y.offset ≢ 0) own_rows = every_left (λ (y : Row). y.offset ≢ 0) own_rows after_rows (every_weaker (IsFine o b) (λ (y : Row). y.offset ≢ 0) (λ y h. fine_above y h) (own_rows ++ after_rows) fine.1) in
+    let above : Every (λ (y : Row). y.offset ≢ 0) own_rows =
+    every_left (λ (y : Row). y.offset ≢ 0) own_rows after_rows
+    (every_weaker (IsFine o b) (λ (y : Row). y.offset ≢ 0) (λ y h. fine_above y h)
+    (own_rows ++ after_rows) fine.1) in
     let n = count_rows o b (g.own g.top) p p 1 own in
     let both = length-append own_rows after_rows in
     record {
       stands = standing o b (g.own g.top) p p 1 own (λ e. absurd (omega arith)) t.stands.1 above;
       few = omega arith;
-      good = λ q e. from_rows (IsGood o b) o b (g.own g.top) p p 1 own q (every_left (λ (y : Row). IsGood o b y.offset) own_rows after_rows good) e;
+      good = λ q e. from_rows (IsGood o b) o b (g.own g.top) p p 1 own q
+          (every_left (λ (y : Row). IsGood o b y.offset) own_rows after_rows good) e;
       root = fine.0.sound.root refl;
     }
 
@@ -186,7 +208,8 @@ module _ (o : Order) (b : List ℕ) (k : ℕ) (f : Forest) (w : IsBelow o b k f)
   unfolding tree_of made list_at
   same_image = ap (λ (g : Forest). node_of o b root_place (entries_at o b g)) (sym growth)
 
-  pub is_cramfs : (deepest : ℕ) → depth (tree_of o b f) ≤ min deepest 64 → 76 ≤ length b → length b < 2 ^ 32 → type_of o b root_place ≡ 4 → IsCramfs o b k
+  pub is_cramfs : (deepest : ℕ) → depth (tree_of o b f) ≤ min deepest 64 → 76 ≤ length b → length b < 2 ^ 32
+      → type_of o b root_place ≡ 4 → IsCramfs o b k
   is_cramfs deepest shallow long small kind = record {
     small = small;
     long = long;
@@ -199,14 +222,17 @@ module _ (o : Order) (b : List ℕ) (k : ℕ) (f : Forest) (w : IsBelow o b k f)
   }
 
 -- what a check has to show, from the relation, with the number of records as the count
-pub accepted : (o : Order) (b : List ℕ) (most deepest : ℕ) (f : Forest) → IsTree o b most deepest f → 76 ≤ length b → length b < 2 ^ 32 → type_of o b root_place ≡ 4
-    → IsCramfs o b (length (all_rows (references o b) f)) × (tree_of o b f ≡ made o b (length (all_rows (references o b) f)) root_place)
+pub accepted : (o : Order) (b : List ℕ) (most deepest : ℕ) (f : Forest) → IsTree o b most deepest f → 76 ≤ length b
+    → length b < 2 ^ 32 → type_of o b root_place ≡ 4
+    → IsCramfs o b (length (all_rows (references o b) f))
+    × (tree_of o b f ≡ made o b (length (all_rows (references o b) f)) root_place)
 accepted o b most deepest f t long small kind =
     let w = below_of o b most f t.forest in
     let k : ℕ = length (all_rows (references o b) f) in
     (is_cramfs o b k f w deepest t.shallow long small kind, same_image o b k f w)
 
-pub same_tree : (o : Order) (bytes : List ℕ) (m n d e : ℕ) (t u : Node) → CramfsTree o bytes m d t → CramfsTree o bytes n e u → t ≡ u
+pub same_tree : (o : Order) (bytes : List ℕ) (m n d e : ℕ) (t u : Node) → CramfsTree o bytes m d t
+    → CramfsTree o bytes n e u → t ≡ u
 same_tree o bytes m n d e t u x y =
     let eb : x.b ≡ y.b = x.super.cut ∙ sym y.super.cut in
     let P : List ℕ → Type 0 = λ b. Stands (references o b) (references o b).top y.forest in

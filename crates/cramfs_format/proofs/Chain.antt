@@ -1,5 +1,6 @@
 -- A list from one of its records on, and the indices of its entries.
-use Rattle.std.proofs.Common.{◌≡◌, ℕ, zero, suc, ◌+◌, ◌<◌, ◌≤◌, List, Option, None, Some, inl, inr, refl, sym, ap, subst, ◌∙◌, arith}
+use Rattle.std.proofs.Common.{◌≡◌, ℕ, zero, suc, ◌+◌, ◌<◌, ◌≤◌, List, Option, None, Some, inl, inr, refl, sym, ap}
+use Rattle.std.proofs.Common.{subst, ◌∙◌, arith}
 use Rattle.std.proofs.lemmas.Bool.{eq-eqb, le-ltb}
 use Rattle.std.proofs.lemmas.Bool.Decides.{eqb_tells}
 use Rattle.rom_tree.specs.Tree.{entry_at}
@@ -18,26 +19,33 @@ pub record IsStep (o : Order) (b : List ℕ) (k e q : ℕ) : Type 0 where
   pub good : IsGood o b q
   pub own : IsList o b k (list_end o b q) (list_start o b q)
   pub next : IsList o b k e (end_of o b q)
-  pub size : count (grow k o b e q) ≡ suc (count (grow k o b (list_end o b q) (list_start o b q)) + count (grow k o b e (end_of o b q)))
+  pub size : count (grow k o b e q) ≡ suc
+      (count (grow k o b (list_end o b q) (list_start o b q)) + count (grow k o b e (end_of o b q)))
 
-list_of : (o : Order) (b : List ℕ) (k e q : ℕ) (f : Forest) → StandsAt o b e q f → Everywhere (IsGood o b) f → count f ≤ k → (grow k o b e q ≡ f) × IsList o b k e q
+list_of : (o : Order) (b : List ℕ) (k e q : ℕ) (f : Forest) → StandsAt o b e q f → Everywhere (IsGood o b) f
+    → count f ≤ k → (grow k o b e q ≡ f) × IsList o b k e q
 list_of o b k e q f s g c = (grown k o b e q f s c, list_is o b k e q f s g c)
 
-step_by : (o : Order) (b : List ℕ) (k e q : ℕ) (f : Forest) → grow k o b e q ≡ f → StandsAt o b e q f → Everywhere (IsGood o b) f → count f ≤ k → q < e → IsStep o b k e q
+step_by : (o : Order) (b : List ℕ) (k e q : ℕ) (f : Forest) → grow k o b e q ≡ f → StandsAt o b e q f
+    → Everywhere (IsGood o b) f → count f ≤ k → q < e → IsStep o b k e q
 step_by o b k e q none i s g c n = absurd (omega arith)
 step_by o b k e q (at p own after) i s g c n =
     let pq : p ≡ q = s.1 in
     let x = list_of o b k (list_end o b p) (list_start o b p) own s.2 g.1 (omega arith) in
     let y = list_of o b k e (end_of o b p) after s.3 g.2 (omega arith) in
     let j : grow k o b e q ≡ at p (grow k o b (list_end o b p) (list_start o b p)) (grow k o b e (end_of o b p)) =
-    i ∙ ap (λ (f : Forest). at p f after) (sym x.0) ∙ ap (λ (f : Forest). at p (grow k o b (list_end o b p) (list_start o b p)) f) (sym y.0) in
+    i ∙ ap (λ (f : Forest). at p f after) (sym x.0)
+    ∙ ap (λ (f : Forest). at p (grow k o b (list_end o b p) (list_start o b p)) f) (sym y.0) in
     let P : ℕ → Type 0 = λ v. IsStep o b k e v in
     subst P pq (record {
-      is = subst (λ (v : ℕ). grow k o b e v ≡ at p (grow k o b (list_end o b p) (list_start o b p)) (grow k o b e (end_of o b p))) (sym pq) j;
+      is = subst (λ (v : ℕ). grow k o b e v
+          ≡ at p (grow k o b (list_end o b p) (list_start o b p)) (grow k o b e (end_of o b p))) (sym pq) j;
       good = g.0;
       own = x.1;
       next = y.1;
-      size = subst (λ (v : ℕ). count (grow k o b e v) ≡ suc (count (grow k o b (list_end o b p) (list_start o b p)) + count (grow k o b e (end_of o b p)))) (sym pq) (ap count j);
+      size = subst (λ (v : ℕ). count (grow k o b e v)
+          ≡ suc (count (grow k o b (list_end o b p) (list_start o b p)) + count (grow k o b e (end_of o b p)))) (sym pq)
+          (ap count j);
     })
 
 pub step_of : (o : Order) (b : List ℕ) (k e q : ℕ) → IsList o b k e q → q < e → IsStep o b k e q
@@ -68,14 +76,16 @@ index_end e q i h = elim (lt_tells q e) [
   | inr k ↦ (k.1, let z : Some 0 ≡ Some i = (rw k.0 at h) in let y : i ≡ 0 = cc in y)
 ]
 
--- from there on it is what stands there
-pub index_rest : (o : Order) (b : List ℕ) (e s q i j : ℕ) (f g : Forest) → StandsAt o b e s f → StandsAt o b e q g → index_at e f q ≡ Some i → entry_at (entries_at o b f) (i + j) ≡ entry_at (entries_at o b g) j
+-- from there on it is what is there
+pub index_rest : (o : Order) (b : List ℕ) (e s q i j : ℕ) (f g : Forest) → StandsAt o b e s f → StandsAt o b e q g
+    → index_at e f q ≡ Some i → entry_at (entries_at o b f) (i + j) ≡ entry_at (entries_at o b g) j
 index_rest o b e s q i j none g x y h = let l = index_end e q i h in rw (none_at o b e q g l.0 y) refl
 index_rest o b e s q i j (at p own after) g x y h = elim (eqb_tells p q) [
   | inl l ↦
       let k : Some 0 ≡ Some i = (rw l.0 at h) in
       let z : i ≡ 0 = cc in
-      let same : at p own after ≡ g = same_forest o b e q (at p own after) g (subst (λ (v : ℕ). StandsAt o b e v (at p own after)) (sym x.1 ∙ l.1) x) y in
+      let same : at p own after ≡ g = same_forest o b e q (at p own after) g
+      (subst (λ (v : ℕ). StandsAt o b e v (at p own after)) (sym x.1 ∙ l.1) x) y in
       let zj : 0 + j ≡ j = omega arith in
       rw (z, zj) (ap (λ (f : Forest). entry_at (entries_at o b f) j) same)
   | inr l ↦
@@ -85,8 +95,9 @@ index_rest o b e s q i j (at p own after) g x y h = elim (eqb_tells p q) [
       rw (m.2, w) (index_rest o b e (end_of o b p) q m.0 j after g x.3 y m.1)
 ]
 
--- a record of a list does not stand before its start
-index_from : (o : Order) (b : List ℕ) (e s q i : ℕ) (f : Forest) → StandsAt o b e s f → q < e → index_at e f q ≡ Some i → s ≤ q
+-- a record of a list is not before its start
+index_from : (o : Order) (b : List ℕ) (e s q i : ℕ) (f : Forest) → StandsAt o b e s f → q < e → index_at e f q ≡ Some i
+    → s ≤ q
 index_from o b e s q i none x l h = let z = index_end e q i h in absurd (omega arith)
 index_from o b e s q i (at p own after) x l h = elim (eqb_tells p q) [
   | inl k ↦ let y = k.1 in let z = x.1 in omega arith
@@ -100,7 +111,8 @@ index_from o b e s q i (at p own after) x l h = elim (eqb_tells p q) [
 ]
 
 -- one record further
-pub index_next : (o : Order) (b : List ℕ) (e s q i : ℕ) (f : Forest) → StandsAt o b e s f → q < e → index_at e f q ≡ Some i → index_at e f (end_of o b q) ≡ Some (suc i)
+pub index_next : (o : Order) (b : List ℕ) (e s q i : ℕ) (f : Forest) → StandsAt o b e s f → q < e
+    → index_at e f q ≡ Some i → index_at e f (end_of o b q) ≡ Some (suc i)
 index_next o b e s q i none x l h = let z = index_end e q i h in absurd (omega arith)
 index_next o b e s q i (at p own after) x l h =
     let a = end_after o b q in
@@ -113,7 +125,8 @@ index_next o b e s q i (at p own after) x l h =
             let g : Some 0 ≡ Some i = (rw k.0 at h) in
             let z : i ≡ 0 = cc in
             let start = index_start o b e (end_of o b p) after x.3 in
-            let t : index_at e after (end_of o b q) ≡ Some 0 = subst (λ (v : ℕ). index_at e after (end_of o b v) ≡ Some 0) k.1 start in
+            let t : index_at e after (end_of o b q) ≡ Some 0 =
+            subst (λ (v : ℕ). index_at e after (end_of o b v) ≡ Some 0) k.1 start in
             rw (n.0, t, z) refl
         | inr k ↦
             let g : one_more (index_at e after q) ≡ Some i = (rw k.0 at h) in
@@ -124,10 +137,12 @@ index_next o b e s q i (at p own after) x l h =
     ]
 
 -- the list from one of its records on
-pub list_there : (o : Order) (b : List ℕ) (k e s q i : ℕ) (f : Forest) → StandsAt o b e s f → Everywhere (IsGood o b) f → count f ≤ k → index_at e f q ≡ Some i → IsList o b k e q
+pub list_there : (o : Order) (b : List ℕ) (k e s q i : ℕ) (f : Forest) → StandsAt o b e s f → Everywhere (IsGood o b) f
+    → count f ≤ k → index_at e f q ≡ Some i → IsList o b k e q
 list_there o b k e s q i none x g c h = list_is o b k e q none (index_end e q i h).0 tt (omega arith)
 list_there o b k e s q i (at p own after) x g c h = elim (eqb_tells p q) [
-  | inl l ↦ list_is o b k e q (at p own after) (subst (λ (v : ℕ). StandsAt o b e v (at p own after)) (sym x.1 ∙ l.1) x) g c
+  | inl l ↦ list_is o b k e q (at p own after)
+      (subst (λ (v : ℕ). StandsAt o b e v (at p own after)) (sym x.1 ∙ l.1) x) g c
   | inr l ↦
       let y : one_more (index_at e after q) ≡ Some i = (rw l.0 at h) in
       let m = more_cases (index_at e after q) i y in

@@ -1,4 +1,4 @@
--- What the fields of an inode say, by cases.
+-- The meaning of the fields of an inode, by cases.
 use Rattle.std.proofs.Common.{◌≡◌, ◌≢◌, ℕ, ◌+◌, ◌<◌, ◌≤◌, true, false, List, ◌⊎◌, inl, inr, refl, arith}
 use Rattle.std.proofs.lemmas.Bool.{lt-ltb, le-ltb, cases_lt, ne_eqb, eq-eqb}
 use Rattle.std.proofs.lemmas.Bool.Decides.{eqb_tells}
@@ -16,7 +16,8 @@ unfolding end_of
 end_after o b p = omega arith
 
 -- only a directory has a list
-pub directory_list : (o : Order) (b : List ℕ) (p : ℕ) → type_of o b p ≡ 4 → list_end o b p ≡ list_start o b p + size_of o b p
+pub directory_list : (o : Order) (b : List ℕ) (p : ℕ) → type_of o b p ≡ 4
+    → list_end o b p ≡ list_start o b p + size_of o b p
 unfolding list_end list_start
 directory_list o b p h = rw (eq-eqb (type_of o b p) 4 h) refl
 
@@ -24,7 +25,8 @@ pub other_list : (o : Order) (b : List ℕ) (p : ℕ) → type_of o b p ≢ 4 �
 unfolding list_end
 other_list o b p h = rw (ne_eqb (type_of o b p) 4 h) refl
 
-pub in_list : (o : Order) (b : List ℕ) (p q : ℕ) → q < list_end o b p → (type_of o b p ≡ 4) × (list_end o b p ≡ list_start o b p + size_of o b p)
+pub in_list : (o : Order) (b : List ℕ) (p q : ℕ) → q < list_end o b p
+    → (type_of o b p ≡ 4) × (list_end o b p ≡ list_start o b p + size_of o b p)
 in_list o b p q h = elim (eqb_tells (type_of o b p) 4) [
   | inl i ↦ (i.1, directory_list o b p i.1)
   | inr i ↦ let z = other_list o b p i.1 in absurd (omega arith)

@@ -6,7 +6,8 @@ use Rattle.cramfs_format.specs.Tree.{precedes}
 use Rattle.cramfs_format.proofs.Lists.{lt_tells}
 
 -- what it says of the first bytes
-pub first_cases : (x y : ℕ) (xs ys : List ℕ) → precedes (x ∷ xs) (y ∷ ys) ≡ true → (x < y) ⊎ ((x ≡ y) × (precedes xs ys ≡ true))
+pub first_cases : (x y : ℕ) (xs ys : List ℕ) → precedes (x ∷ xs) (y ∷ ys) ≡ true
+    → (x < y) ⊎ ((x ≡ y) × (precedes xs ys ≡ true))
 first_cases x y xs ys h = elim (lt_tells x y) [
   | inl k ↦ inl k.1
   | inr k ↦ elim (eqb_tells x y) [
@@ -26,7 +27,8 @@ precedes_on xs [] zs h k = absurd (false≢true h)
 precedes_on xs (y ∷ ys) [] h k = absurd (false≢true k)
 precedes_on [] (y ∷ ys) (z ∷ zs) h k = refl
 precedes_on (x ∷ xs) (y ∷ ys) (z ∷ zs) h k = elim (first_cases x y xs ys h) [
-  | inl a ↦ elim (first_cases y z ys zs k) [ inl c ↦ before_less x z xs zs (omega arith) | inr c ↦ let e = c.0 in before_less x z xs zs (omega arith) ]
+  | inl a ↦ elim (first_cases y z ys zs k)
+      [ inl c ↦ before_less x z xs zs (omega arith) | inr c ↦ let e = c.0 in before_less x z xs zs (omega arith) ]
   | inr a ↦ elim (first_cases y z ys zs k) [
     | inl c ↦ let e = a.0 in before_less x z xs zs (omega arith)
     | inr c ↦ before_same x z xs zs (a.0 ∙ c.0) (precedes_on xs ys zs a.1 c.1)
@@ -45,7 +47,8 @@ one_first (x ∷ xs) [] n = inr refl
 one_first (x ∷ xs) (y ∷ ys) n = elim (lt_tells x y) [
   | inl k ↦ inl (before_less x y xs ys k.1)
   | inr k ↦ elim (eqb_tells x y) [
-    | inl l ↦ let e = l.1 in elim (one_first xs ys (λ i. n (let z : x ∷ xs ≡ y ∷ ys = cc in z))) [ inl a ↦ inl (before_same x y xs ys e a) | inr a ↦ inr (before_same y x ys xs (sym e) a) ]
+    | inl l ↦ let e = l.1 in elim (one_first xs ys (λ i. n (let z : x ∷ xs ≡ y ∷ ys = cc in z)))
+        [ inl a ↦ inl (before_same x y xs ys e a) | inr a ↦ inr (before_same y x ys xs (sym e) a) ]
     | inr l ↦ let m = l.1 in let g = k.1 in inr (before_less y x ys xs (omega arith))
   ]
 ]

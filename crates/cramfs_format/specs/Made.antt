@@ -1,6 +1,8 @@
--- The tree of a checked image as a function of its accessible bytes b, in which there are no more than k records.
--- (This project's own.)
-use Rattle.std.specs.Prelude.{◌≡◌, ℕ, zero, suc, ◌+◌, ◌^◌, ◌<◌, ◌≤◌, nat_lt, Bool, true, false, if◌then◌else◌, ◌==◌, List, length, Option, Some, None}
+-- `made`: the tree of a checked image as a function of the accessible bytes b, a record's offset
+-- and a number k of records. `IsCramfs`: the facts that a check has shown of the bytes.
+-- `cursor_of`: the number of entries before a cursor. (This project's own.)
+use Rattle.std.specs.Prelude.{◌≡◌, ℕ, zero, suc, ◌+◌, ◌^◌, ◌<◌, ◌≤◌, nat_lt, Bool, true, false}
+use Rattle.std.specs.Prelude.{if◌then◌else◌, ◌==◌, List, length, Option, Some, None}
 use Rattle.record_forest.specs.Forest.{Forest, none, at, count, stands_in}
 use Rattle.rom_tree.specs.Tree.{Node, depth}
 use Rattle.cramfs_format.specs.declared.order.Order.{Order}
@@ -8,17 +10,19 @@ use Rattle.cramfs_format.specs.Inode.{type_of, end_of, list_start, list_end, Has
 use Rattle.cramfs_format.specs.Refers.{root_place}
 use Rattle.cramfs_format.specs.Tree.{node_of, entries_at}
 
--- from q on a list that ends at e stands in b: records one after the other, each with its own list
+-- from q on, a list that ends at e is in b: records one after the other, each with its own list
 abbrev pub StandsAt : Order → List ℕ → ℕ → ℕ → Forest → Type 0
 StandsAt o b e q none = e ≤ q
 StandsAt o b e q (at p own after) =
-    (q < e) × (p ≡ q) × StandsAt o b (list_end o b p) (list_start o b p) own × StandsAt o b e (end_of o b p) after
+    (q < e) × (p ≡ q) × StandsAt o b (list_end o b p) (list_start o b p) own
+    × StandsAt o b e (end_of o b p) after
 
--- what stands from q on to the end e, to at most n records deep
+-- the list from q to the end e, to at most n records deep
 abbrev pub grow : ℕ → Order → List ℕ → ℕ → ℕ → Forest
 grow zero o b e q = none
 grow (suc n) o b e q =
-    if nat_lt q e then at q (grow n o b (list_end o b q) (list_start o b q)) (grow n o b e (end_of o b q)) else none
+    if nat_lt q e then at q (grow n o b (list_end o b q) (list_start o b q))
+    (grow n o b e (end_of o b q)) else none
 
 -- the list of the directory at p
 unfoldable pub list_at : Order → List ℕ → ℕ → ℕ → Forest
@@ -35,13 +39,13 @@ ends_within (suc k) o b e q =
     if nat_lt q e then (if ends_within k o b (list_end o b q) (list_start o b q)
     then ends_within k o b e (end_of o b q) else false) else true
 
--- what is known of a record: it lies among the bytes, and so does what it describes
+-- the facts that are known of a record: it is among the bytes, and so is the body that it describes
 pub record IsGood (o : Order) (b : List ℕ) (p : ℕ) : Type 0 where
   pub header : p + 12 ≤ length b
   pub name : end_of o b p ≤ length b
   pub body : HasBody o b p
 
--- what a check has shown
+-- the facts that a check has shown
 pub record IsCramfs (o : Order) (b : List ℕ) (k : ℕ) : Type 0 where
   pub small : length b < 2 ^ 32
   pub long : 76 ≤ length b
@@ -49,7 +53,8 @@ pub record IsCramfs (o : Order) (b : List ℕ) (k : ℕ) : Type 0 where
   pub root : HasBody o b root_place
   pub within : ends_within k o b (list_end o b root_place) (list_start o b root_place) ≡ true
   pub few : count (grow k o b (list_end o b root_place) (list_start o b root_place)) ≤ k
-  pub good : (p : ℕ) → stands_in (grow k o b (list_end o b root_place) (list_start o b root_place)) p ≡ true
+  pub good : (p : ℕ) → stands_in
+      (grow k o b (list_end o b root_place) (list_start o b root_place)) p ≡ true
       → IsGood o b p
   pub shallow : depth (made o b k root_place) ≤ 64
 
@@ -58,7 +63,7 @@ abbrev pub one_more : Option ℕ → Option ℕ
 one_more None = None
 one_more (Some i) = Some (suc i)
 
--- the number of entries before the record at q in a list that ends at e; from e on it is the end
+-- the number of entries before the record at q in a list that ends at e; from e on, q is the end
 abbrev pub index_at : ℕ → Forest → ℕ → Option ℕ
 index_at e none q = if nat_lt q e then None else Some 0
 index_at e (at p own after) q = if p == q then Some 0 else one_more (index_at e after q)

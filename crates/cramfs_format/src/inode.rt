@@ -1,6 +1,9 @@
-//! The fields of an inode, as they stand in the accessible bytes of an image.
+//! The fields of an inode, read from the accessible bytes of an image (Linux
+//! include/uapi/linux/cramfs_fs.h).
 ghost use Rattle.std.specs.Prelude.{◌≡◌, ◌+◌, ◌%◌, ◌≤◌, ◌<◌, ◌^◌, length};
-ghost use Rattle.cramfs_format.specs.Inode.{block_count, block_start, end_of, gid_of, list_end, list_start, mode_of, name_room, offset_of, size_of, type_of, uid_of};
+ghost use Rattle.cramfs_format.specs.Inode.{block_count, block_start, end_of, gid_of, list_end};
+ghost use Rattle.cramfs_format.specs.Inode.{list_start, mode_of, name_room, offset_of, size_of};
+ghost use Rattle.cramfs_format.specs.Inode.{type_of, uid_of};
 
 use crate::order::Order;
 
@@ -32,7 +35,7 @@ pub fn uid_at(order: Order, b: &[u8], at: usize) -> u32
     order.field_after(16, order.word(b, at))
 }
 
-/// Reads the size in bytes; of a device its numbers.
+/// Reads the size in bytes, or the numbers of a device.
 #[tactic(auto, unfolding(crate::specs::Inode::size_of))]
 pub fn size_at(order: Order, b: &[u8], at: usize) -> u32
     requires { at + 12 ≤ length b.now }
@@ -51,7 +54,7 @@ pub fn gid_at(order: Order, b: &[u8], at: usize) -> u32
     order.field_after(24, order.word(b, at + 4))
 }
 
-/// Reads how many bytes the name takes with its padding.
+/// Reads the length of the name with its padding, in bytes.
 #[tactic(auto, unfolding(crate::specs::Inode::name_room))]
 pub fn room_at(order: Order, b: &[u8], at: usize) -> u32
     requires { at + 12 ≤ length b.now }
@@ -61,7 +64,7 @@ pub fn room_at(order: Order, b: &[u8], at: usize) -> u32
     order.first_field(6, order.word(b, at + 8)) * 4
 }
 
-/// Reads where a list or the block pointers begin.
+/// Reads the offset at which a list or the block pointers begin.
 #[tactic(auto, unfolding(crate::specs::Inode::offset_of, crate::specs::Inode::list_start))]
 pub fn offset_at(order: Order, b: &[u8], at: usize) -> u32
     requires { at + 12 ≤ length b.now }
@@ -73,7 +76,7 @@ pub fn offset_at(order: Order, b: &[u8], at: usize) -> u32
     order.field_after(6, order.word(b, at + 8)) * 4
 }
 
-/// Reads where the list of a directory ends, 0 for all else.
+/// Reads the offset at which the list of a directory ends, or 0 for all other types.
 #[tactic(auto, unfolding(crate::specs::Inode::list_end))]
 pub fn list_end_at(order: Order, b: &[u8], at: usize) -> u32
     requires { at + 12 ≤ length b.now }
@@ -86,7 +89,8 @@ pub fn list_end_at(order: Order, b: &[u8], at: usize) -> u32
     }
 }
 
-/// Reads where the inode ends with its padded name, and the next of its list begins.
+/// Reads the offset at which the inode ends with its padded name, and the next one of its list
+/// begins.
 #[tactic(auto, unfolding(crate::specs::Inode::end_of))]
 pub fn end_at(order: Order, b: &[u8], at: usize) -> usize
     requires { at + 12 ≤ length b.now }
@@ -96,7 +100,7 @@ pub fn end_at(order: Order, b: &[u8], at: usize) -> usize
     at + 12 + room_at(order, b, at) as usize
 }
 
-/// Counts the blocks that hold so many bytes.
+/// Counts the blocks of 4,096 bytes that hold `size` bytes.
 pub fn blocks_of(size: u32) -> u32
     requires { size < 2 ^ 24 }
     ensures { result ≡ block_count size }
@@ -104,7 +108,7 @@ pub fn blocks_of(size: u32) -> u32
     (size + 4_095) / 4_096
 }
 
-/// Gives where the block of a pointer begins.
+/// Returns the offset at which the block of a pointer begins.
 pub fn start_of(pointer: u32) -> u32
     ensures { result ≡ block_start pointer }
 {

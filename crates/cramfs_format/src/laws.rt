@@ -1,4 +1,4 @@
-//! Laws about the cramfs definitions.
+//! Laws of the cramfs definitions.
 ghost use Rattle.std.specs.Prelude.{◌≡◌, ◌≤◌, ◌<◌, ◌^◌, ℕ, List, length};
 ghost use Rattle.record_forest.specs.Forest.{Forest, all_rows};
 ghost use Rattle.cramfs_format.specs.declared.order.Order.{Order};
@@ -9,8 +9,8 @@ ghost use Rattle.cramfs_format.specs.Tree.{CramfsTree, IsTree, tree_of};
 ghost use Rattle.cramfs_format.specs.Made.{IsCramfs, made};
 ghost use Rattle.rom_tree.specs.Tree.{Node};
 
-/// An image has at most one tree, in whatever byte order and under whatever limits; and the order
-/// is that in which it begins with the magic.
+/// States that an image has at most one tree, in any byte order and under any limits. The order is
+/// that in which the image begins with the magic.
 pub fn one_tree()
     ensures tree { (o p : Order) (bytes : List ℕ) (m n d e : ℕ) (t u : Node)
         → CramfsTree o bytes m d t → CramfsTree p bytes n e u → t ≡ u }
@@ -18,8 +18,8 @@ pub fn one_tree()
         → o ≡ order_of bytes }
 {}
 
-/// The tree of an image is a function of its bytes and the number of its records; and what a reader
-/// needs to know of the records holds.
+/// States that the tree of an image is a function of its bytes and the number of its records, and
+/// what a reader needs to know of the records.
 pub fn made_of_bytes()
     ensures { (o : Order) (b : List ℕ) (most deepest : ℕ) (f : Forest) → IsTree o b most deepest f
         → 76 ≤ length b → length b < 2 ^ 32 → type_of o b root_place ≡ 4

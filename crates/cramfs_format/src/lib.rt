@@ -1,12 +1,14 @@
-//! The cramfs format: what its bytes say, and laws about it.
+//! The cramfs format: the meaning of its bytes in either byte order (Linux
+//! Documentation/filesystems/cramfs.rst and include/uapi/linux/cramfs_fs.h), the readers of their
+//! fields (`Order`, `inode`, `superblock`), and the format's numbers (`disk`).
 //!
-//! It restates Linux Documentation/filesystems/cramfs.rst and include/uapi/linux/cramfs_fs.h for
-//! images whose blocks are stored as they are, and read where they stand: an inode and its fields,
-//! in either byte order (`specs/Order.antt`, `specs/Inode.antt`), the superblock
-//! (`specs/Superblock.antt`), whose checksum is that of the crate `crc`, what refers to what
-//! (`specs/Refers.antt`), the faults of an image (`specs/Faults.antt`), and the tree of files that
-//! its bytes give (`specs/Tree.antt`). Proved of it: an image has at most one tree, and the tree is
-//! a function of the bytes.
+//! Proved: an image has at most one tree, and the tree is a function of the bytes.
+//!
+//! The definitions are for images whose blocks are not compressed and are read at the offset in
+//! their pointers. They are the byte order (`specs/Order.antt`), an inode and its fields
+//! (`specs/Inode.antt`), the superblock (`specs/Superblock.antt`), whose checksum is that of the
+//! crate `crc`, the references (`specs/Refers.antt`), the faults of an image (`specs/Faults.antt`),
+//! and the tree of files that its bytes hold (`specs/Tree.antt`).
 #![tactic(auto)]
 
 pub mod disk;

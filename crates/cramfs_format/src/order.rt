@@ -1,12 +1,13 @@
 //! The byte order of an image.
 ghost use Rattle.std.specs.Prelude.{◌≡◌, ◌+◌, ◌-◌, ◌≤◌, ◌<◌, ◌*◌, ◌^◌, length};
-ghost use Rattle.cramfs_format.specs.Order.{word as word_of, with_word, first_field, field_after, packed};
+ghost use Rattle.cramfs_format.specs.Order.{word as word_of, with_word, first_field, field_after};
+ghost use Rattle.cramfs_format.specs.Order.{packed};
 
 use byteorder::{BigEndian, ByteOrder, LittleEndian};
 use rom_fields::{put_be32, put_le32};
 
-/// The byte order of a cramfs image, which is that of the machine that it is made for. It says how
-/// four bytes make a word, and at which end of a word its first field is.
+/// The byte order of a cramfs image, which is that of the machine that it is made for. It
+/// determines how four bytes make a word, and at which end of a word its first field is.
 #[derive(Clone, Copy, PartialEq, Eq)]
 pub enum Order {
     /// The first byte of a word and the first field of a word are its lowest bits.
@@ -16,7 +17,7 @@ pub enum Order {
 }
 
 impl Order {
-    /// The word whose first byte is at `at`.
+    /// Reads the word at offset `at`.
     #[tactic(auto, unfolding(crate::specs::Order::word, rom_fields::specs::Words::word_le, rom_fields::specs::Words::word_be))]
     pub fn word(self, b: &[u8], at: usize) -> u32
         requires { at + 4 ≤ length b.now }
@@ -28,7 +29,7 @@ impl Order {
         }
     }
 
-    /// Puts a word over the four bytes from `at` on.
+    /// Writes a word over the four bytes from `at` on.
     #[tactic(auto, unfolding(crate::specs::Order::with_word))]
     pub fn put_word(self, b: &mut [u8], at: usize, word: u32)
         requires { at + 4 ≤ length b.old }
@@ -44,8 +45,8 @@ impl Order {
         }
     }
 
-    /// The word whose first field, of `bits` bits, is `first`, and what comes after it `rest`. It
-    /// is counted in 64 bits; where both fields fit, it has 32.
+    /// Returns the word whose first field, of `bits` bits, is `first`, and whose other field is
+    /// `rest`. The result has 64 bits; if both fields fit, it is below 2^32.
     pub fn packed(self, bits: u32, first: u64, rest: u64) -> u64
         requires some { 0 < bits }
         requires few { bits < 32 }
@@ -61,7 +62,7 @@ impl Order {
         }
     }
 
-    /// The first field of a word, of `bits` bits.
+    /// Returns the first field of a word, of `bits` bits.
     pub fn first_field(self, bits: u32, word: u32) -> u32
         requires some { 0 < bits }
         requires few { bits < 32 }
@@ -74,7 +75,7 @@ impl Order {
         }
     }
 
-    /// What comes after a first field of `bits` bits.
+    /// Returns the field after a first field of `bits` bits.
     pub fn field_after(self, bits: u32, word: u32) -> u32
         requires some { 0 < bits }
         requires few { bits < 32 }

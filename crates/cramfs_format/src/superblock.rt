@@ -1,12 +1,15 @@
-//! The fields of the superblock, as they stand in the bytes of an image.
+//! The fields of the superblock, read from the bytes of an image (Linux
+//! include/uapi/linux/cramfs_fs.h).
 ghost use Rattle.std.specs.Prelude.{◌≡◌, ◌≤◌, IfSome, IfNone, length};
 ghost use Rattle.cramfs_format.specs.Order.{word as word_of};
-ghost use Rattle.cramfs_format.specs.Superblock.{accessible_size as size_of, has_crc, magic, order_of};
+ghost use Rattle.cramfs_format.specs.Superblock.{accessible_size as size_of, has_crc, magic};
+ghost use Rattle.cramfs_format.specs.Superblock.{order_of};
 
 use crate::disk::{MAGIC, MOST_BYTES};
 use crate::order::Order;
 
-/// Says in which byte order the bytes begin with the magic of cramfs, if they do.
+/// Returns the byte order in which the bytes begin with the magic of cramfs, or `None` if they do
+/// not.
 #[tactic(auto, unfolding(crate::specs::Superblock::order_of))]
 pub fn order_in(bytes: &[u8]) -> Option<Order>
     ensures order { IfSome result (λ o. o ≡ order_of bytes.now) }
@@ -26,7 +29,7 @@ pub fn order_in(bytes: &[u8]) -> Option<Order>
     None
 }
 
-/// Says whether the image states its size and its CRC: the lowest flag.
+/// Returns whether the image states its size and its CRC: the lowest flag.
 pub fn has_size(order: Order, bytes: &[u8]) -> bool
     requires { 76 ≤ length bytes.now }
     ensures { result ≡ has_crc order bytes.now }
@@ -50,7 +53,7 @@ pub fn stated_size(order: Order, bytes: &[u8]) -> u32
     order.word(bytes, 4)
 }
 
-/// Reads the CRC as it is stored.
+/// Reads the stored CRC.
 pub fn stored_crc(order: Order, bytes: &[u8]) -> u32
     requires { 76 ≤ length bytes.now }
     ensures { result ≡ word_of order bytes.now 32 }
@@ -58,8 +61,8 @@ pub fn stored_crc(order: Order, bytes: &[u8]) -> u32
     order.word(bytes, 32)
 }
 
-/// Gives how many bytes are accessible: the size that the image states, or if it states none those
-/// that there are, up to 2^28.
+/// Returns the number of accessible bytes: the size that the image states, or, if it states none,
+/// the number of all bytes, up to 2^28.
 #[tactic(auto, unfolding(crate::specs::Superblock::accessible_size))]
 pub fn accessible_size(order: Order, bytes: &[u8]) -> u32
     requires { 76 ≤ length bytes.now }

@@ -8,5 +8,7 @@ use Rattle.rom_tree.specs.declared.types.Report.{Report}
 use Rattle.cramfs_format.specs.declared.order.Order.{Order}
 use Rattle.cramfs_image.specs.Checked.{Shows}
 
-pub shallow : {o : Order} {all : List ℕ} {limits : Limits} {m : Image} {report : Report} → Shows o all limits m report → levels m.tree ≤ 65
-shallow {m = m} s = let e = ap depth s.tree.same in let h = s.tree.whole.shallow in let l = levels_depth m.tree in omega arith
+pub shallow : {o : Order} {all : List ℕ} {limits : Limits} {m : Image} {report : Report} → Shows o all limits m report
+    → levels m.tree ≤ 65
+shallow {m = m} s =
+    let e = ap depth s.tree.same in let h = s.tree.whole.shallow in let l = levels_depth m.tree in omega arith

@@ -1,4 +1,5 @@
--- What a checked cramfs image is to the layers above.
+-- `cramfs_view`: a checked cramfs image as an `Image`. `GivesBlock`: a run ends with its block, or
+-- with the file. (This project's own.)
 use Rattle.std.proofs.Common.{◌≡◌, ℕ, ◌≤◌, List, length, Some, refl}
 use Rattle.std.specs.Prelude.{◌-◌, ◌%◌, min, Option, MatchOption}
 use Rattle.rom_tree.specs.declared.types.Run.{Run}
@@ -13,8 +14,9 @@ pub starts_at : (o : Order) (b : List ℕ) (k d : ℕ) → cursor_of o b k d 0 �
 unfolding cursor_of
 starts_at o b k d = refl
 
--- All bytes of the image, and the tree that the accessible ones, b, give; there are k records.
-abbrev pub cramfs_view : (o : Order) (bytes b : List ℕ) (k : ℕ) → IsCramfs o b k → length b ≤ length bytes → Image
+-- All bytes of the image, and the tree of the accessible bytes b. There are k records.
+abbrev pub cramfs_view : (o : Order) (bytes b : List ℕ) (k : ℕ) → IsCramfs o b k
+    → length b ≤ length bytes → Image
 cramfs_view o bytes b k s within = record {
   bytes = bytes;
   tree = made o b k root_place;
@@ -28,4 +30,5 @@ cramfs_view o bytes b k s within = record {
 
 -- a run ends with its block of 4096 bytes, or with the file
 abbrev pub GivesBlock : List ℕ → ℕ → Option Run → Type 0
-GivesBlock ps off r = MatchOption r (Unit {0}) (λ v. v.len ≡ min (length ps - off) (4096 - off % 4096))
+GivesBlock ps off r =
+    MatchOption r (Unit {0}) (λ v. v.len ≡ min (length ps - off) (4096 - off % 4096))

@@ -1,4 +1,4 @@
--- What an image value reports. (This project's own.)
+-- `report_of`, `order_in`: what an image value reports, and its byte order. (This project's own.)
 use Rattle.rom_tree.specs.declared.types.Report.{Report}
 use Rattle.cramfs_format.specs.declared.order.Order.{Order}
 use Rattle.cramfs_image.specs.declared.image.Cramfs.{Cramfs}

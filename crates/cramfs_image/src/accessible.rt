@@ -1,9 +1,11 @@
 //! The accessible bytes of an image in their byte order, and its records as the traversal reads
 //! them.
-ghost use Rattle.std.specs.Prelude.{◌≡◌, ◌≢◌, ◌+◌, ◌<◌, ◌≤◌, ◌^◌, length, nat_lt, Some, None, if◌then◌else◌};
+ghost use Rattle.std.specs.Prelude.{◌≡◌, ◌≢◌, ◌+◌, ◌<◌, ◌≤◌, ◌^◌, length, nat_lt, Some, None};
+ghost use Rattle.std.specs.Prelude.{if◌then◌else◌};
 ghost use Rattle.record_forest.specs.Faults.{IsLeastFault, IsLeastFaultOf};
 ghost use Rattle.cramfs_format.specs.Inode.{list_end};
-ghost use Rattle.cramfs_format.specs.Refers.{references, reference_target, LeadsToSound, LeadsToFault};
+ghost use Rattle.cramfs_format.specs.Refers.{references, reference_target, LeadsToSound};
+ghost use Rattle.cramfs_format.specs.Refers.{LeadsToFault};
 ghost use Rattle.record_forest.specs.Known.{AreKnown};
 ghost use Rattle.cramfs_image.specs.Phases.{IsWhole};
 
@@ -22,7 +24,7 @@ pub struct Accessible<'a> {
     ghost long: { 76 ≤ length bytes.now },
 }
 
-/// The reference to what stands at `which` in a list that ends at `end`, of the directory at
+/// The reference to the record at `which` in a list that ends at `end`, of the directory at
 /// `source`.
 fn edge_to(source: u32, which: u32, end: u32) -> Edge
     ensures source { result.reference.source ≡ source }
@@ -35,7 +37,7 @@ fn edge_to(source: u32, which: u32, end: u32) -> Edge
     }
 }
 
-/// The least fault of the record that a reference leads to, if it is not sound.
+/// The least fault of the record that a reference leads to, or none if it is valid.
 fn fault_of(b: &Accessible<'_>, known: &mut VerifiedRanges, x: Reference) -> Option<Fault>
     requires known { AreKnown (IsWhole b.now.order b.now.bytes.now) known.old }
     requires root { x.source ≡ 0 → x.which + 12 ≤ length b.now.bytes.now }
@@ -70,7 +72,7 @@ impl Records for Accessible<'_> {
 
     ghost faulty = { λ s. LeadsToFault s.order s.bytes.now };
 
-    // The words that are pointers of whole blocks.
+    // The numbers of the words that are pointers of whole blocks.
     ghost well = { λ s. IsWhole s.order s.bytes.now };
 
     #[tactic(auto, unfolding(cramfs_format::specs::Refers::reference_target))]

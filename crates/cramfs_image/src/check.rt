@@ -16,16 +16,15 @@ impl<'a> Cramfs<'a> {
     ghost use Rattle.rom_tree.specs.Tree.{levels};
     ghost use Rattle.cramfs_image.specs.Reported.{order_in, report_of};
 
-    /// The image of these bytes, where they hold the tree of a cramfs image within the limits (a
-    /// depth limit above 64 counts as 64), which is where they have no fault; else their least
-    /// fault, by phases: the image as a whole, the count of references, records, references, depth,
-    /// extents, names (`cramfs_format/specs/Faults.antt`). The bytes are read as big-endian where
-    /// they begin with `28 cd 3d 45`, else as little-endian.
+    /// Checks these bytes, and returns their image if they hold the tree of a cramfs image within
+    /// the limits (a depth limit above 64 counts as 64). Otherwise returns their least fault, by
+    /// phases: the image as a whole, the count of references, records, references, depth, extents,
+    /// names (`cramfs_format/specs/Faults.antt`). The bytes are read as big-endian if they begin
+    /// with `28 cd 3d 45`, otherwise as little-endian.
     ///
-    /// It looks at no more than `limits.references` references and one more, and at each block
-    /// pointer once, but for 16 for each reference. Of r records and w words in block pointers it
-    /// takes time as n log n, n being r + w, and memory for some 120 bytes a record and 24 a
-    /// pointer. `OutOfMemory` where that is refused.
+    /// Returns `OutOfMemory` if memory is refused. For r records and w block pointers, the time
+    /// grows as n log n, with n = r + w. The memory is some 120 bytes a record and 24 a pointer.
+    /// (Time and memory are not proved.)
     pub fn check(alloc: Global, bytes: &'a [u8], limits: Limits) -> Result<Cramfs<'a>, CheckError>
         ensures ok { IfOk result (λ v. Shows (order_of bytes.now) bytes.now limits
             (⟦<Cramfs<'a> as Viewed>⟧.image v) (report_of v)) }

@@ -15,7 +15,7 @@ use rom_faults::Fault;
 use rom_faults::fault::TOO_DEEP;
 use rom_tree::is_dots;
 
-/// Whether a row is an entry of another name than `.` and `..`.
+/// Returns whether a row is an entry with another name than `.` and `..`.
 pub fn is_other(b: &Accessible<'_>, row: Row) -> bool
     requires good { IsGood b.now.order b.now.bytes.now row.offset }
     ensures { IsTrue result ↔ IsNoDot b.now.order b.now.bytes.now row }
@@ -33,7 +33,7 @@ fn is_too_deep(b: &Accessible<'_>, row: Row, most: u32) -> bool
     row.depth > most && is_other(b, row)
 }
 
-/// The least fault of an entry deeper than `most`, among rows other than the root's.
+/// Returns the least fault of an entry deeper than `most`, or `None` if there is none.
 pub fn least_too_deep(b: &Accessible<'_>, rows: &[Row], most: u32) -> Option<Fault>
     requires good { All (λ x. IsGood b.now.order b.now.bytes.now x.offset) rows.now }
     ensures { IsLeastRowFault (IsShallow b.now.order b.now.bytes.now most)
@@ -52,7 +52,7 @@ pub fn least_too_deep(b: &Accessible<'_>, rows: &[Row], most: u32) -> Option<Fau
     noted
 }
 
-/// The greatest depth of a row, 0 where there is none.
+/// Returns the greatest depth of a row, or 0 if there is no row.
 pub fn greatest_depth(rows: &[Row]) -> u32
     ensures bound { All (λ x. x.depth ≤ result) rows.now }
     ensures reached { (result ≡ 0) ⊎ Any (λ x. x.depth ≡ result) rows.now }

@@ -1,7 +1,10 @@
-//! The fields of a record, which is an inode with its name, and what its type and its pointers say.
+//! The fields of a record, which is an inode with its name, and the meaning of its type and its
+//! pointers.
 ghost use Rattle.std.specs.Prelude.{◌≡◌, ◌≢◌, ◌+◌, ◌*◌, ◌%◌, ◌≤◌, ◌<◌, ◌^◌, length, if◌then◌else◌};
 ghost use Rattle.cramfs_format.specs.Order.{word as word_of};
-ghost use Rattle.cramfs_format.specs.Inode.{mode_of, uid_of, size_of, gid_of, name_room, offset_of, type_of, has_data, without_zeros, name_of, end_of, list_start, list_end};
+ghost use Rattle.cramfs_format.specs.Inode.{mode_of, uid_of, size_of, gid_of, name_room, offset_of};
+ghost use Rattle.cramfs_format.specs.Inode.{type_of, has_data, without_zeros, name_of, end_of};
+ghost use Rattle.cramfs_format.specs.Inode.{list_start, list_end};
 ghost use Rattle.cramfs_format.specs.Tree.{kind_named, by_type};
 
 use crate::accessible::Accessible;
@@ -9,7 +12,7 @@ use cramfs_format::inode;
 use rom_tree::Kind;
 
 impl<'a> Accessible<'a> {
-    /// The word at `at`.
+    /// Reads the word at `at`.
     pub fn word(&self, at: usize) -> u32
         requires { at + 4 ≤ length self.now.bytes.now }
         ensures { result ≡ word_of self.now.order self.now.bytes.now at }
@@ -17,7 +20,7 @@ impl<'a> Accessible<'a> {
         self.order.word(self.bytes, at)
     }
 
-    /// File type and permissions.
+    /// Reads the file type and the permissions.
     pub fn mode_at(&self, at: usize) -> u32
         requires { at + 12 ≤ length self.now.bytes.now }
         ensures mode { result ≡ mode_of self.now.order self.now.bytes.now at }
@@ -26,7 +29,7 @@ impl<'a> Accessible<'a> {
         inode::mode_at(self.order, self.bytes, at)
     }
 
-    /// The file type alone.
+    /// Reads only the file type.
     pub fn type_at(&self, at: usize) -> u32
         requires { at + 12 ≤ length self.now.bytes.now }
         ensures { result ≡ type_of self.now.order self.now.bytes.now at }
@@ -34,7 +37,7 @@ impl<'a> Accessible<'a> {
         inode::type_at(self.order, self.bytes, at)
     }
 
-    /// The owner.
+    /// Reads the owner.
     pub fn uid_at(&self, at: usize) -> u32
         requires { at + 12 ≤ length self.now.bytes.now }
         ensures { result ≡ uid_of self.now.order self.now.bytes.now at }
@@ -42,7 +45,7 @@ impl<'a> Accessible<'a> {
         inode::uid_at(self.order, self.bytes, at)
     }
 
-    /// The size in bytes; of a device its numbers.
+    /// Reads the size in bytes, or the numbers of a device.
     pub fn size_at(&self, at: usize) -> u32
         requires { at + 12 ≤ length self.now.bytes.now }
         ensures size { result ≡ size_of self.now.order self.now.bytes.now at }
@@ -51,7 +54,7 @@ impl<'a> Accessible<'a> {
         inode::size_at(self.order, self.bytes, at)
     }
 
-    /// The group.
+    /// Reads the group.
     pub fn gid_at(&self, at: usize) -> u32
         requires { at + 12 ≤ length self.now.bytes.now }
         ensures { result ≡ gid_of self.now.order self.now.bytes.now at }
@@ -59,7 +62,7 @@ impl<'a> Accessible<'a> {
         inode::gid_at(self.order, self.bytes, at)
     }
 
-    /// How many bytes the padded name takes.
+    /// Reads the length of the padded name, in bytes.
     pub fn room_at(&self, at: usize) -> u32
         requires { at + 12 ≤ length self.now.bytes.now }
         ensures room { result ≡ name_room self.now.order self.now.bytes.now at }
@@ -68,7 +71,7 @@ impl<'a> Accessible<'a> {
         inode::room_at(self.order, self.bytes, at)
     }
 
-    /// Where a list or the block pointers begin.
+    /// Reads the offset at which a list or the block pointers begin.
     pub fn offset_at(&self, at: usize) -> u32
         requires { at + 12 ≤ length self.now.bytes.now }
         ensures offset { result ≡ offset_of self.now.order self.now.bytes.now at }
@@ -79,7 +82,7 @@ impl<'a> Accessible<'a> {
         inode::offset_at(self.order, self.bytes, at)
     }
 
-    /// Where the list of a directory ends; 0 for all else.
+    /// Reads the offset at which the list of a directory ends, or 0 for all other types.
     pub fn list_end_at(&self, at: usize) -> u32
         requires { at + 12 ≤ length self.now.bytes.now }
         ensures { result ≡ list_end self.now.order self.now.bytes.now at }
@@ -87,7 +90,7 @@ impl<'a> Accessible<'a> {
         inode::list_end_at(self.order, self.bytes, at)
     }
 
-    /// Where the record ends, and the next of its list begins.
+    /// Reads the offset at which the record ends, and the next of its list begins.
     pub fn end_at(&self, at: usize) -> usize
         requires { at + 12 ≤ length self.now.bytes.now }
         ensures end { result ≡ end_of self.now.order self.now.bytes.now at }
@@ -96,7 +99,7 @@ impl<'a> Accessible<'a> {
         inode::end_at(self.order, self.bytes, at)
     }
 
-    /// The name of the record.
+    /// Returns the name of the record.
     #[tactic(auto, unfolding(cramfs_format::specs::Inode::end_of))]
     pub fn name_at(&self, at: usize) -> &'a [u8]
         requires header { at + 12 ≤ length self.now.bytes.now }
@@ -108,7 +111,7 @@ impl<'a> Accessible<'a> {
         cut_zeros(&self.bytes[start..start + room])
     }
 
-    /// How many bytes of contents a file or a link has; 0 for all else.
+    /// Returns the number of bytes of a file's contents or a link's text, or 0 for all other types.
     pub fn file_len(&self, at: usize) -> u32
         requires { at + 12 ≤ length self.now.bytes.now }
         ensures { result ≡ (if has_data (type_of self.now.order self.now.bytes.now at)
@@ -137,7 +140,7 @@ fn cut_zeros<'a>(bytes: &'a [u8]) -> &'a [u8]
     &bytes[..0]
 }
 
-/// The kind of an inode by its type.
+/// Returns the kind of an inode by its type.
 pub fn kind_named_by(t: u32) -> Kind
     ensures { result ≡ kind_named t }
 {
@@ -152,7 +155,7 @@ pub fn kind_named_by(t: u32) -> Kind
     }
 }
 
-/// What only devices have.
+/// Returns `x` for devices, and 0 for other types.
 pub fn of_device(t: u32, x: u32) -> u32
     ensures { result ≡ by_type t 0 0 0 x x 0 0 }
 {

@@ -13,7 +13,7 @@ use cramfs_format::inode::start_of;
 use record_forest::Row;
 use rom_tree::{Cursor, Entry, Limits, NodeId, Report, Run, Stat, TreeImage, Viewed};
 
-/// An image that has been checked.
+/// A checked image.
 #[derive(Drop)]
 pub struct Cramfs<'a> {
     all: &'a [u8],
@@ -25,8 +25,8 @@ pub struct Cramfs<'a> {
     ghost front: { accessible.bytes.now ≡ take (length accessible.bytes.now) all.now },
 }
 
-/// The numbers of a checked image, by which it is made again of its bytes: their order, how many of
-/// them are accessible, and what the check reported.
+/// The numbers that make a checked image again from its bytes: the byte order, the number of
+/// accessible bytes, and what the check reported.
 #[derive(Clone, Copy)]
 pub struct Parts {
     pub order: Order,
@@ -43,7 +43,8 @@ impl Viewed for Cramfs<'_> {
 impl<'a> TreeImage<'a> for Cramfs<'a> {
     ghost use Rattle.std.specs.Prelude.{Some, None, MatchOption};
     ghost use Rattle.rom_tree.specs.Tree.{Node, places_of, entries_of, ino_of};
-    ghost use Rattle.rom_tree.specs.Image.{image_node, find_entry, HasNode, HasDirectory, GivesRun, GivesWhole};
+    ghost use Rattle.rom_tree.specs.Image.{image_node, find_entry, HasNode, HasDirectory, GivesRun};
+    ghost use Rattle.rom_tree.specs.Image.{GivesWhole};
     ghost use Rattle.cramfs_image.specs.Reported.{report_of};
     ghost use Rattle.cramfs_image.specs.Cramfs.{GivesBlock};
 
@@ -113,7 +114,7 @@ impl<'a> TreeImage<'a> for Cramfs<'a> {
         })
     }
 
-    /// The report stays as it is.
+    /// Does not change the report.
     fn lookup(&mut self, d: NodeId, name: &[u8]) -> Option<NodeId>
         requires { HasDirectory (⟦<Cramfs<'a> as Viewed>⟧.image self.old) d.0 }
         ensures stays { ⟦<Cramfs<'a> as Viewed>⟧.image self.new
@@ -135,7 +136,7 @@ impl<'a> TreeImage<'a> for Cramfs<'a> {
         None
     }
 
-    /// It ends with its block, or with the file.
+    /// Returns a run that ends with its block, or with the file.
     fn run(&self, n: NodeId, off: u64) -> Option<Run>
         requires { HasNode (⟦<Cramfs<'a> as Viewed>⟧.image self.now) n.0 }
         ensures row { (x : Node) → image_node (⟦<Cramfs<'a> as Viewed>⟧.image self.now) n.0 ≡ Some x
@@ -172,8 +173,8 @@ impl<'a> Cramfs<'a> {
     ghost use Rattle.cramfs_image.specs.Reported.{order_in, report_of};
     ghost use Rattle.cramfs_image.specs.Parts.{AreParts, tree_of_parts, cursors_of_parts};
 
-    /// The image of the bytes `all`, whose accessible ones are those of `b`, with the rows of its
-    /// tree.
+    /// Makes the image of the bytes `all`, whose accessible bytes are those of `b`, from the rows
+    /// of its tree.
     pub(crate) fn opened(
         all: &'a [u8],
         b: Accessible<'a>,
@@ -197,7 +198,7 @@ impl<'a> Cramfs<'a> {
         }
     }
 
-    /// Whether the image is big-endian: its first bytes are `28 cd 3d 45`.
+    /// Returns whether the image is big-endian: its first bytes are `28 cd 3d 45`.
     pub fn big(&self) -> bool
         ensures { result ≡ is_big (order_in self.now) }
     {
@@ -207,7 +208,7 @@ impl<'a> Cramfs<'a> {
         }
     }
 
-    /// Its numbers, by which `again` gives an image of the same bytes.
+    /// Returns its numbers, by which `again` makes an image of the same bytes.
     pub fn parts(&self) -> Parts
         ensures are { AreParts (⟦<Cramfs<'a> as Viewed>⟧.image self.now).bytes result }
         ensures tree { (⟦<Cramfs<'a> as Viewed>⟧.image self.now).tree
@@ -225,7 +226,7 @@ impl<'a> Cramfs<'a> {
         }
     }
 
-    /// The image of these bytes with these numbers, which a check gave. Nothing is read.
+    /// Makes the image of these bytes again from numbers that a check found. Reads nothing.
     pub fn again(all: &'a [u8], parts: Parts) -> Cramfs<'a>
         requires { AreParts all.now parts }
         ensures bytes { (⟦<Cramfs<'a> as Viewed>⟧.image result).bytes ≡ all.now }
@@ -245,7 +246,7 @@ impl<'a> Cramfs<'a> {
         }
     }
 
-    /// How many references the image has, that of the superblock among them, and the greatest
+    /// Returns the number of references of the image, including the superblock's, and the greatest
     /// number of names from the root to a node.
     pub fn report(&self) -> Report
         ensures { result ≡ report_of self.now }

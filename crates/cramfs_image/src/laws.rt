@@ -1,12 +1,12 @@
-//! Laws about the faults of an image and its tree.
+//! Laws of the faults of an image and its tree.
 ghost use Rattle.std.specs.Prelude.{ℕ, List};
 ghost use Rattle.cramfs_format.specs.declared.order.Order.{Order};
 ghost use Rattle.cramfs_format.specs.Tree.{CramfsTree};
 ghost use Rattle.cramfs_format.specs.Faults.{HasNoFault};
 ghost use Rattle.rom_tree.specs.Tree.{Node};
 
-/// The fault set of an image, which knows offsets, references and extents and no tree, is empty
-/// exactly where a tree stands, in either byte order.
+/// States that an image has no fault exactly if it has a tree, in either byte order. The fault set
+/// knows offsets, references and extents, and no tree.
 pub fn exact()
     ensures tree { (o : Order) (bytes : List ℕ) (most deepest : ℕ) (t : Node)
         → CramfsTree o bytes most deepest t → HasNoFault o bytes most deepest }

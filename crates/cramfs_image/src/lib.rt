@@ -1,12 +1,12 @@
-//! Checked cramfs images, and `crc32`, their checksum, from the crate `crc`.
+//! `Cramfs::check`, which accepts the bytes of a cramfs image or names their least fault; and
+//! `Cramfs`, the checked image as a `TreeImage`, which copies no contents (Linux
+//! Documentation/filesystems/cramfs.rst). The blocks of an image must not be compressed. `crc32` is
+//! the checksum of the format, from the crate `crc`.
 //!
-//! `Cramfs::check` takes the bytes of an image (Linux Documentation/filesystems/cramfs.rst) whose
-//! blocks are stored as they are, and gives an image value, or the least fault. Proved: it gives a
-//! value only where the bytes hold a tree of files, as `cramfs_format` defines it, and have no
-//! fault; it gives a fault only where they hold none, and that fault is the least one; and each
-//! call on the value answers from the tree (`rom_tree::TreeImage`). Contents are never
-//! copied. By `laws::exact` the set of faults, which knows no tree, is empty exactly where a tree
-//! stands.
+//! Proved: an image is returned only if the bytes hold a tree of files, as `cramfs_format` defines
+//! it, and have no fault. A fault is returned only if they hold no tree, and it is the least one.
+//! Each call on the image answers from the tree. By `laws::exact` there is no fault exactly if
+//! there is a tree.
 #![tactic(auto)]
 
 mod accessible;

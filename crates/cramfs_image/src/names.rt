@@ -1,5 +1,6 @@
 //! The phase that looks at the names in each list.
-ghost use Rattle.std.specs.Prelude.{◌≡◌, ◌≢◌, ◌≤◌, ◌<◌, ◌^◌, ◌↔◌, IsTrue, IfNone, IfSome, IfOk, Some, None, List, ℕ, length, false};
+ghost use Rattle.std.specs.Prelude.{◌≡◌, ◌≢◌, ◌≤◌, ◌<◌, ◌^◌, ◌↔◌, IsTrue, IfNone, IfSome, IfOk};
+ghost use Rattle.std.specs.Prelude.{Some, None, List, ℕ, length, false};
 ghost use Rattle.std.specs.Bool.{OnTrue, OnFalse};
 ghost use Rattle.std.specs.List.{All};
 ghost use Rattle.record_forest.specs.declared.reference.Row.{Row};
@@ -9,7 +10,8 @@ ghost use Rattle.cramfs_format.specs.Made.{IsGood};
 ghost use Rattle.cramfs_format.specs.Tree.{precedes, is_sorted, IsNoDot};
 ghost use Rattle.record_forest.specs.Listed.{AreNames};
 ghost use Rattle.record_forest.specs.Sweep.{IsLeastRowFault};
-ghost use Rattle.cramfs_image.specs.Phases.{TellsEarlier, last_name, name_seen, IsUnsorted, IsNameFault, IsWellNamed};
+ghost use Rattle.cramfs_image.specs.Phases.{TellsEarlier, last_name, name_seen, IsUnsorted};
+ghost use Rattle.cramfs_image.specs.Phases.{IsNameFault, IsWellNamed};
 
 use crate::accessible::Accessible;
 use crate::depth::is_other;
@@ -20,7 +22,7 @@ use rom_fields::OutOfMemory;
 use std::alloc::Global;
 use std::collections::BTreeMap;
 
-/// Whether a name comes before another: by unsigned bytes, a proper front first.
+/// Whether a name sorts before another: by unsigned bytes, a proper front first.
 fn comes_before(one: &[u8], other: &[u8]) -> bool
     ensures { result ≡ precedes one.now other.now }
 {
@@ -49,7 +51,8 @@ fn has_sorted_lists(b: &Accessible<'_>) -> bool
     b.word(8) / 2 % 2 == 1
 }
 
-/// Whether a name comes before that of the row just before it in its list, where lists are sorted.
+/// Whether a name sorts before that of the row directly before it in its list, and lists are
+/// sorted.
 fn is_unsorted(b: &Accessible<'_>, last: Option<&[u8]>, row: Row) -> bool
     requires row { IsGood b.now.order b.now.bytes.now row.offset }
     ensures unsorted { (before : List Row) → name_seen last.entry
@@ -71,8 +74,8 @@ fn is_unsorted(b: &Accessible<'_>, last: Option<&[u8]>, row: Row) -> bool
     false
 }
 
-/// The least fault of a row's name, whatever rows stand before it; `repeated` tells whether one of
-/// them has the name in its list, and `last` is the name just before it there.
+/// The least fault of a row's name, for any rows before it; `repeated` is whether one of them has
+/// the name in its list, and `last` is the name directly before it there.
 fn name_fault(b: &Accessible<'_>, row: Row, repeated: bool, last: Option<&[u8]>) -> Option<u32>
     requires row { IsGood b.now.order b.now.bytes.now row.offset }
     ensures well { (before : List Row) → TellsEarlier b.now.order b.now.bytes.now before row
@@ -93,7 +96,7 @@ fn name_fault(b: &Accessible<'_>, row: Row, repeated: bool, last: Option<&[u8]>)
     None
 }
 
-/// The names of the rows, by their indices.
+/// The names of the rows, by their index.
 fn names_of<'a>(
     alloc: Global,
     b: &Accessible<'a>,
@@ -114,7 +117,7 @@ fn names_of<'a>(
     Ok(names)
 }
 
-/// The least fault of a name among the rows other than the root's.
+/// Returns the least fault of a name among these rows, or `None` if there is none.
 pub fn least_name_fault(
     alloc: Global,
     b: &Accessible<'_>,

@@ -1,5 +1,6 @@
 //! The phase that looks for parts of the image that overlap.
-ghost use Rattle.std.specs.Prelude.{◌≡◌, ◌+◌, ◌*◌, ◌%◌, ◌<◌, ◌≤◌, ◌^◌, ◌++◌, ℕ, max, length, OnOk, IfOk, true};
+ghost use Rattle.std.specs.Prelude.{◌≡◌, ◌+◌, ◌*◌, ◌%◌, ◌<◌, ◌≤◌, ◌^◌, ◌++◌, ℕ, max, length, OnOk};
+ghost use Rattle.std.specs.Prelude.{IfOk, true};
 ghost use Rattle.std.specs.List.{All, AllByRecursion as Every};
 ghost use Rattle.std.specs.List.Sorted.{IsNonDecreasingBy};
 ghost use Rattle.rom_fields.specs.Extents.{OverlapsAt, IsLeastOf};
@@ -8,7 +9,8 @@ ghost use Rattle.cramfs_format.specs.Inode.{type_of, size_of, offset_of, has_dat
 ghost use Rattle.cramfs_format.specs.Tree.{extents_of};
 ghost use Rattle.cramfs_image.specs.declared.overlap.File.{File};
 ghost use Rattle.cramfs_image.specs.Phases.{IsRecord};
-ghost use Rattle.cramfs_image.specs.Files.{list_part, file_part, FileLies, whole_end, whole_blocks, file_added, AddsFiles};
+ghost use Rattle.cramfs_image.specs.Files.{list_part, file_part, FileLies, whole_end, whole_blocks};
+ghost use Rattle.cramfs_image.specs.Files.{file_added, AddsFiles};
 
 use crate::accessible::Accessible;
 use crate::soundness::has_contents;
@@ -17,7 +19,7 @@ use record_forest::Row;
 use rom_fields::{Extent, Extents, OutOfMemory};
 use std::alloc::Global;
 
-/// A file or a link: where its block pointers begin, and its size.
+/// A file or a link: the offset of its block pointers, and its size.
 #[derive(Clone, Copy, PartialEq, Eq)]
 pub struct File {
     pub table: u32,
@@ -45,8 +47,8 @@ fn add_blocks(
     Ok(())
 }
 
-/// Adds the block pointers and the blocks of a file, but for the whole blocks of pointers before
-/// `done`. It gives up to where whole blocks are there then.
+/// Adds the block pointers and the blocks of a file, except the whole blocks of pointers before
+/// `done`. Returns the offset up to which whole blocks are then added.
 fn add_file(
     extents: &mut Extents,
     b: &Accessible<'_>,
@@ -71,8 +73,8 @@ fn add_file(
     Ok(done.max(end))
 }
 
-/// Adds the block pointers and the blocks of files, whose pointers begin at offsets that do not
-/// fall. A whole block is added once for each pointer, however many files have the pointer.
+/// Adds the block pointers and the blocks of files, which are sorted by the offset of their
+/// pointers. A whole block is added once for each pointer, even if several files have the pointer.
 fn add_files(extents: &mut Extents, b: &Accessible<'_>, files: &[File]) -> Result<(), OutOfMemory>
     requires lie { All (FileLies b.now.order b.now.bytes.now) files.now }
     requires sorted { IsNonDecreasingBy (λ (f : File). f.table) files.now }
@@ -86,7 +88,7 @@ fn add_files(extents: &mut Extents, b: &Accessible<'_>, files: &[File]) -> Resul
     Ok(())
 }
 
-/// What a file or a link takes.
+/// The block pointers and the size of a file or a link.
 fn file_at(b: &Accessible<'_>, at: usize) -> File
     requires record { IsRecord b.now.order b.now.bytes.now at }
     requires contents { has_data (type_of b.now.order b.now.bytes.now at) ≡ true }
@@ -127,8 +129,7 @@ fn add_row(
     Ok(())
 }
 
-/// The least place where two extents of the image overlap. They are no more than the words of the
-/// image and three for each row.
+/// Returns the least offset at which two extents of the image overlap, or `None` if no two do.
 pub fn least_overlap(
     alloc: Global,
     b: &Accessible<'_>,

@@ -14,7 +14,7 @@ use rom_faults::fault::OVERLAP;
 use rom_fields::OutOfMemory;
 use std::alloc::Global;
 
-/// The rows other than the root's, which is the first.
+/// Returns all rows except the root's, which is the first.
 pub fn below_root<'a>(rows: &'a [Row]) -> &'a [Row]
     requires { 1 ≤ length rows.now }
     ensures { result.now ≡ drop 1 rows.now }
@@ -22,8 +22,8 @@ pub fn below_root<'a>(rows: &'a [Row]) -> &'a [Row]
     &rows[1..]
 }
 
-/// The least fault of depth, extents and names among the rows of an image, by phases; none where
-/// they are well.
+/// Returns the least fault of depth, extents and names among the rows of an image, by phases, or
+/// `None` if they have none.
 pub fn later_fault(
     alloc: Global,
     b: &Accessible<'_>,

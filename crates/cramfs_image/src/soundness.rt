@@ -1,10 +1,15 @@
-//! The tests of one record, wherever a reference leads.
-ghost use Rattle.std.specs.Prelude.{◌≡◌, ◌≢◌, ◌+◌, ◌*◌, ◌%◌, ◌≤◌, ◌<◌, ◌^◌, ◌⊎◌, ◌↔◌, ◌==◌, IsTrue, ℕ, length, if◌then◌else◌, true, false};
+//! The tests of one record to which a reference leads.
+ghost use Rattle.std.specs.Prelude.{◌≡◌, ◌≢◌, ◌+◌, ◌*◌, ◌%◌, ◌≤◌, ◌<◌, ◌^◌, ◌⊎◌, ◌↔◌, ◌==◌, IsTrue};
+ghost use Rattle.std.specs.Prelude.{ℕ, length, if◌then◌else◌, true, false};
 ghost use Rattle.std.specs.Bool.{OnTrue, OnFalse};
 ghost use Rattle.std.specs.List.{Contains};
 ghost use Rattle.rom_fields.specs.Extents.{IsLeastOf};
 ghost use Rattle.cramfs_format.specs.Order.{word as word_of};
-ghost use Rattle.cramfs_format.specs.Inode.{type_of, size_of, name_of, end_of, offset_of, is_kind, has_data, block_count, block_len, block_start, pointer_place, pointer_of, is_direct, has_kinds, IsPlain, Lies, ListLies, TableLies, HasLinkSize, Fits, IsName, HasEntryFault};
+ghost use Rattle.cramfs_format.specs.Inode.{type_of, size_of, name_of, end_of, offset_of, is_kind};
+ghost use Rattle.cramfs_format.specs.Inode.{has_data, block_count, block_len, block_start};
+ghost use Rattle.cramfs_format.specs.Inode.{pointer_place, pointer_of, is_direct, has_kinds};
+ghost use Rattle.cramfs_format.specs.Inode.{IsPlain, Lies, ListLies, TableLies, HasLinkSize, Fits};
+ghost use Rattle.cramfs_format.specs.Inode.{IsName, HasEntryFault};
 ghost use Rattle.record_forest.specs.Known.{AreKnown};
 ghost use Rattle.cramfs_image.specs.Phases.{IsWhole, IsFaultAt, IsPointerFault};
 ghost use Rattle.record_forest.specs.Faults.{IsLeastFaultOf};
@@ -16,7 +21,7 @@ use record_forest::{Range, VerifiedRanges, lesser_of_both};
 use rom_faults::Fault;
 use rom_faults::fault::{BAD_NAME, BLOCK_KIND, BOUNDS, KIND, LINK_SIZE, LIST_END};
 
-/// Whether the bytes lie behind the superblock and among the accessible ones, if there are any.
+/// Whether the bytes are behind the superblock and among the accessible ones, if there are any.
 fn lies(b: &Accessible<'_>, start: usize, len: usize) -> bool
     requires start { start < 2 ^ 33 }
     requires len { len < 2 ^ 33 }
@@ -25,7 +30,7 @@ fn lies(b: &Accessible<'_>, start: usize, len: usize) -> bool
     len == 0 || (start >= 76 && start + len <= b.bytes.len())
 }
 
-/// Whether a list, where there is one, lies there.
+/// Returns whether a list, if there is one, is there.
 pub fn list_lies(b: &Accessible<'_>, at: usize) -> bool
     requires { at + 12 ≤ length b.now.bytes.now }
     ensures { IsTrue result ↔ ListLies b.now.order b.now.bytes.now at }
@@ -33,7 +38,7 @@ pub fn list_lies(b: &Accessible<'_>, at: usize) -> bool
     b.type_at(at) != 4 || lies(b, b.offset_at(at) as usize, b.size_at(at) as usize)
 }
 
-/// Whether the inode has contents: it is a file or a link.
+/// Returns whether the inode has contents: it is a file or a link.
 pub fn has_contents(b: &Accessible<'_>, at: usize) -> bool
     requires { at + 12 ≤ length b.now.bytes.now }
     ensures { result ≡ has_data (type_of b.now.order b.now.bytes.now at) }
@@ -42,7 +47,7 @@ pub fn has_contents(b: &Accessible<'_>, at: usize) -> bool
     kind == 8 || kind == 10
 }
 
-/// Whether the block pointers, where there are some, lie there.
+/// Returns whether the block pointers, if there are any, are there.
 pub fn table_lies(b: &Accessible<'_>, at: usize) -> bool
     requires { at + 12 ≤ length b.now.bytes.now }
     ensures { IsTrue result ↔ TableLies b.now.order b.now.bytes.now at }
@@ -58,7 +63,7 @@ fn is_name(name: &[u8]) -> bool
     !name.is_empty() && !name.contains(&0) && !name.contains(&47)
 }
 
-/// Whether the inode and its name end where their list ends, or before.
+/// Whether the inode with its name ends where its list ends, or before.
 fn fits(b: &Accessible<'_>, end: usize, at: usize) -> bool
     requires end { end ≤ length b.now.bytes.now }
     requires at { at < 2 ^ 32 }
@@ -74,7 +79,7 @@ fn is_known(t: u32) -> bool
     t == 4 || (t == 8 || (t == 10 || (t == 6 || (t == 2 || (t == 12 || t == 1)))))
 }
 
-/// Whether the size of a symbolic link is that of a text: 1 to 4,095 bytes.
+/// Whether the size of a symbolic link is that of a valid text: 1 to 4,095 bytes.
 fn has_link_size(b: &Accessible<'_>, at: usize) -> bool
     requires { at + 12 ≤ length b.now.bytes.now }
     ensures fits { OnTrue result (HasLinkSize b.now.order b.now.bytes.now at) }
@@ -90,7 +95,7 @@ fn has_link_size(b: &Accessible<'_>, at: usize) -> bool
     }
 }
 
-/// The least number of the faults that stand at an entry that fits into its list.
+/// The least number of a fault at the offset of an entry that fits in its list.
 fn fault_at(b: &Accessible<'_>, at: usize) -> Option<u32>
     requires header { at + 12 ≤ length b.now.bytes.now }
     requires name { end_of b.now.order b.now.bytes.now at ≤ length b.now.bytes.now }
@@ -114,7 +119,7 @@ fn fault_at(b: &Accessible<'_>, at: usize) -> Option<u32>
     None
 }
 
-/// Whether a pointer is that of a block which is read where it stands.
+/// Whether a pointer is that of a block that is not compressed and is read at the pointer's offset.
 fn is_plain(b: &Accessible<'_>, pointer: u32) -> bool
     ensures { IsTrue result ↔ IsPlain b.now.order b.now.bytes.now pointer }
 {
@@ -122,7 +127,7 @@ fn is_plain(b: &Accessible<'_>, pointer: u32) -> bool
     kinds && (pointer / 2_147_483_648 % 2 == 1 && pointer / 1_073_741_824 % 2 == 1)
 }
 
-/// How long the block of this index is, in a file of so many bytes.
+/// Returns the length of the block of this index, in a file of `size` bytes.
 pub fn len_of_block(size: u32, i: u32) -> u32
     requires { 4096 * i ≤ size }
     ensures { result ≡ block_len size i }
@@ -130,7 +135,7 @@ pub fn len_of_block(size: u32, i: u32) -> u32
     (size - 4_096 * i).min(4_096)
 }
 
-/// Whether the word of this number is the pointer of a whole block that is read where it stands.
+/// Whether the word of this number is the pointer of a whole block, read at the pointer's offset.
 fn is_whole(b: &Accessible<'_>, number: u32) -> bool
     requires word { 4 * number + 4 ≤ length b.now.bytes.now }
     ensures { IsTrue result ↔ IsWhole b.now.order b.now.bytes.now number }
@@ -139,12 +144,12 @@ fn is_whole(b: &Accessible<'_>, number: u32) -> bool
     is_plain(b, pointer) && lies(b, start_of(pointer) as usize, 4_096)
 }
 
-/// How many pointers have to lead to whole blocks, one after the other, to be kept as known: fewer
-/// are as soon looked at as looked up.
+/// The least number of consecutive pointers to whole blocks that are kept as known. A look at fewer
+/// pointers is as fast as a look-up of them.
 const WORTH_KNOWING: u32 = 16;
 
-/// Up to where the words from `first` to `end`, counted in words, are pointers of whole blocks; it
-/// may be further. What is known is not looked at again.
+/// The end of the words from `first` on that are pointers of whole blocks, as far as `end` or
+/// further, counted in words. Known words are not looked at again.
 fn whole_up_to(b: &Accessible<'_>, known: &mut VerifiedRanges, first: u32, end: u32) -> u32
     requires words { 4 * end ≤ length b.now.bytes.now }
     requires known { AreKnown (IsWhole b.now.order b.now.bytes.now) known.old }
@@ -170,7 +175,7 @@ fn whole_up_to(b: &Accessible<'_>, known: &mut VerifiedRanges, first: u32, end: 
     next
 }
 
-/// How many pointers of the `count` from `table` on lead, one after the other, to whole blocks.
+/// The number of pointers from `table` on, of `count`, that lead to whole blocks without a gap.
 fn whole_pointers(b: &Accessible<'_>, known: &mut VerifiedRanges, table: u32, count: u32) -> u32
     requires aligned { table % 4 ≡ 0 }
     requires pointers { 0 < count → table + 4 * count ≤ length b.now.bytes.now }
@@ -190,7 +195,7 @@ fn whole_pointers(b: &Accessible<'_>, known: &mut VerifiedRanges, table: u32, co
     next.saturating_sub(first).min(count)
 }
 
-/// The least fault of the block pointers. Those that are known to lead to whole blocks are not
+/// The least fault of the block pointers. Pointers that are known to lead to whole blocks are not
 /// looked at again.
 fn pointer_fault(b: &Accessible<'_>, known: &mut VerifiedRanges, at: usize) -> Option<Fault>
     requires header { at + 12 ≤ length b.now.bytes.now }
@@ -223,7 +228,8 @@ fn pointer_fault(b: &Accessible<'_>, known: &mut VerifiedRanges, at: usize) -> O
     None
 }
 
-/// The least fault of the entry at `at` of a list that ends at `end`.
+/// Returns the least fault of the entry at `at` of a list that ends at `end`, or `None` if it is
+/// valid.
 pub fn entry_fault(
     b: &Accessible<'_>,
     known: &mut VerifiedRanges,

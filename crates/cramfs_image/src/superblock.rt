@@ -1,10 +1,12 @@
-//! The superblock of an image: which bytes are accessible, and what is wrong with the image as a
-//! whole.
-ghost use Rattle.std.specs.Prelude.{◌≡◌, ◌≢◌, ◌≤◌, ◌<◌, ◌^◌, ◌↔◌, IsTrue, length, IfOk, IfErr, IfSome, SomeIff, option_copied};
+//! The superblock of an image: the accessible bytes, and the fault of the image as a whole.
+ghost use Rattle.std.specs.Prelude.{◌≡◌, ◌≢◌, ◌≤◌, ◌<◌, ◌^◌, ◌↔◌, IsTrue, length, IfOk, IfErr};
+ghost use Rattle.std.specs.Prelude.{IfSome, SomeIff, option_copied};
 ghost use Rattle.std.specs.Bool.{OnTrue, OnFalse};
 ghost use Rattle.crc.specs.Crc.{crc_of};
 ghost use Rattle.cramfs_format.specs.Order.{word as word_of};
-ghost use Rattle.cramfs_format.specs.Superblock.{magic, order_of, accessible, HasSize, without_crc, HasCrc, HasSignature, HasRoot, IsSuperblock, HasImageFault};
+ghost use Rattle.cramfs_format.specs.Superblock.{magic, order_of, accessible, HasSize, without_crc};
+ghost use Rattle.cramfs_format.specs.Superblock.{HasCrc, HasSignature, HasRoot, IsSuperblock};
+ghost use Rattle.cramfs_format.specs.Superblock.{HasImageFault};
 
 use crate::accessible::Accessible;
 use cramfs_format::Order;
@@ -13,10 +15,10 @@ use cramfs_format::superblock::{has_size, order_in, stated_size};
 use crc::{crc32, crc32_more};
 use rom_faults::{Fault, fault};
 
-/// What the field of the CRC is taken as.
+/// The value of the CRC's own field when the CRC is computed.
 const NO_CRC: [u8; 4] = [0; 4];
 
-/// The accessible bytes, where the stored size is one that the image can have.
+/// The accessible bytes, if the image can have its stated size.
 #[tactic(auto, unfolding(cramfs_format::specs::Superblock::accessible_size))]
 fn accessible_bytes<'a>(order: Order, bytes: &'a [u8]) -> Option<&'a [u8]>
     requires { 76 ≤ length bytes.now }
@@ -35,7 +37,7 @@ fn accessible_bytes<'a>(order: Order, bytes: &'a [u8]) -> Option<&'a [u8]>
     Some(&bytes[..bytes.len().min(MOST_BYTES as usize)])
 }
 
-/// The CRC of the bytes with the field that holds it taken as zero.
+/// The CRC of the bytes with its own field set to zero.
 fn crc_with_no_field(b: &[u8]) -> u32
     requires { 76 ≤ length b.now }
     ensures { result ≡ crc_of (without_crc b.now) }
@@ -45,7 +47,7 @@ fn crc_with_no_field(b: &[u8]) -> u32
     crc32_more(upto, &b[36..])
 }
 
-/// Whether the stored CRC, if there is one, is that of the bytes with the field that holds it zero.
+/// Whether the stored CRC, if there is one, is that of the bytes with its own field set to zero.
 fn has_crc(b: &Accessible<'_>) -> bool
     ensures right { OnTrue result (HasCrc b.now.order b.now.bytes.now) }
     ensures wrong { OnFalse result (HasCrc b.now.order b.now.bytes.now → ⊥) }
@@ -59,7 +61,7 @@ fn has_crc(b: &Accessible<'_>) -> bool
     true
 }
 
-/// Whether the signature stands at 16.
+/// Whether the signature is at 16.
 fn has_signature(b: &[u8]) -> bool
     requires { 76 ≤ length b.now }
     ensures { IsTrue result ↔ HasSignature b.now }
@@ -86,7 +88,7 @@ fn has_root(b: &Accessible<'_>) -> bool
     true
 }
 
-// The faults of an image as a whole, each at the place of what it is about.
+// The faults of an image as a whole, each at the offset of what it is about.
 const SHORT: Fault = Fault {
     number: fault::SHORT,
     at: 0,
@@ -122,8 +124,8 @@ const BAD_ROOT: Fault = Fault {
     at: 64,
 };
 
-/// The accessible bytes in this byte order, or the first fault of the image as a whole in that
-/// order, behind its magic.
+/// The accessible bytes in this byte order, or the first fault after the magic of the image as a
+/// whole, in that order.
 fn read_in_order<'a>(order: Order, bytes: &'a [u8]) -> Result<Accessible<'a>, Fault>
     requires long { 76 ≤ length bytes.now }
     requires begins { word_of order bytes.now 0 ≡ magic }
@@ -150,8 +152,8 @@ fn read_in_order<'a>(order: Order, bytes: &'a [u8]) -> Result<Accessible<'a>, Fa
     Ok(b)
 }
 
-/// The accessible bytes in the order in which the image begins, or the first fault of the image as
-/// a whole: 2 Short, 3 Magic, 4 Size, 6 Flags, 7 Crc, 8 Signature, 9 Root.
+/// Returns the accessible bytes in the byte order in which the image begins, or the first fault of
+/// the image as a whole: 2 Short, 3 Magic, 4 Size, 6 Flags, 7 Crc, 8 Signature, 9 Root.
 pub fn read_superblock<'a>(bytes: &'a [u8]) -> Result<Accessible<'a>, Fault>
     ensures order { IfOk result (λ b. b.order ≡ order_of bytes.now) }
     ensures ok { IfOk result (λ b. IsSuperblock b.order bytes.now b.bytes.now) }

@@ -1,5 +1,6 @@
 -- An entry that was laid is read back, in either byte order.
-use Rattle.std.proofs.Common.{◌≡◌, ◌≢◌, ℕ, zero, suc, ◌+◌, ◌-◌, ◌*◌, ◌/◌, ◌^◌, ◌<◌, List, [], ◌∷◌, ◌++◌, length, take, replicate, refl, sym, ap, ◌∙◌, arith, append_assoc, length-append}
+use Rattle.std.proofs.Common.{◌≡◌, ◌≢◌, ℕ, zero, suc, ◌+◌, ◌-◌, ◌*◌, ◌/◌, ◌^◌, ◌<◌, List, [], ◌∷◌, ◌++◌, length, take}
+use Rattle.std.proofs.Common.{replicate, refl, sym, ap, ◌∙◌, arith, append_assoc, length-append}
 use Rattle.std.proofs.lemmas.List.{length-replicate, take_at}
 use Rattle.std.proofs.lemmas.Bool.{ne_eqb}
 use Rattle.std.specs.List.{AllByRecursion as Every}
@@ -11,19 +12,24 @@ use Rattle.rom_tree.specs.declared.types.Kind.TheVariants.{Directory, Regular, S
 use Rattle.cramfs_format.specs.Order.{word, first_field, field_after, packed}
 use Rattle.cramfs_format.specs.declared.order.Order.{Order}
 use Rattle.cramfs_format.specs.declared.order.Order.TheVariants.{Little, Big}
-use Rattle.cramfs_format.specs.Inode.{mode_of, uid_of, size_of, gid_of, offset_of, type_of, name_of, name_room, end_of, without_zeros}
+use Rattle.cramfs_format.specs.Inode.{mode_of, uid_of, size_of, gid_of, offset_of, type_of, name_of, name_room, end_of}
+use Rattle.cramfs_format.specs.Inode.{without_zeros}
 use Rattle.image_parts.specs.Parts.{HasAt}
 use Rattle.manifest_tree.specs.Names.{Inode}
 use Rattle.image_parts.proofs.Parts.{HasAt-after, HasAt-moved}
 use Rattle.cramfs_layout.specs.Layout.{word_bytes, pad4, type_bits, entry_len, entry_bytes}
 use Rattle.cramfs_layout.specs.Reads.{IsEntry, ReadsEntry}
 
--- a word that stands at a place is read there
+-- a word that is at an offset is read there
 pub word_has : (o : Order) (b : List ℕ) (p x : ℕ) (more : List ℕ) → x < 2 ^ 32 → HasAt b p (word_bytes o x ++ more)
     → word o b p ≡ x
 unfolding word word_be word_le
-word_has Little b p x more h (back, e) = ap (little_number 4) (e ∙ append_assoc (little_bytes 4 x) more back) ∙ little_number-reads_back 4 x (more ++ back) (omega arith)
-word_has Big b p x more h (back, e) = ap (big_number 4) (e ∙ append_assoc (big_bytes 4 x) more back) ∙ big_number-reads_back 4 x (more ++ back) (omega arith)
+word_has Little b p x more h (back, e) =
+    ap (little_number 4) (e ∙ append_assoc (little_bytes 4 x) more back)
+    ∙ little_number-reads_back 4 x (more ++ back) (omega arith)
+word_has Big b p x more h (back, e) =
+    ap (big_number 4) (e ∙ append_assoc (big_bytes 4 x) more back)
+    ∙ big_number-reads_back 4 x (more ++ back) (omega arith)
 
 pub length-word : (o : Order) (x : ℕ) → length (word_bytes o x) ≡ 4
 length-word Little x = refl
@@ -66,8 +72,18 @@ kind_small Fifo = omega arith
 pub length-entry : (o : Order) (name : List ℕ) (i : Inode) (size offset : ℕ)
     → length (entry_bytes o name i size offset) ≡ entry_len name
 unfolding entry_bytes
-length-entry Little name i size offset = omega (arith, length-append name (replicate (pad4 (length name) - length name) 0), length-replicate {A = ℕ} (pad4 (length name) - length name) 0)
-length-entry Big name i size offset = omega (arith, length-append name (replicate (pad4 (length name) - length name) 0), length-replicate {A = ℕ} (pad4 (length name) - length name) 0)
+length-entry Little name i size offset =
+    omega (
+      arith,
+      length-append name (replicate (pad4 (length name) - length name) 0),
+      length-replicate {A = ℕ} (pad4 (length name) - length name) 0,
+    )
+length-entry Big name i size offset =
+    omega (
+      arith,
+      length-append name (replicate (pad4 (length name) - length name) 0),
+      length-replicate {A = ℕ} (pad4 (length name) - length name) 0,
+    )
 
 pub entry_reads : (o : Order) (b : List ℕ) (p : ℕ) (name : List ℕ) (i : Inode) (size offset : ℕ)
     → IsEntry name i size offset → HasAt b p (entry_bytes o name i size offset) → ReadsEntry o b p name i size offset
@@ -90,17 +106,30 @@ entry_reads o b p name i size offset h has =
     let mode_long = length-word o mode_word in
     let size_long = length-word o size_word in
     let offset_long = length-word o offset_word in
-    let h4 = HasAt-moved b (p + length (word_bytes o mode_word)) (p + 4) (word_bytes o size_word ++ (word_bytes o offset_word ++ padded)) (omega (arith, mode_long)) (HasAt-after b p (word_bytes o mode_word) (word_bytes o size_word ++ (word_bytes o offset_word ++ padded)) has) in
-    let h8 = HasAt-moved b (p + 4 + length (word_bytes o size_word)) (p + 8) (word_bytes o offset_word ++ padded) (omega (arith, size_long)) (HasAt-after b (p + 4) (word_bytes o size_word) (word_bytes o offset_word ++ padded) h4) in
-    let h12 = HasAt-moved b (p + 8 + length (word_bytes o offset_word)) (p + 12) padded (omega (arith, offset_long)) (HasAt-after b (p + 8) (word_bytes o offset_word) padded h8) in
-    let mode_read = word_has o b p mode_word (word_bytes o size_word ++ (word_bytes o offset_word ++ padded)) mode_packed.0 has in
+    let h4 = HasAt-moved b (p + length (word_bytes o mode_word)) (p + 4)
+    (word_bytes o size_word ++ (word_bytes o offset_word ++ padded)) (omega (arith, mode_long))
+    (HasAt-after b p (word_bytes o mode_word)
+    (word_bytes o size_word ++ (word_bytes o offset_word ++ padded)) has) in
+    let h8 = HasAt-moved b (p + 4 + length (word_bytes o size_word)) (p + 8) (word_bytes o offset_word ++ padded)
+    (omega (arith, size_long)) (HasAt-after b (p + 4) (word_bytes o size_word)
+    (word_bytes o offset_word ++ padded) h4) in
+    let h12 = HasAt-moved b (p + 8 + length (word_bytes o offset_word)) (p + 12) padded (omega (arith, offset_long))
+    (HasAt-after b (p + 8) (word_bytes o offset_word) padded h8) in
+    let mode_read =
+    word_has o b p mode_word (word_bytes o size_word ++ (word_bytes o offset_word ++ padded)) mode_packed.0 has in
     let size_read = word_has o b (p + 4) size_word (word_bytes o offset_word ++ padded) size_packed.0 h4 in
     let offset_read = word_has o b (p + 8) offset_word padded offset_packed.0 h8 in
     let mode_is : first_field o 16 (word o b p) ≡ mode = ap (first_field o 16) mode_read ∙ mode_packed.1 in
     let units_is : first_field o 6 (word o b (p + 8)) ≡ units = ap (first_field o 6) offset_read ∙ offset_packed.1 in
     let room : first_field o 6 (word o b (p + 8)) * 4 ≡ length padded =
-    omega (arith, units_is, length-append name (replicate (pad4 (length name) - length name) 0), length-replicate {A = ℕ} (pad4 (length name) - length name) 0) in
-    let after_is : field_after o 6 (word o b (p + 8)) ≡ offset / 4 = ap (field_after o 6) offset_read ∙ offset_packed.2 in
+    omega (
+      arith,
+      units_is,
+      length-append name (replicate (pad4 (length name) - length name) 0),
+      length-replicate {A = ℕ} (pad4 (length name) - length name) 0,
+    ) in
+    let after_is : field_after o 6 (word o b (p + 8)) ≡ offset / 4 =
+    ap (field_after o 6) offset_read ∙ offset_packed.2 in
     record {
       type = omega (arith, mode_is);
       mode = omega (arith, mode_is);
@@ -108,6 +137,8 @@ entry_reads o b p name i size offset h has =
       size_is = ap (first_field o 24) size_read ∙ size_packed.1;
       gid = ap (field_after o 24) size_read ∙ size_packed.2;
       offset_is = omega (arith, after_is);
-      name_is = ap without_zeros (ap (take (first_field o 6 (word o b (p + 8)) * 4)) h12.1 ∙ take_at padded h12.0 (first_field o 6 (word o b (p + 8)) * 4) (sym room)) ∙ ended name (pad4 (length name) - length name) h.no_zero;
+      name_is = ap without_zeros (ap (take (first_field o 6 (word o b (p + 8)) * 4)) h12.1
+          ∙ take_at padded h12.0 (first_field o 6 (word o b (p + 8)) * 4) (sym room))
+          ∙ ended name (pad4 (length name) - length name) h.no_zero;
       end = omega (arith, units_is);
     }

@@ -28,13 +28,25 @@ highs [] = []
 highs (w ∷ ws) = big_bytes 4 w ++ highs ws
 
 inode : ℕ → Kind → ℕ → ℕ → ℕ → Fill → Inode
-inode line kind mode align size fill = record { line = line; kind = kind; mode = mode; uid = 0; gid = 0; major = 0; minor = 0; align = align; size = size; fill = fill }
+inode line kind mode align size fill =
+    record {
+      line = line;
+      kind = kind;
+      mode = mode;
+      uid = 0;
+      gid = 0;
+      major = 0;
+      minor = 0;
+      align = align;
+      size = size;
+      fill = fill;
+    }
 
 root : Inode
 unfolding inode
 root = inode 0 Directory 493 4 0 no_bytes
 
--- the root alone: its inode has neither size nor offset
+-- only the root: its inode has neither size nor offset
 empty : layout Little [] root nothing ([]) ≡ joined (
     lows (684539205 ∷ 4096 ∷ 2051 ∷ 0 ∷ [])
     ∷ codes "Compressed ROMFS"
@@ -44,7 +56,8 @@ empty : layout Little [] root nothing ([]) ≡ joined (
     ∷ zeros 4020
     ∷ []
     )
-unfolding zeros joined lows highs inode root layout with_crc with_part superblock size_of entry_bytes kept data_of crc_of after_bit
+unfolding zeros joined lows highs inode root layout with_crc with_part superblock size_of entry_bytes kept data_of
+    crc_of after_bit
 empty = refl
 
 -- the file `a` of five bytes
@@ -67,7 +80,8 @@ hello : layout Little (codes "vol") root hello_names (codes "hello" ∷ []) ≡ 
     ∷ zeros 3995
     ∷ []
     )
-unfolding zeros joined lows highs inode root hello_names layout with_crc with_part superblock size_of entry_bytes kept data_of crc_of after_bit
+unfolding zeros joined lows highs inode root hello_names layout with_crc with_part superblock size_of entry_bytes kept
+    data_of crc_of after_bit
 hello = refl
 
 hello_big : layout Big (codes "vol") root hello_names (codes "hello" ∷ []) ≡ joined (
@@ -85,13 +99,15 @@ hello_big : layout Big (codes "vol") root hello_names (codes "hello" ∷ []) ≡
     ∷ zeros 3995
     ∷ []
     )
-unfolding zeros joined lows highs inode root hello_names layout with_crc with_part superblock size_of entry_bytes kept data_of crc_of after_bit
+unfolding zeros joined lows highs inode root hello_names layout with_crc with_part superblock size_of entry_bytes kept
+    data_of crc_of after_bit
 hello_big = refl
 
 -- the files `a` and `b` with the contents of one source
 shared_names : Names
 unfolding inode
-shared_names = leaf (codes "a") (inode 1 Regular 420 4 5 (source 0)) (leaf (codes "b") (inode 2 Regular 420 4 5 (source 0)) nothing)
+shared_names = leaf (codes "a") (inode 1 Regular 420 4 5 (source 0))
+    (leaf (codes "b") (inode 2 Regular 420 4 5 (source 0)) nothing)
 
 shared_table : layout Little [] root shared_names (codes "hello" ∷ []) ≡ joined (
     lows (684539205 ∷ 4096 ∷ 2051 ∷ 0 ∷ [])
@@ -110,7 +126,8 @@ shared_table : layout Little [] root shared_names (codes "hello" ∷ []) ≡ joi
     ∷ zeros 3979
     ∷ []
     )
-unfolding zeros joined lows highs inode root shared_names layout with_crc with_part superblock size_of entry_bytes kept data_of crc_of after_bit
+unfolding zeros joined lows highs inode root shared_names layout with_crc with_part superblock size_of entry_bytes kept
+    data_of crc_of after_bit
 shared_table = refl
 
 shared_table_big : layout Big [] root shared_names (codes "hello" ∷ []) ≡ joined (
@@ -130,15 +147,28 @@ shared_table_big : layout Big [] root shared_names (codes "hello" ∷ []) ≡ jo
     ∷ zeros 3979
     ∷ []
     )
-unfolding zeros joined lows highs inode root shared_names layout with_crc with_part superblock size_of entry_bytes kept data_of crc_of after_bit
+unfolding zeros joined lows highs inode root shared_names layout with_crc with_part superblock size_of entry_bytes kept
+    data_of crc_of after_bit
 shared_table_big = refl
 
 -- the directory `d` with the link `l` to `/x`, and the device `n`
 device_names : Names
 unfolding inode
 device_names =
-    folder (codes "d") (inode 1 Directory 493 4 0 no_bytes) (leaf (codes "l") (inode 2 Symlink 511 4 2 (text (codes "/x"))) nothing)
-    (leaf (codes "n") (record { line = 3; kind = Character; mode = 384; uid = 0; gid = 0; major = 1; minor = 3; align = 4; size = 0; fill = no_bytes }) nothing)
+    folder (codes "d") (inode 1 Directory 493 4 0 no_bytes)
+    (leaf (codes "l") (inode 2 Symlink 511 4 2 (text (codes "/x"))) nothing)
+    (leaf (codes "n") (record {
+      line = 3;
+      kind = Character;
+      mode = 384;
+      uid = 0;
+      gid = 0;
+      major = 1;
+      minor = 3;
+      align = 4;
+      size = 0;
+      fill = no_bytes;
+    }) nothing)
 
 link_and_device : layout Little [] root device_names ([]) ≡ joined (
     lows (684539205 ∷ 4096 ∷ 2051 ∷ 0 ∷ [])
@@ -160,7 +190,8 @@ link_and_device : layout Little [] root device_names ([]) ≡ joined (
     ∷ zeros 3966
     ∷ []
     )
-unfolding zeros joined lows highs inode root device_names layout with_crc with_part superblock size_of entry_bytes kept data_of crc_of after_bit
+unfolding zeros joined lows highs inode root device_names layout with_crc with_part superblock size_of entry_bytes kept
+    data_of crc_of after_bit
 link_and_device = refl
 
 link_and_device_big : layout Big [] root device_names ([]) ≡ joined (
@@ -183,7 +214,8 @@ link_and_device_big : layout Big [] root device_names ([]) ≡ joined (
     ∷ zeros 3966
     ∷ []
     )
-unfolding zeros joined lows highs inode root device_names layout with_crc with_part superblock size_of entry_bytes kept data_of crc_of after_bit
+unfolding zeros joined lows highs inode root device_names layout with_crc with_part superblock size_of entry_bytes kept
+    data_of crc_of after_bit
 link_and_device_big = refl
 
 -- a file of three bytes that is aligned to 4096
@@ -206,14 +238,17 @@ aligned : layout Little [] root aligned_names (codes "abc" ∷ []) ≡ joined (
     ∷ zeros 4093
     ∷ []
     )
-unfolding zeros joined lows highs inode root aligned_names layout with_crc with_part superblock size_of entry_bytes kept data_of crc_of after_bit
+unfolding zeros joined lows highs inode root aligned_names layout with_crc with_part superblock size_of entry_bytes kept
+    data_of crc_of after_bit
 aligned = refl
 
--- the file `e`, aligned to 256, and before it in the layout `d/x` with the same contents, which has the table and the blocks
+-- the file `e`, aligned to 256, and before it in the layout `d/x` with the same contents, which has the table and the
+-- blocks
 same_names : Names
 unfolding inode
 same_names =
-    folder (codes "d") (inode 2 Directory 493 4 0 no_bytes) (leaf (codes "x") (inode 3 Regular 384 256 5 (source 0)) nothing)
+    folder (codes "d") (inode 2 Directory 493 4 0 no_bytes)
+    (leaf (codes "x") (inode 3 Regular 384 256 5 (source 0)) nothing)
     (leaf (codes "e") (inode 1 Regular 420 256 5 (source 0)) nothing)
 
 same_first : layout Little [] root same_names (codes "hello" ∷ []) ≡ joined (
@@ -237,12 +272,24 @@ same_first : layout Little [] root same_names (codes "hello" ∷ []) ≡ joined 
     ∷ zeros 3835
     ∷ []
     )
-unfolding zeros joined lows highs inode root same_names layout with_crc with_part superblock size_of entry_bytes kept data_of crc_of after_bit
+unfolding zeros joined lows highs inode root same_names layout with_crc with_part superblock size_of entry_bytes kept
+    data_of crc_of after_bit
 same_first = refl
 
 -- an item, and sections
 item : ℕ → ℕ → ℕ → ℕ → List ℕ → ℕ → ℕ → ℕ → Fill → Item
-item place first second third name table start len fill = record { place = place; first = first; second = second; third = third; name = name; table = table; start = start; len = len; fill = fill }
+item place first second third name table start len fill =
+    record {
+      place = place;
+      first = first;
+      second = second;
+      third = third;
+      name = name;
+      table = table;
+      start = start;
+      len = len;
+      fill = fill;
+    }
 
 device_items : items_of Little root device_names ≡
     item 64 16877 32 1216 [] 0 0 0 no_bytes
@@ -272,12 +319,14 @@ unfolding item inode root same_names kept data_of
 same_items = refl
 
 device_sections : sections_of (items_of Little root device_names) ≡
-    section 0 76 super ∷ section 76 16 (record_of 1) ∷ section 92 16 (record_of 2) ∷ section 108 16 (record_of 3) ∷ section 124 4 (table_of 3) ∷ section 128 2 (text_of 3) ∷ []
+    section 0 76 super ∷ section 76 16 (record_of 1) ∷ section 92 16 (record_of 2) ∷ section 108 16 (record_of 3)
+    ∷ section 124 4 (table_of 3) ∷ section 128 2 (text_of 3) ∷ []
 unfolding inode root device_names kept data_of
 device_sections = refl
 
 -- the table is that of the least item that has it
 same_sections : sections_of (items_of Little root same_names) ≡
-    section 0 76 super ∷ section 76 16 (record_of 1) ∷ section 92 16 (record_of 2) ∷ section 108 16 (record_of 3) ∷ section 124 4 (table_of 2) ∷ section 256 5 (contents_of 0) ∷ []
+    section 0 76 super ∷ section 76 16 (record_of 1) ∷ section 92 16 (record_of 2) ∷ section 108 16 (record_of 3)
+    ∷ section 124 4 (table_of 2) ∷ section 256 5 (contents_of 0) ∷ []
 unfolding inode root same_names kept data_of
 same_sections = refl

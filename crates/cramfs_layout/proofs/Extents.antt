@@ -1,5 +1,6 @@
--- What a layout places does not overlap, but for tables and blocks that are shared.
-use Rattle.std.proofs.Common.{◌≡◌, ℕ, zero, suc, ◌+◌, ◌-◌, ◌*◌, ◌<◌, ◌≤◌, List, [], ◌∷◌, ◌++◌, refl, sym, ap, subst, ◌∙◌, arith, min, inl, inr, append_assoc}
+-- What a layout places does not overlap, except tables and blocks that are shared.
+use Rattle.std.proofs.Common.{◌≡◌, ℕ, zero, suc, ◌+◌, ◌-◌, ◌*◌, ◌<◌, ◌≤◌, List, [], ◌∷◌, ◌++◌, refl, sym, ap, subst}
+use Rattle.std.proofs.Common.{◌∙◌, arith, min, inl, inr, append_assoc}
 use Rattle.std.proofs.lemmas.Bool.Decides.{eqb_tells}
 use Rattle.std.specs.List.{AllByRecursion as Every}
 use Rattle.rom_fields.specs.declared.span.Extent.TheVariants.{List as ListOf, Table as TableOf, Data}
@@ -15,7 +16,8 @@ use Rattle.cramfs_format.specs.Tree.{extents_of}
 use Rattle.cramfs_format.proofs.Spans.{ListsApart, extents_pairs}
 use Rattle.manifest_tree.specs.Names.{Inode, Names, nothing, leaf, link, folder}
 use Rattle.image_parts.proofs.Climbs.{Climbs, climbs_later, climbs_added}
-use Rattle.cramfs_layout.specs.Layout.{pad4, list_len, State, Kept, nowhere, shared, fresh, kept, data_of, after_by, after_file, after_list, after_names}
+use Rattle.cramfs_layout.specs.Layout.{pad4, list_len, State, Kept, nowhere, shared, fresh, kept, data_of, after_by}
+use Rattle.cramfs_layout.specs.Layout.{after_file, after_list, after_names}
 use Rattle.cramfs_layout.specs.Wells.{IsFile, AreWell}
 use Rattle.cramfs_layout.proofs.Stored.{data_after}
 
@@ -39,26 +41,31 @@ blocks_climb (suc k) place size to more l c =
       | inl z ↦
           let e : rest ≡ [] = ap (λ (n : ℕ). blocks k (place + 4096) n) z.1 ∙ blocks_none k (place + 4096) in
           let y = z.1 in
-          subst (λ (xs : List Span). Climbs (place + m) to (xs ++ more)) (sym e) (climbs_later (place + m) (place + size) to more (omega (arith, y)) c)
+          subst (λ (xs : List Span). Climbs (place + m) to (xs ++ more)) (sym e)
+          (climbs_later (place + m) (place + size) to more (omega (arith, y)) c)
       | inr z ↦
           let y = z.1 in
           let p : place + m ≡ place + 4096 = omega (arith, y) in
           let q : place + size ≡ place + 4096 + (size - 4096) = omega (arith, y) in
-          subst (λ (v : ℕ). Climbs v to (rest ++ more)) (sym p) (blocks_climb k (place + 4096) (size - 4096) to more (omega arith) (subst (λ (v : ℕ). Climbs v to more) q c))
+          subst (λ (v : ℕ). Climbs v to (rest ++ more)) (sym p)
+          (blocks_climb k (place + 4096) (size - 4096) to more (omega arith)
+          (subst (λ (v : ℕ). Climbs v to more) q c))
     ]))
 
 -- what a file that is kept so places
 abbrev pub file_spans : Kept → State → Inode → List Span
 file_spans nowhere s i = []
 file_spans (shared t) s i = []
-file_spans fresh s i = added TableOf (pad4 s.at) (4 * block_count i.size) ++ blocks (block_count i.size) (data_of s.at i) i.size
+file_spans fresh s i =
+    added TableOf (pad4 s.at) (4 * block_count i.size) ++ blocks (block_count i.size) (data_of s.at i) i.size
 
 -- what names place after s
 abbrev pub spans : State → Names → List Span
 spans s nothing = []
 spans s (leaf name i rest) = file_spans (kept s.tables i) s i ++ spans (after_file s i) rest
 spans s (link name i rest) = file_spans (kept s.tables i) s i ++ spans (after_file s i) rest
-spans s (folder name i own rest) = added ListOf (pad4 s.at) (list_len own) ++ (spans (after_list s own) own ++ spans (after_names (after_list s own) own) rest)
+spans s (folder name i own rest) = added ListOf (pad4 s.at) (list_len own)
+    ++ (spans (after_list s own) own ++ spans (after_names (after_list s own) own) rest)
 
 file_climbs : (cs : List (List ℕ)) (s : State) (i : Inode) (k : Kept) (to : ℕ) (more : List Span) → IsFile cs i
     → Climbs (after_by k s i).at to more → Climbs s.at to (file_spans k s i ++ more)
@@ -70,7 +77,9 @@ file_climbs cs s i fresh to more h c =
     let n = block_count i.size in
     let bs = blocks n (data_of s.at i) i.size in
     subst (λ (xs : List Span). Climbs s.at to xs) (sym (append_assoc (added TableOf (pad4 s.at) (4 * n)) bs more))
-    (climbs_added TableOf s.at (pad4 s.at) (4 * n) to (bs ++ more) (omega arith) (climbs_later (pad4 s.at + 4 * n) (data_of s.at i) to (bs ++ more) d0 (blocks_climb n (data_of s.at i) i.size to more (omega arith) c)))
+    (climbs_added TableOf s.at (pad4 s.at) (4 * n) to (bs ++ more) (omega arith)
+    (climbs_later (pad4 s.at + 4 * n) (data_of s.at i) to (bs ++ more) d0
+    (blocks_climb n (data_of s.at i) i.size to more (omega arith) c)))
 
 pub climbs_join : (from mid to : ℕ) (xs ys : List Span) → Climbs from mid xs → Climbs mid to ys
     → Climbs from to (xs ++ ys)
@@ -80,13 +89,17 @@ climbs_join from mid to (x ∷ xs) ys h k = (h.0, climbs_join (x.start + x.len) 
 pub spans_climb : (cs : List (List ℕ)) (s : State) (n : Names) → AreWell cs n
     → Climbs s.at (after_names s n).at (spans s n)
 spans_climb cs s nothing h = omega arith
-spans_climb cs s (leaf name i rest) h = file_climbs cs s i (kept s.tables i) (after_names (after_file s i) rest).at (spans (after_file s i) rest) h.1 (spans_climb cs (after_file s i) rest h.2)
+spans_climb cs s (leaf name i rest) h =
+    file_climbs cs s i (kept s.tables i) (after_names (after_file s i) rest).at (spans (after_file s i) rest) h.1
+    (spans_climb cs (after_file s i) rest h.2)
 spans_climb cs s (link name i rest) h = absurd h
 spans_climb cs s (folder name i own rest) h =
     let s1 = after_list s own in
     let s' = after_names s1 own in
     let t = (after_names s' rest).at in
-    climbs_added ListOf s.at (pad4 s.at) (list_len own) t (spans s1 own ++ spans s' rest) (omega arith) (climbs_join s1.at s'.at t (spans s1 own) (spans s' rest) (spans_climb cs s1 own h.2) (spans_climb cs s' rest h.3))
+    climbs_added ListOf s.at (pad4 s.at) (list_len own) t (spans s1 own ++ spans s' rest) (omega arith)
+    (climbs_join s1.at s'.at t (spans s1 own) (spans s' rest) (spans_climb cs s1 own h.2)
+    (spans_climb cs s' rest h.3))
 
 -- no byte is in both
 abbrev pub AreDisjoint : Span → Span → Type 0
@@ -94,13 +107,22 @@ AreDisjoint x y = (p : ℕ) → x.start ≤ p → p < x.start + x.len → y.star
 
 pub climbs_from : (from to : ℕ) (xs : List Span) → Climbs from to xs → Every (λ (y : Span). from ≤ y.start) xs
 climbs_from from to [] c = tt
-climbs_from from to (x ∷ xs) c = let a = c.0 in (a, every_weaker (λ (y : Span). x.start + x.len ≤ y.start) (λ (y : Span). from ≤ y.start) (λ y l. omega arith) xs (climbs_from (x.start + x.len) to xs c.1))
+climbs_from from to (x ∷ xs) c = let a =
+    c.0 in (
+      a,
+      every_weaker (λ (y : Span). x.start + x.len ≤ y.start) (λ (y : Span). from ≤ y.start)
+          (λ y l. omega arith) xs (climbs_from (x.start + x.len) to xs c.1),
+    )
 
 pub climbs_disjoint : (from to : ℕ) (xs : List Span) → Climbs from to xs → Pairs AreDisjoint xs
 climbs_disjoint from to [] c = tt
-climbs_disjoint from to (x ∷ xs) c = (every_weaker (λ (y : Span). x.start + x.len ≤ y.start) (AreDisjoint x) (λ y l p a u v w. omega arith) xs (climbs_from (x.start + x.len) to xs c.1), climbs_disjoint (x.start + x.len) to xs c.1)
+climbs_disjoint from to (x ∷ xs) c = (
+  every_weaker (λ (y : Span). x.start + x.len ≤ y.start) (AreDisjoint x) (λ y l p a u v w. omega arith) xs
+      (climbs_from (x.start + x.len) to xs c.1),
+  climbs_disjoint (x.start + x.len) to xs c.1,
+)
 
--- extents that are all among disjoint ones, and not one but where they may be, do not overlap
+-- extents that are all among disjoint ones, and different except if they may be the same, do not overlap
 pub no_overlap : (o : Order) (b : List ℕ) (all : List Row) (ps : List Span) (p : ℕ) → Pairs (ListsApart o b) all
     → Pairs AreDisjoint ps → Every (λ e. Has (λ z. z ≡ e) ps) (extents_of o b all) → OverlapsAt (extents_of o b all) p
     → ⊥
@@ -112,7 +134,13 @@ no_overlap o b all ps p lists apart among over =
     elim (pairs_pick AreDisjoint (λ z. z ≡ k.one) (λ z. z ≡ k.other) ps apart one other) [
       | inl s ↦ k.differ (sym s.1 ∙ s.2)
       | inr s ↦ elim s.4 [
-        | inl d ↦ d c.0 (subst (λ (z : Span). z.start ≤ c.0) (sym s.2) c.1.0) (subst (λ (z : Span). c.0 < z.start + z.len) (sym s.2) c.1.1) (subst (λ (z : Span). z.start ≤ c.0) (sym s.3) c.2.0) (subst (λ (z : Span). c.0 < z.start + z.len) (sym s.3) c.2.1)
-        | inr d ↦ d c.0 (subst (λ (z : Span). z.start ≤ c.0) (sym s.3) c.2.0) (subst (λ (z : Span). c.0 < z.start + z.len) (sym s.3) c.2.1) (subst (λ (z : Span). z.start ≤ c.0) (sym s.2) c.1.0) (subst (λ (z : Span). c.0 < z.start + z.len) (sym s.2) c.1.1)
+        | inl d ↦ d c.0 (subst (λ (z : Span). z.start ≤ c.0) (sym s.2) c.1.0)
+            (subst (λ (z : Span). c.0 < z.start + z.len) (sym s.2) c.1.1)
+            (subst (λ (z : Span). z.start ≤ c.0) (sym s.3) c.2.0)
+            (subst (λ (z : Span). c.0 < z.start + z.len) (sym s.3) c.2.1)
+        | inr d ↦ d c.0 (subst (λ (z : Span). z.start ≤ c.0) (sym s.3) c.2.0)
+            (subst (λ (z : Span). c.0 < z.start + z.len) (sym s.3) c.2.1)
+            (subst (λ (z : Span). z.start ≤ c.0) (sym s.2) c.1.0)
+            (subst (λ (z : Span). c.0 < z.start + z.len) (sym s.2) c.1.1)
       ]
     ]

@@ -1,5 +1,7 @@
 -- A planned volume, laid out, is a cramfs image.
-use Rattle.std.proofs.Common.{◌≡◌, append_assoc, ℕ, zero, suc, ◌+◌, ◌-◌, ◌/◌, ◌%◌, ◌^◌, ◌<◌, ◌≤◌, true, false, eqb, if◌then◌else◌, ◌⊎◌, List, [], ◌∷◌, ◌++◌, length, take, drop, replicate, refl, sym, ap, subst, ◌∙◌, arith, inl, inr, length-append}
+use Rattle.std.proofs.Common.{◌≡◌, append_assoc, ℕ, zero, suc, ◌+◌, ◌-◌, ◌/◌, ◌%◌, ◌^◌, ◌<◌, ◌≤◌, true, false, eqb}
+use Rattle.std.proofs.Common.{if◌then◌else◌, ◌⊎◌, List, [], ◌∷◌, ◌++◌, length, take, drop, replicate, refl, sym, ap}
+use Rattle.std.proofs.Common.{subst, ◌∙◌, arith, inl, inr, length-append}
 use Rattle.std.proofs.lemmas.List.{take_at, take_all, length-replicate, append-nil, drop-drop}
 use Rattle.std.proofs.lemmas.Nat.{xor_lt}
 use Rattle.std.specs.Int.Bits.{bit_xor}
@@ -16,17 +18,20 @@ use Rattle.image_parts.specs.Parts.{part}
 use Rattle.image_parts.proofs.Padding.{pad-after}
 use Rattle.image_parts.proofs.Parts.{HasParts-laid, length-laid, laid_keeps}
 use Rattle.image_parts.proofs.Parts.{HasAt-before, HasAt-after, HasAt-moved}
-use Rattle.cramfs_layout.specs.Layout.{word_bytes, entry_bytes, list_len, list_bytes, root_offset, count, first_state, after_names, parts, flags, size_of, superblock, with_crc, layout, type_bits}
+use Rattle.cramfs_layout.specs.Layout.{word_bytes, entry_bytes, list_len, list_bytes, root_offset, count, first_state}
+use Rattle.cramfs_layout.specs.Layout.{after_names, parts, flags, size_of, superblock, with_crc, layout, type_bits}
 use Rattle.cramfs_layout.specs.Reads.{IsEntry, ReadsEntry}
 use Rattle.cramfs_layout.specs.Planned.{IsPlanned}
 use Rattle.cramfs_layout.proofs.Entries.{length-entry, length-word, word_has, entry_reads}
 use Rattle.cramfs_layout.proofs.Stored.{all_read, names_onward}
 use Rattle.cramfs_layout.proofs.Whole.{Holds, all_spots, is_tree, root_placed}
-use Rattle.cramfs_layout.proofs.Super.{front, behind, before_crc, after_crc, no_crc, signed, drop_crc, length-list, parts_are}
+use Rattle.cramfs_layout.proofs.Super.{front, behind, before_crc, after_crc, no_crc, signed, drop_crc, length-list}
+use Rattle.cramfs_layout.proofs.Super.{parts_are}
 
 bit_small : (c x : ℕ) → c < 2 ^ 32 → after_bit c x < 2 ^ 32
 unfolding after_bit
-bit_small c x h = elim (eqb (c % 2) x) as (λ t. (if t then c / 2 else bit_xor (c / 2) polynomial) < 2 ^ 32) [ true ↦ omega arith | false ↦ xor_lt 32 (c / 2) polynomial (omega arith) (omega arith) ]
+bit_small c x h = elim (eqb (c % 2) x) as (λ t. (if t then c / 2 else bit_xor (c / 2) polynomial) < 2 ^ 32)
+    [ true ↦ omega arith | false ↦ xor_lt 32 (c / 2) polynomial (omega arith) (omega arith) ]
 
 bits_small : (n c x : ℕ) → c < 2 ^ 32 → after_bits n c x < 2 ^ 32
 bits_small zero c x h = h
@@ -38,7 +43,8 @@ bytes_small c (x ∷ xs) h = bytes_small (after_bits 8 c x) xs (bits_small 8 c x
 
 crc_small : (xs : List ℕ) → crc_of xs < 2 ^ 32
 unfolding crc_of
-crc_small xs = xor_lt 32 (after_bytes (2 ^ 32 - 1) xs) (2 ^ 32 - 1) (bytes_small (2 ^ 32 - 1) xs (omega arith)) (omega arith)
+crc_small xs =
+    xor_lt 32 (after_bytes (2 ^ 32 - 1) xs) (2 ^ 32 - 1) (bytes_small (2 ^ 32 - 1) xs (omega arith)) (omega arith)
 
 -- what an image of this form says in its superblock
 record Says (o : Order) (b : List ℕ) (size w : ℕ) : Type 0 where
@@ -58,11 +64,17 @@ front_says o b size w back e small low =
     let l2 = length-word o size in
     let l3 = length-word o flags in
     let l4 = length-word o 0 in
-    let h4 = HasAt-moved b (0 + length (word_bytes o magic)) 4 t2 (omega (arith, l1)) (HasAt-after b 0 (word_bytes o magic) t2 h0) in
-    let h8 = HasAt-moved b (4 + length (word_bytes o size)) 8 t3 (omega (arith, l2)) (HasAt-after b 4 (word_bytes o size) t3 h4) in
-    let h12 = HasAt-moved b (8 + length (word_bytes o flags)) 12 t4 (omega (arith, l3)) (HasAt-after b 8 (word_bytes o flags) t4 h8) in
-    let h16 = HasAt-moved b (12 + length (word_bytes o 0)) 16 (signature ++ (word_bytes o w ++ back)) (omega (arith, l4)) (HasAt-after b 12 (word_bytes o 0) (signature ++ (word_bytes o w ++ back)) h12) in
-    let h32 : HasAt b 32 (word_bytes o w ++ back) = HasAt-moved b (16 + length signature) 32 (word_bytes o w ++ back) refl (HasAt-after b 16 signature (word_bytes o w ++ back) h16) in
+    let h4 = HasAt-moved b (0 + length (word_bytes o magic)) 4 t2 (omega (arith, l1))
+    (HasAt-after b 0 (word_bytes o magic) t2 h0) in
+    let h8 = HasAt-moved b (4 + length (word_bytes o size)) 8 t3 (omega (arith, l2))
+    (HasAt-after b 4 (word_bytes o size) t3 h4) in
+    let h12 = HasAt-moved b (8 + length (word_bytes o flags)) 12 t4 (omega (arith, l3))
+    (HasAt-after b 8 (word_bytes o flags) t4 h8) in
+    let h16 = HasAt-moved b (12 + length (word_bytes o 0)) 16 (signature ++ (word_bytes o w ++ back))
+    (omega (arith, l4)) (HasAt-after b 12 (word_bytes o 0) (signature ++ (word_bytes o w ++ back)) h12) in
+    let h32 : HasAt b 32 (word_bytes o w ++ back) =
+    HasAt-moved b (16 + length signature) 32 (word_bytes o w ++ back) refl
+    (HasAt-after b 16 signature (word_bytes o w ++ back) h16) in
     record {
       begins = word_has o b 0 magic t2 (omega arith) h0;
       size_is = word_has o b 4 size t3 small h4;
@@ -77,15 +89,19 @@ moved_by o size w v back p bytes l (more, e) =
     let a = front o size (word_bytes o w ++ back) in
     let c = front o size (word_bytes o v ++ back) in
     let k : p ≡ 36 + (p - 36) = omega arith in
-    let same : drop p a ≡ drop p c = ap (λ (q : ℕ). drop q a) k ∙ sym (drop-drop (p - 36) 36 a) ∙ ap (drop (p - 36)) (drop_crc o size w back ∙ sym (drop_crc o size v back)) ∙ drop-drop (p - 36) 36 c ∙ ap (λ (q : ℕ). drop q c) (sym k) in
+    let same : drop p a ≡ drop p c = ap (λ (q : ℕ). drop q a) k ∙ sym (drop-drop (p - 36) 36 a)
+    ∙ ap (drop (p - 36)) (drop_crc o size w back ∙ sym (drop_crc o size v back)) ∙ drop-drop (p - 36) 36 c
+    ∙ ap (λ (q : ℕ). drop q c) (sym k) in
     (more, same ∙ e)
 
 parts_moved : (o : Order) (size w v : ℕ) (back : List ℕ) (from : ℕ) (ps : List Part) → 36 ≤ from → Rises from ps
     → HasParts (front o size (word_bytes o v ++ back)) ps → HasParts (front o size (word_bytes o w ++ back)) ps
 parts_moved o size w v back from [] l r h = tt
 parts_moved o size w v back from (p ∷ ps) l r h =
-    let a = r.0 in
-    (moved_by o size w v back p.place p.bytes (omega arith) h.0, parts_moved o size w v back (end_of_part p) ps (omega arith) r.1 h.1)
+    let a = r.0 in (
+      moved_by o size w v back p.place p.bytes (omega arith) h.0,
+      parts_moved o size w v back (end_of_part p) ps (omega arith) r.1 h.1,
+    )
 
 parts_front : (b : List ℕ) (ps qs : List Part) → HasParts b (ps ++ qs) → HasParts b ps
 parts_front b [] qs h = tt
@@ -114,11 +130,23 @@ unfolding superblock
 length_super Little volume root n l =
     let entry = entry_bytes Little [] root (list_len n) (root_offset n) in
     let zeros = replicate {A = ℕ} (16 - length volume) 0 in
-    omega (arith, length-append volume (zeros ++ entry), length-append zeros entry, length-replicate {A = ℕ} (16 - length volume) 0, length-entry Little [] root (list_len n) (root_offset n))
+    omega (
+      arith,
+      length-append volume (zeros ++ entry),
+      length-append zeros entry,
+      length-replicate {A = ℕ} (16 - length volume) 0,
+      length-entry Little [] root (list_len n) (root_offset n),
+    )
 length_super Big volume root n l =
     let entry = entry_bytes Big [] root (list_len n) (root_offset n) in
     let zeros = replicate {A = ℕ} (16 - length volume) 0 in
-    omega (arith, length-append volume (zeros ++ entry), length-append zeros entry, length-replicate {A = ℕ} (16 - length volume) 0, length-entry Big [] root (list_len n) (root_offset n))
+    omega (
+      arith,
+      length-append volume (zeros ++ entry),
+      length-append zeros entry,
+      length-replicate {A = ℕ} (16 - length volume) 0,
+      length-entry Big [] root (list_len n) (root_offset n),
+    )
 
 length_front : (o : Order) (size w : ℕ) (back : List ℕ)
     → length (front o size (word_bytes o w ++ back)) ≡ 36 + length back
@@ -137,11 +165,16 @@ root_at o b volume root n more l h =
     let block_long = length-word o (size_of n / 4096) in
     let file_long = length-word o (count n + 1) in
     let zeros_long = length-replicate {A = ℕ} (16 - length volume) 0 in
-    let at_blocks = HasAt-moved b (36 + length (word_bytes o 0)) 40 (block_word ++ (file_word ++ (named ++ more))) (omega (arith, edition_long)) (HasAt-after b 36 (word_bytes o 0) (block_word ++ (file_word ++ (named ++ more))) h) in
-    let at_files = HasAt-moved b (40 + length block_word) 44 (file_word ++ (named ++ more)) (omega (arith, block_long)) (HasAt-after b 40 block_word (file_word ++ (named ++ more)) at_blocks) in
-    let at_name = HasAt-moved b (44 + length file_word) 48 (named ++ more) (omega (arith, file_long)) (HasAt-after b 44 file_word (named ++ more) at_files) in
+    let at_blocks = HasAt-moved b (36 + length (word_bytes o 0)) 40 (block_word ++ (file_word ++ (named ++ more)))
+    (omega (arith, edition_long)) (HasAt-after b 36 (word_bytes o 0)
+    (block_word ++ (file_word ++ (named ++ more))) h) in
+    let at_files = HasAt-moved b (40 + length block_word) 44 (file_word ++ (named ++ more)) (omega (arith, block_long))
+    (HasAt-after b 40 block_word (file_word ++ (named ++ more)) at_blocks) in
+    let at_name = HasAt-moved b (44 + length file_word) 48 (named ++ more) (omega (arith, file_long))
+    (HasAt-after b 44 file_word (named ++ more) at_files) in
     let behind_name = HasAt-after b 48 volume (zeros ++ entry) (HasAt-before b 48 named more at_name) in
-    HasAt-moved b (48 + length volume + length zeros) 64 entry (omega (arith, zeros_long)) (HasAt-after b (48 + length volume) zeros entry behind_name)
+    HasAt-moved b (48 + length volume + length zeros) 64 entry (omega (arith, zeros_long))
+    (HasAt-after b (48 + length volume) zeros entry behind_name)
 
 -- the volume's name, and zeros up to 16 bytes
 name_at : (o : Order) (b volume : List ℕ) (root : Inode) (n : Names) (more : List ℕ)
@@ -155,9 +188,13 @@ name_at o b volume root n more h =
     let edition_long = length-word o 0 in
     let block_long = length-word o (size_of n / 4096) in
     let file_long = length-word o (count n + 1) in
-    let at_blocks = HasAt-moved b (36 + length (word_bytes o 0)) 40 (block_word ++ (file_word ++ (named ++ more))) (omega (arith, edition_long)) (HasAt-after b 36 (word_bytes o 0) (block_word ++ (file_word ++ (named ++ more))) h) in
-    let at_files = HasAt-moved b (40 + length block_word) 44 (file_word ++ (named ++ more)) (omega (arith, block_long)) (HasAt-after b 40 block_word (file_word ++ (named ++ more)) at_blocks) in
-    let at_name = HasAt-moved b (44 + length file_word) 48 (named ++ more) (omega (arith, file_long)) (HasAt-after b 44 file_word (named ++ more) at_files) in
+    let at_blocks = HasAt-moved b (36 + length (word_bytes o 0)) 40 (block_word ++ (file_word ++ (named ++ more)))
+    (omega (arith, edition_long)) (HasAt-after b 36 (word_bytes o 0)
+    (block_word ++ (file_word ++ (named ++ more))) h) in
+    let at_files = HasAt-moved b (40 + length block_word) 44 (file_word ++ (named ++ more)) (omega (arith, block_long))
+    (HasAt-after b 40 block_word (file_word ++ (named ++ more)) at_blocks) in
+    let at_name = HasAt-moved b (44 + length file_word) 48 (named ++ more) (omega (arith, file_long))
+    (HasAt-after b 44 file_word (named ++ more) at_files) in
     let whole : HasAt b 48 named = HasAt-before b 48 named more at_name in
     HasAt-before b 48 (volume ++ zeros) entry (subst (HasAt b 48) (sym (append_assoc volume zeros entry)) whole)
 
@@ -165,7 +202,8 @@ name_says : (b volume : List ℕ) → length volume ≤ 16 → HasAt b 48 (volum
     → take 16 (drop 48 b) ≡ volume ++ replicate (16 - length volume) 0
 name_says b volume l (back, e) =
     let zeros = replicate {A = ℕ} (16 - length volume) 0 in
-    let n : length (volume ++ zeros) ≡ 16 = omega (arith, l, length-append volume zeros, length-replicate {A = ℕ} (16 - length volume) 0) in
+    let n : length (volume ++ zeros) ≡ 16 =
+    omega (arith, l, length-append volume zeros, length-replicate {A = ℕ} (16 - length volume) 0) in
     ap (take 16) e ∙ take_at (volume ++ zeros) back 16 n
 
 -- the parts of a layout
@@ -174,7 +212,7 @@ all_parts o volume root n cs =
     part 0 (superblock o volume root n) ∷ part 76 (list_bytes o (first_state n) n)
     ∷ (parts o cs (first_state n) n ++ part (size_of n) [] ∷ [])
 
--- they stand one after the other, up to the size of the image
+-- they are one after the other, up to the size of the image
 pub record AreLaid (o : Order) (volume : List ℕ) (root : Inode) (n : Names) (cs : List (List ℕ)) : Type 0 where
   pub first : length (superblock o volume root n) ≡ 76
   pub rises : Rises 0 (all_parts o volume root n cs)
@@ -237,10 +275,12 @@ is_image o volume root n cs h =
     let w = crc_of (front o size (word_bytes o 0 ++ back)) in
     let b = with_crc o u in
     let bform : b ≡ front o size (word_bytes o w ++ back) = ap (with_crc o) form ∙ after_crc o size back in
-    let lb : length b ≡ size = ap length bform ∙ length_front o size w back ∙ sym (length_front o size 0 back) ∙ ap length (sym form) ∙ lu in
+    let lb : length b ≡ size =
+    ap length bform ∙ length_front o size w back ∙ sym (length_front o size 0 back) ∙ ap length (sym form) ∙ lu in
     let says = front_says o b size w back bform (omega arith) (crc_small (front o size (word_bytes o 0 ++ back))) in
     let laid_parts = (HasParts-laid [] (part 0 sb ∷ list ∷ (rest ++ end)) are.rises).1 in
-    let moved = parts_moved o size w 0 back 76 (list ∷ (rest ++ end)) (omega arith) (omega arith, are.rises.1.1) (subst (λ (x : List ℕ). HasParts x (list ∷ (rest ++ end))) form laid_parts) in
+    let moved = parts_moved o size w 0 back 76 (list ∷ (rest ++ end)) (omega arith) (omega arith, are.rises.1.1)
+    (subst (λ (x : List ℕ). HasParts x (list ∷ (rest ++ end))) form laid_parts) in
     let has = subst (λ (x : List ℕ). HasParts x (list ∷ (rest ++ end))) (sym bform) moved in
     let own = parts_front b rest end has.1 in
     let has36 : HasAt b 36 back = ([], ap (drop 36) bform ∙ drop_crc o size w back ∙ sym (append-nil back)) in
@@ -264,7 +304,8 @@ is_image o volume root n cs h =
       offset_is = read.offset_is;
       size_is = read.size_is;
       well = h.well;
-      reads = (all_read o b cs high 76 s n h.well (omega arith) (omega arith) (omega (arith, up, room)) tt has.0 own).all;
+      reads = (all_read o b cs high 76 s n h.well (omega arith) (omega arith)
+          (omega (arith, up, room)) tt has.0 own).all;
       has = own;
       within = omega (arith, up, lb);
       room = omega (arith, up, room);
@@ -285,8 +326,10 @@ is_image o volume root n cs h =
         signed = ap (λ (x : List ℕ). take 16 (drop 16 x)) bform ∙ signed o size (word_bytes o w ++ back);
         root = record {
           directory = kind;
-          begins = λ _. elim (root_begins n) [ inl z ↦ inl (read.offset_is ∙ z) | inr z ↦ inr (inl (read.offset_is ∙ z)) ];
-          empty = λ z. elim (root_placed n) [ inl y ↦ read.size_is ∙ ap list_len y | inr y ↦ absurd (omega (arith, z, y, offset_is)) ];
+          begins =
+              λ _. elim (root_begins n) [ inl z ↦ inl (read.offset_is ∙ z) | inr z ↦ inr (inl (read.offset_is ∙ z)) ];
+          empty = λ z. elim (root_placed n)
+              [ inl y ↦ read.size_is ∙ ap list_len y | inr y ↦ absurd (omega (arith, z, y, offset_is)) ];
         };
       };
       holds = holds;

@@ -1,5 +1,6 @@
--- The bytes of each file stand in one run, from a multiple of its alignment on.
-use Rattle.std.proofs.Common.{◌≡◌, ◌≢◌, ℕ, zero, suc, ◌+◌, ◌-◌, ◌*◌, ◌/◌, ◌%◌, ◌^◌, ◌<◌, ◌≤◌, List, [], ◌++◌, length, drop, refl, sym, ap, subst, ◌∙◌, arith, length-append}
+-- The bytes of each file are in one run, from a multiple of its alignment on.
+use Rattle.std.proofs.Common.{◌≡◌, ◌≢◌, ℕ, zero, suc, ◌+◌, ◌-◌, ◌*◌, ◌/◌, ◌%◌, ◌^◌, ◌<◌, ◌≤◌, List, [], ◌++◌, length}
+use Rattle.std.proofs.Common.{drop, refl, sym, ap, subst, ◌∙◌, arith, length-append}
 use Rattle.std.proofs.lemmas.List.{length-drop}
 use Rattle.std.specs.List.{AllByRecursion as Every}
 use Rattle.record_forest.proofs.Lists.{every_join, every_left, every_right}
@@ -17,7 +18,8 @@ use Rattle.layout_terms.specs.Files.{Placed, at_place}
 use Rattle.layout_terms.specs.Items.{Item}
 use Rattle.layout_terms.specs.Placement.{IsRun}
 use Rattle.layout_terms.proofs.Runs.{no_run, run_of}
-use Rattle.cramfs_layout.specs.Layout.{pad4, type_bits, size_by, entry_len, pointers, State, Kept, nowhere, shared, fresh, kept, data_of, table_by, after_file, after_list, after_names}
+use Rattle.cramfs_layout.specs.Layout.{pad4, type_bits, size_by, entry_len, pointers, State, Kept, nowhere, shared}
+use Rattle.cramfs_layout.specs.Layout.{fresh, kept, data_of, table_by, after_file, after_list, after_names}
 use Rattle.cramfs_layout.specs.Items.{start_by, entries, below}
 use Rattle.cramfs_layout.specs.Wells.{IsFile, AreWell, AllRead}
 use Rattle.cramfs_layout.proofs.Filled.{FilledAt, IsFilled}
@@ -61,11 +63,12 @@ files_aligned o b cs high l s (folder name i own rest) h r e u =
     let both = every_right F own_items (under ++ later) u in (
       (λ z. absurd (z h.1.kind)),
       every_join (IsAligned o b cs) (placed (pad4 s.at) s1 own) (placed (l + entry_len name) s2 rest)
-          (files_aligned o b cs high (pad4 s.at) s1 own h.2 r.1 (every_left F own_items (under ++ later) u) (every_left F under later both))
+          (files_aligned o b cs high (pad4 s.at) s1 own h.2 r.1 (every_left F own_items (under ++ later) u)
+          (every_left F under later both))
           (files_aligned o b cs high (l + entry_len name) s2 rest h.3 r.2 e.1 (every_right F under later both)),
     )
 
--- what stands in the bytes ends in them
+-- what is in the bytes ends in them
 ends_within : (b : List ℕ) (p : ℕ) (bytes : List ℕ) → HasAt b p bytes → 0 < length bytes → p + length bytes ≤ length b
 ends_within b p bytes (back, e) h =
     let l : length (drop p b) ≡ length (bytes ++ back) = ap length e in
@@ -77,7 +80,7 @@ fours k m a e = ap (λ (v : ℕ). (k * v) % 4) e ∙ times4 k m
     times4 : (x m : ℕ) → (x * (4 * m)) % 4 ≡ 0
     times4 x m = omega arith
 
--- the places of a file's bytes
+-- the offsets of a file's bytes
 file_run : (o : Order) (b : List ℕ) (cs : List (List ℕ)) (i : Inode) (t size : ℕ) → length b ≤ 2 ^ 28 → IsFile cs i
     → size ≡ i.size → (size ≢ 0 → (k : ℕ) × FilledAt o cs b t (k * i.align) i.fill)
     → IsRun i.align (blocks_from o b (block_count size) t size)
@@ -93,7 +96,10 @@ file_run o b cs i t (suc n) top h e f =
     let within = ends_within b d bytes k.1.1 (omega (arith, long)) in
     let even : d % 4 ≡ 0 = fours k.0 h.fours i.align h.aligned in
     let c = block_count size in
-    let run = one_run o b c t d size (omega arith) (λ j m. (pointer_says (word o b (t + 4 * j)) (d + 4096 * j) (pointer_at o b t d c j (omega (arith, within, long, top)) m table) (omega (arith, within, long, top, m)) (omega (arith, even))).1) in
+    let run = one_run o b c t d size (omega arith)
+    (λ j m. (pointer_says (word o b (t + 4 * j)) (d + 4096 * j)
+    (pointer_at o b t d c j (omega (arith, within, long, top)) m table) (omega (arith, within, long, top, m))
+    (omega (arith, even))).1) in
     subst (IsRun i.align) (sym run) (run_of i.align k.0 d size refl)
 
 run_by : (k : Kind) (i : Inode) (ps : List ℕ) → (k ≢ Directory → size_by k i ≡ i.size → IsRun i.align ps)
@@ -106,7 +112,7 @@ run_by Character i ps h = no_run i.align
 run_by Socket i ps h = no_run i.align
 run_by Fifo i ps h = no_run i.align
 
--- the node of a file has its places in a run
+-- the node of a file has its offsets in a run
 pub node_run : (o : Order) (b : List ℕ) (cs : List (List ℕ)) (high : ℕ) (i : Inode) (p : ℕ) (es : Entries)
     → length b ≤ 2 ^ 28 → IsGood cs i → IsAt o b cs high i p → IsAligned o b cs (at_place i p)
     → IsRun i.align (places_of (node_of o b p es))

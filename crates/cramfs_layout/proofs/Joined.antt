@@ -1,5 +1,6 @@
 -- An image composed of its sections is the layout.
-use Rattle.std.proofs.Common.{◌≡◌, ◌≢◌, ℕ, List, [], ◌∷◌, ◌++◌, map, length, drop, get_or, refl, sym, ap, subst, ◌∙◌, arith}
+use Rattle.std.proofs.Common.{◌≡◌, ◌≢◌, ℕ, List, [], ◌∷◌, ◌++◌, map, length, drop, get_or, refl, sym, ap, subst, ◌∙◌}
+use Rattle.std.proofs.Common.{arith}
 use Rattle.std.specs.List.{AllByRecursion as Every}
 use Rattle.record_forest.proofs.Lists.{every_join, every_left, every_right, every_weaker, every_of}
 use Rattle.cramfs_format.specs.declared.order.Order.{Order}
@@ -27,7 +28,8 @@ use Rattle.cramfs_layout.proofs.Composed.{Stands, entries_stand, below_stand}
 use Rattle.cramfs_layout.proofs.Filled.{IsFilled, are_filled}
 use Rattle.cramfs_layout.proofs.Held.{Held, sections_held}
 
-module _ (o : Order) (volume : List ℕ) (root : Inode) (n : Names) (cs : List (List ℕ)) (A : ℕ → ℕ) (h : IsPlanned volume root n cs) (al : AreAlignedBy A n) where
+module _ (o : Order) (volume : List ℕ) (root : Inode) (n : Names) (cs : List (List ℕ)) (A : ℕ → ℕ)
+    (h : IsPlanned volume root n cs) (al : AreAlignedBy A n) where
   abbrev block : List ℕ
   block = superblock o volume root n
 
@@ -62,8 +64,12 @@ module _ (o : Order) (volume : List ℕ) (root : Inode) (n : Names) (cs : List (
   held : Every (Held o block cs whole all) (sections_of all)
   held =
       let s = first_state n in
-      let stand = every_join (Stands o whole) (entries o 76 s n) (below o s n) (entries_stand o whole 76 s n have.1.0) (below_stand o whole cs s n own) in
-      ((have.0, (are_laid o volume root n cs h).first), order_every (Held o block cs whole all) (sections_from [] 1 others) (sections_held o block cs whole all [] 1 others refl stand filled))
+      let stand = every_join (Stands o whole) (entries o 76 s n) (below o s n) (entries_stand o whole 76 s n have.1.0)
+      (below_stand o whole cs s n own) in (
+        (have.0, (are_laid o volume root n cs h).first),
+        order_every (Held o block cs whole all) (sections_from [] 1 others)
+            (sections_held o block cs whole all [] 1 others refl stand filled),
+      )
 
   pub long : Every IsLong (sections_of all)
   long = every_weaker (Held o block cs whole all) IsLong (λ x k. k.1) (sections_of all) held
@@ -76,7 +82,8 @@ module _ (o : Order) (volume : List ℕ) (root : Inode) (n : Names) (cs : List (
   all_held [] k = ((drop (size_of n) whole, refl), tt)
   all_held (x ∷ xs) k = (k.0.0, all_held xs k.1)
 
-  outside : (p : ℕ) (ss : List Section) → Every IsLong ss → Every (IsOutside p) (map (cramfs_part o block cs all) ss ++ part (size_of n) [] ∷ [])
+  outside : (p : ℕ) (ss : List Section) → Every IsLong ss
+      → Every (IsOutside p) (map (cramfs_part o block cs all) ss ++ part (size_of n) [] ∷ [])
       → Every (OutOf p) ss × IsOutside p (part (size_of n) [])
   outside p [] l k = (tt, k.0)
   outside p (x ∷ xs) l k =
@@ -89,10 +96,12 @@ module _ (o : Order) (volume : List ℕ) (root : Inode) (n : Names) (cs : List (
       let R = runs s n in
       let es = entries o 76 s n in
       let bs = below o s n in
-      let t = all_tabled o cs A (IsRun R) 76 s n h.well al (runs_fresh cs R s n h.well (every_of (IsIn R) R (λ r k. k))) tt in
+      let t = all_tabled o cs A (IsRun R) 76 s n h.well al
+      (runs_fresh cs R s n h.well (every_of (IsIn R) R (λ r k. k))) tt in
       let tabled = every_join (IsTabled (IsRun R)) es bs t.here t.under in
       let bare = every_join IsBare es bs (entries_bare o 76 s n) (below_bare o s n) in
-      let lens = every_weaker (IsFilled o cs whole) (λ (i : Item). i.len ≢ 0 → length (bytes_of cs i.fill) ≡ i.len) (λ i k u. (k u).0) others filled in
+      let lens = every_weaker (IsFilled o cs whole) (λ (i : Item). i.len ≢ 0 → length (bytes_of cs i.fill) ≡ i.len)
+      (λ i k u. (k u).0) others filled in
       all_out cs s.at (after_names s n).at R (are_runs cs s n h.well) (omega arith) p 1 others lens tabled bare out
 
   zeros : (p : ℕ) → Every (IsOutside p) sections → get_or whole p 0 ≡ 0
@@ -105,12 +114,16 @@ module _ (o : Order) (volume : List ℕ) (root : Inode) (n : Names) (cs : List (
       let here = every_left (OutOfItem p) es bs items in
       let under = every_right (OutOfItem p) es bs items in
       let list = subst (λ (v : ℕ). Out p 76 v) (sym (length-list o s n)) (list_out o p 76 s n here) in
-      let rest = every_join (IsOutside p) (parts o cs s n) (part (size_of n) [] ∷ []) (covered o cs p 76 s n h.well here under) (out.1, tt) in
-      zero_outside [] (all_parts o volume root n cs) p (are_laid o volume root n cs h).rises (k.0, (list, rest)) (omega arith)
+      let rest = every_join (IsOutside p) (parts o cs s n) (part (size_of n) [] ∷ [])
+      (covered o cs p 76 s n h.well here under) (out.1, tt) in
+      zero_outside [] (all_parts o volume root n cs) p (are_laid o volume root n cs h).rises (k.0, (list, rest))
+      (omega arith)
 
   pub is_composed : layout o volume root n cs ≡ composed o block (size_of n) cs all
   unfolding layout composed
   is_composed =
-      let are = sections_are bytes 0 (size_of n) (size_of n) (sections_of all) (omega arith) (rise o volume root n cs A h al) long in
-      let same = determined whole sections are.rises (all_held (sections_of all) held) ((are_laid o volume root n cs h).long ∙ sym are.ends_at) zeros in
+      let are = sections_are bytes 0 (size_of n) (size_of n) (sections_of all) (omega arith)
+      (rise o volume root n cs A h al) long in
+      let same = determined whole sections are.rises (all_held (sections_of all) held)
+      ((are_laid o volume root n cs h).long ∙ sym are.ends_at) zeros in
       ap (with_crc o) same

@@ -1,5 +1,6 @@
--- Files with the contents of one source have one table, and so their bytes at the same places.
-use Rattle.std.proofs.Common.{◌≡◌, ◌≢◌, ℕ, ◌+◌, List, [], length, Some, None, Option, inl, inr, refl, sym, ap, ◌∙◌, arith}
+-- Files with the contents of one source have one table, and so their bytes at the same offsets.
+use Rattle.std.proofs.Common.{◌≡◌, ◌≢◌, ℕ, ◌+◌, List, [], length, Some, None, Option, inl, inr, refl, sym, ap, ◌∙◌}
+use Rattle.std.proofs.Common.{arith}
 use Rattle.std.proofs.lemmas.Bool.{eq-eqb}
 use Rattle.std.proofs.lemmas.Bool.Decides.{eqb_tells}
 use Rattle.std.specs.List.{AllByRecursion as Every}
@@ -15,7 +16,9 @@ use Rattle.manifest_tree.specs.Names.{Fill, no_bytes, text, source, Inode, Names
 use Rattle.manifest_tree.specs.Shape.{node_under, file_under, with_names}
 use Rattle.layout_terms.specs.Files.{Placed, at_place}
 use Rattle.layout_terms.proofs.Alike.{alike_some}
-use Rattle.cramfs_layout.specs.Layout.{pad4, type_bits, size_by, entry_len, State, Table, table_with, Kept, nowhere, shared, fresh, kept, kept_by, kept_with, with_table, table_by, first_state, after_by, after_file, after_list, after_names, layout}
+use Rattle.cramfs_layout.specs.Layout.{pad4, type_bits, size_by, entry_len, State, Table, table_with, Kept, nowhere}
+use Rattle.cramfs_layout.specs.Layout.{shared, fresh, kept, kept_by, kept_with, with_table, table_by, first_state}
+use Rattle.cramfs_layout.specs.Layout.{after_by, after_file, after_list, after_names, layout}
 use Rattle.cramfs_layout.specs.Planned.{IsPlanned}
 use Rattle.cramfs_layout.specs.Sharing.{SourcesAreShared}
 use Rattle.cramfs_layout.specs.Wells.{FitsKind, IsFile, AreWell, AllRead}
@@ -54,8 +57,10 @@ file_keeps s i fresh e k t h = elim (eqb_tells i.size 0) [
 
 names_keep : (s : State) (n : Names) → Keeps s.tables (after_names s n).tables
 names_keep s nothing k t h = h
-names_keep s (leaf name i rest) k t h = names_keep (after_file s i) rest k t (file_keeps s i (kept s.tables i) refl k t h)
-names_keep s (link name i rest) k t h = names_keep (after_file s i) rest k t (file_keeps s i (kept s.tables i) refl k t h)
+names_keep s (leaf name i rest) k t h =
+    names_keep (after_file s i) rest k t (file_keeps s i (kept s.tables i) refl k t h)
+names_keep s (link name i rest) k t h =
+    names_keep (after_file s i) rest k t (file_keeps s i (kept s.tables i) refl k t h)
 names_keep s (folder name i own rest) k t h =
     let s1 = after_list s own in
     names_keep (after_names s1 own) rest k t (names_keep s1 own k t h)
@@ -101,7 +106,8 @@ files_refer o b cs high l s (leaf name i rest) all h r keep =
     let s' = after_file s i in
     let c = kept s.tables i in
     let t = table_by c s.at in (
-      (λ _ z k f. keep k t (names_keep s' rest k t (file_table s i k c refl z f)) ∙ ap (λ (v : ℕ). Some v) (sym r.0.offset_is)),
+      (λ _ z k f. keep k t (names_keep s' rest k t (file_table s i k c refl z f))
+          ∙ ap (λ (v : ℕ). Some v) (sym r.0.offset_is)),
       files_refer o b cs high (l + entry_len name) s' rest all h.2 r.2 keep,
     )
 files_refer o b cs high l s (link name i rest) all h r keep = absurd h
@@ -114,7 +120,7 @@ files_refer o b cs high l s (folder name i own rest) all h r keep =
           (files_refer o b cs high (l + entry_len name) s2 rest all h.3 r.2 keep),
     )
 
--- a file with the contents of a source has its size in its inode, and places
+-- a file with the contents of a source has its size in its inode, and offsets
 record HasPlaces (k : Kind) (i : Inode) (ps : List ℕ) : Type 0 where
   other : k ≢ Directory
   size : size_by k i ≡ i.size
@@ -135,7 +141,7 @@ source_file : (cs : List (List ℕ)) (i : Inode) (k : ℕ) → IsGood cs i → i
 source_file cs i k (a_file f) e = f
 source_file cs i k (a_folder f) e = let z : no_bytes ≡ source k = sym f.bytes ∙ e in absurd (cc)
 
--- its places are those of the blocks in its table
+-- its offsets are those of the blocks in its table
 node_places : (o : Order) (b : List ℕ) (cs : List (List ℕ)) (high : ℕ) (i : Inode) (p : ℕ) (es : Entries) (j : ℕ)
     → IsFile cs i → IsAt o b cs high i p → i.fill ≡ source j
     → places_of (node_of o b p es) ≡ blocks_from o b (block_count i.size) (offset_of o b p) i.size
@@ -157,7 +163,7 @@ blocks_same o b n m p q e f = elim (eqb_tells n 0) [
       ∙ ap (λ (v : ℕ). blocks_from o b (block_count v) q v) e
 ]
 
--- what stands at the ends of two paths, with the contents of one source
+-- what is at the ends of two paths, with the contents of one source
 ends_share : (o : Order) (b : List ℕ) (cs : List (List ℕ)) (high : ℕ) (all : List Table) (root : Inode) (n : Names)
     (x y : Node) (i j : Inode) (k : ℕ) → IsEnd o b cs high (IsOne (IsTableOf o b all) root n) x i
     → IsEnd o b cs high (IsOne (IsTableOf o b all) root n) y j → i.fill ≡ source k → j.fill ≡ source k

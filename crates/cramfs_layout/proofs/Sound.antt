@@ -1,4 +1,4 @@
--- The entries of a layout are sound.
+-- The entries of a layout are valid.
 use Rattle.std.proofs.Common.{◌≡◌, ℕ, zero, suc, ◌+◌, ◌*◌, ◌/◌, ◌%◌, ◌^◌, ◌<◌, ◌≤◌, true, List, length, refl, arith}
 use Rattle.cramfs_format.specs.Order.{word}
 use Rattle.cramfs_format.specs.declared.order.Order.{Order}
@@ -21,7 +21,8 @@ pointer_at o b t place (suc n) zero h l has =
 pointer_at o b t place (suc n) (suc i) h l has =
     let w = word_bytes o (3 * 2 ^ 30 + place / 4) in
     let len = length-word o (3 * 2 ^ 30 + place / 4) in
-    let next = HasAt-moved b (t + length w) (t + 4) (pointers o (place + 4096) n) (omega (arith, len)) (HasAt-after b t w (pointers o (place + 4096) n) has) in
+    let next = HasAt-moved b (t + length w) (t + 4) (pointers o (place + 4096) n) (omega (arith, len))
+    (HasAt-after b t w (pointers o (place + 4096) n) has) in
     let r = pointer_at o b (t + 4) (place + 4096) n i (omega arith) (omega arith) next in
     let e : t + 4 * suc i ≡ t + 4 + 4 * i = omega arith in
     let f : place + 4096 * suc i ≡ place + 4096 + 4096 * i = omega arith in
@@ -53,6 +54,8 @@ table_is o b bytes high t l top some st =
     record {
       place = st.place;
       table = (low, omega arith);
-      each = λ i k. pointer_says (word o b (t + 4 * i)) (st.place + 4096 * i) (pointer_at o b t st.place (block_count (length bytes)) i (omega arith) k st.table) (omega arith) (omega arith);
+      each = λ i k. pointer_says (word o b (t + 4 * i)) (st.place + 4096 * i)
+          (pointer_at o b t st.place (block_count (length bytes)) i (omega arith) k st.table) (omega arith)
+          (omega arith);
       blocks = (omega arith, omega arith);
     }

@@ -1,5 +1,6 @@
 -- Lists, tables and blocks that were laid are read back.
-use Rattle.std.proofs.Common.{◌≡◌, ℕ, ◌+◌, ◌-◌, ◌*◌, ◌/◌, ◌%◌, ◌^◌, ◌<◌, ◌≤◌, List, [], ◌∷◌, ◌++◌, length, refl, sym, ap, subst, ◌∙◌, arith, inl, inr, Some, None}
+use Rattle.std.proofs.Common.{◌≡◌, ℕ, ◌+◌, ◌-◌, ◌*◌, ◌/◌, ◌%◌, ◌^◌, ◌<◌, ◌≤◌, List, [], ◌∷◌, ◌++◌, length, refl, sym}
+use Rattle.std.proofs.Common.{ap, subst, ◌∙◌, arith, inl, inr, Some, None}
 use Rattle.std.proofs.lemmas.Bool.{ne_eqb}
 use Rattle.std.proofs.lemmas.Bool.Decides.{eqb_tells}
 use Rattle.std.specs.List.{AllByRecursion as Every}
@@ -12,7 +13,10 @@ use Rattle.manifest_tree.specs.Names.{Fill, no_bytes, text, source, Inode, Names
 use Rattle.image_parts.specs.Padding.{pad}
 use Rattle.image_parts.proofs.Padding.{pad-after}
 use Rattle.image_parts.proofs.Parts.{HasAt-before, HasAt-after, HasAt-moved}
-use Rattle.cramfs_layout.specs.Layout.{pad4, size_by, entry_len, entry_bytes, list_len, State, Table, table_with, Kept, nowhere, shared, fresh, kept, kept_by, kept_with, data_of, with_table, table_by, after_by, after_file, after_list, after_names, list_offset, list_bytes, pointers, file_parts, parts}
+use Rattle.cramfs_layout.specs.Layout.{pad4, size_by, entry_len, entry_bytes, list_len, State, Table, table_with, Kept}
+use Rattle.cramfs_layout.specs.Layout.{nowhere, shared, fresh, kept, kept_by, kept_with, data_of, with_table, table_by}
+use Rattle.cramfs_layout.specs.Layout.{after_by, after_file, after_list, after_names, list_offset, list_bytes, pointers}
+use Rattle.cramfs_layout.specs.Layout.{file_parts, parts}
 use Rattle.cramfs_layout.specs.Reads.{IsEntry}
 use Rattle.cramfs_layout.specs.Wells.{FitsKind, IsFile, AreWell, IsStored, AreStored, AllRead}
 use Rattle.cramfs_layout.proofs.Entries.{length-entry, entry_reads}
@@ -23,30 +27,41 @@ times4 x m = omega arith
 pad_even : (n k m : ℕ) → k ≡ 4 * m → pad n k % 4 ≡ 0
 pad_even n k m h = let x = (n + (k - 1)) / k in ap (λ (z : ℕ). (x * z) % 4) h ∙ times4 x m
 
--- where data begin: behind the table, at a multiple of 4
+-- the offset of data: behind the table, a multiple of 4
 pub data_after : (cs : List (List ℕ)) (from : ℕ) (i : Inode) → IsFile cs i
     → (pad4 from + 4 * block_count i.size ≤ data_of from i) × (data_of from i % 4 ≡ 0)
 unfolding data_of
 data_after cs from i h =
-    let k : 0 < i.align = let s = h.some in let a = h.aligned in omega (arith, a) in
-    (pad-after (pad4 from + 4 * block_count i.size) i.align k, pad_even (pad4 from + 4 * block_count i.size) i.align h.fours h.aligned)
+    let k : 0 < i.align = let s = h.some in let a = h.aligned in omega (arith, a) in (
+      pad-after (pad4 from + 4 * block_count i.size) i.align k,
+      pad_even (pad4 from + 4 * block_count i.size) i.align h.fours h.aligned,
+    )
 
 -- the ways to keep a file
 pub shared_by : (ts : List Table) (f : Fill) (t : ℕ) → kept_by ts f ≡ shared t
     → (k : ℕ) × (f ≡ source k) × (table_with ts k ≡ Some t)
 shared_by ts no_bytes t e = absurd (cc)
 shared_by ts (text x) t e = absurd (cc)
-shared_by ts (source k) t e = (k, refl, elim (table_with ts k) as (λ o. kept_with o ≡ shared t → o ≡ Some t) [ None ↦ λ z. absurd (cc) | Some u ↦ λ z. cc ] e)
+shared_by ts (source k) t e = (
+  k,
+  refl,
+  elim (table_with ts k) as (λ o. kept_with o ≡ shared t → o ≡ Some t)
+      [ None ↦ λ z. absurd (cc) | Some u ↦ λ z. cc ] e,
+)
 
 pub none_by : (ts : List Table) (f : Fill) → kept_by ts f ≡ nowhere → f ≡ no_bytes
 none_by ts no_bytes e = refl
 none_by ts (text x) e = absurd (cc)
-none_by ts (source k) e = absurd (elim (table_with ts k) as (λ o. kept_with o ≡ nowhere → ⊥) [ None ↦ λ z. absurd (cc) | Some u ↦ λ z. absurd (cc) ] e)
+none_by ts (source k) e = absurd (elim (table_with ts k) as (λ o. kept_with o ≡ nowhere → ⊥)
+    [ None ↦ λ z. absurd (cc) | Some u ↦ λ z. absurd (cc) ] e)
 
-pub stored_with : (P : Table → Type 0) (ts : List Table) (k t : ℕ) → Every P ts → table_with ts k ≡ Some t → P (record { source = k; place = t })
+pub stored_with : (P : Table → Type 0) (ts : List Table) (k t : ℕ) → Every P ts → table_with ts k ≡ Some t
+    → P (record { source = k; place = t })
 stored_with P [] k t h e = absurd (cc)
 stored_with P (x ∷ xs) k t h e = elim (eqb_tells x.source k) [
-  | inl y ↦ let z : Some x.place ≡ Some t = (rw y.0 at e) in let p : x.place ≡ t = cc in let q = y.1 in subst P (λ j. record { source = q j; place = p j }) h.0
+  | inl y ↦ let z : Some x.place ≡ Some t =
+      (rw y.0 at e) in let p : x.place ≡ t =
+      cc in let q = y.1 in subst P (λ j. record { source = q j; place = p j }) h.0
   | inr y ↦ stored_with P xs k t h.1 (rw y.0 at e)
 ]
 
@@ -71,7 +86,8 @@ unfolding kept
 kept_one o b cs high s i nowhere h e low fits st has = record {
   stored = λ z.
       let e' : kept_by s.tables i.fill ≡ nowhere = (rw (ne_eqb i.size 0 (λ y. absurd (omega (arith, y, z)))) at e) in
-      let n : length (bytes_of cs i.fill) ≡ 0 = ap (λ (f : Fill). length (bytes_of cs f)) (none_by s.tables i.fill e') in
+      let n : length (bytes_of cs i.fill) ≡ 0 =
+      ap (λ (f : Fill). length (bytes_of cs f)) (none_by s.tables i.fill e') in
       let l = h.bytes in
       absurd (omega (arith, l, n, z));
   tables = st;
@@ -81,7 +97,9 @@ kept_one o b cs high s i (shared t) h e low fits st has = record {
   stored = λ z.
       let e' : kept_by s.tables i.fill ≡ shared t = (rw (ne_eqb i.size 0 (λ y. absurd (omega (arith, y, z)))) at e) in
       let k = shared_by s.tables i.fill t e' in
-      subst (λ (f : Fill). IsStored o b (bytes_of cs f) high t) (sym k.1) (stored_with (λ (x : Table). IsStored o b (bytes_of cs (source x.source)) high x.place) s.tables k.0 t st k.2);
+      subst (λ (f : Fill). IsStored o b (bytes_of cs f) high t) (sym k.1)
+      (stored_with (λ (x : Table). IsStored o b
+      (bytes_of cs (source x.source)) high x.place) s.tables k.0 t st k.2);
   tables = st;
   onward = omega arith;
 }
@@ -190,8 +208,10 @@ all_read o b cs high l s (leaf name i rest) h low fits top st list has =
     let t = table_small o b cs high s i k h.1 refl one top in
     let entry = entry_bytes o name i (size_by i.kind i) (table_by k s.at) in
     let len = length-entry o name i (size_by i.kind i) (table_by k s.at) in
-    let next = HasAt-moved b (l + length entry) (l + entry_len name) (list_bytes o s' rest) (omega (arith, len)) (HasAt-after b l entry (list_bytes o s' rest) list) in
-    let later = all_read o b cs high (l + entry_len name) s' rest h.2 (omega (arith, a)) fits top one.tables next ps.1 in
+    let next = HasAt-moved b (l + length entry) (l + entry_len name) (list_bytes o s' rest) (omega (arith, len))
+    (HasAt-after b l entry (list_bytes o s' rest) list) in
+    let later =
+    all_read o b cs high (l + entry_len name) s' rest h.2 (omega (arith, a)) fits top one.tables next ps.1 in
     let w : IsEntry name i (size_by i.kind i) (table_by k s.at) = record {
       mode = h.1.mode;
       uid = h.1.owner.0;
@@ -203,7 +223,12 @@ all_read o b cs high l s (leaf name i rest) h low fits top st list has =
       no_zero = h.0.0.written.no_zero;
     } in
     record {
-      all = (entry_reads o b l name i (size_by i.kind i) (table_by k s.at) w (HasAt-before b l entry (list_bytes o s' rest) list), one.stored, later.all);
+      all = (
+        entry_reads o b l name i (size_by i.kind i) (table_by k s.at) w
+            (HasAt-before b l entry (list_bytes o s' rest) list),
+        one.stored,
+        later.all,
+      );
       tables = later.tables;
     }
 all_read o b cs high l s (link name i rest) h low fits top st list has = absurd h
@@ -217,8 +242,10 @@ all_read o b cs high l s (folder name i own rest) h low fits top st list has =
     let inner = all_read o b cs high (pad4 s.at) s1 own h.2 (omega arith) (omega (arith, e, fits)) top st has.0 ps.0 in
     let entry = entry_bytes o name i (list_len own) (list_offset s.at own) in
     let len = length-entry o name i (list_len own) (list_offset s.at own) in
-    let next = HasAt-moved b (l + length entry) (l + entry_len name) (list_bytes o s' rest) (omega (arith, len)) (HasAt-after b l entry (list_bytes o s' rest) list) in
-    let later = all_read o b cs high (l + entry_len name) s' rest h.3 (omega (arith, a)) fits top inner.tables next ps.1 in
+    let next = HasAt-moved b (l + length entry) (l + entry_len name) (list_bytes o s' rest) (omega (arith, len))
+    (HasAt-after b l entry (list_bytes o s' rest) list) in
+    let later =
+    all_read o b cs high (l + entry_len name) s' rest h.3 (omega (arith, a)) fits top inner.tables next ps.1 in
     let w : IsEntry name i (list_len own) (list_offset s.at own) = record {
       mode = h.1.mode;
       uid = h.1.owner.0;
@@ -230,6 +257,11 @@ all_read o b cs high l s (folder name i own rest) h low fits top st list has =
       no_zero = h.0.0.written.no_zero;
     } in
     record {
-      all = (entry_reads o b l name i (list_len own) (list_offset s.at own) w (HasAt-before b l entry (list_bytes o s' rest) list), inner.all, later.all);
+      all = (
+        entry_reads o b l name i (list_len own) (list_offset s.at own) w
+            (HasAt-before b l entry (list_bytes o s' rest) list),
+        inner.all,
+        later.all,
+      );
       tables = later.tables;
     }

@@ -1,5 +1,6 @@
 -- The superblock of a layout, and its crc.
-use Rattle.std.proofs.Common.{◌≡◌, ℕ, zero, suc, ◌+◌, ◌-◌, ◌*◌, ◌/◌, ◌^◌, List, [], ◌∷◌, ◌++◌, length, take, drop, replicate, refl, sym, subst, arith, length-append}
+use Rattle.std.proofs.Common.{◌≡◌, ℕ, zero, suc, ◌+◌, ◌-◌, ◌*◌, ◌/◌, ◌^◌, List, [], ◌∷◌, ◌++◌, length, take, drop}
+use Rattle.std.proofs.Common.{replicate, refl, sym, subst, arith, length-append}
 use Rattle.cramfs_format.specs.declared.order.Order.{Order}
 use Rattle.cramfs_format.specs.declared.order.Order.TheVariants.{Little, Big}
 use Rattle.cramfs_format.specs.Inode.{block_count}
@@ -8,18 +9,24 @@ use Rattle.crc.specs.Crc.{crc_of}
 use Rattle.image_parts.specs.Parts.{Part, end_of_part, Rises, end_of_parts}
 use Rattle.manifest_tree.specs.Names.{Inode, Names, nothing, leaf, link, folder}
 use Rattle.image_parts.specs.Parts.{part}
-use Rattle.cramfs_layout.specs.Layout.{word_bytes, pad4, entry_bytes, list_len, list_bytes, size_by, table_by, root_offset, count, State, Kept, nowhere, shared, fresh, kept, data_of, after_by, after_file, after_list, after_names, list_offset, pointers, file_parts, parts, flags, size_of, superblock, with_crc}
+use Rattle.cramfs_layout.specs.Layout.{word_bytes, pad4, entry_bytes, list_len, list_bytes, size_by, table_by}
+use Rattle.cramfs_layout.specs.Layout.{root_offset, count, State, Kept, nowhere, shared, fresh, kept, data_of, after_by}
+use Rattle.cramfs_layout.specs.Layout.{after_file, after_list, after_names, list_offset, pointers, file_parts, parts}
+use Rattle.cramfs_layout.specs.Layout.{flags, size_of, superblock, with_crc}
 use Rattle.cramfs_layout.specs.Wells.{IsFile, AreWell}
 use Rattle.cramfs_layout.proofs.Entries.{length-entry, length-word}
 use Rattle.cramfs_layout.proofs.Stored.{data_after}
 
--- what stands before the crc, and behind it
+-- what is before the crc, and behind it
 abbrev pub front : Order → ℕ → List ℕ → List ℕ
-front o size back = word_bytes o magic ++ (word_bytes o size ++ (word_bytes o flags ++ (word_bytes o 0 ++ (signature ++ back))))
+front o size back =
+    word_bytes o magic ++ (word_bytes o size ++ (word_bytes o flags ++ (word_bytes o 0 ++ (signature ++ back))))
 
 abbrev pub behind : Order → List ℕ → Inode → Names → List ℕ → List ℕ
 behind o volume root n more =
-    word_bytes o 0 ++ (word_bytes o (size_of n / 4096) ++ (word_bytes o (count n + 1) ++ ((volume ++ (replicate (16 - length volume) 0 ++ entry_bytes o [] root (list_len n) (root_offset n))) ++ more)))
+    word_bytes o 0 ++ (word_bytes o (size_of n / 4096)
+    ++ (word_bytes o (count n + 1) ++
+    ((volume ++ (replicate (16 - length volume) 0 ++ entry_bytes o [] root (list_len n) (root_offset n))) ++ more)))
 
 pub before_crc : (o : Order) (volume : List ℕ) (root : Inode) (n : Names) (more : List ℕ)
     → superblock o volume root n ++ more ≡ front o (size_of n) (word_bytes o 0 ++ behind o volume root n more)
@@ -28,7 +35,8 @@ before_crc Little volume root n more = refl
 before_crc Big volume root n more = refl
 
 pub after_crc : (o : Order) (size : ℕ) (back : List ℕ)
-    → with_crc o (front o size (word_bytes o 0 ++ back)) ≡ front o size (word_bytes o (crc_of (front o size (word_bytes o 0 ++ back))) ++ back)
+    → with_crc o (front o size (word_bytes o 0 ++ back))
+    ≡ front o size (word_bytes o (crc_of (front o size (word_bytes o 0 ++ back))) ++ back)
 unfolding with_crc
 after_crc Little size back = refl
 after_crc Big size back = refl
@@ -42,7 +50,7 @@ pub signed : (o : Order) (size : ℕ) (back : List ℕ) → take 16 (drop 16 (fr
 signed Little size back = refl
 signed Big size back = refl
 
--- what stands behind the crc's field stays
+-- what is behind the crc's field stays
 pub drop_crc : (o : Order) (size w : ℕ) (back : List ℕ) → drop 36 (front o size (word_bytes o w ++ back)) ≡ back
 drop_crc Little size w back = refl
 drop_crc Big size w back = refl
@@ -51,22 +59,42 @@ pub length-pointers : (o : Order) (p n : ℕ) → length (pointers o p n) ≡ 4 
 length-pointers o p zero = refl
 length-pointers o p (suc n) =
     let w = word_bytes o (3 * 2 ^ 30 + p / 4) in
-    omega (arith, length-append w (pointers o (p + 4096) n), length-word o (3 * 2 ^ 30 + p / 4), length-pointers o (p + 4096) n)
+    omega (
+      arith,
+      length-append w (pointers o (p + 4096) n),
+      length-word o (3 * 2 ^ 30 + p / 4),
+      length-pointers o (p + 4096) n,
+    )
 
 pub length-list : (o : Order) (s : State) (n : Names) → length (list_bytes o s n) ≡ list_len n
 length-list o s nothing = refl
 length-list o s (leaf name i rest) =
     let e = entry_bytes o name i (size_by i.kind i) (table_by (kept s.tables i) s.at) in
-    omega (arith, length-append e (list_bytes o (after_file s i) rest), length-entry o name i (size_by i.kind i) (table_by (kept s.tables i) s.at), length-list o (after_file s i) rest)
+    omega (
+      arith,
+      length-append e (list_bytes o (after_file s i) rest),
+      length-entry o name i (size_by i.kind i) (table_by (kept s.tables i) s.at),
+      length-list o (after_file s i) rest,
+    )
 length-list o s (link name i rest) =
     let e = entry_bytes o name i (size_by i.kind i) (table_by (kept s.tables i) s.at) in
-    omega (arith, length-append e (list_bytes o (after_file s i) rest), length-entry o name i (size_by i.kind i) (table_by (kept s.tables i) s.at), length-list o (after_file s i) rest)
+    omega (
+      arith,
+      length-append e (list_bytes o (after_file s i) rest),
+      length-entry o name i (size_by i.kind i) (table_by (kept s.tables i) s.at),
+      length-list o (after_file s i) rest,
+    )
 length-list o s (folder name i own rest) =
     let e = entry_bytes o name i (list_len own) (list_offset s.at own) in
     let s' = after_names (after_list s own) own in
-    omega (arith, length-append e (list_bytes o s' rest), length-entry o name i (list_len own) (list_offset s.at own), length-list o s' rest)
+    omega (
+      arith,
+      length-append e (list_bytes o s' rest),
+      length-entry o name i (list_len own) (list_offset s.at own),
+      length-list o s' rest,
+    )
 
--- parts that stand one after the other, up to a place
+-- parts that are one after the other, up to an offset
 pub record AreParts (from to : ℕ) (ps : List Part) : Type 0 where
   pub rises : Rises from ps
   pub ends_at : end_of_parts from ps ≡ to
@@ -93,12 +121,16 @@ pub parts_are : (o : Order) (cs : List (List ℕ)) (s : State) (n : Names) → A
 parts_are o cs s nothing h = record { rises = tt; ends_at = refl }
 parts_are o cs s (leaf name i rest) h =
     let s' = after_file s i in
-    parts_join s.at s'.at (after_names s' rest).at (file_parts o cs (kept s.tables i) s i) (parts o cs s' rest) (file_parts_are o cs s i (kept s.tables i) h.1) (parts_are o cs s' rest h.2)
+    parts_join s.at s'.at (after_names s' rest).at (file_parts o cs (kept s.tables i) s i) (parts o cs s' rest)
+    (file_parts_are o cs s i (kept s.tables i) h.1) (parts_are o cs s' rest h.2)
 parts_are o cs s (link name i rest) h = absurd h
 parts_are o cs s (folder name i own rest) h =
     let s1 = after_list s own in
     let s' = after_names s1 own in
     let t = (after_names s' rest).at in
     let l = length-list o s1 own in
-    let one : AreParts s.at s1.at (part (pad4 s.at) (list_bytes o s1 own) ∷ []) = record { rises = (omega arith, tt); ends_at = omega (arith, l) } in
-    parts_join s.at s1.at t (part (pad4 s.at) (list_bytes o s1 own) ∷ []) (parts o cs s1 own ++ parts o cs s' rest) one (parts_join s1.at s'.at t (parts o cs s1 own) (parts o cs s' rest) (parts_are o cs s1 own h.2) (parts_are o cs s' rest h.3))
+    let one : AreParts s.at s1.at (part (pad4 s.at) (list_bytes o s1 own) ∷ []) =
+    record { rises = (omega arith, tt); ends_at = omega (arith, l) } in
+    parts_join s.at s1.at t (part (pad4 s.at) (list_bytes o s1 own) ∷ []) (parts o cs s1 own ++ parts o cs s' rest) one
+    (parts_join s1.at s'.at t (parts o cs s1 own) (parts o cs s' rest) (parts_are o cs s1 own h.2)
+    (parts_are o cs s' rest h.3))

@@ -1,10 +1,12 @@
--- The places of a layout's entries, as a forest of records. (This project's own.)
+-- For the proofs: `spots`: the offsets of a layout's entries, as a forest of records. (This
+-- project's own.)
 use Rattle.std.specs.Prelude.{ℕ, ◌+◌}
 use Rattle.record_forest.specs.Forest.{Forest, none, at}
 use Rattle.manifest_tree.specs.Names.{Names, nothing, leaf, link, folder}
 use Rattle.cramfs_layout.specs.Layout.{entry_len, pad4, State, after_file, after_list, after_names}
 
--- where the entries of a list from l on stand, and those below them, placed after s
+-- the offsets of the entries of a list from l on, and of those below them; s is the state before
+-- what they have
 abbrev pub spots : ℕ → State → Names → Forest
 spots l s nothing = none
 spots l s (leaf name i rest) = at l none (spots (l + entry_len name) (after_file s i) rest)

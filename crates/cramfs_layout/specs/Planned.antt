@@ -1,5 +1,5 @@
--- A volume that can be laid out as a cramfs image. (This project's own; 2^20 references and 64 names are the usual
--- limits of a check.)
+-- `IsPlanned`: a volume that can be laid out as a cramfs image. (This project's own. 2^20
+-- references and 64 names are the usual limits of a check.)
 use Rattle.std.specs.Prelude.{◌≢◌, ◌∷◌, ℕ, suc, ◌^◌, ◌≤◌, List, length}
 use Rattle.record_forest.specs.Members.{Pairs}
 use Rattle.manifest_tree.specs.Names.{Inode, Names}
@@ -7,7 +7,8 @@ use Rattle.layout_terms.specs.Files.{height, files}
 use Rattle.cramfs_layout.specs.Layout.{size_of, count}
 use Rattle.cramfs_layout.specs.Wells.{IsFolder, AreWell}
 
-pub record IsPlanned (volume : List ℕ) (root : Inode) (n : Names) (contents : List (List ℕ)) : Type 0 where
+pub record IsPlanned (volume : List ℕ) (root : Inode) (n : Names)
+    (contents : List (List ℕ)) : Type 0 where
   -- the volume's name
   pub short : length volume ≤ 16
   pub folder : IsFolder root n

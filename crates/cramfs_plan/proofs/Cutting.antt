@@ -1,5 +1,6 @@
--- Entries sorted by their places are the items of a layout.
-use Rattle.std.proofs.Common.{◌≡◌, ◌≤◌, ◌<◌, ◌%◌, ◌^◌, ℕ, List, [], ◌∷◌, map, refl, ap, ap₂, ◌∙◌, arith, IsPermutation, Result, Ok, Err, IfOk}
+-- Entries sorted by their offsets are the items of a layout.
+use Rattle.std.proofs.Common.{◌≡◌, ◌≤◌, ◌<◌, ◌%◌, ◌^◌, ℕ, List, [], ◌∷◌, map, refl, ap, ap₂, ◌∙◌, arith, IsPermutation}
+use Rattle.std.proofs.Common.{Result, Ok, Err, IfOk}
 use Rattle.std.specs.List.{AllByRecursion as Every}
 use Rattle.std.specs.List.Sorted.{IsNonDecreasingBy}
 use Rattle.std.proofs.lemmas.List.Sorted.{IsPermutation-trans, IsPermutation-map}
@@ -33,11 +34,13 @@ viewed : (f : Item → Item) (es : List WideInode) → map (λ e. f (entry_view 
 viewed f [] = refl
 viewed f (e ∷ es) = ap (λ (is : List Item). f (entry_view e) ∷ is) (viewed f es)
 
-ascends_viewed : (es : List WideInode) → Ascends (λ (e : WideInode). e.place) es → Ascends (λ (i : Item). i.place) (map entry_view es)
+ascends_viewed : (es : List WideInode) → Ascends (λ (e : WideInode). e.place) es
+    → Ascends (λ (i : Item). i.place) (map entry_view es)
 ascends_viewed [] h = tt
 ascends_viewed (e ∷ es) h = (all es h.0, ascends_viewed es h.1)
   where
-    all : (fs : List WideInode) → Every (λ (f : WideInode). e.place ≤ f.place) fs → Every (λ (i : Item). e.place ≤ i.place) (map entry_view fs)
+    all : (fs : List WideInode) → Every (λ (f : WideInode). e.place ≤ f.place) fs
+        → Every (λ (i : Item). e.place ≤ i.place) (map entry_view fs)
     all [] k = tt
     all (f ∷ fs) k = (k.0, all fs k.1)
 
@@ -45,8 +48,10 @@ pub sorted_are : (es fs : List WideInode) (is : List Item) → Rises (λ (i : It
     → IsPermutation is (map entry_view es) → IsPermutation es fs → IsNonDecreasingBy (λ (f : WideInode). f.place) fs
     → map (λ e. cut (entry_view e)) fs ≡ is
 sorted_are es fs is up small same moved sorted =
-    let whole = IsPermutation-trans is (map entry_view es) (map entry_view fs) same (IsPermutation-map entry_view es fs moved) in
-    let they = same_order (λ (i : Item). i.place) is (map entry_view fs) up whole (ascends_viewed fs (ascends (λ (f : WideInode). f.place) fs sorted)) in
+    let whole = IsPermutation-trans is (map entry_view es) (map entry_view fs) same
+    (IsPermutation-map entry_view es fs moved) in
+    let they = same_order (λ (i : Item). i.place) is (map entry_view fs) up whole
+    (ascends_viewed fs (ascends (λ (f : WideInode). f.place) fs sorted)) in
     viewed cut fs ∙ ap (map cut) they ∙ all_uncut is small
 
 pub ok_then : {A E : Type 0} (P Q : A → Type 0) (r : Result A E) → ((a : A) → P a → Q a) → IfOk r P → IfOk r Q

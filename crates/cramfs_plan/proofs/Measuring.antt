@@ -1,7 +1,9 @@
--- The pass backwards computes how long lists are.
-use Rattle.std.proofs.Common.{◌≡◌, ◌≢◌, ◌+◌, ◌*◌, ◌<◌, ◌≤◌, ℕ, zero, suc, List, [], ◌∷◌, ◌++◌, ◌^◌, map, drop, replicate, length, get_or, refl, sym, ap, subst, ◌∙◌, arith, Fits, w64}
+-- The pass backwards computes the lengths of lists.
+use Rattle.std.proofs.Common.{◌≡◌, ◌≢◌, ◌+◌, ◌*◌, ◌<◌, ◌≤◌, ℕ, zero, suc, List, [], ◌∷◌, ◌++◌, ◌^◌, map, drop}
+use Rattle.std.proofs.Common.{replicate, length, get_or, refl, sym, ap, subst, ◌∙◌, arith, Fits, w64}
 use Rattle.std.proofs.Math.ListN.{set}
-use Rattle.std.proofs.lemmas.List.{set-set, set-get_or, get_or-set_same, get_or-set_other, length-set, length-map, length-drop}
+use Rattle.std.proofs.lemmas.List.{set-set, set-get_or, get_or-set_same, get_or-set_other, length-set, length-map}
+use Rattle.std.proofs.lemmas.List.{length-drop}
 use Rattle.std.specs.List.{All, AllByRecursion as Every}
 use Rattle.std.proofs.lemmas.List.Elements.{recursion_from_All}
 use Rattle.record_forest.proofs.Lists.{every_weaker}
@@ -22,9 +24,10 @@ own_lens-append : (lens : List ℕ) (rs qs : List Row)
     → own_lens lens (rs ++ qs) ≡ own_lens (lens_of lens qs) rs ++ own_lens lens qs
 own_lens-append lens [] qs = refl
 own_lens-append lens (r ∷ rs) qs =
-    rw (lens_of-append lens rs qs) (ap (λ (x : List ℕ). get_or (lens_of (lens_of lens qs) rs) (r.depth + 1) 0 ∷ x) (own_lens-append lens rs qs))
+    rw (lens_of-append lens rs qs) (ap (λ (x : List ℕ). get_or (lens_of (lens_of lens qs) rs) (r.depth + 1) 0 ∷ x)
+    (own_lens-append lens rs qs))
 
--- what the pass gives of names at depth d
+-- the result of the pass for names at depth d
 pub record Measures (d : ℕ) (lens : List ℕ) (n : Names) : Type 0 where
   pub lens_are : lens_of lens (rows d n) ≡ set lens d (get_or lens d 0 + list_len n)
   pub own_are : own_lens lens (rows d n) ≡ named_lens n
@@ -34,7 +37,8 @@ settle : (lens : List ℕ) (d x p : ℕ) → get_or lens (d + 1) 0 ≡ 0
 settle lens d x p h =
     let ne : d + 1 ≢ d = omega arith in
     let e : get_or (set lens d x) (d + 1) 0 ≡ 0 = get_or-set_other lens d (d + 1) x 0 ne ∙ h in
-    let f : set (set lens d x) (d + 1) 0 ≡ set lens d x = ap (λ (v : ℕ). set (set lens d x) (d + 1) v) (sym e) ∙ set-get_or (set lens d x) (d + 1) 0 in
+    let f : set (set lens d x) (d + 1) 0 ≡ set lens d x =
+    ap (λ (v : ℕ). set (set lens d x) (d + 1) v) (sym e) ∙ set-get_or (set lens d x) (d + 1) 0 in
     ap (λ (z : List ℕ). set z d p) f ∙ set-set lens d x p
 
 -- a row without a list of its own, in front of others that are measured
@@ -68,10 +72,12 @@ measures d lens nothing room zeros = record {
     more_nothing : get_or lens d 0 + 0 ≡ get_or lens d 0
     more_nothing = omega arith
 measures d lens (leaf name i after) room zeros =
-    let s = single d lens (row d name (a_leaf i)) after refl (omega (arith, room)) (zeros (d + 1) (omega arith)) (measures d lens after (omega (arith, room)) zeros) in
+    let s = single d lens (row d name (a_leaf i)) after refl (omega (arith, room)) (zeros (d + 1) (omega arith))
+    (measures d lens after (omega (arith, room)) zeros) in
     record { lens_are = s.0; own_are = s.1 }
 measures d lens (link name i after) room zeros =
-    let s = single d lens (row d name (a_link i)) after refl (omega (arith, room)) (zeros (d + 1) (omega arith)) (measures d lens after (omega (arith, room)) zeros) in
+    let s = single d lens (row d name (a_link i)) after refl (omega (arith, room)) (zeros (d + 1) (omega arith))
+    (measures d lens after (omega (arith, room)) zeros) in
     record { lens_are = s.0; own_are = s.1 }
 measures d lens (folder name i own after) room zeros =
     let r = row d name (a_folder i) in
@@ -85,26 +91,30 @@ measures d lens (folder name i own after) room zeros =
     let wide : d + 1 < length lens = omega (arith, room) in
     let h1 = set lens d x in
     let same : length h1 ≡ length lens = length-set lens d x in
-    let zeros1 : (j : ℕ) → d + 1 < j → get_or h1 j 0 ≡ 0 = λ j k. let nj : j ≢ d = omega (arith, k) in get_or-set_other lens d j x 0 nj ∙ zeros j (omega (arith, k)) in
+    let zeros1 : (j : ℕ) → d + 1 < j → get_or h1 j 0 ≡ 0 =
+    λ j k. let nj : j ≢ d = omega (arith, k) in get_or-set_other lens d j x 0 nj ∙ zeros j (omega (arith, k)) in
     let inner = measures (d + 1) h1 own (omega (arith, same, room)) zeros1 in
     let clear : get_or h1 (d + 1) 0 ≡ 0 = get_or-set_other lens d (d + 1) x 0 ne ∙ z in
     let h2 = set h1 (d + 1) y in
     let alone : 0 + y ≡ y = omega arith in
     let lens2 : lens_of lens (rows (d + 1) own ++ rows d after) ≡ h2 =
-    lens_of-append lens (rows (d + 1) own) (rows d after) ∙ ap (λ (g : List ℕ). lens_of g (rows (d + 1) own)) later.lens_are
+    lens_of-append lens (rows (d + 1) own) (rows d after)
+    ∙ ap (λ (g : List ℕ). lens_of g (rows (d + 1) own)) later.lens_are
     ∙ inner.lens_are ∙ ap (λ (k : ℕ). set h1 (d + 1) (k + y)) clear ∙ ap (set h1 (d + 1)) alone in
     let own2 : own_lens lens (rows (d + 1) own ++ rows d after) ≡ named_lens own ++ named_lens after =
     own_lens-append lens (rows (d + 1) own) (rows d after)
     ∙ ap (λ (g : List ℕ). own_lens g (rows (d + 1) own) ++ own_lens lens (rows d after)) later.lens_are
     ∙ ap (λ (ls : List ℕ). ls ++ own_lens lens (rows d after)) inner.own_are
     ∙ ap (λ (ls : List ℕ). named_lens own ++ ls) later.own_are in
-    let a : get_or h2 d 0 ≡ x = get_or-set_other h1 (d + 1) d y 0 en ∙ get_or-set_same lens d x 0 (omega (arith, wide)) in
+    let a : get_or h2 d 0 ≡ x =
+    get_or-set_other h1 (d + 1) d y 0 en ∙ get_or-set_same lens d x 0 (omega (arith, wide)) in
     let b : get_or h2 (d + 1) 0 ≡ y = get_or-set_same h1 (d + 1) y 0 (omega (arith, same, wide)) in
     let v : x + e ≡ get_or lens d 0 + (e + list_len after) = omega arith in
     let total = get_or lens d 0 + (e + list_len after) in
     record {
       lens_are =
-          ap (λ (g : List ℕ). lens_with g r) lens2 ∙ ap (λ (g : List ℕ). set g d (get_or h2 d 0 + e)) (set-set h1 (d + 1) y 0)
+          ap (λ (g : List ℕ). lens_with g r) lens2
+          ∙ ap (λ (g : List ℕ). set g d (get_or h2 d 0 + e)) (set-set h1 (d + 1) y 0)
           ∙ ap (λ (k : ℕ). set (set h1 (d + 1) 0) d (k + e)) a ∙ ap (λ (k : ℕ). set (set h1 (d + 1) 0) d k) v
           ∙ settle lens d x total z;
       own_are =
@@ -127,13 +137,17 @@ pub lens_near : (lens : List ℕ) (rs : List Row) → Every (λ (r : Row). lengt
     → Every (λ n. n ≤ length rs * 300) (lens_of lens rs)
 lens_near lens [] h z = every_weaker (λ n. n ≡ 0) (λ n. n ≤ 0) (λ n e. omega (arith, e)) lens z
 lens_near lens (r ∷ rs) h z =
-    let more = every_weaker (λ n. n ≤ length rs * 300) (λ n. n ≤ suc (length rs) * 300) (λ n e. omega (arith, e)) (lens_of lens rs) (lens_near lens rs h.1 z) in
+    let more = every_weaker (λ n. n ≤ length rs * 300) (λ n. n ≤ suc (length rs) * 300) (λ n e. omega (arith, e))
+    (lens_of lens rs) (lens_near lens rs h.1 z) in
     let at = every_at (λ n. n ≤ length rs * 300) (lens_of lens rs) r.depth 0 (lens_near lens rs h.1 z) (omega arith) in
     let short = h.0 in
-    every_set (λ n. n ≤ suc (length rs) * 300) (set (lens_of lens rs) (r.depth + 1) 0) r.depth (get_or (lens_of lens rs) r.depth 0 + entry_len r.name)
-    (every_set (λ n. n ≤ suc (length rs) * 300) (lens_of lens rs) (r.depth + 1) 0 more (omega arith)) (omega (arith, at, short))
+    every_set (λ n. n ≤ suc (length rs) * 300) (set (lens_of lens rs) (r.depth + 1) 0) r.depth
+    (get_or (lens_of lens rs) r.depth 0 + entry_len r.name)
+    (every_set (λ n. n ≤ suc (length rs) * 300) (lens_of lens rs) (r.depth + 1) 0 more (omega arith))
+    (omega (arith, at, short))
 
-narrow_rows : (rs : List code.Row) (i : ℕ) → Every IsNarrow rs → Every (λ (r : Row). length r.name < 256) (map row_view (drop i rs))
+narrow_rows : (rs : List code.Row) (i : ℕ) → Every IsNarrow rs
+    → Every (λ (r : Row). length r.name < 256) (map row_view (drop i rs))
 narrow_rows [] zero h = tt
 narrow_rows [] (suc i) h = tt
 narrow_rows (r ∷ rs) zero h = (h.0.0, narrow_rows rs zero h.1)
@@ -148,12 +162,14 @@ pub read_near : (rs : List code.Row) (lens : List ℕ) (i j d : ℕ) → All IsN
 read_near rs lens i j d h few e z =
     let short = narrow_rows rs i (recursion_from_All IsNarrow rs h) in
     let near = lens_near (replicate {A = ℕ} 66 0) (map row_view (drop i rs)) short (zeros 66) in
-    let all : Every (λ n. n ≤ length (map row_view (drop i rs)) * 300) lens = subst (Every (λ n. n ≤ length (map row_view (drop i rs)) * 300)) (sym e) near in
+    let all : Every (λ n. n ≤ length (map row_view (drop i rs)) * 300) lens =
+    subst (Every (λ n. n ≤ length (map row_view (drop i rs)) * 300)) (sym e) near in
     let at = every_at (λ n. n ≤ length (map row_view (drop i rs)) * 300) lens j d all (omega (arith, z)) in
     let same = length-map (drop i rs) row_view in
     let less = length-drop i rs in
     omega (arith, at, same, less, few)
 
 pub longer_fits : (rs : List code.Row) (lens : List ℕ) (i j d more : ℕ) → All IsNarrow rs → length rs ≤ 2 ^ 20
-    → lens ≡ lens_of (replicate {A = ℕ} 66 0) (map row_view (drop i rs)) → d ≡ 0 → more < 300 → Fits w64 (get_or lens j d + more)
+    → lens ≡ lens_of (replicate {A = ℕ} 66 0) (map row_view (drop i rs)) → d ≡ 0 → more < 300
+    → Fits w64 (get_or lens j d + more)
 longer_fits rs lens i j d more h few e z s = let near = read_near rs lens i j d h few e z in omega (arith, near, s)

@@ -1,5 +1,6 @@
 -- What the code places is what the layout does.
-use Rattle.std.proofs.Common.{◌≡◌, ◌⊎◌, inl, inr, ◌+◌, ◌^◌, ◌<◌, ◌≤◌, ℕ, zero, suc, List, [], ◌∷◌, ◌++◌, map, drop, length, get_or, refl, sym, ap, subst, ◌∙◌, arith}
+use Rattle.std.proofs.Common.{◌≡◌, ◌⊎◌, inl, inr, ◌+◌, ◌^◌, ◌<◌, ◌≤◌, ℕ, zero, suc, List, [], ◌∷◌, ◌++◌, map, drop}
+use Rattle.std.proofs.Common.{length, get_or, refl, sym, ap, subst, ◌∙◌, arith}
 use Rattle.std.proofs.Math.ListN.{set}
 use Rattle.std.specs.List.{AllByRecursion as Every}
 use Rattle.std.proofs.lemmas.List.{map-append, append_assoc}
@@ -37,7 +38,8 @@ tables_by nowhere s i = refl
 tables_by (shared t) s i = refl
 tables_by fresh s i = refl
 
-pub tables_are : (s : State) (i : Inode) (k : Kept) → k ≡ kept s.tables i → tables_after k s.at i.fill s.tables ≡ (after_file s i).tables
+pub tables_are : (s : State) (i : Inode) (k : Kept) → k ≡ kept s.tables i
+    → tables_after k s.at i.fill s.tables ≡ (after_file s i).tables
 tables_are s i k e = tables_by k s i ∙ ap (λ (z : Kept). (after_by z s i).tables) e
 
 -- what holds of a file and of a further name holds of what is one of these
@@ -46,7 +48,7 @@ pub by_file : (P : What → Type 0) (z : code_what.What) (i : Inode) → (z ≡ 
 by_file P z i (inl e) p q = subst (λ x. P (what_view x i)) (sym e) p
 by_file P z i (inr e) p q = subst (λ x. P (what_view x i)) (sym e) q
 
--- no place is beyond `near` where none was, and the new ones are not
+-- no offset is beyond `near` if none was, and the new ones are not
 pub near_lists : (near : ℕ) (ls : List ℕ) (d e own : ℕ) → Every (λ n. n ≤ near) ls → e < 300 → own ≤ near + 2 ^ 26
     → Every (λ n. n ≤ near + 2 ^ 26) (set (set ls d (get_or ls d 0 + e)) (d + 1) own)
 near_lists near ls d e own h s o =
@@ -55,17 +57,29 @@ near_lists near ls d e own h s o =
     every_set (λ n. n ≤ near + 2 ^ 26) (set ls d (get_or ls d 0 + e)) (d + 1) own
     (every_set (λ n. n ≤ near + 2 ^ 26) ls d (get_or ls d 0 + e) more (omega (arith, at, s))) o
 
--- what stands for a row past the last
+-- the value for a row past the last
 abbrev pub no_row : code.Row
 no_row = record {
   depth = 0;
   name = record { ref_ptr = (0, 0); now = [] };
   what = what.Leaf;
-  inode = record { line = 0; kind = kind.Directory; mode = 0; uid = 0; gid = 0; major = 0; minor = 0; align = 0; size = 0; bytes = bytes.Nothing };
+  inode = record {
+    line = 0;
+    kind = kind.Directory;
+    mode = 0;
+    uid = 0;
+    gid = 0;
+    major = 0;
+    minor = 0;
+    align = 0;
+    size = 0;
+    bytes = bytes.Nothing;
+  };
 }
 
 -- one row more
-walk_suc : (o : Order) (w : Walk) (rs : List code.Row) (ls : List ℕ) (i : ℕ) (d : code.Row) → i < length rs → i < length ls
+walk_suc : (o : Order) (w : Walk) (rs : List code.Row) (ls : List ℕ) (i : ℕ) (d : code.Row) → i < length rs
+    → i < length ls
     → walked o w (map row_view (drop i rs)) (drop i ls)
     ≡ row_item o w (row_view (get_or rs i d)) (get_or ls i 0)
     ∷ walked o (step w (row_view (get_or rs i d)) (get_or ls i 0)) (map row_view (drop (suc i) rs)) (drop (suc i) ls)
@@ -85,14 +99,16 @@ after_suc w (r ∷ rs) (l ∷ ls) (suc i) d h k = after_suc w rs ls i d (omega (
 one_more : (i : ℕ) → suc i ≡ i + 1
 one_more i = omega arith
 
-pub walk_step : (o : Order) (w : Walk) (rs : List code.Row) (ls : List ℕ) (i : ℕ) (d : code.Row) → i < length rs → i < length ls
+pub walk_step : (o : Order) (w : Walk) (rs : List code.Row) (ls : List ℕ) (i : ℕ) (d : code.Row) → i < length rs
+    → i < length ls
     → walked o w (map row_view (drop i rs)) (drop i ls)
     ≡ row_item o w (row_view (get_or rs i d)) (get_or ls i 0)
     ∷ walked o (step w (row_view (get_or rs i d)) (get_or ls i 0)) (map row_view (drop (i + 1) rs)) (drop (i + 1) ls)
 walk_step o w rs ls i d h k =
     let r = row_view (get_or rs i d) in
     let l = get_or ls i 0 in
-    walk_suc o w rs ls i d h k ∙ ap (λ (j : ℕ). row_item o w r l ∷ walked o (step w r l) (map row_view (drop j rs)) (drop j ls)) (one_more i)
+    walk_suc o w rs ls i d h k ∙ ap (λ (j : ℕ). row_item o w r l
+    ∷ walked o (step w r l) (map row_view (drop j rs)) (drop j ls)) (one_more i)
 
 pub after_step : (w : Walk) (rs : List code.Row) (ls : List ℕ) (i : ℕ) (d : code.Row) → i < length rs → i < length ls
     → after_rows w (map row_view (drop i rs)) (drop i ls)
@@ -100,11 +116,14 @@ pub after_step : (w : Walk) (rs : List code.Row) (ls : List ℕ) (i : ℕ) (d : 
 after_step w rs ls i d h k =
     let r = row_view (get_or rs i d) in
     let l = get_or ls i 0 in
-    after_suc w rs ls i d h k ∙ ap (λ (j : ℕ). after_rows (step w r l) (map row_view (drop j rs)) (drop j ls)) (one_more i)
+    after_suc w rs ls i d h k ∙ ap (λ (j : ℕ). after_rows (step w r l) (map row_view (drop j rs)) (drop j ls))
+    (one_more i)
 
 -- an entry more is an item less to come
-pub more_items : {A : Type 0} (f : A → Item) (xs ys : List A) (e : A) (x : Item) (now later total : List Item) → ys ≡ xs ++ e ∷ [] → f e ≡ x
+pub more_items : {A : Type 0} (f : A → Item) (xs ys : List A) (e : A) (x : Item) (now later total : List Item)
+    → ys ≡ xs ++ e ∷ [] → f e ≡ x
     → now ≡ x ∷ later → map f xs ++ now ≡ total → map f ys ++ later ≡ total
 more_items {A = A} f xs ys e x now later total p q n h =
     ap (λ (z : List A). map f z ++ later) p ∙ ap (λ (z : List Item). z ++ later) (map-append f xs (e ∷ []))
-    ∙ append_assoc (map f xs) (f e ∷ []) later ∙ ap (λ (z : Item). map f xs ++ z ∷ later) q ∙ ap (λ (z : List Item). map f xs ++ z) (sym n) ∙ h
+    ∙ append_assoc (map f xs) (f e ∷ []) later ∙ ap (λ (z : Item). map f xs ++ z ∷ later) q
+    ∙ ap (λ (z : List Item). map f xs ++ z) (sym n) ∙ h

@@ -13,7 +13,9 @@ use Rattle.image_parts.specs.Padding.{pad}
 use Rattle.manifest_tree.specs.Names.{Fill, no_bytes, text, source, Inode, Names, nothing, leaf, link, folder}
 use Rattle.manifest_layout.specs.Format.{cramfs}
 use Rattle.cramfs_format.specs.Order.{packed}
-use Rattle.cramfs_layout.specs.Layout.{type_bits, pad4, size_by, entry_len, list_len, State, Table, Kept, nowhere, shared, fresh, kept, data_of, with_table, table_by, after_by, after_file, after_list, after_names, list_offset}
+use Rattle.cramfs_layout.specs.Layout.{type_bits, pad4, size_by, entry_len, list_len, State, Table, Kept, nowhere}
+use Rattle.cramfs_layout.specs.Layout.{shared, fresh, kept, data_of, with_table, table_by, after_by, after_file}
+use Rattle.cramfs_layout.specs.Layout.{after_list, after_names, list_offset}
 use Rattle.cramfs_layout.specs.Items.{item_of, start_by}
 use Rattle.cramfs_layout.specs.Wells.{FitsKind, IsFile, AreWell}
 use Rattle.cramfs_layout.proofs.Stored.{data_after, shared_by, stored_with, names_onward}
@@ -69,14 +71,14 @@ item_small o place name i size offset table start len f p n m u g z q t s l =
       len = l;
     }
 
--- the tables so far stand in front of the end
+-- the tables so far are in front of the end
 abbrev pub AreLow : List Table → Type 0
 AreLow ts = Every (λ (t : Table). t.place < 2 ^ 28) ts
 
 pad_near : (n k : ℕ) → 0 < k → pad n k < n + k
 pad_near n k h = omega (arith, h, div-add-mod' (n + (k - 1)) k)
 
--- data stand near the table
+-- data are near the table
 data_near : (from : ℕ) (i : Inode) → from ≤ 2 ^ 28 → i.size < 2 ^ 24 → 0 < i.align → i.align ≤ 65536
     → data_of from i < 2 ^ 32
 unfolding data_of
@@ -134,12 +136,15 @@ are_small o cs d l s (leaf name i rest) h fit t low room =
     let short = h.0.1 in
     let a = fit.0.fits.2 in
     let k = file_kept cs s i (kept s.tables i) f fit.0.fits.1 a refl t (omega (arith, b, room)) in
-    let more = are_small o cs d (l + entry_len name) (after_file s i) rest h.2 fit.1 k.tables (omega (arith, low)) room in
+    let more =
+    are_small o cs d (l + entry_len name) (after_file s i) rest h.2 fit.1 k.tables (omega (arith, low)) room in
     let z = f.small in
     record {
       items = (
-        item_small o l name i (size_by i.kind i) (table_by (kept s.tables i) s.at) (table_by (kept s.tables i) s.at) (start_by (kept s.tables i) s.at i) i.size i.fill
-            (omega (arith, low)) short f.mode f.owner.0 f.owner.1 (size_small i.kind i f.kind z) k.table (let q = k.table in omega (arith, q)) k.start (omega (arith, z)),
+        item_small o l name i (size_by i.kind i) (table_by (kept s.tables i) s.at) (table_by (kept s.tables i) s.at)
+            (start_by (kept s.tables i) s.at i) i.size i.fill
+            (omega (arith, low)) short f.mode f.owner.0 f.owner.1 (size_small i.kind i f.kind z) k.table
+            (let q = k.table in omega (arith, q)) k.start (omega (arith, z)),
         more.items,
       );
       tables = more.tables;
@@ -153,13 +158,17 @@ are_small o cs d l s (folder name i own rest) h fit t low room =
     let f = h.1 in
     let fits = every_left (IsFit (cramfs o)) (rows (d + 1) own) (rows d rest) fit.1 in
     let others = every_right (IsFit (cramfs o)) (rows (d + 1) own) (rows d rest) fit.1 in
-    let inner = are_small o cs (d + 1) (pad4 s.at) s1 own h.2 fits t (omega (arith, b, c, room)) (omega (arith, c, room)) in
+    let inner =
+    are_small o cs (d + 1) (pad4 s.at) s1 own h.2 fits t (omega (arith, b, c, room)) (omega (arith, c, room)) in
     let more = are_small o cs d (l + entry_len name) s2 rest h.3 others inner.tables (omega (arith, low)) room in
     record {
       items = (
-        item_small o l name i (list_len own) (list_offset s.at own) 0 0 0 no_bytes (omega (arith, low)) h.0.1 f.mode f.owner.0 f.owner.1
-            f.small (list_low s.at (2 ^ 28) own (omega (arith, b, c, room)) (omega arith)) (omega arith) (omega arith) (omega arith),
-        every_join IsSmall (in_preorder o (pad4 s.at) s1 own) (in_preorder o (l + entry_len name) s2 rest) inner.items more.items,
+        item_small o l name i (list_len own) (list_offset s.at own) 0 0 0 no_bytes
+            (omega (arith, low)) h.0.1 f.mode f.owner.0 f.owner.1
+            f.small (list_low s.at (2 ^ 28) own (omega (arith, b, c, room)) (omega arith)) (omega arith) (omega arith)
+            (omega arith),
+        every_join IsSmall (in_preorder o (pad4 s.at) s1 own)
+            (in_preorder o (l + entry_len name) s2 rest) inner.items more.items,
       );
       tables = more.tables;
     }

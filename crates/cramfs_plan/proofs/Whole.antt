@@ -1,5 +1,7 @@
--- What the two passes tell of a whole tree.
-use Rattle.std.proofs.Common.{◌≡◌, ◌≢◌, ◌+◌, ◌<◌, ◌≤◌, ◌^◌, ◌==◌, ◌||◌, nat_lt, if◌then◌else◌, Bool, true, false, ℕ, zero, suc, List, [], ◌∷◌, ◌++◌, map, length, get_or, replicate, refl, sym, ap, subst, ◌∙◌, arith, IsPermutation}
+-- The results of the two passes for a whole tree.
+use Rattle.std.proofs.Common.{◌≡◌, ◌≢◌, ◌+◌, ◌<◌, ◌≤◌, ◌^◌, ◌==◌, ◌||◌, nat_lt, if◌then◌else◌, Bool, true, false, ℕ}
+use Rattle.std.proofs.Common.{zero, suc, List, [], ◌∷◌, ◌++◌, map, length, get_or, replicate, refl, sym, ap, subst, ◌∙◌}
+use Rattle.std.proofs.Common.{arith, IsPermutation}
 use Rattle.std.specs.List.{All, AllByRecursion as Every, list_any}
 use Rattle.std.proofs.lemmas.Bool.{lt-ltb, le-ltb, ne_eqb}
 use Rattle.std.proofs.lemmas.List.{length-append}
@@ -13,7 +15,8 @@ use Rattle.manifest_tree.specs.Names.{Inode, Names, nothing, leaf, link, folder,
 use Rattle.layout_terms.specs.Files.{height}
 use Rattle.layout_terms.specs.Items.{Item}
 use Rattle.manifest_layout.specs.Format.{cramfs}
-use Rattle.cramfs_layout.specs.Layout.{State, entry_len, list_len, pad4, first_state, after_file, after_list, after_names, size_of, root_offset}
+use Rattle.cramfs_layout.specs.Layout.{State, entry_len, list_len, pad4, first_state, after_file, after_list}
+use Rattle.cramfs_layout.specs.Layout.{after_names, size_of, root_offset}
 use Rattle.cramfs_layout.specs.Items.{item_of, items_of}
 use Rattle.cramfs_layout.specs.Planned.{IsPlanned}
 use Rattle.cramfs_layout.specs.Wells.{AreWell}
@@ -44,7 +47,8 @@ preorder_counted o d l s (folder name i own rest) =
     let s1 = after_list s own in
     let a = preorder_counted o (d + 1) (pad4 s.at) s1 own in
     let b = preorder_counted o d (l + entry_len name) (after_names s1 own) rest in
-    let c = length-append (in_preorder o (pad4 s.at) s1 own) (in_preorder o (l + entry_len name) (after_names s1 own) rest) in
+    let c = length-append (in_preorder o (pad4 s.at) s1 own)
+    (in_preorder o (l + entry_len name) (after_names s1 own) rest) in
     let e = length-append (rows (d + 1) own) (rows d rest) in
     omega (arith, a, b, c, e)
 
@@ -63,11 +67,13 @@ or_true false = refl
 pub too_many : (o : Order) (root : Inode) (n : Names) → 2 ^ 20 ≤ length (rows 1 n) → too_large o root n ≡ true
 too_many o root n h =
     let k = counted o root n in
-    let e : nat_lt (2 ^ 20) (length (items_of o root n)) ≡ true = lt-ltb (2 ^ 20) (length (items_of o root n)) (omega (arith, h, k)) in
+    let e : nat_lt (2 ^ 20) (length (items_of o root n)) ≡ true =
+    lt-ltb (2 ^ 20) (length (items_of o root n)) (omega (arith, h, k)) in
     let a = nat_lt (2 ^ 28) (size_of n) in
     let b = is_long_list (list_len n) || has_long_list n in
     let c = nat_lt 64 (height n) in
-    ap (λ (t : Bool). a || (b || (c || t))) e ∙ ap (λ (t : Bool). a || (b || t)) (or_true c) ∙ ap (λ (t : Bool). a || t) (or_true b) ∙ or_true a
+    ap (λ (t : Bool). a || (b || (c || t))) e ∙ ap (λ (t : Bool). a || (b || t)) (or_true c)
+    ∙ ap (λ (t : Bool). a || t) (or_true b) ∙ or_true a
 
 pub too_deep : (o : Order) (root : Inode) (n : Names) → 64 < deepest (rows 1 n) → too_large o root n ≡ true
 too_deep o root n h =
@@ -78,7 +84,8 @@ too_deep o root n h =
     let c = nat_lt (2 ^ 20) (length (items_of o root n)) in
     ap (λ (t : Bool). a || (b || (t || c))) e ∙ ap (λ (t : Bool). a || t) (or_true b) ∙ or_true a
 
-pub long_lists : (o : Order) (root : Inode) (n : Names) → is_long_list (list_len n) || has_long_list n ≡ true → too_large o root n ≡ true
+pub long_lists : (o : Order) (root : Inode) (n : Names) → is_long_list (list_len n) || has_long_list n ≡ true
+    → too_large o root n ≡ true
 long_lists o root n e =
     let a = nat_lt (2 ^ 28) (size_of n) in
     let c = nat_lt 64 (height n) || nat_lt (2 ^ 20) (length (items_of o root n)) in
@@ -87,7 +94,8 @@ long_lists o root n e =
 pub too_long : (o : Order) (root : Inode) (n : Names) → 2 ^ 28 < size_of n → too_large o root n ≡ true
 too_long o root n h =
     let e = lt-ltb (2 ^ 28) (size_of n) h in
-    let b = (is_long_list (list_len n) || has_long_list n) || (nat_lt 64 (height n) || nat_lt (2 ^ 20) (length (items_of o root n))) in
+    let b = (is_long_list (list_len n) || has_long_list n)
+    || (nat_lt 64 (height n) || nat_lt (2 ^ 20) (length (items_of o root n))) in
     ap (λ (t : Bool). t || b) e
 
 pub not_large : (o : Order) (root : Inode) (n : Names) → length (rows 1 n) < 2 ^ 20 → deepest (rows 1 n) ≤ 64
@@ -98,14 +106,16 @@ not_large o root n few low short room =
     let a = le-ltb (2 ^ 28) (size_of n) room in
     let b = le-ltb 64 (height n) (omega (arith, low, h)) in
     let c = le-ltb (2 ^ 20) (length (items_of o root n)) (omega (arith, few, k)) in
-    ap (λ (t : Bool). t || ((is_long_list (list_len n) || has_long_list n) || (nat_lt 64 (height n) || nat_lt (2 ^ 20) (length (items_of o root n))))) a
+    ap (λ (t : Bool). t || ((is_long_list (list_len n) || has_long_list n)
+    || (nat_lt 64 (height n) || nat_lt (2 ^ 20) (length (items_of o root n))))) a
     ∙ ap (λ (t : Bool). t || (nat_lt 64 (height n) || nat_lt (2 ^ 20) (length (items_of o root n)))) short
     ∙ ap (λ (t : Bool). t || nat_lt (2 ^ 20) (length (items_of o root n))) b ∙ c
 
 -- some list is too long
 any-append : (f : ℕ → Bool) (xs ys : List ℕ) → list_any f (xs ++ ys) ≡ list_any f xs || list_any f ys
 any-append f [] ys = refl
-any-append f (x ∷ xs) ys = ap (λ (b : Bool). f x || b) (any-append f xs ys) ∙ assoc (f x) (list_any f xs) (list_any f ys)
+any-append f (x ∷ xs) ys =
+    ap (λ (b : Bool). f x || b) (any-append f xs ys) ∙ assoc (f x) (list_any f xs) (list_any f ys)
   where
     assoc : (a b c : Bool) → a || (b || c) ≡ (a || b) || c
     assoc true b c = refl
@@ -117,9 +127,11 @@ any_long (leaf name i after) = any_long after
 any_long (link name i after) = any_long after
 any_long (folder name i own after) =
     ap (λ (b : Bool). is_long_list (list_len own) || b)
-    (any-append is_long_list (named_lens own) (named_lens after) ∙ ap (λ (b : Bool). b || list_any is_long_list (named_lens after)) (any_long own) ∙ ap (λ (b : Bool). has_long_list own || b) (any_long after))
+    (any-append is_long_list (named_lens own) (named_lens after)
+    ∙ ap (λ (b : Bool). b || list_any is_long_list (named_lens after)) (any_long own)
+    ∙ ap (λ (b : Bool). has_long_list own || b) (any_long after))
 
--- what the passes give of the rows of a whole tree
+-- the results of the passes for the rows of a whole tree
 pub record Told (o : Order) (rs : List Row) (n : Names) : Type 0 where
   pub root : get_or (lens_of (replicate {A = ℕ} 66 0) rs) 1 0 ≡ list_len n
   pub own : own_lens (replicate {A = ℕ} 66 0) rs ≡ named_lens n
@@ -158,7 +170,8 @@ own_counted lens [] = refl
 own_counted lens (r ∷ rs) = ap suc (own_counted lens rs)
 
 -- rows that fit can be measured and placed
-each_row : (o : Order) (rs : List code.Row) → Every (IsFit (cramfs o)) (map row_view rs) → deepest (map row_view rs) ≤ 64 → Every IsRow rs
+each_row : (o : Order) (rs : List code.Row) → Every (IsFit (cramfs o)) (map row_view rs)
+    → deepest (map row_view rs) ≤ 64 → Every IsRow rs
 each_row o [] h k = tt
 each_row o (r ∷ rs) h k =
     let short = h.0.short in
@@ -166,29 +179,36 @@ each_row o (r ∷ rs) h k =
     let rest : deepest (map row_view rs) ≤ 64 = omega (arith, k) in
     (((short, depth), placeable r.what r.inode h.0.fits), each_row o rs h.1 rest)
   where
-    placeable : (w : code_what.What) (i : code_inode.Inode) → FitsAs (cramfs o) (what_view w (inode_view i)) → IsPlaceableAs w i
+    placeable : (w : code_what.What) (i : code_inode.Inode) → FitsAs (cramfs o) (what_view w (inode_view i))
+        → IsPlaceableAs w i
     placeable what.Leaf i f = let large : (2 ^ 24 ≤ i.size → ⊥) = f.0 in (omega (arith, large), f.1, f.2)
     placeable what.Link i f = f tt
     placeable what.Folder i f = tt
 
-pub all_rows : (o : Order) (rs : List code.Row) → Every (IsFit (cramfs o)) (map row_view rs) → deepest (map row_view rs) ≤ 64 → All IsRow rs
+pub all_rows : (o : Order) (rs : List code.Row) → Every (IsFit (cramfs o)) (map row_view rs)
+    → deepest (map row_view rs) ≤ 64 → All IsRow rs
 all_rows o rs h k = All-from_recursion IsRow rs (each_row o rs h k)
 
-pub all_narrow : (o : Order) (rs : List code.Row) → Every (IsFit (cramfs o)) (map row_view rs) → deepest (map row_view rs) ≤ 64 → All IsNarrow rs
+pub all_narrow : (o : Order) (rs : List code.Row) → Every (IsFit (cramfs o)) (map row_view rs)
+    → deepest (map row_view rs) ≤ 64 → All IsNarrow rs
 all_narrow o rs h k = λ i d l. (all_rows o rs h k i d l).0
 
 -- the root's item, and all items
 offset_is : (n : Names) → (if list_len n == 0 then 0 else 76) ≡ root_offset n
 offset_is nothing = refl
-offset_is (leaf name i after) = let e : entry_len name + list_len after ≢ 0 = omega arith in rw (ne_eqb (entry_len name + list_len after) 0 e) refl
-offset_is (link name i after) = let e : entry_len name + list_len after ≢ 0 = omega arith in rw (ne_eqb (entry_len name + list_len after) 0 e) refl
-offset_is (folder name i own after) = let e : entry_len name + list_len after ≢ 0 = omega arith in rw (ne_eqb (entry_len name + list_len after) 0 e) refl
+offset_is (leaf name i after) =
+    let e : entry_len name + list_len after ≢ 0 = omega arith in rw (ne_eqb (entry_len name + list_len after) 0 e) refl
+offset_is (link name i after) =
+    let e : entry_len name + list_len after ≢ 0 = omega arith in rw (ne_eqb (entry_len name + list_len after) 0 e) refl
+offset_is (folder name i own after) =
+    let e : entry_len name + list_len after ≢ 0 = omega arith in rw (ne_eqb (entry_len name + list_len after) 0 e) refl
 
 room : (n : Names) → size_of n ≤ 2 ^ 28 → (after_names (first_state n) n).at ≤ 2 ^ 28
 unfolding size_of
 room n h = let k = pad-after (after_names (first_state n) n).at 4096 (omega arith) in omega (arith, h, k)
 
-pub all_small : (o : Order) (volume : List ℕ) (root : Inode) (n : Names) (cs : List (List ℕ)) → IsPlanned volume root n cs
+pub all_small : (o : Order) (volume : List ℕ) (root : Inode) (n : Names) (cs : List (List ℕ))
+    → IsPlanned volume root n cs
     → Every (IsFit (cramfs o)) (rows 1 n) → Every IsSmall (items_of o root n)
 all_small o volume root n cs p fit =
     let s = first_state n in
@@ -197,9 +217,11 @@ all_small o volume root n cs p fit =
     let low = f.small in
     let end = room n p.room in
     let own = are_small o cs 1 76 s n p.well fit tt (omega (arith, low)) end in
-    let here = item_small o root_place [] root (list_len n) (root_offset n) 0 0 0 no_bytes (omega arith) (omega arith) f.mode f.owner.0 f.owner.1 low (near n) (omega arith) (omega arith) (omega arith) in
+    let here = item_small o root_place [] root (list_len n) (root_offset n) 0 0 0 no_bytes (omega arith)
+    (omega arith) f.mode f.owner.0 f.owner.1 low (near n) (omega arith) (omega arith) (omega arith) in
     recursion_from_All IsSmall (items_of o root n)
-    (All-permutation IsSmall (r ∷ in_preorder o 76 s n) (items_of o root n) (all_permute o r n) (All-from_recursion IsSmall (r ∷ in_preorder o 76 s n) (here, own.items)))
+    (All-permutation IsSmall (r ∷ in_preorder o 76 s n) (items_of o root n) (all_permute o r n)
+    (All-from_recursion IsSmall (r ∷ in_preorder o 76 s n) (here, own.items)))
   where
     near : (m : Names) → root_offset m < 2 ^ 28
     near nothing = omega arith
@@ -209,47 +231,61 @@ all_small o volume root n cs p fit =
 
 pub all_are : (o : Order) (root : Inode) (n : Names) (len : ℕ) (found : List Item) → len ≡ list_len n
     → found ≡ in_preorder o 76 (first_state n) n
-    → IsPermutation (items_of o root n) (item_of o root_place [] root len (if len == 0 then 0 else 76) 0 0 0 no_bytes ∷ found)
+    → IsPermutation (items_of o root n)
+    (item_of o root_place [] root len (if len == 0 then 0 else 76) 0 0 0 no_bytes ∷ found)
 all_are o root n len found e f =
     let i = item_of o root_place [] root (list_len n) (root_offset n) 0 0 0 no_bytes in
-    let same : i ∷ in_preorder o 76 (first_state n) n ≡ item_of o root_place [] root len (if len == 0 then 0 else 76) 0 0 0 no_bytes ∷ found =
-    ap (λ (k : ℕ). item_of o root_place [] root (list_len n) k 0 0 0 no_bytes ∷ in_preorder o 76 (first_state n) n) (sym (offset_is n))
-    ∙ ap (λ (k : ℕ). item_of o root_place [] root k (if k == 0 then 0 else 76) 0 0 0 no_bytes ∷ in_preorder o 76 (first_state n) n) (sym e)
-    ∙ ap (λ (is : List Item). item_of o root_place [] root len (if len == 0 then 0 else 76) 0 0 0 no_bytes ∷ is) (sym f) in
+    let same : i ∷ in_preorder o 76 (first_state n) n
+    ≡ item_of o root_place [] root len (if len == 0 then 0 else 76) 0 0 0 no_bytes ∷ found =
+    ap (λ (k : ℕ). item_of o root_place [] root (list_len n) k 0 0 0 no_bytes ∷ in_preorder o 76 (first_state n) n)
+    (sym (offset_is n))
+    ∙ ap (λ (k : ℕ). item_of o root_place [] root k (if k == 0 then 0 else 76) 0 0 0 no_bytes
+    ∷ in_preorder o 76 (first_state n) n) (sym e)
+    ∙ ap (λ (is : List Item). item_of o root_place [] root len (if len == 0 then 0 else 76) 0 0 0 no_bytes ∷ is)
+    (sym f) in
     subst (λ l. IsPermutation (items_of o root n) l) same (IsPermutation-sym _ _ (all_permute o i n))
 
--- what the code found is what the passes tell
-pub size_is : (o : Order) (rs : List Row) (n : Names) (root end : ℕ) (lens : List ℕ) → Told o rs n → root ≡ list_len n → lens ≡ named_lens n
+-- the code's results are those of the passes
+pub size_is : (o : Order) (rs : List Row) (n : Names) (root end : ℕ) (lens : List ℕ) → Told o rs n → root ≡ list_len n
+    → lens ≡ named_lens n
     → end ≡ (after_rows (first_walk root) rs lens).state.at → pad end 4096 ≡ size_of n
 unfolding size_of
 size_is o rs n root end lens t r l e =
-    ap (λ (k : ℕ). pad k 4096) (e ∙ ap (λ (k : ℕ). (after_rows (first_walk k) rs lens).state.at) r ∙ ap (λ (ls : List ℕ). (after_rows (first_walk (list_len n)) rs ls).state.at) l ∙ t.end)
+    ap (λ (k : ℕ). pad k 4096) (e ∙ ap (λ (k : ℕ). (after_rows (first_walk k) rs lens).state.at) r
+    ∙ ap (λ (ls : List ℕ). (after_rows (first_walk (list_len n)) rs ls).state.at) l ∙ t.end)
 
-pub found_is : (o : Order) (rs : List Row) (n : Names) (root : ℕ) (lens : List ℕ) (found : List Item) → Told o rs n → root ≡ list_len n → lens ≡ named_lens n
+pub found_is : (o : Order) (rs : List Row) (n : Names) (root : ℕ) (lens : List ℕ) (found : List Item) → Told o rs n
+    → root ≡ list_len n → lens ≡ named_lens n
     → found ≡ walked o (first_walk root) rs lens → found ≡ in_preorder o 76 (first_state n) n
 found_is o rs n root lens found t r l e =
-    e ∙ ap (λ (k : ℕ). walked o (first_walk k) rs lens) r ∙ ap (λ (ls : List ℕ). walked o (first_walk (list_len n)) rs ls) l ∙ t.items
+    e ∙ ap (λ (k : ℕ). walked o (first_walk k) rs lens) r
+    ∙ ap (λ (ls : List ℕ). walked o (first_walk (list_len n)) rs ls) l ∙ t.items
 
 -- the names of items are short
 short_preorder : (o : Order) (cs : List (List ℕ)) (l : ℕ) (s : State) (n : Names) → AreWell cs n
     → Every (λ (i : Item). length i.name < 256) (in_preorder o l s n)
 short_preorder o cs l s nothing h = tt
-short_preorder o cs l s (leaf name i rest) h = let k = h.0.1 in (omega (arith, k), short_preorder o cs (l + entry_len name) (after_file s i) rest h.2)
+short_preorder o cs l s (leaf name i rest) h =
+    let k = h.0.1 in (omega (arith, k), short_preorder o cs (l + entry_len name) (after_file s i) rest h.2)
 short_preorder o cs l s (link name i rest) h = absurd h
 short_preorder o cs l s (folder name i own rest) h =
     let s1 = after_list s own in
     let k = h.0.1 in (
       omega (arith, k),
-      every_join (λ (i : Item). length i.name < 256) (in_preorder o (pad4 s.at) s1 own) (in_preorder o (l + entry_len name) (after_names s1 own) rest)
-          (short_preorder o cs (pad4 s.at) s1 own h.2) (short_preorder o cs (l + entry_len name) (after_names s1 own) rest h.3),
+      every_join (λ (i : Item). length i.name < 256) (in_preorder o (pad4 s.at) s1 own)
+          (in_preorder o (l + entry_len name) (after_names s1 own) rest)
+          (short_preorder o cs (pad4 s.at) s1 own h.2)
+          (short_preorder o cs (l + entry_len name) (after_names s1 own) rest h.3),
     )
 
-pub short_names : (o : Order) (volume : List ℕ) (root : Inode) (n : Names) (cs : List (List ℕ)) → IsPlanned volume root n cs
+pub short_names : (o : Order) (volume : List ℕ) (root : Inode) (n : Names) (cs : List (List ℕ))
+    → IsPlanned volume root n cs
     → Every (λ (i : Item). length i.name < 256) (items_of o root n)
 short_names o volume root n cs p =
     let s = first_state n in
     let r = item_of o root_place [] root (list_len n) (root_offset n) 0 0 0 no_bytes in
     let short = short_preorder o cs 76 s n p.well in
     recursion_from_All (λ (i : Item). length i.name < 256) (items_of o root n)
-    (All-permutation (λ (i : Item). length i.name < 256) (r ∷ in_preorder o 76 s n) (items_of o root n) (all_permute o r n)
+    (All-permutation (λ (i : Item). length i.name < 256) (r ∷ in_preorder o 76 s n) (items_of o root n)
+    (all_permute o r n)
     (All-from_recursion (λ (i : Item). length i.name < 256) (r ∷ in_preorder o 76 s n) (omega arith, short)))

@@ -1,4 +1,4 @@
--- Rows that can be measured and placed. (This project's own.)
+-- `IsRow`: a row that can be measured and placed. (This project's own.)
 use Rattle.std.specs.Prelude.{◌^◌, ◌<◌, ◌≤◌, length}
 use Rattle.manifest_rows.specs.declared.row.Inode as code_inode
 use Rattle.manifest_rows.specs.declared.row.Row as code_row

@@ -1,7 +1,7 @@
--- Lists in the order of a number of their members. (This project's own.)
+-- `Rises`: lists in the order of a number of their members. (This project's own.)
 use Rattle.std.specs.Prelude.{ℕ, ◌<◌, List}
 use Rattle.record_forest.specs.Members.{Pairs}
 
--- so that none stands twice
+-- each number is less than those after it, so none occurs twice
 abbrev pub Rises : {X : Type 0} → (X → ℕ) → List X → Type 0
 Rises key xs = Pairs (λ a b. key a < key b) xs

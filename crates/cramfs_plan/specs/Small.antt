@@ -1,4 +1,5 @@
--- Items whose numbers have 32 bits. (This project's own.)
+-- `IsSmall`: an item whose numbers have 32 bits. `cut`: an item with its numbers cut to 32 bits.
+-- (This project's own.)
 use Rattle.std.specs.Prelude.{◌^◌, ◌%◌, ◌<◌}
 use Rattle.layout_terms.specs.Items.{Item}
 

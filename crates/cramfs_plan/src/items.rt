@@ -18,7 +18,7 @@ use plan_types::{Fill, Item};
 use rom_fields::OutOfMemory;
 use std::alloc::Global;
 
-/// A copy of a name.
+/// Returns a copy of a name.
 fn name_of(alloc: Global, bytes: &[u8]) -> Result<Name, OutOfMemory>
     ensures { IfOk result (λ name. name ≡ bytes.now) }
 {
@@ -26,7 +26,7 @@ fn name_of(alloc: Global, bytes: &[u8]) -> Result<Name, OutOfMemory>
     Ok(name.into())
 }
 
-/// Which bytes a file has.
+/// Returns the bytes of a file.
 fn fill_of(alloc: Global, bytes: Bytes<'_>) -> Result<Fill, OutOfMemory>
     ensures { IfOk result (λ fill. fill_view fill ≡ bytes_view bytes.entry) }
 {
@@ -37,14 +37,14 @@ fn fill_of(alloc: Global, bytes: Bytes<'_>) -> Result<Fill, OutOfMemory>
     }
 }
 
-/// The lowest 32 bits.
+/// Returns the lowest 32 bits.
 fn low(n: u64) -> u32
     ensures { result ≡ n % 2 ^ 32 }
 {
     (n % (1 << 32)) as u32
 }
 
-/// The item of an entry, whose numbers are cut to 32 bits.
+/// Returns the item of an entry, with its numbers cut to 32 bits.
 fn item_of(alloc: Global, entry: &WideInode<'_>) -> Result<Item, OutOfMemory>
     ensures { IfOk result (λ item. item_view item ≡ cut (entry_view entry.now)) }
 {
@@ -65,7 +65,7 @@ fn item_of(alloc: Global, entry: &WideInode<'_>) -> Result<Item, OutOfMemory>
     })
 }
 
-/// The items of entries, in their order.
+/// Returns the items of entries, in their order.
 fn items_of(alloc: Global, entries: &[WideInode<'_>]) -> Result<Vec<Item>, OutOfMemory>
     ensures { IfOk result (λ items. map item_view items.items
         ≡ map (λ e. cut (entry_view e)) entries.now) }
@@ -77,7 +77,7 @@ fn items_of(alloc: Global, entries: &[WideInode<'_>]) -> Result<Vec<Item>, OutOf
     Ok(items)
 }
 
-/// The items of entries, in the order of their places.
+/// Returns the items of entries, in the order of their offsets.
 pub fn sorted_items(alloc: Global, entries: Vec<WideInode<'_>>) -> Result<Vec<Item>, OutOfMemory>
     ensures { (is : List terms.Item) → Rises (λ (i : terms.Item). i.place) is → Every IsSmall is
         → IsPermutation is (map entry_view entries.entry.items)

@@ -1,4 +1,4 @@
-//! Where the bytes of a file stand.
+//! The offsets of a file's bytes.
 ghost use Rattle.std.specs.Prelude.{◌≡◌, ◌+◌, ◌<◌, ◌≤◌, ◌^◌, ℕ, List, OnOk, IfOk};
 ghost use Rattle.cramfs_format.specs.declared.order.Order.{Order};
 ghost use Rattle.cramfs_format.specs.Inode.{block_count};
@@ -6,7 +6,8 @@ ghost use Rattle.cramfs_layout.specs.Layout as layout;
 ghost use Rattle.cramfs_layout.specs.Items.{file_item};
 ghost use Rattle.cramfs_layout.specs.Layout.{State, Table};
 ghost use Rattle.cramfs_plan.specs.Bounds.{IsPlaceable};
-ghost use Rattle.cramfs_plan.specs.Entries.{kept_view, stored_by, stored_item, listed_by, tables_after, IsBelow, Knows, AreNear};
+ghost use Rattle.cramfs_plan.specs.Entries.{kept_view, stored_by, stored_item, listed_by};
+ghost use Rattle.cramfs_plan.specs.Entries.{tables_after, IsBelow, Knows, AreNear};
 ghost use Rattle.manifest_rows.specs.Rows.{bytes_view, inode_view};
 
 use crate::words::size_by;
@@ -17,16 +18,16 @@ use std::collections::BTreeMap;
 /// How the bytes of a file are kept.
 #[derive(Clone, Copy, PartialEq, Eq)]
 pub enum Kept {
-    /// It has none.
+    /// It has no bytes.
     Nowhere,
-    /// Behind the table at this place, which another file has too.
+    /// Behind the table at this offset, which another file has too.
     Shared(u64),
     /// Behind a table of its own.
     Fresh,
 }
 
-/// The numbers of a file or a directory that say where its bytes stand, and where what it places
-/// ends.
+/// The size and offset fields of a file or a directory, the offsets of its table and its bytes, the
+/// number of its bytes, and the end of what it places.
 #[derive(Clone, Copy, PartialEq, Eq)]
 pub struct Stored {
     pub size: u64,
@@ -37,7 +38,7 @@ pub struct Stored {
     pub end: u64,
 }
 
-/// How the bytes of a file are kept, where the tables of sources so far are known.
+/// Returns how the bytes of a file are kept, by the tables of sources so far.
 #[tactic(auto, unfolding(cramfs_layout::specs::Layout::kept))]
 pub fn how_kept(tables: &BTreeMap<usize, u64>, inode: &Inode<'_>) -> Kept
     ensures kept { (ts : List Table) → Knows ts tables.now
@@ -57,7 +58,7 @@ pub fn how_kept(tables: &BTreeMap<usize, u64>, inode: &Inode<'_>) -> Kept
     }
 }
 
-/// Where the bytes of a file begin whose table, of its own, is placed behind `from`.
+/// Returns the offset of a file's bytes, if its own table is placed behind `from`.
 #[tactic(auto, unfolding(cramfs_layout::specs::Layout::data_of))]
 fn data_of(from: u64, inode: &Inode<'_>) -> u64
     requires near { from < 2 ^ 51 }
@@ -71,7 +72,8 @@ fn data_of(from: u64, inode: &Inode<'_>) -> u64
     pad(pad(from, 4) + 4 * blocks, inode.align as u64)
 }
 
-/// Where the bytes of a file that is kept so stand, if what was placed before ends at `at`.
+/// Returns the offsets of the bytes of a file that is kept so, if what was placed before ends at
+/// `at`.
 pub fn stored_as(kept: Kept, at: u64, inode: &Inode<'_>) -> Stored
     requires near { at < 2 ^ 50 }
     requires shared { IsBelow (2 ^ 50) kept }
@@ -115,7 +117,7 @@ pub fn stored_as(kept: Kept, at: u64, inode: &Inode<'_>) -> Stored
     }
 }
 
-/// Notes the table of a file that is kept so, if it is one of a source, where what was placed before
+/// Notes the table of a file that is kept so, if it is that of a source. What was placed before
 /// ends at `at`.
 pub fn note_table(
     tables: &mut BTreeMap<usize, u64>,
@@ -125,7 +127,8 @@ pub fn note_table(
 ) -> Result<(), OutOfMemory>
     requires { at < 2 ^ 50 }
     ensures knows { (ts : List Table) → Knows ts tables.old
-        → OnOk result (Knows (tables_after (kept_view kept) at (bytes_view bytes.entry) ts) tables.new) }
+        → OnOk result (Knows (tables_after (kept_view kept) at
+        (bytes_view bytes.entry) ts) tables.new) }
     ensures near { (near : ℕ) → AreNear near tables.old → layout.pad4 at ≤ near
         → OnOk result (AreNear near tables.new) }
 {
@@ -139,8 +142,8 @@ pub fn note_table(
     Ok(())
 }
 
-/// Where the bytes of a file stand, if what was placed before ends at `at`. The table of a source
-/// is noted.
+/// Returns the offsets of a file's bytes, if what was placed before ends at `at`, and notes the
+/// table of a source.
 pub fn stored_file(
     tables: &mut BTreeMap<usize, u64>,
     at: u64,
@@ -168,7 +171,8 @@ pub fn stored_file(
     Ok(stored)
 }
 
-/// Where the list of a directory stands, of this length, if what was placed before ends at `at`.
+/// Returns the offsets of a directory's list of this length, if what was placed before ends at
+/// `at`.
 pub fn stored_list(at: u64, len: u64) -> Stored
     requires near { at < 2 ^ 50 }
     requires len { len < 2 ^ 50 }

@@ -1,6 +1,7 @@
 //! The layout of an image, without its bytes.
 ghost use Rattle.std.specs.List.{AllByRecursion as Every, list_any};
-ghost use Rattle.std.specs.Prelude.{◌≡◌, ◌==◌, ◌||◌, ◌^◌, ◌<◌, if◌then◌else◌, [], ◌∷◌, true, false, ℕ, List, map, IfOk, IsPermutation, MatchOption};
+ghost use Rattle.std.specs.Prelude.{◌≡◌, ◌==◌, ◌||◌, ◌^◌, ◌<◌, if◌then◌else◌, [], ◌∷◌, true, false};
+ghost use Rattle.std.specs.Prelude.{ℕ, List, map, IfOk, IsPermutation, MatchOption};
 ghost use Rattle.cramfs_format.specs.Refers.{root_place};
 ghost use Rattle.cramfs_layout.specs.Items.{items_of, item_of};
 ghost use Rattle.cramfs_layout.specs.Layout.{size_of};
@@ -27,7 +28,7 @@ use plan_types::{Item, Laid};
 use rom_fields::{OutOfMemory, pad};
 use std::alloc::Global;
 
-/// Where the root's inode stands.
+/// The offset of the root's inode.
 const ROOT_PLACE: u64 = disk::ROOT as u64;
 
 /// The most items of an image: 2^20, this project's limit of references.
@@ -39,24 +40,24 @@ const MOST_NAMES: usize = 64;
 /// The most bytes of an image.
 const MOST_BYTES: u64 = disk::MOST_BYTES as u64;
 
-/// What the length of a list is below: 2^24, as its inode has 24 bits for it.
+/// The limit below which the length of a list is: 2^24, as its inode has 24 bits for it.
 const LIST_LIMIT: u64 = 1 << 24;
 
-/// Whether one of these lists is too long for its inode.
+/// Returns whether one of these lists is too long for its inode.
 fn has_long(lens: &[u64]) -> bool
     ensures { result ≡ list_any is_long_list lens.now }
 {
     lens.iter().any(|len| *len >= LIST_LIMIT)
 }
 
-/// Whether a list, or the root's, is too long for its inode.
+/// Returns whether the root's list, or another list, is too long for its inode.
 fn has_long_list(lens: &Lens) -> bool
     ensures { result ≡ is_long_list lens.now.root || list_any is_long_list lens.now.own.items }
 {
     lens.root >= LIST_LIMIT || has_long(&lens.own)
 }
 
-/// The entry of the root's inode, whose list has this length.
+/// Returns the entry of the root's inode, if the root's list has this length.
 fn root_entry<'a>(order: Order, root: &Inode<'a>, len: u64) -> WideInode<'a>
     requires { len < 2 ^ 24 }
     ensures { entry_view result ≡ item_of order root_place [] (inode_view root.now) len
@@ -78,7 +79,7 @@ fn root_entry<'a>(order: Order, root: &Inode<'a>, len: u64) -> WideInode<'a>
     }
 }
 
-/// The items of the root and of what rows place, in the order of their places.
+/// Returns the items of the root and of what rows place, in the order of their offsets.
 fn all_items<'a>(
     alloc: Global,
     order: Order,
@@ -97,7 +98,7 @@ fn all_items<'a>(
     sorted_items(alloc, entries)
 }
 
-/// The layout of names in a byte order, and nothing where the whole is too large.
+/// Returns the layout of names in a byte order, or nothing if the whole is too large.
 pub fn lay_out<'a>(
     alloc: Global,
     order: Order,

@@ -1,6 +1,7 @@
-//! How long the lists of directories are.
+//! The lengths of directories' lists.
 ghost use Rattle.std.specs.List.{All};
-ghost use Rattle.std.specs.Prelude.{◌≡◌, ◌+◌, ◌<◌, ◌≤◌, ◌^◌, ◌*◌, map, length, replicate, slice_index, IfOk};
+ghost use Rattle.std.specs.Prelude.{◌≡◌, ◌+◌, ◌<◌, ◌≤◌, ◌^◌, ◌*◌, map, length, replicate};
+ghost use Rattle.std.specs.Prelude.{slice_index, IfOk};
 ghost use Rattle.cramfs_plan.specs.Bounds.{IsNarrow};
 ghost use Rattle.cramfs_plan.specs.Passes.{lens_of, own_lens};
 ghost use Rattle.manifest_rows.specs.Rows.{row_view};
@@ -13,20 +14,21 @@ use std::alloc::Global;
 /// One more than the greatest depth of a row, and one for the list below it.
 pub const DEPTHS: usize = 66;
 
-/// How long the root's list is, and for each row that of what it names, 0 where it has none.
+/// The length of the root's list, and for each row that of its own list, or 0 if it has none.
 #[derive(Drop)]
 pub struct Lens {
     pub root: u64,
     pub own: Vec<u64>,
 }
 
-/// How long the lists are.
+/// Returns the lengths of the lists.
 pub fn list_lens(alloc: Global, rows: &[Row<'_>]) -> Result<Lens, OutOfMemory>
     requires narrow { All IsNarrow rows.now }
     requires few { length rows.now ≤ 2 ^ 20 }
     ensures root { IfOk result (λ l. l.root
         ≡ slice_index (lens_of (replicate 66 0) (map row_view rows.now)) 1) }
-    ensures own { IfOk result (λ l. l.own.items ≡ own_lens (replicate 66 0) (map row_view rows.now)) }
+    ensures own { IfOk result (λ l. l.own.items
+        ≡ own_lens (replicate 66 0) (map row_view rows.now)) }
 {
     let mut lens = [0u64; DEPTHS];
     let mut own = Vec::new(alloc);

@@ -1,9 +1,10 @@
 //! The plan of a cramfs image, in either byte order, from the names of a manifest in a row.
+//! `lay_out` returns its length and its inodes as items, or reports that the whole is too large;
+//! `sections` returns its sections.
 //!
-//! `lay_out` says how long the image is and gives its inodes as items, or says that the whole is too
-//! large; `sections` are its bytes that stand together. Proved: they are those of the layout
-//! (`cramfs_layout`). The rows are gone over backwards, for how long lists are, and forwards, for
-//! what stands where, with no recursion; items and sections are sorted by their places.
+//! Proved: they are those of the layout (`cramfs_layout`). One pass goes over the rows backwards
+//! and computes the lengths of lists. Another goes forwards and computes offsets. Neither needs
+//! recursion. Items and sections are sorted by their offsets.
 #![tactic(auto)]
 
 mod items;

@@ -15,10 +15,11 @@ use rom_fields::OutOfMemory;
 use std::alloc::Global;
 use std::collections::BTreeSet;
 
-/// How many bytes the superblock has, with the root's inode.
+/// The length of the superblock in bytes, with the root's inode.
 const SUPER: u32 = HEAD as u32;
 
-/// How many bytes the block pointers of so many bytes take, four for each block of 4,096.
+/// Returns the length in bytes of the table of block pointers for so many bytes: four for each
+/// block of 4,096.
 fn table_len(len: u32) -> u32
     ensures { result ≡ 4 * block_count len }
 {
@@ -46,7 +47,7 @@ fn push_bytes(found: &mut Vec<Section>, index: usize, item: &Item) -> Result<(),
     Ok(())
 }
 
-/// Adds the sections of the item of an index, whose table is new or not.
+/// Adds the sections of the item at an index; `fresh` is true if its table is new.
 fn push_item(
     found: &mut Vec<Section>,
     fresh: bool,
@@ -73,7 +74,7 @@ fn push_item(
     Ok(())
 }
 
-/// The sections of items, the superblock's first, and then item for item.
+/// Returns the sections of items, the superblock's first, and then item for item.
 fn unsorted_sections(alloc: Global, items: &[Item]) -> Result<Vec<Section>, OutOfMemory>
     requires { Every (λ (i : terms.Item). length i.name < 256) (map item_view items.now) }
     ensures { IfOk result (λ found. map section_view found.items
@@ -94,12 +95,13 @@ fn unsorted_sections(alloc: Global, items: &[Item]) -> Result<Vec<Section>, OutO
     Ok(found)
 }
 
-/// The sections of items, the superblock's first, in the order of their places. A table that items
-/// share is told once, with the first of them.
+/// Returns the sections of items, the superblock's first, in the order of their offsets. A table
+/// that items share occurs once, with the first of them.
 pub fn sections(alloc: Global, items: &[Item]) -> Result<Vec<Section>, OutOfMemory>
     requires { Every (λ (i : terms.Item). length i.name < 256) (map item_view items.now) }
     ensures { (end : ℕ) → SectionsRise 0 end (sections_of (map item_view items.now))
-        → IfOk result (λ found. map section_view found.items ≡ sections_of (map item_view items.now)) }
+        → IfOk result (λ found. map section_view found.items
+        ≡ sections_of (map item_view items.now)) }
 {
     let mut found = unsorted_sections(alloc, items)?;
     found.sort_by_key(|section| section.place)?;

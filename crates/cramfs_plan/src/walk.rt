@@ -1,10 +1,11 @@
-//! The pass forwards: what each row places.
+//! The pass forwards, which computes what each row places.
 ghost use Rattle.std.specs.List.{All};
 ghost use Rattle.cramfs_format.specs.declared.order.Order as order;
 ghost use Rattle.std.specs.Prelude.{◌≡◌, ◌+◌, ◌*◌, ◌<◌, ◌≤◌, ◌^◌, ℕ, List, map, length, IfOk, OnOk};
 ghost use Rattle.cramfs_plan.specs.Bounds.{IsRow};
 ghost use Rattle.cramfs_plan.specs.Entries.{entry_view, stored_item, Knows, AreNear};
-ghost use Rattle.cramfs_plan.specs.Passes.{Walk, first_walk, item_by, state_by, walked, after_rows, row_item, step};
+ghost use Rattle.cramfs_plan.specs.Passes.{Walk, first_walk, item_by, state_by, walked, after_rows};
+ghost use Rattle.cramfs_plan.specs.Passes.{row_item, step};
 ghost use Rattle.cramfs_plan.specs.Placers.{StandsAt, IsNear};
 ghost use Rattle.manifest_rows.specs.Rows.{bytes_view, inode_view, row_view};
 
@@ -19,28 +20,28 @@ use rom_fields::{OutOfMemory, pad};
 use std::alloc::Global;
 use std::collections::BTreeMap;
 
-/// Where the root's list begins, behind the superblock and the root's inode.
+/// The offset of the root's list, behind the superblock and the root's inode.
 pub const ROOT_LIST: u64 = HEAD as u64;
 
-/// What is placed so far.
+/// What was placed so far.
 #[derive(Drop)]
 pub struct Placer {
-    /// Where it ends.
+    /// The end of it.
     at: u64,
-    /// Where the next entry of a list stands, at each depth.
+    /// The offset of the next entry of a list, at each depth.
     lists: [u64; DEPTHS],
-    /// Where the tables of sources stand.
+    /// The offsets of the tables of sources.
     tables: BTreeMap<usize, u64>,
 }
 
-/// What the rows place, and where it ends.
+/// What the rows place, and its end.
 #[derive(Drop)]
 pub struct Placed<'a> {
     pub entries: Vec<WideInode<'a>>,
     pub end: u64,
 }
 
-/// An inode with its name.
+/// Returns an inode with its name.
 fn entry<'a>(
     order: Order,
     place: u64,
@@ -70,7 +71,7 @@ fn entry<'a>(
 }
 
 impl Placer {
-    /// Nothing is placed yet behind the root's list, of this length.
+    /// Returns the state before any row, behind the root's list of this length.
     fn new(alloc: Global, root: u64) -> Placer
         requires { root < 2 ^ 40 }
         ensures stands { StandsAt (first_walk root) result }
@@ -83,12 +84,14 @@ impl Placer {
         }
     }
 
-    /// Where what a row names stands, whose own list has this length, and which bytes it has.
+    /// Returns the offsets of the bytes or of the list that a row's file has, and which bytes it
+    /// has. `len` is the length of its own list.
     fn stored<'a>(&mut self, row: Row<'a>, len: u64) -> Result<(Stored, Bytes<'a>), OutOfMemory>
         requires row { IsRow row }
         requires len { len < 2 ^ 24 }
         requires near { IsNear (2 ^ 48) self.old }
-        ensures item { (w : Walk) → StandsAt w self.old → IfOk result (λ r. (o : order.Order) (l : ℕ) (name : List ℕ)
+        ensures item { (w : Walk) → StandsAt w self.old
+            → IfOk result (λ r. (o : order.Order) (l : ℕ) (name : List ℕ)
             → stored_item o l name (inode_view row.entry.inode) r.0 (bytes_view r.1)
             ≡ item_by o w.state l name len (row_view row.entry).what) }
         ensures end { (w : Walk) → StandsAt w self.old → IfOk result (λ r. r.0.end
@@ -96,8 +99,10 @@ impl Placer {
         ensures tables { (w : Walk) → StandsAt w self.old → OnOk result (Knows
             (state_by w.state len (row_view row.entry).what).tables self.new.tables) }
         ensures same { (self.new.at ≡ self.old.at) × (self.new.lists ≡ self.old.lists) }
-        ensures near { (near : ℕ) → IsNear near self.old → OnOk result (AreNear (near + 3) self.new.tables) }
-        ensures small { IfOk result (λ r. (r.0.end ≤ self.old.at + 2 ^ 25) × (r.0.size < 2 ^ 41) × (r.0.offset < 2 ^ 52)) }
+        ensures near { (near : ℕ) → IsNear near self.old
+            → OnOk result (AreNear (near + 3) self.new.tables) }
+        ensures small { IfOk result
+            (λ r. (r.0.end ≤ self.old.at + 2 ^ 25) × (r.0.size < 2 ^ 41) × (r.0.offset < 2 ^ 52)) }
     {
         match row.what {
             What::Folder => Ok((stored_list(self.at, len), Bytes::Nothing)),
@@ -108,7 +113,7 @@ impl Placer {
         }
     }
 
-    /// Places a row whose own list has this length.
+    /// Places a row; `len` is the length of its own list.
     fn place<'a>(
         &mut self,
         order: Order,
@@ -134,7 +139,8 @@ impl Placer {
     }
 }
 
-/// What rows place whose own lists have these lengths, behind the root's list, of the length `root`.
+/// Returns what rows place behind the root's list, of the length `root`. `lens` has the lengths of
+/// the rows' own lists.
 pub fn place_rows<'a>(
     alloc: Global,
     order: Order,

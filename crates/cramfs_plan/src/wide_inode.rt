@@ -1,8 +1,8 @@
-//! An inode with its name, and where its bytes stand.
+//! An inode with its name, and the offsets of its bytes.
 
 use manifest_rows::Bytes;
 
-/// An inode with its name, at its place. Its numbers are as the format has them, in 64 bits.
+/// An inode with its name and its offset. Its numbers are those of the format, in 64 bits.
 #[derive(Clone, Copy, PartialEq, Eq)]
 pub struct WideInode<'a> {
     pub place: u64,

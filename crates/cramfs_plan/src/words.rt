@@ -1,5 +1,5 @@
 //! The three words of an inode, as `cramfs_layout` has them (Linux include/uapi/linux/cramfs_fs.h).
-//! They are counted in 64 bits; of what fits they have 32.
+//! They are computed in 64 bits; those of a layout that fits have 32.
 ghost use Rattle.std.specs.Prelude.{◌≡◌, ◌+◌, ◌-◌, ◌*◌, ◌^◌, ◌<◌, ℕ, length};
 ghost use Rattle.cramfs_layout.specs.Layout as layout;
 ghost use Rattle.manifest_rows.specs.Rows.{inode_view};
@@ -9,7 +9,7 @@ use manifest_rows::Inode;
 use rom_fields::pad;
 use rom_tree::Kind;
 
-/// The file type, which is the upper four of the sixteen bits of the mode.
+/// Returns the file type, which is the upper four of the sixteen bits of the mode.
 fn type_bits(kind: Kind) -> u64
     ensures bits { result ≡ layout.type_bits kind }
     ensures small { result < 16 }
@@ -25,7 +25,7 @@ fn type_bits(kind: Kind) -> u64
     }
 }
 
-/// What the size field of a file holds: of a device its numbers.
+/// Returns the size field of a file: for a device, its numbers.
 pub fn size_by(inode: &Inode<'_>) -> u64
     requires { inode.now.size < 2 ^ 40 }
     ensures size { result ≡ layout.size_by inode.now.kind (inode_view inode.now) }
@@ -38,7 +38,7 @@ pub fn size_by(inode: &Inode<'_>) -> u64
     }
 }
 
-/// The mode, and the owner.
+/// Returns the word of the mode and the owner.
 pub fn first_word(order: Order, inode: &Inode<'_>) -> u64
     ensures { result ≡ layout.first_word order (inode_view inode.now) }
 {
@@ -46,7 +46,7 @@ pub fn first_word(order: Order, inode: &Inode<'_>) -> u64
     order.packed(16, mode, inode.uid as u64)
 }
 
-/// A size, and the group.
+/// Returns the word of a size and the group.
 pub fn second_word(order: Order, inode: &Inode<'_>, size: u64) -> u64
     requires { size < 2 ^ 41 }
     ensures { result ≡ layout.second_word order (inode_view inode.now) size }
@@ -54,7 +54,7 @@ pub fn second_word(order: Order, inode: &Inode<'_>, size: u64) -> u64
     order.packed(24, size, inode.gid as u64)
 }
 
-/// How many bytes a name takes with its zeros.
+/// Returns the length of a name with its zeros, in bytes.
 fn name_len(name: &[u8]) -> u64
     requires { length name.now < 256 }
     ensures len { result ≡ layout.pad4 (length name.now) }
@@ -63,7 +63,7 @@ fn name_len(name: &[u8]) -> u64
     pad(name.len() as u64, 4)
 }
 
-/// The length of a name and an offset, both in units of 4 bytes.
+/// Returns the word of the length of a name and an offset, both in units of 4 bytes.
 pub fn third_word(order: Order, name: &[u8], offset: u64) -> u64
     requires short { length name.now < 256 }
     requires near { offset < 2 ^ 52 }
@@ -72,7 +72,7 @@ pub fn third_word(order: Order, name: &[u8], offset: u64) -> u64
     order.packed(6, name_len(name) / 4, offset / 4)
 }
 
-/// How long an inode with its name is.
+/// Returns the length of an inode with its name, in bytes.
 pub fn entry_len(name: &[u8]) -> u64
     requires { length name.now < 256 }
     ensures len { result ≡ layout.entry_len name.now }

@@ -1,4 +1,4 @@
--- What is known of the plan of a manifest.
+-- The known facts of the plan of a manifest.
 use Rattle.std.proofs.Common.{◌≡◌, ℕ, ◌^◌, ◌<◌, List, [], ◌++◌, map, length, get_or, refl, sym, subst, arith}
 use Rattle.cramfs_format.specs.declared.order.Order.{Order}
 use Rattle.manifest.specs.Grammar.{IsManifest}
@@ -39,19 +39,23 @@ of_contents o m cs A h al sized =
       room = h.room;
       sections = refl;
       rises = (rise o m.volume root n cs A h al).2;
-      bodies = order_every (IsPart cs all) (sections_from [] 1 others) (are_parts cs all [] 1 others refl (are_fit o m.volume root n cs A h al));
+      bodies = order_every (IsPart cs all) (sections_from [] 1 others)
+          (are_parts cs all [] 1 others refl (are_fit o m.volume root n cs A h al));
       sized = sized;
     }
 
-known : Fitting → (o : Order) (m : ManifestLines) (sizes : List ℕ) → IsManifest m → length sizes ≡ length (sources_of m.lines)
+known : Fitting → (o : Order) (m : ManifestLines) (sizes : List ℕ) → IsManifest m
+    → length sizes ≡ length (sources_of m.lines)
     → HasNoMisfit (cramfs o) m sizes → IsCramfsPlan (planned o m sizes)
 known fitting o m sizes h l n =
     let e = lengths sizes in
     let cs = zeros sizes in
     let fits = subst (HasNoMisfit (cramfs o) m) (sym e) n in
-    let small = subst (λ (xs : List ℕ). (file : ℕ) → get_or xs file 0 < 2 ^ 32) (sym e) (sizes_small (cramfs o) m sizes h l n) in
+    let small = subst (λ (xs : List ℕ). (file : ℕ) → get_or xs file 0 < 2 ^ 32) (sym e)
+    (sizes_small (cramfs o) m sizes h l n) in
     subst (λ (xs : List ℕ). IsCramfsPlan (planned o m xs)) e
-    (of_contents o m cs (align_of m.lines) (fitting (cramfs o) m cs h fits) (sourced (cramfs o) m (map length cs) h fits) small)
+    (of_contents o m cs (align_of m.lines) (fitting (cramfs o) m cs h fits)
+    (sourced (cramfs o) m (map length cs) h fits) small)
 
 pub plan_known : Fitting → (o : Order) (p : Planned) → IsPlan p → p.format ≡ cramfs o → IsCramfsPlan p
 plan_known fitting o p h e =

@@ -6,7 +6,8 @@ use Rattle.cramfs_format.specs.declared.order.Order.{Order}
 use Rattle.image_parts.proofs.Padding.{pad-after}
 use Rattle.manifest_tree.specs.Names.{Inode, Names, nothing, leaf, link, folder, bytes_of}
 use Rattle.layout_terms.specs.Items.{Item}
-use Rattle.cramfs_layout.specs.Layout.{pad4, entry_len, State, Kept, nowhere, shared, fresh, kept, after_by, after_file, after_list, after_names, first_state, size_of}
+use Rattle.cramfs_layout.specs.Layout.{pad4, entry_len, State, Kept, nowhere, shared, fresh, kept, after_by, after_file}
+use Rattle.cramfs_layout.specs.Layout.{after_list, after_names, first_state, size_of}
 use Rattle.cramfs_layout.specs.Items.{AreAlignedBy, entries, below}
 use Rattle.cramfs_layout.specs.Wells.{AreWell}
 use Rattle.cramfs_layout.specs.Planned.{IsPlanned}
@@ -18,12 +19,17 @@ use Rattle.cramfs_write.proofs.Sections.{IsFit}
 abbrev IsNamed : List (List ℕ) → Item → Type 0
 IsNamed cs i = (length i.name ≤ 252) × (i.len ≢ 0 → length (bytes_of cs i.fill) ≡ i.len)
 
-entries_named : (o : Order) (cs : List (List ℕ)) (l : ℕ) (s : State) (n : Names) → AreWell cs n → Every (IsNamed cs) (entries o l s n)
+entries_named : (o : Order) (cs : List (List ℕ)) (l : ℕ) (s : State) (n : Names) → AreWell cs n
+    → Every (IsNamed cs) (entries o l s n)
 entries_named o cs l s nothing h = tt
-entries_named o cs l s (leaf name i rest) h = ((h.0.1, λ u. h.1.bytes), entries_named o cs (l + entry_len name) (after_file s i) rest h.2)
+entries_named o cs l s (leaf name i rest) h =
+    ((h.0.1, λ u. h.1.bytes), entries_named o cs (l + entry_len name) (after_file s i) rest h.2)
 entries_named o cs l s (link name i rest) h = absurd h
-entries_named o cs l s (folder name i own rest) h =
-    ((h.0.1, λ u. absurd (u refl)), entries_named o cs (l + entry_len name) (after_names (after_list s own) own) rest h.3)
+entries_named o cs l s (folder name i own rest) h = (
+  (h.0.1, λ u. absurd (u refl)),
+  entries_named o cs (l + entry_len name)
+      (after_names (after_list s own) own) rest h.3,
+)
 
 below_named : (o : Order) (cs : List (List ℕ)) (s : State) (n : Names) → AreWell cs n → Every (IsNamed cs) (below o s n)
 below_named o cs s nothing h = tt
@@ -32,8 +38,10 @@ below_named o cs s (link name i rest) h = absurd h
 below_named o cs s (folder name i own rest) h =
     let s1 = after_list s own in
     let s2 = after_names s1 own in
-    every_join (IsNamed cs) (entries o (pad4 s.at) s1 own) (below o s1 own ++ below o s2 rest) (entries_named o cs (pad4 s.at) s1 own h.2)
-    (every_join (IsNamed cs) (below o s1 own) (below o s2 rest) (below_named o cs s1 own h.2) (below_named o cs s2 rest h.3))
+    every_join (IsNamed cs) (entries o (pad4 s.at) s1 own) (below o s1 own ++ below o s2 rest)
+    (entries_named o cs (pad4 s.at) s1 own h.2)
+    (every_join (IsNamed cs) (below o s1 own) (below o s2 rest) (below_named o cs s1 own h.2)
+    (below_named o cs s2 rest h.3))
 
 -- bytes end at 2^28 or before
 abbrev Low : ℕ → ℕ → ℕ → Type 0
@@ -69,5 +77,6 @@ are_fit o volume root n cs A h al =
     let t = all_tabled o cs A Low 76 s n h.well al (all_low cs s n h.well (omega (arith, up, room))) tt in
     let low = every_join (IsTabled Low) es bs t.here t.under in
     let named = every_join (IsNamed cs) es bs (entries_named o cs 76 s n h.well) (below_named o cs s n h.well) in
-    every_weaker (λ i. IsNamed cs i × IsTabled Low i) (IsFit cs) (λ i k. record { short = k.0.0; low = k.1; long = k.0.1 }) (es ++ bs)
+    every_weaker (λ i. IsNamed cs i × IsTabled Low i) (IsFit cs)
+    (λ i k. record { short = k.0.0; low = k.1; long = k.0.1 }) (es ++ bs)
     (every_both (IsNamed cs) (IsTabled Low) (es ++ bs) named low)

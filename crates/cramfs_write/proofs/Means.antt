@@ -1,5 +1,6 @@
 -- The image of a plan's form is the layout.
-use Rattle.std.proofs.Common.{◌≡◌, ℕ, ◌+◌, List, [], ◌∷◌, ◌++◌, map, length, drop, get_or, refl, sym, ap, subst, ◌∙◌, arith, length-append}
+use Rattle.std.proofs.Common.{◌≡◌, ℕ, ◌+◌, List, [], ◌∷◌, ◌++◌, map, length, drop, get_or, refl, sym, ap, subst, ◌∙◌}
+use Rattle.std.proofs.Common.{arith, length-append}
 use Rattle.cramfs_format.specs.declared.order.Order.{Order}
 use Rattle.cramfs_format.specs.declared.order.Order.TheVariants.{Little, Big}
 use Rattle.crc.specs.Crc.{crc_of}
@@ -16,7 +17,8 @@ use Rattle.manifest.specs.Lines.{ManifestLines}
 use Rattle.manifest_tree.specs.Tree.{tree_of, root_of}
 use Rattle.manifest_layout.specs.Format.{cramfs, layout_of}
 use Rattle.manifest_layout.proofs.Sourced.{align_of, sourced}
-use Rattle.cramfs_layout.specs.Layout.{State, first_state, after_file, after_list, after_names, pad4, entry_len, entry_bytes, count, size_of, superblock, with_crc}
+use Rattle.cramfs_layout.specs.Layout.{State, first_state, after_file, after_list, after_names, pad4, entry_len}
+use Rattle.cramfs_layout.specs.Layout.{entry_bytes, count, size_of, superblock, with_crc}
 use Rattle.cramfs_layout.specs.Items.{AreAlignedBy, entries, below, items_of, sections_of}
 use Rattle.cramfs_layout.specs.Composed.{cramfs_part, composed}
 use Rattle.cramfs_layout.specs.Planned.{IsPlanned}
@@ -41,12 +43,16 @@ is_of_sections o p cs h z s =
     let end = part p.image_len [] ∷ [] in
     let rest = image_from cs f.start f.segments f.end in
     let first = length_super o 0 p.image_len (length p.items) p.volume root.first root.second root.third h.short in
-    let whole : block ++ rest ≡ laid [] (part 0 block ∷ (map (segment_part cs) f.segments ++ end)) = image_laid f cs (laid_out o p h) z first in
-    let same : laid [] (part 0 block ∷ (map (segment_part cs) f.segments ++ end)) ≡ laid [] (map sp (section 0 76 super ∷ others) ++ end) =
-    ap (λ (ps : List Part). laid [] (part 0 block ∷ (ps ++ end))) (parts_by o p.items p.sizes cs block others z h.bodies) in
+    let whole : block ++ rest ≡ laid [] (part 0 block ∷ (map (segment_part cs) f.segments ++ end)) =
+    image_laid f cs (laid_out o p h) z first in
+    let same : laid [] (part 0 block ∷ (map (segment_part cs) f.segments ++ end))
+    ≡ laid [] (map sp (section 0 76 super ∷ others) ++ end) =
+    ap (λ (ps : List Part). laid [] (part 0 block ∷ (ps ++ end)))
+    (parts_by o p.items p.sizes cs block others z h.bodies) in
     let all : laid [] (map sp (section 0 76 super ∷ others) ++ end) ≡ laid [] (map sp (sections_of p.items) ++ end) =
     ap (λ (ss : List Section). laid [] (map sp ss ++ end)) (sym h.sections ∙ s) in
-    crc_stored o (crc_of (block ++ rest)) p.image_len (length p.items) p.volume root.first root.second root.third rest refl
+    crc_stored o (crc_of (block ++ rest)) p.image_len
+    (length p.items) p.volume root.first root.second root.third rest refl
     ∙ ap (with_crc o) (whole ∙ same ∙ all)
 
 -- an item for each entry
@@ -72,10 +78,16 @@ items_are o root n =
 
 -- the superblock of the form is that of the layout
 pub super_is : (o : Order) (volume : List ℕ) (root : Inode) (n : Names) → let top = item_at (items_of o root n) 0 in
-    superblock_storing o 0 (size_of n) (length (items_of o root n)) volume top.first top.second top.third ≡ superblock o volume root n
+    superblock_storing o 0 (size_of n) (length (items_of o root n)) volume top.first top.second top.third
+    ≡ superblock o volume root n
 unfolding superblock entry_bytes
-super_is Little volume root n = let top = item_at (items_of Little root n) 0 in ap (λ (k : ℕ). superblock_storing Little 0 (size_of n) k volume top.first top.second top.third) (items_are Little root n)
-super_is Big volume root n = let top = item_at (items_of Big root n) 0 in ap (λ (k : ℕ). superblock_storing Big 0 (size_of n) k volume top.first top.second top.third) (items_are Big root n)
+super_is Little volume root n = let top =
+    item_at (items_of Little root n) 0 in ap
+    (λ (k : ℕ). superblock_storing Little 0 (size_of n) k volume top.first top.second top.third)
+    (items_are Little root n)
+super_is Big volume root n = let top =
+    item_at (items_of Big root n) 0 in ap
+    (λ (k : ℕ). superblock_storing Big 0 (size_of n) k volume top.first top.second top.third) (items_are Big root n)
 
 -- the plan of a manifest
 abbrev pub planned : Order → ManifestLines → List ℕ → Planned
@@ -91,7 +103,8 @@ planned o m sizes =
       sizes = sizes;
     }
 
-pub planned_is : (o : Order) (m : ManifestLines) (sizes : List ℕ) (p : Planned) → IsPlanOf (cramfs o) m sizes p → p ≡ planned o m sizes
+pub planned_is : (o : Order) (m : ManifestLines) (sizes : List ℕ) (p : Planned) → IsPlanOf (cramfs o) m sizes p
+    → p ≡ planned o m sizes
 planned_is o m sizes p h =
     let f = h.format in
     let v = h.volume in
@@ -103,7 +116,8 @@ planned_is o m sizes p h =
 
 -- the image of a plan of a manifest is its layout
 is_layout : (o : Order) (m : ManifestLines) (cs : List (List ℕ)) (p : Planned) (A : ℕ → ℕ)
-    → AreAlignedBy A (tree_of m.lines (map length cs)) → IsPlanned m.volume (root_of m.lines (map length cs)) (tree_of m.lines (map length cs)) cs
+    → AreAlignedBy A (tree_of m.lines (map length cs))
+    → IsPlanned m.volume (root_of m.lines (map length cs)) (tree_of m.lines (map length cs)) cs
     → IsPlanOf (cramfs o) m (map length cs) p → IsCramfsPlan p → AreSized p.sizes cs
     → image_of (form_of o p) crc_of cs ≡ layout_of (cramfs o) m cs
 is_layout o m cs p A al h is k z =
@@ -113,7 +127,8 @@ is_layout o m cs p A al h is k z =
     let items = items_of o root n in
     let e = planned_is o m sizes p is in
     let q = planned o m sizes in
-    let mine = subst (λ (x : Planned). image_of (form_of o x) crc_of cs ≡ composed o ((form_of o x).head 0) x.image_len cs x.items) e
+    let mine = subst (λ (x : Planned). image_of (form_of o x) crc_of cs
+    ≡ composed o ((form_of o x).head 0) x.image_len cs x.items) e
     (is_of_sections o p cs k z (is.sections ∙ ap sections_of (sym is.items))) in
     ap (λ (x : Planned). image_of (form_of o x) crc_of cs) e ∙ mine
     ∙ ap (λ (block : List ℕ). composed o block (size_of n) cs items) (super_is o m.volume root n)
@@ -124,11 +139,13 @@ pub means : Fitting → (o : Order) (p : Planned) (m : ManifestLines) (cs : List
     → IsPlanOf (cramfs o) m (map length cs) p → image_of (form_of o p) crc_of cs ≡ layout_of (cramfs o) m cs
 means fitting o p m cs hm known is =
     let sizes = map length cs in
-    is_layout o m cs p (align_of m.lines) (sourced (cramfs o) m sizes hm is.fits) (fitting (cramfs o) m cs hm is.fits) is known
+    is_layout o m cs p (align_of m.lines) (sourced (cramfs o) m sizes hm is.fits)
+    (fitting (cramfs o) m cs hm is.fits) is known
     (λ k l. size_is cs k ∙ ap (λ (xs : List ℕ). get_or xs k 0) (sym is.of_sources))
 
 -- contents of the planned sizes
-pub sized_means : Fitting → (o : Order) (p : Planned) (m : ManifestLines) (sizes : List ℕ) (cs : List (List ℕ)) → IsManifest m
+pub sized_means : Fitting → (o : Order) (p : Planned) (m : ManifestLines) (sizes : List ℕ) (cs : List (List ℕ))
+    → IsManifest m
     → IsCramfsPlan p → IsPlanOf (cramfs o) m sizes p → length cs ≡ length p.sizes → AreSized p.sizes cs
     → (map length cs ≡ sizes) × (image_of (form_of o p) crc_of cs ≡ layout_of (cramfs o) m cs)
 sized_means fitting o p m sizes cs hm known is n sized =

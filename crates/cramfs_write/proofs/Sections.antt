@@ -1,5 +1,6 @@
 -- The sections of a cramfs plan are inodes, tables, texts and contents of files.
-use Rattle.std.proofs.Common.{◌≡◌, ◌≢◌, ℕ, zero, suc, ◌+◌, ◌*◌, ◌^◌, ◌<◌, ◌≤◌, Bool, true, false, if◌then◌else◌, inl, inr, List, [], ◌∷◌, map, length, drop, get_or, refl, sym, ap, subst, ◌∙◌, arith}
+use Rattle.std.proofs.Common.{◌≡◌, ◌≢◌, ℕ, zero, suc, ◌+◌, ◌*◌, ◌^◌, ◌<◌, ◌≤◌, Bool, true, false, if◌then◌else◌, inl}
+use Rattle.std.proofs.Common.{inr, List, [], ◌∷◌, map, length, drop, get_or, refl, sym, ap, subst, ◌∙◌, arith}
 use Rattle.std.proofs.lemmas.Bool.Decides.{eqb_tells}
 use Rattle.std.proofs.lemmas.List.{length-drop}
 use Rattle.std.specs.List.{AllByRecursion as Every}
@@ -29,7 +30,8 @@ module _ (cs : List (List ℕ)) (all : List Item) where
   abbrev pub IsPart : Section → Type 0
   IsPart s = IsBody all (map length cs) s.len s.body
 
-  filled_part : (index start len : ℕ) (f : Fill) → index < length all → (item_at all index).fill ≡ f → length (bytes_of cs f) ≡ len
+  filled_part : (index start len : ℕ) (f : Fill) → index < length all → (item_at all index).fill ≡ f
+      → length (bytes_of cs f) ≡ len
       → len ≢ 0 → Every IsPart (fill_section index start len f)
   filled_part index start len no_bytes low is n z = tt
   filled_part index start len (text x) low is n z = ((low, x, is, n), tt)
@@ -37,10 +39,15 @@ module _ (cs : List (List ℕ)) (all : List Item) where
       let e = sym (size_is cs k) ∙ n in ((inside (map length cs) k (λ y. z (sym e ∙ y)), e), tt)
 
   own_by : (c : Bool) (index : ℕ) (i : Item) → index < length all → item_at all index ≡ i → i.len ≢ 0 → IsFit cs i
-      → Every IsPart (if c then [] else section i.table (4 * block_count i.len) (table_of index) ∷ fill_section index i.start i.len i.fill)
+      → Every IsPart (if c then [] else section i.table (4 * block_count i.len) (table_of index)
+      ∷ fill_section index i.start i.len i.fill)
   own_by true index i low is z f = tt
   own_by false index i low is z f = (
-    (low, ap (λ (x : Item). 4 * block_count x.len) is, subst (λ (x : Item). x.start + x.len ≤ 2 ^ 28) (sym is) (f.low z)),
+    (
+      low,
+      ap (λ (x : Item). 4 * block_count x.len) is,
+      subst (λ (x : Item). x.start + x.len ≤ 2 ^ 28) (sym is) (f.low z),
+    ),
     filled_part index i.start i.len i.fill low (ap (λ (x : Item). x.fill) is) (f.long z) z,
   )
 
@@ -60,6 +67,7 @@ module _ (cs : List (List ℕ)) (all : List Item) where
       let m : length (drop index all) ≡ length (i ∷ is) = ap length e in
       let low : index < length all = omega (arith, n, m) in (
         (low, subst (λ (x : Item). length x.name ≤ 252) (sym here) f.0.short, ap (λ (x : Item). entry_len x.name) here),
-        every_join IsPart (table_sections earlier index i) (sections_from (i ∷ earlier) (index + 1) is) (own_parts earlier index i low here f.0)
+        every_join IsPart (table_sections earlier index i) (sections_from (i ∷ earlier) (index + 1) is)
+            (own_parts earlier index i low here f.0)
             (are_parts (i ∷ earlier) (index + 1) is (items_later all index i is e) f.1),
       )

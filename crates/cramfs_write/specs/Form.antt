@@ -1,4 +1,5 @@
--- What a cramfs image is made of, from its plan. (This project's own; the bytes are those of the layout.)
+-- `form_of`: the plan of a cramfs image, in either byte order, as a superblock and segments, before
+-- the contents of its files are known. (This project's own; the bytes are those of the layout.)
 use Rattle.std.specs.Prelude.{ℕ, ◌-◌, ◌/◌, List, [], ◌++◌, map, length, drop, replicate}
 use Rattle.cramfs_format.specs.declared.order.Order.{Order}
 use Rattle.cramfs_format.specs.Superblock.{magic, signature}
@@ -7,7 +8,8 @@ use Rattle.cramfs_layout.specs.Layout.{word_bytes, pad4, flags}
 use Rattle.image_stream.specs.Segments.{Segment, fixed, content, Form}
 use Rattle.plan_types.specs.Plans.{Planned}
 use Rattle.layout_terms.specs.Bodies.{item_at}
-use Rattle.layout_terms.specs.Items.{Item, Section, Body, super, record_of, table_of, text_of, contents_of}
+use Rattle.layout_terms.specs.Items.{Item, Section, Body, super, record_of, table_of, text_of}
+use Rattle.layout_terms.specs.Items.{contents_of}
 use Rattle.manifest_tree.specs.Names.{bytes_of}
 
 -- the three words of an inode
@@ -20,7 +22,7 @@ inode_bytes o first second third name =
     word_bytes o first ++ (word_bytes o second ++ (word_bytes o third
     ++ (name ++ replicate (pad4 (length name) - length name) 0)))
 
--- the superblock up to the number of blocks, with a word in the place of its crc
+-- the superblock up to the number of blocks, with this word as its crc
 abbrev pub front_storing : Order → ℕ → ℕ → List ℕ
 front_storing o crc size =
     word_bytes o magic ++ (word_bytes o size ++ (word_bytes o flags ++ (word_bytes o 0 ++ (signature
@@ -32,7 +34,8 @@ superblock_storing o crc size files volume first second third =
     front_storing o crc size ++ (word_bytes o (size / 4096) ++ (word_bytes o files
     ++ (volume ++ (replicate (16 - length volume) 0 ++ words_bytes o first second third))))
 
--- a section behind the superblock as a segment: an inode, a table, a text, or the contents of a file
+-- a section behind the superblock as a segment: an inode, a table, a text, or the contents of a
+-- file
 abbrev pub segment_by : Order → List Item → ℕ → ℕ → Body → Segment
 segment_by o is place len super = fixed place []
 segment_by o is place len (record_of index) = fixed place (written o (item_at is index))
@@ -48,7 +51,8 @@ abbrev pub form_of : Order → Planned → Form
 form_of o p = record {
   head = λ crc.
       let root = item_at p.items 0 in
-      superblock_storing o crc p.image_len (length p.items) p.volume root.first root.second root.third;
+      superblock_storing o crc p.image_len
+      (length p.items) p.volume root.first root.second root.third;
   start = 76;
   segments = map (segment_of o p.items) (drop 1 p.sections);
   end = p.image_len;

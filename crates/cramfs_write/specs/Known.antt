@@ -1,22 +1,25 @@
--- What is known of the plan of a cramfs image. (This project's own.)
+-- `IsCramfsPlan`: the known facts of the plan of a cramfs image. (This project's own.)
 use Rattle.std.specs.Prelude.{◌≡◌, ℕ, ◌+◌, ◌*◌, ◌^◌, ◌<◌, ◌≤◌, List, ◌∷◌, length, drop, get_or}
 use Rattle.std.specs.List.{AllByRecursion as Every}
 use Rattle.cramfs_format.specs.Inode.{block_count}
 use Rattle.cramfs_layout.specs.Layout.{entry_len}
 use Rattle.plan_types.specs.Plans.{Planned}
 use Rattle.layout_terms.specs.Bodies.{item_at}
-use Rattle.layout_terms.specs.Items.{Item, Body, super, record_of, table_of, text_of, contents_of, section, SectionsRise}
+use Rattle.layout_terms.specs.Items.{Item, Body, super, record_of, table_of, text_of, contents_of}
+use Rattle.layout_terms.specs.Items.{section, SectionsRise}
 use Rattle.manifest_tree.specs.Names.{text}
 
--- what a section of this length holds: an inode, a table to blocks that stand below 2^28, a link's text, or the whole
--- contents of a file
+-- the contents of a section of this length: an inode, a table of pointers to blocks below 2^28, a
+-- link's text, or the whole contents of a file
 abbrev pub IsBody : List Item → List ℕ → ℕ → Body → Type 0
 IsBody is sizes len super = ⊥
 IsBody is sizes len (record_of k) =
     (k < length is) × (length (item_at is k).name ≤ 252) × (entry_len (item_at is k).name ≡ len)
 IsBody is sizes len (table_of k) =
-    (k < length is) × (4 * block_count (item_at is k).len ≡ len) × ((item_at is k).start + (item_at is k).len ≤ 2 ^ 28)
-IsBody is sizes len (text_of k) = (k < length is) × (t : List ℕ) × ((item_at is k).fill ≡ text t) × (length t ≡ len)
+    (k < length is) × (4 * block_count (item_at is k).len ≡ len)
+    × ((item_at is k).start + (item_at is k).len ≤ 2 ^ 28)
+IsBody is sizes len (text_of k) =
+    (k < length is) × (t : List ℕ) × ((item_at is k).fill ≡ text t) × (length t ≡ len)
 IsBody is sizes len (contents_of k) = (k < length sizes) × (get_or sizes k 0 ≡ len)
 
 pub record IsCramfsPlan (p : Planned) : Type 0 where

@@ -1,5 +1,6 @@
 //! A plan as an image that can be written segment by segment.
-ghost use Rattle.std.specs.Prelude.{◌≡◌, ◌+◌, ◌*◌, ◌%◌, ◌<◌, ◌≤◌, ◌^◌, ℕ, List, [], length, take, drop, get_or};
+ghost use Rattle.std.specs.Prelude.{◌≡◌, ◌+◌, ◌*◌, ◌%◌, ◌<◌, ◌≤◌, ◌^◌, ℕ, List, [], length, take};
+ghost use Rattle.std.specs.Prelude.{drop, get_or};
 ghost use Rattle.cramfs_format.specs.Inode.{block_count};
 ghost use Rattle.cramfs_format.specs.declared.order.Order.{Order};
 ghost use Rattle.cramfs_layout.specs.Composed.{written, table};
@@ -25,7 +26,7 @@ pub struct CramfsForm<'p> {
     ghost cramfs: { plan.now.format ≡ cramfs order },
 }
 
-/// What is known of the plan of a cramfs image.
+/// Shows the known facts of the plan of a cramfs image.
 pub fn known(order: Order, plan: &Plan)
     requires { plan.now.format ≡ cramfs order }
     ensures plan { IsCramfsPlan plan.now }
@@ -35,7 +36,7 @@ pub fn known(order: Order, plan: &Plan)
     manifest_layout::laws::fitting_is_planned();
 }
 
-/// The byte order of the plan of a cramfs image.
+/// Returns the byte order of the plan of a cramfs image.
 pub fn order_of(plan: &Plan) -> Order
     requires { (o : Order) × (plan.now.format ≡ cramfs o) }
     ensures { plan.now.format ≡ cramfs result }
@@ -85,7 +86,7 @@ fn fill_text(fill: &Fill, from: usize, out: &mut [u8])
 }
 
 impl<'p> CramfsForm<'p> {
-    /// That of a plan in this byte order.
+    /// Returns the form of a plan in this byte order.
     pub fn new(plan: &'p Plan, order: Order) -> CramfsForm<'p>
         requires { plan.now.format ≡ cramfs order }
         ensures plan { result.plan.now ≡ plan.now }
@@ -112,7 +113,7 @@ impl<'p> CramfsForm<'p> {
         );
     }
 
-    /// A section behind the superblock.
+    /// Returns the section at an index behind the superblock.
     fn section_behind(&self, i: usize) -> Section
         requires { i < length (drop 1 self.now.plan.now.sections) }
         ensures is { section_view result
@@ -131,7 +132,7 @@ impl<'p> CramfsForm<'p> {
         }
     }
 
-    /// Fills `out` with the bytes from `from` on of a section that is no file's contents.
+    /// Fills `out` with the bytes from `from` on of a section that is not a file's contents.
     fn fill_section(&self, section: Section, from: usize, out: &mut [u8])
         requires body { IsBody self.now.plan.now.items self.now.plan.now.sizes section.len
             (section_view section).body }

@@ -1,15 +1,17 @@
 //! The superblock, the inodes and the tables of block pointers.
-ghost use Rattle.std.specs.Prelude.{◌≡◌, ◌+◌, ◌-◌, ◌*◌, ◌/◌, ◌%◌, ◌^◌, ◌<◌, ◌≤◌, ◌++◌, length, take, replicate, get_or};
+ghost use Rattle.std.specs.Prelude.{◌≡◌, ◌+◌, ◌-◌, ◌*◌, ◌/◌, ◌%◌, ◌^◌, ◌<◌, ◌≤◌, ◌++◌, length};
+ghost use Rattle.std.specs.Prelude.{take, replicate, get_or};
 ghost use Rattle.cramfs_layout.specs.Layout.{word_bytes, entry_len, pointers};
-ghost use Rattle.cramfs_write.specs.Form.{words_bytes, inode_bytes, front_storing, superblock_storing};
+ghost use Rattle.cramfs_write.specs.Form.{words_bytes, inode_bytes, front_storing};
+ghost use Rattle.cramfs_write.specs.Form.{superblock_storing};
 
 use cramfs_format::Order;
 use cramfs_format::disk::{MAGIC, SIGNATURE};
 
-/// Size and crc are stored, lists are sorted, pointers have bits for the kind of their blocks.
+/// Size and crc are stored, lists are sorted, and pointers have bits for the kind of their blocks.
 const FLAGS: u32 = 0x803;
 
-/// Puts bytes from `start` on. Their end.
+/// Puts bytes from `start` on. Returns their end.
 fn put(out: &mut [u8], start: usize, bytes: &[u8]) -> usize
     requires { start + length bytes.now ≤ length out.old }
     ensures end { result ≡ start + length bytes.now }
@@ -21,7 +23,7 @@ fn put(out: &mut [u8], start: usize, bytes: &[u8]) -> usize
     end
 }
 
-/// Puts a word in this byte order.
+/// Puts a word in this byte order. Returns its end.
 fn put_word(order: Order, out: &mut [u8], start: usize, word: u32) -> usize
     requires { start + 4 ≤ length out.old }
     ensures end { result ≡ start + 4 }
@@ -32,7 +34,7 @@ fn put_word(order: Order, out: &mut [u8], start: usize, word: u32) -> usize
     start + 4
 }
 
-/// Puts so many zeros.
+/// Puts `count` zeros. Returns their end.
 fn put_zeros(out: &mut [u8], start: usize, count: usize) -> usize
     requires { start + count ≤ length out.old }
     ensures end { result ≡ start + count }
@@ -44,7 +46,7 @@ fn put_zeros(out: &mut [u8], start: usize, count: usize) -> usize
     end
 }
 
-/// Puts the three words of an inode.
+/// Puts the three words of an inode. Returns their end.
 fn put_words(order: Order, out: &mut [u8], start: usize, words: [u32; 3]) -> usize
     requires { start + 12 ≤ length out.old }
     ensures end { result ≡ start + 12 }
@@ -57,7 +59,7 @@ fn put_words(order: Order, out: &mut [u8], start: usize, words: [u32; 3]) -> usi
     put_word(order, out, third, words[2])
 }
 
-/// Puts an inode with its name at the front. Its length.
+/// Puts an inode with its name at the front. Returns its length.
 pub fn put_inode(order: Order, words: [u32; 3], name: &[u8], out: &mut [u8]) -> usize
     requires short { length name.now < 256 }
     requires room { entry_len name.now ≤ length out.old }
@@ -71,7 +73,7 @@ pub fn put_inode(order: Order, words: [u32; 3], name: &[u8], out: &mut [u8]) -> 
     put_zeros(out, at, (4 - name.len() % 4) % 4)
 }
 
-/// Fills `out` with pointers to blocks without gaps, the first at `place`.
+/// Fills `out` with pointers to blocks without gaps. The first block is at `place`.
 pub fn put_pointers(order: Order, place: u32, out: &mut [u8])
     requires words { length out.old % 4 ≡ 0 }
     requires small { place / 4 + 256 * length out.old < 2 ^ 30 }
@@ -83,7 +85,7 @@ pub fn put_pointers(order: Order, place: u32, out: &mut [u8])
     }
 }
 
-/// Puts the front of the superblock, up to the number of blocks.
+/// Puts the front of the superblock, up to the number of blocks. Returns its end.
 fn put_front(order: Order, size: u32, crc: u32, out: &mut [u8]) -> usize
     requires { 76 ≤ length out.old }
     ensures end { result ≡ 40 }
@@ -99,8 +101,7 @@ fn put_front(order: Order, size: u32, crc: u32, out: &mut [u8]) -> usize
     put_word(order, out, at, 0)
 }
 
-/// Puts the superblock that stores this size, this number of files and this crc, with the root's
-/// inode.
+/// Puts the superblock with this size, this number of files, this crc, and the root's inode.
 pub fn put_superblock(
     order: Order,
     size: u32,

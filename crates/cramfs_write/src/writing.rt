@@ -1,4 +1,4 @@
-//! An image into a buffer, or through a writer.
+//! The writing of an image into a buffer, or to a writer.
 ghost use Rattle.std.specs.Prelude.{◌≡◌, ◌%◌, ◌≤◌, ℕ, List, map, length, OnOk, OnErr, IfErr};
 ghost use Rattle.cramfs_format.specs.declared.order.Order.{Order};
 ghost use Rattle.crc.specs.Crc.{crc_of};
@@ -18,11 +18,12 @@ use plan_types::Plan;
 use rom_fields::{ByteWrite, Contents};
 
 /// Writes the image of a plan, with these contents of its files, into a buffer of its length,
-/// whatever the buffer held. It takes no memory.
+/// whatever the buffer holds. It takes no memory.
 ///
 /// # Errors
 ///
-/// The first file whose contents are not as long as was planned; the buffer is then as it was.
+/// `SizeDiffers` has the first file whose contents have another size than was planned. The buffer
+/// is then as it was.
 pub fn write(plan: &Plan, contents: &Contents<'_>, out: &mut [u8]) -> Result<(), SizeDiffers>
     requires format { (o : Order) × (plan.now.format ≡ cramfs o) }
     requires count { length contents.now ≡ length plan.now.sizes }
@@ -41,16 +42,17 @@ pub fn write(plan: &Plan, contents: &Contents<'_>, out: &mut [u8]) -> Result<(),
     image_stream::write::<CramfsForm<'_>, Crc32>(&form, contents, out)
 }
 
-/// Writes the image of a plan through a buffer of the caller's, without memory, and flushes the
-/// writer. The sources are read as `image_stream` says.
+/// Writes the image of a plan through a buffer of the caller's, without taking memory, and flushes
+/// the writer. `image_stream::stream_through` describes how the sources are read.
 ///
-/// At `Ok` just the layout was written, where the sources tell their contents; else a whole image
-/// of some contents of the planned sizes, with the crc of just these bytes.
+/// At `Ok`, exactly the layout was written, if the contents of the sources are known. Otherwise a
+/// whole image was written, with some contents of the planned sizes and the crc of exactly these
+/// bytes.
 ///
 /// # Errors
 ///
-/// As `StreamError` says. A prefix of the layout was written, where the sources tell contents of
-/// the planned sizes.
+/// `StreamError` has the reasons. If the contents of the sources are known and have the planned
+/// sizes, a prefix of the layout was written.
 pub fn stream_through<S: Sources, W: ByteWrite>(
     plan: &Plan,
     sources: &mut S,

@@ -1,6 +1,7 @@
 -- x^300 is x^155 + x^117 + x^89 + 1 modulo the polynomial, and so are their eighth powers: a byte does to the remainder
 -- what it does from 145, 183, 211 and 300 bytes later together.
-use Rattle.std.proofs.Common.{◌≡◌, ℕ, zero, suc, ◌+◌, ◌-◌, ◌*◌, ◌^◌, ◌<◌, ◌≤◌, inl, inr, refl, sym, ap, ◌∙◌, arith, subst, add-one}
+use Rattle.std.proofs.Common.{◌≡◌, ℕ, zero, suc, ◌+◌, ◌-◌, ◌*◌, ◌^◌, ◌<◌, ◌≤◌, inl, inr, refl, sym, ap, ◌∙◌, arith}
+use Rattle.std.proofs.Common.{subst, add-one}
 use Rattle.std.specs.Int.Bits.{bit_xor}
 use Rattle.std.proofs.lemmas.Nat.{xor_block, pow-add, pow_pos}
 use Rattle.std.proofs.lemmas.Bool.{cases_lt}
@@ -20,10 +21,12 @@ steps_step zero c = refl
 steps_step (suc n) c = steps_step n (step c)
 
 step_four : (a b c d : ℕ) → step (four a b c d) ≡ four (step a) (step b) (step c) (step d)
-step_four a b c d = step_linear a (bit_xor b (bit_xor c d)) ∙ ap (bit_xor (step a)) (step_linear b (bit_xor c d) ∙ ap (bit_xor (step b)) (step_linear c d))
+step_four a b c d = step_linear a (bit_xor b (bit_xor c d))
+    ∙ ap (bit_xor (step a)) (step_linear b (bit_xor c d) ∙ ap (bit_xor (step b)) (step_linear c d))
 
 pub steps_four : (n a b c d : ℕ) → steps n (four a b c d) ≡ four (steps n a) (steps n b) (steps n c) (steps n d)
-steps_four n a b c d = steps_linear n a (bit_xor b (bit_xor c d)) ∙ ap (bit_xor (steps n a)) (steps_linear n b (bit_xor c d) ∙ ap (bit_xor (steps n b)) (steps_linear n c d))
+steps_four n a b c d = steps_linear n a (bit_xor b (bit_xor c d))
+    ∙ ap (bit_xor (steps n a)) (steps_linear n b (bit_xor c d) ∙ ap (bit_xor (steps n b)) (steps_linear n c d))
 
 -- what 2400 steps are
 folds : ℕ → ℕ
@@ -34,11 +37,13 @@ IsFold c = steps 2400 c ≡ folds c
 
 folds_linear : (a b : ℕ) → folds (bit_xor a b) ≡ bit_xor (folds a) (folds b)
 unfolding folds
-folds_linear a b = four_same (steps_linear 1240 a b) (steps_linear 936 a b) (steps_linear 712 a b) refl ∙ four_swap (steps 1240 a) (steps 1240 b) (steps 936 a) (steps 936 b) (steps 712 a) (steps 712 b) a b
+folds_linear a b = four_same (steps_linear 1240 a b) (steps_linear 936 a b) (steps_linear 712 a b) refl
+    ∙ four_swap (steps 1240 a) (steps 1240 b) (steps 936 a) (steps 936 b) (steps 712 a) (steps 712 b) a b
 
 folds_step : (c : ℕ) → folds (step c) ≡ step (folds c)
 unfolding folds
-folds_step c = four_same (steps_step 1240 c) (steps_step 936 c) (steps_step 712 c) refl ∙ sym (step_four (steps 1240 c) (steps 936 c) (steps 712 c) c)
+folds_step c = four_same (steps_step 1240 c) (steps_step 936 c) (steps_step 712 c) refl
+    ∙ sym (step_four (steps 1240 c) (steps 936 c) (steps 712 c) c)
 
 fold_top : IsFold 2147483648
 unfolding IsFold folds steps step after_bit
@@ -50,7 +55,8 @@ fold_step c h = steps_step 2400 c ∙ ap step h ∙ sym (folds_step c)
 
 fold_xor : (a b : ℕ) → IsFold a → IsFold b → IsFold (bit_xor a b)
 unfolding IsFold
-fold_xor a b h k = steps_linear 2400 a b ∙ ap (λ (x : ℕ). bit_xor x (steps 2400 b)) h ∙ ap (bit_xor (folds a)) k ∙ sym (folds_linear a b)
+fold_xor a b h k = steps_linear 2400 a b ∙ ap (λ (x : ℕ). bit_xor x (steps 2400 b)) h ∙ ap (bit_xor (folds a)) k
+    ∙ sym (folds_linear a b)
 
 fold_none : IsFold 0
 unfolding IsFold folds
@@ -71,8 +77,12 @@ top_xor : (k r : ℕ) → r < 2 ^ k → bit_xor (2 ^ k) r ≡ 2 ^ k + r
 top_xor k r small =
     let low : 0 < 2 ^ k = pow_pos k in
     let b = xor_block k 1 0 0 r low small in
-    let l : bit_xor (1 * 2 ^ k + 0) (0 * 2 ^ k + r) ≡ bit_xor (2 ^ k) r = let x : 1 * 2 ^ k + 0 ≡ 2 ^ k = omega arith in let y : 0 * 2 ^ k + r ≡ r = omega arith in ap (λ (v : ℕ). bit_xor v (0 * 2 ^ k + r)) x ∙ ap (bit_xor (2 ^ k)) y in
-    let m : bit_xor 1 0 * 2 ^ k + bit_xor 0 r ≡ 2 ^ k + r = let z = zero_xor r in let o : bit_xor 1 0 ≡ 1 = refl in let t : bit_xor 1 0 * 2 ^ k ≡ 1 * 2 ^ k = ap (λ (v : ℕ). v * 2 ^ k) o in omega arith in
+    let l : bit_xor (1 * 2 ^ k + 0) (0 * 2 ^ k + r) ≡ bit_xor (2 ^ k) r =
+    let x : 1 * 2 ^ k + 0 ≡ 2 ^ k = omega arith in let y : 0 * 2 ^ k + r ≡ r =
+    omega arith in ap (λ (v : ℕ). bit_xor v (0 * 2 ^ k + r)) x ∙ ap (bit_xor (2 ^ k)) y in
+    let m : bit_xor 1 0 * 2 ^ k + bit_xor 0 r ≡ 2 ^ k + r =
+    let z = zero_xor r in let o : bit_xor 1 0 ≡ 1 =
+    refl in let t : bit_xor 1 0 * 2 ^ k ≡ 1 * 2 ^ k = ap (λ (v : ℕ). v * 2 ^ k) o in omega arith in
     sym l ∙ b ∙ m
 
 fold_below : (k c : ℕ) → k ≤ 32 → c < 2 ^ k → IsFold c
@@ -84,12 +94,15 @@ fold_below (suc k) c le small = elim (cases_lt c (2 ^ k)) [
       let small' : c - 2 ^ k < 2 ^ k = omega arith in
       let e : bit_xor (2 ^ k) (c - 2 ^ k) ≡ c = top_xor k (c - 2 ^ k) small' ∙ omega arith in
       let P : ℕ → Type 0 = λ v. IsFold v in
-      subst P e (fold_xor (2 ^ k) (c - 2 ^ k) (fold_power (31 - k) k (omega arith)) (fold_below k (c - 2 ^ k) (omega arith) small'))
+      subst P e (fold_xor (2 ^ k) (c - 2 ^ k) (fold_power (31 - k) k (omega arith))
+      (fold_below k (c - 2 ^ k) (omega arith) small'))
 ]
 
 -- the same with j further steps
-pub folded : (j v : ℕ) → v < 2 ^ 32 → steps (2400 + j) v ≡ four (steps (1240 + j) v) (steps (936 + j) v) (steps (712 + j) v) (steps j v)
+pub folded : (j v : ℕ) → v < 2 ^ 32 → steps (2400 + j) v
+    ≡ four (steps (1240 + j) v) (steps (936 + j) v) (steps (712 + j) v) (steps j v)
 unfolding IsFold folds
 folded j v small =
-    steps_add 2400 j v ∙ ap (steps j) (fold_below 32 v (omega arith) small) ∙ steps_four j (steps 1240 v) (steps 936 v) (steps 712 v) v
+    steps_add 2400 j v ∙ ap (steps j) (fold_below 32 v (omega arith) small)
+    ∙ steps_four j (steps 1240 v) (steps 936 v) (steps 712 v) v
     ∙ sym (four_same (steps_add 1240 j v) (steps_add 936 j v) (steps_add 712 j v) refl)

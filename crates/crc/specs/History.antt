@@ -1,8 +1,10 @@
--- Bytes that wait to be added to later ones, in what the functions of `blocks` promise one another.
+-- For private functions of `blocks`. `after_history`: the remainder after some bytes, to which 300
+-- earlier bytes have still to be added. `StandsFor`, `TakesIn`: a history stands for a remainder;
+-- it becomes another by taking in bytes. (This project's own.)
 --
--- A remainder is that of a polynomial, whose highest powers come first. x^300 + x^155 + x^117 + x^89 + 1 is a
--- multiple of the CRC's, and so is the same in x^8. So a byte may be added (xor) to the bytes 145, 183, 211 and 300
--- later, and then be taken as zero. (This project's own.)
+-- A remainder is that of a polynomial, whose highest powers come first. x^300 + x^155 + x^117 +
+-- x^89 + 1 is a multiple of the CRC's, and so is the same in x^8. So a byte may be added (xor) to
+-- the bytes 145, 183, 211 and 300 later, and then be taken as zero.
 use Rattle.std.specs.Prelude.{◌≡◌, ℕ, zero, suc, ◌-◌, ◌*◌, ◌≤◌, List, ◌++◌, length, drop}
 use Rattle.std.specs.Int.Bits.{bit_xor}
 use Rattle.crc.specs.Crc.{after_bit, after_bytes}
@@ -16,12 +18,12 @@ unfoldable pub steps : ℕ → ℕ → ℕ
 steps zero c = c
 steps (suc n) c = steps n (step c)
 
--- what these bytes give to a remainder after n bytes, to the first of which they are added
+-- the part of these bytes in a remainder after n bytes, to the first of which they are added
 unfoldable pub added : List ℕ → ℕ → ℕ
 added xs n = steps (8 * (n - length xs)) (after_bytes 0 xs)
 
--- the remainder after some bytes, to which 300 earlier ones have still to be added: the last 145 of them, the last 183,
--- the last 211 and all
+-- the remainder after some bytes, to which 300 earlier ones have still to be added: the last 145 of
+-- them, the last 183, the last 211 and all
 unfoldable pub after_history : List ℕ → List ℕ → ℕ
 after_history history bytes =
     let n = length bytes in
@@ -31,8 +33,10 @@ after_history history bytes =
 
 -- a history stands for the remainder c
 abbrev pub StandsFor : List ℕ → ℕ → Type 0
-StandsFor history c = (next : List ℕ) → 300 ≤ length next → after_history history next ≡ after_bytes c next
+StandsFor history c =
+    (next : List ℕ) → 300 ≤ length next → after_history history next ≡ after_bytes c next
 
 -- a history becomes another by taking in these bytes
 abbrev pub TakesIn : List ℕ → List ℕ → List ℕ → Type 0
-TakesIn old new bytes = (next : List ℕ) → 300 ≤ length next → after_history new next ≡ after_history old (bytes ++ next)
+TakesIn old new bytes =
+    (next : List ℕ) → 300 ≤ length next → after_history new next ≡ after_history old (bytes ++ next)

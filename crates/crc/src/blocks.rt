@@ -1,8 +1,8 @@
-//! The remainder after a long piece of bytes, which is reduced to its last 300 bytes first.
+//! The remainder after a long piece of bytes, which is first reduced to its last 300 bytes.
 //!
 //! Each byte may be added (xor) to the bytes 145, 183, 211 and 300 later and then be left out
-//! (`specs/History.antt`). So each takes those in that stand so far before it, and only the last
-//! 300 are divided bit by bit.
+//! (`specs/History.antt`). So the sums of the bytes before it are added to each byte, and only the
+//! last 300 are divided bit by bit.
 ghost use Rattle.std.specs.Prelude.{◌≡◌, ◌+◌, ◌≤◌, length, take, drop, replicate};
 ghost use Rattle.std.specs.Int.Bits.{bit_xor};
 ghost use Rattle.crc.specs.Crc.{after_bytes};
@@ -10,23 +10,23 @@ ghost use Rattle.crc.specs.History.{added, after_history, StandsFor, TakesIn};
 
 use crate::bits::with_bytes;
 
-/// How many bytes are kept, to be added to later ones.
+/// The number of bytes that are kept, to be added to later ones.
 const HISTORY: usize = 300;
 
-/// Where the last 145 bytes of the history begin.
+/// The offset of the last 145 bytes of the history.
 const LAST_145: usize = HISTORY - 145;
 
-/// Where the last 183 begin.
+/// The offset of its last 183 bytes.
 const LAST_183: usize = HISTORY - 183;
 
-/// Where the last 211 begin.
+/// The offset of its last 211 bytes.
 const LAST_211: usize = HISTORY - 211;
 
-/// How many bytes are taken in at a time.
+/// The number of bytes that are taken in at a time.
 const BLOCK: usize = 4_096;
 
-/// The history that stands for a remainder: its first four bytes are added to the next four, which
-/// stand 300 later.
+/// The history that stands for a remainder: its first four bytes are the remainder's, so they are
+/// added to the four bytes that are 300 later.
 fn start(c: u32, history: &mut [u8])
     requires { history.old ≡ replicate 300 0 }
     ensures { StandsFor history.new c }
@@ -34,8 +34,8 @@ fn start(c: u32, history: &mut [u8])
     history[..4].copy_from_slice(&c.to_le_bytes());
 }
 
-/// Puts the bytes behind the history in `buf`, each with those added to it that stand 145, 183, 211
-/// and 300 bytes earlier.
+/// Puts the bytes behind the history in `buf`. To each are added those that are 145, 183, 211 and
+/// 300 bytes before it.
 fn gather(bytes: &[u8], buf: &mut [u8])
     requires { length bytes.now + 300 ≤ length buf.old }
     ensures { TakesIn (take 300 buf.old) (take 300 (drop (length bytes.now) buf.new)) bytes.now }
@@ -46,7 +46,7 @@ fn gather(bytes: &[u8], buf: &mut [u8])
     }
 }
 
-/// Takes the bytes into the history, which stands in front.
+/// Takes the bytes into the history, which is at the front of `buf`.
 fn take_in(bytes: &[u8], buf: &mut [u8])
     requires { length bytes.now + 300 ≤ length buf.old }
     ensures { TakesIn (take 300 buf.old) (take 300 buf.new) bytes.now }

@@ -1,10 +1,12 @@
 -- A file of a manifest is opened by its path, and then lent whole.
-use Rattle.std.proofs.Common.{◌≡◌, ℕ, zero, suc, ◌<◌, ◌||◌, nat_lt, Bool, true, false, cond, List, [], ◌∷◌, length, Some, None, Result, Ok, refl, sym, subst, arith}
+use Rattle.std.proofs.Common.{◌≡◌, ℕ, zero, suc, ◌<◌, ◌||◌, nat_lt, Bool, true, false, cond, List, [], ◌∷◌, length}
+use Rattle.std.proofs.Common.{Some, None, Result, Ok, refl, sym, subst, arith}
 use Rattle.std.specs.Prelude.{slice_get, slice_set, option_and_then, is_none}
 use Rattle.std.specs.List.{position_or_len}
 use Rattle.std.proofs.lemmas.Bool.Decides.{nat_tests}
 use Rattle.rom_tree.specs.Image.{Image}
-use Rattle.rom_tree.specs.Tree.{Node, node, directory, regular, symlink, block, character, socket, fifo, places_of, is_directory, is_regular, is_link}
+use Rattle.rom_tree.specs.Tree.{Node, node, directory, regular, symlink, block, character, socket, fifo, places_of}
+use Rattle.rom_tree.specs.Tree.{is_directory, is_regular, is_link}
 use Rattle.layout_terms.specs.Placement.{IsRun}
 use Rattle.manifest.specs.Lines.{ManifestLines}
 use Rattle.manifest.specs.Paths.{names_of}
@@ -30,7 +32,8 @@ within : (t : Table Node) (fd : ℕ) → lowest_free t ≡ Some fd → fd < leng
 unfolding lowest_free
 within t fd e = free_by (nat_lt (position_or_len is_none t) (length t)) (position_or_len is_none t) (length t) fd refl e
 
-set_get : (t : Table Node) (i : ℕ) (o : Open Node) → i < length t → option_and_then (λ o. o) (slice_get (slice_set t i (Some o)) i) ≡ Some o
+set_get : (t : Table Node) (i : ℕ) (o : Open Node) → i < length t
+    → option_and_then (λ o. o) (slice_get (slice_set t i (Some o)) i) ≡ Some o
 set_get [] i o h = absurd (omega (arith, h))
 set_get (s ∷ t) zero o h = refl
 set_get (s ∷ t) (suc i) o h = set_get t i o (omega (arith, h))
@@ -53,15 +56,19 @@ abbrev fresh : Node → Open Node
 fresh x = record { place = x; position = 0 }
 
 pub opened_whole : (m : Image) (lines : List (List ℕ)) (path n : List ℕ) (ns : List (List ℕ)) (x : Node) (fd align : ℕ)
-    → IsRun align (places_of x) → names_of path ≡ Some (n ∷ ns) → node_under (n ∷ ns) m.tree ≡ Some x → is_regular x ≡ true
+    → IsRun align (places_of x) → names_of path ≡ Some (n ∷ ns) → node_under (n ∷ ns) m.tree ≡ Some x
+    → is_regular x ≡ true
     → 0 < length (places_of x) → lowest_free (open_after m lines) ≡ Some fd → IsOpenedWhole m lines path fd x align
 opened_whole m lines path n ns x fd align run names under is some free =
     let t = open_after m lines in
     let kind = regular_opens x is in
     let leads = path_leads m.bytes m.tree x path n ns names under kind.1 in
-    let call : Result Node WalkError → Answer (Table Node) ℕ = λ r. walked t (λ y. open_place t y (is_directory y || is_regular y)) r in
-    let reply : (call (resolution (tree_namespace m.bytes m.tree) path true)).reply ≡ Ok fd = rw (leads, kind.0, free) refl in
-    let state : (call (resolution (tree_namespace m.bytes m.tree) path true)).state ≡ put t fd (Some (fresh x)) = rw (leads, kind.0, free) refl in
+    let call : Result Node WalkError → Answer (Table Node) ℕ =
+    λ r. walked t (λ y. open_place t y (is_directory y || is_regular y)) r in
+    let reply : (call (resolution (tree_namespace m.bytes m.tree) path true)).reply ≡ Ok fd =
+    rw (leads, kind.0, free) refl in
+    let state : (call (resolution (tree_namespace m.bytes m.tree) path true)).state ≡ put t fd (Some (fresh x)) =
+    rw (leads, kind.0, free) refl in
     let at : open_at (put t fd (Some (fresh x))) fd ≡ Some (fresh x) = put_open t fd (fresh x) (within t fd free) in
     let mapped : IsMappedWhole m (put t fd (Some (fresh x))) fd x align =
     whole_gives m (put t fd (Some (fresh x))) fd align (fresh x) at run some in

@@ -1,17 +1,21 @@
 -- A path without a link on it leads to the node of its names.
-use Rattle.std.proofs.Common.{◌≡◌, ℕ, suc, ◌==◌, nat_lt, ◌||◌, ◌&&◌, not, Bool, true, false, cond, List, [], ◌∷◌, length, Option, Some, None, Ok, refl, sym, ap, subst, ◌∙◌, append-nil}
+use Rattle.std.proofs.Common.{◌≡◌, ℕ, suc, ◌==◌, nat_lt, ◌||◌, ◌&&◌, not, Bool, true, false, cond, List, [], ◌∷◌}
+use Rattle.std.proofs.Common.{length, Option, Some, None, Ok, refl, sym, ap, subst, ◌∙◌, append-nil}
 use Rattle.std.proofs.lemmas.Bool.{eqb-true}
 use Rattle.std.specs.List.{list_any, onto_first}
 use Rattle.std.specs.Option.{option_and_then}
 use Rattle.std.specs.Str.{bytes_eq}
 use Rattle.rom_tree.specs.Dots.{dot, dot_dot}
 use Rattle.rom_tree.specs.Image.{find_entry}
-use Rattle.rom_tree.specs.Tree.{Node, node, directory, regular, symlink, block, character, socket, fifo, entries_of, is_directory, is_link}
+use Rattle.rom_tree.specs.Tree.{Node, node, directory, regular, symlink, block, character, socket, fifo, entries_of}
+use Rattle.rom_tree.specs.Tree.{is_directory, is_link}
 use Rattle.manifest.specs.Texts.{pieces as cut, is_bad}
 use Rattle.manifest.specs.Paths.{names_of, names_from, names_behind, is_bad_name}
 use Rattle.manifest_tree.specs.Shape.{node_under}
-use Rattle.path_walk.specs.Components.{pieces, is_empty, begin_piece, ends_with_slash, components, names_of as without_empty}
-use Rattle.path_walk.specs.Resolution.{Namespace, Trail, goes, tree_namespace, enter, step, resolve, resolution, at_root}
+use Rattle.path_walk.specs.Components.{pieces, is_empty, begin_piece, ends_with_slash, components}
+use Rattle.path_walk.specs.Components.{names_of as without_empty}
+use Rattle.path_walk.specs.Resolution.{Namespace, Trail, goes, tree_namespace, enter, step, resolve, resolution}
+use Rattle.path_walk.specs.Resolution.{at_root}
 
 -- the pieces of a path are those of the manifest's grammar
 onto_same : (c : ℕ) (ps : List (List ℕ)) → begin_piece c ps ≡ onto_first c ps
@@ -80,7 +84,8 @@ any_behind : (ps : List (List ℕ)) → list_any is_empty (behind ps) ≡ true �
 any_behind [] h = h
 any_behind (p ∷ ps) h = elim (is_empty p) as (λ v. v || list_any is_empty ps ≡ true) [ true ↦ refl | false ↦ h ]
 
-empty_end : (c : ℕ) (cs : List ℕ) → ends_with_slash (c ∷ cs) ≡ true → list_any is_empty (behind (pieces (c ∷ cs))) ≡ true
+empty_end : (c : ℕ) (cs : List ℕ) → ends_with_slash (c ∷ cs) ≡ true
+    → list_any is_empty (behind (pieces (c ∷ cs))) ≡ true
 unfolding pieces
 empty_end c [] h = rw h refl
 empty_end c (d ∷ cs) h =
@@ -97,7 +102,8 @@ no_empty (p ∷ ps) h =
     let g = good p (left_false (is_bad_name p) (list_any is_bad_name ps) h) in
     rw g.some (no_empty ps (right_false (is_bad_name p) (list_any is_bad_name ps) h))
 
-no_slash_end : (v : Bool) (c : ℕ) (cs : List ℕ) → ends_with_slash (c ∷ cs) ≡ v → list_any is_bad_name (pieces (c ∷ cs)) ≡ false → v ≡ false
+no_slash_end : (v : Bool) (c : ℕ) (cs : List ℕ) → ends_with_slash (c ∷ cs) ≡ v
+    → list_any is_bad_name (pieces (c ∷ cs)) ≡ false → v ≡ false
 no_slash_end false c cs e h = refl
 no_slash_end true c cs e h =
     let some = any_behind (pieces (c ∷ cs)) (empty_end c cs e) in
@@ -105,14 +111,16 @@ no_slash_end true c cs e h =
     absurd (cc)
 
 -- the components of a path of a manifest are its names
-components_of : (c : ℕ) (cs : List ℕ) → list_any is_bad_name (pieces (c ∷ cs)) ≡ false → components (47 ∷ c ∷ cs) ≡ pieces (c ∷ cs)
+components_of : (c : ℕ) (cs : List ℕ) → list_any is_bad_name (pieces (c ∷ cs)) ≡ false
+    → components (47 ∷ c ∷ cs) ≡ pieces (c ∷ cs)
 unfolding components pieces
 components_of c cs h =
     let e = no_slash_end (ends_with_slash (c ∷ cs)) c cs refl h in
     rw e (append-nil (without_empty (pieces (c ∷ cs))) ∙ none_empty (pieces (c ∷ cs)) h)
 
 -- a node with an entry is a directory, and no link
-in_directory : (x y : Node) (p : List ℕ) → find_entry (entries_of x) p ≡ Some y → (is_directory x ≡ true) × (is_link x ≡ false)
+in_directory : (x y : Node) (p : List ℕ) → find_entry (entries_of x) p ≡ Some y
+    → (is_directory x ≡ true) × (is_link x ≡ false)
 in_directory (node a (directory es)) y p h = (refl, refl)
 in_directory (node a (regular ps)) y p h = absurd (cc)
 in_directory (node a (symlink ps)) y p h = absurd (cc)
@@ -147,21 +155,24 @@ module _ (b : List ℕ) (t : Node) where
   unfolding resolve
   ends n s = refl
 
-  goes_on : (n : ℕ) (s u : Trail Node) (p : List ℕ) (rest : List (List ℕ)) → step space s p (is_empty rest && not true) ≡ goes u
+  goes_on : (n : ℕ) (s u : Trail Node) (p : List ℕ) (rest : List (List ℕ))
+      → step space s p (is_empty rest && not true) ≡ goes u
       → resolve space true (suc n) s (p ∷ rest) ≡ resolve space true (suc n) u rest
   unfolding resolve
   goes_on n s u p rest h = rw h refl
 
   next : (n : ℕ) (p : List ℕ) (rest : List (List ℕ)) (s : Trail Node) (x : Node) (o : Option Node)
       → ((y : Node) → node_under rest y ≡ Some x → resolve space true (suc n) (enter s y) rest ≡ Ok x)
-      → IsGood p → is_link x ≡ false → find_entry (entries_of s.current) p ≡ o → option_and_then (λ y. node_under rest y) o ≡ Some x
+      → IsGood p → is_link x ≡ false → find_entry (entries_of s.current) p ≡ o
+      → option_and_then (λ y. node_under rest y) o ≡ Some x
       → resolve space true (suc n) s (p ∷ rest) ≡ Ok x
   next n p rest s x None go k l f e = absurd (cc)
   next n p rest s x (Some y) go k l f e =
       let d = in_directory s.current y p f in
       goes_on n s (enter s y) p rest (enters s p (is_empty rest && not true) y d.0 k f (no_link rest y x e l)) ∙ go y e
 
-  down : (n : ℕ) (ns : List (List ℕ)) (s : Trail Node) (x : Node) → list_any is_bad_name ns ≡ false → node_under ns s.current ≡ Some x
+  down : (n : ℕ) (ns : List (List ℕ)) (s : Trail Node) (x : Node) → list_any is_bad_name ns ≡ false
+      → node_under ns s.current ≡ Some x
       → is_link x ≡ false → resolve space true (suc n) s ns ≡ Ok x
   down n [] s x h e l = ends n s ∙ ap (λ (v : Node). Ok v) (some_eq s.current x e)
   down n (p ∷ rest) s x h e l =
@@ -178,7 +189,8 @@ record IsPathOf (path : List ℕ) (ns : List (List ℕ)) : Type 0 where
   pub good : list_any is_bad_name (pieces (first ∷ rest)) ≡ false
   pub short : nat_lt 4095 (length path) ≡ false
 
-names_by : (v : Bool) (c : ℕ) (cs n : List ℕ) (ns : List (List ℕ)) → nat_lt 4095 (length (47 ∷ c ∷ cs)) ≡ false → list_any is_bad_name (cut 47 (c ∷ cs)) ≡ v
+names_by : (v : Bool) (c : ℕ) (cs n : List ℕ) (ns : List (List ℕ)) → nat_lt 4095 (length (47 ∷ c ∷ cs)) ≡ false
+    → list_any is_bad_name (cut 47 (c ∷ cs)) ≡ v
     → cond v None (Some (cut 47 (c ∷ cs))) ≡ Some (n ∷ ns) → IsPathOf (47 ∷ c ∷ cs) (n ∷ ns)
 names_by true c cs n ns k h e = absurd (cc)
 names_by false c cs n ns k h e =
@@ -192,16 +204,19 @@ names_by false c cs n ns k h e =
       short = k;
     }
 
-slash_by : (v : Bool) (b : ℕ) (bs n : List ℕ) (ns : List (List ℕ)) → nat_lt 4095 (length (b ∷ bs)) ≡ false → (b == 47) ≡ v
+slash_by : (v : Bool) (b : ℕ) (bs n : List ℕ) (ns : List (List ℕ)) → nat_lt 4095 (length (b ∷ bs)) ≡ false
+    → (b == 47) ≡ v
     → cond v (names_behind bs) None ≡ Some (n ∷ ns) → IsPathOf (b ∷ bs) (n ∷ ns)
 slash_by false b bs n ns k h e = absurd (cc)
 slash_by true b [] n ns k h e = absurd (cc)
 slash_by true b (c ∷ cs) n ns k h e =
     let same : b ≡ 47 = eqb-true b 47 h in
     let short = subst (λ x. nat_lt 4095 (length (x ∷ c ∷ cs)) ≡ false) same k in
-    subst (λ x. IsPathOf (x ∷ c ∷ cs) (n ∷ ns)) (sym same) (names_by (list_any is_bad_name (cut 47 (c ∷ cs))) c cs n ns short refl e)
+    subst (λ x. IsPathOf (x ∷ c ∷ cs) (n ∷ ns)) (sym same)
+    (names_by (list_any is_bad_name (cut 47 (c ∷ cs))) c cs n ns short refl e)
 
-path_by : (v : Bool) (path n : List ℕ) (ns : List (List ℕ)) → is_bad 4095 path ≡ v → cond v None (names_from path) ≡ Some (n ∷ ns) → IsPathOf path (n ∷ ns)
+path_by : (v : Bool) (path n : List ℕ) (ns : List (List ℕ)) → is_bad 4095 path ≡ v
+    → cond v None (names_from path) ≡ Some (n ∷ ns) → IsPathOf path (n ∷ ns)
 path_by true path n ns h e = absurd (cc)
 path_by false [] n ns h e = absurd (cc)
 path_by false (b ∷ bs) n ns h e =
@@ -213,11 +228,13 @@ unfolding names_of
 path_is path n ns e = path_by (is_bad 4095 path) path n ns refl e
 
 from_root : (b : List ℕ) (t : Node) (c : ℕ) (cs : List ℕ) → nat_lt 4095 (length (47 ∷ c ∷ cs)) ≡ false
-    → resolution (tree_namespace b t) (47 ∷ c ∷ cs) true ≡ resolve (tree_namespace b t) true 40 (at_root (tree_namespace b t)) (components (47 ∷ c ∷ cs))
+    → resolution (tree_namespace b t) (47 ∷ c ∷ cs) true
+    ≡ resolve (tree_namespace b t) true 40 (at_root (tree_namespace b t)) (components (47 ∷ c ∷ cs))
 unfolding resolution
 from_root b t c cs h = rw h refl
 
-leads_at : (b : List ℕ) (t x : Node) (c : ℕ) (cs : List ℕ) (ns : List (List ℕ)) → nat_lt 4095 (length (47 ∷ c ∷ cs)) ≡ false
+leads_at : (b : List ℕ) (t x : Node) (c : ℕ) (cs : List ℕ) (ns : List (List ℕ))
+    → nat_lt 4095 (length (47 ∷ c ∷ cs)) ≡ false
     → list_any is_bad_name (pieces (c ∷ cs)) ≡ false → node_under (pieces (c ∷ cs)) t ≡ Some x → is_link x ≡ false
     → resolution (tree_namespace b t) (47 ∷ c ∷ cs) true ≡ Ok x
 leads_at b t x c cs ns short h e l =
@@ -232,4 +249,5 @@ path_leads b t x path n ns e u l =
     let is = path_is path n ns e in
     let short = subst (λ p. nat_lt 4095 (length p) ≡ false) is.whole is.short in
     let under = subst (λ ps. node_under ps t ≡ Some x) (sym is.names) u in
-    subst (λ p. resolution (tree_namespace b t) p true ≡ Ok x) (sym is.whole) (leads_at b t x is.first is.rest (n ∷ ns) short is.good under l)
+    subst (λ p. resolution (tree_namespace b t) p true ≡ Ok x) (sym is.whole)
+    (leads_at b t x is.first is.rest (n ∷ ns) short is.good under l)

@@ -1,5 +1,6 @@
 -- What a call on an open file, or by a path, gave.
-use Rattle.std.proofs.Common.{◌≡◌, ◌≤◌, ℕ, Bool, true, false, List, length, Option, Some, None, Result, Ok, Err, refl, sym, ap, subst, ◌∙◌, arith}
+use Rattle.std.proofs.Common.{◌≡◌, ◌≤◌, ℕ, Bool, true, false, List, length, Option, Some, None, Result, Ok, Err, refl}
+use Rattle.std.proofs.Common.{sym, ap, subst, ◌∙◌, arith}
 use Rattle.std.specs.Prelude.{slice_index}
 use Rattle.std.proofs.lemmas.List.{length-map, take_all}
 use Rattle.rom_tree.specs.Image.{Image}
@@ -10,7 +11,8 @@ use Rattle.path_walk.specs.declared.error.WalkError.{WalkError}
 use Rattle.path_walk.specs.Resolution.{tree_namespace, resolution}
 use Rattle.open_files.specs.Calls.{Answer, Of, Lent}
 use Rattle.open_files.specs.Lending.{lent, bytes_of}
-use Rattle.open_files.specs.Machine.{Open, Table, Outcome, open_at, after, opened, walked, read_link, lend_on, map_on, image_calls}
+use Rattle.open_files.specs.Machine.{Open, Table, Outcome, open_at, after, opened, walked, read_link, lend_on, map_on}
+use Rattle.open_files.specs.Machine.{image_calls}
 use Rattle.headline.specs.Lent.{IsPieceOf}
 use Rattle.headline.proofs.Pieces.{piece, lends, maps}
 use Rattle.headline.proofs.Opened.{AreOf, at_of, leads_inside}

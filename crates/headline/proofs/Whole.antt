@@ -1,10 +1,12 @@
 -- A file whose places are a run is lent whole by one call of `map`.
-use Rattle.std.proofs.Common.{◌≡◌, ℕ, zero, suc, ◌+◌, ◌*◌, ◌<◌, ◌==◌, nat_lt, false, true, List, ◌∷◌, length, take, drop, inl, inr, None, Some, Ok, refl, sym, ap, subst, ◌∙◌, arith, add-one}
+use Rattle.std.proofs.Common.{◌≡◌, ℕ, zero, suc, ◌+◌, ◌*◌, ◌<◌, ◌==◌, nat_lt, false, true, List, ◌∷◌, length, take}
+use Rattle.std.proofs.Common.{drop, inl, inr, None, Some, Ok, refl, sym, ap, subst, ◌∙◌, arith, add-one}
 use Rattle.std.proofs.lemmas.Bool.{eq-eqb, ne_eqb, le-ltb}
 use Rattle.std.proofs.lemmas.Bool.Decides.{eqb_tells}
 use Rattle.std.proofs.lemmas.List.{take_all}
 use Rattle.rom_tree.specs.Image.{Image}
-use Rattle.rom_tree.specs.Tree.{Node, node, directory, regular, symlink, block, character, socket, fifo, places_of, is_directory, row_from}
+use Rattle.rom_tree.specs.Tree.{Node, node, directory, regular, symlink, block, character, socket, fifo, places_of}
+use Rattle.rom_tree.specs.Tree.{is_directory, row_from}
 use Rattle.layout_terms.specs.Placement.{IsRun}
 use Rattle.headline.specs.Lent.{IsMappedWhole}
 use Rattle.open_files.specs.Calls.{Lent, Of}
@@ -44,7 +46,8 @@ map_whole b x q align r h =
     let some : (n == 0) ≡ false = ne_eqb n 0 (λ z. absurd (omega (arith, z, h))) in
     let inside : nat_lt n (0 + n) ≡ false = le-ltb n (0 + n) (omega arith) in
     let all : take n (drop 0 ps) ≡ ps = take_all n ps (omega arith) in
-    let run : consecutive ps ≡ ps = subst (λ (qs : List ℕ). consecutive qs ≡ qs) (sym r.1) (run_whole (r.0 * align) n) in
+    let run : consecutive ps ≡ ps =
+    subst (λ (qs : List ℕ). consecutive qs ≡ qs) (sym r.1) (run_whole (r.0 * align) n) in
     let whole : (length (consecutive ps) == n) ≡ true = eq-eqb (length (consecutive ps)) n (ap length run) in
     rw (file, some, inside, all, whole) refl
 
@@ -58,7 +61,8 @@ pub whole_gives : (m : Image) (t : Table Node) (fd align : ℕ) (o : Open Node) 
 whole_gives m t fd align o e r h =
     let ps = places_of o.place in
     let f : Node → ℕ → Outcome (Of Lent) = λ x p. map_on None m.bytes 0 (length ps) x p in
-    let gives : f o.place o.position ≡ Ok ((None, lent m.bytes ps), o.position) = map_whole m.bytes o.place o.position align r h in
+    let gives : f o.place o.position ≡ Ok ((None, lent m.bytes ps), o.position) =
+    map_whole m.bytes o.place o.position align r h in
     let reply : (opened t fd f (open_at t fd)).reply ≡ Ok (None, lent m.bytes ps) = (rw (e, gives) refl) in
     let first : first_place ps ≡ r.0 * align = ap first_place r.1 ∙ first_of (r.0 * align) (length ps) h in
     record { times = r.0; aligned = first; answered = reply }

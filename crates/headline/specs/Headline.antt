@@ -17,9 +17,10 @@ use Rattle.rom_commands.specs.Serving.{Input, EndsServed}
 use Rattle.rom_commands.specs.declared.serving.Serving.{Serving}
 use Rattle.rom_commands.specs.declared.serving.Serving.TheVariants.{Memory}
 
--- The format gives these bytes the tree t under these limits, and lines were answered from it, nothing of it open at
--- first. A reader was r₀ and is r, a writer was w₀ and is w.
-pub record IsServedUnder (limits : Limits) (bytes : List ℕ) (t : Node) (r₀ r : Input) (w₀ w : Output)
+-- The format gives these bytes the tree t under these limits, and lines were answered from it,
+-- nothing of it open at first. A reader was r₀ and is r, a writer was w₀ and is w.
+pub record IsServedUnder (limits : Limits) (bytes : List ℕ) (t : Node) (r₀ r : Input)
+    (w₀ w : Output)
     (o : Serving) : Type 0 where
   pub tree : HasTree bytes limits t
   pub image : Image
@@ -28,11 +29,13 @@ pub record IsServedUnder (limits : Limits) (bytes : List ℕ) (t : Node) (r₀ r
   pub answers : EndsServed (image_machine image) (no_files 64) r₀ r w₀ w o
 
 -- the same under the usual limits
-abbrev pub IsServedAs : (bytes : List ℕ) (t : Node) (r₀ r : Input) (w₀ w : Output) → Serving → Type 0
+abbrev pub IsServedAs : (bytes : List ℕ) (t : Node) (r₀ r : Input) (w₀ w : Output) → Serving
+    → Type 0
 IsServedAs bytes t r₀ r w₀ w o = IsServedUnder usual_limits bytes t r₀ r w₀ w o
 
 -- the tree is what the manifest that the text is means, with these contents of its sources
-pub record IsMeantUnder (limits : Limits) (text : List ℕ) (contents : List (List ℕ)) (bytes : List ℕ)
+pub record IsMeantUnder (limits : Limits) (text : List ℕ) (contents : List (List ℕ))
+    (bytes : List ℕ)
     (r₀ r : Input) (w₀ w : Output) (o : Serving) : Type 0 where
   pub lines : ManifestLines
   pub manifest : manifest_of text ≡ Ok lines
@@ -41,13 +44,16 @@ pub record IsMeantUnder (limits : Limits) (text : List ℕ) (contents : List (Li
   pub served : IsServedUnder limits bytes tree r₀ r w₀ w o
 
 -- the same under the usual limits
-abbrev pub IsServedAsMeant : (text : List ℕ) (contents : List (List ℕ)) (bytes : List ℕ) (r₀ r : Input) (w₀ w : Output)
+abbrev pub IsServedAsMeant : (text : List ℕ) (contents : List (List ℕ)) (bytes : List ℕ)
+    (r₀ r : Input) (w₀ w : Output)
     → Serving → Type 0
-IsServedAsMeant text contents bytes r₀ r w₀ w o = IsMeantUnder usual_limits text contents bytes r₀ r w₀ w o
+IsServedAsMeant text contents bytes r₀ r w₀ w o =
+    IsMeantUnder usual_limits text contents bytes r₀ r w₀ w o
 
--- The tree is what the manifest means, where each of its regular files has contents of its own, of these sizes: what
--- the reads of its source answered.
-pub record IsServedAsGiven (answers : List Answer) (lines : ManifestLines) (sizes : List ℕ) (bytes : List ℕ) (r₀ r : Input) (w₀ w : Output)
+-- The tree is what the manifest means, where each of its regular files has contents of its own, of
+-- these sizes: what the reads of its source answered.
+pub record IsServedAsGiven (answers : List Answer) (lines : ManifestLines) (sizes : List ℕ)
+    (bytes : List ℕ) (r₀ r : Input) (w₀ w : Output)
     (o : Serving) : Type 0 where
   pub tree : Node
   pub given : ℕ → List ℕ

@@ -1,5 +1,6 @@
 -- What is lent of an image. (This project's own.)
-use Rattle.std.specs.Prelude.{◌≡◌, ◌+◌, ◌*◌, ◌<◌, ◌≤◌, ℕ, List, [], ◌∷◌, length, take, drop, reverse, true, None, Some, Ok}
+use Rattle.std.specs.Prelude.{◌≡◌, ◌+◌, ◌*◌, ◌<◌, ◌≤◌, ℕ, List, [], ◌∷◌, length, take, drop}
+use Rattle.std.specs.Prelude.{reverse, true, None, Some, Ok}
 use Rattle.record_forest.specs.Members.{Has}
 use Rattle.manifest.specs.declared.line.Line.{Line}
 use Rattle.manifest.specs.Lines.{ManifestLines, filed}
@@ -12,8 +13,8 @@ use Rattle.open_files.specs.Lending.{first_place, lent_of}
 use Rattle.open_files.specs.Machine.{Table, image_calls, lowest_free, no_files}
 use Rattle.rom_serve.specs.Machines.{image_machine}
 
--- A slice of the image's bytes, from the place on that is said, and the bytes of the file x from `at` on. The file is
--- one of the image's tree.
+-- A slice of the image's bytes, from the place on that is said, and the bytes of the file x from
+-- `at` on. The file is one of the image's tree.
 pub record IsPieceOf (m : Image) (x : Node) (at : ℕ) (l : Lent) : Type 0 where
   pub file : IsIn x (nodes m.tree)
   pub within : l.place + length l.bytes ≤ length m.bytes
@@ -29,24 +30,29 @@ open_from m t (line ∷ lines) = open_from m ((image_machine m).next t line) lin
 abbrev pub open_after : Image → List (List ℕ) → Table Node
 open_after m lines = open_from m (no_files 64) lines
 
--- In the image, where t is open, `map` of fd from 0 on, of the size of the file x, is answered with all of its bytes and
--- their first place, which is a multiple of `align`.
+-- In the image, where t is open, `map` of fd from 0 on, of the size of the file x, is answered with
+-- all of its bytes and their first place, which is a multiple of `align`.
 pub record IsMappedWhole (m : Image) (t : Table Node) (fd : ℕ) (x : Node) (align : ℕ) : Type 0 where
   pub times : ℕ
   pub aligned : first_place (places_of x) ≡ times * align
   pub answered : ((image_calls 64 m).map_piece t fd 0 (length (places_of x))).reply
       ≡ Ok (None, lent_of (first_place (places_of x)) (contents_of m.bytes x))
 
--- After these lines, `open` of the path is answered with fd, and then all bytes of the file x with one call of `map`.
-pub record IsOpenedWhole (m : Image) (lines : List (List ℕ)) (path : List ℕ) (fd : ℕ) (x : Node) (align : ℕ) : Type 0 where
+-- After these lines, `open` of the path is answered with fd, and then all bytes of the file x with
+-- one call of `map`.
+pub record IsOpenedWhole (m : Image) (lines : List (List ℕ)) (path : List ℕ) (fd : ℕ) (x : Node)
+    (align : ℕ) : Type 0 where
   pub opened : ((image_calls 64 m).open_path (open_after m lines) path).reply ≡ Ok fd
-  pub mapped : IsMappedWhole m ((image_calls 64 m).open_path (open_after m lines) path).state fd x align
+  pub mapped : IsMappedWhole m ((image_calls 64 m).open_path
+      (open_after m lines) path).state fd x align
 
--- Each line l of the manifest that leads to a regular file x with bytes, by its path and where a number fd is free: the
--- file is opened at fd, and lent whole from a multiple of the ALIGN of the `file` line o that has its contents.
+-- Each line l of the manifest that leads to a regular file x with bytes, by its path and where a
+-- number fd is free: the file is opened at fd, and lent whole from a multiple of the ALIGN of the
+-- `file` line o that has its contents.
 abbrev pub AreOpenedWhole : Image → ManifestLines → Type 0
 AreOpenedWhole image m =
-    (lines : List (List ℕ)) (l o : Line) (n : List ℕ) (ns : List (List ℕ)) (x : Node) (fd : ℕ) → Has (λ k. k ≡ l) m.lines
+    (lines : List (List ℕ)) (l o : Line) (n : List ℕ) (ns : List (List ℕ)) (x : Node) (fd : ℕ)
+    → Has (λ k. k ≡ l) m.lines
     → filed (reverse m.lines) l.path ≡ Some o → names_of l.path ≡ Some (n ∷ ns)
     → node_under (n ∷ ns) image.tree ≡ Some x → is_regular x ≡ true → 0 < length (places_of x)
     → lowest_free (open_after image lines) ≡ Some fd → IsOpenedWhole image lines l.path fd x o.align

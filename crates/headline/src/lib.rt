@@ -1,20 +1,23 @@
 //! What romtool promises, on one page.
 //!
 //! For every image that the check accepts, whatever lines come, the server writes the replies of a
-//! plain tree of files with a table of open descriptors, the tree being the one that the format gives
-//! those bytes; and an image that was built from a manifest is accepted, and is served as the tree
-//! that the manifest means; so is one that was streamed from files. `specs/Headline.antt` says each of
-//! these words. What is lent is a slice of the image, as `specs/Lent.antt` says. And an image that is
-//! taken apart and built again has a tree like its own.
+//! plain tree of files with a table of open descriptors, the tree being the one that the format
+//! gives those bytes; and an image that was built from a manifest is accepted, and is served as the
+//! tree that the manifest means; so is one that was streamed from files. `specs/Headline.antt` says
+//! each of these words. What is lent is a slice of the image, as `specs/Lent.antt` says. And an
+//! image that is taken apart and built again has a tree like its own.
 #![tactic(auto)]
 
 pub mod naming;
 
-ghost use Rattle.std.specs.Prelude.{◌≡◌, ◌⊎◌, ◌*◌, ◌<◌, ◌≤◌, ℕ, List, Option, Some, Ok, false, length, map};
-ghost use Rattle.headline.specs.Headline.{IsServedUnder, IsMeantUnder, IsServedAsMeant, IsServedAsGiven, IsUnserved};
+ghost use Rattle.std.specs.Prelude.{◌≡◌, ◌⊎◌, ◌*◌, ◌<◌, ◌≤◌, ℕ, List, Option, Some, Ok, false};
+ghost use Rattle.std.specs.Prelude.{length, map};
+ghost use Rattle.headline.specs.Headline.{IsServedUnder, IsMeantUnder, IsServedAsMeant};
+ghost use Rattle.headline.specs.Headline.{IsServedAsGiven, IsUnserved};
 ghost use Rattle.headline.specs.Lent.{AreOpenedWhole, IsMappedWhole, IsPieceOf, open_after};
 ghost use Rattle.image_build.specs.Builds.{Builds};
-ghost use Rattle.image_build.specs.Streamed.{HasNoCopies, IsPlanOfText, form_in, image_with, stored_in};
+ghost use Rattle.image_build.specs.Streamed.{HasNoCopies, IsPlanOfText, form_in, image_with};
+ghost use Rattle.image_build.specs.Streamed.{stored_in};
 ghost use Rattle.image_check.specs.Checked.{HasTree, IsFaultless};
 ghost use Rattle.image_manifest.specs.Lines.{member_lines};
 ghost use Rattle.image_manifest.specs.Sources.{file_contents};
@@ -39,9 +42,10 @@ ghost use Rattle.rom_tree.specs.Image.{Image};
 ghost use Rattle.rom_tree.specs.Tree.{Node, places_of};
 ghost use Rattle.rom_tree.specs.declared.types.Limits.{Limits};
 
-/// States what follows from the clause of `rom_commands::serve_under`, for all bytes and all limits:
-/// lines are answered from the one tree that the format gives the bytes, or the bytes are refused
-/// with their least fault, and no line is read. `serve_image` is the same under the usual limits.
+/// States what follows from the clause of `rom_commands::serve_under`, for all bytes and all
+/// limits: lines are answered from the one tree that the format gives the bytes, or the bytes are
+/// refused with their least fault, and no line is read. `serve_image` is the same under the usual
+/// limits.
 ///
 /// An image that was built from a manifest, in each format, is refused under the usual limits only
 /// if memory is refused; otherwise it is served as the tree that the manifest means. Under other
@@ -99,11 +103,11 @@ pub fn built_again()
 
 /// What follows of an image that was streamed, whatever the sources of the files tell: so of files,
 /// too, which tell nothing. What `image_build::stream` wrote at `Ok` is refused for memory alone:
-/// else it is served as the tree that the manifest means, where each `file` and each `same` line has
-/// contents of its own, of the planned size: the bytes that the reads of its source answered, one
-/// after the other, in the pass that wrote the image. Where no source has a copy in the image, it is
-/// served as what the manifest means with some contents of the sources. Its files, their copies and
-/// its volume's name stand as in one that was built.
+/// else it is served as the tree that the manifest means, where each `file` and each `same` line
+/// has contents of its own, of the planned size: the bytes that the reads of its source answered,
+/// one after the other, in the pass that wrote the image. Where no source has a copy in the image,
+/// it is served as what the manifest means with some contents of the sources. Its files, their
+/// copies and its volume's name stand as in one that was built.
 pub fn streamed()
     ensures each { (text : List ℕ) (p : Planned) (told : Option (List (List ℕ)))
         (old new : Option (List ℕ)) (r₀ r : Input) (w₀ w : Output) (o : Serving)
@@ -139,9 +143,9 @@ pub fn streamed()
 /// What is lent, whatever lines came before: a reply to `lend` or `map` has a slice of the image's
 /// own bytes, from the place on that it tells, and these are just the bytes of the open file, from
 /// its position or from the offset on. So is a link's text that `readlink` tells, whole, where the
-/// tree of the image is the one that a format gives some bytes. And an open file with bytes that lies
-/// in one run is lent whole by `map` from 0 on. The reply has all its bytes and their first place,
-/// which is a multiple of its alignment.
+/// tree of the image is the one that a format gives some bytes. And an open file with bytes that
+/// lies in one run is lent whole by `map` from 0 on. The reply has all its bytes and their first
+/// place, which is a multiple of its alignment.
 pub fn lent()
     ensures lend { (m : Image) (lines : List (List ℕ)) (fd most : ℕ) (l : Of Lent)
         → ((image_calls 64 m).lend_piece (open_after m lines) fd most).reply ≡ Ok l

@@ -1,14 +1,18 @@
--- A romfs layout of files with sources of their own differs in its sources alone.
-use Rattle.std.proofs.Common.{◌≡◌, ℕ, zero, suc, ◌+◌, ◌==◌, true, false, if◌then◌else◌, List, [], ◌∷◌, ◌++◌, map, refl, sym, ap, subst, ◌∙◌}
+-- A romfs layout of files with sources of their own differs only in its sources.
+use Rattle.std.proofs.Common.{◌≡◌, ℕ, zero, suc, ◌+◌, ◌==◌, true, false, if◌then◌else◌, List, [], ◌∷◌, ◌++◌, map, refl}
+use Rattle.std.proofs.Common.{sym, ap, subst, ◌∙◌}
 use Rattle.std.specs.List.{AllByRecursion as Every}
 use Rattle.record_forest.proofs.Lists.{every_left, every_right}
 use Rattle.romfs_format.specs.Record.{pad16}
 use Rattle.rom_tree.specs.Dots.{dot, dot_dot}
 use Rattle.manifest_tree.specs.Names.{Fill, no_bytes, text, source, Inode, Names, nothing, leaf, link, folder, bytes_of}
 use Rattle.layout_terms.specs.Files.{files, Placed, at_place}
-use Rattle.layout_terms.specs.Items.{Item, Section, Body, super, record_of, table_of, text_of, contents_of, fill_section, bytes_section}
+use Rattle.layout_terms.specs.Items.{Item, Section, Body, super, record_of, table_of, text_of, contents_of}
+use Rattle.layout_terms.specs.Items.{fill_section, bytes_section}
 use Rattle.layout_terms.specs.Bodies.{item_at}
-use Rattle.romfs_layout.specs.Layout.{Header, header_alone, header_bytes, headers, all_headers, leaf_end, header_end, ends, first_place, place_with, placed, place_of, data_align, code_of, device_of, record_len}
+use Rattle.romfs_layout.specs.Layout.{Header, header_alone, header_bytes, headers, all_headers, leaf_end, header_end}
+use Rattle.romfs_layout.specs.Layout.{ends, first_place, place_with, placed, place_of, data_align, code_of, device_of}
+use Rattle.romfs_layout.specs.Layout.{record_len}
 use Rattle.romfs_layout.specs.Composed.{written}
 use Rattle.romfs_layout.specs.Items.{item_of, sections_from}
 use Rattle.image_build.proofs.Owned.{own_fill, own_file, own_names, ends_same, first_same}
@@ -43,18 +47,21 @@ AreAlike S [] (g ∷ gs) = ⊥
 AreAlike S (h ∷ hs) [] = ⊥
 AreAlike S (h ∷ hs) (g ∷ gs) = IsAlike S h g × AreAlike S hs gs
 
-alike_join : (S : ℕ → ℕ) (hs gs xs ys : List Header) → AreAlike S hs gs → AreAlike S xs ys → AreAlike S (hs ++ xs) (gs ++ ys)
+alike_join : (S : ℕ → ℕ) (hs gs xs ys : List Header) → AreAlike S hs gs → AreAlike S xs ys
+    → AreAlike S (hs ++ xs) (gs ++ ys)
 alike_join S [] [] xs ys a b = b
 alike_join S [] (g ∷ gs) xs ys a b = absurd a
 alike_join S (h ∷ hs) [] xs ys a b = absurd a
 alike_join S (h ∷ hs) (g ∷ gs) xs ys a b = (a.0, alike_join S hs gs xs ys a.1 b)
 
 -- headers without data
-alone : (S : ℕ → ℕ) (place next other spec third : ℕ) (name : List ℕ) → other ≡ next → third ≡ spec → IsAlike S (header_alone place next spec name) (header_alone place other third name)
+alone : (S : ℕ → ℕ) (place next other spec third : ℕ) (name : List ℕ) → other ≡ next → third ≡ spec
+    → IsAlike S (header_alone place next spec name) (header_alone place other third name)
 alone S place next other spec third name e f =
     record { place = refl; next = e; spec = f; size = refl; name = refl; start = refl; fill = refl }
 
-headers_alike : (S : ℕ → ℕ) (at to : ℕ → ℕ) → ((line : ℕ) → to line ≡ at line) → (dir from : ℕ) (n : Names) → Says S (files n)
+headers_alike : (S : ℕ → ℕ) (at to : ℕ → ℕ) → ((line : ℕ) → to line ≡ at line) → (dir from : ℕ) (n : Names)
+    → Says S (files n)
     → AreAlike S (headers at dir from n) (headers to dir from (own_names n))
 unfolding place_of data_align code_of device_of
 headers_alike S at to same dir from nothing y = tt
@@ -71,7 +78,8 @@ headers_alike S at to same dir from (leaf name i after) y = (
   headers_alike S at to same dir (leaf_end from name i) after y.1,
 )
 headers_alike S at to same dir from (link name i after) y = (
-  alone S (pad16 from) (first_place (header_end from name) after) (first_place (header_end from name) (own_names after)) (at i.line) (to i.line) name (first_same (header_end from name) after) (same i.line),
+  alone S (pad16 from) (first_place (header_end from name) after) (first_place (header_end from name) (own_names after))
+      (at i.line) (to i.line) name (first_same (header_end from name) after) (same i.line),
   headers_alike S at to same dir (header_end from name) after y,
 )
 headers_alike S at to same dir from (folder name i own after) y =
@@ -85,17 +93,22 @@ headers_alike S at to same dir from (folder name i own after) y =
     ∷ header_alone (h + 32) (first_place (h + 64) (own_names own)) dir dot_dot
     ∷ (mine ++ headers to dir e (own_names after))) in
     subst G (sym (ends_same (h + 64) own)) (
-      alone S (pad16 from) (first_place q after + code_of i) (first_place q (own_names after) + code_of i) h h name (ap (λ (k : ℕ). k + code_of i) (first_same q after)) refl,
+      alone S (pad16 from) (first_place q after + code_of i) (first_place q (own_names after) + code_of i) h h name
+          (ap (λ (k : ℕ). k + code_of i) (first_same q after)) refl,
       (
         alone S h (h + 32) (h + 32) (pad16 from) (pad16 from) dot refl refl,
         (
-          alone S (h + 32) (first_place (h + 64) own) (first_place (h + 64) (own_names own)) dir dir dot_dot (first_same (h + 64) own) refl,
-          alike_join S (headers at (pad16 from) (h + 64) own) mine (headers at dir q after) (headers to dir q (own_names after)) (headers_alike S at to same (pad16 from) (h + 64) own (every_left says (files own) (files after) y.1)) (headers_alike S at to same dir q after (every_right says (files own) (files after) y.1)),
+          alone S (h + 32) (first_place (h + 64) own) (first_place (h + 64) (own_names own)) dir dir dot_dot
+              (first_same (h + 64) own) refl,
+          alike_join S (headers at (pad16 from) (h + 64) own) mine (headers at dir q after)
+              (headers to dir q (own_names after))
+              (headers_alike S at to same (pad16 from) (h + 64) own (every_left says (files own) (files after) y.1))
+              (headers_alike S at to same dir q after (every_right says (files own) (files after) y.1)),
         ),
       ),
     )
 
--- where the files stand
+-- the offsets of the files
 abbrev own_placed : Placed → Placed
 own_placed x = at_place (own_file x.inode) x.place
 
@@ -107,29 +120,35 @@ placed_same : (from : ℕ) (n : Names) → placed from (own_names n) ≡ map own
 unfolding place_of data_align
 placed_same from nothing = refl
 placed_same from (leaf name i after) =
-    ap (λ (xs : List Placed). at_place (own_file i) (place_of from name i) ∷ xs) (placed_same (leaf_end from name i) after)
+    ap (λ (xs : List Placed). at_place (own_file i) (place_of from name i) ∷ xs)
+    (placed_same (leaf_end from name i) after)
 placed_same from (link name i after) = placed_same (header_end from name) after
 placed_same from (folder name i own after) =
     let h = header_end from name in
     let first = at_place (own_file i) (pad16 from) in
     ap (λ (k : ℕ). first ∷ placed (h + 64) (own_names own) ++ placed k (own_names after)) (ends_same (h + 64) own)
     ∙ ap (λ (xs : List Placed). first ∷ xs ++ placed (ends (h + 64) own) (own_names after)) (placed_same (h + 64) own)
-    ∙ ap (λ (xs : List Placed). first ∷ map own_placed (placed (h + 64) own) ++ xs) (placed_same (ends (h + 64) own) after)
+    ∙ ap (λ (xs : List Placed). first ∷ map own_placed (placed (h + 64) own) ++ xs)
+    (placed_same (ends (h + 64) own) after)
     ∙ ap (λ (xs : List Placed). first ∷ xs) (map_join (placed (h + 64) own) (placed (ends (h + 64) own) after))
 
 with_same : (xs : List Placed) (line : ℕ) → place_with (map own_placed xs) line ≡ place_with xs line
 with_same [] line = refl
 with_same (x ∷ xs) line = ap (λ (k : ℕ). if x.inode.line == line then x.place else k) (with_same xs line)
 
-pub all_alike : (S : ℕ → ℕ) (r : ℕ) (root : Inode) (n : Names) → Says S (files n) → AreAlike S (all_headers r root n) (all_headers r (own_file root) (own_names n))
+pub all_alike : (S : ℕ → ℕ) (r : ℕ) (root : Inode) (n : Names) → Says S (files n)
+    → AreAlike S (all_headers r root n) (all_headers r (own_file root) (own_names n))
 unfolding code_of
 all_alike S r root n y =
     let at = place_with (placed (r + 64) n) in
     let to = place_with (placed (r + 64) (own_names n)) in
-    let same : (line : ℕ) → to line ≡ at line = λ line. ap (λ (xs : List Placed). place_with xs line) (placed_same (r + 64) n) ∙ with_same (placed (r + 64) n) line in (
+    let same : (line : ℕ) → to line ≡ at line =
+    λ line. ap (λ (xs : List Placed). place_with xs line) (placed_same (r + 64) n)
+    ∙ with_same (placed (r + 64) n) line in (
       alone S r (r + 32 + code_of root) (r + 32 + code_of root) r r dot refl refl,
       (
-        alone S (r + 32) (first_place (r + 64) n) (first_place (r + 64) (own_names n)) r r dot_dot (first_same (r + 64) n) refl,
+        alone S (r + 32) (first_place (r + 64) n) (first_place (r + 64) (own_names n)) r r dot_dot
+            (first_same (r + 64) n) refl,
         headers_alike S at to same r (r + 64) n y,
       ),
     )
@@ -139,7 +158,8 @@ pub record IsAlikeItem (S : ℕ → ℕ) (i j : Item) : Type 0 where
   pub written : written j ≡ written i
   pub fill : AlikeFill S i.fill j.fill
 
-pub item_alike : (S : ℕ → ℕ) (hs gs : List Header) (k : ℕ) → AreAlike S hs gs → IsAlikeItem S (item_at (map item_of hs) k) (item_at (map item_of gs) k)
+pub item_alike : (S : ℕ → ℕ) (hs gs : List Header) (k : ℕ) → AreAlike S hs gs
+    → IsAlikeItem S (item_at (map item_of hs) k) (item_at (map item_of gs) k)
 item_alike S [] [] k a = record { written = refl; fill = refl }
 item_alike S [] (g ∷ gs) k a = absurd a
 item_alike S (h ∷ hs) [] k a = absurd a
@@ -170,25 +190,33 @@ AlikeSections S [] (t ∷ ts) = ⊥
 AlikeSections S (s ∷ ss) [] = ⊥
 AlikeSections S (s ∷ ss) (t ∷ ts) = IsAlikeSection S s t × AlikeSections S ss ts
 
-sections_join : (S : ℕ → ℕ) (ss ts xs ys : List Section) → AlikeSections S ss ts → AlikeSections S xs ys → AlikeSections S (ss ++ xs) (ts ++ ys)
+sections_join : (S : ℕ → ℕ) (ss ts xs ys : List Section) → AlikeSections S ss ts → AlikeSections S xs ys
+    → AlikeSections S (ss ++ xs) (ts ++ ys)
 sections_join S [] [] xs ys a b = b
 sections_join S [] (t ∷ ts) xs ys a b = absurd a
 sections_join S (s ∷ ss) [] xs ys a b = absurd a
 sections_join S (s ∷ ss) (t ∷ ts) xs ys a b = (a.0, sections_join S ss ts xs ys a.1 b)
 
-filled_alike : (S : ℕ → ℕ) (index start len : ℕ) (f g : Fill) → AlikeFill S f g → AlikeSections S (fill_section index start len f) (fill_section index start len g)
-filled_alike S index start len no_bytes g a = subst (λ (x : Fill). AlikeSections S [] (fill_section index start len x)) (sym a) tt
+filled_alike : (S : ℕ → ℕ) (index start len : ℕ) (f g : Fill) → AlikeFill S f g
+    → AlikeSections S (fill_section index start len f) (fill_section index start len g)
+filled_alike S index start len no_bytes g a =
+    subst (λ (x : Fill). AlikeSections S [] (fill_section index start len x)) (sym a) tt
 filled_alike S index start len (text t) g a =
-    subst (λ (x : Fill). AlikeSections S (fill_section index start len (text t)) (fill_section index start len x)) (sym a) (record { place = refl; len = refl; body = refl }, tt)
+    subst (λ (x : Fill). AlikeSections S (fill_section index start len (text t)) (fill_section index start len x))
+    (sym a) (record { place = refl; len = refl; body = refl }, tt)
 filled_alike S index start len (source k) g a =
-    subst (λ (x : Fill). AlikeSections S (fill_section index start len (source k)) (fill_section index start len x)) (sym a.1) (record { place = refl; len = refl; body = (a.0, refl, a.2) }, tt)
+    subst (λ (x : Fill). AlikeSections S (fill_section index start len (source k)) (fill_section index start len x))
+    (sym a.1) (record { place = refl; len = refl; body = (a.0, refl, a.2) }, tt)
 
 bytes_alike : (S : ℕ → ℕ) (index start len : ℕ) (f g : Fill) → AlikeFill S f g
-    → AlikeSections S (if len == 0 then [] else fill_section index start len f) (if len == 0 then [] else fill_section index start len g)
-bytes_alike S index start len f g a = elim (len == 0) as (λ t. AlikeSections S (if t then [] else fill_section index start len f) (if t then [] else fill_section index start len g)) [
-  | true ↦ tt
-  | false ↦ filled_alike S index start len f g a
-]
+    → AlikeSections S (if len == 0 then [] else fill_section index start len f)
+    (if len == 0 then [] else fill_section index start len g)
+bytes_alike S index start len f g a =
+    elim (len == 0) as (λ t. AlikeSections S (if t then [] else fill_section index start len f)
+    (if t then [] else fill_section index start len g)) [
+      | true ↦ tt
+      | false ↦ filled_alike S index start len f g a
+    ]
 
 pub sections_alike : (S : ℕ → ℕ) (index : ℕ) (hs gs : List Header) → AreAlike S hs gs
     → AlikeSections S (sections_from index (map item_of hs)) (sections_from index (map item_of gs))
@@ -199,10 +227,13 @@ sections_alike S index (h ∷ hs) (g ∷ gs) a =
     let e = a.0.start in
     let z = a.0.size in
     let own = bytes_section index (item_of h) in
-    let G : ℕ → ℕ → Type 0 = λ start len. AlikeSections S own (if len == 0 then [] else fill_section index start len g.fill) in
-    let mine : G g.start g.size = subst (λ (k : ℕ). G k g.size) (sym e) (subst (G h.start) (sym z) (bytes_alike S index h.start h.size h.fill g.fill a.0.fill)) in (
+    let G : ℕ → ℕ → Type 0 =
+    λ start len. AlikeSections S own (if len == 0 then [] else fill_section index start len g.fill) in
+    let mine : G g.start g.size = subst (λ (k : ℕ). G k g.size) (sym e)
+    (subst (G h.start) (sym z) (bytes_alike S index h.start h.size h.fill g.fill a.0.fill)) in (
       record { place = a.0.place; len = ap record_len a.0.name; body = refl },
-      sections_join S own (bytes_section index (item_of g)) (sections_from (index + 1) (map item_of hs)) (sections_from (index + 1) (map item_of gs)) mine (sections_alike S (index + 1) hs gs a.1),
+      sections_join S own (bytes_section index (item_of g)) (sections_from (index + 1) (map item_of hs))
+          (sections_from (index + 1) (map item_of gs)) mine (sections_alike S (index + 1) hs gs a.1),
     )
 
 -- the text of a link

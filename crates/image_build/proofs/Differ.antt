@@ -11,17 +11,19 @@ Differ x y = (k : ℕ) → x.body ≡ contents_of k → y.body ≡ contents_of k
 
 put_every : (P : Section → Type 0) (s : Section) (ts : List Section) → P s → Every P ts → Every P (put_section s ts)
 put_every P s [] p h = (p, tt)
-put_every P s (t ∷ ts) p h = elim (nat_lt s.place t.place) as (λ b. Every P (cond b (s ∷ t ∷ ts) (t ∷ put_section s ts))) [
-  | true ↦ (p, h)
-  | false ↦ (h.0, put_every P s ts p h.1)
-]
+put_every P s (t ∷ ts) p h =
+    elim (nat_lt s.place t.place) as (λ b. Every P (cond b (s ∷ t ∷ ts) (t ∷ put_section s ts))) [
+      | true ↦ (p, h)
+      | false ↦ (h.0, put_every P s ts p h.1)
+    ]
 
 put_differ : (s : Section) (ts : List Section) → Every (Differ s) ts → Pairs Differ ts → Pairs Differ (put_section s ts)
 put_differ s [] h p = (tt, tt)
-put_differ s (t ∷ ts) h p = elim (nat_lt s.place t.place) as (λ b. Pairs Differ (cond b (s ∷ t ∷ ts) (t ∷ put_section s ts))) [
-  | true ↦ (h, p)
-  | false ↦ (put_every (Differ t) s ts (λ k a b. h.0 k b a) p.0, put_differ s ts h.1 p.1)
-]
+put_differ s (t ∷ ts) h p =
+    elim (nat_lt s.place t.place) as (λ b. Pairs Differ (cond b (s ∷ t ∷ ts) (t ∷ put_section s ts))) [
+      | true ↦ (h, p)
+      | false ↦ (put_every (Differ t) s ts (λ k a b. h.0 k b a) p.0, put_differ s ts h.1 p.1)
+    ]
 
 pub order_differ : (ss : List Section) → Pairs Differ ss → Pairs Differ (in_order ss)
 order_differ [] p = tt

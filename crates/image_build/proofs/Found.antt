@@ -1,5 +1,6 @@
 -- The contents of each file of a romfs layout are in a segment, so what holds of those of segments holds of all.
-use Rattle.std.proofs.Common.{◌≡◌, ◌≢◌, ℕ, ◌+◌, ◌==◌, Bool, true, false, if◌then◌else◌, List, [], ◌∷◌, ◌++◌, map, length, get_or, Option, Some, None, refl, sym, ap, subst, ◌∙◌, arith, inl, inr}
+use Rattle.std.proofs.Common.{◌≡◌, ◌≢◌, ℕ, ◌+◌, ◌==◌, Bool, true, false, if◌then◌else◌, List, [], ◌∷◌, ◌++◌, map}
+use Rattle.std.proofs.Common.{length, get_or, Option, Some, None, refl, sym, ap, subst, ◌∙◌, arith, inl, inr}
 use Rattle.std.proofs.lemmas.Bool.{ne_eqb}
 use Rattle.std.proofs.lemmas.Bool.Decides.{eqb_tells}
 use Rattle.std.specs.List.{AllByRecursion as Every}
@@ -7,11 +8,13 @@ use Rattle.record_forest.specs.Members.{Pairs}
 use Rattle.record_forest.proofs.Lists.{every_weaker, every_both, every_join, every_left, every_right}
 use Rattle.image_stream.specs.Sources.{content_of}
 use Rattle.layout_terms.specs.Files.{files}
-use Rattle.layout_terms.specs.Items.{Item, Section, Body, section, super, record_of, table_of, text_of, contents_of, fill_section, bytes_section}
+use Rattle.layout_terms.specs.Items.{Item, Section, Body, section, super, record_of, table_of, text_of, contents_of}
+use Rattle.layout_terms.specs.Items.{fill_section, bytes_section}
 use Rattle.manifest_tree.specs.Names.{Fill, no_bytes, text, source, Inode, Names, nothing, leaf, link, folder}
 use Rattle.romfs_format.specs.Record.{pad16}
 use Rattle.romfs_layout.specs.Items.{item_of, sections_from}
-use Rattle.romfs_layout.specs.Layout.{Header, headers, all_headers, leaf_end, header_end, ends, place_with, placed, record_len}
+use Rattle.romfs_layout.specs.Layout.{Header, headers, all_headers, leaf_end, header_end, ends, place_with, placed}
+use Rattle.romfs_layout.specs.Layout.{record_len}
 use Rattle.romfs_layout.specs.Wells.{AreWell, file_of}
 use Rattle.romfs_write.specs.Form.{segment_by, segment_of}
 use Rattle.image_build.proofs.Alike.{Says}
@@ -26,10 +29,12 @@ module _ (G : ℕ → List ℕ → Type 0) (cs : List (List ℕ)) (is : List Ite
   head_given at n (record_of j) ss h = ((λ k e. absurd (cc)), h)
   head_given at n (table_of j) ss h = ((λ k e. absurd (cc)), h)
   head_given at n (text_of j) ss h = ((λ k e. absurd (cc)), h)
-  head_given at n (contents_of j) ss h = ((λ k e. let same : j ≡ k = cc in subst (λ (v : ℕ). G v (content_of cs v)) same h.0), h.1)
+  head_given at n (contents_of j) ss h =
+      ((λ k e. let same : j ≡ k = cc in subst (λ (v : ℕ). G v (content_of cs v)) same h.0), h.1)
 
   -- of segments, of their sections
-  pub sections_given : (ss : List Section) → AreGiven G cs (map (segment_of is) ss) → Every (λ s. (k : ℕ) → s.body ≡ contents_of k → G k (content_of cs k)) ss
+  pub sections_given : (ss : List Section) → AreGiven G cs (map (segment_of is) ss)
+      → Every (λ s. (k : ℕ) → s.body ≡ contents_of k → G k (content_of cs k)) ss
   sections_given [] h = tt
   sections_given (s ∷ ss) h =
       let r = head_given s.place s.len s.body ss h in
@@ -46,20 +51,25 @@ module _ (Q : ℕ → Type 0) where
   abbrev OfFile : Inode → Type 0
   OfFile i = (k : ℕ) → i.fill ≡ source k → i.size ≢ 0 → Q k
 
-  headers_given : (index : ℕ) (hs : List Header) → Every OfSection (sections_from index (map item_of hs)) → Every OfHeader hs
+  headers_given : (index : ℕ) (hs : List Header) → Every OfSection (sections_from index (map item_of hs))
+      → Every OfHeader hs
   headers_given index [] e = tt
   headers_given index (h ∷ hs) e =
       let own = bytes_section index (item_of h) in
       let rest = sections_from (index + 1) (map item_of hs) in
       let mine = every_left OfSection own rest e.1 in (
         λ k f n.
-            let some : Every OfSection (fill_section index h.start h.size h.fill) = subst (λ (t : Bool). Every OfSection (if t then [] else fill_section index h.start h.size h.fill)) (ne_eqb h.size 0 n) mine in
-            let there : Every OfSection (fill_section index h.start h.size (source k)) = subst (λ (g : Fill). Every OfSection (fill_section index h.start h.size g)) f some in
+            let some : Every OfSection (fill_section index h.start h.size h.fill) =
+            subst (λ (t : Bool). Every OfSection (if t then [] else fill_section index h.start h.size h.fill))
+            (ne_eqb h.size 0 n) mine in
+            let there : Every OfSection (fill_section index h.start h.size (source k)) =
+            subst (λ (g : Fill). Every OfSection (fill_section index h.start h.size g)) f some in
             there.0 k refl,
         headers_given (index + 1) hs (every_right OfSection own rest e.1),
       )
 
-  files_given : (zs : List (List ℕ)) (at : ℕ → ℕ) (dir from : ℕ) (n : Names) → AreWell zs n → Every OfHeader (headers at dir from n) → Every OfFile (files n)
+  files_given : (zs : List (List ℕ)) (at : ℕ → ℕ) (dir from : ℕ) (n : Names) → AreWell zs n
+      → Every OfHeader (headers at dir from n) → Every OfFile (files n)
   files_given zs at dir from nothing w h = tt
   files_given zs at dir from (leaf name i after) w h = (h.0, files_given zs at dir (leaf_end from name i) after w.2 h.1)
   files_given zs at dir from (link name i after) w h = files_given zs at dir (header_end from name) after w.2 h.1
@@ -70,11 +80,13 @@ module _ (Q : ℕ → Type 0) where
       let two = headers at dir e after in
       let both = h.1.1.1 in (
         λ k f n. let z : no_bytes ≡ source k = sym w.1.bytes ∙ f in absurd (cc),
-        every_join OfFile (files own) (files after) (files_given zs at (pad16 from) (q + 64) own w.2 (every_left OfHeader one two both))
+        every_join OfFile (files own) (files after)
+            (files_given zs at (pad16 from) (q + 64) own w.2 (every_left OfHeader one two both))
             (files_given zs at dir e after w.3 (every_right OfHeader one two both)),
       )
 
-  own_given : (is : List Inode) → Every OfFile (map own_file is) → Every (λ i. (k : ℕ) → i.fill ≡ source k → i.size ≢ 0 → Q i.line) is
+  own_given : (is : List Inode) → Every OfFile (map own_file is)
+      → Every (λ i. (k : ℕ) → i.fill ≡ source k → i.size ≢ 0 → Q i.line) is
   own_given [] h = tt
   own_given (i ∷ is) h = ((λ k f n. h.0 i.line (ap (own_fill i.line) f) n), own_given is h.1)
 
@@ -115,8 +127,10 @@ no_length [] e = refl
 no_length (x ∷ xs) e = absurd (omega (arith, e))
 
 -- also of those without bytes
-pub have_given : (G : ℕ → List ℕ → Type 0) → ((k : ℕ) → G k []) → (S : ℕ → ℕ) (cs : List (List ℕ)) (is : List Inode) → Says S is → Every (HasOwn cs) is
-    → Every (λ i. (k : ℕ) → i.fill ≡ source k → i.size ≢ 0 → G (S i.line) (get_or cs i.line [])) is → Every (HasGiven G cs) is
+pub have_given : (G : ℕ → List ℕ → Type 0) → ((k : ℕ) → G k []) → (S : ℕ → ℕ) (cs : List (List ℕ)) (is : List Inode)
+    → Says S is → Every (HasOwn cs) is
+    → Every (λ i. (k : ℕ) → i.fill ≡ source k → i.size ≢ 0 → G (S i.line) (get_or cs i.line [])) is
+    → Every (HasGiven G cs) is
 have_given G none S cs [] s o g = tt
 have_given G none S cs (i ∷ is) s o g = (
   λ k f. elim (eqb_tells i.size 0) [

@@ -1,5 +1,6 @@
--- What sources gave is contents of the planned sizes, where each stands in one segment.
-use Rattle.std.proofs.Common.{◌≡◌, ◌≢◌, ℕ, zero, suc, ◌+◌, ◌-◌, ◌<◌, List, [], ◌∷◌, ◌++◌, map, length, take, get_or, refl, sym, ap, subst, ◌∙◌, arith, ◌⊎◌, inl, inr}
+-- The bytes that sources returned are contents of the planned sizes, if each source is in one segment.
+use Rattle.std.proofs.Common.{◌≡◌, ◌≢◌, ℕ, zero, suc, ◌+◌, ◌-◌, ◌<◌, List, [], ◌∷◌, ◌++◌, map, length, take, get_or}
+use Rattle.std.proofs.Common.{refl, sym, ap, subst, ◌∙◌, arith, ◌⊎◌, inl, inr}
 use Rattle.std.proofs.Math.ListN.{get_or-eq_default}
 use Rattle.std.proofs.lemmas.Bool.{cases_lt}
 use Rattle.std.proofs.lemmas.Bool.Decides.{eqb_tells}
@@ -32,7 +33,8 @@ content_there [] k b l = absurd (omega arith)
 content_there (c ∷ cs) zero b l = refl
 content_there (c ∷ cs) (suc k) b l = content_there cs k b (omega arith)
 
-content_elsewhere : (cs : List (List ℕ)) (k j : ℕ) (b : List ℕ) → k ≢ j → content_of (with_content cs k b) j ≡ content_of cs j
+content_elsewhere : (cs : List (List ℕ)) (k j : ℕ) (b : List ℕ) → k ≢ j
+    → content_of (with_content cs k b) j ≡ content_of cs j
 content_elsewhere [] k j b n = refl
 content_elsewhere (c ∷ cs) zero zero b n = absurd (n refl)
 content_elsewhere (c ∷ cs) zero (suc j) b n = refl
@@ -52,8 +54,10 @@ image_kept cs k b at [] end h = refl
 image_kept cs k b at (fixed p bytes ∷ ps) end h =
     ap (λ (xs : List ℕ). zeros (p - at) ++ (bytes ++ xs)) (image_kept cs k b (p + length bytes) ps end h)
 image_kept cs k b at (content p size file ∷ ps) end h =
-    ap (λ (xs : List ℕ). zeros (p - at) ++ (take size (content_of (with_content cs k b) file) ++ xs)) (image_kept cs k b (p + size) ps end h.1)
-    ∙ ap (λ (xs : List ℕ). zeros (p - at) ++ (take size xs ++ image_from cs (p + size) ps end)) (content_elsewhere cs k file b h.0)
+    ap (λ (xs : List ℕ). zeros (p - at) ++ (take size (content_of (with_content cs k b) file) ++ xs))
+    (image_kept cs k b (p + size) ps end h.1)
+    ∙ ap (λ (xs : List ℕ). zeros (p - at) ++ (take size xs ++ image_from cs (p + size) ps end))
+    (content_elsewhere cs k file b h.0)
 
 -- the contents of each segment have the property
 abbrev pub AreGiven : (ℕ → List ℕ → Type 0) → List (List ℕ) → List Segment → Type 0
@@ -61,14 +65,16 @@ AreGiven G cs [] = Unit {0}
 AreGiven G cs (fixed at bytes ∷ ps) = AreGiven G cs ps
 AreGiven G cs (content at size file ∷ ps) = G file (content_of cs file) × AreGiven G cs ps
 
-given_kept : (G : ℕ → List ℕ → Type 0) (cs : List (List ℕ)) (k : ℕ) (b : List ℕ) (ps : List Segment) → Lacks k ps → AreGiven G cs ps → AreGiven G (with_content cs k b) ps
+given_kept : (G : ℕ → List ℕ → Type 0) (cs : List (List ℕ)) (k : ℕ) (b : List ℕ) (ps : List Segment) → Lacks k ps
+    → AreGiven G cs ps → AreGiven G (with_content cs k b) ps
 given_kept G cs k b [] h g = tt
 given_kept G cs k b (fixed at bytes ∷ ps) h g = given_kept G cs k b ps h g
 given_kept G cs k b (content at size file ∷ ps) h g =
     (subst (G file) (sym (content_elsewhere cs k file b h.0)) g.0, given_kept G cs k b ps h.1 g.1)
 
 -- the contents of a source, or no segment has them
-pub given_or_lacks : (G : ℕ → List ℕ → Type 0) (cs : List (List ℕ)) (k : ℕ) (ps : List Segment) → AreGiven G cs ps → G k (content_of cs k) ⊎ Lacks k ps
+pub given_or_lacks : (G : ℕ → List ℕ → Type 0) (cs : List (List ℕ)) (k : ℕ) (ps : List Segment) → AreGiven G cs ps
+    → G k (content_of cs k) ⊎ Lacks k ps
 given_or_lacks G cs k [] g = inr tt
 given_or_lacks G cs k (fixed at bytes ∷ ps) g = given_or_lacks G cs k ps g
 given_or_lacks G cs k (content at size file ∷ ps) g = elim (eqb_tells k file) [
@@ -76,9 +82,10 @@ given_or_lacks G cs k (content at size file ∷ ps) g = elim (eqb_tells k file) 
   | inr y ↦ elim (given_or_lacks G cs k ps g.1) [ inl z ↦ inl z | inr z ↦ inr (y.1, z) ]
 ]
 
--- Contents that no segment has may be any of their length. So where all of them are the same, there are none.
+-- Contents that no segment has may be any of their length. So if all of them are the same, there are none.
 pub lacking : (cs : List (List ℕ)) (k : ℕ) (at : ℕ) (ps : List Segment) (end : ℕ) → Lacks k ps
-    → ((ds : List (List ℕ)) → map length ds ≡ map length cs → image_from ds at ps end ≡ image_from cs at ps end → content_of ds k ≡ content_of cs k)
+    → ((ds : List (List ℕ)) → map length ds ≡ map length cs → image_from ds at ps end ≡ image_from cs at ps end
+    → content_of ds k ≡ content_of cs k)
     → content_of cs k ≡ []
 lacking cs k at ps end lacks same = elim (cases_lt k (length cs)) [
   | inr far ↦ get_or-eq_default cs [] far
@@ -101,12 +108,15 @@ abbrev pub IsOfContents : (ℕ → List ℕ → Type 0) → List ℕ → ℕ →
 IsOfContents G sizes at ps end xs =
     (cs : List (List ℕ)) × (map length cs ≡ sizes) × (xs ≡ image_from cs at ps end) × AreGiven G cs ps
 
-one_more : (G : ℕ → List ℕ → Type 0) (sizes : List ℕ) (at p size file : ℕ) (ps : List Segment) (end : ℕ) (body rest : List ℕ) → Lacks file ps
-    → file < length sizes → size ≡ get_or sizes file 0 → length body ≡ size → G file body → IsOfContents G sizes (p + size) ps end rest
+one_more : (G : ℕ → List ℕ → Type 0) (sizes : List ℕ) (at p size file : ℕ) (ps : List Segment) (end : ℕ)
+    (body rest : List ℕ) → Lacks file ps
+    → file < length sizes → size ≡ get_or sizes file 0 → length body ≡ size → G file body
+    → IsOfContents G sizes (p + size) ps end rest
     → IsOfContents G sizes at (content p size file ∷ ps) end (zeros (p - at) ++ (body ++ rest))
 one_more G sizes at p size file ps end body rest h l e n b (cs, same, is, each) =
     let within : file < length cs = omega (arith, l, ap (λ (xs : List ℕ). length xs) same, length-map cs length) in
-    let long : length body ≡ get_or (map length cs) file 0 = n ∙ e ∙ ap (λ (xs : List ℕ). get_or xs file 0) (sym same) in
+    let long : length body ≡ get_or (map length cs) file 0 =
+    n ∙ e ∙ ap (λ (xs : List ℕ). get_or xs file 0) (sym same) in
     let new = with_content cs file body in
     let put : content_of new file ≡ body = content_there cs file body within in
     let there : take size (content_of new file) ≡ body = ap (take size) put ∙ take_all size body (omega (arith, n)) in (
@@ -117,13 +127,19 @@ one_more G sizes at p size file ps end body rest h l e n b (cs, same, is, each) 
       (subst (G file) (sym put) b, given_kept G cs file body ps h each),
     )
 
-pub given : (G : ℕ → List ℕ → Type 0) (start : List (List ℕ)) (sizes : List ℕ) → map length start ≡ sizes → (at : ℕ) (ps : List Segment) (end : ℕ) (xs : List ℕ) → StandOnce ps
+pub given : (G : ℕ → List ℕ → Type 0) (start : List (List ℕ)) (sizes : List ℕ) → map length start ≡ sizes
+    → (at : ℕ) (ps : List Segment) (end : ℕ) (xs : List ℕ) → StandOnce ps
     → ((i : ℕ) → i < length ps → HasSource sizes (segment_at ps i)) → IsOf G at ps end xs
     → IsOfContents G sizes at ps end xs
 given G start sizes s at [] end xs o f h = (start, s, h, tt)
 given G start sizes s at (fixed p bytes ∷ ps) end xs o f (body, rest, is, more, all) =
-    let r = given G start sizes s (p + length bytes) ps end rest o (λ i l. f (suc i) (omega arith)) more in
-    (r.0, r.1, all ∙ ap (λ (ys : List ℕ). zeros (p - at) ++ (ys ++ rest)) is ∙ ap (λ (ys : List ℕ). zeros (p - at) ++ (bytes ++ ys)) r.2, r.3)
+    let r = given G start sizes s (p + length bytes) ps end rest o (λ i l. f (suc i) (omega arith)) more in (
+      r.0,
+      r.1,
+      all ∙ ap (λ (ys : List ℕ). zeros (p - at) ++ (ys ++ rest)) is
+          ∙ ap (λ (ys : List ℕ). zeros (p - at) ++ (bytes ++ ys)) r.2,
+      r.3,
+    )
 given G start sizes s at (content p size file ∷ ps) end xs o f (body, rest, is, more, all) =
     let r = given G start sizes s (p + size) ps end rest o.1 (λ i l. f (suc i) (omega arith)) more in
     let source = f 0 (omega arith) in

@@ -1,5 +1,6 @@
--- The contents of a source stand once in a cramfs layout: files with one source have one table.
-use Rattle.std.proofs.Common.{◌≡◌, ◌≢◌, ℕ, ◌+◌, ◌*◌, ◌==◌, ◌||◌, Bool, true, false, if◌then◌else◌, List, [], ◌∷◌, ◌++◌, Some, None, refl, sym, ap, ◌∙◌, inl, inr}
+-- The contents of a source occur once in a cramfs layout: files with one source have one table.
+use Rattle.std.proofs.Common.{◌≡◌, ◌≢◌, ℕ, ◌+◌, ◌*◌, ◌==◌, ◌||◌, Bool, true, false, if◌then◌else◌, List, [], ◌∷◌, ◌++◌}
+use Rattle.std.proofs.Common.{Some, None, refl, sym, ap, ◌∙◌, inl, inr}
 use Rattle.std.proofs.lemmas.Bool.{eq-eqb}
 use Rattle.std.proofs.lemmas.Bool.Decides.{eqb_tells}
 use Rattle.std.specs.List.{AllByRecursion as Every}
@@ -9,12 +10,13 @@ use Rattle.cramfs_format.specs.declared.order.Order.{Order}
 use Rattle.cramfs_format.specs.Inode.{block_count}
 use Rattle.manifest_tree.specs.Names.{Fill, no_bytes, text, source, Inode, Names, nothing, leaf, link, folder}
 use Rattle.layout_terms.specs.Items.{Item, Section, section, record_of, table_of, contents_of, fill_section}
-use Rattle.cramfs_layout.specs.Layout.{pad4, entry_len, State, Table, table_with, Kept, nowhere, shared, fresh, kept, kept_by, kept_with, with_table, after_by, after_file, after_list, after_names}
+use Rattle.cramfs_layout.specs.Layout.{pad4, entry_len, State, Table, table_with, Kept, nowhere, shared, fresh, kept}
+use Rattle.cramfs_layout.specs.Layout.{kept_by, kept_with, with_table, after_by, after_file, after_list, after_names}
 use Rattle.cramfs_layout.specs.Items.{entries, below, kept_item, has_table, table_sections, sections_from}
 use Rattle.cramfs_layout.proofs.Stored.{shared_by, none_by}
 use Rattle.image_build.proofs.Differ.{Differ}
 
--- tables that were told stay
+-- known tables stay
 abbrev Stay : List Table → List Table → Type 0
 Stay ts us = (k t : ℕ) → table_with ts k ≡ Some t → table_with us k ≡ Some t
 
@@ -31,7 +33,8 @@ same_contents e = cc
 same_some : {j k : ℕ} → Some j ≡ Some k → j ≡ k
 same_some e = cc
 
-with_stay : (f : Fill) (p : ℕ) (ts : List Table) → ((k : ℕ) → f ≡ source k → table_with ts k ≡ None) → Stay ts (with_table f p ts)
+with_stay : (f : Fill) (p : ℕ) (ts : List Table) → ((k : ℕ) → f ≡ source k → table_with ts k ≡ None)
+    → Stay ts (with_table f p ts)
 with_stay no_bytes p ts n k t e = e
 with_stay (text x) p ts n k t e = e
 with_stay (source j) p ts n k t e = elim (eqb_tells j k) [
@@ -42,7 +45,8 @@ with_stay (source j) p ts n k t e = elim (eqb_tells j k) [
 fresh_by : (ts : List Table) (f : Fill) (k : ℕ) → kept_by ts f ≡ fresh → f ≡ source k → table_with ts k ≡ None
 fresh_by ts no_bytes k e g = absurd (cc)
 fresh_by ts (text x) k e g = absurd (cc)
-fresh_by ts (source j) k e g = ap (table_with ts) (sym (same_source g)) ∙ elim (table_with ts j) as (λ o. kept_with o ≡ fresh → o ≡ None) [ None ↦ λ z. refl | Some u ↦ λ z. absurd (cc) ] e
+fresh_by ts (source j) k e g = ap (table_with ts) (sym (same_source g))
+    ∙ elim (table_with ts j) as (λ o. kept_with o ≡ fresh → o ≡ None) [ None ↦ λ z. refl | Some u ↦ λ z. absurd (cc) ] e
 
 kept_stay : (s : State) (i : Inode) (k : Kept) → kept s.tables i ≡ k → Stay s.tables (after_by k s i).tables
 unfolding kept
@@ -73,12 +77,14 @@ kept_told o l name s i fresh e j f n =
 
 names_stay : (s : State) (n : Names) → Stay s.tables (after_names s n).tables
 names_stay s nothing k t h = h
-names_stay s (leaf name i rest) k t h = names_stay (after_file s i) rest k t (kept_stay s i (kept s.tables i) refl k t h)
-names_stay s (link name i rest) k t h = names_stay (after_file s i) rest k t (kept_stay s i (kept s.tables i) refl k t h)
+names_stay s (leaf name i rest) k t h =
+    names_stay (after_file s i) rest k t (kept_stay s i (kept s.tables i) refl k t h)
+names_stay s (link name i rest) k t h =
+    names_stay (after_file s i) rest k t (kept_stay s i (kept s.tables i) refl k t h)
 names_stay s (folder name i own rest) k t h =
     names_stay (after_names (after_list s own) own) rest k t (names_stay (after_list s own) own k t h)
 
--- the tables of all items are those that stand in the end
+-- the tables of all items are those that are in the end
 pub all_told : (ts : List Table) (o : Order) (l : ℕ) (s : State) (n : Names) → Stay (after_names s n).tables ts
     → Every (IsTold ts) (entries o l s n) × Every (IsTold ts) (below o s n)
 all_told ts o l s nothing h = (tt, tt)
@@ -125,11 +131,19 @@ tables_own earlier index i = elim (eqb_tells i.len 0) [
   | inr y ↦ rw y.0 (by (has_table earlier i.table) refl y.1)
 ]
   where
-    by : (b : Bool) → has_table earlier i.table ≡ b → i.len ≢ 0 → let ss = if b then [] else section i.table (4 * block_count i.len) (table_of index) ∷ fill_section index i.start i.len i.fill in Every (IsOwn earlier i) ss × Pairs Differ ss
+    by : (b : Bool) → has_table earlier i.table ≡ b → i.len ≢ 0 → let ss =
+        if b then [] else section i.table (4 * block_count i.len) (table_of index)
+        ∷ fill_section index i.start i.len i.fill in Every (IsOwn earlier i) ss × Pairs Differ ss
     by true e n = (tt, tt)
     by false e n =
-        let own = fill_own earlier i index i.start i.len i.fill refl n e in
-        ((λ k z. absurd (cc), own.0), (every_of (Differ (section i.table (4 * block_count i.len) (table_of index))) (fill_section index i.start i.len i.fill) (λ y h k a b. absurd (cc)), own.1))
+        let own = fill_own earlier i index i.start i.len i.fill refl n e in (
+          (λ k z. absurd (cc), own.0),
+          (
+            every_of (Differ (section i.table (4 * block_count i.len) (table_of index)))
+                (fill_section index i.start i.len i.fill) (λ y h k a b. absurd (cc)),
+            own.1,
+          ),
+        )
 
 or_false : (a b : Bool) → (a || b) ≡ false → (a ≡ false) × (b ≡ false)
 or_false true b h = absurd (cc)
@@ -144,16 +158,26 @@ all_differ ts earlier index (i ∷ is) h =
     let rest = sections_from (i ∷ earlier) (index + 1) is in
     let mine = tables_own earlier index i in
     let more = all_differ ts (i ∷ earlier) (index + 1) is h.1 in
-    let mine_new : (x : Section) → IsOwn earlier i x → IsNew ts earlier x = λ x w k e. let z = w k e in (i.table, h.0 k z.0 z.1, z.2) in
-    let more_new : (x : Section) → IsNew ts (i ∷ earlier) x → IsNew ts earlier x = λ x w k e. let z = w k e in (z.0, z.1, (or_false (i.table == z.0) (has_table earlier z.0) z.2).1) in
+    let mine_new : (x : Section) → IsOwn earlier i x → IsNew ts earlier x =
+    λ x w k e. let z = w k e in (i.table, h.0 k z.0 z.1, z.2) in
+    let more_new : (x : Section) → IsNew ts (i ∷ earlier) x → IsNew ts earlier x =
+    λ x w k e. let z = w k e in (z.0, z.1, (or_false (i.table == z.0) (has_table earlier z.0) z.2).1) in
     let apart : (x y : Section) → IsOwn earlier i x → IsNew ts (i ∷ earlier) y → Differ x y = λ x y w v k a b.
     let z = w k a in
     let u = v k b in
     let same : i.table ≡ u.0 = same_some (sym (h.0 k z.0 z.1) ∙ u.1) in
-    let yes : true ≡ false = sym (eq-eqb i.table u.0 same) ∙ (or_false (i.table == u.0) (has_table earlier u.0) u.2).0 in absurd (cc) in (
-      (λ k z. absurd (cc), every_join (IsNew ts earlier) own rest (every_weaker (IsOwn earlier i) (IsNew ts earlier) mine_new own mine.0) (every_weaker (IsNew ts (i ∷ earlier)) (IsNew ts earlier) more_new rest more.0)),
+    let yes : true ≡ false =
+    sym (eq-eqb i.table u.0 same) ∙ (or_false (i.table == u.0) (has_table earlier u.0) u.2).0 in absurd (cc) in (
+      (
+        λ k z. absurd (cc),
+        every_join (IsNew ts earlier) own rest
+            (every_weaker (IsOwn earlier i) (IsNew ts earlier) mine_new own mine.0)
+            (every_weaker (IsNew ts (i ∷ earlier)) (IsNew ts earlier) more_new rest more.0),
+      ),
       (
         every_of (Differ record_section) (own ++ rest) (λ y w k a b. absurd (cc)),
-        pairs_join Differ own rest mine.1 more.1 (every_weaker (IsOwn earlier i) (λ x. Every (Differ x) rest) (λ x w. every_weaker (IsNew ts (i ∷ earlier)) (Differ x) (λ y v. apart x y w v) rest more.0) own mine.0),
+        pairs_join Differ own rest mine.1 more.1
+            (every_weaker (IsOwn earlier i) (λ x. Every (Differ x) rest)
+            (λ x w. every_weaker (IsNew ts (i ∷ earlier)) (Differ x) (λ y v. apart x y w v) rest more.0) own mine.0),
       ),
     )

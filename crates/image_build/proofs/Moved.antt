@@ -23,18 +23,24 @@ module _ (S : ℕ → ℕ) (is js : List Item) (alike : (k : ℕ) → IsAlikeIte
   body_alike at n super c a = ap (segment_by js at n) a
   body_alike at n (record_of k) c a = ap (segment_by js at n) a ∙ ap (fixed at) (alike k).written
   body_alike at n (table_of k) c a = ap (segment_by js at n) a
-  body_alike at n (text_of k) c a = ap (segment_by js at n) a ∙ ap (fixed at) (bytes_same S (item_at is k).fill (item_at js k).fill (alike k).fill)
+  body_alike at n (text_of k) c a =
+      ap (segment_by js at n) a ∙ ap (fixed at) (bytes_same S (item_at is k).fill (item_at js k).fill (alike k).fill)
   body_alike at n (contents_of k) c a = (a.0, ap (segment_by js at n) a.1, a.2)
 
-  pub segments_alike : (ss ts : List Section) → AlikeSections S ss ts → AlikeSegments S (map (segment_of is) ss) (map (segment_of js) ts)
+  pub segments_alike : (ss ts : List Section) → AlikeSections S ss ts
+      → AlikeSegments S (map (segment_of is) ss) (map (segment_of js) ts)
   segments_alike [] [] a = tt
   segments_alike [] (t ∷ ts) a = absurd a
   segments_alike (s ∷ ss) [] a = absurd a
   segments_alike (s ∷ ss) (t ∷ ts) a =
-      let G : ℕ → ℕ → Type 0 = λ at n. AlikeSegment S (segment_of is s) (segment_by js at n t.body) in
-      (subst (λ (at : ℕ). G at t.len) (sym a.0.place) (subst (G s.place) (sym a.0.len) (body_alike s.place s.len s.body t.body a.0.body)), segments_alike ss ts a.1)
+      let G : ℕ → ℕ → Type 0 = λ at n. AlikeSegment S (segment_of is s) (segment_by js at n t.body) in (
+        subst (λ (at : ℕ). G at t.len) (sym a.0.place)
+            (subst (G s.place) (sym a.0.len) (body_alike s.place s.len s.body t.body a.0.body)),
+        segments_alike ss ts a.1,
+      )
 
-pub image_moved : (S : ℕ → ℕ) (G : ℕ → List ℕ → Type 0) (ps qs : List Segment) (at end : ℕ) (xs : List ℕ) → AlikeSegments S ps qs
+pub image_moved : (S : ℕ → ℕ) (G : ℕ → List ℕ → Type 0) (ps qs : List Segment) (at end : ℕ) (xs : List ℕ)
+    → AlikeSegments S ps qs
     → IsOf G at ps end xs → IsOf (λ g ys. G (S g) ys) at qs end xs
 image_moved S G [] [] at end xs a h = h
 image_moved S G [] (q ∷ qs) at end xs a h = absurd a
@@ -45,4 +51,5 @@ image_moved S G (fixed p bytes ∷ ps) (q ∷ qs) at end xs a (body, rest, is, m
 image_moved S G (content p size file ∷ ps) (q ∷ qs) at end xs a (body, rest, is, more, all) =
     let later = image_moved S G ps qs (p + size) end rest a.1 more in
     let of : G (S a.0.0) body = subst (λ (k : ℕ). G k body) a.0.2 is.1 in
-    subst (λ (s : Segment). IsOf (λ g ys. G (S g) ys) at (s ∷ qs) end xs) (sym a.0.1) (body, rest, (is.0, of), later, all)
+    subst (λ (s : Segment). IsOf (λ g ys. G (S g) ys) at (s ∷ qs) end xs) (sym a.0.1)
+    (body, rest, (is.0, of), later, all)

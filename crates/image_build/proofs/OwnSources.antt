@@ -1,5 +1,6 @@
--- Files of a manifest have sources of their own where no line names the contents of another.
-use Rattle.std.proofs.Common.{◌≡◌, ◌≢◌, ℕ, ◌+◌, ◌<◌, ◌≤◌, ◌&&◌, ◌||◌, nat_lt, Bool, true, false, cond, if◌then◌else◌, inl, inr, List, [], ◌∷◌, reverse, Option, Some, None, refl, sym, ap, subst, ◌∙◌, arith}
+-- Files of a manifest have sources of their own if no line names the contents of another.
+use Rattle.std.proofs.Common.{◌≡◌, ◌≢◌, ℕ, ◌+◌, ◌<◌, ◌≤◌, ◌&&◌, ◌||◌, nat_lt, Bool, true, false, cond, if◌then◌else◌}
+use Rattle.std.proofs.Common.{inl, inr, List, [], ◌∷◌, reverse, Option, Some, None, refl, sym, ap, subst, ◌∙◌, arith}
 use Rattle.std.proofs.lemmas.Bool.{ltb-true, lt-ltb, le-ltb, cases_lt}
 use Rattle.std.specs.Str.{bytes_eq}
 use Rattle.std.specs.List.{AllByRecursion as Every}
@@ -11,7 +12,8 @@ use Rattle.manifest.specs.declared.line.Word.TheVariants.{Dir, File, Slink, Bloc
 use Rattle.manifest.specs.Lines.{ManifestLines, is_file, is_hard, is_same, led, filed}
 use Rattle.manifest.specs.Grammar.{IsManifest}
 use Rattle.manifest_tree.specs.Names.{source, Inode, Names, nothing, leaf, link, folder}
-use Rattle.manifest_tree.specs.Tree.{What, a_leaf, a_link, a_folder, what_by, sources_before, with_contents, inode_by, inode_of, grown, tree_of}
+use Rattle.manifest_tree.specs.Tree.{What, a_leaf, a_link, a_folder, what_by, sources_before, with_contents, inode_by}
+use Rattle.manifest_tree.specs.Tree.{inode_of, grown, tree_of}
 use Rattle.manifest_tree.proofs.Law.{grown_by}
 use Rattle.layout_terms.specs.Files.{files}
 use Rattle.manifest_layout.specs.Format.{Format}
@@ -23,26 +25,29 @@ use Rattle.manifest_layout.proofs.Known.{known}
 use Rattle.manifest_layout.proofs.Sourced.{has_reverse, every_back}
 use Rattle.image_build.proofs.InRomfs.{Apart}
 
--- more `file` lines stand before a later line
+-- more `file` lines are before a later line
 grows : (a b : ℕ) (t : Bool) (n x y : ℕ) → a ≤ b → x ≤ y
     → (if t && nat_lt n a then x + 1 else x) ≤ (if t && nat_lt n b then y + 1 else y)
 grows a b false n x y h k = k
-grows a b true n x y h k = elim (nat_lt n a) as (λ t. nat_lt n a ≡ t → (if t then x + 1 else x) ≤ (if nat_lt n b then y + 1 else y)) [
-  | true ↦ λ e. let l = ltb-true n a e in rw (lt-ltb n b (omega arith)) (omega arith)
-  | false ↦ λ e. elim (nat_lt n b) as (λ t. x ≤ (if t then y + 1 else y)) [ true ↦ omega arith | false ↦ k ]
-] refl
+grows a b true n x y h k =
+    elim (nat_lt n a) as (λ t. nat_lt n a ≡ t → (if t then x + 1 else x) ≤ (if nat_lt n b then y + 1 else y)) [
+      | true ↦ λ e. let l = ltb-true n a e in rw (lt-ltb n b (omega arith)) (omega arith)
+      | false ↦ λ e. elim (nat_lt n b) as (λ t. x ≤ (if t then y + 1 else y)) [ true ↦ omega arith | false ↦ k ]
+    ] refl
 
 sources_grow : (a b : ℕ) (ls : List Line) → a ≤ b → sources_before a ls ≤ sources_before b ls
 sources_grow a b [] h = omega arith
-sources_grow a b (l ∷ ls) h = grows a b (is_file l.word) l.number (sources_before a ls) (sources_before b ls) h (sources_grow a b ls h)
+sources_grow a b (l ∷ ls) h =
+    grows a b (is_file l.word) l.number (sources_before a ls) (sources_before b ls) h (sources_grow a b ls h)
 
 steps : (a b : ℕ) (t : Bool) (n x y : ℕ) → a ≤ b → x < y
     → (if t && nat_lt n a then x + 1 else x) < (if t && nat_lt n b then y + 1 else y)
 steps a b false n x y h k = k
-steps a b true n x y h k = elim (nat_lt n a) as (λ t. nat_lt n a ≡ t → (if t then x + 1 else x) < (if nat_lt n b then y + 1 else y)) [
-  | true ↦ λ e. let l = ltb-true n a e in rw (lt-ltb n b (omega arith)) (omega arith)
-  | false ↦ λ e. elim (nat_lt n b) as (λ t. x < (if t then y + 1 else y)) [ true ↦ omega arith | false ↦ k ]
-] refl
+steps a b true n x y h k =
+    elim (nat_lt n a) as (λ t. nat_lt n a ≡ t → (if t then x + 1 else x) < (if nat_lt n b then y + 1 else y)) [
+      | true ↦ λ e. let l = ltb-true n a e in rw (lt-ltb n b (omega arith)) (omega arith)
+      | false ↦ λ e. elim (nat_lt n b) as (λ t. x < (if t then y + 1 else y)) [ true ↦ omega arith | false ↦ k ]
+    ] refl
 
 -- a `file` line is one of those before a later line
 sources_less : (b : ℕ) (x : Line) (ls : List Line) → Has (λ l. l ≡ x) ls → is_file x.word ≡ true → x.number < b
@@ -53,7 +58,9 @@ sources_less b x (y ∷ ls) (inl e) f l =
     let n : y.number ≡ x.number = ap (λ (z : Line). z.number) e in
     let g = sources_grow x.number b ls (omega arith) in
     rw (w, le-ltb y.number x.number (omega (arith, n)), lt-ltb y.number b (omega (arith, n))) (omega arith)
-sources_less b x (y ∷ ls) (inr h) f l = steps x.number b (is_file y.word) y.number (sources_before x.number ls) (sources_before b ls) (omega arith) (sources_less b x ls h f l)
+sources_less b x (y ∷ ls) (inr h) f l =
+    steps x.number b (is_file y.word) y.number (sources_before x.number ls) (sources_before b ls) (omega arith)
+    (sources_less b x ls h f l)
 
 same_number : (x y : Line) (ls : List Line) → Has (λ l. l ≡ x) ls → Has (λ l. l ≡ y) ls → is_file x.word ≡ true
     → is_file y.word ≡ true → sources_before x.number ls ≡ sources_before y.number ls → x.number ≡ y.number
@@ -85,17 +92,22 @@ same_some e = cc
 
 led_filed : (ls : List Line) (p : List ℕ) (x : Line) → led ls p ≡ Some x → is_file x.word ≡ true → filed ls p ≡ Some x
 led_filed [] p x e f = absurd (cc)
-led_filed (l ∷ ls) p x e f = elim (bytes_eq l.path p) as (λ t. cond t (cond (is_hard l.word) (led ls l.text) (Some l)) (led ls p) ≡ Some x → cond t (cond (is_hard l.word || is_same l.word) (filed ls l.text) (cond (is_file l.word) (Some l) None)) (filed ls p) ≡ Some x) [
-  | true ↦ λ g. elim (is_hard l.word) as (λ h. cond h (led ls l.text) (Some l) ≡ Some x → cond (h || is_same l.word) (filed ls l.text) (cond (is_file l.word) (Some l) None) ≡ Some x) [
-    | true ↦ λ j. led_filed ls l.text x j f
-    | false ↦ λ j.
-        let is : l ≡ x = same_some j in
-        let mine : is_file l.word ≡ true = ap (λ (z : Line). is_file z.word) is ∙ f in
-        let none : is_same l.word ≡ false = by l.word mine in
-        rw (none, mine) j
-  ] g
-  | false ↦ λ g. led_filed ls p x g f
-] e
+led_filed (l ∷ ls) p x e f = elim (bytes_eq l.path p) as
+    (λ t. cond t (cond (is_hard l.word) (led ls l.text) (Some l)) (led ls p) ≡ Some x
+    → cond t (cond (is_hard l.word || is_same l.word) (filed ls l.text) (cond (is_file l.word) (Some l) None))
+    (filed ls p) ≡ Some x) [
+      | true ↦ λ g. elim (is_hard l.word) as
+          (λ h. cond h (led ls l.text) (Some l) ≡ Some x
+          → cond (h || is_same l.word) (filed ls l.text) (cond (is_file l.word) (Some l) None) ≡ Some x) [
+            | true ↦ λ j. led_filed ls l.text x j f
+            | false ↦ λ j.
+                let is : l ≡ x = same_some j in
+                let mine : is_file l.word ≡ true = ap (λ (z : Line). is_file z.word) is ∙ f in
+                let none : is_same l.word ≡ false = by l.word mine in
+                rw (none, mine) j
+          ] g
+      | false ↦ λ g. led_filed ls p x g f
+    ] e
   where
     by : (w : Word) → is_file w ≡ true → is_same w ≡ false
     by Dir e = absurd (cc)
@@ -112,7 +124,8 @@ led_filed (l ∷ ls) p x e f = elim (bytes_eq l.path p) as (λ t. cond t (cond (
 abbrev IsOfLine : List Line → Inode → Type 0
 IsOfLine all i =
     (k : ℕ) → i.fill ≡ source k
-    → (x : Line) × Has (λ y. y ≡ x) all × (is_file x.word ≡ true) × (x.number ≡ i.line) × (sources_before x.number all ≡ k)
+    → (x : Line) × Has (λ y. y ≡ x) all × (is_file x.word ≡ true) × (x.number ≡ i.line)
+    × (sources_before x.number all ≡ k)
 
 abbrev Holds : List Line → List ℕ → What → Type 0
 Holds all name (a_leaf i) = IsOfLine all i
@@ -123,23 +136,30 @@ files_of_lines : (all : List Line) (n : Names) → HoldAll (Holds all) n → Eve
 files_of_lines all nothing h = tt
 files_of_lines all (leaf name i after) h = (h.0, files_of_lines all after h.1)
 files_of_lines all (link name i after) h = files_of_lines all after h.1
-files_of_lines all (folder name i own after) h =
-    (h.0, every_join (IsOfLine all) (files own) (files after) (files_of_lines all own h.1) (files_of_lines all after h.2))
+files_of_lines all (folder name i own after) h = (
+  h.0,
+  every_join (IsOfLine all) (files own) (files after) (files_of_lines all own h.1)
+      (files_of_lines all after h.2),
+)
 
 same_source : {j k : ℕ} → source j ≡ source k → j ≡ k
 same_source e = cc
 
-contents_of_line : (all : List Line) (sizes : List ℕ) (l : Line) (o : Option Line) → Has (λ y. y ≡ l) all → is_file l.word ≡ true
+contents_of_line : (all : List Line) (sizes : List ℕ) (l : Line) (o : Option Line) → Has (λ y. y ≡ l) all
+    → is_file l.word ≡ true
     → o ≡ Some l → IsOfLine all (with_contents all sizes l o)
 contents_of_line all sizes l None here f e k g = absurd (cc)
 contents_of_line all sizes l (Some x) here f e k g =
-    let is : x ≡ l = same_some e in (l, here, f, refl, sym (ap (λ (z : Line). sources_before z.number all) is) ∙ same_source g)
+    let is : x ≡ l =
+    same_some e in (l, here, f, refl, sym (ap (λ (z : Line). sources_before z.number all) is) ∙ same_source g)
 
-inode_of_line : (all : List Line) (sizes : List ℕ) (l : Line) (w : Word) → l.word ≡ w → Has (λ y. y ≡ l) all → is_same w ≡ false
+inode_of_line : (all : List Line) (sizes : List ℕ) (l : Line) (w : Word) → l.word ≡ w → Has (λ y. y ≡ l) all
+    → is_same w ≡ false
     → (is_file l.word ≡ true → filed (reverse all) l.path ≡ Some l) → IsOfLine all (inode_by all sizes w l)
 inode_of_line all sizes l Dir e here s f = λ k g. absurd (cc)
 inode_of_line all sizes l File e here s f =
-    let w : is_file l.word ≡ true = ap is_file e in contents_of_line all sizes l (filed (reverse all) l.path) here w (f w)
+    let w : is_file l.word ≡ true =
+    ap is_file e in contents_of_line all sizes l (filed (reverse all) l.path) here w (f w)
 inode_of_line all sizes l Slink e here s f = λ k g. absurd (cc)
 inode_of_line all sizes l Block e here s f = λ k g. absurd (cc)
 inode_of_line all sizes l Character e here s f = λ k g. absurd (cc)
@@ -148,33 +168,50 @@ inode_of_line all sizes l Socket e here s f = λ k g. absurd (cc)
 inode_of_line all sizes l Hard e here s f = λ k g. absurd (cc)
 inode_of_line all sizes l Same e here s f = λ k g. absurd (cc)
 
-own_file : (m : ManifestLines) (sizes : List ℕ) (latest : List Line) → reverse m.lines ≡ latest → m.lines ≡ reverse latest
-    → (l : Line) → Has (λ y. y ≡ l) latest → is_same l.word ≡ false → LedIn latest l → (file : HasFile m.lines sizes latest l)
+own_file : (m : ManifestLines) (sizes : List ℕ) (latest : List Line) → reverse m.lines ≡ latest
+    → m.lines ≡ reverse latest
+    → (l : Line) → Has (λ y. y ≡ l) latest → is_same l.word ≡ false → LedIn latest l
+    → (file : HasFile m.lines sizes latest l)
     → is_hard l.word ≡ false → IsOfLine m.lines file.inode
 unfolding inode_of
 own_file m sizes latest back front l here s leads file h =
-    let there : Has (λ y. y ≡ l) m.lines = subst (Has (λ y. y ≡ l)) (sym front) (has_reverse (λ y. y ≡ l) latest here) in
-    let found : is_file l.word ≡ true → filed (reverse m.lines) l.path ≡ Some l = λ f. ap (λ (ls : List Line). filed ls l.path) back ∙ led_filed latest l.path l (leads.own h) f in
+    let there : Has (λ y. y ≡ l) m.lines =
+    subst (Has (λ y. y ≡ l)) (sym front) (has_reverse (λ y. y ≡ l) latest here) in
+    let found : is_file l.word ≡ true → filed (reverse m.lines) l.path ≡ Some l =
+    λ f. ap (λ (ls : List Line). filed ls l.path) back ∙ led_filed latest l.path l (leads.own h) f in
     subst (IsOfLine m.lines) (sym (file.own h)) (inode_of_line m.lines sizes l l.word refl there s found)
 
-held_by : (m : ManifestLines) (sizes : List ℕ) (latest : List Line) → reverse m.lines ≡ latest → m.lines ≡ reverse latest
-    → (l : Line) → Has (λ y. y ≡ l) latest → is_same l.word ≡ false → LedIn latest l → (file : HasFile m.lines sizes latest l)
+held_by : (m : ManifestLines) (sizes : List ℕ) (latest : List Line) → reverse m.lines ≡ latest
+    → m.lines ≡ reverse latest
+    → (l : Line) → Has (λ y. y ≡ l) latest → is_same l.word ≡ false → LedIn latest l
+    → (file : HasFile m.lines sizes latest l)
     → (name : List ℕ) (w : Word) → l.word ≡ w → Holds m.lines name (what_by w file.inode)
-held_by m sizes latest back front l here s leads file name Dir e = own_file m sizes latest back front l here s leads file (ap is_hard e)
-held_by m sizes latest back front l here s leads file name File e = own_file m sizes latest back front l here s leads file (ap is_hard e)
-held_by m sizes latest back front l here s leads file name Slink e = own_file m sizes latest back front l here s leads file (ap is_hard e)
-held_by m sizes latest back front l here s leads file name Block e = own_file m sizes latest back front l here s leads file (ap is_hard e)
-held_by m sizes latest back front l here s leads file name Character e = own_file m sizes latest back front l here s leads file (ap is_hard e)
-held_by m sizes latest back front l here s leads file name Fifo e = own_file m sizes latest back front l here s leads file (ap is_hard e)
-held_by m sizes latest back front l here s leads file name Socket e = own_file m sizes latest back front l here s leads file (ap is_hard e)
+held_by m sizes latest back front l here s leads file name Dir e =
+    own_file m sizes latest back front l here s leads file (ap is_hard e)
+held_by m sizes latest back front l here s leads file name File e =
+    own_file m sizes latest back front l here s leads file (ap is_hard e)
+held_by m sizes latest back front l here s leads file name Slink e =
+    own_file m sizes latest back front l here s leads file (ap is_hard e)
+held_by m sizes latest back front l here s leads file name Block e =
+    own_file m sizes latest back front l here s leads file (ap is_hard e)
+held_by m sizes latest back front l here s leads file name Character e =
+    own_file m sizes latest back front l here s leads file (ap is_hard e)
+held_by m sizes latest back front l here s leads file name Fifo e =
+    own_file m sizes latest back front l here s leads file (ap is_hard e)
+held_by m sizes latest back front l here s leads file name Socket e =
+    own_file m sizes latest back front l here s leads file (ap is_hard e)
 held_by m sizes latest back front l here s leads file name Hard e = tt
-held_by m sizes latest back front l here s leads file name Same e = own_file m sizes latest back front l here s leads file (ap is_hard e)
+held_by m sizes latest back front l here s leads file name Same e =
+    own_file m sizes latest back front l here s leads file (ap is_hard e)
 
 files_apart : (all : List Line) (is : List Inode) → Every (IsOfLine all) is → Pairs (λ i j. i.line ≢ j.line) is
     → Pairs (λ i j. Apart i.fill j.fill) is
 files_apart all [] h p = tt
-files_apart all (i ∷ is) h p =
-    (every_weaker (λ j. IsOfLine all j × (i.line ≢ j.line)) (λ j. Apart i.fill j.fill) differ is (every_both (IsOfLine all) (λ j. i.line ≢ j.line) is h.1 p.0), files_apart all is h.1 p.1)
+files_apart all (i ∷ is) h p = (
+  every_weaker (λ j. IsOfLine all j × (i.line ≢ j.line)) (λ j. Apart i.fill j.fill) differ is
+      (every_both (IsOfLine all) (λ j. i.line ≢ j.line) is h.1 p.0),
+  files_apart all is h.1 p.1,
+)
   where
     differ : (j : Inode) → IsOfLine all j × (i.line ≢ j.line) → Apart i.fill j.fill
     differ j g k a b =
@@ -190,10 +227,17 @@ own_sources f m sizes h none alone =
     let latest = k.0 in
     let w = k.1 in
     let leads = all_led latest w.checked in
-    let lone : Every (λ (l : Line). is_same l.word ≡ false) latest = subst (Every (λ (l : Line). is_same l.word ≡ false)) w.back (every_back (λ (l : Line). is_same l.word ≡ false) m.lines alone) in
-    let gives : (l : Line) → Has (λ x. x ≡ l) latest → Gives (Holds m.lines) m.lines sizes latest l = λ l here file n ns e.
-    held_by m sizes latest w.back w.reversed l here (has_of (λ (x : Line). is_same x.word ≡ false) latest l here lone) (has_of (LedIn latest) latest l here leads) file (last_of n ns) l.word refl in
-    let g = grown_is (Holds m.lines) m.lines sizes latest latest w.checked w.have w.apart w.files w.faultless (every_of (Gives (Holds m.lines) m.lines sizes latest) latest gives) in
-    let same : grown_by m.lines sizes latest ≡ grown m.lines sizes m.lines nothing = ap (λ (ls : List Line). grown m.lines sizes ls nothing) (sym w.reversed) in
+    let lone : Every (λ (l : Line). is_same l.word ≡ false) latest =
+    subst (Every (λ (l : Line). is_same l.word ≡ false)) w.back
+    (every_back (λ (l : Line). is_same l.word ≡ false) m.lines alone) in
+    let gives : (l : Line) → Has (λ x. x ≡ l) latest → Gives (Holds m.lines) m.lines sizes latest l =
+    λ l here file n ns e.
+    held_by m sizes latest w.back w.reversed l here (has_of (λ (x : Line). is_same x.word ≡ false) latest l here lone)
+    (has_of (LedIn latest) latest l here leads) file (last_of n ns) l.word refl in
+    let g = grown_is (Holds m.lines) m.lines sizes latest latest w.checked w.have w.apart w.files w.faultless
+    (every_of (Gives (Holds m.lines) m.lines sizes latest) latest gives) in
+    let same : grown_by m.lines sizes latest ≡ grown m.lines sizes m.lines nothing =
+    ap (λ (ls : List Line). grown m.lines sizes ls nothing) (sym w.reversed) in
     subst (λ (n : Names). Pairs (λ (i : Inode) (j : Inode). Apart i.fill j.fill) (files n)) same
-    (files_apart m.lines (files (grown_by m.lines sizes latest)) (files_of_lines m.lines (grown_by m.lines sizes latest) g.hold) g.apart)
+    (files_apart m.lines (files (grown_by m.lines sizes latest))
+    (files_of_lines m.lines (grown_by m.lines sizes latest) g.hold) g.apart)

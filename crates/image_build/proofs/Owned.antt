@@ -1,5 +1,6 @@
 -- Names whose files have sources of their own: of each file its line.
-use Rattle.std.proofs.Common.{◌≡◌, ◌≢◌, ℕ, suc, ◌+◌, ◌==◌, max, true, false, if◌then◌else◌, List, [], ◌∷◌, ◌++◌, map, length, get_or, Some, inl, inr, refl, sym, ap, subst, ◌∙◌, arith, length-append}
+use Rattle.std.proofs.Common.{◌≡◌, ◌≢◌, ℕ, suc, ◌+◌, ◌==◌, max, true, false, if◌then◌else◌, List, [], ◌∷◌, ◌++◌, map}
+use Rattle.std.proofs.Common.{length, get_or, Some, inl, inr, refl, sym, ap, subst, ◌∙◌, arith, length-append}
 use Rattle.std.specs.Option.{option_map}
 use Rattle.std.specs.List.{AllByRecursion as Every}
 use Rattle.rom_tree.specs.declared.types.Kind.{Kind}
@@ -10,7 +11,8 @@ use Rattle.romfs_format.specs.Record.{pad16}
 use Rattle.manifest_tree.specs.Names.{Fill, no_bytes, text, source, Inode, Names, nothing, leaf, link, folder, bytes_of}
 use Rattle.layout_terms.specs.Files.{files, height}
 use Rattle.layout_terms.specs.Lists.{IsFree, StandsIn}
-use Rattle.romfs_layout.specs.Layout.{headers, leaf_end, header_end, ends, first_place, place_with, placed, place_of, data_align, root_at}
+use Rattle.romfs_layout.specs.Layout.{headers, leaf_end, header_end, ends, first_place, place_with, placed, place_of}
+use Rattle.romfs_layout.specs.Layout.{data_align, root_at}
 use Rattle.romfs_layout.specs.Wells.{FitsKind, IsFile, IsFolder, AreWell, AreLinks, file_of}
 use Rattle.romfs_layout.specs.Planned.{IsPlanned}
 
@@ -39,14 +41,15 @@ own_names (leaf name i after) = leaf name (own_file i) (own_names after)
 own_names (link name i after) = link name (own_file i) (own_names after)
 own_names (folder name i own after) = folder name (own_file i) (own_names own) (own_names after)
 
--- They stand where the others do.
+-- They have the same offsets as the others.
 pub ends_same : (from : ℕ) (n : Names) → ends from (own_names n) ≡ ends from n
 unfolding place_of data_align
 ends_same from nothing = refl
 ends_same from (leaf name i after) = ends_same (leaf_end from name i) after
 ends_same from (link name i after) = ends_same (header_end from name) after
 ends_same from (folder name i own after) =
-    ap (λ (k : ℕ). ends k (own_names after)) (ends_same (header_end from name + 64) own) ∙ ends_same (ends (header_end from name + 64) own) after
+    ap (λ (k : ℕ). ends k (own_names after)) (ends_same (header_end from name + 64) own)
+    ∙ ends_same (ends (header_end from name + 64) own) after
 
 pub first_same : (from : ℕ) (n : Names) → first_place from (own_names n) ≡ first_place from n
 unfolding place_of data_align
@@ -60,7 +63,10 @@ files_same nothing = refl
 files_same (leaf name i after) = ap (λ (is : List Inode). own_file i ∷ is) (files_same after)
 files_same (link name i after) = files_same after
 files_same (folder name i own after) =
-    ap (λ (is : List Inode). own_file i ∷ is) (ap (λ (is : List Inode). is ++ files (own_names after)) (files_same own) ∙ ap (λ (is : List Inode). map own_file (files own) ++ is) (files_same after) ∙ map_join (files own) (files after))
+    ap (λ (is : List Inode). own_file i ∷ is)
+    (ap (λ (is : List Inode). is ++ files (own_names after)) (files_same own)
+    ∙ ap (λ (is : List Inode). map own_file (files own) ++ is) (files_same after)
+    ∙ map_join (files own) (files after))
   where
     map_join : (xs ys : List Inode) → map own_file xs ++ map own_file ys ≡ map own_file (xs ++ ys)
     map_join [] ys = refl
@@ -71,7 +77,8 @@ height_same nothing = refl
 height_same (leaf name i after) = ap (λ (k : ℕ). max 1 k) (height_same after)
 height_same (link name i after) = ap (λ (k : ℕ). max 1 k) (height_same after)
 height_same (folder name i own after) =
-    ap (λ (k : ℕ). max (suc k) (height (own_names after))) (height_same own) ∙ ap (λ (k : ℕ). max (suc (height own)) k) (height_same after)
+    ap (λ (k : ℕ). max (suc k) (height (own_names after))) (height_same own)
+    ∙ ap (λ (k : ℕ). max (suc (height own)) k) (height_same after)
 
 stands_same : (m : List ℕ) (n : Names) → StandsIn m (own_names n) → StandsIn m n
 stands_same m nothing h = h
@@ -122,20 +129,25 @@ folder_owned i h =
 free_owned : (name : List ℕ) (n : Names) → IsFree name n → IsFree name (own_names n)
 free_owned name n h = record { written = h.written; no_dots = h.no_dots; alone = λ s. h.alone (stands_same name n s) }
 
-pub found_has : (P : Inode → Type 0) (all : List Inode) (line : ℕ) (i : Inode) → Every P all → file_of all line ≡ Some i → P i
+pub found_has : (P : Inode → Type 0) (all : List Inode) (line : ℕ) (i : Inode) → Every P all → file_of all line ≡ Some i
+    → P i
 found_has P [] line i h e = absurd (cc)
-found_has P (x ∷ xs) line i h e = elim (x.line == line) as (λ t. (if t then Some x else file_of xs line) ≡ Some i → P i) [
-  | true ↦ λ g. let z : x ≡ i = cc in subst P z h.0
-  | false ↦ λ g. found_has P xs line i h.1 g
-] e
+found_has P (x ∷ xs) line i h e =
+    elim (x.line == line) as (λ t. (if t then Some x else file_of xs line) ≡ Some i → P i) [
+      | true ↦ λ g. let z : x ≡ i = cc in subst P z h.0
+      | false ↦ λ g. found_has P xs line i h.1 g
+    ] e
 
 module _ (zs cs : List (List ℕ)) (all : List Inode) (have : Every (HasOwn cs) all) where
   well_owned : (n : Names) → AreWell zs n → Every (HasOwn cs) (files n) → AreLinks all n → AreWell cs (own_names n)
   well_owned nothing w h l = tt
   well_owned (leaf name i after) w h l =
       (free_owned name after w.0, file_owned zs cs i w.1 h.0, well_owned after w.2 h.1 l)
-  well_owned (link name i after) w h l =
-      (free_owned name after w.0, file_owned zs cs i w.1 (found_has (HasOwn cs) all i.line i have l.0), well_owned after w.2 h l.1)
+  well_owned (link name i after) w h l = (
+    free_owned name after w.0,
+    file_owned zs cs i w.1 (found_has (HasOwn cs) all i.line i have l.0),
+    well_owned after w.2 h l.1,
+  )
   well_owned (folder name i own after) w h l =
       let left = every_left (HasOwn cs) (files own) (files after) h.1 in
       let right = every_right (HasOwn cs) (files own) (files after) h.1 in
@@ -143,21 +155,27 @@ module _ (zs cs : List (List ℕ)) (all : List Inode) (have : Every (HasOwn cs) 
 
 found_owned : (all : List Inode) (line : ℕ) → file_of (map own_file all) line ≡ option_map own_file (file_of all line)
 found_owned [] line = refl
-found_owned (x ∷ xs) line = elim (x.line == line) as (λ t. (if t then Some (own_file x) else file_of (map own_file xs) line) ≡ option_map own_file (if t then Some x else file_of xs line)) [
-  | true ↦ refl
-  | false ↦ found_owned xs line
-]
+found_owned (x ∷ xs) line = elim (x.line == line) as
+    (λ t. (if t then Some (own_file x) else file_of (map own_file xs) line)
+    ≡ option_map own_file (if t then Some x else file_of xs line)) [
+      | true ↦ refl
+      | false ↦ found_owned xs line
+    ]
 
 links_owned : (all : List Inode) (n : Names) → AreLinks all n → AreLinks (map own_file all) (own_names n)
 links_owned all nothing l = tt
 links_owned all (leaf name i after) l = links_owned all after l
-links_owned all (link name i after) l = (found_owned all i.line ∙ ap (option_map own_file) l.0, links_owned all after l.1)
+links_owned all (link name i after) l =
+    (found_owned all i.line ∙ ap (option_map own_file) l.0, links_owned all after l.1)
 links_owned all (folder name i own after) l = (links_owned all own l.0, links_owned all after l.1)
 
-count_same : (at to : ℕ → ℕ) (dir root from up : ℕ) (n : Names) → length (headers at dir from (own_names n)) ≡ length (headers to root up n)
+count_same : (at to : ℕ → ℕ) (dir root from up : ℕ) (n : Names)
+    → length (headers at dir from (own_names n)) ≡ length (headers to root up n)
 count_same at to dir root from up nothing = refl
-count_same at to dir root from up (leaf name i after) = let c = count_same at to dir root (leaf_end from name (own_file i)) (leaf_end up name i) after in omega (arith, c)
-count_same at to dir root from up (link name i after) = let c = count_same at to dir root (header_end from name) (header_end up name) after in omega (arith, c)
+count_same at to dir root from up (leaf name i after) =
+    let c = count_same at to dir root (leaf_end from name (own_file i)) (leaf_end up name i) after in omega (arith, c)
+count_same at to dir root from up (link name i after) =
+    let c = count_same at to dir root (header_end from name) (header_end up name) after in omega (arith, c)
 count_same at to dir root from up (folder name i own after) =
     let h = header_end from name in
     let g = header_end up name in
@@ -165,7 +183,14 @@ count_same at to dir root from up (folder name i own after) =
     let p = ends (g + 64) own in
     let c = count_same at to (pad16 from) (pad16 up) (h + 64) (g + 64) own in
     let d = count_same at to dir root q p after in
-    omega (arith, c, d, length-append (headers at (pad16 from) (h + 64) (own_names own)) (headers at dir q (own_names after)), length-append (headers to (pad16 up) (g + 64) own) (headers to root p after))
+    omega (
+      arith,
+      c,
+      d,
+      length-append (headers at (pad16 from) (h + 64) (own_names own))
+          (headers at dir q (own_names after)),
+      length-append (headers to (pad16 up) (g + 64) own) (headers to root p after),
+    )
 
 pub planned_owned : (volume : List ℕ) (root : Inode) (n : Names) (zs cs : List (List ℕ)) → IsPlanned volume root n zs
     → Every (HasOwn cs) (files n) → IsPlanned volume (own_file root) (own_names n) cs
@@ -174,7 +199,8 @@ planned_owned volume root n zs cs h have =
     let e = ends_same (r + 64) n in
     let room = h.room in
     let few = h.few in
-    let c = count_same (place_with (placed (r + 64) (own_names n))) (place_with (placed (r + 64) n)) r r (r + 64) (r + 64) n in
+    let c = count_same (place_with (placed (r + 64) (own_names n))) (place_with (placed (r + 64) n)) r r (r + 64)
+    (r + 64) n in
     let tall = height_same n in
     let shallow = h.shallow in
     let R : Inode → Inode → Type 0 = λ i j. i.line ≢ j.line in
@@ -184,7 +210,8 @@ planned_owned volume root n zs cs h have =
       no_zero = h.no_zero;
       folder = folder_owned root h.folder;
       well = well_owned zs cs (files n) have n h.well have h.links;
-      lines = subst (λ (is : List Inode). Pairs R (own_file root ∷ is)) (sym fs) (every_map own_file (R (own_file root)) (files n) h.lines.0, pairs_map own_file R (files n) h.lines.1);
+      lines = subst (λ (is : List Inode). Pairs R (own_file root ∷ is)) (sym fs)
+          (every_map own_file (R (own_file root)) (files n) h.lines.0, pairs_map own_file R (files n) h.lines.1);
       links = subst (λ (is : List Inode). AreLinks is (own_names n)) (sym fs) (links_owned (files n) n h.links);
       room = omega (arith, e, room);
       few = omega (arith, c, few);

@@ -1,5 +1,6 @@
 -- The sizes of files as those of sources, by the lines of the files.
-use Rattle.std.proofs.Common.{◌≡◌, ◌≢◌, ℕ, zero, suc, ◌+◌, ◌^◌, ◌<◌, ◌≤◌, List, [], ◌∷◌, map, length, get_or, replicate, inl, inr, refl, sym, ap, ◌∙◌, arith, set}
+use Rattle.std.proofs.Common.{◌≡◌, ◌≢◌, ℕ, zero, suc, ◌+◌, ◌^◌, ◌<◌, ◌≤◌, List, [], ◌∷◌, map, length, get_or, replicate}
+use Rattle.std.proofs.Common.{inl, inr, refl, sym, ap, ◌∙◌, arith, set}
 use Rattle.std.proofs.lemmas.Bool.Decides.{eqb_tells}
 use Rattle.std.proofs.lemmas.List.{get_or-set_same, get_or-set_other, length-set, length-replicate}
 use Rattle.std.specs.List.{AllByRecursion as Every}
@@ -14,7 +15,7 @@ size_by no_bytes n = 0
 size_by (text t) n = 0
 size_by (source k) n = n
 
--- how many bytes of a source a file has
+-- the number of bytes of a source that a file has
 abbrev pub own_size : Inode → ℕ
 own_size i = size_by i.fill i.size
 
@@ -44,8 +45,10 @@ at_line top (i ∷ is) p l =
     let low = l.0 in
     let Q : Inode → Type 0 = λ j. (i.line ≢ j.line) × (get_or (spread top is) j.line 0 ≡ own_size j) in (
       get_or-set_same (spread top is) i.line (own_size i) 0 (omega (arith, n, low)),
-      every_weaker Q (λ j. get_or (spread top (i ∷ is)) j.line 0 ≡ own_size j) (λ j k. get_or-set_other (spread top is) i.line j.line (own_size i) 0 (λ e. k.0 (sym e)) ∙ k.1) is
-          (every_both (λ j. i.line ≢ j.line) (λ j. get_or (spread top is) j.line 0 ≡ own_size j) is p.0 (at_line top is p.1 l.1)),
+      every_weaker Q (λ j. get_or (spread top (i ∷ is)) j.line 0 ≡ own_size j)
+          (λ j k. get_or-set_other (spread top is) i.line j.line (own_size i) 0 (λ e. k.0 (sym e)) ∙ k.1) is
+          (every_both (λ j. i.line ≢ j.line) (λ j. get_or (spread top is) j.line 0 ≡ own_size j) is p.0
+          (at_line top is p.1 l.1)),
     )
 
 none_there : (top k : ℕ) → get_or (replicate {A = ℕ} top 0) k 0 ≡ 0
@@ -61,7 +64,9 @@ all_small top (i ∷ is) l s file = elim (eqb_tells file i.line) [
       let n = long top is in
       let low = l.0 in
       let small = s.0 in
-      let e : get_or (spread top (i ∷ is)) file 0 ≡ own_size i = ap (λ (k : ℕ). get_or (spread top (i ∷ is)) k 0) y.1 ∙ get_or-set_same (spread top is) i.line (own_size i) 0 (omega (arith, n, low)) in
+      let e : get_or (spread top (i ∷ is)) file 0 ≡ own_size i =
+      ap (λ (k : ℕ). get_or (spread top (i ∷ is)) k 0) y.1
+      ∙ get_or-set_same (spread top is) i.line (own_size i) 0 (omega (arith, n, low)) in
       omega (arith, e, small)
   | inr y ↦
       let e = get_or-set_other (spread top is) i.line file (own_size i) 0 y.1 in

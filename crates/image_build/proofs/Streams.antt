@@ -1,5 +1,6 @@
 -- What streams is what a build answers.
-use Rattle.std.proofs.Common.{◌≡◌, ℕ, List, map, length, refl, sym, ap, subst, ◌∙◌, Result, Ok, OnOk, OnErr, Option, ◌⊎◌, inl, inr}
+use Rattle.std.proofs.Common.{◌≡◌, ℕ, List, map, length, refl, sym, ap, subst, ◌∙◌, Result, Ok, OnOk, OnErr, Option}
+use Rattle.std.proofs.Common.{◌⊎◌, inl, inr}
 use Rattle.std.proofs.lemmas.List.{length-map}
 use Rattle.std.specs.Io.KnownBytes.{Appends}
 use Rattle.rom_fields.specs.Written.{AppendsPrefix}
@@ -25,31 +26,40 @@ in_cramfs f (inl e) = (Little, ap format_of e)
 in_cramfs f (inr e) = (Big, ap format_of e)
 
 -- the plan, in a format that is known
-pub planned_in : (f : Format) (p : Planned) (text : List ℕ) → p.format ≡ f → (is : IsPlanOfText text p) → IsPlanOf f is.lines p.sizes p
+pub planned_in : (f : Format) (p : Planned) (text : List ℕ) → p.format ≡ f → (is : IsPlanOfText text p)
+    → IsPlanOf f is.lines p.sizes p
 planned_in f p text e is = subst (λ (g : Format). IsPlanOf g is.lines p.sizes p) e is.planned
 
 abbrev pub HoldsAll : Type 0
-HoldsAll = (f : Format) (m : ManifestLines) (cs : List (List ℕ)) → IsManifest m → HasNoMisfit f m (map length cs) → IsLaid f m cs
+HoldsAll = (f : Format) (m : ManifestLines) (cs : List (List ℕ)) → IsManifest m → HasNoMisfit f m (map length cs)
+    → IsLaid f m cs
 
 -- the layout of contents of the planned sizes is what a build answers
-pub built : HoldsAll → (f : Format) (p : Planned) (text : List ℕ) (cs : List (List ℕ)) → p.format ≡ f → (is : IsPlanOfText text p) → map length cs ≡ p.sizes
+pub built : HoldsAll → (f : Format) (p : Planned) (text : List ℕ) (cs : List (List ℕ)) → p.format ≡ f
+    → (is : IsPlanOfText text p) → map length cs ≡ p.sizes
     → Builds p.format text cs (Ok (layout_of f is.lines cs))
 built law f p text cs e is s =
     let m : ManifestLines = is.lines in
-    let fits : HasNoMisfit p.format m (map length cs) = subst (λ (z : List ℕ). HasNoMisfit p.format m z) (sym s) is.planned.fits in
+    let fits : HasNoMisfit p.format m (map length cs) =
+    subst (λ (z : List ℕ). HasNoMisfit p.format m z) (sym s) is.planned.fits in
     let n : length cs ≡ length p.sizes = sym (length-map cs length) ∙ ap (λ (z : List ℕ). length z) s in
     let given : IsGiven text cs m = record { manifest = is.manifest; count = n ∙ is.count } in
     subst (λ (g : Format). Builds p.format text cs (Ok (layout_of g m cs))) e
     (m, given, fits, image_of p.format m cs (layout_of p.format m cs) refl (law p.format m cs (text, is.manifest) fits))
 
-pub whole : {A E : Type 0} → HoldsAll → (r : Result A E) (told : Option (List (List ℕ))) (f : Format) (p : Planned) (text : List ℕ) (old new : Option (List ℕ)) → p.format ≡ f → (is : IsPlanOfText text p)
+pub whole : {A E : Type 0} → HoldsAll
+    → (r : Result A E) (told : Option (List (List ℕ))) (f : Format) (p : Planned) (text : List ℕ)
+    (old new : Option (List ℕ)) → p.format ≡ f → (is : IsPlanOfText text p)
     → OnOk r (Told told (λ cs. (map length cs ≡ p.sizes) × Appends old new (layout_of f is.lines cs)))
     → OnOk r (Told told (λ cs. (bytes : List ℕ) × Builds p.format text cs (Ok bytes) × Appends old new bytes))
 whole law r told f p text old new e is =
     ok_weaker r (λ h cs t. (layout_of f is.lines cs, built law f p text cs e is (h cs t).0, (h cs t).1))
 
-pub front : {A E : Type 0} → HoldsAll → (r : Result A E) (told : Option (List (List ℕ))) (f : Format) (p : Planned) (text : List ℕ) (old new : Option (List ℕ)) → p.format ≡ f → (is : IsPlanOfText text p)
+pub front : {A E : Type 0} → HoldsAll
+    → (r : Result A E) (told : Option (List (List ℕ))) (f : Format) (p : Planned) (text : List ℕ)
+    (old new : Option (List ℕ)) → p.format ≡ f → (is : IsPlanOfText text p)
     → OnErr r (Told told (λ cs. map length cs ≡ p.sizes → AppendsPrefix old new (layout_of f is.lines cs)))
-    → OnErr r (Told told (λ cs. map length cs ≡ p.sizes → (bytes : List ℕ) × Builds p.format text cs (Ok bytes) × AppendsPrefix old new bytes))
+    → OnErr r (Told told (λ cs. map length cs ≡ p.sizes
+    → (bytes : List ℕ) × Builds p.format text cs (Ok bytes) × AppendsPrefix old new bytes))
 front law r told f p text old new e is =
     err_weaker r (λ h cs t s. (layout_of f is.lines cs, built law f p text cs e is s, h cs t s))

@@ -1,4 +1,8 @@
--- What streams into a writer, in each format. (This project's own.)
+-- `IsPlanOfText`: a plan is that of the manifest that a text is. `form_in`, `stored_in`: the image
+-- of a plan before its contents are known, and the check value, by the format. `image_with`: this
+-- image with the given bytes behind the superblock. `HasNoCopies`: no source occurs twice in the
+-- image. `IsBuiltOfSome`: bytes are the answer of a build to some contents of the planned sizes.
+-- (This project's own.)
 use Rattle.std.specs.Prelude.{◌≡◌, ℕ, false, List, map, length, Ok}
 use Rattle.std.specs.List.{AllByRecursion as Every}
 use Rattle.crc.specs.Crc.{crc_of}
@@ -24,21 +28,23 @@ abbrev pub form_in : Format → Planned → Form
 form_in romfs p = in_romfs.form_of p
 form_in (cramfs o) p = in_cramfs.form_of o p
 
--- the check value that the superblock stores: of romfs the balance of its words, of cramfs the CRC-32
+-- the check value that the superblock stores: in romfs the balance of its words, in cramfs the
+-- CRC-32
 abbrev pub stored_in : Format → List ℕ → ℕ
 stored_in romfs = balance_of
 stored_in (cramfs o) = crc_of
 
--- the image of a plan, of which this is what stands behind the superblock
+-- the image of a plan, if `rest` is what is behind the superblock
 abbrev pub image_with : Planned → List ℕ → List ℕ
 image_with p rest = checked (form_in p.format p).head (stored_in p.format) rest
 
--- Each source stands in the image once: there is no `same` line, for which romfs has a copy, that is read again.
+-- Each source is in the image once. In romfs there is no `same` line, which would have a copy of
+-- its own and read the source again.
 abbrev pub HasNoCopies : Format → ManifestLines → Type 0
 HasNoCopies romfs m = Every (λ l. is_same l.word ≡ false) m.lines
 HasNoCopies (cramfs o) m = Unit {0}
 
--- the bytes are what a build answers to the text and some contents of the planned sizes
+-- the bytes are the answer of a build to the text and some contents of the planned sizes
 pub record IsBuiltOfSome (text : List ℕ) (p : Planned) (bytes : List ℕ) : Type 0 where
   pub contents : List (List ℕ)
   pub sized : map length contents ≡ p.sizes

@@ -1,4 +1,4 @@
-//! The builds.
+//! The builds in memory.
 ghost use Rattle.std.specs.Prelude.{◌≡◌, map, length, IfOk, IfErr, Ok, Err};
 ghost use Rattle.cramfs_format.specs.declared.order.Order.{Order};
 ghost use Rattle.cramfs_format.specs.declared.order.Order.TheVariants.{Little, Big};
@@ -16,7 +16,7 @@ use plan_types::{Format, Plan};
 use rom_fields::{Contents, OutOfMemory};
 use std::alloc::Global;
 
-/// How long the contents are, in their order.
+/// Returns the sizes of the contents, in their order.
 fn sizes_of(alloc: Global, contents: &Contents<'_>) -> Result<Vec<u64>, OutOfMemory>
     ensures { IfOk result (λ sizes. sizes.items ≡ map length contents.now) }
 {
@@ -30,7 +30,7 @@ fn sizes_of(alloc: Global, contents: &Contents<'_>) -> Result<Vec<u64>, OutOfMem
     Ok(sizes)
 }
 
-/// So many zeros.
+/// Returns `len` bytes.
 fn zeros(alloc: Global, len: usize) -> Result<Vec<u8>, OutOfMemory>
     ensures { IfOk result (λ zeros. length zeros.items ≡ len) }
 {
@@ -38,7 +38,7 @@ fn zeros(alloc: Global, len: usize) -> Result<Vec<u8>, OutOfMemory>
     Ok(zeros)
 }
 
-/// Writes the romfs image of a plan that was made for just these contents.
+/// Writes the romfs image of a plan that was made for exactly these contents.
 fn fill_romfs(plan: &Plan, contents: &Contents<'_>, out: &mut [u8])
     requires format { plan.now.format ≡ romfs }
     requires sizes { plan.now.sizes ≡ map length contents.now }
@@ -80,7 +80,7 @@ fn fill(plan: &Plan, contents: &Contents<'_>, out: &mut [u8])
     }
 }
 
-/// The image of a manifest in this format.
+/// Returns the image of a manifest in this format.
 fn build(
     alloc: Global,
     format: Format,
@@ -104,13 +104,15 @@ fn build(
     Ok(image)
 }
 
-/// The romfs image of a manifest, with these contents of its sources, in the order of the `file`
-/// lines. A check finds no fault in it, and what it holds is what the manifest means.
+/// Returns the romfs image of a manifest, with these contents of its sources, in the order of the
+/// `file` lines. A check finds no fault in it, and it holds what the manifest means
+/// (`laws::built_is_accepted`).
 ///
 /// # Errors
 ///
-/// As `BuildError` says: the text is no manifest; then, there are fewer or more contents than
-/// sources; then, the manifest does not fit the format. `OutOfMemory` where memory was refused.
+/// `BuildError` has the reasons, in this order: the text is not a valid manifest; there are fewer
+/// or more contents than sources; the manifest does not fit the format. `OutOfMemory` if memory was
+/// refused.
 pub fn build_romfs(
     alloc: Global,
     manifest: &[u8],
@@ -122,11 +124,12 @@ pub fn build_romfs(
     build(alloc, Format::Romfs, manifest, contents)
 }
 
-/// The cramfs image of a manifest, with the lowest byte of each word first; else as `build_romfs`.
+/// Returns the cramfs image of a manifest, with the lowest byte of each word first. Otherwise it is
+/// like `build_romfs`.
 ///
 /// # Errors
 ///
-/// As `build_romfs`.
+/// As for `build_romfs`.
 pub fn build_cramfs(
     alloc: Global,
     manifest: &[u8],
@@ -139,12 +142,12 @@ pub fn build_cramfs(
     build(alloc, Format::Cramfs, manifest, contents)
 }
 
-/// The cramfs image of a manifest, with the highest byte of each word first; else as
-/// `build_romfs`.
+/// Returns the cramfs image of a manifest, with the highest byte of each word first. Otherwise it
+/// is like `build_romfs`.
 ///
 /// # Errors
 ///
-/// As `build_romfs`.
+/// As for `build_romfs`.
 pub fn build_cramfs_big(
     alloc: Global,
     manifest: &[u8],

@@ -1,4 +1,4 @@
-//! Why nothing was built.
+//! The reasons why nothing was built.
 ghost use Rattle.std.specs.Prelude.{◌≡◌};
 
 use layout_plan::PlanError;
@@ -6,21 +6,22 @@ use manifest::ManifestError;
 use rom_fields::OutOfMemory;
 use std::fmt::{self, Display, Formatter};
 
-/// Why nothing was built.
+/// The reason why nothing was built.
 #[derive(Clone, Copy, Debug, PartialEq, Eq)]
 pub enum BuildError {
     OutOfMemory,
-    /// The text is no manifest: its first faulty line, counted from 1, and there the least number
-    /// of its faults, as `manifest::name` names them.
+    /// The text is not a valid manifest: its first faulty line, counted from 1, and the least
+    /// number of that line's faults. `manifest::name` returns the fault's name.
     Manifest { line: u64, number: u32 },
-    /// The manifest does not fit the format: its least misfit, by the number of the line, 0 for the
-    /// whole, and by its own number, as `layout_plan::name` names them.
+    /// The manifest does not fit the format: its least misfit, by the number of its line (0 for the
+    /// whole) and by its own number. `layout_plan::name` returns the misfit's name.
     Plan { line: u64, number: u32 },
     /// There are fewer or more contents than sources.
     Count,
 }
 
-/// A refusal as `manifest: 5 Exists at line 2`: who refused, and its number, its name and its line.
+/// Writes a refusal as `manifest: 5 Exists at line 2`: the part that refused, and its number, its
+/// name and its line.
 impl Display for BuildError {
     fn fmt<W: fmt::Write>(&self, f: &mut Formatter<W>) -> fmt::Result {
         match self {

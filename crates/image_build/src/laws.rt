@@ -1,9 +1,10 @@
-//! Laws about what is built.
+//! Laws on what is built.
 ghost use Rattle.std.specs.Prelude.{◌≡◌, ◌≢◌, ℕ, List, Option, map, length, Result, Ok, Err};
 ghost use Rattle.image_build.specs.Accepted.{usual};
 ghost use Rattle.image_build.specs.Builds.{Builds};
 ghost use Rattle.image_build.specs.Each.{AreRead, IsMeantEach};
-ghost use Rattle.image_build.specs.Streamed.{HasNoCopies, IsBuiltOfSome, IsPlanOfText, form_in, image_with, stored_in};
+ghost use Rattle.image_build.specs.Streamed.{HasNoCopies, IsBuiltOfSome, IsPlanOfText, form_in};
+ghost use Rattle.image_build.specs.Streamed.{image_with, stored_in};
 ghost use Rattle.image_build.specs.declared.error.BuildError.{BuildError};
 ghost use Rattle.image_check.specs.Checked.{HasTree, IsFaultless, IsRefused};
 ghost use Rattle.image_stream.specs.Outcomes.{IsWritten};
@@ -16,8 +17,8 @@ ghost use Rattle.plan_types.specs.Plans.{Planned};
 ghost use Rattle.rom_faults.specs.declared.error.CheckError.{CheckError};
 ghost use Rattle.rom_tree.specs.Tree.{Node};
 
-/// For each text and contents a build has an answer that is not of memory, and no more than one: so
-/// it refuses exactly where it may.
+/// Shows that a build has exactly one answer to each text and contents, apart from the refusal of
+/// memory. So it refuses exactly if it may.
 pub fn one_answer()
     ensures given { (f : Format) (text : List ℕ) (contents : List (List ℕ))
         → (answer : Result (List ℕ) BuildError) × (answer ≢ Err BuildError.OutOfMemory)
@@ -31,8 +32,8 @@ pub fn one_answer()
     manifest_layout::laws::layout_is_meant();
 }
 
-/// A check of a built image under the usual limits finds no fault in it and refuses nothing but
-/// memory, and the tree that it finds is what the manifest means.
+/// Shows that a check of a built image under the usual limits finds no fault, and refuses nothing
+/// except memory. The tree that it finds is what the manifest means.
 pub fn built_is_accepted()
     ensures faultless { (f : Format) (text : List ℕ) (contents : List (List ℕ)) (bytes : List ℕ)
         → Builds f text contents (Ok bytes) → IsFaultless bytes usual }
@@ -48,12 +49,11 @@ pub fn built_is_accepted()
     image_check::laws::one_tree();
 }
 
-/// What `stream` writes at `Ok` is an image, whatever the sources tell, so where they tell nothing, as
-/// files do, too: a check finds no fault in it and refuses nothing but memory, and the tree that it
-/// finds is what the manifest means, where each `file` and each `same` line has contents of its own,
-/// of the planned size: what the reads of its source answered last. Where no source has a copy, it is
-/// what a build answers to some contents of the sources. The bytes are those that `w` says were
-/// written.
+/// Shows that what `stream` writes at `Ok` is an image, whatever the sources are. A check finds no
+/// fault in it, and refuses nothing except memory. The tree that it finds is what the manifest
+/// means, if each `file` and each `same` line has contents of its own, of the planned size; these
+/// are what the reads of its source answered last. If no source has a copy, the image is what a
+/// build answers to some contents of the sources. `w` has the bytes that were written.
 pub fn streamed_is_accepted()
     ensures faultless { (text : List ℕ) (p : Planned) (told : Option (List (List ℕ)))
         (old new : Option (List ℕ)) → IsPlanOfText text p
@@ -82,10 +82,10 @@ pub fn streamed_is_accepted()
     image_check::laws::one_tree();
 }
 
-/// In a built image each file with the contents of a `file` line has its bytes in one run, from a
-/// multiple of that line's ALIGN on, and the volume has the manifest's name. In cramfs all files
-/// with the contents of one `file` line have their bytes at the same places. In romfs the files of
-/// different lines have no place in common.
+/// Shows that in a built image each file with the contents of a `file` line has its bytes in one
+/// run, from a multiple of that line's ALIGN on, and that the volume has the manifest's name. In
+/// cramfs, all files with the contents of one `file` line have their bytes at the same offsets. In
+/// romfs, files of different lines have no offset in common.
 pub fn built_is_placed()
     ensures runs { (f : Format) (text : List ℕ) (contents : List (List ℕ)) (bytes : List ℕ)
         (m : ManifestLines) → Builds f text contents (Ok bytes) → manifest_of text ≡ Ok m
@@ -101,7 +101,8 @@ pub fn built_is_placed()
     image_check::laws::one_tree();
 }
 
-/// The same of what was streamed, whatever the sources tell. It has a tree in the plan's format.
+/// Shows the same for an image that was streamed, whatever the sources are. It has a tree in the
+/// plan's format.
 pub fn streamed_is_placed()
     ensures runs { (text : List ℕ) (p : Planned) (told : Option (List (List ℕ)))
         (old new : Option (List ℕ)) (t : Node) → (is : IsPlanOfText text p)

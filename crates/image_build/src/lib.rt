@@ -1,8 +1,9 @@
-//! An image from a manifest and the contents of its files, in one call; and the image of a plan
-//! through a writer.
+//! An image from a manifest and the contents of its files. `build_romfs`, `build_cramfs` and
+//! `build_cramfs_big` return it in one call; `stream_through` and `stream` write the image of a
+//! plan to a writer. The image is accepted by a check, and has a known meaning.
 //!
-//! `specs/Builds.antt` says what a build answers, and the promises about all answers stand in
-//! `laws`: each text and contents have just one, and a check finds no fault in a built image.
+//! Proved in `laws`: each text and contents have exactly one answer, and a check finds no fault in
+//! a built or streamed image. `specs/Builds.antt` has the answers of a build.
 #![tactic(auto)]
 
 mod build;

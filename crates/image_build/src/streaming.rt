@@ -1,4 +1,4 @@
-//! The image of a plan through a writer.
+//! The writing of a plan's image to a writer.
 ghost use Rattle.std.specs.Prelude.{◌≡◌, ◌%◌, ◌≤◌, ℕ, List, map, length, OnOk, OnErr, IfErr, Ok};
 ghost use Rattle.std.specs.Io.KnownBytes.{Appends};
 ghost use Rattle.image_build.specs.Builds.{Builds};
@@ -12,18 +12,18 @@ use plan_types::{Format, Plan};
 use rom_fields::ByteWrite;
 
 /// Writes the image of a plan, in the plan's format, through a buffer of the caller's, without
-/// memory, and flushes the writer. The larger the buffer is, the fewer are the reads and writes.
-/// The sources are read for their sizes, each at its last byte and one byte further; for the check
-/// value, as far as it covers them; and whole for what is written.
+/// taking memory, and flushes the writer. A larger buffer needs fewer reads and writes. The sources
+/// are read for their sizes, each at its last byte and one byte further; then for the check value,
+/// as far as the value covers them; and then whole, for what is written.
 ///
-/// At `Ok` just the image was written that a build in memory answers, where the sources tell their
-/// contents; else a whole image of some contents of the planned sizes, with the check value of just
-/// these bytes, which a check accepts (`laws::streamed_is_accepted`).
+/// At `Ok`, exactly the image was written that a build in memory answers, if the contents of the
+/// sources are known. Otherwise a whole image was written, with some contents of the planned sizes
+/// and the check value of exactly these bytes. A check accepts it (`laws::streamed_is_accepted`).
 ///
 /// # Errors
 ///
-/// As `StreamError` says. A prefix of the image was written, where the sources tell contents of
-/// the planned sizes.
+/// `StreamError` has the reasons. If the contents of the sources are known and have the planned
+/// sizes, a prefix of the image was written.
 pub fn stream_through<S: Sources, W: ByteWrite>(
     plan: &Plan,
     sources: &mut S,

@@ -17,15 +17,18 @@ use Rattle.cramfs_format.specs.Tree.{CramfsTree}
 use Rattle.image_check.specs.Checked.{BeginsRomfs, BeginsCramfs, HasTree, IsRefused}
 
 -- the word of four bytes
-little_front : (a b c d : ℕ) (rest : List ℕ) → a ≡ 45 → b ≡ 114 → c ≡ 111 → d ≡ 109 → word_le (a ∷ b ∷ c ∷ d ∷ rest) 0 ≡ 684539205 → ⊥
+little_front : (a b c d : ℕ) (rest : List ℕ) → a ≡ 45 → b ≡ 114 → c ≡ 111 → d ≡ 109
+    → word_le (a ∷ b ∷ c ∷ d ∷ rest) 0 ≡ 684539205 → ⊥
 unfolding word_le
 little_front a b c d rest p q r s e = omega arith
 
-big_front : (a b c d : ℕ) (rest : List ℕ) → a ≡ 45 → b ≡ 114 → c ≡ 111 → d ≡ 109 → word_be (a ∷ b ∷ c ∷ d ∷ rest) 0 ≡ 684539205 → ⊥
+big_front : (a b c d : ℕ) (rest : List ℕ) → a ≡ 45 → b ≡ 114 → c ≡ 111 → d ≡ 109
+    → word_be (a ∷ b ∷ c ∷ d ∷ rest) 0 ≡ 684539205 → ⊥
 unfolding word_be
 big_front a b c d rest p q r s e = omega arith
 
-front : (o : Order) (a b c d : ℕ) (rest : List ℕ) → a ≡ 45 → b ≡ 114 → c ≡ 111 → d ≡ 109 → word o (a ∷ b ∷ c ∷ d ∷ rest) 0 ≡ cramfs_magic → ⊥
+front : (o : Order) (a b c d : ℕ) (rest : List ℕ) → a ≡ 45 → b ≡ 114 → c ≡ 111 → d ≡ 109
+    → word o (a ∷ b ∷ c ∷ d ∷ rest) 0 ≡ cramfs_magic → ⊥
 unfolding word
 front Little a b c d rest p q r s e = little_front a b c d rest p q r s e
 front Big a b c d rest p q r s e = big_front a b c d rest p q r s e
@@ -46,15 +49,17 @@ apart o (a ∷ b ∷ c ∷ d ∷ rest) h e =
 pub romfs_begins : {all : List ℕ} {most deepest : ℕ} {t : Node} → RomfsTree all most deepest t → BeginsRomfs all
 romfs_begins r = r.super.begins
 
--- in whatever order the first word is the magic
+-- in any order in which the first word is the magic
 pub begins_in : (o : Order) (all : List ℕ) → 4 ≤ length all → word o all 0 ≡ cramfs_magic → BeginsCramfs all
 begins_in o all l e = (l, subst (λ (v : Order). word v all 0 ≡ cramfs_magic) (order_is o all e) e)
 
-pub cramfs_begins : {o : Order} {all : List ℕ} {most deepest : ℕ} {t : Node} → CramfsTree o all most deepest t → BeginsCramfs all
+pub cramfs_begins : {o : Order} {all : List ℕ} {most deepest : ℕ} {t : Node} → CramfsTree o all most deepest t
+    → BeginsCramfs all
 cramfs_begins {o} {all} c = let l = c.super.long in begins_in o all (omega arith) c.super.begins
 
 -- in neither
-pub begins_not : (all : List ℕ) → word Little all 0 ≢ cramfs_magic → word Big all 0 ≢ cramfs_magic → BeginsCramfs all → ⊥
+pub begins_not : (all : List ℕ) → word Little all 0 ≢ cramfs_magic → word Big all 0 ≢ cramfs_magic → BeginsCramfs all
+    → ⊥
 begins_not all h k b = in_neither (order_of all) b.1
   where
     in_neither : (o : Order) → word o all 0 ≡ cramfs_magic → ⊥
@@ -62,14 +67,19 @@ begins_not all h k b = in_neither (order_of all) b.1
     in_neither Big e = k e
 
 -- What the check of one format refuses holds no tree of the other.
-pub refused_romfs : (all : List ℕ) (limits : Limits) (e : CheckError) → BeginsRomfs all → RomfsRefused all limits e → IsRefused all limits e
+pub refused_romfs : (all : List ℕ) (limits : Limits) (e : CheckError) → BeginsRomfs all → RomfsRefused all limits e
+    → IsRefused all limits e
 refused_romfs all limits OutOfMemory h r = tt
-refused_romfs all limits (Fault number at) h r = λ t x. elim x [ inl y ↦ r t y | inr y ↦ apart y.0 all h y.1.super.begins ]
+refused_romfs all limits (Fault number at) h r =
+    λ t x. elim x [ inl y ↦ r t y | inr y ↦ apart y.0 all h y.1.super.begins ]
 
-pub refused_cramfs : (all : List ℕ) (limits : Limits) (e : CheckError) → BeginsCramfs all → CramfsRefused all limits e → IsRefused all limits e
+pub refused_cramfs : (all : List ℕ) (limits : Limits) (e : CheckError) → BeginsCramfs all → CramfsRefused all limits e
+    → IsRefused all limits e
 refused_cramfs all limits OutOfMemory h r = tt
-refused_cramfs all limits (Fault number at) h r = λ t x. elim x [ inl y ↦ apart (order_of all) all (romfs_begins y) h.1 | inr y ↦ r t y ]
+refused_cramfs all limits (Fault number at) h r =
+    λ t x. elim x [ inl y ↦ apart (order_of all) all (romfs_begins y) h.1 | inr y ↦ r t y ]
 
 -- bytes of neither format hold no tree
-pub no_tree : (all : List ℕ) (limits : Limits) → (BeginsRomfs all → ⊥) → (BeginsCramfs all → ⊥) → (t : Node) → HasTree all limits t → ⊥
+pub no_tree : (all : List ℕ) (limits : Limits) → (BeginsRomfs all → ⊥) → (BeginsCramfs all → ⊥) → (t : Node)
+    → HasTree all limits t → ⊥
 no_tree all limits h k t x = elim x [ inl y ↦ h (romfs_begins y) | inr y ↦ k (cramfs_begins y.1) ]

@@ -1,4 +1,5 @@
--- An image of either format, as the layers above see it. (This project's own.)
+-- `any_view`: a checked image of either format as an `Image`. `report_of`: its report. `GivesPart`:
+-- the length of a run, by format. (This project's own.)
 use Rattle.std.specs.Prelude.{ℕ, List, Option}
 use Rattle.rom_tree.specs.declared.types.Run.{Run}
 use Rattle.rom_tree.specs.Image.{Image}
@@ -11,15 +12,17 @@ use Rattle.image_check.specs.declared.any.AnyImage.{AnyImage}
 use Rattle.image_check.specs.declared.any.AnyImage.TheVariants.{Romfs, Cramfs}
 
 abbrev pub any_view : AnyImage → Image
-any_view (Romfs s) = romfs_view s.all.now s.accessible.bytes.now s.accessible.root s.references s.sound s.within
-any_view (Cramfs s) = cramfs_view s.accessible.order s.all.now s.accessible.bytes.now s.references s.sound s.within
+any_view (Romfs s) =
+    romfs_view s.all.now s.accessible.bytes.now s.accessible.root s.references s.sound s.within
+any_view (Cramfs s) =
+    cramfs_view s.accessible.order s.all.now s.accessible.bytes.now s.references s.sound s.within
 
 -- the number of its references, and its depth
 abbrev pub report_of : AnyImage → Report
 report_of (Romfs s) = romfs_report s
 report_of (Cramfs s) = cramfs_report s
 
--- how much a run has: of romfs the rest of the file, of cramfs the rest of its block
+-- the length of a run: in romfs the rest of the file, in cramfs the rest of its block
 abbrev pub GivesPart : AnyImage → List ℕ → ℕ → Option Run → Type 0
 GivesPart (Romfs s) = GivesRest
 GivesPart (Cramfs s) = GivesBlock

@@ -1,5 +1,9 @@
--- What the check of an image of either format answers. The formats are told apart by their first bytes.
--- (This project's own.)
+-- `BeginsRomfs`, `BeginsCramfs`: the bytes begin as romfs, or as cramfs in a byte order. `HasTree`:
+-- a tree that one of the formats defines for the bytes. `Shows`: an image value shows this tree.
+-- `IsRefused`: the meaning of a refusal: neither format defines one. `HasFormat`: the value is of
+-- the format that the first bytes name, and in their byte order. `neither`: the answer to bytes of
+-- no format. `IsFaultless`, `IsLeastFaultUnder`: the bytes have no fault of the format with which
+-- they begin, or this fault as their least. (This project's own.)
 use Rattle.std.specs.Prelude.{◌≡◌, ℕ, ◌≤◌, ◌⊎◌, List, length, take, if◌then◌else◌, nat_lt}
 use Rattle.rom_tree.specs.Tree.{Node}
 use Rattle.rom_tree.specs.Image.{Image}
@@ -29,21 +33,22 @@ BeginsRomfs all = take 8 all ≡ romfs_magic
 abbrev pub BeginsCramfs : List ℕ → Type 0
 BeginsCramfs all = (4 ≤ length all) × (word (order_of all) all 0 ≡ cramfs_magic)
 
--- t is the tree that one of the formats gives these bytes, under these limits
+-- t is the tree that one of the formats defines for these bytes, under these limits
 abbrev pub HasTree : List ℕ → Limits → Node → Type 0
 HasTree all limits t =
-    RomfsTree all limits.references limits.depth t ⊎ ((o : Order) × CramfsTree o all limits.references limits.depth t)
+    RomfsTree all limits.references limits.depth t
+    ⊎ ((o : Order) × CramfsTree o all limits.references limits.depth t)
 
--- The image m shows the tree that one of the formats gives these bytes.
+-- The image m shows the tree that one of the formats defines for these bytes.
 pub data Shows (all : List ℕ) (limits : Limits) (m : Image) (report : Report) : Type 0 where
   romfs : RomfsShows all limits m report → Shows all limits m report
   cramfs : CramfsShows (order_of all) all limits m report → Shows all limits m report
 
--- a fault only where the bytes hold no tree of either format
+-- a fault is answered only if the bytes hold no tree of either format
 abbrev pub IsRefused : List ℕ → Limits → CheckError → Type 0
 IsRefused all limits = Refuses (HasTree all limits)
 
--- bytes of no format: 2 Short where they are fewer than 8, else 3 Magic, at 0
+-- bytes of no format: 2 Short if they are fewer than 8, otherwise 3 Magic, at 0
 abbrev pub neither : List ℕ → CheckError
 neither all = Fault (if nat_lt (length all) 8 then 2 else 3) 0
 
@@ -52,14 +57,20 @@ abbrev pub HasFormat : List ℕ → AnyImage → Type 0
 HasFormat all (Romfs s) = BeginsRomfs all
 HasFormat all (Cramfs s) = BeginsCramfs all × (order_in s ≡ order_of all)
 
--- The bytes begin as an image of one of the formats does, and have none of its faults.
+-- The bytes begin as an image of one of the formats, and have none of its faults.
 pub data IsFaultless (all : List ℕ) (limits : Limits) : Type 0 where
-  no_romfs_fault : BeginsRomfs all → HasNoRomfsFault all limits.references limits.depth → IsFaultless all limits
-  no_cramfs_fault : BeginsCramfs all → HasNoCramfsFault (order_of all) all limits.references limits.depth
+  no_romfs_fault : BeginsRomfs all → HasNoRomfsFault all limits.references limits.depth
+      → IsFaultless all limits
+  no_cramfs_fault : BeginsCramfs all
+      → HasNoCramfsFault (order_of all) all limits.references limits.depth
       → IsFaultless all limits
 
--- The fault is the least one of the format that the first bytes name, or that of bytes which name none.
+-- The fault is the least of the format that the first bytes name. If they name none, it is that of
+-- bytes of no format.
 pub data IsLeastFaultUnder (all : List ℕ) (limits : Limits) (e : CheckError) : Type 0 where
-  least_of_romfs : BeginsRomfs all → IsLeastRomfsAnswer all limits e → IsLeastFaultUnder all limits e
-  least_of_cramfs : BeginsCramfs all → IsLeastCramfsAnswer (order_of all) all limits e → IsLeastFaultUnder all limits e
-  of_neither : (BeginsRomfs all → ⊥) → (BeginsCramfs all → ⊥) → e ≡ neither all → IsLeastFaultUnder all limits e
+  least_of_romfs : BeginsRomfs all → IsLeastRomfsAnswer all limits e
+      → IsLeastFaultUnder all limits e
+  least_of_cramfs : BeginsCramfs all → IsLeastCramfsAnswer (order_of all) all limits e
+      → IsLeastFaultUnder all limits e
+  of_neither : (BeginsRomfs all → ⊥) → (BeginsCramfs all → ⊥) → e ≡ neither all
+      → IsLeastFaultUnder all limits e

@@ -6,7 +6,7 @@ use cramfs_image::{Cramfs, Parts as CramfsParts};
 use rom_tree::{Cursor, Entry, NodeId, Report, Run, Stat, TreeImage, Viewed};
 use romfs_image::{Parts as RomfsParts, Romfs};
 
-/// An image that has been checked, of one of the two formats.
+/// A checked image of one of the two formats.
 #[derive(Drop)]
 pub enum AnyImage<'a> {
     /// A romfs image.
@@ -15,7 +15,7 @@ pub enum AnyImage<'a> {
     Cramfs(Cramfs<'a>),
 }
 
-/// The numbers of a checked image, by which it is made again of its bytes.
+/// The numbers that make a checked image again from its bytes.
 #[derive(Clone, Copy)]
 pub enum Parts {
     /// Those of a romfs image.
@@ -31,7 +31,8 @@ impl Viewed for AnyImage<'_> {
 impl<'a> TreeImage<'a> for AnyImage<'a> {
     ghost use Rattle.std.specs.Prelude.{Some, None, MatchOption};
     ghost use Rattle.rom_tree.specs.Tree.{Node, places_of, entries_of, ino_of};
-    ghost use Rattle.rom_tree.specs.Image.{image_node, find_entry, HasNode, HasDirectory, GivesRun, GivesWhole};
+    ghost use Rattle.rom_tree.specs.Image.{image_node, find_entry, HasNode, HasDirectory, GivesRun};
+    ghost use Rattle.rom_tree.specs.Image.{GivesWhole};
     ghost use Rattle.image_check.specs.Any.{GivesPart};
 
     fn bytes(&self) -> &'a [u8] {
@@ -69,7 +70,7 @@ impl<'a> TreeImage<'a> for AnyImage<'a> {
         }
     }
 
-    /// The report stays as it is.
+    /// Does not change the report.
     fn lookup(&mut self, d: NodeId, name: &[u8]) -> Option<NodeId>
         requires { HasDirectory (any_view self.old) d.0 }
         ensures stays { any_view self.new ≡ any_view self.old }
@@ -84,7 +85,7 @@ impl<'a> TreeImage<'a> for AnyImage<'a> {
         }
     }
 
-    /// It has the rest of the file (romfs), or of the block of 4096 bytes (cramfs).
+    /// Returns a run with the rest of the file (romfs), or of the block of 4096 bytes (cramfs).
     fn run(&self, n: NodeId, off: u64) -> Option<Run>
         requires { HasNode (any_view self.now) n.0 }
         ensures row { (x : Node) → image_node (any_view self.now) n.0 ≡ Some x
@@ -104,9 +105,10 @@ impl<'a> TreeImage<'a> for AnyImage<'a> {
 impl<'a> AnyImage<'a> {
     ghost use Rattle.std.specs.Prelude.{ℕ, List};
     ghost use Rattle.image_check.specs.Checked.{HasFormat};
-    ghost use Rattle.image_check.specs.Parts.{AreParts, NameFormat, tree_of_parts, cursors_of_parts, report_of_parts};
+    ghost use Rattle.image_check.specs.Parts.{AreParts, NameFormat, tree_of_parts};
+    ghost use Rattle.image_check.specs.Parts.{cursors_of_parts, report_of_parts};
 
-    /// Its numbers, by which `again` gives an image of the same bytes.
+    /// Returns its numbers, by which `again` makes an image of the same bytes.
     pub fn parts(&self) -> Parts
         ensures are { AreParts (any_view self.now).bytes result }
         ensures tree { (any_view self.now).tree ≡ tree_of_parts (any_view self.now).bytes result }
@@ -119,7 +121,7 @@ impl<'a> AnyImage<'a> {
         }
     }
 
-    /// The image of these bytes with these numbers, which a check gave. Nothing is read.
+    /// Makes the image of these bytes again from numbers that a check found. Reads nothing.
     pub fn again(all: &'a [u8], parts: Parts) -> AnyImage<'a>
         requires { AreParts all.now parts }
         ensures bytes { (any_view result).bytes ≡ all.now }
@@ -132,7 +134,7 @@ impl<'a> AnyImage<'a> {
         }
     }
 
-    /// How many references the image has, that of the superblock among them, and the greatest
+    /// Returns the number of references of the image, including the superblock's, and the greatest
     /// number of names from the root to a node.
     pub fn report(&self) -> Report
         ensures { result ≡ report_of self.now }

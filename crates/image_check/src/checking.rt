@@ -3,7 +3,8 @@ ghost use Rattle.std.specs.Prelude.{◌≡◌, ◌≤◌, IfOk, IfErr, Err};
 ghost use Rattle.std.specs.Bool.{OnTrue, OnFalse};
 ghost use Rattle.rom_tree.specs.Tree.{levels};
 ghost use Rattle.image_check.specs.Any.{any_view, report_of};
-ghost use Rattle.image_check.specs.Checked.{Shows, IsRefused, BeginsRomfs, BeginsCramfs, HasFormat, IsFaultless, IsLeastFaultUnder, neither};
+ghost use Rattle.image_check.specs.Checked.{Shows, IsRefused, BeginsRomfs, BeginsCramfs, HasFormat};
+ghost use Rattle.image_check.specs.Checked.{IsFaultless, IsLeastFaultUnder, neither};
 
 use crate::any::AnyImage;
 use cramfs_format::superblock::order_in;
@@ -15,7 +16,7 @@ use romfs_format::superblock::begins;
 use romfs_image::Romfs;
 use std::alloc::Global;
 
-/// Fewer bytes are too short to name a format.
+/// The least number of bytes that can name a format.
 const SHORTEST: usize = 8;
 
 /// Whether the bytes begin as a cramfs image does, in either byte order.
@@ -29,12 +30,13 @@ fn is_cramfs(bytes: &[u8]) -> bool
     }
 }
 
-/// The image of these bytes, where they hold the tree of a romfs image, or of a cramfs image in
-/// either byte order, within the limits (a depth limit above 64 counts as 64), which is where they
-/// have no fault of the format that their first bytes name; else the least of these faults, by
-/// phases. Bytes that name no format have fault 2 where they are fewer than 8, else fault 3, at 0.
-/// `OutOfMemory` where memory is refused; what it takes, and in what time, the formats' own checks
-/// say.
+/// Checks these bytes, and returns their image if they hold the tree of a romfs image, or of a
+/// cramfs image in either byte order, within the limits (a depth limit above 64 counts as 64).
+/// Otherwise returns the least fault of the format that their first bytes name, by phases. Bytes
+/// that name no format have fault 2 if they are fewer than 8, otherwise fault 3, at 0.
+///
+/// Returns `OutOfMemory` if memory is refused. The checks of the formats, `Romfs::check` and
+/// `Cramfs::check`, state the time and the memory.
 pub fn check<'a>(alloc: Global, bytes: &'a [u8], limits: Limits) -> Result<AnyImage<'a>, CheckError>
     ensures ok { IfOk result (λ v. Shows bytes.now limits (any_view v) (report_of v)) }
     ensures fault { IfErr result (IsRefused bytes.now limits) }

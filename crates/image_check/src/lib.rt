@@ -1,9 +1,10 @@
-//! One type for images of either format, and the check that tells them apart.
+//! `check`, which recognizes the format of an image by its first bytes and checks it (Linux
+//! Documentation/filesystems/romfs.rst and cramfs.rst); and `AnyImage`, an image of either format
+//! as a `TreeImage`.
 //!
-//! `check` looks at the first bytes, which name a format (Linux Documentation/filesystems/romfs.rst
-//! and cramfs.rst). Proved: it gives an image only where its bytes hold a tree of files of one of
-//! the two formats and have no fault, and a fault only where they hold none of either, the least
-//! one; and each call on the image answers from that tree (`rom_tree::TreeImage`).
+//! Proved: an image is returned only if its bytes hold a tree of files of one of the two formats,
+//! and have no fault. A fault is returned only if they hold no tree of either, and it is the least
+//! one. Each call on the image answers from that tree.
 #![tactic(auto)]
 
 mod any;

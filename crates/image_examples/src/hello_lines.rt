@@ -93,8 +93,8 @@ fn led<'a, T: TreeImage<'a>>(image: &mut T, path: &[u8]) -> Result<NodeId, WalkE
     walk(image, path, true)
 }
 
-/// How many names a cache of so many holds after five walks over four names and an absent one, if each
-/// walk leads where it should.
+/// How many names a cache of so many holds after five walks over four names and an absent one, if
+/// each walk leads where it should.
 fn held_after_walks(alloc: Global, names: usize) -> Option<usize>
     requires some { 1 ≤ names }
     requires few { names ≤ 65536 }

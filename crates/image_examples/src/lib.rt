@@ -1,5 +1,5 @@
-//! Small images, byte by byte, and what the crates that check them, tell of them, walk in them, open
-//! their files and print them answer.
+//! Small images, byte by byte, and what the crates that check them, tell of them, walk in them,
+//! open their files and print them answer.
 //!
 //! The bytes are those that the documents of the formats give (Linux
 //! Documentation/filesystems/romfs.rst and cramfs.rst), laid out by hand. The tests stand here and

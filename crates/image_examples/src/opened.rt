@@ -152,7 +152,8 @@ fn with_open(alloc: Global, path: &[u8]) -> Result<Files<'static, AnyImage<'stat
     }
 }
 
-/// Whether the root's two entries are listed, then the end twice, and after `rewind` the first again.
+/// Whether the root's two entries are listed, then the end twice, and after `rewind` the first
+/// again.
 fn is_listed(alloc: Global) -> Result<bool, Fail> {
     let mut files = with_open(alloc, b"/")?;
     let first = Ok(Some((b"d".as_slice(), 96)));

@@ -1,5 +1,5 @@
-//! What the program's commands print of an image to writers that take little, or fail. What they print
-//! to others, and how the program then ends, is in tests/cases.
+//! What the program's commands print of an image to writers that take little, or fail. What they
+//! print to others, and how the program then ends, is in tests/cases.
 use crate::fields::Unflushed;
 use rom_commands::{Asked, Outcome, Status, hello, print, show};
 use rom_fields::{Faulty, Plain};
@@ -8,8 +8,8 @@ use std::test::Fail;
 
 const LISTED: &[u8] = b"32 d 0755 0 0 0 0 0 /\n96 f 0644 0 0 5 0 0 /a\n";
 
-/// Whether it ends so that an image is listed to a writer that takes so many calls, each of one byte,
-/// and the writer then holds this text.
+/// Whether it ends so that an image is listed to a writer that takes so many calls, each of one
+/// byte, and the writer then holds this text.
 fn is_listed(alloc: Global, calls: u64, end: Outcome, text: &[u8]) -> bool {
     let mut w = Faulty::new(Plain::new(Vec::new(alloc)), calls, 1);
     let outcome = show(alloc, &hello(), Asked::List, &mut w);

@@ -32,7 +32,8 @@ fn mounted(alloc: Global) -> Result<Space<'static, AnyImage<'static>, 64>, Fail>
     Ok(space)
 }
 
-/// Whether the second image is mounted on a directory of the first, once, and nothing else is mounted.
+/// Whether the second image is mounted on a directory of the first, once, and nothing else is
+/// mounted.
 fn is_mounted_once(alloc: Global) -> Result<bool, Fail> {
     let mut space = two_images(alloc)?;
     Ok(

@@ -1,5 +1,6 @@
 -- Extents by the bytes that they have.
-use Rattle.std.proofs.Common.{◌≡◌, ◌==◌, ℕ, zero, suc, Bool, true, false, cond, ◌||◌, List, ◌++◌, None, Some, inl, inr, refl, sym, ap, subst, ◌∙◌, arith, append_assoc}
+use Rattle.std.proofs.Common.{◌≡◌, ◌==◌, ℕ, zero, suc, Bool, true, false, cond, ◌||◌, List, ◌++◌, None, Some, inl, inr}
+use Rattle.std.proofs.Common.{refl, sym, ap, subst, ◌∙◌, arith, append_assoc}
 use Rattle.std.proofs.lemmas.Bool.{cases_lt, lt-ltb, le-ltb, false≢true}
 use Rattle.std.proofs.lemmas.Bool.Decides.{eqb_tells}
 use Rattle.std.proofs.lemmas.List.Folds.{list_any-append}
@@ -59,7 +60,8 @@ at_is p q =
     ]
 
 -- what a map has when one table more is noted
-found : (old new : BTreeMap ℕ ℕ) (table size t : ℕ) → Updates nat_cmp old new table (Some size) → get nat_cmp new t ≡ cond (table == t) (Some size) (get nat_cmp old t)
+found : (old new : BTreeMap ℕ ℕ) (table size t : ℕ) → Updates nat_cmp old new table (Some size)
+    → get nat_cmp new t ≡ cond (table == t) (Some size) (get nat_cmp old t)
 found old new table size t u = u.0 t ∙ ap (λ (v : Bool). cond v (Some size) (get nat_cmp old t)) (at_is table t)
 
 module _ (o : Order) (b : List ℕ) where
@@ -71,18 +73,23 @@ module _ (o : Order) (b : List ℕ) where
   met_list met xs ys e h = subst (AreMet o b met) (sym e) h
 
   -- one table more
-  pub met_now : (old new : BTreeMap ℕ ℕ) (xs ys : List Span) (table size : ℕ) → AreMet o b old xs → ys ≡ xs ++ cramfs_file o b table size → Updates nat_cmp old new table (Some size) → AreMet o b new ys
+  pub met_now : (old new : BTreeMap ℕ ℕ) (xs ys : List Span) (table size : ℕ) → AreMet o b old xs
+      → ys ≡ xs ++ cramfs_file o b table size → Updates nat_cmp old new table (Some size) → AreMet o b new ys
   met_now old new xs ys table size h e u t s g = elim (eqb_tells table t) [
     | inl i ↦
         let w : cond (table == t) (Some size) (get nat_cmp old t) ≡ Some s = sym (found old new table size t u) ∙ g in
         let k : Some size ≡ Some s = (rw i.0 at w) in
         let same : size ≡ s = cc in
-        let here : Cover ys (cramfs_file o b table size) = subst (λ (v : List Span). Cover v (cramfs_file o b table size)) (sym e) (cover_right xs (cramfs_file o b table size)) in
-        subst (λ (v : ℕ). Cover ys (cramfs_file o b v s)) i.1 (subst (λ (v : ℕ). Cover ys (cramfs_file o b table v)) same here)
+        let here : Cover ys (cramfs_file o b table size) =
+        subst (λ (v : List Span). Cover v (cramfs_file o b table size)) (sym e)
+        (cover_right xs (cramfs_file o b table size)) in
+        subst (λ (v : ℕ). Cover ys (cramfs_file o b v s)) i.1
+        (subst (λ (v : ℕ). Cover ys (cramfs_file o b table v)) same here)
     | inr n ↦
         let w : cond (table == t) (Some size) (get nat_cmp old t) ≡ Some s = sym (found old new table size t u) ∙ g in
         let k : get nat_cmp old t ≡ Some s = (rw n.0 at w) in
-        subst (λ (v : List Span). Cover v (cramfs_file o b t s)) (sym e) (cover_left xs (cramfs_file o b table size) (cramfs_file o b t s) (h t s k))
+        subst (λ (v : List Span). Cover v (cramfs_file o b t s)) (sym e)
+        (cover_left xs (cramfs_file o b table size) (cramfs_file o b t s) (h t s k))
   ]
 
   -- no table yet
@@ -90,5 +97,7 @@ module _ (o : Order) (b : List ℕ) where
   none_met met xs h t size e = let z : None ≡ Some size = sym (h t) ∙ e in absurd (cc)
 
 -- a list and then extents that cover as much as these
-pub added_then : (old mid new xs ys : List Span) → mid ≡ old ++ xs → CoverTheSame new (mid ++ ys) → CoverTheSame new (old ++ (xs ++ ys))
-added_then old mid new xs ys e h = same_then new (mid ++ ys) (old ++ (xs ++ ys)) h (same_list (mid ++ ys) (old ++ (xs ++ ys)) (ap (λ (v : List Span). v ++ ys) e ∙ append_assoc old xs ys))
+pub added_then : (old mid new xs ys : List Span) → mid ≡ old ++ xs → CoverTheSame new (mid ++ ys)
+    → CoverTheSame new (old ++ (xs ++ ys))
+added_then old mid new xs ys e h = same_then new (mid ++ ys) (old ++ (xs ++ ys)) h
+    (same_list (mid ++ ys) (old ++ (xs ++ ys)) (ap (λ (v : List Span). v ++ ys) e ∙ append_assoc old xs ys))

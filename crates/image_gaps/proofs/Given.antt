@@ -1,5 +1,6 @@
--- What the image that a check gave tells of its bytes.
-use Rattle.std.proofs.Common.{◌≡◌, ◌≢◌, ℕ, ◌^◌, ◌<◌, ◌≤◌, min, true, false, cond, List, length, take, length-take, refl, sym, ap, subst, ◌∙◌, arith}
+-- The facts that the image returned by a check has of its bytes.
+use Rattle.std.proofs.Common.{◌≡◌, ◌≢◌, ℕ, ◌^◌, ◌<◌, ◌≤◌, min, true, false, cond, List, length, take, length-take, refl}
+use Rattle.std.proofs.Common.{sym, ap, subst, ◌∙◌, arith}
 use Rattle.rom_fields.specs.declared.span.Span.{Span}
 use Rattle.rom_fields.specs.Words.{word_be}
 use Rattle.rom_tree.specs.Tree.{Node, ino_of}
@@ -15,7 +16,8 @@ use Rattle.romfs_image.proofs.Reading.{root_above}
 use Rattle.romfs_image.specs.declared.image.Romfs.{Romfs}
 use Rattle.cramfs_format.specs.declared.order.Order.{Order}
 use Rattle.cramfs_format.specs.Refers.{references as cramfs_references}
-use Rattle.cramfs_format.specs.Superblock.{accessible as cramfs_accessible, accessible_size, has_crc, size_word, IsSuperblock as IsCramfsSuperblock}
+use Rattle.cramfs_format.specs.Superblock.{accessible as cramfs_accessible, accessible_size, has_crc, size_word}
+use Rattle.cramfs_format.specs.Superblock.{IsSuperblock as IsCramfsSuperblock}
 use Rattle.cramfs_format.specs.Tree.{CramfsTree, IsTree as IsCramfsTree}
 use Rattle.cramfs_format.specs.Made.{IsCramfs}
 use Rattle.cramfs_format.proofs.Bridge.{accepted as cramfs_accepted}
@@ -32,12 +34,14 @@ use Rattle.image_gaps.specs.Held.{HoldsRomfs, HoldsCramfs}
 use Rattle.image_gaps.specs.Records.{CoverTheSame}
 use Rattle.image_gaps.proofs.Covered.{unused_same}
 
--- an image that a check shows is one that it gave
-shown_bytes : (all : List ℕ) (l : Limits) (a : AnyImage) → Shows all l (any_view a) (report_of a) → all ≡ (any_view a).bytes
+-- an image that a check shows is one that it returned
+shown_bytes : (all : List ℕ) (l : Limits) (a : AnyImage) → Shows all l (any_view a) (report_of a)
+    → all ≡ (any_view a).bytes
 shown_bytes all l a (romfs h) = sym h.bytes
 shown_bytes all l a (cramfs h) = sym h.bytes
 
-pub check_gave : (all : List ℕ) (l : Limits) (a : AnyImage) → Shows all l (any_view a) (report_of a) → HasFormat all a → IsChecked a
+pub check_gave : (all : List ℕ) (l : Limits) (a : AnyImage) → Shows all l (any_view a) (report_of a) → HasFormat all a
+    → IsChecked a
 check_gave all l a h f =
     let e = shown_bytes all l a h in
     record {
@@ -50,29 +54,35 @@ root_number : (b : List ℕ) (r : ℕ) (f : Forest) → ino_of (tree_of b r f) �
 unfolding tree_of
 root_number b r f = ino_is b r _
 
--- what the tree of a romfs image tells of its bytes
-romfs_held : (all : List ℕ) (most deepest root k : ℕ) (x : Node) (t : RomfsTree all most deepest x) → root ≡ ino_of x → k ≡ length (all_rows (references t.b t.r) t.forest) → k < 2 ^ 32 → HoldsRomfs all root
+-- the facts that the tree of a romfs image has of its bytes
+romfs_held : (all : List ℕ) (most deepest root k : ℕ) (x : Node) (t : RomfsTree all most deepest x) → root ≡ ino_of x
+    → k ≡ length (all_rows (references t.b t.r) t.forest) → k < 2 ^ 32 → HoldsRomfs all root
 romfs_held all most deepest root k x t e n small =
     let r : t.r ≡ root = sym (e ∙ ap ino_of t.same ∙ root_number t.b t.r t.forest) in
     record {
-      superblock = subst (λ (b : List ℕ). IsSuperblock all b root) t.super.cut (subst (λ (q : ℕ). IsSuperblock all t.b q) r t.super);
+      superblock = subst (λ (b : List ℕ). IsSuperblock all b root) t.super.cut
+          (subst (λ (q : ℕ). IsSuperblock all t.b q) r t.super);
       most = most;
       deepest = deepest;
       forest = t.forest;
-      whole = subst (λ (b : List ℕ). IsTree b root most deepest t.forest) t.super.cut (subst (λ (q : ℕ). IsTree t.b q most deepest t.forest) r t.whole);
+      whole = subst (λ (b : List ℕ). IsTree b root most deepest t.forest) t.super.cut
+          (subst (λ (q : ℕ). IsTree t.b q most deepest t.forest) r t.whole);
       few = subst (λ (b : List ℕ). length (all_rows (references b root) t.forest) ≤ 2 ^ 32) t.super.cut
           (subst (λ (q : ℕ). length (all_rows (references t.b q) t.forest) ≤ 2 ^ 32) r (omega arith));
     }
 
-pub checked_romfs : (s : Romfs) (root : ℕ) → IsChecked (InRomfs s) → s.references < 2 ^ 32 → root ≡ ino_of (any_view (InRomfs s)).tree → HoldsRomfs s.all.now root
+pub checked_romfs : (s : Romfs) (root : ℕ) → IsChecked (InRomfs s) → s.references < 2 ^ 32
+    → root ≡ ino_of (any_view (InRomfs s)).tree → HoldsRomfs s.all.now root
 checked_romfs s root c small e = by c.shows
   where
     by : Shows s.all.now c.limits (any_view (InRomfs s)) (report_of (InRomfs s)) → HoldsRomfs s.all.now root
-    by (romfs h) = romfs_held s.all.now c.limits.references c.limits.depth root s.references (any_view (InRomfs s)).tree h.tree e h.count small
+    by (romfs h) = romfs_held s.all.now c.limits.references c.limits.depth root s.references
+        (any_view (InRomfs s)).tree h.tree e h.count small
     by (cramfs h) = absurd (apart _ s.all.now c.format h.tree.super.begins)
 
 -- and that of a cramfs image
-cramfs_held : (o : Order) (all : List ℕ) (most deepest k : ℕ) (x : Node) (t : CramfsTree o all most deepest x) → k ≡ length (all_rows (cramfs_references o t.b) t.forest) → k < 2 ^ 32 → HoldsCramfs o all
+cramfs_held : (o : Order) (all : List ℕ) (most deepest k : ℕ) (x : Node) (t : CramfsTree o all most deepest x)
+    → k ≡ length (all_rows (cramfs_references o t.b) t.forest) → k < 2 ^ 32 → HoldsCramfs o all
 cramfs_held o all most deepest k x t n small = record {
   superblock = subst (λ (b : List ℕ). IsCramfsSuperblock o all b) t.super.cut t.super;
   most = most;
@@ -88,19 +98,25 @@ checked_cramfs s c small = by c.shows
     by : Shows s.all.now c.limits (any_view (InCramfs s)) (report_of (InCramfs s)) → HoldsCramfs (order_in s) s.all.now
     by (romfs h) = absurd (apart _ s.all.now h.tree.super.begins c.format.0.1)
     by (cramfs h) = subst (λ (o : Order). HoldsCramfs o s.all.now) (sym c.format.1)
-        (cramfs_held _ s.all.now c.limits.references c.limits.depth s.references (any_view (InCramfs s)).tree h.tree h.count small)
+        (cramfs_held _ s.all.now c.limits.references c.limits.depth s.references
+        (any_view (InCramfs s)).tree h.tree h.count small)
 
 -- the accessible bytes of romfs, and what is known of them
-pub romfs_known : (all : List ℕ) (r size : ℕ) → HoldsRomfs all r → size < 2 ^ 32 → size ≡ word_be all 8 → (k : ℕ) × (k ≤ 2 ^ 32) × IsRomfs (take size all) r k
+pub romfs_known : (all : List ℕ) (r size : ℕ) → HoldsRomfs all r → size < 2 ^ 32 → size ≡ word_be all 8
+    → (k : ℕ) × (k ≤ 2 ^ 32) × IsRomfs (take size all) r k
 romfs_known all r size h small e =
     let b : List ℕ = accessible all in
     let live : r ≢ 0 = (let a = root_above b r h.superblock.root in λ z. absurd (omega arith)) in
     let l : length b ≡ min (word_be all 8) (length all) = length-take (word_be all 8) all in
     let s : length b < 2 ^ 32 = grind (arith, l, e, small) in
-    subst (λ (n : ℕ). (k : ℕ) × (k ≤ 2 ^ 32) × IsRomfs (take n all) r k) (sym e)
-    (length (all_rows (references b r) h.forest), h.few, (accepted b r h.most h.deepest h.forest live h.whole s h.superblock.directory).0)
+    subst (λ (n : ℕ). (k : ℕ) × (k ≤ 2 ^ 32) × IsRomfs (take n all) r k) (sym e) (
+      length (all_rows (references b r) h.forest),
+      h.few,
+      (accepted b r h.most h.deepest h.forest live h.whole s h.superblock.directory).0,
+    )
 
-pub romfs_counted : (all : List ℕ) (r size result : ℕ) (given spans : List Span) → HoldsRomfs all r → size ≡ word_be all 8 → given ≡ spans → spans ≡ romfs_extents (take size all) r
+pub romfs_counted : (all : List ℕ) (r size result : ℕ) (given spans : List Span) → HoldsRomfs all r
+    → size ≡ word_be all 8 → given ≡ spans → spans ≡ romfs_extents (take size all) r
     → result ≡ unused given 0 size → result ≡ romfs_gaps all
 unfolding romfs_gaps
 romfs_counted all r size result given spans h e g f u =
@@ -108,20 +124,25 @@ romfs_counted all r size result given spans h e g f u =
     let l : length b ≡ min (word_be all 8) (length all) = length-take (word_be all 8) all in
     let w = h.superblock.size.1 in
     let n : size ≡ length b = grind (arith, l, e, w) in
-    let x : given ≡ romfs_extents b (root_of b) = g ∙ f ∙ ap (λ (v : ℕ). romfs_extents (take v all) r) e ∙ ap (romfs_extents b) h.superblock.root in
+    let x : given ≡ romfs_extents b (root_of b) =
+    g ∙ f ∙ ap (λ (v : ℕ). romfs_extents (take v all) r) e ∙ ap (romfs_extents b) h.superblock.root in
     u ∙ ap (λ (v : List Span). unused v 0 size) x ∙ ap (unused (romfs_extents b (root_of b)) 0) n
 
 -- the same of cramfs
-pub cramfs_size : (o : Order) (all : List ℕ) → HoldsCramfs o all → (accessible_size o all ≤ length all) × (76 ≤ accessible_size o all)
+pub cramfs_size : (o : Order) (all : List ℕ) → HoldsCramfs o all
+    → (accessible_size o all ≤ length all) × (76 ≤ accessible_size o all)
 unfolding accessible_size
 cramfs_size o all h =
     let long = h.superblock.long in
-    elim (has_crc o all) as (λ v. has_crc o all ≡ v → (cond v (size_word o all) (min (length all) (2 ^ 28)) ≤ length all) × (76 ≤ cond v (size_word o all) (min (length all) (2 ^ 28)))) [
+    elim (has_crc o all) as (λ v. has_crc o all ≡ v
+    → (cond v (size_word o all) (min (length all) (2 ^ 28)) ≤ length all)
+    × (76 ≤ cond v (size_word o all) (min (length all) (2 ^ 28)))) [
       | true ↦ λ e. let s = h.superblock.size e in (s.1, s.0)
       | false ↦ λ e. (grind arith, grind (arith, long))
     ] refl
 
-pub cramfs_known : (o : Order) (all : List ℕ) (size : ℕ) → HoldsCramfs o all → size < 2 ^ 32 → size ≡ accessible_size o all → (k : ℕ) × (k ≤ 2 ^ 32) × IsCramfs o (take size all) k
+pub cramfs_known : (o : Order) (all : List ℕ) (size : ℕ) → HoldsCramfs o all → size < 2 ^ 32
+    → size ≡ accessible_size o all → (k : ℕ) × (k ≤ 2 ^ 32) × IsCramfs o (take size all) k
 cramfs_known o all size h small e =
     let b : List ℕ = cramfs_accessible o all in
     let w = cramfs_size o all h in
@@ -130,10 +151,12 @@ cramfs_known o all size h small e =
     subst (λ (v : ℕ). (k : ℕ) × (k ≤ 2 ^ 32) × IsCramfs o (take v all) k) (sym e) (
       length (all_rows (cramfs_references o b) h.forest),
       h.few,
-      (cramfs_accepted o b h.most h.deepest h.forest h.whole (let y = w.1 in omega (arith, n, y)) (omega (arith, n, e, small)) h.superblock.root.directory).0,
+      (cramfs_accepted o b h.most h.deepest h.forest h.whole (let y = w.1 in omega (arith, n, y))
+          (omega (arith, n, e, small)) h.superblock.root.directory).0,
     )
 
-pub cramfs_counted : (o : Order) (all : List ℕ) (size result : ℕ) (given spans : List Span) → HoldsCramfs o all → size ≡ accessible_size o all → given ≡ spans → CoverTheSame spans (cramfs_extents o (take size all))
+pub cramfs_counted : (o : Order) (all : List ℕ) (size result : ℕ) (given spans : List Span) → HoldsCramfs o all
+    → size ≡ accessible_size o all → given ≡ spans → CoverTheSame spans (cramfs_extents o (take size all))
     → result ≡ unused given 0 size → result ≡ cramfs_gaps o all
 unfolding cramfs_gaps
 cramfs_counted o all size result given spans h e g f u =

@@ -1,4 +1,5 @@
--- What bytes hold of which a check gave an image, by its format. (This project's own.)
+-- `HoldsRomfs`, `HoldsCramfs`: the facts of bytes for which a check returned an image, by its
+-- format. (This project's own.)
 use Rattle.std.specs.Prelude.{ℕ, ◌^◌, ◌≤◌, List, length}
 use Rattle.record_forest.specs.Forest.{Forest, all_rows}
 use Rattle.romfs_format.specs.Refers.{references}
@@ -6,7 +7,8 @@ use Rattle.romfs_format.specs.Superblock.{accessible}
 use Rattle.romfs_format.specs.Tree.{IsSuperblock, IsTree}
 use Rattle.cramfs_format.specs.declared.order.Order.{Order}
 use Rattle.cramfs_format.specs.Refers.{references as cramfs_references}
-use Rattle.cramfs_format.specs.Superblock.{accessible as cramfs_accessible, IsSuperblock as IsCramfsSuperblock}
+use Rattle.cramfs_format.specs.Superblock.{accessible as cramfs_accessible}
+use Rattle.cramfs_format.specs.Superblock.{IsSuperblock as IsCramfsSuperblock}
 use Rattle.cramfs_format.specs.Tree.{IsTree as IsCramfsTree}
 
 -- a romfs image whose root is at r

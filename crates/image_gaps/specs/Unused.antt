@@ -1,4 +1,4 @@
--- The places that extents leave. (This project's own.)
+-- `unused`: the number of some bytes that are in none of some extents. (This project's own.)
 use Rattle.std.specs.Prelude.{ℕ, zero, suc, ◌+◌, nat_lt, Bool, false, if◌then◌else◌, List}
 use Rattle.std.specs.List.{list_any}
 use Rattle.rom_fields.specs.declared.span.Span.{Span}
@@ -11,7 +11,7 @@ is_in p x = if nat_lt p x.start then false else nat_lt p (x.start + x.len)
 abbrev pub is_used : List Span → ℕ → Bool
 is_used xs p = list_any (is_in p) xs
 
--- how many of the n bytes from p on are in none of them
+-- the number of bytes, of the n from p on, that are in none of the extents
 abbrev pub unused : List Span → ℕ → ℕ → ℕ
 unused xs p zero = 0
 unused xs p (suc n) = (if is_used xs p then 0 else 1) + unused xs (suc p) n

@@ -14,7 +14,7 @@ use rom_tree::TreeImage;
 use romfs_format::superblock::stated_size;
 use std::alloc::Global;
 
-/// As `count_gaps`, of a romfs image whose root is at `root`.
+/// Does the same as `count_gaps` for a romfs image whose root is at `root`.
 fn count_romfs(alloc: Global, all: &[u8], root: u32) -> Result<u32, OutOfMemory>
     requires { HoldsRomfs all.now root }
     ensures { IfOk result (λ n. n ≡ romfs_gaps all.now) }
@@ -24,7 +24,7 @@ fn count_romfs(alloc: Global, all: &[u8], root: u32) -> Result<u32, OutOfMemory>
     Ok(unused_bytes(&mut spans, size))
 }
 
-/// As `count_gaps`, of a cramfs image.
+/// Does the same as `count_gaps` for a cramfs image.
 fn count_cramfs(alloc: Global, order: Order, all: &[u8]) -> Result<u32, OutOfMemory>
     requires { HoldsCramfs order all.now }
     ensures { IfOk result (λ n. n ≡ cramfs_gaps order all.now) }
@@ -34,13 +34,13 @@ fn count_cramfs(alloc: Global, order: Order, all: &[u8]) -> Result<u32, OutOfMem
     Ok(unused_bytes(&mut spans, size))
 }
 
-/// How many of the accessible bytes of an image neither its superblock nor a record with its name,
-/// a list, a table or contents uses. It reads the records again, and takes time as n log n and
-/// memory for some 20 bytes of each, n being how many records and blocks there are.
+/// Counts the accessible bytes of an image that nothing uses: no superblock, record with its name,
+/// list, table or contents. The records are read again. For n records and blocks, the time grows as
+/// n log n, and the memory is some 20 bytes for each of them (this is not proved).
 ///
 /// # Errors
 ///
-/// `OutOfMemory` where memory was refused.
+/// `OutOfMemory` if memory is refused.
 pub fn count_gaps(alloc: Global, image: &AnyImage<'_>) -> Result<u32, OutOfMemory>
     requires { IsChecked image.now }
     ensures { IfOk result (λ n. n ≡ gaps_of image.now) }

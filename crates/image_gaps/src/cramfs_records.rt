@@ -1,5 +1,6 @@
-//! What the superblock and the records of a cramfs image take.
-ghost use Rattle.std.specs.Prelude.{◌≡◌, ◌+◌, ◌*◌, ◌<◌, ◌≤◌, ◌^◌, ◌++◌, ℕ, length, true, OnOk, IfOk, Some};
+//! The extents of the superblock and the records of a cramfs image.
+ghost use Rattle.std.specs.Prelude.{◌≡◌, ◌+◌, ◌*◌, ◌<◌, ◌≤◌, ◌^◌, ◌++◌, ℕ, length, true, OnOk};
+ghost use Rattle.std.specs.Prelude.{IfOk, Some};
 ghost use Rattle.std.specs.Bool.{OnTrue};
 ghost use Rattle.std.specs.BTreeMap.{get};
 ghost use Rattle.std.specs.Ordering.{nat_cmp};
@@ -7,7 +8,8 @@ ghost use Rattle.cramfs_format.specs.Inode.{block_count, end_of, TableLies};
 ghost use Rattle.cramfs_format.specs.Tree.{data_from};
 ghost use Rattle.cramfs_format.specs.Made.{IsCramfs};
 ghost use Rattle.image_gaps.specs.Gaps.{cramfs_extents};
-ghost use Rattle.image_gaps.specs.Records.{cramfs_list, cramfs_file, cramfs_contents, cramfs_record, CoverTheSame, AreMet};
+ghost use Rattle.image_gaps.specs.Records.{cramfs_list, cramfs_file, cramfs_contents};
+ghost use Rattle.image_gaps.specs.Records.{cramfs_record, CoverTheSame, AreMet};
 
 use crate::spans::add;
 use cramfs_format::inode::{blocks_of, list_end_at, offset_at, size_at, start_of, type_at};
@@ -16,7 +18,7 @@ use rom_fields::{Extent, OutOfMemory, Span};
 use std::alloc::Global;
 use std::collections::BTreeMap;
 
-/// Where the record at `at` ends, and the next of its list begins.
+/// The offset at which the record at `at` ends, and the next of its list begins.
 fn end_at(order: Order, b: &[u8], at: u32) -> u32
     requires header { at + 12 ≤ length b.now }
     requires within { end_of order b.now at ≤ length b.now }
@@ -65,7 +67,7 @@ fn add_file(
     add_blocks(spans, order, b, table, size)
 }
 
-/// Whether a table of just this size was met.
+/// Whether a table of exactly this size was met.
 fn is_met(met: &BTreeMap<u32, u32>, table: u32, size: u32) -> bool
     ensures { OnTrue result (get nat_cmp met.now table ≡ Some size) }
 {
@@ -75,7 +77,7 @@ fn is_met(met: &BTreeMap<u32, u32>, table: u32, size: u32) -> bool
     }
 }
 
-/// Adds the block pointers and the blocks of a file or a link, where these were not met.
+/// Adds the block pointers and the blocks of a file or a link if its table was not met.
 fn add_once(
     spans: &mut Vec<Span>,
     met: &mut BTreeMap<u32, u32>,
@@ -99,7 +101,7 @@ fn add_once(
     Ok(())
 }
 
-/// Adds the list of the record at `at`, where it is a directory.
+/// Adds the list of the record at `at` if it is a directory.
 fn add_list(spans: &mut Vec<Span>, order: Order, b: &[u8], at: usize) -> Result<(), OutOfMemory>
     requires { at + 12 ≤ length b.now }
     ensures { OnOk result (spans.new.items ≡ spans.old.items ++ cramfs_list order b.now at) }
@@ -111,7 +113,7 @@ fn add_list(spans: &mut Vec<Span>, order: Order, b: &[u8], at: usize) -> Result<
     Ok(())
 }
 
-/// Adds the block pointers and the blocks of the record at `at`, where it is a file or a link whose
+/// Adds the block pointers and the blocks of the record at `at` if it is a file or a link whose
 /// table was not met.
 fn add_contents(
     spans: &mut Vec<Span>,
@@ -135,7 +137,7 @@ fn add_contents(
     Ok(())
 }
 
-/// Adds what the record at `at` takes beside its place in a list.
+/// Adds the extents of the record at `at` besides its own bytes in a list.
 fn add_record(
     spans: &mut Vec<Span>,
     met: &mut BTreeMap<u32, u32>,
@@ -154,12 +156,12 @@ fn add_record(
     add_contents(spans, met, order, b, at as usize)
 }
 
-/// Extents of just the bytes that the superblock and the records of a cramfs image take, `b` being
-/// its accessible bytes. Of files with one table the blocks are there once.
+/// The extents of exactly the bytes that the superblock and the records of a cramfs image use. `b`
+/// are its accessible bytes. Files that share a table add its blocks once.
 ///
 /// # Errors
 ///
-/// `OutOfMemory` where memory was refused.
+/// `OutOfMemory` if memory is refused.
 pub(crate) fn cramfs_spans(alloc: Global, order: Order, b: &[u8]) -> Result<Vec<Span>, OutOfMemory>
     requires { (k : ℕ) × (k ≤ 2 ^ 32) × IsCramfs order b.now k }
     ensures { IfOk result (λ v. CoverTheSame v.items (cramfs_extents order b.now)) }

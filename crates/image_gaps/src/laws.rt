@@ -1,4 +1,4 @@
-//! What the count of unused bytes means.
+//! Laws of the bytes that nothing uses.
 ghost use Rattle.std.specs.Prelude.{◌≡◌, ◌≢◌, ◌≤◌, ◌^◌, ℕ, List, length};
 ghost use Rattle.record_forest.specs.Forest.{Forest, all_rows};
 ghost use Rattle.romfs_format.specs.Refers.{references as romfs_references};
@@ -8,7 +8,7 @@ ghost use Rattle.cramfs_format.specs.Refers.{references as cramfs_references};
 ghost use Rattle.cramfs_format.specs.Tree.{IsTree as IsCramfsTree};
 ghost use Rattle.image_gaps.specs.Gaps.{romfs_forest, cramfs_forest};
 
-/// The forest whose extents count is that of the image's tree.
+/// States that the forest whose extents count is that of the image's tree.
 pub fn of_the_tree()
     ensures romfs { (b : List ℕ) (r most deepest : ℕ) (f : Forest) → r ≢ 0
         → IsRomfsTree b r most deepest f

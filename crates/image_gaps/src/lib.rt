@@ -1,8 +1,8 @@
-//! The bytes of a sound image that nothing uses.
+//! `count_gaps`: the number of accessible bytes of a valid image that are in none of its extents.
+//! The extents are those that a check tests for overlaps.
 //!
-//! `specs/Gaps.antt` says what these are: the accessible bytes that are in none of the image's
-//! extents, which are those of which a check finds that no two overlap. Proved: `count_gaps` gives
-//! just their number; and by `laws::of_the_tree` the extents are those of the image's tree.
+//! Proved: `count_gaps` returns exactly the number that `specs/Gaps.antt` defines; and by
+//! `laws::of_the_tree` the extents are those of the image's tree.
 #![tactic(auto)]
 
 mod counting;

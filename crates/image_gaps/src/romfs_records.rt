@@ -1,4 +1,4 @@
-//! What the superblock and the records of a romfs image take.
+//! The extents of the superblock and the records of a romfs image.
 ghost use Rattle.std.specs.Prelude.{◌≡◌, ◌+◌, ◌<◌, ◌≤◌, ◌^◌, ◌++◌, ℕ, length, OnOk, IfOk};
 ghost use Rattle.romfs_format.specs.Record.{name_of, end_of};
 ghost use Rattle.romfs_format.specs.Made.{IsRomfs};
@@ -10,7 +10,7 @@ use rom_fields::{Extent, OutOfMemory, Span};
 use romfs_format::header::{end_at, first_at, next_at, size_at, start_at, type_at};
 use std::alloc::Global;
 
-/// Adds what the record at `at` takes: its header with its name, and its data, where it has any.
+/// Adds the extents of the record at `at`: its header with its name, and its data if it has any.
 fn add_record(spans: &mut Vec<Span>, b: &[u8], at: u32) -> Result<(), OutOfMemory>
     requires small { length b.now < 2 ^ 32 }
     requires header { at + 32 ≤ length b.now }
@@ -27,11 +27,11 @@ fn add_record(spans: &mut Vec<Span>, b: &[u8], at: u32) -> Result<(), OutOfMemor
     Ok(())
 }
 
-/// What the superblock and the records of a romfs image take, `b` being its accessible bytes.
+/// The extents of the superblock and the records of a romfs image. `b` are its accessible bytes.
 ///
 /// # Errors
 ///
-/// `OutOfMemory` where memory was refused.
+/// `OutOfMemory` if memory is refused.
 pub(crate) fn romfs_spans(alloc: Global, b: &[u8], root: u32) -> Result<Vec<Span>, OutOfMemory>
     requires { (k : ℕ) × (k ≤ 2 ^ 32) × IsRomfs b.now root k }
     ensures { IfOk result (λ v. v.items ≡ romfs_extents b.now root) }

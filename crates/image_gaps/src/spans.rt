@@ -1,4 +1,4 @@
-//! Extents in a list, and how many bytes they leave.
+//! Extents in a list, and the number of bytes that are in none of them.
 ghost use Rattle.std.specs.Prelude.{◌≡◌, ◌+◌, ◌++◌, min, OnOk};
 ghost use Rattle.std.specs.List.Sorted.{IsNonDecreasingBy};
 ghost use Rattle.rom_fields.specs.declared.span.Span.{Span};
@@ -22,14 +22,14 @@ pub(crate) fn add(
     Ok(())
 }
 
-/// Where an extent ends among `size` bytes.
+/// The offset among `size` bytes at which an extent ends.
 fn end_within(x: Span, size: u32) -> u32
     ensures { result ≡ min (x.start + x.len) size }
 {
     x.start.saturating_add(x.len).min(size)
 }
 
-/// How many of `size` bytes are in none of the extents, whose starts do not fall.
+/// The number of bytes, of `size`, in none of the extents, which are sorted by their starts.
 fn left_by(spans: &[Span], size: u32) -> u32
     requires { IsNonDecreasingBy (λ (x : Span). x.start) spans.now }
     ensures { result ≡ unused spans.now 0 size }
@@ -43,8 +43,8 @@ fn left_by(spans: &[Span], size: u32) -> u32
     left + (size - reach)
 }
 
-/// How many of `size` bytes are in none of the extents. It takes time as n log n, n being how many
-/// extents there are, which stay, in another order.
+/// The number of bytes, of `size`, in none of the extents, which may be reordered. For n extents,
+/// the time grows as n log n (this is not proved).
 pub(crate) fn unused_bytes(spans: &mut [Span], size: u32) -> u32
     ensures { result ≡ unused spans.old 0 size }
 {

@@ -1,5 +1,6 @@
 -- What a walk has counted, and what is to come.
-use Rattle.std.proofs.Common.{◌≡◌, ◌+◌, ◌*◌, ◌<◌, ◌≤◌, ◌==◌, ◌||◌, ◌&&◌, not, ℕ, suc, Bool, true, false, cond, List, [], ◌∷◌, length, refl, ap, ◌∙◌, arith, inl, inr}
+use Rattle.std.proofs.Common.{◌≡◌, ◌+◌, ◌*◌, ◌<◌, ◌≤◌, ◌==◌, ◌||◌, ◌&&◌, not, ℕ, suc, Bool, true, false, cond, List, []}
+use Rattle.std.proofs.Common.{◌∷◌, length, refl, ap, ◌∙◌, arith, inl, inr}
 use Rattle.std.specs.List.{list_any}
 use Rattle.std.specs.BTreeSet.{BTreeSet, contains, Updates}
 use Rattle.std.specs.BTreeMap.{is_at}
@@ -10,7 +11,8 @@ use Rattle.rom_tree.specs.declared.types.Kind.{Kind}
 use Rattle.rom_tree.specs.declared.types.Kind.TheVariants.{Directory, Regular, Symlink, Block, Character, Socket, Fifo}
 use Rattle.rom_tree.specs.Tree.{Node, ino_of, kind_of, places_of}
 use Rattle.rom_tree.specs.Names.{Name}
-use Rattle.image_info.specs.Tallies.{is_file, is_folder, is_symlink, is_other, how_many, is_among, new_bytes, bytes_of_files, tally_of}
+use Rattle.image_info.specs.Tallies.{is_file, is_folder, is_symlink, is_other, how_many, is_among, new_bytes}
+use Rattle.image_info.specs.Tallies.{bytes_of_files, tally_of}
 use Rattle.image_info.specs.declared.tally.Tally.{Tally}
 use Rattle.rom_tree.specs.declared.types.Stat.{Stat}
 use Rattle.rom_tree.specs.Image.{stat_of}
@@ -27,9 +29,11 @@ at_is p q =
     ]
 
 -- one number more
-pub holds_more : (ks : List ℕ) (k : ℕ) (old new : BTreeSet ℕ) → HoldsNumbers ks old → Updates nat_cmp old new k true → HoldsNumbers (k ∷ ks) new
+pub holds_more : (ks : List ℕ) (k : ℕ) (old new : BTreeSet ℕ) → HoldsNumbers ks old → Updates nat_cmp old new k true
+    → HoldsNumbers (k ∷ ks) new
 holds_more ks k old new h u i =
-    u.0 i ∙ ap (λ (b : Bool). cond b true (contains nat_cmp old i)) (at_is k i) ∙ ap (λ (b : Bool). cond (k == i) true b) (h i) ∙ either (k == i) (is_among ks i)
+    u.0 i ∙ ap (λ (b : Bool). cond b true (contains nat_cmp old i)) (at_is k i)
+    ∙ ap (λ (b : Bool). cond (k == i) true b) (h i) ∙ either (k == i) (is_among ks i)
   where
     either : (a b : Bool) → cond a true b ≡ (a || b)
     either true b = refl
@@ -42,16 +46,20 @@ holds_none new e i = ap (list_any (is_at (nat_cmp i))) e
 one_more : (is : Kind → Bool) (n : Name) (old new : List Name) (so_far all more : ℕ) → old ≡ n ∷ new
     → so_far + how_many is old ≡ all → more ≡ so_far + cond (is (kind_of n.node)) 1 0 → more + how_many is new ≡ all
 one_more is n old new so_far all more e h m =
-    let o : how_many is old ≡ cond (is (kind_of n.node)) 1 0 + how_many is new = ap (how_many is) e in omega (arith, o, h, m)
+    let o : how_many is old ≡ cond (is (kind_of n.node)) 1 0 + how_many is new =
+    ap (how_many is) e in omega (arith, o, h, m)
 
 -- the bytes of a name more
 more_bytes : (ks : List ℕ) (n : Name) (old new : List Name) (so_far all more : ℕ) → old ≡ n ∷ new
-    → so_far + bytes_of_files ks old ≡ all → more ≡ so_far + new_bytes ks n.node → more + bytes_of_files (ino_of n.node ∷ ks) new ≡ all
+    → so_far + bytes_of_files ks old ≡ all → more ≡ so_far + new_bytes ks n.node
+    → more + bytes_of_files (ino_of n.node ∷ ks) new ≡ all
 more_bytes ks n old new so_far all more e h m =
-    let o : bytes_of_files ks old ≡ new_bytes ks n.node + bytes_of_files (ino_of n.node ∷ ks) new = ap (bytes_of_files ks) e in omega (arith, o, h, m)
+    let o : bytes_of_files ks old ≡ new_bytes ks n.node + bytes_of_files (ino_of n.node ∷ ks) new =
+    ap (bytes_of_files ks) e in omega (arith, o, h, m)
 
 -- each name is of one kind
-one_kind : (k : Kind) → cond (is_file k) 1 0 + cond (is_folder k) 1 0 + cond (is_symlink k) 1 0 + cond (is_other k) 1 0 ≡ 1
+one_kind : (k : Kind) → cond (is_file k) 1 0 + cond (is_folder k) 1 0 + cond (is_symlink k) 1 0 + cond (is_other k) 1 0
+    ≡ 1
 one_kind Directory = refl
 one_kind Regular = refl
 one_kind Symlink = refl
@@ -95,7 +103,8 @@ started ns all e h =
       room = omega arith;
     }
 
-module _ {ks : List ℕ} {t : Tally} {old all : List Name} (c : Counts ks t old all) (n : Name) (new : List Name) (first : old ≡ n ∷ new) where
+module _ {ks : List ℕ} {t : Tally} {old all : List Name} (c : Counts ks t old all) (n : Name) (new : List Name)
+    (first : old ≡ n ∷ new) where
   len : length old ≡ suc (length new)
   len = ap length first
 
@@ -107,16 +116,21 @@ module _ {ks : List ℕ} {t : Tally} {old all : List Name} (c : Counts ks t old 
   has_room size h = let f = fewer_than in let r = c.room in omega (arith, h, f, r)
 
   -- the name is counted
-  pub counts_more : (s : Stat) (fresh : Bool) (u : Tally) → s ≡ stat_of n.node → s.size < 4294967296 → fresh ≡ not (is_among ks (ino_of n.node))
+  pub counts_more : (s : Stat) (fresh : Bool) (u : Tally) → s ≡ stat_of n.node → s.size < 4294967296
+      → fresh ≡ not (is_among ks (ino_of n.node))
       → u.files ≡ t.files + cond (is_file s.kind) 1 0 → u.folders ≡ t.folders + cond (is_folder s.kind) 1 0
       → u.links ≡ t.links + cond (is_symlink s.kind) 1 0 → u.others ≡ t.others + cond (is_other s.kind) 1 0
       → u.contents ≡ t.contents + cond (is_file s.kind && fresh) s.size 0 → Counts (ino_of n.node ∷ ks) u new all
   counts_more s fresh u e small new_one hf hd hl ho hc =
       let x : Node = n.node in
-      let f : u.files ≡ t.files + cond (is_file (kind_of x)) 1 0 = hf ∙ ap (λ (v : Stat). t.files + cond (is_file v.kind) 1 0) e in
-      let d : u.folders ≡ t.folders + cond (is_folder (kind_of x)) 1 0 = hd ∙ ap (λ (v : Stat). t.folders + cond (is_folder v.kind) 1 0) e in
-      let l : u.links ≡ t.links + cond (is_symlink (kind_of x)) 1 0 = hl ∙ ap (λ (v : Stat). t.links + cond (is_symlink v.kind) 1 0) e in
-      let o : u.others ≡ t.others + cond (is_other (kind_of x)) 1 0 = ho ∙ ap (λ (v : Stat). t.others + cond (is_other v.kind) 1 0) e in
+      let f : u.files ≡ t.files + cond (is_file (kind_of x)) 1 0 =
+      hf ∙ ap (λ (v : Stat). t.files + cond (is_file v.kind) 1 0) e in
+      let d : u.folders ≡ t.folders + cond (is_folder (kind_of x)) 1 0 =
+      hd ∙ ap (λ (v : Stat). t.folders + cond (is_folder v.kind) 1 0) e in
+      let l : u.links ≡ t.links + cond (is_symlink (kind_of x)) 1 0 =
+      hl ∙ ap (λ (v : Stat). t.links + cond (is_symlink v.kind) 1 0) e in
+      let o : u.others ≡ t.others + cond (is_other (kind_of x)) 1 0 =
+      ho ∙ ap (λ (v : Stat). t.others + cond (is_other v.kind) 1 0) e in
       let b : u.contents ≡ t.contents + new_bytes ks x =
       hc ∙ (ap (λ (v : Stat). t.contents + cond (is_file v.kind && fresh) v.size 0) e
       ∙ ap (λ (v : Bool). t.contents + cond (is_file (kind_of x) && v) (length (places_of x)) 0) new_one) in
@@ -148,10 +162,12 @@ all_counted ks t ns all c e =
     let cl = c.links in
     let co = c.others in
     let cc' = c.contents in
-    same (how_many is_file all) (how_many is_folder all) (how_many is_symlink all) (how_many is_other all) (bytes_of_files [] all)
+    same (how_many is_file all) (how_many is_folder all) (how_many is_symlink all) (how_many is_other all)
+    (bytes_of_files [] all)
     (omega (arith, f, cf)) (omega (arith, d, cd)) (omega (arith, s, cl)) (omega (arith, o, co)) (omega (arith, b, cc'))
   where
-    same : (v w x y z : ℕ) → t.files ≡ v → t.folders ≡ w → t.links ≡ x → t.others ≡ y → t.contents ≡ z → t ≡ tally v w x y z
+    same : (v w x y z : ℕ) → t.files ≡ v → t.folders ≡ w → t.links ≡ x → t.others ≡ y → t.contents ≡ z
+        → t ≡ tally v w x y z
     same v w x y z hv hw hx hy hz =
         ap (λ (i : ℕ). tally i t.folders t.links t.others t.contents) hv
         ∙ (ap (λ (i : ℕ). tally v i t.links t.others t.contents) hw

@@ -15,7 +15,8 @@ use Rattle.romfs_format.specs.Made.{made, list_at, begins, start_of, grow}
 use Rattle.cramfs_format.specs.declared.order.Order.{Order}
 use Rattle.cramfs_format.specs.Inode.{list_start, list_end, type_of as cramfs_type_of, name_of as cramfs_name_of}
 use Rattle.cramfs_format.specs.Refers.{root_place}
-use Rattle.cramfs_format.specs.Tree.{kind_numbers as cramfs_numbers, places_at as cramfs_places_at, node_of as cramfs_node_of, entries_at as cramfs_entries_at}
+use Rattle.cramfs_format.specs.Tree.{kind_numbers as cramfs_numbers, places_at as cramfs_places_at}
+use Rattle.cramfs_format.specs.Tree.{node_of as cramfs_node_of, entries_at as cramfs_entries_at}
 use Rattle.cramfs_format.specs.Made.{made as cramfs_made, list_at as cramfs_list_at, grow as cramfs_grow}
 use Rattle.image_check.specs.declared.any.AnyImage.{AnyImage}
 use Rattle.image_check.specs.declared.any.AnyImage.TheVariants.{Romfs, Cramfs}
@@ -26,7 +27,8 @@ body_few : (path : List ℕ) (k : KindNumbers) (t : ℕ) (ps : List ℕ) (es : E
     → length (body_names path (body_by k t ps es)) ≤ length (entries_names path es)
 unfolding node_names
 body_few path k t ps es =
-    let e = by_kind_map (λ (x : Body). length (body_names path x)) k t (directory es) (regular ps) (symlink ps) block character socket fifo in
+    let e = by_kind_map (λ (x : Body). length (body_names path x)) k t (directory es) (regular ps)
+    (symlink ps) block character socket fifo in
     elim (eqb_tells t k.of_directory) [
       | inl h ↦ let d = by_kind_directory k t (length (entries_names path es)) 0 0 0 0 0 0 h.1 in omega (arith, e, d)
       | inr h ↦ let d = by_kind_rest k t (length (entries_names path es)) 0 h.1 in omega (arith, e, d)
@@ -40,7 +42,8 @@ entry_few path name x es m n h i =
     let l = length-append (node_names (path_below path name) x) (entries_names path es) in omega (arith, h, i, l)
 
 -- the names in the list of a romfs directory, and below
-node_few : (b path : List ℕ) (p : ℕ) (es : Entries) (n : ℕ) → length (entries_names path es) ≤ n → length (node_names path (node_of b p es)) ≤ n
+node_few : (b path : List ℕ) (p : ℕ) (es : Entries) (n : ℕ) → length (entries_names path es) ≤ n
+    → length (node_names path (node_of b p es)) ≤ n
 unfolding node_names node_of
 node_few b path p es n h = let f = body_few path kind_numbers (type_of b p) (places_at b p) es in omega (arith, f, h)
 
@@ -51,9 +54,12 @@ entries_few b path (at p own after) =
     let rest = entries_few b path after in
     let name : List ℕ = name_of b p in
     let x : Node = node_of b (led 8 b p) (entries_at b own) in
-    let below = node_few b (path_below path name) (led 8 b p) (entries_at b own) (count own) (entries_few b (path_below path name) own) in
+    let below = node_few b (path_below path name) (led 8 b p) (entries_at b own) (count own)
+    (entries_few b (path_below path name) own) in
     let more = entry_few path name x (entries_at b after) (count own) (count after) below rest in
-    elim (is_dots (name_of b p)) as (λ t. length (entries_names path (cond t (entries_at b after) (entry name x (entries_at b after)))) ≤ suc (count own + count after)) [
+    elim (is_dots (name_of b p)) as (λ t. length
+    (entries_names path (cond t (entries_at b after) (entry name x (entries_at b after))))
+    ≤ suc (count own + count after)) [
       | true ↦ omega (arith, rest)
       | false ↦ more
     ]
@@ -77,21 +83,26 @@ unfolding node_names cramfs_node_of
 cramfs_node_few o b path p es n h =
     let f = body_few path cramfs_numbers (cramfs_type_of o b p) (cramfs_places_at o b p) es in omega (arith, f, h)
 
-cramfs_entries_few : (o : Order) (b path : List ℕ) (f : Forest) → length (entries_names path (cramfs_entries_at o b f)) ≤ count f
+cramfs_entries_few : (o : Order) (b path : List ℕ) (f : Forest)
+    → length (entries_names path (cramfs_entries_at o b f)) ≤ count f
 unfolding node_names
 cramfs_entries_few o b path none = omega arith
 cramfs_entries_few o b path (at p own after) =
     let name : List ℕ = cramfs_name_of o b p in
     let es : Entries = cramfs_entries_at o b own in
-    let below = cramfs_node_few o b (path_below path name) p es (count own) (cramfs_entries_few o b (path_below path name) own) in
-    entry_few path name (cramfs_node_of o b p es) (cramfs_entries_at o b after) (count own) (count after) below (cramfs_entries_few o b path after)
+    let below = cramfs_node_few o b (path_below path name) p es (count own)
+    (cramfs_entries_few o b (path_below path name) own) in
+    entry_few path name (cramfs_node_of o b p es) (cramfs_entries_at o b after) (count own) (count after) below
+    (cramfs_entries_few o b path after)
 
-cramfs_few : (o : Order) (b : List ℕ) (k : ℕ) → count (cramfs_grow k o b (list_end o b root_place) (list_start o b root_place)) ≤ k
+cramfs_few : (o : Order) (b : List ℕ) (k : ℕ)
+    → count (cramfs_grow k o b (list_end o b root_place) (list_start o b root_place)) ≤ k
     → length (names (cramfs_made o b k root_place)) ≤ suc k
 unfolding names node_names cramfs_made cramfs_list_at
 cramfs_few o b k h =
     let f = cramfs_node_few o b [] root_place (cramfs_entries_at o b (cramfs_list_at o b k root_place)) k
-    (let e = cramfs_entries_few o b [] (cramfs_list_at o b k root_place) in let z : count (cramfs_list_at o b k root_place) ≤ k = h in omega (arith, e, z)) in
+    (let e = cramfs_entries_few o b [] (cramfs_list_at o b k root_place) in let z : count
+    (cramfs_list_at o b k root_place) ≤ k = h in omega (arith, e, z)) in
     omega (arith, f)
 
 -- all names, the root's among them

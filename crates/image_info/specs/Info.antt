@@ -1,6 +1,6 @@
--- The facts of a sound image: `KEY VALUE` lines in one order. (The lines are this project's own. The fields are those of
--- Linux Documentation/filesystems/romfs.rst, and of Documentation/filesystems/cramfs.rst with
--- include/uapi/linux/cramfs_fs.h.)
+-- `info_text`: a line for each fact of a valid image, of the superblock, of the check's report, of
+-- the names, of the gaps. (The lines are this project's own. The fields are those of Linux
+-- Documentation/filesystems/romfs.rst, cramfs.rst, and include/uapi/linux/cramfs_fs.h.)
 use Rattle.std.specs.Prelude.{ℕ, List, ◌++◌, codes, decimal}
 use Rattle.rom_fields.specs.Texts.{escaped}
 use Rattle.rom_fields.specs.Words.{word_be}
@@ -21,11 +21,11 @@ use Rattle.image_info.specs.declared.tally.Tally.{Tally}
 use Rattle.image_info.specs.Volumes.{romfs_volume, cramfs_volume}
 use Rattle.image_info.specs.Tallies.{tally_of}
 
--- KEY and a text, as it stands
+-- KEY and a text as it is
 abbrev pub plain_line : List ℕ → List ℕ → List ℕ
 plain_line key text = key ++ (text ++ codes "\n")
 
--- KEY and a text, escaped; where it is empty, a space ends the line
+-- KEY and an escaped text; if it is empty, the line ends with a space
 abbrev pub text_line : List ℕ → List ℕ → List ℕ
 text_line key text = plain_line key (escaped text)
 
@@ -37,7 +37,8 @@ number_line key n = plain_line key (decimal n)
 abbrev pub word_line : List ℕ → ℕ → List ℕ
 word_line key n = key ++ (codes "0x" ++ (eight_digits n ++ codes "\n"))
 
--- of a romfs image in a file of so many bytes: its full size, at 8, and its checksum, at 12
+-- the superblock of a romfs image in a file of `file` bytes: its full size, at 8, and its checksum,
+-- at 12
 unfoldable pub romfs_text : ℕ → List ℕ → List ℕ
 romfs_text file b =
     plain_line (codes "format ") (codes "romfs")
@@ -50,7 +51,8 @@ abbrev pub cramfs_name : Order → List ℕ
 cramfs_name Little = codes "cramfs"
 cramfs_name Big = codes "cramfs-be"
 
--- of a cramfs image in a file of so many bytes: how many are accessible, its flags, at 8, and its CRC, at 32
+-- the superblock of a cramfs image in a file of `file` bytes: the number of accessible bytes, its
+-- flags, at 8, and its CRC, at 32
 unfoldable pub cramfs_text : ℕ → Order → List ℕ → List ℕ
 cramfs_text file o b =
     plain_line (codes "format ") (cramfs_name o)
@@ -70,8 +72,8 @@ unfoldable pub report_text : Report → List ℕ
 report_text r =
     number_line (codes "references ") r.references ++ number_line (codes "depth ") r.depth
 
--- how many names lead to regular files, directories, symbolic links and other nodes, and the bytes
--- of all files
+-- the numbers of names that lead to regular files, directories, symbolic links and other nodes, and
+-- the number of bytes of all files
 unfoldable pub tally_text : Tally → List ℕ
 tally_text t =
     number_line (codes "files ") t.files
@@ -80,7 +82,8 @@ tally_text t =
     ++ (number_line (codes "others ") t.others
     ++ number_line (codes "contents ") t.contents)))
 
--- all lines, of an image in a file of so many bytes; the last tells how many of the accessible bytes nothing uses
+-- all lines of an image in a file of `file` bytes; the last is the number of accessible bytes that
+-- nothing uses
 unfoldable pub info_text : ℕ → AnyImage → List ℕ
 info_text file a =
     superblock_text file a

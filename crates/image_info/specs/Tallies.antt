@@ -1,6 +1,7 @@
--- The names of a tree, counted by what they lead to, and the bytes of its files.
--- (This project's own.)
-use Rattle.std.specs.Prelude.{ℕ, ◌+◌, ◌==◌, ◌&&◌, not, Bool, true, false, if◌then◌else◌, List, [], ◌∷◌, length}
+-- `tally_of`: the number of names that lead to nodes of each kind. `bytes_of_files`: the number of
+-- bytes of all files, each counted once. (This project's own.)
+use Rattle.std.specs.Prelude.{ℕ, ◌+◌, ◌==◌, ◌&&◌, not, Bool, true, false, if◌then◌else◌, List, []}
+use Rattle.std.specs.Prelude.{◌∷◌, length}
 use Rattle.std.specs.List.{list_any}
 use Rattle.rom_tree.specs.declared.types.Kind.{Kind}
 use Rattle.rom_tree.specs.declared.types.Kind.TheVariants.{Directory, Regular, Symlink}
@@ -27,7 +28,7 @@ is_other Regular = false
 is_other Symlink = false
 is_other _ = true
 
--- how many of the names lead to a node of such a kind
+-- the number of names that lead to a node of such a kind
 abbrev pub how_many : (Kind → Bool) → List Name → ℕ
 how_many is [] = 0
 how_many is (n ∷ ns) = (if is (kind_of n.node) then 1 else 0) + how_many is ns
@@ -35,14 +36,14 @@ how_many is (n ∷ ns) = (if is (kind_of n.node) then 1 else 0) + how_many is ns
 abbrev pub is_among : List ℕ → ℕ → Bool
 is_among ks i = list_any (λ k. k == i) ks
 
--- the bytes of a regular file whose number is none of the earlier ones
+-- the number of bytes of a regular file whose number is none of the earlier ones
 abbrev pub new_bytes : List ℕ → Node → ℕ
 new_bytes earlier x =
     if is_file (kind_of x) && not (is_among earlier (ino_of x)) then length (places_of x)
     else 0
 
--- The bytes of the regular files that some names lead to, where nodes of the earlier numbers are
--- counted already: each file counts once, however many names it has.
+-- The number of bytes of the regular files to which some names lead. Nodes of the earlier numbers
+-- are already counted. Each file counts once, for any number of its names.
 abbrev pub bytes_of_files : List ℕ → List Name → ℕ
 bytes_of_files earlier [] = 0
 bytes_of_files earlier (n ∷ ns) =

@@ -1,15 +1,16 @@
--- The name of an image's volume. (Linux Documentation/filesystems/romfs.rst: it stands at 16, and
--- a zero ends it. include/uapi/linux/cramfs_fs.h: `name[16]`, at 48 of the superblock.)
+-- `volume_of`: the name of an image's volume, by its format. (Linux
+-- Documentation/filesystems/romfs.rst: it is at 16, and a zero ends it.
+-- include/uapi/linux/cramfs_fs.h: `name[16]`, at 48 of the superblock.)
 use Rattle.std.specs.Prelude.{ℕ, List, take, drop}
 use Rattle.romfs_format.specs.Record.{before_zero}
 use Rattle.image_check.specs.declared.any.AnyImage.{AnyImage}
 use Rattle.image_check.specs.declared.any.AnyImage.TheVariants.{Romfs, Cramfs}
 
--- what stands at 16 before the first zero
+-- the bytes from 16 on before the first zero
 abbrev pub romfs_volume : List ℕ → List ℕ
 romfs_volume b = before_zero (drop 16 b)
 
--- what stands in the 16 bytes at 48 before the first zero
+-- the bytes of the field of 16 bytes at 48, before the first zero
 unfoldable pub cramfs_volume : List ℕ → List ℕ
 cramfs_volume b = before_zero (take 16 (drop 48 b))
 

@@ -16,7 +16,7 @@ use rom_fields::ByteWrite;
 use rom_tree::Report;
 use std::alloc::Global;
 
-/// Why the facts of an image were not written whole.
+/// The reason why the facts of an image were not written whole.
 #[derive(Clone, Copy, Debug, PartialEq, Eq)]
 pub enum InfoError {
     /// Memory was refused, and nothing was written.
@@ -34,7 +34,7 @@ fn put_report<W: ByteWrite>(w: &mut W, failed: &mut bool, report: Report)
     put_number(w, failed, b"depth ", report.depth as u64);
 }
 
-/// Puts the lines of what was counted.
+/// Puts the lines of the counts.
 fn put_tally<W: ByteWrite>(w: &mut W, failed: &mut bool, tally: Tally)
     ensures { Puts (sink (W.output w.old) failed.old) (sink (W.output w.new) failed.new)
         (tally_text tally) }
@@ -46,22 +46,29 @@ fn put_tally<W: ByteWrite>(w: &mut W, failed: &mut bool, tally: Tally)
     put_number(w, failed, b"contents ", tally.contents);
 }
 
-/// Writes the facts of an image that was checked, a line for each, with its key, a space, its value
-/// and a line feed: `format` is romfs, cramfs or cramfs-be; `size` is how many bytes the image says
-/// that it has, and `file` how many the file has that it is in, as the caller says; `volume` is the
-/// volume's name, escaped as paths are in a list; of cramfs alone, `flags` are those of the
-/// superblock; `sum` is the checksum word of romfs or the CRC of cramfs, as it is stored;
-/// `references` and `depth` are those of a check's report; `files`, `folders`, `links` and `others`
-/// count the names of the tree, the root's among them, by what they lead to; `contents` are the
-/// bytes of all regular files, each counted once; `gaps` are those of the `size` bytes that nothing
-/// uses: no superblock, record with its name, list, table or contents. `flags` and `sum` are `0x`
-/// and eight hexadecimal digits, and other numbers are decimal. A check gave the image, and its
-/// directories lie no more than 64 deep.
+/// Writes the facts of a checked image. Each line has a key, a space, a value and a line feed:
+///
+/// - `format`: romfs, cramfs or cramfs-be;
+/// - `size`: the number of bytes that the image states or, if it states none, of its accessible
+///   bytes;
+/// - `file`: the number of bytes of the image's file, as the caller passes it;
+/// - `volume`: the volume's name, escaped as paths are in a list;
+/// - `flags`, only for cramfs: the flags of the superblock;
+/// - `sum`: the checksum word of romfs or the CRC of cramfs, as it is stored;
+/// - `references` and `depth`: those of a check's report;
+/// - `files`, `folders`, `links` and `others`: the numbers of names in the tree, including the
+///   root's, that lead to regular files, directories, symbolic links and other nodes;
+/// - `contents`: the number of bytes of all regular files, each counted once;
+/// - `gaps`: the number of the `size` bytes that nothing uses: no superblock, record with its name,
+///   list, table or contents.
+///
+/// `flags` and `sum` are `0x` and eight hexadecimal digits, and other numbers are decimal. A check
+/// must have returned the image. Its directories may be 64 deep.
 ///
 /// # Errors
 ///
-/// `OutOfMemory` where memory was refused: then nothing was written. `WriteFault` where a write
-/// failed: then a prefix of the text was written.
+/// `OutOfMemory` if memory is refused: then nothing was written. `WriteFault` if a write failed:
+/// then a prefix of the text was written.
 pub fn write_info<W: ByteWrite>(
     alloc: Global,
     image: &AnyImage<'_>,

@@ -1,8 +1,9 @@
-//! The facts of a sound image, of romfs or of cramfs.
+//! `write_info`: the facts of a valid image's superblock, check and names, and the number of bytes
+//! that nothing uses, a line for each fact. `volume`: the name of its volume.
 //!
-//! `specs/Info.antt` says what these are: a line for each, with its key and its value. Proved:
-//! `write_info` writes just that text, or a prefix of it where the writer failed, and `volume`
-//! gives the name of the image's volume.
+//! Proved: `write_info` writes exactly the text of `specs/Info.antt`, or a prefix of it if the
+//! writer failed, or nothing if memory was refused. `volume` returns the name of
+//! `specs/Volumes.antt`.
 #![tactic(auto)]
 
 mod info;

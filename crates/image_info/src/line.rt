@@ -6,7 +6,7 @@ ghost use Rattle.image_info.specs.Info.{plain_line, text_line, number_line, word
 use image_map::put_eight_digits;
 use rom_fields::{ByteWrite, put, put_escaped, put_long_decimal};
 
-/// Puts a key and a text, as they stand, and a line feed.
+/// Puts a key, a text as it is, and a line feed.
 pub(crate) fn put_plain<W: ByteWrite>(w: &mut W, failed: &mut bool, key: &[u8], text: &[u8])
     ensures { Puts (sink (W.output w.old) failed.old) (sink (W.output w.new) failed.new)
         (plain_line key.now text.now) }
@@ -16,7 +16,7 @@ pub(crate) fn put_plain<W: ByteWrite>(w: &mut W, failed: &mut bool, key: &[u8], 
     put(w, failed, b"\n");
 }
 
-/// Puts a key, a text, escaped, and a line feed.
+/// Puts a key, an escaped text, and a line feed.
 pub(crate) fn put_text<W: ByteWrite>(w: &mut W, failed: &mut bool, key: &[u8], text: &[u8])
     ensures { Puts (sink (W.output w.old) failed.old) (sink (W.output w.new) failed.new)
         (text_line key.now text.now) }

@@ -20,7 +20,7 @@ fn bytes_from<'a>(bytes: &'a [u8], at: usize) -> &'a [u8]
     &bytes[at.min(bytes.len())..]
 }
 
-/// The first `len` bytes, or all where they are fewer.
+/// The first `len` bytes, or all if there are fewer.
 fn first_bytes<'a>(bytes: &'a [u8], len: usize) -> &'a [u8]
     ensures { result.now ≡ take len bytes.now }
 {
@@ -35,9 +35,10 @@ fn volume_of_cramfs<'a>(bytes: &'a [u8]) -> &'a [u8]
     upto_zero(first_bytes(bytes_from(bytes, 48), 16))
 }
 
-/// The name of an image's volume, as it stands in the image: in romfs the bytes from 16 on up to
-/// the first zero (Linux Documentation/filesystems/romfs.rst), in cramfs those of the field of 16
-/// bytes at 48 (include/uapi/linux/cramfs_fs.h). It may be empty, and may have any byte but zero.
+/// Returns the name of an image's volume, as it is in the image. In romfs it is the bytes from
+/// offset 16 to the first zero (Linux Documentation/filesystems/romfs.rst). In cramfs it is the
+/// bytes of the field of 16 bytes at 48, to the first zero (include/uapi/linux/cramfs_fs.h). It may
+/// be empty, and may have any byte except zero.
 pub fn volume<'a>(image: &AnyImage<'a>) -> &'a [u8]
     ensures { result.now ≡ volume_of image.now }
 {

@@ -1,4 +1,4 @@
-//! The names of a tree, counted by what they lead to.
+//! The names of a tree, counted by the kinds of their nodes.
 ghost use Rattle.std.specs.Prelude.{◌≡◌, ◌+◌, ◌<◌, ◌≤◌, ◌^◌, ◌&&◌, length, IfOk, if◌then◌else◌};
 ghost use Rattle.rom_tree.specs.Tree.{levels};
 ghost use Rattle.rom_tree.specs.Names.{names};
@@ -9,8 +9,8 @@ use rom_tree::{Kind, Stat, TreeImage, Walk};
 use std::alloc::Global;
 use std::collections::BTreeSet;
 
-/// How many names lead to regular files, to directories, to symbolic links and to other nodes, and
-/// how many bytes all files have, each counted once.
+/// The numbers of names that lead to regular files, directories, symbolic links and other nodes,
+/// and the number of bytes of all files, each counted once.
 #[derive(Clone, Copy)]
 pub struct Tally {
     pub files: u64,
@@ -20,7 +20,8 @@ pub struct Tally {
     pub contents: u64,
 }
 
-/// With one more name, and with the bytes of its file where `fresh` says that the file is new.
+/// The counts with one more name. `fresh` is whether its node is new; only then its bytes are
+/// counted.
 fn counted(tally: Tally, stat: Stat, fresh: bool) -> Tally
     requires few { tally.files + tally.folders + tally.links + tally.others < 2 ^ 32 }
     requires room { tally.contents + stat.size < 2 ^ 64 }
@@ -46,7 +47,7 @@ fn counted(tally: Tally, stat: Stat, fresh: bool) -> Tally
     more
 }
 
-/// The names of an image's tree, counted. It keeps the numbers of the nodes that it has met.
+/// Counts the names of an image's tree. It keeps the numbers of the nodes that it has met.
 pub(crate) fn count_names<'a, T: TreeImage<'a>>(
     alloc: Global,
     image: &T,

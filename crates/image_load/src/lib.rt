@@ -1,7 +1,8 @@
-//! Images that are read from any reader, as far as a check of them looks.
+//! Images that are read from any reader. `load` reads an image up to the length that a check reads,
+//! or only its first bytes, if these refuse it.
 //!
-//! Proved, of a reader that tells its bytes: what is loaded is exactly the front of them that a check
-//! looks at, or as much of it as refuses the image (`specs/Loads.antt`).
+//! Proved, for a reader whose bytes are known: the loaded bytes are exactly the front of them that
+//! a check reads, or the part of it that refuses the image (`specs/Loads.antt`).
 #![tactic(auto)]
 
 mod loading;

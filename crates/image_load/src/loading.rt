@@ -14,16 +14,17 @@ const WRONG_SUM: Fault = Fault {
     at: 12,
 };
 
-/// An image, and how many bytes the file has that it is in.
+/// An image, and the length of its file in bytes.
 #[derive(Drop)]
 pub struct Loaded {
     pub bytes: Vec<u8>,
-    /// As was told; or as many as were read, where these are more, as of a device or a pipe.
+    /// The reported length of the file; or the number of bytes that were read, if that is more, as
+    /// for a device or a pipe.
     pub file: u64,
 }
 
-/// The first bytes of a file that refuse it, with the fault that it has by them, and how many bytes
-/// a check of the whole would look at.
+/// The first bytes of a file that refuse it, the fault that it has by them, and the number of bytes
+/// that a check of the whole would read.
 #[derive(Drop)]
 pub struct Front {
     pub bytes: Vec<u8>,
@@ -31,20 +32,20 @@ pub struct Front {
     pub reach: u64,
 }
 
-/// What a file holds.
+/// The contents of a file.
 #[derive(Drop)]
 pub enum Found {
-    /// As many bytes of an image as a check looks at.
+    /// The bytes of an image that a check reads.
     Image(Loaded),
     /// An image that its first bytes refuse.
     Refused(Front),
 }
 
-/// Reads the image in a file, of which it is told that it has so many bytes, 0 of a device or a pipe:
-/// as many bytes as a check looks at. Of these it answers as of the whole file
-/// (`image_reach::laws::no_further`). A romfs image whose first 512 bytes have a wrong sum is read
-/// no further than these if the file has the size that it states; the sum is then its fault
-/// (`image_reach::laws::refused`).
+/// Reads the image in a file, up to the length that a check reads. A check of these bytes answers
+/// the same as one of the whole file (`image_reach::laws::no_further`). `length` is the reported
+/// length of the file, which is 0 for a device or a pipe. If the first 512 bytes of a romfs image
+/// have a wrong sum and the file has the size that the image states, only these bytes are read. The
+/// sum is then the image's fault (`image_reach::laws::refused`).
 ///
 /// # Errors
 ///

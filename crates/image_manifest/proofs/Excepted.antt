@@ -1,5 +1,6 @@
--- Where the grammar takes an image's lines, no path is too long, and no link's text has a zero byte.
-use Rattle.std.proofs.Common.{◌≡◌, ℕ, ◌+◌, Bool, true, false, ◌||◌, nat_lt, cond, List, [], ◌∷◌, ◌++◌, length, map, Option, None, Some, refl, sym, ap, subst, ◌∙◌, arith}
+-- If the grammar accepts an image's lines, no path is too long, and no link's text has a zero byte.
+use Rattle.std.proofs.Common.{◌≡◌, ℕ, ◌+◌, Bool, true, false, ◌||◌, nat_lt, cond, List, [], ◌∷◌, ◌++◌, length, map}
+use Rattle.std.proofs.Common.{Option, None, Some, refl, sym, ap, subst, ◌∙◌, arith}
 use Rattle.std.specs.Prelude.{◌==◌}
 use Rattle.std.specs.List.{list_any}
 use Rattle.std.specs.Option.{is_some}
@@ -12,7 +13,8 @@ use Rattle.manifest.specs.Texts.{is_bad}
 use Rattle.manifest_text.specs.Printed.{AreTaken, numbered}
 use Rattle.rom_tree.specs.Image.{Image, contents_of}
 use Rattle.rom_tree.specs.Names.{Name, names}
-use Rattle.rom_tree.specs.Tree.{Node, node, directory, regular, symlink, block, character, socket, fifo, IsIn, here, there, is_link, kind_of}
+use Rattle.rom_tree.specs.Tree.{Node, node, directory, regular, symlink, block, character, socket, fifo, IsIn, here}
+use Rattle.rom_tree.specs.Tree.{there, is_link, kind_of}
 use Rattle.image_manifest.specs.Lines.{line_behind, line_by, lines_behind, member_lines, node_line, text_of, word_of}
 use Rattle.image_manifest.specs.Members.{has_long_path, is_long}
 use Rattle.image_manifest.specs.Tellable.{HaveNoZeros}
@@ -34,21 +36,24 @@ none_long : (ns : List Name) → ((n : Name) → Among n ns → is_some (names_o
     → list_any is_long ns ≡ false
 none_long [] h = refl
 none_long (n ∷ ns) h =
-    neither (is_long n) (list_any is_long ns) ((or_false (nat_lt 4095 (length n.path)) (list_any (λ b. b == 0) n.path) (not_bad n.path (h n first))).0)
+    neither (is_long n) (list_any is_long ns)
+    ((or_false (nat_lt 4095 (length n.path)) (list_any (λ b. b == 0) n.path) (not_bad n.path (h n first))).0)
     (none_long ns (λ k i. h k (later i)))
 
 -- Each line has no fault.
 
 line_sound : (latest : List Line) (n : ℕ) (xs : List Line) (l : Line) (ys : List Line) (k : ℕ) → k ≡ n + length xs
     → AreTaken latest n (xs ++ l ∷ ys) → fault_of (taken_after latest n xs) (numbered k l) ≡ None
-line_sound latest n [] l ys k e t = let f : n ≡ k = omega (arith, e) in subst (λ (v : ℕ). fault_of latest (numbered v l) ≡ None) f t.1
+line_sound latest n [] l ys k e t =
+    let f : n ≡ k = omega (arith, e) in subst (λ (v : ℕ). fault_of latest (numbered v l) ≡ None) f t.1
 line_sound latest n (x ∷ xs) l ys k e t = line_sound (numbered n x ∷ latest) (n + 1) xs l ys k (omega (arith, e)) t.2
 
 name_sound : (m : Image) (folder : List ℕ) (j : ℕ) (b : List Name) (n : Name) (a : List Name)
     → AreTaken [] j (lines_behind m folder [] (b ++ n ∷ a))
     → fault_of (all_taken m folder j b) (numbered (j + length b) (line_behind m folder b n)) ≡ None
 name_sound m folder j b n a t =
-    line_sound [] j (lines_behind m folder [] b) (line_behind m folder b n) (lines_behind m folder (b ++ n ∷ []) a) (j + length b) (omega (arith, length-lines m folder [] b))
+    line_sound [] j (lines_behind m folder [] b) (line_behind m folder b n) (lines_behind m folder (b ++ n ∷ []) a)
+    (j + length b) (omega (arith, length-lines m folder [] b))
     (subst (λ (v : List Line). AreTaken [] j v) (lines_apart m folder [] b n a) t)
 
 sound_text : (ls : List Line) (l : Line) → fault_of ls l ≡ None → is_bad_text l.word l.text ≡ false
@@ -66,7 +71,9 @@ link_text : (m : Image) (source : List ℕ) (x : Node) → is_link x ≡ true
     → list_any (λ b. b == 0) (contents_of m.bytes x) ≡ false
 link_text m source (node a (directory es)) l h = absurd (cc)
 link_text m source (node a (regular ps)) l h = absurd (cc)
-link_text m source (node a (symlink ps)) l h = (or_false (nat_lt 4095 (length (contents_of m.bytes (node a (symlink ps))))) (list_any (λ b. b == 0) (contents_of m.bytes (node a (symlink ps)))) h).1
+link_text m source (node a (symlink ps)) l h =
+    (or_false (nat_lt 4095 (length (contents_of m.bytes (node a (symlink ps)))))
+    (list_any (λ b. b == 0) (contents_of m.bytes (node a (symlink ps)))) h).1
 link_text m source (node a block) l h = absurd (cc)
 link_text m source (node a character) l h = absurd (cc)
 link_text m source (node a socket) l h = absurd (cc)
@@ -84,15 +91,22 @@ no_zeros m folder j t x h l =
     let n = named_node (names m.tree) x (subst (λ (v : List Node). IsIn x v) (sym (names_nodes m.tree)) h) in
     let r = is_led m folder j (names m.tree) n.0 t n.1 in
     let o : Name = r.origin in
-    let stands : Among o (names m.tree) = subst (λ (v : List Name). Among o v) (sym r.parts) (among_back o r.before (o ∷ r.after) first) in
-    let same : o.node ≡ x = m.coherent o.node n.0.node (in_tree m.tree o stands) (in_tree m.tree n.0 n.1) r.number ∙ n.2 in
-    let sound = name_sound m folder j r.before o r.after (subst (λ (v : List Name). AreTaken [] j (lines_behind m folder [] v)) r.parts t) in
+    let stands : Among o (names m.tree) =
+    subst (λ (v : List Name). Among o v) (sym r.parts) (among_back o r.before (o ∷ r.after) first) in
+    let same : o.node ≡ x =
+    m.coherent o.node n.0.node (in_tree m.tree o stands) (in_tree m.tree n.0 n.1) r.number ∙ n.2 in
+    let sound = name_sound m folder j r.before o r.after
+    (subst (λ (v : List Name). AreTaken [] j (lines_behind m folder [] v)) r.parts t) in
     let e : line_behind m folder r.before o ≡ node_line m folder o.path o.node = ap (line_by m folder o) r.own in
-    let own = subst (λ (v : Line). fault_of (all_taken m folder j r.before) (numbered (j + length r.before) v) ≡ None) e sound in
-    let text = sound_text (all_taken m folder j r.before) (numbered (j + length r.before) (node_line m folder o.path o.node)) own in
-    subst (λ (v : Node). list_any (λ b. b == 0) (contents_of m.bytes v) ≡ false) same (link_text m (folder ++ o.path) o.node (ap is_link same ∙ l) text)
+    let own = subst (λ (v : Line). fault_of (all_taken m folder j r.before) (numbered (j + length r.before) v)
+    ≡ None) e sound in
+    let text = sound_text (all_taken m folder j r.before)
+    (numbered (j + length r.before) (node_line m folder o.path o.node)) own in
+    subst (λ (v : Node). list_any (λ b. b == 0) (contents_of m.bytes v) ≡ false) same
+    (link_text m (folder ++ o.path) o.node (ap is_link same ∙ l) text)
 
 pub excepted : (m : Image) (folder : List ℕ) (j : ℕ) → AreTaken [] j (member_lines m folder)
     → HaveNoZeros m × (has_long_path m.tree ≡ false)
 unfolding member_lines
-excepted m folder j t = (no_zeros m folder j t, none_long (names m.tree) (λ n i. lawful m folder [] j [] (names m.tree) n t i))
+excepted m folder j t =
+    (no_zeros m folder j t, none_long (names m.tree) (λ n i. lawful m folder [] j [] (names m.tree) n t i))

@@ -1,5 +1,6 @@
 -- The line that a name's path leads to.
-use Rattle.std.proofs.Common.{◌≡◌, ℕ, ◌+◌, Bool, true, false, ◌||◌, cond, List, [], ◌∷◌, ◌++◌, length, map, reverse, Option, None, Some, refl, sym, ap, subst, ◌∙◌, append_assoc, append-nil, arith}
+use Rattle.std.proofs.Common.{◌≡◌, ℕ, ◌+◌, Bool, true, false, ◌||◌, cond, List, [], ◌∷◌, ◌++◌, length, map, reverse}
+use Rattle.std.proofs.Common.{Option, None, Some, refl, sym, ap, subst, ◌∙◌, append_assoc, append-nil, arith}
 use Rattle.std.proofs.lemmas.List.{reverse-append}
 use Rattle.std.proofs.lemmas.Bool.{eqb-true}
 use Rattle.std.specs.Prelude.{◌==◌}
@@ -30,7 +31,7 @@ among_nodes n (k ∷ ns) (later h) = there (among_nodes n ns h)
 pub in_tree : (t : Node) (n : Name) → Among n (names t) → IsIn n.node (nodes t)
 in_tree t n h = subst (λ (v : List Node). IsIn n.node v) (names_nodes t) (among_nodes n (names t) h)
 
--- the lines from the last to the first, once these were taken too
+-- the lines in reverse order, after these were accepted as well
 abbrev pub taken_after : List Line → ℕ → List Line → List Line
 taken_after latest n [] = latest
 taken_after latest n (l ∷ ls) = taken_after (numbered n l ∷ latest) (n + 1) ls
@@ -50,7 +51,7 @@ taken_front latest n (x ∷ xs) ys h = (h.0, h.1, taken_front (numbered n x ∷ 
 same_path : (p : List ℕ) → bytes_eq p p ≡ true
 same_path p = (bytes_decides p p).1 refl
 
--- a line that is taken has another path than those before it
+-- a line that is accepted has another path than those before it
 pub other_path : (latest : List Line) (n : ℕ) (l : Line) (p : List ℕ) → fault_of latest (numbered n l) ≡ None
     → is_some (line_at latest p) ≡ true → bytes_eq l.path p ≡ false
 other_path latest n l p f h = by (bytes_eq l.path p) refl
@@ -58,10 +59,11 @@ other_path latest n l p f h = by (bytes_eq l.path p) refl
     by : (b : Bool) → bytes_eq l.path p ≡ b → b ≡ false
     by true e =
         absurd (true_is_not_false (is_some (line_at latest p)) h
-        (ap (λ (v : List ℕ). is_some (line_at latest v)) (sym ((bytes_decides l.path p).0 e)) ∙ (sound_place latest (numbered n l) f).1))
+        (ap (λ (v : List ℕ). is_some (line_at latest v)) (sym ((bytes_decides l.path p).0 e))
+        ∙ (sound_place latest (numbered n l) f).1))
     by false e = refl
 
--- what a path leads to stays, whatever lines are taken behind
+-- what a path leads to stays, whatever lines are accepted behind
 kept : (latest : List Line) (n : ℕ) (ls : List Line) (p : List ℕ) → AreTaken latest n ls
     → is_some (line_at latest p) ≡ true
     → (led (taken_after latest n ls) p ≡ led latest p) × (filed (taken_after latest n ls) p ≡ filed latest p)
@@ -76,7 +78,8 @@ abbrev pub led_by : List Line → Line → ℕ → Option Line
 led_by before l k = cond (is_hard l.word) (led before l.text) (Some (numbered k l))
 
 abbrev pub filed_by : List Line → Line → ℕ → Option Line
-filed_by before l k = cond (is_hard l.word || is_same l.word) (filed before l.text) (cond (is_file l.word) (Some (numbered k l)) None)
+filed_by before l k =
+    cond (is_hard l.word || is_same l.word) (filed before l.text) (cond (is_file l.word) (Some (numbered k l)) None)
 
 line_led : (latest : List Line) (n : ℕ) (xs : List Line) (l : Line) (ys : List Line) (k : ℕ) → k ≡ n + length xs
     → AreTaken latest n (xs ++ l ∷ ys)
@@ -92,12 +95,16 @@ line_led latest n (x ∷ xs) l ys k e t = line_led (numbered n x ∷ latest) (n 
 -- The lines of an image's names.
 
 pub lines_apart : (m : Image) (folder : List ℕ) (pre b : List Name) (n : Name) (a : List Name)
-    → lines_behind m folder pre (b ++ n ∷ a) ≡ lines_behind m folder pre b ++ line_behind m folder (pre ++ b) n ∷ lines_behind m folder ((pre ++ b) ++ n ∷ []) a
-lines_apart m folder pre [] n a = ap (λ (v : List Name). line_behind m folder v n ∷ lines_behind m folder (v ++ n ∷ []) a) (sym (append-nil pre))
+    → lines_behind m folder pre (b ++ n ∷ a)
+    ≡ lines_behind m folder pre b ++ line_behind m folder (pre ++ b) n
+    ∷ lines_behind m folder ((pre ++ b) ++ n ∷ []) a
+lines_apart m folder pre [] n a =
+    ap (λ (v : List Name). line_behind m folder v n ∷ lines_behind m folder (v ++ n ∷ []) a) (sym (append-nil pre))
 lines_apart m folder pre (x ∷ b) n a =
     ap (λ (v : List Line). line_behind m folder pre x ∷ v)
     (lines_apart m folder (pre ++ x ∷ []) b n a
-    ∙ ap (λ (v : List Name). lines_behind m folder (pre ++ x ∷ []) b ++ line_behind m folder v n ∷ lines_behind m folder (v ++ n ∷ []) a) (append_assoc pre (x ∷ []) b))
+    ∙ ap (λ (v : List Name). lines_behind m folder (pre ++ x ∷ []) b ++ line_behind m folder v n
+    ∷ lines_behind m folder (v ++ n ∷ []) a) (append_assoc pre (x ∷ []) b))
 
 -- all lines, from the last to the first
 abbrev pub all_taken : Image → List ℕ → ℕ → List Name → List Line
@@ -105,15 +112,20 @@ all_taken m folder j ns = taken_after [] j (lines_behind m folder [] ns)
 
 name_led : (m : Image) (folder : List ℕ) (j : ℕ) (b : List Name) (n : Name) (a : List Name)
     → AreTaken [] j (lines_behind m folder [] (b ++ n ∷ a))
-    → (led (all_taken m folder j (b ++ n ∷ a)) (line_behind m folder b n).path ≡ led_by (all_taken m folder j b) (line_behind m folder b n) (j + length b))
-    × (filed (all_taken m folder j (b ++ n ∷ a)) (line_behind m folder b n).path ≡ filed_by (all_taken m folder j b) (line_behind m folder b n) (j + length b))
+    → (led (all_taken m folder j (b ++ n ∷ a)) (line_behind m folder b n).path
+    ≡ led_by (all_taken m folder j b) (line_behind m folder b n) (j + length b))
+    × (filed (all_taken m folder j (b ++ n ∷ a)) (line_behind m folder b n).path
+    ≡ filed_by (all_taken m folder j b) (line_behind m folder b n) (j + length b))
 name_led m folder j b n a t =
     let xs : List Line = lines_behind m folder [] b in
     let l : Line = line_behind m folder b n in
     let ys : List Line = lines_behind m folder (b ++ n ∷ []) a in
     let e = lines_apart m folder [] b n a in
-    let h = line_led [] j xs l ys (j + length b) (omega (arith, length-lines m folder [] b)) (subst (λ (v : List Line). AreTaken [] j v) e t) in
-    (ap (λ (v : List Line). led (taken_after [] j v) l.path) e ∙ h.0, ap (λ (v : List Line). filed (taken_after [] j v) l.path) e ∙ h.1)
+    let h = line_led [] j xs l ys (j + length b) (omega (arith, length-lines m folder [] b))
+    (subst (λ (v : List Line). AreTaken [] j v) e t) in (
+      ap (λ (v : List Line). led (taken_after [] j v) l.path) e ∙ h.0,
+      ap (λ (v : List Line). filed (taken_after [] j v) l.path) e ∙ h.1,
+    )
 
 -- the name, before a name, whose line its own leads to
 abbrev pub other : List Name → Name → Option Name
@@ -144,18 +156,23 @@ pub own_led : (m : Image) (folder : List ℕ) (j : ℕ) (b : List Name) (o : Nam
 own_led m folder j b o a t h =
     let l : Line = node_line m folder o.path o.node in
     let e : line_behind m folder b o ≡ l = ap (line_by m folder o) h in
-    let f = subst (λ (v : Line). led (all_taken m folder j (b ++ o ∷ a)) v.path ≡ led_by (all_taken m folder j b) v (j + length b)) e (name_led m folder j b o a t).0 in
-    f ∙ ap (λ (x : Bool). cond x (led (all_taken m folder j b) l.text) (Some (numbered (j + length b) l))) (not_hard (kind_of o.node))
+    let f = subst (λ (v : Line). led (all_taken m folder j (b ++ o ∷ a)) v.path
+    ≡ led_by (all_taken m folder j b) v (j + length b)) e (name_led m folder j b o a t).0 in
+    f ∙ ap (λ (x : Bool). cond x (led (all_taken m folder j b) l.text) (Some (numbered (j + length b) l)))
+    (not_hard (kind_of o.node))
 
--- and, where it is a regular file's, it has the contents of it
+-- and, if it is a regular file's, it has the contents of it
 pub own_filed : (m : Image) (folder : List ℕ) (j : ℕ) (b : List Name) (o : Name) (a : List Name)
     → AreTaken [] j (lines_behind m folder [] (b ++ o ∷ a)) → other b o ≡ None → kind_of o.node ≡ Regular
-    → filed (all_taken m folder j (b ++ o ∷ a)) o.path ≡ Some (numbered (j + length b) (node_line m folder o.path o.node))
+    → filed (all_taken m folder j (b ++ o ∷ a)) o.path
+    ≡ Some (numbered (j + length b) (node_line m folder o.path o.node))
 own_filed m folder j b o a t h k =
     let l : Line = node_line m folder o.path o.node in
     let e : line_behind m folder b o ≡ l = ap (line_by m folder o) h in
-    let f = subst (λ (v : Line). filed (all_taken m folder j (b ++ o ∷ a)) v.path ≡ filed_by (all_taken m folder j b) v (j + length b)) e (name_led m folder j b o a t).1 in
-    f ∙ ap (λ (x : Kind). cond (is_hard (word_of x) || is_same (word_of x)) (filed (all_taken m folder j b) l.text) (cond (is_file (word_of x)) (Some (numbered (j + length b) l)) None)) k
+    let f = subst (λ (v : Line). filed (all_taken m folder j (b ++ o ∷ a)) v.path
+    ≡ filed_by (all_taken m folder j b) v (j + length b)) e (name_led m folder j b o a t).1 in
+    f ∙ ap (λ (x : Kind). cond (is_hard (word_of x) || is_same (word_of x)) (filed (all_taken m folder j b) l.text)
+    (cond (is_file (word_of x)) (Some (numbered (j + length b) l)) None)) k
 
 -- the first name of a node
 pub record IsFirst (wanted : ℕ) (ns : List Name) (n : Name) : Type 0 where
@@ -168,7 +185,8 @@ pub record IsFirst (wanted : ℕ) (ns : List Name) (n : Name) : Type 0 where
 pub first_is : (number : ℕ) (ns : List Name) (n : Name) → first_name number ns ≡ Some n → IsFirst number ns n
 first_is number [] n h = absurd (cc)
 first_is number (x ∷ ns) n h =
-    elim (ino_of x.node == number) as (λ t. (ino_of x.node == number) ≡ t → cond t (Some x) (first_name number ns) ≡ Some n → IsFirst number (x ∷ ns) n) [
+    elim (ino_of x.node == number) as (λ t. (ino_of x.node == number) ≡ t
+    → cond t (Some x) (first_name number ns) ≡ Some n → IsFirst number (x ∷ ns) n) [
       | true ↦ λ e g. let s : x ≡ n = cc in record {
         before = [];
         after = ns;
@@ -197,25 +215,40 @@ pub record IsLed (m : Image) (folder : List ℕ) (j : ℕ) (ns : List Name) (n :
   pub parts : ns ≡ before ++ origin ∷ after
   pub own : other before origin ≡ None
   pub number : ino_of origin.node ≡ ino_of n.node
-  pub line : led (all_taken m folder j ns) n.path ≡ Some (numbered (j + length before) (node_line m folder origin.path origin.node))
+  pub line : led (all_taken m folder j ns) n.path
+      ≡ Some (numbered (j + length before) (node_line m folder origin.path origin.node))
 
 led_from : (m : Image) (folder : List ℕ) (j : ℕ) (b : List Name) (n : Name) (a : List Name)
     → AreTaken [] j (lines_behind m folder [] (b ++ n ∷ a)) → IsLed m folder j (b ++ n ∷ a) n
 led_from m folder j b n a t = by (is_directory n.node) (first_name (ino_of n.node) b) refl refl
   where
     own : other b n ≡ None → IsLed m folder j (b ++ n ∷ a) n
-    own h = record { before = b; origin = n; after = a; parts = refl; own = h; number = refl; line = own_led m folder j b n a t h }
+    own h = record {
+      before = b;
+      origin = n;
+      after = a;
+      parts = refl;
+      own = h;
+      number = refl;
+      line = own_led m folder j b n a t h;
+    }
 
     further : (old : Name) → other b n ≡ Some old → first_name (ino_of n.node) b ≡ Some old
         → IsLed m folder j (b ++ n ∷ a) n
     further old h f =
         let r = first_is (ino_of n.node) b old f in
-        let alone : other r.before old ≡ None = none_by (is_directory old.node) (first_name (ino_of old.node) r.before) (ap (λ (v : ℕ). first_name v r.before) r.number ∙ r.none) in
+        let alone : other r.before old ≡ None =
+        none_by (is_directory old.node) (first_name (ino_of old.node) r.before)
+        (ap (λ (v : ℕ). first_name v r.before) r.number ∙ r.none) in
         let l : Line = hard_line n.path old.path in
         let e : line_behind m folder b n ≡ l = ap (line_by m folder n) h in
-        let g = subst (λ (v : Line). led (all_taken m folder j (b ++ n ∷ a)) v.path ≡ led_by (all_taken m folder j b) v (j + length b)) e (name_led m folder j b n a t).0 in
-        let front = taken_front [] j (lines_behind m folder [] b) (line_behind m folder b n ∷ lines_behind m folder (b ++ n ∷ []) a) (subst (λ (v : List Line). AreTaken [] j v) (lines_apart m folder [] b n a) t) in
-        let k = own_led m folder j r.before old r.after (subst (λ (v : List Name). AreTaken [] j (lines_behind m folder [] v)) r.parts front) alone in
+        let g = subst (λ (v : Line). led (all_taken m folder j (b ++ n ∷ a)) v.path
+        ≡ led_by (all_taken m folder j b) v (j + length b)) e (name_led m folder j b n a t).0 in
+        let front = taken_front [] j (lines_behind m folder [] b)
+        (line_behind m folder b n ∷ lines_behind m folder (b ++ n ∷ []) a)
+        (subst (λ (v : List Line). AreTaken [] j v) (lines_apart m folder [] b n a) t) in
+        let k = own_led m folder j r.before old r.after
+        (subst (λ (v : List Name). AreTaken [] j (lines_behind m folder [] v)) r.parts front) alone in
         record {
           before = r.before;
           origin = old;
@@ -232,7 +265,7 @@ led_from m folder j b n a t = by (is_directory n.node) (first_name (ino_of n.nod
     by false None e f = own (ap (λ (x : Bool). cond x None (first_name (ino_of n.node) b)) e ∙ f)
     by false (Some old) e f = further old (ap (λ (x : Bool). cond x None (first_name (ino_of n.node) b)) e ∙ f) f
 
--- a name among others, with what stands before and behind it
+-- a name among others, with what is before and behind it
 parted : (n : Name) (ns : List Name) → Among n ns → (b : List Name) × (a : List Name) × (ns ≡ b ++ n ∷ a)
 parted n [] h = elim h [ ]
 parted n (x ∷ ns) first = ([], ns, refl)
@@ -242,4 +275,5 @@ pub is_led : (m : Image) (folder : List ℕ) (j : ℕ) (ns : List Name) (n : Nam
     → AreTaken [] j (lines_behind m folder [] ns) → Among n ns → IsLed m folder j ns n
 is_led m folder j ns n t h =
     let r = parted n ns h in
-    subst (λ (v : List Name). IsLed m folder j v n) (sym r.2) (led_from m folder j r.0 n r.1 (subst (λ (v : List Name). AreTaken [] j (lines_behind m folder [] v)) r.2 t))
+    subst (λ (v : List Name). IsLed m folder j v n) (sym r.2)
+    (led_from m folder j r.0 n r.1 (subst (λ (v : List Name). AreTaken [] j (lines_behind m folder [] v)) r.2 t))

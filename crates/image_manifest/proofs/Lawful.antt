@@ -1,6 +1,7 @@
--- The names of a tree whose lists are lawful: they are paths, a directory's name stands before those in it, and no two
--- have one path.
-use Rattle.std.proofs.Common.{◌≡◌, ℕ, ◌<◌, Bool, true, false, ◌||◌, ◌&&◌, nat_lt, List, [], ◌∷◌, ◌++◌, length, Option, None, Some, refl, sym, ap, subst, ◌∙◌, append_assoc, append-nil, arith}
+-- The names of a tree whose lists are valid: they are paths, a directory's name is before those in it, and no two have
+-- one path.
+use Rattle.std.proofs.Common.{◌≡◌, ℕ, ◌<◌, Bool, true, false, ◌||◌, ◌&&◌, nat_lt, List, [], ◌∷◌, ◌++◌, length, Option}
+use Rattle.std.proofs.Common.{None, Some, refl, sym, ap, subst, ◌∙◌, append_assoc, append-nil, arith}
 use Rattle.std.specs.Prelude.{◌==◌}
 use Rattle.std.proofs.lemmas.List.{append_cancel_left}
 use Rattle.std.proofs.lemmas.List.Elements.{All-append, All-cons}
@@ -14,7 +15,8 @@ use Rattle.manifest.proofs.Named.{names_with_path}
 use Rattle.manifest_tree.specs.Shape.{node_under}
 use Rattle.rom_tree.specs.Image.{find_entry}
 use Rattle.rom_tree.specs.Names.{Name, named, node_names, entries_names, path_below}
-use Rattle.rom_tree.specs.Tree.{Node, node, directory, regular, symlink, block, character, socket, fifo, Entries, no_entries, entry, entries_of, entries_nodes, is_directory, nodes, IsIn, here, there}
+use Rattle.rom_tree.specs.Tree.{Node, node, directory, regular, symlink, block, character, socket, fifo, Entries}
+use Rattle.rom_tree.specs.Tree.{no_entries, entry, entries_of, entries_nodes, is_directory, nodes, IsIn, here, there}
 use Rattle.rom_tree.proofs.Nodes.{in-front, in-back}
 use Rattle.image_manifest.specs.ByPaths.{has_slash}
 use Rattle.image_manifest.specs.Tellable.{IsLawfulName, IsLawfulList}
@@ -22,7 +24,7 @@ use Rattle.image_manifest.proofs.Paths.{same_names}
 use Rattle.image_manifest.proofs.Plain.{ArePlain, PathsDiffer, has_path, leads, leads_entries, some_by}
 use Rattle.image_manifest.proofs.Ways.{Among, first, later, front_none, neither, or_false}
 
--- Lawful names, and their path.
+-- Valid names, and their path.
 
 abbrev pub AreLawful : List (List ℕ) → Type 0
 AreLawful [] = Unit {0}
@@ -34,7 +36,8 @@ lawful_push (k ∷ ns) n w h = (w.0, lawful_push ns n w.1 h)
 
 path_push : (ns : List (List ℕ)) (n : List ℕ) → path_of (ns ++ n ∷ []) ≡ path_of ns ++ 47 ∷ n
 path_push [] n = ap (λ (v : List ℕ). 47 ∷ v) (append-nil n)
-path_push (k ∷ ns) n = ap (λ (v : List ℕ). 47 ∷ (k ++ v)) (path_push ns n) ∙ ap (λ (v : List ℕ). 47 ∷ v) (sym (append_assoc k (path_of ns) (47 ∷ n)))
+path_push (k ∷ ns) n = ap (λ (v : List ℕ). 47 ∷ (k ++ v)) (path_push ns n)
+    ∙ ap (λ (v : List ℕ). 47 ∷ v) (sym (append_assoc k (path_of ns) (47 ∷ n)))
 
 no_slashes : (ns : List (List ℕ)) → AreLawful ns → list_any has_slash ns ≡ false
 no_slashes [] w = refl
@@ -47,24 +50,27 @@ good_names (n ∷ ns) w = neither (is_bad_name n) (list_any is_bad_name ns) w.0.
 no_zeros : (ns : List (List ℕ)) → AreLawful ns → list_any (λ b. b == 0) (path_of ns) ≡ false
 no_zeros [] w = refl
 no_zeros (n ∷ ns) w =
-    list_any-append (λ b. b == 0) n (path_of ns) ∙ neither (list_any (λ b. b == 0) n) (list_any (λ b. b == 0) (path_of ns)) w.0.no_zero (no_zeros ns w.1)
+    list_any-append (λ b. b == 0) n (path_of ns)
+    ∙ neither (list_any (λ b. b == 0) n) (list_any (λ b. b == 0) (path_of ns)) w.0.no_zero (no_zeros ns w.1)
 
 pub no_bytes : All (λ b. b < 256) []
 no_bytes = λ k d l. absurd (omega (arith, l))
 
 pub path_bytes : (ns : List (List ℕ)) → AreLawful ns → All (λ b. b < 256) (path_of ns)
 path_bytes [] w = no_bytes
-path_bytes (n ∷ ns) w = All-cons (λ b. b < 256) 47 (n ++ path_of ns) (omega arith) (All-append (λ b. b < 256) n (path_of ns) w.0.bytes (path_bytes ns w.1))
+path_bytes (n ∷ ns) w = All-cons (λ b. b < 256) 47 (n ++ path_of ns) (omega arith)
+    (All-append (λ b. b < 256) n (path_of ns) w.0.bytes (path_bytes ns w.1))
 
--- the path of lawful names that is not too long has these names
+-- the path of valid names that is not too long has these names
 pub lawful_names : (n : List ℕ) (ns : List (List ℕ)) → AreLawful (n ∷ ns)
     → nat_lt 4095 (length (path_of (n ∷ ns))) ≡ false → names_of (path_of (n ∷ ns)) ≡ Some (n ∷ ns)
 lawful_names n ns w h =
     names_with_path n ns
-    (neither (nat_lt 4095 (length (path_of (n ∷ ns)))) (list_any (λ b. b == 0) (path_of (n ∷ ns))) h (no_zeros (n ∷ ns) w))
+    (neither (nat_lt 4095 (length (path_of (n ∷ ns)))) (list_any (λ b. b == 0) (path_of (n ∷ ns))) h
+    (no_zeros (n ∷ ns) w))
     (no_slashes (n ∷ ns) w) (good_names (n ∷ ns) w)
 
--- What stands before a name.
+-- What is before a name.
 
 -- the root's path is empty here, or a directory of this path is among the names
 abbrev pub stands : List Name → List ℕ → Bool
@@ -94,7 +100,7 @@ stands_new b n p d e =
     by false false true false h g = absurd (cc)
     by false false false t h g = absurd (cc)
 
--- A name behind others: its path is that of lawful names, and its directory stands before it.
+-- A name behind others: its path is that of valid names, and its directory is before it.
 pub record IsSound (earlier : List Name) (n : Name) : Type 0 where
   pub way : List (List ℕ)
   pub lawful : AreLawful way
@@ -108,7 +114,11 @@ AreSound before (n ∷ ns) = IsSound before n × AreSound (before ++ n ∷ []) n
 
 sound_append : (before xs ys : List Name) → AreSound before xs → AreSound (before ++ xs) ys → AreSound before (xs ++ ys)
 sound_append before [] ys h k = subst (λ (v : List Name). AreSound v ys) (append-nil before) k
-sound_append before (x ∷ xs) ys h k = (h.0, sound_append (before ++ x ∷ []) xs ys h.1 (subst (λ (v : List Name). AreSound v ys) (sym (append_assoc before (x ∷ []) xs)) k))
+sound_append before (x ∷ xs) ys h k = (
+  h.0,
+  sound_append (before ++ x ∷ []) xs ys h.1
+      (subst (λ (v : List Name). AreSound v ys) (sym (append_assoc before (x ∷ []) xs)) k),
+)
 
 abbrev pub HasLawfulLists : List Node → Type 0
 HasLawfulLists xs = (x : Node) → IsIn x xs → IsLawfulList (entries_of x)
@@ -119,7 +129,8 @@ mutual
   pub sound_node : (before : List Name) (qs : List (List ℕ)) (t : Node)
       → (is_directory t ≡ true → stands before (path_of qs) ≡ true) → AreLawful qs → HasLawfulLists (nodes t)
       → AreSound before (node_names (path_of qs) t)
-  sound_node before qs (node a (directory es)) s w h = sound_entries before qs es (s refl) w (h (node a (directory es)) here) (λ x i. h x (there i))
+  sound_node before qs (node a (directory es)) s w h =
+      sound_entries before qs es (s refl) w (h (node a (directory es)) here) (λ x i. h x (there i))
   sound_node before qs (node a (regular ps)) s w h = tt
   sound_node before qs (node a (symlink ps)) s w h = tt
   sound_node before qs (node a block) s w h = tt
@@ -135,16 +146,24 @@ mutual
       let p : List ℕ = path_below (path_of qs) name in
       let n : Name = named p name x in
       let e : path_of (qs ++ name ∷ []) ≡ p = path_push qs name in
-      let own : AreSound (before ++ n ∷ []) (node_names p x) = subst (λ (v : List ℕ). AreSound (before ++ n ∷ []) (node_names v x)) e
-      (sound_node (before ++ n ∷ []) (qs ++ name ∷ []) x (λ d. stands_new before n (path_of (qs ++ name ∷ [])) d (sym e)) (lawful_push qs name w l.0) (λ y i. h y (in-front y (nodes x) (entries_nodes es) i))) in
+      let own : AreSound (before ++ n ∷ []) (node_names p x) =
+      subst (λ (v : List ℕ). AreSound (before ++ n ∷ []) (node_names v x)) e
+      (sound_node (before ++ n ∷ []) (qs ++ name ∷ []) x
+      (λ d. stands_new before n (path_of (qs ++ name ∷ [])) d (sym e)) (lawful_push qs name w l.0)
+      (λ y i. h y (in-front y (nodes x) (entries_nodes es) i))) in
       let rest : AreSound ((before ++ n ∷ []) ++ node_names p x) (entries_names (path_of qs) es) =
-      sound_entries ((before ++ n ∷ []) ++ node_names p x) qs es (stands_more (before ++ n ∷ []) (node_names p x) (path_of qs) (stands_more before (n ∷ []) (path_of qs) s)) w l.2
-      (λ y i. h y (in-back y (nodes x) (entries_nodes es) i)) in
-      (record { way = qs; lawful = w; last = l.0; path = sym e; parent = s }, sound_append (before ++ n ∷ []) (node_names p x) (entries_names (path_of qs) es) own rest)
+      sound_entries ((before ++ n ∷ []) ++ node_names p x) qs es
+      (stands_more (before ++ n ∷ []) (node_names p x) (path_of qs)
+      (stands_more before (n ∷ []) (path_of qs) s)) w l.2
+      (λ y i. h y (in-back y (nodes x) (entries_nodes es) i)) in (
+        record { way = qs; lawful = w; last = l.0; path = sym e; parent = s },
+        sound_append (before ++ n ∷ []) (node_names p x) (entries_names (path_of qs) es) own rest,
+      )
 
 pub plain_names : (before ns : List Name) → AreSound before ns → ArePlain ns
 plain_names before [] h = refl
-plain_names before (n ∷ ns) h = neither (has_slash n.last) (list_any (λ k. has_slash k.last) ns) h.0.last.no_slash (plain_names (before ++ n ∷ []) ns h.1)
+plain_names before (n ∷ ns) h = neither (has_slash n.last) (list_any (λ k. has_slash k.last) ns) h.0.last.no_slash
+    (plain_names (before ++ n ∷ []) ns h.1)
 
 -- No two have one path.
 
@@ -164,8 +183,11 @@ name_of (n ∷ ns) p h =
 differ_join : (xs ys : List Name) → PathsDiffer xs → PathsDiffer ys
     → ((n : Name) → Among n xs → has_path n.path ys ≡ false) → PathsDiffer (xs ++ ys)
 differ_join [] ys h k c = k
-differ_join (x ∷ xs) ys h k c =
-    (list_any-append (λ n. bytes_eq n.path x.path) xs ys ∙ neither (has_path x.path xs) (has_path x.path ys) h.0 (c x first), differ_join xs ys h.1 k (λ n i. c n (later i)))
+differ_join (x ∷ xs) ys h k c = (
+  list_any-append (λ n. bytes_eq n.path x.path) xs ys
+      ∙ neither (has_path x.path xs) (has_path x.path ys) h.0 (c x first),
+  differ_join xs ys h.1 k (λ n i. c n (later i)),
+)
 
 some_is_none : (o : Option Node) (y : Node) → o ≡ Some y → o ≡ None → ⊥
 some_is_none o y h g = cc
@@ -184,9 +206,11 @@ other_list path name q es p a d none plain e = by (has_path p (entries_names pat
     by true h =
         let r = name_of (entries_names path es) p h in
         let g = leads_entries path es r.name a d r.among in
-        let same = same_names name q g.head g.more plain g.plain (append_cancel_left path (path_of (name ∷ q)) (path_of (g.head ∷ g.more)) (sym e ∙ sym r.path ∙ g.path)) in
+        let same = same_names name q g.head g.more plain g.plain
+        (append_cancel_left path (path_of (name ∷ q)) (path_of (g.head ∷ g.more)) (sym e ∙ sym r.path ∙ g.path)) in
         let found = some_by (λ y. node_under g.more y) (find_entry es g.head) r.name.node g.node in
-        absurd (some_is_none (find_entry es g.head) found.0 found.1 (ap (find_entry es) (sym (first_same name q g.head g.more same)) ∙ none))
+        absurd (some_is_none (find_entry es g.head) found.0 found.1
+        (ap (find_entry es) (sym (first_same name q g.head g.more same)) ∙ none))
 
 -- nor has anything below a node its own path
 not_own : (path : List ℕ) (t : Node) → ArePlain (node_names path t) → PathsDiffer (node_names path t)
@@ -201,14 +225,16 @@ not_own path t a d = by (has_path path (node_names path t)) refl
     by true h =
         let r = name_of (node_names path t) path h in
         let g = leads path t r.name a d r.among in
-        absurd (longer g.head g.more (append_cancel_left path [] (path_of (g.head ∷ g.more)) (append-nil path ∙ sym r.path ∙ g.path)))
+        absurd (longer g.head g.more (append_cancel_left path [] (path_of (g.head ∷ g.more))
+        (append-nil path ∙ sym r.path ∙ g.path)))
 
 mutual
   unfolding node_names
 
   pub differ_node : (path : List ℕ) (t : Node) → ArePlain (node_names path t) → HasLawfulLists (nodes t)
       → PathsDiffer (node_names path t)
-  differ_node path (node a (directory es)) p h = differ_entries path es p (h (node a (directory es)) here) (λ x i. h x (there i))
+  differ_node path (node a (directory es)) p h =
+      differ_entries path es p (h (node a (directory es)) here) (λ x i. h x (there i))
   differ_node path (node a (regular ps)) p h = tt
   differ_node path (node a (symlink ps)) p h = tt
   differ_node path (node a block) p h = tt
@@ -226,11 +252,14 @@ mutual
       let s = or_false (has_slash name) _ p in
       let r = front_none (λ (k : Name). has_slash k.last) own after s.1 in
       let a : PathsDiffer own = differ_node below x r.0 (λ y i. h y (in-front y (nodes x) (entries_nodes es) i)) in
-      let b : PathsDiffer after = differ_entries path es r.1 l.2 (λ y i. h y (in-back y (nodes x) (entries_nodes es) i)) in (
+      let b : PathsDiffer after =
+      differ_entries path es r.1 l.2 (λ y i. h y (in-back y (nodes x) (entries_nodes es) i)) in (
         list_any-append (λ n. bytes_eq n.path below) own after
             ∙ neither (has_path below own) (has_path below after) (not_own below x r.0 a)
-            (other_list path name [] es below r.1 b l.1 (neither (has_slash name) false s.0 refl) (ap (λ (v : List ℕ). path ++ 47 ∷ v) (sym (append-nil name)))),
+            (other_list path name [] es below r.1 b l.1 (neither (has_slash name) false s.0 refl)
+            (ap (λ (v : List ℕ). path ++ 47 ∷ v) (sym (append-nil name)))),
         differ_join own after a b (λ n i. let g = leads below x n r.0 a i in
-            other_list path name (g.head ∷ g.more) es n.path r.1 b l.1 (neither (has_slash name) (list_any has_slash (g.head ∷ g.more)) s.0 g.plain)
+            other_list path name (g.head ∷ g.more) es n.path r.1 b l.1
+            (neither (has_slash name) (list_any has_slash (g.head ∷ g.more)) s.0 g.plain)
             (g.path ∙ append_assoc path (47 ∷ name) (path_of (g.head ∷ g.more)))),
       )

@@ -1,5 +1,6 @@
 -- The manifest of an image means the image's tree.
-use Rattle.std.proofs.Common.{◌≡◌, ℕ, suc, ◌+◌, Bool, true, false, ◌&&◌, cond, List, [], ◌∷◌, ◌++◌, length, map, reverse, get_or, Option, None, Some, refl, sym, ap, subst, ◌∙◌, append-nil, eq-eqb, arith}
+use Rattle.std.proofs.Common.{◌≡◌, ℕ, suc, ◌+◌, Bool, true, false, ◌&&◌, cond, List, [], ◌∷◌, ◌++◌, length, map}
+use Rattle.std.proofs.Common.{reverse, get_or, Option, None, Some, refl, sym, ap, subst, ◌∙◌, append-nil, eq-eqb, arith}
 use Rattle.std.specs.Prelude.{◌==◌, ◌↔◌, is_none}
 use Rattle.std.specs.Option.{option_map, option_and_then}
 use Rattle.manifest.specs.declared.line.Line.{Line}
@@ -12,19 +13,22 @@ use Rattle.manifest_text.specs.Printed.{AreTaken, as_read, first_number, numbere
 use Rattle.manifest_tree.specs.Meant.{IsMeant}
 use Rattle.manifest_tree.specs.Names.{Inode}
 use Rattle.manifest_tree.specs.Shape.{file_value, node_under, node_value}
-use Rattle.manifest_tree.specs.Tree.{file_at, file_named, inode_by, inode_of, is_named, or_else, bare_root, root_of, sources_before, with_contents}
+use Rattle.manifest_tree.specs.Tree.{file_at, file_named, inode_by, inode_of, is_named, or_else, bare_root, root_of}
+use Rattle.manifest_tree.specs.Tree.{sources_before, with_contents}
 use Rattle.manifest_tree.proofs.Law.{line_named}
 use Rattle.rom_tree.specs.declared.types.Kind.TheVariants.{Regular}
 use Rattle.rom_tree.specs.Image.{Image, contents_of}
 use Rattle.rom_tree.specs.Names.{Name, named, names, node_names}
-use Rattle.rom_tree.specs.Tree.{Node, node, directory, regular, symlink, block, character, socket, fifo, IsIn, ino_of, is_directory, is_regular, kind_of, nodes}
+use Rattle.rom_tree.specs.Tree.{Node, node, directory, regular, symlink, block, character, socket, fifo, IsIn, ino_of}
+use Rattle.rom_tree.specs.Tree.{is_directory, is_regular, kind_of, nodes}
 use Rattle.image_manifest.specs.ByPaths.{IsByPaths, has_slash}
 use Rattle.image_manifest.specs.Lines.{first_name, lines_behind, member_lines, node_line}
 use Rattle.image_manifest.specs.Sources.{has_source, sources_behind, file_contents}
 use Rattle.image_manifest.proofs.Followed.{after_reversed, all_taken, in_tree, is_led, other, own_filed}
 use Rattle.image_manifest.proofs.Paths.{has_names, same_names}
 use Rattle.image_manifest.proofs.Plain.{ArePlain, PathsDiffer, has_path, leads, plain_under}
-use Rattle.image_manifest.proofs.ReadBack.{has_line, lawful, named_at, named_name, names_eq-true, path_among, paths_differ}
+use Rattle.image_manifest.proofs.ReadBack.{has_line, lawful, named_at, named_name, names_eq-true, path_among}
+use Rattle.image_manifest.proofs.ReadBack.{paths_differ}
 use Rattle.image_manifest.proofs.Sourced.{as_many_sources, source_holds}
 use Rattle.image_manifest.proofs.Ways.{true_is_not_false, Among, first, later, among_back, or_false, reaches}
 
@@ -39,7 +43,8 @@ abbrev Taken : Image → List ℕ → ℕ → Type 0
 Taken m folder j = AreTaken [] j (lines_behind m folder [] (names m.tree))
 
 reversed : (m : Image) (folder : List ℕ) (j : ℕ) → all_taken m folder j (names m.tree) ≡ reverse (all_lines m folder j)
-reversed m folder j = after_reversed [] j (lines_behind m folder [] (names m.tree)) ∙ append-nil (reverse (all_lines m folder j))
+reversed m folder j =
+    after_reversed [] j (lines_behind m folder [] (names m.tree)) ∙ append-nil (reverse (all_lines m folder j))
 
 -- A line is a file of its own number, and holds what its node does.
 
@@ -65,16 +70,19 @@ inode_line all sizes l = by l.word (filed (reverse all) l.path)
 -- what the line of a regular file leads to
 HasSource : Image → List Line → List (List ℕ) → List ℕ → ℕ → List ℕ → Node → Type 0
 HasSource m all contents folder k path x =
-    (filed (reverse all) path ≡ Some (numbered k (node_line m folder path x))) × (get_or contents (sources_before k all) [] ≡ contents_of m.bytes x)
+    (filed (reverse all) path ≡ Some (numbered k (node_line m folder path x)))
+    × (get_or contents (sources_before k all) [] ≡ contents_of m.bytes x)
 
-value_by : (m : Image) (all : List Line) (sizes : List ℕ) (contents : List (List ℕ)) (folder : List ℕ) (k : ℕ) (path : List ℕ) (x : Node)
+value_by : (m : Image) (all : List Line) (sizes : List ℕ) (contents : List (List ℕ)) (folder : List ℕ) (k : ℕ)
+    (path : List ℕ) (x : Node)
     → (kind_of x ≡ Regular → HasSource m all contents folder k path x)
     → file_value contents (inode_of all sizes (numbered k (node_line m folder path x))) ≡ node_value m.bytes x
 unfolding inode_of file_value node_value HasSource
 value_by m all sizes contents folder k path (node a (directory es)) h = refl
 value_by m all sizes contents folder k path (node a (regular ps)) h =
     let s = h refl in
-    ap (λ (o : Option Line). file_value contents (with_contents all sizes (numbered k (node_line m folder path (node a (regular ps)))) o)) s.0
+    ap (λ (o : Option Line). file_value contents
+    (with_contents all sizes (numbered k (node_line m folder path (node a (regular ps)))) o)) s.0
     ∙ rw s.1 refl
 value_by m all sizes contents folder k path (node a (symlink ps)) h = refl
 value_by m all sizes contents folder k path (node a block) h = refl
@@ -101,7 +109,8 @@ own_source b o h k = by o.node (first_name (ino_of o.node) b) k h
 
 own_value : (m : Image) (folder : List ℕ) (j : ℕ) (sizes : List ℕ) (b : List Name) (o : Name) (a : List Name)
     → Taken m folder j → names m.tree ≡ b ++ o ∷ a → other b o ≡ None
-    → file_value (all_sources m) (inode_of (all_lines m folder j) sizes (numbered (j + length b) (node_line m folder o.path o.node))) ≡ node_value m.bytes o.node
+    → file_value (all_sources m) (inode_of (all_lines m folder j) sizes
+    (numbered (j + length b) (node_line m folder o.path o.node))) ≡ node_value m.bytes o.node
 unfolding HasSource
 own_value m folder j sizes b o a t e own =
     let k : ℕ = j + length b in
@@ -109,9 +118,12 @@ own_value m folder j sizes b o a t e own =
     value_by m all sizes (all_sources m) folder k o.path o.node (λ r. (
       ap (λ (v : List Line). filed v o.path) (sym (reversed m folder j))
           ∙ ap (λ (v : List Name). filed (all_taken m folder j v) o.path) e
-          ∙ own_filed m folder j b o a (subst (λ (v : List Name). AreTaken [] j (lines_behind m folder [] v)) e t) own r,
-      ap (λ (v : List Name). get_or (sources_behind m [] v) (sources_before k (numbered_from j (lines_behind m folder [] v))) []) e
-          ∙ ap (λ (v : ℕ). get_or (sources_behind m [] (b ++ o ∷ a)) v []) (as_many_sources m folder [] b (o ∷ a) j k refl)
+          ∙ own_filed m folder j b o a (subst
+          (λ (v : List Name). AreTaken [] j (lines_behind m folder [] v)) e t) own r,
+      ap (λ (v : List Name). get_or (sources_behind m [] v)
+          (sources_before k (numbered_from j (lines_behind m folder [] v))) []) e
+          ∙ ap (λ (v : ℕ). get_or (sources_behind m [] (b ++ o ∷ a)) v [])
+          (as_many_sources m folder [] b (o ∷ a) j k refl)
           ∙ source_holds m b o a (own_source b o own r),
     ))
 
@@ -123,22 +135,28 @@ record IsFile (m : Image) (folder : List ℕ) (j : ℕ) (sizes : List ℕ) (q : 
   parts : names m.tree ≡ before ++ origin ∷ after
   own : other before origin ≡ None
   node : origin.node ≡ x
-  file : file_named (all_lines m folder j) sizes q ≡ Some (inode_of (all_lines m folder j) sizes (numbered (j + length before) (node_line m folder origin.path origin.node)))
+  file : file_named (all_lines m folder j) sizes q
+      ≡ Some (inode_of (all_lines m folder j) sizes
+      (numbered (j + length before) (node_line m folder origin.path origin.node)))
 
 file_of : (m : Image) (folder : List ℕ) (j : ℕ) (sizes : List ℕ) (p : List ℕ) (l : Line)
     → led (all_taken m folder j (names m.tree)) p ≡ Some l
     → file_at (all_lines m folder j) sizes p ≡ Some (inode_of (all_lines m folder j) sizes l)
 unfolding file_at
 file_of m folder j sizes p l h =
-    ap (option_map (inode_of (all_lines m folder j) sizes)) (ap (λ (v : List Line). led v p) (sym (reversed m folder j)) ∙ h)
+    ap (option_map (inode_of (all_lines m folder j) sizes))
+    (ap (λ (v : List Line). led v p) (sym (reversed m folder j)) ∙ h)
 
 by_name : (m : Image) (folder : List ℕ) (j : ℕ) (sizes : List ℕ) (q : List (List ℕ)) (n : Name) → Taken m folder j
     → Among n (names m.tree)
-    → ((i : Inode) → file_at (all_lines m folder j) sizes n.path ≡ Some i → file_named (all_lines m folder j) sizes q ≡ Some i) → IsFile m folder j sizes q n.node
+    → ((i : Inode) → file_at (all_lines m folder j) sizes n.path ≡ Some i
+    → file_named (all_lines m folder j) sizes q ≡ Some i) → IsFile m folder j sizes q n.node
 by_name m folder j sizes q n t h f =
     let l = is_led m folder j (names m.tree) n t h in
     let line : Line = numbered (j + length l.before) (node_line m folder l.origin.path l.origin.node) in
-    let stands : Among l.origin (names m.tree) = subst (λ (v : List Name). Among l.origin v) (sym l.parts) (among_back l.origin l.before (l.origin ∷ l.after) first) in
+    let stands : Among l.origin (names m.tree) =
+    subst (λ (v : List Name). Among l.origin v) (sym l.parts)
+    (among_back l.origin l.before (l.origin ∷ l.after) first) in
     record {
       before = l.before;
       origin = l.origin;
@@ -156,7 +174,8 @@ some_is x y h = cc
 not_root : (t : Node) (n : Name) → PathsDiffer (names t) → Among n (node_names [] t) → n.path ≡ 47 ∷ [] → ⊥
 unfolding names
 not_root t n d h e =
-    true_is_not_false (has_path (47 ∷ []) (node_names [] t)) (ap (λ (v : List ℕ). has_path v (node_names [] t)) (sym e) ∙ path_among n (node_names [] t) h) d.0
+    true_is_not_false (has_path (47 ∷ []) (node_names [] t))
+    (ap (λ (v : List ℕ). has_path v (node_names [] t)) (sym e) ∙ path_among n (node_names [] t) h) d.0
 
 plain_below : (t : Node) → IsByPaths t → ArePlain (node_names [] t)
 unfolding names
@@ -174,23 +193,26 @@ differ_below : (t : Node) → PathsDiffer (names t) → PathsDiffer (node_names 
 unfolding names
 differ_below t d = d.1
 
--- where names lead to a node
+-- the case that names lead to a node
 found : (m : Image) (folder : List ℕ) (j : ℕ) (sizes : List ℕ) (q : List (List ℕ)) (x : Node) → Taken m folder j
     → IsByPaths m.tree → node_under q m.tree ≡ Some x → IsFile m folder j sizes q x
 unfolding root_of
 found m folder j sizes [] x t p h =
     subst (λ (v : Node). IsFile m folder j sizes [] v) (some_is m.tree x h)
-    (by_name m folder j sizes [] (named (47 ∷ []) [] m.tree) t (root_among m.tree) (λ i e. ap (λ (o : Option Inode). Some (or_else bare_root o)) e))
+    (by_name m folder j sizes [] (named (47 ∷ []) [] m.tree) t (root_among m.tree)
+    (λ i e. ap (λ (o : Option Inode). Some (or_else bare_root o)) e))
 found m folder j sizes (k ∷ ks) x t p h =
     let all : List Line = all_lines m folder j in
     let d = paths_differ m folder [] j [] (names m.tree) t in
     let r = reaches [] k ks m.tree x h in
     let stands = below m.tree r.name r.among in
     let plain = plain_under [] k ks m.tree x (plain_below m.tree p) h in
-    let own = has_names r.name.path k ks r.path plain (lawful m folder [] j [] (names m.tree) r.name t stands) (not_root m.tree r.name d r.among) in
+    let own = has_names r.name.path k ks r.path plain (lawful m folder [] j [] (names m.tree) r.name t stands)
+    (not_root m.tree r.name d r.among) in
     subst (λ (v : Node). IsFile m folder j sizes (k ∷ ks) v) r.node
     (by_name m folder j sizes (k ∷ ks) r.name t stands
-    (λ i e. named_at (file_at all sizes) all r.name.path k ks r.path own (has_line m folder j [] (names m.tree) r.name stands) ∙ e))
+    (λ i e. named_at (file_at all sizes) all r.name.path k ks r.path own
+    (has_line m folder j [] (names m.tree) r.name stands) ∙ e))
 
 no_names : (k : List ℕ) (ks : List (List ℕ)) → names_of (47 ∷ []) ≡ Some (k ∷ ks) → ⊥
 unfolding names_of
@@ -209,7 +231,7 @@ among_below t n (later h) f g = g h
 nothing_is_some : (x : Node) (o : Option Node) → o ≡ None → o ≡ Some x → ⊥
 nothing_is_some x o h g = cc
 
--- where they lead to none
+-- the case that names lead to none
 none_found : (m : Image) (folder : List ℕ) (j : ℕ) (sizes : List ℕ) (k : List ℕ) (ks : List (List ℕ))
     → Taken m folder j → IsByPaths m.tree → node_under (k ∷ ks) m.tree ≡ None
     → file_named (all_lines m folder j) sizes (k ∷ ks) ≡ None
@@ -227,18 +249,22 @@ none_found m folder j sizes k ks t p h = by (line_named all (k ∷ ks)) refl
         absurd (among_below {R = ⊥} m.tree n.name n.among
         (λ r. no_names k ks (ap (λ (v : Name). names_of v.path) (sym r) ∙ own))
         (λ r. let i = path_with_names n.name.path k ks own in
-        let g = leads [] m.tree n.name (plain_below m.tree p) (differ_below m.tree (paths_differ m folder [] j [] (names m.tree) t)) r in
+        let g = leads [] m.tree n.name (plain_below m.tree p)
+        (differ_below m.tree (paths_differ m folder [] j [] (names m.tree) t)) r in
         let same = same_names g.head g.more k ks g.plain i.plain (sym g.path ∙ i.joined) in
-        nothing_is_some n.name.node (node_under (k ∷ ks) m.tree) h (ap (λ (v : List (List ℕ)). node_under v m.tree) (sym same) ∙ g.node)))
+        nothing_is_some n.name.node (node_under (k ∷ ks) m.tree) h
+        (ap (λ (v : List (List ℕ)). node_under v m.tree) (sym same) ∙ g.node)))
 
 -- the file of names is what their node is
 values : (m : Image) (folder : List ℕ) (j : ℕ) (sizes : List ℕ) (q : List (List ℕ)) → Taken m folder j
     → IsByPaths m.tree
-    → option_map (node_value m.bytes) (node_under q m.tree) ≡ option_map (file_value (all_sources m)) (file_named (all_lines m folder j) sizes q)
+    → option_map (node_value m.bytes) (node_under q m.tree)
+    ≡ option_map (file_value (all_sources m)) (file_named (all_lines m folder j) sizes q)
 values m folder j sizes q t p = by q (node_under q m.tree) refl
   where
     by : (q : List (List ℕ)) (o : Option Node) → node_under q m.tree ≡ o
-        → option_map (node_value m.bytes) o ≡ option_map (file_value (all_sources m)) (file_named (all_lines m folder j) sizes q)
+        → option_map (node_value m.bytes) o
+        ≡ option_map (file_value (all_sources m)) (file_named (all_lines m folder j) sizes q)
     by q (Some x) e =
         let f = found m folder j sizes q x t p e in
         ap (λ (v : Node). Some (node_value m.bytes v)) (sym f.node)
@@ -247,7 +273,7 @@ values m folder j sizes q t p = by q (node_under q m.tree) refl
     by [] None e = absurd (cc)
     by (k ∷ ks) None e = ap (option_map (file_value (all_sources m))) (sym (none_found m folder j sizes k ks t p e))
 
--- The first name of a node stands at one place.
+-- The first name of a node is at one index.
 
 first_once : (number : ℕ) (b : List Name) (o : Name) (a c : List Name) (u : Name) (d : List Name)
     → b ++ o ∷ a ≡ c ++ u ∷ d → ino_of o.node ≡ number → ino_of u.node ≡ number
@@ -259,17 +285,20 @@ first_once number [] o a (y ∷ c) u d e h k f g =
   where
     not_first : (number : ℕ) (y : Name) (o : Option Name) → ino_of y.node ≡ number
         → cond (ino_of y.node == number) (Some y) o ≡ None → ⊥
-    not_first number y o e g = let n : Some y ≡ None = ap (λ (b : Bool). cond b (Some y) o) (sym (eq-eqb (ino_of y.node) number e)) ∙ g in cc
+    not_first number y o e g =
+        let n : Some y ≡ None = ap (λ (b : Bool). cond b (Some y) o) (sym (eq-eqb (ino_of y.node) number e)) ∙ g in cc
 first_once number (x ∷ b) o a [] u d e h k f g =
     let s : u ≡ x = cc in
     absurd (not_first number x (first_name number b) (ap (λ (v : Name). ino_of v.node) (sym s) ∙ k) f)
   where
     not_first : (number : ℕ) (y : Name) (o : Option Name) → ino_of y.node ≡ number
         → cond (ino_of y.node == number) (Some y) o ≡ None → ⊥
-    not_first number y o e g = let n : Some y ≡ None = ap (λ (b : Bool). cond b (Some y) o) (sym (eq-eqb (ino_of y.node) number e)) ∙ g in cc
+    not_first number y o e g =
+        let n : Some y ≡ None = ap (λ (b : Bool). cond b (Some y) o) (sym (eq-eqb (ino_of y.node) number e)) ∙ g in cc
 first_once number (x ∷ b) o a (y ∷ c) u d e h k f g =
     let s : b ++ o ∷ a ≡ c ++ u ∷ d = cc in
-    ap suc (first_once number b o a c u d s h k (behind (ino_of x.node == number) x (first_name number b) f) (behind (ino_of y.node == number) y (first_name number c) g))
+    ap suc (first_once number b o a c u d s h k (behind (ino_of x.node == number) x (first_name number b) f)
+    (behind (ino_of y.node == number) y (first_name number c) g))
   where
     behind : (t : Bool) (x : Name) (o : Option Name) → cond t (Some x) o ≡ None → o ≡ None
     behind true x o h = absurd (cc)
@@ -280,7 +309,8 @@ at_one_place : (b : List Name) (o : Name) (a c : List Name) (u : Name) (d : List
 at_one_place [] o a [] u d e h = cc
 at_one_place [] o a (y ∷ c) u d e h = absurd (omega (arith, h))
 at_one_place (x ∷ b) o a [] u d e h = absurd (omega (arith, h))
-at_one_place (x ∷ b) o a (y ∷ c) u d e h = let s : b ++ o ∷ a ≡ c ++ u ∷ d = cc in at_one_place b o a c u d s (omega (arith, h))
+at_one_place (x ∷ b) o a (y ∷ c) u d e h =
+    let s : b ++ o ∷ a ≡ c ++ u ∷ d = cc in at_one_place b o a c u d s (omega (arith, h))
 
 file_line : (m : Image) (folder : List ℕ) (j : ℕ) (sizes : List ℕ) (q : List (List ℕ)) (x : Node) (i : Inode)
     → (f : IsFile m folder j sizes q x) → file_named (all_lines m folder j) sizes q ≡ Some i
@@ -310,7 +340,8 @@ shared m folder j sizes t w p q x y i k hp hq fp fq =
     none_before : (b : List Name) (o : Name) (z : Node) → o.node ≡ z → is_directory z ≡ false → other b o ≡ None
         → first_name (ino_of z) b ≡ None
     none_before b o z e d h =
-        ap (λ (v : Node). first_name (ino_of v) b) (sym e) ∙ ap (λ (c : Bool). cond c None (first_name (ino_of o.node) b)) (sym (ap is_directory e ∙ d)) ∙ h
+        ap (λ (v : Node). first_name (ino_of v) b) (sym e)
+        ∙ ap (λ (c : Bool). cond c None (first_name (ino_of o.node) b)) (sym (ap is_directory e ∙ d)) ∙ h
 
     by_kind : (f : IsFile m folder j sizes p x) (g : IsFile m folder j sizes q y) → i.line ≡ j + length f.before
         → k.line ≡ j + length g.before → ino_of x ≡ ino_of y → (d : Bool) → is_directory x ≡ d → i.line ≡ k.line
@@ -320,14 +351,17 @@ shared m folder j sizes t w p q x y i k hp hq fp fq =
     by_kind f g a b e false d =
         let same : x ≡ y = m.coherent x y (of_tree f) (of_tree g) e in
         let n : length f.before ≡ length g.before =
-        first_once (ino_of x) f.before f.origin f.after g.before g.origin g.after (sym f.parts ∙ g.parts) (ap ino_of f.node) (ap ino_of g.node ∙ sym e)
-        (none_before f.before f.origin x f.node d f.own) (none_before g.before g.origin x (g.node ∙ sym same) d g.own) in
+        first_once (ino_of x) f.before f.origin f.after g.before g.origin g.after (sym f.parts ∙ g.parts)
+        (ap ino_of f.node) (ap ino_of g.node ∙ sym e)
+        (none_before f.before f.origin x f.node d f.own)
+        (none_before g.before g.origin x (g.node ∙ sym same) d g.own) in
         omega (arith, a, b, n)
       where
         of_tree : {r : List (List ℕ)} {z : Node} → IsFile m folder j sizes r z → IsIn z (nodes m.tree)
         of_tree {r} {z} f =
             subst (λ (v : Node). IsIn v (nodes m.tree)) f.node
-            (in_tree m.tree f.origin (subst (λ (v : List Name). Among f.origin v) (sym f.parts) (among_back f.origin f.before (f.origin ∷ f.after) first)))
+            (in_tree m.tree f.origin (subst (λ (v : List Name). Among f.origin v) (sym f.parts)
+            (among_back f.origin f.before (f.origin ∷ f.after) first)))
 
     one_file : (f : IsFile m folder j sizes p x) (g : IsFile m folder j sizes q y) → i.line ≡ j + length f.before
         → k.line ≡ j + length g.before → ino_of x ≡ ino_of y → i.line ≡ k.line

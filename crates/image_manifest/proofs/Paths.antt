@@ -1,5 +1,6 @@
--- The path of names has these names, if it is lawful and none of them has a slash.
-use Rattle.std.proofs.Common.{◌≡◌, ℕ, Bool, true, false, eqb, cond, List, [], ◌∷◌, Option, None, Some, refl, sym, ap, ◌∙◌, arith}
+-- The path of names has these names, if it is valid and none of them has a slash.
+use Rattle.std.proofs.Common.{◌≡◌, ℕ, Bool, true, false, eqb, cond, List, [], ◌∷◌, Option, None, Some, refl, sym, ap}
+use Rattle.std.proofs.Common.{◌∙◌, arith}
 use Rattle.std.proofs.lemmas.List.Elements.{All-cons}
 use Rattle.std.proofs.lemmas.List.Splits.{slice_split_none, slice_split_at}
 use Rattle.std.specs.List.{All, list_any, join_with_byte}
@@ -13,7 +14,8 @@ use Rattle.image_manifest.proofs.Ways.{or_false}
 
 no_slash : (n : List ℕ) → has_slash n ≡ false → All (λ b. eqb b 47 ≡ false) n
 no_slash [] h = λ k d l. absurd (omega (arith, l))
-no_slash (b ∷ bs) h = let s = or_false (eqb b 47) (has_slash bs) h in All-cons (λ c. eqb c 47 ≡ false) b bs s.0 (no_slash bs s.1)
+no_slash (b ∷ bs) h =
+    let s = or_false (eqb b 47) (has_slash bs) h in All-cons (λ c. eqb c 47 ≡ false) b bs s.0 (no_slash bs s.1)
 
 pieces_joined : (n : List ℕ) (ns : List (List ℕ)) → list_any has_slash (n ∷ ns) ≡ false
     → pieces 47 (join_with_byte 47 (n ∷ ns)) ≡ n ∷ ns
@@ -32,7 +34,8 @@ pub same_names : (n : List ℕ) (ns : List (List ℕ)) (k : List ℕ) (ks : List
     → list_any has_slash (n ∷ ns) ≡ false → list_any has_slash (k ∷ ks) ≡ false
     → path_of (n ∷ ns) ≡ path_of (k ∷ ks) → n ∷ ns ≡ k ∷ ks
 same_names n ns k ks p q h =
-    let e : join_with_byte 47 (n ∷ ns) ≡ join_with_byte 47 (k ∷ ks) = ap behind_first (sym (path_of-joined n ns) ∙ h ∙ path_of-joined k ks) in
+    let e : join_with_byte 47 (n ∷ ns) ≡ join_with_byte 47 (k ∷ ks) =
+    ap behind_first (sym (path_of-joined n ns) ∙ h ∙ path_of-joined k ks) in
     sym (pieces_joined n ns p) ∙ ap (pieces 47) e ∙ pieces_joined k ks q
 
 -- what has no names is the root's path
@@ -56,7 +59,7 @@ root_path path h =
     let s = starts path (ap is_some (sym e ∙ h)) in
     s.1 ∙ ap (λ (v : List ℕ). 47 ∷ v) (behind_root s.0 (sym s.2 ∙ (sym e ∙ h)))
 
--- so a lawful path of names without slashes that is not the root's has just these names
+-- so a valid path of names without slashes that is not the root's has exactly these names
 pub has_names : (path : List ℕ) (k : List ℕ) (ks : List (List ℕ)) → path ≡ path_of (k ∷ ks)
     → list_any has_slash (k ∷ ks) ≡ false → is_some (names_of path) ≡ true → (path ≡ 47 ∷ [] → ⊥)
     → names_of path ≡ Some (k ∷ ks)

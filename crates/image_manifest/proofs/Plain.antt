@@ -1,5 +1,6 @@
--- The names on the way to a node have no slash, and in one list none stands twice.
-use Rattle.std.proofs.Common.{◌≡◌, ℕ, Bool, true, false, ◌||◌, cond, List, [], ◌∷◌, ◌++◌, Option, None, Some, refl, sym, ap, ◌∙◌, append_assoc, append-nil}
+-- The names on the way to a node have no slash, and in one list none occurs twice.
+use Rattle.std.proofs.Common.{◌≡◌, ℕ, Bool, true, false, ◌||◌, cond, List, [], ◌∷◌, ◌++◌, Option, None, Some, refl, sym}
+use Rattle.std.proofs.Common.{ap, ◌∙◌, append_assoc, append-nil}
 use Rattle.std.specs.Cmp.Lexicographic.{bytes_decides}
 use Rattle.std.specs.List.{list_any}
 use Rattle.std.specs.Option.{option_and_then}
@@ -8,9 +9,11 @@ use Rattle.manifest.specs.Paths.{path_of}
 use Rattle.manifest_tree.specs.Shape.{node_under}
 use Rattle.rom_tree.specs.Image.{find_entry}
 use Rattle.rom_tree.specs.Names.{Name, node_names, entries_names, path_below}
-use Rattle.rom_tree.specs.Tree.{Node, node, directory, regular, symlink, block, character, socket, fifo, Entries, no_entries, entry, entries_of}
+use Rattle.rom_tree.specs.Tree.{Node, node, directory, regular, symlink, block, character, socket, fifo, Entries}
+use Rattle.rom_tree.specs.Tree.{no_entries, entry, entries_of}
 use Rattle.image_manifest.specs.ByPaths.{has_slash}
-use Rattle.image_manifest.proofs.Ways.{true_is_not_false, Among, first, later, among_either, or_false, neither, front_none}
+use Rattle.image_manifest.proofs.Ways.{true_is_not_false, Among, first, later, among_either, or_false, neither}
+use Rattle.image_manifest.proofs.Ways.{front_none}
 
 -- none of these names has a slash
 abbrev pub ArePlain : List Name → Type 0
@@ -36,16 +39,23 @@ mutual
   plain_entries path m ms no_entries x p h = absurd (cc)
   plain_entries path m [] (entry name y es) x p h =
       let s = or_false (has_slash name) _ p in
-      let r = front_none (λ (n : Name). has_slash n.last) (node_names (path_below path name) y) (entries_names path es) s.1 in
-      elim (bytes_eq name m) as (λ t. bytes_eq name m ≡ t → option_and_then (λ y. node_under [] y) (cond t (Some y) (find_entry es m)) ≡ Some x → list_any has_slash (m ∷ []) ≡ false) [
+      let r = front_none (λ (n : Name). has_slash n.last) (node_names (path_below path name) y)
+      (entries_names path es) s.1 in
+      elim (bytes_eq name m) as (λ t. bytes_eq name m ≡ t
+      → option_and_then (λ y. node_under [] y) (cond t (Some y) (find_entry es m)) ≡ Some x
+      → list_any has_slash (m ∷ []) ≡ false) [
         | true ↦ λ e g. neither (has_slash m) false (ap has_slash (sym ((bytes_decides name m).0 e)) ∙ s.0) refl
         | false ↦ λ e g. plain_entries path m [] es x r.1 g
       ] refl h
   plain_entries path m (k ∷ ks) (entry name y es) x p h =
       let s = or_false (has_slash name) _ p in
-      let r = front_none (λ (n : Name). has_slash n.last) (node_names (path_below path name) y) (entries_names path es) s.1 in
-      elim (bytes_eq name m) as (λ t. bytes_eq name m ≡ t → option_and_then (λ y. node_under (k ∷ ks) y) (cond t (Some y) (find_entry es m)) ≡ Some x → list_any has_slash (m ∷ k ∷ ks) ≡ false) [
-        | true ↦ λ e g. neither (has_slash m) (list_any has_slash (k ∷ ks)) (ap has_slash (sym ((bytes_decides name m).0 e)) ∙ s.0) (plain_under (path_below path name) k ks y x r.0 g)
+      let r = front_none (λ (n : Name). has_slash n.last) (node_names (path_below path name) y)
+      (entries_names path es) s.1 in
+      elim (bytes_eq name m) as (λ t. bytes_eq name m ≡ t
+      → option_and_then (λ y. node_under (k ∷ ks) y) (cond t (Some y) (find_entry es m)) ≡ Some x
+      → list_any has_slash (m ∷ k ∷ ks) ≡ false) [
+        | true ↦ λ e g. neither (has_slash m) (list_any has_slash (k ∷ ks))
+            (ap has_slash (sym ((bytes_decides name m).0 e)) ∙ s.0) (plain_under (path_below path name) k ks y x r.0 g)
         | false ↦ λ e g. plain_entries path m (k ∷ ks) es x r.1 g
       ] refl h
 
@@ -70,9 +80,14 @@ found_path : (path m : List ℕ) (es : Entries) (y : Node) → find_entry es m �
 unfolding node_names
 found_path path m no_entries y h = absurd (cc)
 found_path path m (entry name x es) y h =
-    elim (bytes_eq name m) as (λ t. bytes_eq name m ≡ t → cond t (Some x) (find_entry es m) ≡ Some y → has_path (path_below path m) (entries_names path (entry name x es)) ≡ true) [
-      | true ↦ λ e g. or_here (bytes_eq (path_below path name) (path_below path m)) _ ((bytes_decides (path_below path name) (path_below path m)).1 (ap (path_below path) ((bytes_decides name m).0 e)))
-      | false ↦ λ e g. or_there (bytes_eq (path_below path name) (path_below path m)) _ (in_back (λ (n : Name). bytes_eq n.path (path_below path m)) (node_names (path_below path name) x) (entries_names path es) (found_path path m es y g))
+    elim (bytes_eq name m) as (λ t. bytes_eq name m ≡ t → cond t (Some x) (find_entry es m) ≡ Some y
+    → has_path (path_below path m) (entries_names path (entry name x es)) ≡ true) [
+      | true ↦ λ e g. or_here (bytes_eq (path_below path name) (path_below path m)) _
+          ((bytes_decides (path_below path name) (path_below path m)).1
+          (ap (path_below path) ((bytes_decides name m).0 e)))
+      | false ↦ λ e g. or_there (bytes_eq (path_below path name) (path_below path m)) _
+          (in_back (λ (n : Name). bytes_eq n.path (path_below path m)) (node_names (path_below path name) x)
+          (entries_names path es) (found_path path m es y g))
     ] refl h
   where
     or_here : (a b : Bool) → a ≡ true → (a || b) ≡ true
@@ -87,7 +102,7 @@ found_path path m (entry name x es) y h =
     in_back p [] ys e = e
     in_back p (x ∷ xs) ys e = or_there (p x) (list_any p (xs ++ ys)) (in_back p xs ys e)
 
--- A name that stands below a path, by the names on the way.
+-- A name that is below a path, by the names on the way.
 pub record Leads (es : Entries) (above : List ℕ) (n : Name) : Type 0 where
   pub head : List ℕ
   pub more : List (List ℕ)
@@ -106,7 +121,9 @@ other : (path name m : List ℕ) (es : Entries) (y : Node) → find_entry es m �
 other path name m es y f h = by (bytes_eq name m) refl
   where
     by : (b : Bool) → bytes_eq name m ≡ b → b ≡ false
-    by true e = absurd (true_is_not_false (has_path (path_below path name) (entries_names path es)) (ap (λ (v : List ℕ). has_path (path_below path v) (entries_names path es)) ((bytes_decides name m).0 e) ∙ found_path path m es y f) h)
+    by true e = absurd (true_is_not_false (has_path (path_below path name) (entries_names path es))
+        (ap (λ (v : List ℕ). has_path (path_below path v) (entries_names path es)) ((bytes_decides name m).0 e)
+        ∙ found_path path m es y f) h)
     by false e = refl
 
 mutual
@@ -132,7 +149,8 @@ mutual
         more = [];
         path = ap (λ (v : List ℕ). path ++ 47 ∷ v) (sym (append-nil name));
         plain = neither (has_slash name) false s.0 refl;
-        node = ap (λ (b : Bool). option_and_then (λ y. node_under [] y) (cond b (Some x) (find_entry es name))) ((bytes_decides name name).1 refl);
+        node = ap (λ (b : Bool). option_and_then (λ y. node_under [] y) (cond b (Some x) (find_entry es name)))
+            ((bytes_decides name name).1 refl);
       }
   leads_entries path (entry name x es) n p d (later h) =
       let own : List Name = node_names (path_below path name) x in
@@ -147,7 +165,8 @@ mutual
         more = l.head ∷ l.more;
         path = l.path ∙ append_assoc path (47 ∷ name) (path_of (l.head ∷ l.more));
         plain = neither (has_slash name) (list_any has_slash (l.head ∷ l.more)) s.0 l.plain;
-        node = ap (λ (b : Bool). option_and_then (λ y. node_under (l.head ∷ l.more) y) (cond b (Some x) (find_entry es name))) ((bytes_decides name name).1 refl) ∙ l.node;
+        node = ap (λ (b : Bool). option_and_then (λ y. node_under (l.head ∷ l.more) y)
+            (cond b (Some x) (find_entry es name))) ((bytes_decides name name).1 refl) ∙ l.node;
       })
       (λ v. let l = leads_entries path es n r.1 q.1 v in
       let found = some_by (λ y. node_under l.more y) (find_entry es l.head) n.node l.node in record {
@@ -155,5 +174,6 @@ mutual
         more = l.more;
         path = l.path;
         plain = l.plain;
-        node = ap (λ (b : Bool). option_and_then (λ y. node_under l.more y) (cond b (Some x) (find_entry es l.head))) (other path name l.head es found.0 found.1 alone) ∙ l.node;
+        node = ap (λ (b : Bool). option_and_then (λ y. node_under l.more y) (cond b (Some x) (find_entry es l.head)))
+            (other path name l.head es found.0 found.1 alone) ∙ l.node;
       })

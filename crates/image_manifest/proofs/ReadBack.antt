@@ -1,5 +1,6 @@
 -- The lines of names, by their paths.
-use Rattle.std.proofs.Common.{◌≡◌, ℕ, ◌+◌, Bool, true, false, ◌||◌, ◌&&◌, cond, List, [], ◌∷◌, ◌++◌, Option, None, Some, refl, sym, ap, ◌∙◌}
+use Rattle.std.proofs.Common.{◌≡◌, ℕ, ◌+◌, Bool, true, false, ◌||◌, ◌&&◌, cond, List, [], ◌∷◌, ◌++◌, Option, None, Some}
+use Rattle.std.proofs.Common.{refl, sym, ap, ◌∙◌}
 use Rattle.std.specs.Cmp.Lexicographic.{bytes_decides}
 use Rattle.std.specs.Option.{is_some, option_and_then}
 use Rattle.std.specs.Str.{bytes_eq}
@@ -19,7 +20,7 @@ use Rattle.image_manifest.proofs.Followed.{other, other_path}
 use Rattle.image_manifest.proofs.Plain.{PathsDiffer, has_path}
 use Rattle.image_manifest.proofs.Ways.{true_is_not_false, Among, first, later, neither}
 
--- A line has names exactly where it has their path.
+-- A line has names exactly if it has their path.
 
 names_same : (ns : List (List ℕ)) → names_eq ns ns ≡ true
 names_same [] = refl
@@ -35,7 +36,8 @@ names_eq-true [] (n ∷ ns) h = absurd (cc)
 names_eq-true (m ∷ ms) [] h = absurd (cc)
 names_eq-true (m ∷ ms) (n ∷ ns) h =
     let s = and_true (bytes_eq m n) (names_eq ms ns) h in
-    ap (λ (x : List ℕ). x ∷ ms) ((bytes_decides m n).0 s.0) ∙ ap (λ (xs : List (List ℕ)). n ∷ xs) (names_eq-true ms ns s.1)
+    ap (λ (x : List ℕ). x ∷ ms) ((bytes_decides m n).0 s.0)
+    ∙ ap (λ (xs : List (List ℕ)). n ∷ xs) (names_eq-true ms ns s.1)
 
 same_test : (l : Line) (k : List ℕ) (ks : List (List ℕ)) → names_of (path_of (k ∷ ks)) ≡ Some (k ∷ ks)
     → is_named (k ∷ ks) (names_of l.path) ≡ bytes_eq l.path (path_of (k ∷ ks))
@@ -48,12 +50,15 @@ same_test l k ks h = by (bytes_eq l.path (path_of (k ∷ ks))) refl
       where
         test : (b : Bool) → names_eq ns (k ∷ ks) ≡ b → b ≡ false
         test true g =
-            let same = path_with_names l.path k ks (e ∙ ap (λ (x : List (List ℕ)). Some x) (names_eq-true ns (k ∷ ks) g)) in
-            absurd (true_is_not_false (bytes_eq l.path (path_of (k ∷ ks))) ((bytes_decides l.path (path_of (k ∷ ks))).1 same.joined) f)
+            let same =
+            path_with_names l.path k ks (e ∙ ap (λ (x : List (List ℕ)). Some x) (names_eq-true ns (k ∷ ks) g)) in
+            absurd (true_is_not_false (bytes_eq l.path (path_of (k ∷ ks)))
+            ((bytes_decides l.path (path_of (k ∷ ks))).1 same.joined) f)
         test false g = refl
 
     by : (b : Bool) → bytes_eq l.path (path_of (k ∷ ks)) ≡ b → is_named (k ∷ ks) (names_of l.path) ≡ b
-    by true e = ap (is_named (k ∷ ks)) (ap names_of ((bytes_decides l.path (path_of (k ∷ ks))).0 e) ∙ h) ∙ names_same (k ∷ ks)
+    by true e =
+        ap (is_named (k ∷ ks)) (ap names_of ((bytes_decides l.path (path_of (k ∷ ks))).0 e) ∙ h) ∙ names_same (k ∷ ks)
     by false e = other (names_of l.path) refl e
 
 line_named_is : (ls : List Line) (k : List ℕ) (ks : List (List ℕ)) → names_of (path_of (k ∷ ks)) ≡ Some (k ∷ ks)
@@ -65,20 +70,22 @@ line_named_is (l ∷ ls) k ks h =
 
 line_has_path : (ls : List Line) (q : List ℕ) (d : Line) → line_at ls q ≡ Some d → d.path ≡ q
 line_has_path [] q d h = absurd (cc)
-line_has_path (l ∷ ls) q d h = elim (bytes_eq l.path q) as (λ t. bytes_eq l.path q ≡ t → cond t (Some l) (line_at ls q) ≡ Some d → d.path ≡ q) [
-  | true ↦ λ e g. ap (λ (x : Line). x.path) (sym (injective g)) ∙ (bytes_decides l.path q).0 e
-  | false ↦ λ e g. line_has_path ls q d g
-] refl h
+line_has_path (l ∷ ls) q d h =
+    elim (bytes_eq l.path q) as (λ t. bytes_eq l.path q ≡ t → cond t (Some l) (line_at ls q) ≡ Some d → d.path ≡ q) [
+      | true ↦ λ e g. ap (λ (x : Line). x.path) (sym (injective g)) ∙ (bytes_decides l.path q).0 e
+      | false ↦ λ e g. line_has_path ls q d g
+    ] refl h
   where
     injective : {x y : Line} → Some x ≡ Some y → x ≡ y
     injective e = cc
 
--- what depends on the path of the line with some names alone
+-- what depends only on the path of the line with some names
 pub named_at : {X : Type 0} (f : List ℕ → Option X) (ls : List Line) (path k : List ℕ) (ks : List (List ℕ))
     → path ≡ path_of (k ∷ ks) → names_of path ≡ Some (k ∷ ks)
     → is_some (line_at ls path) ≡ true → option_and_then (λ l. f l.path) (line_named ls (k ∷ ks)) ≡ f path
 named_at {X} f ls path k ks e h s =
-    ap (option_and_then (λ l. f l.path)) (line_named_is ls k ks (ap names_of (sym e) ∙ h) ∙ ap (line_at ls) (sym e)) ∙ by (line_at ls path) refl s
+    ap (option_and_then (λ l. f l.path)) (line_named_is ls k ks (ap names_of (sym e) ∙ h) ∙ ap (line_at ls) (sym e))
+    ∙ by (line_at ls path) refl s
   where
     by : (o : Option Line) → line_at ls path ≡ o → is_some o ≡ true → option_and_then (λ l. f l.path) o ≡ f path
     by None g t = absurd (cc)
@@ -104,9 +111,11 @@ pub has_line : (m : Image) (folder : List ℕ) (j : ℕ) (before ns : List Name)
 has_line m folder j before [] n h = elim h [ ]
 has_line m folder j before (k ∷ ns) n first =
     let rest : Option Line = line_at (numbered_from (j + 1) (lines_behind m folder (before ++ n ∷ []) ns)) n.path in
-    ap (λ (b : Bool). is_some (cond b (Some (numbered j (line_behind m folder before n))) rest)) ((bytes_decides (line_behind m folder before n).path n.path).1 (line_path m folder before n))
+    ap (λ (b : Bool). is_some (cond b (Some (numbered j (line_behind m folder before n))) rest))
+    ((bytes_decides (line_behind m folder before n).path n.path).1 (line_path m folder before n))
 has_line m folder j before (k ∷ ns) n (later h) =
-    some_if (bytes_eq (line_behind m folder before k).path n.path) (numbered j (line_behind m folder before k)) (line_at (numbered_from (j + 1) (lines_behind m folder (before ++ k ∷ []) ns)) n.path)
+    some_if (bytes_eq (line_behind m folder before k).path n.path) (numbered j (line_behind m folder before k))
+    (line_at (numbered_from (j + 1) (lines_behind m folder (before ++ k ∷ []) ns)) n.path)
     (has_line m folder (j + 1) (before ++ k ∷ []) ns n h)
 
 -- A name of a line with these names.
@@ -120,12 +129,20 @@ pub named_name : (m : Image) (folder : List ℕ) (j : ℕ) (before ns : List Nam
 named_name m folder j before [] q l h = absurd (cc)
 named_name m folder j before (n ∷ ns) q l h =
     let own : Line = numbered j (line_behind m folder before n) in
-    elim (is_named q (names_of own.path)) as (λ t. is_named q (names_of own.path) ≡ t → cond t (Some own) (line_named (numbered_from (j + 1) (lines_behind m folder (before ++ n ∷ []) ns)) q) ≡ Some l → HasNames (n ∷ ns) q) [
-      | true ↦ λ e g. record { name = n; among = first; names = ap (λ (v : List ℕ). is_named q (names_of v)) (sym (line_path m folder before n)) ∙ e }
-      | false ↦ λ e g. let r = named_name m folder (j + 1) (before ++ n ∷ []) ns q l g in record { name = r.name; among = later r.among; names = r.names }
+    elim (is_named q (names_of own.path)) as
+    (λ t. is_named q (names_of own.path) ≡ t
+    → cond t (Some own) (line_named (numbered_from (j + 1) (lines_behind m folder (before ++ n ∷ []) ns)) q)
+    ≡ Some l → HasNames (n ∷ ns) q) [
+      | true ↦ λ e g. record {
+        name = n;
+        among = first;
+        names = ap (λ (v : List ℕ). is_named q (names_of v)) (sym (line_path m folder before n)) ∙ e;
+      }
+      | false ↦ λ e g. let r = named_name m folder (j + 1) (before ++ n ∷ []) ns q l g in record
+          { name = r.name; among = later r.among; names = r.names }
     ] refl h
 
--- Each name of lines that are taken has a lawful path.
+-- Each name of lines that are accepted has a valid path.
 
 sound_path : (ls : List Line) (l : Line) → fault_of ls l ≡ None → is_bad_path (is_dir l.word) (names_of l.path) ≡ false
 unfolding fault_of
@@ -144,7 +161,8 @@ pub lawful : (m : Image) (folder : List ℕ) (latest : List Line) (j : ℕ) (bef
 lawful m folder latest j before [] n t h = elim h [ ]
 lawful m folder latest j before (k ∷ ns) n t first =
     let l : Line = line_behind m folder before n in
-    ap (λ (v : List ℕ). is_some (names_of v)) (sym (line_path m folder before n)) ∙ good_path (is_dir l.word) (names_of l.path) (sound_path latest (numbered j l) t.1)
+    ap (λ (v : List ℕ). is_some (names_of v)) (sym (line_path m folder before n))
+    ∙ good_path (is_dir l.word) (names_of l.path) (sound_path latest (numbered j l) t.1)
 lawful m folder latest j before (k ∷ ns) n t (later h) =
     lawful m folder (numbered j (line_behind m folder before k) ∷ latest) (j + 1) (before ++ k ∷ []) ns n t.2 h
 
@@ -158,7 +176,8 @@ none_later m folder latest j before (n ∷ ns) p t h =
     let l : Line = line_behind m folder before n in
     neither (bytes_eq n.path p) (has_path p ns)
     (ap (λ (v : List ℕ). bytes_eq v p) (sym (line_path m folder before n)) ∙ other_path latest j l p t.1 h)
-    (none_later m folder (numbered j l ∷ latest) (j + 1) (before ++ n ∷ []) ns p t.2 (some_if (bytes_eq l.path p) (numbered j l) (line_at latest p) h))
+    (none_later m folder (numbered j l ∷ latest) (j + 1) (before ++ n ∷ []) ns p t.2
+    (some_if (bytes_eq l.path p) (numbered j l) (line_at latest p) h))
 
 pub paths_differ : (m : Image) (folder : List ℕ) (latest : List Line) (j : ℕ) (before ns : List Name)
     → AreTaken latest j (lines_behind m folder before ns) → PathsDiffer ns
@@ -166,7 +185,8 @@ paths_differ m folder latest j before [] t = tt
 paths_differ m folder latest j before (n ∷ ns) t =
     let l : Line = line_behind m folder before n in (
       none_later m folder (numbered j l ∷ latest) (j + 1) (before ++ n ∷ []) ns n.path t.2
-          (ap (λ (b : Bool). is_some (cond b (Some (numbered j l)) (line_at latest n.path))) ((bytes_decides l.path n.path).1 (line_path m folder before n))),
+          (ap (λ (b : Bool). is_some (cond b (Some (numbered j l)) (line_at latest n.path)))
+          ((bytes_decides l.path n.path).1 (line_path m folder before n))),
       paths_differ m folder (numbered j l ∷ latest) (j + 1) (before ++ n ∷ []) ns t.2,
     )
 

@@ -1,5 +1,6 @@
 -- The source of a regular file's line, and what it holds.
-use Rattle.std.proofs.Common.{◌≡◌, ℕ, ◌+◌, ◌≤◌, Bool, true, false, ◌&&◌, cond, List, [], ◌∷◌, ◌++◌, filter, length, map, get_or, Option, None, Some, refl, sym, ap, ◌∙◌, append_assoc, append-nil, arith}
+use Rattle.std.proofs.Common.{◌≡◌, ℕ, ◌+◌, ◌≤◌, Bool, true, false, ◌&&◌, cond, List, [], ◌∷◌, ◌++◌, filter, length, map}
+use Rattle.std.proofs.Common.{get_or, Option, None, Some, refl, sym, ap, ◌∙◌, append_assoc, append-nil, arith}
 use Rattle.std.proofs.lemmas.Bool.{le-ltb, lt-ltb}
 use Rattle.std.proofs.Math.Seq.{get_or-append_seam}
 use Rattle.std.specs.Prelude.{is_none}
@@ -9,9 +10,11 @@ use Rattle.manifest_text.specs.Printed.{first_number, numbered, numbered_from}
 use Rattle.manifest_tree.specs.Tree.{sources_before}
 use Rattle.rom_tree.specs.Image.{Image, contents_of}
 use Rattle.rom_tree.specs.Names.{Name, names}
-use Rattle.rom_tree.specs.Tree.{Node, node, directory, regular, symlink, block, character, socket, fifo, ino_of, is_directory, is_regular}
+use Rattle.rom_tree.specs.Tree.{Node, node, directory, regular, symlink, block, character, socket, fifo, ino_of}
+use Rattle.rom_tree.specs.Tree.{is_directory, is_regular}
 use Rattle.image_manifest.specs.Lines.{first_name, line_behind, line_by, lines_behind, member_lines}
-use Rattle.image_manifest.specs.Sources.{AreSources, has_source, source_names, source_names_behind, sources_behind, file_contents}
+use Rattle.image_manifest.specs.Sources.{AreSources, has_source, source_names, source_names_behind, sources_behind}
+use Rattle.image_manifest.specs.Sources.{file_contents}
 
 and_false : (a : Bool) → (a && false) ≡ false
 and_false true = refl
@@ -21,22 +24,25 @@ and_true : (a : Bool) → (a && true) ≡ a
 and_true true = refl
 and_true false = refl
 
--- no line from line j on stands before an earlier one
+-- no line from line j on is before an earlier one
 none_before : (n j : ℕ) (ls : List Line) → n ≤ j → sources_before n (numbered_from j ls) ≡ 0
 none_before n j [] h = refl
 none_before n j (l ∷ ls) h =
     let r = none_before n (j + 1) ls (omega (arith, h)) in
-    ap (λ (b : Bool). cond (is_file l.word && b) (sources_before n (numbered_from (j + 1) ls) + 1) (sources_before n (numbered_from (j + 1) ls))) (le-ltb j n h)
-    ∙ ap (λ (b : Bool). cond b (sources_before n (numbered_from (j + 1) ls) + 1) (sources_before n (numbered_from (j + 1) ls))) (and_false (is_file l.word))
+    ap (λ (b : Bool). cond (is_file l.word && b) (sources_before n (numbered_from (j + 1) ls) + 1)
+    (sources_before n (numbered_from (j + 1) ls))) (le-ltb j n h)
+    ∙ ap (λ (b : Bool). cond b (sources_before n (numbered_from (j + 1) ls) + 1)
+    (sources_before n (numbered_from (j + 1) ls))) (and_false (is_file l.word))
     ∙ r
 
--- a line is a `file` line exactly where its name has a source
+-- a line is a `file` line exactly if its name has a source
 file_line : (m : Image) (folder : List ℕ) (before : List Name) (n : Name)
     → is_file (line_behind m folder before n).word ≡ has_source before n
 file_line m folder before n = by n.node (first_name (ino_of n.node) before)
   where
     by : (x : Node) (o : Option Name)
-        → is_file (line_by m folder (record { path = n.path; last = n.last; node = x }) (cond (is_directory x) None o)).word ≡ (is_regular x && is_none o)
+        → is_file (line_by m folder (record { path = n.path; last = n.last; node = x })
+        (cond (is_directory x) None o)).word ≡ (is_regular x && is_none o)
     by (node a (directory es)) o = refl
     by (node a (regular ps)) None = refl
     by (node a (regular ps)) (Some v) = refl
@@ -51,15 +57,17 @@ file_line m folder before n = by n.node (first_name (ino_of n.node) before)
     by (node a fifo) None = refl
     by (node a fifo) (Some v) = refl
 
--- as many sources stand before a name's line as names before it have one
+-- as many sources are before a name's line as names before it have one
 pub as_many_sources : (m : Image) (folder : List ℕ) (pre b rest : List Name) (j k : ℕ) → k ≡ j + length b
     → sources_before k (numbered_from j (lines_behind m folder pre (b ++ rest))) ≡ length (sources_behind m pre b)
 as_many_sources m folder pre [] rest j k e = none_before k j (lines_behind m folder pre rest) (omega (arith, e))
 as_many_sources m folder pre (n ∷ b) rest j k e =
     let more : ℕ = sources_before k (numbered_from (j + 1) (lines_behind m folder (pre ++ n ∷ []) (b ++ rest))) in
     let r = as_many_sources m folder (pre ++ n ∷ []) b rest (j + 1) k (omega (arith, e)) in
-    ap (λ (t : Bool). cond (is_file (line_behind m folder pre n).word && t) (more + 1) more) (lt-ltb j k (omega (arith, e)))
-    ∙ ap (λ (t : Bool). cond t (more + 1) more) (and_true (is_file (line_behind m folder pre n).word) ∙ file_line m folder pre n)
+    ap (λ (t : Bool). cond (is_file (line_behind m folder pre n).word && t) (more + 1) more)
+    (lt-ltb j k (omega (arith, e)))
+    ∙ ap (λ (t : Bool). cond t (more + 1) more)
+    (and_true (is_file (line_behind m folder pre n).word) ∙ file_line m folder pre n)
     ∙ by (has_source pre n) more (sources_behind m (pre ++ n ∷ []) b) r
   where
     by : (t : Bool) (k : ℕ) (cs : List (List ℕ)) → k ≡ length cs
@@ -73,7 +81,9 @@ sources_apart m pre [] rest = ap (λ (v : List Name). sources_behind m v rest) (
 sources_apart m pre (n ∷ b) rest =
     let own : List (List ℕ) = cond (has_source pre n) (contents_of m.bytes n.node ∷ []) [] in
     ap (λ (v : List (List ℕ)). own ++ v)
-    (sources_apart m (pre ++ n ∷ []) b rest ∙ ap (λ (v : List Name). sources_behind m (pre ++ n ∷ []) b ++ sources_behind m v rest) (append_assoc pre (n ∷ []) b))
+    (sources_apart m (pre ++ n ∷ []) b rest
+    ∙ ap (λ (v : List Name). sources_behind m (pre ++ n ∷ []) b ++ sources_behind m v rest)
+    (append_assoc pre (n ∷ []) b))
     ∙ sym (append_assoc own (sources_behind m (pre ++ n ∷ []) b) (sources_behind m (pre ++ n ∷ b) rest))
 
 -- the source of a name that has one holds its node's contents
@@ -93,7 +103,8 @@ file_text : (m : Image) (folder : List ℕ) (before : List Name) (n : Name) → 
 file_text m folder before n h = by n.node (first_name (ino_of n.node) before) h
   where
     by : (x : Node) (o : Option Name) → (is_regular x && is_none o) ≡ true
-        → (line_by m folder (record { path = n.path; last = n.last; node = x }) (cond (is_directory x) None o)).text ≡ folder ++ n.path
+        → (line_by m folder (record { path = n.path; last = n.last; node = x }) (cond (is_directory x) None o)).text
+        ≡ folder ++ n.path
     by (node a (directory es)) o h = absurd (cc)
     by (node a (regular ps)) None h = refl
     by (node a (regular ps)) (Some v) h = absurd (cc)
@@ -105,21 +116,29 @@ file_text m folder before n h = by n.node (first_name (ino_of n.node) before) h
 
 -- the lines name the files of these names, in their order
 pub sources_named : (m : Image) (folder : List ℕ) (j : ℕ) (before ns : List Name)
-    → texts_of (numbered_from j (lines_behind m folder before ns)) ≡ map (λ n. folder ++ n.path) (source_names_behind before ns)
+    → texts_of (numbered_from j (lines_behind m folder before ns))
+    ≡ map (λ n. folder ++ n.path) (source_names_behind before ns)
 sources_named m folder j before [] = refl
 sources_named m folder j before (n ∷ ns) =
     let l : Line = numbered j (line_behind m folder before n) in
     let rest : List Line = numbered_from (j + 1) (lines_behind m folder (before ++ n ∷ []) ns) in
     let r = sources_named m folder (j + 1) (before ++ n ∷ []) ns in
-    ap (λ (t : Bool). map (λ (k : Line). k.text) (cond t (l ∷ filter (λ k. is_file k.word) rest) (filter (λ k. is_file k.word) rest))) (file_line m folder before n)
+    ap (λ (t : Bool). map (λ (k : Line). k.text)
+    (cond t (l ∷ filter (λ k. is_file k.word) rest) (filter (λ k. is_file k.word) rest)))
+    (file_line m folder before n)
     ∙ by (has_source before n) refl r
   where
     by : (t : Bool) → has_source before n ≡ t
-        → texts_of (numbered_from (j + 1) (lines_behind m folder (before ++ n ∷ []) ns)) ≡ map (λ n. folder ++ n.path) (source_names_behind (before ++ n ∷ []) ns)
-        → map (λ (k : Line). k.text) (cond t (numbered j (line_behind m folder before n) ∷ filter (λ k. is_file k.word) (numbered_from (j + 1) (lines_behind m folder (before ++ n ∷ []) ns)))
+        → texts_of (numbered_from (j + 1) (lines_behind m folder (before ++ n ∷ []) ns))
+        ≡ map (λ n. folder ++ n.path) (source_names_behind (before ++ n ∷ []) ns)
+        → map (λ (k : Line). k.text) (cond t
+        (numbered j (line_behind m folder before n)
+        ∷ filter (λ k. is_file k.word) (numbered_from (j + 1) (lines_behind m folder (before ++ n ∷ []) ns)))
         (filter (λ k. is_file k.word) (numbered_from (j + 1) (lines_behind m folder (before ++ n ∷ []) ns))))
         ≡ map (λ n. folder ++ n.path) (cond t (n ∷ []) [] ++ source_names_behind (before ++ n ∷ []) ns)
-    by true h r = ap (λ (v : List ℕ). v ∷ texts_of (numbered_from (j + 1) (lines_behind m folder (before ++ n ∷ []) ns))) (file_text m folder before n h) ∙ ap (λ (v : List (List ℕ)). (folder ++ n.path) ∷ v) r
+    by true h r = ap (λ (v : List ℕ). v
+        ∷ texts_of (numbered_from (j + 1) (lines_behind m folder (before ++ n ∷ []) ns)))
+        (file_text m folder before n h) ∙ ap (λ (v : List (List ℕ)). (folder ++ n.path) ∷ v) r
     by false h r = r
 
 -- and the sources hold what these files hold
@@ -129,7 +148,8 @@ sources_held m before [] = refl
 sources_held m before (n ∷ ns) = by (has_source before n) (sources_held m (before ++ n ∷ []) ns)
   where
     by : (t : Bool)
-        → sources_behind m (before ++ n ∷ []) ns ≡ map (λ n. contents_of m.bytes n.node) (source_names_behind (before ++ n ∷ []) ns)
+        → sources_behind m (before ++ n ∷ []) ns
+        ≡ map (λ n. contents_of m.bytes n.node) (source_names_behind (before ++ n ∷ []) ns)
         → cond t (contents_of m.bytes n.node ∷ []) [] ++ sources_behind m (before ++ n ∷ []) ns
         ≡ map (λ n. contents_of m.bytes n.node) (cond t (n ∷ []) [] ++ source_names_behind (before ++ n ∷ []) ns)
     by true r = ap (λ (v : List (List ℕ)). contents_of m.bytes n.node ∷ v) r
@@ -137,4 +157,5 @@ sources_held m before (n ∷ ns) = by (has_source before n) (sources_held m (bef
 
 pub are_sources : (m : Image) (volume folder : List ℕ) → AreSources m volume folder
 unfolding member_lines source_names file_contents
-are_sources m volume folder = record { named = sources_named m folder (first_number volume) [] (names m.tree); held = sources_held m [] (names m.tree) }
+are_sources m volume folder = record
+    { named = sources_named m folder (first_number volume) [] (names m.tree); held = sources_held m [] (names m.tree) }

@@ -1,5 +1,7 @@
--- The grammar takes the lines of an image that a manifest tells whole.
-use Rattle.std.proofs.Common.{◌≡◌, ℕ, zero, suc, ◌+◌, ◌<◌, Bool, true, false, ◌||◌, ◌&&◌, not, nat_lt, cond, List, [], ◌∷◌, ◌++◌, length, map, get_or, Option, None, Some, refl, sym, ap, subst, ◌∙◌, append_assoc, append-nil, arith}
+-- The grammar accepts the lines of an image that a manifest describes whole.
+use Rattle.std.proofs.Common.{◌≡◌, ℕ, zero, suc, ◌+◌, ◌<◌, Bool, true, false, ◌||◌, ◌&&◌, not, nat_lt, cond, List, []}
+use Rattle.std.proofs.Common.{◌∷◌, ◌++◌, length, map, get_or, Option, None, Some, refl, sym, ap, subst, ◌∙◌}
+use Rattle.std.proofs.Common.{append_assoc, append-nil, arith}
 use Rattle.std.specs.Prelude.{◌==◌, ◌^◌}
 use Rattle.std.proofs.lemmas.Bool.{le-ltb}
 use Rattle.std.proofs.lemmas.List.{length-map}
@@ -18,39 +20,47 @@ use Rattle.rom_tree.specs.declared.types.Kind.{Kind}
 use Rattle.rom_tree.specs.declared.types.Kind.TheVariants.{Directory, Regular, Symlink, Block, Character, Socket, Fifo}
 use Rattle.rom_tree.specs.Image.{Image, contents_of}
 use Rattle.rom_tree.specs.Names.{Name, names}
-use Rattle.rom_tree.specs.Tree.{Node, node, directory, regular, symlink, block, character, socket, fifo, IsIn, attributes_of, ino_of, is_directory, is_link, kind_of, nodes}
-use Rattle.image_manifest.specs.Lines.{align_of, first_name, hard_line, line_behind, line_by, lines_behind, member_lines, node_line, text_of, word_of}
+use Rattle.rom_tree.specs.Tree.{Node, node, directory, regular, symlink, block, character, socket, fifo, IsIn}
+use Rattle.rom_tree.specs.Tree.{attributes_of, ino_of, is_directory, is_link, kind_of, nodes}
+use Rattle.image_manifest.specs.Lines.{align_of, first_name, hard_line, line_behind, line_by, lines_behind}
+use Rattle.image_manifest.specs.Lines.{member_lines, node_line, text_of, word_of}
 use Rattle.image_manifest.specs.Tellable.{HasSmallNumbers, IsTellable}
 use Rattle.image_manifest.proofs.Fit.{IsFit, AreFit, fit_at, names_fit, names_differ, differ_at}
-use Rattle.image_manifest.proofs.Followed.{all_taken, first_is, in_tree, lines_apart, none_by, other, other_path, own_led, taken_after}
+use Rattle.image_manifest.proofs.Followed.{all_taken, first_is, in_tree, lines_apart, none_by, other, other_path}
+use Rattle.image_manifest.proofs.Followed.{own_led, taken_after}
 use Rattle.image_manifest.proofs.Lawful.{no_bytes, stands}
 use Rattle.image_manifest.proofs.Lined.{length-lines}
 use Rattle.image_manifest.proofs.Plain.{PathsDiffer, has_path}
 use Rattle.image_manifest.proofs.ReadBack.{line_path}
 use Rattle.image_manifest.proofs.Ways.{Among, first, later, among_back, neither}
 
--- Lines are taken one by one.
+-- Lines are accepted one by one.
 
 taken_push : (latest : List Line) (j : ℕ) (xs : List Line) (l : Line) (k : ℕ) → k ≡ j + length xs
     → AreTaken latest j xs → IsSpelled l → fault_of (taken_after latest j xs) (numbered k l) ≡ None
     → AreTaken latest j (xs ++ l ∷ [])
-taken_push latest j [] l k e t s f = let g : k ≡ j = omega (arith, e) in (s, subst (λ (n : ℕ). fault_of latest (numbered n l) ≡ None) g f, tt)
-taken_push latest j (x ∷ xs) l k e t s f = (t.0, t.1, taken_push (numbered j x ∷ latest) (j + 1) xs l k (omega (arith, e)) t.2 s f)
+taken_push latest j [] l k e t s f =
+    let g : k ≡ j = omega (arith, e) in (s, subst (λ (n : ℕ). fault_of latest (numbered n l) ≡ None) g f, tt)
+taken_push latest j (x ∷ xs) l k e t s f =
+    (t.0, t.1, taken_push (numbered j x ∷ latest) (j + 1) xs l k (omega (arith, e)) t.2 s f)
 
 abbrev Fits : Image → List ℕ → ℕ → List Name → Name → Type 0
 Fits m folder j b n =
     IsSpelled (line_behind m folder b n)
-    × (AreTaken [] j (lines_behind m folder [] b) → fault_of (all_taken m folder j b) (numbered (j + length b) (line_behind m folder b n)) ≡ None)
+    × (AreTaken [] j (lines_behind m folder [] b)
+    → fault_of (all_taken m folder j b) (numbered (j + length b) (line_behind m folder b n)) ≡ None)
 
 taken_from : (m : Image) (folder : List ℕ) (j : ℕ) (b rest : List Name) → AreTaken [] j (lines_behind m folder [] b)
     → ((c : List Name) (n : Name) (a : List Name) → b ++ rest ≡ c ++ n ∷ a → Fits m folder j c n)
     → AreTaken [] j (lines_behind m folder [] (b ++ rest))
-taken_from m folder j b [] t f = subst (λ (v : List Name). AreTaken [] j (lines_behind m folder [] v)) (sym (append-nil b)) t
+taken_from m folder j b [] t f =
+    subst (λ (v : List Name). AreTaken [] j (lines_behind m folder [] v)) (sym (append-nil b)) t
 taken_from m folder j b (n ∷ rest) t f =
     let g : Fits m folder j b n = f b n rest refl in
     let more : AreTaken [] j (lines_behind m folder [] (b ++ n ∷ [])) =
     subst (λ (v : List Line). AreTaken [] j v) (sym (lines_apart m folder [] b n []))
-    (taken_push [] j (lines_behind m folder [] b) (line_behind m folder b n) (j + length b) (omega (arith, length-lines m folder [] b)) t g.0 (g.1 t)) in
+    (taken_push [] j (lines_behind m folder [] b) (line_behind m folder b n) (j + length b)
+    (omega (arith, length-lines m folder [] b)) t g.0 (g.1 t)) in
     subst (λ (v : List Name). AreTaken [] j (lines_behind m folder [] v)) (append_assoc b (n ∷ []) rest)
     (taken_from m folder j (b ++ n ∷ []) rest more (λ c k a e. f c k a (sym (append_assoc b (n ∷ []) rest) ∙ e)))
 
@@ -72,7 +82,8 @@ some_byte (b ∷ bs) (suc i) h = some_byte bs i (λ k d l. h (suc k) d (omega (a
 
 all_bytes : (bytes ps : List ℕ) → All (λ b. b < 256) bytes → All (λ b. b < 256) (map (λ p. get_or bytes p 0) ps)
 all_bytes bytes [] h = no_bytes
-all_bytes bytes (p ∷ ps) h = All-cons (λ b. b < 256) (get_or bytes p 0) (map (λ q. get_or bytes q 0) ps) (some_byte bytes p h) (all_bytes bytes ps h)
+all_bytes bytes (p ∷ ps) h = All-cons (λ b. b < 256) (get_or bytes p 0) (map (λ q. get_or bytes q 0) ps)
+    (some_byte bytes p h) (all_bytes bytes ps h)
 
 more_is_some : (xs ys : List ℕ) → (ys ≡ [] → ⊥) → xs ++ ys ≡ [] → ⊥
 more_is_some [] ys h e = h e
@@ -118,8 +129,10 @@ own_spelled m folder path x f p some bytes s h = record {
 
     only : (x : Node) → IsIn x (nodes m.tree) → HasOnly (word_of (kind_of x)) (node_line m folder path x)
     only (node a (directory es)) i = let d = m.devices (node a (directory es)) i refl in (refl, d.0, d.1, refl)
-    only (node a (regular ps)) i = let d = m.devices (node a (regular ps)) i refl in (d.0, d.1, more_is_some folder path some)
-    only (node a (symlink ps)) i = let d = m.devices (node a (symlink ps)) i refl in (refl, d.0, d.1, no_text ps (m.links (node a (symlink ps)) i refl).0)
+    only (node a (regular ps)) i =
+        let d = m.devices (node a (regular ps)) i refl in (d.0, d.1, more_is_some folder path some)
+    only (node a (symlink ps)) i = let d =
+        m.devices (node a (symlink ps)) i refl in (refl, d.0, d.1, no_text ps (m.links (node a (symlink ps)) i refl).0)
     only (node a block) i = (refl, refl)
     only (node a character) i = (refl, refl)
     only (node a socket) i = let d = m.devices (node a socket) i refl in (refl, d.0, d.1, refl)
@@ -148,7 +161,7 @@ no_fault : (latest : List Line) (l : Line) → is_bad_path (is_dir l.word) (name
 unfolding fault_of
 no_fault latest l a b c d e f = rw (a, b, c, d, e, f) refl
 
--- the tests that speak of a node's text alone
+-- the tests that concern only a node's text
 own_text : (m : Image) (folder path : List ℕ) (x : Node) → IsIn x (nodes m.tree)
     → (is_link x ≡ true → list_any (λ b. b == 0) (contents_of m.bytes x) ≡ false)
     → is_bad_text (word_of (kind_of x)) (text_of (kind_of x) (folder ++ path) (contents_of m.bytes x)) ≡ false
@@ -157,7 +170,8 @@ own_text m folder path (node a (regular ps)) i h = refl
 own_text m folder path (node a (symlink ps)) i h =
     let l = (m.links (node a (symlink ps)) i refl).1 in
     let c : List ℕ = contents_of m.bytes (node a (symlink ps)) in
-    neither (nat_lt 4095 (length c)) (list_any (λ b. b == 0) c) (le-ltb 4095 (length c) (omega (arith, l, length-map ps (λ p. get_or m.bytes p 0)))) (h refl)
+    neither (nat_lt 4095 (length c)) (list_any (λ b. b == 0) c)
+    (le-ltb 4095 (length c) (omega (arith, l, length-map ps (λ p. get_or m.bytes p 0)))) (h refl)
 own_text m folder path (node a block) i h = refl
 own_text m folder path (node a character) i h = refl
 own_text m folder path (node a socket) i h = refl
@@ -181,7 +195,7 @@ own_target latest Character text = refl
 own_target latest Socket text = refl
 own_target latest Fifo text = refl
 
--- What stands before a line.
+-- What is before a line.
 
 line_kept : (latest : List Line) (n : ℕ) (ls : List Line) (p : List ℕ) → AreTaken latest n ls
     → is_some (line_at latest p) ≡ true → line_at (taken_after latest n ls) p ≡ line_at latest p
@@ -197,19 +211,24 @@ dir_line m folder latest j pre [] d t h k = elim h [ ]
 dir_line m folder latest j pre (x ∷ b) d t first k =
     let l : Line = line_behind m folder pre d in
     let s : bytes_eq l.path d.path ≡ true = (bytes_decides l.path d.path).1 (line_path m folder pre d) in
-    let own : l ≡ node_line m folder d.path d.node = ap (λ (c : Bool). line_by m folder d (cond c None (first_name (ino_of d.node) pre))) k in
-    ap is_dir_line (line_kept (numbered j l ∷ latest) (j + 1) (lines_behind m folder (pre ++ d ∷ []) b) d.path t.2 (rw s refl))
+    let own : l ≡ node_line m folder d.path d.node =
+    ap (λ (c : Bool). line_by m folder d (cond c None (first_name (ino_of d.node) pre))) k in
+    ap is_dir_line (line_kept (numbered j l ∷ latest) (j + 1) (lines_behind m folder (pre ++ d ∷ []) b) d.path t.2
+    (rw s refl))
     ∙ ap (λ (c : Bool). is_dir_line (cond c (Some (numbered j l)) (line_at latest d.path))) s
     ∙ ap (λ (v : Line). is_dir v.word) own ∙ dir_word d.node ∙ k
-dir_line m folder latest j pre (x ∷ b) d t (later h) k = dir_line m folder (numbered j (line_behind m folder pre x) ∷ latest) (j + 1) (pre ++ x ∷ []) b d t.2 h k
+dir_line m folder latest j pre (x ∷ b) d t (later h) k =
+    dir_line m folder (numbered j (line_behind m folder pre x) ∷ latest) (j + 1) (pre ++ x ∷ []) b d t.2 h k
 
 some_line : (m : Image) (folder : List ℕ) (latest : List Line) (j : ℕ) (pre b : List Name) (p : List ℕ)
-    → is_some (line_at (taken_after latest j (lines_behind m folder pre b)) p) ≡ (has_path p b || is_some (line_at latest p))
+    → is_some (line_at (taken_after latest j (lines_behind m folder pre b)) p)
+    ≡ (has_path p b || is_some (line_at latest p))
 some_line m folder latest j pre [] p = refl
 some_line m folder latest j pre (x ∷ b) p =
     let l : Line = line_behind m folder pre x in
     some_line m folder (numbered j l ∷ latest) (j + 1) (pre ++ x ∷ []) b p
-    ∙ ap (λ (v : List ℕ). has_path p b || is_some (cond (bytes_eq v p) (Some (numbered j l)) (line_at latest p))) (line_path m folder pre x)
+    ∙ ap (λ (v : List ℕ). has_path p b || is_some (cond (bytes_eq v p) (Some (numbered j l)) (line_at latest p)))
+    (line_path m folder pre x)
     ∙ by (has_path p b) (bytes_eq x.path p) (numbered j l) (line_at latest p)
   where
     by : (y z : Bool) (l : Line) (o : Option Line) → (y || is_some (cond z (Some l) o)) ≡ ((z || y) || is_some o)
@@ -229,7 +248,8 @@ directory_among (x ∷ b) p h = by (is_directory x.node) (bytes_eq x.path p) ref
 
     by : (y z : Bool) → is_directory x.node ≡ y → bytes_eq x.path p ≡ z
         → ((y && z) || list_any (λ (d : Name). is_directory d.node && bytes_eq d.path p) b) ≡ true
-        → (list_any (λ (d : Name). is_directory d.node && bytes_eq d.path p) b ≡ true → (d : Name) × Among d b × (d.path ≡ p) × (is_directory d.node ≡ true))
+        → (list_any (λ (d : Name). is_directory d.node && bytes_eq d.path p) b ≡ true
+        → (d : Name) × Among d b × (d.path ≡ p) × (is_directory d.node ≡ true))
         → (d : Name) × Among d (x ∷ b) × (d.path ≡ p) × (is_directory d.node ≡ true)
     by true true e f g go = (x, first, (bytes_decides x.path p).0 f, e)
     by true false e f g go = let r = go g in (r.0, later r.1, r.2, r.3)
@@ -248,13 +268,15 @@ has_directory m folder j b p t h = by (is_empty p) h
     by true g = refl
     by false g =
         let r = directory_among b p g in
-        ap (λ (v : List ℕ). is_dir_line (line_at (all_taken m folder j b) v)) (sym r.2) ∙ dir_line m folder [] j [] b r.0 t r.1 r.3
+        ap (λ (v : List ℕ). is_dir_line (line_at (all_taken m folder j b) v)) (sym r.2)
+        ∙ dir_line m folder [] j [] b r.0 t r.1 r.3
 
 -- The lines of the names.
 
 some_path : (r : Bool) (p : List ℕ) → is_bad_path r (names_of p) ≡ false → p ≡ [] → ⊥
 unfolding names_of
-some_path r p h e = let g : is_bad_path r (names_of []) ≡ false = ap (λ (v : List ℕ). is_bad_path r (names_of v)) (sym e) ∙ h in cc
+some_path r p h e =
+    let g : is_bad_path r (names_of []) ≡ false = ap (λ (v : List ℕ). is_bad_path r (names_of v)) (sym e) ∙ h in cc
 
 own_fits : (m : Image) (folder : List ℕ) (j : ℕ) (b : List Name) (n : Name) → IsTellable m
     → All (λ c. c < 256) folder → IsFit b n → has_path n.path b ≡ false → Among n (names m.tree) → other b n ≡ None
@@ -265,7 +287,8 @@ own_fits m folder j b n h fs f alone stands o =
     let i = in_tree m.tree n stands in
     let k : ℕ = j + length b in
     let before : List Line = all_taken m folder j b in (
-      subst IsSpelled (sym e) (own_spelled m folder n.path n.node fs f.bytes (some_path (is_directory n.node) n.path f.path) h.bytes (h.tree.numbers n.node i) i),
+      subst IsSpelled (sym e) (own_spelled m folder n.path n.node fs f.bytes
+          (some_path (is_directory n.node) n.path f.path) h.bytes (h.tree.numbers n.node i) i),
       λ t. subst (λ (v : Line). fault_of before (numbered k v) ≡ None) (sym e)
           (no_fault before (numbered k l)
           (ap (λ (c : Bool). is_bad_path c (names_of n.path)) (dir_word n.node) ∙ f.path)
@@ -286,13 +309,20 @@ further_fits m folder j b n a old f alone parts fit d o first_old =
     let k : ℕ = j + length b in
     let before : List Line = all_taken m folder j b in
     let r = first_is (ino_of n.node) b old first_old in
-    let all : names m.tree ≡ r.before ++ old ∷ (r.after ++ n ∷ a) = parts ∙ ap (λ (v : List Name). v ++ n ∷ a) r.parts ∙ append_assoc r.before (old ∷ r.after) (n ∷ a) in
-    let g : IsFit r.before old = fit_at [] r.before old (r.after ++ n ∷ a) (subst (λ (v : List Name). AreFit [] v) all fit) in
-    let old_stands : Among old (names m.tree) = subst (λ (v : List Name). Among old v) (sym all) (among_back old r.before (old ∷ (r.after ++ n ∷ a)) first) in
-    let n_stands : Among n (names m.tree) = subst (λ (v : List Name). Among n v) (sym parts) (among_back n b (n ∷ a) first) in
-    let same : old.node ≡ n.node = m.coherent old.node n.node (in_tree m.tree old old_stands) (in_tree m.tree n n_stands) r.number in
+    let all : names m.tree ≡ r.before ++ old ∷ (r.after ++ n ∷ a) =
+    parts ∙ ap (λ (v : List Name). v ++ n ∷ a) r.parts ∙ append_assoc r.before (old ∷ r.after) (n ∷ a) in
+    let g : IsFit r.before old =
+    fit_at [] r.before old (r.after ++ n ∷ a) (subst (λ (v : List Name). AreFit [] v) all fit) in
+    let old_stands : Among old (names m.tree) =
+    subst (λ (v : List Name). Among old v) (sym all) (among_back old r.before (old ∷ (r.after ++ n ∷ a)) first) in
+    let n_stands : Among n (names m.tree) =
+    subst (λ (v : List Name). Among n v) (sym parts) (among_back n b (n ∷ a) first) in
+    let same : old.node ≡ n.node =
+    m.coherent old.node n.node (in_tree m.tree old old_stands) (in_tree m.tree n n_stands) r.number in
     let no_directory : is_directory old.node ≡ false = ap is_directory same ∙ d in
-    let own : other r.before old ≡ None = none_by (is_directory old.node) (first_name (ino_of old.node) r.before) (ap (λ (v : ℕ). first_name v r.before) r.number ∙ r.none) in (
+    let own : other r.before old ≡ None =
+    none_by (is_directory old.node) (first_name (ino_of old.node) r.before)
+    (ap (λ (v : ℕ). first_name v r.before) r.number ∙ r.none) in (
       subst IsSpelled (sym e) (hard_spelled n.path old.path f.bytes g.bytes),
       λ t. subst (λ (v : Line). fault_of before (numbered k v) ≡ None) (sym e)
           (no_fault before (numbered k l)
@@ -303,7 +333,8 @@ further_fits m folder j b n a old f alone parts fit d o first_old =
           refl
           (ap is_target
           (ap (λ (v : List Name). led (all_taken m folder j v) old.path) r.parts
-          ∙ own_led m folder j r.before old r.after (subst (λ (v : List Name). AreTaken [] j (lines_behind m folder [] v)) r.parts t) own)
+          ∙ own_led m folder j r.before old r.after
+          (subst (λ (v : List Name). AreTaken [] j (lines_behind m folder [] v)) r.parts t) own)
           ∙ ap not (dir_word old.node ∙ no_directory))),
     )
 
@@ -318,12 +349,14 @@ fits m folder j b n a h fs e = by (is_directory n.node) (first_name (ino_of n.no
     alone = differ_at b n a (subst PathsDiffer e (names_differ m h))
 
     own : other b n ≡ None → Fits m folder j b n
-    own o = own_fits m folder j b n h fs here_fit alone (subst (λ (v : List Name). Among n v) (sym e) (among_back n b (n ∷ a) first)) o
+    own o = own_fits m folder j b n h fs here_fit alone
+        (subst (λ (v : List Name). Among n v) (sym e) (among_back n b (n ∷ a) first)) o
 
     by : (d : Bool) (o : Option Name) → is_directory n.node ≡ d → first_name (ino_of n.node) b ≡ o → Fits m folder j b n
     by true o g f = own (ap (λ (x : Bool). cond x None (first_name (ino_of n.node) b)) g)
     by false None g f = own (ap (λ (x : Bool). cond x None (first_name (ino_of n.node) b)) g ∙ f)
-    by false (Some old) g f = further_fits m folder j b n a old here_fit alone e (names_fit m h) g (ap (λ (x : Bool). cond x None (first_name (ino_of n.node) b)) g ∙ f) f
+    by false (Some old) g f = further_fits m folder j b n a old here_fit alone e (names_fit m h) g
+        (ap (λ (x : Bool). cond x None (first_name (ino_of n.node) b)) g ∙ f) f
 
 pub are_taken : (m : Image) (folder : List ℕ) (j : ℕ) → IsTellable m → All (λ c. c < 256) folder
     → AreTaken [] j (member_lines m folder)

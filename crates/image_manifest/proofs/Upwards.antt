@@ -1,5 +1,6 @@
 -- What the paths of members are composed of.
-use Rattle.std.proofs.Common.{◌≡◌, ℕ, zero, suc, ◌+◌, ◌<◌, ◌≤◌, List, [], ◌∷◌, ◌++◌, length, get_or, Option, Some, None, refl, sym, ap, ◌∙◌, arith, append_assoc, length-append}
+use Rattle.std.proofs.Common.{◌≡◌, ℕ, zero, suc, ◌+◌, ◌<◌, ◌≤◌, List, [], ◌∷◌, ◌++◌, length, get_or, Option, Some, None}
+use Rattle.std.proofs.Common.{refl, sym, ap, ◌∙◌, arith, append_assoc, length-append}
 use Rattle.rom_tree.specs.Names.{path_below}
 use Rattle.image_manifest.specs.Composed.{path_by, way_at, way_with, ways_behind, ways_of}
 use Rattle.image_manifest.specs.declared.naming.Member.{Member}
@@ -33,7 +34,8 @@ record IsFront (all : List (List ℕ)) (k : ℕ) (x : Member) : Type 0 where
   same : (j : ℕ) → j < k → way_at front j ≡ way_at all j
   way : way_at all k ≡ way_with front x.parent x.name.now
 
-front_at : (ws : List (List ℕ)) (ms : List Member) (i k : ℕ) (d : Member) → i < length ms → k ≡ length ws + i → IsFront (ways_behind ws ms) k (get_or ms i d)
+front_at : (ws : List (List ℕ)) (ms : List Member) (i k : ℕ) (d : Member) → i < length ms → k ≡ length ws + i
+    → IsFront (ways_behind ws ms) k (get_or ms i d)
 front_at ws [] i k d h e = absurd (omega (arith, h))
 front_at ws (x ∷ xs) zero k d h e =
     let w : List ℕ = way_with ws x.parent x.name.now in
@@ -41,7 +43,8 @@ front_at ws (x ∷ xs) zero k d h e =
     record {
       front = ws;
       many = omega (arith, e);
-      same = λ j b. sym (kept (ws ++ w ∷ []) xs j (omega (arith, b, e, l)) ∙ way_append ws (w ∷ []) j (omega (arith, b, e)));
+      same = λ j b. sym (kept (ws ++ w ∷ []) xs j (omega (arith, b, e, l))
+          ∙ way_append ws (w ∷ []) j (omega (arith, b, e)));
       way = kept (ws ++ w ∷ []) xs k (omega (arith, e, l)) ∙ way_last ws w k (omega (arith, e));
     }
 front_at ws (x ∷ xs) (suc i) k d h e =
@@ -55,12 +58,15 @@ front ms k d h = front_at [] ms k k d h (omega arith)
 none_way : (ws : List (List ℕ)) (o : Option ℕ) (name w : List ℕ) → o ≡ None → w ≡ way_with ws o name → w ≡ []
 none_way ws o name w e h = h ∙ ap (λ (v : Option ℕ). way_with ws v name) e
 
-some_way : (ws : List (List ℕ)) (o : Option ℕ) (p : ℕ) (name w : List ℕ) → o ≡ Some p → w ≡ way_with ws o name → w ≡ path_below (way_at ws p) name
+some_way : (ws : List (List ℕ)) (o : Option ℕ) (p : ℕ) (name w : List ℕ) → o ≡ Some p → w ≡ way_with ws o name
+    → w ≡ path_below (way_at ws p) name
 some_way ws o p name w e h = h ∙ ap (λ (v : Option ℕ). way_with ws v name) e
 
 -- the way of a member without a parent, of one with an earlier parent, and of one with a later one
-pub root_way : (ms : List Member) (k : ℕ) (d : Member) → k < length ms → (get_or ms k d).parent ≡ None → way_at (ways_of ms) k ≡ []
-root_way ms k d h e = let f = front ms k d h in none_way f.front (get_or ms k d).parent (get_or ms k d).name.now _ e f.way
+pub root_way : (ms : List Member) (k : ℕ) (d : Member) → k < length ms → (get_or ms k d).parent ≡ None
+    → way_at (ways_of ms) k ≡ []
+root_way ms k d h e =
+    let f = front ms k d h in none_way f.front (get_or ms k d).parent (get_or ms k d).name.now _ e f.way
 
 pub below_way : (ms : List Member) (k p : ℕ) (d : Member) → k < length ms → (get_or ms k d).parent ≡ Some p → p < k
     → way_at (ways_of ms) k ≡ path_below (way_at (ways_of ms) p) (get_or ms k d).name.now
@@ -76,9 +82,10 @@ later_way ms k p d h e l =
     some_way f.front (get_or ms k d).parent p (get_or ms k d).name.now _ e f.way
     ∙ ap (λ (v : List ℕ). path_below v (get_or ms k d).name.now) (way_out f.front p (omega (arith, f.many, l)))
 
--- how long they are
+-- their lengths
 pub below_length : (w a name : List ℕ) → w ≡ path_below a name → length w ≡ length a + (1 + length name)
-below_length w a name e = let l = length-append a (47 ∷ name) in let s : length w ≡ length (a ++ 47 ∷ name) = ap length e in omega (arith, l, s)
+below_length w a name e = let l = length-append a (47 ∷ name) in let s : length w ≡ length (a ++ 47 ∷ name) =
+    ap length e in omega (arith, l, s)
 
 -- a path of a way
 pub path_root : (w : List ℕ) → w ≡ [] → path_by w ≡ 47 ∷ []
@@ -101,13 +108,15 @@ way_short [] h = omega arith
 way_short (b ∷ bs) h = h
 
 -- a slash and a name behind a buffer
-pub with_name : (old mid pushed new base name w : List ℕ) → mid ≡ old ++ base → w ≡ base ++ 47 ∷ name → pushed ≡ mid ++ 47 ∷ [] → new ≡ pushed ++ name → new ≡ old ++ w
+pub with_name : (old mid pushed new base name w : List ℕ) → mid ≡ old ++ base → w ≡ base ++ 47 ∷ name
+    → pushed ≡ mid ++ 47 ∷ [] → new ≡ pushed ++ name → new ≡ old ++ w
 with_name old mid pushed new base name w a b p q =
     q ∙ ap (λ (v : List ℕ). v ++ name) p ∙ append_assoc mid (47 ∷ []) name ∙ ap (λ (v : List ℕ). v ++ 47 ∷ name) a
     ∙ append_assoc old base (47 ∷ name) ∙ ap (λ (v : List ℕ). old ++ v) (sym b)
 
 -- it has room
-pub name_room : (old mid base name w : List ℕ) → mid ≡ old ++ base → w ≡ base ++ 47 ∷ name → length old + length w ≤ 4095 → length mid + (1 + length name) ≤ 4095
+pub name_room : (old mid base name w : List ℕ) → mid ≡ old ++ base → w ≡ base ++ 47 ∷ name
+    → length old + length w ≤ 4095 → length mid + (1 + length name) ≤ 4095
 name_room old mid base name w a b h =
     let s : length mid ≡ length (old ++ base) = ap length a in
     omega (arith, h, s, length-append old base, below_length w base name b)

@@ -1,5 +1,6 @@
 -- The names of a tree, and what lists of names lead to.
-use Rattle.std.proofs.Common.{◌≡◌, ℕ, Bool, true, false, ◌||◌, cond, List, [], ◌∷◌, ◌++◌, Some, refl, sym, ap, ◌∙◌, append_assoc, append-nil}
+use Rattle.std.proofs.Common.{◌≡◌, ℕ, Bool, true, false, ◌||◌, cond, List, [], ◌∷◌, ◌++◌, Some, refl, sym, ap, ◌∙◌}
+use Rattle.std.proofs.Common.{append_assoc, append-nil}
 use Rattle.std.proofs.lemmas.List.Folds.{list_any-append}
 use Rattle.std.specs.Cmp.Lexicographic.{bytes_decides}
 use Rattle.std.specs.List.{list_any}
@@ -9,7 +10,8 @@ use Rattle.manifest.specs.Paths.{path_of}
 use Rattle.manifest_tree.specs.Shape.{node_under}
 use Rattle.rom_tree.specs.Image.{find_entry}
 use Rattle.rom_tree.specs.Names.{Name, named, node_names, entries_names, path_below}
-use Rattle.rom_tree.specs.Tree.{Node, node, directory, regular, symlink, block, character, socket, fifo, Entries, no_entries, entry}
+use Rattle.rom_tree.specs.Tree.{Node, node, directory, regular, symlink, block, character, socket, fifo, Entries}
+use Rattle.rom_tree.specs.Tree.{no_entries, entry}
 
 pub or_false : (a b : Bool) → (a || b) ≡ false → (a ≡ false) × (b ≡ false)
 or_false true b h = absurd (cc)
@@ -27,7 +29,7 @@ pub front_none : {X : Type 0} (p : X → Bool) (xs ys : List X) → list_any p (
     → (list_any p xs ≡ false) × (list_any p ys ≡ false)
 front_none p xs ys h = or_false (list_any p xs) (list_any p ys) (sym (list_any-append p xs ys) ∙ h)
 
--- A name stands among others.
+-- A name is among others.
 pub data Among (n : Name) : List Name → Type 0 where
   first : {ns : List Name} → Among n (n ∷ ns)
   later : {k : Name} {ns : List Name} → Among n ns → Among n (k ∷ ns)
@@ -76,7 +78,9 @@ mutual
       → Reaches (entries_names path es) (path ++ path_of (m ∷ ms)) x
   reaches_entries path m ms no_entries x h = absurd (cc)
   reaches_entries path m [] (entry name y es) x h =
-      elim (bytes_eq name m) as (λ t. bytes_eq name m ≡ t → option_and_then (λ y. node_under [] y) (cond t (Some y) (find_entry es m)) ≡ Some x → Reaches (entries_names path (entry name y es)) (path ++ path_of (m ∷ [])) x) [
+      elim (bytes_eq name m) as (λ t. bytes_eq name m ≡ t
+      → option_and_then (λ y. node_under [] y) (cond t (Some y) (find_entry es m)) ≡ Some x
+      → Reaches (entries_names path (entry name y es)) (path ++ path_of (m ∷ [])) x) [
         | true ↦ λ e g. record {
           name = named (path_below path name) name y;
           among = first;
@@ -91,12 +95,15 @@ mutual
         }
       ] refl h
   reaches_entries path m (k ∷ ks) (entry name y es) x h =
-      elim (bytes_eq name m) as (λ t. bytes_eq name m ≡ t → option_and_then (λ y. node_under (k ∷ ks) y) (cond t (Some y) (find_entry es m)) ≡ Some x → Reaches (entries_names path (entry name y es)) (path ++ path_of (m ∷ k ∷ ks)) x) [
+      elim (bytes_eq name m) as (λ t. bytes_eq name m ≡ t
+      → option_and_then (λ y. node_under (k ∷ ks) y) (cond t (Some y) (find_entry es m)) ≡ Some x
+      → Reaches (entries_names path (entry name y es)) (path ++ path_of (m ∷ k ∷ ks)) x) [
         | true ↦ λ e g. let r = reaches (path_below path name) k ks y x g in record {
           name = r.name;
           among = later (among_front r.name (node_names (path_below path name) y) (entries_names path es) r.among);
           node = r.node;
-          path = r.path ∙ append_assoc path (47 ∷ name) (path_of (k ∷ ks)) ∙ ap (λ (v : List ℕ). path ++ 47 ∷ (v ++ path_of (k ∷ ks))) ((bytes_decides name m).0 e);
+          path = r.path ∙ append_assoc path (47 ∷ name) (path_of (k ∷ ks))
+              ∙ ap (λ (v : List ℕ). path ++ 47 ∷ (v ++ path_of (k ∷ ks))) ((bytes_decides name m).0 e);
         }
         | false ↦ λ e g. let r = reaches_entries path m (k ∷ ks) es x g in record {
           name = r.name;

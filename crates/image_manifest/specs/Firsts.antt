@@ -1,4 +1,4 @@
--- What a map has of the first names of nodes. (This project's own.)
+-- `noted`, `noted_with`: the index of the first name of each node, in a map. (This project's own.)
 use Rattle.std.specs.Prelude.{ℕ, ◌==◌, Option, Some, None, if◌then◌else◌}
 use Rattle.std.specs.BTreeMap.{BTreeMap, get}
 use Rattle.std.specs.Ordering.{nat_cmp}
@@ -8,11 +8,11 @@ use Rattle.rom_tree.specs.Tree.{Node, is_directory}
 abbrev pub noted : BTreeMap ℕ ℕ → ℕ → Option ℕ
 noted m number = get nat_cmp m number
 
--- what stands there once an index is noted for a node, where this stood there
+-- the index of a number after an index was noted for a node; an index that was there stays
 abbrev pub noted_with : ℕ → ℕ → Option ℕ → ℕ → Option ℕ
 noted_with node index (Some i) number = Some i
 noted_with node index None number = if node == number then Some index else None
 
--- what is told of a node of which this is noted
+-- the index that a member has, if the map has this one for its node; a directory's member has none
 abbrev pub first_by : Node → Option ℕ → Option ℕ
 first_by x o = if is_directory x then None else o

@@ -1,4 +1,6 @@
--- The manifest of an image: a line for each name, in preorder. (This project's own.)
+-- `member_lines`: the lines of an image's manifest, one for each name in preorder, whose sources
+-- are in a directory. `node_line`, `hard_line`: the line of a node at a path, and that of a further
+-- name. (This project's own.)
 use Rattle.std.specs.Prelude.{ℕ, ◌==◌, List, [], ◌∷◌, ◌++◌, find, Option, Some, None, if◌then◌else◌}
 use Rattle.manifest.specs.declared.line.Line.{Line}
 use Rattle.manifest.specs.declared.line.Word.{Word}
@@ -20,18 +22,18 @@ word_of Character = word.Character
 word_of Socket = word.Socket
 word_of Fifo = word.Fifo
 
--- each file's contents may lie at any multiple of 4
+-- a file's alignment is 4
 abbrev pub align_of : Kind → ℕ
 align_of Regular = 4
 align_of _ = 0
 
--- a file has its source, and a link its target
+-- the text of a file is its source, and that of a link is its target
 abbrev pub text_of : Kind → List ℕ → List ℕ → List ℕ
 text_of Regular source target = source
 text_of Symlink source target = target
 text_of _ source target = []
 
--- the line of a path and a text, with what is kept of a node
+-- the line of a path and a text, with the attributes of a node
 abbrev pub line_with : List ℕ → List ℕ → Stat → Line
 line_with path text s = record {
   number = 0;
@@ -46,7 +48,7 @@ line_with path text s = record {
   text = text;
 }
 
--- The line of a node at a path. The source of a file is its path in the folder.
+-- The line of a node at a path. The source of a file is its path in the directory.
 abbrev pub node_line : Image → List ℕ → List ℕ → Node → Line
 node_line m folder path x =
     line_with path (text_of (kind_of x) (folder ++ path) (contents_of m.bytes x)) (stat_of x)
@@ -70,12 +72,12 @@ hard_line path old = record {
 abbrev pub first_name : ℕ → List Name → Option Name
 first_name number ns = find (λ n. ino_of n.node == number) ns
 
--- the line of a name of a node that has another name before it, or none
+-- the line of a name, by the name of its node that comes before it, if there is one
 abbrev pub line_by : Image → List ℕ → Name → Option Name → Line
 line_by m folder n None = node_line m folder n.path n.node
 line_by m folder n (Some old) = hard_line n.path old.path
 
--- the line of a name behind others: a directory has a line of its own at each name
+-- the line of a name behind others; a directory has a line of its own at each name
 abbrev pub line_behind : Image → List ℕ → List Name → Name → Line
 line_behind m folder before n =
     line_by m folder n (if is_directory n.node then None else first_name (ino_of n.node) before)
@@ -86,6 +88,6 @@ lines_behind m folder before [] = []
 lines_behind m folder before (n ∷ ns) =
     line_behind m folder before n ∷ lines_behind m folder (before ++ n ∷ []) ns
 
--- the lines of all names, with sources in this folder
+-- the lines of all names, with sources in this directory
 unfoldable pub member_lines : Image → List ℕ → List Line
 member_lines m folder = lines_behind m folder [] (names m.tree)

@@ -1,6 +1,8 @@
--- The members of an image: its names in preorder, and which of them lead to a node to which an
--- earlier one leads. (This project's own.)
-use Rattle.std.specs.Prelude.{◌≡◌, ℕ, suc, ◌==◌, Bool, false, nat_lt, List, [], ◌∷◌, ◌++◌, map, length}
+-- `AreMembers`: the names of an image in preorder, each with its path, its node's number and the
+-- index of the first name of that node; no path is too long. `has_long_path`: a path has more than
+-- 4,095 bytes, so no manifest accepts it. (This project's own.)
+use Rattle.std.specs.Prelude.{◌≡◌, ℕ, suc, ◌==◌, Bool, false, nat_lt, List, [], ◌∷◌, ◌++◌, map}
+use Rattle.std.specs.Prelude.{length}
 use Rattle.std.specs.Prelude.{Option, Some, None, option_map, if◌then◌else◌}
 use Rattle.std.specs.List.{list_any}
 use Rattle.rom_tree.specs.Tree.{Node, ino_of, is_directory}
@@ -9,29 +11,29 @@ use Rattle.rom_tree.specs.Names.{Name, names}
 use Rattle.image_manifest.specs.Composed.{path_by, ways_of}
 use Rattle.image_manifest.specs.declared.naming.Member.{Member}
 
--- what is told of a name: its node's number, and where the first name of that node stands
+-- what a member has of a name: its node's number, and the index of the first name of that node
 pub record Told : Type 0 where
   pub number : ℕ
   pub first : Option ℕ
 
--- where the first of these names stands whose node has this number
+-- the index of the first of these names whose node has this number
 abbrev pub place_of : ℕ → List Name → Option ℕ
 place_of number [] = None
 place_of number (n ∷ ns) =
     if ino_of n.node == number then Some 0 else option_map suc (place_of number ns)
 
--- of a directory nothing is told
+-- the index of the first name of a node among others; a directory has none
 abbrev pub first_behind : List Name → Node → Option ℕ
 first_behind before x = if is_directory x then None else place_of (ino_of x) before
 
--- what is told of a name behind others
+-- what a member has of a name behind others
 abbrev pub told_behind : List Name → Name → Told
 told_behind before n = record {
   number = ino_of n.node;
   first = first_behind before n.node;
 }
 
--- what is told of names, behind others
+-- the same for each of some names, behind others
 abbrev pub all_behind : List Name → List Name → List Told
 all_behind before [] = []
 all_behind before (n ∷ ns) = told_behind before n ∷ all_behind (before ++ n ∷ []) ns
@@ -39,11 +41,11 @@ all_behind before (n ∷ ns) = told_behind before n ∷ all_behind (before ++ n 
 unfoldable pub members_of : Node → List Told
 members_of t = all_behind [] (names t)
 
--- what a member tells
+-- the number and the index that a member of the code has
 abbrev pub told_of : Member → Told
 told_of m = record { number = m.node.0; first = m.first }
 
--- no manifest takes this name
+-- no manifest accepts this name
 abbrev pub is_long : Name → Bool
 is_long n = nat_lt 4095 (length n.path)
 
@@ -51,7 +53,7 @@ is_long n = nat_lt 4095 (length n.path)
 abbrev pub has_long_path : Node → Bool
 has_long_path t = list_any is_long (names t)
 
--- these are the members of the image, whose paths are those of its names, none of them long
+-- These are the members of the image. Their paths are those of its names, and none is too long.
 pub record AreMembers (m : Image) (ms : List Member) : Type 0 where
   pub told : map told_of ms ≡ members_of m.tree
   pub paths : map path_by (ways_of ms) ≡ map (λ n. n.path) (names m.tree)

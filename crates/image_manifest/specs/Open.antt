@@ -1,10 +1,13 @@
--- The names on the way to a name, and which of them is its directory. (This project's own.)
-use Rattle.std.specs.Prelude.{◌≡◌, ◌<◌, ℕ, suc, ◌==◌, List, [], ◌∷◌, ◌++◌, length, Option, Some, None, if◌then◌else◌}
+-- For the proofs: the names that are open on the way to a name, and which of them is its directory.
+-- `AreOpen`: the ways of the open names. `AreToCome`: the names that are still to come, each below
+-- a way that is open before it. (This project's own.)
+use Rattle.std.specs.Prelude.{◌≡◌, ◌<◌, ℕ, suc, ◌==◌, List, [], ◌∷◌, ◌++◌, length, Option, Some}
+use Rattle.std.specs.Prelude.{None, if◌then◌else◌}
 use Rattle.rom_tree.specs.Names.{Name, path_below}
 use Rattle.image_manifest.specs.Composed.{way_at}
 use Rattle.image_manifest.specs.declared.naming.Open.{Open}
 
--- how many of these come before the first one whose way has k bytes
+-- the number of these before the first one whose way has k bytes
 abbrev pub place_of_length : ℕ → List Open → ℕ
 place_of_length k [] = 0
 place_of_length k (o ∷ os) = if o.len == k then 0 else suc (place_of_length k os)
@@ -19,27 +22,28 @@ abbrev pub opened : ℕ → Open → List Open → List Open
 opened k new [] = new ∷ []
 opened k new (o ∷ os) = o ∷ (if o.len == k then new ∷ [] else opened k new os)
 
--- an open one has this way, among all ways
+-- an open name has this way, among all ways
 pub record HasWay (all : List (List ℕ)) (o : Open) (w : List ℕ) : Type 0 where
   pub way : way_at all o.index ≡ w
   pub within : o.index < length all
   pub len : o.len ≡ length w
 
--- these are the ways of the open ones, among all ways
+-- these are the ways of the open names, among all ways
 unfoldable pub AreOpen : List (List ℕ) → List Open → List (List ℕ) → Type 0
 AreOpen all [] [] = Unit {0}
 AreOpen all [] (w ∷ ws) = ⊥
 AreOpen all (o ∷ os) [] = ⊥
 AreOpen all (o ∷ os) (w ∷ ws) = HasWay all o w × AreOpen all os ws
 
--- each of these has less than k bytes
+-- each of these has fewer than k bytes
 unfoldable pub AreShorter : ℕ → List (List ℕ) → Type 0
 AreShorter k [] = Unit {0}
 AreShorter k (w ∷ ws) = (length w < k) × AreShorter k ws
 
--- A name stands below one of the ways that are open before it. What holds of those that are open
--- behind it, the ways up to that one and its own, is `After`.
-pub record StandsBelow (ws : List (List ℕ)) (n : Name) (After : List (List ℕ) → Type 0) : Type 0 where
+-- A name is below one of the ways that are open before it. Behind it, the open ways are those up to
+-- that one, and the name's own. `After` holds for them.
+pub record StandsBelow (ws : List (List ℕ)) (n : Name)
+    (After : List (List ℕ) → Type 0) : Type 0 where
   pub up : List (List ℕ)
   pub way : List ℕ
   pub closed : List (List ℕ)
@@ -48,12 +52,12 @@ pub record StandsBelow (ws : List (List ℕ)) (n : Name) (After : List (List ℕ
   pub path : n.path ≡ path_below way n.last
   pub after : After (up ++ way ∷ n.path ∷ [])
 
--- each of these names stands below one of the ways that are open before it
+-- each of these names is below one of the ways that are open before it
 unfoldable pub StandBelow : List (List ℕ) → List Name → Type 0
 StandBelow ws [] = Unit {0}
 StandBelow ws (n ∷ ns) = StandsBelow ws n (λ v. StandBelow v ns)
 
--- the same of all names that are still to come; no way is open before the root
+-- the same for all names that are still to come; no way is open before the root
 abbrev pub AreToCome : List (List ℕ) → List Name → Type 0
 AreToCome [] [] = Unit {0}
 AreToCome [] (n ∷ ns) = (n.path ≡ 47 ∷ []) × StandBelow ([] ∷ []) ns

@@ -1,4 +1,5 @@
--- The sources of an image's manifest. (This project's own.)
+-- `file_contents`: the contents of the sources with which the image is built again. `AreSources`:
+-- the sources that the lines name are the image's files. (This project's own.)
 use Rattle.std.specs.Prelude.{◌≡◌, ℕ, Bool, ◌&&◌, List, [], ◌∷◌, ◌++◌, is_none, if◌then◌else◌, map}
 use Rattle.manifest.specs.Lines.{sources_of as sources_named}
 use Rattle.manifest_text.specs.Printed.{as_read}
@@ -7,18 +8,18 @@ use Rattle.rom_tree.specs.Names.{Name, names}
 use Rattle.rom_tree.specs.Tree.{Node, ino_of, is_regular}
 use Rattle.image_manifest.specs.Lines.{first_name, member_lines}
 
--- a name behind others has a source where it is the first name of a regular file
+-- a name behind others has a source if it is the first name of a regular file
 abbrev pub has_source : List Name → Name → Bool
 has_source before n = is_regular n.node && is_none (first_name (ino_of n.node) before)
 
--- what the sources of names hold, behind others
+-- the contents of the sources of names, behind others
 abbrev pub sources_behind : Image → List Name → List Name → List (List ℕ)
 sources_behind m before [] = []
 sources_behind m before (n ∷ ns) =
     (if has_source before n then contents_of m.bytes n.node ∷ [] else [])
     ++ sources_behind m (before ++ n ∷ []) ns
 
--- what the sources hold with which the image is built again, in the order of their lines
+-- the contents of the sources with which the image is built again, in the order of their lines
 unfoldable pub file_contents : Image → List (List ℕ)
 file_contents m = sources_behind m [] (names m.tree)
 
@@ -32,8 +33,8 @@ source_names_behind before (n ∷ ns) =
 unfoldable pub source_names : Node → List Name
 source_names t = source_names_behind [] (names t)
 
--- The sources that the lines name are, in their order, the regular files of the image, each by its
--- first name: the path of this name in the folder. What they hold is what these files hold.
+-- The sources that the lines name are the regular files of the image, in their order. Each is the
+-- path of the file's first name in the directory. Their contents are those of the files.
 pub record AreSources (m : Image) (volume folder : List ℕ) : Type 0 where
   pub named : sources_named (as_read volume (member_lines m folder)).lines
       ≡ map (λ n. folder ++ n.path) (source_names m.tree)

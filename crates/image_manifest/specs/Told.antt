@@ -1,4 +1,4 @@
--- The line of a member, by what the members tell. (This project's own.)
+-- `line_told`: the line of a member as the members describe it. (This project's own.)
 use Rattle.std.specs.Prelude.{ℕ, List, Option, Some, None}
 use Rattle.manifest.specs.declared.line.Line.{Line}
 use Rattle.rom_tree.specs.Image.{Image}
@@ -11,6 +11,7 @@ abbrev pub line_from : Image → List ℕ → List Member → List ℕ → Node 
 line_from m folder ms path x None = node_line m folder path x
 line_from m folder ms path x (Some i) = hard_line path (path_at ms i)
 
--- the line of the member at an index that leads to the node x, by the first name of that node
+-- the line of the member at an index that leads to the node x; `first` is the index of the first
+-- name of that node
 abbrev pub line_told : Image → List ℕ → List Member → ℕ → Node → Option ℕ → Line
 line_told m folder ms i x first = line_from m folder ms (path_at ms i) x first

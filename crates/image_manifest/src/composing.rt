@@ -6,7 +6,7 @@ ghost use Rattle.image_manifest.specs.Composed.{path_at, way_at, ways_of};
 use crate::naming::{Member, PATH_MAX};
 use arrayvec::ArrayVec;
 
-/// Appends the path of the member at an index, and nothing for the root.
+/// Appends the path of the member at an index; the root's is empty.
 fn append_way(members: &[Member<'_>], index: usize, path: &mut ArrayVec<u8, PATH_MAX>)
     requires within { index < length members.now }
     requires room { array_vec_len path.old + length (way_at (ways_of members.now) index) ≤ 4095 }
@@ -23,8 +23,8 @@ fn append_way(members: &[Member<'_>], index: usize, path: &mut ArrayVec<u8, PATH
     let _ = path.try_extend_from_slice(member.name);
 }
 
-/// Puts the path of the member at an index in place of what the buffer has. A directory that stands
-/// at no earlier index counts as the root.
+/// Replaces what the buffer has by the path of the member at an index. A directory that is at no
+/// earlier index counts as the root.
 pub fn path_of(members: &[Member<'_>], index: usize, path: &mut ArrayVec<u8, PATH_MAX>)
     requires within { index < length members.now }
     requires short { length (path_at members.now index) ≤ 4095 }

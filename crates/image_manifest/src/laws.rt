@@ -1,4 +1,4 @@
-//! What the manifest of an image says.
+//! Laws on the manifest of an image.
 ghost use Rattle.std.specs.Prelude.{◌≡◌, ◌<◌, ℕ, List, [], Ok, false, length, map};
 ghost use Rattle.std.specs.List.{All};
 ghost use Rattle.manifest.specs.Grammar.{manifest_of};
@@ -14,9 +14,9 @@ ghost use Rattle.image_manifest.specs.Members.{has_long_path};
 ghost use Rattle.image_manifest.specs.Sources.{AreSources, file_contents};
 ghost use Rattle.image_manifest.specs.Tellable.{HaveNoZeros, IsTellable, IsToldWhole};
 
-/// Where the grammar takes the lines of an image's names one behind the other, and the volume's
-/// name is lawful, the image's manifest is one, of just these lines, numbered in their order, and
-/// of this volume.
+/// Shows that the image's manifest is valid and has exactly the lines of the image's names,
+/// numbered in their order, and this volume. The grammar has to accept each line behind those
+/// before it, and the volume's name has to be valid.
 pub fn lines_are_read_back()
     ensures { (m : Image) (volume folder : List ℕ) → IsVolume volume
         → AreTaken [] (first_number volume) (member_lines m folder)
@@ -26,8 +26,8 @@ pub fn lines_are_read_back()
     manifest_text::laws::reads_back();
 }
 
-/// The manifest of an image means the image's tree, where its sources hold what the files hold, if
-/// the names that it gives have the shape of the tree.
+/// Shows that the manifest of an image means the image's tree, if the names that it means have the
+/// shape of the tree. Its sources have the contents of the files.
 pub fn told_by_shape()
     ensures { (m : Image) (volume folder : List ℕ) → IsVolume volume
         → AreTaken [] (first_number volume) (member_lines m folder)
@@ -41,10 +41,10 @@ pub fn told_by_shape()
     manifest_tree::laws::shape_is_meant();
 }
 
-/// The manifest of an image means the image's tree, where the grammar takes its lines, its sources
-/// hold what the files hold, and the tree can be told by paths: at each path stands what the node
-/// there is, its kind, attributes and bytes, at no other path stands anything, and two paths name
-/// one file exactly where they lead to one node.
+/// Shows that the manifest of an image means the image's tree, if the grammar accepts its lines and
+/// paths describe the tree. Its sources have the contents of the files. Each path then has the
+/// kind, attributes and bytes of its node, no other path exists, and two paths name one file
+/// exactly if they lead to one node.
 pub fn means_its_tree()
     ensures { (m : Image) (volume folder : List ℕ)
         → AreTaken [] (first_number volume) (member_lines m folder) → IsByPaths m.tree
@@ -52,29 +52,29 @@ pub fn means_its_tree()
         (map length (file_contents m)) }
 {}
 
-/// The grammar takes the lines of an image that a manifest tells whole, one behind the other,
-/// whatever folder its sources are in.
+/// Shows that the grammar accepts the lines of an image that a manifest describes whole, each
+/// behind those before it. Its sources may be in any directory.
 pub fn lines_are_taken()
     ensures { (m : Image) (volume folder : List ℕ) → IsTellable m → All (λ b. b < 256) folder
         → AreTaken [] (first_number volume) (member_lines m folder) }
 {}
 
-/// The grammar takes the lines of an image only where no link's text has a zero byte, and no path
-/// has more than 4,095 bytes.
+/// Shows that the grammar accepts the lines of an image only if no link's text has a zero byte, and
+/// no path has more than 4,095 bytes.
 pub fn taken_only_then()
     ensures { (m : Image) (volume folder : List ℕ)
         → AreTaken [] (first_number volume) (member_lines m folder)
         → HaveNoZeros m × (has_long_path m.tree ≡ false) }
 {}
 
-/// The sources of an image's manifest are, in their order, the image's regular files, each by its
-/// first name in the folder, and hold what these files hold.
+/// Shows that the sources of an image's manifest are the image's regular files, in their order.
+/// Each is the path of the file's first name in the directory, and has the file's contents.
 pub fn sources_are_files()
     ensures { (m : Image) (volume folder : List ℕ) → AreSources m volume folder }
 {}
 
-/// An image is told whole by its manifest, where its tree is lawful, no link's text has a zero
-/// byte, no path has more than 4,095 bytes and the volume's name is lawful.
+/// Shows that the manifest of an image describes it whole, if its tree is valid, no link's text has
+/// a zero byte, no path has more than 4,095 bytes, and the volume's name is valid.
 pub fn told_whole()
     ensures { (m : Image) (volume folder : List ℕ) → IsVolume volume → All (λ b. b < 256) folder
         → IsTellable m → IsToldWhole m volume folder }

@@ -1,11 +1,10 @@
-//! The manifest of an image, with which it can be built again.
+//! The manifest of an image, with which the image can be built again. `members` returns the image's
+//! names, and which of them lead to one node; `write_manifest` writes its manifest.
 //!
-//! `specs/Members.antt` says what the names of an image are, and which of them lead to a node to
-//! which an earlier one leads; `specs/Lines.antt` what the line of each is. Proved: `members` gives
-//! just these names, and is refused for a long path only where there is one; `path_of` composes the path
-//! of a name of those of its directories; `write_manifest`
-//! writes just their lines, or a prefix of them where the writer failed. What is written of lawful
-//! lines is read as just these lines (`laws`).
+//! Proved: `members` returns exactly the names of `specs/Members.antt`, and refuses a long path
+//! only if there is one. `path_of` composes the path of a name from those of its directories.
+//! `write_manifest` writes exactly the lines of `specs/Lines.antt`, or a prefix of them if the
+//! writer failed. Valid lines are read back exactly from their text (`laws`).
 #![tactic(auto)]
 
 mod composing;

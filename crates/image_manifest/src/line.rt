@@ -17,7 +17,7 @@ use manifest_text::{Entry, put_line};
 use rom_fields::{ByteWrite, put, put_decimal, put_escaped, put_octal};
 use rom_tree::{Kind, NodeId, Stat, TreeImage, link_text};
 
-/// The word of a kind of node.
+/// Returns the word of a kind of node.
 fn word_of(kind: Kind) -> Word
     ensures { result ≡ word_of kind }
 {
@@ -32,7 +32,7 @@ fn word_of(kind: Kind) -> Word
     }
 }
 
-/// Puts the line of a regular file. Its source is its path in the folder.
+/// Puts the line of a regular file. Its source is its path in the directory.
 fn put_file<W: ByteWrite>(w: &mut W, failed: &mut bool, folder: &[u8], path: &[u8], stat: Stat)
     requires { stat.kind ≡ Regular }
     ensures { Puts (sink (W.output w.old) failed.old) (sink (W.output w.new) failed.new)
@@ -52,7 +52,7 @@ fn put_file<W: ByteWrite>(w: &mut W, failed: &mut bool, folder: &[u8], path: &[u
     put(w, failed, b"\n");
 }
 
-/// Puts the line of a node that is no regular file.
+/// Puts the line of a node that is not a regular file.
 fn put_other<W: ByteWrite>(w: &mut W, failed: &mut bool, path: &[u8], text: &[u8], stat: Stat)
     requires { stat.kind ≢ Regular }
     ensures { Puts (sink (W.output w.old) failed.old) (sink (W.output w.new) failed.new)

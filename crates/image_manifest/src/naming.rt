@@ -19,39 +19,40 @@ use thiserror::Error;
 /// The most bytes that a path of a manifest may have.
 pub const PATH_MAX: usize = 4095;
 
-/// A name of an image, as its manifest tells it. `path_of` gives its path.
+/// A name of an image, as its manifest has it. `path_of` returns its path.
 #[derive(Clone, Copy)]
 pub struct Member<'a> {
     /// The index of the member that is its directory. The root has none.
     pub parent: Option<usize>,
-    /// Its last name, as it stands in the image. The root has none.
+    /// Its last name, as it is in the image. The root has none.
     pub name: &'a [u8],
     /// The node to which the name leads.
     pub node: NodeId,
-    /// The index of the earliest earlier member of the same node. A directory has none.
+    /// The index of the first member of the same node, if this is a further one. A directory has
+    /// none.
     pub first: Option<usize>,
 }
 
-/// Why the names of an image were not told.
+/// The reason why the names of an image were not returned.
 #[derive(Clone, Copy, Debug, PartialEq, Eq, Error)]
 pub enum Refused {
     /// Memory was refused.
     #[error("out of memory")]
     OutOfMemory,
-    /// A path has more than 4,095 bytes, which no manifest takes.
+    /// A path has more than 4,095 bytes, which no manifest accepts.
     #[error("a path of more than 4095 bytes")]
     LongPath,
 }
 
-/// A name on the way to the one that was given last: the index of its member, and how many bytes its
-/// path has, which are none for the root.
+/// A name on the way to the name that the walk returned last: the index of its member, and the
+/// length of its path in bytes, which is 0 for the root.
 #[derive(Clone, Copy)]
 pub(crate) struct Open {
     index: usize,
     len: usize,
 }
 
-/// How many bytes the path has of the name that a walk gave last.
+/// Returns the length of the path of the name that a walk returned last.
 fn path_len(walk: &Walk<'_>) -> Result<usize, Refused>
     ensures path { IfOk result (λ k. k ≡ length (given_path walk.now)) }
     ensures short { IfOk result (λ k. length (given_path walk.now) ≤ 4095) }
@@ -65,7 +66,7 @@ fn path_len(walk: &Walk<'_>) -> Result<usize, Refused>
     }
 }
 
-/// How many names come before the first one whose path has `len` bytes.
+/// Returns the number of names before the first one whose path has `len` bytes.
 fn place_of_length(on_way: &[Open], len: usize) -> usize
     ensures place { result ≡ place_of_length len on_way.now }
     ensures within { result ≤ length on_way.now }
@@ -77,7 +78,8 @@ fn place_of_length(on_way: &[Open], len: usize) -> usize
     place
 }
 
-/// Closes what is behind the first name whose path has `len` bytes, and gives the index of that name.
+/// Closes the names behind the first one whose path has `len` bytes, and returns that one's index,
+/// if there is one.
 fn close(on_way: &mut Vec<Open>, len: usize) -> Option<usize>
     ensures parent { result ≡ parent_in len on_way.old.items }
     ensures left { (new : Open) → opened len new on_way.old.items ≡ on_way.new.items ++ new ∷ [] }
@@ -91,7 +93,7 @@ fn close(on_way: &mut Vec<Open>, len: usize) -> Option<usize>
     Some(parent)
 }
 
-/// Notes the index of a name of a node, where none is noted.
+/// Notes the index of a name of a node, if none is noted.
 fn note_first(firsts: &mut BTreeMap<u32, usize>, node: NodeId, index: usize) -> Result<(), Refused>
     ensures ok { OnOk result ((number : ℕ) → noted firsts.new number
         ≡ noted_with node.0 index (noted firsts.old number) number) }
@@ -105,7 +107,7 @@ fn note_first(firsts: &mut BTreeMap<u32, usize>, node: NodeId, index: usize) -> 
     Ok(())
 }
 
-/// The index that is noted of a node that is no directory.
+/// Returns the index that is noted for a node; a directory has none.
 fn first_noted<'a, T: TreeImage<'a>>(
     image: &T,
     firsts: &BTreeMap<u32, usize>,
@@ -121,14 +123,14 @@ fn first_noted<'a, T: TreeImage<'a>>(
     firsts.get(&node.0).copied()
 }
 
-/// The names of an image in preorder, the root's first. Of each name it tells its directory, and of
-/// each but a directory's the first name of the same node. Directories may lie 64 deep. It takes
-/// time in n log n.
+/// Returns the names of an image in preorder, the root's first, each with the index of its
+/// directory. Each name, except a directory's, also has the index of the first name of its node.
+/// Directories may be 64 deep. It takes time in n log n for n names.
 ///
 /// # Errors
 ///
-/// `LongPath` only where a path has more than 4,095 bytes; then there is no manifest of the image.
-/// `OutOfMemory`, also where there is such a path.
+/// `LongPath` only if a path has more than 4,095 bytes; then the image has no manifest.
+/// `OutOfMemory` if memory was refused, also if there is such a path.
 pub fn members<'a, T: TreeImage<'a>>(alloc: Global, image: &T) -> Result<Vec<Member<'a>>, Refused>
     requires { levels (T.image image.now).tree ≤ 65 }
     ensures told { IfOk result (λ v. AreMembers (T.image image.now) v.items) }

@@ -1,4 +1,4 @@
-//! The manifest of an image.
+//! The writing of an image's manifest.
 ghost use Rattle.manifest_text.specs.Printed.{lines_text, manifest_text};
 ghost use Rattle.rom_fields.specs.Failures.{Counts};
 ghost use Rattle.rom_fields.specs.Written.{Puts, WritesText, sink};
@@ -28,18 +28,19 @@ fn put_members<'a, T: TreeImage<'a>, W: ByteWrite>(
     }
 }
 
-/// Writes the manifest of an image whose members these are: a line that names the volume, where it
-/// has a name, and behind it a line for each member. That of a directory, a symbolic link, a
-/// device, a FIFO or a socket says what the image keeps of it. That of a regular file does so too,
-/// asks for a place that is a multiple of 4, and has as its source the file's path behind the
-/// folder's: in the folder `app`, `/bin/sh` has the source `app/bin/sh`. A further name of one of
-/// these, a directory's excepted, is a `hard` line with the first name's path. A device's numbers,
-/// an owner and a mode are told as the image keeps them, also where a build in some format refuses
-/// them. It is not flushed.
+/// Writes the manifest of an image that has these members: a line that names the volume, if it has
+/// a name, and then a line for each member. A line has what the image stores of the node: kind,
+/// mode, owner, and the numbers of a device, also if a build in some format refuses them.
+///
+/// - The line of a regular file has the alignment 4. Its source is the file's path behind the
+///   directory's: in the directory `app`, `/bin/sh` has the source `app/bin/sh`.
+/// - A further name of a file that is not a directory has a `hard` line with the first name's path.
+///
+/// It does not flush.
 ///
 /// # Errors
 ///
-/// A write failed; a prefix of the manifest was written.
+/// `Failed` if a write failed. Then a prefix of the manifest was written.
 pub fn write_manifest<'a, T: TreeImage<'a>, W: ByteWrite>(
     image: &T,
     members: &[Member<'a>],

@@ -13,6 +13,7 @@ pub address_low : (a : ℕ) → a < 4294967296 → address_text a ≡ 48 ∷ 120
 unfolding address_text
 address_low a h = rw (lt_is a 4294967296 h) refl
 
-pub address_high : (a : ℕ) → 4294967296 ≤ a → address_text a ≡ 48 ∷ 120 ∷ [] ++ (eight_digits (a / 4294967296) ++ eight_digits a)
+pub address_high : (a : ℕ) → 4294967296 ≤ a
+    → address_text a ≡ 48 ∷ 120 ∷ [] ++ (eight_digits (a / 4294967296) ++ eight_digits a)
 unfolding address_text
 address_high a h = rw (le_is a 4294967296 h) refl

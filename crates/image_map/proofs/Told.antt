@@ -1,5 +1,6 @@
 -- The lines of a file's runs, put one after the other.
-use Rattle.std.proofs.Common.{◌≡◌, ℕ, ◌+◌, ◌<◌, ◌≤◌, List, [], ◌∷◌, ◌++◌, length, ◌-◌, drop, length-drop, refl, sym, ap, ◌∙◌, subst, arith, append_assoc, append-nil, nat_lt, true, false, rules, tests}
+use Rattle.std.proofs.Common.{◌≡◌, ℕ, ◌+◌, ◌<◌, ◌≤◌, List, [], ◌∷◌, ◌++◌, length, ◌-◌, drop, length-drop, refl, sym, ap}
+use Rattle.std.proofs.Common.{◌∙◌, subst, arith, append_assoc, append-nil, nat_lt, true, false, rules, tests}
 use Rattle.std.specs.Prelude.{slice_index}
 use Rattle.rom_tree.specs.Image.{IsRun}
 use Rattle.std.proofs.lemmas.List.{get_or-drop, drop-drop, drop_all}
@@ -19,7 +20,9 @@ pub record IsTold (s t : Sink) (base : ℕ) (path ps : List ℕ) (at : ℕ) : Ty
 pub told_none : (s : Sink) (base : ℕ) (path ps : List ℕ) → IsTold s s base path ps 0
 told_none s base path ps = record { done = []; puts = puts_nothing s; rest = refl }
 
-pub told_more : (s t u : Sink) (base : ℕ) (path ps : List ℕ) (at : ℕ) (r : Run) → IsWholeRun ps at r → Puts t u (run_line base path (piece r.place r.len at)) → IsTold s t base path ps at → IsTold s u base path ps (at + r.len)
+pub told_more : (s t u : Sink) (base : ℕ) (path ps : List ℕ) (at : ℕ) (r : Run) → IsWholeRun ps at r
+    → Puts t u (run_line base path (piece r.place r.len at)) → IsTold s t base path ps at
+    → IsTold s u base path ps (at + r.len)
 told_more s t u base path ps at r h p i =
     let line : List ℕ = run_line base path (piece r.place r.len at) in
     let l : length (drop at ps) ≡ length ps - at = length-drop at ps in
@@ -27,8 +30,10 @@ told_more s t u base path ps at r h p i =
     runs_first (drop at ps) r.place at r.len h.run.some (omega (arith, l, h.run.within))
     (λ k w. get_or-drop at ps k 0 ∙ h.run.row k w)
     (λ w e. h.ends (omega (arith, l, w)) (sym (get_or-drop at ps r.len 0) ∙ e)) in
-    let next : run_lines base path (runs_from at (drop at ps)) ≡ line ++ run_lines base path (runs_from (at + r.len) (drop (at + r.len) ps)) =
-    ap (run_lines base path) front ∙ ap (λ (v : List ℕ). line ++ run_lines base path (runs_from (at + r.len) v)) (drop-drop r.len at ps) in
+    let next : run_lines base path (runs_from at (drop at ps))
+    ≡ line ++ run_lines base path (runs_from (at + r.len) (drop (at + r.len) ps)) =
+    ap (run_lines base path) front ∙ ap (λ (v : List ℕ). line ++ run_lines base path (runs_from (at + r.len) v))
+    (drop-drop r.len at ps) in
     record {
       done = i.done ++ line;
       puts = chain i.puts p;
@@ -36,10 +41,12 @@ told_more s t u base path ps at r h p i =
           ∙ (ap (λ (v : List ℕ). i.done ++ v) (sym next) ∙ i.rest);
     }
 
-pub told_all : (s t : Sink) (base : ℕ) (path ps : List ℕ) (at : ℕ) → length ps ≤ at → IsTold s t base path ps at → Puts s t (run_lines base path (runs ps))
+pub told_all : (s t : Sink) (base : ℕ) (path ps : List ℕ) (at : ℕ) → length ps ≤ at → IsTold s t base path ps at
+    → Puts s t (run_lines base path (runs ps))
 told_all s t base path ps at h i =
     let none : runs_from at (drop at ps) ≡ [] = ap (runs_from at) (drop_all at ps h) ∙ runs_nil at in
-    let e : i.done ≡ run_lines base path (runs ps) = sym (append-nil i.done) ∙ (ap (λ (v : List Piece). i.done ++ run_lines base path v) (sym none) ∙ i.rest) in
+    let e : i.done ≡ run_lines base path (runs ps) =
+    sym (append-nil i.done) ∙ (ap (λ (v : List Piece). i.done ++ run_lines base path v) (sym none) ∙ i.rest) in
     let P : List ℕ → Type 0 = λ v. Puts s t v in
     subst P e i.puts
 
@@ -50,7 +57,8 @@ le_by : (a b : ℕ) → nat_lt a b ≡ false → b ≤ a
 le_by a b h = search (rules, tests)
 
 -- a row that goes on
-pub run_more : (ps : List ℕ) (at place len : ℕ) (r : Run) → ((k : ℕ) → k < len → slice_index ps (at + k) ≡ place + k) → IsRun ps (at + len) r → r.place ≡ place + len → (k : ℕ) → k < len + r.len → slice_index ps (at + k) ≡ place + k
+pub run_more : (ps : List ℕ) (at place len : ℕ) (r : Run) → ((k : ℕ) → k < len → slice_index ps (at + k) ≡ place + k)
+    → IsRun ps (at + len) r → r.place ≡ place + len → (k : ℕ) → k < len + r.len → slice_index ps (at + k) ≡ place + k
 run_more ps at place len r row i e k l =
     elim (nat_lt k len) as (λ v. nat_lt k len ≡ v → slice_index ps (at + k) ≡ place + k) [
       | true ↦ λ t. row k (lt_by k len t)

@@ -1,4 +1,5 @@
--- The map of an image: a line for each run of each regular file. (This project's own.)
+-- `map_text`: a line for each run of each regular file, in the order of the list. (This project's
+-- own.)
 use Rattle.std.specs.Prelude.{ℕ, ◌+◌, ◌/◌, ◌%◌, List, [], ◌∷◌, ◌++◌, decimal, nat_lt, if◌then◌else◌}
 use Rattle.std.specs.List.{flat_map}
 use Rattle.rom_fields.specs.Texts.{escaped}
@@ -13,13 +14,15 @@ digit n = if nat_lt n 10 then 48 + n else 87 + n
 -- the last eight hexadecimal digits, with leading zeros
 abbrev pub eight_digits : ℕ → List ℕ
 eight_digits n =
-    digit (n / 268435456 % 16) ∷ digit (n / 16777216 % 16) ∷ digit (n / 1048576 % 16) ∷ digit (n / 65536 % 16)
+    digit (n / 268435456 % 16) ∷ digit (n / 16777216 % 16) ∷ digit (n / 1048576 % 16)
+    ∷ digit (n / 65536 % 16)
     ∷ digit (n / 4096 % 16) ∷ digit (n / 256 % 16) ∷ digit (n / 16 % 16) ∷ digit (n % 16) ∷ []
 
--- `0x`, and eight digits, or sixteen from 2^32 on
+-- `0x` and eight digits, or sixteen digits from 2^32 on
 unfoldable pub address_text : ℕ → List ℕ
 address_text a =
-    48 ∷ 120 ∷ [] ++ (if nat_lt a 4294967296 then eight_digits a else eight_digits (a / 4294967296) ++ eight_digits a)
+    48 ∷ 120 ∷ [] ++ (if nat_lt a 4294967296 then eight_digits a
+    else eight_digits (a / 4294967296) ++ eight_digits a)
 
 -- ADDRESS LENGTH OFFSET PATH, of an image whose first byte has the address `base`
 unfoldable pub run_line : ℕ → List ℕ → Piece → List ℕ
@@ -34,7 +37,7 @@ empty_line path = 45 ∷ 32 ∷ 48 ∷ 32 ∷ 48 ∷ 32 ∷ [] ++ (path ++ 10 �
 abbrev pub run_lines : ℕ → List ℕ → List Piece → List ℕ
 run_lines base path rs = flat_map (λ r. run_line base path r) rs
 
--- the lines of a regular file whose bytes lie at these places
+-- the lines of a regular file with these offsets of its bytes
 abbrev pub places_lines : ℕ → List ℕ → List ℕ → List ℕ
 places_lines base path [] = empty_line path
 places_lines base path (p ∷ ps) = run_lines base path (runs (p ∷ ps))

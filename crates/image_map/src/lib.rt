@@ -1,9 +1,9 @@
-//! Where each file of an image lies, and its bytes.
+//! `map`, `cat`: the offsets of each file of an image, and its bytes. The map has a line for each
+//! run of consecutive bytes of each regular file, in the list's order.
 //!
-//! `specs/Map.antt` says what the map of an image is: a line for each run of consecutive bytes of each
-//! regular file, in the list's order. Proved: `map` writes just that text, or a prefix of it where the
-//! writer failed; `cat` writes just a file's bytes, or a prefix of them. `laws` has what a reader needs
-//! to know of runs. Nothing here takes memory.
+//! Proved: `map` writes exactly the text of `specs/Map.antt`, and `cat` exactly a file's bytes, or
+//! a prefix of them if the writer failed. `laws` has what a reader needs to know of runs. Nothing
+//! here allocates memory.
 #![tactic(auto)]
 
 mod contents;

@@ -13,7 +13,7 @@ use crate::runs::whole_run;
 use rom_fields::{ByteWrite, put, put_decimal};
 use rom_tree::{NodeId, Run, TreeImage, Walk, is_regular_at};
 
-/// Puts an address: `0x`, and eight digits, or sixteen from 2^32 on.
+/// Puts an address: `0x` and eight digits, or sixteen digits from 2^32 on.
 fn put_address<W: ByteWrite>(w: &mut W, failed: &mut bool, address: u64)
     ensures { Puts (sink (W.output w.old) failed.old)
         (sink (W.output w.new) failed.new) (address_text address) }
@@ -84,7 +84,7 @@ fn put_runs<'a, T: TreeImage<'a>, W: ByteWrite>(
     }
 }
 
-/// Puts the lines of the node that a walk gave last.
+/// Puts the lines of the node that a walk returned last.
 pub(crate) fn put_lines<'a, T: TreeImage<'a>, W: ByteWrite>(
     image: &T,
     w: &mut W,

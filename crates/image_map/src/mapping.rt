@@ -10,15 +10,16 @@ use crate::line::put_lines;
 use rom_fields::{ByteWrite, Failed};
 use rom_tree::{TreeImage, Walk};
 
-/// Writes the map of an image whose first byte has the address `base`: for each name of a regular
-/// file, in the list's order, a line for each run of bytes that follow one another in the image,
-/// `ADDRESS LENGTH OFFSET PATH`. ADDRESS is hexadecimal, `0x` and eight digits, or sixteen from 2^32
-/// on. OFFSET says which byte of the file is the run's first. An empty file has the line `- 0 0 PATH`.
-/// PATH is that of a list. Each line ends with a line feed. Directories may lie 64 deep.
+/// Writes the map of an image whose first byte has the address `base`. It has, for each name of a
+/// regular file in the list's order, a line for each run of bytes that follow one another in the
+/// image: `ADDRESS LENGTH OFFSET PATH`. ADDRESS is hexadecimal, `0x` and eight digits, or sixteen
+/// digits from 2^32 on. OFFSET is the number of the file's byte with which the run begins. An empty
+/// file has the line `- 0 0 PATH`. PATH is that of a list. Each line ends with a line feed.
+/// Directories may be 64 deep.
 ///
 /// # Errors
 ///
-/// `Failed` where a write failed. Then a prefix of the map was written.
+/// `Failed` if a write failed. Then a prefix of the map was written.
 pub fn map<'a, T: TreeImage<'a>, W: ByteWrite>(
     image: &T,
     base: u64,

@@ -1,4 +1,4 @@
-//! The runs of a file: its bytes in as few pieces as can be.
+//! The runs of a file: its bytes in as few pieces as possible.
 ghost use Rattle.std.specs.Prelude.{◌≡◌, Some};
 ghost use Rattle.rom_tree.specs.Tree.{Node, places_of};
 ghost use Rattle.rom_tree.specs.Image.{image_node, HasNode};
@@ -6,7 +6,7 @@ ghost use Rattle.image_map.specs.Runs.{GivesWholeRun};
 
 use rom_tree::{NodeId, Run, TreeImage, longest_run};
 
-/// Where byte `at` of a file lies, and how many bytes from there follow one another.
+/// The offset of byte `at` of a file, and the number of bytes from there that follow one another.
 pub(crate) fn whole_run<'a, T: TreeImage<'a>>(image: &T, node: NodeId, at: u32) -> Option<Run>
     requires { HasNode (T.image image.now) node.0 }
     ensures { (x : Node) → image_node (T.image image.now) node.0 ≡ Some x

@@ -1,4 +1,4 @@
--- Extents that stand one after the other do not overlap.
+-- Extents that are one after the other do not overlap.
 use Rattle.std.proofs.Common.{ℕ, zero, suc, ◌+◌, ◌≤◌, List, [], ◌∷◌, ◌++◌, arith, inl, inr}
 use Rattle.rom_fields.specs.declared.span.Extent.{Extent}
 use Rattle.rom_fields.specs.declared.span.Span.{Span}

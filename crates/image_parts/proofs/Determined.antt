@@ -1,5 +1,7 @@
--- Bytes that have all parts at their places, and zeros elsewhere, are the laid parts.
-use Rattle.std.proofs.Common.{◌≡◌, ℕ, suc, ◌+◌, ◌-◌, ◌<◌, ◌≤◌, inl, inr, List, [], ◌∷◌, ◌++◌, length, take, drop, replicate, get_or, refl, sym, ap, ◌∙◌, arith, take-append-drop, length-take, length-drop, get_or-drop, get_or-take}
+-- Bytes that have all parts at their offsets, and zeros elsewhere, are the laid parts.
+use Rattle.std.proofs.Common.{◌≡◌, ℕ, suc, ◌+◌, ◌-◌, ◌<◌, ◌≤◌, inl, inr, List, [], ◌∷◌, ◌++◌, length, take, drop}
+use Rattle.std.proofs.Common.{replicate, get_or, refl, sym, ap, ◌∙◌, arith, take-append-drop, length-take, length-drop}
+use Rattle.std.proofs.Common.{get_or-drop, get_or-take}
 use Rattle.std.proofs.lemmas.List.{drop-drop, drop_all}
 use Rattle.std.specs.List.{AllByRecursion as Every}
 use Rattle.image_parts.specs.Parts.{Part, end_of_part, laid, bytes_from, Rises, end_of_parts, HasParts, IsOutside}
@@ -21,13 +23,14 @@ ends_later : (ps : List Part) (at : ℕ) → Rises at ps → at ≤ end_of_parts
 ends_later [] at r = omega arith
 ends_later (p ∷ ps) at r = let low = r.0 in let e = ends_later ps (end_of_part p) r.1 in omega arith
 
--- zeros between two places
+-- zeros between two offsets
 gap_is : (b : List ℕ) (at k : ℕ) → at + k ≤ length b → ((i : ℕ) → at ≤ i → i < at + k → get_or b i 0 ≡ 0)
     → take k (drop at b) ≡ replicate k 0
 gap_is b at k fits h =
     let xs = take k (drop at b) in
     let n : length xs ≡ k = omega (arith, length-take k (drop at b), length-drop at b) in
-    all_zeros xs (λ j l. get_or-take k (drop at b) j 0 (omega (arith, n)) ∙ get_or-drop at b j 0 ∙ h (at + j) (omega arith) (omega (arith, n)))
+    all_zeros xs (λ j l. get_or-take k (drop at b) j 0 (omega (arith, n)) ∙ get_or-drop at b j 0
+    ∙ h (at + j) (omega arith) (omega (arith, n)))
     ∙ ap (λ (m : ℕ). replicate m 0) n
 
 from_there : (b : List ℕ) (ps : List Part) (at : ℕ) → Rises at ps → HasParts b ps → length b ≡ end_of_parts at ps
@@ -37,7 +40,8 @@ from_there b (p ∷ ps) at r has n z =
     let k = p.place - at in
     let low = r.0 in
     let e = ends_later ps (end_of_part p) r.1 in
-    let gap : take k (drop at b) ≡ replicate k 0 = gap_is b at k (omega arith) (λ i l m. z i l (before (p ∷ ps) p.place i (omega arith) (omega arith, r.1))) in
+    let gap : take k (drop at b) ≡ replicate k 0 =
+    gap_is b at k (omega arith) (λ i l m. z i l (before (p ∷ ps) p.place i (omega arith) (omega arith, r.1))) in
     let s : at + k ≡ p.place = omega arith in
     let here : drop k (drop at b) ≡ p.bytes ++ has.0.0 = drop-drop k at b ∙ ap (λ (m : ℕ). drop m b) s ∙ has.0.1 in
     let behind : has.0.0 ≡ drop (end_of_part p) b =

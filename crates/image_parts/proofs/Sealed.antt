@@ -1,5 +1,6 @@
 -- The sum of a superblock.
-use Rattle.std.proofs.Common.{◌≡◌, ◌+◌, ◌-◌, ◌^◌, ◌%◌, ◌≤◌, ℕ, length, drop, take, List, ◌++◌, refl, sym, ap, ◌∙◌, arith, append_assoc, length-append}
+use Rattle.std.proofs.Common.{◌≡◌, ◌+◌, ◌-◌, ◌^◌, ◌%◌, ◌≤◌, ℕ, length, drop, take, List, ◌++◌, refl, sym, ap, ◌∙◌}
+use Rattle.std.proofs.Common.{arith, append_assoc, length-append}
 use Rattle.std.proofs.lemmas.List.{take-append-drop, drop-drop, length-take, drop_at}
 use Rattle.std.proofs.Math.Seq.{take-append-add}
 use Rattle.byteorder.specs.Endian.{big_bytes}
@@ -16,8 +17,10 @@ drop-sealed b p h k =
     let n : length (take 12 b ++ w) ≡ 16 = omega (arith, length-append (take 12 b) w, length-take 12 b) in
     let e : p ≡ 16 + (p - 16) = omega arith in
     let s : drop 16 ((take 12 b ++ w) ++ drop 16 b) ≡ drop 16 b = drop_at (take 12 b ++ w) (drop 16 b) 16 n in
-    ap (λ (q : ℕ). drop q (take 12 b ++ (w ++ drop 16 b))) e ∙ sym (drop-drop (p - 16) 16 (take 12 b ++ (w ++ drop 16 b)))
-    ∙ ap (λ (x : List ℕ). drop (p - 16) (drop 16 x)) (sym (append_assoc (take 12 b) w (drop 16 b))) ∙ ap (drop (p - 16)) s ∙ drop-drop (p - 16) 16 b ∙ ap (λ (q : ℕ). drop q b) (sym e)
+    ap (λ (q : ℕ). drop q (take 12 b ++ (w ++ drop 16 b))) e
+    ∙ sym (drop-drop (p - 16) 16 (take 12 b ++ (w ++ drop 16 b)))
+    ∙ ap (λ (x : List ℕ). drop (p - 16) (drop 16 x)) (sym (append_assoc (take 12 b) w (drop 16 b)))
+    ∙ ap (drop (p - 16)) s ∙ drop-drop (p - 16) 16 b ∙ ap (λ (q : ℕ). drop q b) (sym e)
 
 pub HasAt-sealed : (b : List ℕ) (p : ℕ) (bytes : List ℕ) → 16 ≤ length b → 16 ≤ p → HasAt b p bytes
     → HasAt (sealed b) p bytes
@@ -27,7 +30,8 @@ take_over : (front word back : List ℕ) (n : ℕ) → length front ≡ 12 → l
     → take (16 + n) (front ++ (word ++ back)) ≡ front ++ (word ++ take n back)
 take_over front word back n h k =
     let l : 16 + n ≡ length (front ++ word) + n = omega (arith, length-append front word) in
-    ap (take (16 + n)) (sym (append_assoc front word back)) ∙ ap (λ (q : ℕ). take q ((front ++ word) ++ back)) l ∙ take-append-add (front ++ word) back n ∙ append_assoc front word (take n back)
+    ap (take (16 + n)) (sym (append_assoc front word back)) ∙ ap (λ (q : ℕ). take q ((front ++ word) ++ back)) l
+    ∙ take-append-add (front ++ word) back n ∙ append_assoc front word (take n back)
 
 -- the words from the front, with a zero word at 12
 total_around : (b : List ℕ) (n : ℕ) → 16 ≤ length b → HasAt b 12 (big_bytes 4 0)
@@ -38,10 +42,12 @@ total_around b n h (back, e) =
     let lf : length front ≡ 12 = omega (arith, length-take 12 b) in
     let whole : b ≡ front ++ (z ++ back) = sym (take-append-drop 12 b) ∙ ap (λ (x : List ℕ). front ++ x) e in
     let rest : drop 16 b ≡ back = sym (drop-drop 4 12 b) ∙ ap (drop 4) e in
-    let t : take (16 + n) b ≡ front ++ (z ++ take n back) = ap (take (16 + n)) whole ∙ take_over front z back n lf refl in
+    let t : take (16 + n) b ≡ front ++ (z ++ take n back) =
+    ap (take (16 + n)) whole ∙ take_over front z back n lf refl in
     let a = words_total-append 3 front (z ++ take n back) lf in
     let c = words_total-word 0 (take n back) (omega arith) in
-    let r : words_total (take n back) ≡ words_total (take n (drop 16 b)) = ap (λ (x : List ℕ). words_total (take n x)) (sym rest) in
+    let r : words_total (take n back) ≡ words_total (take n (drop 16 b)) =
+    ap (λ (x : List ℕ). words_total (take n x)) (sym rest) in
     let s : words_total (take (16 + n) b) ≡ words_total (front ++ (z ++ take n back)) = ap words_total t in
     omega (arith, a, c, r, s)
 

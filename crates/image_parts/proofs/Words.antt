@@ -1,5 +1,6 @@
 -- The sum of words over parts, and the word that brings it to 0.
-use Rattle.std.proofs.Common.{◌≡◌, ◌+◌, ◌*◌, ◌^◌, ◌%◌, zero, suc, ◌<◌, ℕ, length, List, [], ◌∷◌, ◌++◌, ap, ◌∙◌, arith, append_assoc}
+use Rattle.std.proofs.Common.{◌≡◌, ◌+◌, ◌*◌, ◌^◌, ◌%◌, zero, suc, ◌<◌, ℕ, length, List, [], ◌∷◌, ◌++◌, ap, ◌∙◌, arith}
+use Rattle.std.proofs.Common.{append_assoc}
 use Rattle.byteorder.specs.Endian.{big_number, big_bytes}
 use Rattle.byteorder.specs.Numbers.{big_number-reads_back}
 use Rattle.image_parts.specs.Parts.{HasAt}
@@ -26,7 +27,7 @@ pub balance_fits : (n : ℕ) → balance n < 256 ^ 4
 unfolding balance
 balance_fits n = omega arith
 
--- the total of a word alone
+-- the total of a single word
 pub words_total-word : (x : ℕ) (back : List ℕ) → x < 256 ^ 4
     → words_total (big_bytes 4 x ++ back) ≡ x + words_total back
 words_total-word x back h =
@@ -39,11 +40,13 @@ words_sum-balanced k front back h =
     let x = balance (words_total front + words_total back) in
     let e = words_total-append k front (big_bytes 4 x ++ back) h in
     let w = words_total-word x back (balance_fits (words_total front + words_total back)) in
-    let s : words_total (front ++ (big_bytes 4 x ++ back)) ≡ (words_total front + words_total back) + x = omega (arith, e, w) in
+    let s : words_total (front ++ (big_bytes 4 x ++ back)) ≡ (words_total front + words_total back) + x =
+    omega (arith, e, w) in
     rw s (balance_is (words_total front + words_total back))
 
--- a word that stands at a place is read there
+-- a word that is at an offset is read there
 pub word_be-has : (b : List ℕ) (p x : ℕ) (more : List ℕ) → x < 256 ^ 4 → HasAt b p (big_bytes 4 x ++ more)
     → word_be b p ≡ x
 unfolding word_be
-word_be-has b p x more h (back, e) = ap (big_number 4) (e ∙ append_assoc (big_bytes 4 x) more back) ∙ big_number-reads_back 4 x (more ++ back) h
+word_be-has b p x more h (back, e) =
+    ap (big_number 4) (e ∙ append_assoc (big_bytes 4 x) more back) ∙ big_number-reads_back 4 x (more ++ back) h

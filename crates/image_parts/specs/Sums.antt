@@ -1,5 +1,5 @@
--- The word that brings a sum of words to 0, as romfs stores it in its headers and in its superblock (Linux
--- Documentation/filesystems/romfs.rst).
+-- `balanced`, `sealed`: the word that brings a sum of words to 0, as romfs stores it in its headers
+-- and in its superblock. (Linux Documentation/filesystems/romfs.rst.)
 use Rattle.std.specs.Prelude.{ℕ, ◌+◌, ◌-◌, ◌%◌, ◌^◌, List, ◌++◌, take, drop}
 use Rattle.byteorder.specs.Endian.{big_bytes}
 use Rattle.rom_fields.specs.Words.{words_total}
@@ -8,9 +8,10 @@ use Rattle.rom_fields.specs.Words.{words_total}
 unfoldable pub balance : ℕ → ℕ
 balance n = (2 ^ 32 - n % 2 ^ 32) % 2 ^ 32
 
--- front and back with a word between them that brings the sum of all words to 0
+-- two texts of bytes with a word between them that brings the sum of all words to 0
 unfoldable pub balanced : List ℕ → List ℕ → List ℕ
-balanced front back = front ++ (big_bytes 4 (balance (words_total front + words_total back)) ++ back)
+balanced front back =
+    front ++ (big_bytes 4 (balance (words_total front + words_total back)) ++ back)
 
 -- bytes whose word at 12, which was zero, now brings the sum of the first 512 bytes to 0
 unfoldable pub sealed : List ℕ → List ℕ

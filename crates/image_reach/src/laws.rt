@@ -1,4 +1,4 @@
-//! A check of an image looks at no bytes behind those that its first 76 bytes tell.
+//! Laws: the answer of a check depends on no bytes behind those that the first 76 bytes name.
 ghost use Rattle.std.specs.Prelude.{◌≡◌, ◌≤◌, ◌↔◌, ℕ, List, length, take};
 ghost use Rattle.cramfs_format.specs.Superblock.{order_of};
 ghost use Rattle.image_check.specs.Checked.{BeginsRomfs, BeginsCramfs, HasTree};
@@ -12,9 +12,9 @@ ghost use Rattle.rom_tree.specs.Tree.{Node};
 ghost use Rattle.rom_tree.specs.declared.types.Limits.{Limits};
 ghost use Rattle.rom_tree.specs.declared.types.Report.{Report};
 
-/// A file and its first n bytes, where these are at least as many as `reach_of` tells of the first
-/// 76, have the same tree and the same faults, begin as an image of the same format and in the same
-/// byte order, and the tree has the same report.
+/// States that a file and its first n bytes have the same tree, the same faults, the same format
+/// and byte order, and the same report, if n is at least what `reach_of` returns for the first 76
+/// bytes.
 pub fn no_further()
     ensures tree { (all : List ℕ) (reach n : ℕ) (limits : Limits) (t : Node)
         → Reaches (take 76 all) reach → reach ≤ n
@@ -39,8 +39,8 @@ pub fn no_further()
         → m.tree ≡ w.tree → Shows (take n all) limits m report ↔ Shows all limits w report }
 {}
 
-/// What the first 512 bytes of a file refuse by their sum is what the whole file answers: it has no
-/// tree, and 5 Sum at 12 is its least fault.
+/// States that a file has no tree, and 5 Sum at 12 as its least fault, if its first 512 bytes are
+/// refused by their sum.
 pub fn refused()
     ensures tree { (all : List ℕ) (limits : Limits) → IsSumRefused (take 512 all) (length all)
         → IsRefused all limits (Fault SUM 12) }

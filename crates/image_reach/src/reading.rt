@@ -10,13 +10,14 @@ use cramfs_format::{Order, superblock as cramfs};
 use rom_fields::word_sum;
 use romfs_format::superblock::{begins, stated_size};
 
-/// How many bytes at the front of a file say how far its image goes.
+/// The number of bytes at the front of a file that determine the length to which its image reaches.
 pub const HEAD: usize = 76;
 
-/// How many bytes at the front of a file say whether the sum of a romfs image is right.
+/// The number of bytes at the front of a file that determine whether the sum of a romfs image is
+/// right.
 pub const SUMMED: usize = 512;
 
-/// The size that a romfs image states, but 76 at least.
+/// The size that a romfs image states, and at least 76.
 fn romfs_size(head: &[u8]) -> u64
     requires { 76 ≤ length head.now }
     ensures { result ≡ max 76 (full_size head.now) }
@@ -24,7 +25,8 @@ fn romfs_size(head: &[u8]) -> u64
     u64::from(stated_size(head)).max(HEAD as u64)
 }
 
-/// The size that a cramfs image in this byte order states, but 76 at least; or 2^28.
+/// The size that a cramfs image in this byte order states, and at least 76; or 2^28 if it states
+/// none.
 fn cramfs_size(order: Order, head: &[u8]) -> u64
     requires { 76 ≤ length head.now }
     ensures { result ≡ size_in order head.now }
@@ -36,9 +38,10 @@ fn cramfs_size(order: Order, head: &[u8]) -> u64
     MOST_BYTES as u64
 }
 
-/// How many bytes at the front of a file a check of it looks at, by the first 76 of them, or all,
-/// where it has fewer: the size that a romfs or a cramfs image states, but 76 at least; 2^28 of a
-/// cramfs image that states none; 76 of what begins as no image.
+/// Returns the number of bytes at the front of a file that a check of it looks at. `head` is the
+/// first 76 bytes, or all if there are fewer. The number is the size that a romfs or a cramfs image
+/// states, and at least 76; 2^28 for a cramfs image that states none; and 76 for bytes of no
+/// format.
 pub fn reach_of(head: &[u8]) -> u64
     ensures { Reaches head.now result }
 {
@@ -54,8 +57,8 @@ pub fn reach_of(head: &[u8]) -> u64
     HEAD as u64
 }
 
-/// Whether the front holds all that the sum of a romfs image of this size is over, and the sum is
-/// wrong.
+/// Whether the front has all bytes that the sum of a romfs image of this size is over, and the sum
+/// is wrong.
 fn is_sum_wrong(front: &[u8], size: u32) -> bool
     ensures { IsTrue result ↔ ((min 512 size ≤ length front.now)
         × (words_sum (take (min 512 size) front.now) ≢ 0)) }
@@ -64,9 +67,9 @@ fn is_sum_wrong(front: &[u8], size: u32) -> bool
     summed <= front.len() && word_sum(&front[..summed]) != 0
 }
 
-/// Whether the first 512 bytes of a file of `len` bytes, or all, where it has fewer, refuse it: they
-/// begin a romfs image whose size the file has, and its sum is wrong. That is then the fault of the
-/// file (`laws::refused`), whatever stands behind them.
+/// Returns whether the first 512 bytes of a file of `len` bytes (or all if there are fewer) refuse
+/// it. They begin a romfs image of a size that the file has, and its sum is wrong. This is then the
+/// fault of the whole file (`laws::refused`).
 pub fn is_sum_refused(front: &[u8], len: u64) -> bool
     ensures { IsTrue result ↔ IsSumRefused front.now len }
 {

@@ -1,5 +1,6 @@
 -- The sum of bytes by their weights is the sum of words.
-use Rattle.std.proofs.Common.{◌≡◌, ℕ, ◌+◌, ◌-◌, ◌*◌, ◌%◌, ◌<◌, ◌≤◌, min, inl, inr, List, [], ◌∷◌, ◌++◌, length, take, drop, refl, sym, ap, ◌∙◌, arith, length-take, take-append-drop}
+use Rattle.std.proofs.Common.{◌≡◌, ℕ, ◌+◌, ◌-◌, ◌*◌, ◌%◌, ◌<◌, ◌≤◌, min, inl, inr, List, [], ◌∷◌, ◌++◌, length, take}
+use Rattle.std.proofs.Common.{drop, refl, sym, ap, ◌∙◌, arith, length-take, take-append-drop}
 use Rattle.std.proofs.lemmas.Bool.{cases_lt}
 use Rattle.std.proofs.lemmas.List.{drop_all}
 use Rattle.byteorder.specs.Endian.{big_number}
@@ -21,7 +22,8 @@ fourth : (k : ℕ) → k % 4 ≡ 3 → weight k ≡ 1
 fourth k e = rw e refl
 
 -- four bytes at a multiple of 4
-pub four : (k a b c d : ℕ) → k % 4 ≡ 0 → k < 512 → term k a + (term (k + 1) b + (term (k + 1 + 1) c + term (k + 1 + 1 + 1) d)) ≡ big_number 4 (a ∷ b ∷ c ∷ d ∷ [])
+pub four : (k a b c d : ℕ) → k % 4 ≡ 0 → k < 512
+    → term k a + (term (k + 1) b + (term (k + 1 + 1) c + term (k + 1 + 1 + 1) d)) ≡ big_number 4 (a ∷ b ∷ c ∷ d ∷ [])
 four k a b c d e h =
     let t0 = term_in k a h ∙ ap (λ (w : ℕ). a * w) (first k e) in
     let t1 = term_in (k + 1) b (omega arith) ∙ ap (λ (w : ℕ). b * w) (second (k + 1) (omega arith)) in
@@ -44,7 +46,9 @@ words (a ∷ b ∷ c ∷ d ∷ xs) k n e m h =
     omega arith
 
 joined : (xs ys : List ℕ) (k : ℕ) → weighted k (xs ++ ys) ≡ weighted k xs + weighted (k + length xs) ys
-joined [] ys k = let e : k ≡ k + 0 = omega arith in ap (λ (j : ℕ). weighted j ys) e ∙ (let z : weighted (k + 0) ys ≡ 0 + weighted (k + 0) ys = omega arith in z)
+joined [] ys k = let e : k ≡ k + 0 =
+    omega arith in ap (λ (j : ℕ). weighted j ys) e
+    ∙ (let z : weighted (k + 0) ys ≡ 0 + weighted (k + 0) ys = omega arith in z)
 joined (x ∷ xs) ys k =
     let h = joined xs ys (k + 1) in
     let e : k + 1 + length xs ≡ k + length (x ∷ xs) = omega arith in
@@ -57,10 +61,13 @@ weighted_words b n e =
     let front = take 512 b in
     let back = drop 512 b in
     let l = length-take 512 b in
-    let split : weighted 0 b ≡ weighted 0 front + weighted (0 + length front) back = ap (weighted 0) (sym (take-append-drop 512 b)) ∙ joined front back 0 in
-    let whole : weighted 0 front ≡ words_total front = words front 0 (min 128 n) (omega arith) (omega arith) (omega arith) in
+    let split : weighted 0 b ≡ weighted 0 front + weighted (0 + length front) back =
+    ap (weighted 0) (sym (take-append-drop 512 b)) ∙ joined front back 0 in
+    let whole : weighted 0 front ≡ words_total front =
+    words front 0 (min 128 n) (omega arith) (omega arith) (omega arith) in
     elim (cases_lt (length b) 512) [
-      | inl h ↦ let none : back ≡ [] = drop_all 512 b (omega arith) in let t = ap (weighted (0 + length front)) none in let z : weighted (0 + length front) [] ≡ 0 = refl in omega arith
+      | inl h ↦ let none : back ≡ [] = drop_all 512 b (omega arith) in let t =
+          ap (weighted (0 + length front)) none in let z : weighted (0 + length front) [] ≡ 0 = refl in omega arith
       | inr h ↦ let r = past back (0 + length front) (omega arith) in omega arith
     ]
 

@@ -1,17 +1,20 @@
 -- Sections one after the other.
-use Rattle.std.proofs.Common.{◌≡◌, ℕ, ◌+◌, ◌-◌, ◌≤◌, ◌<◌, List, [], ◌∷◌, ◌++◌, length, drop, Option, Some, ap, sym, refl, ◌∙◌, arith, append_assoc, subst, add-one}
+use Rattle.std.proofs.Common.{◌≡◌, ℕ, ◌+◌, ◌-◌, ◌≤◌, ◌<◌, List, [], ◌∷◌, ◌++◌, length, drop, Option, Some, ap, sym}
+use Rattle.std.proofs.Common.{refl, ◌∙◌, arith, append_assoc, subst, add-one}
 use Rattle.std.proofs.Math.Seq.{drop-cons}
 use Rattle.std.proofs.lemmas.List.{drop_all}
 use Rattle.std.specs.Io.KnownBytes.{Appends}
 use Rattle.rom_fields.specs.Written.{AppendsPrefix}
 use Rattle.rom_fields.proofs.Joins.{front_after, front_first}
 use Rattle.image_stream.specs.Sources.{Told}
-use Rattle.image_stream.specs.Segments.{Segment, fixed, content, place, len, segment_at, bytes_of, IsBody, zeros, SegmentsRise, IsImage, image_from}
+use Rattle.image_stream.specs.Segments.{Segment, fixed, content, place, len, segment_at, bytes_of, IsBody, zeros}
+use Rattle.image_stream.specs.Segments.{SegmentsRise, IsImage, image_from}
 use Rattle.image_stream.specs.Steps.{IsNext, next_bytes, IsDone, Gone}
 use Rattle.image_stream.proofs.Fronts.{gone_more}
 
--- where the contents are known, so are the bytes
-pub body_known : (told : Option (List (List ℕ))) (p : Segment) (xs : List ℕ) (cs : List (List ℕ)) → told ≡ Some cs → IsBody told p xs → xs ≡ bytes_of cs p
+-- if the contents are known, so are the bytes
+pub body_known : (told : Option (List (List ℕ))) (p : Segment) (xs : List ℕ) (cs : List (List ℕ)) → told ≡ Some cs
+    → IsBody told p xs → xs ≡ bytes_of cs p
 body_known told (fixed p bs) xs cs is h = h
 body_known told (content p n f) xs cs is h = h.1 cs is
 
@@ -23,78 +26,112 @@ rises_end at end (p ∷ ps) h = let q = rises_end (place p + len p) end ps h.1 i
 pub drop_part : (ps : List Segment) (i : ℕ) → i < length ps → drop i ps ≡ segment_at ps i ∷ drop (i + 1) ps
 drop_part ps i h = drop-cons ps i (fixed 0 []) h ∙ ap (λ (k : ℕ). segment_at ps i ∷ drop k ps) (sym (add-one i))
 
-pub rises_here : (ps : List Segment) (i at end : ℕ) → i < length ps → SegmentsRise at (drop i ps) end → (at ≤ place (segment_at ps i)) × (place (segment_at ps i) + len (segment_at ps i) ≤ end) × SegmentsRise (place (segment_at ps i) + len (segment_at ps i)) (drop (i + 1) ps) end
+pub rises_here : (ps : List Segment) (i at end : ℕ) → i < length ps → SegmentsRise at (drop i ps) end
+    → (at ≤ place (segment_at ps i)) × (place (segment_at ps i) + len (segment_at ps i) ≤ end)
+    × SegmentsRise (place (segment_at ps i) + len (segment_at ps i)) (drop (i + 1) ps) end
 rises_here ps i at end h r =
     let R : List Segment → Type 0 = λ v. SegmentsRise at v end in
     let q : SegmentsRise at (segment_at ps i ∷ drop (i + 1) ps) end = subst R (drop_part ps i h) r in
     (q.0, rises_end _ _ _ q.1, q.1)
 
-pub done_none : (told : Option (List (List ℕ))) (start : ℕ) (parts : List Segment) (end : ℕ) → IsDone told start parts end start parts []
+pub done_none : (told : Option (List (List ℕ))) (start : ℕ) (parts : List Segment) (end : ℕ)
+    → IsDone told start parts end start parts []
 done_none told start parts end = record { more = λ rest h. h; known = λ cs is. refl }
 
 -- one segment further
-pub done_next : (told : Option (List (List ℕ))) (start : ℕ) (parts : List Segment) (end at : ℕ) (p : Segment) (ps : List Segment) (xs ys : List ℕ) → IsDone told start parts end at (p ∷ ps) xs → IsNext told at p ys
+pub done_next : (told : Option (List (List ℕ))) (start : ℕ) (parts : List Segment) (end at : ℕ) (p : Segment)
+    (ps : List Segment) (xs ys : List ℕ) → IsDone told start parts end at (p ∷ ps) xs → IsNext told at p ys
     → IsDone told start parts end (place p + len p) ps (xs ++ ys)
 done_next told start parts end at p ps xs ys h n =
     let gap = zeros (place p - at) in
-    let split : (rest : List ℕ) → (xs ++ ys) ++ rest ≡ xs ++ (gap ++ (n.body ++ rest)) = λ rest. append_assoc xs ys rest ∙ ap (λ (v : List ℕ). xs ++ v) (ap (λ (v : List ℕ). v ++ rest) n.all ∙ append_assoc gap n.body rest) in
+    let split : (rest : List ℕ) → (xs ++ ys) ++ rest ≡ xs ++ (gap ++ (n.body ++ rest)) =
+    λ rest. append_assoc xs ys rest ∙ ap (λ (v : List ℕ). xs ++ v)
+    (ap (λ (v : List ℕ). v ++ rest) n.all ∙ append_assoc gap n.body rest) in
     record {
       more = λ rest k. let I : List ℕ → Type 0 = λ v. IsImage told start parts end v in
           subst I (sym (split rest)) (h.more (gap ++ (n.body ++ rest)) (n.body, rest, n.stands, k, refl));
-      known = λ cs is. split (image_from cs (place p + len p) ps end) ∙ ap (λ (v : List ℕ). xs ++ (gap ++ (v ++ image_from cs (place p + len p) ps end))) (body_known told p n.body cs is n.stands) ∙ h.known cs is;
+      known = λ cs is. split (image_from cs (place p + len p) ps end)
+          ∙ ap (λ (v : List ℕ). xs ++ (gap ++ (v ++ image_from cs (place p + len p) ps end)))
+          (body_known told p n.body cs is n.stands) ∙ h.known cs is;
     }
 
-pub gone_next : (told told' : Option (List (List ℕ))) (start : ℕ) (parts : List Segment) (end at i : ℕ) (a b c : Option (List ℕ)) (Was Is Next : List ℕ → Type 0) → told' ≡ told → i < length parts
-    → Gone (IsDone told start parts end at (drop i parts)) a b Was Is → Gone (IsNext told' at (segment_at parts i)) b c Is Next → Gone (IsDone told start parts end (place (segment_at parts i) + len (segment_at parts i)) (drop (i + 1) parts)) a c Was Next
+pub gone_next : (told told' : Option (List (List ℕ))) (start : ℕ) (parts : List Segment) (end at i : ℕ)
+    (a b c : Option (List ℕ)) (Was Is Next : List ℕ → Type 0) → told' ≡ told → i < length parts
+    → Gone (IsDone told start parts end at (drop i parts)) a b Was Is
+    → Gone (IsNext told' at (segment_at parts i)) b c Is Next
+    → Gone (IsDone told start parts end (place (segment_at parts i) + len (segment_at parts i))
+    (drop (i + 1) parts)) a c Was Next
 gone_next told told' start parts end at i a b c Was Is Next e small h n =
     let T : Option (List (List ℕ)) → Type 0 = λ v. IsNext v at (segment_at parts i) n.bytes in
     let D : List Segment → List ℕ → Type 0 = λ v xs. IsDone told start parts end at v xs in
-    gone_more (IsDone told start parts end at (drop i parts)) (IsDone told start parts end (place (segment_at parts i) + len (segment_at parts i)) (drop (i + 1) parts)) a b c Was Is Next n.bytes h
-    (λ xs v. done_next told start parts end at (segment_at parts i) (drop (i + 1) parts) xs n.bytes (let S : List Segment → Type 0 = λ z. D z xs in subst S (drop_part parts i small) v) (subst T e n.are))
+    gone_more (IsDone told start parts end at (drop i parts))
+    (IsDone told start parts end (place (segment_at parts i) + len (segment_at parts i))
+    (drop (i + 1) parts)) a b c Was Is Next n.bytes h
+    (λ xs v. done_next told start parts end at (segment_at parts i) (drop (i + 1) parts) xs n.bytes
+    (let S : List Segment → Type 0 = λ z. D z xs in subst S (drop_part parts i small) v) (subst T e n.are))
     n.written n.added
 
 -- zeros to the end
-pub gone_all : (told : Option (List (List ℕ))) (start : ℕ) (parts : List Segment) (end at i : ℕ) (a b c : Option (List ℕ)) (Was Is Next : List ℕ → Type 0) → i ≡ length parts
-    → Gone (IsDone told start parts end at (drop i parts)) a b Was Is → Gone (λ xs. xs ≡ zeros (end - at)) b c Is Next → Gone (IsImage told start parts end) a c Was Next
+pub gone_all : (told : Option (List (List ℕ))) (start : ℕ) (parts : List Segment) (end at i : ℕ)
+    (a b c : Option (List ℕ)) (Was Is Next : List ℕ → Type 0) → i ≡ length parts
+    → Gone (IsDone told start parts end at (drop i parts)) a b Was Is → Gone (λ xs. xs ≡ zeros (end - at)) b c Is Next
+    → Gone (IsImage told start parts end) a c Was Next
 gone_all told start parts end at i a b c Was Is Next e h n =
     let none : drop i parts ≡ [] = drop_all i parts (omega arith) in
     gone_more (IsDone told start parts end at (drop i parts)) (IsImage told start parts end) a b c Was Is Next n.bytes h
-    (λ xs v. v.more n.bytes (let S : List Segment → Type 0 = λ z. IsImage told at z end n.bytes in subst S (sym none) n.are))
+    (λ xs v. v.more n.bytes (let S : List Segment
+    → Type 0 = λ z. IsImage told at z end n.bytes in subst S (sym none) n.are))
     n.written n.added
 
 -- a front of the next segment is one of the image
-pub broken_next : (told told' : Option (List (List ℕ))) (start : ℕ) (parts : List Segment) (end at i : ℕ) (a b c : Option (List ℕ)) (xs : List ℕ) (cs : List (List ℕ)) → told' ≡ told → told ≡ Some cs → i < length parts
-    → IsDone told start parts end at (drop i parts) xs → Appends a b xs → Told told' (λ cs. AppendsPrefix b c (next_bytes cs at (segment_at parts i))) → AppendsPrefix a c (image_from cs start parts end)
+pub broken_next : (told told' : Option (List (List ℕ))) (start : ℕ) (parts : List Segment) (end at i : ℕ)
+    (a b c : Option (List ℕ)) (xs : List ℕ) (cs : List (List ℕ)) → told' ≡ told → told ≡ Some cs → i < length parts
+    → IsDone told start parts end at (drop i parts) xs → Appends a b xs
+    → Told told' (λ cs. AppendsPrefix b c (next_bytes cs at (segment_at parts i)))
+    → AppendsPrefix a c (image_from cs start parts end)
 broken_next told told' start parts end at i a b c xs cs e is small d w f =
     let p = segment_at parts i in
     let rest = image_from cs (place p + len p) (drop (i + 1) parts) end in
-    let t : AppendsPrefix a c ((xs ++ next_bytes cs at p) ++ rest) = front_first a c (xs ++ next_bytes cs at p) rest (front_after a b c xs (next_bytes cs at p) w (f cs (e ∙ is))) in
+    let t : AppendsPrefix a c ((xs ++ next_bytes cs at p) ++ rest) =
+    front_first a c (xs ++ next_bytes cs at p) rest (front_after a b c xs (next_bytes cs at p) w (f cs (e ∙ is))) in
     let all : (xs ++ next_bytes cs at p) ++ rest ≡ image_from cs start parts end =
-    append_assoc xs (next_bytes cs at p) rest ∙ ap (λ (v : List ℕ). xs ++ v) (append_assoc (zeros (place p - at)) (bytes_of cs p) rest)
+    append_assoc xs (next_bytes cs at p) rest
+    ∙ ap (λ (v : List ℕ). xs ++ v) (append_assoc (zeros (place p - at)) (bytes_of cs p) rest)
     ∙ ap (λ (v : List Segment). xs ++ image_from cs at v end) (sym (drop_part parts i small)) ∙ d.known cs is in
     (t.0, t.1, t.2, sym all ∙ t.3)
 
-pub broken_end : (told : Option (List (List ℕ))) (start : ℕ) (parts : List Segment) (end at i : ℕ) (a b c : Option (List ℕ)) (xs : List ℕ) (cs : List (List ℕ)) → told ≡ Some cs → i ≡ length parts
-    → IsDone told start parts end at (drop i parts) xs → Appends a b xs → AppendsPrefix b c (zeros (end - at)) → AppendsPrefix a c (image_from cs start parts end)
+pub broken_end : (told : Option (List (List ℕ))) (start : ℕ) (parts : List Segment) (end at i : ℕ)
+    (a b c : Option (List ℕ)) (xs : List ℕ) (cs : List (List ℕ)) → told ≡ Some cs → i ≡ length parts
+    → IsDone told start parts end at (drop i parts) xs → Appends a b xs → AppendsPrefix b c (zeros (end - at))
+    → AppendsPrefix a c (image_from cs start parts end)
 broken_end told start parts end at i a b c xs cs is e d w f =
     let none : drop i parts ≡ [] = drop_all i parts (omega arith) in
     let t : AppendsPrefix a c (xs ++ zeros (end - at)) = front_after a b c xs (zeros (end - at)) w f in
-    let all : xs ++ zeros (end - at) ≡ image_from cs start parts end = ap (λ (v : List Segment). xs ++ image_from cs at v end) (sym none) ∙ d.known cs is in
+    let all : xs ++ zeros (end - at) ≡ image_from cs start parts end =
+    ap (λ (v : List Segment). xs ++ image_from cs at v end) (sym none) ∙ d.known cs is in
     (t.0, t.1, t.2, sym all ∙ t.3)
 
 -- the zeros before a segment, and it
-pub gone_segment : (told : Option (List (List ℕ))) (at k : ℕ) (p : Segment) (a b c : Option (List ℕ)) (Was Is Next : List ℕ → Type 0) → k ≡ place p → Gone (λ xs. xs ≡ zeros (k - at)) a b Was Is → Gone (IsBody told p) b c Is Next → Gone (IsNext told at p) a c Was Next
+pub gone_segment : (told : Option (List (List ℕ))) (at k : ℕ) (p : Segment) (a b c : Option (List ℕ))
+    (Was Is Next : List ℕ → Type 0) → k ≡ place p → Gone (λ xs. xs ≡ zeros (k - at)) a b Was Is
+    → Gone (IsBody told p) b c Is Next → Gone (IsNext told at p) a c Was Next
 gone_segment told at k p a b c Was Is Next e z n =
     gone_more (λ xs. xs ≡ zeros (k - at)) (IsNext told at p) a b c Was Is Next n.bytes z
-    (λ xs v. record { body = n.bytes; stands = n.are; all = ap (λ (y : List ℕ). y ++ n.bytes) (v ∙ ap (λ (j : ℕ). zeros (j - at)) e) })
+    (λ xs v. record {
+      body = n.bytes;
+      stands = n.are;
+      all = ap (λ (y : List ℕ). y ++ n.bytes) (v ∙ ap (λ (j : ℕ). zeros (j - at)) e);
+    })
     n.written n.added
 
-pub broken_gap : (cs : List (List ℕ)) (at k : ℕ) (p : Segment) (a b : Option (List ℕ)) → k ≡ place p → AppendsPrefix a b (zeros (k - at)) → AppendsPrefix a b (next_bytes cs at p)
+pub broken_gap : (cs : List (List ℕ)) (at k : ℕ) (p : Segment) (a b : Option (List ℕ)) → k ≡ place p
+    → AppendsPrefix a b (zeros (k - at)) → AppendsPrefix a b (next_bytes cs at p)
 broken_gap cs at k p a b e f =
     let Z : ℕ → Type 0 = λ v. AppendsPrefix a b (zeros (v - at)) in
     front_first a b (zeros (place p - at)) (bytes_of cs p) (subst Z e f)
 
-pub broken_body : (cs : List (List ℕ)) (at k : ℕ) (p : Segment) (a b c : Option (List ℕ)) (xs : List ℕ) → k ≡ place p → xs ≡ zeros (k - at) → Appends a b xs → AppendsPrefix b c (bytes_of cs p) → AppendsPrefix a c (next_bytes cs at p)
+pub broken_body : (cs : List (List ℕ)) (at k : ℕ) (p : Segment) (a b c : Option (List ℕ)) (xs : List ℕ) → k ≡ place p
+    → xs ≡ zeros (k - at) → Appends a b xs → AppendsPrefix b c (bytes_of cs p) → AppendsPrefix a c (next_bytes cs at p)
 broken_body cs at k p a b c xs e z w f =
     let t : AppendsPrefix a c (xs ++ bytes_of cs p) = front_after a b c xs (bytes_of cs p) w f in
     (t.0, t.1, t.2, ap (λ (v : List ℕ). v ++ bytes_of cs p) (sym (z ∙ ap (λ (j : ℕ). zeros (j - at)) e)) ∙ t.3)

@@ -1,5 +1,6 @@
--- What may stand where a check value no longer counts it.
-use Rattle.std.proofs.Common.{◌≡◌, ℕ, ◌-◌, ◌≤◌, List, ◌++◌, length, take, drop, Option, Some, None, sym, refl, ◌∙◌, arith, subst, append_assoc, length-append, length-take, length-drop}
+-- The bytes that may be behind those that a check value covers.
+use Rattle.std.proofs.Common.{◌≡◌, ℕ, ◌-◌, ◌≤◌, List, ◌++◌, length, take, drop, Option, Some, None, sym, refl, ◌∙◌}
+use Rattle.std.proofs.Common.{arith, subst, append_assoc, length-append, length-take, length-drop}
 use Rattle.std.proofs.lemmas.List.{length-replicate}
 use Rattle.image_stream.specs.Sources.{content_of, Told}
 use Rattle.image_stream.specs.Segments.{Segment, fixed, content, len, IsBody, HasSource, zeros}
@@ -7,7 +8,8 @@ use Rattle.image_stream.specs.Outcomes.{AreSized}
 use Rattle.image_stream.specs.Steps.{IsFront, Gone}
 use Rattle.image_stream.proofs.Fronts.{rest_of, rest_within}
 
-length_within : (c xs : List ℕ) (k n : ℕ) → k ≤ n → length c ≡ n → length xs ≡ k → length (xs ++ take (n - k) (drop k c)) ≡ n
+length_within : (c xs : List ℕ) (k n : ℕ) → k ≤ n → length c ≡ n → length xs ≡ k
+    → length (xs ++ take (n - k) (drop k c)) ≡ n
 length_within c xs k n small e f =
     let a = length-append xs (take (n - k) (drop k c)) in
     let t = length-take (n - k) (drop k c) in
@@ -15,7 +17,8 @@ length_within c xs k n small e f =
     omega arith
 
 -- bytes behind a front of a segment that make it whole
-pub some_rest : (told : Option (List (List ℕ))) (sizes : List ℕ) (p : Segment) (xs : List ℕ) (k : ℕ) → HasSource sizes p → Told told (AreSized sizes) → k ≤ len p → IsFront told p k xs → (rest : List ℕ) × IsBody told p (xs ++ rest)
+pub some_rest : (told : Option (List (List ℕ))) (sizes : List ℕ) (p : Segment) (xs : List ℕ) (k : ℕ) → HasSource sizes p
+    → Told told (AreSized sizes) → k ≤ len p → IsFront told p k xs → (rest : List ℕ) × IsBody told p (xs ++ rest)
 some_rest told sizes (fixed at bs) xs k h s small f = (drop k bs, sym (rest_of bs xs k f))
 some_rest None sizes (content at n file) xs k h s small f =
     let l = length-append xs (zeros (n - k)) in
@@ -34,7 +37,8 @@ some_rest (Some cs) sizes (content at n file) xs k h s small f =
     )
 
 -- a segment of which no further byte counts
-pub gone_full : (told : Option (List (List ℕ))) (sizes : List ℕ) (p : Segment) (k : ℕ) (Was Is : List ℕ → Type 0) → HasSource sizes p → Told told (AreSized sizes) → k ≤ len p → ((xs ys : List ℕ) → Is xs → Is (xs ++ ys))
+pub gone_full : (told : Option (List (List ℕ))) (sizes : List ℕ) (p : Segment) (k : ℕ) (Was Is : List ℕ → Type 0)
+    → HasSource sizes p → Told told (AreSized sizes) → k ≤ len p → ((xs ys : List ℕ) → Is xs → Is (xs ++ ys))
     → Gone (IsFront told p k) None None Was Is → Gone (IsBody told p) None None Was Is
 gone_full told sizes p k Was Is h s small full g =
     let r = some_rest told sizes p g.bytes k h s small g.are in
@@ -42,5 +46,7 @@ gone_full told sizes p k Was Is h s small full g =
       bytes = g.bytes ++ r.0;
       are = r.1;
       written = tt;
-      added = λ xs v. let R : List ℕ → Type 0 = λ z. Is z in let t : Is ((xs ++ g.bytes) ++ r.0) = full (xs ++ g.bytes) r.0 (g.added xs v) in subst R (append_assoc xs g.bytes r.0) t;
+      added = λ xs v. let R : List ℕ → Type 0 =
+          λ z. Is z in let t : Is ((xs ++ g.bytes) ++ r.0) =
+          full (xs ++ g.bytes) r.0 (g.added xs v) in subst R (append_assoc xs g.bytes r.0) t;
     }

@@ -16,9 +16,11 @@ err_weaker (Ok a) f h = tt
 err_weaker (Err e) f h = f h
 
 -- contents of the planned sizes
-pub sizes_are : (sizes : List ℕ) (cs : List (List ℕ)) → length cs ≡ length sizes → AreSized sizes cs → map length cs ≡ sizes
+pub sizes_are : (sizes : List ℕ) (cs : List (List ℕ)) → length cs ≡ length sizes → AreSized sizes cs
+    → map length cs ≡ sizes
 sizes_are [] [] n h = refl
 sizes_are [] (c ∷ cs) n h = absurd (omega arith)
 sizes_are (x ∷ xs) [] n h = absurd (omega arith)
 sizes_are (x ∷ xs) (c ∷ cs) n h =
-    ap (λ (k : ℕ). k ∷ map length cs) (h 0 (omega arith)) ∙ ap (λ (ks : List ℕ). x ∷ ks) (sizes_are xs cs (omega (arith, n)) (λ k l. h (suc k) (omega (arith, l))))
+    ap (λ (k : ℕ). k ∷ map length cs) (h 0 (omega arith))
+    ∙ ap (λ (ks : List ℕ). x ∷ ks) (sizes_are xs cs (omega (arith, n)) (λ k l. h (suc k) (omega (arith, l))))

@@ -1,5 +1,6 @@
 -- Three passes.
-use Rattle.std.proofs.Common.{◌≡◌, ℕ, ◌+◌, ◌-◌, ◌≤◌, ◌<◌, List, [], ◌∷◌, ◌++◌, length, get_or, Option, Some, ap, refl, ◌∙◌, arith, subst, inl, inr, ◌⊎◌, ◌^◌, rules}
+use Rattle.std.proofs.Common.{◌≡◌, ℕ, ◌+◌, ◌-◌, ◌≤◌, ◌<◌, List, [], ◌∷◌, ◌++◌, length, get_or, Option, Some, ap, refl}
+use Rattle.std.proofs.Common.{◌∙◌, arith, subst, inl, inr, ◌⊎◌, ◌^◌, rules}
 use Rattle.std.proofs.Math.ListN.{get_or-eq_default}
 use Rattle.std.proofs.lemmas.Bool.{cases_lt}
 use Rattle.std.specs.Io.KnownBytes.{Appends, Keeps}
@@ -14,30 +15,41 @@ use Rattle.image_stream.specs.Outcomes.{FrontSized, AreSized, IsStreamFault}
 use Rattle.image_stream.specs.Steps.{Gone, IsFault, IsLeastStreamFault}
 use Rattle.image_stream.proofs.Images.{body_known}
 
--- where the contents are known, so is the image
-pub image_known : (told : Option (List (List ℕ))) (cs : List (List ℕ)) (at end : ℕ) (ps : List Segment) (xs : List ℕ) → told ≡ Some cs → IsImage told at ps end xs → xs ≡ image_from cs at ps end
+-- if the contents are known, so is the image
+pub image_known : (told : Option (List (List ℕ))) (cs : List (List ℕ)) (at end : ℕ) (ps : List Segment) (xs : List ℕ)
+    → told ≡ Some cs → IsImage told at ps end xs → xs ≡ image_from cs at ps end
 image_known told cs at end [] xs is h = h
 image_known told cs at end (p ∷ ps) xs is h =
     let body = body_known told p h.0 cs is h.2 in
     let rest = image_known told cs (place p + len p) end ps h.1 is h.3 in
-    h.4 ∙ ap (λ (v : List ℕ). zeros (place p - at) ++ (v ++ h.1)) body ∙ ap (λ (v : List ℕ). zeros (place p - at) ++ (bytes_of cs p ++ v)) rest
+    h.4 ∙ ap (λ (v : List ℕ). zeros (place p - at) ++ (v ++ h.1)) body
+    ∙ ap (λ (v : List ℕ). zeros (place p - at) ++ (bytes_of cs p ++ v)) rest
 
 -- the value over the superblock without it and all that went out
-pub value_of : {P : List ℕ → Type 0} {a b : Option (List ℕ)} (Start First Is : List ℕ → Type 0) (head : List ℕ) (S : List ℕ → ℕ) (v : ℕ) → Start [] → ((xs : List ℕ) → Start xs → First (xs ++ head)) → (h : Gone P a b First Is) → ((xs : List ℕ) → Is xs → v ≡ S xs) → v ≡ S (head ++ h.bytes)
+pub value_of : {P : List ℕ → Type 0} {a b : Option (List ℕ)} (Start First Is : List ℕ → Type 0) (head : List ℕ)
+    (S : List ℕ → ℕ) (v : ℕ) → Start [] → ((xs : List ℕ) → Start xs → First (xs ++ head)) → (h : Gone P a b First Is)
+    → ((xs : List ℕ) → Is xs → v ≡ S xs) → v ≡ S (head ++ h.bytes)
 value_of Start First Is head S v s f h k = k (head ++ h.bytes) (h.added head (f [] s))
 
 module _ (head : ℕ → List ℕ) (S : List ℕ → ℕ) (stored : ℕ) (image : List ℕ) (right : stored ≡ S (head 0 ++ image)) where
   pub front_head : (a b : Option (List ℕ)) → AppendsPrefix a b (head stored) → AppendsPrefix a b (checked head S image)
-  front_head a b f = let H : ℕ → Type 0 = λ v. AppendsPrefix a b (head v ++ image) in subst H right (front_first a b (head stored) image f)
+  front_head a b f = let H : ℕ → Type 0 =
+      λ v. AppendsPrefix a b (head v ++ image) in subst H right (front_first a b (head stored) image f)
 
-  pub front_image : (a b c : Option (List ℕ)) → Appends a b (head stored) → AppendsPrefix b c image → AppendsPrefix a c (checked head S image)
-  front_image a b c w f = let H : ℕ → Type 0 = λ v. AppendsPrefix a c (head v ++ image) in subst H right (front_after a b c (head stored) image w f)
+  pub front_image : (a b c : Option (List ℕ)) → Appends a b (head stored) → AppendsPrefix b c image
+      → AppendsPrefix a c (checked head S image)
+  front_image a b c w f = let H : ℕ → Type 0 =
+      λ v. AppendsPrefix a c (head v ++ image) in subst H right (front_after a b c (head stored) image w f)
 
-  pub whole_image : (a b c d : Option (List ℕ)) → Appends a b (head stored) → Appends b c image → Keeps c d → Appends a d (checked head S image)
-  whole_image a b c d w f k = let H : ℕ → Type 0 = λ v. Appends a d (head v ++ image) in subst H right (appends_keep a c d (head stored ++ image) (appends_join a b c (head stored) image w f) k)
+  pub whole_image : (a b c d : Option (List ℕ)) → Appends a b (head stored) → Appends b c image → Keeps c d
+      → Appends a d (checked head S image)
+  whole_image a b c d w f k = let H : ℕ → Type 0 =
+      λ v. Appends a d (head v ++ image) in subst H right
+      (appends_keep a c d (head stored ++ image) (appends_join a b c (head stored) image w f) k)
 
 -- nothing was written yet
-pub size_fault : (told : Option (List (List ℕ))) (f : Form) (stored : List ℕ → ℕ) (r r' : Reads) (w : Output) (e : StreamError) → IsLeastStreamFault told f.sizes r r' e
+pub size_fault : (told : Option (List (List ℕ))) (f : Form) (stored : List ℕ → ℕ) (r r' : Reads) (w : Output)
+    (e : StreamError) → IsLeastStreamFault told f.sizes r r' e
     → IsStreamFault told f stored r r' w w e
 size_fault told f stored r r' w (SizeDiffers k) h = (h.0, λ cs is. (h.1 cs is, refl))
 size_fault told f stored r r' w (SourceFault k) h = h
@@ -45,21 +57,25 @@ size_fault told f stored r r' w WriteFault h = absurd h
 size_fault told f stored r r' w Changed h = absurd h
 
 -- a file that has its planned size is not too short
-not_short : (sizes : List ℕ) (cs : List (List ℕ)) (f : ℕ) → AreSized sizes cs → length (content_of cs f) < get_or sizes f 0 → ⊥
+not_short : (sizes : List ℕ) (cs : List (List ℕ)) (f : ℕ) → AreSized sizes cs
+    → length (content_of cs f) < get_or sizes f 0 → ⊥
 not_short sizes cs f h small = elim (cases_lt f (length sizes)) [
   | inl q ↦ let e = h f q in omega arith
   | inr q ↦ let z = get_or-eq_default sizes 0 q in omega arith
 ]
 
 -- the files before one of those that have their sizes
-front_sized : (sizes : List ℕ) (cs : List (List ℕ)) (k : ℕ) → k < length sizes → AreSized sizes cs → FrontSized sizes k cs
+front_sized : (sizes : List ℕ) (cs : List (List ℕ)) (k : ℕ) → k < length sizes → AreSized sizes cs
+    → FrontSized sizes k cs
 front_sized sizes cs k within h = λ j less. h j (omega arith)
 
 -- a fault of a pass over sources of the planned sizes
-pub pass_fault : (told told' : Option (List (List ℕ))) (f : Form) (stored : List ℕ → ℕ) (r r' r'' : Reads) (w w' w'' : Output) (e : StreamError) → told' ≡ told → r' ≡ r
+pub pass_fault : (told told' : Option (List (List ℕ))) (f : Form) (stored : List ℕ → ℕ) (r r' r'' : Reads)
+    (w w' w'' : Output) (e : StreamError) → told' ≡ told → r' ≡ r
     → (Rose w'.failures w''.failures → Rose w.failures w''.failures) → Told told (AreSized f.sizes)
     → IsFault told' f.sizes r' r'' w'.failures w''.failures e → IsStreamFault told f stored r r'' w w'' e
-pass_fault told told' f stored r r' r'' w w' w'' (SizeDiffers k) t q o h g = (g.0, λ cs is. absurd (not_short f.sizes cs k (h cs is) (g.1 cs (t ∙ is))))
+pass_fault told told' f stored r r' r'' w w' w'' (SizeDiffers k) t q o h g =
+    (g.0, λ cs is. absurd (not_short f.sizes cs k (h cs is) (g.1 cs (t ∙ is))))
 pass_fault told told' f stored r r' r'' w w' w'' (SourceFault k) t q o h g =
     let R : Reads → Type 0 = λ v. FailedAt k v r'' in
     (g.0, subst R q g.1, λ cs is. front_sized f.sizes cs k g.0 (h cs is))
@@ -70,9 +86,11 @@ never : (0 < 0) ⊎ (2 ^ 64 - 1 ≤ 0) → ⊥
 never h = search rules
 
 -- a pass that writes nowhere
-pub nowhere_fault : (told told' : Option (List (List ℕ))) (f : Form) (stored : List ℕ → ℕ) (r r' r'' : Reads) (w : Output) (e : StreamError) → told' ≡ told → r' ≡ r → Told told (AreSized f.sizes)
+pub nowhere_fault : (told told' : Option (List (List ℕ))) (f : Form) (stored : List ℕ → ℕ) (r r' r'' : Reads)
+    (w : Output) (e : StreamError) → told' ≡ told → r' ≡ r → Told told (AreSized f.sizes)
     → IsFault told' f.sizes r' r'' 0 0 e → IsStreamFault told f stored r r'' w w e
-nowhere_fault told told' f stored r r' r'' w (SizeDiffers k) t q h g = (g.0, λ cs is. absurd (not_short f.sizes cs k (h cs is) (g.1 cs (t ∙ is))))
+nowhere_fault told told' f stored r r' r'' w (SizeDiffers k) t q h g =
+    (g.0, λ cs is. absurd (not_short f.sizes cs k (h cs is) (g.1 cs (t ∙ is))))
 nowhere_fault told told' f stored r r' r'' w (SourceFault k) t q h g =
     let R : Reads → Type 0 = λ v. FailedAt k v r'' in
     (g.0, subst R q g.1, λ cs is. front_sized f.sizes cs k g.0 (h cs is))

@@ -1,5 +1,6 @@
 -- One more byte in a sum of words.
-use Rattle.std.proofs.Common.{◌≡◌, ℕ, ◌+◌, ◌-◌, ◌*◌, ◌%◌, ◌^◌, ◌<◌, ◌≤◌, List, [], ◌∷◌, ◌++◌, length, take, drop, refl, ap, ◌∙◌, arith, subst, inl, inr, append_assoc, length-append, length-take}
+use Rattle.std.proofs.Common.{◌≡◌, ℕ, ◌+◌, ◌-◌, ◌*◌, ◌%◌, ◌^◌, ◌<◌, ◌≤◌, List, [], ◌∷◌, ◌++◌, length, take, drop, refl}
+use Rattle.std.proofs.Common.{ap, ◌∙◌, arith, subst, inl, inr, append_assoc, length-append, length-take}
 use Rattle.std.proofs.lemmas.Bool.{lt-ltb, le-ltb, cases_lt}
 use Rattle.std.proofs.lemmas.List.{take_all, take-append-drop}
 use Rattle.image_parts.specs.Sums.{balance}
@@ -22,7 +23,8 @@ term_in k x h = rw (lt-ltb k 512 h) refl
 pub term_out : (k x : ℕ) → 512 ≤ k → term k x ≡ 0
 term_out k x h = rw (le-ltb k 512 h) refl
 
-pub sum_more : (place sum new : ℕ) (xs : List ℕ) (x : ℕ) → IsSum place sum xs → place < 512 → new ≡ (sum + x * weight place % 2 ^ 32) % 2 ^ 32 → IsSum (place + 1) new (xs ++ x ∷ [])
+pub sum_more : (place sum new : ℕ) (xs : List ℕ) (x : ℕ) → IsSum place sum xs → place < 512
+    → new ≡ (sum + x * weight place % 2 ^ 32) % 2 ^ 32 → IsSum (place + 1) new (xs ++ x ∷ [])
 unfolding IsSum
 sum_more place sum new xs x h small e =
     let l = length-append xs (x ∷ []) in
@@ -30,8 +32,11 @@ sum_more place sum new xs x h small e =
     let same : 0 + length xs ≡ place = omega arith in
     let t : term (0 + length xs) x ≡ x * weight place = ap (λ (k : ℕ). term k x) same ∙ term_in place x small in
     let w = weighted_last xs 0 x in
-    let q = h.1 in
-    (omega arith, e ∙ joined sum (weighted 0 xs) (weighted 0 (xs ++ x ∷ [])) (x * weight place) q (w ∙ ap (λ (v : ℕ). weighted 0 xs + v) t))
+    let q = h.1 in (
+      omega arith,
+      e ∙ joined sum (weighted 0 xs) (weighted 0 (xs ++ x ∷ [])) (x * weight place) q
+          (w ∙ ap (λ (v : ℕ). weighted 0 xs + v) t),
+    )
 
 pub sum_full : (place sum : ℕ) (xs : List ℕ) (x : ℕ) → IsSum place sum xs → 512 ≤ place → IsSum place sum (xs ++ x ∷ [])
 unfolding IsSum
@@ -66,7 +71,8 @@ sum_behind place sum xs ys full h =
     let z : weighted 0 xs ≡ weighted 0 (xs ++ ys) = omega arith in
     (omega arith, h.1 ∙ ap (λ (v : ℕ). v % 2 ^ 32) z)
 
-full_at : (place sum new value n : ℕ) (xs bytes : List ℕ) → IsSum place sum xs → IsSum new value (xs ++ take n bytes) → n < length bytes → 512 ≤ place + n → 512 ≤ new
+full_at : (place sum new value n : ℕ) (xs bytes : List ℕ) → IsSum place sum xs → IsSum new value (xs ++ take n bytes)
+    → n < length bytes → 512 ≤ place + n → 512 ≤ new
 unfolding IsSum
 full_at place sum new value n xs bytes h k short most =
     let l = length-append xs (take n bytes) in
@@ -75,12 +81,14 @@ full_at place sum new value n xs bytes h k short most =
     let q = k.0 in
     omega arith
 
--- bytes that are cut only where no further one counts
-pub sum_counted : (place sum new value n : ℕ) (xs bytes : List ℕ) → (n < length bytes → 512 ≤ place + n) → IsSum place sum xs → IsSum new value (xs ++ take n bytes) → IsSum new value (xs ++ bytes)
+-- bytes that are cut only if no further one counts
+pub sum_counted : (place sum new value n : ℕ) (xs bytes : List ℕ) → (n < length bytes → 512 ≤ place + n)
+    → IsSum place sum xs → IsSum new value (xs ++ take n bytes) → IsSum new value (xs ++ bytes)
 sum_counted place sum new value n xs bytes most h k = elim (cases_lt n (length bytes)) [
   | inl short ↦
       let full = full_at place sum new value n xs bytes h k short (most short) in
-      let all : (xs ++ take n bytes) ++ drop n bytes ≡ xs ++ bytes = append_assoc xs (take n bytes) (drop n bytes) ∙ ap (λ (v : List ℕ). xs ++ v) (take-append-drop n bytes) in
+      let all : (xs ++ take n bytes) ++ drop n bytes ≡ xs ++ bytes =
+      append_assoc xs (take n bytes) (drop n bytes) ∙ ap (λ (v : List ℕ). xs ++ v) (take-append-drop n bytes) in
       let S : List ℕ → Type 0 = λ v. IsSum new value v in
       subst S all (sum_behind new value (xs ++ take n bytes) (drop n bytes) full k)
   | inr whole ↦
@@ -94,4 +102,5 @@ place_after place sum xs h long = let p = h.0 in omega arith
 
 pub balance_value : (place sum : ℕ) (xs : List ℕ) → IsSum place sum xs → (0 + (2 ^ 32 - sum)) % 2 ^ 32 ≡ balance_of xs
 unfolding IsSum balance_of balance
-balance_value place sum xs h = let e : 0 + (2 ^ 32 - sum) ≡ 2 ^ 32 - sum = omega arith in ap (λ (v : ℕ). v % 2 ^ 32) e ∙ ap (λ (v : ℕ). (2 ^ 32 - v) % 2 ^ 32) h.1
+balance_value place sum xs h = let e : 0 + (2 ^ 32 - sum) ≡ 2 ^ 32 - sum =
+    omega arith in ap (λ (v : ℕ). v % 2 ^ 32) e ∙ ap (λ (v : ℕ). (2 ^ 32 - v) % 2 ^ 32) h.1

@@ -1,10 +1,12 @@
--- How the writing of an image ends. (This project's own.)
+-- `IsWritten`, `IsStreamed`: a whole image was written. `IsStreamFault`: the meaning of each error
+-- of a stream. `IsLeastWrong`: the first file of another size than planned. (This project's own.)
 use Rattle.std.specs.Prelude.{◌≡◌, ◌≢◌, ℕ, ◌<◌, List, ◌++◌, length, get_or, Option}
 use Rattle.std.specs.Io.KnownBytes.{Appends}
 use Rattle.rom_fields.specs.Failures.{Rose}
 use Rattle.rom_fields.specs.Written.{Output}
 use Rattle.image_stream.specs.declared.error.StreamError.{StreamError}
-use Rattle.image_stream.specs.declared.error.StreamError.TheVariants.{SizeDiffers, SourceFault, WriteFault, Changed}
+use Rattle.image_stream.specs.declared.error.StreamError.TheVariants.{SizeDiffers, SourceFault}
+use Rattle.image_stream.specs.declared.error.StreamError.TheVariants.{WriteFault, Changed}
 use Rattle.image_stream.specs.Sources.{content_of, Told, Reads, FailedAt}
 use Rattle.image_stream.specs.Segments.{Form, IsImage, checked}
 use Rattle.image_stream.specs.Answers.{Answer, LogsLast, IsImageRead}
@@ -13,19 +15,19 @@ use Rattle.image_stream.specs.Answers.{Answer, LogsLast, IsImageRead}
 abbrev pub FrontSized : List ℕ → ℕ → List (List ℕ) → Type 0
 FrontSized sizes n cs = (k : ℕ) → k < n → length (content_of cs k) ≡ get_or sizes k 0
 
--- all have
+-- the contents of all files have the planned sizes
 abbrev pub AreSized : List ℕ → List (List ℕ) → Type 0
 AreSized sizes cs = FrontSized sizes (length sizes) cs
 
--- the file is the first of another size
+-- the file is the first with another size
 pub record IsLeastWrong (sizes : List ℕ) (file : ℕ) (cs : List (List ℕ)) : Type 0 where
   pub within : file < length sizes
   pub differs : length (content_of cs file) ≢ get_or sizes file 0
   pub least : FrontSized sizes file cs
 
--- Whatever the sources told, a whole image was appended: of these contents where they are told, and else of some
--- contents of the planned sizes, with the check value of just these bytes. These are the answers of the reads that its
--- contents were taken from.
+-- A whole image was appended, whatever the sources are: with their contents if these are known, and
+-- otherwise with some contents of the planned sizes, and with the check value of exactly these
+-- bytes. `answers` are the answers of the reads that its contents were taken from.
 pub record IsWritten (told : Option (List (List ℕ))) (f : Form) (stored : List ℕ → ℕ)
     (old new : Option (List ℕ)) : Type 0 where
   pub rest : List ℕ
@@ -34,12 +36,14 @@ pub record IsWritten (told : Option (List (List ℕ))) (f : Form) (stored : List
   pub read : IsImageRead answers f.start f.segments f.end rest
   pub written : Appends old new (checked f.head stored rest)
 
--- And its contents are what reads answered last, of all that the log says of.
-abbrev pub IsStreamed : Option (List (List ℕ)) → (List Answer → Type 0) → (List Answer → Type 0) → Form → (List ℕ → ℕ)
+-- the same, and its contents are what reads answered last, of all answers in the log
+abbrev pub IsStreamed : Option (List (List ℕ)) → (List Answer → Type 0) → (List Answer → Type 0)
+    → Form → (List ℕ → ℕ)
     → Option (List ℕ) → Option (List ℕ) → Type 0
-IsStreamed told was is f stored old new = (w : IsWritten told f stored old new) × LogsLast was is w.answers
+IsStreamed told was is f stored old new =
+    (w : IsWritten told f stored old new) × LogsLast was is w.answers
 
--- a whole image was appended, but with a check value that is not that of its bytes
+-- a whole image was appended, but its check value is not that of its bytes
 pub record IsMisstored (told : Option (List (List ℕ))) (f : Form) (stored : List ℕ → ℕ)
     (old new : Option (List ℕ)) : Type 0 where
   pub rest : List ℕ
@@ -48,15 +52,19 @@ pub record IsMisstored (told : Option (List (List ℕ))) (f : Form) (stored : Li
   pub differs : value ≢ stored (f.head 0 ++ rest)
   pub written : Appends old new (f.head value ++ rest)
 
--- How a stream ends early, by what the sources tell, what was counted of reads and of the writer since, and what was
--- written: a file is the first of another size, and nothing was written; a read of a file failed, and those before it
--- have their sizes; the writer failed; or what was read changed, so that the check value is wrong, which no sources do
--- that tell their bytes.
-abbrev pub IsStreamFault : Option (List (List ℕ)) → Form → (List ℕ → ℕ) → Reads → Reads → Output → Output → StreamError
+-- The meaning of an early end, by the contents of the sources (if these are known), by the counts
+-- of failed reads and of the writer's failures, and by what was written. `SizeDiffers`: the file is
+-- the first with another size, and nothing was written. `SourceFault`: a read of the file failed,
+-- and the files before it have their sizes. `WriteFault`: the writer failed. `Changed`: what was
+-- read changed, so the check value is wrong; this does not happen if the contents are known.
+abbrev pub IsStreamFault : Option (List (List ℕ)) → Form → (List ℕ → ℕ) → Reads → Reads → Output
+    → Output → StreamError
     → Type 0
 IsStreamFault told f stored r r' w w' (SizeDiffers file) =
-    (file < length f.sizes) × Told told (λ cs. IsLeastWrong f.sizes file cs × (w'.contents ≡ w.contents))
+    (file < length f.sizes) × Told told
+    (λ cs. IsLeastWrong f.sizes file cs × (w'.contents ≡ w.contents))
 IsStreamFault told f stored r r' w w' (SourceFault file) =
     (file < length f.sizes) × FailedAt file r r' × Told told (FrontSized f.sizes file)
 IsStreamFault told f stored r r' w w' WriteFault = Rose w.failures w'.failures
-IsStreamFault told f stored r r' w w' Changed = IsMisstored told f stored w.contents w'.contents × Told told (λ cs. ⊥)
+IsStreamFault told f stored r r' w w' Changed =
+    IsMisstored told f stored w.contents w'.contents × Told told (λ cs. ⊥)

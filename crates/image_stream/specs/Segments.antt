@@ -1,11 +1,13 @@
--- An image before the contents of its files are known: a superblock, segments at their places behind it, and zeros
--- everywhere else. (This project's own.)
-use Rattle.std.specs.Prelude.{◌≡◌, ℕ, ◌+◌, ◌-◌, ◌<◌, ◌≤◌, ◌^◌, List, [], ◌∷◌, ◌++◌, length, take, get_or, replicate, Option, Some, None}
+-- An image before the contents of its files are known. `Segment`, `Form`: a superblock, segments at
+-- their offsets behind it, and zeros everywhere else. `image_from`, `image_of`: its bytes.
+-- `IsImage`: bytes that may be this image. `IsLaidOut`: it can be written. (This project's own.)
+use Rattle.std.specs.Prelude.{◌≡◌, ℕ, ◌+◌, ◌-◌, ◌<◌, ◌≤◌, ◌^◌, List, [], ◌∷◌, ◌++◌, length, take}
+use Rattle.std.specs.Prelude.{get_or, replicate, Option, Some, None}
 use Rattle.image_parts.specs.Parts.{Part, part}
 use Rattle.image_stream.specs.declared.outline.Outline.{Outline}
 use Rattle.image_stream.specs.Sources.{content_of, Told}
 
--- a place and the bytes that stand there; or a place, a length, and the file whose first bytes stand there, so many
+-- an offset and the bytes there; or an offset, a length, and the file whose first bytes are there
 pub data Segment : Type 0 where
   fixed : ℕ → List ℕ → Segment
   content : ℕ → ℕ → ℕ → Segment
@@ -18,11 +20,11 @@ abbrev pub len : Segment → ℕ
 len (fixed at bytes) = length bytes
 len (content at size file) = size
 
--- the segment of an index
+-- the segment at an index
 abbrev pub segment_at : List Segment → ℕ → Segment
 segment_at ps i = get_or ps i (fixed 0 [])
 
--- where a segment stands, how long it is, and whose contents it has
+-- the offset of a segment, its length, and the file whose contents it has
 abbrev pub outline : Segment → Outline
 outline (fixed at bytes) = record { place = at; len = length bytes; source = None }
 outline (content at size file) = record { place = at; len = size; source = Some file }
@@ -36,38 +38,41 @@ bytes_of cs (content at size file) = take size (content_of cs file)
 abbrev pub segment_part : List (List ℕ) → Segment → Part
 segment_part cs p = part (place p) (bytes_of cs p)
 
--- bytes that may stand for a segment: its own where they are known, and else any, but as many
+-- bytes that a segment may have: its own if they are known, and otherwise any bytes of its length
 abbrev pub IsBody : Option (List (List ℕ)) → Segment → List ℕ → Type 0
 IsBody told (fixed at bytes) xs = xs ≡ bytes
-IsBody told (content at size file) xs = (length xs ≡ size) × Told told (λ cs. xs ≡ take size (content_of cs file))
+IsBody told (content at size file) xs =
+    (length xs ≡ size) × Told told (λ cs. xs ≡ take size (content_of cs file))
 
 abbrev pub zeros : ℕ → List ℕ
 zeros n = replicate n 0
 
--- what stands from `at` to `end`: zeros up to each segment, its bytes, and zeros behind the last
+-- the bytes from `at` to `end`: zeros up to each segment, its bytes, and zeros behind the last
 abbrev pub image_from : List (List ℕ) → ℕ → List Segment → ℕ → List ℕ
 image_from cs at [] end = zeros (end - at)
-image_from cs at (p ∷ ps) end = zeros (place p - at) ++ (bytes_of cs p ++ image_from cs (place p + len p) ps end)
+image_from cs at (p ∷ ps) end =
+    zeros (place p - at) ++ (bytes_of cs p ++ image_from cs (place p + len p) ps end)
 
--- the same of bytes that may stand for the segments
+-- the same for bytes that the segments may have
 abbrev pub IsImage : Option (List (List ℕ)) → ℕ → List Segment → ℕ → List ℕ → Type 0
 IsImage told at [] end xs = xs ≡ zeros (end - at)
 IsImage told at (p ∷ ps) end xs =
-    (body : List ℕ) × (rest : List ℕ) × IsBody told p body × IsImage told (place p + len p) ps end rest
+    (body : List ℕ) × (rest : List ℕ) × IsBody told p body
+    × IsImage told (place p + len p) ps end rest
     × (xs ≡ zeros (place p - at) ++ (body ++ rest))
 
--- the segments stand one after the other, from `at` to `end`
+-- the segments are one after the other, from `at` to `end`
 abbrev pub SegmentsRise : ℕ → List Segment → ℕ → Type 0
 SegmentsRise at [] end = at ≤ end
 SegmentsRise at (p ∷ ps) end = (at ≤ place p) × SegmentsRise (place p + len p) ps end
 
--- contents are those of one of the files, and all of them
+-- a segment with contents has those of one of the files, and all of them
 abbrev pub HasSource : List ℕ → Segment → Type 0
 HasSource sizes (fixed at bytes) = Unit {0}
 HasSource sizes (content at size file) = (file < length sizes) × (size ≡ get_or sizes file 0)
 
--- the superblock, by the check value that it stores, and its length; what stands behind it, and the length of the
--- image; the size of each file
+-- The superblock by the check value that it stores, and its length; the segments behind it, and the
+-- length of the image; the size of each file.
 pub record Form : Type 0 where
   pub head : ℕ → List ℕ
   pub start : ℕ
@@ -75,8 +80,8 @@ pub record Form : Type 0 where
   pub end : ℕ
   pub sizes : List ℕ
 
--- An image that can be written: its segments rise behind the superblock, which has at most 4,096 bytes; and it is
--- shorter than 2^32 bytes, as each file is.
+-- An image that can be written. Its segments are one after the other behind the superblock, which
+-- has at most 4,096 bytes. It is shorter than 2^32 bytes, and so is each file.
 pub record IsLaidOut (f : Form) : Type 0 where
   pub rises : SegmentsRise f.start f.segments f.end
   pub files : (i : ℕ) → i < length f.segments → HasSource f.sizes (segment_at f.segments i)
@@ -84,7 +89,8 @@ pub record IsLaidOut (f : Form) : Type 0 where
   pub short : f.start ≤ 4096
   pub sized : (file : ℕ) → get_or f.sizes file 0 < 2 ^ 32
 
--- a superblock that stores the check value of the image, taken with 0 in its place, and the rest of the image
+-- a superblock that stores the check value of the image, and the rest of the image; the value is
+-- that of the image with 0 as its check value
 abbrev pub checked : (ℕ → List ℕ) → (List ℕ → ℕ) → List ℕ → List ℕ
 checked head stored rest = head (stored (head 0 ++ rest)) ++ rest
 

@@ -1,17 +1,20 @@
--- The sum of the big-endian words of the first 512 bytes of an image, byte by byte, as romfs stores it in its superblock
--- (Linux Documentation/filesystems/romfs.rst).
-use Rattle.std.specs.Prelude.{◌≡◌, ℕ, ◌+◌, ◌*◌, ◌%◌, ◌^◌, min, nat_lt, if◌then◌else◌, ◌==◌, List, [], ◌∷◌, length}
+-- `balance_of`: the check value of romfs, which brings the sum of the big-endian words of the first
+-- 512 bytes to 0. `IsSum`: the sum so far, byte by byte. (Linux
+-- Documentation/filesystems/romfs.rst.)
+use Rattle.std.specs.Prelude.{◌≡◌, ℕ, ◌+◌, ◌*◌, ◌%◌, ◌^◌, min, nat_lt, if◌then◌else◌, ◌==◌, List}
+use Rattle.std.specs.Prelude.{[], ◌∷◌, length}
 use Rattle.image_parts.specs.Sums.{balance}
 
--- what a byte counts by its place in its word
+-- the value of a byte's unit, by its index in its word
 abbrev pub weight : ℕ → ℕ
-weight k = if k % 4 == 0 then 16777216 else (if k % 4 == 1 then 65536 else (if k % 4 == 2 then 256 else 1))
+weight k =
+    if k % 4 == 0 then 16777216 else (if k % 4 == 1 then 65536 else (if k % 4 == 2 then 256 else 1))
 
--- what the byte x at k adds
+-- what the byte x at index k adds
 abbrev pub term : ℕ → ℕ → ℕ
 term k x = if nat_lt k 512 then x * weight k else 0
 
--- what bytes add, of which the first stands at k
+-- what bytes add; the first is at index k
 abbrev pub weighted : ℕ → List ℕ → ℕ
 weighted k [] = 0
 weighted k (x ∷ xs) = term k x + weighted (k + 1) xs
@@ -20,6 +23,6 @@ weighted k (x ∷ xs) = term k x + weighted (k + 1) xs
 unfoldable pub balance_of : List ℕ → ℕ
 balance_of xs = balance (weighted 0 xs)
 
--- so many bytes of the first 512 there were, and the sum of their words is this
+-- `place` bytes of the first 512 were added, and `sum` is the sum of their words
 unfoldable pub IsSum : ℕ → ℕ → List ℕ → Type 0
 IsSum place sum xs = (place ≡ min (length xs) 512) × (sum ≡ weighted 0 xs % 2 ^ 32)

@@ -1,3 +1,4 @@
+//! The trait of check values over bytes, which an image stores.
 ghost use Rattle.std.specs.Prelude.{◌≡◌, [], ◌++◌, ℕ, List};
 ghost use Rattle.std.specs.Bool.{OnTrue};
 
@@ -6,20 +7,23 @@ pub trait Checksum: Copy {
     // The value is that of these bytes.
     ghost Is: { Self → List ℕ → Type 0 };
 
-    // What is stored in an image for the bytes.
+    // The value that an image stores for the bytes.
     ghost stored: { List ℕ → ℕ };
 
+    /// Returns the value of no bytes.
     fn start() -> Self
         ensures { Is result [] };
 
+    /// Adds more bytes.
     fn add(&mut self, bytes: &[u8])
         ensures { (xs : List ℕ) → Is self.old xs → Is self.new (xs ++ bytes.now) };
 
-    /// Whether no further byte changes the value.
+    /// Returns whether no further byte changes the value.
     fn is_full(&self) -> bool
         ensures { OnTrue result
             ((xs ys : List ℕ) → Is self.now xs → Is self.now (xs ++ ys)) };
 
+    /// Returns the value that an image stores.
     fn value(&self) -> u32
         ensures { (xs : List ℕ) → Is self.now xs → result ≡ stored xs };
 }

@@ -1,10 +1,11 @@
-//! Images written section by section: into memory, or to a writer through one buffer of the
-//! caller's or of 4,096 bytes, whatever their length.
+//! Images that are written section by section. `write` puts an image of a superblock and segments
+//! into memory. `stream_through` and `stream` write it to a writer, through a buffer of the
+//! caller's or one of 4,096 bytes, whatever the image's length.
 //!
-//! An image is a superblock, which stores a check value of the whole, and segments at their places:
-//! bytes that are known, or the contents of a file (`specs/Segments.antt`). Every other byte is
-//! zero. Proved: an `Ok` of `write` or `stream` means that just this image was written, and
-//! `specs/Outcomes.antt` says what each error means.
+//! Proved: an `Ok` of `write` or `stream` means that exactly this image was written, with the
+//! contents that were read last; `specs/Outcomes.antt` has the meaning of each error. An image is a
+//! superblock, which stores a check value of the whole, and segments at their offsets: bytes that
+//! are known, or the contents of a file (`specs/Segments.antt`). Every other byte is zero.
 #![tactic(auto)]
 
 mod checksum;

@@ -1,5 +1,6 @@
 //! The sizes of the sources, before anything is written.
-ghost use Rattle.std.specs.Prelude.{◌≡◌, ◌<◌, ◌≤◌, ◌^◌, ℕ, List, true, false, length, get_or, OnOk, OnErr, IfOk, IfErr};
+ghost use Rattle.std.specs.Prelude.{◌≡◌, ◌<◌, ◌≤◌, ◌^◌, ℕ, List, true, false, length, get_or, OnOk};
+ghost use Rattle.std.specs.Prelude.{OnErr, IfOk, IfErr};
 ghost use Rattle.image_stream.specs.Answers.{Grew};
 ghost use Rattle.image_stream.specs.Sources.{Told, content_of, FailedAt};
 ghost use Rattle.image_stream.specs.Outcomes.{AreSized};
@@ -9,7 +10,7 @@ use crate::error::StreamError;
 use crate::segmented::Segmented;
 use crate::sources::{SourceFailed, Sources};
 
-/// Whether a file has at least so many bytes, which a read of the last one of them tells.
+/// Returns whether a file has at least `size` bytes, by a read of the last of them.
 fn reaches<S: Sources>(
     sources: &mut S,
     file: usize,
@@ -38,7 +39,7 @@ fn reaches<S: Sources>(
     }
 }
 
-/// Looks whether a file ends with its planned size: it reaches it, and no byte further.
+/// Checks that a file has its planned size: it has the last byte of that size, and no further byte.
 fn measure<S: Sources>(
     sources: &mut S,
     file: usize,
@@ -69,7 +70,7 @@ fn measure<S: Sources>(
     }
 }
 
-/// Measures all files, in order.
+/// Checks the sizes of all files, in order.
 pub fn measure_all<L: Segmented, S: Sources>(
     layout: &L,
     sources: &mut S,

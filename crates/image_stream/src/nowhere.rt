@@ -4,14 +4,14 @@ ghost use Rattle.rom_fields.specs.Written.{output_of};
 
 use rom_fields::{ByteWrite, Failed};
 
-/// Takes all bytes, keeps none, and never fails.
+/// A writer that accepts all bytes, keeps none, and never fails.
 #[derive(Drop)]
 pub struct Nowhere {
     flushes: u64,
 }
 
 impl Nowhere {
-    /// With no flush counted yet.
+    /// Returns a writer that has counted no flush.
     pub fn new() -> Nowhere {
         Nowhere { flushes: 0 }
     }

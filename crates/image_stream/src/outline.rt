@@ -1,5 +1,5 @@
 //! Segments without their bytes.
-/// Where a segment stands, how long it is, and the file whose contents it has, if any.
+/// The offset of a segment, its length, and the file whose contents it has, if any.
 #[derive(Clone, Copy, PartialEq, Eq)]
 pub struct Outline {
     pub place: u32,

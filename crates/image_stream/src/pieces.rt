@@ -1,11 +1,15 @@
 //! Parts of segments, through one buffer.
-ghost use Rattle.std.specs.Prelude.{◌≡◌, ◌+◌, ◌%◌, ◌<◌, ◌≤◌, ◌^◌, ◌++◌, ℕ, List, length, take, drop, replicate, OnOk, OnErr, IfErr, IfOk, MatchResult};
+ghost use Rattle.std.specs.Prelude.{◌≡◌, ◌+◌, ◌%◌, ◌<◌, ◌≤◌, ◌^◌, ◌++◌, ℕ, List, length, take};
+ghost use Rattle.std.specs.Prelude.{drop, replicate, OnOk, OnErr, IfErr, IfOk, MatchResult};
 ghost use Rattle.rom_fields.specs.Failures.{Counts, Rose};
 ghost use Rattle.rom_fields.specs.Written.{WritesText, AppendsPrefix};
 ghost use Rattle.image_stream.specs.Answers.{AreReads, IsBodyRead, IsImageRead};
 ghost use Rattle.image_stream.specs.Sources.{Told, content_of};
-ghost use Rattle.image_stream.specs.Segments.{Segment, place, len, segment_at, outline, IsBody, HasSource, bytes_of, zeros, IsLaidOut, IsImage, image_from};
-ghost use Rattle.image_stream.specs.Steps.{IsPiece, IsPieceRead, IsNext, IsNextRead, next_bytes, IsReadFault, IsFault, Gone, Read};
+ghost use Rattle.image_stream.specs.Segments.{Segment, place, len, segment_at, outline, IsBody};
+ghost use Rattle.image_stream.specs.Segments.{HasSource, bytes_of, zeros, IsLaidOut, IsImage};
+ghost use Rattle.image_stream.specs.Segments.{image_from};
+ghost use Rattle.image_stream.specs.Steps.{IsPiece, IsPieceRead, IsNext, IsNextRead, next_bytes};
+ghost use Rattle.image_stream.specs.Steps.{IsReadFault, IsFault, Gone, Read};
 
 use crate::checksum::Checksum;
 use crate::error::StreamError;
@@ -44,7 +48,7 @@ pub fn read_exactly<S: Sources>(
     Ok(())
 }
 
-/// Writes the bytes, and adds them to the check value.
+/// Writes bytes, and adds them to the check value.
 pub fn emit<W: ByteWrite, C: Checksum>(w: &mut W, check: &mut C, bytes: &[u8]) -> Result<(), Failed>
     ensures text { WritesText (W.output w.old).contents (W.output w.new).contents result bytes.now }
     ensures count { Counts (W.output w.old).failures (W.output w.new).failures result }
@@ -93,7 +97,7 @@ pub fn piece<L: Segmented, S: Sources>(
     }
 }
 
-/// Sends a segment out, piece by piece.
+/// Sends a segment, piece by piece.
 pub fn copy_segment<L: Segmented, S: Sources, W: ByteWrite, C: Checksum>(
     layout: &L,
     sources: &mut S,
@@ -152,7 +156,7 @@ fn clear(out: &mut [u8])
     out.fill(0);
 }
 
-/// Sends zeros out.
+/// Sends zeros.
 pub fn emit_zeros<W: ByteWrite, C: Checksum>(
     w: &mut W,
     check: &mut C,
@@ -183,7 +187,7 @@ pub fn emit_zeros<W: ByteWrite, C: Checksum>(
     Ok(())
 }
 
-/// Sends out the zeros before a segment, and the segment. Its end.
+/// Sends the zeros before a segment, and the segment. Returns the segment's end.
 fn next_segment<L: Segmented, S: Sources, W: ByteWrite, C: Checksum>(
     layout: &L,
     sources: &mut S,
@@ -234,7 +238,7 @@ fn next_segment<L: Segmented, S: Sources, W: ByteWrite, C: Checksum>(
     Ok(place + segment.len as usize)
 }
 
-/// Sends out all that follows the superblock.
+/// Sends all that follows the superblock.
 pub fn walk<L: Segmented, S: Sources, W: ByteWrite, C: Checksum>(
     layout: &L,
     sources: &mut S,

@@ -4,26 +4,26 @@ ghost use Rattle.image_stream.specs.Segments.{Form, fixed, outline, len, segment
 
 use crate::outline::Outline;
 
-/// An image whose places are all known: a superblock, which stores a check value of the whole, and
-/// segments behind it, whose bytes are known or are the contents of a file.
+/// An image whose offsets are all known: a superblock, which stores a check value of the whole, and
+/// segments behind it. The bytes of a segment are known, or are the contents of a file.
 pub trait Segmented {
-    // What the image is made of.
+    // The superblock, the segments and the sizes of the image.
     ghost form: { Self → Form };
 
-    /// How many files it has.
+    /// Returns the number of files.
     fn files(&self) -> usize
         ensures { result ≡ length (form self.now).sizes };
 
-    /// The size of a file.
+    /// Returns the size of a file in bytes.
     fn size(&self, file: usize) -> u64
         requires { file < length (form self.now).sizes }
         ensures { result ≡ get_or (form self.now).sizes file 0 };
 
-    /// The length of the superblock.
+    /// Returns the length of the superblock in bytes.
     fn head_len(&self) -> usize
         ensures { result ≡ (form self.now).start };
 
-    /// The length of the image.
+    /// Returns the length of the image in bytes.
     fn image_len(&self) -> usize
         ensures { result ≡ (form self.now).end };
 
@@ -32,17 +32,17 @@ pub trait Segmented {
         requires { length out.old ≡ (form self.now).start }
         ensures { out.new ≡ (form self.now).head stored };
 
-    /// How many segments it has.
+    /// Returns the number of segments.
     fn count(&self) -> usize
         ensures { result ≡ length (form self.now).segments };
 
-    /// The segment of an index, without its bytes.
+    /// Returns the segment at an index, without its bytes.
     fn segment(&self, i: usize) -> Outline
         requires { i < length (form self.now).segments }
         ensures { result ≡ outline (segment_at (form self.now).segments i) };
 
-    /// Fills `out` with the bytes from `from` on of a segment that is no file's contents. One of
-    /// whole words is asked for by whole words.
+    /// Fills `out` with the bytes from `from` on of a segment that is not a file's contents. A
+    /// segment of whole words is filled by whole words.
     fn fill(&self, i: usize, from: usize, out: &mut [u8])
         requires index { i < length (form self.now).segments }
         requires within { from + length out.old ≤ len (segment_at (form self.now).segments i) }

@@ -13,7 +13,7 @@ pub struct Slices<'c> {
 }
 
 impl<'c> Slices<'c> {
-    /// Those of all these files.
+    /// Returns sources with these contents.
     pub fn new(contents: &'c Contents<'c>) -> Slices<'c>
         ensures { result.contents.now ≡ contents.now }
     {

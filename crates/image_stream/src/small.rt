@@ -1,5 +1,5 @@
-//! A small image for tests: four letters and the CRC-32 of the whole, a text of three bytes at 12,
-//! a file of five at 20, and zeros to 32.
+//! A small image for tests: four letters and the CRC-32 of the whole, a text of three bytes at
+//! offset 12, a file of five bytes at offset 20, and zeros up to offset 32.
 ghost use Rattle.std.specs.Prelude.{◌∷◌, []};
 ghost use Rattle.byteorder.specs.Endian.{little_bytes};
 ghost use Rattle.image_stream.specs.Segments.{fixed, content};
@@ -8,6 +8,7 @@ use crate::outline::Outline;
 use crate::segmented::Segmented;
 use byteorder::{ByteOrder, LittleEndian};
 
+/// The small image.
 #[derive(Drop)]
 pub struct Small;
 

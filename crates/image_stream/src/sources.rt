@@ -1,4 +1,4 @@
-//! Where the contents of files come from.
+//! The sources of the contents of files.
 ghost use Rattle.std.specs.Prelude.{◌≡◌, ◌<◌, ℕ, List, Option, Some, length};
 ghost use Rattle.std.specs.Io.{ReadsAtMost};
 ghost use Rattle.image_stream.specs.Answers.{Answer, Logs, answer_of};
@@ -8,27 +8,28 @@ ghost use Rattle.image_stream.specs.Sources.{Told, ReadsAt, Reads, after_read_of
 #[derive(Clone, Copy, PartialEq, Eq)]
 pub struct SourceFailed;
 
-/// The contents of files, read at any place. Failed reads are counted.
+/// The contents of files, which can be read at any offset. Failed reads are counted.
 pub trait Sources {
-    // The contents of all files, where they are told.
+    // The contents of all files, if they are known.
     ghost told: { Self → Option (List (List ℕ)) };
 
-    // How many files there are.
+    // The number of files.
     ghost files: { Self → ℕ };
 
-    // How many reads failed, and of which file the last one that did.
+    // The number of failed reads, and the file of the last one that failed.
     ghost reads: { Self → Reads };
 
-    // This may be the log: what reads answered, in order. Sources that keep no log take any list.
+    // This may be the log, which has what reads answered, in order. Sources that keep no log accept
+    // any list.
     ghost IsLog: { Self → List Answer → Type 0 };
 
-    /// How many files there are.
+    /// Returns the number of files.
     fn count(&self) -> usize
         ensures number { result ≡ files self.now }
         ensures told { Told (told self.now) (λ cs. length cs ≡ files self.now) };
 
-    /// Puts the next bytes of a file, from `at` on, into a prefix of `buf`, and says how many; none
-    /// at the end of the file and behind it.
+    /// Puts the next bytes of a file, from offset `at` on, into a prefix of `buf`, and returns
+    /// their number. It is 0 at the end of the file and behind it.
     fn read_at(&mut self, file: usize, at: u64, buf: &mut [u8]) -> Result<usize, SourceFailed>
         requires { file < files self.old }
         ensures bound { ReadsAtMost result buf.new }

@@ -1,5 +1,6 @@
 //! An image in three passes through one buffer.
-ghost use Rattle.std.specs.Prelude.{◌≡◌, ◌≢◌, ◌+◌, ◌%◌, ◌<◌, ◌≤◌, ◌^◌, ◌++◌, ℕ, List, length, get_or, OnOk, OnErr, IfErr};
+ghost use Rattle.std.specs.Prelude.{◌≡◌, ◌≢◌, ◌+◌, ◌%◌, ◌<◌, ◌≤◌, ◌^◌, ◌++◌, ℕ, List, length};
+ghost use Rattle.std.specs.Prelude.{get_or, OnOk, OnErr, IfErr};
 ghost use Rattle.std.specs.Io.KnownBytes.{Appends};
 ghost use Rattle.rom_fields.specs.Failures.{Counts};
 ghost use Rattle.rom_fields.specs.Written.{WritesText, AppendsPrefix};
@@ -17,7 +18,7 @@ use crate::sources::Sources;
 use crate::summing::sum_walk;
 use rom_fields::{ByteWrite, Failed, write_whole};
 
-/// Adds the superblock that stores no value.
+/// Adds the superblock, with 0 as the value that it stores, to the check value.
 fn add_head<L: Segmented, C: Checksum>(layout: &L, check: &mut C, buffer: &mut [u8])
     requires { (L.form layout.now).start ≤ length buffer.old }
     ensures { (xs : List ℕ) → C.Is check.old xs
@@ -57,14 +58,20 @@ fn confirm<C: Checksum>(written: &C, stored: u32) -> Result<(), StreamError>
     Ok(())
 }
 
-/// Writes an image through a buffer of the caller's, without memory, and flushes the writer. The
-/// sources are read for their sizes, in order, each at its last byte and one byte further; for the
-/// check value, in the order of their places, as far as it covers them; and whole for what is
-/// written. Until then nothing was written.
+/// Writes an image through a buffer of the caller's, without taking memory, and flushes the writer.
+/// There are three passes over the sources:
 ///
-/// At `Ok` just the image was written, whatever the sources told, and the contents of its files are
-/// what the reads answered last, one after the other. After an error a prefix of it was, where the
-/// sources tell their contents.
+/// - for their sizes, in order, each source at its last byte and one byte further;
+/// - for the check value, in the order of their offsets, as far as the value covers them;
+/// - whole, for what is written. Nothing is written before this pass.
+///
+/// At `Ok`, exactly the image was written, whatever the sources are. The contents of its files are
+/// what the reads answered last, one after the other. After an error, a prefix of the image was
+/// written, if the contents of the sources are known.
+///
+/// # Errors
+///
+/// `StreamError` has the reasons. `specs/Outcomes.antt` has their exact meaning.
 pub fn stream_through<L: Segmented, S: Sources, W: ByteWrite, C: Checksum>(
     layout: &L,
     sources: &mut S,

@@ -1,8 +1,10 @@
-//! The check value of an image, before anything of it is written.
-ghost use Rattle.std.specs.Prelude.{◌≡◌, ◌+◌, ◌%◌, ◌<◌, ◌≤◌, ◌^◌, ℕ, List, None, length, OnOk, IfErr, IfOk};
+//! The check value of an image, computed before any of the image is written.
+ghost use Rattle.std.specs.Prelude.{◌≡◌, ◌+◌, ◌%◌, ◌<◌, ◌≤◌, ◌^◌, ℕ, List, None, length, OnOk};
+ghost use Rattle.std.specs.Prelude.{IfErr, IfOk};
 ghost use Rattle.image_stream.specs.Answers.{Grew};
 ghost use Rattle.image_stream.specs.Sources.{Told};
-ghost use Rattle.image_stream.specs.Segments.{place, len, segment_at, IsBody, HasSource, IsLaidOut, IsImage};
+ghost use Rattle.image_stream.specs.Segments.{place, len, segment_at, IsBody, HasSource, IsLaidOut};
+ghost use Rattle.image_stream.specs.Segments.{IsImage};
 ghost use Rattle.image_stream.specs.Outcomes.{AreSized};
 ghost use Rattle.image_stream.specs.Steps.{IsNext, IsFault, Gone};
 
@@ -14,7 +16,7 @@ use crate::segmented::Segmented;
 use crate::sources::Sources;
 use rom_fields::Failed;
 
-/// Adds a segment to the check value, piece by piece, until no further byte counts.
+/// Adds a segment to the check value, piece by piece, until no further byte changes it.
 fn sum_segment<L: Segmented, S: Sources, C: Checksum>(
     layout: &L,
     sources: &mut S,
@@ -59,7 +61,7 @@ fn sum_segment<L: Segmented, S: Sources, C: Checksum>(
     Ok(())
 }
 
-/// Adds the zeros before a segment, and the segment. Its end.
+/// Adds the zeros before a segment, and the segment. Returns the segment's end.
 fn sum_next<L: Segmented, S: Sources, C: Checksum>(
     layout: &L,
     sources: &mut S,
@@ -103,7 +105,8 @@ fn sum_next<L: Segmented, S: Sources, C: Checksum>(
     Ok(place + segment.len as usize)
 }
 
-/// Adds all that follows the superblock to the check value. What no longer counts is not read.
+/// Adds all that follows the superblock to the check value. Segments that no longer change it are
+/// not read.
 pub fn sum_walk<L: Segmented, S: Sources, C: Checksum>(
     layout: &L,
     sources: &mut S,

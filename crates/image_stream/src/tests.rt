@@ -17,8 +17,8 @@ const IMAGE: [u8; 32] = [
     108, 111, 0, 0, 0, 0, 0, 0, 0,
 ];
 
-/// One file, five bytes of one letter, which is another one after so many reads; and each read
-/// fails after so many.
+/// One file of five equal bytes. They are another letter after `turn` reads, and each read after
+/// `fail` reads fails.
 #[derive(Drop)]
 struct Turning {
     turn: u64,
@@ -76,7 +76,7 @@ fn from_memory<W: ByteWrite>(contents: &Contents<'_>, w: &mut W) -> Result<(), S
     stream::<Small, Slices<'_>, W, Crc32>(&Small, &mut Slices::new(contents), w)
 }
 
-/// The same through this buffer.
+/// Streams the small image with these contents through this buffer.
 fn through<W: ByteWrite>(
     contents: &Contents<'_>,
     w: &mut W,

@@ -1,18 +1,19 @@
 //! The sum of the words of the first 512 bytes as a check value, as romfs stores it.
-ghost use Rattle.std.specs.Prelude.{◌≡◌, ◌∷◌, [], ◌++◌, ◌+◌, ◌*◌, ◌%◌, ◌^◌, ◌<◌, ◌≤◌, ℕ, List, length, true};
+ghost use Rattle.std.specs.Prelude.{◌≡◌, ◌∷◌, [], ◌++◌, ◌+◌, ◌*◌, ◌%◌, ◌^◌, ◌<◌, ◌≤◌, ℕ, List};
+ghost use Rattle.std.specs.Prelude.{length, true};
 ghost use Rattle.std.specs.Bool.{OnTrue};
 ghost use Rattle.image_stream.specs.WordSums.{IsSum, balance_of, weight};
 
 use crate::checksum::Checksum;
 
-/// How many of the first 512 bytes there were, and the sum of their words so far.
+/// How many of the first 512 bytes were added, and the sum of their words so far.
 #[derive(Clone, Copy)]
 pub struct WordSum {
     place: u32,
     sum: u32,
 }
 
-/// What a byte counts by its place in its word.
+/// Returns the value of a byte's unit, by its index in its word.
 fn weight_at(place: u32) -> u32
     ensures { result ≡ weight place }
 {
@@ -27,9 +28,10 @@ fn weight_at(place: u32) -> u32
     }
 }
 
-/// The sum after one more byte.
+/// Returns the sum after one more byte.
 fn with_byte(s: WordSum, x: u8) -> WordSum
-    ensures { (xs : List ℕ) → IsSum s.place s.sum xs → IsSum result.place result.sum (xs ++ x ∷ []) }
+    ensures { (xs : List ℕ) → IsSum s.place s.sum xs
+        → IsSum result.place result.sum (xs ++ x ∷ []) }
 {
     if s.place < 512 {
         let part = u32::from(x).wrapping_mul(weight_at(s.place));
@@ -42,7 +44,7 @@ fn with_byte(s: WordSum, x: u8) -> WordSum
     }
 }
 
-/// The sum after more bytes.
+/// Returns the sum after more bytes.
 fn with_bytes(s: WordSum, bytes: &[u8]) -> WordSum
     ensures { (xs : List ℕ) → IsSum s.place s.sum xs
         → IsSum result.place result.sum (xs ++ bytes.now) }
@@ -65,7 +67,7 @@ impl Checksum for WordSum {
     }
 
     fn add(&mut self, bytes: &[u8]) {
-        // those behind the first 512 do not count
+        // bytes behind the first 512 do not count
         let left = 512u32.saturating_sub(self.place) as usize;
         let counted = bytes.len().min(left);
         *self = with_bytes(*self, &bytes[..counted]);

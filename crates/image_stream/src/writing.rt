@@ -1,6 +1,8 @@
-//! An image into a buffer of its length.
-ghost use Rattle.std.specs.Prelude.{◌≡◌, ◌+◌, ◌<◌, ◌≤◌, ◌^◌, ◌++◌, ℕ, List, ◌-◌, length, take, drop, get_or, OnOk, IfErr};
-ghost use Rattle.image_stream.specs.Segments.{place, len, segment_at, outline, HasSource, bytes_of, zeros, IsLaidOut, image_of};
+//! The writing of an image into a buffer of its length.
+ghost use Rattle.std.specs.Prelude.{◌≡◌, ◌+◌, ◌<◌, ◌≤◌, ◌^◌, ◌++◌, ℕ, List, ◌-◌, length, take};
+ghost use Rattle.std.specs.Prelude.{drop, get_or, OnOk, IfErr};
+ghost use Rattle.image_stream.specs.Segments.{place, len, segment_at, outline, HasSource, bytes_of};
+ghost use Rattle.image_stream.specs.Segments.{zeros, IsLaidOut, image_of};
 ghost use Rattle.image_stream.specs.Outcomes.{FrontSized, AreSized, IsLeastWrong};
 ghost use Rattle.image_stream.specs.Steps.{next_bytes};
 
@@ -10,7 +12,7 @@ use crate::outline::Outline;
 use crate::segmented::Segmented;
 use rom_fields::Contents;
 
-/// Whether all contents have the planned sizes.
+/// Checks that all contents have the planned sizes.
 fn sizes_agree<L: Segmented>(layout: &L, contents: &Contents<'_>) -> Result<(), SizeDiffers>
     requires { length contents.now ≡ length (L.form layout.now).sizes }
     ensures ok { OnOk result (AreSized (L.form layout.now).sizes contents.now) }
@@ -60,7 +62,7 @@ fn zero(out: &mut [u8], from: usize, to: usize)
     out[from..to].fill(0);
 }
 
-/// Puts a segment at its place.
+/// Puts a segment at its offset.
 fn put_segment<L: Segmented>(
     layout: &L,
     contents: &Contents<'_>,
@@ -94,7 +96,7 @@ fn put_head<L: Segmented>(layout: &L, stored: u32, out: &mut [u8])
     layout.fill_head(stored, &mut out[..start]);
 }
 
-/// Puts the zeros before a segment, and the segment. Its end.
+/// Puts the zeros before a segment, and the segment. Returns the segment's end.
 fn put_next<L: Segmented>(
     layout: &L,
     contents: &Contents<'_>,
@@ -121,7 +123,11 @@ fn put_next<L: Segmented>(
     segment.place as usize + segment.len as usize
 }
 
-/// Writes an image. After an error the buffer is as it was.
+/// Writes an image into a buffer of its length.
+///
+/// # Errors
+///
+/// `SizeDiffers` has the first file with another size. The buffer is then as it was.
 pub fn write<L: Segmented, C: Checksum>(
     layout: &L,
     contents: &Contents<'_>,

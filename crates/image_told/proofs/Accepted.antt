@@ -13,7 +13,8 @@ use Rattle.image_told.proofs.OfRomfs.{romfs_lawful}
 pub lawful : (all : List ℕ) (limits : Limits) (m : Image) (report : Report) → All (λ b. b < 256) all
     → Shows all limits m report → IsLawfulTree m.tree
 lawful all limits m report h (romfs s) = romfs_lawful all limits.references limits.depth m.tree h s.tree m.coherent
-lawful all limits m report h (cramfs s) = cramfs_lawful (order_of all) all limits.references limits.depth m.tree h s.tree m.coherent
+lawful all limits m report h (cramfs s) =
+    cramfs_lawful (order_of all) all limits.references limits.depth m.tree h s.tree m.coherent
 
 -- the bytes of the image are those that were checked
 pub same_bytes : (all : List ℕ) (limits : Limits) (m : Image) (report : Report) → All (λ b. b < 256) all

@@ -1,12 +1,13 @@
--- Two trees that are alike, whatever the numbers of their nodes. (This project's own.)
+-- `AreAlike`: two trees have the same at each path, and the same paths lead to one node, whatever
+-- the numbers and offsets. (This project's own.)
 use Rattle.std.specs.Prelude.{◌≡◌, ◌↔◌, ℕ, List, Some}
 use Rattle.std.specs.Option.{option_map}
 use Rattle.manifest_tree.specs.Shape.{node_under, node_value}
 use Rattle.rom_tree.specs.Tree.{Node, ino_of}
 
--- The tree t of the bytes a and the tree u of the bytes b: at each path stands the same in both, a
--- node of one kind with the same attributes and bytes, or nothing; and two paths lead to one node
--- in the one exactly where they do in the other.
+-- The tree t of the bytes a and the tree u of the bytes b are alike. At each path both have a node
+-- of one kind with the same attributes and bytes, or both have nothing. Two paths lead to one node
+-- in t exactly if they do in u.
 pub record AreAlike (a : List ℕ) (t : Node) (b : List ℕ) (u : Node) : Type 0 where
   pub values : (q : List (List ℕ))
       → option_map (node_value a) (node_under q t) ≡ option_map (node_value b) (node_under q u)

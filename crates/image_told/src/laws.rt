@@ -1,4 +1,4 @@
-//! What the manifest of an accepted image tells.
+//! Laws on the manifest of an accepted image.
 ghost use Rattle.std.specs.Prelude.{◌≡◌, ◌↔◌, ◌<◌, ◌≤◌, ℕ, List, [], Ok, false, length, map};
 ghost use Rattle.std.specs.List.{All};
 ghost use Rattle.manifest.specs.Grammar.{manifest_of};
@@ -19,16 +19,16 @@ ghost use Rattle.image_manifest.specs.Sources.{file_contents};
 ghost use Rattle.image_manifest.specs.Tellable.{HaveNoZeros, IsLawfulTree, IsToldWhole};
 ghost use Rattle.image_told.specs.Alike.{AreAlike};
 
-/// The tree of an image that the check accepts is one that a manifest can tell: its root is a
-/// directory, names are lawful and stand once in their list, numbers are small, and each directory
+/// Shows that a manifest can describe the tree of an image that the check accepts: its root is a
+/// directory, each name is valid and occurs once in its list, numbers are small, and each directory
 /// has one path.
 pub fn accepted_is_lawful()
     ensures { (all : List ℕ) (limits : Limits) (m : Image) (report : Report)
         → All (λ b. b < 256) all → Shows all limits m report → IsLawfulTree m.tree }
 {}
 
-/// Of an image that the check accepts, the grammar takes the lines exactly where no link's text has
-/// a zero byte and no path has more than 4,095 bytes.
+/// Shows when the grammar accepts the lines of an image that the check accepts: exactly if no
+/// link's text has a zero byte and no path has more than 4,095 bytes.
 pub fn accepted_is_taken()
     ensures { (all : List ℕ) (limits : Limits) (m : Image) (report : Report)
         (volume folder : List ℕ) → All (λ b. b < 256) all → Shows all limits m report
@@ -41,9 +41,9 @@ pub fn accepted_is_taken()
     image_manifest::laws::taken_only_then();
 }
 
-/// The manifest of an image that the check accepts is one, of just the lines of its names, and
-/// means the image's tree, unless a link's text has a zero byte, a path has more than 4,095 bytes,
-/// or the volume's name is no lawful one.
+/// Shows that the manifest of an image that the check accepts is valid, has exactly the lines of
+/// its names, and means the image's tree. No link's text may have a zero byte, no path more than
+/// 4,095 bytes, and the volume's name has to be valid.
 pub fn accepted_is_told()
     ensures { (all : List ℕ) (limits : Limits) (m : Image) (report : Report)
         (volume folder : List ℕ) → All (λ b. b < 256) all → Shows all limits m report
@@ -54,9 +54,9 @@ pub fn accepted_is_told()
     image_manifest::laws::told_whole();
 }
 
-/// The manifest of a checked image, with the volume's name that stands in it, is one, of just the
-/// lines of its names, and means the image's tree, unless a link's text has a zero byte, a path
-/// has more than 4,095 bytes, or the volume's name more than 255.
+/// Shows the same for the manifest of a checked image with the volume's name from the image. No
+/// link's text may have a zero byte, no path more than 4,095 bytes, and the volume's name at most
+/// 255.
 pub fn extracted_is_told()
     ensures { (all : List ℕ) (limits : Limits) (s : AnyImage) (folder : List ℕ)
         → All (λ b. b < 256) all → Shows all limits (any_view s) (report_of s)
@@ -67,9 +67,9 @@ pub fn extracted_is_told()
     accepted_is_told();
 }
 
-/// What is built of the manifest of an image that is told whole, with what its files hold, is like
-/// the image: whatever tree the manifest means has the same at each path, and the same paths share
-/// a file.
+/// Shows that an image built from the manifest of an image that is described whole is like that
+/// image, if the sources have the contents of its files. Whatever tree the manifest means has the
+/// same at each path, and the same paths share a file.
 pub fn built_again_is_alike()
     ensures { (m : Image) (volume folder : List ℕ) → IsToldWhole m volume folder
         → (n : ManifestLines) (bytes : List ℕ) (t : Node)

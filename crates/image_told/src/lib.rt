@@ -1,7 +1,8 @@
-//! What the manifest of an accepted image tells: the image's tree, whole, but where a link's text
-//! has a zero byte, a path is too long, or the volume's name is.
+//! Definitions and laws: the accepted images that their manifest describes whole, and the tree that
+//! it means, which is like the image. A manifest describes an accepted image whole unless a link's
+//! text has a zero byte, a path is too long, or the volume's name is.
 //!
-//! Proved of each format, from what its check shows: names are lawful and stand once in their
+//! Proved for each format, from what its check shows: each name is valid and occurs once in its
 //! list, numbers are small, and each directory has one path (`laws`).
 #![tactic(auto)]
 

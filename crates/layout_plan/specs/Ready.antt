@@ -1,4 +1,5 @@
--- What the plan of a manifest begins with. (This project's own.)
+-- `IsReady`: the results of a plan's first steps: the volume, the root and the rows of a manifest
+-- whose lines fit. (This project's own.)
 use Rattle.std.specs.Prelude.{◌≡◌, ℕ, List}
 use Rattle.record_forest.specs.Faults.{IsNone}
 use Rattle.manifest.specs.Grammar.{IsManifest}
@@ -10,7 +11,8 @@ use Rattle.manifest_tree.specs.Tree.{tree_of, root_of}
 use Rattle.manifest_rows.specs.Rows.{Row, rows}
 
 -- these are the volume, the root and the rows of a manifest whose lines fit
-pub record IsReady (f : Format) (m : ManifestLines) (sizes volume : List ℕ) (root : Inode) (rs : List Row) : Type 0 where
+pub record IsReady (f : Format) (m : ManifestLines) (sizes volume : List ℕ) (root : Inode)
+    (rs : List Row) : Type 0 where
   pub manifest : IsManifest m
   pub lines : IsNone (HasLineMisfit f m sizes)
   pub volume_is : volume ≡ m.volume

@@ -1,4 +1,5 @@
--- What the refusal of a plan says. (This project's own.)
+-- `IsRefusal`: the meaning of a plan's refusal: the least misfit of the manifest, or memory was
+-- refused. (This project's own.)
 use Rattle.std.specs.Prelude.{ℕ, List}
 use Rattle.manifest.specs.Lines.{ManifestLines}
 use Rattle.manifest_layout.specs.Format.{Format}
@@ -9,4 +10,5 @@ use Rattle.layout_plan.specs.declared.error.PlanError.TheVariants as error
 -- the least misfit, at the number of its line; memory may be refused at any call
 abbrev pub IsRefusal : Format → ManifestLines → List ℕ → PlanError → Type 0
 IsRefusal f m sizes error.OutOfMemory = Unit {0}
-IsRefusal f m sizes (error.Refused line number) = IsLeastMisfit f m sizes (record { number = number; at = line })
+IsRefusal f m sizes (error.Refused line number) =
+    IsLeastMisfit f m sizes (record { number = number; at = line })

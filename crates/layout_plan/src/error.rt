@@ -1,4 +1,4 @@
-//! Why a manifest has no plan. The numbers and names are this project's own.
+//! The reasons why a manifest has no plan. The numbers and names are this project's own.
 ghost use Rattle.std.specs.Prelude.{◌≡◌};
 ghost use Rattle.layout_plan.specs.Errors.{name_of_refusal};
 
@@ -6,15 +6,15 @@ use plan_misfits::misfit::{ATTRIBUTE, HARD_LINK, NAME_TOO_LONG, TOO_LARGE};
 use rom_fields::OutOfMemory;
 use std::fmt::{self, Display, Formatter};
 
-/// Why a manifest was not planned: its least misfit, by the number of the line, and there by its
-/// own number, or memory that was refused. Line 0 is the whole.
+/// The reason why a manifest was not planned: its least misfit, by the number of its line and then
+/// by its own number; or memory was refused. Line 0 is the whole.
 #[derive(Clone, Copy, Debug, PartialEq, Eq)]
 pub enum PlanError {
     OutOfMemory,
     Refused { line: u64, number: u32 },
 }
 
-/// The name of the refusal of this number, and `Unknown` for a number that no refusal has.
+/// Returns the name of the refusal of this number, or `Unknown` if no refusal has it.
 pub fn name(number: u32) -> &'static str
     ensures { result.now ≡ name_of_refusal number }
 {
@@ -27,7 +27,7 @@ pub fn name(number: u32) -> &'static str
     }
 }
 
-/// A refusal as `3 NameTooLong at line 2`: its number, its name and its line.
+/// Writes a refusal as `3 NameTooLong at line 2`: its number, its name and its line.
 impl Display for PlanError {
     fn fmt<W: fmt::Write>(&self, f: &mut Formatter<W>) -> fmt::Result {
         match self {

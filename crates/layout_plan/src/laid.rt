@@ -17,7 +17,7 @@ use plan_types::{Format, Item, Laid, Section};
 use rom_fields::OutOfMemory;
 use std::alloc::Global;
 
-/// The layout in romfs of a manifest whose lines fit, and nothing where the whole is too large.
+/// Returns the layout in romfs of a manifest whose lines fit, or nothing if the whole is too large.
 fn place_romfs<'a>(
     alloc: Global,
     volume: &[u8],
@@ -39,7 +39,8 @@ fn place_romfs<'a>(
     Ok(Some(Laid { image_len, items }))
 }
 
-/// The same in cramfs.
+/// Returns the layout in cramfs of a manifest whose lines fit, or nothing if the whole is too
+/// large.
 fn place_cramfs<'a>(
     alloc: Global,
     order: Order,
@@ -58,7 +59,7 @@ fn place_cramfs<'a>(
     cramfs_plan::lay_out(alloc, order, root, rows)
 }
 
-/// The layout of a manifest whose lines fit, and nothing where the whole is too large.
+/// Returns the layout of a manifest whose lines fit, or nothing if the whole is too large.
 pub fn place<'a>(
     alloc: Global,
     format: Format,
@@ -67,11 +68,14 @@ pub fn place<'a>(
     rows: &[Row<'a>],
 ) -> Result<Option<Laid>, OutOfMemory>
     requires { (m : ManifestLines) × (sizes : List ℕ)
-        × IsReady (format_of format) m sizes volume.now (inode_view root.now) (map row_view rows.now) }
+        × IsReady (format_of format) m sizes volume.now (inode_view root.now)
+        (map row_view rows.now) }
     ensures { (m : ManifestLines) (sizes : List ℕ)
-        → IsReady (format_of format) m sizes volume.now (inode_view root.now) (map row_view rows.now)
+        → IsReady (format_of format) m sizes volume.now (inode_view root.now)
+        (map row_view rows.now)
         → IfOk result (λ o. MatchOption o (HasWholeMisfit (format_of format) m sizes)
-        (λ l. HasNoMisfit (format_of format) m sizes × (l.image_len ≡ len_of (format_of format) m sizes)
+        (λ l. HasNoMisfit (format_of format) m sizes
+        × (l.image_len ≡ len_of (format_of format) m sizes)
         × (map item_view l.items.items ≡ items_of (format_of format) m sizes))) }
 {
     match format {
@@ -81,18 +85,22 @@ pub fn place<'a>(
     }
 }
 
-/// The sections of these items.
+/// Returns the sections of these items.
 pub fn sections(
     alloc: Global,
     format: Format,
     volume: &[u8],
     items: &[Item],
 ) -> Result<Vec<Section>, OutOfMemory>
-    requires { (m : ManifestLines) × (sizes : List ℕ) × IsManifest m × HasNoMisfit (format_of format) m sizes
-        × (volume.now ≡ m.volume) × (map item_view items.now ≡ items_of (format_of format) m sizes) }
-    ensures { (m : ManifestLines) (sizes : List ℕ) → IsManifest m → HasNoMisfit (format_of format) m sizes
+    requires { (m : ManifestLines) × (sizes : List ℕ) × IsManifest m
+        × HasNoMisfit (format_of format) m sizes
+        × (volume.now ≡ m.volume) ×
+        (map item_view items.now ≡ items_of (format_of format) m sizes) }
+    ensures { (m : ManifestLines) (sizes : List ℕ) → IsManifest m
+        → HasNoMisfit (format_of format) m sizes
         → volume.now ≡ m.volume → map item_view items.now ≡ items_of (format_of format) m sizes
-        → IfOk result (λ found. map section_view found.items ≡ sections_of (format_of format) m sizes) }
+        → IfOk result (λ found. map section_view found.items
+        ≡ sections_of (format_of format) m sizes) }
 {
     match format {
         Format::Romfs => romfs_plan::sections(alloc, volume, items),

@@ -1,9 +1,10 @@
-//! The plan of an image: from a manifest and the sizes of its sources to the places of all that the
-//! image holds, or the least misfit.
+//! The plan of an image. `plan` returns, from a manifest and the sizes of its sources, the offsets
+//! of all that the image holds in a format, or the least misfit. The crate re-exports `Sources` and
+//! `Slices`.
 //!
-//! `manifest_layout` says what does not fit and what the layout is; `plan_types` says it of a
-//! `Plan`. Proved: a manifest is refused exactly where it has a misfit, and with the least one;
-//! else its plan has the items, the sections and the length of the layout, in each format. Nothing
+//! Proved: a manifest is refused exactly if it has a misfit, and with the least one, unless memory
+//! was refused. Otherwise its plan has the items, the sections and the length of the layout, in
+//! each format. `manifest_layout` defines misfits and layouts, and `plan_types` the plan. Nothing
 //! is written, and no content is read.
 #![tactic(auto)]
 

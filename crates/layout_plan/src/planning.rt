@@ -15,7 +15,7 @@ use plan_types::{Format, Plan};
 use rom_fields::OutOfMemory;
 use std::alloc::Global;
 
-/// A copy of a volume's name.
+/// Returns a copy of a volume's name.
 fn volume_of(alloc: Global, m: &Manifest) -> Result<Name, OutOfMemory>
     ensures { IfOk result (λ name. name ≡ m.now.volume) }
 {
@@ -23,7 +23,7 @@ fn volume_of(alloc: Global, m: &Manifest) -> Result<Name, OutOfMemory>
     Ok(name.into())
 }
 
-/// A copy of the sizes.
+/// Returns a copy of the sizes.
 fn copied(alloc: Global, sizes: &[u64]) -> Result<Vec<u64>, OutOfMemory>
     ensures { IfOk result (λ copy. copy.items ≡ sizes.now) }
 {
@@ -31,13 +31,13 @@ fn copied(alloc: Global, sizes: &[u64]) -> Result<Vec<u64>, OutOfMemory>
     Ok(copy)
 }
 
-/// The places of all that the image of a manifest holds in this format, where its sources have these
-/// sizes, one for each. No content is read. It takes time in n log n for n lines.
+/// Returns the offsets of all that the image of a manifest holds in this format, if its sources
+/// have these sizes, one for each. No content is read. It takes time in n log n for n lines.
 ///
 /// # Errors
 ///
-/// `Refused` exactly where the manifest does not fit the format, with the least misfit;
-/// `OutOfMemory` where memory was refused.
+/// `Refused` exactly if the manifest does not fit the format, with the least misfit, unless memory
+/// was refused first; `OutOfMemory` if memory was refused.
 pub fn plan(alloc: Global, m: &Manifest, sizes: &[u64], format: Format) -> Result<Plan, PlanError>
     requires { length sizes.now ≡ length (sources_of m.now.lines) }
     ensures ok { IfOk result (IsPlanOf (format_of format) m.now sizes.now) }

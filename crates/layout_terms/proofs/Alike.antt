@@ -1,5 +1,6 @@
--- What is there in two trees alike, and files that are told by their line.
-use Rattle.std.proofs.Common.{◌≡◌, ◌≢◌, List, [], ◌∷◌, map, refl, sym, ap, subst, ◌∙◌, inl, inr, Option, Some, None, ◌↔◌}
+-- The nodes of two trees that are alike, and files that are known by their line.
+use Rattle.std.proofs.Common.{◌≡◌, ◌≢◌, List, [], ◌∷◌, map, refl, sym, ap, subst, ◌∙◌, inl, inr, Option, Some, None}
+use Rattle.std.proofs.Common.{◌↔◌}
 use Rattle.std.specs.Option.{option_and_then, option_map}
 use Rattle.std.specs.List.{AllByRecursion as Every}
 use Rattle.record_forest.specs.Members.{Has, Pairs}
@@ -14,7 +15,8 @@ Alike R (Some x) None = ⊥
 Alike R (Some x) (Some y) = R x y
 
 -- what is alike leads to what is alike
-pub then_alike : {X Y Z W : Type 0} (R : X → Y → Type 0) (S : Z → W → Type 0) (f : X → Option Z) (g : Y → Option W) (o : Option X) (k : Option Y)
+pub then_alike : {X Y Z W : Type 0} (R : X → Y → Type 0) (S : Z → W → Type 0) (f : X → Option Z) (g : Y → Option W)
+    (o : Option X) (k : Option Y)
     → Alike R o k → ((x : X) (y : Y) → R x y → Alike S (f x) (g y))
     → Alike S (option_and_then f o) (option_and_then g k)
 then_alike R S f g None None a h = tt
@@ -33,7 +35,7 @@ pub alike_some : {X Y : Type 0} (R : X → Y → Type 0) (o : Option X) (k : Opt
     → o ≡ Some x → k ≡ Some y → R x y
 alike_some R o k x y a e f = subst (λ u. Alike R (Some x) u) f (subst (λ u. Alike R u k) e a)
 
--- two members are one, or stand apart in both
+-- two members are one, or are apart in both
 pub same_both : (xs : List Placed) (x y : Placed) → Pairs (λ (u v : Placed). u.place ≢ v.place) xs
     → Pairs (λ (u v : Placed). u.inode.line ≢ v.inode.line) xs → Has (λ u. u ≡ x) xs → Has (λ u. u ≡ y) xs
     → (x.place ≡ y.place) ↔ (x.inode.line ≡ y.inode.line)

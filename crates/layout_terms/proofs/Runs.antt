@@ -1,4 +1,4 @@
--- Runs of places.
+-- Runs of offsets.
 use Rattle.std.proofs.Common.{◌≡◌, ℕ, ◌*◌, [], refl, sym, ap, ◌∙◌}
 use Rattle.rom_tree.specs.Tree.{row_from}
 use Rattle.rom_tree.proofs.Numbers.{length_row}

@@ -1,4 +1,5 @@
--- The files of names, and the places at which they stand. (This project's own.)
+-- `files`: the files of names, each once. `height`: the depth of the deepest. `Placed`: a file and
+-- the offset of its record. (This project's own.)
 use Rattle.std.specs.Prelude.{ℕ, suc, max, List, [], ◌∷◌, ◌++◌}
 use Rattle.manifest_tree.specs.Names.{Inode, Names, nothing, leaf, link, folder}
 
@@ -16,7 +17,7 @@ height (leaf name i after) = max 1 (height after)
 height (link name i after) = max 1 (height after)
 height (folder name i own after) = max (suc (height own)) (height after)
 
--- a file and where its record stands
+-- a file and the offset of its record
 pub record Placed : Type 0 where
   pub inode : Inode
   pub place : ℕ

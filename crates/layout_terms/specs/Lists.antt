@@ -1,5 +1,6 @@
--- Names that may stand in the list of a directory, in an image of any format. (This project's own; that a name has no
--- slash and no zero byte, and at most 255 bytes, is POSIX.1-2017, 3.170 "Filename" and NAME_MAX as Linux has it.)
+-- `IsFree`: a name that may be in a list of a directory, in an image of any format. `IsName`: a
+-- name. (This project's own. A name has no slash, no zero byte and at most 255 bytes: POSIX.1-2017,
+-- 3.170 "Filename", and NAME_MAX as Linux has it.)
 use Rattle.std.specs.Prelude.{◌≡◌, ◌≢◌, ℕ, ◌<◌, false, List, length, ◌⊎◌}
 use Rattle.std.specs.List.{AllByRecursion as Every, Contains}
 use Rattle.rom_tree.specs.Dots.{is_dots}
@@ -19,7 +20,7 @@ StandsIn m (leaf name i after) = (m ≡ name) ⊎ StandsIn m after
 StandsIn m (link name i after) = (m ≡ name) ⊎ StandsIn m after
 StandsIn m (folder name i own after) = (m ≡ name) ⊎ StandsIn m after
 
--- a name that may stand in a list before these: neither `.` nor `..`, and none of them
+-- a name that may be in a list before these: neither `.` nor `..`, and none of them
 pub record IsFree (name : List ℕ) (after : Names) : Type 0 where
   pub written : IsName name
   pub no_dots : is_dots name ≡ false

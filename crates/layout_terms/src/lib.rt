@@ -1,3 +1,3 @@
-//! What the layouts of both formats are told by: the names that a list may have, the files of a
-//! tree of names with their places, and the items and sections of a planned image.
+//! Definitions that layouts of any format have: the names that a list may have, the files of a tree
+//! of names with their offsets, and the items and sections of a planned image.
 #![tactic(auto)]

@@ -1,5 +1,6 @@
 -- What a map has of the first file of each table, while names are gone over.
-use Rattle.std.proofs.Common.{◌≡◌, ◌≢◌, ◌==◌, ◌&&◌, cond, not, ℕ, true, false, Bool, Option, Some, None, inl, inr, refl, sym, ap, ◌∙◌, arith, List, [], ◌∷◌}
+use Rattle.std.proofs.Common.{◌≡◌, ◌≢◌, ◌==◌, ◌&&◌, cond, not, ℕ, true, false, Bool, Option, Some, None, inl, inr, refl}
+use Rattle.std.proofs.Common.{sym, ap, ◌∙◌, arith, List, [], ◌∷◌}
 use Rattle.std.proofs.lemmas.Bool.{cases_lt, lt-ltb, le-ltb, true≢false, ne_eqb}
 use Rattle.std.proofs.lemmas.Bool.Decides.{eqb_tells}
 use Rattle.std.specs.BTreeMap.{BTreeMap, get, Updates, is_at}
@@ -9,7 +10,8 @@ use Rattle.rom_tree.specs.Tree.{Node, ino_of}
 use Rattle.rom_tree.specs.Names.{Name}
 use Rattle.cramfs_image.specs.declared.image.Cramfs.{Cramfs}
 use Rattle.linux_misreads.specs.declared.known.Known.{Known}
-use Rattle.linux_misreads.specs.Tables.{has_table, number_in, known_of, either, one_known, first_known, is_same, is_other_file, AreFirst}
+use Rattle.linux_misreads.specs.Tables.{has_table, number_in, known_of, either, one_known, first_known, is_same}
+use Rattle.linux_misreads.specs.Tables.{is_other_file, AreFirst}
 
 at_is : (p q : ℕ) → is_at (nat_cmp p) q ≡ (p == q)
 at_is p q =
@@ -19,12 +21,14 @@ at_is p q =
     ]
 
 -- nothing is noted of a node without a table
-pub nothing_noted : (s : Cramfs) (x : Node) (t : ℕ) (g : Option Known) → has_table x ≡ false → g ≡ either g (one_known s t x)
+pub nothing_noted : (s : Cramfs) (x : Node) (t : ℕ) (g : Option Known) → has_table x ≡ false
+    → g ≡ either g (one_known s t x)
 nothing_noted s x t None h = rw h refl
 nothing_noted s x t (Some k) h = refl
 
 -- nor of one whose table is noted
-pub noted_before : (s : Cramfs) (x : Node) (m : BTreeMap ℕ Known) (p : ℕ) → p ≡ number_in s (ino_of x) → true ≡ is_some (get nat_cmp m p) → (t : ℕ)
+pub noted_before : (s : Cramfs) (x : Node) (m : BTreeMap ℕ Known) (p : ℕ) → p ≡ number_in s (ino_of x)
+    → true ≡ is_some (get nat_cmp m p) → (t : ℕ)
     → get nat_cmp m t ≡ either (get nat_cmp m t) (one_known s t x)
 noted_before s x m p e h t = there (get nat_cmp m t) refl
   where
@@ -48,8 +52,10 @@ noted_before s x m p e h t = there (get nat_cmp m t) refl
         ]
 
 -- the first of a table is noted
-pub noted_now : (s : Cramfs) (x : Node) (old new : BTreeMap ℕ Known) (p : ℕ) (k : Known) → has_table x ≡ true → p ≡ number_in s (ino_of x) → k ≡ known_of x
-    → false ≡ is_some (get nat_cmp old p) → Updates nat_cmp old new p (Some k) → (t : ℕ) → get nat_cmp new t ≡ either (get nat_cmp old t) (one_known s t x)
+pub noted_now : (s : Cramfs) (x : Node) (old new : BTreeMap ℕ Known) (p : ℕ) (k : Known) → has_table x ≡ true
+    → p ≡ number_in s (ino_of x) → k ≡ known_of x
+    → false ≡ is_some (get nat_cmp old p) → Updates nat_cmp old new p (Some k) → (t : ℕ)
+    → get nat_cmp new t ≡ either (get nat_cmp old t) (one_known s t x)
 noted_now s x old new p k h e i f u t =
     u.0 t ∙ (ap (λ (b : Bool). cond b (Some k) (get nat_cmp old t)) (at_is p t) ∙ by_place)
   where
@@ -74,24 +80,29 @@ noted_now s x old new p k h e i f u t =
         ]
 
 -- one name more
-pub more_firsts : (s : Cramfs) (old new : BTreeMap ℕ Known) (all : List Name) (n : Name) (before after : List Name) → before ≡ n ∷ after
+pub more_firsts : (s : Cramfs) (old new : BTreeMap ℕ Known) (all : List Name) (n : Name) (before after : List Name)
+    → before ≡ n ∷ after
     → ((t : ℕ) → get nat_cmp new t ≡ either (get nat_cmp old t) (one_known s t n.node))
     → ((t : ℕ) → either (get nat_cmp old t) (first_known s t before) ≡ first_known s t all)
     → (t : ℕ) → either (get nat_cmp new t) (first_known s t after) ≡ first_known s t all
 more_firsts s old new all n before after e u h t =
     ap (λ (g : Option Known). either g (first_known s t after)) (u t)
-    ∙ (joined (get nat_cmp old t) ∙ (ap (λ (ns : List Name). either (get nat_cmp old t) (first_known s t ns)) (sym e) ∙ h t))
+    ∙ (joined (get nat_cmp old t) ∙ (ap (λ (ns : List Name). either (get nat_cmp old t) (first_known s t ns)) (sym e)
+    ∙ h t))
   where
-    joined : (g : Option Known) → either (either g (one_known s t n.node)) (first_known s t after) ≡ either g (either (one_known s t n.node) (first_known s t after))
+    joined : (g : Option Known) → either (either g (one_known s t n.node)) (first_known s t after)
+        ≡ either g (either (one_known s t n.node) (first_known s t after))
     joined None = refl
     joined (Some k) = refl
 
 -- before the first name
-pub no_firsts : (s : Cramfs) (m : BTreeMap ℕ Known) (all ns : List Name) → m.entries ≡ [] → ns ≡ all → (t : ℕ) → either (get nat_cmp m t) (first_known s t ns) ≡ first_known s t all
+pub no_firsts : (s : Cramfs) (m : BTreeMap ℕ Known) (all ns : List Name) → m.entries ≡ [] → ns ≡ all → (t : ℕ)
+    → either (get nat_cmp m t) (first_known s t ns) ≡ first_known s t all
 no_firsts s m all ns e i t = rw (e, i) refl
 
 -- behind the last
-pub all_firsts : (s : Cramfs) (m : BTreeMap ℕ Known) (all ns : List Name) → ns ≡ [] → ((t : ℕ) → either (get nat_cmp m t) (first_known s t ns) ≡ first_known s t all) → AreFirst s all m
+pub all_firsts : (s : Cramfs) (m : BTreeMap ℕ Known) (all ns : List Name) → ns ≡ []
+    → ((t : ℕ) → either (get nat_cmp m t) (first_known s t ns) ≡ first_known s t all) → AreFirst s all m
 all_firsts s m all ns e h t =
     whole (get nat_cmp m t) ∙ (ap (λ (v : List Name). either (get nat_cmp m t) (first_known s t v)) (sym e) ∙ h t)
   where
@@ -100,16 +111,21 @@ all_firsts s m all ns e h t =
     whole (Some k) = refl
 
 -- a node whose table the map has
-pub other_file : (s : Cramfs) (ns : List Name) (m : BTreeMap ℕ Known) (x : Node) (p : ℕ) (kept own : Known) (same : Bool) → AreFirst s ns m → has_table x ≡ true
-    → p ≡ number_in s (ino_of x) → get nat_cmp m p ≡ Some kept → own ≡ known_of x → same ≡ is_same kept own → not same ≡ is_other_file s ns x
+pub other_file : (s : Cramfs) (ns : List Name) (m : BTreeMap ℕ Known) (x : Node) (p : ℕ) (kept own : Known)
+    (same : Bool) → AreFirst s ns m → has_table x ≡ true
+    → p ≡ number_in s (ino_of x) → get nat_cmp m p ≡ Some kept → own ≡ known_of x → same ≡ is_same kept own
+    → not same ≡ is_other_file s ns x
 other_file s ns m x p kept own same a h e g o i =
-    let f : first_known s (number_in s (ino_of x)) ns ≡ Some kept = sym (a (number_in s (ino_of x))) ∙ (ap (get nat_cmp m) (sym e) ∙ g) in
+    let f : first_known s (number_in s (ino_of x)) ns ≡ Some kept =
+    sym (a (number_in s (ino_of x))) ∙ (ap (get nat_cmp m) (sym e) ∙ g) in
     rw (h, f, i, o) refl
 
-pub no_other_file : (s : Cramfs) (ns : List Name) (m : BTreeMap ℕ Known) (x : Node) (p : ℕ) → AreFirst s ns m → p ≡ number_in s (ino_of x) → get nat_cmp m p ≡ None
+pub no_other_file : (s : Cramfs) (ns : List Name) (m : BTreeMap ℕ Known) (x : Node) (p : ℕ) → AreFirst s ns m
+    → p ≡ number_in s (ino_of x) → get nat_cmp m p ≡ None
     → false ≡ is_other_file s ns x
 no_other_file s ns m x p a e g =
-    let f : first_known s (number_in s (ino_of x)) ns ≡ None = sym (a (number_in s (ino_of x))) ∙ (ap (get nat_cmp m) (sym e) ∙ g) in
+    let f : first_known s (number_in s (ino_of x)) ns ≡ None =
+    sym (a (number_in s (ino_of x))) ∙ (ap (get nat_cmp m) (sym e) ∙ g) in
     rw f (last (has_table x))
   where
     last : (b : Bool) → false ≡ (b && false)

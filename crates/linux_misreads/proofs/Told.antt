@@ -28,18 +28,21 @@ or_one true = refl
 or_one false = refl
 
 -- some lines and then others
-pub tells_chain : {r s t : Sink} {x y z : Bool} {a b : List ℕ} → Tells r s x y a → Tells s t y z b → Tells r t x z (a ++ b)
+pub tells_chain : {r s t : Sink} {x y z : Bool} {a b : List ℕ} → Tells r s x y a → Tells s t y z b
+    → Tells r t x z (a ++ b)
 tells_chain {r} {s} {t} {x} {y} {z} {a} {b} h k = record {
   puts = chain h.puts k.puts;
   told = k.told ∙ (ap (λ (v : Bool). v || is_told b) h.told ∙ or_more x a b);
 }
 
 -- lines that were told for one value were told for an equal one
-pub tells_by : {A : Type 0} {s t : Sink} {x y : Bool} (f : A → List ℕ) {u v : A} → u ≡ v → Tells s t x y (f u) → Tells s t x y (f v)
+pub tells_by : {A : Type 0} {s t : Sink} {x y : Bool} (f : A → List ℕ) {u v : A} → u ≡ v → Tells s t x y (f u)
+    → Tells s t x y (f v)
 tells_by {A} {s} {t} {x} {y} f {u} {v} e h = subst (λ (w : A). Tells s t x y (f w)) e h
 
 -- what was told of lines that were done, and of those behind them
-pub told_more : (done lines : List ℕ) (x y : Bool) → x ≡ is_told done → y ≡ (x || is_told lines) → y ≡ is_told (done ++ lines)
+pub told_more : (done lines : List ℕ) (x y : Bool) → x ≡ is_told done → y ≡ (x || is_told lines)
+    → y ≡ is_told (done ++ lines)
 told_more done lines x y h k = k ∙ (ap (λ (v : Bool). v || is_told lines) h ∙ both done)
   where
     both : (v : List ℕ) → (is_told v || is_told lines) ≡ is_told (v ++ lines)

@@ -1,7 +1,11 @@
--- The files that Linux's cramfs takes for one another: it numbers a file or a link that is not empty by the place of
--- its table, and keeps one of each number, the first that is looked up. (Linux fs/cramfs/inode.c, `cramino` and
--- `get_cramfs_inode`.)
-use Rattle.std.specs.Prelude.{◌≡◌, ℕ, ◌==◌, ◌&&◌, ◌||◌, nat_lt, not, Bool, false, if◌then◌else◌, List, [], ◌∷◌, length, Option, Some, None}
+-- `is_other_file`: Linux has another file under the number of a node, which is the offset of its
+-- table. `AreFirst`: a map has the first file of each number. (Linux fs/cramfs/inode.c, `cramino`
+-- and `get_cramfs_inode`.)
+--
+-- Linux's cramfs numbers a file or a link that is not empty by the offset of its table. It keeps
+-- one file of each number, the first that is looked up.
+use Rattle.std.specs.Prelude.{◌≡◌, ℕ, ◌==◌, ◌&&◌, ◌||◌, nat_lt, not, Bool, false, if◌then◌else◌}
+use Rattle.std.specs.Prelude.{List, [], ◌∷◌, length, Option, Some, None}
 use Rattle.std.specs.BTreeMap.{BTreeMap, get}
 use Rattle.std.specs.Ordering.{nat_cmp}
 use Rattle.rom_tree.specs.Tree.{Node, attributes_of, ino_of, is_link, is_regular, places_of}
@@ -20,7 +24,7 @@ use Rattle.linux_misreads.specs.declared.known.Known.{Known}
 abbrev pub view : Cramfs → Image
 view s = any_view (InCramfs s)
 
--- and a romfs image
+-- a romfs image, as the layers above see it
 abbrev pub romfs_view : RomfsImage → Image
 romfs_view s = any_view (Romfs s)
 
@@ -28,11 +32,11 @@ romfs_view s = any_view (Romfs s)
 abbrev pub has_table : Node → Bool
 has_table x = (is_regular x || is_link x) && nat_lt 0 (length (places_of x))
 
--- the number that Linux gives the node of this inode
+-- the number in Linux of the node of this inode
 abbrev pub number_in : Cramfs → ℕ → ℕ
 number_in s n = file_number (order_in s) s.all.now n
 
--- what is kept of a node
+-- the facts that are kept of a node
 abbrev pub known_of : Node → Known
 known_of x = record {
   link = is_link x;
@@ -47,16 +51,16 @@ is_same a b =
     (if a.link then b.link else not b.link)
     && ((a.mode == b.mode) && ((a.uid == b.uid) && ((a.gid == b.gid) && (a.size == b.size))))
 
--- the first of the two that is there
+-- the first of the two, or the second if there is no first
 abbrev pub either : {A : Type 0} → Option A → Option A → Option A
 either None y = y
 either (Some x) y = Some x
 
--- what is kept of a node, if its number is t
+-- the facts that are kept of a node, if its number is t
 abbrev pub one_known : Cramfs → ℕ → Node → Option Known
 one_known s t x = if has_table x && (number_in s (ino_of x) == t) then Some (known_of x) else None
 
--- what is kept of the first of these names whose number is t
+-- the facts that are kept of the first of these names whose number is t
 abbrev pub first_known : Cramfs → ℕ → List Name → Option Known
 first_known s t [] = None
 first_known s t (n ∷ ns) = either (one_known s t n.node) (first_known s t ns)
@@ -65,15 +69,17 @@ abbrev pub is_other : Known → Option Known → Bool
 is_other k None = false
 is_other k (Some f) = not (is_same f k)
 
--- Linux has another file under the number of this node: the first of these names with its number is not the same
+-- Linux has another file under the number of this node: the first of these names with its number is
+-- not the same
 abbrev pub is_other_file : Cramfs → List Name → Node → Bool
-is_other_file s ns x = has_table x && is_other (known_of x) (first_known s (number_in s (ino_of x)) ns)
+is_other_file s ns x =
+    has_table x && is_other (known_of x) (first_known s (number_in s (ino_of x)) ns)
 
--- a map has, for each number, what is kept of the first of these names
+-- a map has, for each number, the facts that are kept of the first of these names
 abbrev pub AreFirst : Cramfs → List Name → BTreeMap ℕ Known → Type 0
 AreFirst s ns m = (t : ℕ) → get nat_cmp m t ≡ first_known s t ns
 
--- and of all names of an image, where it has tables
+-- the same for all names of an image, if it has tables
 abbrev pub AreFirstOf : AnyImage → BTreeMap ℕ Known → Type 0
 AreFirstOf (Romfs s) m = Unit {0}
 AreFirstOf (InCramfs s) m = AreFirst s (names (view s).tree) m

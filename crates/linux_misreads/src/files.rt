@@ -6,7 +6,8 @@ ghost use Rattle.rom_tree.specs.Tree.{Node, levels};
 ghost use Rattle.rom_tree.specs.Image.{image_node, HasNode};
 ghost use Rattle.rom_tree.specs.Names.{names};
 ghost use Rattle.image_check.specs.Any.{any_view};
-ghost use Rattle.linux_misreads.specs.Tables.{AreFirst, AreFirstOf, either, one_known, number_in, view};
+ghost use Rattle.linux_misreads.specs.Tables.{AreFirst, AreFirstOf, either, one_known, number_in};
+ghost use Rattle.linux_misreads.specs.Tables.{view};
 
 use crate::inodes::{offset_field, size_field, type_field};
 use crate::known::{Known, is_known_by_table, kept_of};
@@ -17,8 +18,8 @@ use rom_tree::{NodeId, TreeImage, Walk};
 use std::alloc::Global;
 use std::collections::BTreeMap;
 
-/// The number that Linux gives a node: where its data are, if it has any, and else one above the
-/// place of its inode.
+/// The number of a node in Linux: the offset of its data if it has any, otherwise one more than the
+/// offset of its inode.
 pub(crate) fn number_of(image: &Cramfs<'_>, n: NodeId) -> u32
     requires { HasNode (view image.now) n.0 }
     ensures { result ≡ number_in image.now n.0 }
@@ -34,11 +35,12 @@ pub(crate) fn number_of(image: &Cramfs<'_>, n: NodeId) -> u32
     n.0 + 1
 }
 
-/// Notes what is kept of a node, where it is known by a table of which nothing is noted yet.
+/// Notes what Linux keeps of a node, if Linux knows the node by its table and nothing is noted for
+/// the table yet.
 ///
 /// # Errors
 ///
-/// `OutOfMemory` where memory was refused.
+/// `OutOfMemory` if memory is refused.
 fn note(first: &mut BTreeMap<u32, Known>, image: &Cramfs<'_>, n: NodeId) -> Result<(), OutOfMemory>
     requires { HasNode (view image.now) n.0 }
     ensures { IfOk result (λ _. (x : Node)
@@ -55,11 +57,11 @@ fn note(first: &mut BTreeMap<u32, Known>, image: &Cramfs<'_>, n: NodeId) -> Resu
     Ok(())
 }
 
-/// What Linux keeps of the first file of each table.
+/// The facts that Linux keeps of the first file of each table.
 ///
 /// # Errors
 ///
-/// `OutOfMemory` where memory was refused.
+/// `OutOfMemory` if memory is refused.
 fn first_of_tables(alloc: Global, image: &Cramfs<'_>) -> Result<BTreeMap<u32, Known>, OutOfMemory>
     requires { levels (view image.now).tree ≤ 65 }
     ensures { IfOk result (λ m. AreFirst image.now
@@ -73,11 +75,12 @@ fn first_of_tables(alloc: Global, image: &Cramfs<'_>) -> Result<BTreeMap<u32, Kn
     Ok(first)
 }
 
-/// What Linux keeps of the first file of each table of a cramfs image. romfs has no tables.
+/// The facts that Linux keeps of the first file of each table of a cramfs image. romfs has no
+/// tables.
 ///
 /// # Errors
 ///
-/// `OutOfMemory` where memory was refused.
+/// `OutOfMemory` if memory is refused.
 pub(crate) fn first_files(
     alloc: Global,
     image: &AnyImage<'_>,

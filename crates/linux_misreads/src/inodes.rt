@@ -9,7 +9,7 @@ use cramfs_format::inode;
 use cramfs_image::Cramfs;
 use rom_tree::{NodeId, TreeImage};
 
-/// The type, the upper four of the sixteen bits of the mode.
+/// The type: the upper four of the sixteen bits of the mode.
 pub(crate) fn type_field(image: &Cramfs<'_>, n: NodeId) -> u32
     requires { HasNode (view image.now) n.0 }
     ensures { result ≡ type_of (order_in image.now) image.now.all.now n.0 }
@@ -18,7 +18,7 @@ pub(crate) fn type_field(image: &Cramfs<'_>, n: NodeId) -> u32
     inode::type_at(order, image.bytes(), n.0 as usize)
 }
 
-/// The size, which is that of a device's numbers too.
+/// The size, or the numbers of a device.
 pub(crate) fn size_field(image: &Cramfs<'_>, n: NodeId) -> u32
     requires { HasNode (view image.now) n.0 }
     ensures { result ≡ size_of (order_in image.now) image.now.all.now n.0 }
@@ -27,7 +27,7 @@ pub(crate) fn size_field(image: &Cramfs<'_>, n: NodeId) -> u32
     inode::size_at(order, image.bytes(), n.0 as usize)
 }
 
-/// How many bytes the name takes with its padding.
+/// The length of the name with its padding, in bytes.
 pub(crate) fn name_room_at(image: &Cramfs<'_>, n: NodeId) -> u32
     requires { HasNode (view image.now) n.0 }
     ensures { result ≡ name_room (order_in image.now) image.now.all.now n.0 }
@@ -36,7 +36,7 @@ pub(crate) fn name_room_at(image: &Cramfs<'_>, n: NodeId) -> u32
     inode::room_at(order, image.bytes(), n.0 as usize)
 }
 
-/// Where its list or its block pointers are.
+/// The offset of its list or its block pointers.
 pub(crate) fn offset_field(image: &Cramfs<'_>, n: NodeId) -> u32
     requires { HasNode (view image.now) n.0 }
     ensures { result ≡ offset_of (order_in image.now) image.now.all.now n.0 }

@@ -1,4 +1,4 @@
-//! What Linux's cramfs keeps of a file under its number.
+//! The facts that Linux's cramfs keeps of a file under its number.
 ghost use Rattle.std.specs.Prelude.{◌≡◌, Some, not, if◌then◌else◌};
 ghost use Rattle.rom_tree.specs.Tree.{Node};
 ghost use Rattle.rom_tree.specs.Image.{image_node, HasNode};
@@ -6,7 +6,8 @@ ghost use Rattle.linux_misreads.specs.Tables.{has_table, is_same, known_of};
 
 use rom_tree::{NodeId, TreeImage, is_link_at, is_regular_at};
 
-/// What Linux keeps of a regular file or of a link, and gives for each name with the same number.
+/// The facts that Linux keeps of a regular file or of a link, and reports for each name with the
+/// same number.
 #[derive(Clone, Copy)]
 pub struct Known {
     pub link: bool,
@@ -16,7 +17,7 @@ pub struct Known {
     pub size: u32,
 }
 
-/// What is kept of a node.
+/// The facts that are kept of a node.
 pub(crate) fn kept_of<'a, T: TreeImage<'a>>(image: &T, n: NodeId) -> Known
     requires { HasNode (T.image image.now) n.0 }
     ensures { (x : Node) → image_node (T.image image.now) n.0 ≡ Some x → result ≡ known_of x }
@@ -31,14 +32,14 @@ pub(crate) fn kept_of<'a, T: TreeImage<'a>>(image: &T, n: NodeId) -> Known
     }
 }
 
-/// Whether both are links, or none of them is.
+/// Whether both are links, or neither is.
 fn are_of_one_kind(a: bool, b: bool) -> bool
     ensures { result ≡ (if a then b else not b) }
 {
     if a { b } else { !b }
 }
 
-/// Whether the same is kept of two files.
+/// Whether the facts kept of two files are the same.
 pub(crate) fn is_same_file(a: Known, b: Known) -> bool
     ensures { result ≡ is_same a b }
 {
@@ -46,7 +47,8 @@ pub(crate) fn is_same_file(a: Known, b: Known) -> bool
         && (a.mode == b.mode && (a.uid == b.uid && (a.gid == b.gid && a.size == b.size)))
 }
 
-/// Whether Linux knows a node by the place of its table: a regular file or a link that is not empty.
+/// Whether Linux knows a node by the offset of its table: a regular file or a link that is not
+/// empty.
 pub(crate) fn is_known_by_table<'a, T: TreeImage<'a>>(image: &T, n: NodeId) -> bool
     requires { HasNode (T.image image.now) n.0 }
     ensures { (x : Node) → image_node (T.image image.now) n.0 ≡ Some x → result ≡ has_table x }

@@ -1,49 +1,54 @@
-//! Laws over the definitions of what is misread, which have no code of their own.
-ghost use Rattle.std.specs.Prelude.{◌≡◌, ◌≢◌, ◌<◌, ◌≤◌, ◌+◌, ◌*◌, ◌/◌, ◌%◌, ◌^◌, ◌==◌, ◌↔◌, nat_lt, not, true, ℕ, List, length};
+//! Laws of the definitions of what Linux misreads.
+ghost use Rattle.std.specs.Prelude.{◌≡◌, ◌≢◌, ◌<◌, ◌≤◌, ◌+◌, ◌*◌, ◌/◌, ◌%◌, ◌^◌, ◌==◌, ◌↔◌, nat_lt};
+ghost use Rattle.std.specs.Prelude.{not, true, ℕ, List, length};
 ghost use Rattle.rom_tree.specs.Tree.{Node, is_regular, places_of};
 ghost use Rattle.romfs_format.specs.Record.{end_of, name_of, pad16};
 ghost use Rattle.cramfs_format.specs.Inode.{block_count, block_len};
-ghost use Rattle.linux_misreads.specs.Readers.{device_number, names_device, old_device, listed_len, romfs_data, romfs_finds, romfs_root, page_filled};
+ghost use Rattle.linux_misreads.specs.Readers.{device_number, names_device, old_device, listed_len};
+ghost use Rattle.linux_misreads.specs.Readers.{romfs_data, romfs_finds, romfs_root, page_filled};
 ghost use Rattle.linux_misreads.specs.Differences.{is_cut_name};
 ghost use Rattle.linux_misreads.specs.Misreads.{ends_with_a_block};
 
-/// A regular file ends with a whole block exactly if Linux fills some page of it with another number
-/// of bytes than the file has there.
+/// States that a regular file ends with a whole block exactly if Linux fills some page of it with
+/// another number of bytes than the file has there.
 pub fn last_block()
     ensures { (x : Node) → is_regular x ≡ true → (ends_with_a_block x ≡ true)
         ↔ ((i : ℕ) × (i < block_count (length (places_of x)))
         × (page_filled (length (places_of x)) i ≢ block_len (length (places_of x)) i)) }
 {}
 
-/// Linux takes another place than the one behind the volume's name for the root exactly if the name
-/// has more than 143 bytes.
+/// States that Linux uses another offset for the root than the one behind the volume's name exactly
+/// if the name has more than 143 bytes.
 pub fn long_volume()
     ensures { (volume : List ℕ) → (romfs_root volume ≢ 16 + pad16 (length volume + 1))
         ↔ (143 < length volume) }
 {}
 
-/// A name of romfs is cut exactly if it has 128 bytes, and not found exactly if it has more.
+/// States that a name of romfs is cut exactly if it has 128 bytes, and not found exactly if it has
+/// more.
 pub fn long_names()
     ensures cut { (name : List ℕ) → is_cut_name name ≡ (length name == 128) }
     ensures lost { (name : List ℕ) → not (romfs_finds name) ≡ nat_lt 128 (length name) }
 {}
 
-/// Linux reads the data of a record of romfs from another place than the record's end exactly if its
-/// name has more than 143 bytes.
+/// States that Linux reads the data of a romfs record from another offset than the record's end
+/// exactly if its name has more than 143 bytes.
 #[tactic(auto, unfolding(romfs_format::specs::Record::end_of, romfs_format::specs::Record::name_of))]
 pub fn long_records()
     ensures { (b : List ℕ) (p : ℕ) → (romfs_data b p ≢ end_of b p) ↔ (143 < length (name_of b p)) }
 {}
 
-/// A device of romfs keeps its numbers exactly if its major number is below 4,096.
+/// States that a device of romfs keeps its numbers exactly if its major number is below 4,096.
 pub fn romfs_devices()
     ensures { (spec : ℕ) → spec < 2 ^ 32
-        → (names_device (device_number (spec / 2 ^ 16) (spec % 2 ^ 16)) (spec / 2 ^ 16) (spec % 2 ^ 16)
+        → (names_device (device_number (spec / 2 ^ 16) (spec % 2 ^ 16)) (spec / 2 ^ 16)
+        (spec % 2 ^ 16)
         ≡ true) ↔ (spec / 2 ^ 16 < 4096) }
 {}
 
-/// A device of cramfs keeps its numbers exactly if its major number is below 256.
+/// States that a device of cramfs keeps its numbers exactly if its major number is below 256.
 pub fn cramfs_devices()
     ensures { (size : ℕ) → size < 2 ^ 24
-        → (names_device (old_device size) (size / 2 ^ 8) (size % 2 ^ 8) ≡ true) ↔ (size / 2 ^ 8 < 256) }
+        → (names_device (old_device size) (size / 2 ^ 8) (size % 2 ^ 8) ≡ true)
+        ↔ (size / 2 ^ 8 < 256) }
 {}

@@ -1,9 +1,10 @@
-//! What Linux's readers get wrong of a sound image.
+//! `misreads`: the things that Linux's readers misread in a valid image. It writes a line if the
+//! volume's name is too long, and for each name of the tree a line for each thing that is misread
+//! in it, in the list's order.
 //!
-//! `specs/Readers.antt` restates Linux's readers where they do not keep to the format, and
-//! `specs/Misreads.antt` says what is told: a line for a volume's name that is too long, and for each
-//! name of the tree a line for each thing that is read wrongly of it, in the list's order. Proved:
-//! `misreads` writes exactly that text, or a prefix of it if the writer failed.
+//! Proved: `misreads` writes exactly the text of `specs/Misreads.antt`, or a prefix of it if the
+//! writer failed, or nothing if memory was refused. `specs/Readers.antt` restates Linux's readers
+//! for the cases in which they do not keep to the format.
 #![tactic(auto)]
 
 mod differences;

@@ -6,8 +6,10 @@ ghost use Rattle.rom_tree.specs.Image.{image_node, HasNode};
 ghost use Rattle.rom_tree.specs.Names.{named, names};
 ghost use Rattle.rom_tree.specs.Walks.{given_path, given_name};
 ghost use Rattle.image_check.specs.Any.{any_view};
-ghost use Rattle.linux_misreads.specs.Tables.{AreFirst, AreFirstOf, is_other_file, romfs_view, view};
-ghost use Rattle.linux_misreads.specs.Misreads.{cramfs_name, ends_with_a_block, misread_line, name_misreads, romfs_name, Tells};
+ghost use Rattle.linux_misreads.specs.Tables.{AreFirst, AreFirstOf, is_other_file, romfs_view};
+ghost use Rattle.linux_misreads.specs.Tables.{view};
+ghost use Rattle.linux_misreads.specs.Misreads.{cramfs_name, ends_with_a_block, misread_line};
+ghost use Rattle.linux_misreads.specs.Misreads.{name_misreads, romfs_name, Tells};
 
 use crate::differences::{
     is_cut_link, is_cut_name, is_not_found, is_other_cramfs_device, is_other_romfs_device,
@@ -23,8 +25,8 @@ use rom_tree::{NodeId, TreeImage, Walk, is_regular_at};
 use romfs_image::Romfs;
 use std::collections::BTreeMap;
 
-/// Puts a line if something is misread: a text, the path of the node that a walk gave last, and a
-/// line feed.
+/// Puts a line if something is misread: a text, the path of the node that a walk returned last, and
+/// a line feed.
 fn put_line<'a, W: ByteWrite>(
     is_misread: bool,
     text: &[u8],
@@ -55,7 +57,7 @@ fn is_in_whole_blocks<'a, T: TreeImage<'a>>(image: &T, n: NodeId) -> bool
     is_regular_at(image, n) && (0 < size && size % 4096 == 0)
 }
 
-/// Whether Linux takes a node for another file, whose table it has.
+/// Whether Linux reads another file for a node, because that file has the node's table.
 fn is_taken_for_another(image: &Cramfs<'_>, first: &BTreeMap<u32, Known>, n: NodeId) -> bool
     requires node { HasNode (view image.now) n.0 }
     requires first { AreFirst image.now
@@ -132,7 +134,7 @@ fn put_romfs_name<'a, W: ByteWrite>(
     put_line(is_elsewhere, b"linux 10 OtherPlace ", w, failed, told, walk);
 }
 
-/// Puts the lines of the node that a walk gave last, if Linux misreads it.
+/// Puts the lines of the node that a walk returned last, if Linux misreads it.
 pub(crate) fn put_misreads<'a, W: ByteWrite>(
     image: &AnyImage<'a>,
     first: &BTreeMap<u32, Known>,

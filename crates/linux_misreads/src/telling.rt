@@ -1,4 +1,4 @@
-//! All that Linux gets wrong of an image.
+//! All that Linux misreads in an image.
 ghost use Rattle.std.specs.Prelude.{◌≡◌, ◌≤◌, IfOk};
 ghost use Rattle.rom_fields.specs.Written.{Puts, sink};
 ghost use Rattle.rom_tree.specs.Tree.{levels};
@@ -15,8 +15,8 @@ use rom_fields::{ByteWrite, put};
 use rom_tree::Walk;
 use std::alloc::Global;
 
-/// Puts the line of a volume's name, if Linux takes a place within it for the root, and says whether
-/// it does.
+/// Puts the line of a volume's name if Linux uses an offset within the name for the root. Returns
+/// whether it does.
 fn put_volume<W: ByteWrite>(image: &AnyImage<'_>, w: &mut W, failed: &mut bool) -> bool
     ensures puts { Puts (sink (W.output w.old) failed.old) (sink (W.output w.new) failed.new)
         (volume_misreads image.now) }
@@ -36,24 +36,25 @@ fn put_volume<W: ByteWrite>(image: &AnyImage<'_>, w: &mut W, failed: &mut bool) 
 }
 
 /// Writes a line for each thing that Linux's reader of its format misreads in an image: that of the
-/// volume, and then, in the list's order, those of each name by their numbers. `true` if there is a
-/// line. Directories may be 64 deep. The lines are
+/// volume, and then, in the list's order, those of each name by their numbers. Returns `true` if
+/// there is a line. Directories may be 64 deep. The lines are:
 ///
 /// - `linux 1 LastBlock PATH`: a file of cramfs that ends with a whole block;
-/// - `linux 2 SharedTable PATH`: a file or a link of cramfs that has the table of an earlier one with
-///   another kind, mode, owner, group or size;
+/// - `linux 2 SharedTable PATH`: a file or a link of cramfs that has the table of an earlier one
+///   with another kind, mode, owner, group or size;
 /// - `linux 3 NameCut PATH`, `linux 4 NameTooLong PATH`: a name of romfs of 128 bytes, or of more;
 /// - `linux 5 Volume /`: a volume's name of romfs of more than 143 bytes;
 /// - `linux 6 Device PATH`: a device that has other numbers in Linux;
 /// - `linux 7 NamePadded PATH`: a name of cramfs with more padding than it needs;
 /// - `linux 8 LinkCut PATH`: a link whose text has a zero byte;
 /// - `linux 9 RootMode /`: a root of cramfs that has another mode in Linux;
-/// - `linux 10 OtherPlace PATH`: a file or a link of romfs whose bytes Linux reads from another place.
+/// - `linux 10 OtherPlace PATH`: a file or a link of romfs whose bytes Linux reads from another
+///   offset.
 ///
 /// # Errors
 ///
-/// `OutOfMemory` where memory was refused: then nothing was written. `WriteFault` where a write
-/// failed: then a prefix of the lines was written.
+/// `OutOfMemory` if memory is refused: then nothing was written. `WriteFault` if a write failed:
+/// then a prefix of the lines was written.
 pub fn misreads<W: ByteWrite>(
     alloc: Global,
     image: &AnyImage<'_>,

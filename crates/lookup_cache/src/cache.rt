@@ -11,11 +11,11 @@ use std::alloc::Global;
 use std::marker::PhantomData;
 use std::num::NonZeroUsize;
 
-/// An image that remembers which nodes names led to, and which names were absent. Each of its calls
-/// answers as the image in it does.
+/// An image that remembers the nodes to which names led, and the names that were absent. Each of
+/// its calls answers as the image in it does.
 ///
-/// Of a name in a directory the last answers are kept. A name of more than 255 bytes is looked up
-/// in the image each time, and so is one for which memory was refused.
+/// The most recent answers are kept, each for a name in a directory. A name of more than 255 bytes
+/// is looked up in the image each time, and so is a name for which memory was refused.
 #[derive(Drop)]
 pub struct Cached<'a, T: Viewed> {
     image: T,
@@ -25,19 +25,19 @@ pub struct Cached<'a, T: Viewed> {
     ghost room: { kept.cap ≤ 65536 },
 }
 
-/// Memory was refused for a cache. The image comes back.
+/// The error of a cache for which memory was refused. It has the image.
 #[derive(Drop)]
 pub struct NoCache<T> {
     pub image: T,
 }
 
 impl<'a, T: TreeImage<'a>> Cached<'a, T> {
-    /// The image with room for the answers about so many names, of which none is kept yet. All of
-    /// the room is taken at once.
+    /// Makes an image with room for the answers about `names` names, of which none is kept yet. All
+    /// of the room is allocated at once.
     ///
     /// # Errors
     ///
-    /// `NoCache`, with the image, where memory was refused.
+    /// `NoCache`, with the image, if memory is refused.
     pub fn new(alloc: Global, image: T, names: usize) -> Result<Cached<'a, T>, NoCache<T>>
         requires some { 1 ≤ names }
         requires few { names ≤ 65536 }
@@ -56,7 +56,7 @@ impl<'a, T: TreeImage<'a>> Cached<'a, T> {
         }
     }
 
-    /// How many names are kept: at most as many as `new` was asked for.
+    /// Returns the number of names that are kept: at most the number that `new` was asked for.
     pub fn held(&self) -> usize
         ensures kept { result ≡ length self.now.kept.entries }
         ensures most { result ≤ self.now.kept.cap }

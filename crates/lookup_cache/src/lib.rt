@@ -1,7 +1,7 @@
-//! Images that remember look-ups.
+//! `Cached`: a `TreeImage` over any other that remembers look-ups, also those that found nothing.
 //!
-//! Proved: `Cached` answers each call as the image in it does, whichever names it keeps and also
-//! after memory was refused for one. `specs/Remembers.antt` says what a kept answer is.
+//! Proved: `Cached` answers each call as the image in it does, whichever names it keeps, also after
+//! memory was refused for one. `specs/Remembers.antt` defines the answers that are kept.
 #![tactic(auto)]
 
 mod cache;

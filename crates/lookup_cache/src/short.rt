@@ -10,7 +10,7 @@ pub(crate) struct Key {
     pub(crate) name: ArrayVec<u8, 255>,
 }
 
-/// The key of a name in a directory. `None` where the name is longer than 255 bytes.
+/// The key of a name in a directory, or `None` if the name is longer than 255 bytes.
 pub(crate) fn short_name(directory: u32, name: &[u8]) -> Option<Key>
     ensures directory { IfSome result (λ k. k.directory ≡ directory) }
     ensures name { IfSome result (λ k. k.name.items ≡ name.now) }

@@ -17,9 +17,12 @@ others eq test old new h = h
 
 pub has_more : {A S : Type 0} (bs : List ℕ) → {X : Type 0} (m n : HashMap (Vec ℕ A) X S) (w : Option X)
     → UpdatesBy (λ x y. bytes_eq x.items y.items) (λ k. bytes_eq bs k.items) m n w
-    → (cs : List ℕ) → get_by (λ k. bytes_eq cs k.items) n ≡ cond (bytes_eq bs cs) w (get_by (λ k. bytes_eq cs k.items) m)
+    → (cs : List ℕ) → get_by (λ k. bytes_eq cs k.items) n
+    ≡ cond (bytes_eq bs cs) w (get_by (λ k. bytes_eq cs k.items) m)
 has_more bs m n w h cs =
     ⊎_elim
-    (λ y. subst (λ l. get_by (λ k. bytes_eq l k.items) n ≡ w) ((bytes_decides bs cs).0 y) h.1 ∙ sym (cond-true (bytes_eq bs cs) w _ y))
-    (λ e. others _ _ _ _ h.3 _ (λ x y. nat_list_eq_equiv.congr cs x.items y.items) (λ k. apart bs cs k.items e) ∙ sym (cond-false (bytes_eq bs cs) w _ e))
+    (λ y. subst (λ l. get_by (λ k. bytes_eq l k.items) n ≡ w) ((bytes_decides bs cs).0 y) h.1
+    ∙ sym (cond-true (bytes_eq bs cs) w _ y))
+    (λ e. others _ _ _ _ h.3 _ (λ x y. nat_list_eq_equiv.congr cs x.items y.items) (λ k. apart bs cs k.items e)
+    ∙ sym (cond-false (bytes_eq bs cs) w _ e))
     (cases_Bool (bytes_eq bs cs))

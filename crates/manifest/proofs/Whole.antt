@@ -11,10 +11,12 @@ nothing_left : (o : Option (Bor (List ℕ))) → ((x : Bor (List ℕ)) → o ≡
 nothing_left None h = refl
 nothing_left (Some x) h = absurd (h x refl)
 
-pub whole : (r : Reader) (n : ℕ) (rest : Option (Bor (List ℕ))) (text : List ℕ) → ((x : Bor (List ℕ)) → rest ≡ Some x → ⊥)
+pub whole : (r : Reader) (n : ℕ) (rest : Option (Bor (List ℕ))) (text : List ℕ)
+    → ((x : Bor (List ℕ)) → rest ≡ Some x → ⊥)
     → read_lines (seen r) n (pieces_after 10 rest) ≡ read_lines nothing_read 1 (pieces 10 text)
     → manifest_of text ≡ Ok (record { lines = r.lines.items; volume = r.volume; volume_line = r.volume_line })
 unfolding manifest_of
 whole r n rest text none reads =
     let read = ap (λ o. read_lines (seen r) n (pieces_after 10 o)) (sym (nothing_left rest none)) ∙ reads in
-    ap as_manifest (sym read) ∙ ap (λ ls. Ok (record { lines = ls; volume = r.volume; volume_line = r.volume_line })) (reverse-reverse r.lines.items)
+    ap as_manifest (sym read) ∙ ap (λ ls. Ok (record { lines = ls; volume = r.volume; volume_line = r.volume_line }))
+    (reverse-reverse r.lines.items)

@@ -1,6 +1,8 @@
--- The faults of a manifest by their numbers, with their names. (This project's own.)
+-- `name_of_fault`: the name of each fault of a manifest by its number, and `Unknown` for any other
+-- number. (This project's own.)
 use Rattle.std.specs.Prelude.{ℕ, List, ◌==◌, if◌then◌else◌, codes}
-use Rattle.manifest.specs.FaultNumbers.{BAD_WORD, BAD_NUMBER, BAD_PATH, NO_PARENT, EXISTS, BAD_ALIGN, BAD_TARGET}
+use Rattle.manifest.specs.FaultNumbers.{BAD_WORD, BAD_NUMBER, BAD_PATH, NO_PARENT, EXISTS}
+use Rattle.manifest.specs.FaultNumbers.{BAD_ALIGN, BAD_TARGET}
 
 abbrev pub name_of_fault : ℕ → List ℕ
 name_of_fault n =

@@ -1,20 +1,21 @@
--- The numbers of the faults of a manifest; docs/MANIFEST.md has them in words. (This project's own.)
+-- The number of each fault of a manifest, such as `BAD_WORD`; docs/MANIFEST.md explains the faults.
+-- (This project's own.)
 use Rattle.std.specs.Prelude.{ℕ}
 
--- an unknown word, another number of fields than it has, an empty field, or a device that is
--- neither `b` nor `c`
+-- an unknown word, a wrong number of fields for it, an empty field, or a device that is neither `b`
+-- nor `c`
 abbrev pub BAD_WORD : ℕ
 BAD_WORD = 1
 
--- a field that is no number of its kind
+-- a field that is not a number of its kind
 abbrev pub BAD_NUMBER : ℕ
 BAD_NUMBER = 2
 
--- a text that is no path, or a name or a link text that is too long or has a zero byte
+-- a text that is not a path, or a name or a link text that is too long or has a zero byte
 abbrev pub BAD_PATH : ℕ
 BAD_PATH = 3
 
--- no earlier line makes the directory that a path stands in
+-- no earlier line makes the directory that the path is in
 abbrev pub NO_PARENT : ℕ
 NO_PARENT = 4
 
@@ -22,10 +23,10 @@ NO_PARENT = 4
 abbrev pub EXISTS : ℕ
 EXISTS = 5
 
--- an alignment that is no power of two from 4 to 65,536
+-- an alignment that is not a power of two from 4 to 65,536
 abbrev pub BAD_ALIGN : ℕ
 BAD_ALIGN = 6
 
--- what `hard` or `same` names is not there, or not what it has to be
+-- `hard` or `same` names a path that does not exist, or whose file is not of the right kind
 abbrev pub BAD_TARGET : ℕ
 BAD_TARGET = 7

@@ -1,11 +1,15 @@
--- The lines of a manifest, and what a path of theirs leads to. (This project's own.)
-use Rattle.std.specs.Prelude.{ℕ, ◌||◌, Bool, true, false, if◌then◌else◌, List, [], ◌∷◌, map, filter, Option, Some, None}
+-- `ManifestLines`: the lines of a manifest and its volume. `line_at`, `led`, `filed`: the line of a
+-- path, the line to which it leads, and the `file` line whose contents it has. `sources_of`: the
+-- sources in order. (This project's own.)
+use Rattle.std.specs.Prelude.{ℕ, ◌||◌, Bool, true, false, if◌then◌else◌, List, [], ◌∷◌, map, filter}
+use Rattle.std.specs.Prelude.{Option, Some, None}
 use Rattle.std.specs.Str.{bytes_eq}
 use Rattle.manifest.specs.declared.line.Line.{Line}
 use Rattle.manifest.specs.declared.line.Word.{Word}
 use Rattle.manifest.specs.declared.line.Word.TheVariants.{Dir, File, Hard, Same}
 
--- A manifest: its lines in order, and the volume's name with the number of its line, 0 where there is none.
+-- A manifest: its lines in order, the volume's name, and the number of the line that names it, or 0
+-- if there is none.
 pub record ManifestLines : Type 0 where
   pub lines : List Line
   pub volume : List ℕ
@@ -27,26 +31,29 @@ abbrev pub is_same : Word → Bool
 is_same Same = true
 is_same _ = false
 
--- the first of some lines with a path
+-- the first of some lines that has a path
 abbrev pub line_at : List Line → List ℕ → Option Line
 line_at [] path = None
 line_at (l ∷ ls) path = if bytes_eq l.path path then Some l else line_at ls path
 
--- The line that a path leads to, where the lines are given from the last to the first: a `hard` line leads to
--- what its text leads to among the lines before it, any other to itself.
+-- The line to which a path leads; the lines are in reverse order. A `hard` line leads to the line
+-- to which its text leads among the lines before it. Any other line leads to itself.
 abbrev pub led : List Line → List ℕ → Option Line
 led [] path = None
-led (l ∷ ls) path = if bytes_eq l.path path then (if is_hard l.word then led ls l.text else Some l) else led ls path
+led (l ∷ ls) path =
+    if bytes_eq l.path path then (if is_hard l.word then led ls l.text else Some l) else led ls path
 
--- The `file` line whose contents a path has, if it leads to a regular file; the lines again from the last to the
--- first. A `same` line has the contents of what its text leads to among the lines before it.
+-- The `file` line whose contents a path has, if it leads to a regular file; the lines are in
+-- reverse order. A `same` line has the contents of the file to which its text leads among the lines
+-- before it.
 abbrev pub filed : List Line → List ℕ → Option Line
 filed [] path = None
 filed (l ∷ ls) path =
     if bytes_eq l.path path
-    then (if is_hard l.word || is_same l.word then filed ls l.text else (if is_file l.word then Some l else None))
+    then (if is_hard l.word || is_same l.word then filed ls l.text
+    else (if is_file l.word then Some l else None))
     else filed ls path
 
--- the texts of the `file` lines, in order: what each names as its source
+-- the texts of the `file` lines, in order: the source that each names
 abbrev pub sources_of : List Line → List (List ℕ)
 sources_of ls = map (λ l. l.text) (filter (λ l. is_file l.word) ls)

@@ -1,4 +1,4 @@
--- What the code holds, in the words of the grammar. (This project's own.)
+-- `fields_view`: the code's fields of a line, as those of the grammar. (This project's own.)
 use Rattle.std.specs.Prelude.{ℕ, List, map}
 use Rattle.std.specs.Borrow.{Bor}
 use Rattle.manifest.specs.declared.fields.Fields as code

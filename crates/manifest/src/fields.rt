@@ -19,7 +19,7 @@ const ZERO: &[u8] = b"0";
 
 const NOTHING: &[u8] = b"";
 
-/// The texts of a line's fields. Those that its word lacks are zeros or empty.
+/// The texts of a line's fields. A field that the word lacks is zero or empty.
 #[derive(Clone, Copy)]
 pub struct Fields<'a> {
     pub word: Word,
@@ -33,7 +33,7 @@ pub struct Fields<'a> {
     pub text: &'a [u8],
 }
 
-/// The fields between the spaces of a line, where none is empty and there are not too many.
+/// Returns the fields between the spaces of a line, if none is empty and there are at most eight.
 pub fn split(line: &[u8]) -> Option<ArrayVec<&[u8], FIELDS_MAX>>
     ensures some { IfSome result (λ fields. texts fields.items ≡ pieces 32 line.now) }
     ensures whole { IfSome result (λ _. list_any is_empty (pieces 32 line.now) ≡ false) }
@@ -53,7 +53,7 @@ pub fn split(line: &[u8]) -> Option<ArrayVec<&[u8], FIELDS_MAX>>
     Some(fields)
 }
 
-/// The name in the fields of `volume NAME`.
+/// Returns the name in the fields of `volume NAME`.
 pub fn volume<'a>(fields: &[&'a [u8]]) -> Option<&'a [u8]>
     ensures { option_map (λ name. name.now) result ≡ grammar.volume_field (texts fields.now) }
 {
@@ -63,7 +63,7 @@ pub fn volume<'a>(fields: &[&'a [u8]]) -> Option<&'a [u8]>
     }
 }
 
-/// The fields of a line with these, whose word has no others.
+/// Returns the fields of a line that has these fields and no others.
 fn plain<'a>(word: Word, path: &'a [u8], mode: &'a [u8], uid: &'a [u8], gid: &'a [u8]) -> Fields<'a>
     ensures { fields_view result ≡ grammar.plain_fields word path.now mode.now uid.now gid.now
         grammar.zero_text [] }
@@ -81,7 +81,7 @@ fn plain<'a>(word: Word, path: &'a [u8], mode: &'a [u8], uid: &'a [u8], gid: &'a
     }
 }
 
-/// `hard PATH OLD`.
+/// Returns the fields of `hard PATH OLD`.
 fn three<'a>(word: &[u8], path: &'a [u8], old: &'a [u8]) -> Option<Fields<'a>>
     ensures { option_map fields_view result ≡ grammar.three_fields word.now path.now old.now }
 {
@@ -94,7 +94,7 @@ fn three<'a>(word: &[u8], path: &'a [u8], old: &'a [u8]) -> Option<Fields<'a>>
     })
 }
 
-/// `dir`, `pipe` or `sock`, and `PATH MODE UID GID`.
+/// Returns the fields of `dir`, `pipe` or `sock`, and `PATH MODE UID GID`.
 fn five<'a>(
     word: &[u8],
     path: &'a [u8],
@@ -117,7 +117,7 @@ fn five<'a>(
     Some(plain(word, path, mode, uid, gid))
 }
 
-/// `slink PATH MODE UID GID TARGET`, or `same PATH MODE UID GID OLD`.
+/// Returns the fields of `slink PATH MODE UID GID TARGET` or `same PATH MODE UID GID OLD`.
 fn six<'a>(
     word: &[u8],
     path: &'a [u8],
@@ -142,7 +142,7 @@ fn six<'a>(
     })
 }
 
-/// `file PATH MODE UID GID ALIGN SOURCE`.
+/// Returns the fields of `file PATH MODE UID GID ALIGN SOURCE`.
 fn seven<'a>(
     word: &[u8],
     path: &'a [u8],
@@ -165,7 +165,7 @@ fn seven<'a>(
     })
 }
 
-/// The word of a device, by its letter.
+/// Returns the word of a device, by its letter.
 fn device(letter: &[u8]) -> Option<Word>
     ensures { result ≡ grammar.device_word letter.now }
 {
@@ -178,7 +178,7 @@ fn device(letter: &[u8]) -> Option<Word>
     None
 }
 
-/// `nod PATH MODE UID GID b|c MAJOR MINOR`.
+/// Returns the fields of `nod PATH MODE UID GID b|c MAJOR MINOR`.
 fn eight<'a>(
     word: &[u8],
     path: &'a [u8],
@@ -204,7 +204,7 @@ fn eight<'a>(
     })
 }
 
-/// The fields of a line, by their count and the word; `volume` apart.
+/// Returns the fields of a line, by their count and its word; `volume` is read separately.
 pub fn by_word<'a>(fields: &[&'a [u8]]) -> Option<Fields<'a>>
     ensures { option_map fields_view result ≡ grammar.fields_of (texts fields.now) }
 {

@@ -1,8 +1,9 @@
-//! The manifest: a text that says what an image is to hold, line by line.
+//! The manifest is a text that describes, line by line, what an image holds. `parse` returns the
+//! lines of a manifest, or its first fault.
 //!
-//! `specs/Grammar.antt` is its grammar, a function from the bytes of a text to its lines or to its
-//! first fault, and docs/MANIFEST.md explains it by an example. Proved: `parse` is that function,
-//! on all bytes, where memory is not refused.
+//! Proved: on all bytes, if memory is not refused, `parse` is the grammar's function from the bytes
+//! of a text to its lines or its first fault (`specs/Grammar.antt`). docs/MANIFEST.md explains the
+//! grammar by an example.
 #![tactic(auto)]
 
 pub mod error;

@@ -4,11 +4,11 @@ ghost use Rattle.manifest.specs.Lines.{is_dir, is_file};
 
 use crate::names::Name;
 
-/// What a line makes. `Block` and `Character` are the two kinds of `nod`, `Fifo` is `pipe`, and
+/// The word of a line. `Block` and `Character` are the two kinds of `nod`, `Fifo` is `pipe`, and
 /// `Socket` is `sock`.
 #[derive(Clone, Copy, Debug, PartialEq, Eq)]
 pub enum Word {
-    /// A directory; of `/`, the attributes of the root.
+    /// A directory; for the path `/`, the attributes of the root.
     Dir,
     /// A regular file with the contents of a source.
     File,
@@ -22,9 +22,9 @@ pub enum Word {
     Fifo,
     /// A socket.
     Socket,
-    /// One more name of the file at an earlier path.
+    /// A further name of the file at an earlier path.
     Hard,
-    /// A regular file of its own, with the contents of the one at an earlier path.
+    /// A regular file of its own, with the contents of the file at an earlier path.
     Same,
 }
 
@@ -42,21 +42,21 @@ impl Word {
     }
 }
 
-/// One line. What its word lacks is 0 or empty.
+/// One line. A field that its word lacks is 0 or empty.
 #[derive(Drop)]
 pub struct Line {
-    /// Its number in the text, from 1 on; skipped lines count.
+    /// The line's number in the text, from 1 on; skipped lines count.
     pub number: u64,
     pub word: Word,
     /// The path, from the root on.
     pub path: Name,
-    /// The last twelve bits of a POSIX mode.
+    /// The lowest twelve bits of a POSIX mode.
     pub mode: u32,
     /// The owner.
     pub uid: u32,
-    /// The owner's group.
+    /// The group.
     pub gid: u32,
-    /// The place of the contents is to be a multiple of this, in bytes.
+    /// The alignment of the contents, in bytes: their offset is to be a multiple of it.
     pub align: u32,
     /// A device's major number.
     pub major: u32,

@@ -1,9 +1,9 @@
-//! The texts that a manifest names files by.
+//! The texts by which a manifest names files.
 ghost use Rattle.std.specs.Prelude.{◌≡◌};
 
 use std::marker::Model;
 
-/// A path, a name or a link's text: any bytes, as they are when decoded.
+/// A path, a name or a link's text: any bytes, decoded.
 #[derive(Drop)]
 pub struct Name {
     bytes: Vec<u8>,
@@ -18,14 +18,14 @@ impl Model for Name {
 }
 
 impl Name {
-    /// The bytes.
+    /// Returns the bytes.
     pub fn as_bytes(&self) -> &[u8]
         ensures { result.now ≡ self.now }
     {
         self.bytes.as_slice()
     }
 
-    /// The bytes, given back.
+    /// Returns the bytes, as the vector that has them.
     pub fn into_bytes(self) -> Vec<u8>
         ensures { result.items ≡ self }
     {
@@ -33,7 +33,7 @@ impl Name {
     }
 }
 
-/// A name has just the bytes that it is made of.
+/// Makes a name of exactly these bytes.
 impl From<Vec<u8>> for Name {
     ghost from_gives = { λ bytes name. name ≡ bytes.items };
 

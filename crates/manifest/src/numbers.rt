@@ -1,4 +1,4 @@
-//! The numbers of a line, and the line with them.
+//! The numbers of a line, and the line that has them.
 ghost use Rattle.std.specs.Prelude.{◌≡◌, IfOk};
 ghost use Rattle.manifest.specs.Grammar as grammar;
 ghost use Rattle.manifest.specs.Views.{fields_view};
@@ -20,7 +20,7 @@ pub struct Numbers {
     pub minor: u32,
 }
 
-/// The numbers of a line, where each of its texts for one is a number.
+/// Returns the numbers of a line, if each text that should be a number is one.
 #[tactic(auto, unfolding(crate::specs::Grammar::numbers_of))]
 fn read_numbers(fields: &Fields) -> Option<Numbers>
     ensures { result ≡ grammar.numbers_of (fields_view fields.now) }
@@ -35,7 +35,7 @@ fn read_numbers(fields: &Fields) -> Option<Numbers>
     })
 }
 
-/// The line of these fields, where its numbers are numbers.
+/// Returns the line of these fields, if each text that should be a number is one.
 pub fn line_of(alloc: Global, number: u64, fields: &Fields) -> Result<Option<Line>, OutOfMemory>
     ensures { IfOk result (λ line. line ≡ grammar.line_of number (fields_view fields.now)) }
 {

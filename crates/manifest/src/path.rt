@@ -1,4 +1,4 @@
-//! Paths: whether a text is one, and the directory that it stands in.
+//! Paths: whether a text is one, and the directory that it is in.
 ghost use Rattle.std.specs.Prelude.{◌≡◌, true, not};
 ghost use Rattle.std.specs.List.{list_any};
 ghost use Rattle.std.specs.Option.{is_some};
@@ -14,7 +14,7 @@ pub const PATH_MAX: usize = 4095;
 /// The most bytes that a name may have.
 pub const NAME_MAX: usize = 255;
 
-/// Whether a text is no name in a path.
+/// Returns whether a text is not a name in a path.
 #[tactic(auto, unfolding(crate::specs::Paths::is_bad_name))]
 fn is_bad_name(name: &[u8]) -> bool
     ensures { result ≡ is_bad_name name.now }
@@ -25,7 +25,7 @@ fn is_bad_name(name: &[u8]) -> bool
     name.len() > NAME_MAX
 }
 
-/// Whether one of the pieces between slashes is no name.
+/// Returns whether one of the pieces between slashes is not a name.
 fn has_bad_name(names: &[u8]) -> bool
     ensures { result ≡ list_any is_bad_name (pieces 47 names.now) }
 {
@@ -40,7 +40,7 @@ fn has_bad_name(names: &[u8]) -> bool
     false
 }
 
-/// Whether a text is no path, or `/` where `root` does not hold.
+/// Returns whether a text is not a path, or is `/` while `root` is false.
 #[tactic(auto, unfolding(crate::specs::Paths::names_of))]
 pub fn is_bad_path(path: &[u8], root: bool) -> bool
     ensures { result ≡ is_bad_path root (names_of path.now) }
@@ -56,7 +56,7 @@ pub fn is_bad_path(path: &[u8], root: bool) -> bool
     }
 }
 
-/// The directory that a path's last name stands in, and the empty text for the root.
+/// Returns the directory that a path's last name is in, or the empty text for the root.
 pub fn parent(path: &[u8]) -> &[u8]
     requires { is_some (names_of path.now) ≡ true }
     ensures { result.now ≡ parent_of (names_of path.now) }

@@ -1,10 +1,11 @@
-//! What has been read of a manifest, and one more line of it.
+//! The part of a manifest that was read, and the reading of one more line.
 ghost use Rattle.std.specs.Prelude.{◌≡◌, ◌++◌, ◌∷◌, [], true, is_some, reverse, None, OnOk};
 ghost use Rattle.std.specs.Hash.DefaultHasher.{initial, write};
 ghost use Rattle.std.specs.HashMap.{hasher_of};
 ghost use Rattle.manifest.specs.Grammar as grammar;
 ghost use Rattle.manifest.specs.Paths.{names_of, parent_of};
-ghost use Rattle.manifest.specs.Reading.{Adds, HasMore, IsKept, Reads, seen, reached, has_contents, reached_by};
+ghost use Rattle.manifest.specs.Reading.{Adds, HasMore, IsKept, Reads, seen, reached, has_contents};
+ghost use Rattle.manifest.specs.Reading.{reached_by};
 ghost use Rattle.manifest.specs.Reading.{to_directory, to_regular_file, to_no_directory};
 ghost use Rattle.manifest.specs.Lines.{sources_of};
 ghost use Rattle.manifest.specs.Views.{fields_view};
@@ -24,12 +25,12 @@ use rom_fields::OutOfMemory;
 use std::alloc::Global;
 use std::collections::HashMap;
 
-/// The alignments that a `file` line may ask for, in bytes.
+/// The alignments that a `file` line may have, in bytes.
 const ALIGNMENTS: [u32; 15] = [
     4, 8, 16, 32, 64, 128, 256, 512, 1024, 2048, 4096, 8192, 16384, 32768, 65536,
 ];
 
-/// What the path of an earlier line leads to.
+/// The kind of file to which the path of an earlier line leads.
 #[derive(Clone, Copy)]
 pub enum Reached {
     Directory,
@@ -37,8 +38,8 @@ pub enum Reached {
     Other,
 }
 
-/// What has been read of a manifest. Each path stands in a map with what it leads to, so that the
-/// time in which a line is read does not grow with their number.
+/// The part of a manifest that was read. A map has the kind of file to which each path leads, so
+/// the time to read a line does not grow with the number of lines.
 #[derive(Drop)]
 pub struct Reader {
     pub lines: Vec<Line>,
@@ -48,14 +49,14 @@ pub struct Reader {
     paths: HashMap<Vec<u8>, Reached, Seeded>,
 }
 
-/// Whether an alignment is a power of two from 4 to 65,536.
+/// Returns whether an alignment is a power of two from 4 to 65,536.
 fn is_align(align: u32) -> bool
     ensures { result ≡ grammar.is_align align }
 {
     ALIGNMENTS.iter().any(|allowed| align == *allowed)
 }
 
-/// Whether a line's text is not what its word wants.
+/// Returns whether a line's text is invalid for its word.
 fn is_bad_text(line: &Line) -> bool
     ensures { result ≡ grammar.is_bad_text line.now.word line.now.text }
 {
@@ -67,35 +68,35 @@ fn is_bad_text(line: &Line) -> bool
     }
 }
 
-/// Whether a path leads to a directory.
+/// Returns whether a path leads to a directory.
 fn is_directory(reached: Option<Reached>) -> bool
     ensures { result ≡ to_directory reached }
 {
     matches!(reached, Some(Reached::Directory))
 }
 
-/// Whether a path leads to a regular file.
+/// Returns whether a path leads to a regular file.
 fn is_regular_file(reached: Option<Reached>) -> bool
     ensures { result ≡ to_regular_file reached }
 {
     matches!(reached, Some(Reached::RegularFile))
 }
 
-/// Whether a path leads to a file that is no directory.
+/// Returns whether a path leads to a file that is not a directory.
 fn is_no_directory(reached: Option<Reached>) -> bool
     ensures { result ≡ to_no_directory reached }
 {
     matches!(reached, Some(Reached::RegularFile | Reached::Other))
 }
 
-/// A fault as an answer.
+/// Returns a fault as an error.
 fn bad(line: u64, number: u32) -> ManifestError
     ensures { result ≡ Bad line number }
 {
     ManifestError::Bad { line, number }
 }
 
-/// Puts a path into the map with what it leads to.
+/// Puts a path into the map, with the kind of file to which it leads.
 fn note_path(
     alloc: Global,
     paths: &mut HashMap<Vec<u8>, Reached, Seeded>,
@@ -109,7 +110,7 @@ fn note_path(
     Ok(())
 }
 
-/// Puts the source of a `file` line behind the others.
+/// Appends the source of a `file` line; other lines have none.
 fn note_source(alloc: Global, sources: &mut Vec<Name>, line: &Line) -> Result<(), OutOfMemory>
     ensures { OnOk result (sources.new.items ≡ sources.old.items ++ sources_of (line.now ∷ [])) }
 {
@@ -121,7 +122,7 @@ fn note_source(alloc: Global, sources: &mut Vec<Name>, line: &Line) -> Result<()
 }
 
 impl Reader {
-    /// A reader that has read nothing. A text is behind the hashes of its paths.
+    /// Returns a reader that has read nothing. A text seeds the hashes of its paths.
     pub fn new(alloc: Global, text: &[u8]) -> Reader
         ensures seen { seen result ≡ grammar.nothing_read }
         ensures kept { IsKept result }
@@ -138,7 +139,7 @@ impl Reader {
         }
     }
 
-    /// What a path of an earlier line leads to.
+    /// Returns the kind of file to which the path of an earlier line leads, if a line has the path.
     fn reached(&self, path: &[u8]) -> Option<Reached>
         requires { IsKept self.now }
         ensures { result ≡ reached (reverse self.now.lines.items) path.now }
@@ -146,7 +147,7 @@ impl Reader {
         self.paths.get(path).copied()
     }
 
-    /// Whether a path stands in the root or in the directory of an earlier line.
+    /// Returns whether a path is in the root or in the directory of an earlier line.
     #[tactic(auto, using(crate::proofs::Reached::directory_is))]
     fn has_parent(&self, path: &[u8]) -> bool
         requires kept { IsKept self.now }
@@ -158,7 +159,8 @@ impl Reader {
         parent.is_empty() || is_directory(self.reached(parent))
     }
 
-    /// Whether the text of `hard` leads to no directory, and that of `same` to a regular file.
+    /// Returns whether the text of a `hard` line leads to a file that is not a directory, and the
+    /// text of a `same` line to a regular file. Other lines have no target, and the answer is true.
     #[tactic(auto, using(crate::proofs::Reached::no_directory_is, crate::proofs::Reached::file_is))]
     fn has_target(&self, line: &Line) -> bool
         requires { IsKept self.now }
@@ -174,7 +176,7 @@ impl Reader {
         }
     }
 
-    /// The least fault of a line, from `BAD_PATH` on.
+    /// Returns the least fault of a line, from `BAD_PATH` on.
     #[tactic(auto, using(crate::proofs::Reached::stands_is), unfolding(crate::specs::Grammar::fault_of))]
     fn fault(&self, line: &Line) -> Option<u32>
         requires { IsKept self.now }
@@ -199,7 +201,7 @@ impl Reader {
         None
     }
 
-    /// Whether a line's path leads to a regular file.
+    /// Returns whether a line's path leads to a regular file.
     #[tactic(auto, using(crate::proofs::Reached::file_is))]
     fn has_contents(&self, line: &Line) -> bool
         requires { IsKept self.now }
@@ -213,7 +215,7 @@ impl Reader {
         }
     }
 
-    /// What a line's path leads to.
+    /// Returns the kind of file to which a line's path leads.
     fn leads_to(&self, line: &Line) -> Reached
         requires { IsKept self.now }
         ensures { result ≡ reached_by line.now
@@ -228,7 +230,7 @@ impl Reader {
         }
     }
 
-    /// Takes in a line that has no fault.
+    /// Adds a line that has no fault.
     fn add(&mut self, alloc: Global, line: Line) -> Result<(), OutOfMemory>
         requires kept { IsKept self.old }
         requires sound { grammar.fault_of (reverse self.old.lines.items) line ≡ None }
@@ -241,7 +243,7 @@ impl Reader {
         Ok(())
     }
 
-    /// Takes in the name of the volume.
+    /// Reads the name of the volume.
     fn read_volume(&mut self, number: u64, name: Name) -> Result<(), ManifestError>
         requires { IsKept self.old }
         ensures { Reads self.new result (grammar.read_volume (seen self.old) number name) }
@@ -257,7 +259,7 @@ impl Reader {
         Ok(())
     }
 
-    /// Takes in a line of these fields.
+    /// Reads a line of these fields.
     fn read_fields(
         &mut self,
         alloc: Global,
@@ -279,7 +281,7 @@ impl Reader {
         Ok(())
     }
 
-    /// Takes in a line that is not skipped.
+    /// Reads a line that is not skipped.
     #[tactic(auto, unfolding(crate::specs::Grammar::read))]
     pub fn read(&mut self, alloc: Global, number: u64, line: &[u8]) -> Result<(), ManifestError>
         requires { IsKept self.old }

@@ -1,4 +1,4 @@
-//! A manifest that was read, and the reading of one.
+//! A manifest that was read, and `parse`, which reads one.
 ghost use Rattle.std.specs.Prelude.{◌≡◌};
 ghost use Rattle.manifest.specs.Grammar.{manifest_of, IsManifest};
 ghost use Rattle.manifest.specs.Lines.{sources_of};
@@ -12,8 +12,8 @@ use crate::text::{cut, is_skipped};
 use std::alloc::Global;
 use std::marker::Model;
 
-/// The lines of a text in order, and the name of the volume. A contract sees both with the number
-/// of the `volume` line.
+/// The lines of a text in order, and the name of the volume. Contracts see both, and the number of
+/// the `volume` line.
 #[derive(Drop)]
 pub struct Manifest {
     lines: Vec<Line>,
@@ -40,8 +40,9 @@ impl Model for Manifest {
 }
 
 impl Manifest {
-    /// The lines, in the order of the text. They are those of some text: so paths are paths, each
-    /// parent comes before what it holds, and what `hard` and `same` name comes before them.
+    /// Returns the lines, in the order of the text. They are those of some text. So each path is
+    /// valid, and the line of its directory and of the path that `hard` or `same` names comes
+    /// before it.
     pub fn lines(&self) -> &[Line]
         ensures lines { result.now ≡ self.now.lines }
         ensures of_text { IsManifest self.now }
@@ -49,22 +50,22 @@ impl Manifest {
         self.lines.as_slice()
     }
 
-    /// The name of the volume, empty where no line names it.
+    /// Returns the name of the volume, or an empty name if no line names it.
     pub fn volume(&self) -> &[u8]
         ensures { result.now ≡ self.now.volume }
     {
         self.volume.as_bytes()
     }
 
-    /// The number of the `volume` line, and 0 where there is none.
+    /// Returns the number of the `volume` line, or 0 if there is none.
     pub fn volume_line(&self) -> u64
         ensures { result ≡ self.now.volume_line }
     {
         self.volume_line
     }
 
-    /// The source of each `file` line, in the order of the lines. What two of them name stands
-    /// twice.
+    /// Returns the source of each `file` line, in the order of the lines. A source that two lines
+    /// name occurs twice.
     pub fn sources(&self) -> &[Name]
         ensures { result.now ≡ sources_of self.now.lines }
     {
@@ -72,14 +73,14 @@ impl Manifest {
     }
 }
 
-/// Reads a manifest. Of a text that is none, the first faulty line is answered, and there the fault
-/// of the least number. Its paths stand in a hash map that the text seeds, so that the time that it
-/// takes is expected to grow with its length.
+/// Reads a manifest. For an invalid manifest, the answer is its first faulty line, with the least
+/// number of that line's faults. The text seeds the hash map of its paths, so the time is expected
+/// to grow with the text's length.
 ///
 /// # Errors
 ///
-/// `Bad` exactly where the grammar gives that fault, unless memory was refused first;
-/// `OutOfMemory` where it was.
+/// `Bad` exactly if the grammar has that fault, unless memory was refused first; `OutOfMemory` if
+/// memory was refused.
 #[tactic(auto, unfolding(crate::specs::Grammar::manifest_of))]
 pub fn parse(alloc: Global, text: &[u8]) -> Result<Manifest, ManifestError>
     ensures { Gives result (manifest_of text.now) }

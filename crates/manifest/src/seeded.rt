@@ -1,7 +1,7 @@
-//! Hashes of paths that nobody can choose to be alike.
+//! Hashes of paths that nobody can choose to be equal.
 //!
-//! A manifest may be a stranger's text. Its paths are hashed by SipHash-1-3 behind the text itself,
-//! so that whoever changes a path changes all hashes.
+//! A manifest may come from a stranger. Its paths are hashed by SipHash-1-3 behind the text itself,
+//! so a change of one path changes all hashes.
 ghost use Rattle.std.specs.Prelude.{◌≡◌};
 ghost use Rattle.std.specs.Hash.DefaultHasher.{initial, write};
 ghost use Rattle.manifest.specs.Seeds.{behind};
@@ -9,14 +9,14 @@ ghost use Rattle.manifest.specs.Seeds.{behind};
 use crate::line::Line;
 use std::hash::{BuildHasher, DefaultHasher, Hasher};
 
-/// Makes hashes of what follows a text.
+/// The state of a hash after some texts, which seeds the hashes of what follows.
 #[derive(Clone, Copy)]
 pub struct Seeded {
     begun: DefaultHasher,
 }
 
 impl Seeded {
-    /// Behind no text.
+    /// Returns the state after no text.
     pub fn new() -> Seeded
         ensures { result.begun ≡ initial }
     {
@@ -25,7 +25,7 @@ impl Seeded {
         }
     }
 
-    /// Behind one more text.
+    /// Adds one more text.
     pub fn add(&mut self, text: &[u8])
         ensures { self.new.begun ≡ write self.old.begun text.now }
     {
@@ -33,7 +33,7 @@ impl Seeded {
     }
 }
 
-/// Behind the paths of these lines.
+/// Returns the state after the paths of these lines.
 pub fn seeded_by(lines: &[Line]) -> Seeded
     ensures { result.begun ≡ behind lines.now }
 {

@@ -1,11 +1,12 @@
 -- Alignments and contents, whatever the format.
-use Rattle.std.proofs.Common.{◌≡◌, ◌≢◌, ℕ, zero, suc, ◌||◌, ◌*◌, ◌<◌, ◌≤◌, ◌==◌, max, true, false, inl, inr, List, [], ◌∷◌, length, map, get_or, refl, sym, subst, arith}
+use Rattle.std.proofs.Common.{◌≡◌, ◌≢◌, ℕ, zero, suc, ◌||◌, ◌*◌, ◌<◌, ◌≤◌, ◌==◌, max, true, false, inl, inr, List, []}
+use Rattle.std.proofs.Common.{◌∷◌, length, map, get_or, refl, sym, subst, arith}
 use Rattle.std.proofs.lemmas.Bool.{eqb-true, cases_lt}
 use Rattle.std.proofs.lemmas.Bool.Decides.{eqb_tells}
 use Rattle.std.specs.List.{AllByRecursion as Every, list_any}
 use Rattle.manifest.specs.Grammar.{is_align}
 
--- a multiple of 4, and of 16 where it is no less than 16
+-- a multiple of 4, and of 16 if it is no less than 16
 pub record IsAligned (n : ℕ) : Type 0 where
   pub fours : ℕ
   pub some_fours : 0 < fours
@@ -17,7 +18,16 @@ pub record IsAligned (n : ℕ) : Type 0 where
   pub of_times : max 16 n ≡ times * n
 
 pub four_aligned : IsAligned 4
-four_aligned = record { fours = 1; some_fours = omega arith; of_four = refl; sixteens = 1; some = omega arith; of_sixteen = refl; times = 4; of_times = refl }
+four_aligned = record {
+  fours = 1;
+  some_fours = omega arith;
+  of_four = refl;
+  sixteens = 1;
+  some = omega arith;
+  of_sixteen = refl;
+  times = 4;
+  of_times = refl;
+}
 
 one_of : (n : ℕ) (ks : List ℕ) → list_any (λ k. n == k) ks ≡ true → Every IsAligned ks → IsAligned n
 one_of n [] h a = absurd (cc)
@@ -27,7 +37,8 @@ one_of n (k ∷ ks) h a = elim (n == k) as (λ t. (n == k) ≡ t → (t || list_
 ] refl h
 
 aligned : (f s t : ℕ) (n : ℕ) → 0 < f → n ≡ 4 * f → 0 < s → max 16 n ≡ 16 * s → max 16 n ≡ t * n → IsAligned n
-aligned f s t n p e q g u = record { fours = f; some_fours = p; of_four = e; sixteens = s; some = q; of_sixteen = g; times = t; of_times = u }
+aligned f s t n p e q g u =
+    record { fours = f; some_fours = p; of_four = e; sixteens = s; some = q; of_sixteen = g; times = t; of_times = u }
 
 pub is_aligned : (n : ℕ) → is_align n ≡ true → IsAligned n
 is_aligned n h =
@@ -78,7 +89,7 @@ is_aligned n h =
       ),
     )
 
--- how long the contents of a source are
+-- the length of a source's contents
 pub size_is : (cs : List (List ℕ)) (k : ℕ) → length (get_or cs k []) ≡ get_or (map length cs) k 0
 size_is [] k = refl
 size_is (c ∷ cs) zero = refl

@@ -1,5 +1,6 @@
 -- The least misfit, by computing.
-use Rattle.std.proofs.Common.{◌≡◌, ℕ, ◌^◌, ◌<◌, ◌≤◌, ◌==◌, ◌||◌, nat_lt, not, Bool, true, false, ◌⊎◌, List, [], ◌∷◌, length, refl, sym, ap, ◌∙◌, arith, inl, inr, Option, MatchOption, Some, None}
+use Rattle.std.proofs.Common.{◌≡◌, ℕ, ◌^◌, ◌<◌, ◌≤◌, ◌==◌, ◌||◌, nat_lt, not, Bool, true, false, ◌⊎◌, List, [], ◌∷◌}
+use Rattle.std.proofs.Common.{length, refl, sym, ap, ◌∙◌, arith, inl, inr, Option, MatchOption, Some, None}
 use Rattle.std.specs.Bool.{Decides}
 use Rattle.std.proofs.lemmas.Bool.Decides.{Decides-eqb, Decides-ltb, Decides-or, Decides-not}
 use Rattle.rom_faults.specs.declared.fault.Fault.{Fault}
@@ -17,14 +18,20 @@ use Rattle.romfs_format.specs.Tree.{mode_named}
 use Rattle.romfs_layout.specs.Layout.{number_of, runnable}
 use Rattle.cramfs_layout.specs.Layout.{list_len}
 use Rattle.manifest_layout.specs.Format.{Format, romfs, cramfs, len_of, references_of}
-use Rattle.manifest_layout.specs.Tests.{bad_attribute, is_large, is_long, is_long_volume, has_no_links, fault, number_by, number_of_line, at_line, of_lines, volume_by}
-use Rattle.manifest_layout.specs.Misfit.{HasBadAttribute, IsLarge, IsLong, IsLongVolume, HasNoLinks, name_len, HasMisfit, attribute, large, long_name, hard_link, HasLineMisfit, of_line, of_volume, HasLongList, HasLongLists, HasWholeMisfit, long, long_list, deep, many, IsLeastMisfit, line_misfit, whole_misfit, HasNoMisfit}
+use Rattle.manifest_layout.specs.Tests.{bad_attribute, is_large, is_long, is_long_volume, has_no_links, fault}
+use Rattle.manifest_layout.specs.Tests.{number_by, number_of_line, at_line, of_lines, volume_by}
+use Rattle.manifest_layout.specs.Misfit.{HasBadAttribute, IsLarge, IsLong, IsLongVolume, HasNoLinks, name_len}
+use Rattle.manifest_layout.specs.Misfit.{HasMisfit, attribute, large, long_name, hard_link, HasLineMisfit, of_line}
+use Rattle.manifest_layout.specs.Misfit.{of_volume, HasLongList, HasLongLists, HasWholeMisfit, long, long_list, deep}
+use Rattle.manifest_layout.specs.Misfit.{many, IsLeastMisfit, line_misfit, whole_misfit, HasNoMisfit}
 
 attribute_decides : (f : Format) (i : Inode) → Decides (bad_attribute f i) (HasBadAttribute f i)
 attribute_decides romfs i =
     Decides-or (not (i.uid == 0)) _ (Decides-not (i.uid == 0) (Decides-eqb i.uid 0))
     (Decides-or (not (i.gid == 0)) _ (Decides-not (i.gid == 0) (Decides-eqb i.gid 0))
-    (Decides-or (not (mode_named (number_of i.kind) (i.mode == runnable) == i.mode)) _ (Decides-not (mode_named (number_of i.kind) (i.mode == runnable) == i.mode) (Decides-eqb (mode_named (number_of i.kind) (i.mode == runnable)) i.mode))
+    (Decides-or (not (mode_named (number_of i.kind) (i.mode == runnable) == i.mode)) _
+    (Decides-not (mode_named (number_of i.kind) (i.mode == runnable) == i.mode)
+    (Decides-eqb (mode_named (number_of i.kind) (i.mode == runnable)) i.mode))
     (Decides-or (nat_lt 65535 i.major) (nat_lt 65535 i.minor) (Decides-ltb 65535 i.major) (Decides-ltb 65535 i.minor))))
 attribute_decides (cramfs o) i =
     Decides-or (nat_lt 65535 i.uid) _ (Decides-ltb 65535 i.uid)
@@ -58,7 +65,7 @@ links_decides : (f : Format) → Decides (has_no_links f) (HasNoLinks f)
 links_decides romfs = never
 links_decides (cramfs o) = always
 
--- a number is the least of those that P tells, or there is none
+-- a number is the least for which P holds, or there is none
 abbrev LeastNumber : (ℕ → Type 0) → Option ℕ → Type 0
 LeastNumber P None = (k : ℕ) → P k → ⊥
 LeastNumber P (Some n) = P n × ((k : ℕ) → P k → n ≤ k)
@@ -138,26 +145,39 @@ lines_are f m sizes [] = record { here = tt; least = λ d x. absurd x }
 lines_are f m sizes (l ∷ ls) =
     let i = inode_of m.lines sizes l in
     let n = name_len (names_of l.path) in
-    let one = number_is f m sizes l (is_hard l.word) (bad_attribute f i) (is_large f i.size) (is_long f n) (has_no_links f) refl (attribute_decides f i) (large_decides f i.size) (long_decides f n) (links_decides f) in
-    least_joined {P = OfLine f m sizes l} {Q = λ e. Has (λ l. OfLine f m sizes l e) ls} {R = λ e. OfLine f m sizes l e ⊎ Has (λ l. OfLine f m sizes l e) ls} (λ e x. inl x) (λ e x. inr x) (λ e x. x)
-    (at_line l.number (number_of_line f m sizes l)) (of_lines f m sizes ls) (line_is f m sizes l (number_of_line f m sizes l) one) (lines_are f m sizes ls)
+    let one = number_is f m sizes l (is_hard l.word) (bad_attribute f i) (is_large f i.size) (is_long f n)
+    (has_no_links f) refl (attribute_decides f i) (large_decides f i.size) (long_decides f n) (links_decides f) in
+    least_joined {P = OfLine f m sizes l} {Q = λ e. Has (λ l. OfLine f m sizes l e) ls}
+    {R = λ e. OfLine f m sizes l e ⊎ Has (λ l. OfLine f m sizes l e) ls} (λ e x. inl x) (λ e x. inr x) (λ e x. x)
+    (at_line l.number (number_of_line f m sizes l)) (of_lines f m sizes ls)
+    (line_is f m sizes l (number_of_line f m sizes l) one) (lines_are f m sizes ls)
 
 abbrev OfVolume : Format → ManifestLines → Fault → Type 0
 OfVolume f m e = IsLongVolume f (length m.volume) × (e ≡ fault 3 m.volume_line)
 
 volume_is : (f : Format) (m : ManifestLines) (b : Bool) → Decides b (IsLongVolume f (length m.volume))
     → IsLeastFaultOf (OfVolume f m) (volume_by b m.volume_line)
-volume_is f m true h = record { here = (h.0 refl, refl); least = λ d x. inr (ap (λ (e : Fault). e.at) (sym x.1), let n = ap (λ (e : Fault). e.number) x.1 in omega (arith, n)) }
+volume_is f m true h = record {
+  here = (h.0 refl, refl);
+  least = λ d x. inr (
+    ap (λ (e : Fault). e.at) (sym x.1),
+    let n = ap (λ (e : Fault). e.number) x.1 in omega (arith, n),
+  );
+}
 volume_is f m false h = record { here = tt; least = λ d x. let z : false ≡ true = h.1 x.0 in absurd (cc) }
 
 abbrev pub least_line : Format → ManifestLines → List ℕ → Option Fault
-least_line f m sizes = lesser_of_both (of_lines f m sizes m.lines) (volume_by (is_long_volume f (length m.volume)) m.volume_line)
+least_line f m sizes =
+    lesser_of_both (of_lines f m sizes m.lines) (volume_by (is_long_volume f (length m.volume)) m.volume_line)
 
 pub least_line_is : (f : Format) (m : ManifestLines) (sizes : List ℕ)
     → IsLeastFaultOf (HasLineMisfit f m sizes) (least_line f m sizes)
 least_line_is f m sizes =
-    least_joined {P = λ e. Has (λ l. OfLine f m sizes l e) m.lines} {Q = OfVolume f m} {R = HasLineMisfit f m sizes} (λ e x. of_line x) (λ e x. of_volume x.0 x.1) either
-    (of_lines f m sizes m.lines) (volume_by (is_long_volume f (length m.volume)) m.volume_line) (lines_are f m sizes m.lines) (volume_is f m (is_long_volume f (length m.volume)) (volume_decides f (length m.volume)))
+    least_joined {P = λ e. Has (λ l. OfLine f m sizes l e) m.lines} {Q = OfVolume f m} {R = HasLineMisfit f m sizes}
+    (λ e x. of_line x) (λ e x. of_volume x.0 x.1) either
+    (of_lines f m sizes m.lines) (volume_by (is_long_volume f (length m.volume)) m.volume_line)
+    (lines_are f m sizes m.lines) (volume_is f m (is_long_volume f (length m.volume))
+    (volume_decides f (length m.volume)))
   where
     either : (e : Fault) → HasLineMisfit f m sizes e → Has (λ l. OfLine f m sizes l e) m.lines ⊎ OfVolume f m e
     either e (of_line x) = inl x
@@ -167,14 +187,16 @@ abbrev pub has_long_list : Names → Bool
 has_long_list nothing = false
 has_long_list (leaf name i after) = has_long_list after
 has_long_list (link name i after) = has_long_list after
-has_long_list (folder name i own after) = not (nat_lt (list_len own) (2 ^ 24)) || (has_long_list own || has_long_list after)
+has_long_list (folder name i own after) =
+    not (nat_lt (list_len own) (2 ^ 24)) || (has_long_list own || has_long_list after)
 
 long_list_decides : (n : Names) → Decides (has_long_list n) (HasLongList n)
 long_list_decides nothing = never
 long_list_decides (leaf name i after) = long_list_decides after
 long_list_decides (link name i after) = long_list_decides after
 long_list_decides (folder name i own after) =
-    Decides-or (not (nat_lt (list_len own) (2 ^ 24))) (has_long_list own || has_long_list after) (le_decides (list_len own) (2 ^ 24))
+    Decides-or (not (nat_lt (list_len own) (2 ^ 24))) (has_long_list own || has_long_list after)
+    (le_decides (list_len own) (2 ^ 24))
     (Decides-or (has_long_list own) (has_long_list after) (long_list_decides own) (long_list_decides after))
 
 abbrev pub has_long_lists : Format → Names → Bool
@@ -183,22 +205,31 @@ has_long_lists (cramfs o) n = not (nat_lt (list_len n) (2 ^ 24)) || has_long_lis
 
 long_lists_decides : (f : Format) (n : Names) → Decides (has_long_lists f n) (HasLongLists f n)
 long_lists_decides romfs n = never
-long_lists_decides (cramfs o) n = Decides-or (not (nat_lt (list_len n) (2 ^ 24))) (has_long_list n) (le_decides (list_len n) (2 ^ 24)) (long_list_decides n)
+long_lists_decides (cramfs o) n = Decides-or (not (nat_lt (list_len n) (2 ^ 24))) (has_long_list n)
+    (le_decides (list_len n) (2 ^ 24)) (long_list_decides n)
 
 abbrev pub whole_test : Format → ManifestLines → List ℕ → Bool
 whole_test f m sizes =
-    nat_lt (2 ^ 28) (len_of f m sizes) || (has_long_lists f (tree_of m.lines sizes) || (nat_lt 64 (height (tree_of m.lines sizes)) || nat_lt (2 ^ 20) (references_of f m sizes)))
+    nat_lt (2 ^ 28) (len_of f m sizes)
+    || (has_long_lists f (tree_of m.lines sizes)
+    || (nat_lt 64 (height (tree_of m.lines sizes)) || nat_lt (2 ^ 20) (references_of f m sizes)))
 
 pub whole_decides : (f : Format) (m : ManifestLines) (sizes : List ℕ)
     → Decides (whole_test f m sizes) (HasWholeMisfit f m sizes)
 whole_decides f m sizes =
     let n = tree_of m.lines sizes in
-    let d = Decides-or (nat_lt (2 ^ 28) (len_of f m sizes)) (has_long_lists f n || (nat_lt 64 (height n) || nat_lt (2 ^ 20) (references_of f m sizes))) (Decides-ltb (2 ^ 28) (len_of f m sizes))
-    (Decides-or (has_long_lists f n) (nat_lt 64 (height n) || nat_lt (2 ^ 20) (references_of f m sizes)) (long_lists_decides f n)
-    (Decides-or (nat_lt 64 (height n)) (nat_lt (2 ^ 20) (references_of f m sizes)) (Decides-ltb 64 (height n)) (Decides-ltb (2 ^ 20) (references_of f m sizes)))) in
+    let d = Decides-or (nat_lt (2 ^ 28) (len_of f m sizes))
+    (has_long_lists f n || (nat_lt 64 (height n) || nat_lt (2 ^ 20) (references_of f m sizes)))
+    (Decides-ltb (2 ^ 28) (len_of f m sizes))
+    (Decides-or (has_long_lists f n) (nat_lt 64 (height n) || nat_lt (2 ^ 20) (references_of f m sizes))
+    (long_lists_decides f n)
+    (Decides-or (nat_lt 64 (height n)) (nat_lt (2 ^ 20) (references_of f m sizes)) (Decides-ltb 64 (height n))
+    (Decides-ltb (2 ^ 20) (references_of f m sizes)))) in
     (λ e. to (d.0 e), λ h. d.1 (from h))
   where
-    to : (2 ^ 28 < len_of f m sizes) ⊎ (HasLongLists f (tree_of m.lines sizes) ⊎ ((64 < height (tree_of m.lines sizes)) ⊎ (2 ^ 20 < references_of f m sizes)))
+    to : (2 ^ 28 < len_of f m sizes) ⊎
+        (HasLongLists f (tree_of m.lines sizes)
+        ⊎ ((64 < height (tree_of m.lines sizes)) ⊎ (2 ^ 20 < references_of f m sizes)))
         → HasWholeMisfit f m sizes
     to (inl x) = long x
     to (inr (inl x)) = long_list x
@@ -206,7 +237,8 @@ whole_decides f m sizes =
     to (inr (inr (inr x))) = many x
 
     from : HasWholeMisfit f m sizes
-        → (2 ^ 28 < len_of f m sizes) ⊎ (HasLongLists f (tree_of m.lines sizes) ⊎ ((64 < height (tree_of m.lines sizes)) ⊎ (2 ^ 20 < references_of f m sizes)))
+        → (2 ^ 28 < len_of f m sizes) ⊎ (HasLongLists f (tree_of m.lines sizes)
+        ⊎ ((64 < height (tree_of m.lines sizes)) ⊎ (2 ^ 20 < references_of f m sizes)))
     from (long x) = inl x
     from (long_list x) = inr (inl x)
     from (deep x) = inr (inr (inl x))

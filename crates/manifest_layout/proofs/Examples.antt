@@ -1,5 +1,6 @@
 -- Manifests that fit, and misfits of others, by computing.
-use Rattle.std.proofs.Common.{◌≡◌, ℕ, zero, suc, List, [], ◌∷◌, ◌++◌, replicate, refl, subst, codes, Option, Some, None, Result, Ok, Err}
+use Rattle.std.proofs.Common.{◌≡◌, ℕ, zero, suc, List, [], ◌∷◌, ◌++◌, replicate, refl, subst, codes, Option, Some, None}
+use Rattle.std.proofs.Common.{Result, Ok, Err}
 use Rattle.percent_encoding.specs.Percent.{percent_decode}
 use Rattle.rom_faults.specs.declared.fault.Fault.{Fault}
 use Rattle.manifest.specs.Texts.{octal, decimal}
@@ -16,7 +17,7 @@ use Rattle.manifest_layout.specs.Misfit.{ATTRIBUTE, TOO_LARGE, NAME_TOO_LONG, HA
 use Rattle.manifest_layout.specs.Tests.{fault}
 use Rattle.manifest_layout.proofs.Decided.{least_misfit, Told, told}
 
--- what is said of a text, where it is a manifest
+-- what is said of a text, if it is a manifest
 abbrev Tells : Format → List ℕ → Result ManifestLines grammar.Fault → Option Fault → Type 0
 Tells f sizes (Ok m) o = Told f m sizes o
 Tells f sizes (Err e) o = ⊥
@@ -29,7 +30,8 @@ abbrev length_by : Format → List ℕ → Result ManifestLines grammar.Fault �
 length_by f sizes (Ok m) = len_of f m sizes
 length_by f sizes (Err e) = 0
 
-tells : (f : Format) (sizes : List ℕ) (r : Result ManifestLines grammar.Fault) (o : Option Fault) → least_by f sizes r ≡ Some o → Tells f sizes r o
+tells : (f : Format) (sizes : List ℕ) (r : Result ManifestLines grammar.Fault) (o : Option Fault)
+    → least_by f sizes r ≡ Some o → Tells f sizes r o
 tells f sizes (Ok m) o e = subst (Told f m sizes) (same e) (told f m sizes)
   where
     same : {u v : Option Fault} → Some u ≡ Some v → u ≡ v
@@ -42,141 +44,206 @@ lines (l ∷ ls) = l ++ (10 ∷ lines ls)
 
 -- one file of five bytes fits each format
 fits_romfs : Tells romfs (5 ∷ []) (manifest_of (lines (codes "file /a 0644 0 0 4 s" ∷ []))) None
-unfolding lines manifest_of read numbers_of fault_of octal decimal names_of is_bad_name percent_decode tree_of root_of file_at inode_of place_of data_align device_of code_of size_of kept data_of
+unfolding lines manifest_of read numbers_of fault_of octal decimal names_of is_bad_name percent_decode tree_of root_of
+    file_at inode_of place_of data_align device_of code_of size_of kept data_of
 fits_romfs = tells romfs (5 ∷ []) (manifest_of (lines (codes "file /a 0644 0 0 4 s" ∷ []))) None refl
 
 fits_cramfs : Tells (cramfs Little) (5 ∷ []) (manifest_of (lines (codes "file /a 0644 0 0 4 s" ∷ []))) None
-unfolding lines manifest_of read numbers_of fault_of octal decimal names_of is_bad_name percent_decode tree_of root_of file_at inode_of place_of data_align device_of code_of size_of kept data_of
+unfolding lines manifest_of read numbers_of fault_of octal decimal names_of is_bad_name percent_decode tree_of root_of
+    file_at inode_of place_of data_align device_of code_of size_of kept data_of
 fits_cramfs = tells (cramfs Little) (5 ∷ []) (manifest_of (lines (codes "file /a 0644 0 0 4 s" ∷ []))) None refl
 
 fits_cramfs_big : Tells (cramfs Big) (5 ∷ []) (manifest_of (lines (codes "file /a 0644 0 0 4 s" ∷ []))) None
-unfolding lines manifest_of read numbers_of fault_of octal decimal names_of is_bad_name percent_decode tree_of root_of file_at inode_of place_of data_align device_of code_of size_of kept data_of
+unfolding lines manifest_of read numbers_of fault_of octal decimal names_of is_bad_name percent_decode tree_of root_of
+    file_at inode_of place_of data_align device_of code_of size_of kept data_of
 fits_cramfs_big = tells (cramfs Big) (5 ∷ []) (manifest_of (lines (codes "file /a 0644 0 0 4 s" ∷ []))) None refl
 
 -- so does no line at all
 nothing_fits : Tells romfs [] (manifest_of (lines ([]))) None
-unfolding lines manifest_of read numbers_of fault_of octal decimal names_of is_bad_name percent_decode tree_of root_of file_at inode_of place_of data_align device_of code_of size_of kept data_of
+unfolding lines manifest_of read numbers_of fault_of octal decimal names_of is_bad_name percent_decode tree_of root_of
+    file_at inode_of place_of data_align device_of code_of size_of kept data_of
 nothing_fits = tells romfs [] (manifest_of (lines ([]))) None refl
 
 -- a file of more than 2^28 bytes is too large at its line
-large_file : Tells romfs (268435457 ∷ []) (manifest_of (lines (codes "file /a 0644 0 0 4 s" ∷ []))) (Some (fault TOO_LARGE 1))
-unfolding lines manifest_of read numbers_of fault_of octal decimal names_of is_bad_name percent_decode tree_of root_of file_at inode_of place_of data_align device_of code_of size_of kept data_of
-large_file = tells romfs (268435457 ∷ []) (manifest_of (lines (codes "file /a 0644 0 0 4 s" ∷ []))) (Some (fault TOO_LARGE 1)) refl
+large_file : Tells romfs (268435457 ∷ []) (manifest_of (lines (codes "file /a 0644 0 0 4 s" ∷ [])))
+    (Some (fault TOO_LARGE 1))
+unfolding lines manifest_of read numbers_of fault_of octal decimal names_of is_bad_name percent_decode tree_of root_of
+    file_at inode_of place_of data_align device_of code_of size_of kept data_of
+large_file = tells romfs (268435457 ∷ []) (manifest_of (lines (codes "file /a 0644 0 0 4 s" ∷ [])))
+    (Some (fault TOO_LARGE 1)) refl
 
 -- with 2^28 bytes it is the whole that is too large
-large_whole : Tells romfs (268435456 ∷ []) (manifest_of (lines (codes "file /a 0644 0 0 4 s" ∷ []))) (Some (fault TOO_LARGE 0))
-unfolding lines manifest_of read numbers_of fault_of octal decimal names_of is_bad_name percent_decode tree_of root_of file_at inode_of place_of data_align device_of code_of size_of kept data_of
-large_whole = tells romfs (268435456 ∷ []) (manifest_of (lines (codes "file /a 0644 0 0 4 s" ∷ []))) (Some (fault TOO_LARGE 0)) refl
+large_whole : Tells romfs (268435456 ∷ []) (manifest_of (lines (codes "file /a 0644 0 0 4 s" ∷ [])))
+    (Some (fault TOO_LARGE 0))
+unfolding lines manifest_of read numbers_of fault_of octal decimal names_of is_bad_name percent_decode tree_of root_of
+    file_at inode_of place_of data_align device_of code_of size_of kept data_of
+large_whole = tells romfs (268435456 ∷ []) (manifest_of (lines (codes "file /a 0644 0 0 4 s" ∷ [])))
+    (Some (fault TOO_LARGE 0)) refl
 
 -- in cramfs a size has 24 bits
-large_in_cramfs : Tells (cramfs Little) (16777216 ∷ []) (manifest_of (lines (codes "file /a 0644 0 0 4 s" ∷ []))) (Some (fault TOO_LARGE 1))
-unfolding lines manifest_of read numbers_of fault_of octal decimal names_of is_bad_name percent_decode tree_of root_of file_at inode_of place_of data_align device_of code_of size_of kept data_of
-large_in_cramfs = tells (cramfs Little) (16777216 ∷ []) (manifest_of (lines (codes "file /a 0644 0 0 4 s" ∷ []))) (Some (fault TOO_LARGE 1)) refl
+large_in_cramfs : Tells (cramfs Little) (16777216 ∷ []) (manifest_of (lines (codes "file /a 0644 0 0 4 s" ∷ [])))
+    (Some (fault TOO_LARGE 1))
+unfolding lines manifest_of read numbers_of fault_of octal decimal names_of is_bad_name percent_decode tree_of root_of
+    file_at inode_of place_of data_align device_of code_of size_of kept data_of
+large_in_cramfs = tells (cramfs Little) (16777216 ∷ []) (manifest_of (lines (codes "file /a 0644 0 0 4 s" ∷ [])))
+    (Some (fault TOO_LARGE 1)) refl
 
 largest_in_cramfs : Tells (cramfs Little) (16777215 ∷ []) (manifest_of (lines (codes "file /a 0644 0 0 4 s" ∷ []))) None
-unfolding lines manifest_of read numbers_of fault_of octal decimal names_of is_bad_name percent_decode tree_of root_of file_at inode_of place_of data_align device_of code_of size_of kept data_of
-largest_in_cramfs = tells (cramfs Little) (16777215 ∷ []) (manifest_of (lines (codes "file /a 0644 0 0 4 s" ∷ []))) None refl
+unfolding lines manifest_of read numbers_of fault_of octal decimal names_of is_bad_name percent_decode tree_of root_of
+    file_at inode_of place_of data_align device_of code_of size_of kept data_of
+largest_in_cramfs =
+    tells (cramfs Little) (16777215 ∷ []) (manifest_of (lines (codes "file /a 0644 0 0 4 s" ∷ []))) None refl
 
 largest_length : length_by (cramfs Little) (16777215 ∷ []) (manifest_of (codes "file /a 0644 0 0 4 s")) ≡ 16797696
-unfolding manifest_of read numbers_of fault_of octal decimal names_of is_bad_name percent_decode tree_of root_of file_at inode_of place_of data_align device_of code_of size_of kept data_of
+unfolding manifest_of read numbers_of fault_of octal decimal names_of is_bad_name percent_decode tree_of root_of file_at
+    inode_of place_of data_align device_of code_of size_of kept data_of
 largest_length = refl
 
 -- romfs has no mode 0600 of a file
 mode : Tells romfs (5 ∷ []) (manifest_of (lines (codes "file /a 0600 0 0 4 s" ∷ []))) (Some (fault ATTRIBUTE 1))
-unfolding lines manifest_of read numbers_of fault_of octal decimal names_of is_bad_name percent_decode tree_of root_of file_at inode_of place_of data_align device_of code_of size_of kept data_of
+unfolding lines manifest_of read numbers_of fault_of octal decimal names_of is_bad_name percent_decode tree_of root_of
+    file_at inode_of place_of data_align device_of code_of size_of kept data_of
 mode = tells romfs (5 ∷ []) (manifest_of (lines (codes "file /a 0600 0 0 4 s" ∷ []))) (Some (fault ATTRIBUTE 1)) refl
 
 mode_in_cramfs : Tells (cramfs Little) (5 ∷ []) (manifest_of (lines (codes "file /a 0600 0 0 4 s" ∷ []))) None
-unfolding lines manifest_of read numbers_of fault_of octal decimal names_of is_bad_name percent_decode tree_of root_of file_at inode_of place_of data_align device_of code_of size_of kept data_of
+unfolding lines manifest_of read numbers_of fault_of octal decimal names_of is_bad_name percent_decode tree_of root_of
+    file_at inode_of place_of data_align device_of code_of size_of kept data_of
 mode_in_cramfs = tells (cramfs Little) (5 ∷ []) (manifest_of (lines (codes "file /a 0600 0 0 4 s" ∷ []))) None refl
 
 -- romfs has no owners, and cramfs has
 owner : Tells romfs [] (manifest_of (lines (codes "dir /d 0755 5 0" ∷ []))) (Some (fault ATTRIBUTE 1))
-unfolding lines manifest_of read numbers_of fault_of octal decimal names_of is_bad_name percent_decode tree_of root_of file_at inode_of place_of data_align device_of code_of size_of kept data_of
+unfolding lines manifest_of read numbers_of fault_of octal decimal names_of is_bad_name percent_decode tree_of root_of
+    file_at inode_of place_of data_align device_of code_of size_of kept data_of
 owner = tells romfs [] (manifest_of (lines (codes "dir /d 0755 5 0" ∷ []))) (Some (fault ATTRIBUTE 1)) refl
 
 owner_in_cramfs : Tells (cramfs Little) [] (manifest_of (lines (codes "dir /d 0755 5 0" ∷ []))) None
-unfolding lines manifest_of read numbers_of fault_of octal decimal names_of is_bad_name percent_decode tree_of root_of file_at inode_of place_of data_align device_of code_of size_of kept data_of
+unfolding lines manifest_of read numbers_of fault_of octal decimal names_of is_bad_name percent_decode tree_of root_of
+    file_at inode_of place_of data_align device_of code_of size_of kept data_of
 owner_in_cramfs = tells (cramfs Little) [] (manifest_of (lines (codes "dir /d 0755 5 0" ∷ []))) None refl
 
 -- in cramfs a group has 8 bits
 group : Tells (cramfs Little) [] (manifest_of (lines (codes "dir /d 0755 0 256" ∷ []))) (Some (fault ATTRIBUTE 1))
-unfolding lines manifest_of read numbers_of fault_of octal decimal names_of is_bad_name percent_decode tree_of root_of file_at inode_of place_of data_align device_of code_of size_of kept data_of
+unfolding lines manifest_of read numbers_of fault_of octal decimal names_of is_bad_name percent_decode tree_of root_of
+    file_at inode_of place_of data_align device_of code_of size_of kept data_of
 group = tells (cramfs Little) [] (manifest_of (lines (codes "dir /d 0755 0 256" ∷ []))) (Some (fault ATTRIBUTE 1)) refl
 
 greatest_group : Tells (cramfs Little) [] (manifest_of (lines (codes "dir /d 0755 0 255" ∷ []))) None
-unfolding lines manifest_of read numbers_of fault_of octal decimal names_of is_bad_name percent_decode tree_of root_of file_at inode_of place_of data_align device_of code_of size_of kept data_of
+unfolding lines manifest_of read numbers_of fault_of octal decimal names_of is_bad_name percent_decode tree_of root_of
+    file_at inode_of place_of data_align device_of code_of size_of kept data_of
 greatest_group = tells (cramfs Little) [] (manifest_of (lines (codes "dir /d 0755 0 255" ∷ []))) None refl
 
 -- a device has numbers of 16 bits in romfs, and of 8 bits in cramfs
 device : Tells romfs [] (manifest_of (lines (codes "nod /n 0600 0 0 b 65536 0" ∷ []))) (Some (fault ATTRIBUTE 1))
-unfolding lines manifest_of read numbers_of fault_of octal decimal names_of is_bad_name percent_decode tree_of root_of file_at inode_of place_of data_align device_of code_of size_of kept data_of
+unfolding lines manifest_of read numbers_of fault_of octal decimal names_of is_bad_name percent_decode tree_of root_of
+    file_at inode_of place_of data_align device_of code_of size_of kept data_of
 device = tells romfs [] (manifest_of (lines (codes "nod /n 0600 0 0 b 65536 0" ∷ []))) (Some (fault ATTRIBUTE 1)) refl
 
 greatest_device : Tells romfs [] (manifest_of (lines (codes "nod /n 0600 0 0 b 65535 65535" ∷ []))) None
-unfolding lines manifest_of read numbers_of fault_of octal decimal names_of is_bad_name percent_decode tree_of root_of file_at inode_of place_of data_align device_of code_of size_of kept data_of
+unfolding lines manifest_of read numbers_of fault_of octal decimal names_of is_bad_name percent_decode tree_of root_of
+    file_at inode_of place_of data_align device_of code_of size_of kept data_of
 greatest_device = tells romfs [] (manifest_of (lines (codes "nod /n 0600 0 0 b 65535 65535" ∷ []))) None refl
 
-device_in_cramfs : Tells (cramfs Big) [] (manifest_of (lines (codes "nod /n 0600 0 0 c 0 256" ∷ []))) (Some (fault ATTRIBUTE 1))
-unfolding lines manifest_of read numbers_of fault_of octal decimal names_of is_bad_name percent_decode tree_of root_of file_at inode_of place_of data_align device_of code_of size_of kept data_of
-device_in_cramfs = tells (cramfs Big) [] (manifest_of (lines (codes "nod /n 0600 0 0 c 0 256" ∷ []))) (Some (fault ATTRIBUTE 1)) refl
+device_in_cramfs : Tells (cramfs Big) [] (manifest_of (lines (codes "nod /n 0600 0 0 c 0 256" ∷ [])))
+    (Some (fault ATTRIBUTE 1))
+unfolding lines manifest_of read numbers_of fault_of octal decimal names_of is_bad_name percent_decode tree_of root_of
+    file_at inode_of place_of data_align device_of code_of size_of kept data_of
+device_in_cramfs =
+    tells (cramfs Big) [] (manifest_of (lines (codes "nod /n 0600 0 0 c 0 256" ∷ []))) (Some (fault ATTRIBUTE 1)) refl
 
 greatest_device_in_cramfs : Tells (cramfs Big) [] (manifest_of (lines (codes "nod /n 0600 0 0 c 255 255" ∷ []))) None
-unfolding lines manifest_of read numbers_of fault_of octal decimal names_of is_bad_name percent_decode tree_of root_of file_at inode_of place_of data_align device_of code_of size_of kept data_of
-greatest_device_in_cramfs = tells (cramfs Big) [] (manifest_of (lines (codes "nod /n 0600 0 0 c 255 255" ∷ []))) None refl
+unfolding lines manifest_of read numbers_of fault_of octal decimal names_of is_bad_name percent_decode tree_of root_of
+    file_at inode_of place_of data_align device_of code_of size_of kept data_of
+greatest_device_in_cramfs =
+    tells (cramfs Big) [] (manifest_of (lines (codes "nod /n 0600 0 0 c 255 255" ∷ []))) None refl
 
 -- in cramfs a name has at most 252 bytes, and a volume name 16
-name : Tells (cramfs Little) [] (manifest_of (lines ((codes "pipe /" ++ (replicate 253 97 ++ codes " 0644 0 0")) ∷ []))) (Some (fault NAME_TOO_LONG 1))
-unfolding lines manifest_of read numbers_of fault_of octal decimal names_of is_bad_name percent_decode tree_of root_of file_at inode_of place_of data_align device_of code_of size_of kept data_of
-name = tells (cramfs Little) [] (manifest_of (lines ((codes "pipe /" ++ (replicate 253 97 ++ codes " 0644 0 0")) ∷ []))) (Some (fault NAME_TOO_LONG 1)) refl
+name : Tells (cramfs Little) [] (manifest_of (lines ((codes "pipe /" ++ (replicate 253 97 ++ codes " 0644 0 0")) ∷ [])))
+    (Some (fault NAME_TOO_LONG 1))
+unfolding lines manifest_of read numbers_of fault_of octal decimal names_of is_bad_name percent_decode tree_of root_of
+    file_at inode_of place_of data_align device_of code_of size_of kept data_of
+name = tells (cramfs Little) [] (manifest_of (lines ((codes "pipe /" ++ (replicate 253 97 ++ codes " 0644 0 0")) ∷ [])))
+    (Some (fault NAME_TOO_LONG 1)) refl
 
-longest_name : Tells (cramfs Little) [] (manifest_of (lines ((codes "pipe /" ++ (replicate 252 97 ++ codes " 0644 0 0")) ∷ []))) None
-unfolding lines manifest_of read numbers_of fault_of octal decimal names_of is_bad_name percent_decode tree_of root_of file_at inode_of place_of data_align device_of code_of size_of kept data_of
-longest_name = tells (cramfs Little) [] (manifest_of (lines ((codes "pipe /" ++ (replicate 252 97 ++ codes " 0644 0 0")) ∷ []))) None refl
+longest_name : Tells (cramfs Little) []
+    (manifest_of (lines ((codes "pipe /" ++ (replicate 252 97 ++ codes " 0644 0 0")) ∷ []))) None
+unfolding lines manifest_of read numbers_of fault_of octal decimal names_of is_bad_name percent_decode tree_of root_of
+    file_at inode_of place_of data_align device_of code_of size_of kept data_of
+longest_name = tells (cramfs Little) []
+    (manifest_of (lines ((codes "pipe /" ++ (replicate 252 97 ++ codes " 0644 0 0")) ∷ []))) None refl
 
-name_in_romfs : Tells romfs [] (manifest_of (lines ((codes "pipe /" ++ (replicate 253 97 ++ codes " 0644 0 0")) ∷ []))) None
-unfolding lines manifest_of read numbers_of fault_of octal decimal names_of is_bad_name percent_decode tree_of root_of file_at inode_of place_of data_align device_of code_of size_of kept data_of
-name_in_romfs = tells romfs [] (manifest_of (lines ((codes "pipe /" ++ (replicate 253 97 ++ codes " 0644 0 0")) ∷ []))) None refl
+name_in_romfs : Tells romfs [] (manifest_of
+    (lines ((codes "pipe /" ++ (replicate 253 97 ++ codes " 0644 0 0")) ∷ []))) None
+unfolding lines manifest_of read numbers_of fault_of octal decimal names_of is_bad_name percent_decode tree_of root_of
+    file_at inode_of place_of data_align device_of code_of size_of kept data_of
+name_in_romfs =
+    tells romfs [] (manifest_of (lines ((codes "pipe /" ++ (replicate 253 97 ++ codes " 0644 0 0")) ∷ []))) None refl
 
-volume : Tells (cramfs Little) [] (manifest_of (lines (codes "# a volume" ∷ codes "volume seventeen_letters" ∷ []))) (Some (fault NAME_TOO_LONG 2))
-unfolding lines manifest_of read numbers_of fault_of octal decimal names_of is_bad_name percent_decode tree_of root_of file_at inode_of place_of data_align device_of code_of size_of kept data_of
-volume = tells (cramfs Little) [] (manifest_of (lines (codes "# a volume" ∷ codes "volume seventeen_letters" ∷ []))) (Some (fault NAME_TOO_LONG 2)) refl
+volume : Tells (cramfs Little) [] (manifest_of (lines (codes "# a volume" ∷ codes "volume seventeen_letters" ∷ [])))
+    (Some (fault NAME_TOO_LONG 2))
+unfolding lines manifest_of read numbers_of fault_of octal decimal names_of is_bad_name percent_decode tree_of root_of
+    file_at inode_of place_of data_align device_of code_of size_of kept data_of
+volume = tells (cramfs Little) [] (manifest_of (lines (codes "# a volume" ∷ codes "volume seventeen_letters" ∷ [])))
+    (Some (fault NAME_TOO_LONG 2)) refl
 
 longest_volume : Tells (cramfs Little) [] (manifest_of (lines (codes "volume sixteen__letters" ∷ []))) None
-unfolding lines manifest_of read numbers_of fault_of octal decimal names_of is_bad_name percent_decode tree_of root_of file_at inode_of place_of data_align device_of code_of size_of kept data_of
+unfolding lines manifest_of read numbers_of fault_of octal decimal names_of is_bad_name percent_decode tree_of root_of
+    file_at inode_of place_of data_align device_of code_of size_of kept data_of
 longest_volume = tells (cramfs Little) [] (manifest_of (lines (codes "volume sixteen__letters" ∷ []))) None refl
 
 -- cramfs has no hard links
-hard_link : Tells (cramfs Little) (5 ∷ []) (manifest_of (lines (codes "file /a 0644 0 0 4 s" ∷ codes "hard /b /a" ∷ []))) (Some (fault HARD_LINK 2))
-unfolding lines manifest_of read numbers_of fault_of octal decimal names_of is_bad_name percent_decode tree_of root_of file_at inode_of place_of data_align device_of code_of size_of kept data_of
-hard_link = tells (cramfs Little) (5 ∷ []) (manifest_of (lines (codes "file /a 0644 0 0 4 s" ∷ codes "hard /b /a" ∷ []))) (Some (fault HARD_LINK 2)) refl
+hard_link : Tells (cramfs Little) (5 ∷ [])
+    (manifest_of (lines (codes "file /a 0644 0 0 4 s" ∷ codes "hard /b /a" ∷ []))) (Some (fault HARD_LINK 2))
+unfolding lines manifest_of read numbers_of fault_of octal decimal names_of is_bad_name percent_decode tree_of root_of
+    file_at inode_of place_of data_align device_of code_of size_of kept data_of
+hard_link = tells (cramfs Little) (5 ∷ [])
+    (manifest_of (lines (codes "file /a 0644 0 0 4 s" ∷ codes "hard /b /a" ∷ []))) (Some (fault HARD_LINK 2)) refl
 
-hard_link_in_romfs : Tells romfs (5 ∷ []) (manifest_of (lines (codes "file /a 0644 0 0 4 s" ∷ codes "hard /b /a" ∷ []))) None
-unfolding lines manifest_of read numbers_of fault_of octal decimal names_of is_bad_name percent_decode tree_of root_of file_at inode_of place_of data_align device_of code_of size_of kept data_of
-hard_link_in_romfs = tells romfs (5 ∷ []) (manifest_of (lines (codes "file /a 0644 0 0 4 s" ∷ codes "hard /b /a" ∷ []))) None refl
+hard_link_in_romfs : Tells romfs (5 ∷ [])
+    (manifest_of (lines (codes "file /a 0644 0 0 4 s" ∷ codes "hard /b /a" ∷ []))) None
+unfolding lines manifest_of read numbers_of fault_of octal decimal names_of is_bad_name percent_decode tree_of root_of
+    file_at inode_of place_of data_align device_of code_of size_of kept data_of
+hard_link_in_romfs =
+    tells romfs (5 ∷ []) (manifest_of (lines (codes "file /a 0644 0 0 4 s" ∷ codes "hard /b /a" ∷ []))) None refl
 
 -- a hard link has no attributes of its own: only the file is refused
-attribute_of_link : Tells romfs (5 ∷ []) (manifest_of (lines (codes "file /a 0600 0 0 4 s" ∷ codes "hard /b /a" ∷ []))) (Some (fault ATTRIBUTE 1))
-unfolding lines manifest_of read numbers_of fault_of octal decimal names_of is_bad_name percent_decode tree_of root_of file_at inode_of place_of data_align device_of code_of size_of kept data_of
-attribute_of_link = tells romfs (5 ∷ []) (manifest_of (lines (codes "file /a 0600 0 0 4 s" ∷ codes "hard /b /a" ∷ []))) (Some (fault ATTRIBUTE 1)) refl
+attribute_of_link : Tells romfs (5 ∷ []) (manifest_of (lines (codes "file /a 0600 0 0 4 s" ∷ codes "hard /b /a" ∷ [])))
+    (Some (fault ATTRIBUTE 1))
+unfolding lines manifest_of read numbers_of fault_of octal decimal names_of is_bad_name percent_decode tree_of root_of
+    file_at inode_of place_of data_align device_of code_of size_of kept data_of
+attribute_of_link = tells romfs (5 ∷ []) (manifest_of (lines (codes "file /a 0600 0 0 4 s" ∷ codes "hard /b /a" ∷ [])))
+    (Some (fault ATTRIBUTE 1)) refl
 
 -- of two misfits in one line the lesser number counts, and of two lines the first
-least_number : Tells romfs (268435457 ∷ []) (manifest_of (lines (codes "file /a 0600 0 0 4 s" ∷ []))) (Some (fault ATTRIBUTE 1))
-unfolding lines manifest_of read numbers_of fault_of octal decimal names_of is_bad_name percent_decode tree_of root_of file_at inode_of place_of data_align device_of code_of size_of kept data_of
-least_number = tells romfs (268435457 ∷ []) (manifest_of (lines (codes "file /a 0600 0 0 4 s" ∷ []))) (Some (fault ATTRIBUTE 1)) refl
+least_number : Tells romfs (268435457 ∷ []) (manifest_of (lines (codes "file /a 0600 0 0 4 s" ∷ [])))
+    (Some (fault ATTRIBUTE 1))
+unfolding lines manifest_of read numbers_of fault_of octal decimal names_of is_bad_name percent_decode tree_of root_of
+    file_at inode_of place_of data_align device_of code_of size_of kept data_of
+least_number = tells romfs (268435457 ∷ []) (manifest_of (lines (codes "file /a 0600 0 0 4 s" ∷ [])))
+    (Some (fault ATTRIBUTE 1)) refl
 
-first_line : Tells romfs (268435457 ∷ []) (manifest_of (lines (codes "file /a 0644 0 0 4 s" ∷ codes "dir /d 0700 0 0" ∷ []))) (Some (fault TOO_LARGE 1))
-unfolding lines manifest_of read numbers_of fault_of octal decimal names_of is_bad_name percent_decode tree_of root_of file_at inode_of place_of data_align device_of code_of size_of kept data_of
-first_line = tells romfs (268435457 ∷ []) (manifest_of (lines (codes "file /a 0644 0 0 4 s" ∷ codes "dir /d 0700 0 0" ∷ []))) (Some (fault TOO_LARGE 1)) refl
+first_line : Tells romfs (268435457 ∷ [])
+    (manifest_of (lines (codes "file /a 0644 0 0 4 s" ∷ codes "dir /d 0700 0 0" ∷ []))) (Some (fault TOO_LARGE 1))
+unfolding lines manifest_of read numbers_of fault_of octal decimal names_of is_bad_name percent_decode tree_of root_of
+    file_at inode_of place_of data_align device_of code_of size_of kept data_of
+first_line = tells romfs (268435457 ∷ [])
+    (manifest_of (lines (codes "file /a 0644 0 0 4 s" ∷ codes "dir /d 0700 0 0" ∷ []))) (Some (fault TOO_LARGE 1)) refl
 
 -- a line comes before the whole
-line_before_whole : Tells romfs (268435456 ∷ []) (manifest_of (lines (codes "file /a 0644 0 0 4 s" ∷ codes "dir /d 0700 0 0" ∷ []))) (Some (fault ATTRIBUTE 2))
-unfolding lines manifest_of read numbers_of fault_of octal decimal names_of is_bad_name percent_decode tree_of root_of file_at inode_of place_of data_align device_of code_of size_of kept data_of
-line_before_whole = tells romfs (268435456 ∷ []) (manifest_of (lines (codes "file /a 0644 0 0 4 s" ∷ codes "dir /d 0700 0 0" ∷ []))) (Some (fault ATTRIBUTE 2)) refl
+line_before_whole : Tells romfs (268435456 ∷ [])
+    (manifest_of (lines (codes "file /a 0644 0 0 4 s" ∷ codes "dir /d 0700 0 0" ∷ []))) (Some (fault ATTRIBUTE 2))
+unfolding lines manifest_of read numbers_of fault_of octal decimal names_of is_bad_name percent_decode tree_of root_of
+    file_at inode_of place_of data_align device_of code_of size_of kept data_of
+line_before_whole = tells romfs (268435456 ∷ [])
+    (manifest_of (lines (codes "file /a 0644 0 0 4 s" ∷ codes "dir /d 0700 0 0" ∷ []))) (Some (fault ATTRIBUTE 2)) refl
 
-line_before_volume : Tells (cramfs Little) [] (manifest_of (lines (codes "dir /d 0755 65536 0" ∷ codes "volume seventeen_letters" ∷ []))) (Some (fault ATTRIBUTE 1))
-unfolding lines manifest_of read numbers_of fault_of octal decimal names_of is_bad_name percent_decode tree_of root_of file_at inode_of place_of data_align device_of code_of size_of kept data_of
-line_before_volume = tells (cramfs Little) [] (manifest_of (lines (codes "dir /d 0755 65536 0" ∷ codes "volume seventeen_letters" ∷ []))) (Some (fault ATTRIBUTE 1)) refl
+line_before_volume : Tells (cramfs Little) []
+    (manifest_of (lines (codes "dir /d 0755 65536 0" ∷ codes "volume seventeen_letters" ∷ [])))
+    (Some (fault ATTRIBUTE 1))
+unfolding lines manifest_of read numbers_of fault_of octal decimal names_of is_bad_name percent_decode tree_of root_of
+    file_at inode_of place_of data_align device_of code_of size_of kept data_of
+line_before_volume = tells (cramfs Little) []
+    (manifest_of (lines (codes "dir /d 0755 65536 0" ∷ codes "volume seventeen_letters" ∷ [])))
+    (Some (fault ATTRIBUTE 1)) refl
 
 -- directories of the name `d`, each in the one before
 path_of_ds : ℕ → List ℕ
@@ -189,13 +256,16 @@ dirs deep (suc n) = (codes "dir " ++ (path_of_ds deep ++ codes " 0755 0 0")) ∷
 
 -- 64 directories in one another fit, and 65 are too deep as a whole
 deepest : Tells romfs [] (manifest_of (lines (dirs 1 64))) None
-unfolding lines dirs path_of_ds manifest_of read numbers_of fault_of octal decimal names_of is_bad_name percent_decode tree_of root_of file_at inode_of place_of data_align device_of code_of size_of kept data_of
+unfolding lines dirs path_of_ds manifest_of read numbers_of fault_of octal decimal names_of is_bad_name percent_decode
+    tree_of root_of file_at inode_of place_of data_align device_of code_of size_of kept data_of
 deepest = tells romfs [] (manifest_of (lines (dirs 1 64))) None refl
 
 too_deep : Tells romfs [] (manifest_of (lines (dirs 1 65))) (Some (fault TOO_LARGE 0))
-unfolding lines dirs path_of_ds manifest_of read numbers_of fault_of octal decimal names_of is_bad_name percent_decode tree_of root_of file_at inode_of place_of data_align device_of code_of size_of kept data_of
+unfolding lines dirs path_of_ds manifest_of read numbers_of fault_of octal decimal names_of is_bad_name percent_decode
+    tree_of root_of file_at inode_of place_of data_align device_of code_of size_of kept data_of
 too_deep = tells romfs [] (manifest_of (lines (dirs 1 65))) (Some (fault TOO_LARGE 0)) refl
 
 too_deep_in_cramfs : Tells (cramfs Little) [] (manifest_of (lines (dirs 1 65))) (Some (fault TOO_LARGE 0))
-unfolding lines dirs path_of_ds manifest_of read numbers_of fault_of octal decimal names_of is_bad_name percent_decode tree_of root_of file_at inode_of place_of data_align device_of code_of size_of kept data_of
+unfolding lines dirs path_of_ds manifest_of read numbers_of fault_of octal decimal names_of is_bad_name percent_decode
+    tree_of root_of file_at inode_of place_of data_align device_of code_of size_of kept data_of
 too_deep_in_cramfs = tells (cramfs Little) [] (manifest_of (lines (dirs 1 65))) (Some (fault TOO_LARGE 0)) refl

@@ -1,4 +1,4 @@
--- A manifest that fits a format gives a volume that can be laid out in it.
+-- The volume of a manifest that fits a format can be laid out in it.
 use Rattle.std.proofs.Common.{ℕ, List, length, map}
 use Rattle.manifest.specs.Grammar.{IsManifest}
 use Rattle.manifest.specs.Lines.{ManifestLines}

@@ -1,5 +1,6 @@
--- What the names of a manifest are, told from its lines.
-use Rattle.std.proofs.Common.{◌≡◌, ◌≢◌, ℕ, Bool, true, false, inl, inr, List, [], ◌∷◌, ◌++◌, Option, Some, None, refl, sym, ap, subst, ◌∙◌}
+-- The names of a manifest, from its lines.
+use Rattle.std.proofs.Common.{◌≡◌, ◌≢◌, ℕ, Bool, true, false, inl, inr, List, [], ◌∷◌, ◌++◌, Option, Some, None, refl}
+use Rattle.std.proofs.Common.{sym, ap, subst, ◌∙◌}
 use Rattle.std.specs.List.{AllByRecursion as Every}
 use Rattle.std.specs.Option.{option_and_then}
 use Rattle.record_forest.specs.Members.{Has, Pairs}
@@ -14,9 +15,11 @@ use Rattle.manifest.proofs.Checked.{AreChecked, sound_place}
 use Rattle.manifest_tree.specs.Names.{Inode, Names}
 use Rattle.manifest_tree.specs.Tree.{What, put_at, what_by, put_line, inode_by, inode_of, with_contents}
 use Rattle.manifest_tree.proofs.Found.{found, is_parent}
-use Rattle.manifest_tree.proofs.Law.{as_found, found_by, HaveFiles, grown_by, one_more, tree_found, parent_there, none_named, fewer}
+use Rattle.manifest_tree.proofs.Law.{as_found, found_by, HaveFiles, grown_by, one_more, tree_found, parent_there}
+use Rattle.manifest_tree.proofs.Law.{none_named, fewer}
 use Rattle.layout_terms.specs.Files.{files}
-use Rattle.manifest_layout.proofs.Sorted.{AreSorted, HoldAll, MoreFiles, put_at_sorted, put_at_hold, put_at_files, last_of}
+use Rattle.manifest_layout.proofs.Sorted.{AreSorted, HoldAll, MoreFiles, put_at_sorted, put_at_hold, put_at_files}
+use Rattle.manifest_layout.proofs.Sorted.{last_of}
 use Rattle.manifest_layout.proofs.Led.{IsFaultless, HasFile}
 
 -- a line that is not about the root
@@ -27,7 +30,8 @@ IsNamed l = (m : List ℕ) × (ms : List (List ℕ)) × (names_of l.path ≡ Som
 abbrev pub IsOwned : List Line → Inode → Type 0
 IsOwned ls i = Has (λ l. (i.line ≡ l.number) × IsNamed l) ls
 
-pub record IsGrown (P : List ℕ → What → Type 0) (all : List Line) (sizes : List ℕ) (ls : List Line) (n : Names) : Type 0 where
+pub record IsGrown (P : List ℕ → What → Type 0) (all : List Line) (sizes : List ℕ) (ls : List Line)
+    (n : Names) : Type 0 where
   pub sorted : AreSorted n
   pub hold : HoldAll P n
   pub owned : Every (IsOwned ls) (files n)
@@ -36,7 +40,8 @@ pub record IsGrown (P : List ℕ → What → Type 0) (all : List Line) (sizes :
 
 -- what the name of a line is to have
 abbrev pub Gives : (List ℕ → What → Type 0) → List Line → List ℕ → List Line → Line → Type 0
-Gives P all sizes latest l = (h : HasFile all sizes latest l) → (m : List ℕ) (ms : List (List ℕ)) → names_of l.path ≡ Some (m ∷ ms) → P (last_of m ms) (what_by l.word h.inode)
+Gives P all sizes latest l = (h : HasFile all sizes latest l) → (m : List ℕ) (ms : List (List ℕ))
+    → names_of l.path ≡ Some (m ∷ ms) → P (last_of m ms) (what_by l.word h.inode)
 
 pub inode_line : (all : List Line) (sizes : List ℕ) (l : Line) → (inode_of all sizes l).line ≡ l.number
 unfolding inode_of
@@ -126,7 +131,8 @@ module _ (P : List ℕ → What → Type 0) (all : List Line) (sizes : List ℕ)
     different m ms z = cc
 
   -- a line with this file and these names
-  named_line : (l : Line) (ls : List Line) (n : Names) (h : HasFile all sizes latest l) (m : List ℕ) (ms : List (List ℕ))
+  named_line : (l : Line) (ls : List Line) (n : Names) (h : HasFile all sizes latest l) (m : List ℕ)
+      (ms : List (List ℕ))
       → names_of l.path ≡ Some (m ∷ ms) → P (last_of m ms) (what_by l.word h.inode)
       → Every (λ k. l.number ≢ k.number) ls → is_parent (but_last (m ∷ ms)) n ≡ true → found (m ∷ ms) n ≡ None
       → IsGrown P all sizes ls n → IsGrown P all sizes (l ∷ ls) (put_at (what_by l.word h.inode) (m ∷ ms) n)
@@ -149,7 +155,11 @@ module _ (P : List ℕ → What → Type 0) (all : List Line) (sizes : List ℕ)
             hold = put_at_hold P (what_by l.word h.inode) m ms n p g.hold;
             owned = subst (λ is. Every (IsOwned (l ∷ ls)) is) same (owned_later l ls (files n) g.owned);
             apart = subst (λ is. Pairs (λ (i : Inode) (j : Inode). i.line ≢ j.line) is) same g.apart;
-            there = (λ z k. let v : false ≡ true = sym z ∙ t in absurd (cc), subst (λ is. Every (λ (k : Line). is_hard k.word ≡ false → IsNamed k → Has (λ (i : Inode). i ≡ inode_of all sizes k) is) ls) same g.there);
+            there = (
+              λ z k. let v : false ≡ true = sym z ∙ t in absurd (cc),
+              subst (λ is. Every (λ (k : Line). is_hard k.word ≡ false → IsNamed k
+                  → Has (λ (i : Inode). i ≡ inode_of all sizes k) is) ls) same g.there,
+            );
           }
       by false t =
           let o = file_more l.word h.inode (files n) (files (put_at (what_by l.word h.inode) (m ∷ ms) n)) t more in
@@ -162,13 +172,23 @@ module _ (P : List ℕ → What → Type 0) (all : List Line) (sizes : List ℕ)
           record {
             sorted = put_at_sorted (what_by l.word h.inode) m ms n parent none g.sorted;
             hold = put_at_hold P (what_by l.word h.inode) m ms n p g.hold;
-            owned = subst (λ is. Every (IsOwned (l ∷ ls)) is) new (every_put (IsOwned (l ∷ ls)) xs ys h.inode (owned_later l ls (xs ++ ys) owned) (inl (number, (m, ms, e))));
+            owned = subst (λ is. Every (IsOwned (l ∷ ls)) is) new
+                (every_put (IsOwned (l ∷ ls)) xs ys h.inode (owned_later l ls (xs ++ ys) owned)
+                (inl (number, (m, ms, e))));
             apart = subst (λ is. Pairs (λ (i : Inode) (j : Inode). i.line ≢ j.line) is) new
-                (pairs_more (λ (i : Inode) (j : Inode). i.line ≢ j.line) (λ i j d z. d (sym z)) xs ys h.inode (subst (λ is. Pairs (λ (i : Inode) (j : Inode). i.line ≢ j.line) is) old g.apart) (new_line l ls h.inode (xs ++ ys) number far owned));
+                (pairs_more (λ (i : Inode) (j : Inode). i.line ≢ j.line) (λ i j d z. d (sym z)) xs ys h.inode
+                (subst (λ is. Pairs (λ (i : Inode) (j : Inode). i.line ≢ j.line) is) old g.apart)
+                (new_line l ls h.inode (xs ++ ys) number far owned));
             there = (
-              λ z k. subst (λ is. Has (λ (i : Inode). i ≡ inode_of all sizes l) is) new (has_here (λ (i : Inode). i ≡ inode_of all sizes l) xs ys h.inode (h.own t)),
-              every_weaker (λ (k : Line). is_hard k.word ≡ false → IsNamed k → Has (λ (i : Inode). i ≡ inode_of all sizes k) (files n)) (λ (k : Line). is_hard k.word ≡ false → IsNamed k → Has (λ (i : Inode). i ≡ inode_of all sizes k) (files (put_at (what_by l.word h.inode) (m ∷ ms) n)))
-                  (λ k f a c. subst (λ is. Has (λ (i : Inode). i ≡ inode_of all sizes k) is) new (has_put (λ (i : Inode). i ≡ inode_of all sizes k) xs ys h.inode (subst (λ is. Has (λ (i : Inode). i ≡ inode_of all sizes k) is) old (f a c)))) ls g.there,
+              λ z k. subst (λ is. Has (λ (i : Inode). i ≡ inode_of all sizes l) is) new
+                  (has_here (λ (i : Inode). i ≡ inode_of all sizes l) xs ys h.inode (h.own t)),
+              every_weaker (λ (k : Line). is_hard k.word ≡ false → IsNamed k
+                  → Has (λ (i : Inode). i ≡ inode_of all sizes k) (files n))
+                  (λ (k : Line). is_hard k.word ≡ false → IsNamed k
+                  → Has (λ (i : Inode). i ≡ inode_of all sizes k) (files (put_at (what_by l.word h.inode) (m ∷ ms) n)))
+                  (λ k f a c. subst (λ is. Has (λ (i : Inode). i ≡ inode_of all sizes k) is) new
+                  (has_put (λ (i : Inode). i ≡ inode_of all sizes k) xs ys h.inode
+                  (subst (λ is. Has (λ (i : Inode). i ≡ inode_of all sizes k) is) old (f a c)))) ls g.there,
             );
           }
 
@@ -183,7 +203,8 @@ module _ (P : List ℕ → What → Type 0) (all : List Line) (sizes : List ℕ)
           → IsGrown P all sizes (l ∷ ls) (put_line l (Some h.inode) o n)
       by None e = absurd (not_named (is_dir l.word) (names_of l.path) clean.path e)
       by (Some []) e = root_line l ls n e g
-      by (Some (m ∷ ms)) e = named_line l ls n h m ms e (gives h m ms e) far (parent_there all sizes l ls m ms n f files e same)
+      by (Some (m ∷ ms)) e =
+          named_line l ls n h m ms e (gives h m ms e) far (parent_there all sizes l ls m ms n f files e same)
           (same m ms ∙ ap (option_and_then (as_found all sizes)) (none_named ls l.path m ms e (sound_place ls l f).1)) g
 
   -- the names of lines, from the last to the first
@@ -195,4 +216,5 @@ module _ (P : List ℕ → What → Type 0) (all : List Line) (sizes : List ℕ)
       let fs = fewer all sizes l ls f in
       let below = grown_is ls c.1 fs p.1 h.1 s.1 g.1 in
       let one = line_more l ls (grown_by all sizes ls) h.0 c.0 s.0 g.0 p.0 fs (tree_found all sizes ls c.1 fs) below in
-      subst (IsGrown P all sizes (l ∷ ls)) (sym (one_more all sizes l ls ∙ ap (λ o. put_line l o (names_of l.path) (grown_by all sizes ls)) h.0.is)) one
+      subst (IsGrown P all sizes (l ∷ ls))
+      (sym (one_more all sizes l ls ∙ ap (λ o. put_line l o (names_of l.path) (grown_by all sizes ls)) h.0.is)) one

@@ -1,5 +1,6 @@
 -- What the lines of a manifest make can be written in cramfs.
-use Rattle.std.proofs.Common.{◌≡◌, ℕ, ◌^◌, ◌<◌, ◌≤◌, true, false, inl, inr, List, length, reverse, map, get_or, Option, Some, None, refl, sym, ap, ◌∙◌, arith}
+use Rattle.std.proofs.Common.{◌≡◌, ℕ, ◌^◌, ◌<◌, ◌≤◌, true, false, inl, inr, List, length, reverse, map, get_or, Option}
+use Rattle.std.proofs.Common.{Some, None, refl, sym, ap, ◌∙◌, arith}
 use Rattle.std.specs.List.{AllByRecursion as Every}
 use Rattle.record_forest.proofs.Lists.{has_of}
 use Rattle.rom_tree.specs.declared.types.Kind.TheVariants as kind
@@ -36,7 +37,16 @@ sayable o i h =
 
 file_is : (cs : List (List ℕ)) (i : Inode) → IsSayable i → i.mode < 4096 → (2 ^ 24 ≤ i.size → ⊥) → FitsKind i.kind i
     → length (bytes_of cs i.fill) ≡ i.size → IsAligned i.align → IsFile cs i
-file_is cs i s m t k e a = record { kind = k; mode = m; owner = s.owner; bytes = e; small = under_by (2 ^ 24) i.size t; fours = a.fours; some = a.some_fours; aligned = a.of_four }
+file_is cs i s m t k e a = record {
+  kind = k;
+  mode = m;
+  owner = s.owner;
+  bytes = e;
+  small = under_by (2 ^ 24) i.size t;
+  fours = a.fours;
+  some = a.some_fours;
+  aligned = a.of_four;
+}
 
 -- each alignment of a `file` line is one
 abbrev pub AreAligned : List Line → Type 0
@@ -48,12 +58,15 @@ module _ (o : Order) where
       → (HasBadAttribute (cramfs o) (with_contents all (map length cs) l x) → ⊥)
       → (2 ^ 24 ≤ (with_contents all (map length cs) l x).size → ⊥)
       → IsFile cs (with_contents all (map length cs) l x)
-  contents_are cs all l None a e z m h t = file_is cs (plain l kind.Regular 4 0 no_bytes) (sayable o (plain l kind.Regular 4 0 no_bytes) h) m t z refl four_aligned
+  contents_are cs all l None a e z m h t =
+      file_is cs (plain l kind.Regular 4 0 no_bytes)
+      (sayable o (plain l kind.Regular 4 0 no_bytes) h) m t z refl four_aligned
   contents_are cs all l (Some x) a e z m h t =
       let k = sources_before x.number all in
       let i = plain l kind.Regular x.align (get_or (map length cs) k 0) (source k) in
       let f = filed_member (reverse all) l.path x e in
-      file_is cs i (sayable o i h) m t z (size_is cs k) (has_of (λ (y : Line). is_file y.word ≡ true → IsAligned y.align) (reverse all) x f.0 a f.1)
+      file_is cs i (sayable o i h) m t z (size_is cs k)
+      (has_of (λ (y : Line). is_file y.word ≡ true → IsAligned y.align) (reverse all) x f.0 a f.1)
 
   made_by : (cs : List (List ℕ)) (all : List Line) (l : Line) (w : Word) → l.word ≡ w → is_hard w ≡ false
       → is_dir w ≡ false → AreAligned (reverse all) → IsLine l → IsFaultless l
@@ -61,18 +74,27 @@ module _ (o : Order) where
       → (2 ^ 24 ≤ (inode_by all (map length cs) w l).size → ⊥) → IsFile cs (inode_by all (map length cs) w l)
   made_by cs all l Dir e h d a i f b t = absurd (cc)
   made_by cs all l Hard e h d a i f b t = absurd (cc)
-  made_by cs all l File e h d a i f b t = contents_are cs all l (filed (reverse all) l.path) a refl (i.numbers (ap is_device e)) i.mode b t
-  made_by cs all l Same e h d a i f b t = contents_are cs all l (filed (reverse all) l.path) a refl (i.numbers (ap is_device e)) i.mode b t
+  made_by cs all l File e h d a i f b t =
+      contents_are cs all l (filed (reverse all) l.path) a refl (i.numbers (ap is_device e)) i.mode b t
+  made_by cs all l Same e h d a i f b t =
+      contents_are cs all l (filed (reverse all) l.path) a refl (i.numbers (ap is_device e)) i.mode b t
   made_by cs all l Slink e h d a i f b t =
       let n = plain l kind.Symlink 4 (length l.text) (text l.text) in
       let z = i.numbers (ap is_device e) in
       let g = good_text 4095 l.text (ap (λ (w : Word). is_bad_text w l.text) (sym e) ∙ f.text) in
       let p = i.text (ap is_slink e) in
       file_is cs n (sayable o n b) i.mode t (z.0, z.1, omega (arith, p), g.0) refl four_aligned
-  made_by cs all l Block e h d a i f b t = let n = plain l kind.Block 4 0 no_bytes in let s = sayable o n b in file_is cs n s i.mode t (s.major, s.minor, refl) refl four_aligned
-  made_by cs all l Character e h d a i f b t = let n = plain l kind.Character 4 0 no_bytes in let s = sayable o n b in file_is cs n s i.mode t (s.major, s.minor, refl) refl four_aligned
-  made_by cs all l Fifo e h d a i f b t = let n = plain l kind.Fifo 4 0 no_bytes in let z = i.numbers (ap is_device e) in file_is cs n (sayable o n b) i.mode t (z.0, z.1, refl) refl four_aligned
-  made_by cs all l Socket e h d a i f b t = let n = plain l kind.Socket 4 0 no_bytes in let z = i.numbers (ap is_device e) in file_is cs n (sayable o n b) i.mode t (z.0, z.1, refl) refl four_aligned
+  made_by cs all l Block e h d a i f b t =
+      let n = plain l kind.Block 4 0 no_bytes in let s =
+      sayable o n b in file_is cs n s i.mode t (s.major, s.minor, refl) refl four_aligned
+  made_by cs all l Character e h d a i f b t =
+      let n = plain l kind.Character 4 0 no_bytes in let s =
+      sayable o n b in file_is cs n s i.mode t (s.major, s.minor, refl) refl four_aligned
+  made_by cs all l Fifo e h d a i f b t = let n = plain l kind.Fifo 4 0 no_bytes in let z =
+      i.numbers (ap is_device e) in file_is cs n (sayable o n b) i.mode t (z.0, z.1, refl) refl four_aligned
+  made_by cs all l Socket e h d a i f b t =
+      let n = plain l kind.Socket 4 0 no_bytes in let z =
+      i.numbers (ap is_device e) in file_is cs n (sayable o n b) i.mode t (z.0, z.1, refl) refl four_aligned
 
   pub file_made : (cs : List (List ℕ)) (all : List Line) (l : Line) → is_hard l.word ≡ false → is_dir l.word ≡ false
       → AreAligned (reverse all) → IsLine l → IsFaultless l
@@ -87,7 +109,14 @@ module _ (o : Order) where
   folder_by all sizes l own Dir e d i b t =
       let n = plain l kind.Directory 4 0 no_bytes in
       let s = sayable o n b in
-      record { kind = refl; mode = i.mode; owner = s.owner; numbers = i.numbers (ap is_device e); bytes = refl; small = t }
+      record {
+        kind = refl;
+        mode = i.mode;
+        owner = s.owner;
+        numbers = i.numbers (ap is_device e);
+        bytes = refl;
+        small = t;
+      }
   folder_by all sizes l own File e d i b t = absurd (cc)
   folder_by all sizes l own Slink e d i b t = absurd (cc)
   folder_by all sizes l own Block e d i b t = absurd (cc)
@@ -104,4 +133,11 @@ module _ (o : Order) where
   folder_made all sizes l own d i b t = folder_by all sizes l own l.word refl d i b t
 
 pub bare_made : (own : Names) → list_len own < 2 ^ 24 → IsFolder bare_root own
-bare_made own t = record { kind = refl; mode = omega arith; owner = (omega arith, omega arith); numbers = (refl, refl); bytes = refl; small = t }
+bare_made own t = record {
+  kind = refl;
+  mode = omega arith;
+  owner = (omega arith, omega arith);
+  numbers = (refl, refl);
+  bytes = refl;
+  small = t;
+}

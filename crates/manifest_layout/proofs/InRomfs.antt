@@ -1,5 +1,6 @@
 -- What the lines of a manifest make can be written in romfs.
-use Rattle.std.proofs.Common.{◌≡◌, ℕ, ◌*◌, ◌<◌, ◌==◌, max, if◌then◌else◌, true, false, inl, inr, List, length, reverse, map, get_or, Option, Some, None, refl, sym, ap, ◌∙◌, arith}
+use Rattle.std.proofs.Common.{◌≡◌, ℕ, ◌*◌, ◌<◌, ◌==◌, max, if◌then◌else◌, true, false, inl, inr, List, length, reverse}
+use Rattle.std.proofs.Common.{map, get_or, Option, Some, None, refl, sym, ap, ◌∙◌, arith}
 use Rattle.std.specs.List.{AllByRecursion as Every}
 use Rattle.record_forest.proofs.Lists.{has_of}
 use Rattle.rom_tree.specs.declared.types.Kind.TheVariants as kind
@@ -40,13 +41,24 @@ sayable i h =
 
 data_aligned : (i : Inode) → IsAligned i.align → (k : ℕ) × (0 < k) × (data_align i ≡ 16 * k)
 unfolding data_align
-data_aligned i h = elim (i.size == 0) as (λ t. (k : ℕ) × (0 < k) × ((if t then 16 else max 16 i.align) ≡ 16 * k)) [ true ↦ (1, omega arith, refl) | false ↦ (h.sixteens, h.some, h.of_sixteen) ]
+data_aligned i h = elim (i.size == 0) as (λ t. (k : ℕ) × (0 < k) × ((if t then 16 else max 16 i.align) ≡ 16 * k))
+    [ true ↦ (1, omega arith, refl) | false ↦ (h.sixteens, h.some, h.of_sixteen) ]
 
 file_is : (cs : List (List ℕ)) (i : Inode) → IsSayable i → FitsKind i.kind i → length (bytes_of cs i.fill) ≡ i.size
     → IsAligned i.align → IsFile cs i
 file_is cs i s k e a =
     let d = data_aligned i a in
-    record { kind = k; mode = s.mode; owner = s.owner; bytes = e; sixteens = d.0; some = d.1; aligned = d.2; times = a.times; of_align = a.of_times }
+    record {
+      kind = k;
+      mode = s.mode;
+      owner = s.owner;
+      bytes = e;
+      sixteens = d.0;
+      some = d.1;
+      aligned = d.2;
+      times = a.times;
+      of_align = a.of_times;
+    }
 
 -- each alignment of a `file` line is one
 abbrev pub AreAligned : List Line → Type 0
@@ -56,30 +68,39 @@ contents_are : (cs : List (List ℕ)) (all : List Line) (l : Line) (o : Option L
     → filed (reverse all) l.path ≡ o → (l.major ≡ 0) × (l.minor ≡ 0)
     → (HasBadAttribute romfs (with_contents all (map length cs) l o) → ⊥)
     → IsFile cs (with_contents all (map length cs) l o)
-contents_are cs all l None a e z h = file_is cs (plain l kind.Regular 4 0 no_bytes) (sayable (plain l kind.Regular 4 0 no_bytes) h) z refl four_aligned
+contents_are cs all l None a e z h =
+    file_is cs (plain l kind.Regular 4 0 no_bytes) (sayable (plain l kind.Regular 4 0 no_bytes) h) z refl four_aligned
 contents_are cs all l (Some x) a e z h =
     let k = sources_before x.number all in
     let i = plain l kind.Regular x.align (get_or (map length cs) k 0) (source k) in
     let m = filed_member (reverse all) l.path x e in
-    file_is cs i (sayable i h) z (size_is cs k) (has_of (λ (y : Line). is_file y.word ≡ true → IsAligned y.align) (reverse all) x m.0 a m.1)
+    file_is cs i (sayable i h) z (size_is cs k)
+    (has_of (λ (y : Line). is_file y.word ≡ true → IsAligned y.align) (reverse all) x m.0 a m.1)
 
 made_by : (cs : List (List ℕ)) (all : List Line) (l : Line) (w : Word) → l.word ≡ w → is_hard w ≡ false
     → is_dir w ≡ false → AreAligned (reverse all) → IsLine l → IsFaultless l
     → (HasBadAttribute romfs (inode_by all (map length cs) w l) → ⊥) → IsFile cs (inode_by all (map length cs) w l)
 made_by cs all l Dir e h d a i f b = absurd (cc)
 made_by cs all l Hard e h d a i f b = absurd (cc)
-made_by cs all l File e h d a i f b = contents_are cs all l (filed (reverse all) l.path) a refl (i.numbers (ap is_device e)) b
-made_by cs all l Same e h d a i f b = contents_are cs all l (filed (reverse all) l.path) a refl (i.numbers (ap is_device e)) b
+made_by cs all l File e h d a i f b =
+    contents_are cs all l (filed (reverse all) l.path) a refl (i.numbers (ap is_device e)) b
+made_by cs all l Same e h d a i f b =
+    contents_are cs all l (filed (reverse all) l.path) a refl (i.numbers (ap is_device e)) b
 made_by cs all l Slink e h d a i f b =
     let n = plain l kind.Symlink 4 (length l.text) (text l.text) in
     let z = i.numbers (ap is_device e) in
     let t = good_text 4095 l.text (ap (λ (w : Word). is_bad_text w l.text) (sym e) ∙ f.text) in
     let p = i.text (ap is_slink e) in
     file_is cs n (sayable n b) (z.0, z.1, omega (arith, p), t.0) refl four_aligned
-made_by cs all l Block e h d a i f b = let n = plain l kind.Block 4 0 no_bytes in let s = sayable n b in file_is cs n s (s.major, s.minor, refl) refl four_aligned
-made_by cs all l Character e h d a i f b = let n = plain l kind.Character 4 0 no_bytes in let s = sayable n b in file_is cs n s (s.major, s.minor, refl) refl four_aligned
-made_by cs all l Fifo e h d a i f b = let n = plain l kind.Fifo 4 0 no_bytes in let z = i.numbers (ap is_device e) in file_is cs n (sayable n b) (z.0, z.1, refl) refl four_aligned
-made_by cs all l Socket e h d a i f b = let n = plain l kind.Socket 4 0 no_bytes in let z = i.numbers (ap is_device e) in file_is cs n (sayable n b) (z.0, z.1, refl) refl four_aligned
+made_by cs all l Block e h d a i f b = let n = plain l kind.Block 4 0 no_bytes in let s =
+    sayable n b in file_is cs n s (s.major, s.minor, refl) refl four_aligned
+made_by cs all l Character e h d a i f b =
+    let n = plain l kind.Character 4 0 no_bytes in let s =
+    sayable n b in file_is cs n s (s.major, s.minor, refl) refl four_aligned
+made_by cs all l Fifo e h d a i f b = let n = plain l kind.Fifo 4 0 no_bytes in let z =
+    i.numbers (ap is_device e) in file_is cs n (sayable n b) (z.0, z.1, refl) refl four_aligned
+made_by cs all l Socket e h d a i f b = let n = plain l kind.Socket 4 0 no_bytes in let z =
+    i.numbers (ap is_device e) in file_is cs n (sayable n b) (z.0, z.1, refl) refl four_aligned
 
 pub file_made : (cs : List (List ℕ)) (all : List Line) (l : Line) → is_hard l.word ≡ false → is_dir l.word ≡ false
     → AreAligned (reverse all) → IsLine l → IsFaultless l

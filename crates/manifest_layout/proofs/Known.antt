@@ -1,5 +1,6 @@
--- What is known of the lines of a manifest where none of them misfits a format.
-use Rattle.std.proofs.Common.{◌≡◌, ◌≢◌, ℕ, ◌<◌, not, Bool, true, false, inl, inr, cond, List, [], ◌∷◌, ◌++◌, reverse, Option, Some, None, refl, sym, ap, subst, ◌∙◌, arith}
+-- The known facts of the lines of a manifest if none of them has a misfit in a format.
+use Rattle.std.proofs.Common.{◌≡◌, ◌≢◌, ℕ, ◌<◌, not, Bool, true, false, inl, inr, cond, List, [], ◌∷◌, ◌++◌, reverse}
+use Rattle.std.proofs.Common.{Option, Some, None, refl, sym, ap, subst, ◌∙◌, arith}
 use Rattle.std.proofs.lemmas.List.{reverse-append, reverse-reverse}
 use Rattle.std.specs.Cmp.Lexicographic.{bytes_decides}
 use Rattle.std.specs.List.{AllByRecursion as Every}
@@ -8,7 +9,8 @@ use Rattle.std.specs.Str.{bytes_eq}
 use Rattle.rom_faults.specs.declared.fault.Fault.{Fault}
 use Rattle.record_forest.specs.Faults.{IsNone}
 use Rattle.record_forest.specs.Members.{Has, Pairs}
-use Rattle.record_forest.proofs.Lists.{every_weaker, every_of, every_left, every_right, has_every, has_weaker, pairs_pick}
+use Rattle.record_forest.proofs.Lists.{every_weaker, every_of, every_left, every_right, has_every, has_weaker}
+use Rattle.record_forest.proofs.Lists.{pairs_pick}
 use Rattle.manifest.specs.declared.line.Line.{Line}
 use Rattle.manifest.specs.Paths.{names_of, is_bad_path}
 use Rattle.manifest.specs.Texts.{is_bad}
@@ -45,8 +47,12 @@ lines_fit f m sizes h = every_of (Fits f m sizes) m.lines none
 
     none : (l : Line) → Has (λ y. y ≡ l) m.lines → Fits f m sizes l
     none l here k x =
-        h (record { number = k; at = l.number }) (of_line (has_weaker (λ y. y ≡ l) (λ y. (l.number ≡ y.number) × HasMisfit f m sizes y k)
-        (λ y e. (ap (λ (z : Line). z.number) (sym e), subst (λ (z : Line). HasMisfit f m sizes z k) (sym e) x)) m.lines here))
+        h (record { number = k; at = l.number })
+        (of_line (has_weaker (λ y. y ≡ l) (λ y. (l.number ≡ y.number) × HasMisfit f m sizes y k)
+        (λ y e. (
+          ap (λ (z : Line). z.number) (sym e),
+          subst (λ (z : Line). HasMisfit f m sizes z k) (sym e) x,
+        )) m.lines here))
 
 -- the lines of a manifest from the last to the first, and what is known of them
 pub record IsKnown (f : Format) (m : ManifestLines) (sizes : List ℕ) (latest : List Line) : Type 0 where
@@ -82,9 +88,13 @@ known f m sizes h n =
         numbered = v.numbered;
         apart = v.apart;
         faultless = faultless;
-        fit = every_reverse (Fits f m sizes) c.latest (subst (Every (Fits f m sizes)) c.reversed (lines_fit f m sizes n));
-        files = every_weaker (LedIn c.latest) (HasFile m.lines sizes c.latest) (λ l k. has_file m.lines sizes c.latest l back k) c.latest (all_led c.latest c.checked);
-        aligned = subst (Every (λ (k : Line). is_file k.word ≡ true → IsAligned k.align)) (sym back) (every_weaker IsFaultless (λ (k : Line). is_file k.word ≡ true → IsAligned k.align) (λ k x e. is_aligned k.align (x.align e)) c.latest faultless);
+        fit = every_reverse (Fits f m sizes) c.latest
+            (subst (Every (Fits f m sizes)) c.reversed (lines_fit f m sizes n));
+        files = every_weaker (LedIn c.latest) (HasFile m.lines sizes c.latest)
+            (λ l k. has_file m.lines sizes c.latest l back k) c.latest (all_led c.latest c.checked);
+        aligned = subst (Every (λ (k : Line). is_file k.word ≡ true → IsAligned k.align)) (sym back)
+            (every_weaker IsFaultless (λ (k : Line). is_file k.word ≡ true → IsAligned k.align)
+            (λ k x e. is_aligned k.align (x.align e)) c.latest faultless);
         volume = v.volume;
       },
     )
@@ -109,14 +119,21 @@ root_names = refl
 root_led : (ls : List Line) (k : Line) → Every IsFaultless ls → led ls (47 ∷ []) ≡ Some k
     → (is_dir k.word ≡ true) × (names_of k.path ≡ Some [])
 root_led [] k h e = absurd (cc)
-root_led (l ∷ ls) k h e = elim (bytes_eq l.path (47 ∷ [])) as (λ t. bytes_eq l.path (47 ∷ []) ≡ t → cond t (cond (is_hard l.word) (led ls l.text) (Some l)) (led ls (47 ∷ [])) ≡ Some k → (is_dir k.word ≡ true) × (names_of k.path ≡ Some [])) [
-  | true ↦ λ p g.
-      let names : names_of l.path ≡ Some [] = ap names_of ((bytes_decides l.path (47 ∷ [])).0 p) ∙ root_names in
-      let dir : is_dir l.word ≡ true = is_true (is_dir l.word) (sym (ap (is_bad_path (is_dir l.word)) names) ∙ h.0.path) in
-      let same : l ≡ k = same_some (sym (ap (λ (b : Bool). cond b (led ls l.text) (Some l)) (dir_not_hard l.word dir)) ∙ g) in
-      (subst (λ (x : Line). is_dir x.word ≡ true) same dir, subst (λ (x : Line). names_of x.path ≡ Some []) same names)
-  | false ↦ λ p g. root_led ls k h.1 g
-] refl e
+root_led (l ∷ ls) k h e = elim (bytes_eq l.path (47 ∷ [])) as
+    (λ t. bytes_eq l.path (47 ∷ []) ≡ t
+    → cond t (cond (is_hard l.word) (led ls l.text) (Some l)) (led ls (47 ∷ [])) ≡ Some k
+    → (is_dir k.word ≡ true) × (names_of k.path ≡ Some [])) [
+      | true ↦ λ p g.
+          let names : names_of l.path ≡ Some [] = ap names_of ((bytes_decides l.path (47 ∷ [])).0 p) ∙ root_names in
+          let dir : is_dir l.word ≡ true =
+          is_true (is_dir l.word) (sym (ap (is_bad_path (is_dir l.word)) names) ∙ h.0.path) in
+          let same : l ≡ k =
+          same_some (sym (ap (λ (b : Bool). cond b (led ls l.text) (Some l)) (dir_not_hard l.word dir)) ∙ g) in (
+            subst (λ (x : Line). is_dir x.word ≡ true) same dir,
+            subst (λ (x : Line). names_of x.path ≡ Some []) same names,
+          )
+      | false ↦ λ p g. root_led ls k h.1 g
+    ] refl e
   where
     is_true : (b : Bool) → not b ≡ false → b ≡ true
     is_true true e = refl
@@ -140,13 +157,15 @@ root_is m sizes latest back h = by (led latest (47 ∷ [])) refl
     by None e = bare (ap (λ (o : Option Line). or_else bare_root (option_map (inode_of m.lines sizes) o)) (at_root ∙ e))
     by (Some k) e =
         let r = root_led latest k h e in
-        by_line k (ap (λ (o : Option Line). or_else bare_root (option_map (inode_of m.lines sizes) o)) (at_root ∙ e)) (led_member latest (47 ∷ []) k e).0 r.0 r.1
+        by_line k (ap (λ (o : Option Line). or_else bare_root (option_map (inode_of m.lines sizes) o)) (at_root ∙ e))
+        (led_member latest (47 ∷ []) k e).0 r.0 r.1
 
 -- no file below the root is of its line
 pub root_apart : (m : ManifestLines) (sizes : List ℕ) (latest : List Line) (is : List Inode) → RootIs m sizes latest
     → Every (λ l. 0 < l.number) latest → Pairs (λ l k. l.number ≢ k.number) latest
     → Every (IsOwned latest) is → Every (λ j. (root_of m.lines sizes).line ≢ j.line) is
-root_apart m sizes latest is (bare e) pos apart owned = every_weaker (IsOwned latest) (λ j. (root_of m.lines sizes).line ≢ j.line) differ is owned
+root_apart m sizes latest is (bare e) pos apart owned =
+    every_weaker (IsOwned latest) (λ j. (root_of m.lines sizes).line ≢ j.line) differ is owned
   where
     number : (root_of m.lines sizes).line ≡ 0
     number = ap (λ (i : Inode). i.line) e
@@ -157,7 +176,8 @@ root_apart m sizes latest is (bare e) pos apart owned = every_weaker (IsOwned la
         let p = k.1 in
         let q = k.2.0 in
         absurd (omega (arith, p, q, number, z))
-root_apart m sizes latest is (by_line k e here d names) pos apart owned = every_weaker (IsOwned latest) (λ j. (root_of m.lines sizes).line ≢ j.line) differ is owned
+root_apart m sizes latest is (by_line k e here d names) pos apart owned =
+    every_weaker (IsOwned latest) (λ j. (root_of m.lines sizes).line ≢ j.line) differ is owned
   where
     number : (root_of m.lines sizes).line ≡ k.number
     number = ap (λ (i : Inode). i.line) e ∙ inode_line m.lines sizes k
@@ -166,9 +186,10 @@ root_apart m sizes latest is (by_line k e here d names) pos apart owned = every_
     clash m' ms z = cc
 
     differ : (j : Inode) → IsOwned latest j → (root_of m.lines sizes).line ≢ j.line
-    differ j h z = elim (pairs_pick (λ (l : Line) (k : Line). l.number ≢ k.number) (λ x. x ≡ k) (λ l. (j.line ≡ l.number) × IsNamed l) latest apart here h) [
-      | inl s ↦ clash s.2.1.0 s.2.1.1 (sym (ap (λ (x : Line). names_of x.path) s.1 ∙ names) ∙ s.2.1.2)
-      | inr s ↦
-          let a : s.0.number ≡ s.1.number = ap (λ (x : Line). x.number) s.2 ∙ sym number ∙ z ∙ s.3.0 in
-          elim s.4 [ inl n ↦ n a | inr n ↦ n (sym a) ]
-    ]
+    differ j h z = elim (pairs_pick (λ (l : Line) (k : Line). l.number ≢ k.number) (λ x. x ≡ k)
+        (λ l. (j.line ≡ l.number) × IsNamed l) latest apart here h) [
+          | inl s ↦ clash s.2.1.0 s.2.1.1 (sym (ap (λ (x : Line). names_of x.path) s.1 ∙ names) ∙ s.2.1.2)
+          | inr s ↦
+              let a : s.0.number ≡ s.1.number = ap (λ (x : Line). x.number) s.2 ∙ sym number ∙ z ∙ s.3.0 in
+              elim s.4 [ inl n ↦ n a | inr n ↦ n (sym a) ]
+        ]

@@ -1,4 +1,4 @@
--- There is no more than one least misfit, and none where there is no misfit.
+-- There is no more than one least misfit, and none if there is no misfit.
 use Rattle.std.proofs.Common.{◌≡◌, ℕ, List, sym, ap, ◌∙◌, arith, inl, inr}
 use Rattle.rom_faults.specs.declared.fault.Fault.{Fault}
 use Rattle.record_forest.specs.Faults.{NotAfter}

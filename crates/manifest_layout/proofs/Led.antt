@@ -1,5 +1,6 @@
 -- What the path of a line leads to, among all lines, and that a line has no fault.
-use Rattle.std.proofs.Common.{◌≡◌, ℕ, ◌||◌, ◌&&◌, not, Bool, true, false, inl, inr, cond, List, [], ◌∷◌, reverse, Option, Some, None, refl, sym, ap, subst, ◌∙◌}
+use Rattle.std.proofs.Common.{◌≡◌, ℕ, ◌||◌, ◌&&◌, not, Bool, true, false, inl, inr, cond, List, [], ◌∷◌, reverse}
+use Rattle.std.proofs.Common.{Option, Some, None, refl, sym, ap, subst, ◌∙◌}
 use Rattle.std.specs.Cmp.Lexicographic.{bytes_decides, nat_list_eq_equiv}
 use Rattle.std.specs.List.{AllByRecursion as Every}
 use Rattle.std.specs.Option.{option_map, is_some}
@@ -23,40 +24,53 @@ use Rattle.manifest_tree.specs.Tree.{inode_of, file_at}
 pub led_member : (ls : List Line) (p : List ℕ) (k : Line) → led ls p ≡ Some k
     → Has (λ x. x ≡ k) ls × (is_hard k.word ≡ false)
 led_member [] p k e = absurd (cc)
-led_member (l ∷ ls) p k e = elim (bytes_eq l.path p) as (λ t. cond t (cond (is_hard l.word) (led ls l.text) (Some l)) (led ls p) ≡ Some k → Has (λ x. x ≡ k) (l ∷ ls) × (is_hard k.word ≡ false)) [
-  | true ↦ λ g. elim (is_hard l.word) as (λ h. is_hard l.word ≡ h → cond h (led ls l.text) (Some l) ≡ Some k → Has (λ x. x ≡ k) (l ∷ ls) × (is_hard k.word ≡ false)) [
-    | true ↦ λ i j. let r = led_member ls l.text k j in (inr r.0, r.1)
-    | false ↦ λ i j. (inl (same_some j), subst (λ (x : Line). is_hard x.word ≡ false) (same_some j) i)
-  ] refl g
-  | false ↦ λ g. let r = led_member ls p k g in (inr r.0, r.1)
-] e
+led_member (l ∷ ls) p k e = elim (bytes_eq l.path p) as
+    (λ t. cond t (cond (is_hard l.word) (led ls l.text) (Some l)) (led ls p) ≡ Some k
+    → Has (λ x. x ≡ k) (l ∷ ls) × (is_hard k.word ≡ false)) [
+      | true ↦ λ g. elim (is_hard l.word) as
+          (λ h. is_hard l.word ≡ h → cond h (led ls l.text) (Some l) ≡ Some k
+          → Has (λ x. x ≡ k) (l ∷ ls) × (is_hard k.word ≡ false)) [
+            | true ↦ λ i j. let r = led_member ls l.text k j in (inr r.0, r.1)
+            | false ↦ λ i j. (inl (same_some j), subst (λ (x : Line). is_hard x.word ≡ false) (same_some j) i)
+          ] refl g
+      | false ↦ λ g. let r = led_member ls p k g in (inr r.0, r.1)
+    ] e
 
 pub filed_member : (ls : List Line) (p : List ℕ) (k : Line) → filed ls p ≡ Some k
     → Has (λ x. x ≡ k) ls × (is_file k.word ≡ true)
 filed_member [] p k e = absurd (cc)
-filed_member (l ∷ ls) p k e = elim (bytes_eq l.path p) as (λ t. cond t (cond (is_hard l.word || is_same l.word) (filed ls l.text) (cond (is_file l.word) (Some l) None)) (filed ls p) ≡ Some k → Has (λ x. x ≡ k) (l ∷ ls) × (is_file k.word ≡ true)) [
-  | true ↦ λ g. elim (is_hard l.word || is_same l.word) as (λ h. cond h (filed ls l.text) (cond (is_file l.word) (Some l) None) ≡ Some k → Has (λ x. x ≡ k) (l ∷ ls) × (is_file k.word ≡ true)) [
-    | true ↦ λ j. let r = filed_member ls l.text k j in (inr r.0, r.1)
-    | false ↦ λ j. elim (is_file l.word) as (λ h. is_file l.word ≡ h → cond h (Some l) None ≡ Some k → Has (λ x. x ≡ k) (l ∷ ls) × (is_file k.word ≡ true)) [
-      | true ↦ λ a b. (inl (same_some b), subst (λ (x : Line). is_file x.word ≡ true) (same_some b) a)
-      | false ↦ λ a b. absurd (cc)
-    ] refl j
-  ] g
-  | false ↦ λ g. let r = filed_member ls p k g in (inr r.0, r.1)
-] e
+filed_member (l ∷ ls) p k e = elim (bytes_eq l.path p) as
+    (λ t. cond t (cond (is_hard l.word || is_same l.word) (filed ls l.text) (cond (is_file l.word) (Some l) None))
+    (filed ls p) ≡ Some k → Has (λ x. x ≡ k) (l ∷ ls) × (is_file k.word ≡ true)) [
+      | true ↦ λ g. elim (is_hard l.word || is_same l.word) as
+          (λ h. cond h (filed ls l.text) (cond (is_file l.word) (Some l) None) ≡ Some k
+          → Has (λ x. x ≡ k) (l ∷ ls) × (is_file k.word ≡ true)) [
+            | true ↦ λ j. let r = filed_member ls l.text k j in (inr r.0, r.1)
+            | false ↦ λ j. elim (is_file l.word) as
+                (λ h. is_file l.word ≡ h → cond h (Some l) None ≡ Some k
+                → Has (λ x. x ≡ k) (l ∷ ls) × (is_file k.word ≡ true)) [
+                  | true ↦ λ a b. (inl (same_some b), subst (λ (x : Line). is_file x.word ≡ true) (same_some b) a)
+                  | false ↦ λ a b. absurd (cc)
+                ] refl j
+          ] g
+      | false ↦ λ g. let r = filed_member ls p k g in (inr r.0, r.1)
+    ] e
 
--- where the path of a line leads
+-- the line to which the path of a line leads
 pub record LedIn (all : List Line) (l : Line) : Type 0 where
   pub own : is_hard l.word ≡ false → led all l.path ≡ Some l
   pub other : is_hard l.word ≡ true
-      → (k : Line) × (led all l.path ≡ Some k) × Has (λ x. x ≡ k) all × (is_hard k.word ≡ false) × (is_dir k.word ≡ false)
+      → (k : Line) × (led all l.path ≡ Some k) × Has (λ x. x ≡ k) all × (is_hard k.word ≡ false)
+      × (is_dir k.word ≡ false)
 
 pub no_path : (ls : List Line) (p : List ℕ) → is_some (line_at ls p) ≡ false → Every (λ k. bytes_eq k.path p ≡ false) ls
 no_path [] p h = tt
-no_path (l ∷ ls) p h = elim (bytes_eq l.path p) as (λ t. bytes_eq l.path p ≡ t → is_some (cond t (Some l) (line_at ls p)) ≡ false → (bytes_eq l.path p ≡ false) × Every (λ k. bytes_eq k.path p ≡ false) ls) [
-  | true ↦ λ e g. absurd (cc)
-  | false ↦ λ e g. (e, no_path ls p g)
-] refl h
+no_path (l ∷ ls) p h = elim (bytes_eq l.path p) as
+    (λ t. bytes_eq l.path p ≡ t → is_some (cond t (Some l) (line_at ls p)) ≡ false
+    → (bytes_eq l.path p ≡ false) × Every (λ k. bytes_eq k.path p ≡ false) ls) [
+      | true ↦ λ e g. absurd (cc)
+      | false ↦ λ e g. (e, no_path ls p g)
+    ] refl h
 
 -- a `hard` line's text leads to a line that makes a file
 hard_target : (ls : List Line) (l : Line) → is_hard l.word ≡ true → has_target ls l.word l.text ≡ true
@@ -80,13 +94,19 @@ not_false false h = refl
 
 pub all_led : (ls : List Line) → AreChecked ls → Every (LedIn ls) ls
 all_led [] c = tt
-all_led (l ∷ ls) c = (here, every_weaker (λ k. LedIn ls k × (bytes_eq k.path l.path ≡ false)) (LedIn (l ∷ ls)) past ls (every_both (LedIn ls) (λ k. bytes_eq k.path l.path ≡ false) ls (all_led ls c.1) (no_path ls l.path (sound_place ls l c.0).1)))
+all_led (l ∷ ls) c = (
+  here,
+  every_weaker (λ k. LedIn ls k × (bytes_eq k.path l.path ≡ false)) (LedIn (l ∷ ls)) past ls
+      (every_both (LedIn ls) (λ k. bytes_eq k.path l.path ≡ false) ls (all_led ls c.1)
+      (no_path ls l.path (sound_place ls l c.0).1)),
+)
   where
     self : bytes_eq l.path l.path ≡ true
     self = (bytes_decides l.path l.path).1 refl
 
     target : (o : Option Line) → led ls l.text ≡ o → is_target o ≡ true → led (l ∷ ls) l.path ≡ o
-        → (k : Line) × (led (l ∷ ls) l.path ≡ Some k) × Has (λ x. x ≡ k) (l ∷ ls) × (is_hard k.word ≡ false) × (is_dir k.word ≡ false)
+        → (k : Line) × (led (l ∷ ls) l.path ≡ Some k) × Has (λ x. x ≡ k) (l ∷ ls) × (is_hard k.word ≡ false)
+        × (is_dir k.word ≡ false)
     target None e t g = absurd (cc)
     target (Some k) e t g = let r = led_member ls l.text k e in (k, g, inr r.0, r.1, not_false (is_dir k.word) t)
 
@@ -111,11 +131,14 @@ pub record IsFaultless (l : Line) : Type 0 where
 faultless : (ls : List Line) (l : Line) → fault_of ls l ≡ None → IsFaultless l
 unfolding fault_of
 faultless ls l h =
-    by (is_bad_path (is_dir l.word) (names_of l.path)) (is_bad_text l.word l.text) (not (has_parent ls (parent_of (names_of l.path)))) (is_some (line_at ls l.path)) (is_file l.word) (is_align l.align) _ refl refl refl refl h
+    by (is_bad_path (is_dir l.word) (names_of l.path)) (is_bad_text l.word l.text)
+    (not (has_parent ls (parent_of (names_of l.path)))) (is_some (line_at ls l.path)) (is_file l.word)
+    (is_align l.align) _ refl refl refl refl h
   where
     by : (a b c d e f : Bool) (o : Option ℕ) → is_bad_path (is_dir l.word) (names_of l.path) ≡ a
         → is_bad_text l.word l.text ≡ b → is_file l.word ≡ e → is_align l.align ≡ f
-        → cond (a || b) (Some BAD_PATH) (cond c (Some NO_PARENT) (cond d (Some EXISTS) (cond (e && not f) (Some BAD_ALIGN) o))) ≡ None
+        → cond (a || b) (Some BAD_PATH) (cond c (Some NO_PARENT)
+        (cond d (Some EXISTS) (cond (e && not f) (Some BAD_ALIGN) o))) ≡ None
         → IsFaultless l
     by true b c d e f o p q r s g = absurd (cc)
     by false true c d e f o p q r s g = absurd (cc)
@@ -123,19 +146,21 @@ faultless ls l h =
     by false false false true e f o p q r s g = absurd (cc)
     by false false false false true true o p q r s g = record { path = p; text = q; align = λ z. s }
     by false false false false true false o p q r s g = absurd (cc)
-    by false false false false false f o p q r s g = record { path = p; text = q; align = λ z. let w : false ≡ true = sym r ∙ z in absurd (cc) }
+    by false false false false false f o p q r s g =
+        record { path = p; text = q; align = λ z. let w : false ≡ true = sym r ∙ z in absurd (cc) }
 
 pub all_faultless : (ls : List Line) → AreChecked ls → Every IsFaultless ls
 all_faultless [] c = tt
 all_faultless (l ∷ ls) c = (faultless ls l c.0, all_faultless ls c.1)
 
--- the file at the path of a line: that of the line, or of another where it is `hard`
+-- the file at the path of a line: that of the line, or of another if it is `hard`
 pub record HasFile (all : List Line) (sizes : List ℕ) (latest : List Line) (l : Line) : Type 0 where
   pub inode : Inode
   pub is : file_at all sizes l.path ≡ Some inode
   pub own : is_hard l.word ≡ false → inode ≡ inode_of all sizes l
   pub other : is_hard l.word ≡ true
-      → (k : Line) × (inode ≡ inode_of all sizes k) × Has (λ x. x ≡ k) latest × (is_hard k.word ≡ false) × (is_dir k.word ≡ false)
+      → (k : Line) × (inode ≡ inode_of all sizes k) × Has (λ x. x ≡ k) latest × (is_hard k.word ≡ false)
+      × (is_dir k.word ≡ false)
 
 pub has_file : (all : List Line) (sizes : List ℕ) (latest : List Line) (l : Line) → reverse all ≡ latest
     → LedIn latest l → HasFile all sizes latest l

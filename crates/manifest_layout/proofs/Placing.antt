@@ -1,5 +1,7 @@
--- Files stand where the lines of a manifest ask, and the volume has its name.
-use Rattle.std.proofs.Common.{◌≡◌, ◌≢◌, ℕ, zero, suc, ◌-◌, ◌||◌, ◌&&◌, Bool, true, false, eqb, cond, List, [], ◌∷◌, ◌++◌, length, reverse, replicate, find, take, drop, inl, inr, Option, Some, None, refl, sym, ap, subst, ◌∙◌}
+-- Files are at offsets for which the lines of a manifest ask, and the volume has its name.
+use Rattle.std.proofs.Common.{◌≡◌, ◌≢◌, ℕ, zero, suc, ◌-◌, ◌||◌, ◌&&◌, Bool, true, false, eqb, cond, List, [], ◌∷◌}
+use Rattle.std.proofs.Common.{◌++◌, length, reverse, replicate, find, take, drop, inl, inr, Option, Some, None, refl}
+use Rattle.std.proofs.Common.{sym, ap, subst, ◌∙◌}
 use Rattle.std.proofs.lemmas.Bool.{eqb-true}
 use Rattle.std.proofs.lemmas.List.{reverse-reverse}
 use Rattle.std.specs.Cmp.Lexicographic.{bytes_decides, nat_list_eq_equiv}
@@ -20,7 +22,8 @@ use Rattle.manifest.proofs.Checked.{AreChecked, checked_lines, sound_place}
 use Rattle.manifest.proofs.Named.{path_with_names}
 use Rattle.manifest_tree.specs.Names.{source, Inode}
 use Rattle.manifest_tree.specs.Shape.{file_under, with_names}
-use Rattle.manifest_tree.specs.Tree.{with_contents, inode_by, inode_of, file_at, root_of, tree_of, names_eq, is_named, sources_before}
+use Rattle.manifest_tree.specs.Tree.{with_contents, inode_by, inode_of, file_at, root_of, tree_of, names_eq, is_named}
+use Rattle.manifest_tree.specs.Tree.{sources_before}
 use Rattle.manifest_tree.proofs.Law.{law_of_names}
 use Rattle.layout_terms.specs.Placement.{IsRun, AreInRuns}
 use Rattle.romfs_layout.specs.Disjoint.{FilesAreApart}
@@ -33,7 +36,7 @@ use Rattle.manifest_layout.proofs.Led.{no_path}
 use Rattle.manifest_layout.proofs.Known.{known}
 use Rattle.manifest_layout.proofs.Plain.{good_text}
 
--- where a path with contents leads: to a `file` or a `same` line that has them
+-- the line to which a path with contents leads: a `file` or a `same` line that has them
 record IsFiled (ls : List Line) (p : List ℕ) (o : Line) : Type 0 where
   line : Line
   leads : led ls p ≡ Some line
@@ -44,10 +47,13 @@ record IsFiled (ls : List Line) (p : List ℕ) (o : Line) : Type 0 where
 filed_step : (l : Line) (ls : List Line) → AreChecked (l ∷ ls) → (o : Line)
     → ((q : List ℕ) → filed ls q ≡ Some o → IsFiled ls q o) → (p : List ℕ) → filed (l ∷ ls) p ≡ Some o
     → IsFiled (l ∷ ls) p o
-filed_step l ls c o again p e = elim (bytes_eq l.path p) as (λ t. bytes_eq l.path p ≡ t → cond t (cond (is_hard l.word || is_same l.word) (filed ls l.text) (cond (is_file l.word) (Some l) None)) (filed ls p) ≡ Some o → IsFiled (l ∷ ls) p o) [
-  | true ↦ λ b g. by l.word refl b g
-  | false ↦ λ b g. past p (again p g) (rw b refl)
-] refl e
+filed_step l ls c o again p e = elim (bytes_eq l.path p) as
+    (λ t. bytes_eq l.path p ≡ t → cond t
+    (cond (is_hard l.word || is_same l.word) (filed ls l.text) (cond (is_file l.word) (Some l) None)) (filed ls p)
+    ≡ Some o → IsFiled (l ∷ ls) p o) [
+      | true ↦ λ b g. by l.word refl b g
+      | false ↦ λ b g. past p (again p g) (rw b refl)
+    ] refl e
   where
     self : bytes_eq l.path l.path ≡ true
     self = (bytes_decides l.path l.path).1 refl
@@ -80,12 +86,24 @@ filed_step l ls c o again p e = elim (bytes_eq l.path p) as (λ t. bytes_eq l.pa
         let h : is_hard l.word ≡ false = ap is_hard e in
         let s : is_same l.word ≡ false = ap is_same e in
         let f : is_file l.word ≡ true = ap is_file e in
-        record { line = l; leads = rw (b, h) refl; here = inl refl; filed_too = rw (self, h, s, f) g; makes = rw f refl }
+        record {
+          line = l;
+          leads = rw (b, h) refl;
+          here = inl refl;
+          filed_too = rw (self, h, s, f) g;
+          makes = rw f refl;
+        }
     by Same e b g =
         let h : is_hard l.word ≡ false = ap is_hard e in
         let s : is_same l.word ≡ true = ap is_same e in
         let f : is_file l.word ≡ false = ap is_file e in
-        record { line = l; leads = rw (b, h) refl; here = inl refl; filed_too = rw (self, h, s) g; makes = rw (f, s) refl }
+        record {
+          line = l;
+          leads = rw (b, h) refl;
+          here = inl refl;
+          filed_too = rw (self, h, s) g;
+          makes = rw (f, s) refl;
+        }
 
 filed_leads : (ls : List Line) → AreChecked ls → (p : List ℕ) (o : Line) → filed ls p ≡ Some o → IsFiled ls p o
 filed_leads [] c p o e = absurd (cc)
@@ -127,7 +145,7 @@ fill_is : (all : List Line) (sizes : List ℕ) (k o : Line) → (is_file k.word 
 unfolding inode_of
 fill_is all sizes k o h e = fill_by all sizes k o k.word h e
 
--- names are the same where the test says so, and only there
+-- names are the same exactly if the test says so
 names_same : (ns : List (List ℕ)) → names_eq ns ns ≡ true
 names_same [] = refl
 names_same (n ∷ ns) = let s : bytes_eq n n ≡ true = (bytes_decides n n).1 refl in rw s (names_same ns)
@@ -142,7 +160,8 @@ names_equal [] (n ∷ ns) h = absurd (cc)
 names_equal (m ∷ ms) [] h = absurd (cc)
 names_equal (m ∷ ms) (n ∷ ns) h =
     let s = and_true (bytes_eq m n) (names_eq ms ns) h in
-    ap (λ (x : List ℕ). x ∷ ms) ((bytes_decides m n).0 s.0) ∙ ap (λ (xs : List (List ℕ)). n ∷ xs) (names_equal ms ns s.1)
+    ap (λ (x : List ℕ). x ∷ ms) ((bytes_decides m n).0 s.0)
+    ∙ ap (λ (xs : List (List ℕ)). n ∷ xs) (names_equal ms ns s.1)
 
 is_these : (q : List (List ℕ)) (o : Option (List (List ℕ))) → is_named q o ≡ true → o ≡ Some q
 is_these q None h = absurd (cc)
@@ -154,7 +173,9 @@ first_named : (ls : List Line) (q : List (List ℕ)) (l : Line) → Has (λ k. k
 first_named [] q l h e = absurd h
 first_named (x ∷ xs) q l h e =
     let rest = find (λ (y : Line). is_named q (names_of y.path)) xs in
-    elim (is_named q (names_of x.path)) as (λ t. is_named q (names_of x.path) ≡ t → (k : Line) × (cond t (Some x) rest ≡ Some k) × (names_of k.path ≡ Some q)) [
+    elim (is_named q (names_of x.path)) as
+    (λ t. is_named q (names_of x.path) ≡ t
+    → (k : Line) × (cond t (Some x) rest ≡ Some k) × (names_of k.path ≡ Some q)) [
       | true ↦ λ b. (x, refl, is_these q (names_of x.path) b)
       | false ↦ λ b. elim h [
         | inl s ↦
@@ -175,7 +196,8 @@ named_file m sizes h l k n ns here leads e =
     let all = m.lines in
     let q = n ∷ ns in
     let first = first_named all q l here e in
-    let same : first.0.path ≡ l.path = (path_with_names first.0.path n ns first.2).joined ∙ sym (path_with_names l.path n ns e).joined in
+    let same : first.0.path ≡ l.path =
+    (path_with_names first.0.path n ns first.2).joined ∙ sym (path_with_names l.path n ns e).joined in
     let at_line : file_at all sizes l.path ≡ Some (inode_of all sizes k) = ap (option_map (inode_of all sizes)) leads in
     law_of_names m sizes q h ∙ ap (option_and_then (λ (y : Line). file_at all sizes y.path)) first.1
     ∙ ap (file_at all sizes) same ∙ at_line
@@ -196,7 +218,8 @@ file_of m sizes h l o n ns here f e =
     let back : reverse all ≡ c.latest = ap reverse c.reversed ∙ reverse-reverse c.latest in
     let g = filed_leads c.latest c.checked l.path o (ap (λ (ls : List Line). filed ls l.path) (sym back) ∙ f) in
     let leads : led (reverse all) l.path ≡ Some g.line = ap (λ (ls : List Line). led ls l.path) back ∙ g.leads in
-    let own : filed (reverse all) g.line.path ≡ Some o = ap (λ (ls : List Line). filed ls g.line.path) back ∙ g.filed_too in
+    let own : filed (reverse all) g.line.path ≡ Some o =
+    ap (λ (ls : List Line). filed ls g.line.path) back ∙ g.filed_too in
     record {
       inode = inode_of all sizes g.line;
       is = named_file m sizes h l g.line n ns here leads e;
@@ -227,7 +250,7 @@ files_apart m sizes t h apart k l a b n p ns ps x y in_k in_l f g differ e d at_
     apart (n ∷ ns) (p ∷ ps) x y (inode_of m.lines sizes a) (inode_of m.lines sizes b) at_x at_y i j
     (λ z. differ (sym (inode_line m.lines sizes a) ∙ z ∙ inode_line m.lines sizes b))
 
--- a name stands before its zeros
+-- a name is before its zeros
 before_zeros : (name : List ℕ) (k : ℕ) → Every (λ x. x ≢ 0) name → before_zero (name ++ replicate k 0) ≡ name
 before_zeros [] zero h = refl
 before_zeros [] (suc k) h = refl

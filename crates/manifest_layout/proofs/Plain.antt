@@ -1,5 +1,6 @@
--- The last name of a path can stand in a list.
-use Rattle.std.proofs.Common.{◌≡◌, ◌≢◌, ℕ, ◌<◌, ◌≤◌, ◌==◌, nat_lt, Bool, true, false, cond, List, [], ◌∷◌, ◌++◌, length, Some, refl, ap, subst, ◌∙◌, arith}
+-- The last name of a path can be in a list.
+use Rattle.std.proofs.Common.{◌≡◌, ◌≢◌, ℕ, ◌<◌, ◌≤◌, ◌==◌, nat_lt, Bool, true, false, cond, List, [], ◌∷◌, ◌++◌, length}
+use Rattle.std.proofs.Common.{Some, refl, ap, subst, ◌∙◌, arith}
 use Rattle.std.proofs.lemmas.Bool.{eqb-true, ltb-false}
 use Rattle.std.proofs.lemmas.List.Elements.{All-contains, All-from_recursion}
 use Rattle.std.specs.Cmp.Lexicographic.{bytes_decides}
@@ -69,7 +70,8 @@ pub record IsPlain (n : List ℕ) : Type 0 where
 not_dots : (n : List ℕ) → bytes_eq n (46 ∷ []) ≡ false → bytes_eq n (46 ∷ 46 ∷ []) ≡ false → is_dots n ≡ false
 not_dots [] h g = refl
 not_dots (x ∷ []) h g = elim (x == 46) as (λ t. (x == 46) ≡ t → t ≡ false) [
-  | true ↦ λ e. absurd (different (bytes_eq (x ∷ []) (46 ∷ [])) ((bytes_decides (x ∷ []) (46 ∷ [])).1 (ap (λ (y : ℕ). y ∷ []) (eqb-true x 46 e))) h)
+  | true ↦ λ e. absurd (different (bytes_eq (x ∷ []) (46 ∷ []))
+      ((bytes_decides (x ∷ []) (46 ∷ [])).1 (ap (λ (y : ℕ). y ∷ []) (eqb-true x 46 e))) h)
   | false ↦ λ e. refl
 ] refl
   where
@@ -77,7 +79,9 @@ not_dots (x ∷ []) h g = elim (x == 46) as (λ t. (x == 46) ≡ t → t ≡ fal
     different b e f = cc
 not_dots (x ∷ y ∷ []) h g = elim (x == 46) as (λ t. (x == 46) ≡ t → cond t (y == 46) false ≡ false) [
   | true ↦ λ e. elim (y == 46) as (λ t. (y == 46) ≡ t → t ≡ false) [
-    | true ↦ λ f. absurd (different (bytes_eq (x ∷ y ∷ []) (46 ∷ 46 ∷ [])) ((bytes_decides (x ∷ y ∷ []) (46 ∷ 46 ∷ [])).1 (ap (λ (z : ℕ). z ∷ y ∷ []) (eqb-true x 46 e) ∙ ap (λ (z : ℕ). 46 ∷ z ∷ []) (eqb-true y 46 f))) g)
+    | true ↦ λ f. absurd (different (bytes_eq (x ∷ y ∷ []) (46 ∷ 46 ∷ []))
+        ((bytes_decides (x ∷ y ∷ []) (46 ∷ 46 ∷ [])).1
+        (ap (λ (z : ℕ). z ∷ y ∷ []) (eqb-true x 46 e) ∙ ap (λ (z : ℕ). 46 ∷ z ∷ []) (eqb-true y 46 f))) g)
     | false ↦ λ f. refl
   ] refl
   | false ↦ λ e. refl
@@ -95,7 +99,12 @@ is_plain n bad slash zero =
     let c = or_false (bytes_eq n (46 ∷ 46 ∷ [])) (nat_lt 255 (length n)) b.1 in
     let l = ltb-false 255 (length n) c.1 in
     record {
-      name = record { named = some n a.0; short = omega (arith, l); no_zero = none_passes 0 n zero; no_slash = no_byte 47 n (none_passes 47 n slash) };
+      name = record {
+        named = some n a.0;
+        short = omega (arith, l);
+        no_zero = none_passes 0 n zero;
+        no_slash = no_byte 47 n (none_passes 47 n slash);
+      };
       no_dots = not_dots n b.0 c.0;
     }
   where
@@ -109,8 +118,10 @@ unfolding has_zero
 last_plain path m ms h =
     let k = path_with_names path m ms h in
     let z = (or_false (nat_lt 4095 (length path)) (list_any (λ b. b == 0) path) k.good).1 in
-    let zs : list_any has_zero (m ∷ ms) ≡ false = zero_free (m ∷ ms) (subst (λ (p : List ℕ). list_any (λ b. b == 0) p ≡ false) k.joined z) in
-    is_plain (last_of m ms) (last_free is_bad_name m ms k.names) (last_free has_slash m ms k.plain) (last_free has_zero m ms zs)
+    let zs : list_any has_zero (m ∷ ms) ≡ false =
+    zero_free (m ∷ ms) (subst (λ (p : List ℕ). list_any (λ b. b == 0) p ≡ false) k.joined z) in
+    is_plain (last_of m ms) (last_free is_bad_name m ms k.names) (last_free has_slash m ms k.plain)
+    (last_free has_zero m ms zs)
 
 -- a text that is not bad is short, without a zero byte
 pub good_text : (most : ℕ) (t : List ℕ) → is_bad most t ≡ false → (length t ≤ most) × Every (λ x. x ≢ 0) t
@@ -121,7 +132,8 @@ good_text most t h =
 every_no_zero : (ns : List (List ℕ)) → list_any has_zero ns ≡ false → Every (λ n. Every (λ x. x ≢ 0) n) ns
 unfolding has_zero
 every_no_zero [] h = tt
-every_no_zero (n ∷ ns) h = let s = or_false (has_zero n) (list_any has_zero ns) h in (none_passes 0 n s.0, every_no_zero ns s.1)
+every_no_zero (n ∷ ns) h =
+    let s = or_false (has_zero n) (list_any has_zero ns) h in (none_passes 0 n s.0, every_no_zero ns s.1)
 
 -- no name of a path has a zero byte
 pub names_no_zero : (path : List ℕ) (m : List ℕ) (ms : List (List ℕ)) → names_of path ≡ Some (m ∷ ms)

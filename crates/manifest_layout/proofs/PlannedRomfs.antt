@@ -1,5 +1,6 @@
--- A manifest that fits romfs gives a volume that can be laid out.
-use Rattle.std.proofs.Common.{◌≡◌, ◌≢◌, ℕ, ◌^◌, true, false, inl, inr, List, [], ◌∷◌, length, map, Some, refl, sym, ap, subst, arith}
+-- The volume of a manifest that fits romfs can be laid out.
+use Rattle.std.proofs.Common.{◌≡◌, ◌≢◌, ℕ, ◌^◌, true, false, inl, inr, List, [], ◌∷◌, length, map, Some, refl, sym, ap}
+use Rattle.std.proofs.Common.{subst, arith}
 use Rattle.std.proofs.lemmas.Bool.{eq-eqb, ne_eqb}
 use Rattle.std.proofs.lemmas.List.{length-map}
 use Rattle.std.specs.List.{AllByRecursion as Every}
@@ -35,7 +36,8 @@ use Rattle.manifest_layout.proofs.InRomfs.{file_made, folder_made, bare_made}
 
 -- a further name is of the file of a line that is not about the root
 abbrev IsTarget : List Line → List ℕ → List Line → Inode → Type 0
-IsTarget all sizes latest i = (k : Line) × (i ≡ inode_of all sizes k) × Has (λ x. x ≡ k) latest × (is_hard k.word ≡ false) × IsNamed k
+IsTarget all sizes latest i =
+    (k : Line) × (i ≡ inode_of all sizes k) × Has (λ x. x ≡ k) latest × (is_hard k.word ≡ false) × IsNamed k
 
 abbrev IsFit : List (List ℕ) → List Line → List Line → What → Type 0
 IsFit cs all latest (a_leaf i) = IsFile cs i
@@ -49,12 +51,22 @@ IsFine cs all latest name w = IsPlain name × IsFit cs all latest w
 well : (cs : List (List ℕ)) (all latest : List Line) (n : Names) → AreSorted n → HoldAll (IsFine cs all latest) n
     → AreWell cs n
 well cs all latest nothing s h = tt
-well cs all latest (leaf name i after) s h =
-    (record { written = h.0.0.name; no_dots = h.0.0.no_dots; alone = λ k. never_self name (s.0 name k) }, h.0.1, well cs all latest after s.1 h.1)
-well cs all latest (link name i after) s h =
-    (record { written = h.0.0.name; no_dots = h.0.0.no_dots; alone = λ k. never_self name (s.0 name k) }, h.0.1.0, well cs all latest after s.1 h.1)
-well cs all latest (folder name i own after) s h =
-    (record { written = h.0.0.name; no_dots = h.0.0.no_dots; alone = λ k. never_self name (s.0 name k) }, h.0.1, well cs all latest own s.1 h.1, well cs all latest after s.2 h.2)
+well cs all latest (leaf name i after) s h = (
+  record { written = h.0.0.name; no_dots = h.0.0.no_dots; alone = λ k. never_self name (s.0 name k) },
+  h.0.1,
+  well cs all latest after s.1 h.1,
+)
+well cs all latest (link name i after) s h = (
+  record { written = h.0.0.name; no_dots = h.0.0.no_dots; alone = λ k. never_self name (s.0 name k) },
+  h.0.1.0,
+  well cs all latest after s.1 h.1,
+)
+well cs all latest (folder name i own after) s h = (
+  record { written = h.0.0.name; no_dots = h.0.0.no_dots; alone = λ k. never_self name (s.0 name k) },
+  h.0.1,
+  well cs all latest own s.1 h.1,
+  well cs all latest after s.2 h.2,
+)
 
 -- of files of different lines each is found by its line
 file_found : (xs : List Inode) (i : Inode) → Pairs (λ i j. i.line ≢ j.line) xs → Has (λ j. j ≡ i) xs
@@ -72,26 +84,33 @@ links cs all latest is nothing p t h = tt
 links cs all latest is (leaf name i after) p t h = links cs all latest is after p t h.1
 links cs all latest is (link name i after) p t h =
     let k = h.0.1.1 in
-    let there = has_of (λ (l : Line). is_hard l.word ≡ false → IsNamed l → Has (λ (i : Inode). i ≡ inode_of all (map length cs) l) is) latest k.0 k.2 t k.3 k.4 in
-    (file_found is i p (subst (λ j. Has (λ (i : Inode). i ≡ j) is) (sym k.1) there), links cs all latest is after p t h.1)
-links cs all latest is (folder name i own after) p t h = (links cs all latest is own p t h.1, links cs all latest is after p t h.2)
+    let there = has_of (λ (l : Line). is_hard l.word ≡ false → IsNamed l
+    → Has (λ (i : Inode). i ≡ inode_of all (map length cs) l) is) latest k.0 k.2 t k.3 k.4 in (
+      file_found is i p (subst (λ j. Has (λ (i : Inode). i ≡ j) is) (sym k.1) there),
+      links cs all latest is after p t h.1,
+    )
+links cs all latest is (folder name i own after) p t h =
+    (links cs all latest is own p t h.1, links cs all latest is after p t h.2)
 
--- no bad attribute, where nothing misfits
+-- no bad attribute, if nothing misfits
 sayable : (m : ManifestLines) (sizes : List ℕ) (l : Line) → Fits romfs m sizes l → is_hard l.word ≡ false
     → HasBadAttribute romfs (inode_of m.lines sizes l) → ⊥
 sayable m sizes l h n b = h 1 (attribute refl n b)
 
-module _ (m : ManifestLines) (cs : List (List ℕ)) (latest : List Line) (w : IsKnown romfs m (map length cs) latest) where
+module _ (m : ManifestLines) (cs : List (List ℕ)) (latest : List Line)
+    (w : IsKnown romfs m (map length cs) latest) where
   own_file : (l : Line) → Has (λ x. x ≡ l) latest → is_hard l.word ≡ false → is_dir l.word ≡ false
       → IsFile cs (inode_of m.lines (map length cs) l)
   own_file l here h d =
-      file_made cs m.lines l h d w.aligned (has_of IsLine latest l here w.lines) (has_of IsFaultless latest l here w.faultless)
+      file_made cs m.lines l h d w.aligned (has_of IsLine latest l here w.lines)
+      (has_of IsFaultless latest l here w.faultless)
       (sayable m (map length cs) l (has_of (Fits romfs m (map length cs)) latest l here w.fit) h)
 
   own_folder : (l : Line) → Has (λ x. x ≡ l) latest → is_dir l.word ≡ true → is_hard l.word ≡ false
       → IsFolder (inode_of m.lines (map length cs) l)
   own_folder l here d h =
-      folder_made m.lines (map length cs) l d (has_of IsLine latest l here w.lines) (sayable m (map length cs) l (has_of (Fits romfs m (map length cs)) latest l here w.fit) h)
+      folder_made m.lines (map length cs) l d (has_of IsLine latest l here w.lines)
+      (sayable m (map length cs) l (has_of (Fits romfs m (map length cs)) latest l here w.fit) h)
 
   fit_leaf : (l : Line) → Has (λ x. x ≡ l) latest → (f : HasFile m.lines (map length cs) latest l)
       → is_hard l.word ≡ false → is_dir l.word ≡ false → IsFile cs f.inode
@@ -100,8 +119,10 @@ module _ (m : ManifestLines) (cs : List (List ℕ)) (latest : List Line) (w : Is
   fit_link : (l : Line) (f : HasFile m.lines (map length cs) latest l) → is_hard l.word ≡ true
       → IsFile cs f.inode × IsTarget m.lines (map length cs) latest f.inode
   fit_link l f h =
-      let k = f.other h in
-      (subst (IsFile cs) (sym k.1) (own_file k.0 k.2 k.3 k.4), (k.0, k.1, k.2, k.3, named_file k.0 (has_of IsFaultless latest k.0 k.2 w.faultless) k.4))
+      let k = f.other h in (
+        subst (IsFile cs) (sym k.1) (own_file k.0 k.2 k.3 k.4),
+        (k.0, k.1, k.2, k.3, named_file k.0 (has_of IsFaultless latest k.0 k.2 w.faultless) k.4),
+      )
 
   fit : (l : Line) → Has (λ x. x ≡ l) latest → (f : HasFile m.lines (map length cs) latest l) (v : Word) → l.word ≡ v
       → IsFit cs m.lines latest (what_by v f.inode)
@@ -115,10 +136,13 @@ module _ (m : ManifestLines) (cs : List (List ℕ)) (latest : List Line) (w : Is
   fit l here f Hard e = fit_link l f (ap is_hard e)
   fit l here f Same e = fit_leaf l here f (ap is_hard e) (ap is_dir e)
 
-  names_grown : IsGrown (IsFine cs m.lines latest) m.lines (map length cs) latest (grown_by m.lines (map length cs) latest)
+  names_grown : IsGrown (IsFine cs m.lines latest) m.lines (map length cs) latest
+      (grown_by m.lines (map length cs) latest)
   names_grown =
-      grown_is (IsFine cs m.lines latest) m.lines (map length cs) latest latest w.checked w.have w.apart w.files w.faultless
-      (every_of (Gives (IsFine cs m.lines latest) m.lines (map length cs) latest) latest (λ l here f n ns e. (last_plain l.path n ns e, fit l here f l.word refl)))
+      grown_is (IsFine cs m.lines latest) m.lines
+      (map length cs) latest latest w.checked w.have w.apart w.files w.faultless
+      (every_of (Gives (IsFine cs m.lines latest) m.lines (map length cs) latest) latest
+      (λ l here f n ns e. (last_plain l.path n ns e, fit l here f l.word refl)))
 
   folder_is : RootIs m (map length cs) latest → IsFolder (root_of m.lines (map length cs))
   folder_is (bare e) = subst IsFolder (sym e) bare_made
@@ -136,13 +160,16 @@ planned m cs h none =
     let latest = k.0 in
     let w = k.1 in
     let n = tree_of m.lines sizes in
-    let g : IsGrown (IsFine cs m.lines latest) m.lines sizes latest n = subst (IsGrown (IsFine cs m.lines latest) m.lines sizes latest) (tree_is m cs latest w) (names_grown m cs latest w) in
+    let g : IsGrown (IsFine cs m.lines latest) m.lines sizes latest n =
+    subst (IsGrown (IsFine cs m.lines latest) m.lines sizes latest) (tree_is m cs latest w)
+    (names_grown m cs latest w) in
     let r = root_is m sizes latest w.back w.faultless in
     let v = good_text 255 m.volume w.volume in
     let v0 = v.0 in
     let top = below_by (2 ^ 28) (pad (full_size_of (root_at m.volume) n) 1024) (λ l. none.whole (long l)) in
     let up = pad-after (full_size_of (root_at m.volume) n) 1024 (omega arith) in
-    let count = below_by (2 ^ 20) (length (map item_of (all_headers (root_at m.volume) (root_of m.lines sizes) n))) (λ l. none.whole (many l)) in
+    let count = below_by (2 ^ 20) (length (map item_of (all_headers (root_at m.volume) (root_of m.lines sizes) n)))
+    (λ l. none.whole (many l)) in
     let len = length-map (all_headers (root_at m.volume) (root_of m.lines sizes) n) item_of in
     record {
       short = omega arith;

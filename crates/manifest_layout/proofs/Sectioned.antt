@@ -22,7 +22,8 @@ zeros sizes = map (λ n. replicate n 0) sizes
 lengths : (sizes : List ℕ) → map length (zeros sizes) ≡ sizes
 unfolding zeros
 lengths [] = refl
-lengths (n ∷ ns) = ap (λ (k : ℕ). k ∷ map length (map (λ n. replicate {A = ℕ} n 0) ns)) (length-replicate {A = ℕ} n 0) ∙ ap (λ (xs : List ℕ). n ∷ xs) (lengths ns)
+lengths (n ∷ ns) = ap (λ (k : ℕ). k ∷ map length (map (λ n. replicate {A = ℕ} n 0) ns)) (length-replicate {A = ℕ} n 0)
+    ∙ ap (λ (xs : List ℕ). n ∷ xs) (lengths ns)
 
 of_contents : (f : Format) (m : ManifestLines) (cs : List (List ℕ)) → IsManifest m → HasNoMisfit f m (map length cs)
     → SectionsRise 0 (len_of f m (map length cs)) (sections_of f m (map length cs))
@@ -30,16 +31,19 @@ of_contents romfs m cs h n =
     let sizes = map length cs in
     let t = tree_of m.lines sizes in
     let end = full_size_of (root_at m.volume) t in
-    rise_wider 0 end (len_of romfs m sizes) (sections_of romfs m sizes) (pad-after end 1024 (omega arith)) (in_romfs.rise m.volume (root_of m.lines sizes) t cs (fitting romfs m cs h n))
+    rise_wider 0 end (len_of romfs m sizes) (sections_of romfs m sizes) (pad-after end 1024 (omega arith))
+    (in_romfs.rise m.volume (root_of m.lines sizes) t cs (fitting romfs m cs h n))
 of_contents (cramfs o) m cs h n =
     let sizes = map length cs in
-    in_cramfs.rise o m.volume (root_of m.lines sizes) (tree_of m.lines sizes) cs (align_of m.lines) (fitting (cramfs o) m cs h n) (sourced (cramfs o) m sizes h n)
+    in_cramfs.rise o m.volume (root_of m.lines sizes) (tree_of m.lines sizes) cs (align_of m.lines)
+    (fitting (cramfs o) m cs h n) (sourced (cramfs o) m sizes h n)
 
 pub rise : (f : Format) (m : ManifestLines) (sizes : List ℕ) → IsManifest m → HasNoMisfit f m sizes
     → SectionsRise 0 (len_of f m sizes) (sections_of f m sizes)
 rise f m sizes h n =
     let e = lengths sizes in
-    subst (λ (xs : List ℕ). SectionsRise 0 (len_of f m xs) (sections_of f m xs)) e (of_contents f m (zeros sizes) h (subst (HasNoMisfit f m) (sym e) n))
+    subst (λ (xs : List ℕ). SectionsRise 0 (len_of f m xs) (sections_of f m xs)) e
+    (of_contents f m (zeros sizes) h (subst (HasNoMisfit f m) (sym e) n))
 
 -- a manifest that fits can be laid out, whatever its sources of these sizes hold
 pub planned : (f : Format) (m : ManifestLines) (sizes : List ℕ) → IsManifest m → HasNoMisfit f m sizes

@@ -1,5 +1,6 @@
 -- What putting a path into names keeps: their order, what holds of each, and the files.
-use Rattle.std.proofs.Common.{◌≡◌, ℕ, Bool, true, false, ◌⊎◌, inl, inr, cond, List, [], ◌∷◌, ◌++◌, None, refl, sym, ap, subst, ◌∙◌, append_assoc}
+use Rattle.std.proofs.Common.{◌≡◌, ℕ, Bool, true, false, ◌⊎◌, inl, inr, cond, List, [], ◌∷◌, ◌++◌, None, refl, sym, ap}
+use Rattle.std.proofs.Common.{subst, ◌∙◌, append_assoc}
 use Rattle.std.specs.Cmp.Lexicographic.{bytes_decides}
 use Rattle.std.specs.Str.{bytes_eq}
 use Rattle.manifest.specs.Paths.{but_last}
@@ -37,18 +38,34 @@ MoreFiles (a_folder i) old new = (xs ys : List Inode) × (old ≡ xs ++ ys) × (
 
 -- behind others, and before others
 more_behind : (w : What) (front old new : List Inode) → MoreFiles w old new → MoreFiles w (front ++ old) (front ++ new)
-more_behind (a_leaf i) front old new (xs, ys, e, f) =
-    (front ++ xs, ys, ap (λ (zs : List Inode). front ++ zs) e ∙ sym (append_assoc front xs ys), ap (λ (zs : List Inode). front ++ zs) f ∙ sym (append_assoc front xs (i ∷ ys)))
+more_behind (a_leaf i) front old new (xs, ys, e, f) = (
+  front ++ xs,
+  ys,
+  ap (λ (zs : List Inode). front ++ zs) e ∙ sym (append_assoc front xs ys),
+  ap (λ (zs : List Inode). front ++ zs) f ∙ sym (append_assoc front xs (i ∷ ys)),
+)
 more_behind (a_link i) front old new e = ap (λ (zs : List Inode). front ++ zs) e
-more_behind (a_folder i) front old new (xs, ys, e, f) =
-    (front ++ xs, ys, ap (λ (zs : List Inode). front ++ zs) e ∙ sym (append_assoc front xs ys), ap (λ (zs : List Inode). front ++ zs) f ∙ sym (append_assoc front xs (i ∷ ys)))
+more_behind (a_folder i) front old new (xs, ys, e, f) = (
+  front ++ xs,
+  ys,
+  ap (λ (zs : List Inode). front ++ zs) e ∙ sym (append_assoc front xs ys),
+  ap (λ (zs : List Inode). front ++ zs) f ∙ sym (append_assoc front xs (i ∷ ys)),
+)
 
 more_before : (w : What) (back old new : List Inode) → MoreFiles w old new → MoreFiles w (old ++ back) (new ++ back)
-more_before (a_leaf i) back old new (xs, ys, e, f) =
-    (xs, ys ++ back, ap (λ (zs : List Inode). zs ++ back) e ∙ append_assoc xs ys back, ap (λ (zs : List Inode). zs ++ back) f ∙ append_assoc xs (i ∷ ys) back)
+more_before (a_leaf i) back old new (xs, ys, e, f) = (
+  xs,
+  ys ++ back,
+  ap (λ (zs : List Inode). zs ++ back) e ∙ append_assoc xs ys back,
+  ap (λ (zs : List Inode). zs ++ back) f ∙ append_assoc xs (i ∷ ys) back,
+)
 more_before (a_link i) back old new e = ap (λ (zs : List Inode). zs ++ back) e
-more_before (a_folder i) back old new (xs, ys, e, f) =
-    (xs, ys ++ back, ap (λ (zs : List Inode). zs ++ back) e ∙ append_assoc xs ys back, ap (λ (zs : List Inode). zs ++ back) f ∙ append_assoc xs (i ∷ ys) back)
+more_before (a_folder i) back old new (xs, ys, e, f) = (
+  xs,
+  ys ++ back,
+  ap (λ (zs : List Inode). zs ++ back) e ∙ append_assoc xs ys back,
+  ap (λ (zs : List Inode). zs ++ back) f ∙ append_assoc xs (i ∷ ys) back,
+)
 
 named_files : (w : What) (name : List ℕ) (n : Names) → MoreFiles w (files n) (files (named w name n))
 named_files (a_leaf i) name n = ([], files n, refl, refl)
@@ -57,18 +74,22 @@ named_files (a_folder i) name n = ([], files n, refl, refl)
 
 put_files : (w : What) (name : List ℕ) (n : Names) → MoreFiles w (files n) (files (put w name n))
 put_files w name nothing = named_files w name nothing
-put_files w name (leaf m i after) = elim (is_before name m) as (λ t. MoreFiles w (i ∷ files after) (files (cond t (named w name (leaf m i after)) (leaf m i (put w name after))))) [
-  | true ↦ named_files w name (leaf m i after)
-  | false ↦ more_behind w (i ∷ []) (files after) (files (put w name after)) (put_files w name after)
-]
-put_files w name (link m i after) = elim (is_before name m) as (λ t. MoreFiles w (files after) (files (cond t (named w name (link m i after)) (link m i (put w name after))))) [
-  | true ↦ named_files w name (link m i after)
-  | false ↦ put_files w name after
-]
-put_files w name (folder m i own after) = elim (is_before name m) as (λ t. MoreFiles w (i ∷ files own ++ files after) (files (cond t (named w name (folder m i own after)) (folder m i own (put w name after))))) [
-  | true ↦ named_files w name (folder m i own after)
-  | false ↦ more_behind w (i ∷ files own) (files after) (files (put w name after)) (put_files w name after)
-]
+put_files w name (leaf m i after) = elim (is_before name m) as
+    (λ t. MoreFiles w (i ∷ files after) (files (cond t (named w name (leaf m i after)) (leaf m i (put w name after))))) [
+      | true ↦ named_files w name (leaf m i after)
+      | false ↦ more_behind w (i ∷ []) (files after) (files (put w name after)) (put_files w name after)
+    ]
+put_files w name (link m i after) = elim (is_before name m) as
+    (λ t. MoreFiles w (files after) (files (cond t (named w name (link m i after)) (link m i (put w name after))))) [
+      | true ↦ named_files w name (link m i after)
+      | false ↦ put_files w name after
+    ]
+put_files w name (folder m i own after) =
+    elim (is_before name m) as (λ t. MoreFiles w (i ∷ files own ++ files after)
+    (files (cond t (named w name (folder m i own after)) (folder m i own (put w name after))))) [
+      | true ↦ named_files w name (folder m i own after)
+      | false ↦ more_behind w (i ∷ files own) (files after) (files (put w name after)) (put_files w name after)
+    ]
 
 -- a path more, in a directory that is there
 pub put_at_files : (w : What) (m : List ℕ) (ms : List (List ℕ)) (n : Names) → is_parent (but_last (m ∷ ms)) n ≡ true
@@ -82,11 +103,17 @@ put_at_files w m (x ∷ xs) (link name i after) p =
     let s = past_file name m (but_last (x ∷ xs)) i (found (m ∷ but_last (x ∷ xs)) after) p in
     put_at_files w m (x ∷ xs) after s.1
 put_at_files w m (x ∷ xs) (folder name i own after) p =
-    elim (bytes_eq name m) as (λ t. is_a_folder (cond t (last_or (but_last (x ∷ xs)) (a_file true i) (found (but_last (x ∷ xs)) own)) (found (m ∷ but_last (x ∷ xs)) after)) ≡ true
-    → MoreFiles w (i ∷ files own ++ files after) (files (cond t (folder name i (put_at w (x ∷ xs) own) after) (folder name i own (put_at w (m ∷ x ∷ xs) after))))) [
+    elim (bytes_eq name m) as (λ t. is_a_folder
+    (cond t (last_or (but_last (x ∷ xs)) (a_file true i) (found (but_last (x ∷ xs)) own))
+    (found (m ∷ but_last (x ∷ xs)) after)) ≡ true
+    → MoreFiles w (i ∷ files own ++ files after)
+    (files (cond t (folder name i (put_at w (x ∷ xs) own) after)
+    (folder name i own (put_at w (m ∷ x ∷ xs) after))))) [
       | true ↦ λ q. more_behind w (i ∷ []) (files own ++ files after) (files (put_at w (x ∷ xs) own) ++ files after)
-          (more_before w (files after) (files own) (files (put_at w (x ∷ xs) own)) (put_at_files w x xs own (own_parent (but_last (x ∷ xs)) i own q)))
-      | false ↦ λ q. more_behind w (i ∷ files own) (files after) (files (put_at w (m ∷ x ∷ xs) after)) (put_at_files w m (x ∷ xs) after q)
+          (more_before w (files after) (files own) (files (put_at w (x ∷ xs) own))
+          (put_at_files w x xs own (own_parent (but_last (x ∷ xs)) i own q)))
+      | false ↦ λ q. more_behind w (i ∷ files own) (files after) (files (put_at w (m ∷ x ∷ xs) after))
+          (put_at_files w m (x ∷ xs) after q)
     ] p
 
 -- the last of some names
@@ -102,18 +129,22 @@ module _ (P : List ℕ → What → Type 0) where
 
   put_hold : (w : What) (name : List ℕ) (n : Names) → P name w → HoldAll P n → HoldAll P (put w name n)
   put_hold w name nothing p h = named_hold w name nothing p h
-  put_hold w name (leaf m i after) p h = elim (is_before name m) as (λ t. HoldAll P (cond t (named w name (leaf m i after)) (leaf m i (put w name after)))) [
-    | true ↦ named_hold w name (leaf m i after) p h
-    | false ↦ (h.0, put_hold w name after p h.1)
-  ]
-  put_hold w name (link m i after) p h = elim (is_before name m) as (λ t. HoldAll P (cond t (named w name (link m i after)) (link m i (put w name after)))) [
-    | true ↦ named_hold w name (link m i after) p h
-    | false ↦ (h.0, put_hold w name after p h.1)
-  ]
-  put_hold w name (folder m i own after) p h = elim (is_before name m) as (λ t. HoldAll P (cond t (named w name (folder m i own after)) (folder m i own (put w name after)))) [
-    | true ↦ named_hold w name (folder m i own after) p h
-    | false ↦ (h.0, h.1, put_hold w name after p h.2)
-  ]
+  put_hold w name (leaf m i after) p h =
+      elim (is_before name m) as (λ t. HoldAll P (cond t (named w name (leaf m i after)) (leaf m i (put w name after)))) [
+        | true ↦ named_hold w name (leaf m i after) p h
+        | false ↦ (h.0, put_hold w name after p h.1)
+      ]
+  put_hold w name (link m i after) p h =
+      elim (is_before name m) as (λ t. HoldAll P (cond t (named w name (link m i after)) (link m i (put w name after)))) [
+        | true ↦ named_hold w name (link m i after) p h
+        | false ↦ (h.0, put_hold w name after p h.1)
+      ]
+  put_hold w name (folder m i own after) p h =
+      elim (is_before name m) as (λ t. HoldAll P
+      (cond t (named w name (folder m i own after)) (folder m i own (put w name after)))) [
+        | true ↦ named_hold w name (folder m i own after) p h
+        | false ↦ (h.0, h.1, put_hold w name after p h.2)
+      ]
 
   pub put_at_hold : (w : What) (m : List ℕ) (ms : List (List ℕ)) (n : Names) → P (last_of m ms) w → HoldAll P n
       → HoldAll P (put_at w (m ∷ ms) n)
@@ -121,12 +152,14 @@ module _ (P : List ℕ → What → Type 0) where
   put_at_hold w m (x ∷ xs) nothing p h = tt
   put_at_hold w m (x ∷ xs) (leaf name i after) p h = (h.0, put_at_hold w m (x ∷ xs) after p h.1)
   put_at_hold w m (x ∷ xs) (link name i after) p h = (h.0, put_at_hold w m (x ∷ xs) after p h.1)
-  put_at_hold w m (x ∷ xs) (folder name i own after) p h = elim (bytes_eq name m) as (λ t. HoldAll P (cond t (folder name i (put_at w (x ∷ xs) own) after) (folder name i own (put_at w (m ∷ x ∷ xs) after)))) [
-    | true ↦ (h.0, put_at_hold w x xs own p h.1, h.2)
-    | false ↦ (h.0, h.1, put_at_hold w m (x ∷ xs) after p h.2)
-  ]
+  put_at_hold w m (x ∷ xs) (folder name i own after) p h =
+      elim (bytes_eq name m) as (λ t. HoldAll P
+      (cond t (folder name i (put_at w (x ∷ xs) own) after) (folder name i own (put_at w (m ∷ x ∷ xs) after)))) [
+        | true ↦ (h.0, put_at_hold w x xs own p h.1, h.2)
+        | false ↦ (h.0, h.1, put_at_hold w m (x ∷ xs) after p h.2)
+      ]
 
--- which names stand in a list with one more
+-- the names in a list with one more
 named_stands : (w : What) (name x : List ℕ) (n : Names) → StandsIn x (named w name n) → (x ≡ name) ⊎ StandsIn x n
 named_stands (a_leaf i) name x n s = s
 named_stands (a_link i) name x n s = s
@@ -134,20 +167,39 @@ named_stands (a_folder i) name x n s = s
 
 put_stands : (w : What) (name x : List ℕ) (n : Names) → StandsIn x (put w name n) → (x ≡ name) ⊎ StandsIn x n
 put_stands w name x nothing s = named_stands w name x nothing s
-put_stands w name x (leaf m i after) s = elim (is_before name m) as (λ t. StandsIn x (cond t (named w name (leaf m i after)) (leaf m i (put w name after))) → (x ≡ name) ⊎ ((x ≡ m) ⊎ StandsIn x after)) [
-  | true ↦ λ k. named_stands w name x (leaf m i after) k
-  | false ↦ λ k. elim k [ inl e ↦ inr (inl e) | inr e ↦ elim (put_stands w name x after e) [ inl a ↦ inl a | inr a ↦ inr (inr a) ] ]
-] s
-put_stands w name x (link m i after) s = elim (is_before name m) as (λ t. StandsIn x (cond t (named w name (link m i after)) (link m i (put w name after))) → (x ≡ name) ⊎ ((x ≡ m) ⊎ StandsIn x after)) [
-  | true ↦ λ k. named_stands w name x (link m i after) k
-  | false ↦ λ k. elim k [ inl e ↦ inr (inl e) | inr e ↦ elim (put_stands w name x after e) [ inl a ↦ inl a | inr a ↦ inr (inr a) ] ]
-] s
-put_stands w name x (folder m i own after) s = elim (is_before name m) as (λ t. StandsIn x (cond t (named w name (folder m i own after)) (folder m i own (put w name after))) → (x ≡ name) ⊎ ((x ≡ m) ⊎ StandsIn x after)) [
-  | true ↦ λ k. named_stands w name x (folder m i own after) k
-  | false ↦ λ k. elim k [ inl e ↦ inr (inl e) | inr e ↦ elim (put_stands w name x after e) [ inl a ↦ inl a | inr a ↦ inr (inr a) ] ]
-] s
+put_stands w name x (leaf m i after) s =
+    elim (is_before name m) as (λ t. StandsIn x (cond t (named w name (leaf m i after)) (leaf m i (put w name after)))
+    → (x ≡ name) ⊎ ((x ≡ m) ⊎ StandsIn x after)) [
+      | true ↦ λ k. named_stands w name x (leaf m i after) k
+      | false ↦ λ k. elim k [
+        | inl e ↦ inr (inl e)
+        | inr e ↦ elim (put_stands w name x after e)
+            [ inl a ↦ inl a | inr a ↦ inr (inr a) ]
+      ]
+    ] s
+put_stands w name x (link m i after) s =
+    elim (is_before name m) as (λ t. StandsIn x (cond t (named w name (link m i after)) (link m i (put w name after)))
+    → (x ≡ name) ⊎ ((x ≡ m) ⊎ StandsIn x after)) [
+      | true ↦ λ k. named_stands w name x (link m i after) k
+      | false ↦ λ k. elim k [
+        | inl e ↦ inr (inl e)
+        | inr e ↦ elim (put_stands w name x after e)
+            [ inl a ↦ inl a | inr a ↦ inr (inr a) ]
+      ]
+    ] s
+put_stands w name x (folder m i own after) s =
+    elim (is_before name m) as (λ t. StandsIn x
+    (cond t (named w name (folder m i own after)) (folder m i own (put w name after)))
+    → (x ≡ name) ⊎ ((x ≡ m) ⊎ StandsIn x after)) [
+      | true ↦ λ k. named_stands w name x (folder m i own after) k
+      | false ↦ λ k. elim k [
+        | inl e ↦ inr (inl e)
+        | inr e ↦ elim (put_stands w name x after e)
+            [ inl a ↦ inl a | inr a ↦ inr (inr a) ]
+      ]
+    ] s
 
--- a path of several names changes no list on the way but its last
+-- a path of several names changes only the last list on the way
 deep_stands : (w : What) (m x : List ℕ) (xs : List (List ℕ)) (y : List ℕ) (n : Names)
     → StandsIn y (put_at w (m ∷ x ∷ xs) n) → StandsIn y n
 deep_stands w m x xs y nothing s = s
@@ -155,10 +207,13 @@ deep_stands w m x xs y (leaf name i after) (inl e) = inl e
 deep_stands w m x xs y (leaf name i after) (inr s) = inr (deep_stands w m x xs y after s)
 deep_stands w m x xs y (link name i after) (inl e) = inl e
 deep_stands w m x xs y (link name i after) (inr s) = inr (deep_stands w m x xs y after s)
-deep_stands w m x xs y (folder name i own after) s = elim (bytes_eq name m) as (λ t. StandsIn y (cond t (folder name i (put_at w (x ∷ xs) own) after) (folder name i own (put_at w (m ∷ x ∷ xs) after))) → (y ≡ name) ⊎ StandsIn y after) [
-  | true ↦ λ k. k
-  | false ↦ λ k. elim k [ inl e ↦ inl e | inr e ↦ inr (deep_stands w m x xs y after e) ]
-] s
+deep_stands w m x xs y (folder name i own after) s =
+    elim (bytes_eq name m) as (λ t. StandsIn y
+    (cond t (folder name i (put_at w (x ∷ xs) own) after) (folder name i own (put_at w (m ∷ x ∷ xs) after)))
+    → (y ≡ name) ⊎ StandsIn y after) [
+      | true ↦ λ k. k
+      | false ↦ λ k. elim k [ inl e ↦ inl e | inr e ↦ inr (deep_stands w m x xs y after e) ]
+    ] s
 
 named_sorted : (w : What) (name : List ℕ) (n : Names) → Before name n → AreSorted n → AreSorted (named w name n)
 named_sorted (a_leaf i) name n b h = (b, h)
@@ -175,7 +230,9 @@ all_before name m after e b x (inr s) = precedes_on name m x (sym (same_order na
 before_more : (w : What) (name m : List ℕ) (after : Names) → is_before name m ≡ false → bytes_eq m name ≡ false
     → Before m after → Before m (put w name after)
 before_more w name m after e n b x s = elim (put_stands w name x after s) [
-  | inl k ↦ subst (λ y. precedes m y ≡ true) (sym k) (elim (one_first m name (λ z. other (bytes_eq m name) ((bytes_decides m name).1 z) n)) [ inl p ↦ p | inr p ↦ absurd (other (precedes name m) p (sym (same_order name m) ∙ e)) ])
+  | inl k ↦ subst (λ y. precedes m y ≡ true) (sym k)
+      (elim (one_first m name (λ z. other (bytes_eq m name) ((bytes_decides m name).1 z) n))
+      [ inl p ↦ p | inr p ↦ absurd (other (precedes name m) p (sym (same_order name m) ∙ e)) ])
   | inr k ↦ b x k
 ] where
   other : (t : Bool) → t ≡ true → t ≡ false → ⊥
@@ -186,19 +243,22 @@ put_sorted : (w : What) (name : List ℕ) (n : Names) → found (name ∷ []) n 
 put_sorted w name nothing f h = named_sorted w name nothing (λ m s. absurd s) tt
 put_sorted w name (leaf m i after) f h =
     let s = not_here (bytes_eq m name) _ (found (name ∷ []) after) f in
-    elim (is_before name m) as (λ t. is_before name m ≡ t → AreSorted (cond t (named w name (leaf m i after)) (leaf m i (put w name after)))) [
+    elim (is_before name m) as (λ t. is_before name m ≡ t
+    → AreSorted (cond t (named w name (leaf m i after)) (leaf m i (put w name after)))) [
       | true ↦ λ e. named_sorted w name (leaf m i after) (all_before name m after e h.0) h
       | false ↦ λ e. (before_more w name m after e s.0 h.0, put_sorted w name after s.1 h.1)
     ] refl
 put_sorted w name (link m i after) f h =
     let s = not_here (bytes_eq m name) _ (found (name ∷ []) after) f in
-    elim (is_before name m) as (λ t. is_before name m ≡ t → AreSorted (cond t (named w name (link m i after)) (link m i (put w name after)))) [
+    elim (is_before name m) as (λ t. is_before name m ≡ t
+    → AreSorted (cond t (named w name (link m i after)) (link m i (put w name after)))) [
       | true ↦ λ e. named_sorted w name (link m i after) (all_before name m after e h.0) h
       | false ↦ λ e. (before_more w name m after e s.0 h.0, put_sorted w name after s.1 h.1)
     ] refl
 put_sorted w name (folder m i own after) f h =
     let s = not_here (bytes_eq m name) _ (found (name ∷ []) after) f in
-    elim (is_before name m) as (λ t. is_before name m ≡ t → AreSorted (cond t (named w name (folder m i own after)) (folder m i own (put w name after)))) [
+    elim (is_before name m) as (λ t. is_before name m ≡ t
+    → AreSorted (cond t (named w name (folder m i own after)) (folder m i own (put w name after)))) [
       | true ↦ λ e. named_sorted w name (folder m i own after) (all_before name m after e h.0) h
       | false ↦ λ e. (before_more w name m after e s.0 h.0, h.1, put_sorted w name after s.1 h.2)
     ] refl
@@ -214,9 +274,12 @@ put_at_sorted w m (x ∷ xs) (link name i after) p f h =
     let s = past_file name m (but_last (x ∷ xs)) i (found (m ∷ but_last (x ∷ xs)) after) p in
     ((λ y k. h.0 y (deep_stands w m x xs y after k)), put_at_sorted w m (x ∷ xs) after s.1 (rw s.0 at f) h.1)
 put_at_sorted w m (x ∷ xs) (folder name i own after) p f h =
-    elim (bytes_eq name m) as (λ t. is_a_folder (cond t (last_or (but_last (x ∷ xs)) (a_file true i) (found (but_last (x ∷ xs)) own)) (found (m ∷ but_last (x ∷ xs)) after)) ≡ true
+    elim (bytes_eq name m) as (λ t. is_a_folder
+    (cond t (last_or (but_last (x ∷ xs)) (a_file true i) (found (but_last (x ∷ xs)) own))
+    (found (m ∷ but_last (x ∷ xs)) after)) ≡ true
     → cond t (found (x ∷ xs) own) (found (m ∷ x ∷ xs) after) ≡ None
-    → AreSorted (cond t (folder name i (put_at w (x ∷ xs) own) after) (folder name i own (put_at w (m ∷ x ∷ xs) after)))) [
+    → AreSorted (cond t (folder name i (put_at w (x ∷ xs) own) after)
+    (folder name i own (put_at w (m ∷ x ∷ xs) after)))) [
       | true ↦ λ q g. (h.0, put_at_sorted w x xs own (own_parent (but_last (x ∷ xs)) i own q) g h.1, h.2)
       | false ↦ λ q g. ((λ y k. h.0 y (deep_stands w m x xs y after k)), h.1, put_at_sorted w m (x ∷ xs) after q g h.2)
     ] p f

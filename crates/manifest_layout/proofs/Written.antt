@@ -1,5 +1,7 @@
--- What each line of a manifest has, whatever stands before it.
-use Rattle.std.proofs.Common.{◌≡◌, ◌≢◌, ℕ, ◌+◌, ◌*◌, ◌<◌, ◌==◌, nat_lt, Bool, true, false, cond, List, [], ◌∷◌, length, reverse, codes, Option, None, Some, Result, Ok, Err, ◌⊎◌, inl, inr, refl, sym, ap, subst, ◌∙◌, arith}
+-- What each line of a manifest has, whatever is before it.
+use Rattle.std.proofs.Common.{◌≡◌, ◌≢◌, ℕ, ◌+◌, ◌*◌, ◌<◌, ◌==◌, nat_lt, Bool, true, false, cond, List, [], ◌∷◌, length}
+use Rattle.std.proofs.Common.{reverse, codes, Option, None, Some, Result, Ok, Err, ◌⊎◌, inl, inr, refl, sym, ap, subst}
+use Rattle.std.proofs.Common.{◌∙◌, arith}
 use Rattle.std.proofs.lemmas.Bool.{ltb-true}
 use Rattle.std.proofs.lemmas.Bool.Decides.{eqb_tells}
 use Rattle.std.specs.List.{list_any, AllByRecursion as Every}
@@ -16,7 +18,11 @@ use Rattle.manifest.specs.declared.numbers.Numbers.{Numbers}
 use Rattle.manifest.specs.declared.error.TheConstants.{BAD_WORD, BAD_PATH, EXISTS}
 use Rattle.manifest.specs.Texts.{pieces, is_empty, is_bad, octal, decimal, digits_from, below}
 use Rattle.manifest.specs.Lines.{ManifestLines}
-use Rattle.manifest.specs.Grammar.{Fault, Fields, Seen, manifest_of, read_lines, read, read_by, read_volume, read_fields, read_numbers, with_line, with_numbers, numbers_of, all_numbers, line_of, fields_of, volume_field, three_fields, five_fields, six_fields, seven_fields, eight_fields, device, device_word, plain_fields, no_mode, zero_text, fault, fault_of, is_skipped, and_then, as_manifest, nothing_read}
+use Rattle.manifest.specs.Grammar.{Fault, Fields, Seen, manifest_of, read_lines, read, read_by, read_volume}
+use Rattle.manifest.specs.Grammar.{read_fields, read_numbers, with_line, with_numbers, numbers_of, all_numbers, line_of}
+use Rattle.manifest.specs.Grammar.{fields_of, volume_field, three_fields, five_fields, six_fields, seven_fields}
+use Rattle.manifest.specs.Grammar.{eight_fields, device, device_word, plain_fields, no_mode, zero_text, fault, fault_of}
+use Rattle.manifest.specs.Grammar.{is_skipped, and_then, as_manifest, nothing_read}
 use Rattle.manifest_layout.proofs.Bools.{true_is_not_false, same_some, or_false}
 use Rattle.manifest.proofs.Digits.{stays_small}
 
@@ -54,21 +60,29 @@ no_fields : (f : Fields) → None ≡ Some f → FieldsFit f
 no_fields f e = absurd (cc)
 
 three_fit : (w a b : List ℕ) (f : Fields) → three_fields w a b ≡ Some f → FieldsFit f
-three_fit w a b f e = fit_by (bytes_eq w (codes "hard")) (plain_fields Hard a no_mode zero_text zero_text zero_text b) f None (plain_fit Hard a no_mode zero_text zero_text zero_text b (λ z. absurd (cc))) (no_fields f) e
+three_fit w a b f e = fit_by (bytes_eq w (codes "hard"))
+    (plain_fields Hard a no_mode zero_text zero_text zero_text b) f None
+    (plain_fit Hard a no_mode zero_text zero_text zero_text b (λ z. absurd (cc))) (no_fields f) e
 
 five_fit : (w a b c d : List ℕ) (f : Fields) → five_fields w a b c d ≡ Some f → FieldsFit f
 five_fit w a b c d f e =
-    fit_by (bytes_eq w (codes "dir")) (plain_fields Dir a b c d zero_text []) f _ (plain_fit Dir a b c d zero_text [] (λ z. absurd (cc)))
-    (fit_by (bytes_eq w (codes "pipe")) (plain_fields Fifo a b c d zero_text []) f _ (plain_fit Fifo a b c d zero_text [] (λ z. absurd (cc)))
-    (fit_by (bytes_eq w (codes "sock")) (plain_fields Socket a b c d zero_text []) f None (plain_fit Socket a b c d zero_text [] (λ z. absurd (cc))) (no_fields f))) e
+    fit_by (bytes_eq w (codes "dir")) (plain_fields Dir a b c d zero_text []) f _
+    (plain_fit Dir a b c d zero_text [] (λ z. absurd (cc)))
+    (fit_by (bytes_eq w (codes "pipe")) (plain_fields Fifo a b c d zero_text []) f _
+    (plain_fit Fifo a b c d zero_text [] (λ z. absurd (cc)))
+    (fit_by (bytes_eq w (codes "sock")) (plain_fields Socket a b c d zero_text []) f None
+    (plain_fit Socket a b c d zero_text [] (λ z. absurd (cc))) (no_fields f))) e
 
 six_fit : (w a b c d t : List ℕ) (f : Fields) → is_empty t ≡ false → six_fields w a b c d t ≡ Some f → FieldsFit f
 six_fit w a b c d t f s e =
-    fit_by (bytes_eq w (codes "slink")) (plain_fields Slink a b c d zero_text t) f _ (plain_fit Slink a b c d zero_text t (λ z. s))
-    (fit_by (bytes_eq w (codes "same")) (plain_fields Same a b c d zero_text t) f None (plain_fit Same a b c d zero_text t (λ z. absurd (cc))) (no_fields f)) e
+    fit_by (bytes_eq w (codes "slink")) (plain_fields Slink a b c d zero_text t) f _
+    (plain_fit Slink a b c d zero_text t (λ z. s))
+    (fit_by (bytes_eq w (codes "same")) (plain_fields Same a b c d zero_text t) f None
+    (plain_fit Same a b c d zero_text t (λ z. absurd (cc))) (no_fields f)) e
 
 seven_fit : (w a b c d g t : List ℕ) (f : Fields) → seven_fields w a b c d g t ≡ Some f → FieldsFit f
-seven_fit w a b c d g t f e = fit_by (bytes_eq w (codes "file")) (plain_fields File a b c d g t) f None (plain_fit File a b c d g t (λ z. absurd (cc))) (no_fields f) e
+seven_fit w a b c d g t f e = fit_by (bytes_eq w (codes "file")) (plain_fields File a b c d g t) f None
+    (plain_fit File a b c d g t (λ z. absurd (cc))) (no_fields f) e
 
 device_fit : (o : Option Word) (a b c d g h : List ℕ) (f : Fields)
     → ((w : Word) → o ≡ Some w → (is_device w ≡ true) × (is_slink w ≡ false)) → device o a b c d g h ≡ Some f
@@ -76,7 +90,10 @@ device_fit : (o : Option Word) (a b c d g h : List ℕ) (f : Fields)
 device_fit None a b c d g h f k e = absurd (cc)
 device_fit (Some w) a b c d g h f k e =
     let s = k w refl in
-    subst FieldsFit (same_some e) (record { numbers = λ z. absurd (true_is_not_false (is_device w) s.0 z); text = λ z. absurd (true_is_not_false (is_slink w) z s.1) })
+    subst FieldsFit (same_some e) (record {
+      numbers = λ z. absurd (true_is_not_false (is_device w) s.0 z);
+      text = λ z. absurd (true_is_not_false (is_slink w) z s.1);
+    })
 
 letter_fit : (x : List ℕ) (w : Word) → device_word x ≡ Some w → (is_device w ≡ true) × (is_slink w ≡ false)
 letter_fit x w e = by (bytes_eq x (codes "b")) (bytes_eq x (codes "c")) e
@@ -116,7 +133,11 @@ fields_fit (w ∷ a ∷ b ∷ c ∷ d ∷ x ∷ g ∷ t ∷ u ∷ more) f h e = 
 all_there : (a b c d e g : Option ℕ) (k : Numbers) → all_numbers a b c d e g ≡ Some k
     → (a ≡ Some k.mode) × (e ≡ Some k.major) × (g ≡ Some k.minor)
 all_there (Some a) (Some b) (Some c) (Some d) (Some e) (Some g) k h =
-    let s = same_some h in (ap (λ (x : Numbers). Some x.mode) s, ap (λ (x : Numbers). Some x.major) s, ap (λ (x : Numbers). Some x.minor) s)
+    let s = same_some h in (
+      ap (λ (x : Numbers). Some x.mode) s,
+      ap (λ (x : Numbers). Some x.major) s,
+      ap (λ (x : Numbers). Some x.minor) s,
+    )
 all_there None b c d e g k h = absurd (cc)
 all_there (Some a) None c d e g k h = absurd (cc)
 all_there (Some a) (Some b) None d e g k h = absurd (cc)
@@ -130,7 +151,8 @@ unfolding octal
 octal_small bs n h = by (eqb_tells (length bs) 4)
   where
     small : below 4096 (Some n) ≡ Some n → n < 4096
-    small e = elim (nat_lt n 4096) as (λ t. nat_lt n 4096 ≡ t → cond t (Some n) None ≡ Some n → n < 4096) [ true ↦ λ g k. ltb-true n 4096 g | false ↦ λ g k. absurd (cc) ] refl e
+    small e = elim (nat_lt n 4096) as (λ t. nat_lt n 4096 ≡ t → cond t (Some n) None ≡ Some n → n < 4096)
+        [ true ↦ λ g k. ltb-true n 4096 g | false ↦ λ g k. absurd (cc) ] refl e
 
     by : (((length bs == 4) ≡ true) × (length bs ≡ 4)) ⊎ (((length bs == 4) ≡ false) × (length bs ≢ 4)) → n < 4096
     by (inl t) =
@@ -142,13 +164,14 @@ zero_is : (t : List ℕ) (n : ℕ) → t ≡ zero_text → decimal t ≡ Some n 
 unfolding decimal
 zero_is t n e h = let d : Some 0 ≡ Some n = sym (ap decimal e) ∙ h in sym (same_some d)
 
--- what is decoded is not empty where its code is not
+-- what is decoded is not empty if its code is not
 decoded_some : (t : List ℕ) → is_empty t ≡ false → 0 < length (percent_decode t)
 unfolding percent_decode
 decoded_some [] h = absurd (cc)
 decoded_some (b ∷ []) h = omega arith
 decoded_some (b ∷ c ∷ []) h = omega arith
-decoded_some (b ∷ c ∷ d ∷ rest) h = by (is_escape b c d) (percent_decode rest) (percent_decode (c ∷ d ∷ rest)) (16 * digit_value c + digit_value d)
+decoded_some (b ∷ c ∷ d ∷ rest) h =
+    by (is_escape b c d) (percent_decode rest) (percent_decode (c ∷ d ∷ rest)) (16 * digit_value c + digit_value d)
   where
     by : (t : Bool) (xs ys : List ℕ) (x : ℕ) → 0 < length (cond t (x ∷ xs) (b ∷ ys))
     by true xs ys x = omega arith
@@ -160,7 +183,8 @@ line_fits n f l h e = by (numbers_of f) refl e
   where
     made : (k : Numbers) → numbers_of f ≡ Some k → IsLine (with_numbers n f k)
     made k g =
-        let t = all_there (octal f.mode) (decimal f.uid) (decimal f.gid) (decimal f.align) (decimal f.major) (decimal f.minor) k g in
+        let t = all_there (octal f.mode) (decimal f.uid) (decimal f.gid) (decimal f.align) (decimal f.major)
+        (decimal f.minor) k g in
         record {
           mode = octal_small f.mode k.mode t.0;
           numbers = λ z. (zero_is f.major k.major (h.numbers z).0 t.1, zero_is f.minor k.minor (h.numbers z).1 t.2);
@@ -184,7 +208,9 @@ same_ok e = cc
 later : (n : ℕ) (s : Seen) → IsRead n s → IsRead (n + 1) s
 later n s h = record {
   lines = h.lines;
-  numbered = every_weaker (λ (l : Line). (0 < l.number) × (l.number < n)) (λ (l : Line). (0 < l.number) × (l.number < n + 1)) (λ l k. let a = k.0 in let b = k.1 in (a, omega arith)) s.latest h.numbered;
+  numbered = every_weaker (λ (l : Line). (0 < l.number) × (l.number < n))
+      (λ (l : Line). (0 < l.number) × (l.number < n + 1))
+      (λ l k. let a = k.0 in let b = k.1 in (a, omega arith)) s.latest h.numbered;
   rises = h.rises;
   volume = h.volume;
 }
@@ -197,7 +223,11 @@ by_line s t n l None pos i e h g =
     subst (IsRead (n + 1)) (same_ok g) (record {
       lines = (i, h.lines);
       numbered = ((omega (arith, e, pos), omega (arith, e)), up.numbered);
-      rises = (every_weaker (λ (k : Line). (0 < k.number) × (k.number < n)) (λ (k : Line). k.number < l.number) (λ k x. let u = x.1 in omega (arith, e, u)) s.latest h.numbered, h.rises);
+      rises = (
+        every_weaker (λ (k : Line). (0 < k.number) × (k.number < n)) (λ (k : Line). k.number < l.number)
+            (λ k x. let u = x.1 in omega (arith, e, u)) s.latest h.numbered,
+        h.rises,
+      );
       volume = h.volume;
     })
 
@@ -213,9 +243,12 @@ by_fields s t n (Some f) pos k h g = by (line_of n f) refl g
 by_volume : (s t : Seen) (n : ℕ) (name : List ℕ) → IsRead n s → read_volume s n name ≡ Ok t → IsRead (n + 1) t
 by_volume s t n name h g = by (is_bad 255 name) (s.volume_line == 0) refl g
   where
-    by : (a b : Bool) → is_bad 255 name ≡ a → cond a (fault n BAD_PATH) (cond b (Ok (record { latest = s.latest; volume = name; volume_line = n })) (fault n EXISTS)) ≡ Ok t → IsRead (n + 1) t
+    by : (a b : Bool) → is_bad 255 name ≡ a
+        → cond a (fault n BAD_PATH) (cond b (Ok (record { latest = s.latest; volume = name; volume_line = n }))
+        (fault n EXISTS)) ≡ Ok t → IsRead (n + 1) t
     by true b e x = absurd (cc)
-    by false true e x = let up = later n s h in subst (IsRead (n + 1)) (same_ok x) (record { lines = h.lines; numbered = up.numbered; rises = h.rises; volume = e })
+    by false true e x = let up = later n s h in subst (IsRead (n + 1)) (same_ok x)
+        (record { lines = h.lines; numbered = up.numbered; rises = h.rises; volume = e })
     by false false e x = absurd (cc)
 
 by_read : (s t : Seen) (n : ℕ) (line : List ℕ) → 0 < n → IsRead n s → read s n line ≡ Ok t → IsRead (n + 1) t
@@ -232,7 +265,8 @@ by_lines : (s t : Seen) (n : ℕ) (ls : List (List ℕ)) → 0 < n → IsRead n 
     → (k : ℕ) × IsRead k t
 by_lines s t n [] pos h g = (n, subst (IsRead n) (same_ok g) h)
 by_lines s t n (l ∷ ls) pos h g =
-    elim (is_skipped l) as (λ b. cond b (read_lines s (n + 1) ls) (and_then (read s n l) (λ u. read_lines u (n + 1) ls)) ≡ Ok t → (k : ℕ) × IsRead k t) [
+    elim (is_skipped l) as (λ b. cond b (read_lines s (n + 1) ls) (and_then (read s n l) (λ u. read_lines u (n + 1) ls))
+    ≡ Ok t → (k : ℕ) × IsRead k t) [
       | true ↦ λ x. by_lines s t (n + 1) ls (omega arith) (later n s h) x
       | false ↦ λ x. after (read s n l) refl x (λ u c. by_lines u t (n + 1) ls (omega arith) c)
     ] g
@@ -262,15 +296,18 @@ written m text h = by (read_lines nothing_read 1 (pieces 10 text)) refl h
         → (latest : List Line) × IsWritten m latest
     by (Err e) same g = absurd (cc)
     by (Ok s) same g =
-        let k = (by_lines nothing_read s 1 (pieces 10 text) (omega arith) (record { lines = tt; numbered = tt; rises = tt; volume = refl }) same).1 in
+        let k = (by_lines nothing_read s 1 (pieces 10 text) (omega arith)
+        (record { lines = tt; numbered = tt; rises = tt; volume = refl }) same).1 in
         let e = injective g in (
           s.latest,
           record {
             reversed = ap (λ (x : ManifestLines). x.lines) (sym e);
             lines = k.lines;
-            numbered = every_weaker (λ (l : Line). (0 < l.number) × (l.number < _)) (λ (l : Line). 0 < l.number) (λ l x. x.0) s.latest k.numbered;
+            numbered = every_weaker (λ (l : Line). (0 < l.number) × (l.number < _)) (λ (l : Line). 0 < l.number)
+                (λ l x. x.0) s.latest k.numbered;
             rises = k.rises;
-            apart = pairs_weaker (λ (l : Line) (k : Line). k.number < l.number) (λ (l : Line) (k : Line). l.number ≢ k.number) (λ l k r e. omega (arith, r, e)) s.latest k.rises;
+            apart = pairs_weaker (λ (l : Line) (k : Line). k.number < l.number)
+                (λ (l : Line) (k : Line). l.number ≢ k.number) (λ l k r e. omega (arith, r, e)) s.latest k.rises;
             volume = subst (λ (x : ManifestLines). is_bad 255 x.volume ≡ false) e k.volume;
           },
         )

@@ -1,7 +1,10 @@
--- What of a manifest does not fit a format, where its sources have these sizes: of one line, or of the whole. (This
--- project's own. What a format can say is in Linux Documentation/filesystems/romfs.rst and
--- include/uapi/linux/cramfs_fs.h; 2^28 bytes, 2^20 references and 64 names are this project's limits.)
-use Rattle.std.specs.Prelude.{◌≡◌, ◌≢◌, ℕ, ◌^◌, ◌<◌, ◌≤◌, ◌⊎◌, false, true, List, [], ◌∷◌, length, Option, Some, None}
+-- `HasMisfit`: a line of a manifest does not fit a format, if the sources have these sizes.
+-- `HasWholeMisfit`: the whole does not fit. `IsLeastMisfit`: the least of them. `HasNoMisfit`: the
+-- manifest fits. (This project's own. Linux Documentation/filesystems/romfs.rst and
+-- include/uapi/linux/cramfs_fs.h define what a format can store. The limits of 2^28 bytes, 2^20
+-- references and 64 names are this project's.)
+use Rattle.std.specs.Prelude.{◌≡◌, ◌≢◌, ℕ, ◌^◌, ◌<◌, ◌≤◌, ◌⊎◌, false, true, List, [], ◌∷◌, length}
+use Rattle.std.specs.Prelude.{Option, Some, None}
 use Rattle.rom_faults.specs.declared.fault.Fault.{Fault}
 use Rattle.record_forest.specs.Faults.{IsLeastFault, IsNone}
 use Rattle.record_forest.specs.Members.{Has}
@@ -28,18 +31,19 @@ NAME_TOO_LONG = 3
 abbrev pub HARD_LINK : ℕ
 HARD_LINK = 4
 
--- an owner, a mode or a number of a device that the format cannot say
+-- an owner, a mode or a number of a device that the format cannot store
 abbrev pub HasBadAttribute : Format → Inode → Type 0
 HasBadAttribute romfs i =
     (i.uid ≢ 0) ⊎ ((i.gid ≢ 0) ⊎ ((HasMode i → ⊥) ⊎ ((65535 < i.major) ⊎ (65535 < i.minor))))
-HasBadAttribute (cramfs o) i = (65535 < i.uid) ⊎ ((255 < i.gid) ⊎ ((255 < i.major) ⊎ (255 < i.minor)))
+HasBadAttribute (cramfs o) i =
+    (65535 < i.uid) ⊎ ((255 < i.gid) ⊎ ((255 < i.major) ⊎ (255 < i.minor)))
 
 -- a file of so many bytes is too large
 abbrev pub IsLarge : Format → ℕ → Type 0
 IsLarge romfs size = 2 ^ 28 < size
 IsLarge (cramfs o) size = 2 ^ 24 ≤ size
 
--- how long the last of a path's names is
+-- the length of the last of a path's names
 abbrev pub last_len : List (List ℕ) → ℕ
 last_len [] = 0
 last_len (n ∷ []) = length n
@@ -54,7 +58,7 @@ abbrev pub IsLong : Format → ℕ → Type 0
 IsLong romfs n = ⊥
 IsLong (cramfs o) n = 252 < n
 
--- so is the name of a volume
+-- the name of a volume of so many bytes is too long
 abbrev pub IsLongVolume : Format → ℕ → Type 0
 IsLongVolume romfs n = ⊥
 IsLongVolume (cramfs o) n = 16 < n
@@ -66,24 +70,31 @@ HasNoLinks (cramfs o) = Unit {0}
 
 -- one line does not fit; a `hard` line has no attributes of its own
 pub data HasMisfit (f : Format) (m : ManifestLines) (sizes : List ℕ) (l : Line) : ℕ → Type 0 where
-  attribute : {k : ℕ} → k ≡ ATTRIBUTE → is_hard l.word ≡ false → HasBadAttribute f (inode_of m.lines sizes l)
+  attribute : {k : ℕ} → k ≡ ATTRIBUTE → is_hard l.word ≡ false
+      → HasBadAttribute f (inode_of m.lines sizes l)
       → HasMisfit f m sizes l k
-  large : {k : ℕ} → k ≡ TOO_LARGE → IsLarge f (inode_of m.lines sizes l).size → HasMisfit f m sizes l k
-  long_name : {k : ℕ} → k ≡ NAME_TOO_LONG → IsLong f (name_len (names_of l.path)) → HasMisfit f m sizes l k
-  hard_link : {k : ℕ} → k ≡ HARD_LINK → is_hard l.word ≡ true → HasNoLinks f → HasMisfit f m sizes l k
+  large : {k : ℕ} → k ≡ TOO_LARGE → IsLarge f (inode_of m.lines sizes l).size
+      → HasMisfit f m sizes l k
+  long_name : {k : ℕ} → k ≡ NAME_TOO_LONG → IsLong f (name_len (names_of l.path))
+      → HasMisfit f m sizes l k
+  hard_link : {k : ℕ} → k ≡ HARD_LINK → is_hard l.word ≡ true → HasNoLinks f
+      → HasMisfit f m sizes l k
 
--- some line, or that of the volume, does not fit: a misfit stands `at` the number of its line
+-- some line, or that of the volume, does not fit; `at` of the misfit is the number of its line
 pub data HasLineMisfit (f : Format) (m : ManifestLines) (sizes : List ℕ) (e : Fault) : Type 0 where
-  of_line : Has (λ l. (e.at ≡ l.number) × HasMisfit f m sizes l e.number) m.lines → HasLineMisfit f m sizes e
-  of_volume : IsLongVolume f (length m.volume) → e ≡ record { number = NAME_TOO_LONG; at = m.volume_line }
+  of_line : Has (λ l. (e.at ≡ l.number) × HasMisfit f m sizes l e.number) m.lines
+      → HasLineMisfit f m sizes e
+  of_volume : IsLongVolume f (length m.volume)
+      → e ≡ record { number = NAME_TOO_LONG; at = m.volume_line }
       → HasLineMisfit f m sizes e
 
--- the list of a directory has 2 ^ 24 bytes or more
+-- the list of a directory has 2^24 bytes or more
 abbrev pub HasLongList : Names → Type 0
 HasLongList nothing = ⊥
 HasLongList (leaf name i after) = HasLongList after
 HasLongList (link name i after) = HasLongList after
-HasLongList (folder name i own after) = (2 ^ 24 ≤ list_len own) ⊎ (HasLongList own ⊎ HasLongList after)
+HasLongList (folder name i own after) =
+    (2 ^ 24 ≤ list_len own) ⊎ (HasLongList own ⊎ HasLongList after)
 
 abbrev pub HasLongLists : Format → Names → Type 0
 HasLongLists romfs n = ⊥
@@ -96,10 +107,12 @@ pub data HasWholeMisfit (f : Format) (m : ManifestLines) (sizes : List ℕ) : Ty
   deep : 64 < height (tree_of m.lines sizes) → HasWholeMisfit f m sizes
   many : 2 ^ 20 < references_of f m sizes → HasWholeMisfit f m sizes
 
--- The least misfit: of the lines, by line and then by number; where they have none, the whole is too large, at line 0.
+-- The least misfit, by line and then by number. If the lines have none, the whole is too large, at
+-- line 0.
 pub data IsLeastMisfit (f : Format) (m : ManifestLines) (sizes : List ℕ) (e : Fault) : Type 0 where
   line_misfit : IsLeastFault (HasLineMisfit f m sizes) e → IsLeastMisfit f m sizes e
-  whole_misfit : IsNone (HasLineMisfit f m sizes) → HasWholeMisfit f m sizes → e ≡ record { number = TOO_LARGE; at = 0 }
+  whole_misfit : IsNone (HasLineMisfit f m sizes) → HasWholeMisfit f m sizes
+      → e ≡ record { number = TOO_LARGE; at = 0 }
       → IsLeastMisfit f m sizes e
 
 -- the manifest fits

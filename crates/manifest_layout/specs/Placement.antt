@@ -1,5 +1,9 @@
--- Where a manifest asks the bytes of its files to stand, and what it calls its volume. (This project's own; the places of
--- the names are those of Linux Documentation/filesystems/romfs.rst and include/uapi/linux/cramfs_fs.h.)
+-- `IsPlaced`: each file with the contents of a `file` line has its bytes in one run, from a
+-- multiple of its ALIGN on. `AreShared`: files with the contents of one `file` line have them at
+-- the same offsets. `AreApart`: files of different lines have no offset in common. `CopiesStand`:
+-- they are shared in cramfs and apart in romfs. `HasVolume`: the volume's name. (This project's
+-- own; the offsets of the names are those of Linux Documentation/filesystems/romfs.rst and
+-- include/uapi/linux/cramfs_fs.h.)
 use Rattle.std.specs.Prelude.{◌≡◌, ◌≢◌, ℕ, List, ◌∷◌, reverse, take, drop, Some}
 use Rattle.record_forest.specs.Members.{Has}
 use Rattle.rom_tree.specs.Tree.{Node, places_of}
@@ -12,17 +16,18 @@ use Rattle.layout_terms.specs.Placement.{IsRun}
 use Rattle.romfs_layout.specs.Disjoint.{AreDisjoint}
 use Rattle.manifest_layout.specs.Format.{Format, romfs, cramfs}
 
--- Of each line l of the manifest that leads to a regular file, as `file`, `same` and `hard` lines do, and the `file` line
--- o whose contents that file has: the node at the path of l has its bytes in one run of the image, from a multiple of the
--- ALIGN of o on.
+-- A line l of the manifest leads to a regular file, as `file`, `same` and `hard` lines do, and o is
+-- the `file` line whose contents that file has. Then the node at the path of l has its bytes in one
+-- run of the image, from a multiple of the ALIGN of o on.
 abbrev pub IsPlaced : Node → ManifestLines → Type 0
 IsPlaced t m =
     (l o : Line) (n : List ℕ) (ns : List (List ℕ)) (x : Node) → Has (λ k. k ≡ l) m.lines
-    → filed (reverse m.lines) l.path ≡ Some o → names_of l.path ≡ Some (n ∷ ns) → node_under (n ∷ ns) t ≡ Some x
+    → filed (reverse m.lines) l.path ≡ Some o → names_of l.path ≡ Some (n ∷ ns)
+    → node_under (n ∷ ns) t ≡ Some x
     → IsRun o.align (places_of x)
 
--- Any two lines k and l of the manifest that lead to the contents of one `file` line o: the nodes at
--- their paths have their bytes at the same places of the image.
+-- Two lines k and l of the manifest lead to the contents of one `file` line o. Then the nodes at
+-- their paths have their bytes at the same offsets of the image.
 abbrev pub AreShared : Node → ManifestLines → Type 0
 AreShared t m =
     (k l o : Line) (n p : List ℕ) (ns ps : List (List ℕ)) (x y : Node) → Has (λ z. z ≡ k) m.lines
@@ -31,8 +36,8 @@ AreShared t m =
     → names_of l.path ≡ Some (p ∷ ps) → node_under (n ∷ ns) t ≡ Some x
     → node_under (p ∷ ps) t ≡ Some y → places_of x ≡ places_of y
 
--- Any two lines k and l of the manifest that lead to different lines a and b, each to itself or by
--- `hard` to another: the nodes at their paths have no place of the image in common.
+-- Two lines k and l of the manifest lead to different lines a and b, each to itself or by `hard` to
+-- another. Then the nodes at their paths have no offset of the image in common.
 abbrev pub AreApart : Node → ManifestLines → Type 0
 AreApart t m =
     (k l a b : Line) (n p : List ℕ) (ns ps : List (List ℕ)) (x y : Node) → Has (λ z. z ≡ k) m.lines
@@ -41,12 +46,13 @@ AreApart t m =
     → names_of l.path ≡ Some (p ∷ ps) → node_under (n ∷ ns) t ≡ Some x
     → node_under (p ∷ ps) t ≡ Some y → AreDisjoint (places_of x) (places_of y)
 
--- how files with the same contents stand: in romfs each has a copy, in cramfs they share one
+-- files with the same contents: in romfs each has a copy, in cramfs they share one
 abbrev pub CopiesStand : Format → Node → ManifestLines → Type 0
 CopiesStand romfs t m = AreApart t m
 CopiesStand (cramfs o) t m = AreShared t m
 
--- the volume's name in the bytes: what stands before the first zero at 16 or, of cramfs, in the 16 bytes at 48
+-- the volume's name in the bytes: up to the first zero from offset 16 on, or in cramfs in the 16
+-- bytes at offset 48
 abbrev pub HasVolume : Format → List ℕ → List ℕ → Type 0
 HasVolume romfs bytes name = before_zero (drop 16 bytes) ≡ name
 HasVolume (cramfs o) bytes name = before_zero (take 16 (drop 48 bytes)) ≡ name

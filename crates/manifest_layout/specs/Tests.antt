@@ -1,6 +1,8 @@
--- Which line of a manifest does not fit a format, by computing: the tests that Misfit.antt has as conditions. The laws of
--- this crate say that they agree. (This project's own.)
-use Rattle.std.specs.Prelude.{ℕ, ◌^◌, ◌==◌, ◌||◌, nat_lt, not, Bool, true, false, List, [], ◌∷◌, Option, Some, None}
+-- The least misfit of lines and a volume, by computing. `number_of_line`: the least misfit of a
+-- line. `of_lines`, `volume_by`: those of lines and of a volume's name. The proofs of this crate
+-- show that these tests agree with the conditions of Misfit.antt. (This project's own.)
+use Rattle.std.specs.Prelude.{ℕ, ◌^◌, ◌==◌, ◌||◌, nat_lt, not, Bool, true, false, List, [], ◌∷◌}
+use Rattle.std.specs.Prelude.{Option, Some, None}
 use Rattle.rom_faults.specs.declared.fault.Fault.{Fault}
 use Rattle.record_forest.specs.Lesser.{lesser_of_both}
 use Rattle.manifest.specs.declared.line.Line.{Line}
@@ -13,10 +15,12 @@ use Rattle.romfs_layout.specs.Layout.{number_of, runnable}
 use Rattle.manifest_layout.specs.Format.{Format, romfs, cramfs}
 use Rattle.manifest_layout.specs.Misfit.{name_len}
 
--- whether the format cannot say an attribute of a file: an owner, a group, a mode or a device's number
+-- whether the format cannot store an attribute of a file: an owner, a group, a mode or a device's
+-- number
 abbrev pub bad_attribute : Format → Inode → Bool
 bad_attribute romfs i =
-    not (i.uid == 0) || (not (i.gid == 0) || (not (mode_named (number_of i.kind) (i.mode == runnable) == i.mode)
+    not (i.uid == 0) || (not (i.gid == 0)
+    || (not (mode_named (number_of i.kind) (i.mode == runnable) == i.mode)
     || (nat_lt 65535 i.major || nat_lt 65535 i.minor)))
 bad_attribute (cramfs o) i =
     nat_lt 65535 i.uid || (nat_lt 255 i.gid || (nat_lt 255 i.major || nat_lt 255 i.minor))
@@ -45,8 +49,8 @@ has_no_links (cramfs o) = true
 abbrev pub fault : ℕ → ℕ → Fault
 fault number at = record { number = number; at = at }
 
--- the least number of those that hold, of a `hard` line and of another: a bad attribute, too large, a long name, a link
--- where the format has none
+-- The least number of those that hold, for a `hard` line and for another: a bad attribute, too
+-- large, a long name, a link if the format has none.
 abbrev pub number_by : Bool → Bool → Bool → Bool → Bool → Option ℕ
 number_by false true l n k = Some 1
 number_by false false true n k = Some 2
@@ -61,9 +65,10 @@ number_by true b false false false = None
 abbrev pub number_of_line : Format → ManifestLines → List ℕ → Line → Option ℕ
 number_of_line f m sizes l =
     let i = inode_of m.lines sizes l in
-    number_by (is_hard l.word) (bad_attribute f i) (is_large f i.size) (is_long f (name_len (names_of l.path))) (has_no_links f)
+    number_by (is_hard l.word) (bad_attribute f i) (is_large f i.size)
+    (is_long f (name_len (names_of l.path))) (has_no_links f)
 
--- a number, if any, at a line
+-- a number at a line, if there is one
 abbrev pub at_line : ℕ → Option ℕ → Option Fault
 at_line n None = None
 at_line n (Some k) = Some (fault k n)
@@ -71,9 +76,10 @@ at_line n (Some k) = Some (fault k n)
 -- the least misfit of lines
 abbrev pub of_lines : Format → ManifestLines → List ℕ → List Line → Option Fault
 of_lines f m sizes [] = None
-of_lines f m sizes (l ∷ ls) = lesser_of_both (at_line l.number (number_of_line f m sizes l)) (of_lines f m sizes ls)
+of_lines f m sizes (l ∷ ls) =
+    lesser_of_both (at_line l.number (number_of_line f m sizes l)) (of_lines f m sizes ls)
 
--- that of a volume's name, by whether it is too long, at the number of its line
+-- the misfit of a volume's name, by whether it is too long, at the number of its line
 abbrev pub volume_by : Bool → ℕ → Option Fault
 volume_by true n = Some (fault 3 n)
 volume_by false n = None

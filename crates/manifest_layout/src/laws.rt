@@ -1,17 +1,18 @@
-//! Laws about what of a manifest fits a format.
+//! Laws on the misfits of a manifest, and on the layout of one that fits.
 ghost use Rattle.std.specs.Prelude.{◌≡◌, List, ℕ, Option, MatchOption, map, length};
 ghost use Rattle.layout_terms.specs.Items.{SectionsRise};
 ghost use Rattle.manifest.specs.Grammar.{IsManifest};
 ghost use Rattle.manifest.specs.Lines.{ManifestLines};
 ghost use Rattle.manifest_layout.specs.Composed.{composed_of};
-ghost use Rattle.manifest_layout.specs.Format.{Format, HasUsualTree, IsPlannedBy, layout_of, len_of, sections_of};
+ghost use Rattle.manifest_layout.specs.Format.{Format, HasUsualTree, IsPlannedBy, layout_of};
+ghost use Rattle.manifest_layout.specs.Format.{len_of, sections_of};
 ghost use Rattle.manifest_layout.specs.Misfit.{IsLeastMisfit, HasNoMisfit};
 ghost use Rattle.manifest_layout.specs.Placement.{CopiesStand, HasVolume, IsPlaced};
 ghost use Rattle.manifest_tree.specs.Meant.{IsMeant};
 ghost use Rattle.rom_faults.specs.declared.fault.Fault.{Fault};
 ghost use Rattle.rom_tree.specs.Tree.{Node};
 
-/// A manifest fits or has a least misfit, not both, and it has no more than one.
+/// Shows that a manifest either fits or has exactly one least misfit.
 pub fn one_answer()
     ensures given { (f : Format) (m : ManifestLines) (sizes : List ℕ)
         → (o : Option Fault) × MatchOption o (HasNoMisfit f m sizes) (IsLeastMisfit f m sizes) }
@@ -21,14 +22,14 @@ pub fn one_answer()
         → IsLeastMisfit f m sizes d → IsLeastMisfit f m sizes e → d ≡ e }
 {}
 
-/// A manifest that fits a format gives a volume that can be laid out in it.
+/// Shows that the volume of a manifest that fits a format can be laid out in it.
 pub fn fitting_is_planned()
     ensures { (f : Format) (m : ManifestLines) (contents : List (List ℕ))
         → IsManifest m → HasNoMisfit f m (map length contents) → IsPlannedBy f m contents }
 {}
 
-/// The layout of a manifest that fits holds a tree, and this is what the manifest means. It is as
-/// long as is said of the sizes alone.
+/// Shows that the layout of a manifest that fits holds a tree, which is what the manifest means.
+/// Its length depends only on the sizes of the sources.
 pub fn layout_is_meant()
     ensures tree { (f : Format) (m : ManifestLines) (contents : List (List ℕ))
         → IsManifest m → HasNoMisfit f m (map length contents)
@@ -46,10 +47,10 @@ pub fn layout_is_meant()
     fitting_is_planned();
 }
 
-/// In the tree that the layout of a manifest that fits holds, each file with the contents of a `file`
-/// line has its bytes in one run, from a multiple of that line's ALIGN on; and the volume has the
-/// manifest's name. In cramfs all files with the contents of one `file` line have their bytes at
-/// the same places. In romfs the files of different lines have no place in common.
+/// Shows that in this tree each file with the contents of a `file` line has its bytes in one run,
+/// from a multiple of that line's ALIGN on, and that the volume has the manifest's name. In cramfs,
+/// all files with the contents of one `file` line have their bytes at the same offsets. In romfs,
+/// files of different lines have no offset in common.
 pub fn layout_is_placed()
     ensures runs { (f : Format) (m : ManifestLines) (contents : List (List ℕ))
         → IsManifest m → HasNoMisfit f m (map length contents)
@@ -66,15 +67,16 @@ pub fn layout_is_placed()
     fitting_is_planned();
 }
 
-/// The sections of a manifest that fits stand one after the other, none is empty, and the last ends
-/// within the image.
+/// Shows that the sections of a manifest that fits are one after the other, none is empty, and the
+/// last ends within the image.
 pub fn sections_rise()
-    ensures { (f : Format) (m : ManifestLines) (sizes : List ℕ) → IsManifest m → HasNoMisfit f m sizes
+    ensures { (f : Format) (m : ManifestLines) (sizes : List ℕ) → IsManifest m
+        → HasNoMisfit f m sizes
         → SectionsRise 0 (len_of f m sizes) (sections_of f m sizes) }
 {}
 
-/// The sections of a manifest that fits, each with its bytes at its place, with zeros between them and the
-/// format's check word, are its layout.
+/// Shows that the sections of a manifest that fits, each with its bytes at its offset, with zeros
+/// between them and the format's check word, are its layout.
 pub fn sections_make_layout()
     ensures { (f : Format) (m : ManifestLines) (contents : List (List ℕ))
         → IsManifest m → HasNoMisfit f m (map length contents)

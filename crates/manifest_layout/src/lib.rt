@@ -1,8 +1,10 @@
-//! What of a manifest does not fit a format, and what the layout of one that fits is.
+//! Definitions and laws: the misfits of a manifest in a format. The layout of a manifest that fits
+//! holds what the manifest means.
 //!
-//! `specs/Misfit.antt` says it of lines and of the whole, with the least line first and there the
-//! least number; `specs/Format.antt` has the formats with the items, the sections and the bytes of
-//! a manifest's layout. The promises stand in `laws`.
+//! Proved in `laws`: a manifest either fits or has one least misfit, and the layout of one that
+//! fits holds its tree. `specs/Misfit.antt` has the misfits of lines and of the whole, the least
+//! line first, and there the least number. `specs/Format.antt` has the formats with the items, the
+//! sections and the bytes of a manifest's layout.
 #![tactic(auto)]
 
 pub mod laws;

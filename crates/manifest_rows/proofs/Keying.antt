@@ -1,9 +1,10 @@
--- The way to what a path names, how many names it has and the last of them, from its bytes.
-use Rattle.std.proofs.Common.{◌≡◌, ℕ, zero, suc, ◌+◌, eqb, cond, true, false, List, [], ◌∷◌, length, drop, refl, sym, ap, ◌∙◌, arith}
+-- The way to what a path names, the number of its names and the last of them, from its bytes.
+use Rattle.std.proofs.Common.{◌≡◌, ℕ, zero, suc, ◌+◌, eqb, cond, true, false, List, [], ◌∷◌, length, drop, refl, sym}
+use Rattle.std.proofs.Common.{ap, ◌∙◌, arith}
 use Rattle.memchr.specs.Find.{Nowhere, NoneAfter, Passes, is_byte}
 use Rattle.manifest_rows.specs.Keyed.{behind}
 
--- where no byte is b, all of it
+-- if no byte is b, all of it
 pub behind_none : (b : ℕ) (all xs : List ℕ) → Nowhere (Passes (is_byte b) xs) 0 (length xs) → behind b all xs ≡ all
 behind_none b all [] h = refl
 behind_none b all (x ∷ xs) h = elim (eqb x b) as (λ t. eqb x b ≡ t → cond t (behind b xs xs) (behind b all xs) ≡ all) [
@@ -17,12 +18,17 @@ behind_suc : (b : ℕ) (all xs : List ℕ) (i : ℕ) → NoneAfter (Passes (is_b
 behind_suc b all [] i h p = absurd (omega (arith, h.high))
 behind_suc b all (x ∷ xs) zero h p =
     rw p (sym (behind_none b xs xs (λ k i j q. h.after (suc k) (omega arith) (omega (arith, j)) q)))
-behind_suc b all (x ∷ xs) (suc i) h p = elim (eqb x b) as (λ t. drop (suc i) xs ≡ cond t (behind b xs xs) (behind b all xs)) [
-  | true ↦ behind_suc b xs xs i later p
-  | false ↦ behind_suc b all xs i later p
-] where
-  later : NoneAfter (Passes (is_byte b) xs) 0 (length xs) i
-  later = record { low = omega arith; high = omega (arith, h.high); after = λ k l m q. h.after (suc k) (omega (arith, l)) (omega (arith, m)) q }
+behind_suc b all (x ∷ xs) (suc i) h p =
+    elim (eqb x b) as (λ t. drop (suc i) xs ≡ cond t (behind b xs xs) (behind b all xs)) [
+      | true ↦ behind_suc b xs xs i later p
+      | false ↦ behind_suc b all xs i later p
+    ] where
+      later : NoneAfter (Passes (is_byte b) xs) 0 (length xs) i
+      later = record {
+        low = omega arith;
+        high = omega (arith, h.high);
+        after = λ k l m q. h.after (suc k) (omega (arith, l)) (omega (arith, m)) q;
+      }
 
 one_more : (i : ℕ) → i + 1 ≡ suc i
 one_more i = omega arith

@@ -1,4 +1,4 @@
--- The order of ways: that of names, where these have no zero byte.
+-- The order of ways: that of names, if these have no zero byte.
 use Rattle.std.proofs.Common.{◌≡◌, ◌≢◌, ℕ, Bool, true, false, inl, inr, List, [], ◌∷◌, ◌++◌, refl, arith}
 use Rattle.std.specs.List.{AllByRecursion as Every}
 use Rattle.cramfs_format.specs.Tree.{precedes}
@@ -47,4 +47,5 @@ longer (y ∷ a) x r = before_same y y a (a ++ x ∷ r) refl (longer a x r)
 -- the ways to two names of one list, and to what lies below them
 pub ways_rise : (k a b r s : List ℕ) → IsTail r → HasNoZero b → precedes a b ≡ true
     → precedes (k ++ 0 ∷ (a ++ r)) (k ++ 0 ∷ (b ++ s)) ≡ true
-ways_rise k a b r s t z h = behind k (0 ∷ (a ++ r)) (0 ∷ (b ++ s)) (before_same 0 0 (a ++ r) (b ++ s) refl (in_front a b r s t z h))
+ways_rise k a b r s t z h =
+    behind k (0 ∷ (a ++ r)) (0 ∷ (b ++ s)) (before_same 0 0 (a ++ r) (b ++ s) refl (in_front a b r s t z h))

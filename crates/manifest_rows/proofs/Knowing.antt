@@ -1,5 +1,7 @@
--- What is known of paths after one more line, and how many sources come before a line.
-use Rattle.std.proofs.Common.{◌≡◌, ◌<◌, ◌≤◌, ◌+◌, ℕ, Bool, true, false, ◌&&◌, ◌||◌, nat_lt, cond, if◌then◌else◌, List, [], ◌∷◌, ◌++◌, length, map, filter, reverse, take, drop, get_or, suc, Option, Some, None, Vec, refl, sym, ap, subst, ◌∙◌, arith}
+-- What paths lead to after one more line, and the number of sources before a line.
+use Rattle.std.proofs.Common.{◌≡◌, ◌<◌, ◌≤◌, ◌+◌, ℕ, Bool, true, false, ◌&&◌, ◌||◌, nat_lt, cond, if◌then◌else◌, List}
+use Rattle.std.proofs.Common.{[], ◌∷◌, ◌++◌, length, map, filter, reverse, take, drop, get_or, suc, Option, Some, None}
+use Rattle.std.proofs.Common.{Vec, refl, sym, ap, subst, ◌∙◌, arith}
 use Rattle.std.proofs.lemmas.Bool.{lt-ltb, le-ltb}
 use Rattle.std.proofs.lemmas.List.{reverse-append, take_more, length-append}
 use Rattle.std.proofs.lemmas.Option.{slice_get-get_or}
@@ -17,7 +19,8 @@ use Rattle.manifest.proofs.Adding.{sources-append}
 use Rattle.manifest_layout.proofs.Written.{written}
 use Rattle.manifest_tree.specs.Tree.{sources_before}
 use Rattle.manifest_rows.specs.declared.files.Target.{Target}
-use Rattle.manifest_rows.specs.Files.{contents_of, contents_in, own_contents, own_target, or_nowhere, noted, HasMore, IsIndexOf, IsTarget, Knows}
+use Rattle.manifest_rows.specs.Files.{contents_of, contents_in, own_contents, own_target, or_nowhere, noted, HasMore}
+use Rattle.manifest_rows.specs.Files.{IsIndexOf, IsTarget, Knows}
 
 -- lines are in the order of their numbers
 abbrev pub Rise : List Line → Type 0
@@ -26,37 +29,45 @@ Rise ls = Pairs (λ l k. l.number < k.number) ls
 turned : (ls : List Line) → Pairs (λ l k. k.number < l.number) ls → Rise (reverse ls)
 turned [] p = tt
 turned (l ∷ ls) p =
-    subst Rise (sym (reverse-append (l ∷ []) ls)) (pairs_push (λ (x : Line) (y : Line). x.number < y.number) (reverse ls) l (turned ls p.1) (back ls p.0))
+    subst Rise (sym (reverse-append (l ∷ []) ls))
+    (pairs_push (λ (x : Line) (y : Line). x.number < y.number) (reverse ls) l (turned ls p.1) (back ls p.0))
   where
     back : (ks : List Line) → Every (λ k. k.number < l.number) ks → Every (λ k. k.number < l.number) (reverse ks)
     back [] h = tt
-    back (k ∷ ks) h = subst (Every (λ (x : Line). x.number < l.number)) (sym (reverse-append (k ∷ []) ks)) (every_join (λ (x : Line). x.number < l.number) (reverse ks) (k ∷ []) (back ks h.1) (h.0, tt))
+    back (k ∷ ks) h = subst (Every (λ (x : Line). x.number < l.number)) (sym (reverse-append (k ∷ []) ks))
+        (every_join (λ (x : Line). x.number < l.number) (reverse ks) (k ∷ []) (back ks h.1) (h.0, tt))
 
 pub rise : (m : ManifestLines) → IsManifest m → Rise m.lines
 rise m h = let w = written m h.0 h.1 in subst Rise (sym w.1.reversed) (turned w.0 w.1.rises)
 
 none_before : (n : ℕ) (ls : List Line) → Every (λ l. n ≤ l.number) ls → sources_before n ls ≡ 0
 none_before n [] h = refl
-none_before n (l ∷ ls) h = elim (is_file l.word) as (λ b. (if b && nat_lt l.number n then sources_before n ls + 1 else sources_before n ls) ≡ 0) [
-  | true ↦ rw (le-ltb l.number n h.0) (none_before n ls h.1)
-  | false ↦ none_before n ls h.1
-]
+none_before n (l ∷ ls) h = elim (is_file l.word) as
+    (λ b. (if b && nat_lt l.number n then sources_before n ls + 1 else sources_before n ls) ≡ 0) [
+      | true ↦ rw (le-ltb l.number n h.0) (none_before n ls h.1)
+      | false ↦ none_before n ls h.1
+    ]
 
 all_before : (n : ℕ) (ls rest : List Line) → Every (λ l. l.number < n) ls → sources_before n rest ≡ 0
     → sources_before n (ls ++ rest) ≡ length (sources_of ls)
 all_before n [] rest h e = e
-all_before n (l ∷ ls) rest h e = elim (is_file l.word) as (λ b. (if b && nat_lt l.number n then sources_before n (ls ++ rest) + 1 else sources_before n (ls ++ rest)) ≡ length (map (λ (k : Line). k.text) (cond b (l ∷ filter (λ (k : Line). is_file k.word) ls) (filter (λ (k : Line). is_file k.word) ls)))) [
-  | true ↦ rw (lt-ltb l.number n h.0) (let i = all_before n ls rest h.1 e in omega (arith, i))
-  | false ↦ all_before n ls rest h.1 e
-]
+all_before n (l ∷ ls) rest h e = elim (is_file l.word) as
+    (λ b. (if b && nat_lt l.number n then sources_before n (ls ++ rest) + 1 else sources_before n (ls ++ rest))
+    ≡ length (map (λ (k : Line). k.text)
+    (cond b (l ∷ filter (λ (k : Line). is_file k.word) ls) (filter (λ (k : Line). is_file k.word) ls)))) [
+      | true ↦ rw (lt-ltb l.number n h.0) (let i = all_before n ls rest h.1 e in omega (arith, i))
+      | false ↦ all_before n ls rest h.1 e
+    ]
 
 -- the sources before a line are those of the lines before it
 pub source_is : (ls : List Line) (l : Line) (rest : List Line) → Rise (ls ++ l ∷ rest)
     → sources_before l.number (ls ++ l ∷ rest) ≡ length (sources_of ls)
 source_is ls l rest p =
     let R : Line → Line → Type 0 = λ x y. x.number < y.number in
-    let before = every_weaker (λ (x : Line). Every (R x) (l ∷ rest)) (λ (x : Line). x.number < l.number) (λ x h. h.0) ls (pairs_cross R ls (l ∷ rest) p) in
-    let after = every_weaker (λ (x : Line). l.number < x.number) (λ (x : Line). l.number ≤ x.number) (λ x h. omega (arith, h)) rest (pairs_right R ls (l ∷ rest) p).0 in
+    let before = every_weaker (λ (x : Line). Every (R x) (l ∷ rest)) (λ (x : Line). x.number < l.number) (λ x h. h.0) ls
+    (pairs_cross R ls (l ∷ rest) p) in
+    let after = every_weaker (λ (x : Line). l.number < x.number) (λ (x : Line). l.number ≤ x.number)
+    (λ x h. omega (arith, h)) rest (pairs_right R ls (l ∷ rest) p).0 in
     all_before l.number ls (l ∷ rest) before (none_before l.number (l ∷ rest) (omega arith, after))
 
 one_more : (b : Bool) (l : Line) (ks : List Line) → b ≡ true
@@ -86,47 +97,69 @@ module _ {A S : Type 0} (all : List Line) (sizes : List ℕ) (latest : List Line
     (old : HashMap (Vec ℕ A) Target S) (e : source ≡ sources_before l.number all) (at : slice_get all index ≡ Some l)
     (h : Knows all sizes latest old) where
   -- what a `file` line has
-  own_source : (if is_file l.word then Some (record { align = l.align; size = get_or sizes source 0; source = source }) else None)
+  own_source : (if is_file l.word then Some (record { align = l.align; size = get_or sizes source 0; source = source })
+      else None)
       ≡ option_map (contents_of all sizes) (if is_file l.word then Some l else None)
-  own_source = elim (is_file l.word) as (λ t. cond t (Some (record { align = l.align; size = get_or sizes source 0; source = source })) None ≡ option_map (contents_of all sizes) (cond t (Some l) None)) [
-    | true ↦ ap (λ (k : ℕ). Some (record { align = l.align; size = get_or sizes k 0; source = k })) e
-    | false ↦ refl
-  ]
+  own_source = elim (is_file l.word) as
+      (λ t. cond t (Some (record { align = l.align; size = get_or sizes source 0; source = source })) None
+      ≡ option_map (contents_of all sizes) (cond t (Some l) None)) [
+        | true ↦ ap (λ (k : ℕ). Some (record { align = l.align; size = get_or sizes k 0; source = k })) e
+        | false ↦ refl
+      ]
 
   own_bytes : own_contents old sizes source l
-      ≡ option_map (contents_of all sizes) (if is_same l.word then filed latest l.text else (if is_file l.word then Some l else None))
-  own_bytes = elim (is_same l.word) as (λ t. cond t (or_nowhere (noted old l.text)).contents (cond (is_file l.word) (Some (record { align = l.align; size = get_or sizes source 0; source = source })) None) ≡ option_map (contents_of all sizes) (cond t (filed latest l.text) (cond (is_file l.word) (Some l) None))) [
-    | true ↦ (h l.text).contents
-    | false ↦ own_source
-  ]
+      ≡ option_map (contents_of all sizes)
+      (if is_same l.word then filed latest l.text else (if is_file l.word then Some l else None))
+  own_bytes = elim (is_same l.word) as
+      (λ t. cond t (or_nowhere (noted old l.text)).contents
+      (cond (is_file l.word) (Some (record { align = l.align; size = get_or sizes source 0; source = source })) None)
+      ≡ option_map (contents_of all sizes) (cond t (filed latest l.text) (cond (is_file l.word) (Some l) None))) [
+        | true ↦ (h l.text).contents
+        | false ↦ own_source
+      ]
 
-  own_line : IsIndexOf all (own_target old sizes source index l).line (if is_hard l.word then led latest l.text else Some l)
-  own_line = elim (is_hard l.word) as (λ t. IsIndexOf all (cond t (or_nowhere (noted old l.text)) (record { line = Some index; contents = own_contents old sizes source l })).line (cond t (led latest l.text) (Some l))) [
-    | true ↦ (h l.text).line
-    | false ↦ ap (λ (o : Option Line). Some o) at
-  ]
+  own_line : IsIndexOf all (own_target old sizes source index l).line
+      (if is_hard l.word then led latest l.text else Some l)
+  own_line = elim (is_hard l.word) as
+      (λ t. IsIndexOf all (cond t (or_nowhere (noted old l.text))
+      (record { line = Some index; contents = own_contents old sizes source l })).line
+      (cond t (led latest l.text) (Some l))) [
+        | true ↦ (h l.text).line
+        | false ↦ ap (λ (o : Option Line). Some o) at
+      ]
 
   own_all : (own_target old sizes source index l).contents ≡ option_map (contents_of all sizes) (own_file latest l)
-  own_all = elim (is_hard l.word) as (λ t. (cond t (or_nowhere (noted old l.text)) (record { line = Some index; contents = own_contents old sizes source l })).contents ≡ option_map (contents_of all sizes) (cond (t || is_same l.word) (filed latest l.text) (cond (is_file l.word) (Some l) None))) [
-    | true ↦ (h l.text).contents
-    | false ↦ own_bytes
-  ]
+  own_all = elim (is_hard l.word) as (λ t.
+      (cond t (or_nowhere (noted old l.text))
+      (record { line = Some index; contents = own_contents old sizes source l })).contents
+      ≡ option_map (contents_of all sizes)
+      (cond (t || is_same l.word) (filed latest l.text) (cond (is_file l.word) (Some l) None))) [
+        | true ↦ (h l.text).contents
+        | false ↦ own_bytes
+      ]
 
   pub knows_more : (new : HashMap (Vec ℕ A) Target S) → HasMore l.path (own_target old sizes source index l) old new
       → Knows all sizes (l ∷ latest) new
-  knows_more new more q = subst (λ (o : Option Target). IsTarget all sizes (l ∷ latest) q (or_nowhere o)) (sym (more q)) (record { line = line; contents = contents })
+  knows_more new more q = subst (λ (o : Option Target). IsTarget all sizes (l ∷ latest) q (or_nowhere o)) (sym (more q))
+      (record { line = line; contents = contents })
     where
-      line : IsIndexOf all (or_nowhere (cond (bytes_eq l.path q) (Some (own_target old sizes source index l)) (noted old q))).line (led (l ∷ latest) q)
-      line = elim (bytes_eq l.path q) as (λ t. IsIndexOf all (or_nowhere (cond t (Some (own_target old sizes source index l)) (noted old q))).line (cond t (cond (is_hard l.word) (led latest l.text) (Some l)) (led latest q))) [
-        | true ↦ own_line
-        | false ↦ (h q).line
-      ]
+      line : IsIndexOf all (or_nowhere (cond (bytes_eq l.path q) (Some (own_target old sizes source index l))
+          (noted old q))).line (led (l ∷ latest) q)
+      line = elim (bytes_eq l.path q) as
+          (λ t. IsIndexOf all (or_nowhere (cond t (Some (own_target old sizes source index l)) (noted old q))).line
+          (cond t (cond (is_hard l.word) (led latest l.text) (Some l)) (led latest q))) [
+            | true ↦ own_line
+            | false ↦ (h q).line
+          ]
 
-      contents : (or_nowhere (cond (bytes_eq l.path q) (Some (own_target old sizes source index l)) (noted old q))).contents ≡ contents_in all sizes (l ∷ latest) q
-      contents = elim (bytes_eq l.path q) as (λ t. (or_nowhere (cond t (Some (own_target old sizes source index l)) (noted old q))).contents ≡ option_map (contents_of all sizes) (cond t (own_file latest l) (filed latest q))) [
-        | true ↦ own_all
-        | false ↦ (h q).contents
-      ]
+      contents : (or_nowhere (cond (bytes_eq l.path q) (Some (own_target old sizes source index l))
+          (noted old q))).contents ≡ contents_in all sizes (l ∷ latest) q
+      contents = elim (bytes_eq l.path q) as
+          (λ t. (or_nowhere (cond t (Some (own_target old sizes source index l)) (noted old q))).contents
+          ≡ option_map (contents_of all sizes) (cond t (own_file latest l) (filed latest q))) [
+            | true ↦ own_all
+            | false ↦ (h q).contents
+          ]
 
 -- at an index
 split : (ls : List Line) (i : ℕ) (d l : Line) → i < length ls → l ≡ get_or ls i d
@@ -137,17 +170,20 @@ pub source_at : (m : ManifestLines) (i : ℕ) (d l : Line) → IsManifest m → 
     → length (sources_of (take i m.lines)) ≡ sources_before l.number m.lines
 source_at m i d l w h e =
     let s = split m.lines i d l h e in
-    sym (ap (λ (ls : List Line). sources_before l.number ls) s ∙ source_is (take i m.lines) l (drop (suc i) m.lines) (subst Rise s (rise m w)))
+    sym (ap (λ (ls : List Line). sources_before l.number ls) s
+    ∙ source_is (take i m.lines) l (drop (suc i) m.lines) (subst Rise s (rise m w)))
 
 pub below_at : (ls : List Line) (i : ℕ) (d l : Line) → i < length ls → l ≡ get_or ls i d → is_file l.word ≡ true
     → length (sources_of (take i ls)) < length (sources_of ls)
 below_at ls i d l h e f =
-    subst (λ (ks : List Line). length (sources_of (take i ls)) < length (sources_of ks)) (sym (split ls i d l h e)) (source_below (take i ls) l (drop (suc i) ls) f)
+    subst (λ (ks : List Line). length (sources_of (take i ls)) < length (sources_of ks)) (sym (split ls i d l h e))
+    (source_below (take i ls) l (drop (suc i) ls) f)
 
 pub got : (ls : List Line) (i : ℕ) (d l : Line) → i < length ls → l ≡ get_or ls i d → slice_get ls i ≡ Some l
 got ls i d l h e = slice_get-get_or ls i d h ∙ ap (λ (x : Line). Some x) (sym e)
 
-taken : (ls : List Line) (i : ℕ) (d l : Line) → i < length ls → l ≡ get_or ls i d → take (i + 1) ls ≡ take i ls ++ l ∷ []
+taken : (ls : List Line) (i : ℕ) (d l : Line) → i < length ls → l ≡ get_or ls i d
+    → take (i + 1) ls ≡ take i ls ++ l ∷ []
 taken ls i d l h e = take_more ls i d h ∙ ap (λ (k : Line). take i ls ++ k ∷ []) (sym e)
 
 pub latest_at : (ls : List Line) (i : ℕ) (d l : Line) → i < length ls → l ≡ get_or ls i d
@@ -155,9 +191,11 @@ pub latest_at : (ls : List Line) (i : ℕ) (d l : Line) → i < length ls → l 
 latest_at ls i d l h e = ap reverse (taken ls i d l h e) ∙ reverse-append (take i ls) (l ∷ [])
 
 pub sources_at : (ls : List Line) (i : ℕ) (d l : Line) → i < length ls → l ≡ get_or ls i d
-    → length (sources_of (take (i + 1) ls)) ≡ (if is_file l.word then length (sources_of (take i ls)) + 1 else length (sources_of (take i ls)))
+    → length (sources_of (take (i + 1) ls))
+    ≡ (if is_file l.word then length (sources_of (take i ls)) + 1 else length (sources_of (take i ls)))
 sources_at ls i d l h e =
-    ap (λ (ks : List Line). length (sources_of ks)) (taken ls i d l h e) ∙ ap length (sources-append (take i ls) (l ∷ []))
+    ap (λ (ks : List Line). length (sources_of ks)) (taken ls i d l h e)
+    ∙ ap length (sources-append (take i ls) (l ∷ []))
     ∙ length-append (sources_of (take i ls)) (sources_of (l ∷ [])) ∙ by (is_file l.word)
   where
     by : (b : Bool) → length (sources_of (take i ls)) + length (map (λ (k : Line). k.text) (cond b (l ∷ []) []))

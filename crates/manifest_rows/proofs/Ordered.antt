@@ -1,5 +1,6 @@
 -- A row more at its key is an entry more of the tree.
-use Rattle.std.proofs.Common.{◌≡◌, ℕ, ◌+◌, ◌==◌, if◌then◌else◌, inl, cond, true, false, nat_cmp, Less, Equal, Greater, List, [], ◌∷◌, map, Vec, refl, ap, ◌∙◌}
+use Rattle.std.proofs.Common.{◌≡◌, ℕ, ◌+◌, ◌==◌, if◌then◌else◌, inl, cond, true, false, nat_cmp, Less, Equal, Greater}
+use Rattle.std.proofs.Common.{List, [], ◌∷◌, map, Vec, refl, ap, ◌∙◌}
 use Rattle.std.specs.BTreeMap.{insert_entry}
 use Rattle.std.specs.Cmp.Lexicographic.{slice_cmp, nat_list_cmp_total}
 use Rattle.std.specs.Ordering.{match_ordering, is_lt, ordering_reverse}
@@ -17,14 +18,20 @@ pub listed_put : {A : Type 0} (es : List (Vec ℕ A × code_row.Row)) (k : Vec �
     → map (λ e. keyed e.0.items (row_view e.1)) (insert_entry (λ x y. slice_cmp nat_cmp x.items y.items) es k r)
     ≡ put_keyed (keyed k.items (row_view r)) (map (λ e. keyed e.0.items (row_view e.1)) es)
 listed_put [] k r = refl
-listed_put (e ∷ es) k r = elim (slice_cmp nat_cmp k.items e.0.items) as (λ o. map (λ e. keyed e.0.items (row_view e.1)) (match_ordering o ((k, r) ∷ e ∷ es) ((e.0, r) ∷ es) (e ∷ insert_entry (λ x y. slice_cmp nat_cmp x.items y.items) es k r))
-    ≡ match_ordering o (keyed k.items (row_view r) ∷ map (λ e. keyed e.0.items (row_view e.1)) (e ∷ es)) (keyed e.0.items (row_view r) ∷ map (λ e. keyed e.0.items (row_view e.1)) es) (keyed e.0.items (row_view e.1) ∷ put_keyed (keyed k.items (row_view r)) (map (λ e. keyed e.0.items (row_view e.1)) es))) [
+listed_put (e ∷ es) k r = elim (slice_cmp nat_cmp k.items e.0.items) as
+    (λ o. map (λ e. keyed e.0.items (row_view e.1))
+    (match_ordering o ((k, r) ∷ e ∷ es) ((e.0, r) ∷ es)
+    (e ∷ insert_entry (λ x y. slice_cmp nat_cmp x.items y.items) es k r))
+    ≡ match_ordering o (keyed k.items (row_view r) ∷ map (λ e. keyed e.0.items (row_view e.1)) (e ∷ es))
+    (keyed e.0.items (row_view r) ∷ map (λ e. keyed e.0.items (row_view e.1)) es)
+    (keyed e.0.items (row_view e.1) ∷ put_keyed (keyed k.items (row_view r))
+    (map (λ e. keyed e.0.items (row_view e.1)) es))) [
       | Less ↦ refl
       | Equal ↦ refl
       | Greater ↦ ap (λ (ks : List Keyed). keyed e.0.items (row_view e.1) ∷ ks) (listed_put es k r)
     ]
 
--- how many bytes of a text are b
+-- the number of bytes b in a text
 abbrev pub tally : ℕ → List ℕ → ℕ
 tally b [] = 0
 tally b (x ∷ xs) = if x == b then 1 + tally b xs else tally b xs
@@ -47,11 +54,15 @@ less a b h = elim (slice_cmp nat_cmp a b) as (λ o. is_lt o ≡ true → o ≡ L
 greater : (a b : List ℕ) → precedes b a ≡ true → slice_cmp nat_cmp a b ≡ Greater
 greater a b h = nat_list_cmp_total.antisymm a b ∙ ap ordering_reverse (less b a h)
 
-pub put_is : (e : Entry) (es : List Entry) → Rise (put_entry e es) → put_keyed (by_key e) (map by_key es) ≡ map by_key (put_entry e es)
+pub put_is : (e : Entry) (es : List Entry) → Rise (put_entry e es)
+    → put_keyed (by_key e) (map by_key es) ≡ map by_key (put_entry e es)
 put_is e [] h = refl
-put_is e (d ∷ ds) h = elim (precedes e.key d.key) as (λ t. precedes e.key d.key ≡ t → Rise (cond t (e ∷ d ∷ ds) (d ∷ put_entry e ds)) → put_keyed (by_key e) (map by_key (d ∷ ds)) ≡ map by_key (cond t (e ∷ d ∷ ds) (d ∷ put_entry e ds))) [
-  | true ↦ λ b r. rw (less e.key d.key b) refl
-  | false ↦ λ b r.
-      let after : precedes d.key e.key ≡ true = has_of (λ (x : Entry). precedes d.key x.key ≡ true) (put_entry e ds) e (holds_put e ds e (inl refl)) r.0 in
-      rw (greater e.key d.key after) (ap (λ (ks : List Keyed). by_key d ∷ ks) (put_is e ds r.1))
-] refl h
+put_is e (d ∷ ds) h = elim (precedes e.key d.key) as
+    (λ t. precedes e.key d.key ≡ t → Rise (cond t (e ∷ d ∷ ds) (d ∷ put_entry e ds))
+    → put_keyed (by_key e) (map by_key (d ∷ ds)) ≡ map by_key (cond t (e ∷ d ∷ ds) (d ∷ put_entry e ds))) [
+      | true ↦ λ b r. rw (less e.key d.key b) refl
+      | false ↦ λ b r.
+          let after : precedes d.key e.key ≡ true =
+          has_of (λ (x : Entry). precedes d.key x.key ≡ true) (put_entry e ds) e (holds_put e ds e (inl refl)) r.0 in
+          rw (greater e.key d.key after) (ap (λ (ks : List Keyed). by_key d ∷ ks) (put_is e ds r.1))
+    ] refl h

@@ -1,5 +1,6 @@
 -- A path more in a tree is an entry more in its row, in order.
-use Rattle.std.proofs.Common.{◌≡◌, ℕ, Bool, true, false, cond, ◌⊎◌, inl, inr, List, [], ◌∷◌, ◌++◌, None, refl, sym, ap, subst, ◌∙◌, append_assoc}
+use Rattle.std.proofs.Common.{◌≡◌, ℕ, Bool, true, false, cond, ◌⊎◌, inl, inr, List, [], ◌∷◌, ◌++◌, None, refl, sym, ap}
+use Rattle.std.proofs.Common.{subst, ◌∙◌, append_assoc}
 use Rattle.std.proofs.lemmas.List.{append-nil}
 use Rattle.std.specs.Cmp.Lexicographic.{bytes_decides}
 use Rattle.std.specs.List.{AllByRecursion as Every}
@@ -39,19 +40,29 @@ below_under k m own e (x, s, (r, t, g)) = (0 ∷ (x ++ r), goes_on (x ++ r), g �
 
 pub through : (k : List ℕ) (n : Names) → Every (Through k n) (entries k n)
 through k nothing = tt
-through k (leaf name i after) =
-    ((name, inl refl, head_under k name (a_leaf i)), every_weaker (Through k after) (Through k (leaf name i after)) (λ e h. (h.0, inr h.1, h.2)) (entries k after) (through k after))
-through k (link name i after) =
-    ((name, inl refl, head_under k name (a_link i)), every_weaker (Through k after) (Through k (link name i after)) (λ e h. (h.0, inr h.1, h.2)) (entries k after) (through k after))
+through k (leaf name i after) = (
+  (name, inl refl, head_under k name (a_leaf i)),
+  every_weaker (Through k after) (Through k (leaf name i after)) (λ e h. (h.0, inr h.1, h.2)) (entries k after)
+      (through k after),
+)
+through k (link name i after) = (
+  (name, inl refl, head_under k name (a_link i)),
+  every_weaker (Through k after) (Through k (link name i after)) (λ e h. (h.0, inr h.1, h.2)) (entries k after)
+      (through k after),
+)
 through k (folder name i own after) = (
   (name, inl refl, head_under k name (a_folder i)),
   every_join (Through k (folder name i own after)) (entries (k ++ 0 ∷ name) own) (entries k after)
-      (every_weaker (Through (k ++ 0 ∷ name) own) (Through k (folder name i own after)) (λ e h. (name, inl refl, below_under k name own e h)) (entries (k ++ 0 ∷ name) own) (through (k ++ 0 ∷ name) own))
-      (every_weaker (Through k after) (Through k (folder name i own after)) (λ e h. (h.0, inr h.1, h.2)) (entries k after) (through k after)),
+      (every_weaker (Through (k ++ 0 ∷ name) own) (Through k (folder name i own after))
+      (λ e h. (name, inl refl, below_under k name own e h)) (entries (k ++ 0 ∷ name) own)
+      (through (k ++ 0 ∷ name) own))
+      (every_weaker (Through k after) (Through k (folder name i own after)) (λ e h. (h.0, inr h.1, h.2))
+      (entries k after) (through k after)),
 )
 
 pub own_under : (k m : List ℕ) (own : Names) → Every (Under k m) (entries (k ++ 0 ∷ m) own)
-own_under k m own = every_weaker (Through (k ++ 0 ∷ m) own) (Under k m) (λ e h. below_under k m own e h) (entries (k ++ 0 ∷ m) own) (through (k ++ 0 ∷ m) own)
+own_under k m own = every_weaker (Through (k ++ 0 ∷ m) own) (Under k m) (λ e h. below_under k m own e h)
+    (entries (k ++ 0 ∷ m) own) (through (k ++ 0 ∷ m) own)
 
 no_zero_in : (m : List ℕ) (n : Names) → HaveNoZeros n → StandsIn m n → HasNoZero m
 no_zero_in m nothing z s = absurd s
@@ -62,18 +73,20 @@ no_zero_in m (link name i after) z (inr s) = no_zero_in m after z.1 s
 no_zero_in m (folder name i own after) z (inl e) = subst HasNoZero (sym e) z.0
 no_zero_in m (folder name i own after) z (inr s) = no_zero_in m after z.2 s
 
--- an entry under a lesser name stands before the new one
+-- an entry under a lesser name is before the new one
 under_before : (k m name s : List ℕ) (e : Entry) → HasNoZero name → precedes m name ≡ true → Under k m e
     → precedes (k ++ 0 ∷ (name ++ s)) e.key ≡ false
 under_before k m name s e z h (r, t, g) =
-    ap (precedes (k ++ 0 ∷ (name ++ s))) g ∙ not_back (k ++ 0 ∷ (m ++ r)) (k ++ 0 ∷ (name ++ s)) (ways_rise k m name r s t z h)
+    ap (precedes (k ++ 0 ∷ (name ++ s))) g
+    ∙ not_back (k ++ 0 ∷ (m ++ r)) (k ++ 0 ∷ (name ++ s)) (ways_rise k m name r s t z h)
 
--- the entries of greater names stand behind it
+-- the entries of greater names are behind it
 pub all_behind : (k name s : List ℕ) (n : Names) → IsTail s → HaveNoZeros n → Before name n
     → Every (λ e. precedes (k ++ 0 ∷ (name ++ s)) e.key ≡ true) (entries k n)
 all_behind k name s n t z b =
     every_weaker (Through k n) (λ (e : Entry). precedes (k ++ 0 ∷ (name ++ s)) e.key ≡ true)
-    (λ e h. ap (precedes (k ++ 0 ∷ (name ++ s))) h.2.2 ∙ ways_rise k name h.0 s h.2.0 t (no_zero_in h.0 n z h.1) (b h.0 h.1))
+    (λ e h. ap (precedes (k ++ 0 ∷ (name ++ s))) h.2.2
+    ∙ ways_rise k name h.0 s h.2.0 t (no_zero_in h.0 n z h.1) (b h.0 h.1))
     (entries k n) (through k n)
 
 put_here : (e d : Entry) (ds : List Entry) → precedes e.key d.key ≡ true → put_entry e (d ∷ ds) ≡ e ∷ d ∷ ds
@@ -94,10 +107,11 @@ put_front e (y ∷ ys) h = put_here e y ys h.0
 put_within : (e : Entry) (xs ys : List Entry) → Every (λ d. precedes e.key d.key ≡ true) ys
     → put_entry e (xs ++ ys) ≡ put_entry e xs ++ ys
 put_within e [] ys h = put_front e ys h
-put_within e (x ∷ xs) ys h = elim (precedes e.key x.key) as (λ t. cond t (e ∷ x ∷ (xs ++ ys)) (x ∷ put_entry e (xs ++ ys)) ≡ cond t (e ∷ x ∷ xs) (x ∷ put_entry e xs) ++ ys) [
-  | true ↦ refl
-  | false ↦ ap (λ (ds : List Entry). x ∷ ds) (put_within e xs ys h)
-]
+put_within e (x ∷ xs) ys h = elim (precedes e.key x.key) as
+    (λ t. cond t (e ∷ x ∷ (xs ++ ys)) (x ∷ put_entry e (xs ++ ys)) ≡ cond t (e ∷ x ∷ xs) (x ∷ put_entry e xs) ++ ys) [
+      | true ↦ refl
+      | false ↦ ap (λ (ds : List Entry). x ∷ ds) (put_within e xs ys h)
+    ]
 
 named_entries : (k : List ℕ) (w : What) (name : List ℕ) (n : Names)
     → entries k (named w name n) ≡ entry (k ++ 0 ∷ (name ++ [])) w ∷ entries k n
@@ -123,14 +137,16 @@ head_here : (k name m : List ℕ) (w v : What) (ds : List Entry) → HasNoZero m
     ≡ put_entry (entry (k ++ 0 ∷ (name ++ [])) w) (entry (k ++ 0 ∷ m) v ∷ ds)
 head_here k name m w v ds z e =
     sym (put_here (entry (k ++ 0 ∷ (name ++ [])) w) (entry (k ++ 0 ∷ m) v) ds
-    (ap (precedes (k ++ 0 ∷ (name ++ []))) (own_key k m) ∙ ways_rise k name m [] [] ends z (sym (same_order name m) ∙ e)))
+    (ap (precedes (k ++ 0 ∷ (name ++ []))) (own_key k m)
+    ∙ ways_rise k name m [] [] ends z (sym (same_order name m) ∙ e)))
 
--- a directory of a lesser name stands before the new one, with all that it holds
+-- a directory of a lesser name is before the new one, with all that it holds
 past_block : (k m name s : List ℕ) (v : What) (own : Names) (w : What) → HasNoZero name → precedes m name ≡ true
     → Every (λ d. precedes (k ++ 0 ∷ (name ++ s)) d.key ≡ false) (entry (k ++ 0 ∷ m) v ∷ entries (k ++ 0 ∷ m) own)
 past_block k m name s v own w z h = (
   under_before k m name s (entry (k ++ 0 ∷ m) v) z h (head_under k m v),
-  every_weaker (Under k m) (λ (d : Entry). precedes (k ++ 0 ∷ (name ++ s)) d.key ≡ false) (λ d u. under_before k m name s d z h u) (entries (k ++ 0 ∷ m) own) (own_under k m own),
+  every_weaker (Under k m) (λ (d : Entry). precedes (k ++ 0 ∷ (name ++ s)) d.key ≡ false)
+      (λ d u. under_before k m name s d z h u) (entries (k ++ 0 ∷ m) own) (own_under k m own),
 )
 
 put_entries : (k : List ℕ) (w : What) (name : List ℕ) (n : Names) → HasNoZero name → HaveNoZeros n
@@ -138,35 +154,52 @@ put_entries : (k : List ℕ) (w : What) (name : List ℕ) (n : Names) → HasNoZ
 put_entries k w name nothing z c f = named_entries k w name nothing
 put_entries k w name (leaf m i after) z c f =
     let s = not_here (bytes_eq m name) _ (found (name ∷ []) after) f in
-    elim (is_before name m) as (λ t. is_before name m ≡ t → entries k (cond t (named w name (leaf m i after)) (leaf m i (put w name after))) ≡ put_entry (entry (k ++ 0 ∷ (name ++ [])) w) (entries k (leaf m i after))) [
+    elim (is_before name m) as (λ t. is_before name m ≡ t
+    → entries k (cond t (named w name (leaf m i after)) (leaf m i (put w name after)))
+    ≡ put_entry (entry (k ++ 0 ∷ (name ++ [])) w) (entries k (leaf m i after))) [
       | true ↦ λ e. named_entries k w name (leaf m i after) ∙ head_here k name m w (a_leaf i) (entries k after) c.0 e
       | false ↦ λ e. ap (λ (ds : List Entry). entry (k ++ 0 ∷ m) (a_leaf i) ∷ ds) (put_entries k w name after z c.1 s.1)
-          ∙ sym (put_on (entry (k ++ 0 ∷ (name ++ [])) w) (entry (k ++ 0 ∷ m) (a_leaf i)) (entries k after) (under_before k m name [] (entry (k ++ 0 ∷ m) (a_leaf i)) z (is_behind name m e s.0) (head_under k m (a_leaf i))))
+          ∙ sym (put_on (entry (k ++ 0 ∷ (name ++ [])) w) (entry (k ++ 0 ∷ m) (a_leaf i)) (entries k after)
+          (under_before k m name [] (entry (k ++ 0 ∷ m) (a_leaf i)) z (is_behind name m e s.0)
+          (head_under k m (a_leaf i))))
     ] refl
 put_entries k w name (link m i after) z c f =
     let s = not_here (bytes_eq m name) _ (found (name ∷ []) after) f in
-    elim (is_before name m) as (λ t. is_before name m ≡ t → entries k (cond t (named w name (link m i after)) (link m i (put w name after))) ≡ put_entry (entry (k ++ 0 ∷ (name ++ [])) w) (entries k (link m i after))) [
+    elim (is_before name m) as (λ t. is_before name m ≡ t
+    → entries k (cond t (named w name (link m i after)) (link m i (put w name after)))
+    ≡ put_entry (entry (k ++ 0 ∷ (name ++ [])) w) (entries k (link m i after))) [
       | true ↦ λ e. named_entries k w name (link m i after) ∙ head_here k name m w (a_link i) (entries k after) c.0 e
       | false ↦ λ e. ap (λ (ds : List Entry). entry (k ++ 0 ∷ m) (a_link i) ∷ ds) (put_entries k w name after z c.1 s.1)
-          ∙ sym (put_on (entry (k ++ 0 ∷ (name ++ [])) w) (entry (k ++ 0 ∷ m) (a_link i)) (entries k after) (under_before k m name [] (entry (k ++ 0 ∷ m) (a_link i)) z (is_behind name m e s.0) (head_under k m (a_link i))))
+          ∙ sym (put_on (entry (k ++ 0 ∷ (name ++ [])) w) (entry (k ++ 0 ∷ m) (a_link i)) (entries k after)
+          (under_before k m name [] (entry (k ++ 0 ∷ m) (a_link i)) z (is_behind name m e s.0)
+          (head_under k m (a_link i))))
     ] refl
 put_entries k w name (folder m i own after) z c f =
     let s = not_here (bytes_eq m name) _ (found (name ∷ []) after) f in
     let x = entry (k ++ 0 ∷ (name ++ [])) w in
     let d = entry (k ++ 0 ∷ m) (a_folder i) in
-    elim (is_before name m) as (λ t. is_before name m ≡ t → entries k (cond t (named w name (folder m i own after)) (folder m i own (put w name after))) ≡ put_entry (entry (k ++ 0 ∷ (name ++ [])) w) (entries k (folder m i own after))) [
-      | true ↦ λ e. named_entries k w name (folder m i own after) ∙ head_here k name m w (a_folder i) (entries (k ++ 0 ∷ m) own ++ entries k after) c.0 e
-      | false ↦ λ e. ap (λ (ds : List Entry). d ∷ (entries (k ++ 0 ∷ m) own ++ ds)) (put_entries k w name after z c.2 s.1)
-          ∙ sym (put_past x (d ∷ entries (k ++ 0 ∷ m) own) (entries k after) (past_block k m name [] (a_folder i) own w z (is_behind name m e s.0)))
+    elim (is_before name m) as (λ t. is_before name m ≡ t
+    → entries k (cond t (named w name (folder m i own after)) (folder m i own (put w name after)))
+    ≡ put_entry (entry (k ++ 0 ∷ (name ++ [])) w) (entries k (folder m i own after))) [
+      | true ↦ λ e. named_entries k w name (folder m i own after)
+          ∙ head_here k name m w (a_folder i) (entries (k ++ 0 ∷ m) own ++ entries k after) c.0 e
+      | false ↦ λ e. ap (λ (ds : List Entry). d ∷ (entries (k ++ 0 ∷ m) own ++ ds))
+          (put_entries k w name after z c.2 s.1)
+          ∙ sym (put_past x (d ∷ entries (k ++ 0 ∷ m) own) (entries k after)
+          (past_block k m name [] (a_folder i) own w z (is_behind name m e s.0)))
     ] refl
 
 -- the first of the names on the way to a directory is one of the list
 stands_if : (m : List ℕ) (ms : List (List ℕ)) (n : Names) → is_parent (m ∷ ms) n ≡ true → StandsIn m n
 stands_if m ms nothing p = absurd (cc)
-stands_if m ms (leaf name i after) p = let s = past_file name m ms i (found (m ∷ ms) after) p in inr (stands_if m ms after s.1)
-stands_if m ms (link name i after) p = let s = past_file name m ms i (found (m ∷ ms) after) p in inr (stands_if m ms after s.1)
+stands_if m ms (leaf name i after) p =
+    let s = past_file name m ms i (found (m ∷ ms) after) p in inr (stands_if m ms after s.1)
+stands_if m ms (link name i after) p =
+    let s = past_file name m ms i (found (m ∷ ms) after) p in inr (stands_if m ms after s.1)
 stands_if m ms (folder name i own after) p =
-    elim (bytes_eq name m) as (λ t. bytes_eq name m ≡ t → is_a_folder (cond t (last_or ms (a_file true i) (found ms own)) (found (m ∷ ms) after)) ≡ true → (m ≡ name) ⊎ StandsIn m after) [
+    elim (bytes_eq name m) as (λ t. bytes_eq name m ≡ t
+    → is_a_folder (cond t (last_or ms (a_file true i) (found ms own)) (found (m ∷ ms) after)) ≡ true
+    → (m ≡ name) ⊎ StandsIn m after) [
       | true ↦ λ e q. inl (sym ((bytes_decides name m).0 e))
       | false ↦ λ e q. inr (stands_if m ms after q)
     ] refl p
@@ -179,23 +212,30 @@ key_tail (n ∷ ns) = goes_on (n ++ key_of ns)
 goes_below : (k name : List ℕ) (x : List ℕ) (xs : List (List ℕ)) (w : What)
     → precedes (k ++ 0 ∷ (name ++ key_of (x ∷ xs))) (k ++ 0 ∷ name) ≡ false
 goes_below k name x xs w =
-    not_back (k ++ 0 ∷ name) (k ++ 0 ∷ (name ++ key_of (x ∷ xs))) (behind k (0 ∷ name) (0 ∷ (name ++ key_of (x ∷ xs))) (longer (0 ∷ name) 0 (x ++ key_of xs)))
+    not_back (k ++ 0 ∷ name) (k ++ 0 ∷ (name ++ key_of (x ∷ xs)))
+    (behind k (0 ∷ name) (0 ∷ (name ++ key_of (x ∷ xs))) (longer (0 ∷ name) 0 (x ++ key_of xs)))
 
 -- in the directory of a name
 inside : (k : List ℕ) (w : What) (name m x : List ℕ) (xs : List (List ℕ)) (i : Inode) (own after : Names) → name ≡ m
     → Every HasNoZero (m ∷ x ∷ xs) → HaveNoZeros (folder name i own after) → AreSorted (folder name i own after)
-    → entries (k ++ 0 ∷ name) (put_at w (x ∷ xs) own) ≡ put_entry (entry ((k ++ 0 ∷ name) ++ key_of (x ∷ xs)) w) (entries (k ++ 0 ∷ name) own)
-    → entries k (folder name i (put_at w (x ∷ xs) own) after) ≡ put_entry (entry (k ++ key_of (m ∷ x ∷ xs)) w) (entries k (folder name i own after))
+    → entries (k ++ 0 ∷ name) (put_at w (x ∷ xs) own)
+    ≡ put_entry (entry ((k ++ 0 ∷ name) ++ key_of (x ∷ xs)) w) (entries (k ++ 0 ∷ name) own)
+    → entries k (folder name i (put_at w (x ∷ xs) own) after)
+    ≡ put_entry (entry (k ++ key_of (m ∷ x ∷ xs)) w) (entries k (folder name i own after))
 inside k w name m x xs i own after e z c h g =
     let d = entry (k ++ 0 ∷ name) (a_folder i) in
     let y = entry (k ++ 0 ∷ (name ++ key_of (x ∷ xs))) w in
-    let at : (k ++ 0 ∷ name) ++ key_of (x ∷ xs) ≡ k ++ 0 ∷ (name ++ key_of (x ∷ xs)) = append_assoc k (0 ∷ name) (key_of (x ∷ xs)) in
+    let at : (k ++ 0 ∷ name) ++ key_of (x ∷ xs) ≡ k ++ 0 ∷ (name ++ key_of (x ∷ xs)) =
+    append_assoc k (0 ∷ name) (key_of (x ∷ xs)) in
     let new : entries (k ++ 0 ∷ name) (put_at w (x ∷ xs) own) ≡ put_entry y (entries (k ++ 0 ∷ name) own) =
     g ∙ ap (λ (v : List ℕ). put_entry (entry v w) (entries (k ++ 0 ∷ name) own)) at in
     ap (λ (ds : List Entry). d ∷ (ds ++ entries k after)) new
-    ∙ ap (λ (ds : List Entry). d ∷ ds) (sym (put_within y (entries (k ++ 0 ∷ name) own) (entries k after) (all_behind k name (key_of (x ∷ xs)) after (key_tail (x ∷ xs)) c.2 h.0)))
+    ∙ ap (λ (ds : List Entry). d ∷ ds)
+    (sym (put_within y (entries (k ++ 0 ∷ name) own) (entries k after)
+    (all_behind k name (key_of (x ∷ xs)) after (key_tail (x ∷ xs)) c.2 h.0)))
     ∙ sym (put_on y d (entries (k ++ 0 ∷ name) own ++ entries k after) (goes_below k name x xs w))
-    ∙ ap (λ (v : List ℕ). put_entry (entry (k ++ 0 ∷ (v ++ key_of (x ∷ xs))) w) (d ∷ (entries (k ++ 0 ∷ name) own ++ entries k after))) e
+    ∙ ap (λ (v : List ℕ). put_entry (entry (k ++ 0 ∷ (v ++ key_of (x ∷ xs))) w)
+    (d ∷ (entries (k ++ 0 ∷ name) own ++ entries k after))) e
 
 -- A path more, in a directory that is there.
 pub put_at_entries : (k : List ℕ) (w : What) (m : List ℕ) (ms : List (List ℕ)) (n : Names)
@@ -209,23 +249,31 @@ put_at_entries k w m (x ∷ xs) (leaf name i after) z c h p f =
     let lesser = h.0 m (stands_if m (but_last (x ∷ xs)) after s.1) in
     let d = entry (k ++ 0 ∷ name) (a_leaf i) in
     ap (λ (ds : List Entry). d ∷ ds) (put_at_entries k w m (x ∷ xs) after z c.1 h.1 s.1 (rw s.0 at f))
-    ∙ sym (put_on (entry (k ++ key_of (m ∷ x ∷ xs)) w) d (entries k after) (under_before k name m (key_of (x ∷ xs)) d z.0 lesser (head_under k name (a_leaf i))))
+    ∙ sym (put_on (entry (k ++ key_of (m ∷ x ∷ xs)) w) d (entries k after)
+    (under_before k name m (key_of (x ∷ xs)) d z.0 lesser (head_under k name (a_leaf i))))
 put_at_entries k w m (x ∷ xs) (link name i after) z c h p f =
     let s = past_file name m (but_last (x ∷ xs)) i (found (m ∷ but_last (x ∷ xs)) after) p in
     let lesser = h.0 m (stands_if m (but_last (x ∷ xs)) after s.1) in
     let d = entry (k ++ 0 ∷ name) (a_link i) in
     ap (λ (ds : List Entry). d ∷ ds) (put_at_entries k w m (x ∷ xs) after z c.1 h.1 s.1 (rw s.0 at f))
-    ∙ sym (put_on (entry (k ++ key_of (m ∷ x ∷ xs)) w) d (entries k after) (under_before k name m (key_of (x ∷ xs)) d z.0 lesser (head_under k name (a_link i))))
+    ∙ sym (put_on (entry (k ++ key_of (m ∷ x ∷ xs)) w) d (entries k after)
+    (under_before k name m (key_of (x ∷ xs)) d z.0 lesser (head_under k name (a_link i))))
 put_at_entries k w m (x ∷ xs) (folder name i own after) z c h p f =
-    elim (bytes_eq name m) as (λ t. bytes_eq name m ≡ t → is_a_folder (cond t (last_or (but_last (x ∷ xs)) (a_file true i) (found (but_last (x ∷ xs)) own)) (found (m ∷ but_last (x ∷ xs)) after)) ≡ true
+    elim (bytes_eq name m) as (λ t. bytes_eq name m ≡ t
+    → is_a_folder (cond t (last_or (but_last (x ∷ xs)) (a_file true i) (found (but_last (x ∷ xs)) own))
+    (found (m ∷ but_last (x ∷ xs)) after)) ≡ true
     → cond t (found (x ∷ xs) own) (found (m ∷ x ∷ xs) after) ≡ None
-    → entries k (cond t (folder name i (put_at w (x ∷ xs) own) after) (folder name i own (put_at w (m ∷ x ∷ xs) after))) ≡ put_entry (entry (k ++ key_of (m ∷ x ∷ xs)) w) (entries k (folder name i own after))) [
+    → entries k (cond t (folder name i (put_at w (x ∷ xs) own) after) (folder name i own (put_at w (m ∷ x ∷ xs) after)))
+    ≡ put_entry (entry (k ++ key_of (m ∷ x ∷ xs)) w) (entries k (folder name i own after))) [
       | true ↦ λ e q g.
           let same = (bytes_decides name m).0 e in
-          inside k w name m x xs i own after same z c h (put_at_entries (k ++ 0 ∷ name) w x xs own z.1 c.1 h.1 (own_parent (but_last (x ∷ xs)) i own q) g)
+          inside k w name m x xs i own after same z c h
+          (put_at_entries (k ++ 0 ∷ name) w x xs own z.1 c.1 h.1 (own_parent (but_last (x ∷ xs)) i own q) g)
       | false ↦ λ e q g.
           let lesser = h.0 m (stands_if m (but_last (x ∷ xs)) after q) in
           let d = entry (k ++ 0 ∷ name) (a_folder i) in
-          ap (λ (ds : List Entry). d ∷ (entries (k ++ 0 ∷ name) own ++ ds)) (put_at_entries k w m (x ∷ xs) after z c.2 h.2 q g)
-          ∙ sym (put_past (entry (k ++ key_of (m ∷ x ∷ xs)) w) (d ∷ entries (k ++ 0 ∷ name) own) (entries k after) (past_block k name m (key_of (x ∷ xs)) (a_folder i) own w z.0 lesser))
+          ap (λ (ds : List Entry). d ∷ (entries (k ++ 0 ∷ name) own ++ ds))
+          (put_at_entries k w m (x ∷ xs) after z c.2 h.2 q g)
+          ∙ sym (put_past (entry (k ++ key_of (m ∷ x ∷ xs)) w) (d ∷ entries (k ++ 0 ∷ name) own) (entries k after)
+          (past_block k name m (key_of (x ∷ xs)) (a_folder i) own w z.0 lesser))
     ] refl p f

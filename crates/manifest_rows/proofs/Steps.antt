@@ -1,5 +1,6 @@
 -- The rows of lines, put in turn, are the entries of the lines.
-use Rattle.std.proofs.Common.{◌≡◌, ℕ, ◌+◌, ◌<◌, nat_lt, cond, true, false, List, [], ◌∷◌, ◌++◌, length, map, reverse, take, drop, get_or, Option, None, Some, Vec, refl, sym, ap, subst, ◌∙◌, arith}
+use Rattle.std.proofs.Common.{◌≡◌, ℕ, ◌+◌, ◌<◌, nat_lt, cond, true, false, List, [], ◌∷◌, ◌++◌, length, map, reverse}
+use Rattle.std.proofs.Common.{take, drop, get_or, Option, None, Some, Vec, refl, sym, ap, subst, ◌∙◌, arith}
 use Rattle.std.proofs.lemmas.Bool.{le-ltb}
 use Rattle.std.proofs.lemmas.List.{reverse-append, reverse-reverse, take-append-drop}
 use Rattle.std.specs.List.{AllByRecursion as Every, list_any}
@@ -42,7 +43,11 @@ steps_by : (all : List Line) (sizes : List ℕ) (ls : List Line) → AreChecked 
 steps_by all sizes [] c f h = tt
 steps_by all sizes (l ∷ ls) c f h =
     let r = is_row all sizes (l ∷ ls) c f in (
-      record { path = h.0.path; rises = subst Rise r.row (tree_rises [] (grown_by all sizes (l ∷ ls)) r.clean r.sorted) },
+      record {
+        path = h.0.path;
+        rises = subst Rise r.row
+            (tree_rises [] (grown_by all sizes (l ∷ ls)) r.clean r.sorted);
+      },
       steps_by all sizes ls c.1 (fewer all sizes l ls f) h.1,
     )
 
@@ -51,9 +56,11 @@ steps m sizes h =
     let c = checked_lines m h.0 h.1 in
     let back : reverse m.lines ≡ c.latest = ap reverse c.reversed ∙ reverse-reverse c.latest in
     subst (AreSteps m.lines sizes) (sym back)
-    (steps_by m.lines sizes c.latest c.checked (have_files m sizes c.latest c.reversed c.checked) (all_faultless c.latest c.checked))
+    (steps_by m.lines sizes c.latest c.checked (have_files m sizes c.latest c.reversed c.checked)
+    (all_faultless c.latest c.checked))
 
-steps_behind : (all : List Line) (sizes : List ℕ) (xs ys : List Line) → AreSteps all sizes (xs ++ ys) → AreSteps all sizes ys
+steps_behind : (all : List Line) (sizes : List ℕ) (xs ys : List Line) → AreSteps all sizes (xs ++ ys)
+    → AreSteps all sizes ys
 steps_behind all sizes [] ys h = h
 steps_behind all sizes (x ∷ xs) ys h = steps_behind all sizes xs ys h.1
 
@@ -63,14 +70,16 @@ step_at m sizes i d l w h e =
     let split : reverse m.lines ≡ reverse (drop (i + 1) m.lines) ++ l ∷ reverse (take i m.lines) =
     ap reverse (sym (take-append-drop (i + 1) m.lines)) ∙ reverse-append (take (i + 1) m.lines) (drop (i + 1) m.lines)
     ∙ ap (λ (ls : List Line). reverse (drop (i + 1) m.lines) ++ ls) (latest_at m.lines i d l h e) in
-    (steps_behind m.lines sizes (reverse (drop (i + 1) m.lines)) (l ∷ reverse (take i m.lines)) (subst (AreSteps m.lines sizes) split (steps m sizes w))).0
+    (steps_behind m.lines sizes (reverse (drop (i + 1) m.lines)) (l ∷ reverse (take i m.lines))
+    (subst (AreSteps m.lines sizes) split (steps m sizes w))).0
 
 -- the root's path is a slash, and others are longer
 no_name : (bs : List ℕ) → names_behind bs ≡ Some [] → nat_lt (length (47 ∷ bs)) 2 ≡ true
 no_name [] h = refl
 no_name (b ∷ bs) h =
     let p = pieces_some 47 (b ∷ bs) in
-    elim (list_any is_bad_name (pieces 47 (b ∷ bs))) as (λ t. cond t None (Some (pieces 47 (b ∷ bs))) ≡ Some [] → nat_lt (length (47 ∷ b ∷ bs)) 2 ≡ true) [
+    elim (list_any is_bad_name (pieces 47 (b ∷ bs))) as
+    (λ t. cond t None (Some (pieces 47 (b ∷ bs))) ≡ Some [] → nat_lt (length (47 ∷ b ∷ bs)) 2 ≡ true) [
       | true ↦ λ e. absurd (cc)
       | false ↦ λ e. let q = p.2 in absurd (cc)
     ] h
@@ -81,7 +90,8 @@ root_short path h =
     let s = starts path (ap is_some (sym same ∙ h)) in
     subst (λ (p : List ℕ). nat_lt (length p) 2 ≡ true) (sym s.1) (no_name s.0 (sym s.2 ∙ sym same ∙ h))
 
-some_name : (n : List ℕ) (ns : List (List ℕ)) → list_any is_bad_name (n ∷ ns) ≡ false → nat_lt (length (path_of (n ∷ ns))) 2 ≡ false
+some_name : (n : List ℕ) (ns : List (List ℕ)) → list_any is_bad_name (n ∷ ns) ≡ false
+    → nat_lt (length (path_of (n ∷ ns))) 2 ≡ false
 unfolding is_bad_name
 some_name [] ns h = absurd (cc)
 some_name (x ∷ n) ns h = le-ltb (length (47 ∷ x ∷ (n ++ path_of ns))) 2 (omega arith)
@@ -93,12 +103,15 @@ named_long path n ns h =
 
 -- a line more
 pub step_puts : (all : List Line) (sizes : List ℕ) (l : Line) (ls : List Line) → IsStep all sizes l ls
-    → put_file l (file_at all sizes l.path) (map by_key (entries_by all sizes ls)) ≡ map by_key (entries_by all sizes (l ∷ ls))
+    → put_file l (file_at all sizes l.path) (map by_key (entries_by all sizes ls))
+    ≡ map by_key (entries_by all sizes (l ∷ ls))
 step_puts all sizes l ls h = by (file_at all sizes l.path) (names_of l.path) refl h.path h.rises
   where
-    by : (o : Option Inode) (names : Option (List (List ℕ))) → names_of l.path ≡ names → is_bad_path (is_dir l.word) names ≡ false
+    by : (o : Option Inode) (names : Option (List (List ℕ))) → names_of l.path ≡ names
+        → is_bad_path (is_dir l.word) names ≡ false
         → Rise (put_line_entry l o names (entries_by all sizes ls))
-        → put_file l o (map by_key (entries_by all sizes ls)) ≡ map by_key (put_line_entry l o names (entries_by all sizes ls))
+        → put_file l o (map by_key (entries_by all sizes ls))
+        ≡ map by_key (put_line_entry l o names (entries_by all sizes ls))
     by o None e b r = absurd (cc)
     by None (Some []) e b r = rw (root_short l.path e) refl
     by (Some i) (Some []) e b r = rw (root_short l.path e) refl
@@ -121,7 +134,8 @@ tree_clean m sizes h =
 pub rows_of : (m : ManifestLines) (sizes : List ℕ) → IsManifest m
     → map (λ k. k.row) (map by_key (entries_of m.lines sizes)) ≡ rows 1 (tree_of m.lines sizes)
 rows_of m sizes h =
-    plain (entries_of m.lines sizes) ∙ ap (map row_by) (sym (tree_row m sizes h)) ∙ rows_are [] (tree_of m.lines sizes) (tree_clean m sizes h)
+    plain (entries_of m.lines sizes) ∙ ap (map row_by) (sym (tree_row m sizes h))
+    ∙ rows_are [] (tree_of m.lines sizes) (tree_clean m sizes h)
   where
     plain : (es : List Entry) → map (λ (k : Keyed). k.row) (map by_key es) ≡ map row_by es
     plain [] = refl

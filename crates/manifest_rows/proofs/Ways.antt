@@ -1,5 +1,6 @@
--- What a path and the way to it tell: how many names there are, and the last of them.
-use Rattle.std.proofs.Common.{◌≡◌, ◌≢◌, ℕ, ◌+◌, ◌==◌, ◌||◌, if◌then◌else◌, Bool, true, false, List, [], ◌∷◌, ◌++◌, length, map, Some, refl, sym, ap, ◌∙◌, arith}
+-- A path and the way to it determine the number of names and the last of them.
+use Rattle.std.proofs.Common.{◌≡◌, ◌≢◌, ℕ, ◌+◌, ◌==◌, ◌||◌, if◌then◌else◌, Bool, true, false, List, [], ◌∷◌, ◌++◌}
+use Rattle.std.proofs.Common.{length, map, Some, refl, sym, ap, ◌∙◌, arith}
 use Rattle.std.proofs.lemmas.Bool.{eq-eqb, ne_eqb}
 use Rattle.std.proofs.lemmas.List.{append-nil, map-append}
 use Rattle.std.proofs.lemmas.List.Recursion.{is_count_by}
@@ -47,13 +48,15 @@ behind_past b all (x ∷ n) rest h = rw h.0 (behind_past b all n rest h.1)
 behind_one : (b : ℕ) (all rest : List ℕ) → behind b all (b ∷ rest) ≡ behind b rest rest
 behind_one b all rest = rw (same b) refl
 
--- how many names are joined, and the last of them
+-- the number of names that are joined, and the last of them
 count_is : (b : ℕ) (ns : List (List ℕ)) → Every (Lacks b) ns → tally b (joined b ns) ≡ length ns
 count_is b [] h = refl
 count_is b (n ∷ ns) h =
-    let e = count_one b (n ++ joined b ns) ∙ ap (λ (k : ℕ). 1 + k) (count_past b n (joined b ns) h.0 ∙ count_is b ns h.1) in omega (arith, e)
+    let e = count_one b (n ++ joined b ns)
+    ∙ ap (λ (k : ℕ). 1 + k) (count_past b n (joined b ns) h.0 ∙ count_is b ns h.1) in omega (arith, e)
 
-behind_is : (b : ℕ) (all n : List ℕ) (ns : List (List ℕ)) → Every (Lacks b) (n ∷ ns) → behind b all (joined b (n ∷ ns)) ≡ last_of n ns
+behind_is : (b : ℕ) (all n : List ℕ) (ns : List (List ℕ)) → Every (Lacks b) (n ∷ ns)
+    → behind b all (joined b (n ∷ ns)) ≡ last_of n ns
 behind_is b all n [] h = behind_one b all (n ++ []) ∙ behind_past b (n ++ []) n [] h.0 ∙ append-nil n
 behind_is b all n (m ∷ ms) h =
     behind_one b all (n ++ joined b (m ∷ ms)) ∙ behind_past b (n ++ joined b (m ∷ ms)) n (joined b (m ∷ ms)) h.0
@@ -75,7 +78,8 @@ zeroed_is : (ns : List (List ℕ)) → Every (Lacks 47) ns → zeroed (joined 47
 zeroed_is [] h = refl
 zeroed_is (n ∷ ns) h =
     ap (λ (x : List ℕ). 0 ∷ x) (map-append (λ (b : ℕ). if b == 47 then 0 else b) n (joined 47 ns)
-    ∙ ap (λ (x : List ℕ). x ++ zeroed (joined 47 ns)) (zeroed_name n h.0) ∙ ap (λ (x : List ℕ). n ++ x) (zeroed_is ns h.1))
+    ∙ ap (λ (x : List ℕ). x ++ zeroed (joined 47 ns)) (zeroed_name n h.0)
+    ∙ ap (λ (x : List ℕ). n ++ x) (zeroed_is ns h.1))
 
 or_false : (a b : Bool) → (a || b) ≡ false → (a ≡ false) × (b ≡ false)
 or_false true b h = absurd (cc)
@@ -115,24 +119,29 @@ way_is path n ns w h =
 
 -- a name more on the way
 deeper : (k name : List ℕ) → HasNoZero name → tally 0 (k ++ 0 ∷ name) ≡ tally 0 k + 1
-deeper [] name z = count_one 0 name ∙ ap (λ (n : ℕ). 1 + n) (ap (tally 0) (sym (append-nil name)) ∙ count_past 0 name [] (no_zero name z))
-deeper (x ∷ k) name z = elim (x == 0) as (λ t. (if t then 1 + tally 0 (k ++ 0 ∷ name) else tally 0 (k ++ 0 ∷ name)) ≡ (if t then 1 + tally 0 k else tally 0 k) + 1) [
-  | true ↦ let e = deeper k name z in omega (arith, e)
-  | false ↦ deeper k name z
-]
+deeper [] name z = count_one 0 name ∙ ap (λ (n : ℕ). 1 + n)
+    (ap (tally 0) (sym (append-nil name)) ∙ count_past 0 name [] (no_zero name z))
+deeper (x ∷ k) name z = elim (x == 0) as
+    (λ t. (if t then 1 + tally 0 (k ++ 0 ∷ name) else tally 0 (k ++ 0 ∷ name))
+    ≡ (if t then 1 + tally 0 k else tally 0 k) + 1) [
+      | true ↦ let e = deeper k name z in omega (arith, e)
+      | false ↦ deeper k name z
+    ]
 
 named_last : (all k name : List ℕ) → HasNoZero name → behind 0 all (k ++ 0 ∷ name) ≡ name
 named_last all [] name z = ap (behind 0 name) (sym (append-nil name)) ∙ behind_past 0 name name [] (no_zero name z)
-named_last all (x ∷ k) name z = elim (x == 0) as (λ t. (if t then behind 0 (k ++ 0 ∷ name) (k ++ 0 ∷ name) else behind 0 all (k ++ 0 ∷ name)) ≡ name) [
-  | true ↦ named_last (k ++ 0 ∷ name) k name z
-  | false ↦ named_last all k name z
-]
+named_last all (x ∷ k) name z = elim (x == 0) as
+    (λ t. (if t then behind 0 (k ++ 0 ∷ name) (k ++ 0 ∷ name) else behind 0 all (k ++ 0 ∷ name)) ≡ name) [
+      | true ↦ named_last (k ++ 0 ∷ name) k name z
+      | false ↦ named_last all k name z
+    ]
 
 row_here : (k name : List ℕ) (w : What) → HasNoZero name → row_by (entry (k ++ 0 ∷ name) w) ≡ row (tally 0 k + 1) name w
 row_here k name w z =
-    ap (λ (n : ℕ). row n (behind 0 [] (k ++ 0 ∷ name)) w) (deeper k name z) ∙ ap (λ (x : List ℕ). row (tally 0 k + 1) x w) (named_last [] k name z)
+    ap (λ (n : ℕ). row n (behind 0 [] (k ++ 0 ∷ name)) w) (deeper k name z)
+    ∙ ap (λ (x : List ℕ). row (tally 0 k + 1) x w) (named_last [] k name z)
 
--- so the entries of names tell their rows
+-- so the entries of names determine their rows
 pub rows_are : (k : List ℕ) (n : Names) → HaveNoZeros n → map row_by (entries k n) ≡ rows (tally 0 k + 1) n
 rows_are k nothing z = refl
 rows_are k (leaf name i after) z =
@@ -145,5 +154,6 @@ rows_are k (folder name i own after) z =
     let below = rows_are (k ++ 0 ∷ name) own z.1 ∙ ap (λ (n : ℕ). rows (n + 1) own) (deeper k name z.0) in
     ap (λ (r : Row). r ∷ map row_by (entries (k ++ 0 ∷ name) own ++ entries k after)) (row_here k name (a_folder i) z.0)
     ∙ ap (λ (rs : List Row). row (tally 0 k + 1) name (a_folder i) ∷ rs)
-    (map-append row_by (entries (k ++ 0 ∷ name) own) (entries k after) ∙ ap (λ (rs : List Row). rs ++ map row_by (entries k after)) below
+    (map-append row_by (entries (k ++ 0 ∷ name) own) (entries k after)
+    ∙ ap (λ (rs : List Row). rs ++ map row_by (entries k after)) below
     ∙ ap (λ (rs : List Row). rows (tally 0 k + 1 + 1) own ++ rs) (rows_are k after z.2))

@@ -1,4 +1,5 @@
--- What holds of the rows of a manifest whose lines fit a format. (This project's own.)
+-- `IsFit`: the facts of a row if no line of the manifest has a misfit in the format. (This
+-- project's own.)
 use Rattle.std.specs.Prelude.{◌<◌, ◌≤◌, length}
 use Rattle.manifest_tree.specs.Tree.{What, a_leaf, a_link, a_folder}
 use Rattle.manifest_layout.specs.Format.{Format}

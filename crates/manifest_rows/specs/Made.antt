@@ -1,9 +1,11 @@
--- The file that a line makes, where its path leads to these contents. (This project's own.)
+-- `inode_from`: the file that a line makes, if its path leads to these contents. (This project's
+-- own.)
 use Rattle.std.specs.Prelude.{length, Option, Some, None}
 use Rattle.rom_tree.specs.declared.types.Kind.TheVariants as kind
 use Rattle.manifest.specs.declared.line.Line.{Line}
 use Rattle.manifest.specs.declared.line.Word.{Word}
-use Rattle.manifest.specs.declared.line.Word.TheVariants.{Dir, File, Slink, Block, Character, Fifo, Socket, Hard, Same}
+use Rattle.manifest.specs.declared.line.Word.TheVariants.{Dir, File, Slink, Block, Character, Fifo}
+use Rattle.manifest.specs.declared.line.Word.TheVariants.{Socket, Hard, Same}
 use Rattle.manifest_tree.specs.Names.{no_bytes, text, source, Inode}
 use Rattle.manifest_tree.specs.Tree.{plain}
 use Rattle.manifest_rows.specs.declared.files.SourceUse.{SourceUse}

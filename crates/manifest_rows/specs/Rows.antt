@@ -1,7 +1,9 @@
--- The names of a tree in a row, each with how many names lead to it and what it names. A directory stands before what it
--- holds, and lists are in the order of their names. (This project's own.)
+-- `rows`: a tree's names in a row with their depths; a directory comes before what it holds, and
+-- lists are in the order of their names. `deepest`: the greatest depth. `row_view`: a row of the
+-- code as one of these. (This project's own.)
 use Rattle.std.specs.Prelude.{ℕ, ◌+◌, max, List, [], ◌∷◌, ◌++◌}
-use Rattle.manifest_tree.specs.Names.{Fill, no_bytes, text, source, Inode, Names, nothing, leaf, link, folder}
+use Rattle.manifest_tree.specs.Names.{Fill, no_bytes, text, source, Inode, Names, nothing, leaf}
+use Rattle.manifest_tree.specs.Names.{link, folder}
 use Rattle.manifest_tree.specs.Tree.{What, a_leaf, a_link, a_folder}
 use Rattle.manifest_rows.specs.declared.row.Bytes as code_bytes
 use Rattle.manifest_rows.specs.declared.row.Bytes.TheVariants as bytes
@@ -23,14 +25,15 @@ abbrev pub rows : ℕ → Names → List Row
 rows depth nothing = []
 rows depth (leaf name i after) = row depth name (a_leaf i) ∷ rows depth after
 rows depth (link name i after) = row depth name (a_link i) ∷ rows depth after
-rows depth (folder name i own after) = row depth name (a_folder i) ∷ (rows (depth + 1) own ++ rows depth after)
+rows depth (folder name i own after) =
+    row depth name (a_folder i) ∷ (rows (depth + 1) own ++ rows depth after)
 
 -- the greatest depth
 abbrev pub deepest : List Row → ℕ
 deepest [] = 0
 deepest (r ∷ rs) = max r.depth (deepest rs)
 
--- what the code has, in these words
+-- the values of the code, in these words
 abbrev pub bytes_view : code_bytes.Bytes → Fill
 bytes_view bytes.Nothing = no_bytes
 bytes_view (bytes.Text t) = text t.now

@@ -1,11 +1,11 @@
-//! How deep rows are.
+//! The depth of rows.
 ghost use Rattle.std.specs.Prelude.{◌≡◌, map};
 ghost use Rattle.manifest_rows.specs.Rows.{deepest, row_view};
 
 use crate::row::Row;
 use std::cmp::max;
 
-/// The greatest depth of a row, 0 where there is none.
+/// Returns the greatest depth of a row, or 0 if there is no row.
 pub fn deepest(rows: &[Row<'_>]) -> usize
     ensures { result ≡ deepest (map row_view rows.now) }
 {

@@ -14,15 +14,15 @@ use std::collections::HashMap;
 /// The contents of a regular file.
 #[derive(Clone, Copy, PartialEq, Eq)]
 pub struct SourceUse {
-    /// Their place is to be a multiple of this, in bytes.
+    /// The alignment of the contents, in bytes: their offset is to be a multiple of it.
     pub align: u32,
-    /// How many bytes they are.
+    /// The number of bytes.
     pub size: u64,
-    /// The index of their source.
+    /// The index of the source.
     pub source: usize,
 }
 
-/// What a path leads to.
+/// The line and the contents to which a path leads.
 #[derive(Clone, Copy, PartialEq, Eq)]
 struct Target {
     /// The index of a line.
@@ -30,20 +30,20 @@ struct Target {
     contents: Option<SourceUse>,
 }
 
-/// What the paths of the lines that were read lead to.
+/// The line and the contents to which each path of the lines that were read leads.
 #[derive(Drop)]
 pub struct PathTargets {
     paths: HashMap<Vec<u8>, Target, Seeded>,
 }
 
-/// Whether a line is a `file` line.
+/// Returns whether a line is a `file` line.
 fn is_file(line: &Line) -> bool
     ensures { result ≡ lines.is_file line.now.word }
 {
     matches!(line.word, Word::File)
 }
 
-/// Puts a path into the map with what it leads to.
+/// Puts a path into the map, with what it leads to.
 fn note_path(
     alloc: Global,
     paths: &mut HashMap<Vec<u8>, Target, Seeded>,
@@ -57,7 +57,7 @@ fn note_path(
     Ok(())
 }
 
-/// What a path leads to, and nothing where the map does not have it.
+/// Returns what a path leads to; nothing if the map does not have it.
 fn leads_to(paths: &HashMap<Vec<u8>, Target, Seeded>, path: &[u8]) -> Target
     ensures { result ≡ or_nowhere (noted paths.now path.now) }
 {
@@ -70,7 +70,8 @@ fn leads_to(paths: &HashMap<Vec<u8>, Target, Seeded>, path: &[u8]) -> Target
     }
 }
 
-/// What the path of a line of this index leads to, where so many sources come before it.
+/// Returns what the path of the line at this index leads to. `source` is the number of sources
+/// before it.
 fn own_target(
     paths: &HashMap<Vec<u8>, Target, Seeded>,
     sizes: &[u64],
@@ -99,8 +100,8 @@ fn own_target(
 }
 
 impl PathTargets {
-    /// What the paths of a manifest lead to, where its sources have these sizes. The time that it
-    /// takes is expected to grow with the number of lines.
+    /// Returns what the paths of a manifest lead to, if its sources have these sizes. The time is
+    /// expected to grow with the number of lines.
     pub fn new(alloc: Global, m: &Manifest, sizes: &[u64]) -> Result<PathTargets, OutOfMemory>
         requires { length sizes.now ≡ length (lines.sources_of m.now.lines) }
         ensures { IfOk result (IsOf m.now.lines sizes.now) }
@@ -120,7 +121,7 @@ impl PathTargets {
         Ok(PathTargets { paths })
     }
 
-    /// The contents that a path leads to, if it leads to a regular file.
+    /// Returns the contents to which a path leads, if it leads to a regular file.
     pub fn contents(&self, path: &[u8]) -> Option<SourceUse>
         ensures { (lines : List Line) (sizes : List ℕ) → IsOf lines sizes self.now
             → result ≡ contents_at lines sizes path.now }
@@ -128,7 +129,7 @@ impl PathTargets {
         leads_to(&self.paths, path).contents
     }
 
-    /// The index of the line that a path leads to, if it leads to one.
+    /// Returns the index of the line to which a path leads, if it leads to one.
     pub fn line(&self, path: &[u8]) -> Option<usize>
         ensures { (lines : List Line) (sizes : List ℕ) → IsOf lines sizes self.now
             → IsIndexOf lines result (led (reverse lines) path.now) }

@@ -12,13 +12,13 @@ use crate::row::{Bytes, Inode};
 use manifest::{Line, Manifest, Word};
 use rom_tree::Kind;
 
-/// What the bytes of a file are aligned to where no line says it.
+/// The alignment of a file's bytes if no line has one.
 const ALIGN: u32 = 4;
 
 /// The mode of a root without a line.
 const ROOT_MODE: u32 = 0o755;
 
-/// The file of a line, with these bytes.
+/// Returns the file of a line, with these bytes.
 fn plain<'a>(line: &Line, kind: Kind, align: u32, size: u64, bytes: Bytes<'a>) -> Inode<'a>
     ensures { inode_view result
         ≡ tree.plain line.now kind align size (bytes_view bytes.entry) }
@@ -37,7 +37,7 @@ fn plain<'a>(line: &Line, kind: Kind, align: u32, size: u64, bytes: Bytes<'a>) -
     }
 }
 
-/// A regular file with these contents, or an empty one.
+/// Returns a regular file with these contents, or an empty one.
 fn regular<'a>(line: &Line, contents: Option<SourceUse>) -> Inode<'a>
     ensures { inode_view result ≡ regular_from line.now contents }
 {
@@ -53,7 +53,7 @@ fn regular<'a>(line: &Line, contents: Option<SourceUse>) -> Inode<'a>
     }
 }
 
-/// The file that a line makes, where its path leads to these contents.
+/// Returns the file that a line makes, if its path leads to these contents.
 fn inode_from<'a>(line: &'a Line, contents: Option<SourceUse>) -> Inode<'a>
     ensures { inode_view result ≡ inode_from line.now.word line.now contents }
 {
@@ -79,7 +79,7 @@ fn inode_from<'a>(line: &'a Line, contents: Option<SourceUse>) -> Inode<'a>
     plain(line, kind, ALIGN, 0, Bytes::Nothing)
 }
 
-/// The file that a line makes.
+/// Returns the file that a line makes.
 fn inode_of<'a>(line: &'a Line, files: &PathTargets) -> Inode<'a>
     ensures { (lines : List decl.Line) (sizes : List ℕ) → IsOf lines sizes files.now
         → inode_view result ≡ tree.inode_of lines sizes line.now }
@@ -87,7 +87,7 @@ fn inode_of<'a>(line: &'a Line, files: &PathTargets) -> Inode<'a>
     inode_from(line, files.contents(line.path.as_bytes()))
 }
 
-/// The file that a path leads to, if it leads to one.
+/// Returns the file to which a path leads, if it leads to one.
 pub fn inode_at<'a>(m: &'a Manifest, files: &PathTargets, path: &[u8]) -> Option<Inode<'a>>
     ensures { (sizes : List ℕ) → IsOf m.now.lines sizes files.now
         → option_map inode_view result ≡ tree.file_at m.now.lines sizes path.now }
@@ -101,7 +101,7 @@ pub fn inode_at<'a>(m: &'a Manifest, files: &PathTargets, path: &[u8]) -> Option
     }
 }
 
-/// The root's file: that of the line about it, or of a directory of mode 0755 that belongs to 0.
+/// Returns the root's file: that of its line, or a directory of mode 0755 with owner and group 0.
 #[tactic(auto, unfolding(manifest_tree::specs::Tree::root_of))]
 pub fn root<'a>(m: &'a Manifest, files: &PathTargets) -> Inode<'a>
     ensures { (sizes : List ℕ) → IsOf m.now.lines sizes files.now

@@ -1,4 +1,4 @@
-//! Rows at the ways to them.
+//! Rows with the ways to them.
 ghost use Rattle.std.specs.Prelude.{◌≡◌, OnOk, IfOk, ℕ, List};
 ghost use Rattle.manifest_tree.specs.Names as names;
 ghost use Rattle.manifest_tree.specs.Tree.{file_at, what_by};
@@ -16,8 +16,8 @@ use rom_fields::OutOfMemory;
 use std::alloc::Global;
 use std::collections::BTreeMap;
 
-/// The way to what a path names: its bytes with a zero byte in place of each slash, so that the
-/// order of ways is that of rows.
+/// Returns the way to what a path names: its bytes with zero bytes instead of slashes. So the order
+/// of ways is that of rows.
 fn key_of(alloc: Global, path: &[u8]) -> Result<Vec<u8>, OutOfMemory>
     ensures { IfOk result (λ v. v.items ≡ zeroed path.now) }
 {
@@ -29,7 +29,7 @@ fn key_of(alloc: Global, path: &[u8]) -> Result<Vec<u8>, OutOfMemory>
     Ok(key)
 }
 
-/// How many names a path has.
+/// Returns the number of names of a path.
 fn depth_of(path: &[u8]) -> usize
     ensures { result ≡ count 47 path.now }
 {
@@ -42,7 +42,7 @@ fn depth_of(path: &[u8]) -> usize
     depth
 }
 
-/// The last name of a path.
+/// Returns the last name of a path.
 fn name_of<'a>(path: &'a [u8]) -> &'a [u8]
     ensures { result.now ≡ behind 47 path.now path.now }
 {
@@ -52,7 +52,7 @@ fn name_of<'a>(path: &'a [u8]) -> &'a [u8]
     }
 }
 
-/// What the path of a line with this word is the name of.
+/// Returns what the path of a line with this word names.
 fn what_of(word: Word) -> What
     ensures { (i : names.Inode) → what_view result i ≡ what_by word i }
 {
@@ -64,7 +64,7 @@ fn what_of(word: Word) -> What
     }
 }
 
-/// The row of a line whose path leads to this file.
+/// Returns the row of a line whose path leads to this file.
 fn row_of<'a>(line: &'a Line, inode: Inode<'a>) -> Row<'a>
     ensures { row_view result
         ≡ row_at line.now.path (what_by line.now.word (inode_view inode.entry)) }
@@ -78,7 +78,7 @@ fn row_of<'a>(line: &'a Line, inode: Inode<'a>) -> Row<'a>
     }
 }
 
-/// Puts the row of a line whose path leads to this file among others.
+/// Adds the row of a line, if its path leads to this file.
 fn put_row<'a>(
     alloc: Global,
     rows: &mut BTreeMap<Vec<u8>, Row<'a>>,
@@ -94,7 +94,7 @@ fn put_row<'a>(
     Ok(())
 }
 
-/// Puts the row of a line among others, unless the line is about the root.
+/// Adds the row of a line, unless it is the root's.
 pub fn put_line<'a>(
     alloc: Global,
     rows: &mut BTreeMap<Vec<u8>, Row<'a>>,
@@ -107,7 +107,7 @@ pub fn put_line<'a>(
         (listed rows.old)) }
 {
     let path = line.path.as_bytes();
-    // Only the root's path is a slash alone.
+    // Only the root's path is shorter than two bytes.
     if path.len() < 2 {
         return Ok(());
     }

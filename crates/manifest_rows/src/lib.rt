@@ -1,14 +1,16 @@
-//! The names of a manifest in a row, each with what it names.
+//! The names of a manifest in a row, each with what it names. `PathTargets` has the line and the
+//! contents to which each path leads; `rows` returns the lines in order, as the rows of a tree.
 //!
-//! `specs/Rows.antt` has the rows of a tree, and which of them one of the code stands for;
-//! `specs/Entries.antt` the order of the ways to names: a path more in a tree is an entry more in
-//! the row. The rows of lines are brought into order by these ways (`specs/Keyed.antt`), whose order
-//! as bytes is that of a tree. Proved: the rows are those of the manifest's tree, and each fits a
-//! format where no line misfits it (`specs/Fits.antt`).
+//! Proved: the rows are those of the manifest's tree, and each fits a format if no line has a
+//! misfit (`specs/Fits.antt`). `specs/Rows.antt` has the rows of a tree. `specs/Entries.antt` has
+//! the order of the ways to names: one more path in a tree is one more entry in the row. The rows
+//! of lines are put in order by these ways (`specs/Keyed.antt`), whose order as bytes is that of a
+//! tree.
 //!
-//! `specs/Files.antt` says which line and contents each path leads to: a path that `hard` lines lead
-//! on from leads to the line behind them. Of a `file` line the contents are those of its source, and
-//! of a path that `hard` and `same` lines lead on from, those of the `file` line behind them.
+//! `specs/Files.antt` has the line and the contents to which each path leads. The path of a `hard`
+//! line leads to the line to which its text leads. The contents of a `file` line are those of its
+//! source. The contents of a `hard` or `same` line are those of the `file` line to which the texts
+//! lead.
 #![tactic(auto)]
 
 mod depth;

@@ -13,7 +13,7 @@ use rom_fields::OutOfMemory;
 use std::alloc::Global;
 use std::collections::BTreeMap;
 
-/// The rows of a map, in the order of its keys.
+/// Returns the rows of a map, in the order of its keys.
 fn in_order<'a>(
     alloc: Global,
     keyed: BTreeMap<Vec<u8>, Row<'a>>,
@@ -24,13 +24,13 @@ fn in_order<'a>(
     Ok(rows)
 }
 
-/// The rows of the names of a manifest, where its sources have the sizes that `files` was made
-/// with: a directory stands before what it holds, and lists are in the order of their names. It
+/// Returns the rows of the names of a manifest, if its sources have the sizes with which `files`
+/// was made. A directory comes before what it holds, and lists are in the order of their names. It
 /// takes time in n log n for n lines.
 ///
 /// # Errors
 ///
-/// `OutOfMemory` where memory was refused.
+/// `OutOfMemory` if memory was refused.
 pub fn rows<'a>(
     alloc: Global,
     m: &'a Manifest,

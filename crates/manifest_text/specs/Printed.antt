@@ -1,21 +1,27 @@
--- The text of a manifest's lines, and which lines are read back from it. (This project's own.)
-use Rattle.std.specs.Prelude.{◌≡◌, ℕ, ◌+◌, ◌^◌, ◌<◌, List, [], ◌∷◌, ◌++◌, false, codes, decimal, None}
+-- `line_text`, `lines_text`, `manifest_text`: the text of a line, of lines, and of a manifest.
+-- `IsSpelled`: the fields of a line can be spelled, and the line has exactly those of its word.
+-- `AreTaken`: all lines are so, and the grammar accepts each behind those before it. `as_read`: the
+-- lines that are read back. (This project's own.)
+use Rattle.std.specs.Prelude.{◌≡◌, ℕ, ◌+◌, ◌^◌, ◌<◌, List, [], ◌∷◌, ◌++◌, false, codes, decimal}
+use Rattle.std.specs.Prelude.{None}
 use Rattle.std.specs.List.{All, join_with_byte}
 use Rattle.manifest.specs.Texts.{is_bad}
 use Rattle.manifest.specs.Lines.{ManifestLines}
 use Rattle.manifest.specs.Grammar.{fault_of}
 use Rattle.manifest.specs.declared.line.Line.{Line}
 use Rattle.manifest.specs.declared.line.Word.{Word}
-use Rattle.manifest.specs.declared.line.Word.TheVariants.{Dir, File, Slink, Block, Character, Fifo, Socket, Hard, Same}
+use Rattle.manifest.specs.declared.line.Word.TheVariants.{Dir, File, Slink, Block, Character, Fifo}
+use Rattle.manifest.specs.declared.line.Word.TheVariants.{Socket, Hard, Same}
 use Rattle.rom_fields.specs.Texts.{escaped, octal}
 
 -- PATH MODE UID GID
 abbrev pub attributes : Line → List (List ℕ)
 attributes l = escaped l.path ∷ octal l.mode ∷ decimal l.uid ∷ decimal l.gid ∷ []
 
--- nod PATH MODE UID GID, b or c, and the numbers of a device
+-- nod PATH MODE UID GID, then b or c, and the numbers of a device
 abbrev pub device_texts : List ℕ → Line → List (List ℕ)
-device_texts letter l = (codes "nod" ∷ attributes l) ++ letter ∷ decimal l.major ∷ decimal l.minor ∷ []
+device_texts letter l =
+    (codes "nod" ∷ attributes l) ++ letter ∷ decimal l.major ∷ decimal l.minor ∷ []
 
 -- the texts of the fields that a word has
 abbrev pub texts_by : Word → Line → List (List ℕ)
@@ -29,7 +35,8 @@ texts_by Socket l = (codes "sock" ∷ attributes l)
 texts_by Hard l = codes "hard" ∷ escaped l.path ∷ escaped l.text ∷ []
 texts_by Same l = (codes "same" ∷ attributes l) ++ escaped l.text ∷ []
 
--- the text of a line: the texts of its fields, between single spaces; its number does not stand in it
+-- The text of a line: the texts of its fields, between single spaces. The line's number is not in
+-- it.
 unfoldable pub line_text : Line → List ℕ
 line_text l = join_with_byte 32 (texts_by l.word l)
 
@@ -42,16 +49,16 @@ lines_text (l ∷ ls) = (line_text l ++ codes "\n") ++ lines_text ls
 unfoldable pub volume_text : List ℕ → List ℕ
 volume_text name = codes "volume " ++ escaped name
 
--- the line that names the volume, where it has a name
+-- the line that names the volume, if it has a name
 abbrev pub volume_line : List ℕ → List ℕ
 volume_line [] = []
 volume_line (b ∷ bs) = volume_text (b ∷ bs) ++ codes "\n"
 
--- the text of a manifest: the volume's line, and behind it the others
+-- the text of a manifest: the volume's line, and the others behind it
 abbrev pub manifest_text : List ℕ → List Line → List ℕ
 manifest_text volume ls = volume_line volume ++ lines_text ls
 
--- the same line as line n
+-- the same line with the number n
 abbrev pub numbered : ℕ → Line → Line
 numbered n l = record {
   number = n;
@@ -66,12 +73,12 @@ numbered n l = record {
   text = l.text;
 }
 
--- the same lines from line n on
+-- the same lines, numbered from n on
 abbrev pub numbered_from : ℕ → List Line → List Line
 numbered_from n [] = []
 numbered_from n (l ∷ ls) = numbered n l ∷ numbered_from (n + 1) ls
 
--- the number of the volume's line, 0 where there is none, and that of the line behind it
+-- the number of the volume's line, or 0 if there is none; the number of the line behind it
 abbrev pub volume_number : List ℕ → ℕ
 volume_number [] = 0
 volume_number (b ∷ bs) = 1
@@ -79,7 +86,7 @@ volume_number (b ∷ bs) = 1
 abbrev pub first_number : List ℕ → ℕ
 first_number volume = volume_number volume + 1
 
--- what these lines say, behind the volume's
+-- the manifest that is read from these lines, behind the volume's
 abbrev pub as_read : List ℕ → List Line → ManifestLines
 as_read volume ls = record {
   lines = numbered_from (first_number volume) ls;
@@ -87,7 +94,8 @@ as_read volume ls = record {
   volume_line = volume_number volume;
 }
 
--- What a word lacks is 0 or empty. A SOURCE and a TARGET have a byte or more: no field is empty.
+-- A field that a word lacks is 0 or empty. A SOURCE and a TARGET have at least one byte, since no
+-- field is empty.
 abbrev pub HasOnly : Word → Line → Type 0
 HasOnly Dir l = (l.align ≡ 0) × (l.major ≡ 0) × (l.minor ≡ 0) × (l.text ≡ [])
 HasOnly File l = (l.major ≡ 0) × (l.minor ≡ 0) × (l.text ≡ [] → ⊥)
@@ -96,11 +104,12 @@ HasOnly Block l = (l.align ≡ 0) × (l.text ≡ [])
 HasOnly Character l = (l.align ≡ 0) × (l.text ≡ [])
 HasOnly Fifo l = (l.align ≡ 0) × (l.major ≡ 0) × (l.minor ≡ 0) × (l.text ≡ [])
 HasOnly Socket l = (l.align ≡ 0) × (l.major ≡ 0) × (l.minor ≡ 0) × (l.text ≡ [])
-HasOnly Hard l = (l.mode ≡ 0) × (l.uid ≡ 0) × (l.gid ≡ 0) × (l.align ≡ 0) × (l.major ≡ 0) × (l.minor ≡ 0)
+HasOnly Hard l =
+    (l.mode ≡ 0) × (l.uid ≡ 0) × (l.gid ≡ 0) × (l.align ≡ 0) × (l.major ≡ 0) × (l.minor ≡ 0)
 HasOnly Same l = (l.align ≡ 0) × (l.major ≡ 0) × (l.minor ≡ 0)
 
--- The fields of a line can be spelled: texts of bytes, a mode of four octal digits, other numbers of 32 bits, and
--- just the fields that its word has.
+-- The fields of a line can be spelled: texts of bytes, a mode of four octal digits, other numbers
+-- of 32 bits, and exactly the fields that its word has.
 pub record IsSpelled (l : Line) : Type 0 where
   pub path : All (λ b. b < 256) l.path
   pub text : All (λ b. b < 256) l.text
@@ -112,15 +121,17 @@ pub record IsSpelled (l : Line) : Type 0 where
   pub minor : l.minor < 2 ^ 32
   pub only : HasOnly l.word l
 
--- Each line can be spelled, and the grammar finds no fault in it, as line n, behind the lines before it, which are given
--- from the last to the first: its path is lawful, its parent and its OLD stand before it, no path stands twice, and it
--- is well aligned.
+-- Each line can be spelled, and the grammar finds no fault in it as line n. The lines before it are
+-- in reverse order. So each path is valid, its parent and its OLD come before it, no path occurs
+-- twice, and each alignment is valid.
 abbrev pub AreTaken : List Line → ℕ → List Line → Type 0
 AreTaken latest n [] = Unit {0}
 AreTaken latest n (l ∷ ls) =
-    IsSpelled l × (fault_of latest (numbered n l) ≡ None) × AreTaken (numbered n l ∷ latest) (n + 1) ls
+    IsSpelled l × (fault_of latest (numbered n l) ≡ None)
+    × AreTaken (numbered n l ∷ latest) (n + 1) ls
 
--- The name of a volume: bytes, at most 255, none of them 0. With no byte it is no name, and has no line.
+-- The name of a volume: at most 255 bytes, none of them 0. An empty name means no name, and has no
+-- line.
 pub record IsVolume (name : List ℕ) : Type 0 where
   pub bytes : All (λ b. b < 256) name
   pub good : is_bad 255 name ≡ false

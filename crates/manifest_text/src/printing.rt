@@ -1,4 +1,4 @@
-//! The lines of a manifest, put into a sink or written.
+//! The printing of a manifest's lines into a sink or to a writer.
 ghost use Rattle.std.specs.Prelude.{◌≡◌, ◌++◌, ◌∷◌, [], codes, map};
 ghost use Rattle.std.specs.List.{join_with_byte};
 ghost use Rattle.manifest_text.specs.Printed.{attributes, device_texts, line_text, lines_text};
@@ -123,7 +123,7 @@ pub fn put_volume<W: ByteWrite>(w: &mut W, failed: &mut bool, name: &[u8])
     }
 }
 
-/// Puts a manifest: the volume's line, if it has a name, and the others.
+/// Puts a manifest: the volume's line, if it has a name, and the other lines.
 fn put_manifest<W: ByteWrite>(w: &mut W, failed: &mut bool, volume: &[u8], entries: &[Entry])
     ensures { Puts (sink (W.output w.old) failed.old) (sink (W.output w.new) failed.new)
         (manifest_text volume.now (map line_of entries.now)) }
@@ -136,7 +136,7 @@ fn put_manifest<W: ByteWrite>(w: &mut W, failed: &mut bool, volume: &[u8], entri
 ///
 /// # Errors
 ///
-/// A write failed; a prefix of the line was written.
+/// `Failed` if a write failed. Then a prefix of the line was written.
 pub fn write_line<W: ByteWrite>(w: &mut W, e: &Entry) -> Result<(), Failed>
     ensures text { WritesText (W.output w.old).contents (W.output w.new).contents result
         (line_text (line_of e.now) ++ codes "\n") }
@@ -147,11 +147,11 @@ pub fn write_line<W: ByteWrite>(w: &mut W, e: &Entry) -> Result<(), Failed>
     if failed { Err(Failed) } else { Ok(()) }
 }
 
-/// Writes a manifest: the volume's line, if it has a name, and the others. It is not flushed.
+/// Writes a manifest: the volume's line, if it has a name, and the other lines. It does not flush.
 ///
 /// # Errors
 ///
-/// A write failed; a prefix of the text was written.
+/// `Failed` if a write failed. Then a prefix of the text was written.
 pub fn write_manifest<W: ByteWrite>(
     w: &mut W,
     volume: &[u8],

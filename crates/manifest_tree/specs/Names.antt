@@ -1,8 +1,10 @@
--- The names of a tree, apart from the files that they name. (This project's own.)
+-- The names of a tree, apart from the files that they name. `Inode`: a file, whatever names it has.
+-- `Names`: the names of a directory in order, each of a file, of a file that has a name already, or
+-- of a directory. (This project's own.)
 use Rattle.std.specs.Prelude.{ℕ, List, [], get_or}
 use Rattle.rom_tree.specs.declared.types.Kind.{Kind}
 
--- what the bytes of a file or a link are: none, those of a link's text, or those of a source by its index
+-- the bytes of a file or a link: none, those of a link's text, or those of a source by its index
 pub data Fill : Type 0 where
   no_bytes : Fill
   text : List ℕ → Fill
@@ -17,20 +19,21 @@ pub record Inode : Type 0 where
   pub gid : ℕ
   pub major : ℕ
   pub minor : ℕ
-  -- the place of its bytes is to be a multiple of it
+  -- the alignment: the offset of its bytes is to be a multiple of it
   pub align : ℕ
   pub size : ℕ
   pub fill : Fill
 
--- The names of a directory in order, first a name and then what follows it in the list: that of a file which is no
--- directory, a further name of such a file, or that of a directory with its own names.
+-- The names of a directory in order, each with the names that follow it in the list: `leaf` names a
+-- file that is not a directory, `link` is a further name of such a file, and `folder` names a
+-- directory with its own names.
 pub data Names : Type 0 where
   nothing : Names
   leaf : List ℕ → Inode → Names → Names
   link : List ℕ → Inode → Names → Names
   folder : List ℕ → Inode → Names → Names → Names
 
--- the bytes, where the sources have these contents
+-- the bytes of a file, if the sources have these contents
 abbrev pub bytes_of : List (List ℕ) → Fill → List ℕ
 bytes_of contents no_bytes = []
 bytes_of contents (text t) = t

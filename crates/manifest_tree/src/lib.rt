@@ -1,10 +1,9 @@
-//! What tree a manifest means: its names in order, apart from the files that they name, and the
-//! shape of a tree.
+//! Definitions and laws: the names and files that a manifest means, and the shape of a tree.
 //!
-//! `specs/Names.antt` has names and files, `specs/Tree.antt` those that a manifest gives (`hard` is
-//! one more name of a file, `same` a file of its own with the contents of another), and
-//! `specs/Shape.antt` what it is for a tree in an image to have the shape of names. Proved: what
-//! the names on a path lead to is the file at the path of the line with these names.
+//! Proved: the names on a path lead to the file at the path of the line with these names.
+//! `specs/Names.antt` has names and files. `specs/Tree.antt` has those that a manifest means:
+//! `hard` is a further name of a file, and `same` is a file of its own with the contents of
+//! another. `specs/Shape.antt` defines when a tree in an image has the shape of names.
 #![tactic(auto)]
 
 pub mod laws;

@@ -1,5 +1,9 @@
--- What the index of a directory's list is, and what is found by it and by the list's front.
-use Rattle.std.specs.Prelude.{◌≡◌, ℕ, ◌<◌, Bool, List, [], ◌∷◌, Option, Some, None, Vec, if◌then◌else◌}
+-- `entries_in`: the list of a directory. `IsTold`: the answer of its first entries for a name.
+-- `IsIndexOf`: the rows are sorted by names, and the first row with a name leads where the list's
+-- first entry with the name does. `AreIndices`: each kept index is that of its directory's list.
+-- (This project's own.)
+use Rattle.std.specs.Prelude.{◌≡◌, ℕ, ◌<◌, Bool, List, [], ◌∷◌, Option, Some, None, Vec}
+use Rattle.std.specs.Prelude.{if◌then◌else◌}
 use Rattle.std.specs.BTreeMap.{BTreeMap, get}
 use Rattle.std.specs.Cmp.Lexicographic.{slice_cmp}
 use Rattle.std.specs.List.Sorted.{IsSorted}
@@ -26,7 +30,7 @@ abbrev pub number_of : Option Node → Option NodeId
 number_of None = None
 number_of (Some y) = Some (record { 0 = ino_of y })
 
--- what the front of a list tells of a name
+-- the answer of the front of a list for a name
 abbrev pub IsTold : Entries → List ℕ → Front → Type 0
 IsTold es name (Leads n) = number_of (find_entry es name) ≡ Some n
 IsTold es name Absent = number_of (find_entry es name) ≡ None
@@ -36,19 +40,22 @@ IsTold es name Longer = 16 < entry_count es
 abbrev pub by_name : NamedNode → NamedNode → Ordering
 by_name x y = slice_cmp nat_cmp x.name.now y.name.now
 
--- whether a row's name comes before this one
+-- whether a row's name sorts before this one
 abbrev pub is_below : List ℕ → NamedNode → Bool
 is_below name x = is_lt (slice_cmp nat_cmp x.name.now name)
 
--- where the first row with just this name leads
+-- the node of the first row with exactly this name
 abbrev pub first_of : List NamedNode → List ℕ → Option NodeId
 first_of [] name = None
 first_of (x ∷ xs) name = if bytes_eq x.name.now name then Some x.node else first_of xs name
 
--- The rows are sorted by names, and the first row with a name leads where the list's first entry with it does.
+-- The rows are sorted by names, and the first row with a name leads to the node of the list's first
+-- entry with it.
 abbrev pub IsIndexOf : Entries → List NamedNode → Type 0
-IsIndexOf es rows = IsSorted by_name rows × ((name : List ℕ) → first_of rows name ≡ number_of (find_entry es name))
+IsIndexOf es rows =
+    IsSorted by_name rows × ((name : List ℕ) → first_of rows name ≡ number_of (find_entry es name))
 
 -- each kept index is that of its directory's list
 abbrev pub AreIndices : {A : Type 0} → (ℕ → Entries) → BTreeMap ℕ (Vec NamedNode A) → Type 0
-AreIndices {A} list kept = (d : ℕ) (rows : Vec NamedNode A) → get nat_cmp kept d ≡ Some rows → IsIndexOf (list d) rows.items
+AreIndices {A} list kept = (d : ℕ) (rows : Vec NamedNode A) → get nat_cmp kept d ≡ Some rows
+    → IsIndexOf (list d) rows.items

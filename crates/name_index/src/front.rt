@@ -1,13 +1,13 @@
-//! What the first entries of a list tell of a name.
+//! The answer of the first entries of a list for a name.
 ghost use Rattle.rom_tree.specs.Image.{HasDirectory};
 ghost use Rattle.name_index.specs.Indices.{entries_in, IsTold};
 
 use crate::names::is_same;
 use rom_tree::{Cursor, NodeId, TreeImage};
 
-/// What is known of a name behind the first 17 entries of a list, or behind all of a shorter one.
+/// What is known of a name after the first 17 entries of a list, or after all of a shorter list.
 pub(crate) enum Front {
-    /// The first entry with just this name leads here.
+    /// The first entry with exactly this name leads here.
     Leads(NodeId),
     /// The list has no such entry.
     Absent,

@@ -1,4 +1,4 @@
-//! An image with indices of its lists.
+//! An image with indices of its directories' lists.
 ghost use Rattle.std.specs.Prelude.{◌≡◌, ℕ, IsTrue, None, MatchOption};
 ghost use Rattle.rom_tree.specs.Tree.{Node, ino_of, entries_of};
 ghost use Rattle.rom_tree.specs.Image.{image_node, HasDirectory, find_entry};
@@ -14,9 +14,9 @@ use std::collections::BTreeMap;
 /// An image that sorts the names of a directory when one of them is first looked up. Each of its
 /// calls answers as the image in it does.
 ///
-/// A look-up goes over at most 17 entries. Where they do not answer it, the list is longer than 16
-/// entries, and its index is asked, which takes 24 bytes an entry from then on. Once memory was
-/// refused for an index no further one is made, and the image looks up what the others do not hold.
+/// A look-up goes over at most 17 entries. If they do not answer it, the list is longer than 16
+/// entries, and its index answers, which then keeps 24 bytes an entry. Once memory was refused for
+/// an index, no further index is made, and lists without an index are looked up in the image.
 #[derive(Drop)]
 pub struct Indexed<'a, T: Viewed> {
     image: T,
@@ -27,7 +27,7 @@ pub struct Indexed<'a, T: Viewed> {
 }
 
 impl<'a, T: TreeImage<'a>> Indexed<'a, T> {
-    /// The image, with no index yet. No memory is taken.
+    /// Makes an image without an index. Allocates no memory.
     pub fn new(alloc: Global, image: T) -> Indexed<'a, T>
         ensures { result.image ≡ image }
     {
@@ -40,8 +40,8 @@ impl<'a, T: TreeImage<'a>> Indexed<'a, T> {
     }
 }
 
-// Of the image just what the members above ask for: with `TreeImage<'a>` here, an `Indexed` in a
-// `Cached` is not known to be a `TreeImage`.
+// The image has only the bound that the members above need: with `TreeImage<'a>` here, an `Indexed`
+// in a `Cached` is not known to be a `TreeImage`.
 impl<T: Viewed> Viewed for Indexed<'_, T> {
     ghost image = { λ s. T.image s.image };
 }

@@ -1,4 +1,4 @@
-//! Names beside one another.
+//! Comparisons of two names.
 ghost use Rattle.std.specs.Prelude.{◌≡◌};
 ghost use Rattle.std.specs.Cmp.Lexicographic.{slice_cmp};
 ghost use Rattle.std.specs.Ordering.{nat_cmp, is_lt};
@@ -11,7 +11,7 @@ pub(crate) fn is_same(one: &[u8], other: &[u8]) -> bool
     one == other
 }
 
-/// Whether a name comes before another, in the order of their bytes.
+/// Whether a name sorts before another, in the order of their bytes.
 pub(crate) fn is_before(one: &[u8], other: &[u8]) -> bool
     ensures { result ≡ is_lt (slice_cmp nat_cmp one.now other.now) }
 {

@@ -7,19 +7,19 @@ use rom_fields::OutOfMemory;
 use rom_tree::{Cursor, NodeId, TreeImage};
 use std::alloc::Global;
 
-/// A name of a list, whose bytes are the image's own, and the node to which it leads.
+/// A name of a list, which is a slice of the image's bytes, and the node to which it leads.
 #[derive(Clone, Copy)]
 pub(crate) struct NamedNode<'a> {
     pub(crate) name: &'a [u8],
     pub(crate) node: NodeId,
 }
 
-/// The index of a directory's list: a row for each entry, sorted by names. Where names are the
-/// same, the rows stand as the entries do. Each entry is read once.
+/// Makes the index of a directory's list: a row for each entry, sorted by names. Rows of the same
+/// name are in the order of their entries. Each entry is read once.
 ///
 /// # Errors
 ///
-/// `OutOfMemory` where memory was refused.
+/// `OutOfMemory` if memory is refused.
 pub(crate) fn rows_of<'a, T: TreeImage<'a>>(
     alloc: Global,
     image: &T,

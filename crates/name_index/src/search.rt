@@ -7,7 +7,7 @@ use crate::names::{is_before, is_same};
 use crate::rows::NamedNode;
 use rom_tree::NodeId;
 
-/// How many of the rows of an index have a name that comes before this one, by halves.
+/// The number of rows of an index whose names sort before this one, found by halving.
 fn rows_before(rows: &[NamedNode<'_>], name: &[u8]) -> usize
     ensures within { result ≤ length rows.now }
     ensures parts { IsSorted by_name rows.now
@@ -27,7 +27,7 @@ fn rows_before(rows: &[NamedNode<'_>], name: &[u8]) -> usize
     low
 }
 
-/// Where the first row with just this name leads. `None` where no row has it.
+/// The node of the first row with exactly this name, or `None` if no row has it.
 pub(crate) fn find(rows: &[NamedNode<'_>], name: &[u8]) -> Option<NodeId>
     ensures { IsSorted by_name rows.now → result ≡ first_of rows.now name.now }
 {

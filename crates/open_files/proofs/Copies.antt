@@ -1,5 +1,6 @@
 -- Bytes copied into a buffer.
-use Rattle.std.proofs.Common.{◌≡◌, ℕ, zero, suc, ◌+◌, ◌≤◌, List, [], ◌∷◌, ◌++◌, length, take, drop, refl, sym, ap, ◌∙◌, arith, append_assoc, length-append, length-take, length-drop, Some}
+use Rattle.std.proofs.Common.{◌≡◌, ℕ, zero, suc, ◌+◌, ◌≤◌, List, [], ◌∷◌, ◌++◌, length, take, drop, refl, sym, ap, ◌∙◌}
+use Rattle.std.proofs.Common.{arith, append_assoc, length-append, length-take, length-drop, Some}
 use Rattle.std.proofs.lemmas.List.{length-map}
 use Rattle.std.specs.Prelude.{slice_index}
 use Rattle.rom_tree.specs.declared.types.Run.{Run}
@@ -16,7 +17,8 @@ take_nil (suc n) = refl
 pub take_add : (a b : ℕ) (xs : List ℕ) → take (a + b) xs ≡ take a xs ++ take b (drop a xs)
 take_add zero b xs = let e : zero + b ≡ b = omega arith in ap (λ (v : ℕ). take v xs) e
 take_add (suc a) b [] = take_nil (suc a + b) ∙ sym (take_nil b)
-take_add (suc a) b (x ∷ xs) = let e : suc a + b ≡ suc (a + b) = omega arith in ap (λ (v : ℕ). take v (x ∷ xs)) e ∙ ap (λ (v : List ℕ). x ∷ v) (take_add a b xs)
+take_add (suc a) b (x ∷ xs) = let e : suc a + b ≡ suc (a + b) =
+    omega arith in ap (λ (v : ℕ). take v (x ∷ xs)) e ∙ ap (λ (v : List ℕ). x ∷ v) (take_add a b xs)
 
 drop_nil : (n : ℕ) → drop {A = ℕ} n [] ≡ []
 drop_nil zero = refl
@@ -25,7 +27,8 @@ drop_nil (suc n) = refl
 pub drop_add : (a b : ℕ) (xs : List ℕ) → drop (a + b) xs ≡ drop b (drop a xs)
 drop_add zero b xs = let e : zero + b ≡ b = omega arith in ap (λ (v : ℕ). drop v xs) e
 drop_add (suc a) b [] = drop_nil (suc a + b) ∙ sym (drop_nil b)
-drop_add (suc a) b (x ∷ xs) = let e : suc a + b ≡ suc (a + b) = omega arith in ap (λ (v : ℕ). drop v (x ∷ xs)) e ∙ drop_add a b xs
+drop_add (suc a) b (x ∷ xs) =
+    let e : suc a + b ≡ suc (a + b) = omega arith in ap (λ (v : ℕ). drop v (x ∷ xs)) e ∙ drop_add a b xs
 
 take_front : (xs ys : List ℕ) (n : ℕ) → length xs ≡ n → take n (xs ++ ys) ≡ xs
 take_front [] ys zero e = refl
@@ -49,42 +52,64 @@ take_length (suc n) [] = refl
 take_length (suc n) (x ∷ xs) = ap (λ (v : List ℕ). x ∷ v) (take_length n xs)
 
 -- the buffer after one more run
-pub copy_step : (b ps old first text new : List ℕ) (at done count : ℕ) → old ≡ bytes_of b (take done (drop at ps)) ++ drop done first → done ≤ length (drop at ps)
-    → text ≡ bytes_of b (take count (drop (at + done) ps)) → length text ≡ count → new ≡ take done old ++ (text ++ drop (done + length text) old)
+pub copy_step : (b ps old first text new : List ℕ) (at done count : ℕ)
+    → old ≡ bytes_of b (take done (drop at ps)) ++ drop done first → done ≤ length (drop at ps)
+    → text ≡ bytes_of b (take count (drop (at + done) ps)) → length text ≡ count
+    → new ≡ take done old ++ (text ++ drop (done + length text) old)
     → new ≡ bytes_of b (take (done + count) (drop at ps)) ++ drop (done + count) first
 copy_step b ps old first text new at done count o l t n e =
     let B : List ℕ = bytes_of b (take done (drop at ps)) in
-    let d : length B ≡ done = length-map (take done (drop at ps)) (λ (p : ℕ). slice_index b p) ∙ (length-take done (drop at ps) ∙ omega (arith, l)) in
+    let d : length B ≡ done = length-map (take done (drop at ps)) (λ (p : ℕ). slice_index b p)
+    ∙ (length-take done (drop at ps) ∙ omega (arith, l)) in
     let a : take done old ≡ B = ap (take done) o ∙ take_front B (drop done first) done d in
     let f : drop (done + length text) old ≡ drop (done + count) first =
-    ap (λ (v : ℕ). drop (done + v) old) n ∙ (drop_add done count old ∙ (ap (drop count) (ap (drop done) o ∙ drop_front B (drop done first) done d) ∙ sym (drop_add done count first))) in
+    ap (λ (v : ℕ). drop (done + v) old) n
+    ∙ (drop_add done count old ∙ (ap (drop count) (ap (drop done) o ∙ drop_front B (drop done first) done d)
+    ∙ sym (drop_add done count first))) in
     let w : B ++ text ≡ bytes_of b (take (done + count) (drop at ps)) =
     ap (λ (v : List ℕ). B ++ v) (t ∙ ap (λ (v : List ℕ). bytes_of b (take count v)) (drop_add at done ps))
-    ∙ (sym (map_append b (take done (drop at ps)) (take count (drop done (drop at ps)))) ∙ ap (bytes_of b) (sym (take_add done count (drop at ps)))) in
+    ∙ (sym (map_append b (take done (drop at ps)) (take count (drop done (drop at ps))))
+    ∙ ap (bytes_of b) (sym (take_add done count (drop at ps)))) in
     e ∙ (ap (λ (v : List ℕ). v ++ (text ++ drop (done + length text) old)) a
     ∙ (ap (λ (v : List ℕ). B ++ (text ++ v)) f
     ∙ (sym (append_assoc B text (drop (done + count) first)) ∙ ap (λ (v : List ℕ). v ++ drop (done + count) first) w)))
 
 -- the bytes of the front of a run
-pub run_text : (m : Image) (n : ℕ) (x : Node) (off count : ℕ) (r : Run) → image_node m n ≡ Some x → IsRun (places_of x) off r → count ≤ r.len → take count (drop r.place m.bytes) ≡ bytes_of m.bytes (take count (drop off (places_of x)))
+pub run_text : (m : Image) (n : ℕ) (x : Node) (off count : ℕ) (r : Run) → image_node m n ≡ Some x
+    → IsRun (places_of x) off r → count ≤ r.len
+    → take count (drop r.place m.bytes) ≡ bytes_of m.bytes (take count (drop off (places_of x)))
 run_text m n x off count r e i c =
     let ps : List ℕ = places_of x in
     let w = i.within in
-    let k : length (take count (drop off ps)) ≡ count = length-take count (drop off ps) ∙ omega (arith, length-drop off ps, w, c) in
+    let k : length (take count (drop off ps)) ≡ count =
+    length-take count (drop off ps) ∙ omega (arith, length-drop off ps, w, c) in
     let z = row_end m n x off r e i in
     row_bytes m.bytes (take count (drop off ps)) r.place count (sym k)
-    (λ j l. get_or-take count (drop off ps) j 0 l ∙ (get_or-drop off ps j 0 ∙ i.row j (omega (arith, l, c)))) (omega (arith, z, c))
+    (λ j l. get_or-take count (drop off ps) j 0 l ∙ (get_or-drop off ps j 0 ∙ i.row j (omega (arith, l, c))))
+    (omega (arith, z, c))
 
 -- the buffer keeps its length
-pub copy_length : (old text new : List ℕ) (done : ℕ) → done + length text ≤ length old → new ≡ take done old ++ (text ++ drop (done + length text) old) → length new ≡ length old
+pub copy_length : (old text new : List ℕ) (done : ℕ) → done + length text ≤ length old
+    → new ≡ take done old ++ (text ++ drop (done + length text) old) → length new ≡ length old
 copy_length old text new done l e =
-    ap length e ∙ (length-append (take done old) (text ++ drop (done + length text) old) ∙ omega (arith, l, length-append text (drop (done + length text) old), length-take done old, length-drop (done + length text) old))
+    ap length e ∙ (length-append (take done old) (text ++ drop (done + length text) old)
+    ∙ omega (
+      arith,
+      l,
+      length-append text (drop (done + length text) old),
+      length-take done old,
+      length-drop (done + length text) old,
+    ))
 
--- what stands in the buffer afterwards: the bytes, and then what stood there
-pub copied_front : (b ps first new : List ℕ) (at n count : ℕ) → count ≡ length (take n (drop at ps)) → new ≡ bytes_of b (take n (drop at ps)) ++ drop count first → take count new ≡ bytes_of b (take n (drop at ps))
+-- what is in the buffer afterwards: the bytes, and then what was there
+pub copied_front : (b ps first new : List ℕ) (at n count : ℕ) → count ≡ length (take n (drop at ps))
+    → new ≡ bytes_of b (take n (drop at ps)) ++ drop count first → take count new ≡ bytes_of b (take n (drop at ps))
 copied_front b ps first new at n count c e =
-    ap (take count) e ∙ take_front (bytes_of b (take n (drop at ps))) (drop count first) count (length-map (take n (drop at ps)) (λ (p : ℕ). slice_index b p) ∙ sym c)
+    ap (take count) e ∙ take_front (bytes_of b (take n (drop at ps))) (drop count first) count
+    (length-map (take n (drop at ps)) (λ (p : ℕ). slice_index b p) ∙ sym c)
 
-pub copied_rest : (b ps first new : List ℕ) (at n count : ℕ) → count ≡ length (take n (drop at ps)) → new ≡ bytes_of b (take n (drop at ps)) ++ drop count first → drop count new ≡ drop count first
+pub copied_rest : (b ps first new : List ℕ) (at n count : ℕ) → count ≡ length (take n (drop at ps))
+    → new ≡ bytes_of b (take n (drop at ps)) ++ drop count first → drop count new ≡ drop count first
 copied_rest b ps first new at n count c e =
-    ap (drop count) e ∙ drop_front (bytes_of b (take n (drop at ps))) (drop count first) count (length-map (take n (drop at ps)) (λ (p : ℕ). slice_index b p) ∙ sym c)
+    ap (drop count) e ∙ drop_front (bytes_of b (take n (drop at ps))) (drop count first) count
+    (length-map (take n (drop at ps)) (λ (p : ℕ). slice_index b p) ∙ sym c)

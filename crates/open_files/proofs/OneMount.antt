@@ -1,5 +1,7 @@
--- What a mount owes, said once for a whole space: s' is what the walk leaves of s, and p is where it led, the node `dir` of image `on`.
-use Rattle.std.proofs.Common.{◌≡◌, ℕ, ◌<◌, ◌==◌, List, [], ◌∷◌, ◌++◌, Some, true, false, Ok, sym, ap, ◌∙◌, subst, arith, length, get_or}
+-- What a mount owes, said once for a whole space: s' is what the walk leaves of s, and p is where it led, the node
+-- `dir` of image `on`.
+use Rattle.std.proofs.Common.{◌≡◌, ℕ, ◌<◌, ◌==◌, List, [], ◌∷◌, ◌++◌, Some, true, false, Ok, sym, ap, ◌∙◌, subst, arith}
+use Rattle.std.proofs.Common.{length, get_or}
 use Rattle.std.proofs.lemmas.List.{length-map}
 use Rattle.std.specs.Prelude.{find}
 use Rattle.rom_tree.specs.declared.image.Viewed.{Ghosts}
@@ -22,13 +24,16 @@ use Rattle.open_files.proofs.OneSession.{view_of, place_still}
 
 module _ {T : Type 0} {n : ℕ} {w : Ghosts T} where
   -- there is room for one more
-  pub room : (s : Space T n w) (i : ℕ) → 0 < i → i < length s.images.items → is_mounted i s.mounts.items ≡ false → length s.mounts.items < 7
+  pub room : (s : Space T n w) (i : ℕ) → 0 < i → i < length s.images.items → is_mounted i s.mounts.items ≡ false
+      → length s.mounts.items < 7
   room s i z l m =
       let f = s.few in
       let e = length-map s.images.items w.image in
       mounts_room (images_in s) s.mounts.items i s.mounted (omega (arith, f, e)) z (omega (arith, l, e)) m
 
-  module _ (s s' : Space T n w) (em : images_in s' ≡ images_in s) (eu : s'.mounts ≡ s.mounts) (et : s'.tables ≡ s.tables) (on : ℕ) (dir : NodeId) (p : MountedNode) (h : (view_of s).place on dir.0 ≡ Some p) where
+  module _ (s s' : Space T n w) (em : images_in s' ≡ images_in s) (eu : s'.mounts ≡ s.mounts)
+      (et : s'.tables ≡ s.tables) (on : ℕ) (dir : NodeId) (p : MountedNode)
+      (h : (view_of s).place on dir.0 ≡ Some p) where
     named_before : Names (images_in s) on dir.0 p
     named_before = names_by (images_in s) s.mounts.items on dir.0 p h
 
@@ -48,7 +53,8 @@ module _ {T : Type 0} {n : ℕ} {w : Ghosts T} where
       root_there : tree_in (images_in s) p.image ≡ (w.image y).tree
       root_there =
           ap (tree_in (images_in s)) (sym named_before.image)
-          ∙ (ap (λ (z : List Image). tree_in z on) (sym em) ∙ (map_tree w.image s'.images.items on y has_image ∙ ap (λ z. (w.image z).tree) (sym ey)))
+          ∙ (ap (λ (z : List Image). tree_in z on) (sym em)
+          ∙ (map_tree w.image s'.images.items on y has_image ∙ ap (λ z. (w.image z).tree) (sym ey)))
 
       module _ (i : ℕ) (z : 0 < i) (l : i < length s.images.items) (m : is_mounted i s.mounts.items ≡ false) where
         below : i < length (images_in s)
@@ -56,10 +62,12 @@ module _ {T : Type 0} {n : ℕ} {w : Ghosts T} where
 
         -- what the machine says there
         pub mounts_there : (path : List ℕ) → resolution (graft (images_in s) s.mounts.items) path true ≡ Ok p
-            → mounting (images_in s) s.mounts.items i path ≡ mount_over s.mounts.items i p (is_directory p.node) (ino_of p.node == ino_of (w.image y).tree)
+            → mounting (images_in s) s.mounts.items i path
+            ≡ mount_over s.mounts.items i p (is_directory p.node) (ino_of p.node == ino_of (w.image y).tree)
         mounts_there path r =
             mounting_goes (images_in s) s.mounts.items i path below z m
-            ∙ (ap (mount_at_place (images_in s) s.mounts.items i) r ∙ ap (λ v. mount_over s.mounts.items i p (is_directory p.node) (ino_of p.node == ino_of v)) root_there)
+            ∙ (ap (mount_at_place (images_in s) s.mounts.items i) r
+            ∙ ap (λ v. mount_over s.mounts.items i p (is_directory p.node) (ino_of p.node == ino_of v)) root_there)
 
         module _ (d : is_directory p.node ≡ true) (o : (ino_of p.node == ino_of (w.image y).tree) ≡ false) where
           abbrev mount : Mount
@@ -72,11 +80,15 @@ module _ {T : Type 0} {n : ℕ} {w : Ghosts T} where
               → mounting (images_in s) s.mounts.items i path ≡ give tt (s.mounts.items ++ mount ∷ [])
           mounted_there path r =
               mounting_goes (images_in s) s.mounts.items i path below z m
-              ∙ (ap (mount_at_place (images_in s) s.mounts.items i) r ∙ mounting_over (images_in s) s.mounts.items mount p named_before d not_root)
+              ∙ (ap (mount_at_place (images_in s) s.mounts.items i) r
+              ∙ mounting_over (images_in s) s.mounts.items mount p named_before d not_root)
 
-          pub still_mounts : IsUncovered s.mounts.items on dir.0 → are_mounts (images_in s') (s'.mounts.items ++ mount ∷ []) ≡ true
+          pub still_mounts : IsUncovered s.mounts.items on dir.0
+              → are_mounts (images_in s') (s'.mounts.items ++ mount ∷ []) ≡ true
           still_mounts c =
               let N : List Image → Type 0 = λ v. Names v on dir.0 p in
               mounts_push (images_in s') s'.mounts.items mount s'.mounted
-              (new_mount (images_in s') mount p (subst N (sym em) named_before) z (let b = below in omega (arith, b, ap length em)) d (ap (λ (v : List Image). ino_of p.node == ino_of (tree_in v p.image)) em ∙ not_root))
+              (new_mount (images_in s') mount p (subst N (sym em) named_before) z
+              (let b = below in omega (arith, b, ap length em)) d
+              (ap (λ (v : List Image). ino_of p.node == ino_of (tree_in v p.image)) em ∙ not_root))
               (ap (λ v. is_mounted i v.items) eu ∙ m) (ap (λ v. find (covers on dir.0) v.items) eu ∙ c)

@@ -1,5 +1,6 @@
--- The calls on open files, and what they answer. S are the states: what is open, and what is mounted.
--- (This project's own.)
+-- `Calls`: the calls on open files, over any kind S of state: what is open, and what is mounted.
+-- `Answer`: a reply or a refusal, and the state after it. `Lent`, `Named`: the contents of replies.
+-- `viewed`: a result of the code, read as a reply. (This project's own.)
 use Rattle.std.specs.Prelude.{ℕ, List, Option, Result, Ok, Err}
 use Rattle.rom_tree.specs.declared.types.Stat.{Stat}
 use Rattle.open_files.specs.declared.error.CallError.{CallError}
@@ -12,18 +13,18 @@ pub record Answer (S R : Type 0) : Type 0 where
 abbrev pub answer : {S R : Type 0} → Result R CallError → S → Answer S R
 answer r s = record { reply = r; state = s }
 
--- a refusal leaves the state
+-- a refusal does not change the state
 abbrev pub refuse : {S R : Type 0} → CallError → S → Answer S R
 refuse e s = answer (Err e) s
 
 abbrev pub give : {S R : Type 0} → R → S → Answer S R
 give r s = answer (Ok r) s
 
--- what is said of a node, with the number of its image where several images are served
+-- a reply about a node, with the number of its image if several images are served
 abbrev pub Of : Type 0 → Type 0
 Of X = Option ℕ × X
 
--- bytes of an image, and the place of the first
+-- bytes of an image, and the offset of the first
 pub record Lent : Type 0 where
   pub place : ℕ
   pub bytes : List ℕ
@@ -33,7 +34,7 @@ pub record Named : Type 0 where
   pub name : List ℕ
   pub node : ℕ
 
--- the calls: what each answers to its arguments
+-- the calls: the answer of each to its arguments
 pub record Calls (S : Type 0) : Type 0 where
   pub lookup : S → List ℕ → Answer S (Of ℕ)
   pub stat : S → List ℕ → Answer S (Of Stat)

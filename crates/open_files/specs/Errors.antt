@@ -1,10 +1,14 @@
--- Why a call is refused. The names are those of POSIX.1-2017, System Interfaces 2.3, "Error Numbers". The
--- numbers are this project's own; the first five are those of a walk along a path.
+-- `error_number`, `error_name`: the number and the name of each error of a call. `error_of`: the
+-- refusal of a walk. The names are those of POSIX.1-2017, System Interfaces 2.3, "Error Numbers".
+-- The numbers are this project's own; the first five are those of a walk along a path.
 use Rattle.std.specs.Prelude.{ℕ, List, codes}
 use Rattle.path_walk.specs.declared.error.WalkError.{WalkError}
 use Rattle.path_walk.specs.declared.error.WalkError.TheVariants as walk
 use Rattle.open_files.specs.declared.error.CallError.{CallError}
-use Rattle.open_files.specs.declared.error.CallError.TheVariants.{Enoent, Enotdir, Eloop, Enametoolong, Einval, Ebadf, Eisdir, Enxio, Emfile, Erange, Enodev, Ebusy}
+use Rattle.open_files.specs.declared.error.CallError.TheVariants.{Enoent, Enotdir, Eloop}
+use Rattle.open_files.specs.declared.error.CallError.TheVariants.{Enametoolong, Einval, Ebadf}
+use Rattle.open_files.specs.declared.error.CallError.TheVariants.{Eisdir, Enxio, Emfile, Erange}
+use Rattle.open_files.specs.declared.error.CallError.TheVariants.{Enodev, Ebusy}
 
 abbrev pub error_number : CallError → ℕ
 error_number Enoent = 1

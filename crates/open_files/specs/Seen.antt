@@ -1,4 +1,6 @@
--- What `Files` is seen as: an image, and what is open in it. (This project's own.)
+-- `Files` as a value: its image (`image_in`), what is open (`table`), and its calls (`calls`).
+-- `EntryLeadsOn`: an entry's cursor is the position that the descriptor now has. (This project's
+-- own.)
 use Rattle.std.specs.Prelude.{ℕ, List}
 use Rattle.rom_tree.specs.declared.image.Viewed.{Ghosts}
 use Rattle.rom_tree.specs.Tree.{Node}
@@ -18,7 +20,7 @@ module _ {T : Type 0} {n : ℕ} {viewed : Ghosts T} where
   abbrev pub calls : Files T n viewed → Calls (Table Node)
   calls s = image_calls n (image_in s)
 
-  -- a cursor stands where this number now stands
+  -- a cursor is that of the position that this number now has
   abbrev pub EntryLeadsOn : Files T n viewed → ℕ → ℕ → Type 0
   EntryLeadsOn s fd cursor = LeadsIn (image_in s) s.slots fd cursor
 

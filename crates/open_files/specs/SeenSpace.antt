@@ -1,4 +1,6 @@
--- What `Space` is seen as: images, and the state of what is mounted and open. (This project's own.)
+-- `Space` as a value: its images (`images_in`), what is mounted and open (`state`), and its calls
+-- (`calls`). `EntryLeadsOn`: an entry's cursor is the position that the descriptor now has. (This
+-- project's own.)
 use Rattle.std.specs.Prelude.{ℕ, List, map}
 use Rattle.rom_tree.specs.declared.image.Viewed.{Ghosts}
 use Rattle.rom_tree.specs.Image.{Image}
@@ -21,10 +23,12 @@ module _ {T : Type 0} {n : ℕ} {viewed : Ghosts T} where
   abbrev pub calls : Space T n viewed → ℕ → Calls (Sessions (List Mount) (Table MountedNode))
   calls s k = space_calls n (images_in s) k
 
-  -- a cursor of an image stands where this number of a session now stands
+  -- a cursor of an image is that of the position that this number of a session now has
   abbrev pub EntryLeadsOn : Space T n viewed → ℕ → ℕ → ℕ → ℕ → Type 0
-  EntryLeadsOn s k fd i cursor = LeadsOn (graft_view (images_in s) s.mounts.items) ((state s).own k) fd i cursor
+  EntryLeadsOn s k fd i cursor =
+      LeadsOn (graft_view (images_in s) s.mounts.items) ((state s).own k) fd i cursor
 
   -- a name is a part of the image of what this number of a session now has open
   abbrev pub IsNamePart : Space T n viewed → ℕ → ℕ → List ℕ → Type 0
-  IsNamePart s k fd name = IsPartThere (graft_view (images_in s) s.mounts.items) ((state s).own k) fd name
+  IsNamePart s k fd name =
+      IsPartThere (graft_view (images_in s) s.mounts.items) ((state s).own k) fd name

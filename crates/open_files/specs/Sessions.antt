@@ -1,6 +1,8 @@
--- Several images with mounts, and sessions that have tables of their own. (This project's own, after Linux's
--- mount(2) and umount(2).)
-use Rattle.std.specs.Prelude.{ℕ, ◌==◌, nat_lt, Bool, true, false, ◌||◌, not, List, [], ◌∷◌, ◌++◌, length, Some, Result, Ok, Err, if◌then◌else◌}
+-- `mounting`, `unmounting`: the mounts after a change. `session_calls`: the calls of one session,
+-- if all sessions share something. `space_calls`: the calls on several images. `no_sessions`:
+-- nothing is mounted or open. (This project's own, after Linux's mount(2) and umount(2).)
+use Rattle.std.specs.Prelude.{ℕ, ◌==◌, nat_lt, Bool, true, false, ◌||◌, not, List, [], ◌∷◌, ◌++◌}
+use Rattle.std.specs.Prelude.{length, Some, Result, Ok, Err, if◌then◌else◌}
 use Rattle.rom_tree.specs.Tree.{ino_of, is_directory}
 use Rattle.rom_tree.specs.Image.{Image}
 use Rattle.path_walk.specs.declared.error.WalkError.{WalkError}
@@ -12,7 +14,7 @@ use Rattle.open_files.specs.Errors.{error_of}
 use Rattle.open_files.specs.Calls.{Answer, answer, refuse, give, Calls}
 use Rattle.open_files.specs.Machine.{Table, calls_over, no_files}
 
--- Mounting. The mounts stand in the order in which they were made.
+-- Mounting. The mounts are in the order in which they were made.
 
 abbrev pub is_mounted : ℕ → List Mount → Bool
 is_mounted i [] = false
@@ -31,21 +33,23 @@ abbrev pub mount_over : List Mount → ℕ → MountedNode → Bool → Bool →
 mount_over us i s is_directory is_root =
     if not is_directory then refuse Enotdir us
     else if is_root then refuse Ebusy us
-    else give tt (us ++ (record { image = i; on = s.image; dir = record { 0 = ino_of s.node } }) ∷ [])
+    else give tt (us ++ (record { image = i; on = s.image; dir = record { 0 = ino_of s.node } })
+    ∷ [])
 
-abbrev pub mount_at_place : List Image → List Mount → ℕ → Result MountedNode WalkError → Answer (List Mount) (Unit {0})
+abbrev pub mount_at_place : List Image → List Mount → ℕ → Result MountedNode WalkError
+    → Answer (List Mount) (Unit {0})
 mount_at_place ms us i (Err e) = refuse (error_of e) us
 mount_at_place ms us i (Ok s) =
     mount_over us i s (is_directory s.node) (ino_of s.node == ino_of (tree_in ms s.image))
 
--- an image is put over the directory that a path leads to, which is not the root of an image
+-- the mount of an image on the directory to which a path leads, which is not the root of an image
 abbrev pub mounting : List Image → List Mount → ℕ → List ℕ → Answer (List Mount) (Unit {0})
 mounting ms us i path =
     if not (nat_lt i (length ms)) then refuse Enodev us
     else if (i == 0) || is_mounted i us then refuse Ebusy us
     else mount_at_place ms us i (resolution (graft ms us) path true)
 
--- and is taken away, unless another image is mounted in it
+-- an image is unmounted, unless another image is mounted in it
 abbrev pub unmounting : List Image → List Mount → ℕ → Answer (List Mount) (Unit {0})
 unmounting ms us i =
     if not (nat_lt i (length ms)) then refuse Enodev us
@@ -55,12 +59,13 @@ unmounting ms us i =
 
 -- Sessions.
 
--- what all sessions share, and what each has of its own
+-- the state that all sessions share, and the state of each session
 pub record Sessions (Shared Own : Type 0) : Type 0 where
   pub shared : Shared
   pub own : ℕ → Own
 
--- the calls of a session on its own part, while the shared part stands, and those that change the shared part
+-- the calls of a session on its own state while the shared state does not change, and those that
+-- change the shared state
 pub record Parts (Shared Own : Type 0) : Type 0 where
   pub over : Shared → Calls Own
   pub mounted : Shared → ℕ → List ℕ → Answer Shared (Unit {0})
@@ -73,10 +78,12 @@ module _ {Shared Own : Type 0} where
   abbrev pub with_shared : Sessions Shared Own → Shared → Sessions Shared Own
   with_shared s u = record { shared = u; own = s.own }
 
-  abbrev pub own_answer : {R : Type 0} → Sessions Shared Own → ℕ → Answer Own R → Answer (Sessions Shared Own) R
+  abbrev pub own_answer : {R : Type 0} → Sessions Shared Own → ℕ → Answer Own R
+      → Answer (Sessions Shared Own) R
   own_answer s k a = answer a.reply (with_own s k a.state)
 
-  abbrev pub shared_answer : {R : Type 0} → Sessions Shared Own → Answer Shared R → Answer (Sessions Shared Own) R
+  abbrev pub shared_answer : {R : Type 0} → Sessions Shared Own → Answer Shared R
+      → Answer (Sessions Shared Own) R
   shared_answer s a = answer a.reply (with_shared s a.state)
 
   -- the calls of session k

@@ -1,5 +1,8 @@
--- What the numbers that the code keeps stand for. (This project's own.)
-use Rattle.std.specs.Prelude.{◌≡◌, ℕ, zero, suc, Bool, true, false, ◌&&◌, List, [], ◌∷◌, Option, Some, None, is_some, option_map, option_and_then, Result, Ok, Err}
+-- The meaning of the numbers that the code keeps. `View`: images as they are served, one or
+-- several. `stands`: the meaning of an open node of the code. `table_of`: the table that the slots
+-- mean. `LeadsOn`: a cursor is the position that the descriptor now has. (This project's own.)
+use Rattle.std.specs.Prelude.{◌≡◌, ℕ, zero, suc, Bool, true, false, ◌&&◌, List, [], ◌∷◌, Option}
+use Rattle.std.specs.Prelude.{Some, None, is_some, option_map, option_and_then, Result, Ok, Err}
 use Rattle.rom_tree.specs.declared.types.Piece.{Piece}
 use Rattle.rom_tree.specs.declared.types.Entry.{Entry}
 use Rattle.rom_tree.specs.Tree.{Node, ino_of, is_directory, is_regular}
@@ -14,17 +17,17 @@ use Rattle.open_files.specs.Calls.{Calls, Of, Lent, Named}
 use Rattle.open_files.specs.Lending.{lent_of}
 use Rattle.open_files.specs.Machine.{Open, Table, open_at, Outcome, named, calls_over}
 
--- Images as they are served: where names lead, and what the numbers of the code stand for.
+-- Images as they are served: the places to which names lead, and the meaning of the code's numbers.
 pub record View (F : Type 0) : Type 0 where
   pub names : Namespace F
-  -- the number of a place's image, where several are served
+  -- the number of a place's image, if several are served
   pub number : F → Option ℕ
-  -- the same of an image's number in the code
+  -- the same for an image's number in the code
   pub label : ℕ → Option ℕ
   -- the place that the numbers of an image and of a node name
   pub place : ℕ → ℕ → Option F
-  -- the index of a cursor in the list of a directory: the numbers are those of the image, of the directory
-  -- and of the cursor
+  -- the index of a cursor in the list of a directory: the numbers are those of the image, of the
+  -- directory and of the cursor
   pub index : ℕ → ℕ → ℕ → Option ℕ
 
 -- one image
@@ -56,7 +59,7 @@ graft_view ms us = record {
 }
 
 module _ {F : Type 0} where
-  -- an image is the one of a number in a view
+  -- the image of a number in a view
   pub record IsImage (v : View F) (i : ℕ) (m : Image) : Type 0 where
     pub node : (n : ℕ) (x : F) → v.place i n ≡ Some x → image_node m n ≡ Some (v.names.node x)
     pub bytes : (n : ℕ) (x : F) → v.place i n ≡ Some x → v.names.bytes x ≡ m.bytes
@@ -66,7 +69,7 @@ module _ {F : Type 0} where
   abbrev pub HasPlace : View F → ℕ → Type 0
   HasPlace v i = (n : ℕ) × (x : F) × (v.place i n ≡ Some x)
 
-  -- an open directory stands at the index of a cursor, and an open regular file at a byte
+  -- an open directory has the index of a cursor as its position, and an open regular file a byte
   abbrev pub open_by : Bool → Bool → ℕ → F → Option ℕ → Option (Open F)
   open_by true r p x None = None
   open_by true r p x (Some k) = Some (record { place = x; position = k })
@@ -80,17 +83,19 @@ module _ {F : Type 0} where
   unfoldable pub open_as : (F → Node) → ℕ → Option ℕ → Option F → Option (Open F)
   open_as node p k x = open_there node p k x
 
-  -- what an open node of the code stands for
+  -- the meaning of an open node of the code
   abbrev pub stands : View F → OpenNode → Option (Open F)
-  stands v s = open_as v.names.node s.position (v.index s.image s.node.0 s.position) (v.place s.image s.node.0)
+  stands v s = open_as v.names.node s.position (v.index s.image s.node.0 s.position)
+      (v.place s.image s.node.0)
 
   -- the same node at another position
   abbrev pub moved : Open F → ℕ → Open F
   moved o q = record { place = o.place; position = q }
 
-  -- A call on what is open gave this outcome: the reply, and what now stands in the code. A refusal leaves
-  -- it as it was.
-  abbrev pub Moves : {R : Type 0} → View F → Open F → OpenNode → OpenNode → Outcome R → Result R CallError → Type 0
+  -- A call on an open node has this outcome: the reply, and the open node that the code has then. A
+  -- refusal does not change the open node.
+  abbrev pub Moves : {R : Type 0} → View F → Open F → OpenNode → OpenNode → Outcome R
+      → Result R CallError → Type 0
   Moves v o old new outcome (Ok r) =
       (q : ℕ) × (outcome ≡ Ok (r, q)) × (stands v new ≡ Some (moved o q)) × (new.image ≡ old.image)
       × (new.node ≡ old.node)
@@ -100,12 +105,12 @@ module _ {F : Type 0} where
   is_open f None = true
   is_open f (Some s) = is_some (f s)
 
-  -- each slot that is taken stands for something
+  -- each slot that is taken has a meaning
   unfoldable pub all_stand : (OpenNode → Option (Open F)) → List (Option OpenNode) → Bool
   all_stand f [] = true
   all_stand f (s ∷ ss) = is_open f s && all_stand f ss
 
-  -- the table that slots stand for
+  -- the table that slots mean
   unfoldable pub table_by : (OpenNode → Option (Open F)) → List (Option OpenNode) → Table F
   table_by f [] = []
   table_by f (s ∷ ss) = option_and_then f s ∷ table_by f ss
@@ -120,16 +125,20 @@ module _ {F : Type 0} where
   abbrev pub calls_of : ℕ → View F → Calls (Table F)
   calls_of n v = calls_over n v.names v.number
 
-  -- the cursor of an entry of image i stands in the directory that is open at a number, where this now stands
+  -- the cursor of an entry of image i is that of the position of the directory that is open at a
+  -- number
   abbrev pub LeadsOn : View F → Table F → ℕ → ℕ → ℕ → Type 0
   LeadsOn v t fd i cursor =
-      (o : Open F) → open_at t fd ≡ Some o → v.index i (ino_of (v.names.node o.place)) cursor ≡ Some o.position
+      (o : Open F) → open_at t fd ≡ Some o
+      → v.index i (ino_of (v.names.node o.place)) cursor ≡ Some o.position
 
   -- a name is a part of the image of what is now open at this number
   abbrev pub IsPartThere : View F → Table F → ℕ → List ℕ → Type 0
-  IsPartThere v t fd name = (o : Open F) → open_at t fd ≡ Some o → LieIn (v.names.bytes o.place) name
+  IsPartThere v t fd name =
+      (o : Open F) → open_at t fd ≡ Some o → LieIn (v.names.bytes o.place) name
 
--- the same of one image: what its slots stand for, and that each that is taken stands for something
+-- the same for one image: the table that its slots mean, and that each slot that is taken has a
+-- meaning
 abbrev pub table_in : {n : ℕ} → Image → Slots n → Table Node
 table_in m s = table_of (image_view m) s.slots
 
@@ -142,7 +151,7 @@ LeadsIn m s fd cursor = LeadsOn (image_view m) (table_in m s) fd 0 cursor
 abbrev pub IsPartIn : {n : ℕ} → Image → Slots n → ℕ → List ℕ → Type 0
 IsPartIn m s fd name = IsPartThere (image_view m) (table_in m s) fd name
 
--- what the code gives, read as replies: bytes, an entry, and what comes with the number of its image
+-- results of the code, read as replies: bytes, an entry, and a value with the number of its image
 abbrev pub lent_by : Piece → Lent
 lent_by p = lent_of p.place p.bytes.now
 

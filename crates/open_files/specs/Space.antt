@@ -1,5 +1,6 @@
--- What several images, mounts and the slots of sessions stand for. (This project's own.)
-use Rattle.std.specs.Prelude.{ℕ, zero, suc, Bool, true, ◌&&◌, List, [], ◌∷◌, Option, None, replicate}
+-- `space_state`: the state that mounts and the slots of sessions mean. (This project's own.)
+use Rattle.std.specs.Prelude.{ℕ, zero, suc, Bool, true, ◌&&◌, List, [], ◌∷◌, Option, None}
+use Rattle.std.specs.Prelude.{replicate}
 use Rattle.rom_tree.specs.Image.{Image}
 use Rattle.path_walk.specs.declared.mount.Mount.{Mount}
 use Rattle.path_walk.specs.Graft.{MountedNode}
@@ -8,7 +9,7 @@ use Rattle.open_files.specs.Machine.{Table}
 use Rattle.open_files.specs.Slots.{graft_view, are_sound, table_of}
 use Rattle.open_files.specs.Sessions.{Sessions}
 
--- the slots of a session, of which each has n; where there is no such session, nothing is open
+-- the n slots of a session; if there is no such session, nothing is open
 abbrev pub slots_at : ℕ → List (List (Option OpenNode)) → ℕ → List (Option OpenNode)
 slots_at n [] k = replicate n None
 slots_at n (t ∷ ts) zero = t
@@ -21,4 +22,5 @@ all_sound ms us (t ∷ ts) = are_sound (graft_view ms us) t && all_sound ms us t
 -- the mounts, and the table of each session
 abbrev pub space_state : ℕ → List Image → List Mount → List (List (Option OpenNode))
     → Sessions (List Mount) (Table MountedNode)
-space_state n ms us ts = record { shared = us; own = λ k. table_of (graft_view ms us) (slots_at n ts k) }
+space_state n ms us ts =
+    record { shared = us; own = λ k. table_of (graft_view ms us) (slots_at n ts k) }

@@ -1,10 +1,12 @@
-//! The calls on descriptors, once for one image and for several.
-ghost use Rattle.std.specs.Prelude.{◌≡◌, ℕ, true, length, take, drop, Option, Some, None, Ok, Err, MatchResult, MatchOption, option_map, ◌||◌, ◌≤◌};
+//! The calls on descriptors, written once for one image and for several.
+ghost use Rattle.std.specs.Prelude.{◌≡◌, ℕ, true, length, take, drop, Option, Some, None, Ok, Err};
+ghost use Rattle.std.specs.Prelude.{MatchResult, MatchOption, option_map, ◌||◌, ◌≤◌};
 ghost use Rattle.rom_tree.specs.Tree.{is_directory, is_regular, is_link};
 ghost use Rattle.rom_tree.specs.Image.{stat_of};
 ghost use Rattle.open_files.specs.Calls.{Of, Named, answer, viewed};
 ghost use Rattle.open_files.specs.Machine.{Table, open_place, read_link};
-ghost use Rattle.open_files.specs.Slots.{IsPartThere, are_sound, table_of, calls_of, labelled, lent_by, named_by, LeadsOn};
+ghost use Rattle.open_files.specs.Slots.{IsPartThere, are_sound, table_of, calls_of, labelled};
+ghost use Rattle.open_files.specs.Slots.{lent_by, named_by, LeadsOn};
 
 use crate::error::CallError;
 use crate::images::Images;
@@ -46,7 +48,7 @@ pub(crate) fn readlink<'a, T: TreeImage<'a>, I: Images<'a, T>>(
     Ok((image, link_piece(holder, node)))
 }
 
-/// Opens the directory or regular file at a place, at the lowest free number.
+/// Opens the directory or regular file at a place, and returns the lowest free descriptor.
 pub(crate) fn open<'a, T: TreeImage<'a>, I: Images<'a, T>, const N: usize>(
     images: &I,
     slots: &mut Slots<N>,
@@ -132,7 +134,7 @@ pub(crate) fn rewind<'a, T: TreeImage<'a>, I: Images<'a, T>, const N: usize>(
     Ok(())
 }
 
-/// Copies the next bytes of an open file, as many as fit. The rest of the buffer stays.
+/// Copies the next bytes of an open file, as many as fit. The rest of the buffer does not change.
 pub(crate) fn read<'a, T: TreeImage<'a>, I: Images<'a, T>, const N: usize>(
     images: &I,
     slots: &mut Slots<N>,
@@ -174,7 +176,7 @@ pub(crate) fn lend<'a, T: TreeImage<'a>, I: Images<'a, T>, const N: usize>(
     Ok((opened.image, piece))
 }
 
-/// Lends just these bytes of an open file.
+/// Lends exactly these bytes of an open file.
 pub(crate) fn map<'a, T: TreeImage<'a>, I: Images<'a, T>, const N: usize>(
     images: &I,
     slots: &Slots<N>,
@@ -193,7 +195,7 @@ pub(crate) fn map<'a, T: TreeImage<'a>, I: Images<'a, T>, const N: usize>(
     Ok((opened.image, piece))
 }
 
-/// The next entry of an open directory. Its cursor stands where the descriptor then stands.
+/// The next entry of an open directory. Its cursor is that of the descriptor's new position.
 pub(crate) fn readdir<'a, T: TreeImage<'a>, I: Images<'a, T>, const N: usize>(
     images: &I,
     slots: &mut Slots<N>,

@@ -7,7 +7,7 @@ ghost use Rattle.open_files.specs.Lending.{bytes_of};
 use crate::lent::bytes_at;
 use rom_tree::{NodeId, TreeImage, lesser};
 
-/// Writes a text over the bytes of a buffer from a place on.
+/// Writes a text over the bytes of a buffer from offset `at` on.
 fn copy_at(buf: &mut [u8], at: usize, text: &[u8])
     requires { at + length text.now ≤ length buf.old }
     ensures { buf.new ≡ take at buf.old ++ (text.now ++ drop (at + length text.now) buf.old) }
@@ -16,8 +16,8 @@ fn copy_at(buf: &mut [u8], at: usize, text: &[u8])
     buf[at..end].copy_from_slice(text);
 }
 
-/// Copies the bytes of a file from byte `at` on to the front of a buffer, as many as fit, and gives
-/// their number. Each run is copied once, straight from the image.
+/// Copies the bytes of a file from byte `at` on to the front of a buffer, as many as fit, and
+/// returns their number. Each run is copied once, straight from the image.
 pub(crate) fn copy_bytes<'a, T: TreeImage<'a>>(
     image: &T,
     node: NodeId,

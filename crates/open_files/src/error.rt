@@ -1,4 +1,4 @@
-//! Why a call is refused.
+//! The errors of calls.
 ghost use Rattle.std.specs.Prelude.{◌≡◌};
 ghost use Rattle.open_files.specs.Errors.{error_name, error_number, error_of};
 
@@ -6,27 +6,27 @@ use path_walk::WalkError;
 use std::fmt::{self, Display, Formatter};
 use thiserror::Error;
 
-/// Why a call is refused, by the names of POSIX.
+/// The reason why a call is refused, by the names of POSIX.1-2017.
 #[derive(Clone, Copy, Debug, PartialEq, Eq, Error)]
 pub enum CallError {
     /// The path is empty, or a directory has no entry of a component's name.
     Enoent,
-    /// A component stands behind what is no directory, or what is open is no directory.
+    /// A component follows something that is no directory, or the open node is no directory.
     Enotdir,
     /// More than 40 symbolic links were met.
     Eloop,
     /// The path has more than 4095 bytes, or a component more than 255.
     Enametoolong,
-    /// The path begins with no slash, what it leads to is no symbolic link, a range is empty or
-    /// does not lie in the file, or the image is not mounted.
+    /// The path does not begin with a slash, or leads to no symbolic link; a range is empty or is
+    /// not in the file; or the image is not mounted.
     Einval,
-    /// Nothing is open at the number.
+    /// The descriptor is not open.
     Ebadf,
-    /// What is open is a directory.
+    /// The open node is a directory.
     Eisdir,
-    /// What the path leads to is neither a directory nor a regular file.
+    /// The path leads to something that is neither a directory nor a regular file.
     Enxio,
-    /// All numbers are taken.
+    /// All descriptors are open.
     Emfile,
     /// The bytes do not follow one another in the image.
     Erange,
@@ -37,8 +37,8 @@ pub enum CallError {
 }
 
 impl CallError {
-    /// Its number, from 1 to 12. The numbers are this project's own; the first five are those of
-    /// `WalkError`.
+    /// Returns its number, from 1 to 12. The numbers are this project's own; the first five are
+    /// those of `WalkError`.
     pub fn number(self) -> u32
         ensures { result ≡ error_number self }
     {
@@ -58,7 +58,7 @@ impl CallError {
         }
     }
 
-    /// Its name in POSIX, as `EBADF`.
+    /// Returns its name in POSIX.1-2017, as `EBADF`.
     pub fn name(self) -> &'static str
         ensures { result.now ≡ error_name self }
     {
@@ -79,7 +79,7 @@ impl CallError {
     }
 }
 
-/// A refusal as `6 EBADF`: its number and its name.
+/// Shows a refusal as `6 EBADF`: its number and its name.
 impl Display for CallError {
     fn fmt<W: fmt::Write>(&self, f: &mut Formatter<W>) -> fmt::Result {
         write!(f, "{} {}", self.number(), self.name())

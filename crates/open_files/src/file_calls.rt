@@ -1,5 +1,6 @@
 //! The calls on one image with open files.
-ghost use Rattle.std.specs.Prelude.{◌≡◌, ◌≤◌, ℕ, length, take, drop, Option, Some, None, Ok, Err, MatchResult, MatchOption, option_map};
+ghost use Rattle.std.specs.Prelude.{◌≡◌, ◌≤◌, ℕ, length, take, drop, Option, Some, None, Ok, Err};
+ghost use Rattle.std.specs.Prelude.{MatchResult, MatchOption, option_map};
 ghost use Rattle.rom_tree.specs.Tree.{levels};
 ghost use Rattle.open_files.specs.Calls.{Of, Named, answer, viewed};
 ghost use Rattle.open_files.specs.Machine.{no_files};
@@ -14,7 +15,8 @@ use rom_tree::{Entry, NodeId, Piece, Stat, TreeImage};
 use std::marker::PhantomData;
 
 impl<'a, T: TreeImage<'a>, const N: usize> Files<'a, T, N> {
-    /// Nothing is open. Directories of the image may lie 64 deep, and N is at most 65,536.
+    /// Makes a value with nothing open. Directories of the image may be 64 deep, and N is at most
+    /// 65,536.
     pub fn new(image: T) -> Self
         requires narrow { N ≤ 65536 }
         requires deep { levels (T.image image).tree ≤ 65 }
@@ -28,7 +30,7 @@ impl<'a, T: TreeImage<'a>, const N: usize> Files<'a, T, N> {
         }
     }
 
-    /// The node that a path leads to; a link in the last place is followed.
+    /// Returns the node to which a path leads. A symbolic link as the last component is followed.
     ///
     /// # Errors
     ///
@@ -41,7 +43,8 @@ impl<'a, T: TreeImage<'a>, const N: usize> Files<'a, T, N> {
         one_image::lookup(&mut self.image, path)
     }
 
-    /// The kind and numbers of the node that a path leads to; a link in the last place is followed.
+    /// Returns the kind and numbers of the node to which a path leads. A symbolic link as the last
+    /// component is followed.
     ///
     /// # Errors
     ///
@@ -54,8 +57,8 @@ impl<'a, T: TreeImage<'a>, const N: usize> Files<'a, T, N> {
         one_image::stat(&mut self.image, path)
     }
 
-    /// The kind and numbers of the node that a path leads to; a link in the last place is not
-    /// followed.
+    /// Returns the kind and numbers of the node to which a path leads. A symbolic link as the last
+    /// component is not followed.
     ///
     /// # Errors
     ///
@@ -68,11 +71,11 @@ impl<'a, T: TreeImage<'a>, const N: usize> Files<'a, T, N> {
         one_image::lstat(&mut self.image, path)
     }
 
-    /// The text of the symbolic link that a path leads to, and where it lies.
+    /// Returns the text of the symbolic link to which a path leads, and its offset in the image.
     ///
     /// # Errors
     ///
-    /// Those of `path_walk::walk`, then `Einval` where the node is no link.
+    /// Those of `path_walk::walk`, then `Einval` if the node is no link.
     pub fn readlink(&mut self, path: &[u8]) -> Result<Piece<'a>, CallError>
         ensures reply { (calls self.old).readlink (table self.old) path.now
             ≡ answer (viewed (unlabelled lent_by) result) (table self.new) }
@@ -81,13 +84,14 @@ impl<'a, T: TreeImage<'a>, const N: usize> Files<'a, T, N> {
         one_image::readlink(&mut self.image, path)
     }
 
-    /// Opens the directory or regular file that a path leads to, at the lowest free number below N
-    /// and at its first byte or entry; a link in the last place is followed.
+    /// Opens the directory or regular file to which a path leads, at its first byte or entry.
+    /// Returns the lowest free descriptor below N. A symbolic link as the last component is
+    /// followed.
     ///
     /// # Errors
     ///
-    /// Those of `path_walk::walk`, then `Enxio` where the node is neither, then `Emfile` where N
-    /// numbers are taken.
+    /// Those of `path_walk::walk`, then `Enxio` if the node is neither, then `Emfile` if all N
+    /// descriptors are open.
     pub fn open(&mut self, path: &[u8]) -> Result<Fd, CallError>
         ensures reply { (calls self.old).open_path (table self.old) path.now
             ≡ answer (viewed (λ d. d.0) result) (table self.new) }
@@ -96,11 +100,11 @@ impl<'a, T: TreeImage<'a>, const N: usize> Files<'a, T, N> {
         one_image::open(&mut self.image, &mut self.slots, path)
     }
 
-    /// The kind and numbers of what is open at a number.
+    /// Returns the kind and numbers of an open node.
     ///
     /// # Errors
     ///
-    /// `Ebadf` where nothing is open there.
+    /// `Ebadf` if the descriptor is not open.
     pub fn fstat(&self, fd: Fd) -> Result<Stat, CallError>
         ensures { (calls self.now).fstat (table self.now) fd.0
             ≡ answer (viewed (unlabelled (λ s. s)) result) (table self.now) }
@@ -108,13 +112,13 @@ impl<'a, T: TreeImage<'a>, const N: usize> Files<'a, T, N> {
         one_image::fstat(&self.image, &self.slots, fd)
     }
 
-    /// Copies the next bytes of an open file to the front of a buffer, and gives their number: the
-    /// lesser of the buffer's length and of what is left. The position moves by it. The rest of the
-    /// buffer stays, and so does the whole of it after a refusal.
+    /// Copies the next bytes of an open file to the front of a buffer, and returns their number:
+    /// the lesser of the buffer's length and of the rest of the file. The position moves by this
+    /// number. The rest of the buffer does not change, nor does any of it after a refusal.
     ///
     /// # Errors
     ///
-    /// `Ebadf` where nothing is open there, `Eisdir` where it is a directory.
+    /// `Ebadf` if the descriptor is not open, `Eisdir` if it is a directory.
     pub fn read(&mut self, fd: Fd, buf: &mut [u8]) -> Result<usize, CallError>
         ensures reply { (calls self.old).read_bytes (table self.old) fd.0 (length buf.old)
             ≡ answer (viewed (λ n. take n buf.new) result) (table self.new) }
@@ -126,13 +130,13 @@ impl<'a, T: TreeImage<'a>, const N: usize> Files<'a, T, N> {
     }
 
     /// Lends the next bytes of an open file: as many of at most `max` as follow one another in the
-    /// image, also over the end of a block where the next one adjoins. The position moves by their
-    /// number. The piece is part of the image's bytes and outlives the descriptor; an empty one has
-    /// place 0.
+    /// image, also past the end of a block if the next block adjoins. The position moves by their
+    /// number. The piece is a part of the image's bytes and outlives the descriptor. An empty piece
+    /// has `place` 0.
     ///
     /// # Errors
     ///
-    /// `Ebadf` where nothing is open there, `Eisdir` where it is a directory.
+    /// `Ebadf` if the descriptor is not open, `Eisdir` if it is a directory.
     pub fn lend(&mut self, fd: Fd, max: u64) -> Result<Piece<'a>, CallError>
         ensures reply { (calls self.old).lend_piece (table self.old) fd.0 max
             ≡ answer (viewed (unlabelled lent_by) result) (table self.new) }
@@ -141,13 +145,14 @@ impl<'a, T: TreeImage<'a>, const N: usize> Files<'a, T, N> {
         one_image::lend(&self.image, &mut self.slots, fd, max)
     }
 
-    /// Lends just the `len` bytes of an open file from byte `off` on, whatever the position is.
+    /// Lends exactly the `len` bytes of an open file from byte `off` on, for any position of the
+    /// file.
     ///
     /// # Errors
     ///
-    /// In this order: `Ebadf` where nothing is open there, `Eisdir` where it is a directory,
-    /// `Einval` where `len` is 0 or the range does not end within the file, `Erange` where the
-    /// bytes do not follow one another in the image.
+    /// In this order: `Ebadf` if the descriptor is not open, `Eisdir` if it is a directory,
+    /// `Einval` if `len` is 0 or the range does not end within the file, `Erange` if the bytes do
+    /// not follow one another in the image.
     pub fn map(&self, fd: Fd, off: u64, len: u64) -> Result<Piece<'a>, CallError>
         ensures { (calls self.now).map_piece (table self.now) fd.0 off len
             ≡ answer (viewed (unlabelled lent_by) result) (table self.now) }
@@ -159,7 +164,7 @@ impl<'a, T: TreeImage<'a>, const N: usize> Files<'a, T, N> {
     ///
     /// # Errors
     ///
-    /// `Ebadf` where nothing is open there, `Eisdir` where it is a directory.
+    /// `Ebadf` if the descriptor is not open, `Eisdir` if it is a directory.
     pub fn seek(&mut self, fd: Fd, position: u64) -> Result<(), CallError>
         ensures reply { (calls self.old).seek_to (table self.old) fd.0 position
             ≡ answer result (table self.new) }
@@ -168,15 +173,16 @@ impl<'a, T: TreeImage<'a>, const N: usize> Files<'a, T, N> {
         one_image::seek(&self.image, &mut self.slots, fd, position)
     }
 
-    /// The next entry of an open directory, without `.` and `..`; `None` at the end, again and
-    /// again. The entry's cursor stands one entry further, where the descriptor then stands.
+    /// Returns the next entry of an open directory, or `None` at the end, each time. It adds no `.`
+    /// and `..`. The entry's cursor is that of the descriptor's new position.
     ///
     /// # Errors
     ///
-    /// `Ebadf` where nothing is open there, `Enotdir` where it is a file.
+    /// `Ebadf` if the descriptor is not open, `Enotdir` if it is a file.
     pub fn readdir(&mut self, fd: Fd) -> Result<Option<Entry<'a>>, CallError>
         ensures reply { (calls self.old).readdir (table self.old) fd.0
-            ≡ answer (viewed (option_map {U = Of Named} (unlabelled named_by)) result) (table self.new) }
+            ≡ answer (viewed (option_map {U = Of Named} (unlabelled named_by)) result)
+            (table self.new) }
         ensures cursor { MatchResult result (λ r. MatchOption r (Unit {0})
             (λ e. EntryLeadsOn self.new fd.0 e.cursor.0))
             (λ e. Unit {0}) }
@@ -192,7 +198,7 @@ impl<'a, T: TreeImage<'a>, const N: usize> Files<'a, T, N> {
     ///
     /// # Errors
     ///
-    /// `Ebadf` where nothing is open there, `Enotdir` where it is a file.
+    /// `Ebadf` if the descriptor is not open, `Enotdir` if it is a file.
     pub fn rewind(&mut self, fd: Fd) -> Result<(), CallError>
         ensures reply { (calls self.old).rewind (table self.old) fd.0
             ≡ answer result (table self.new) }
@@ -201,11 +207,11 @@ impl<'a, T: TreeImage<'a>, const N: usize> Files<'a, T, N> {
         one_image::rewind(&self.image, &mut self.slots, fd)
     }
 
-    /// Closes a number, which is then free. What was lent stays.
+    /// Closes a descriptor, which is then free. Bytes that were lent stay.
     ///
     /// # Errors
     ///
-    /// `Ebadf` where nothing is open there.
+    /// `Ebadf` if the descriptor is not open.
     pub fn close(&mut self, fd: Fd) -> Result<(), CallError>
         ensures reply { (calls self.old).close (table self.old) fd.0
             ≡ answer result (table self.new) }

@@ -7,9 +7,9 @@ use crate::slot::Slots;
 use rom_tree::Viewed;
 use std::marker::PhantomData;
 
-/// An image with open files, whose numbers lie below N. What it lends is part of the image's bytes,
-/// and outlives later calls, the descriptor and the value itself. No call takes memory, unless a
-/// look-up in the image does.
+/// An image with open files, whose descriptors are below N. Lent bytes are a part of the image's
+/// bytes, and outlive later calls, the descriptor and the value itself. No call allocates memory,
+/// unless a look-up in the image does.
 #[derive(Drop)]
 pub struct Files<'a, T: Viewed, const N: usize> {
     pub(crate) image: T,

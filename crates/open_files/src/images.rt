@@ -8,23 +8,23 @@ use arrayvec::ArrayVec;
 use path_walk::Mount;
 use rom_tree::{TreeImage, Viewed};
 
-/// What is served as images.
+/// A value that is served as images.
 pub(crate) trait Served {
     // The places to which names lead.
     ghost Place: { Type 0 };
-    // Where names lead, and what numbers stand for.
+    // The places to which names lead, and the meaning of the code's numbers.
     ghost view: { Self → View Self.Place };
 }
 
 /// Images that are reached by their numbers.
 pub(crate) trait Images<'a, T: TreeImage<'a>>: Served {
-    /// The image of a number.
+    /// Returns the image of a number.
     fn image(&self, image: u32) -> &T
         requires { HasPlace (Self.view self.now) image }
         ensures { IsImage (Self.view self.now) image (T.image result.now) };
 }
 
-/// One image, whatever the number.
+/// One image, for any number.
 #[derive(Drop)]
 pub(crate) struct One<'s, T> {
     pub(crate) image: &'s T,
@@ -50,7 +50,7 @@ pub(crate) fn image_of<'s, T>(images: &'s [T], image: u32) -> &'s T
     &images[image as usize]
 }
 
-/// Several images by their indices, with their mounts.
+/// Several images by their index, with their mounts.
 #[derive(Drop)]
 pub(crate) struct Several<'s, T> {
     pub(crate) images: &'s Vec<T>,

@@ -1,4 +1,4 @@
-//! What is lent of a file.
+//! The bytes of a file that are lent.
 ghost use Rattle.std.specs.Prelude.{◌≡◌, ◌+◌, ◌≤◌, Some, length, true, take, drop, ◌||◌};
 ghost use Rattle.rom_tree.specs.Tree.{Node, places_of, is_directory, is_regular};
 ghost use Rattle.rom_tree.specs.Image.{image_node, HasNode, HasLink};
@@ -16,7 +16,7 @@ pub(crate) fn is_openable<'a, T: TreeImage<'a>>(image: &T, node: NodeId) -> bool
     is_directory_at(image, node) || is_regular_at(image, node)
 }
 
-/// So many bytes from a place on.
+/// The `len` bytes from offset `place` on.
 pub(crate) fn bytes_at<'a>(bytes: &'a [u8], place: u32, len: u64) -> &'a [u8]
     requires { place + len ≤ length bytes.now }
     ensures { result.now ≡ take len (drop place bytes.now) }
@@ -24,7 +24,7 @@ pub(crate) fn bytes_at<'a>(bytes: &'a [u8], place: u32, len: u64) -> &'a [u8]
     &bytes[place as usize..place as usize + len as usize]
 }
 
-/// A link's text, and where it lies.
+/// A link's text, and its offset in the image.
 pub(crate) fn link_piece<'a, T: TreeImage<'a>>(image: &T, node: NodeId) -> Piece<'a>
     requires { HasLink (T.image image.now) node.0 }
     ensures { (x : Node) → image_node (T.image image.now) node.0 ≡ Some x

@@ -1,15 +1,14 @@
-//! Open files in read-only file system images: descriptors with positions, and bytes that are lent
-//! from the image itself.
+//! `Files` and `Space`: descriptors on one image, and on up to eight images with mounts and eight
+//! sessions. Each call answers as a machine of a table of open files does, and lends bytes of the
+//! image itself.
 //!
-//! `specs/Machine.antt` says what is open, and what each call answers and makes of it, with its
-//! refusals in their order; `specs/Lending.antt` what is lent; `specs/Sessions.antt` how several
-//! images are mounted in one another and used by several sessions. Proved, for each
-//! `rom_tree::TreeImage` and each number of descriptors: each call answers as the machine
-//! does, and leaves the state that the machine has then.
+//! Proved, for each `rom_tree::TreeImage` and each number of descriptors: each call answers as the
+//! machine does, and leaves the state that the machine has then. `specs/Machine.antt` defines what
+//! is open, and the answer and the state after each call, with its refusals in their order.
+//! `specs/Lending.antt` defines what is lent, and `specs/Sessions.antt` mounts and sessions.
 //!
-//! `Files` is one image with its open files, `Space` up to eight images with eight sessions.
-//! `one_image` has the calls of `Files` over references to an image and its slots, for code that
-//! is generic over the image.
+//! `one_image` has the calls of `Files` over references to an image and its slots, for code that is
+//! generic over the image.
 #![tactic(auto)]
 
 mod calls;

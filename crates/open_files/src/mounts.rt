@@ -1,5 +1,6 @@
-//! Looking for mounts, and what an image may be put over.
-ghost use Rattle.std.specs.Prelude.{◌≡◌, ◌==◌, ◌<◌, ℕ, List, true, false, length, drop, position, MatchOption, MatchResult, Some, Ok, Err};
+//! Tests of mounts, and of the directories that an image may cover.
+ghost use Rattle.std.specs.Prelude.{◌≡◌, ◌==◌, ◌<◌, ℕ, List, true, false, length, drop, position};
+ghost use Rattle.std.specs.Prelude.{MatchOption, MatchResult, Some, Ok, Err};
 ghost use Rattle.rom_tree.specs.Tree.{Node, ino_of, is_directory};
 ghost use Rattle.rom_tree.specs.Image.{image_node, HasNode};
 ghost use Rattle.path_walk.specs.declared.mount.Mount.{Mount};
@@ -35,7 +36,7 @@ pub(crate) fn has_mount_in(mounts: &[Mount], image: u32) -> bool
     false
 }
 
-/// Where an image stands among the mounts.
+/// The index of the mount of an image.
 pub(crate) fn mount_index(mounts: &[Mount], image: u32) -> Option<usize>
     ensures first { result ≡ position (λ u. u.image == image) mounts.now }
     ensures within { MatchOption result (Unit {0}) (λ i. i < length mounts.now) }
@@ -43,7 +44,7 @@ pub(crate) fn mount_index(mounts: &[Mount], image: u32) -> Option<usize>
     mounts.iter().position(|mount| mount.image == image)
 }
 
-/// Refuses what no image may be put over: what is no directory, and the root.
+/// Refuses what no image may cover: a node that is no directory, and the root.
 pub(crate) fn check_cover<'a, T: TreeImage<'a>>(image: &T, dir: NodeId) -> Result<(), CallError>
     requires { HasNode (T.image image.now) dir.0 }
     ensures { (x : Node) → image_node (T.image image.now) dir.0 ≡ Some x → MatchResult result

@@ -1,10 +1,12 @@
-//! The calls on one image and on what is open in it, each over references to the two. So code that
-//! is generic over the image can make them, whatever the size of the image's type.
-ghost use Rattle.std.specs.Prelude.{◌≡◌, ◌≤◌, ℕ, length, take, drop, Option, Some, None, Ok, Err, MatchResult, MatchOption, option_map};
+//! The calls on one image and on what is open in it, each over references to both. So code that is
+//! generic over the image can make them, for image types of any size.
+ghost use Rattle.std.specs.Prelude.{◌≡◌, ◌≤◌, ℕ, length, take, drop, Option, Some, None, Ok, Err};
+ghost use Rattle.std.specs.Prelude.{MatchResult, MatchOption, option_map};
 ghost use Rattle.rom_tree.specs.Tree.{Node, levels};
 ghost use Rattle.open_files.specs.Calls.{Of, Named, answer, give, viewed};
 ghost use Rattle.open_files.specs.Machine.{Table, image_calls};
-ghost use Rattle.open_files.specs.Slots.{table_in, AreSound, LeadsIn, IsPartIn, unlabelled, lent_by, named_by};
+ghost use Rattle.open_files.specs.Slots.{table_in, AreSound, LeadsIn, IsPartIn, unlabelled};
+ghost use Rattle.open_files.specs.Slots.{lent_by, named_by};
 
 use crate::calls;
 use crate::error::CallError;
@@ -13,7 +15,7 @@ use crate::slot::{Fd, Slots};
 use path_walk::walk;
 use rom_tree::{Entry, NodeId, Piece, Stat, TreeImage};
 
-/// The node that a path leads to; a link in the last place is followed.
+/// Returns the node to which a path leads. A symbolic link as the last component is followed.
 ///
 /// # Errors
 ///
@@ -29,7 +31,8 @@ pub fn lookup<'a, T: TreeImage<'a>>(image: &mut T, path: &[u8]) -> Result<NodeId
     Ok(node)
 }
 
-/// The kind and numbers of the node that a path leads to; a link in the last place is followed.
+/// Returns the kind and numbers of the node to which a path leads. A symbolic link as the last
+/// component is followed.
 ///
 /// # Errors
 ///
@@ -45,8 +48,8 @@ pub fn stat<'a, T: TreeImage<'a>>(image: &mut T, path: &[u8]) -> Result<Stat, Ca
     Ok(image.stat(node))
 }
 
-/// The kind and numbers of the node that a path leads to; a link in the last place is not
-/// followed.
+/// Returns the kind and numbers of the node to which a path leads. A symbolic link as the last
+/// component is not followed.
 ///
 /// # Errors
 ///
@@ -62,11 +65,11 @@ pub fn lstat<'a, T: TreeImage<'a>>(image: &mut T, path: &[u8]) -> Result<Stat, C
     Ok(image.stat(node))
 }
 
-/// The text of the symbolic link that a path leads to, and where it lies.
+/// Returns the text of the symbolic link to which a path leads, and its offset in the image.
 ///
 /// # Errors
 ///
-/// Those of `path_walk::walk`, then `Einval` where the node is no link.
+/// Those of `path_walk::walk`, then `Einval` if the node is no link.
 pub fn readlink<'a, T: TreeImage<'a>>(image: &mut T, path: &[u8]) -> Result<Piece<'a>, CallError>
     requires { levels (T.image image.old).tree ≤ 65 }
     ensures reply { (n : ℕ) (t : Table Node)
@@ -79,13 +82,13 @@ pub fn readlink<'a, T: TreeImage<'a>>(image: &mut T, path: &[u8]) -> Result<Piec
     Ok(piece)
 }
 
-/// Opens the directory or regular file that a path leads to, at the lowest free number below N
-/// and at its first byte or entry; a link in the last place is followed.
+/// Opens the directory or regular file to which a path leads, at its first byte or entry. Returns
+/// the lowest free descriptor below N. A symbolic link as the last component is followed.
 ///
 /// # Errors
 ///
-/// Those of `path_walk::walk`, then `Enxio` where the node is neither, then `Emfile` where N
-/// numbers are taken.
+/// Those of `path_walk::walk`, then `Enxio` if the node is neither, then `Emfile` if all N
+/// descriptors are open.
 pub fn open<'a, T: TreeImage<'a>, const N: usize>(
     image: &mut T,
     slots: &mut Slots<N>,
@@ -105,11 +108,11 @@ pub fn open<'a, T: TreeImage<'a>, const N: usize>(
     calls::open(&One { image: &*image }, slots, 0, node)
 }
 
-/// The kind and numbers of what is open at a number.
+/// Returns the kind and numbers of an open node.
 ///
 /// # Errors
 ///
-/// `Ebadf` where nothing is open there.
+/// `Ebadf` if the descriptor is not open.
 pub fn fstat<'a, T: TreeImage<'a>, const N: usize>(
     image: &T,
     slots: &Slots<N>,
@@ -125,13 +128,13 @@ pub fn fstat<'a, T: TreeImage<'a>, const N: usize>(
     Ok(stat)
 }
 
-/// Copies the next bytes of an open file to the front of a buffer, and gives their number: the
-/// lesser of the buffer's length and of what is left. The position moves by it. The rest of the
-/// buffer stays, and so does the whole of it after a refusal.
+/// Copies the next bytes of an open file to the front of a buffer, and returns their number: the
+/// lesser of the buffer's length and of the rest of the file. The position moves by this number.
+/// The rest of the buffer does not change, nor does any of it after a refusal.
 ///
 /// # Errors
 ///
-/// `Ebadf` where nothing is open there, `Eisdir` where it is a directory.
+/// `Ebadf` if the descriptor is not open, `Eisdir` if it is a directory.
 pub fn read<'a, T: TreeImage<'a>, const N: usize>(
     image: &T,
     slots: &mut Slots<N>,
@@ -151,13 +154,13 @@ pub fn read<'a, T: TreeImage<'a>, const N: usize>(
 }
 
 /// Lends the next bytes of an open file: as many of at most `max` as follow one another in the
-/// image, also over the end of a block where the next one adjoins. The position moves by their
-/// number. The piece is part of the image's bytes and outlives the descriptor; an empty one has
-/// place 0.
+/// image, also past the end of a block if the next block adjoins. The position moves by their
+/// number. The piece is a part of the image's bytes and outlives the descriptor. An empty piece has
+/// `place` 0.
 ///
 /// # Errors
 ///
-/// `Ebadf` where nothing is open there, `Eisdir` where it is a directory.
+/// `Ebadf` if the descriptor is not open, `Eisdir` if it is a directory.
 pub fn lend<'a, T: TreeImage<'a>, const N: usize>(
     image: &T,
     slots: &mut Slots<N>,
@@ -175,13 +178,13 @@ pub fn lend<'a, T: TreeImage<'a>, const N: usize>(
     Ok(piece)
 }
 
-/// Lends just the `len` bytes of an open file from byte `off` on, whatever the position is.
+/// Lends exactly the `len` bytes of an open file from byte `off` on, for any position of the file.
 ///
 /// # Errors
 ///
-/// In this order: `Ebadf` where nothing is open there, `Eisdir` where it is a directory,
-/// `Einval` where `len` is 0 or the range does not end within the file, `Erange` where the bytes
-/// do not follow one another in the image.
+/// In this order: `Ebadf` if the descriptor is not open, `Eisdir` if it is a directory, `Einval` if
+/// `len` is 0 or the range does not end within the file, `Erange` if the bytes do not follow one
+/// another in the image.
 pub fn map<'a, T: TreeImage<'a>, const N: usize>(
     image: &T,
     slots: &Slots<N>,
@@ -203,7 +206,7 @@ pub fn map<'a, T: TreeImage<'a>, const N: usize>(
 ///
 /// # Errors
 ///
-/// `Ebadf` where nothing is open there, `Eisdir` where it is a directory.
+/// `Ebadf` if the descriptor is not open, `Eisdir` if it is a directory.
 pub fn seek<'a, T: TreeImage<'a>, const N: usize>(
     image: &T,
     slots: &mut Slots<N>,
@@ -219,12 +222,12 @@ pub fn seek<'a, T: TreeImage<'a>, const N: usize>(
     calls::seek(&One { image }, slots, fd, position)
 }
 
-/// The next entry of an open directory, without `.` and `..`; `None` at the end, again and
-/// again. The entry's cursor stands one entry further, where the descriptor then stands.
+/// Returns the next entry of an open directory, or `None` at the end, each time. It adds no `.` and
+/// `..`. The entry's cursor is that of the descriptor's new position.
 ///
 /// # Errors
 ///
-/// `Ebadf` where nothing is open there, `Enotdir` where it is a file.
+/// `Ebadf` if the descriptor is not open, `Enotdir` if it is a file.
 pub fn readdir<'a, T: TreeImage<'a>, const N: usize>(
     image: &T,
     slots: &mut Slots<N>,
@@ -253,7 +256,7 @@ pub fn readdir<'a, T: TreeImage<'a>, const N: usize>(
 ///
 /// # Errors
 ///
-/// `Ebadf` where nothing is open there, `Enotdir` where it is a file.
+/// `Ebadf` if the descriptor is not open, `Enotdir` if it is a file.
 pub fn rewind<'a, T: TreeImage<'a>, const N: usize>(
     image: &T,
     slots: &mut Slots<N>,
@@ -268,11 +271,11 @@ pub fn rewind<'a, T: TreeImage<'a>, const N: usize>(
     calls::rewind(&One { image }, slots, fd)
 }
 
-/// Closes a number, which is then free. What was lent stays.
+/// Closes a descriptor, which is then free. Bytes that were lent stay.
 ///
 /// # Errors
 ///
-/// `Ebadf` where nothing is open there.
+/// `Ebadf` if the descriptor is not open.
 pub fn close<'a, T: TreeImage<'a>, const N: usize>(
     image: &T,
     slots: &mut Slots<N>,

@@ -1,9 +1,11 @@
 //! The calls on one open node.
-ghost use Rattle.std.specs.Prelude.{◌≡◌, ℕ, length, take, drop, Option, Some, Ok, Err, MatchResult, MatchOption, option_map};
+ghost use Rattle.std.specs.Prelude.{◌≡◌, ℕ, length, take, drop, Option, Some, Ok, Err, MatchResult};
+ghost use Rattle.std.specs.Prelude.{MatchOption, option_map};
 ghost use Rattle.rom_tree.specs.Tree.{Node};
 ghost use Rattle.rom_tree.specs.Image.{LieIn, stat_of};
 ghost use Rattle.open_files.specs.Calls.{Of, Named, viewed};
-ghost use Rattle.open_files.specs.Machine.{Open, seek_on, rewind_on, read_on, lend_on, map_on, readdir_on};
+ghost use Rattle.open_files.specs.Machine.{Open, seek_on, rewind_on, read_on, lend_on, map_on};
+ghost use Rattle.open_files.specs.Machine.{readdir_on};
 ghost use Rattle.open_files.specs.Slots.{image_view, stands, Moves, lent_by, named_by};
 
 use crate::copied::copy_bytes;
@@ -12,7 +14,7 @@ use crate::lent::bytes_at;
 use crate::slot::OpenNode;
 use rom_tree::{Cursor, Entry, Piece, Stat, TreeImage, is_directory_at, longest_run};
 
-/// A node's kind and numbers.
+/// Returns a node's kind and numbers.
 pub fn fstat<'a, T: TreeImage<'a>>(image: &T, opened: OpenNode) -> Stat
     requires { (o : Open Node) × (stands (image_view (T.image image.now)) opened ≡ Some o) }
     ensures { (o : Open Node) → stands (image_view (T.image image.now)) opened ≡ Some o
@@ -53,7 +55,7 @@ pub fn rewind<'a, T: TreeImage<'a>>(image: &T, opened: &mut OpenNode) -> Result<
     Ok(())
 }
 
-/// Copies the next bytes of a file, as many as fit.
+/// Copies the next bytes of a file, as many as fit, and returns their number.
 pub fn read<'a, T: TreeImage<'a>>(
     image: &T,
     opened: &mut OpenNode,
@@ -100,7 +102,7 @@ pub fn lend<'a, T: TreeImage<'a>>(
     })
 }
 
-/// Lends just these bytes of a file.
+/// Lends exactly these bytes of a file.
 pub fn map<'a, T: TreeImage<'a>>(
     image: &T,
     opened: OpenNode,
@@ -139,7 +141,7 @@ pub fn map<'a, T: TreeImage<'a>>(
     })
 }
 
-/// The next entry of a directory.
+/// Returns the next entry of a directory, or `None` at its end.
 pub fn readdir<'a, T: TreeImage<'a>>(
     image: &T,
     opened: &mut OpenNode,

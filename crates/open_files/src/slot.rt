@@ -1,5 +1,6 @@
-//! What is kept of open files.
-ghost use Rattle.std.specs.Prelude.{◌≡◌, ◌<◌, ℕ, MatchOption, MatchResult, Option, Some, None, true, slice_index_or, slice_set, position, is_none, replicate};
+//! The open nodes that are kept.
+ghost use Rattle.std.specs.Prelude.{◌≡◌, ◌<◌, ℕ, MatchOption, MatchResult, Option, Some, None};
+ghost use Rattle.std.specs.Prelude.{true, slice_index_or, slice_set, position, is_none, replicate};
 ghost use Rattle.rom_tree.specs.Image.{Image};
 ghost use Rattle.open_files.specs.Machine.{no_files};
 ghost use Rattle.open_files.specs.Slots.{table_in, AreSound};
@@ -8,12 +9,12 @@ ghost use Rattle.open_files.specs.declared.error.CallError.TheVariants.{Ebadf};
 use crate::error::CallError;
 use rom_tree::NodeId;
 
-/// The number of an open directory or file.
+/// A descriptor: the number of an open directory or file.
 #[derive(Clone, Copy, Debug, PartialEq, Eq)]
 pub struct Fd(pub u32);
 
-/// An open node of the image of a number. The position is a cursor in a directory, and the number
-/// of a byte in a regular file.
+/// An open node of the image of a number. The position is a cursor in a directory, or the number of
+/// a byte in a regular file.
 #[derive(Clone, Copy)]
 pub struct OpenNode {
     pub image: u32,
@@ -21,14 +22,14 @@ pub struct OpenNode {
     pub position: u64,
 }
 
-/// What is open at the numbers below N.
+/// The open nodes of the descriptors below N.
 #[derive(Clone, Copy)]
 pub struct Slots<const N: usize> {
     slots: [Option<OpenNode>; N],
 }
 
 impl<const N: usize> Slots<N> {
-    /// Nothing is open.
+    /// Makes slots with nothing open.
     pub fn new() -> Self
         ensures blank { result.slots ≡ replicate N None }
         ensures empty { (m : Image) → table_in m result ≡ no_files N }
@@ -37,7 +38,7 @@ impl<const N: usize> Slots<N> {
         Slots { slots: [None; N] }
     }
 
-    /// What is open at a number.
+    /// The open node of a descriptor.
     pub(crate) fn get(&self, fd: Fd) -> Result<OpenNode, CallError>
         ensures slot { MatchResult result (λ s. slice_index_or self.now.slots fd.0 None ≡ Some s)
             (λ e. (slice_index_or self.now.slots fd.0 None ≡ None) × (e ≡ Ebadf)) }
@@ -53,7 +54,7 @@ impl<const N: usize> Slots<N> {
         }
     }
 
-    /// Opens or closes a number.
+    /// Opens or closes a descriptor.
     pub(crate) fn set(&mut self, i: usize, slot: Option<OpenNode>)
         requires { i < N }
         ensures { self.new.slots ≡ slice_set self.old.slots i slot }
@@ -61,7 +62,7 @@ impl<const N: usize> Slots<N> {
         self.slots[i] = slot;
     }
 
-    /// The lowest number at which nothing is open.
+    /// The lowest free descriptor.
     pub(crate) fn free(&self) -> Option<usize>
         ensures first { result ≡ position is_none self.now.slots }
         ensures within { MatchOption result (Unit {0}) (λ i. i < N) }

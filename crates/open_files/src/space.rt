@@ -9,10 +9,10 @@ use path_walk::Mount;
 use rom_tree::Viewed;
 use std::marker::PhantomData;
 
-/// Up to eight images, what is mounted where, and eight sessions, each with open files of its own,
-/// whose numbers lie below N. Mounts are seen by all sessions. What is said of a node comes with
-/// the number of its image. What is lent is part of an image's bytes, and outlives later calls, the
-/// descriptor and the value itself. No call takes memory, unless a look-up in an image does.
+/// Up to eight images with mounts, and eight sessions, each with its own open files, whose
+/// descriptors are below N. All sessions see the mounts. Replies about a node have the number of
+/// its image. Lent bytes are a part of an image's bytes, and outlive later calls, the descriptor
+/// and the value itself. No call allocates memory, unless a look-up in an image does.
 #[derive(Drop)]
 pub struct Space<'a, T: Viewed, const N: usize> {
     pub(crate) images: Vec<T>,

@@ -1,5 +1,6 @@
 //! The calls of sessions on several images with mounts.
-ghost use Rattle.std.specs.Prelude.{◌≡◌, ◌<◌, ◌≤◌, ℕ, length, take, drop, map, Option, Some, None, Ok, Err, MatchResult, MatchOption, option_map};
+ghost use Rattle.std.specs.Prelude.{◌≡◌, ◌<◌, ◌≤◌, ℕ, length, take, drop, map, Option, Some, None};
+ghost use Rattle.std.specs.Prelude.{Ok, Err, MatchResult, MatchOption, option_map};
 ghost use Rattle.path_walk.specs.declared.error.WalkError.{WalkError};
 ghost use Rattle.path_walk.specs.Resolution.{resolution};
 ghost use Rattle.path_walk.specs.Graft.{MountedNode, graft, AreShallow, IsUncovered};
@@ -21,8 +22,8 @@ use rom_tree::{Entry, NodeId, Piece, Stat, TreeImage};
 use std::marker::PhantomData;
 
 impl<'a, T: TreeImage<'a>, const N: usize> Space<'a, T, N> {
-    /// Nothing is mounted, and nothing is open. There are 1 to 8 images, whose directories may lie
-    /// 64 deep, and N is at most 65,536.
+    /// Makes a value with nothing mounted and nothing open. There are 1 to 8 images, whose
+    /// directories may be 64 deep, and N is at most 65,536.
     pub fn new(images: Vec<T>) -> Self
         requires narrow { N ≤ 65536 }
         requires some { 0 < length images.items }
@@ -40,7 +41,7 @@ impl<'a, T: TreeImage<'a>, const N: usize> Space<'a, T, N> {
         }
     }
 
-    /// The place that a path leads to, which no mount covers.
+    /// The place to which a path leads. No mount covers it.
     fn walk(&mut self, path: &[u8], follow_last: bool) -> Result<(u32, NodeId), CallError>
         ensures leads { MatchResult result
             (λ p. (s : MountedNode)
@@ -65,7 +66,7 @@ impl<'a, T: TreeImage<'a>, const N: usize> Space<'a, T, N> {
         Ok((image, node))
     }
 
-    /// The node that a path leads to; a link in the last place is followed.
+    /// Returns the node to which a path leads. A symbolic link as the last component is followed.
     ///
     /// # Errors
     ///
@@ -79,7 +80,8 @@ impl<'a, T: TreeImage<'a>, const N: usize> Space<'a, T, N> {
         self.walk(path, true)
     }
 
-    /// The kind and numbers of the node that a path leads to; a link in the last place is followed.
+    /// Returns the kind and numbers of the node to which a path leads. A symbolic link as the last
+    /// component is followed.
     ///
     /// # Errors
     ///
@@ -98,8 +100,8 @@ impl<'a, T: TreeImage<'a>, const N: usize> Space<'a, T, N> {
         Ok(calls::stat(&images, image, node))
     }
 
-    /// The kind and numbers of the node that a path leads to; a link in the last place is not
-    /// followed.
+    /// Returns the kind and numbers of the node to which a path leads. A symbolic link as the last
+    /// component is not followed.
     ///
     /// # Errors
     ///
@@ -118,11 +120,11 @@ impl<'a, T: TreeImage<'a>, const N: usize> Space<'a, T, N> {
         Ok(calls::stat(&images, image, node))
     }
 
-    /// The text of the symbolic link that a path leads to, and where it lies.
+    /// Returns the text of the symbolic link to which a path leads, and its offset in the image.
     ///
     /// # Errors
     ///
-    /// Those of `path_walk::walk`, then `Einval` where the node is no link.
+    /// Those of `path_walk::walk`, then `Einval` if the node is no link.
     pub fn readlink(&mut self, session: u32, path: &[u8]) -> Result<(u32, Piece<'a>), CallError>
         requires session { session < 8 }
         ensures reply { (calls self.old session).readlink (state self.old) path.now
@@ -137,13 +139,14 @@ impl<'a, T: TreeImage<'a>, const N: usize> Space<'a, T, N> {
         calls::readlink(&images, image, node)
     }
 
-    /// Opens the directory or regular file that a path leads to, at the lowest free number below N
-    /// and at its first byte or entry; a link in the last place is followed.
+    /// Opens the directory or regular file to which a path leads, at its first byte or entry.
+    /// Returns the lowest free descriptor below N. A symbolic link as the last component is
+    /// followed.
     ///
     /// # Errors
     ///
-    /// Those of `path_walk::walk`, then `Enxio` where the node is neither, then `Emfile` where N
-    /// numbers are taken.
+    /// Those of `path_walk::walk`, then `Enxio` if the node is neither, then `Emfile` if all N
+    /// descriptors are open.
     pub fn open(&mut self, session: u32, path: &[u8]) -> Result<Fd, CallError>
         requires session { session < 8 }
         ensures reply { (calls self.old session).open_path (state self.old) path.now
@@ -159,11 +162,11 @@ impl<'a, T: TreeImage<'a>, const N: usize> Space<'a, T, N> {
         calls::open(&images, &mut tables[session as usize], image, node)
     }
 
-    /// The kind and numbers of what is open at a number.
+    /// Returns the kind and numbers of an open node.
     ///
     /// # Errors
     ///
-    /// `Ebadf` where nothing is open there.
+    /// `Ebadf` if the descriptor is not open.
     pub fn fstat(&self, session: u32, fd: Fd) -> Result<(u32, Stat), CallError>
         requires session { session < 8 }
         ensures { (calls self.now session).fstat (state self.now) fd.0
@@ -176,13 +179,13 @@ impl<'a, T: TreeImage<'a>, const N: usize> Space<'a, T, N> {
         calls::fstat(&images, &self.tables[session as usize], fd)
     }
 
-    /// Copies the next bytes of an open file to the front of a buffer, and gives their number: the
-    /// lesser of the buffer's length and of what is left. The position moves by it. The rest of the
-    /// buffer stays, and so does the whole of it after a refusal.
+    /// Copies the next bytes of an open file to the front of a buffer, and returns their number:
+    /// the lesser of the buffer's length and of the rest of the file. The position moves by this
+    /// number. The rest of the buffer does not change, nor does any of it after a refusal.
     ///
     /// # Errors
     ///
-    /// `Ebadf` where nothing is open there, `Eisdir` where it is a directory.
+    /// `Ebadf` if the descriptor is not open, `Eisdir` if it is a directory.
     pub fn read(&mut self, session: u32, fd: Fd, buf: &mut [u8]) -> Result<usize, CallError>
         requires session { session < 8 }
         ensures reply { (calls self.old session).read_bytes (state self.old) fd.0 (length buf.old)
@@ -200,13 +203,13 @@ impl<'a, T: TreeImage<'a>, const N: usize> Space<'a, T, N> {
     }
 
     /// Lends the next bytes of an open file: as many of at most `max` as follow one another in the
-    /// image, also over the end of a block where the next one adjoins. The position moves by their
-    /// number. The piece is part of the image's bytes and outlives the descriptor; an empty one has
-    /// place 0.
+    /// image, also past the end of a block if the next block adjoins. The position moves by their
+    /// number. The piece is a part of the image's bytes and outlives the descriptor. An empty piece
+    /// has `place` 0.
     ///
     /// # Errors
     ///
-    /// `Ebadf` where nothing is open there, `Eisdir` where it is a directory.
+    /// `Ebadf` if the descriptor is not open, `Eisdir` if it is a directory.
     pub fn lend(&mut self, session: u32, fd: Fd, max: u64) -> Result<(u32, Piece<'a>), CallError>
         requires session { session < 8 }
         ensures reply { (calls self.old session).lend_piece (state self.old) fd.0 max
@@ -221,13 +224,14 @@ impl<'a, T: TreeImage<'a>, const N: usize> Space<'a, T, N> {
         calls::lend(&images, &mut tables[session as usize], fd, max)
     }
 
-    /// Lends just the `len` bytes of an open file from byte `off` on, whatever the position is.
+    /// Lends exactly the `len` bytes of an open file from byte `off` on, for any position of the
+    /// file.
     ///
     /// # Errors
     ///
-    /// In this order: `Ebadf` where nothing is open there, `Eisdir` where it is a directory,
-    /// `Einval` where `len` is 0 or the range does not end within the file, `Erange` where the
-    /// bytes do not follow one another in the image.
+    /// In this order: `Ebadf` if the descriptor is not open, `Eisdir` if it is a directory,
+    /// `Einval` if `len` is 0 or the range does not end within the file, `Erange` if the bytes do
+    /// not follow one another in the image.
     pub fn map(
         &self,
         session: u32,
@@ -250,7 +254,7 @@ impl<'a, T: TreeImage<'a>, const N: usize> Space<'a, T, N> {
     ///
     /// # Errors
     ///
-    /// `Ebadf` where nothing is open there, `Eisdir` where it is a directory.
+    /// `Ebadf` if the descriptor is not open, `Eisdir` if it is a directory.
     pub fn seek(&mut self, session: u32, fd: Fd, position: u64) -> Result<(), CallError>
         requires session { session < 8 }
         ensures reply { (calls self.old session).seek_to (state self.old) fd.0 position
@@ -265,16 +269,17 @@ impl<'a, T: TreeImage<'a>, const N: usize> Space<'a, T, N> {
         calls::seek(&images, &mut tables[session as usize], fd, position)
     }
 
-    /// The next entry of an open directory, without `.` and `..`; `None` at the end, again and
-    /// again. The entry's cursor stands one entry further, where the descriptor then stands.
+    /// Returns the next entry of an open directory, or `None` at the end, each time. It adds no `.`
+    /// and `..`. The entry's cursor is that of the descriptor's new position.
     ///
     /// # Errors
     ///
-    /// `Ebadf` where nothing is open there, `Enotdir` where it is a file.
+    /// `Ebadf` if the descriptor is not open, `Enotdir` if it is a file.
     pub fn readdir(&mut self, session: u32, fd: Fd) -> Result<Option<(u32, Entry<'a>)>, CallError>
         requires session { session < 8 }
         ensures reply { (calls self.old session).readdir (state self.old) fd.0
-            ≡ answer (viewed (option_map {U = Of Named} (labelled Some named_by)) result) (state self.new) }
+            ≡ answer (viewed (option_map {U = Of Named} (labelled Some named_by)) result)
+            (state self.new) }
         ensures cursor { MatchResult result (λ r. MatchOption r (Unit {0})
             (λ e. EntryLeadsOn self.new session fd.0 e.0 e.1.cursor.0))
             (λ e. Unit {0}) }
@@ -295,7 +300,7 @@ impl<'a, T: TreeImage<'a>, const N: usize> Space<'a, T, N> {
     ///
     /// # Errors
     ///
-    /// `Ebadf` where nothing is open there, `Enotdir` where it is a file.
+    /// `Ebadf` if the descriptor is not open, `Enotdir` if it is a file.
     pub fn rewind(&mut self, session: u32, fd: Fd) -> Result<(), CallError>
         requires session { session < 8 }
         ensures reply { (calls self.old session).rewind (state self.old) fd.0
@@ -310,11 +315,11 @@ impl<'a, T: TreeImage<'a>, const N: usize> Space<'a, T, N> {
         calls::rewind(&images, &mut tables[session as usize], fd)
     }
 
-    /// Closes a number, which is then free. What was lent stays.
+    /// Closes a descriptor, which is then free. Bytes that were lent stay.
     ///
     /// # Errors
     ///
-    /// `Ebadf` where nothing is open there.
+    /// `Ebadf` if the descriptor is not open.
     pub fn close(&mut self, session: u32, fd: Fd) -> Result<(), CallError>
         requires session { session < 8 }
         ensures reply { (calls self.old session).close (state self.old) fd.0
@@ -340,14 +345,14 @@ impl<'a, T: TreeImage<'a>, const N: usize> Space<'a, T, N> {
         tables[session as usize] = Slots::new();
     }
 
-    /// Puts the root of an image over the directory that a path leads to; a link in the last place
-    /// is followed. All sessions see it, and what they have open stays.
+    /// Mounts an image: its root covers the directory to which a path leads. A symbolic link as the
+    /// last component is followed. All sessions see the mount, and what they have open stays open.
     ///
     /// # Errors
     ///
-    /// In this order: `Enodev` where there is no such image, `Ebusy` where it is image 0 or is
-    /// mounted, those of `path_walk::walk_mounts`, `Enotdir` where the path leads to no directory,
-    /// `Ebusy` where it leads to the root of an image.
+    /// In this order: `Enodev` if there is no such image, `Ebusy` if it is image 0 or is mounted,
+    /// those of `path_walk::walk_mounts`, `Enotdir` if the path leads to no directory, `Ebusy` if
+    /// it leads to the root of an image.
     pub fn mount(&mut self, session: u32, image: u32, path: &[u8]) -> Result<(), CallError>
         requires session { session < 8 }
         ensures reply { (calls self.old session).mount_at (state self.old) image path.now
@@ -366,12 +371,13 @@ impl<'a, T: TreeImage<'a>, const N: usize> Space<'a, T, N> {
         Ok(())
     }
 
-    /// Takes an image away from the directory that it covers. Open files are no bar, and stay.
+    /// Unmounts an image from the directory that it covers. Open files do not prevent this, and
+    /// stay open.
     ///
     /// # Errors
     ///
-    /// In this order: `Enodev` where there is no such image, `Einval` where it is not mounted,
-    /// `Ebusy` where another image is mounted in it.
+    /// In this order: `Enodev` if there is no such image, `Einval` if it is not mounted, `Ebusy` if
+    /// another image is mounted in it.
     pub fn umount(&mut self, session: u32, image: u32) -> Result<(), CallError>
         requires session { session < 8 }
         ensures reply { (calls self.old session).unmount (state self.old) image

@@ -1,5 +1,6 @@
--- Paths lead alike in two namespaces where the places of the one are seen among those of the other.
-use Rattle.std.proofs.Common.{◌≡◌, ℕ, zero, suc, ◌≤◌, Bool, true, false, List, [], ◌∷◌, ◌++◌, length, map, Option, Some, None, Result, Ok, Err, refl, sym, ap, ◌∙◌, nat_lt, arith}
+-- Paths lead alike in two namespaces if the places of the one are seen among those of the other.
+use Rattle.std.proofs.Common.{◌≡◌, ℕ, zero, suc, ◌≤◌, Bool, true, false, List, [], ◌∷◌, ◌++◌, length, map, Option, Some}
+use Rattle.std.proofs.Common.{None, Result, Ok, Err, refl, sym, ap, ◌∙◌, nat_lt, arith}
 use Rattle.std.specs.Prelude.{option_map, not, ◌&&◌, if◌then◌else◌}
 use Rattle.std.specs.Str.{bytes_eq}
 use Rattle.rom_tree.specs.Dots.{dot, dot_dot}
@@ -9,7 +10,9 @@ use Rattle.path_walk.specs.declared.error.WalkError.{WalkError}
 use Rattle.path_walk.specs.declared.error.WalkError.TheVariants.{Enotdir, Eloop, Enametoolong}
 use Rattle.path_walk.specs.declared.mount.Location.{Location}
 use Rattle.path_walk.specs.Components.{is_empty, begins_with_slash, components}
-use Rattle.path_walk.specs.Resolution.{Namespace, tree_namespace, Trail, Step, fails, goes, follows, ascend, parent, root_of, to_root, enter, found, step, link_text_at, after_link, onward, resolve, resolution}
+use Rattle.path_walk.specs.Resolution.{Namespace, tree_namespace, Trail, Step, fails, goes, follows, ascend, parent}
+use Rattle.path_walk.specs.Resolution.{root_of, to_root, enter, found, step, link_text_at, after_link, onward, resolve}
+use Rattle.path_walk.specs.Resolution.{resolution}
 use Rattle.path_walk.specs.Graft.{MountedNode, graft, shown, are_mounts, AreShallow}
 use Rattle.path_walk.specs.Trails.{NamesAt}
 use Rattle.path_walk.proofs.GraftNodes.{one_node}
@@ -35,11 +38,13 @@ module _ {F G : Type 0} (a : Namespace F) (b : Namespace G) (h : F → G) where
   root_lift x [] = refl
   root_lift x (y ∷ ys) = root_lift y ys
 
-  if_step : (c : Bool) (u v : Step F) (u' v' : Step G) → u' ≡ lift_step u → v' ≡ lift_step v → (if c then u' else v') ≡ lift_step (if c then u else v)
+  if_step : (c : Bool) (u v : Step F) (u' v' : Step G) → u' ≡ lift_step u → v' ≡ lift_step v
+      → (if c then u' else v') ≡ lift_step (if c then u else v)
   if_step true u v u' v' p q = p
   if_step false u v u' v' p q = q
 
-  if_result : (c : Bool) (u v : Result F WalkError) (u' v' : Result G WalkError) → u' ≡ lift_result u → v' ≡ lift_result v → (if c then u' else v') ≡ lift_result (if c then u else v)
+  if_result : (c : Bool) (u v : Result F WalkError) (u' v' : Result G WalkError) → u' ≡ lift_result u
+      → v' ≡ lift_result v → (if c then u' else v') ≡ lift_result (if c then u else v)
   if_result true u v u' v' p q = p
   if_result false u v u' v' p q = q
 
@@ -47,10 +52,15 @@ module _ {F G : Type 0} (a : Namespace F) (b : Namespace G) (h : F → G) where
   if_trail true s = ap (λ (v : G). record { current = v; ancestors = [] }) (root_lift s.current s.ancestors)
   if_trail false s = refl
 
-  module _ (node : (x : F) → b.node (h x) ≡ a.node x) (bytes : (x : F) → b.bytes (h x) ≡ a.bytes x) (entry : (x : F) (n : List ℕ) → b.entry (h x) n ≡ option_map h (a.entry x n)) where
-    found_lift : (st : Bool) (s : Trail F) (o : Option F) → found b st (lift s) (option_map h o) ≡ lift_step (found a st s o)
+  module _ (node : (x : F) → b.node (h x) ≡ a.node x) (bytes : (x : F) → b.bytes (h x) ≡ a.bytes x)
+      (entry : (x : F) (n : List ℕ) → b.entry (h x) n ≡ option_map h (a.entry x n)) where
+    found_lift : (st : Bool) (s : Trail F) (o : Option F)
+        → found b st (lift s) (option_map h o) ≡ lift_step (found a st s o)
     found_lift st s None = refl
-    found_lift st s (Some x) = ap (λ (v : Node). if is_link v && not st then follows (h x) else goes (enter (lift s) (h x))) (node x) ∙ if_step (is_link (a.node x) && not st) (follows x) (goes (enter s x)) (follows (h x)) (goes (enter (lift s) (h x))) refl refl
+    found_lift st s (Some x) = ap (λ (v : Node). if is_link v && not st then follows (h x)
+        else goes (enter (lift s) (h x))) (node x)
+        ∙ if_step (is_link (a.node x) && not st) (follows x) (goes (enter s x)) (follows (h x))
+        (goes (enter (lift s) (h x))) refl refl
 
     step_lift : (s : Trail F) (p : List ℕ) (st : Bool) → step b (lift s) p st ≡ lift_step (step a s p st)
     unfolding step
@@ -70,39 +80,49 @@ module _ {F G : Type 0} (a : Namespace F) (b : Namespace G) (h : F → G) where
     link_lift x = ap (λ (v : List ℕ). contents_of v (b.node (h x))) (bytes x) ∙ ap (contents_of (a.bytes x)) (node x)
 
     after_lift : (s : Trail F) (x : F) → after_link b (lift s) (h x) ≡ lift (after_link a s x)
-    after_lift s x = ap (λ (v : List ℕ). if begins_with_slash v then to_root (lift s) else lift s) (link_lift x) ∙ if_trail (begins_with_slash (link_text_at a x)) s
+    after_lift s x = ap (λ (v : List ℕ). if begins_with_slash v then to_root (lift s) else lift s) (link_lift x)
+        ∙ if_trail (begins_with_slash (link_text_at a x)) s
 
-    onward_lift : (go : Trail F → Result F WalkError) (go' : Trail G → Result G WalkError) (to : F → Result F WalkError) (to' : G → Result G WalkError) (e : Step F)
-        → ((s : Trail F) → go' (lift s) ≡ lift_result (go s)) → ((x : F) → to' (h x) ≡ lift_result (to x)) → onward go' to' (lift_step e) ≡ lift_result (onward go to e)
+    onward_lift : (go : Trail F → Result F WalkError) (go' : Trail G → Result G WalkError) (to : F → Result F WalkError)
+        (to' : G → Result G WalkError) (e : Step F)
+        → ((s : Trail F) → go' (lift s) ≡ lift_result (go s)) → ((x : F) → to' (h x) ≡ lift_result (to x))
+        → onward go' to' (lift_step e) ≡ lift_result (onward go to e)
     onward_lift go go' to to' (fails e) f k = refl
     onward_lift go go' to to' (goes t) f k = f t
     onward_lift go go' to to' (follows x) f k = k x
 
-    resolve_lift : (n : ℕ) (follow : Bool) (s : Trail F) (ps : List (List ℕ)) → resolve b follow n (lift s) ps ≡ lift_result (resolve a follow n s ps)
+    resolve_lift : (n : ℕ) (follow : Bool) (s : Trail F) (ps : List (List ℕ))
+        → resolve b follow n (lift s) ps ≡ lift_result (resolve a follow n s ps)
     unfolding resolve
     resolve_lift zero follow s [] = refl
     resolve_lift (suc n) follow s [] = refl
     resolve_lift zero follow s (p ∷ rest) =
         ap (onward (λ t. resolve b follow zero t rest) (λ x. Err Eloop)) (step_lift s p (is_empty rest && not follow))
-        ∙ onward_lift (λ t. resolve a follow zero t rest) (λ t. resolve b follow zero t rest) (λ x. Err Eloop) (λ x. Err Eloop) (step a s p (is_empty rest && not follow))
+        ∙ onward_lift (λ t. resolve a follow zero t rest) (λ t. resolve b follow zero t rest) (λ x. Err Eloop)
+        (λ x. Err Eloop) (step a s p (is_empty rest && not follow))
         (λ t. resolve_lift zero follow t rest) (λ x. refl)
     resolve_lift (suc n) follow s (p ∷ rest) =
-        ap (onward (λ t. resolve b follow (suc n) t rest) (λ x. resolve b follow n (after_link b (lift s) x) (components (link_text_at b x) ++ rest))) (step_lift s p (is_empty rest && not follow))
+        ap (onward (λ t. resolve b follow (suc n) t rest)
+        (λ x. resolve b follow n (after_link b (lift s) x) (components (link_text_at b x) ++ rest)))
+        (step_lift s p (is_empty rest && not follow))
         ∙ onward_lift (λ t. resolve a follow (suc n) t rest) (λ t. resolve b follow (suc n) t rest)
-        (λ x. resolve a follow n (after_link a s x) (components (link_text_at a x) ++ rest)) (λ x. resolve b follow n (after_link b (lift s) x) (components (link_text_at b x) ++ rest))
+        (λ x. resolve a follow n (after_link a s x) (components (link_text_at a x) ++ rest))
+        (λ x. resolve b follow n (after_link b (lift s) x) (components (link_text_at b x) ++ rest))
         (step a s p (is_empty rest && not follow))
         (λ t. resolve_lift (suc n) follow t rest)
         (λ x. ap (λ (v : Trail G). resolve b follow n v (components (link_text_at b (h x)) ++ rest)) (after_lift s x)
         ∙ (ap (λ (v : List ℕ). resolve b follow n (lift (after_link a s x)) (components v ++ rest)) (link_lift x)
         ∙ resolve_lift n follow (after_link a s x) (components (link_text_at a x) ++ rest)))
 
-    pub walk_lift : b.root ≡ h a.root → (path : List ℕ) (follow : Bool) → resolution b path follow ≡ lift_result (resolution a path follow)
+    pub walk_lift : b.root ≡ h a.root → (path : List ℕ) (follow : Bool)
+        → resolution b path follow ≡ lift_result (resolution a path follow)
     unfolding resolution
     walk_lift r path follow =
         if_result (nat_lt 4095 (length path)) _ _ _ _ refl
         (if_result (is_empty path) _ _ _ _ refl
         (if_result (not (begins_with_slash path)) _ _ _ _ refl
-        (ap (λ (v : G). resolve b follow 40 (record { current = v; ancestors = [] }) (components path)) r ∙ resolve_lift 40 follow (record { current = a.root; ancestors = [] }) (components path))))
+        (ap (λ (v : G). resolve b follow 40 (record { current = v; ancestors = [] }) (components path)) r
+        ∙ resolve_lift 40 follow (record { current = a.root; ancestors = [] }) (components path))))
 
   pub ok_by : (r : Result F WalkError) (y : G) → lift_result r ≡ Ok y → (x : F) × (r ≡ Ok x) × (h x ≡ y)
   ok_by (Ok x) y e = (x, refl, cc)
@@ -121,8 +141,12 @@ unfolding shown
 shown_alone m None = refl
 shown_alone m (Some x) = refl
 
-pub walk_alone : (m : Image) (path : List ℕ) (follow : Bool) → resolution (graft (m ∷ []) []) path follow ≡ lift_result (tree_namespace m.bytes m.tree) (graft (m ∷ []) []) alone (resolution (tree_namespace m.bytes m.tree) path follow)
-walk_alone m path follow = walk_lift (tree_namespace m.bytes m.tree) (graft (m ∷ []) []) alone (λ x. refl) (λ x. refl) (λ x n. shown_alone m (find_entry (entries_of x) n)) refl path follow
+pub walk_alone : (m : Image) (path : List ℕ) (follow : Bool)
+    → resolution (graft (m ∷ []) []) path follow
+    ≡ lift_result (tree_namespace m.bytes m.tree) (graft (m ∷ []) []) alone
+    (resolution (tree_namespace m.bytes m.tree) path follow)
+walk_alone m path follow = walk_lift (tree_namespace m.bytes m.tree) (graft (m ∷ []) []) alone (λ x. refl) (λ x. refl)
+    (λ x n. shown_alone m (find_entry (entries_of x) n)) refl path follow
 
 pub no_mounts : (ms : List Image) → are_mounts ms [] ≡ true
 unfolding are_mounts
@@ -132,12 +156,17 @@ pub one_shallow : (m : Image) → levels m.tree ≤ 65 → AreShallow (m ∷ [])
 one_shallow m l zero = l
 one_shallow m l (suc i) = omega arith
 
--- where a path leads in one image
-pub one_ok : (m : Image) (p : Location) (s : MountedNode) (path : List ℕ) (follow : Bool) → resolution (graft (m ∷ []) []) path follow ≡ Ok s → NamesAt (m ∷ []) p s
+-- the place to which a path leads in one image
+pub one_ok : (m : Image) (p : Location) (s : MountedNode) (path : List ℕ) (follow : Bool)
+    → resolution (graft (m ∷ []) []) path follow ≡ Ok s → NamesAt (m ∷ []) p s
     → (x : Node) × (resolution (tree_namespace m.bytes m.tree) path follow ≡ Ok x) × (image_node m p.node.0 ≡ Some x)
 one_ok m p s path follow e i =
-    let r = ok_by (tree_namespace m.bytes m.tree) (graft (m ∷ []) []) alone (resolution (tree_namespace m.bytes m.tree) path follow) s (sym (walk_alone m path follow) ∙ e) in
+    let r = ok_by (tree_namespace m.bytes m.tree) (graft (m ∷ []) []) alone
+    (resolution (tree_namespace m.bytes m.tree) path follow) s (sym (walk_alone m path follow) ∙ e) in
     (r.0, r.1, one_node m p.image p.node.0 s.node i.node ∙ ap (λ (v : MountedNode). Some v.node) (sym r.2))
 
-pub one_err : (m : Image) (e : WalkError) (path : List ℕ) (follow : Bool) → resolution (graft (m ∷ []) []) path follow ≡ Err e → resolution (tree_namespace m.bytes m.tree) path follow ≡ Err e
-one_err m e path follow k = err_by (tree_namespace m.bytes m.tree) (graft (m ∷ []) []) alone (resolution (tree_namespace m.bytes m.tree) path follow) e (sym (walk_alone m path follow) ∙ k)
+pub one_err : (m : Image) (e : WalkError) (path : List ℕ) (follow : Bool)
+    → resolution (graft (m ∷ []) []) path follow ≡ Err e
+    → resolution (tree_namespace m.bytes m.tree) path follow ≡ Err e
+one_err m e path follow k = err_by (tree_namespace m.bytes m.tree) (graft (m ∷ []) []) alone
+    (resolution (tree_namespace m.bytes m.tree) path follow) e (sym (walk_alone m path follow) ∙ k)

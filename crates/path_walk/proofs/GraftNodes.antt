@@ -1,5 +1,6 @@
 -- What numbers of images and nodes name.
-use Rattle.std.proofs.Common.{◌≡◌, ℕ, zero, suc, ◌<◌, ◌≤◌, true, List, [], ◌∷◌, length, map, Some, None, refl, ap, ◌∙◌, arith, get_or}
+use Rattle.std.proofs.Common.{◌≡◌, ℕ, zero, suc, ◌<◌, ◌≤◌, true, List, [], ◌∷◌, length, map, Some, None, refl, ap, ◌∙◌}
+use Rattle.std.proofs.Common.{arith, get_or}
 use Rattle.std.proofs.lemmas.List.{length-map}
 use Rattle.std.specs.Prelude.{slice_index, slice_set}
 use Rattle.rom_tree.specs.Tree.{Node, ino_of, is_link, entries_of, places_of}
@@ -23,31 +24,36 @@ node_in-number (m ∷ ms) zero n x h = node_number m n x h
 node_in-number (m ∷ ms) (suc i) n x h = node_in-number ms i n x h
 
 -- the root, and the node of an entry
-pub node_in-root : (ms : List Image) (i n : ℕ) → i < length ms → n ≡ ino_of (tree_in ms i) → node_in ms i n ≡ Some (tree_in ms i)
+pub node_in-root : (ms : List Image) (i n : ℕ) → i < length ms → n ≡ ino_of (tree_in ms i)
+    → node_in ms i n ≡ Some (tree_in ms i)
 node_in-root [] i n l e = absurd (omega (arith, l))
 node_in-root (m ∷ ms) zero n l e = root_node m n e
 node_in-root (m ∷ ms) (suc i) n l e = node_in-root ms i n (omega (arith, l)) e
 
-pub node_in-named : (ms : List Image) (i n : ℕ) (d x : Node) (name : List ℕ) → node_in ms i n ≡ Some d → find_entry (entries_of d) name ≡ Some x → node_in ms i (ino_of x) ≡ Some x
+pub node_in-named : (ms : List Image) (i n : ℕ) (d x : Node) (name : List ℕ) → node_in ms i n ≡ Some d
+    → find_entry (entries_of d) name ≡ Some x → node_in ms i (ino_of x) ≡ Some x
 node_in-named [] i n d x name h f = absurd (none_some d h)
 node_in-named (m ∷ ms) zero n d x name h f = named_node m n d x name h f
 node_in-named (m ∷ ms) (suc i) n d x name h f = node_in-named ms i n d x name h f
 
 -- a link's text has 1 to 4095 bytes
-text_length : (m : Image) (n : ℕ) (x : Node) → image_node m n ≡ Some x → is_link x ≡ true → (0 < length (contents_of m.bytes x)) × (length (contents_of m.bytes x) ≤ 4095)
+text_length : (m : Image) (n : ℕ) (x : Node) → image_node m n ≡ Some x → is_link x ≡ true
+    → (0 < length (contents_of m.bytes x)) × (length (contents_of m.bytes x) ≤ 4095)
 text_length m n x e l =
     let i = m.links x (node_at-some m.tree n x e).within l in
     let k = length-map (places_of x) (λ (p : ℕ). slice_index m.bytes p) in
     (omega (arith, k, i), omega (arith, k, i))
 
-pub link_length : (ms : List Image) (i n : ℕ) (x : Node) → node_in ms i n ≡ Some x → is_link x ≡ true → (0 < length (contents_of (bytes_in ms i) x)) × (length (contents_of (bytes_in ms i) x) ≤ 4095)
+pub link_length : (ms : List Image) (i n : ℕ) (x : Node) → node_in ms i n ≡ Some x → is_link x ≡ true
+    → (0 < length (contents_of (bytes_in ms i) x)) × (length (contents_of (bytes_in ms i) x) ≤ 4095)
 link_length [] i n x h l = absurd (none_some x h)
 link_length (m ∷ ms) zero n x h l = text_length m n x h l
 link_length (m ∷ ms) (suc i) n x h l = link_length ms i n x h l
 
 -- the nodes and bytes of one image of a slice
 module _ {T : Type 0} (f : T → Image) where
-  pub map_node : (xs : List T) (i n : ℕ) (d : T) (x : Node) → node_in (map f xs) i n ≡ Some x → image_node (f (get_or xs i d)) n ≡ Some x
+  pub map_node : (xs : List T) (i n : ℕ) (d : T) (x : Node) → node_in (map f xs) i n ≡ Some x
+      → image_node (f (get_or xs i d)) n ≡ Some x
   map_node [] i n d x h = absurd (none_some x h)
   map_node (y ∷ ys) zero n d x h = h
   map_node (y ∷ ys) (suc i) n d x h = map_node ys i n d x h
@@ -75,7 +81,8 @@ module _ {T : Type 0} (f : T → Image) where
   pub place_within : (xs : List T) (i n : ℕ) (x : Node) → node_in (map f xs) i n ≡ Some x → i < length xs
   place_within xs i n x h = map_below xs i (node_below (map f xs) i n x h)
 
-  pub place_node : (xs : List T) (i n : ℕ) (y : T) (x : Node) → y ≡ get_or xs i y → node_in (map f xs) i n ≡ Some x → image_node (f y) n ≡ Some x
+  pub place_node : (xs : List T) (i n : ℕ) (y : T) (x : Node) → y ≡ get_or xs i y → node_in (map f xs) i n ≡ Some x
+      → image_node (f y) n ≡ Some x
   place_node xs i n y x e h = ap (λ v. image_node (f v) n) e ∙ map_node xs i n y x h
 
 -- one image alone

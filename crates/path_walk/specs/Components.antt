@@ -1,15 +1,18 @@
--- The components of a text, which is a path or the text of a symbolic link (POSIX.1-2017, 4.13 "Pathname
--- Resolution"): its pieces between slashes. Slashes in a row count as one, so that empty pieces are left
--- out. Behind a slash at the end one more component, dot, is added: what stands before that slash has
--- then to be a directory. A slash is the byte 47, and a dot 46.
-use Rattle.std.specs.Prelude.{ℕ, ◌==◌, Bool, true, false, not, filter, List, [], ◌∷◌, ◌++◌, if◌then◌else◌}
+-- `components`: the components of a path or of the text of a symbolic link, which are its pieces
+-- between slashes (POSIX.1-2017, 4.13 "Pathname Resolution").
+--
+-- Slashes in a row count as one, so empty pieces are left out. A slash at the end adds one more
+-- component, dot: the component before that slash must then be a directory. A slash is the byte 47,
+-- and a dot 46.
+use Rattle.std.specs.Prelude.{ℕ, ◌==◌, Bool, true, false, not, filter, List, [], ◌∷◌, ◌++◌}
+use Rattle.std.specs.Prelude.{if◌then◌else◌}
 use Rattle.rom_tree.specs.Dots.{dot}
 
 abbrev pub is_empty : {A : Type 0} → List A → Bool
 is_empty [] = true
 is_empty (x ∷ xs) = false
 
--- a byte more in front of the first piece
+-- one more byte in front of the first piece
 abbrev pub begin_piece : ℕ → List (List ℕ) → List (List ℕ)
 begin_piece c [] = (c ∷ []) ∷ []
 begin_piece c (p ∷ ps) = (c ∷ p) ∷ ps

@@ -1,8 +1,10 @@
--- Why a path leads nowhere. The names are those of POSIX.1-2017, System Interfaces 2.3, "Error Numbers".
--- The numbers are this project's own.
+-- `error_number`, `error_name`: the number and the name of each error of a path. The names are
+-- those of POSIX.1-2017, System Interfaces 2.3, "Error Numbers". The numbers are this project's
+-- own.
 use Rattle.std.specs.Prelude.{ℕ, List, codes}
 use Rattle.path_walk.specs.declared.error.WalkError.{WalkError}
-use Rattle.path_walk.specs.declared.error.WalkError.TheVariants.{Enoent, Enotdir, Eloop, Enametoolong, Einval}
+use Rattle.path_walk.specs.declared.error.WalkError.TheVariants.{Enoent, Enotdir, Eloop}
+use Rattle.path_walk.specs.declared.error.WalkError.TheVariants.{Enametoolong, Einval}
 
 abbrev pub error_number : WalkError → ℕ
 error_number Enoent = 1

@@ -1,7 +1,13 @@
--- Several images as one tree: that of image 0, with the root of each mounted image in place of the
--- directory that it covers, under the same name. As in Linux, path_resolution(7), "Mount points", dot-dot at
--- a mounted root leads to the parent of the covered directory. What may be mounted is this project's own.
-use Rattle.std.specs.Prelude.{◌≡◌, ℕ, zero, suc, ◌≤◌, ◌==◌, nat_lt, Bool, true, false, ◌&&◌, not, List, [], ◌∷◌, length, find, Option, Some, None, option_map}
+-- `graft`: several images with their mounts as a `Namespace`. `are_mounts`: the conditions on
+-- mounts. `Names`: the numbers of an image and of a node name a node of the graft. `IsUncovered`:
+-- no mount covers it. (As in Linux, path_resolution(7), "Mount points". What may be mounted is this
+-- project's own.)
+--
+-- The graft is the tree of image 0, with the root of each mounted image in place of the directory
+-- that it covers, under the same name. Dot-dot at a mounted root leads to the parent of the covered
+-- directory.
+use Rattle.std.specs.Prelude.{◌≡◌, ℕ, zero, suc, ◌≤◌, ◌==◌, nat_lt, Bool, true, false, ◌&&◌, not}
+use Rattle.std.specs.Prelude.{List, [], ◌∷◌, length, find, Option, Some, None, option_map}
 use Rattle.rom_tree.specs.Tree.{Node, node, fifo, ino_of, is_directory, entries_of, levels}
 use Rattle.rom_tree.specs.Image.{Image, image_node, find_entry}
 use Rattle.path_walk.specs.declared.mount.Mount.{Mount}
@@ -12,7 +18,7 @@ pub record MountedNode : Type 0 where
   pub image : ℕ
   pub node : Node
 
--- the tree of the image of a number; where there is no such image, a node that is never met
+-- the tree of the image of a number; if there is no such image, a node that is never met
 abbrev pub tree_in : List Image → ℕ → Node
 tree_in [] i = node (record { ino = 0; mode = 0; uid = 0; gid = 0; major = 0; minor = 0 }) fifo
 tree_in (m ∷ ms) zero = m.tree
@@ -39,11 +45,11 @@ pub record Names (ms : List Image) (i n : ℕ) (s : MountedNode) : Type 0 where
 abbrev pub covers : ℕ → ℕ → Mount → Bool
 covers i n u = (u.on == i) && (u.dir.0 == n)
 
--- no mount does
+-- no mount covers it
 abbrev pub IsUncovered : List Mount → ℕ → ℕ → Type 0
 IsUncovered us i n = find (covers i n) us ≡ None
 
--- what stands at a node: the root of the image that covers it, or the node itself
+-- the node that is seen at a node: the root of the image that covers it, or the node itself
 abbrev pub over : List Image → MountedNode → Option Mount → MountedNode
 over ms s None = s
 over ms s (Some u) = record { image = u.image; node = tree_in ms u.image }
@@ -60,8 +66,8 @@ graft ms us = record {
       (find_entry (entries_of s.node) name);
 }
 
--- What mounts are: each covers a directory of an image, not its root, by an image other than 0, and no
--- directory and no image stands twice.
+-- The conditions on mounts: each covers a directory of an image, except its root, by an image other
+-- than 0, and no directory and no image occurs twice.
 abbrev pub is_directory_node : Option Node → Bool
 is_directory_node None = false
 is_directory_node (Some x) = is_directory x
@@ -85,6 +91,6 @@ unfoldable pub are_mounts : List Image → List Mount → Bool
 are_mounts ms [] = true
 are_mounts ms (u ∷ us) = is_mount ms u && (are_apart u us && are_mounts ms us)
 
--- directories lie at most 64 deep in each image
+-- directories are at most 64 deep in each image
 abbrev pub AreShallow : List Image → Type 0
 AreShallow ms = (i : ℕ) → levels (tree_in ms i) ≤ 65

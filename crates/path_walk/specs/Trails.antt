@@ -1,6 +1,8 @@
--- What the variables of a walk stand for: places, their stack, and the texts that are still to be read.
--- (This project's own.)
-use Rattle.std.specs.Prelude.{◌≡◌, ℕ, suc, ◌+◌, ◌*◌, ◌≤◌, ◌<◌, Bool, true, List, [], ◌∷◌, ◌++◌, length, Option, Some, None, Result, Ok, Err, MatchResult}
+-- The meaning of a walk's variables: places, their stack, and the texts that are still to be read.
+-- `IsTrail`: a place and a stack of places are a trail in the graft. `Leads`, `IsFound`: the result
+-- of one component, and of a path. (This project's own.)
+use Rattle.std.specs.Prelude.{◌≡◌, ℕ, suc, ◌+◌, ◌*◌, ◌≤◌, ◌<◌, Bool, true, List, [], ◌∷◌, ◌++◌}
+use Rattle.std.specs.Prelude.{length, Option, Some, None, Result, Ok, Err, MatchResult}
 use Rattle.std.specs.Borrow.{Bor}
 use base.Fml.{GName}
 use Rattle.rom_tree.specs.Tree.{Node, levels, is_link}
@@ -29,12 +31,12 @@ pub data IsMember (u : Mount) : List Mount → Type 0 where
   first : {us : List Mount} → IsMember u (u ∷ us)
   later : {v : Mount} {us : List Mount} → IsMember u us → IsMember u (v ∷ us)
 
--- so many mounts lead from image 0 to the image of a number
+-- r mounts lead from image 0 to the image of a number
 pub data IsLed (us : List Mount) : ℕ → ℕ → Type 0 where
   origin : IsLed us 0 0
   onto : {r : ℕ} (u : Mount) → IsMember u us → IsLed us r u.on → IsLed us (suc r) u.image
 
--- Where n places are the ancestors of a node, the stack of 513 has room for those of all directories
+-- If n places are the ancestors of a node, the stack of 513 has room for those of all directories
 -- below it: each image on the way adds at most 64, and the first 65.
 pub record IsFitting (us : List Mount) (s : MountedNode) (n : ℕ) : Type 0 where
   pub deep : ℕ
@@ -46,40 +48,45 @@ abbrev pub AreFitting : List Mount → MountedNode → List MountedNode → Type
 AreFitting us s [] = IsFitting us s 0
 AreFitting us s (t ∷ ts) = IsFitting us s (length (t ∷ ts)) × AreFitting us t ts
 
--- the places name the nodes, of which the first stands last among the places
+-- the places name the nodes; the first node is that of the last place
 abbrev pub AreAncestors : List Image → List Location → List MountedNode → Type 0
 AreAncestors ms ps [] = ps ≡ []
 AreAncestors ms ps (s ∷ ss) =
-    (front : List Location) × (p : Location) × (ps ≡ front ++ p ∷ []) × NamesAt ms p s × AreAncestors ms front ss
+    (front : List Location) × (p : Location) × (ps ≡ front ++ p ∷ []) × NamesAt ms p s
+    × AreAncestors ms front ss
 
 -- a place and a stack of places are a trail in the graft
-pub record IsTrail (ms : List Image) (us : List Mount) (current : Location) (ancestors : List Location)
+pub record IsTrail (ms : List Image) (us : List Mount) (current : Location)
+    (ancestors : List Location)
     (s : Trail MountedNode) : Type 0 where
   pub named : NamesAt ms current s.current
   pub all_named : AreAncestors ms ancestors s.ancestors
   pub fit : AreFitting us s.current s.ancestors
   pub root : root_of s.current s.ancestors ≡ (graft ms us).root
 
--- what one component led to
-abbrev pub Leads : List Image → List Mount → Trail MountedNode → Step MountedNode → Location → List Location
+-- the place to which one component leads
+abbrev pub Leads : List Image → List Mount → Trail MountedNode → Step MountedNode → Location
+    → List Location
     → Result (Option Location) WalkError → Type 0
 Leads ms us s t current ancestors (Err e) = t ≡ fails e
-Leads ms us s t current ancestors (Ok None) = (u : Trail MountedNode) × (t ≡ goes u) × IsTrail ms us current ancestors u
+Leads ms us s t current ancestors (Ok None) =
+    (u : Trail MountedNode) × (t ≡ goes u) × IsTrail ms us current ancestors u
 Leads ms us s t current ancestors (Ok (Some p)) =
-    (x : MountedNode) × (t ≡ follows x) × NamesAt ms p x × (is_link x.node ≡ true) × IsTrail ms us current ancestors s
+    (x : MountedNode) × (t ≡ follows x) × NamesAt ms p x × (is_link x.node ≡ true)
+    × IsTrail ms us current ancestors s
 
--- where a path led to
+-- the place to which a path leads
 abbrev pub IsFound : List Image → List Mount → List ℕ → Bool → Result Location WalkError → Type 0
 IsFound ms us path follow r = MatchResult r
     (λ p. (s : MountedNode) × (resolution (graft ms us) path follow ≡ Ok s) × NamesAt ms p s)
     (λ e. resolution (graft ms us) path follow ≡ Err e)
 
--- the components of all unread texts, those of the last text first
+-- the components of all texts that are still to be read, those of the last text first
 unfoldable pub unread_components : List (Bor (List ℕ)) → List (List ℕ)
 unread_components [] = []
 unread_components (u ∷ us) = unread_components us ++ components u.now
 
--- their bytes
+-- the number of their bytes
 unfoldable pub unread_bytes : List (Bor (List ℕ)) → ℕ
 unread_bytes [] = 0
 unread_bytes (u ∷ us) = length u.now + unread_bytes us

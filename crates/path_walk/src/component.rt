@@ -1,12 +1,13 @@
-//! The components of the texts that are still to be read.
-ghost use Rattle.std.specs.Prelude.{◌≡◌, ◌≢◌, ◌∷◌, [], ◌<◌, ◌≤◌, ℕ, MatchOption, length, slice_index};
+//! The components of the texts that a walk has still to read.
+ghost use Rattle.std.specs.Prelude.{◌≡◌, ◌≢◌, ◌∷◌, [], ◌<◌, ◌≤◌, ℕ, MatchOption, length};
+ghost use Rattle.std.specs.Prelude.{slice_index};
 ghost use Rattle.path_walk.specs.Components.{components};
 ghost use Rattle.path_walk.specs.Trails.{unread_components, unread_bytes, NoneEmpty};
 
 use arrayvec::ArrayVec;
 use memchr::memchr;
 
-/// How many slashes stand in front.
+/// The number of slashes at the front.
 fn leading_slashes(text: &[u8]) -> usize
     ensures within { result ≤ length text.now }
     ensures before { (k : ℕ) → k < result → slice_index text.now k ≡ 47 }
@@ -20,7 +21,7 @@ fn leading_slashes(text: &[u8]) -> usize
     text.len()
 }
 
-/// How many bytes stand before the first slash.
+/// The number of bytes before the first slash.
 fn component_len(text: &[u8]) -> usize
     ensures within { result ≤ length text.now }
     ensures before { (k : ℕ) → k < result → slice_index text.now k ≢ 47 }
@@ -32,7 +33,7 @@ fn component_len(text: &[u8]) -> usize
     }
 }
 
-/// The first component of a text, and what follows it.
+/// The first component of a text, and the text after it.
 fn next_component<'b>(text: &'b [u8]) -> (&'b [u8], &'b [u8])
     requires { 0 < length text.now }
     ensures components { components text.now ≡ result.0.now ∷ components result.1.now }

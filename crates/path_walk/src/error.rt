@@ -1,16 +1,17 @@
-//! Why a path leads nowhere.
+//! The errors of paths.
 ghost use Rattle.std.specs.Prelude.{◌≡◌};
 ghost use Rattle.path_walk.specs.Errors.{error_name, error_number};
 
 use thiserror::Error;
 
-/// Why a path leads nowhere, by the names of POSIX. It is shown as its number and its name.
+/// The reason why a path leads nowhere, by the names of POSIX.1-2017. It is shown as its number and
+/// its name.
 #[derive(Clone, Copy, Debug, PartialEq, Eq, Error)]
 pub enum WalkError {
     /// The path is empty, or a directory has no entry of a component's name.
     #[error("1 ENOENT")]
     Enoent,
-    /// A component stands behind what is no directory.
+    /// A component follows something that is no directory.
     #[error("2 ENOTDIR")]
     Enotdir,
     /// More than 40 symbolic links were met.
@@ -19,13 +20,13 @@ pub enum WalkError {
     /// The path has more than 4095 bytes, or a component more than 255.
     #[error("4 ENAMETOOLONG")]
     Enametoolong,
-    /// The path begins with no slash.
+    /// The path does not begin with a slash.
     #[error("5 EINVAL")]
     Einval,
 }
 
 impl WalkError {
-    /// Its number, from 1 to 5. The numbers are this project's own.
+    /// Returns its number, from 1 to 5. The numbers are this project's own.
     pub fn number(self) -> u32
         ensures { result ≡ error_number self }
     {
@@ -38,7 +39,7 @@ impl WalkError {
         }
     }
 
-    /// Its name in POSIX, as `ENOENT`.
+    /// Returns its name in POSIX.1-2017, as `ENOENT`.
     pub fn name(self) -> &'static str
         ensures { result.now ≡ error_name self }
     {

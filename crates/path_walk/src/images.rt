@@ -1,5 +1,6 @@
 //! One image or several, by their numbers.
-ghost use Rattle.std.specs.Prelude.{◌≡◌, ◌∷◌, [], ◌<◌, ℕ, true, length, map, Some, None, MatchOption};
+ghost use Rattle.std.specs.Prelude.{◌≡◌, ◌∷◌, [], ◌<◌, ℕ, true, length, map, Some, None};
+ghost use Rattle.std.specs.Prelude.{MatchOption};
 ghost use Rattle.rom_tree.specs.Tree.{Node, ino_of, is_directory, is_link, entries_of};
 ghost use Rattle.rom_tree.specs.Image.{find_entry, contents_of};
 ghost use Rattle.path_walk.specs.Graft.{MountedNode, tree_in, bytes_in};
@@ -8,7 +9,7 @@ ghost use Rattle.path_walk.specs.Trails.{Held, NamesAt, HasNodeAt};
 use crate::mount::Location;
 use rom_tree::{NodeId, TreeImage, Viewed, is_directory_at, is_link_at, link_text};
 
-/// What is seen as several images.
+/// A value that is viewed as several images.
 pub(crate) trait Gathered {
     // Their bytes and trees, and the reference that lends them.
     ghost held: { Self → Held };
@@ -16,31 +17,31 @@ pub(crate) trait Gathered {
 
 /// Images that are reached by their numbers.
 pub(crate) trait Images<'a>: Gathered {
-    /// Whether a place is a directory.
+    /// Returns whether a place is a directory.
     fn is_directory_in(&self, place: Location) -> bool
         requires { HasNodeAt (Self.held self.now).images place (λ x. Unit {0}) }
         ensures { (s : MountedNode) → NamesAt (Self.held self.now).images place s
             → result ≡ is_directory s.node };
 
-    /// Whether a place is a symbolic link.
+    /// Returns whether a place is a symbolic link.
     fn is_link_in(&self, place: Location) -> bool
         requires { HasNodeAt (Self.held self.now).images place (λ x. Unit {0}) }
         ensures { (s : MountedNode) → NamesAt (Self.held self.now).images place s
             → result ≡ is_link s.node };
 
-    /// A link's text.
+    /// Returns a link's text.
     fn link_text_in(&self, place: Location) -> &'a [u8]
         requires { HasNodeAt (Self.held self.now).images place (λ x. is_link x ≡ true) }
         ensures { (s : MountedNode) → NamesAt (Self.held self.now).images place s
             → result.now ≡ contents_of (bytes_in (Self.held self.now).images s.image) s.node };
 
-    /// The root of an image.
+    /// Returns the root of an image.
     fn root_in(&self, image: u32) -> NodeId
         requires { image < length (Self.held self.now).images }
         ensures { result.0 ≡ ino_of (tree_in (Self.held self.now).images image) };
 
-    /// The node that a directory's entry of this name has, in the same image. The images stay as
-    /// they are.
+    /// Returns the node of a directory's entry of this name, in the same image, or `None` if there
+    /// is no such entry. The images do not change.
     fn find_in(&mut self, place: Location, name: &[u8]) -> Option<NodeId>
         requires { HasNodeAt (Self.held self.old).images place (λ x. is_directory x ≡ true) }
         ensures stays { Self.held self.new ≡ Self.held self.old }
@@ -82,7 +83,7 @@ impl<'s, 'a, T: TreeImage<'a>> Images<'a> for One<'s, T> {
     }
 }
 
-/// The images of a slice, by their indices.
+/// The images of a slice, by their index.
 #[derive(Drop)]
 pub(crate) struct Several<'s, T> {
     pub(crate) images: &'s mut [T],

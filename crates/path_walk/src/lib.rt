@@ -1,10 +1,10 @@
-//! Where paths lead in a read-only file system image, and in several images that are mounted in one
-//! another.
+//! `walk` and `walk_mounts`: the node to which a path leads, or its error; in one image, or in
+//! several that are mounted in one another. No call allocates memory.
 //!
-//! `specs/Resolution.antt` says where a path leads, after POSIX.1-2017, 4.13 "Pathname Resolution",
-//! and `specs/Graft.antt` what mounts are. Proved, for each `rom_tree::TreeImage` and for up
-//! to eight of them: `walk` and `walk_mounts` answer with the node that the path leads to, or with
-//! the error that it has, and the images stay as they are. No call takes memory.
+//! Proved, for each `rom_tree::TreeImage` and for up to eight of them: the result is the node to
+//! which the path leads, or the error that it has, and the images do not change.
+//! `specs/Resolution.antt` defines where a path leads, after POSIX.1-2017, 4.13 "Pathname
+//! Resolution", and `specs/Graft.antt` defines mounts.
 #![tactic(auto)]
 
 mod component;

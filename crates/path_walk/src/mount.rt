@@ -1,4 +1,4 @@
-//! Where images are mounted.
+//! Mounts of images in one another.
 use rom_tree::NodeId;
 
 /// A mounted image: the root of image number `image` covers the directory `dir` of image number

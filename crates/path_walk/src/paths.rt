@@ -1,10 +1,13 @@
 //! The walk along a path.
-ghost use Rattle.std.specs.Prelude.{Bool, ◌≡◌, ◌<◌, ◌≤◌, true, MatchResult, IfOk, Ok, Err, length, Some, map};
+ghost use Rattle.std.specs.Prelude.{Bool, ◌≡◌, ◌<◌, ◌≤◌, true, MatchResult, IfOk, Ok, Err, length};
+ghost use Rattle.std.specs.Prelude.{Some, map};
 ghost use Rattle.rom_tree.specs.Tree.{Node, levels};
 ghost use Rattle.rom_tree.specs.Image.{image_node};
 ghost use Rattle.path_walk.specs.Components.{components};
-ghost use Rattle.path_walk.specs.Resolution.{Namespace, at_root, resolution, resolve, tree_namespace};
-ghost use Rattle.path_walk.specs.Graft.{MountedNode, Names, graft, are_mounts, AreShallow, IsUncovered};
+ghost use Rattle.path_walk.specs.Resolution.{Namespace, at_root, resolution, resolve};
+ghost use Rattle.path_walk.specs.Resolution.{tree_namespace};
+ghost use Rattle.path_walk.specs.Graft.{MountedNode, Names, graft, are_mounts, AreShallow};
+ghost use Rattle.path_walk.specs.Graft.{IsUncovered};
 ghost use Rattle.path_walk.specs.Trails.{IsFound};
 
 use crate::component::take_component;
@@ -19,7 +22,7 @@ const PATH_MAX: usize = 4095;
 
 const LINKS_MAX: u32 = 40;
 
-/// Refuses a path as a whole: by its length, where it is empty, and without a slash in front.
+/// Refuses a path as a whole: if it is too long, is empty, or does not begin with a slash.
 fn check_path(path: &[u8]) -> Result<(), WalkError>
     ensures leads { (g : Namespace MountedNode) (follow : Bool) → MatchResult result
         (λ _. resolution g path.now follow ≡ resolve g follow 40 (at_root g) (components path.now))
@@ -38,8 +41,8 @@ fn check_path(path: &[u8]) -> Result<(), WalkError>
     Ok(())
 }
 
-/// The place that a path leads to. The components that are still to come are those of `unread`: the
-/// rests of the path and of the texts of the links on the way, the last one first.
+/// The place to which a path leads. The components that are still to come are those of `unread`:
+/// the rests of the path and of the texts of the links on the way, the last one first.
 fn find_place<'a, G: Images<'a>>(
     images: &mut G,
     mounts: &[Mount],
@@ -86,23 +89,25 @@ fn find_place<'a, G: Images<'a>>(
     Ok(current)
 }
 
-/// Finds the node that a path leads to. `follow_last` says whether a symbolic link is followed
-/// where it is the last component. The image stays as it is. Directories may lie 64 deep.
+/// Finds the node to which a path leads. `follow_last` is whether a symbolic link is followed if it
+/// is the last component. The image does not change. Directories may be 64 deep.
 ///
 /// The components of the path are looked up one after the other, from the root on: `.` stays, `..`
-/// goes to the parent, which at the root is the root. A link's text is put in place of its name,
-/// and leads on from the root where it begins with a slash, else from the directory that holds the
-/// link (POSIX.1-2017, 4.13 "Pathname Resolution").
+/// goes to the parent, which at the root is the root. A link's text takes the place of its name. It
+/// leads on from the root if it begins with a slash, otherwise from the directory that has the link
+/// (POSIX.1-2017, 4.13 "Pathname Resolution").
 ///
-/// Each name costs one look-up in the list of its directory, and each link that is followed one
-/// reading of its text. A path and 40 links have at most 41 times 2,048 names. No memory is taken.
+/// Each name needs one look-up in the list of its directory, and each link that is followed one
+/// reading of its text. A path and 40 links have at most 41 times 2,048 names. No memory is
+/// allocated.
 ///
 /// # Errors
 ///
-/// First those of the path as a whole, in this order: `Enametoolong` above 4095 bytes, `Enoent`
-/// where it is empty, `Einval` without a slash in front. Then for each component in turn: `Enotdir`
-/// where it stands behind what is no directory, `Enametoolong` above 255 bytes, `Enoent` where the
-/// directory has no entry of that name, `Eloop` where it is the 41st link that is to be followed.
+/// First those of the path as a whole, in this order: `Enametoolong` above 4095 bytes, `Enoent` if
+/// it is empty, `Einval` if it does not begin with a slash. Then for each component in turn:
+/// `Enotdir` if it follows something that is no directory, `Enametoolong` above 255 bytes, `Enoent`
+/// if the directory has no entry of that name, `Eloop` if it is the 41st link that is to be
+/// followed.
 pub fn walk<'a, T: TreeImage<'a>>(
     image: &mut T,
     path: &[u8],
@@ -122,17 +127,17 @@ pub fn walk<'a, T: TreeImage<'a>>(
     Ok(place.node)
 }
 
-/// Finds the node that a path leads to in the tree of several images: that of image 0, with the
-/// root of each mounted image in place of the directory that it covers. Gives the number of the
-/// node's image and the node, which is never a covered directory. The images stay as they are.
+/// Finds the node to which a path leads in the tree of several images: that of image 0, with the
+/// root of each mounted image in place of the directory that it covers. Returns the number of the
+/// node's image and the node, which is never a covered directory. The images do not change.
 ///
-/// There are 1 to 8 images, in which directories may lie 64 deep. Each mount covers a directory of
-/// an image, not its root, by an image other than 0, and no directory and no image stands twice
-/// among them; a mount whose directory is never met has no effect. The path leads as in `walk`.
-/// `..` at a mounted root goes to the parent of the covered directory, and a link whose text begins
-/// with a slash leads on from the root of image 0.
+/// There are 1 to 8 images, in which directories may be 64 deep. Each mount covers a directory of
+/// an image, except its root, by an image other than 0. No directory and no image occurs twice in
+/// the mounts. A mount has no effect if no path leads through its directory. The path leads as in
+/// `walk`. `..` at a mounted root goes to the parent of the covered directory. A link whose text
+/// begins with a slash leads on from the root of image 0.
 ///
-/// Each name costs one look-up in the list of its directory and one look at the mounts.
+/// Each name needs one look-up in the list of its directory and one look at the mounts.
 ///
 /// # Errors
 ///

@@ -1,5 +1,6 @@
-//! One component of a path.
-ghost use Rattle.std.specs.Prelude.{◌≡◌, ◌∷◌, [], ◌≤◌, true, List, length, ◌&&◌, not, if◌then◌else◌, find};
+//! The step of a walk along one component of a path.
+ghost use Rattle.std.specs.Prelude.{◌≡◌, ◌∷◌, [], ◌≤◌, true, List, length, ◌&&◌, not};
+ghost use Rattle.std.specs.Prelude.{if◌then◌else◌, find};
 ghost use Rattle.std.specs.Str.{bytes_eq};
 ghost use Rattle.rom_tree.specs.Image.{Image};
 ghost use Rattle.path_walk.specs.declared.mount.Mount.{Mount};
@@ -38,7 +39,7 @@ fn mounted_on(mounts: &[Mount], image: u32, dir: NodeId) -> Option<Mount>
     None
 }
 
-/// What stands at a node: the root of the image that covers it, or the node itself.
+/// The place that is seen at a node: the root of the image that covers it, or the node itself.
 fn shown_place<'a, G: Images<'a>>(
     images: &G,
     mounts: &[Mount],
@@ -60,8 +61,8 @@ fn shown_place<'a, G: Images<'a>>(
     }
 }
 
-/// Goes where one component leads, and gives a link that is to be followed. `stays` says that this
-/// is the last component and that a link there is not followed.
+/// Goes to the place to which one component leads, or returns a link that is to be followed.
+/// `stays` is whether this is the last component and a link there is not followed.
 pub(crate) fn advance<'a, G: Images<'a>>(
     images: &mut G,
     mounts: &[Mount],
@@ -114,7 +115,7 @@ pub(crate) fn last_stays(follow_last: bool, is_last: bool) -> bool
     is_last && !follow_last
 }
 
-/// Goes to the root where a text begins with a slash.
+/// Goes to the root if a text begins with a slash.
 pub(crate) fn start_from(
     root: Location,
     current: &mut Location,

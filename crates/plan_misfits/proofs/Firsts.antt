@@ -1,5 +1,6 @@
 -- The first line that does not fit has the least misfit of the lines.
-use Rattle.std.proofs.Common.{◌≡◌, ◌<◌, ◌+◌, ◌++◌, ◌||◌, ℕ, true, false, cond, List, [], ◌∷◌, length, drop, take, get_or, suc, nat_lt, Option, Some, None, refl, sym, ap, subst, ◌∙◌, arith}
+use Rattle.std.proofs.Common.{◌≡◌, ◌<◌, ◌+◌, ◌++◌, ◌||◌, ℕ, true, false, cond, List, [], ◌∷◌, length, drop, take}
+use Rattle.std.proofs.Common.{get_or, suc, nat_lt, Option, Some, None, refl, sym, ap, subst, ◌∙◌, arith}
 use Rattle.std.specs.Prelude.{IfSome}
 use Rattle.std.proofs.lemmas.Bool.{lt-ltb}
 use Rattle.std.proofs.Math.Seq.{split_at}
@@ -22,7 +23,8 @@ nothing_less (Some e) = refl
 pub no_line : (f : Format) (m : ManifestLines) (sizes : List ℕ) (l : Line) (rest : List Line)
     → number_of_line f m sizes l ≡ None → of_lines f m sizes (l ∷ rest) ≡ of_lines f m sizes rest
 no_line f m sizes l rest e =
-    ap (λ (o : Option ℕ). lesser_of_both (at_line l.number o) (of_lines f m sizes rest)) e ∙ nothing_less (of_lines f m sizes rest)
+    ap (λ (o : Option ℕ). lesser_of_both (at_line l.number o) (of_lines f m sizes rest)) e
+    ∙ nothing_less (of_lines f m sizes rest)
 
 one_of_both : (P : Fault → Type 0) (a b : Option Fault) → IfSome a P → IfSome b P → IfSome (lesser_of_both a b) P
 one_of_both P a None h k = h
@@ -33,7 +35,8 @@ later : (f : Format) (m : ManifestLines) (sizes : List ℕ) (n : ℕ) (ls : List
     → IfSome (of_lines f m sizes ls) (λ e. n < e.at)
 later f m sizes n [] h = tt
 later f m sizes n (l ∷ ls) h =
-    one_of_both (λ e. n < e.at) (at_line l.number (number_of_line f m sizes l)) (of_lines f m sizes ls) (by (number_of_line f m sizes l)) (later f m sizes n ls h.1)
+    one_of_both (λ e. n < e.at) (at_line l.number (number_of_line f m sizes l)) (of_lines f m sizes ls)
+    (by (number_of_line f m sizes l)) (later f m sizes n ls h.1)
   where
     by : (o : Option ℕ) → IfSome (at_line l.number o) (λ e. n < e.at)
     by None = tt
@@ -56,14 +59,18 @@ pub misfit_at : (f : Format) (m : ManifestLines) (sizes : List ℕ) (i : ℕ) (d
     → Some (fault k l.number) ≡ of_lines f m sizes (drop i m.lines)
 misfit_at f m sizes i d l k w h e n =
     let u : suc i ≡ i + 1 = omega arith in
-    let s = split_at m.lines i d h ∙ ap (λ (x : Line). take i m.lines ++ x ∷ drop (suc i) m.lines) (sym e) ∙ ap (λ (n : ℕ). take i m.lines ++ l ∷ drop n m.lines) u in
-    let p = pairs_right (λ (x : Line) (y : Line). x.number < y.number) (take i m.lines) (l ∷ drop (i + 1) m.lines) (subst Rise s (rise m w)) in
+    let s = split_at m.lines i d h ∙ ap (λ (x : Line). take i m.lines ++ x ∷ drop (suc i) m.lines) (sym e)
+    ∙ ap (λ (n : ℕ). take i m.lines ++ l ∷ drop n m.lines) u in
+    let p = pairs_right (λ (x : Line) (y : Line). x.number < y.number) (take i m.lines) (l ∷ drop (i + 1) m.lines)
+    (subst Rise s (rise m w)) in
     sym (this_line f m sizes l (drop (i + 1) m.lines) k p.0 (sym n))
-    ∙ sym (at_drop_more (of_lines f m sizes) m.lines i d h ∙ ap (λ (x : Line). of_lines f m sizes (x ∷ drop (i + 1) m.lines)) (sym e))
+    ∙ sym (at_drop_more (of_lines f m sizes) m.lines i d h
+    ∙ ap (λ (x : Line). of_lines f m sizes (x ∷ drop (i + 1) m.lines)) (sym e))
 
 pub fits_at : (f : Format) (m : ManifestLines) (sizes : List ℕ) (i : ℕ) (d l : Line) → i < length m.lines
     → l ≡ get_or m.lines i d → None ≡ number_of_line f m sizes l
     → of_lines f m sizes (drop i m.lines) ≡ of_lines f m sizes (drop (i + 1) m.lines)
 fits_at f m sizes i d l h e n =
-    at_drop_more (of_lines f m sizes) m.lines i d h ∙ ap (λ (x : Line). of_lines f m sizes (x ∷ drop (i + 1) m.lines)) (sym e)
+    at_drop_more (of_lines f m sizes) m.lines i d h
+    ∙ ap (λ (x : Line). of_lines f m sizes (x ∷ drop (i + 1) m.lines)) (sym e)
     ∙ no_line f m sizes l (drop (i + 1) m.lines) (sym n)

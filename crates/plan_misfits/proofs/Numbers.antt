@@ -1,5 +1,6 @@
 -- The number of a line's misfit, from what the code tests.
-use Rattle.std.proofs.Common.{◌≡◌, ℕ, Bool, true, false, not, ◌&&◌, cond, List, Option, Some, None, refl, sym, ap, ◌∙◌, reverse}
+use Rattle.std.proofs.Common.{◌≡◌, ℕ, Bool, true, false, not, ◌&&◌, cond, List, Option, Some, None, refl, sym, ap, ◌∙◌}
+use Rattle.std.proofs.Common.{reverse}
 use Rattle.std.specs.Option.{option_map}
 use Rattle.manifest.specs.declared.line.Line.{Line}
 use Rattle.manifest.specs.declared.line.Word.{Word}
@@ -25,7 +26,8 @@ pub attribute_is : (f : Format) (all : List Line) (sizes : List ℕ) (l : Line)
 unfolding inode_of
 attribute_is f all sizes l = by f l.word refl
   where
-    by : (f : Format) (w : Word) → l.word ≡ w → bad_attribute f (inode_by all sizes w l) ≡ bad_attribute f (without_bytes l)
+    by : (f : Format) (w : Word) → l.word ≡ w
+        → bad_attribute f (inode_by all sizes w l) ≡ bad_attribute f (without_bytes l)
     by f File e = contents_attribute f all sizes l (filed (reverse all) l.path) (ap kind_by e)
     by f Same e = contents_attribute f all sizes l (filed (reverse all) l.path) (ap kind_by e)
     by romfs Dir e = rw e refl
@@ -85,4 +87,5 @@ number_of_line_is f m sizes l a b c p q r =
     let t = q ∙ ap (is_large f) (sym (size_is m.lines sizes l)) in
     ap (λ (x : Bool). number_by (is_hard l.word) x b c (has_no_links f)) s
     ∙ ap (λ (x : Bool). number_by (is_hard l.word) (bad_attribute f (inode_of m.lines sizes l)) x c (has_no_links f)) t
-    ∙ ap (λ (x : Bool). number_by (is_hard l.word) (bad_attribute f (inode_of m.lines sizes l)) (is_large f (inode_of m.lines sizes l).size) x (has_no_links f)) r
+    ∙ ap (λ (x : Bool). number_by (is_hard l.word) (bad_attribute f (inode_of m.lines sizes l))
+    (is_large f (inode_of m.lines sizes l).size) x (has_no_links f)) r

@@ -1,5 +1,6 @@
 -- The path of each line of a manifest is a path.
-use Rattle.std.proofs.Common.{◌≡◌, ℕ, zero, suc, ◌<◌, arith, length, get_or, true, false, Bool, List, [], ◌∷◌, reverse, Option, Some, None, refl, sym, subst}
+use Rattle.std.proofs.Common.{◌≡◌, ℕ, zero, suc, ◌<◌, arith, length, get_or, true, false, Bool, List, [], ◌∷◌, reverse}
+use Rattle.std.proofs.Common.{Option, Some, None, refl, sym, subst}
 use Rattle.std.specs.List.{AllByRecursion as Every}
 use Rattle.std.specs.Option.{is_some}
 use Rattle.std.proofs.lemmas.List.{reverse-append}
@@ -19,12 +20,14 @@ back : (ls : List Line) → Every (λ l. is_some (names_of l.path) ≡ true) ls
     → Every (λ l. is_some (names_of l.path) ≡ true) (reverse ls)
 back [] h = tt
 back (l ∷ ls) h =
-    subst (Every (λ (k : Line). is_some (names_of k.path) ≡ true)) (sym (reverse-append (l ∷ []) ls)) (every_join (λ (k : Line). is_some (names_of k.path) ≡ true) (reverse ls) (l ∷ []) (back ls h.1) (h.0, tt))
+    subst (Every (λ (k : Line). is_some (names_of k.path) ≡ true)) (sym (reverse-append (l ∷ []) ls))
+    (every_join (λ (k : Line). is_some (names_of k.path) ≡ true) (reverse ls) (l ∷ []) (back ls h.1) (h.0, tt))
 
 pub are_paths : (m : ManifestLines) → IsManifest m → Every (λ l. is_some (names_of l.path) ≡ true) m.lines
 are_paths m h =
     let c = checked_lines m h.0 h.1 in
-    let f = every_weaker IsFaultless (λ (l : Line). is_some (names_of l.path) ≡ true) (λ l x. path_some (is_dir l.word) (names_of l.path) x.path) c.latest (all_faultless c.latest c.checked) in
+    let f = every_weaker IsFaultless (λ (l : Line). is_some (names_of l.path) ≡ true)
+    (λ l x. path_some (is_dir l.word) (names_of l.path) x.path) c.latest (all_faultless c.latest c.checked) in
     subst (Every (λ (l : Line). is_some (names_of l.path) ≡ true)) (sym c.reversed) (back c.latest f)
 
 -- at an index

@@ -1,17 +1,19 @@
--- What the misfits of a line are told by. (This project's own.)
+-- `without_bytes`, `size_by`: the kind and the size of a line's file. `misfit_fault`: a misfit of
+-- the code as a fault. (This project's own.)
 use Rattle.std.specs.Prelude.{ℕ, length, Option, Some, None}
 use Rattle.rom_faults.specs.declared.fault.Fault.{Fault}
 use Rattle.rom_tree.specs.declared.types.Kind.{Kind}
 use Rattle.rom_tree.specs.declared.types.Kind.TheVariants as kind
 use Rattle.manifest.specs.declared.line.Line.{Line}
 use Rattle.manifest.specs.declared.line.Word.{Word}
-use Rattle.manifest.specs.declared.line.Word.TheVariants.{Dir, File, Slink, Block, Character, Fifo, Socket, Hard, Same}
+use Rattle.manifest.specs.declared.line.Word.TheVariants.{Dir, File, Slink, Block, Character, Fifo}
+use Rattle.manifest.specs.declared.line.Word.TheVariants.{Socket, Hard, Same}
 use Rattle.manifest_tree.specs.Names.{no_bytes, Inode}
 use Rattle.manifest_tree.specs.Tree.{plain}
 use Rattle.manifest_rows.specs.declared.files.SourceUse.{SourceUse}
 use Rattle.plan_misfits.specs.declared.misfit.Misfit.{Misfit}
 
--- what a word makes; a `hard` line makes nothing, and stands for a regular file here
+-- the kind of file that a word makes; a `hard` line makes none, and counts as a regular file here
 abbrev pub kind_by : Word → Kind
 kind_by Dir = kind.Directory
 kind_by File = kind.Regular
@@ -31,13 +33,13 @@ abbrev pub size_or : Option SourceUse → ℕ
 size_or None = 0
 size_or (Some c) = c.size
 
--- how many bytes the file of a line has, where its path leads to these contents
+-- the size of a line's file in bytes, if its path leads to these contents
 abbrev pub size_by : Word → Line → Option SourceUse → ℕ
 size_by Slink l o = length l.text
 size_by File l o = size_or o
 size_by Same l o = size_or o
 size_by _ l o = 0
 
--- a misfit as a fault, which stands at the number of its line
+-- a misfit as a fault, at the number of its line
 abbrev pub misfit_fault : Misfit → Fault
 misfit_fault e = record { number = e.number; at = e.line }

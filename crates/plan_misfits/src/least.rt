@@ -16,7 +16,7 @@ use manifest::Manifest;
 use manifest_rows::PathTargets;
 use plan_types::Format;
 
-/// The misfit of the first line that does not fit.
+/// Returns the misfit of the first line that does not fit, if there is one.
 fn first_of_lines(format: Format, m: &Manifest, files: &PathTargets) -> Option<Misfit>
     ensures first { (sizes : List ℕ) → IsOf m.now.lines sizes files.now
         → option_map misfit_fault result
@@ -35,7 +35,7 @@ fn first_of_lines(format: Format, m: &Manifest, files: &PathTargets) -> Option<M
     None
 }
 
-/// The misfit of the volume's name.
+/// Returns the misfit of the volume's name, if it is too long.
 fn of_volume(format: Format, m: &Manifest) -> Option<Misfit>
     ensures { option_map misfit_fault result ≡ tests.volume_by
         (tests.is_long_volume (format_of format) (length m.now.volume)) m.now.volume_line }
@@ -50,7 +50,7 @@ fn of_volume(format: Format, m: &Manifest) -> Option<Misfit>
     }
 }
 
-/// The lesser of two misfits, by line and then by number.
+/// Returns the lesser of two misfits, by line and then by number.
 fn lesser(one: Misfit, other: Misfit) -> Misfit
     ensures { Some (misfit_fault result)
         ≡ lesser_of_both (Some (misfit_fault one)) (Some (misfit_fault other)) }
@@ -60,7 +60,7 @@ fn lesser(one: Misfit, other: Misfit) -> Misfit
     if before || beside { one } else { other }
 }
 
-/// The lesser of two misfits, where there are two.
+/// Returns the lesser of two misfits, or the only one, or none.
 fn lesser_of_both(one: Option<Misfit>, other: Option<Misfit>) -> Option<Misfit>
     ensures { option_map misfit_fault result
         ≡ lesser_of_both (option_map misfit_fault one) (option_map misfit_fault other) }
@@ -73,8 +73,9 @@ fn lesser_of_both(one: Option<Misfit>, other: Option<Misfit>) -> Option<Misfit>
     }
 }
 
-/// The least misfit of a manifest's lines and its volume, by line and then by number, where its
-/// sources have the sizes that `files` was made with. A manifest is that of some text.
+/// Returns the least misfit of a manifest's lines and its volume, by line and then by number, if
+/// there is one. The sources have the sizes with which `files` was made. The manifest is that of
+/// some text.
 pub fn least_of_lines(format: Format, m: &Manifest, files: &PathTargets) -> Option<Misfit>
     ensures of_text { IsManifest m.now }
     ensures least { (sizes : List ℕ) → IsOf m.now.lines sizes files.now

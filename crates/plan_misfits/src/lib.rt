@@ -1,7 +1,7 @@
-//! What of the lines of a manifest does not fit a format.
+//! The misfits of the lines of a manifest in a format. `least_of_lines` returns the least one.
 //!
-//! `manifest_layout` says what does not fit. Proved: `least_of_lines` gives the least misfit of the
-//! lines and of the volume, or says that there is none.
+//! Proved: `least_of_lines` returns the least misfit of the lines and of the volume, as
+//! `manifest_layout` defines it, or reports that there is none.
 #![tactic(auto)]
 
 mod least;

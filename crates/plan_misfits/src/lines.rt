@@ -1,4 +1,4 @@
-//! What of one line does not fit a format.
+//! The misfits of one line in a format.
 ghost use Rattle.std.specs.Prelude.{◌≡◌, ◌==◌, true, length, List, ℕ};
 ghost use Rattle.std.specs.Option.{is_some};
 ghost use Rattle.manifest.specs.Lines as lines;
@@ -29,7 +29,7 @@ const MOST_OF_A_BYTE: u32 = 255;
 /// The most bytes of a file in romfs, as of an image.
 const ROMFS_FILE_MOST: u64 = disk::MOST_BYTES as u64;
 
-/// What the size of a file in cramfs is below: 2^24.
+/// The limit below which the size of a file in cramfs is: 2^24.
 const CRAMFS_FILE_LIMIT: u64 = 1 << 24;
 
 /// The most bytes of a name in cramfs.
@@ -38,7 +38,8 @@ const CRAMFS_NAME_MOST: usize = 252;
 /// The most bytes of a volume's name in cramfs.
 const CRAMFS_VOLUME_MOST: usize = 16;
 
-/// The mode that romfs gives what a line makes, with the bit "executable" where it has mode 0755.
+/// Returns the mode that romfs has for the file of a line, with the bit "executable" if its mode is
+/// 0755.
 fn romfs_mode(line: &Line) -> u32
     ensures { result ≡ mode_named (number_of (kind_by line.now.word)) (line.now.mode == 493) }
 {
@@ -52,7 +53,7 @@ fn romfs_mode(line: &Line) -> u32
     }
 }
 
-/// Whether the format cannot say an attribute of a line.
+/// Returns whether the format cannot store an attribute of a line.
 fn has_bad_attribute(format: Format, line: &Line) -> bool
     ensures { result ≡ tests.bad_attribute (format_of format) (without_bytes line.now) }
 {
@@ -68,7 +69,7 @@ fn has_bad_attribute(format: Format, line: &Line) -> bool
     owners || line.major > devices || line.minor > devices
 }
 
-/// Whether a file of so many bytes is too large.
+/// Returns whether a file of so many bytes is too large.
 fn is_large(format: Format, size: u64) -> bool
     ensures { result ≡ tests.is_large (format_of format) size }
 {
@@ -78,7 +79,7 @@ fn is_large(format: Format, size: u64) -> bool
     }
 }
 
-/// Whether a name of so many bytes is too long.
+/// Returns whether a name of so many bytes is too long.
 fn is_long(format: Format, len: usize) -> bool
     ensures { result ≡ tests.is_long (format_of format) len }
 {
@@ -88,7 +89,7 @@ fn is_long(format: Format, len: usize) -> bool
     }
 }
 
-/// Whether a volume's name of so many bytes is too long.
+/// Returns whether a volume's name of so many bytes is too long.
 pub fn is_long_volume(format: Format, len: usize) -> bool
     ensures { result ≡ tests.is_long_volume (format_of format) len }
 {
@@ -98,7 +99,7 @@ pub fn is_long_volume(format: Format, len: usize) -> bool
     }
 }
 
-/// Whether files cannot have further names.
+/// Returns whether the format has no further names of a file.
 fn has_no_links(format: Format) -> bool
     ensures { result ≡ tests.has_no_links (format_of format) }
 {
@@ -108,7 +109,7 @@ fn has_no_links(format: Format) -> bool
     }
 }
 
-/// How many bytes the last name of a path has.
+/// Returns the length of the last name of a path in bytes.
 fn name_len(path: &[u8]) -> usize
     requires { is_some (names_of path.now) ≡ true }
     ensures { result ≡ name_len (names_of path.now) }
@@ -119,7 +120,7 @@ fn name_len(path: &[u8]) -> usize
     }
 }
 
-/// How many bytes the file of a line has.
+/// Returns the size of a line's file in bytes.
 fn size_of(files: &PathTargets, line: &Line) -> u64
     ensures { (lines : List decl.Line) (sizes : List ℕ) → IsOf lines sizes files.now
         → result ≡ size_by line.now.word line.now (contents_at lines sizes line.now.path) }
@@ -135,14 +136,14 @@ fn size_of(files: &PathTargets, line: &Line) -> u64
     }
 }
 
-/// Whether a line is a `hard` line.
+/// Returns whether a line is a `hard` line.
 fn is_hard(line: &Line) -> bool
     ensures { result ≡ lines.is_hard line.now.word }
 {
     matches!(line.word, Word::Hard)
 }
 
-/// The least number of those that apply. A `hard` line has no attributes.
+/// Returns the least number of those that apply. A `hard` line has no attributes of its own.
 #[tactic(auto, using(crate::proofs::Numbers::number_is))]
 fn least_number(
     hard: bool,
@@ -168,7 +169,7 @@ fn least_number(
     None
 }
 
-/// The least number of the misfits of a line.
+/// Returns the least number of the misfits of a line, if it has one.
 pub fn number_of_line(format: Format, files: &PathTargets, line: &Line) -> Option<u32>
     requires { is_some (names_of line.now.path) ≡ true }
     ensures { (m : ManifestLines) (sizes : List ℕ) → IsOf m.lines sizes files.now

@@ -1,4 +1,4 @@
--- The formats of the code, in the words of the definitions. (This project's own.)
+-- `format_of`: a format of the code, in the words of the definitions. (This project's own.)
 use Rattle.cramfs_format.specs.declared.order.Order.TheVariants.{Little, Big}
 use Rattle.manifest_layout.specs.Format.{Format, romfs, cramfs}
 use Rattle.plan_types.specs.declared.format.Format as code

@@ -1,5 +1,5 @@
--- What a plan is to be: the items and the sections of a manifest's layout, in the words of the definitions. (This
--- project's own.)
+-- `IsPlanOf`: the conditions on a plan of a manifest: it has the items and the sections of the
+-- manifest's layout. `IsPlan`: it is the plan of some manifest that fits. (This project's own.)
 use Rattle.std.specs.Prelude.{◌≡◌, ℕ, zero, suc, List, [], ◌∷◌, length, Option, Some, None}
 use Rattle.layout_terms.specs.Items.{Item, Section}
 use Rattle.manifest.specs.Grammar.{IsManifest}
@@ -7,17 +7,17 @@ use Rattle.manifest.specs.Lines.{ManifestLines, sources_of}
 use Rattle.manifest_layout.specs.Format.{Format, items_of, sections_of, len_of}
 use Rattle.manifest_layout.specs.Misfit.{HasNoMisfit}
 
--- what a plan holds
+-- the contents of a plan
 pub record Planned : Type 0 where
   pub format : Format
   pub volume : List ℕ
   pub image_len : ℕ
   pub items : List Item
   pub sections : List Section
-  -- how many bytes each source is to have
+  -- the number of bytes that each source is to have
   pub sizes : List ℕ
 
--- the plan of a manifest that fits, where its sources have these sizes
+-- the plan of a manifest that fits, if its sources have these sizes
 pub record IsPlanOf (f : Format) (m : ManifestLines) (sizes : List ℕ) (p : Planned) : Type 0 where
   pub fits : HasNoMisfit f m sizes
   pub format : p.format ≡ f
@@ -30,10 +30,11 @@ pub record IsPlanOf (f : Format) (m : ManifestLines) (sizes : List ℕ) (p : Pla
 -- the plan of some manifest
 abbrev pub IsPlan : Planned → Type 0
 IsPlan p =
-    (m : ManifestLines) × (sizes : List ℕ) × IsManifest m × (length sizes ≡ length (sources_of m.lines))
+    (m : ManifestLines) × (sizes : List ℕ) × IsManifest m
+    × (length sizes ≡ length (sources_of m.lines))
     × IsPlanOf p.format m sizes p
 
--- the section of an index
+-- the section at an index
 abbrev pub section_at : List Section → ℕ → Option Section
 section_at [] i = None
 section_at (s ∷ ss) zero = Some s

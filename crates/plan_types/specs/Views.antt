@@ -1,7 +1,9 @@
--- The items, the sections and the plan of the code, in the words of the definitions. (This project's own.)
+-- `item_view`, `section_view`, `plan_view`: items, sections and plans of the code, in the words of
+-- the definitions. (This project's own.)
 use Rattle.std.specs.Prelude.{ℕ, List, map, get_or}
 use Rattle.manifest_tree.specs.Names.{Fill, no_bytes, text, source}
-use Rattle.layout_terms.specs.Items.{Item, Section, Body, super, record_of, table_of, text_of, contents_of}
+use Rattle.layout_terms.specs.Items.{Item, Section, Body, super, record_of, table_of, text_of}
+use Rattle.layout_terms.specs.Items.{contents_of}
 use Rattle.plan_types.specs.Formats.{format_of}
 use Rattle.plan_types.specs.Plans.{Planned}
 use Rattle.plan_types.specs.declared.format.Format as code_format
@@ -41,7 +43,8 @@ abbrev pub section_view : code_section.Section → Section
 section_view s = record { place = s.place; len = s.len; body = body_view s.body }
 
 -- a plan of these parts
-abbrev pub plan_view : code_format.Format → List ℕ → ℕ → List code_item.Item → List code_section.Section → List ℕ → Planned
+abbrev pub plan_view : code_format.Format → List ℕ → ℕ → List code_item.Item
+    → List code_section.Section → List ℕ → Planned
 plan_view format volume image_len items sections sizes = record {
   format = format_of format;
   volume = volume;

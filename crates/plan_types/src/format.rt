@@ -5,8 +5,8 @@
 pub enum Format {
     /// romfs.
     Romfs,
-    /// cramfs for machines whose words begin with their lowest byte.
+    /// cramfs for machines whose words begin with their lowest byte (little-endian).
     Cramfs,
-    /// cramfs for machines whose words begin with their highest byte.
+    /// cramfs for machines whose words begin with their highest byte (big-endian).
     CramfsBig,
 }

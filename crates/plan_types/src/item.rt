@@ -9,25 +9,25 @@ pub enum Fill {
     Nothing,
     /// The text of a symbolic link.
     Text(Name),
-    /// The contents of the source of this index.
+    /// The contents of the source at this index.
     File(usize),
 }
 
-/// A romfs header or a cramfs inode. All places are in bytes from the image's first byte on.
+/// A romfs header or a cramfs inode. All offsets are in bytes, from the image's first byte on.
 #[derive(Drop)]
 pub struct Item {
-    /// Where the record stands.
+    /// The offset of the record.
     pub place: u32,
     /// Its first three words: next with the mode's bits, spec and size, or the three of an inode.
     pub words: [u32; 3],
     /// The name behind them.
     pub name: Name,
-    /// Where the table of block pointers stands, 0 where there is none.
+    /// The offset of the table of block pointers, or 0 if there is none.
     pub table: u32,
-    /// Where the bytes begin, 0 where there are none.
+    /// The offset of the bytes, or 0 if there are none.
     pub start: u32,
-    /// How many bytes they are.
+    /// The number of the bytes.
     pub len: u32,
-    /// Which bytes they are.
+    /// The bytes.
     pub fill: Fill,
 }

@@ -1,7 +1,7 @@
-//! How long an image is, and what records it has.
+//! The length of an image, and its records.
 use crate::item::Item;
 
-/// How long an image is, and its items in the order of their places, the root's first.
+/// The length of an image in bytes, and its items in the order of their offsets, the root's first.
 #[derive(Drop)]
 pub struct Laid {
     pub image_len: usize,

@@ -1,10 +1,10 @@
-//! What a planned image consists of, as values of the code: items and sections, and the plan that
-//! puts them together, in one of the formats.
+//! A planned image as values of the code: its format, items and sections, and `Plan`, which is the
+//! plan of some manifest that fits.
 //!
-//! `layout_terms` and `manifest_layout` say what they are; `specs/Views.antt` and
-//! `specs/Formats.antt` say which of their values one of the code stands for, and
-//! `specs/Plans.antt` what a plan is to be. Proved: each `Plan` is that of some manifest that fits,
-//! and tells what it was made of.
+//! Proved: each `Plan` is that of some manifest that fits, and its functions return the values that
+//! it was made of. `layout_terms` and `manifest_layout` define items and sections.
+//! `specs/Views.antt` and `specs/Formats.antt` map the values of the code to these, and
+//! `specs/Plans.antt` has the conditions on a plan.
 #![tactic(auto)]
 
 mod format;

@@ -12,7 +12,7 @@ use crate::section::Section;
 use manifest::Name;
 use std::marker::Model;
 
-/// The places of all that an image of some manifest holds. A contract sees it in the words of the
+/// The offsets of all that an image of some manifest holds. Contracts see it in the words of the
 /// layout's definitions.
 #[derive(Drop)]
 pub struct Plan {
@@ -38,7 +38,7 @@ impl Model for Plan {
 }
 
 impl Plan {
-    /// The plan of what was laid out, in this format, where the sources have these sizes.
+    /// Returns the plan of what was laid out, in this format, with these sizes of the sources.
     pub fn new(
         format: Format,
         volume: Name,
@@ -61,7 +61,7 @@ impl Plan {
         }
     }
 
-    /// How many bytes the image has. It is the image of a manifest that fits.
+    /// Returns the length of the image in bytes. It is the image of a manifest that fits.
     pub fn image_len(&self) -> usize
         ensures len { result ≡ self.now.image_len }
         ensures planned { IsPlan self.now }
@@ -69,43 +69,43 @@ impl Plan {
         self.image_len
     }
 
-    /// The format of the image.
+    /// Returns the format of the image.
     pub fn format(&self) -> Format
         ensures { format_of result ≡ self.now.format }
     {
         self.format
     }
 
-    /// The name of the volume.
+    /// Returns the name of the volume.
     pub fn volume(&self) -> &[u8]
         ensures { result.now ≡ self.now.volume }
     {
         self.volume.as_bytes()
     }
 
-    /// The records, the root's first, in the order of their places.
+    /// Returns the records, the root's first, in the order of their offsets.
     pub fn items(&self) -> &[Item]
         ensures { map item_view result.now ≡ self.now.items }
     {
         self.items.as_slice()
     }
 
-    /// How many bytes each source is to have.
+    /// Returns the number of bytes that each source is to have.
     pub fn sizes(&self) -> &[u64]
         ensures { result.now ≡ self.now.sizes }
     {
         self.sizes.as_slice()
     }
 
-    /// How many sections the image has.
+    /// Returns the number of sections of the image.
     pub fn sections(&self) -> usize
         ensures { result ≡ length self.now.sections }
     {
         self.sections.len()
     }
 
-    /// The section of an index, and nothing past the last. Sections stand one after the other, none
-    /// is empty.
+    /// Returns the section at an index, or nothing past the last. Sections are one after the other,
+    /// and none is empty.
     pub fn section(&self, i: usize) -> Option<Section>
         ensures { option_map section_view result ≡ section_at self.now.sections i }
     {

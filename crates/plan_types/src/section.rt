@@ -1,4 +1,4 @@
-//! Bytes of a planned image that stand together.
+//! Bytes of a planned image that are together.
 
 /// What a section holds. Items are counted from 0 on.
 #[derive(Clone, Copy, Debug, PartialEq, Eq)]
@@ -15,7 +15,7 @@ pub enum Body {
     Content { file: usize },
 }
 
-/// A section: where it stands, how many bytes it has, and what they are.
+/// A section: its offset, its length in bytes, and what it holds.
 #[derive(Clone, Copy, Debug, PartialEq, Eq)]
 pub struct Section {
     pub place: u32,

@@ -1,5 +1,10 @@
--- What clauses read of the streams of a program, and what their calls answer. (This project's own.)
-use Rattle.std.specs.Prelude.{◌≡◌, ℕ, ◌<◌, ◌≤◌, if◌then◌else◌, List, [], length, take, drop, Option, None, Some, IfSome, IfOk, Result, MatchResult}
+-- `again_inner` and similar definitions: the stream behind one that is in front of it.
+-- `ahead_remaining`: the rest of a reader that is not read on behind its end. `held_back`,
+-- `held_contents`: the bytes that a writer holds back, and the bytes of the writer behind it
+-- followed by these. `first_error`, `Remembers`: the first error; each call keeps or notes it.
+-- `ReadsFrom`: a buffer has the bytes from a position on. (This project's own.)
+use Rattle.std.specs.Prelude.{◌≡◌, ℕ, ◌<◌, ◌≤◌, if◌then◌else◌, List, [], length, take, drop, Option}
+use Rattle.std.specs.Prelude.{None, Some, IfSome, IfOk, Result, MatchResult}
 use Rattle.std.specs.Io.KnownBytes.{append_known}
 use Rattle.std.specs.IoError.{error_kind}
 use Rattle.std_io.specs.declared.io.error.Error.{Error}
@@ -21,34 +26,34 @@ held_inner s = s.inner
 abbrev pub remembering_inner : {X : Type 0} → Remembering X → X
 remembering_inner s = s.inner
 
--- what the reader behind has left, where that is known, and nothing once it showed its end
+-- the rest of the reader behind it, if that is known, and nothing after its end was read
 abbrev pub ahead_remaining : {X : Type 0} → (X → Option (List ℕ)) → Ahead X → Option (List ℕ)
 ahead_remaining remaining s = if s.has_ended then Some [] else remaining s.inner
 
--- what is held back
+-- the bytes that are held back
 abbrev pub held_back : {X : Type 0} → Held X → List ℕ
 held_back s = s.held.items
 
--- what the writer behind has, where that is known, and then what is held back
+-- the bytes of the writer behind it, if they are known, and then those held back
 abbrev pub held_contents : {X : Type 0} → (X → Option (List ℕ)) → Held X → Option (List ℕ)
 held_contents contents s = append_known (contents s.inner) s.held.items
 
--- why a writer failed first, if it failed
+-- the first error of a writer, if it failed
 abbrev pub first_error : {X : Type 0} → Remembering X → Option Error
 first_error s = s.error
 
--- The first error stays. Where there was none, this one is the first, and its kind is told.
+-- The first error stays. If there was none, the first one is now of the kind of this one.
 abbrev pub Notes : Option Error → Option Error → Error → Type 0
 Notes (Some first) new e = new ≡ Some first
 Notes None None e = ⊥
 Notes None (Some first) e = error_kind first ≡ error_kind e
 
--- an error is noted, and nothing where there is none
+-- an error is noted; without an error nothing changes
 abbrev pub Remembers : {T : Type 0} → Option Error → Option Error → Result T Error → Type 0
 Remembers old new r = MatchResult r (λ _. new ≡ old) (λ e. Notes old new e)
 
--- At `Ok(n)` the first n bytes of the buffer are those of the known ones from `at` on: none only at their end, or
--- where the buffer has no room.
+-- At `Ok(n)` the first n bytes of the buffer are the known ones from `at` on. There are none only
+-- at their end, or if the buffer has no room.
 abbrev pub ReadsFrom : {E : Type 0} → Option (List ℕ) → ℕ → Result ℕ E → List ℕ → Type 0
 ReadsFrom known at r buf = IfSome known (λ xs. IfOk r (λ n.
     (take n buf ≡ take n (drop at xs)) × (n ≡ 0 → 0 < length buf → length xs ≤ at)))

@@ -1,4 +1,4 @@
-//! Writers whose calls are made again.
+//! Writers that repeat interrupted calls.
 ghost use Rattle.std.specs.Prelude.{◌≡◌, ◌≢◌, IfErr};
 ghost use Rattle.std.specs.IoError.{error_kind};
 ghost use Rattle.std.specs.Io.{WritesAtMost};
@@ -8,21 +8,21 @@ ghost use Rattle.program_streams.specs.Streams.{again_inner};
 use crate::signals::{flush_again, write_again};
 use std::io::{self, ErrorKind, Write};
 
-/// A writer whose calls are made again where a signal cut them short.
+/// A writer that repeats a call if a signal interrupted it.
 #[derive(Drop)]
 pub struct Again<X> {
     inner: X,
 }
 
 impl<X> Again<X> {
-    /// In front of this writer.
+    /// Returns a writer in front of this one.
     pub fn new(inner: X) -> Again<X>
         ensures { again_inner result ≡ inner }
     {
         Again { inner }
     }
 
-    /// The writer itself.
+    /// Returns the writer behind it.
     pub fn into_inner(self) -> X
         ensures { result ≡ again_inner self }
     {

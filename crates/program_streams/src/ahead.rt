@@ -1,5 +1,6 @@
-//! Readers of what another one holds.
-ghost use Rattle.std.specs.Prelude.{◌≡◌, ◌≢◌, ◌<◌, ◌↔◌, min, true, IfErr, IfOk, OnErr, length, take};
+//! Readers of the bytes that another reader holds.
+ghost use Rattle.std.specs.Prelude.{◌≡◌, ◌≢◌, ◌<◌, ◌↔◌, min, true, IfErr, IfOk, OnErr, length};
+ghost use Rattle.std.specs.Prelude.{take};
 ghost use Rattle.std.specs.IoError.{error_kind};
 ghost use Rattle.std.specs.Io.{ReadsAtMost};
 ghost use Rattle.std.specs.Io.KnownBytes.{Keeps, Consumes, IsAtEnd, ReadConsumes};
@@ -8,10 +9,10 @@ ghost use Rattle.program_streams.specs.Streams.{ahead_inner, ahead_remaining};
 use crate::signals::{gave_up, is_interrupted};
 use std::io::{self, BufRead, ErrorKind, Read};
 
-/// A reader of what another one holds. Standard input, where it has a position, is read ahead by it in
-/// blocks, and what was not used is left unread again when it is dropped; a pipe or a terminal is
-/// read byte by byte. Calls that a signal cut short are made again. Once the end was read, it is not
-/// read on.
+/// A reader of the bytes that another reader holds. If the other reader is standard input and has a
+/// position, it reads ahead in blocks, and when it is dropped, the unused bytes are unread again.
+/// It reads a pipe or a terminal byte by byte. Interrupted calls are repeated. After the end was
+/// read, nothing more is read.
 #[derive(Drop)]
 pub struct Ahead<X> {
     inner: X,
@@ -19,7 +20,7 @@ pub struct Ahead<X> {
 }
 
 impl<X: BufRead> Ahead<X> {
-    /// Of this reader.
+    /// Returns a reader in front of this one.
     pub fn new(inner: X) -> Ahead<X>
         ensures inner { ahead_inner result ≡ inner }
         ensures bytes { ahead_remaining X.remaining result ≡ X.remaining inner }
@@ -30,7 +31,7 @@ impl<X: BufRead> Ahead<X> {
         }
     }
 
-    /// The reader itself.
+    /// Returns the reader behind it.
     pub fn into_inner(self) -> X
         ensures { result ≡ ahead_inner self }
     {
@@ -42,7 +43,7 @@ impl<X: BufRead> Ahead<X> {
     }
 }
 
-/// Copies as many bytes as both have to the front, and says how many.
+/// Copies as many bytes as both have to the front, and returns their number.
 pub(crate) fn copy_front(from: &[u8], to: &mut [u8]) -> usize
     ensures count { result ≡ min (length from.now) (length to.old) }
     ensures copied { take result to.new ≡ take result from.now }
@@ -52,14 +53,14 @@ pub(crate) fn copy_front(from: &[u8], to: &mut [u8]) -> usize
     count
 }
 
-/// Whether a read that gave so many bytes met the end.
+/// Returns whether a read of `count` bytes met the end.
 fn is_end(count: usize, buf: &[u8]) -> bool
     ensures { (result ≡ true) ↔ ((count ≡ 0) × (0 < length buf.now)) }
 {
     count == 0 && !buf.is_empty()
 }
 
-/// Reads what the reader holds, in one call.
+/// Reads the bytes that the reader holds, in one call.
 fn read_held<X: BufRead>(reader: &mut X, buf: &mut [u8]) -> io::Result<usize>
     ensures bound { ReadsAtMost result buf.new }
     ensures ok { IfOk result (λ n. Consumes (X.remaining reader.old) (X.remaining reader.new)
@@ -76,7 +77,7 @@ fn read_held<X: BufRead>(reader: &mut X, buf: &mut [u8]) -> io::Result<usize>
     Ok(count)
 }
 
-/// The same, again where a signal cut the call short.
+/// Does the same, and repeats the call if a signal interrupted it.
 fn read_held_again<X: BufRead>(reader: &mut X, buf: &mut [u8]) -> io::Result<usize>
     ensures bound { ReadsAtMost result buf.new }
     ensures ok { IfOk result (λ n. Consumes (X.remaining reader.old) (X.remaining reader.new)

@@ -1,5 +1,6 @@
 //! Lines that are held back until they are flushed.
-ghost use Rattle.std.specs.Prelude.{◌≡◌, ◌≢◌, ◌-◌, ◌≤◌, ◌++◌, [], true, false, IfErr, IfOk, OnOk, OnErr, length, take, drop, vec_len};
+ghost use Rattle.std.specs.Prelude.{◌≡◌, ◌≢◌, ◌-◌, ◌≤◌, ◌++◌, [], true, false, IfErr, IfOk, OnOk};
+ghost use Rattle.std.specs.Prelude.{OnErr, length, take, drop, vec_len};
 ghost use Rattle.std.specs.IoError.{error_kind};
 ghost use Rattle.std.specs.Io.{WritesAtMost};
 ghost use Rattle.std.specs.Io.KnownBytes.{Keeps, Appends, WriteAppends};
@@ -9,21 +10,21 @@ use crate::signals::{flush_again, write_again};
 use std::alloc::Global;
 use std::io::{self, ErrorKind, Write};
 
-/// How many bytes are held back at most.
+/// The most bytes that are held back.
 const MOST_HELD: usize = 64 << 10;
 
-/// A writer that holds back what is written until it is flushed, so that a line is one write. Where
-/// memory is refused for that, it is written at once. What a failed call did not write stays held
-/// back, and comes first at the next one. Calls that a signal cut short are made again. Nothing is
-/// written when it is dropped.
+/// A writer that holds back what is written until it is flushed, so that a line is one write. If
+/// memory is refused for that, it writes at once. Bytes that a failed call did not write stay held
+/// back, and come first in the next call. Interrupted calls are repeated. Nothing is written when
+/// it is dropped.
 #[derive(Drop)]
 pub struct Held<X> {
     inner: X,
     held: Vec<u8>,
 }
 
-/// Writes the bytes, up to a call that fails or that takes none of them, and says how many were
-/// written.
+/// Writes bytes until a call fails or accepts none of them, and returns the number of written
+/// bytes.
 fn write_out<W: Write>(writer: &mut W, b: &[u8]) -> (usize, io::Result<()>)
     ensures bound { result.0 ≤ length b.now }
     ensures all { OnOk result.1 (result.0 ≡ length b.now) }
@@ -52,7 +53,7 @@ fn remove_front(held: &mut Vec<u8>, count: usize)
 }
 
 impl<X> Held<X> {
-    /// In front of this writer. Takes no memory.
+    /// Returns a writer in front of this one. It takes no memory.
     pub fn new(alloc: Global, inner: X) -> Held<X>
         ensures inner { held_inner result ≡ inner }
         ensures empty { held_back result ≡ [] }
@@ -63,14 +64,14 @@ impl<X> Held<X> {
         }
     }
 
-    /// What is held back.
+    /// Returns the bytes that are held back.
     pub fn held(&self) -> &[u8]
         ensures { result.now ≡ held_back self.now }
     {
         self.held.as_slice()
     }
 
-    /// The writer itself, and what was held back.
+    /// Returns the writer behind it, and the bytes that were held back.
     pub fn into_parts(self) -> (X, Vec<u8>)
         ensures inner { result.0 ≡ held_inner self }
         ensures held { result.1.items ≡ held_back self }
@@ -79,7 +80,7 @@ impl<X> Held<X> {
         (inner, held)
     }
 
-    /// Holds back the bytes too, and says whether there was room and memory for them.
+    /// Holds back more bytes, and returns whether there was room and memory for them.
     fn hold(&mut self, b: &[u8]) -> bool
         ensures inner { held_inner self.new ≡ held_inner self.old }
         ensures held { result ≡ true → held_back self.new ≡ held_back self.old ++ b.now }
@@ -93,7 +94,7 @@ impl<X> Held<X> {
 }
 
 impl<X: Write> Held<X> {
-    /// Writes what is held back.
+    /// Writes the bytes that are held back.
     fn hand_on(&mut self) -> io::Result<()>
         ensures empty { OnOk result (held_back self.new ≡ []) }
         ensures bytes { Keeps (held_contents X.contents self.old)
@@ -105,7 +106,7 @@ impl<X: Write> Held<X> {
         result
     }
 
-    /// Writes what is held back, where these bytes have no room behind it.
+    /// Writes the bytes that are held back, if there is no room for `b` behind them.
     fn make_room(&mut self, b: &[u8]) -> io::Result<()>
         ensures bytes { Keeps (held_contents X.contents self.old)
             (held_contents X.contents self.new) }

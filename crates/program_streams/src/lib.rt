@@ -1,8 +1,10 @@
-//! The streams of a program, over readers and writers of any kind: calls that a signal cut short
-//! are made again, a line is held back until it is flushed, and the first error is remembered.
+//! Layers in front of a program's streams. `Held` holds back a line until it is flushed. `Again`
+//! and `Ahead` repeat calls that a signal interrupted. `Remembering` has the first error.
+//! `read_until` and `read_at_again` read on after failures. Each passes on the bytes of the stream
+//! behind it, also if a call fails.
 //!
-//! Proved, of a stream behind that tells its bytes: each of them reads, writes and keeps exactly
-//! the bytes of that stream, also where a call fails (`specs/Streams.antt`).
+//! Proved, for a stream whose bytes are known: each layer reads, writes and keeps exactly the bytes
+//! of the stream behind it, also if a call fails (`specs/Streams.antt`).
 #![tactic(auto)]
 
 mod again;

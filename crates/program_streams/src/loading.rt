@@ -1,5 +1,6 @@
 //! Bytes that are read into memory up to a length.
-ghost use Rattle.std.specs.Prelude.{◌≡◌, ◌≢◌, ◌+◌, ◌-◌, ◌<◌, ◌≤◌, ◌++◌, IfErr, IfOk, IfSome, OnOk, OnErr, min, length, take, vec_len, vec_capacity};
+ghost use Rattle.std.specs.Prelude.{◌≡◌, ◌≢◌, ◌+◌, ◌-◌, ◌<◌, ◌≤◌, ◌++◌, IfErr, IfOk, IfSome, OnOk};
+ghost use Rattle.std.specs.Prelude.{OnErr, min, length, take, vec_len, vec_capacity};
 ghost use Rattle.std.specs.IoError.{error_kind};
 ghost use Rattle.std.specs.Io.{StartsWith, appended_bytes};
 ghost use Rattle.std.specs.Io.KnownBytes.{Keeps, Consumes, IsAtEnd};
@@ -7,10 +8,10 @@ ghost use Rattle.std.specs.Io.KnownBytes.{Keeps, Consumes, IsAtEnd};
 use crate::signals::read_again;
 use std::io::{self, ErrorKind, Read};
 
-/// How many bytes one call reads at most.
+/// The most bytes that one call reads.
 const PART: usize = 64 << 10;
 
-/// Makes room for an eighth more, where none is left.
+/// Makes room for an eighth more, if none is left.
 fn make_room(bytes: &mut Vec<u8>) -> io::Result<()>
     ensures items { bytes.new.items ≡ bytes.old.items }
     ensures len { vec_len bytes.new ≡ vec_len bytes.old }
@@ -24,7 +25,7 @@ fn make_room(bytes: &mut Vec<u8>) -> io::Result<()>
     Ok(())
 }
 
-/// Reads into the front of a part of memory, at most so many bytes.
+/// Reads at most `most` bytes into the front of a part of memory.
 fn read_part<R: Read>(reader: &mut R, part: &mut [u8], most: usize) -> io::Result<usize>
     requires { most ≤ length part.old }
     ensures most { IfOk result (λ n. n ≤ most) }
@@ -37,7 +38,7 @@ fn read_part<R: Read>(reader: &mut R, part: &mut [u8], most: usize) -> io::Resul
     read_again(reader, &mut part[..most])
 }
 
-/// The least of how many bytes have room, and how many are asked for.
+/// Returns the lesser of `room` and `most`.
 fn asked_of(room: usize, most: u64) -> usize
     ensures { result ≡ min room most }
 {
@@ -48,7 +49,7 @@ fn asked_of(room: usize, most: u64) -> usize
     }
 }
 
-/// Reads on, at most so many bytes, through a part of memory, and says how many.
+/// Reads at most `most` bytes on, through a part of memory, and returns their number.
 fn read_some<R: Read>(
     reader: &mut R,
     bytes: &mut Vec<u8>,
@@ -75,7 +76,7 @@ fn read_some<R: Read>(
     Ok(n)
 }
 
-/// Reads on until there are so many bytes, or the reader ends.
+/// Reads on until there are `until` bytes, or the reader ends.
 fn read_on<R: Read>(
     reader: &mut R,
     bytes: &mut Vec<u8>,
@@ -100,13 +101,13 @@ fn read_on<R: Read>(
     Ok(())
 }
 
-/// Reads on until there are so many bytes, or the reader ends. Memory is asked for once, where it
-/// has as many bytes in all as are expected. However it ends, what was read is behind what was
-/// there, and the reader goes on behind it.
+/// Reads on until there are `until` bytes, or the reader ends. It asks for memory once, if there
+/// are at most `expected` bytes in all. However it ends, the bytes that were read are behind the
+/// earlier ones, and the reader goes on behind them.
 ///
 /// # Errors
 ///
-/// Those of the reader, `OutOfMemory`, and `TimedOut` after 2^64 - 1 calls that a signal cut short.
+/// Those of the reader, `OutOfMemory`, and `TimedOut` after 2^64 - 1 interrupted calls.
 pub fn read_until<R: Read>(
     reader: &mut R,
     bytes: &mut Vec<u8>,

@@ -8,16 +8,17 @@ use crate::ahead::copy_front;
 use crate::signals::{gave_up, is_interrupted};
 use std::io::{self, ErrorKind};
 
-/// What can be read at any position.
+/// A thing that can be read at any position, such as a file.
 pub trait ReadAt {
-    // All the bytes, where they are known.
+    // All the bytes, if they are known.
     ghost stored: { Self → Option (List ℕ) } = { λ _. None };
 
-    /// Puts bytes from a position on into a prefix of `buf`, and says how many; none at the end.
+    /// Puts bytes from a position on into a prefix of `buf`, and returns their number. It is 0 at
+    /// the end.
     ///
     /// # Errors
     ///
-    /// Those of what is read.
+    /// Those of the thing that is read.
     fn read_at(&self, buf: &mut [u8], at: u64) -> io::Result<usize>
         ensures bound { ReadsAtMost result buf.new }
         ensures bytes { ReadsFrom (stored self.now) at result buf.new };
@@ -37,11 +38,11 @@ impl ReadAt for &[u8] {
     }
 }
 
-/// Reads a part from a position on, again where a signal cut the call short.
+/// Reads a part from a position on, and repeats the call if a signal interrupted it.
 ///
 /// # Errors
 ///
-/// Those of what is read; `TimedOut` after 2^64 - 1 calls that were cut short.
+/// Those of the thing that is read, and `TimedOut` after 2^64 - 1 interrupted calls.
 pub fn read_at_again<F: ReadAt>(file: &F, at: u64, buf: &mut [u8]) -> io::Result<usize>
     ensures bound { ReadsAtMost result buf.new }
     ensures bytes { ReadsFrom (F.stored file.now) at result buf.new }

@@ -1,4 +1,4 @@
-//! Writers that remember why they failed.
+//! Writers that remember their first error.
 ghost use Rattle.std.specs.Prelude.{◌≡◌, None};
 ghost use Rattle.std.specs.IoError.{error_kind};
 ghost use Rattle.std.specs.Io.{WritesAtMost};
@@ -7,7 +7,7 @@ ghost use Rattle.program_streams.specs.Streams.{Notes, Remembers, first_error, r
 
 use std::io::{self, Write};
 
-/// A writer that remembers why it failed first.
+/// A writer that remembers its first error.
 #[derive(Drop)]
 pub struct Remembering<X> {
     inner: X,
@@ -15,7 +15,7 @@ pub struct Remembering<X> {
 }
 
 impl<X: Drop> Remembering<X> {
-    /// Why it failed first, if it failed.
+    /// Returns the first error, if a call failed.
     pub fn error(self) -> Option<io::Error>
         ensures { result ≡ first_error self }
     {
@@ -24,7 +24,7 @@ impl<X: Drop> Remembering<X> {
 }
 
 impl<X> Remembering<X> {
-    /// In front of this writer.
+    /// Returns a writer in front of this one.
     pub fn new(inner: X) -> Remembering<X>
         ensures inner { remembering_inner result ≡ inner }
         ensures none { first_error result ≡ None }
@@ -32,7 +32,7 @@ impl<X> Remembering<X> {
         Remembering { inner, error: None }
     }
 
-    /// Remembers why a call failed, and gives the kind of it.
+    /// Remembers an error if it is the first, and returns one of its kind.
     fn note(&mut self, e: io::Error) -> io::Error
         ensures inner { remembering_inner self.new ≡ remembering_inner self.old }
         ensures noted { Notes (first_error self.old) (first_error self.new) result }

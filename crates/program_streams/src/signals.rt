@@ -1,4 +1,4 @@
-//! Calls that are made again where a signal cut them short.
+//! Calls that are repeated if a signal interrupted them.
 ghost use Rattle.std.specs.Prelude.{◌≡◌, ◌≢◌, ◌↔◌, ◌<◌, IsTrue, OnErr, IfErr, IfOk, take, length};
 ghost use Rattle.std.specs.IoError.{error_kind};
 ghost use Rattle.std.specs.Io.{ReadsAtMost, WritesAtMost};
@@ -6,21 +6,21 @@ ghost use Rattle.std.specs.Io.KnownBytes.{Keeps, Appends, Consumes, IsAtEnd};
 
 use std::io::{self, ErrorKind, Read, Write};
 
-/// Whether a signal cut a call short.
+/// Returns whether a signal interrupted a call.
 pub(crate) fn is_interrupted(e: &io::Error) -> bool
     ensures { IsTrue result ↔ (error_kind e.now ≡ ErrorKind.Interrupted) }
 {
     e.kind() == ErrorKind::Interrupted
 }
 
-/// What is answered where 2^64 - 1 calls were cut short.
+/// Returns the error for 2^64 - 1 interrupted calls.
 pub(crate) fn gave_up() -> io::Error
     ensures { error_kind result ≡ ErrorKind.TimedOut }
 {
     io::Error::from(ErrorKind::TimedOut)
 }
 
-/// Reads.
+/// Reads, and repeats an interrupted call.
 pub(crate) fn read_again<R: Read>(reader: &mut R, buf: &mut [u8]) -> io::Result<usize>
     ensures bound { ReadsAtMost result buf.new }
     ensures ok { IfOk result (λ n. Consumes (R.remaining reader.old) (R.remaining reader.new)
@@ -42,7 +42,7 @@ pub(crate) fn read_again<R: Read>(reader: &mut R, buf: &mut [u8]) -> io::Result<
     Err(gave_up())
 }
 
-/// Writes.
+/// Writes, and repeats an interrupted call.
 pub(crate) fn write_again<W: Write>(writer: &mut W, b: &[u8]) -> io::Result<usize>
     ensures bound { WritesAtMost result b.now }
     ensures ok { IfOk result (λ n. Appends (W.contents writer.old) (W.contents writer.new)
@@ -63,7 +63,7 @@ pub(crate) fn write_again<W: Write>(writer: &mut W, b: &[u8]) -> io::Result<usiz
     Err(gave_up())
 }
 
-/// Flushes.
+/// Flushes, and repeats an interrupted call.
 pub(crate) fn flush_again<W: Write>(writer: &mut W) -> io::Result<()>
     ensures bytes { Keeps (W.contents writer.old) (W.contents writer.new) }
     ensures retried { IfErr result (λ e. error_kind e ≢ ErrorKind.Interrupted) }

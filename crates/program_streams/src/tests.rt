@@ -2,8 +2,8 @@ use crate::{Again, Ahead, Held, Remembering, read_at_again, read_until};
 use std::io::{self, BufRead, ErrorKind, Read, Write};
 use std::test::Fail;
 
-/// A stream that takes or gives two bytes a call. A signal cuts its first call short, and its third
-/// one fails.
+/// A stream that accepts or returns two bytes with each call. A signal interrupts its first call,
+/// and its third call fails.
 #[derive(Drop)]
 struct Troubled<X> {
     inner: X,

@@ -1,4 +1,4 @@
--- Where the root is not sound, nothing but it is reached.
+-- Where the root is not valid, only it is reached.
 use Rattle.std.proofs.Common.{◌≡◌, ◌<◌, ℕ, [], ◌∷◌, refl, sym, subst, ◌∙◌, arith}
 use Rattle.record_forest.specs.declared.reference.Reference.{Reference}
 use Rattle.rom_faults.specs.declared.fault.Fault.{Fault}
@@ -15,7 +15,8 @@ module _ {g : References} {Sound : Reference → Type 0} (unsound : Sound g.top 
   alone_few most some (x ∷ [], apart, each, over) = omega arith
   alone_few most some (x ∷ y ∷ zs, apart, each, over) = apart.0.0 (alone x each.0 ∙ sym (alone y each.1.0))
 
-  pub alone_fault : (Faulty : Reference → Fault → Type 0) (e : Fault) → IsLeastFault (Faulty g.top) e → IsLeastFault (HasFault g Sound Faulty) e
+  pub alone_fault : (Faulty : Reference → Fault → Type 0) (e : Fault) → IsLeastFault (Faulty g.top) e
+      → IsLeastFault (HasFault g Sound Faulty) e
   alone_fault Faulty e h = record {
     here = record { reference = g.top; reached = top refl; faulty = h.here };
     least = λ d f. h.least d (subst (λ x. Faulty x d) (alone f.reference f.reached) f.faulty);

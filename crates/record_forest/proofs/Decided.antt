@@ -1,4 +1,4 @@
--- What cannot fail holds, where a test decides it.
+-- What cannot fail holds, if a test decides it.
 use Rattle.std.proofs.Common.{◌≡◌, ◌≢◌, ℕ, List, Bool, true, false, eqb, bytes_eq, ◌⊎◌, inl, inr, refl}
 use Rattle.std.proofs.lemmas.Bool.{false≢true}
 use Rattle.std.proofs.lemmas.Bool.Decides.{Decides-eqb}

@@ -1,5 +1,6 @@
 -- The marks of the names that repeat an earlier one, name by name in their order.
-use Rattle.std.proofs.Common.{◌≡◌, ℕ, ◌+◌, ◌-◌, ◌<◌, ◌≤◌, Bool, true, false, List, [], ◌∷◌, length, get_or, inl, inr, refl, sym, ap, subst, ◌∙◌, arith, IsPermutation, slice_set}
+use Rattle.std.proofs.Common.{◌≡◌, ℕ, ◌+◌, ◌-◌, ◌<◌, ◌≤◌, Bool, true, false, List, [], ◌∷◌, length, get_or, inl, inr}
+use Rattle.std.proofs.Common.{refl, sym, ap, subst, ◌∙◌, arith, IsPermutation, slice_set}
 use Rattle.std.proofs.lemmas.Bool.{cases_eq, cases_lt, true≢false}
 use Rattle.std.proofs.lemmas.List.{get_or_default}
 use Rattle.std.proofs.lemmas.List.Elements.{Contains-get_or}
@@ -30,7 +31,8 @@ place_order = by_place list_of name_of index_of
 
 -- the same, as the fields are compared one after the other
 abbrev pub field_order : ListedName → ListedName → Ordering
-field_order x y = ordering_then (nat_cmp x.list y.list) (ordering_then (slice_cmp nat_cmp x.name.now y.name.now) (nat_cmp x.index y.index))
+field_order x y = ordering_then (nat_cmp x.list y.list)
+    (ordering_then (slice_cmp nat_cmp x.name.now y.name.now) (nat_cmp x.index y.index))
 
 then_assoc : (a b c : Ordering) → ordering_then (ordering_then a b) c ≡ ordering_then a (ordering_then b c)
 then_assoc Less b c = refl
@@ -41,20 +43,22 @@ pub places_sorted : (ys : List ListedName) → IsSorted field_order ys → IsSor
 places_sorted ys up k d o l =
     let x = get_or ys (k + 1) d in
     let y = get_or ys k d in
-    ap is_lt (then_assoc (nat_cmp x.list y.list) (slice_cmp nat_cmp x.name.now y.name.now) (nat_cmp x.index y.index)) ∙ up k d o l
+    ap is_lt (then_assoc (nat_cmp x.list y.list) (slice_cmp nat_cmp x.name.now y.name.now) (nat_cmp x.index y.index))
+    ∙ up k d o l
 
 -- Of the sorted names ys, the neighbours below i were looked at.
 pub record Marked (xs ys : List ListedName) (marks : List Bool) (i : ℕ) : Type 0 where
   pub count : length marks ≡ length xs
   pub set : (k : ℕ) → k < length xs → get_or marks k false ≡ true → Repeats xs k
-  pub seen : (k : ℕ) (d : ListedName) → k + 1 < i → AreAlike (get_or ys k d) (get_or ys (k + 1) d) → get_or marks (get_or ys (k + 1) d).index false ≡ true
+  pub seen : (k : ℕ) (d : ListedName) → k + 1 < i → AreAlike (get_or ys k d) (get_or ys (k + 1) d)
+      → get_or marks (get_or ys (k + 1) d).index false ≡ true
 
 -- a name of a list that has some
 pub some : (xs : List ListedName) (k : ℕ) → k < length xs → ListedName
 some [] k l = absurd (omega arith)
 some (x ∷ xs) k l = x
 
--- where a sorted name stood before the sort
+-- the index of a sorted name before the sort
 place_of : (xs ys : List ListedName) → AreNumbered xs → IsPermutation xs ys → (m : ℕ) (d : ListedName) → m < length ys
     → ((get_or ys m d).index < length xs) × ((e : ListedName) → get_or xs (get_or ys m d).index e ≡ get_or ys m d)
 place_of xs ys own p m d l =
@@ -67,7 +71,8 @@ place_of xs ys own p m d l =
 
 module _ (xs ys : List ListedName) (own : AreNumbered xs) (p : IsPermutation xs ys) (up : IsSorted place_order ys) where
   -- no pair of neighbours was looked at
-  pub marked_start : (marks : List Bool) → length marks ≡ length xs → ((k : ℕ) → k < length xs → get_or marks k false ≡ false) → Marked xs ys marks 1
+  pub marked_start : (marks : List Bool) → length marks ≡ length xs
+      → ((k : ℕ) → k < length xs → get_or marks k false ≡ false) → Marked xs ys marks 1
   marked_start marks n h = record {
     count = n;
     set = λ k l e. absurd (true≢false (sym e ∙ h k l));
@@ -75,7 +80,9 @@ module _ (xs ys : List ListedName) (own : AreNumbered xs) (p : IsPermutation xs 
   }
 
   -- the next two differ
-  pub marked_apart : (marks : List Bool) (i : ℕ) (d : ListedName) → 1 ≤ i → (AreAlike (get_or ys (i - 1) d) (get_or ys i d) → ⊥) → i < length ys → Marked xs ys marks i → Marked xs ys marks (i + 1)
+  pub marked_apart : (marks : List Bool) (i : ℕ) (d : ListedName) → 1 ≤ i
+      → (AreAlike (get_or ys (i - 1) d) (get_or ys i d) → ⊥) → i < length ys → Marked xs ys marks i
+      → Marked xs ys marks (i + 1)
   marked_apart marks i d o n l w = record {
     count = w.count;
     set = w.set;
@@ -84,14 +91,18 @@ module _ (xs ys : List ListedName) (own : AreNumbered xs) (p : IsPermutation xs 
       | inr c ↦
           let is : k + 1 ≡ i = omega arith in
           let before : k ≡ i - 1 = omega arith in
-          let one : get_or ys k e ≡ get_or ys (i - 1) d = get_or_default ys k e d (omega arith) ∙ ap (λ (v : ℕ). get_or ys v d) before in
-          let other : get_or ys (k + 1) e ≡ get_or ys i d = get_or_default ys (k + 1) e d (omega arith) ∙ ap (λ (v : ℕ). get_or ys v d) is in
-          absurd (n (subst (λ (v : ListedName). AreAlike v (get_or ys i d)) one (subst (AreAlike (get_or ys k e)) other a)))
+          let one : get_or ys k e ≡ get_or ys (i - 1) d =
+          get_or_default ys k e d (omega arith) ∙ ap (λ (v : ℕ). get_or ys v d) before in
+          let other : get_or ys (k + 1) e ≡ get_or ys i d =
+          get_or_default ys (k + 1) e d (omega arith) ∙ ap (λ (v : ℕ). get_or ys v d) is in
+          absurd (n (subst (λ (v : ListedName). AreAlike v (get_or ys i d)) one
+          (subst (AreAlike (get_or ys k e)) other a)))
     ];
   }
 
   -- the next two are alike, and the later one is marked
-  pub marked_alike : (marks : List Bool) (i : ℕ) (d : ListedName) → 1 ≤ i → AreAlike (get_or ys (i - 1) d) (get_or ys i d) → i < length ys → Marked xs ys marks i
+  pub marked_alike : (marks : List Bool) (i : ℕ) (d : ListedName) → 1 ≤ i
+      → AreAlike (get_or ys (i - 1) d) (get_or ys i d) → i < length ys → Marked xs ys marks i
       → Marked xs ys (slice_set marks (get_or ys i d).index true) (i + 1)
   marked_alike marks i d o a l w = record {
     count = length-set marks here.index true ∙ w.count;
@@ -103,13 +114,16 @@ module _ (xs ys : List ListedName) (own : AreNumbered xs) (p : IsPermutation xs 
       | inl c ↦
           let u : ListedName = get_or ys (k + 1) e in
           elim (cases_eq u.index here.index) [
-            | inl q ↦ (ap (λ (v : ℕ). get_or (slice_set marks here.index true) v false) q ∙ get_or-set_same marks here.index true false room)
+            | inl q ↦ (ap (λ (v : ℕ). get_or (slice_set marks here.index true) v false) q
+                ∙ get_or-set_same marks here.index true false room)
             | inr q ↦ (get_or-set_other marks here.index u.index true false q ∙ w.seen k e c h)
           ]
       | inr c ↦
           let is : k + 1 ≡ i = omega arith in
-          let other : get_or ys (k + 1) e ≡ here = get_or_default ys (k + 1) e d (omega arith) ∙ ap (λ (v : ℕ). get_or ys v d) is in
-          ap (λ (v : ListedName). get_or (slice_set marks here.index true) v.index false) other ∙ get_or-set_same marks here.index true false room
+          let other : get_or ys (k + 1) e ≡ here =
+          get_or_default ys (k + 1) e d (omega arith) ∙ ap (λ (v : ℕ). get_or ys v d) is in
+          ap (λ (v : ListedName). get_or (slice_set marks here.index true) v.index false) other
+          ∙ get_or-set_same marks here.index true false room
     ];
   }
     where
@@ -133,29 +147,42 @@ module _ (xs ys : List ListedName) (own : AreNumbered xs) (p : IsPermutation xs 
 
       lesser : before.index < here.index
       lesser = subst (λ (v : ListedName). before.index < v.index) neighbour
-          (earlier list_of name_of index_of xs ys p up own (i - 1) d (omega arith) (subst (AreAlike before) (sym neighbour) a))
+          (earlier list_of name_of index_of xs ys p up own (i - 1) d (omega arith)
+          (subst (AreAlike before) (sym neighbour) a))
 
       first : (before.index < length xs) × ((e : ListedName) → get_or xs before.index e ≡ before)
       first = place_of xs ys own p (i - 1) d (omega arith)
 
       repeats : Repeats xs here.index
-      repeats = (before.index, lesser, λ e. subst (AreAlike (get_or xs before.index e)) (sym (there.1 e)) (subst (λ (v : ListedName). AreAlike v here) (sym (first.1 e)) a))
+      repeats = (
+        before.index,
+        lesser,
+        λ e. subst (AreAlike (get_or xs before.index e)) (sym (there.1 e))
+            (subst (λ (v : ListedName). AreAlike v here) (sym (first.1 e)) a),
+      )
 
   -- the same of two names that were read
-  pub next_apart : (marks : List Bool) (i : ℕ) (one other : ListedName) → 1 ≤ i → i < length ys → one ≡ get_or ys (i - 1) one → other ≡ get_or ys i other → (AreAlike one other → ⊥)
+  pub next_apart : (marks : List Bool) (i : ℕ) (one other : ListedName) → 1 ≤ i → i < length ys
+      → one ≡ get_or ys (i - 1) one → other ≡ get_or ys i other → (AreAlike one other → ⊥)
       → Marked xs ys marks i → Marked xs ys marks (i + 1)
   next_apart marks i one other o l e f n w =
       let first : get_or ys (i - 1) other ≡ one = get_or_default ys (i - 1) other one (omega arith) ∙ sym e in
-      marked_apart marks i other o (λ a. n (subst (λ (v : ListedName). AreAlike v other) first (subst (AreAlike (get_or ys (i - 1) other)) (sym f) a))) l w
+      marked_apart marks i other o (λ a. n
+      (subst (λ (v : ListedName). AreAlike v other) first
+      (subst (AreAlike (get_or ys (i - 1) other)) (sym f) a))) l w
 
-  pub next_alike : (marks : List Bool) (i : ℕ) (one other : ListedName) → 1 ≤ i → i < length ys → one ≡ get_or ys (i - 1) one → other ≡ get_or ys i other → AreAlike one other
+  pub next_alike : (marks : List Bool) (i : ℕ) (one other : ListedName) → 1 ≤ i → i < length ys
+      → one ≡ get_or ys (i - 1) one → other ≡ get_or ys i other → AreAlike one other
       → Marked xs ys marks i → Marked xs ys (slice_set marks other.index true) (i + 1)
   next_alike marks i one other o l e f a w =
       let first : get_or ys (i - 1) other ≡ one = get_or_default ys (i - 1) other one (omega arith) ∙ sym e in
-      let both : AreAlike (get_or ys (i - 1) other) (get_or ys i other) = subst (λ (v : ListedName). AreAlike v (get_or ys i other)) (sym first) (subst (AreAlike one) f a) in
-      subst (λ (v : ListedName). Marked xs ys (slice_set marks v.index true) (i + 1)) (sym f) (marked_alike marks i other o both l w)
+      let both : AreAlike (get_or ys (i - 1) other) (get_or ys i other) =
+      subst (λ (v : ListedName). AreAlike v (get_or ys i other)) (sym first) (subst (AreAlike one) f a) in
+      subst (λ (v : ListedName). Marked xs ys (slice_set marks v.index true) (i + 1)) (sym f)
+      (marked_alike marks i other o both l w)
 
-  pub next_within : (marks : List Bool) (i : ℕ) (other : ListedName) → i < length ys → other ≡ get_or ys i other → Marked xs ys marks i → other.index < length marks
+  pub next_within : (marks : List Bool) (i : ℕ) (other : ListedName) → i < length ys → other ≡ get_or ys i other
+      → Marked xs ys marks i → other.index < length marks
   next_within marks i other l f w =
       let t = place_of xs ys own p i other l in
       subst (λ (v : ℕ). other.index < v) (sym w.count) (subst (λ (v : ListedName). v.index < length xs) (sym f) t.0)
@@ -167,8 +194,10 @@ module _ (xs ys : List ListedName) (own : AreNumbered xs) (p : IsPermutation xs 
     set = w.set;
     clear = λ k m e r.
         let d : ListedName = some xs k m in
-        let f = found list_of name_of index_of xs ys p up k r.0 d m r.1 (own k d m) (own r.0 d (let u = r.1 in omega arith)) (r.2 d) in
+        let f = found list_of name_of index_of xs ys p up k r.0 d m r.1 (own k d m)
+        (own r.0 d (let u = r.1 in omega arith)) (r.2 d) in
         let there : (get_or ys (f.0 + 1) d).index ≡ k = ap (λ (v : ListedName). v.index) f.2 ∙ own k d m in
-        let marked : get_or marks k false ≡ true = ap (λ (v : ℕ). get_or marks v false) (sym there) ∙ w.seen f.0 d (let u = f.1 in omega arith) f.3 in
+        let marked : get_or marks k false ≡ true =
+        ap (λ (v : ℕ). get_or marks v false) (sym there) ∙ w.seen f.0 d (let u = f.1 in omega arith) f.3 in
         true≢false (sym marked ∙ e);
   }

@@ -10,7 +10,8 @@ module _ (P : ℕ → Type 0) where
   part_known k l h p s e f n a b = h s e (p s e f) n a b
 
   -- one more
-  pub more_known : (k l : VerifiedRanges) (from to : ℕ) → AreKnown P k → ((s e : ℕ) → end_of l s ≡ Some e → (end_of k s ≡ Some e) ⊎ ((s ≡ from) × (e ≡ to)))
+  pub more_known : (k l : VerifiedRanges) (from to : ℕ) → AreKnown P k
+      → ((s e : ℕ) → end_of l s ≡ Some e → (end_of k s ≡ Some e) ⊎ ((s ≡ from) × (e ≡ to)))
       → ((n : ℕ) → from ≤ n → n < to → P n) → AreKnown P l
   more_known k l from to h p w s e f n a b = elim (p s e f) [
     | inl o ↦ h s e o n a b
@@ -18,7 +19,8 @@ module _ (P : ℕ → Type 0) where
   ]
 
   -- up to the end of a range that was taken out, from the lesser of both starts on
-  pub joined : (k : VerifiedRanges) (start next from to : ℕ) → AreKnown P k → end_of k from ≡ Some to → from ≤ next → next < to → ((n : ℕ) → start ≤ n → n < next → P n)
+  pub joined : (k : VerifiedRanges) (start next from to : ℕ) → AreKnown P k → end_of k from ≡ Some to → from ≤ next
+      → next < to → ((n : ℕ) → start ≤ n → n < next → P n)
       → (n : ℕ) → min start from ≤ n → n < to → P n
   joined k start next from to h is l m w n a b = elim (cases_lt n from) [
     | inl c ↦ w n (omega arith) (omega arith)
@@ -26,7 +28,8 @@ module _ (P : ℕ → Type 0) where
   ]
 
   -- one number further
-  pub one_more : (start next : ℕ) → ((n : ℕ) → start ≤ n → n < next → P n) → P next → (n : ℕ) → start ≤ n → n < next + 1 → P n
+  pub one_more : (start next : ℕ) → ((n : ℕ) → start ≤ n → n < next → P n) → P next → (n : ℕ) → start ≤ n → n < next + 1
+      → P n
   one_more start next w p n a b = elim (cases_lt n next) [
     | inl c ↦ w n a c
     | inr c ↦ (let is : n ≡ next = omega arith in subst P (sym is) p)

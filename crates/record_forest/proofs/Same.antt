@@ -1,4 +1,4 @@
--- What stands from a reference on is determined by it.
+-- The forest from a reference on is determined by it.
 use Rattle.std.proofs.Common.{◌≡◌, refl}
 use Rattle.record_forest.specs.declared.reference.Reference.{Reference}
 use Rattle.record_forest.specs.References.{References}

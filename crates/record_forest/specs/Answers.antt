@@ -1,15 +1,20 @@
--- What the check of an image answers, by the faults of its format. (This project's own.)
+-- `traversal_answer`: a refusal of the traversal as the answer of a check. `AnswersLeast`: the
+-- answer is the least fault; or memory was refused, and then the image as a whole has no fault.
+-- (This project's own.)
 use Rattle.rom_faults.specs.declared.error.CheckError.{CheckError}
-use Rattle.rom_faults.specs.declared.error.CheckError.TheVariants.{OutOfMemory, Fault as FaultAnswer}
+use Rattle.rom_faults.specs.declared.error.CheckError.TheVariants.{OutOfMemory}
+use Rattle.rom_faults.specs.declared.error.CheckError.TheVariants.{Fault as FaultAnswer}
 use Rattle.rom_faults.specs.declared.fault.Fault.{Fault}
 use Rattle.rom_faults.specs.FaultNumbers.{TOO_MANY, TWICE}
 use Rattle.rom_faults.specs.Faults.{fault_answer}
 use Rattle.record_forest.specs.Faults.{IsNone}
 use Rattle.record_forest.specs.declared.traversal.TraversalError.{TraversalError}
-use Rattle.record_forest.specs.declared.traversal.TraversalError.TheVariants.{OutOfMemory as NoMemory, TooMany, Record, Twice}
+use Rattle.record_forest.specs.declared.traversal.TraversalError.TheVariants.{OutOfMemory as NoMemory}
+use Rattle.record_forest.specs.declared.traversal.TraversalError.TheVariants.{TooMany, Record}
+use Rattle.record_forest.specs.declared.traversal.TraversalError.TheVariants.{Twice}
 
--- the answered fault is the least, which Least tells; that memory was refused is answered only where the image as a
--- whole has no fault, which Whole tells
+-- the answered fault is the least, by Least; refused memory is answered only if the image as a
+-- whole has no fault, by Whole
 abbrev pub AnswersLeast : (Fault → Type 0) → (Fault → Type 0) → CheckError → Type 0
 AnswersLeast Whole Least OutOfMemory = IsNone Whole
 AnswersLeast Whole Least (FaultAnswer number at) = Least (record { number = number; at = at })

@@ -1,18 +1,24 @@
--- The faults that references and records make, without any forest or order of visiting. (This project's own.)
-use Rattle.std.specs.Prelude.{◌≡◌, ◌≢◌, ℕ, ◌+◌, ◌<◌, ◌≤◌, List, length, Some, ◌⊎◌, Option, IfSome, IsSomeAnd}
+-- `TooMany`, `HasFault`, `Twice`: the faults of references and records, apart from any forest.
+-- `InList`: a reference is in the list of a directory. `HasDepth`: the number of names that lead
+-- from the root to a record. `IsLeastFault`, `IsLeastFaultOf`: the least by offset, then by number.
+-- `IsNone`: nothing has the fault. (This project's own.)
+use Rattle.std.specs.Prelude.{◌≡◌, ◌≢◌, ℕ, ◌+◌, ◌<◌, ◌≤◌, List, length, Some, ◌⊎◌, Option, IfSome}
+use Rattle.std.specs.Prelude.{IsSomeAnd}
 use Rattle.std.specs.List.{AllByRecursion as Every}
 use Rattle.record_forest.specs.declared.reference.Reference.{Reference}
 use Rattle.rom_faults.specs.declared.fault.Fault.{Fault}
 use Rattle.record_forest.specs.Members.{Pairs}
 use Rattle.record_forest.specs.References.{References, IsLive, Reached}
 
--- there are more reached references than most, no two the same
+-- there are more reached references than `most`, no two of them the same
 abbrev pub TooMany : References → (Reference → Type 0) → ℕ → Type 0
 TooMany g Sound most =
-    (xs : List Reference) × Pairs (λ x y. x ≢ y) xs × Every (Reached g Sound) xs × (most < length xs)
+    (xs : List Reference) × Pairs (λ x y. x ≢ y) xs × Every (Reached g Sound) xs
+    × (most < length xs)
 
 -- a record that a reached reference leads to has this fault
-pub record HasFault (g : References) (Sound : Reference → Type 0) (Faulty : Reference → Fault → Type 0)
+pub record HasFault (g : References) (Sound : Reference → Type 0)
+    (Faulty : Reference → Fault → Type 0)
     (e : Fault) : Type 0 where
   pub reference : Reference
   pub reached : Reached g Sound reference
@@ -37,16 +43,16 @@ pub record IsLeastFault (P : Fault → Type 0) (e : Fault) : Type 0 where
   pub here : P e
   pub least : (d : Fault) → P d → NotAfter e d
 
--- the least fault of those that P tells, or none where it tells none
+-- the least fault for which P holds, or none if there is none
 pub record IsLeastFaultOf (P : Fault → Type 0) (o : Option Fault) : Type 0 where
   pub here : IfSome o P
   pub least : (d : Fault) → P d → IsSomeAnd o (λ e. NotAfter e d)
 
--- none has this fault
+-- P holds for no fault
 abbrev pub IsNone : (Fault → Type 0) → Type 0
 IsNone P = (e : Fault) → P e → ⊥
 
--- the least offset of which P holds
+-- the least offset for which P holds
 pub record IsLeast (P : ℕ → Type 0) (p : ℕ) : Type 0 where
   pub here : P p
   pub least : (q : ℕ) → P q → p ≤ q
@@ -57,17 +63,21 @@ pub record IsClean (g : References) (Sound : Reference → Type 0) (most : ℕ) 
   pub sound : (x : Reference) → Reached g Sound x → Sound x
   pub once : (q : ℕ) → Twice g Sound q → ⊥
 
--- x is a reference in the list of the directory at d. What follows the superblock's reference is in the root's own
--- list.
+-- x is a reference in the list of the directory at d. What follows the superblock's reference is in
+-- the root's own list.
 pub data InList (g : References) (Sound : Reference → Type 0) : ℕ → Reference → Type 0 where
-  first : {d : ℕ} {x y : Reference} → Reached g Sound x → Sound x → g.target x ≡ Some d → g.own x ≡ y → IsLive g y
+  first : {d : ℕ} {x y : Reference} → Reached g Sound x → Sound x → g.target x ≡ Some d
+      → g.own x ≡ y → IsLive g y
       → InList g Sound d y
-  next : {d : ℕ} {x y : Reference} → InList g Sound d x → Sound x → g.after x ≡ y → IsLive g y → InList g Sound d y
-  beside_root : {d : ℕ} {y : Reference} → Sound g.top → g.target g.top ≡ Some d → g.after g.top ≡ y → IsLive g y
+  next : {d : ℕ} {x y : Reference} → InList g Sound d x → Sound x → g.after x ≡ y → IsLive g y
+      → InList g Sound d y
+  beside_root : {d : ℕ} {y : Reference} → Sound g.top → g.target g.top ≡ Some d → g.after g.top ≡ y
+      → IsLive g y
       → InList g Sound d y
 
--- n names lead from the root to the record at p
+-- the record at p is n names below the root
 pub data HasDepth (g : References) (Sound : Reference → Type 0) : ℕ → ℕ → Type 0 where
   root : {r : ℕ} → g.target g.top ≡ Some r → HasDepth g Sound r 0
-  below : {d p n : ℕ} {x : Reference} → HasDepth g Sound d n → InList g Sound d x → g.target x ≡ Some p
+  below : {d p n : ℕ} {x : Reference} → HasDepth g Sound d n → InList g Sound d x
+      → g.target x ≡ Some p
       → g.target g.top ≢ Some p → HasDepth g Sound p (n + 1)

@@ -1,5 +1,7 @@
--- The lesser of what a traversal has noted and what it meets. (This project's own.)
-use Rattle.std.specs.Prelude.{ℕ, Option, None, Some, nat_lt, nat_le, ◌==◌, ◌||◌, ◌&&◌, if◌then◌else◌}
+-- `lesser`, `lesser_fault`, `lesser_of_both`: the lesser of two offsets or of two faults, if there
+-- are two. (This project's own.)
+use Rattle.std.specs.Prelude.{ℕ, Option, None, Some, nat_lt, nat_le, ◌==◌, ◌||◌, ◌&&◌}
+use Rattle.std.specs.Prelude.{if◌then◌else◌}
 use Rattle.rom_faults.specs.declared.fault.Fault.{Fault}
 
 -- the lesser of a number, if there is one, and q
@@ -10,9 +12,10 @@ lesser (Some p) q = Some (if nat_lt p q then p else q)
 -- the lesser of a fault, if there is one, and e
 abbrev pub lesser_fault : Option Fault → Fault → Option Fault
 lesser_fault None e = Some e
-lesser_fault (Some d) e = Some (if nat_lt d.at e.at || (d.at == e.at && nat_le d.number e.number) then d else e)
+lesser_fault (Some d) e =
+    Some (if nat_lt d.at e.at || (d.at == e.at && nat_le d.number e.number) then d else e)
 
--- the lesser of two faults, where there are two
+-- the lesser of two faults, or the only one
 abbrev pub lesser_of_both : Option Fault → Option Fault → Option Fault
 lesser_of_both o None = o
 lesser_of_both o (Some e) = lesser_fault o e

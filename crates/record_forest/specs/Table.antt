@@ -1,11 +1,12 @@
--- References that stand in two tables, as in the tests: for the record at each place, where its own
--- list begins, and where the record after it stands.
-use Rattle.std.specs.Prelude.{◌≡◌, ◌<◌, ◌≤◌, ◌==◌, ℕ, true, List, get_or, Option, None, Some, IfSome, if◌then◌else◌}
+-- `table_references`: references in two tables, for tests. For the record at each offset, one table
+-- has the offset of its own list, and the other that of the next record. (This project's own.)
+use Rattle.std.specs.Prelude.{◌≡◌, ◌<◌, ◌≤◌, ◌==◌, ℕ, true, List, get_or, Option, None, Some}
+use Rattle.std.specs.Prelude.{IfSome, if◌then◌else◌}
 use Rattle.record_forest.specs.declared.reference.Reference.{Reference}
 use Rattle.rom_faults.specs.declared.fault.Fault.{Fault}
 use Rattle.record_forest.specs.References.{References}
 
--- no record stands at 0
+-- no record is at 0
 abbrev pub offset : ℕ → Option ℕ
 offset n = if n == 0 then None else Some n
 
@@ -14,7 +15,7 @@ abbrev pub place : Option ℕ → ℕ
 place None = 0
 place (Some p) = p
 
--- the root stands at 1
+-- the root is at 1
 abbrev pub table_target : List ℕ → List ℕ → Reference → Option ℕ
 table_target own after x = if x.which == 0 then Some 1
     else (if x.which == 1 then offset (get_or own x.source 0) else offset (get_or after x.source 0))
@@ -33,4 +34,5 @@ abbrev pub table_sound : List ℕ → List ℕ → Reference → Type 0
 table_sound own after x = IfSome (table_target own after x) (λ p. p < 8)
 
 abbrev pub table_faulty : List ℕ → List ℕ → Reference → Fault → Type 0
-table_faulty own after x e = IfSome (table_target own after x) (λ p. (8 ≤ p) × (e ≡ record { number = 1; at = p }))
+table_faulty own after x e =
+    IfSome (table_target own after x) (λ p. (8 ≤ p) × (e ≡ record { number = 1; at = p }))

@@ -1,4 +1,4 @@
-//! What a traversal met, as a check of an image answers it.
+//! Refusals of the traversal as answers of a check.
 ghost use Rattle.std.specs.Prelude.{◌≡◌};
 ghost use Rattle.record_forest.specs.Answers.{traversal_answer};
 
@@ -6,8 +6,8 @@ use crate::traversal::TraversalError;
 use rom_faults::CheckError;
 use rom_faults::fault::{TOO_MANY, TWICE};
 
-/// A refusal of the traversal is answered by fault 1 at 0 where there are too many references, by a
-/// record's own fault, and by fault 20 at a record to which two references lead.
+/// Answers a refusal of the traversal: too many references by fault 1 at 0, a record's fault by
+/// that fault, and a record to which two references lead by fault 20 at that record.
 impl From<TraversalError> for CheckError {
     ghost from_gives = { λ error answer. answer ≡ traversal_answer error };
 

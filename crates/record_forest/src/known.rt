@@ -5,22 +5,22 @@ ghost use Rattle.record_forest.specs.Known.{end_of, IsPartOf};
 use std::alloc::Global;
 use std::collections::BTreeMap;
 
-/// The numbers from `start` up to `end`, which is not among them.
+/// The numbers from `start` to `end`, without `end`.
 #[derive(Clone, Copy, PartialEq, Eq)]
 pub struct Range {
     pub start: u32,
     pub end: u32,
 }
 
-/// Ranges of numbers that were looked at and found well, so that none is looked at again. What is
-/// not known may be looked at again: a refused growth loses a range, and nothing else.
+/// Ranges of numbers that were found valid, so that they need not be looked at again. If memory is
+/// refused, a range is not kept, and its numbers are looked at again.
 #[derive(Drop)]
 pub struct VerifiedRanges {
     ends: BTreeMap<u32, u32, Global>,
 }
 
 impl VerifiedRanges {
-    /// Nothing is known. Takes no memory.
+    /// Makes an empty set. Allocates no memory.
     pub fn new(alloc: Global) -> VerifiedRanges
         ensures { (start : ℕ) → end_of result start ≡ None }
     {
@@ -29,7 +29,8 @@ impl VerifiedRanges {
         }
     }
 
-    /// Takes out the range with the greatest start up to `at`, where it has `at`.
+    /// Looks at the range with the greatest start up to `at`. Removes and returns it if it has
+    /// `at`.
     pub fn take(&mut self, at: u32) -> Option<Range>
         ensures range { IfSome result (λ x. end_of self.old x.start ≡ Some x.end) }
         ensures has { IfSome result (λ x. (x.start ≤ at) × (at < x.end)) }
@@ -46,7 +47,7 @@ impl VerifiedRanges {
         Some(Range { start, end })
     }
 
-    /// Adds a range. Where the growth is refused nothing changes.
+    /// Adds a range, unless memory is refused.
     pub fn note(&mut self, range: Range)
         ensures { (start end : ℕ) → end_of self.new start ≡ Some end
             → (end_of self.old start ≡ Some end) ⊎ ((start ≡ range.start) × (end ≡ range.end)) }

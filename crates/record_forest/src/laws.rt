@@ -7,13 +7,14 @@ ghost use Rattle.record_forest.specs.Faults.{IsClean};
 
 use crate::records::Records;
 
-/// From one reference on at most one forest stands.
+/// States that the references from one reference on describe at most one forest.
 pub fn one_forest()
     ensures { (g : References) (x : Reference) (e f : Forest) → Stands g x e → Stands g x f
         → e ≡ f }
 {}
 
-/// References and records have no fault exactly where the records are those of a finite forest.
+/// States that references and records have no fault exactly if the records are those of a finite
+/// forest.
 pub fn exact<R: Records>(records: &R)
     requires { AreLawful (R.references records.now) (R.sound records.now) }
     ensures forest { (most : ℕ) (f : Forest)

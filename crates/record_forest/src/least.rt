@@ -1,10 +1,10 @@
-//! The lesser of two faults: by place, then by number.
+//! The lesser of two faults, by offset, then by number.
 ghost use Rattle.std.specs.Prelude.{◌≡◌};
 ghost use Rattle.record_forest.specs.Lesser.{lesser_fault, lesser_of_both};
 
 use rom_faults::Fault;
 
-/// The lesser of a noted fault, if there is one, and `fault`.
+/// Returns the lesser of `fault` and a noted fault, if there is one.
 pub fn lesser_fault(noted: Option<Fault>, fault: Fault) -> Option<Fault>
     ensures { result ≡ lesser_fault noted fault }
 {
@@ -18,7 +18,7 @@ pub fn lesser_fault(noted: Option<Fault>, fault: Fault) -> Option<Fault>
     }
 }
 
-/// The lesser of two faults, where there are two.
+/// Returns the lesser of two faults, or the only one.
 pub fn lesser_of_both(one: Option<Fault>, other: Option<Fault>) -> Option<Fault>
     ensures { result ≡ lesser_of_both one other }
 {

@@ -1,10 +1,12 @@
-//! The traversal of the records of an image.
+//! The traversal of the records of an image, for any format. `traverse` returns the records to
+//! which references lead from the superblock, in preorder; or the least fault of references and
+//! records.
 //!
-//! An image's records refer to one another: a directory to the first record of its list, a record
-//! to the one after it. This crate says what a format's references are (`specs/References.antt`),
-//! which finite forest of records they give (`specs/Forest.antt`) and which faults they have
-//! (`specs/Faults.antt`), and traverses them: it gives the forest's records in preorder, or the
-//! least fault.
+//! Proved: the records are those of the finite forest of `specs/Forest.antt`, over the references
+//! of the format (`specs/References.antt`). A fault is the least of `specs/Faults.antt`.
+//!
+//! The records of an image refer to one another: a directory to the first record of its list, and a
+//! record to the next one of its list.
 #![tactic(auto)]
 
 mod answer;

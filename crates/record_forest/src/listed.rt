@@ -1,11 +1,11 @@
-//! Names that stand twice in one list.
+//! Names that occur twice in one list.
 ghost use Rattle.std.specs.Prelude.{IsTrue, ◌↔◌, IfOk};
 ghost use Rattle.record_forest.specs.Listed.{AreNumbered, AreAlike, MarksRepeats};
 
 use rom_fields::OutOfMemory;
 use std::alloc::Global;
 
-/// A name in the list of the directory at `list`, and its index among the names that are looked at.
+/// A name in the list of the directory at `list`, and its index among all names.
 #[derive(Clone, Copy, PartialEq, Eq, PartialOrd, Ord)]
 pub struct ListedName<'a> {
     pub list: u32,
@@ -13,16 +13,16 @@ pub struct ListedName<'a> {
     pub index: usize,
 }
 
-/// Whether both stand in one list and are the same.
+/// Whether both are in one list and are the same.
 fn are_alike(one: ListedName, other: ListedName) -> bool
     ensures { IsTrue result ↔ AreAlike one.entry other.entry }
 {
     one.list == other.list && one.name == other.name
 }
 
-/// For each name, by its index, whether one of a lesser index has its list and its name.
+/// Returns, for each name by its index, whether an earlier name of the same list is the same.
 ///
-/// It sorts the names, which takes no memory, and makes one mark for each.
+/// Sorts the names, which allocates no memory, and allocates one mark for each.
 pub fn repeats(alloc: Global, names: Vec<ListedName>) -> Result<Vec<bool>, OutOfMemory>
     requires { AreNumbered names.items }
     ensures { IfOk result (λ marks. MarksRepeats names.entry.items marks.items) }

@@ -1,4 +1,4 @@
-//! The records of an image as a traversal sees them.
+//! The records of an image, as a traversal sees them.
 ghost use Rattle.std.specs.Prelude.{◌≡◌, ℕ, Option, Some, IfOk, IfErr};
 ghost use Rattle.record_forest.specs.declared.reference.Reference.{Reference};
 ghost use Rattle.rom_faults.specs.declared.fault.Fault.{Fault};
@@ -12,30 +12,30 @@ use rom_faults::Fault;
 
 /// The records of an image, by the references between them.
 pub trait Records {
-    // What refers to what.
+    // The references in the image.
     ghost references: { Self → References };
 
-    // The reference leads to a sound record.
+    // The reference leads to a valid record.
     ghost sound: { Self → Reference → Type 0 };
 
     // The record that the reference leads to has this fault.
     ghost faulty: { Self → Reference → Fault → Type 0 };
 
-    // What is so of a number that is known. What the numbers count is each format's own.
+    // What holds for a number that is known. Each format decides what its numbers count.
     ghost well: { Self → ℕ → Type 0 };
 
-    /// The superblock's reference to the root.
+    /// Returns the superblock's reference to the root.
     fn top(&self) -> Edge
         ensures reference { result.reference ≡ (references self.now).top }
         ensures target { result.target ≡ (references self.now).target result.reference };
 
-    /// Whether the reference to the record after another stands in that record itself, and not in
-    /// the directory.
+    /// Returns whether the reference to the next record is in the record itself, and not in the
+    /// directory.
     fn is_chained(&self) -> bool
         ensures { result ≡ (references self.now).chained };
 
-    /// What follows from a reached reference to the record at `at`, or the record's least fault. It
-    /// may note in `known` what it looked at.
+    /// Returns the references that follow from a reached reference to the record at `at`, or the
+    /// record's least fault. It may note in `known` what it looked at.
     fn edges(&self, known: &mut VerifiedRanges, x: Reference, at: u32) -> Result<Edges, Fault>
         requires known { AreKnown (well self.now) known.old }
         requires reached { Reached (references self.now) (sound self.now) x }

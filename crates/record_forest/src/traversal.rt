@@ -1,5 +1,6 @@
 //! The traversal of the records of an image, from its root.
-ghost use Rattle.std.specs.Prelude.{◌≡◌, ◌≢◌, ◌+◌, ◌^◌, ◌<◌, ◌≤◌, ℕ, Some, IfOk, IfErr, OnOk, List, [], ◌∷◌, ◌++◌};
+ghost use Rattle.std.specs.Prelude.{◌≡◌, ◌≢◌, ◌+◌, ◌^◌, ◌<◌, ◌≤◌, ℕ, Some, IfOk, IfErr, OnOk, List};
+ghost use Rattle.std.specs.Prelude.{[], ◌∷◌, ◌++◌};
 ghost use Rattle.rom_faults.specs.declared.fault.Fault.{Fault};
 ghost use Rattle.record_forest.specs.declared.traversal.TraversalError.TheVariants.{OutOfMemory};
 ghost use Rattle.record_forest.specs.References.{AreLawful};
@@ -16,10 +17,10 @@ use rom_faults::Fault;
 use std::alloc::{AllocFailed, Global};
 use std::collections::BTreeSet;
 
-/// Why a traversal gave no records.
+/// The reason why a traversal returned no records.
 #[derive(Debug, Drop)]
 pub enum TraversalError {
-    /// A growth was refused.
+    /// Memory was refused.
     OutOfMemory,
     /// There are more references than the limit.
     TooMany,
@@ -29,7 +30,7 @@ pub enum TraversalError {
     Twice(u32),
 }
 
-/// A reference that is still to be looked at, with what the row of its record will say.
+/// A reference that is still to be looked at, with the values of its record's row.
 #[derive(Clone, Copy)]
 struct Pending {
     edge: Edge,
@@ -67,7 +68,7 @@ fn root_row(reference: Reference, root: u32) -> Row
     }
 }
 
-/// What follows from the superblock's reference stands in the root's own list.
+/// A reference that follows from the superblock's. It is in the root's own list.
 fn below_root(edge: Edge, root: u32) -> Pending
     ensures { result ≡ record { edge = edge; directory = root; parent = root; depth = 1 } }
 {
@@ -116,7 +117,7 @@ fn own_of(next: Pending, at: u32, own: Edge) -> Pending
     }
 }
 
-/// What comes after the record to which `next` leads: it stands in the same list.
+/// The reference to the next record after the one to which `next` leads. It is in the same list.
 fn after_of(next: Pending, after: Edge) -> Pending
     ensures { result ≡ record {
       edge = after;
@@ -133,8 +134,8 @@ fn after_of(next: Pending, after: Edge) -> Pending
     }
 }
 
-/// What a traversal begins with, where the record at `root` has these edges: the root's row, its
-/// offset, and what follows from the superblock's reference.
+/// The values with which a traversal begins, if the record at `root` has these edges: the root's
+/// row, its offset, and the references that follow from the superblock's.
 fn start(
     alloc: Global,
     top: Reference,
@@ -160,7 +161,8 @@ fn start(
     Ok((rows, visited, stack))
 }
 
-/// Adds the row of the record at `at`, to which `next` leads, and what follows from it.
+/// Adds the row of the record at `at`, to which `next` leads, and the references that follow from
+/// it.
 fn enter(
     rows: &mut Vec<Row>,
     stack: &mut Vec<Pending>,
@@ -198,9 +200,9 @@ fn enter(
     Ok(())
 }
 
-/// The records from the root on, in preorder, or the least fault that references and records have:
-/// more references than `most`, else a record's fault, else a record with two references.
-/// It looks at no more than `most` references and one more.
+/// Returns the records from the root on, in preorder, or the least fault of references and records:
+/// more references than `most`; otherwise a record's fault; otherwise a record to which two
+/// references lead. It may also report that memory was refused.
 pub fn traverse<R: Records>(
     alloc: Global,
     records: &R,
@@ -226,7 +228,7 @@ pub fn traverse<R: Records>(
     }
 }
 
-/// As `traverse`, where the root is the sound record at `root` with these edges.
+/// Does the same as `traverse`, if the root is the valid record at `root` with these edges.
 fn traverse_below<R: Records>(
     alloc: Global,
     records: &R,

@@ -28,7 +28,8 @@ pub IsText-prop : (r : Result Node WalkError) (x : RomtoolPlace) → IsProp (IsT
 IsText-prop (Ok y) x = IsTextAt-prop y x (is_link y)
 IsText-prop (Err e) x = Prim.hlevel props
 
-some_prop : (v : Option (Open Node)) (P : Open Node → Type 0) → ((o : Open Node) → IsProp (P o)) → IsProp (IsSomeAnd v P)
+some_prop : (v : Option (Open Node)) (P : Open Node → Type 0) → ((o : Open Node) → IsProp (P o))
+    → IsProp (IsSomeAnd v P)
 some_prop None P h = λ x y. absurd x
 some_prop (Some o) P h = h o
 
@@ -68,15 +69,19 @@ One = (all : List ℕ) (limits others : Limits) (t u : Node) → HasTree all lim
 pub told : (P : List ℕ → Node → Type 0) (all held : List ℕ) (t kept shown : Node) → One → IsProp (P all t)
     → ∥ HasTree all usual kept ∥₁ → HasTree all usual t → held ≡ all → shown ≡ kept → P held shown → P all t
 told P all held t kept shown one proper has h e f p =
-    ∥∥₁_elim has proper (λ k. subst (P all) (one all usual usual kept t k h) (subst (P all) f (subst (λ b. P b shown) e p)))
+    ∥∥₁_elim has proper (λ k. subst (P all) (one all usual usual kept t k h)
+    (subst (P all) f (subst (λ b. P b shown) e p)))
 
-some_and : (v : Option (Open Node)) (P : Open Node → Type 0) → is_some v ≡ true → ((o : Open Node) → v ≡ Some o → P o) → IsSomeAnd v P
+some_and : (v : Option (Open Node)) (P : Open Node → Type 0) → is_some v ≡ true → ((o : Open Node) → v ≡ Some o → P o)
+    → IsSomeAnd v P
 some_and None P s k = absurd (false≢true s)
 some_and (Some o) P s k = k o refl
 
--- the same of what stands open
-pub in_tree : (K : List ℕ → Node → Open Node → Type 0) (all held : List ℕ) (t kept shown : Node) (n : Parts) (node position : ℕ)
-    → One → ((o : Open Node) → IsProp (K all t o)) → ∥ HasTree all usual kept ∥₁ → HasTree all usual t → held ≡ all → shown ≡ kept
+-- the same for what is open
+pub in_tree : (K : List ℕ → Node → Open Node → Type 0) (all held : List ℕ) (t kept shown : Node) (n : Parts)
+    (node position : ℕ)
+    → One → ((o : Open Node) → IsProp (K all t o)) → ∥ HasTree all usual kept ∥₁ → HasTree all usual t → held ≡ all
+    → shown ≡ kept
     → is_some (stands_in shown all n node position) ≡ true
     → ((o : Open Node) → stands_in shown all n node position ≡ Some o → K held shown o)
     → IsSomeAnd (stands_in t all n node position) (K all t)

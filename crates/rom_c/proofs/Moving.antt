@@ -19,15 +19,17 @@ some_at v o q e = rw e refl
 
 -- a file moves as what is open
 pub file_moves : {R : Type 0} (f : RomtoolFile) (m : Image) (o : Open Node) (old new : OpenNode) (p : ℕ) (r : Outcome R)
-    → m.cursor_index ≡ cursors_of_parts f.image.bytes.now (parts_in f.image) → new.node.0 ≡ f.node → old.position ≡ f.position
+    → m.cursor_index ≡ cursors_of_parts f.image.bytes.now (parts_in f.image) → new.node.0 ≡ f.node
+    → old.position ≡ f.position
     → p ≡ new.position → Follows (image_view m) o old new r → MovesTo m.tree f p r
 file_moves f m o old new p (Ok a) c n s e k =
     some_at (stands_in m.tree f.image.bytes.now (parts_in f.image) f.node p) o a.1
     (sym (same m f.image.bytes.now (parts_in f.image) new f.node p c n (sym e)) ∙ k)
 file_moves f m o old new p (Err x) c n s e k = e ∙ (k ∙ s)
 
--- a file that was opened stands at its start
-pub file_starts : (f : RomtoolFile) (i : RomtoolImage) (t x : Node) (node : ℕ) → f.image ≡ i → f.node ≡ node → f.position ≡ 0
+-- a file that was opened is at its start
+pub file_starts : (f : RomtoolFile) (i : RomtoolImage) (t x : Node) (node : ℕ) → f.image ≡ i → f.node ≡ node
+    → f.position ≡ 0
     → stands_in t i.bytes.now (parts_in i) node 0 ≡ Some (record { place = x; position = 0 })
     → IsSomeAnd (file_in t f) (λ o. o.position ≡ 0)
 file_starts f i t x node h k z e =

@@ -1,4 +1,6 @@
--- What C is told of an open file. (This project's own.)
+-- `IsOpen`: something is open. `file_in`: the meaning of a file that C holds. `IsOpenedBy`: the
+-- file or directory to which a path leads is open at its start. `MovesTo`: the position after a
+-- call. (This project's own.)
 use Rattle.std.specs.Prelude.{◌≡◌, ℕ, Bool, true, false, ◌||◌, Option, IsSomeAnd, Result, Ok, Err}
 use Rattle.rom_tree.specs.Tree.{Node, ino_of, is_directory, is_regular}
 use Rattle.path_walk.specs.declared.error.WalkError.{WalkError}
@@ -17,8 +19,8 @@ parts_in i = parts_of i.format i.accessible i.root i.references i.depth
 abbrev pub IsOpen : RomtoolFile → Type 0
 IsOpen f = (f.image.status ≡ 1) × (f.error ≡ 0)
 
--- what a file that C holds stands for in the tree t, were it at a position: the node of its number, at a byte or at
--- the index of an entry
+-- the meaning in the tree t of a file that C holds, at a position: the node of its number, at a
+-- byte or at the index of an entry
 abbrev pub file_at : Node → RomtoolFile → ℕ → Option (Open Node)
 file_at t f position = stands_in t f.image.bytes.now (parts_in f.image) f.node position
 
@@ -29,18 +31,19 @@ file_in t f = file_at t f f.position
 abbrev pub IsNoFile : ℕ → RomtoolFile → Type 0
 IsNoFile e f = (f.error ≡ e) × (f.node ≡ 0) × (f.position ≡ 0)
 
--- the directory or regular file x is open, at its start; what is neither is 8 ENXIO
+-- the directory or regular file x is open at its start; for any other file the error is 8 ENXIO
 abbrev pub IsOpenAt : Node → Node → RomtoolFile → Bool → Type 0
 IsOpenAt t x f true =
-    (f.error ≡ 0) × (f.node ≡ ino_of x) × (f.position ≡ 0) × IsSomeAnd (file_in t f) (λ o. o.position ≡ 0)
+    (f.error ≡ 0) × (f.node ≡ ino_of x) × (f.position ≡ 0)
+    × IsSomeAnd (file_in t f) (λ o. o.position ≡ 0)
 IsOpenAt t x f false = IsNoFile 8 f
 
--- what a path leads to is open, or the error
+-- the file or directory to which a path leads is open, or the error
 abbrev pub IsOpenedBy : Node → Result Node WalkError → RomtoolFile → Type 0
 IsOpenedBy t (Ok x) f = IsOpenAt t x f (is_directory x || is_regular x)
 IsOpenedBy t (Err e) f = IsNoFile (walk_number e) f
 
--- After a call, p is the file's position: it stands where the outcome says, and where it was after an error.
+-- After a call, p is the file's position: the one of the outcome, or the old one after an error.
 abbrev pub MovesTo : {R : Type 0} → Node → RomtoolFile → ℕ → Outcome R → Type 0
 MovesTo t f p (Ok a) = IsSomeAnd (file_at t f p) (λ o. o.position ≡ a.1)
 MovesTo t f p (Err e) = p ≡ f.position

@@ -1,4 +1,6 @@
--- What a C caller holds of a checked image, as numbers. (This project's own.)
+-- `parts_of`: the numbers that C holds of an image. `IsFormat`: the number of the format that the
+-- first bytes name. `IsReported`: references and depth are those of the bytes' tree. `usual`: the
+-- limits of each check. (This project's own.)
 use Rattle.std.specs.Prelude.{◌≡◌, ℕ, ◌==◌, List, if◌then◌else◌}
 use Rattle.rom_tree.specs.Image.{Image}
 use Rattle.rom_tree.specs.declared.types.Limits.{Limits}
@@ -16,7 +18,7 @@ use Rattle.image_check.specs.declared.any.Parts.TheVariants.{Romfs, Cramfs}
 abbrev pub usual : Limits
 usual = record { references = 1048576; depth = 64 }
 
--- The numbers as they stand in C. Format 1 is romfs, 2 cramfs, and 3 big-endian cramfs.
+-- The numbers as they are in C. Format 1 is romfs, 2 cramfs, and 3 big-endian cramfs.
 
 abbrev pub romfs_parts : ℕ → ℕ → ℕ → ℕ → RomfsParts
 romfs_parts accessible root references depth =
@@ -27,7 +29,12 @@ order_by format = if format == 3 then Big else Little
 
 abbrev pub cramfs_parts : ℕ → ℕ → ℕ → ℕ → CramfsParts
 cramfs_parts format accessible references depth =
-    record { order = order_by format; accessible = accessible; references = references; depth = depth }
+    record {
+      order = order_by format;
+      accessible = accessible;
+      references = references;
+      depth = depth;
+    }
 
 abbrev pub parts_of : ℕ → ℕ → ℕ → ℕ → ℕ → Parts
 parts_of format accessible root references depth =
@@ -40,7 +47,8 @@ pub data IsFormat (all : List ℕ) (format : ℕ) : Type 0 where
   cramfs : BeginsCramfs all → order_of all ≡ Little → format ≡ 2 → IsFormat all format
   cramfs_big : BeginsCramfs all → order_of all ≡ Big → format ≡ 3 → IsFormat all format
 
--- the number of references, and the depth, of the tree that these bytes have
+-- the number of references and the depth of the tree that these bytes have
 abbrev pub IsReported : List ℕ → ℕ → ℕ → Type 0
 IsReported all references depth =
-    (m : Image) × (r : Report) × Shows all usual m r × (r.references ≡ references) × (r.depth ≡ depth)
+    (m : Image) × (r : Report) × Shows all usual m r × (r.references ≡ references)
+    × (r.depth ≡ depth)

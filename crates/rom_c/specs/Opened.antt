@@ -1,4 +1,5 @@
--- What stands open at a node's number and a position, in an image of these numbers. (This project's own.)
+-- `stands_in`: the open file at a node's number and a position, in a tree of the bytes.
+-- `stands_at`: the same in the tree of an image's numbers. (This project's own.)
 use Rattle.std.specs.Prelude.{ℕ, List, Option}
 use Rattle.rom_tree.specs.Tree.{Node, node_at}
 use Rattle.open_files.specs.Machine.{Open}
@@ -8,8 +9,9 @@ use Rattle.image_check.specs.Parts.{tree_of_parts, cursors_of_parts}
 
 -- in the tree t of these bytes: a file at a byte, or a directory at the index of a cursor
 abbrev pub stands_in : Node → List ℕ → Parts → ℕ → ℕ → Option (Open Node)
-stands_in t all n node position = open_as (λ x. x) position (cursors_of_parts all n node position) (node_at t node)
+stands_in t all n node position =
+    open_as (λ x. x) position (cursors_of_parts all n node position) (node_at t node)
 
--- in the tree that the numbers give
+-- in the tree of the numbers
 abbrev pub stands_at : List ℕ → Parts → ℕ → ℕ → Option (Open Node)
 stands_at all n node position = stands_in (tree_of_parts all n) all n node position

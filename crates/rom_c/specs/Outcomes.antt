@@ -1,4 +1,5 @@
--- The outcomes of calls on open files, as C is told of them. (This project's own.)
+-- An outcome of the machine of open files as it is reported to C: `error_told`, `place_told`,
+-- `file_stat_told`, `IsCopied`, `IsListed`. (This project's own.)
 use Rattle.std.specs.Prelude.{◌≡◌, ℕ, List, [], ◌++◌, length, drop, Option, Some, None, Ok, Err}
 use Rattle.rom_tree.specs.declared.types.Stat.{Stat}
 use Rattle.rom_tree.specs.Tree.{Node}
@@ -16,7 +17,7 @@ abbrev pub error_told : {R : Type 0} → Outcome R → ℕ
 error_told (Ok a) = 0
 error_told (Err e) = error_number e
 
--- where the bytes lie that are lent, or the error
+-- the offset and the length of the bytes that are lent, or the error
 abbrev pub place_told : Outcome (Of Lent) → RomtoolPlace
 place_told (Ok a) = record { error = 0; at = a.0.1.place; len = length a.0.1.bytes }
 place_told (Err e) = no_place (error_number e)
@@ -26,7 +27,8 @@ abbrev pub file_stat_told : Outcome (Of Stat) → RomtoolStat
 file_stat_told (Ok a) = stat_told a.0.1
 file_stat_told (Err e) = no_stat (error_number e)
 
--- The n bytes stand in the front of the buffer, and the rest is as it was; after an error all of it is.
+-- The n bytes are in the front of the buffer, and the rest is as it was. After an error, the whole
+-- buffer is as it was.
 abbrev pub IsCopied : Outcome (List ℕ) → ℕ → ℕ → List ℕ → List ℕ → Type 0
 IsCopied (Ok a) error n new old = (error ≡ 0) × (n ≡ length a.0) × (new ≡ a.0 ++ drop n old)
 IsCopied (Err e) error n new old = (error ≡ error_number e) × (n ≡ 0) × (new ≡ old)
@@ -43,7 +45,7 @@ abbrev pub IsListed : Outcome (Option (Of Named)) → ℕ → RomtoolEntry → T
 IsListed (Ok a) error r = (error ≡ 0) × IsEntryOf a.0 r
 IsListed (Err e) error r = (error ≡ error_number e) × IsNoEntry r
 
--- what is open, o, has moved as the outcome says, and after an error not at all
+-- the open file o moved to the outcome's position; after an error it did not move
 abbrev pub Follows : {R : Type 0} → View Node → Open Node → OpenNode → OpenNode → Outcome R → Type 0
 Follows v o old new (Ok a) = stands v new ≡ Some (moved o a.1)
 Follows v o old new (Err e) = new.position ≡ old.position

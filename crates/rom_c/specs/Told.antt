@@ -1,7 +1,10 @@
--- What C is told of a path. (This project's own.)
-use Rattle.std.specs.Prelude.{◌≡◌, ℕ, ◌+◌, ◌<◌, Bool, true, false, length, slice_index, Result, Ok, Err}
+-- The reports to C about a path: `led_told`, `shown_told`, `IsText`. `no_node`, `no_stat`,
+-- `no_place`: all except the error is 0. (This project's own.)
+use Rattle.std.specs.Prelude.{◌≡◌, ℕ, ◌+◌, ◌<◌, Bool, true, false, length, slice_index, Result, Ok}
+use Rattle.std.specs.Prelude.{Err}
 use Rattle.rom_tree.specs.declared.types.Kind.{Kind}
-use Rattle.rom_tree.specs.declared.types.Kind.TheVariants.{Directory, Regular, Symlink, Block, Character, Socket, Fifo}
+use Rattle.rom_tree.specs.declared.types.Kind.TheVariants.{Directory, Regular, Symlink, Block}
+use Rattle.rom_tree.specs.declared.types.Kind.TheVariants.{Character, Socket, Fifo}
 use Rattle.rom_tree.specs.declared.types.Stat.{Stat}
 use Rattle.rom_tree.specs.Tree.{Node, ino_of, is_link, places_of}
 use Rattle.rom_tree.specs.Image.{stat_of}
@@ -20,7 +23,7 @@ kind_number Character = 5
 kind_number Socket = 6
 kind_number Fifo = 7
 
--- An error: all else is 0.
+-- An error; all other numbers are 0.
 
 abbrev pub no_node : ℕ → RomtoolNode
 no_node e = record { error = e; node = 0 }
@@ -54,23 +57,24 @@ stat_told s = record {
   minor = s.minor;
 }
 
--- the node that a path leads to, or the error
+-- the node to which a path leads, or the error
 abbrev pub led_told : Result Node WalkError → RomtoolNode
 led_told (Ok x) = record { error = 0; node = ino_of x }
 led_told (Err e) = no_node (error_number e)
 
--- its kind and numbers, or the error
+-- the kind and numbers of that node, or the error
 abbrev pub shown_told : Result Node WalkError → RomtoolStat
 shown_told (Ok x) = stat_told (stat_of x)
 shown_told (Err e) = no_stat (error_number e)
 
--- r is where the bytes of a link's text lie, all of them, one after the other
+-- r is the offset and the length of the bytes of a link's text, all of them, one after the other
 abbrev pub IsTextAt : Node → RomtoolPlace → Bool → Type 0
 IsTextAt x r true =
-    (r.error ≡ 0) × (r.len ≡ length (places_of x)) × ((k : ℕ) → k < r.len → slice_index (places_of x) k ≡ r.at + k)
+    (r.error ≡ 0) × (r.len ≡ length (places_of x))
+    × ((k : ℕ) → k < r.len → slice_index (places_of x) k ≡ r.at + k)
 IsTextAt x r false = r ≡ no_place 5
 
--- where the text of the link lies that a path leads to, or the error
+-- the offset and the length of the text of the link to which a path leads, or the error
 abbrev pub IsText : Result Node WalkError → RomtoolPlace → Type 0
 IsText (Ok x) r = IsTextAt x r (is_link x)
 IsText (Err e) r = r ≡ no_place (error_number e)

@@ -1,11 +1,12 @@
-//! What C is told, as structs of numbers.
+//! The answers to C, as structs of numbers.
 ghost use Rattle.std.specs.Prelude.{◌≡◌};
 ghost use Rattle.rom_c.specs.Told.{kind_number, stat_told};
-ghost use Rattle.rom_c.specs.Told.{no_node as no_node_told, no_stat as no_stat_told, no_place as no_place_told};
+ghost use Rattle.rom_c.specs.Told.{no_node as no_node_told, no_stat as no_stat_told};
+ghost use Rattle.rom_c.specs.Told.{no_place as no_place_told};
 
 use rom_tree::{Kind, Stat};
 
-/// No image is open.
+/// The error: no image is open.
 pub(crate) const CLOSED: u32 = 13;
 
 /// The number of a node, or the number of an error.
@@ -31,7 +32,7 @@ pub struct RomtoolStat {
     pub minor: u32,
 }
 
-/// Where bytes lie in the image, or the number of an error.
+/// The offset and the length of bytes in the image, or the number of an error.
 #[repr(C)]
 #[derive(Clone, Copy)]
 pub struct RomtoolPlace {
@@ -40,7 +41,7 @@ pub struct RomtoolPlace {
     pub len: u64,
 }
 
-/// The number of a kind, from 1 to 7.
+/// Returns the number of a kind, from 1 to 7.
 fn number_of(kind: Kind) -> u32
     ensures { result ≡ kind_number kind }
 {
@@ -55,14 +56,14 @@ fn number_of(kind: Kind) -> u32
     }
 }
 
-/// No node, for an error.
+/// Returns no node, with an error.
 pub(crate) fn no_node(error: u32) -> RomtoolNode
     ensures { result ≡ no_node_told error }
 {
     RomtoolNode { error, node: 0 }
 }
 
-/// No stat, for an error.
+/// Returns no stat, with an error.
 pub(crate) fn no_stat(error: u32) -> RomtoolStat
     ensures { result ≡ no_stat_told error }
 {
@@ -79,7 +80,7 @@ pub(crate) fn no_stat(error: u32) -> RomtoolStat
     }
 }
 
-/// No place, for an error.
+/// Returns no offset, with an error.
 pub(crate) fn no_place(error: u32) -> RomtoolPlace
     ensures { result ≡ no_place_told error }
 {
@@ -90,7 +91,7 @@ pub(crate) fn no_place(error: u32) -> RomtoolPlace
     }
 }
 
-/// A kind and numbers as C has them.
+/// Returns a kind and numbers in the form for C.
 pub(crate) fn shown(stat: Stat) -> RomtoolStat
     ensures { result ≡ stat_told stat }
 {

@@ -11,10 +11,10 @@ use image_check::AnyImage;
 use path_walk::walk;
 use rom_tree::{NodeId, TreeImage, is_link_at};
 
-/// What a path leads to is no symbolic link.
+/// The error: the path does not lead to a symbolic link.
 const NO_LINK: u32 = 5;
 
-/// Where a path leads in an image.
+/// Returns the node to which a path leads in an image.
 pub(crate) fn lookup_in(image: &mut AnyImage<'_>, path: &[u8], follow: bool) -> RomtoolNode
     requires { levels (any_view image.old).tree ≤ 65 }
     ensures { result ≡ led_told (resolution
@@ -29,7 +29,7 @@ pub(crate) fn lookup_in(image: &mut AnyImage<'_>, path: &[u8], follow: bool) -> 
     }
 }
 
-/// The kind and numbers of what a path leads to in an image.
+/// Returns the kind and numbers of the node to which a path leads in an image.
 pub(crate) fn stat_in(image: &mut AnyImage<'_>, path: &[u8], follow: bool) -> RomtoolStat
     requires { levels (any_view image.old).tree ≤ 65 }
     ensures { result ≡ shown_told (resolution
@@ -41,7 +41,7 @@ pub(crate) fn stat_in(image: &mut AnyImage<'_>, path: &[u8], follow: bool) -> Ro
     }
 }
 
-/// The kind and numbers of a node of an image.
+/// Returns the kind and numbers of a node of an image.
 pub(crate) fn stat_at(image: &AnyImage<'_>, node: NodeId) -> RomtoolStat
     requires { HasNode (any_view image.now) node.0 }
     ensures { (x : Node) → image_node (any_view image.now) node.0 ≡ Some x
@@ -50,7 +50,7 @@ pub(crate) fn stat_at(image: &AnyImage<'_>, node: NodeId) -> RomtoolStat
     shown(image.stat(node))
 }
 
-/// Where the text of the link lies that a path leads to in an image.
+/// Returns the offset and the length of the text of the link to which a path leads in an image.
 pub(crate) fn readlink_in(image: &mut AnyImage<'_>, path: &[u8]) -> RomtoolPlace
     requires { levels (any_view image.old).tree ≤ 65 }
     ensures { IsText (resolution

@@ -1,4 +1,4 @@
-//! What C holds of an open file.
+//! The structs that C holds of an open file.
 ghost use Rattle.std.specs.Prelude.{◌≡◌, ◌<◌, [], true, is_some};
 ghost use Rattle.rom_c.specs.Held.{parts_of};
 ghost use Rattle.rom_c.specs.Opened.{stands_at};
@@ -7,8 +7,8 @@ use crate::image::RomtoolImage;
 use open_files::OpenNode;
 use rom_tree::NodeId;
 
-/// What C holds of an open directory or regular file. It is open where the image has status 1 and
-/// `error` is 0.
+/// The struct that C holds of an open directory or regular file. It is open if the image has status
+/// 1 and `error` is 0.
 #[repr(C)]
 #[derive(Clone, Copy)]
 pub struct RomtoolFile<'a> {
@@ -21,7 +21,7 @@ pub struct RomtoolFile<'a> {
         node position) ≡ true },
 }
 
-/// An entry of a directory; `some` is 1, and 0 at its end.
+/// An entry of a directory: `some` is 1, or 0 at the directory's end.
 #[repr(C)]
 #[derive(Clone, Copy)]
 pub struct RomtoolEntry<'a> {
@@ -30,7 +30,7 @@ pub struct RomtoolEntry<'a> {
     pub some: u32,
 }
 
-/// No file, for an error.
+/// Returns no file, with an error.
 pub(crate) fn no_file<'a>(image: &RomtoolImage<'a>, error: u32) -> RomtoolFile<'a>
     requires { 0 < error }
     ensures image { result.image ≡ image.now }
@@ -45,7 +45,7 @@ pub(crate) fn no_file<'a>(image: &RomtoolImage<'a>, error: u32) -> RomtoolFile<'
     }
 }
 
-/// No entry.
+/// Returns no entry.
 pub(crate) fn no_entry<'a>() -> RomtoolEntry<'a>
     ensures name { result.name.now ≡ [] }
     ensures numbers { (result.node ≡ 0) × (result.some ≡ 0) }
@@ -57,7 +57,7 @@ pub(crate) fn no_entry<'a>() -> RomtoolEntry<'a>
     }
 }
 
-/// The directory or regular file of a node, at its start.
+/// Returns the directory or regular file of a node, at its start.
 pub(crate) fn opened_at<'a>(image: &RomtoolImage<'a>, node: NodeId) -> RomtoolFile<'a>
     requires { is_some (stands_at image.now.bytes.now
         (parts_of image.now.format image.now.accessible image.now.root image.now.references
@@ -75,7 +75,7 @@ pub(crate) fn opened_at<'a>(image: &RomtoolImage<'a>, node: NodeId) -> RomtoolFi
     }
 }
 
-/// The node of a file.
+/// Returns the node of a file.
 pub(crate) fn node_of(file: &RomtoolFile<'_>) -> OpenNode
     ensures image { result.image ≡ 0 }
     ensures node { result.node.0 ≡ file.now.node }
@@ -88,7 +88,7 @@ pub(crate) fn node_of(file: &RomtoolFile<'_>) -> OpenNode
     }
 }
 
-/// The same file at another position.
+/// Returns the same file at another position.
 pub(crate) fn moved<'a>(file: &RomtoolFile<'a>, position: u64) -> RomtoolFile<'a>
     requires { is_some (stands_at file.now.image.bytes.now
         (parts_of file.now.image.format file.now.image.accessible file.now.image.root

@@ -1,4 +1,4 @@
-//! What C calls on open files. A file keeps its image, its node and its `error` in each call.
+//! The calls of C on open files. A file keeps its image, its node and its `error` in each call.
 ghost use Rattle.std.specs.Prelude.{◌≡◌, ◌≢◌, true, length, None, IsSomeAnd, IsSome, IfSome, ◌||◌};
 ghost use Rattle.std.specs.Bool.{OnTrue, OnFalse};
 ghost use Rattle.rom_tree.specs.Tree.{Node, node_at, is_directory, is_regular};
@@ -8,7 +8,8 @@ ghost use Rattle.open_files.specs.Machine.{fstat_on, seek_on, read_on, lend_on, 
 ghost use Rattle.image_check.specs.Checked.{HasTree};
 ghost use Rattle.rom_c.specs.Held.{usual};
 ghost use Rattle.rom_c.specs.Told.{no_stat as no_stat_told, no_place as no_place_told};
-ghost use Rattle.rom_c.specs.Outcomes.{error_told, place_told, file_stat_told, IsCopied, IsListed, IsNoEntry};
+ghost use Rattle.rom_c.specs.Outcomes.{error_told, place_told, file_stat_told, IsCopied, IsListed};
+ghost use Rattle.rom_c.specs.Outcomes.{IsNoEntry};
 ghost use Rattle.rom_c.specs.Files.{IsNoFile, IsOpen, IsOpenAt, IsOpenedBy, MovesTo, file_in};
 
 use crate::answers::{CLOSED, RomtoolPlace, RomtoolStat, no_place, no_stat};
@@ -19,10 +20,10 @@ use crate::opening::{open_at, open_in};
 use image_check::laws::one_tree;
 use rom_tree::NodeId;
 
-/// Nothing is open at the file.
+/// The error: the file is not open.
 const BAD_FILE: u32 = 6;
 
-/// Whether a file is open.
+/// Returns whether a file is open.
 fn is_open(file: &RomtoolFile<'_>) -> bool
     ensures open { OnTrue result (IsOpen file.now) }
     ensures closed { OnFalse result (IsOpen file.now → ⊥) }
@@ -33,9 +34,9 @@ fn is_open(file: &RomtoolFile<'_>) -> bool
     file.error == 0
 }
 
-/// Opens the directory or regular file that a path leads to, at its start; a symbolic link in the
-/// last place is followed. Gives 0, or the number of the error, which stands in the file too: 13
-/// where no image is open, those of `path_walk::walk`, and 8 where the path leads to neither.
+/// Opens the directory or regular file to which a path leads, at its start. A symbolic link as the
+/// last component is followed. Returns 0, or the number of the error, which is also in the file: 13
+/// if no image is open, the errors of `path_walk::walk`, and 8 if the path leads to neither.
 #[unsafe(no_mangle)]
 pub extern "C" fn romtool_open<'a>(
     file: &mut RomtoolFile<'a>,
@@ -57,8 +58,8 @@ pub extern "C" fn romtool_open<'a>(
 }
 
 /// Opens the directory or regular file with this node number, which a call on the same image
-/// answered, at its start. It takes no time to look it up. Gives 0, or the number of the error, which
-/// stands in the file too: 13 if no image is open, and 8 if the node is neither.
+/// returned, at its start. There is no look-up. Returns 0, or the number of the error, which is
+/// also in the file: 13 if no image is open, and 8 if the node is neither.
 #[unsafe(no_mangle)]
 pub extern "C" fn romtool_open_node<'a>(
     file: &mut RomtoolFile<'a>,
@@ -82,7 +83,7 @@ pub extern "C" fn romtool_open_node<'a>(
     file.error
 }
 
-/// The kind and numbers of an open file. Error 6 where none is open.
+/// Returns the kind and numbers of an open file. The error is 6 if the file is not open.
 #[unsafe(no_mangle)]
 pub extern "C" fn romtool_fstat(file: &RomtoolFile<'_>) -> RomtoolStat
     ensures closed { (IsOpen file.now → ⊥) → result ≡ no_stat_told 6 }
@@ -97,9 +98,10 @@ pub extern "C" fn romtool_fstat(file: &RomtoolFile<'_>) -> RomtoolStat
     fstat_in(&image_of(&file.image), node_of(file))
 }
 
-/// Where just the `len` bytes of an open file from byte `off` on lie, whatever its position is. The
-/// errors, in this order: 6 where none is open, 7 where it is a directory, 5 where `len` is 0 or the
-/// range does not end within the file, 10 where the bytes do not follow one another in the image.
+/// Returns the offset in the image of exactly the `len` bytes of an open file from byte `off` on,
+/// whatever its position is. The errors, in this order: 6 if the file is not open, 7 if it is a
+/// directory, 5 if `len` is 0 or the range does not end within the file, 10 if the bytes do not
+/// follow one another in the image.
 #[unsafe(no_mangle)]
 pub extern "C" fn romtool_map(file: &RomtoolFile<'_>, off: u64, len: u64) -> RomtoolPlace
     ensures closed { (IsOpen file.now → ⊥) → result ≡ no_place_told 6 }
@@ -115,9 +117,10 @@ pub extern "C" fn romtool_map(file: &RomtoolFile<'_>, off: u64, len: u64) -> Rom
     map_in(&image_of(&file.image), node_of(file), off, len)
 }
 
-/// Where the next bytes of an open file lie: as many of at most `max` as follow one another in the
-/// image. The position moves by their number; an empty place is 0. Error 6 where none is open, 7
-/// where it is a directory; then it stays where it is.
+/// Returns the offset and the number of the next bytes of an open file: as many of at most `max` as
+/// follow one another in the image. The position moves by their number. If there are none, the
+/// offset is 0. The error is 6 if the file is not open and 7 if it is a directory; then the
+/// position stays as it is.
 #[unsafe(no_mangle)]
 pub extern "C" fn romtool_lend(file: &mut RomtoolFile<'_>, max: u64) -> RomtoolPlace
     ensures image { file.new.image ≡ file.old.image }
@@ -141,9 +144,10 @@ pub extern "C" fn romtool_lend(file: &mut RomtoolFile<'_>, max: u64) -> RomtoolP
     place
 }
 
-/// Copies the next bytes of an open file to the front of a buffer, as many as fit, and puts down
-/// their number. The position moves by it, and the rest of the buffer stays. Gives 0, or an error:
-/// 6 where none is open, 7 where it is a directory; then file and buffer stay as they are.
+/// Copies the next bytes of an open file to the front of a buffer, as many as fit, and sets `count`
+/// to their number. The position moves by it, and the rest of the buffer stays as it is. Returns 0,
+/// or an error: 6 if the file is not open, 7 if it is a directory. Then file and buffer stay as
+/// they are.
 #[unsafe(no_mangle)]
 pub extern "C" fn romtool_read(
     file: &mut RomtoolFile<'_>,
@@ -173,8 +177,8 @@ pub extern "C" fn romtool_read(
     error
 }
 
-/// Sets the position of an open file, also behind its end. Gives 0, or an error: 6 where none is
-/// open, 7 where it is a directory; then it stays where it is.
+/// Sets the position of an open file, also behind its end. Returns 0, or an error: 6 if the file is
+/// not open, 7 if it is a directory. Then the position stays as it is.
 #[unsafe(no_mangle)]
 pub extern "C" fn romtool_seek(file: &mut RomtoolFile<'_>, position: u64) -> u32
     ensures image { file.new.image ≡ file.old.image }
@@ -197,9 +201,9 @@ pub extern "C" fn romtool_seek(file: &mut RomtoolFile<'_>, position: u64) -> u32
     error
 }
 
-/// The next entry of an open directory, without `.` and `..`; `some` of the entry is 0 at the end.
-/// Gives 0, or an error: 6 where none is open, 2 where it is no directory; then the file stays where
-/// it is, and there is no entry.
+/// Reads the next entry of an open directory, without `.` and `..`; at the end, `some` of the entry
+/// is 0. Returns 0, or an error: 6 if the file is not open, 2 if it is not a directory. Then the
+/// position stays as it is, and there is no entry.
 #[unsafe(no_mangle)]
 pub extern "C" fn romtool_readdir<'a>(
     file: &mut RomtoolFile<'a>,

@@ -1,4 +1,4 @@
-//! The check, and what C holds of an image.
+//! The check, and the struct that C holds of an image.
 ghost use Rattle.std.specs.Prelude.{◌≡◌, ◌≢◌, ◌≤◌, ◌⊎◌};
 ghost use Rattle.rom_tree.specs.Tree.{Node, levels};
 ghost use Rattle.rom_faults.specs.declared.error.CheckError.TheVariants.{Fault, OutOfMemory};
@@ -7,9 +7,11 @@ ghost use Rattle.cramfs_image.specs.Parts.{AreParts as AreCramfsParts};
 ghost use Rattle.cramfs_format.specs.Superblock.{order_of};
 ghost use Rattle.image_check.specs.Any.{any_view, report_of};
 ghost use Rattle.image_check.specs.Parts.{AreParts, tree_of_parts, cursors_of_parts};
-ghost use Rattle.image_check.specs.Checked.{BeginsRomfs, BeginsCramfs, HasFormat, HasTree, IsLeastFaultUnder, Shows};
+ghost use Rattle.image_check.specs.Checked.{BeginsRomfs, BeginsCramfs, HasFormat, HasTree};
+ghost use Rattle.image_check.specs.Checked.{IsLeastFaultUnder, Shows};
 ghost use Rattle.image_check.specs.declared.any.Parts.TheVariants.{Romfs, Cramfs};
-ghost use Rattle.rom_c.specs.Held.{usual, parts_of, romfs_parts, cramfs_parts, IsFormat, IsReported};
+ghost use Rattle.rom_c.specs.Held.{usual, parts_of, romfs_parts, cramfs_parts, IsFormat};
+ghost use Rattle.rom_c.specs.Held.{IsReported};
 
 use cramfs_format::Order;
 use cramfs_image::Parts as CramfsParts;
@@ -22,10 +24,10 @@ use std::alloc::Global;
 /// The status of an image that is open.
 pub(crate) const OPEN: u32 = 1;
 
-/// The image has a fault.
+/// The error: the image has a fault.
 const FAULT: u32 = 14;
 
-/// Memory was refused.
+/// The error: memory was refused.
 const MEMORY: u32 = 15;
 
 /// The format romfs.
@@ -37,8 +39,8 @@ const CRAMFS: u32 = 2;
 /// The format cramfs, big-endian.
 const CRAMFS_BIG: u32 = 3;
 
-/// What C holds of an image. Its bytes stay where they are, and as they are, as long as it is used.
-/// With status 0 it is closed, and says nothing of its bytes.
+/// The struct that C holds of an image. Its bytes have to stay at their address and unchanged as
+/// long as it is used. With status 0 it is closed, and has no claim about its bytes.
 #[repr(C)]
 #[derive(Clone, Copy)]
 pub struct RomtoolImage<'a> {
@@ -59,10 +61,11 @@ pub struct RomtoolImage<'a> {
         → ∥ HasTree bytes.now usual
         (tree_of_parts bytes.now (parts_of format accessible root references depth)) ∥₁ },
     ghost shallow: { status ≡ 1
-        → levels (tree_of_parts bytes.now (parts_of format accessible root references depth)) ≤ 65 },
+        → levels (tree_of_parts bytes.now (parts_of format accessible root references depth))
+        ≤ 65 },
 }
 
-/// A romfs image that a check has opened.
+/// Returns a romfs image that a check opened.
 fn opened_romfs<'a>(bytes: &'a [u8], parts: RomfsParts) -> RomtoolImage<'a>
     requires are { AreParts bytes.now (Romfs parts) }
     requires tree { HasTree bytes.now usual (tree_of_parts bytes.now (Romfs parts)) }
@@ -88,7 +91,7 @@ fn opened_romfs<'a>(bytes: &'a [u8], parts: RomfsParts) -> RomtoolImage<'a>
     }
 }
 
-/// A cramfs image that a check has opened.
+/// Returns a cramfs image that a check opened.
 fn opened_cramfs<'a>(bytes: &'a [u8], parts: CramfsParts) -> RomtoolImage<'a>
     requires are { AreParts bytes.now (Cramfs parts) }
     requires tree { HasTree bytes.now usual (tree_of_parts bytes.now (Cramfs parts)) }
@@ -128,7 +131,7 @@ fn opened_cramfs<'a>(bytes: &'a [u8], parts: CramfsParts) -> RomtoolImage<'a>
     }
 }
 
-/// What a check has opened.
+/// Returns the image that a check opened.
 fn opened<'a>(bytes: &'a [u8], found: &AnyImage<'a>) -> RomtoolImage<'a>
     requires shows { Shows bytes.now usual (any_view found.now) (report_of found.now) }
     requires format { HasFormat bytes.now found.now }
@@ -145,7 +148,8 @@ fn opened<'a>(bytes: &'a [u8], found: &AnyImage<'a>) -> RomtoolImage<'a>
     }
 }
 
-/// What a check has refused: closed, with the fault, or none where memory was refused.
+/// Returns the image that a check refused: closed, with the fault, or without one if memory was
+/// refused.
 fn refused<'a>(bytes: &'a [u8], fault: u32, at: u32) -> RomtoolImage<'a>
     ensures fault { result.fault ≡ fault }
     ensures at { result.at ≡ at }
@@ -167,7 +171,8 @@ fn refused<'a>(bytes: &'a [u8], fault: u32, at: u32) -> RomtoolImage<'a>
     }
 }
 
-/// Puts down the image of these bytes and gives 0, or why there is none and the error's number.
+/// Stores the image of these bytes and returns 0; or stores the reason why there is none, and
+/// returns the error's number.
 pub(crate) fn check_into<'a>(alloc: Global, image: &mut RomtoolImage<'a>, bytes: &'a [u8]) -> u32
     ensures bytes { image.new.bytes.now ≡ bytes.now }
     ensures open { result ≡ 0 → image.new.status ≡ 1 }
@@ -205,7 +210,7 @@ pub(crate) fn check_into<'a>(alloc: Global, image: &mut RomtoolImage<'a>, bytes:
     }
 }
 
-/// The numbers of an image that is open.
+/// Returns the numbers of an image that is open.
 fn numbers(image: &RomtoolImage<'_>) -> Parts
     requires { image.now.status ≡ 1 }
     ensures numbers { result ≡ parts_of image.now.format image.now.accessible image.now.root
@@ -233,7 +238,7 @@ fn numbers(image: &RomtoolImage<'_>) -> Parts
     })
 }
 
-/// The image that is open. Nothing is read.
+/// Returns the image that is open, without reading its bytes.
 pub(crate) fn image_of<'a>(image: &RomtoolImage<'a>) -> AnyImage<'a>
     requires { image.now.status ≡ 1 }
     ensures bytes { (any_view result).bytes ≡ image.now.bytes.now }

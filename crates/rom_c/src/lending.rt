@@ -1,11 +1,13 @@
-//! Calls on what is open in an image.
+//! Calls on open files of an image.
 ghost use Rattle.std.specs.Prelude.{◌≡◌, Some, None, true, is_some, length, ◌||◌};
 ghost use Rattle.rom_tree.specs.Tree.{Node, is_directory, is_regular};
 ghost use Rattle.rom_tree.specs.Image.{HasNode, LieIn, image_node};
-ghost use Rattle.open_files.specs.Machine.{Open, fstat_on, seek_on, read_on, lend_on, map_on, readdir_on};
+ghost use Rattle.open_files.specs.Machine.{Open, fstat_on, seek_on, read_on, lend_on, map_on};
+ghost use Rattle.open_files.specs.Machine.{readdir_on};
 ghost use Rattle.open_files.specs.Slots.{stands, image_view};
 ghost use Rattle.image_check.specs.Any.{any_view};
-ghost use Rattle.rom_c.specs.Outcomes.{error_told, place_told, file_stat_told, IsCopied, IsListed, Follows};
+ghost use Rattle.rom_c.specs.Outcomes.{error_told, place_told, file_stat_told, IsCopied, IsListed};
+ghost use Rattle.rom_c.specs.Outcomes.{Follows};
 
 use crate::answers::{RomtoolPlace, RomtoolStat, no_place, shown};
 use crate::file::{RomtoolEntry, no_entry};
@@ -13,7 +15,7 @@ use image_check::AnyImage;
 use open_files::{CallError, OpenNode, opened};
 use rom_tree::{NodeId, Piece, is_directory_at, is_regular_at};
 
-/// Whether a node can be opened.
+/// Returns whether a node can be opened.
 pub(crate) fn can_open(image: &AnyImage<'_>, node: NodeId) -> bool
     requires { HasNode (any_view image.now) node.0 }
     ensures { (x : Node) → image_node (any_view image.now) node.0 ≡ Some x
@@ -22,7 +24,7 @@ pub(crate) fn can_open(image: &AnyImage<'_>, node: NodeId) -> bool
     is_directory_at(image, node) || is_regular_at(image, node)
 }
 
-/// The kind and numbers of an open file.
+/// Returns the kind and numbers of an open file.
 pub(crate) fn fstat_in(image: &AnyImage<'_>, opened: OpenNode) -> RomtoolStat
     requires { (o : Open Node) × (stands (image_view (any_view image.now)) opened ≡ Some o) }
     ensures { (o : Open Node) → stands (image_view (any_view image.now)) opened ≡ Some o
@@ -31,7 +33,7 @@ pub(crate) fn fstat_in(image: &AnyImage<'_>, opened: OpenNode) -> RomtoolStat
     shown(opened::fstat(image, opened))
 }
 
-/// Where bytes of an open file lie.
+/// Returns the offset and the number of bytes of an open file.
 pub(crate) fn map_in(image: &AnyImage<'_>, opened: OpenNode, off: u64, len: u64) -> RomtoolPlace
     requires { (o : Open Node) × (stands (image_view (any_view image.now)) opened ≡ Some o) }
     ensures { (o : Open Node) → stands (image_view (any_view image.now)) opened ≡ Some o
@@ -47,7 +49,8 @@ pub(crate) fn map_in(image: &AnyImage<'_>, opened: OpenNode, off: u64, len: u64)
     }
 }
 
-/// Where the next bytes of an open file lie, as many of at most `max` as follow one another.
+/// Returns the offset and the number of the next bytes of an open file, as many of at most `max` as
+/// follow one another.
 pub(crate) fn lend_in(image: &AnyImage<'_>, opened: &mut OpenNode, max: u64) -> RomtoolPlace
     requires { (o : Open Node) × (stands (image_view (any_view image.now)) opened.old ≡ Some o) }
     ensures lent { (o : Open Node) → stands (image_view (any_view image.now)) opened.old ≡ Some o
@@ -67,7 +70,8 @@ pub(crate) fn lend_in(image: &AnyImage<'_>, opened: &mut OpenNode, max: u64) -> 
     }
 }
 
-/// Copies the next bytes of an open file, as many as fit, and puts down their number.
+/// Copies the next bytes of an open file, as many as fit, and sets `count` to their number. Returns
+/// 0 or an error.
 pub(crate) fn read_in(
     image: &AnyImage<'_>,
     opened: &mut OpenNode,
@@ -95,7 +99,7 @@ pub(crate) fn read_in(
     }
 }
 
-/// Sets the position of an open file.
+/// Sets the position of an open file. Returns 0 or an error.
 pub(crate) fn seek_in(image: &AnyImage<'_>, opened: &mut OpenNode, position: u64) -> u32
     requires { (o : Open Node) × (stands (image_view (any_view image.now)) opened.old ≡ Some o) }
     ensures sought { (o : Open Node) → stands (image_view (any_view image.now)) opened.old ≡ Some o
@@ -111,7 +115,7 @@ pub(crate) fn seek_in(image: &AnyImage<'_>, opened: &mut OpenNode, position: u64
     }
 }
 
-/// The next entry of an open directory.
+/// Reads the next entry of an open directory. Returns 0 or an error.
 pub(crate) fn readdir_in<'a>(
     image: &AnyImage<'a>,
     opened: &mut OpenNode,

@@ -1,11 +1,12 @@
-//! The reader for C: checks an image, and tells of its files where their bytes lie.
+//! Thirteen calls for C, as a static library: the check, paths and open files, over structs of
+//! numbers that C holds. `include/romtool.h` declares the calls.
 //!
-//! What C holds is a struct of numbers beside its bytes, which may be copied. Only `romtool_check`
-//! makes one that is open; C hands it back as it was, with the bytes as they were. A struct whose
-//! bytes are all 0 is closed. Nothing but the check takes memory, and nothing is kept between
-//! calls. `include/romtool.h` has the calls as C sees them. Proved of each call, for every tree
-//! that the bytes hold: it answers what pathname resolution and the machine of open files say, or
-//! an error, and after an error what it was given is as it was.
+//! Proved for each call, and for every tree that the bytes hold: it answers as pathname resolution
+//! and the machine of open files do, or with an error. A call on an open file that fails leaves the
+//! file as it was. An image is a struct of numbers beside its bytes, which may be copied. Only
+//! `romtool_check` makes one that is open. C passes it to each call unchanged, and with unchanged
+//! bytes. A struct that is all zeros is closed. Only the check takes memory, and nothing is kept
+//! between calls.
 #![tactic(auto)]
 
 mod answers;

@@ -13,10 +13,10 @@ use image_check::laws::one_tree;
 use path_walk::walk;
 use rom_tree::NodeId;
 
-/// What a path leads to is neither a directory nor a regular file.
+/// The error: the path leads neither to a directory nor to a regular file.
 const NO_FILE: u32 = 8;
 
-/// Opens what a path leads to, in an image that is open.
+/// Opens the file or directory to which a path leads, in an image that is open.
 pub(crate) fn open_in<'a>(image: &RomtoolImage<'a>, path: &[u8]) -> RomtoolFile<'a>
     requires { image.now.status ≡ 1 }
     ensures image { result.image ≡ image.now }

@@ -1,4 +1,4 @@
-//! What C calls on an image.
+//! The calls of C on an image.
 ghost use Rattle.std.specs.Prelude.{◌≡◌, ◌≢◌, ◌⊎◌, false, true, IsSome, IfSome};
 ghost use Rattle.rom_tree.specs.Tree.{Node, node_at};
 ghost use Rattle.rom_tree.specs.Image.{stat_of};
@@ -7,7 +7,8 @@ ghost use Rattle.rom_faults.specs.declared.error.CheckError.TheVariants.{Fault, 
 ghost use Rattle.image_check.specs.Checked.{HasTree, IsLeastFaultUnder};
 ghost use Rattle.rom_c.specs.Held.{usual, IsFormat, IsReported};
 ghost use Rattle.rom_c.specs.Told.{IsText, led_told, shown_told, stat_told};
-ghost use Rattle.rom_c.specs.Told.{no_node as no_node_told, no_stat as no_stat_told, no_place as no_place_told};
+ghost use Rattle.rom_c.specs.Told.{no_node as no_node_told, no_stat as no_stat_told};
+ghost use Rattle.rom_c.specs.Told.{no_place as no_place_told};
 
 use crate::answers::{CLOSED, RomtoolNode, RomtoolPlace, RomtoolStat, no_node, no_place, no_stat};
 use crate::calls::{lookup_in, readlink_in, stat_at, stat_in};
@@ -16,12 +17,12 @@ use image_check::laws::one_tree;
 use rom_tree::NodeId;
 use std::alloc::Global;
 
-/// Checks an image, and puts down what C is to hand back with each call on it.
+/// Checks an image, and stores the struct that C passes to each call on it.
 ///
-/// Gives 0 where the bytes hold an image: then its status is 1, its format 1 (romfs), 2 (cramfs) or
-/// 3 (big-endian cramfs), and it has the numbers of the check. Else the status is 0: 14 where they
-/// have a fault, whose number and offset stand in `fault` and `at` (the numbers are those of
-/// `rom_faults`), and 15 where memory was refused.
+/// Returns 0 if the bytes hold an image. Then its status is 1, its format is 1 (romfs), 2 (cramfs)
+/// or 3 (big-endian cramfs), and it has the numbers of the check. Otherwise the status is 0, and
+/// the result is 14 if the bytes have a fault, whose number and offset are in `fault` and `at` (the
+/// numbers are those of `rom_faults`), or 15 if memory was refused.
 #[unsafe(no_mangle)]
 pub extern "C" fn romtool_check<'a>(
     alloc: Global,
@@ -47,8 +48,8 @@ pub extern "C" fn romtool_check<'a>(
     check_into(alloc, image, bytes)
 }
 
-/// The node that a path leads to; `follow` says whether a symbolic link in the last place is
-/// followed. The errors are 13, where no image is open, and those of `path_walk::walk`.
+/// Returns the node to which a path leads; `follow` is true if a symbolic link as the last
+/// component is followed. The errors are 13 if no image is open, and those of `path_walk::walk`.
 #[unsafe(no_mangle)]
 pub extern "C" fn romtool_lookup(image: &RomtoolImage<'_>, path: &[u8], follow: bool) -> RomtoolNode
     ensures closed { image.now.status ≢ 1 → result ≡ no_node_told 13 }
@@ -62,8 +63,8 @@ pub extern "C" fn romtool_lookup(image: &RomtoolImage<'_>, path: &[u8], follow: 
     lookup_in(&mut image_of(image), path, follow)
 }
 
-/// The kind and numbers of the node that a path leads to; `follow` and the errors are those of
-/// `romtool_lookup`.
+/// Returns the kind and numbers of the node to which a path leads; `follow` and the errors are
+/// those of `romtool_lookup`.
 #[unsafe(no_mangle)]
 pub extern "C" fn romtool_stat(image: &RomtoolImage<'_>, path: &[u8], follow: bool) -> RomtoolStat
     ensures closed { image.now.status ≢ 1 → result ≡ no_stat_told 13 }
@@ -78,8 +79,8 @@ pub extern "C" fn romtool_stat(image: &RomtoolImage<'_>, path: &[u8], follow: bo
     stat_in(&mut image_of(image), path, follow)
 }
 
-/// The kind and numbers of the node with this number, which a call on the same image answered. It
-/// takes no time to look it up. Error 13 if no image is open.
+/// Returns the kind and numbers of the node with this number, which a call on the same image
+/// returned. There is no look-up. The error is 13 if no image is open.
 #[unsafe(no_mangle)]
 pub extern "C" fn romtool_stat_node(image: &RomtoolImage<'_>, node: u32) -> RomtoolStat
     requires { image.now.status ≡ 1 → (t : Node) → HasTree image.now.bytes.now usual t
@@ -95,8 +96,9 @@ pub extern "C" fn romtool_stat_node(image: &RomtoolImage<'_>, node: u32) -> Romt
     stat_at(&image_of(image), NodeId(node))
 }
 
-/// Where the text of the symbolic link lies that a path leads to: its bytes follow one another in
-/// the image. The errors are those of `romtool_lookup`, and 5 where the path leads to no link.
+/// Returns the offset and the length of the text of the symbolic link to which a path leads; its
+/// bytes follow one another in the image. The errors are those of `romtool_lookup`, and 5 if the
+/// path does not lead to a link.
 #[unsafe(no_mangle)]
 pub extern "C" fn romtool_readlink(image: &RomtoolImage<'_>, path: &[u8]) -> RomtoolPlace
     ensures closed { image.now.status ≢ 1 → result ≡ no_place_told 13 }

@@ -18,19 +18,22 @@ use Rattle.serve_lines.specs.declared.error.ServeError.{ServeError}
 use Rattle.serve_lines.specs.declared.error.ServeError.TheVariants as serve
 use Rattle.rom_serve.specs.Machines.{image_machine, space_machine}
 use Rattle.rom_commands.specs.declared.serving.Serving.{Serving}
-use Rattle.rom_commands.specs.declared.serving.Serving.TheVariants.{Served, Refused, Memory, ReadFault, WriteFault, TooManyReads}
+use Rattle.rom_commands.specs.declared.serving.Serving.TheVariants.{Served, Refused, Memory, ReadFault, WriteFault}
+use Rattle.rom_commands.specs.declared.serving.Serving.TheVariants.{TooManyReads}
 use Rattle.rom_commands.specs.Lines.{fault_line}
 use Rattle.rom_commands.specs.Refused.{EndsUnserved, IsFirst}
 use Rattle.rom_commands.specs.declared.several.NoImage.{NoImage}
 use Rattle.rom_commands.specs.declared.several.NoImage.TheVariants as none
 use Rattle.rom_commands.specs.Answers.{IsFaultTextUnder}
-use Rattle.rom_commands.specs.Serving.{Input, EndsServed, EndsRefused, Tells, CheckedEnds, ServingEndsUnder, HoldAll, IsFirstFaultText, SpaceEnds, fault_in_line, serving_of, refusal_of}
+use Rattle.rom_commands.specs.Serving.{Input, EndsServed, EndsRefused, Tells, CheckedEnds, ServingEndsUnder, HoldAll}
+use Rattle.rom_commands.specs.Serving.{IsFirstFaultText, SpaceEnds, fault_in_line, serving_of, refusal_of}
 
 -- lines were answered
 pub answers_by : {S : Type 0} (m : Machine S) (s : S) (r₀ r : Input) (w₀ w : Output) (q : Result (Unit {0}) ServeError)
     → OnOk q (Serves m s r₀.remaining r.remaining w₀ w)
     → OnOk q ((r.failures ≡ r₀.failures) × (w.failures ≡ w₀.failures))
-    → (q ≡ Err serve.ReadFault → Rose r₀.failures r.failures × ((y : List ℕ) × Finishes m s r₀.remaining r.remaining w₀ w y))
+    → (q ≡ Err serve.ReadFault → Rose r₀.failures r.failures
+    × ((y : List ℕ) × Finishes m s r₀.remaining r.remaining w₀ w y))
     → (q ≡ Err serve.WriteFault → Rose w₀.failures w.failures × Breaks m s r₀.remaining r.remaining w₀ w)
     → (q ≡ Err serve.TooManyReads → (y : List ℕ) × (length y ≡ 2 ^ 40) × Finishes m s r₀.remaining r.remaining w₀ w y)
     → EndsServed m s r₀ r w₀ w (serving_of q)
@@ -40,32 +43,41 @@ answers_by m s r₀ r w₀ w (Err serve.WriteFault) a b c d e = d refl
 answers_by m s r₀ r w₀ w (Err serve.TooManyReads) a b c d e = e refl
 
 -- lines were answered from an image that is seen as m
-pub served_by : (m m' : Image) (r₀ r : Input) (w₀ w : Output) (q : Result (Unit {0}) ServeError) (o : Serving) → m' ≡ m → o ≡ serving_of q
+pub served_by : (m m' : Image) (r₀ r : Input) (w₀ w : Output) (q : Result (Unit {0}) ServeError) (o : Serving) → m' ≡ m
+    → o ≡ serving_of q
     → OnOk q (Serves (image_machine m') (no_files 64) r₀.remaining r.remaining w₀ w)
     → OnOk q ((r.failures ≡ r₀.failures) × (w.failures ≡ w₀.failures))
-    → (q ≡ Err serve.ReadFault → Rose r₀.failures r.failures × ((y : List ℕ) × Finishes (image_machine m') (no_files 64) r₀.remaining r.remaining w₀ w y))
-    → (q ≡ Err serve.WriteFault → Rose w₀.failures w.failures × Breaks (image_machine m') (no_files 64) r₀.remaining r.remaining w₀ w)
-    → (q ≡ Err serve.TooManyReads → (y : List ℕ) × (length y ≡ 2 ^ 40) × Finishes (image_machine m') (no_files 64) r₀.remaining r.remaining w₀ w y)
+    → (q ≡ Err serve.ReadFault → Rose r₀.failures r.failures
+    × ((y : List ℕ) × Finishes (image_machine m') (no_files 64) r₀.remaining r.remaining w₀ w y))
+    → (q ≡ Err serve.WriteFault → Rose w₀.failures w.failures
+    × Breaks (image_machine m') (no_files 64) r₀.remaining r.remaining w₀ w)
+    → (q ≡ Err serve.TooManyReads → (y : List ℕ) × (length y ≡ 2 ^ 40)
+    × Finishes (image_machine m') (no_files 64) r₀.remaining r.remaining w₀ w y)
     → EndsServed (image_machine m) (no_files 64) r₀ r w₀ w o
 served_by m m' r₀ r w₀ w q o same is a b c d e =
     subst (λ (t : Image). EndsServed (image_machine t) (no_files 64) r₀ r w₀ w o) same
-    (subst (λ v. EndsServed (image_machine m') (no_files 64) r₀ r w₀ w v) (sym is) (answers_by (image_machine m') (no_files 64) r₀ r w₀ w q a b c d e))
+    (subst (λ v. EndsServed (image_machine m') (no_files 64) r₀ r w₀ w v) (sym is)
+    (answers_by (image_machine m') (no_files 64) r₀ r w₀ w q a b c d e))
 
 -- a text was written in place of replies
-pub refuses_by : (IsText : List ℕ → Type 0) (r : Input) (w₀ w : Output) (text : List ℕ) (q : Result (Unit {0}) Failed) → IsText text
-    → WritesText w₀.contents w.contents q text → Counts w₀.failures w.failures q → OnOk q (w.flushes ≡ one_more w₀.flushes)
+pub refuses_by : (IsText : List ℕ → Type 0) (r : Input) (w₀ w : Output) (text : List ℕ) (q : Result (Unit {0}) Failed)
+    → IsText text
+    → WritesText w₀.contents w.contents q text → Counts w₀.failures w.failures q
+    → OnOk q (w.flushes ≡ one_more w₀.flushes)
     → EndsRefused IsText r r w₀ w (refusal_of q)
 refuses_by IsText r w₀ w text (Ok _) h a b f = (refl, (text, h, a), b, f)
 refuses_by IsText r w₀ w text (Err _) h a b f = (refl, (text, h, a), b)
 
 -- this text was written
-pub tells_by : (r : Input) (w₀ w : Output) (text : List ℕ) (q : Result (Unit {0}) Failed) → WritesText w₀.contents w.contents q text
+pub tells_by : (r : Input) (w₀ w : Output) (text : List ℕ) (q : Result (Unit {0}) Failed)
+    → WritesText w₀.contents w.contents q text
     → Counts w₀.failures w.failures q → OnOk q (w.flushes ≡ one_more w₀.flushes) → Tells text r r w₀ w (refusal_of q)
 tells_by r w₀ w text (Ok _) a b f = (refl, a, b, f)
 tells_by r w₀ w text (Err _) a b f = (refl, a, b)
 
 -- a text that was written is one of a fault
-told : (IsText : List ℕ → Type 0) (text : List ℕ) (r₀ r : Input) (w₀ w : Output) (o : Serving) → IsText text → Tells text r₀ r w₀ w o
+told : (IsText : List ℕ → Type 0) (text : List ℕ) (r₀ r : Input) (w₀ w : Output) (o : Serving) → IsText text
+    → Tells text r₀ r w₀ w o
     → EndsRefused IsText r₀ r w₀ w o
 told IsText text r₀ r w₀ w Refused is t = (t.0, (text, is, t.1), t.2, t.3)
 told IsText text r₀ r w₀ w WriteFault is t = (t.0, (text, is, t.1), t.2)
@@ -74,11 +86,13 @@ told IsText text r₀ r w₀ w Served is t = absurd t
 told IsText text r₀ r w₀ w ReadFault is t = absurd t
 told IsText text r₀ r w₀ w TooManyReads is t = absurd t
 
-unserved : (IsText : List ℕ → Type 0) (r₀ r : Input) (w₀ w : Output) (o : Serving) → o ≡ Memory → r ≡ r₀ → w ≡ w₀ → EndsRefused IsText r₀ r w₀ w o
+unserved : (IsText : List ℕ → Type 0) (r₀ r : Input) (w₀ w : Output) (o : Serving) → o ≡ Memory → r ≡ r₀ → w ≡ w₀
+    → EndsRefused IsText r₀ r w₀ w o
 unserved IsText r₀ r w₀ w o e a b = subst (λ (v : Serving). EndsRefused IsText r₀ r w₀ w v) (sym e) (a, b)
 
 -- what a serving did by what the check answered, it did of the bytes that were checked
-pub under_by : (limits : Limits) (bytes : List ℕ) (q : Result AnyImage CheckError) (r₀ r : Input) (w₀ w : Output) (o : Serving)
+pub under_by : (limits : Limits) (bytes : List ℕ) (q : Result AnyImage CheckError) (r₀ r : Input) (w₀ w : Output)
+    (o : Serving)
     → IfOk q (λ v. Shows bytes limits (any_view v) (report_of v)) → IfOk q (λ v. IsFaultless bytes limits)
     → IfErr q (IsRefused bytes limits) → IfErr q (IsLeastFaultUnder bytes limits)
     → CheckedEnds q r₀ r w₀ w o → ServingEndsUnder limits bytes r₀ r w₀ w o
@@ -92,7 +106,8 @@ under_by limits bytes (Err check.OutOfMemory) r₀ r w₀ w o shows clean refuse
     inr (unserved (IsFaultTextUnder limits bytes) r₀ r w₀ w o ends.0 ends.1 ends.2)
 
 -- what a serving did by what the checks of several images answered, it did of the bytes that were checked
-pub all_by : {V : Type 0} (images : V → List Image) (all : List (List ℕ)) (q : Result V NoImage) (r₀ r : Input) (w₀ w : Output)
+pub all_by : {V : Type 0} (images : V → List Image) (all : List (List ℕ)) (q : Result V NoImage) (r₀ r : Input)
+    (w₀ w : Output)
     (o : Serving) → IfOk q (λ v. HoldAll all (images v)) → IfErr q (IsFirst all)
     → IfOk q (λ v. EndsServed (space_machine (images v)) (no_sessions 64) r₀ r w₀ w o)
     → IfErr q (λ e. EndsUnserved e r₀ r w₀ w o) → SpaceEnds all r₀ r w₀ w o

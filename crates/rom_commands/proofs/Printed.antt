@@ -1,5 +1,5 @@
 -- How a printing ended, once what was held back is handed on.
-use Rattle.std.proofs.Common.{◌≡◌, ℕ, ◌<◌, false, List, [], inl, inr, sym, ◌∙◌, subst, arith}
+use Rattle.std.proofs.Common.{◌≡◌, ℕ, ◌<◌, false, true, List, [], inl, inr, sym, ◌∙◌, subst, arith}
 use Rattle.std.specs.Io.KnownBytes.{Keeps}
 use Rattle.rom_fields.specs.Failures.{Rose, one_more}
 use Rattle.rom_fields.specs.Written.{Output, sink}
@@ -32,47 +32,69 @@ pub record Told (bytes : List ℕ) (asked : Asked) (old new err err' : Output) (
   pub handed : IsHandedOn new outcome
   pub said : Prints err err' (complaint_of outcome)
 
-module _ (bytes : List ℕ) (asked : Asked) (old mid new err err' : Output) (result : Status) (fresh : old.failures ≡ 0) (k : Keeps mid.contents new.contents) where
+module _ (bytes : List ℕ) (asked : Asked) (old mid new err err' : Output) (result : Status) (fresh : old.failures ≡ 0)
+    (k : Keeps mid.contents new.contents) where
   risen : 0 < new.failures → Rose old.failures new.failures
   risen l = inl (omega (arith, fresh, l))
 
-  pub done_told : Ends bytes asked old mid Done → Flushes mid new err err' status.Done result → Told bytes asked old new err err' result
+  pub done_told : Ends bytes asked old mid Done → Flushes mid new err err' status.Done result
+      → Told bytes asked old new err err' result
   done_told h (inl f) = record {
     outcome = WriteFault;
     status = f.1;
-    ends = (h.0, inl h.1, front_all old.contents new.contents h.0 (appends_keep old.contents mid.contents new.contents h.0 h.2 k), risen f.0);
+    ends = (
+      h.0,
+      inl (false, h.1),
+      front_all old.contents new.contents h.0
+          (appends_keep old.contents mid.contents new.contents h.0 h.2 k),
+      risen f.0,
+    );
     handed = tt;
     said = f.2;
   }
   done_told h (inr f) = record {
     outcome = Done;
     status = f.2;
-    ends = (h.0, h.1, appends_keep old.contents mid.contents new.contents h.0 h.2 k, f.1 ∙ sym fresh, h.4);
+    ends = (h.0, h.1, appends_keep old.contents mid.contents new.contents h.0 h.2 k, f.1 ∙ sym fresh);
     handed = counted new.flushes mid.flushes f.4;
     said = unsaid err err' f.3;
   }
 
-  pub warned_told : Ends bytes asked old mid Warned → Flushes mid new err err' status.Refused result → Told bytes asked old new err err' result
+  pub warned_told : Ends bytes asked old mid Warned → Flushes mid new err err' status.Refused result
+      → Told bytes asked old new err err' result
   warned_told h (inl f) = record {
     outcome = WriteFault;
     status = f.1;
-    ends = (h.0, inl h.1, front_all old.contents new.contents h.0 (appends_keep old.contents mid.contents new.contents h.0 h.2 k), risen f.0);
+    ends = (
+      h.0,
+      inl (true, h.1),
+      front_all old.contents new.contents h.0
+          (appends_keep old.contents mid.contents new.contents h.0 h.2 k),
+      risen f.0,
+    );
     handed = tt;
     said = f.2;
   }
   warned_told h (inr f) = record {
     outcome = Warned;
     status = f.2;
-    ends = (h.0, h.1, appends_keep old.contents mid.contents new.contents h.0 h.2 k, f.1 ∙ sym fresh, h.4);
+    ends = (h.0, h.1, appends_keep old.contents mid.contents new.contents h.0 h.2 k, f.1 ∙ sym fresh);
     handed = counted new.flushes mid.flushes f.4;
     said = unsaid err err' f.3;
   }
 
-  pub refused_told : Ends bytes asked old mid Refused → Flushes mid new err err' status.Refused result → Told bytes asked old new err err' result
+  pub refused_told : Ends bytes asked old mid Refused → Flushes mid new err err' status.Refused result
+      → Told bytes asked old new err err' result
   refused_told h (inl f) = record {
     outcome = WriteFault;
     status = f.1;
-    ends = (h.0, inr h.1, front_all old.contents new.contents h.0 (appends_keep old.contents mid.contents new.contents h.0 h.2 k), risen f.0);
+    ends = (
+      h.0,
+      inr h.1,
+      front_all old.contents new.contents h.0
+          (appends_keep old.contents mid.contents new.contents h.0 h.2 k),
+      risen f.0,
+    );
     handed = tt;
     said = f.2;
   }
@@ -84,7 +106,8 @@ module _ (bytes : List ℕ) (asked : Asked) (old mid new err err' : Output) (res
     said = unsaid err err' f.3;
   }
 
-  pub fault_told : Ends bytes asked old mid WriteFault → Flushes mid new err err' status.Failed result → Told bytes asked old new err err' result
+  pub fault_told : Ends bytes asked old mid WriteFault → Flushes mid new err err' status.Failed result
+      → Told bytes asked old new err err' result
   fault_told h (inl f) =
       let a = h.2 in
       record {

@@ -1,5 +1,5 @@
 -- What is printed of an image, from what its check found.
-use Rattle.std.proofs.Common.{◌≡◌, ℕ, Bool, List, Err, length, refl, sym, ap, ◌∙◌, subst}
+use Rattle.std.proofs.Common.{◌≡◌, ℕ, Bool, List, Err, length, refl, sym, ap, ◌∙◌, ◌++◌, subst, inr}
 use Rattle.rom_faults.specs.declared.error.CheckError.TheVariants.{Fault}
 use Rattle.rom_tree.specs.declared.types.Limits.{Limits}
 use Rattle.image_check.specs.declared.any.AnyImage.{AnyImage}
@@ -9,13 +9,16 @@ use Rattle.rom_tree.specs.declared.types.Report.{Report}
 use Rattle.image_check.specs.Checked.{romfs as shows_romfs, cramfs as shows_cramfs}
 use Rattle.image_check.specs.Checked.{Shows, IsRefused, HasFormat, IsFaultless, IsLeastFaultUnder}
 use Rattle.rom_fields.specs.Written.{Output}
+use Rattle.rom_fields.proofs.Joins.{front_first}
 use Rattle.image_info.specs.Endings.{WritesAll}
 use Rattle.image_info.specs.declared.info.InfoError.{InfoError}
 use Rattle.image_info.specs.declared.info.InfoError.TheVariants.{OutOfMemory, WriteFault}
 use Rattle.rom_commands.specs.declared.asked.Asked.{Asked}
 use Rattle.rom_commands.specs.Lines.{fault_line}
-use Rattle.rom_commands.specs.Asked.{sound_text, Fits}
-use Rattle.rom_commands.specs.Answers.{Holds, IsSoundText, IsFaultText, HasFault, usual_limits}
+use Rattle.rom_commands.specs.Asked.{sound_text, takes_fault, warns, Fits}
+use Rattle.rom_commands.specs.Answers.{Ends, FaultEnds, Holds, IsSoundText, IsFaultText, HasFault, usual_limits}
+use Rattle.rom_commands.specs.declared.shown.Outcome.{Outcome}
+use Rattle.rom_commands.specs.declared.shown.Outcome.TheVariants as outcome
 
 -- limits of these numbers are the usual ones
 pub usual : (l : Limits) → l.references ≡ 1048576 → l.depth ≡ 64 → l ≡ usual_limits
@@ -25,18 +28,20 @@ usual l r d =
     ap by_references r ∙ ap by_depth d
 
 -- a checked image is the one that its bytes hold
-pub held : (bytes : List ℕ) (l : Limits) (v : AnyImage) → l ≡ usual_limits → Shows bytes l (any_view v) (report_of v) → IsFaultless bytes l → Holds bytes (any_view v)
+pub held : (bytes : List ℕ) (l : Limits) (v : AnyImage) → l ≡ usual_limits → Shows bytes l (any_view v) (report_of v)
+    → IsFaultless bytes l → Holds bytes (any_view v)
 held bytes l v e h k =
     let P : Limits → Type 0 = λ u. Shows bytes u (any_view v) (report_of v) in
     let Q : Limits → Type 0 = λ u. IsFaultless bytes u in
     record { report = report_of v; shows = subst P e h; clean = subst Q e k }
 
-pub sound : (bytes : List ℕ) (asked : Asked) (l : Limits) (v : AnyImage) → l ≡ usual_limits → Shows bytes l (any_view v) (report_of v) → HasFormat bytes v → IsFaultless bytes l
-    → IsSoundText bytes asked (sound_text asked v)
-sound bytes asked l v e h f k =
+pub sound : (bytes : List ℕ) (asked : Asked) (l : Limits) (v : AnyImage) → l ≡ usual_limits
+    → Shows bytes l (any_view v) (report_of v) → HasFormat bytes v → IsFaultless bytes l
+    → (warned : Bool) → warned ≡ warns asked v → IsSoundText asked bytes (sound_text asked v) warned
+sound bytes asked l v e h f k warned w =
     let P : Limits → Type 0 = λ u. Shows bytes u (any_view v) (report_of v) in
     let Q : Limits → Type 0 = λ u. IsFaultless bytes u in
-    record { image = v; shows = subst P e h; format = f; clean = subst Q e k; same = refl }
+    record { image = v; shows = subst P e h; format = f; clean = subst Q e k; same = refl; warning = w }
 
 -- an image shows the bytes that were checked
 shown_bytes : (bytes : List ℕ) (l : Limits) (m : Image) (r : Report) → Shows bytes l m r → m.bytes ≡ bytes
@@ -44,21 +49,50 @@ shown_bytes bytes l m r (shows_romfs h) = h.bytes
 shown_bytes bytes l m r (shows_cramfs h) = h.bytes
 
 -- so its addresses fit where theirs do
-pub shown_fits : (asked : Asked) (bytes : List ℕ) (l : Limits) (v : AnyImage) → Shows bytes l (any_view v) (report_of v) → Fits asked (length bytes) → Fits asked (length (any_view v).bytes)
-shown_fits asked bytes l v h f = let P : List ℕ → Type 0 = λ u. Fits asked (length u) in subst P (sym (shown_bytes bytes l (any_view v) (report_of v) h)) f
+pub shown_fits : (asked : Asked) (bytes : List ℕ) (l : Limits) (v : AnyImage) → Shows bytes l (any_view v) (report_of v)
+    → Fits asked (length bytes) → Fits asked (length (any_view v).bytes)
+shown_fits asked bytes l v h f = let P : List ℕ → Type 0 =
+    λ u. Fits asked (length u) in subst P (sym (shown_bytes bytes l (any_view v) (report_of v) h)) f
 
 -- the fault that a check found
-pub fault_of : (bytes : List ℕ) (l : Limits) (number at : ℕ) → l ≡ usual_limits → IsRefused bytes l (Fault number at) → IsLeastFaultUnder bytes l (Fault number at) → HasFault bytes number at
+pub fault_of : (bytes : List ℕ) (l : Limits) (number at : ℕ) → l ≡ usual_limits → IsRefused bytes l (Fault number at)
+    → IsLeastFaultUnder bytes l (Fault number at) → HasFault bytes number at
 fault_of bytes l number at e h k =
     let P : Limits → Type 0 = λ v. IsRefused bytes v (Fault number at) in
     let Q : Limits → Type 0 = λ v. IsLeastFaultUnder bytes v (Fault number at) in
     record { refused = subst P e h; least = subst Q e k }
 
 -- what is printed of an image with a fault
-pub faulty : (bytes : List ℕ) (l : Limits) (number at : ℕ) → l ≡ usual_limits → IsRefused bytes l (Fault number at) → IsLeastFaultUnder bytes l (Fault number at) → IsFaultText bytes (fault_line number at)
-faulty bytes l number at e h k = record { number = number; at = at; fault = fault_of bytes l number at e h k; same = refl }
+pub faulty : (bytes : List ℕ) (l : Limits) (number at : ℕ) → l ≡ usual_limits → IsRefused bytes l (Fault number at)
+    → IsLeastFaultUnder bytes l (Fault number at) → IsFaultText bytes (fault_line number at)
+faulty bytes l number at e h k =
+    record { number = number; at = at; fault = fault_of bytes l number at e h k; same = refl }
 
 -- a failure with nothing to tell is one with something to tell
-pub failed_as_well : (old new : Output) (text : List ℕ) (e : InfoError) → WritesAll {T = Unit {0}} old new text (Err e) → WritesAll {T = Bool} old new text (Err e)
+pub failed_as_well : (old new : Output) (text : List ℕ) (e : InfoError) → WritesAll {T = Unit {0}} old new text (Err e)
+    → WritesAll {T = Bool} old new text (Err e)
 failed_as_well old new text OutOfMemory h = h
 failed_as_well old new text WriteFault h = h
+
+-- how the showing of a fault ends, it ends of the bytes that have the fault
+pub fault_ends : (bytes : List ℕ) (number at : ℕ) (asked : Asked) (old new : Output) (o : Outcome)
+    → HasFault bytes number at → FaultEnds number at asked old new o → Ends bytes asked old new o
+fault_ends bytes number at asked old new outcome.Done h f = absurd f
+fault_ends bytes number at asked old new outcome.Warned h f = absurd f
+fault_ends bytes number at asked old new outcome.Refused h f =
+    let is : IsFaultText bytes (fault_line number at) = record { number = number; at = at; fault = h; same = refl } in
+    (fault_line number at, (is, f.0), f.1, f.2)
+fault_ends bytes number at asked old new (outcome.Faulty n offset) h f =
+    let P : ℕ → Type 0 = λ v. HasFault bytes v offset in
+    let Q : ℕ → Type 0 = λ v. HasFault bytes number v in
+    (subst P (sym f.0) (subst Q (sym f.1) h), f.2, f.3)
+fault_ends bytes number at asked old new outcome.Memory h f = absurd f
+fault_ends bytes number at asked old new outcome.WriteFault h f =
+    let is : IsFaultText bytes (fault_line number at) = record { number = number; at = at; fault = h; same = refl } in
+    (fault_line number at, inr (is, f.0), f.1, f.2)
+
+-- a failure of a front is one of the whole
+pub failed_front : (old new : Output) (s t : List ℕ) (e : InfoError) → WritesAll {T = Unit {0}} old new s (Err e)
+    → WritesAll {T = Bool} old new (s ++ t) (Err e)
+failed_front old new s t OutOfMemory h = h
+failed_front old new s t WriteFault h = (front_first old.contents new.contents s t h.0, h.1)

@@ -1,5 +1,5 @@
 -- What is written of a sound image, by what was asked. (This project's own.)
-use Rattle.std.specs.Prelude.{ℕ, ◌+◌, ◌^◌, ◌≤◌, Bool, false, List}
+use Rattle.std.specs.Prelude.{ℕ, ◌+◌, ◌^◌, ◌≤◌, ◌++◌, Bool, true, false, not, List}
 use Rattle.rom_tree.specs.Listing.{list_text}
 use Rattle.image_check.specs.declared.any.AnyImage.{AnyImage}
 use Rattle.image_check.specs.Any.{any_view, report_of}
@@ -7,22 +7,34 @@ use Rattle.image_map.specs.Map.{map_text}
 use Rattle.image_info.specs.Info.{info_text}
 use Rattle.linux_misreads.specs.Misreads.{is_told, misreads_text}
 use Rattle.rom_commands.specs.Formats.{format_of}
+use Rattle.rom_commands.specs.Room.{fits, room_text}
 use Rattle.rom_commands.specs.Lines.{ok_line}
 use Rattle.rom_commands.specs.declared.asked.Asked.{Asked}
-use Rattle.rom_commands.specs.declared.asked.Asked.TheVariants.{Report, List as Listed, Map, Misreads, Facts}
+use Rattle.rom_commands.specs.declared.asked.Asked.TheVariants.{Report, List as Listed, Map}
+use Rattle.rom_commands.specs.declared.asked.Asked.TheVariants.{Misreads, Facts, Fit}
 
--- the text of an image: its format, references and depth; its list; its map; what Linux gets wrong of it; its facts
+-- the text of an image: its format, references and depth; its list; its map; what Linux gets wrong
+-- of it; its facts; and behind these, whether it fits
 abbrev pub sound_text : Asked → AnyImage → List ℕ
 sound_text Report a = ok_line (format_of a) (report_of a).references (report_of a).depth
 sound_text Listed a = list_text (any_view a).bytes (any_view a).tree
 sound_text (Map base) a = map_text base (any_view a).tree
 sound_text Misreads a = misreads_text a
 sound_text (Facts file) a = info_text file a
+sound_text (Fit file limit) a = info_text file a ++ room_text limit a
 
--- whether a text tells of something that Linux gets wrong
-abbrev pub warns : Asked → List ℕ → Bool
-warns Misreads text = is_told text
-warns _ text = false
+-- whether it tells of something that Linux gets wrong, or that the image does not fit
+abbrev pub warns : Asked → AnyImage → Bool
+warns Misreads a = is_told (misreads_text a)
+warns (Fit file limit) a = not (fits limit a)
+warns _ a = false
+
+-- whether the line of a fault stands in its place: of a report and of a list. In the place of all
+-- else nothing is written, so that no fault stands among data; standard error has the line.
+abbrev pub takes_fault : Asked → Bool
+takes_fault Report = true
+takes_fault Listed = true
+takes_fault _ = false
 
 -- the last byte of an image of this length has an address below 2^64
 abbrev pub Fits : Asked → ℕ → Type 0

@@ -1,4 +1,5 @@
--- The example image `hello`, laid out by the description of romfs in Linux Documentation/filesystems/romfs.rst.
+-- The example image `hello`, laid out by the description of romfs in Linux
+-- Documentation/filesystems/romfs.rst.
 use Rattle.std.specs.Prelude.{ℕ, ◌+◌, ◌/◌, ◌%◌, ◌^◌, List, [], ◌∷◌, ◌++◌, codes, replicate}
 use Rattle.std.specs.List.{flat_map}
 use Rattle.rom_fields.specs.Words.{with_word_be}
@@ -12,8 +13,8 @@ with_words b p (w ∷ ws) = with_words (with_word_be b p w) (p + 4) ws
 abbrev pub word_bytes : ℕ → List ℕ
 word_bytes w = w / 2 ^ 24 ∷ w / 2 ^ 16 % 256 ∷ w / 2 ^ 8 % 256 ∷ w % 256 ∷ []
 
--- the superblock, the root `.`, the hard link `..` to it, and the file `a` with its bytes; a header has next, spec,
--- size and checksum
+-- the superblock, the root `.`, the hard link `..` to it, and the file `a` with its bytes; a header
+-- has next, spec, size and checksum
 unfoldable pub hello_image : List ℕ
 hello_image =
     codes "-rom1fs-" ++ flat_map word_bytes (144 ∷ 3384914026 ∷ []) ++ replicate 16 0

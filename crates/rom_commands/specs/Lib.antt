@@ -7,3 +7,4 @@ pub mod Hello
 pub mod Serving
 pub mod Refused
 pub mod Copying
+pub mod Room

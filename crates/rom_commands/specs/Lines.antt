@@ -5,7 +5,8 @@ use Rattle.rom_faults.specs.Faults.{name_of_fault}
 -- fault NUMBER NAME at OFFSET
 abbrev pub fault_text : ℕ → ℕ → List ℕ
 fault_text n at =
-    codes "fault " ++ (decimal n ++ (codes " " ++ (name_of_fault n ++ (codes " at " ++ decimal at))))
+    codes "fault " ++ (decimal n
+    ++ (codes " " ++ (name_of_fault n ++ (codes " at " ++ decimal at))))
 
 -- and a line feed
 unfoldable pub fault_line : ℕ → ℕ → List ℕ
@@ -14,4 +15,5 @@ fault_line n at = fault_text n at ++ codes "\n"
 -- ok FORMAT REFERENCES DEPTH, and a line feed
 unfoldable pub ok_line : List ℕ → ℕ → ℕ → List ℕ
 ok_line format references depth =
-    codes "ok " ++ (format ++ (codes " " ++ (decimal references ++ (codes " " ++ (decimal depth ++ codes "\n")))))
+    codes "ok " ++ (format ++ (codes " "
+    ++ (decimal references ++ (codes " " ++ (decimal depth ++ codes "\n")))))

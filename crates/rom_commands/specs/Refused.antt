@@ -18,8 +18,8 @@ abbrev pub IsFirst : List (List ℕ) → NoImage → Type 0
 IsFirst all OutOfMemory = Unit {0}
 IsFirst all (Fault number at image) = HasFirstFault all number at image
 
--- No line was answered, by what the checks of several images answered: the line of the first fault is written; or
--- nothing is done, if memory was refused to the checks.
+-- No line was answered, by what the checks of several images answered: the line of the first fault
+-- is written; or nothing is done, if memory was refused to the checks.
 abbrev pub EndsUnserved : NoImage → Input → Input → Output → Output → Serving → Type 0
 EndsUnserved OutOfMemory r₀ r w₀ w o = (o ≡ Memory) × (r ≡ r₀) × (w ≡ w₀)
 EndsUnserved (Fault number at image) r₀ r w₀ w o = Tells (fault_in_line number at image) r₀ r w₀ w o

@@ -1,6 +1,7 @@
--- What serving images does with their bytes and with the streams, and how it ends: the lines of a reader are
--- answered from the trees that the bytes hold. (This project's own.)
-use Rattle.std.specs.Prelude.{◌≡◌, ℕ, ◌^◌, ◌⊎◌, List, [], ◌∷◌, ◌++◌, length, codes, decimal, Option, Result, Ok, Err}
+-- What serving images does with their bytes and with the streams, and how it ends: the lines of a
+-- reader are answered from the trees that the bytes hold. (This project's own.)
+use Rattle.std.specs.Prelude.{◌≡◌, ℕ, ◌^◌, ◌⊎◌, List, [], ◌∷◌, ◌++◌, length, codes, decimal, Option}
+use Rattle.std.specs.Prelude.{Result, Ok, Err}
 use Rattle.std.specs.Io.KnownBytes.{Appends}
 use Rattle.rom_fields.specs.declared.bytes.Failed.{Failed}
 use Rattle.rom_fields.specs.Failures.{Rose, one_more}
@@ -18,13 +19,17 @@ use Rattle.serve_lines.specs.declared.error.ServeError.{ServeError}
 use Rattle.serve_lines.specs.declared.error.ServeError.TheVariants as serve
 use Rattle.rom_serve.specs.Machines.{image_machine, space_machine}
 use Rattle.rom_commands.specs.Lines.{fault_line, fault_text}
-use Rattle.rom_commands.specs.Answers.{Holds, HoldsUnder, HasFault, IsFaultTextUnder, Prints, usual_limits}
+use Rattle.rom_commands.specs.Answers.{Holds, HoldsUnder, HasFault, IsFaultTextUnder, Prints}
+use Rattle.rom_commands.specs.Answers.{usual_limits}
 use Rattle.rom_commands.specs.declared.status.Status.{Status}
 use Rattle.rom_commands.specs.declared.status.Status.TheVariants as status
 use Rattle.rom_commands.specs.declared.serving.Serving.{Serving}
-use Rattle.rom_commands.specs.declared.serving.Serving.TheVariants.{Served, Refused, Memory, ReadFault, WriteFault, TooManyReads}
+use Rattle.rom_commands.specs.declared.serving.Serving.TheVariants.{Served, Refused, Memory}
+use Rattle.rom_commands.specs.declared.serving.Serving.TheVariants.{ReadFault, WriteFault}
+use Rattle.rom_commands.specs.declared.serving.Serving.TheVariants.{TooManyReads}
 
--- a reader: the bytes that its reads will give, where it tells them, and how many of its reads failed
+-- a reader: the bytes that its reads will give, where it tells them, and how many of its reads
+-- failed
 pub record Input : Type 0 where
   pub remaining : Option (List ℕ)
   pub failures : ℕ
@@ -43,9 +48,10 @@ abbrev pub refusal_of : Result (Unit {0}) Failed → Serving
 refusal_of (Ok _) = Refused
 refusal_of (Err _) = WriteFault
 
--- Lines were answered by the machine m from its state s on: what was read and written, by how it ended. A reader
--- was r₀ and is r, a writer was w₀ and is w.
-abbrev pub EndsServed : {S : Type 0} → Machine S → S → Input → Input → Output → Output → Serving → Type 0
+-- Lines were answered by the machine m from its state s on: what was read and written, by how it
+-- ended. A reader was r₀ and is r, a writer was w₀ and is w.
+abbrev pub EndsServed : {S : Type 0} → Machine S → S → Input → Input → Output → Output → Serving
+    → Type 0
 EndsServed m s r₀ r w₀ w Served =
     Serves m s r₀.remaining r.remaining w₀ w
     × (r.failures ≡ r₀.failures) × (w.failures ≡ w₀.failures)
@@ -59,7 +65,8 @@ EndsServed m s r₀ r w₀ w TooManyReads =
 EndsServed m s r₀ r w₀ w Refused = ⊥
 EndsServed m s r₀ r w₀ w Memory = ⊥
 
--- No line was answered, and nothing was read: a text of a fault was written and flushed once, or memory was refused.
+-- No line was answered, and nothing was read: a text of a fault was written and flushed once, or
+-- memory was refused.
 abbrev pub EndsRefused : (List ℕ → Type 0) → Input → Input → Output → Output → Serving → Type 0
 EndsRefused IsText r₀ r w₀ w Refused =
     (r ≡ r₀) × ((text : List ℕ) × IsText text × Appends w₀.contents w.contents text)
@@ -72,7 +79,8 @@ EndsRefused IsText r₀ r w₀ w Served = ⊥
 EndsRefused IsText r₀ r w₀ w ReadFault = ⊥
 EndsRefused IsText r₀ r w₀ w TooManyReads = ⊥
 
--- No line was answered, and nothing was read: this text was written and flushed once, or that failed.
+-- No line was answered, and nothing was read: this text was written and flushed once, or that
+-- failed.
 abbrev pub Tells : List ℕ → Input → Input → Output → Output → Serving → Type 0
 Tells text r₀ r w₀ w Refused =
     (r ≡ r₀) × Appends w₀.contents w.contents text
@@ -84,31 +92,37 @@ Tells text r₀ r w₀ w Served = ⊥
 Tells text r₀ r w₀ w ReadFault = ⊥
 Tells text r₀ r w₀ w TooManyReads = ⊥
 
--- The writing of a fault's line ended so, the status says it, and so does standard error if it failed.
+-- The writing of a fault's line ended so, the status says it, and so does standard error if it
+-- failed.
 abbrev pub Says : Result (Unit {0}) Failed → Output → Output → Status → Type 0
 Says (Ok _) err err' result = (result ≡ status.Refused) × Prints err err' []
 Says (Err _) err err' result = (result ≡ status.Failed) × Prints err err' (codes "write fault\n")
 
--- The line of a fault was written and flushed once, and the status says so; or a write failed, which is told.
+-- The line of a fault was written and flushed once, and the status says so; or a write failed,
+-- which is told.
 abbrev pub TellsFault : List ℕ → Output → Output → Output → Output → Status → Type 0
 TellsFault text w₀ w err err' result =
     ((result ≡ status.Refused) × Appends w₀.contents w.contents text × (w.failures ≡ w₀.failures)
     × (w.flushes ≡ one_more w₀.flushes) × Prints err err' [])
-    ⊎ ((result ≡ status.Failed) × AppendsPrefix w₀.contents w.contents text × Rose w₀.failures w.failures
+    ⊎ ((result ≡ status.Failed) × AppendsPrefix w₀.contents w.contents text
+    × Rose w₀.failures w.failures
     × Prints err err' (codes "write fault\n"))
 
--- What serving does, by what the check of the image answered: lines are answered from the image, nothing of it open at
--- first; or the line of its fault is written; or nothing is done, if memory was refused to the check.
-abbrev pub CheckedEnds : Result AnyImage CheckError → Input → Input → Output → Output → Serving → Type 0
+-- What serving does, by what the check of the image answered: lines are answered from the image,
+-- nothing of it open at first; or the line of its fault is written; or nothing is done, if memory
+-- was refused to the check.
+abbrev pub CheckedEnds : Result AnyImage CheckError → Input → Input → Output → Output → Serving
+    → Type 0
 CheckedEnds (Ok v) r₀ r w₀ w o = EndsServed (image_machine (any_view v)) (no_files 64) r₀ r w₀ w o
 CheckedEnds (Err (check.Fault number at)) r₀ r w₀ w o = Tells (fault_line number at) r₀ r w₀ w o
 CheckedEnds (Err check.OutOfMemory) r₀ r w₀ w o = (o ≡ Memory) × (r ≡ r₀) × (w ≡ w₀)
 
--- The bytes hold an image under these limits, and lines were answered from its tree, nothing of it open at first; or
--- they were refused.
+-- The bytes hold an image under these limits, and lines were answered from its tree, nothing of it
+-- open at first; or they were refused.
 abbrev pub ServingEndsUnder : Limits → List ℕ → Input → Input → Output → Output → Serving → Type 0
 ServingEndsUnder limits bytes r₀ r w₀ w o =
-    ((m : Image) × HoldsUnder limits bytes m × EndsServed (image_machine m) (no_files 64) r₀ r w₀ w o)
+    ((m : Image) × HoldsUnder limits bytes m
+    × EndsServed (image_machine m) (no_files 64) r₀ r w₀ w o)
     ⊎ EndsRefused (IsFaultTextUnder limits bytes) r₀ r w₀ w o
 
 -- the same under the usual limits
@@ -147,11 +161,12 @@ pub record IsFirstFaultText (all : List (List ℕ)) (text : List ℕ) : Type 0 w
   pub first : HasFirstFault all number at image
   pub same : text ≡ fault_in_line number at image
 
--- All of the bytes hold images, and lines were answered from their trees with sessions, nothing mounted or open at
--- first; or they were refused.
+-- All of the bytes hold images, and lines were answered from their trees with sessions, nothing
+-- mounted or open at first; or they were refused.
 abbrev pub SpaceEnds : List (List ℕ) → Input → Input → Output → Output → Serving → Type 0
 SpaceEnds all r₀ r w₀ w o =
-    ((ms : List Image) × HoldAll all ms × EndsServed (space_machine ms) (no_sessions 64) r₀ r w₀ w o)
+    ((ms : List Image) × HoldAll all ms
+    × EndsServed (space_machine ms) (no_sessions 64) r₀ r w₀ w o)
     ⊎ EndsRefused (IsFirstFaultText all) r₀ r w₀ w o
 
 -- the status with which the program ends

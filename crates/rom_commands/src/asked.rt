@@ -13,4 +13,11 @@ pub enum Asked {
     Misreads,
     /// Its facts, where the file that it is in has so many bytes.
     Facts(u64),
+    /// Its facts, and whether it fits into so many bytes.
+    Fit {
+        /// How many bytes the file has that it is in.
+        file: u64,
+        /// How many bytes it may have.
+        limit: u64,
+    },
 }

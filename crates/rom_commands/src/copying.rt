@@ -3,15 +3,16 @@ ghost use Rattle.std.specs.Prelude.{◌≡◌, ◌≤◌};
 ghost use Rattle.rom_tree.specs.Tree.{levels};
 ghost use Rattle.image_check.specs.Any.{any_view};
 ghost use Rattle.rom_commands.specs.Answers.{Prints};
-ghost use Rattle.rom_commands.specs.Copying.{Copies, CopyEnds, IsHandedOn, copied_status, copied_complaint, no_file_text};
+ghost use Rattle.rom_commands.specs.Copying.{Copies, CopyEnds, IsHandedOn, copied_status};
+ghost use Rattle.rom_commands.specs.Copying.{copied_complaint, no_file_text};
 
 use crate::printing::{complain, flushed};
-use crate::shown::write_fault_line;
+use crate::serving::complain_of_fault;
 use crate::status::Status;
 use image_check::{AnyImage, check};
 use image_map::cat;
 use path_walk::{WalkError, walk};
-use rom_faults::CheckError;
+use rom_faults::{CheckError, Fault};
 use rom_fields::{ByteWrite, Plain};
 use rom_tree::{Limits, is_directory_at, is_regular_at};
 use std::alloc::Global;
@@ -35,11 +36,16 @@ pub enum Copied {
     Done,
     /// The path leads to no regular file, and nothing was written.
     NoFile(NoFile),
-    /// The image has a fault, whose line was written.
-    Refused,
+    /// The image has a fault, and nothing was written.
+    Refused {
+        /// The fault's number.
+        number: u32,
+        /// Its offset.
+        at: u32,
+    },
     /// Memory was refused, and nothing was written.
     Memory,
-    /// A write failed. A prefix of the bytes, or of the fault's line, was written.
+    /// A write failed. A prefix of the bytes was written.
     WriteFault,
 }
 
@@ -65,16 +71,13 @@ fn copy_file<W: ByteWrite>(image: &mut AnyImage, path: &[u8], w: &mut W) -> Copi
 }
 
 /// Checks an image under the usual limits, and writes the bytes of the regular file to which a path
-/// leads in it, or the line of its fault.
+/// leads in it.
 pub fn copy<W: ByteWrite>(alloc: Global, bytes: &[u8], path: &[u8], w: &mut W) -> Copied
     ensures { CopyEnds bytes.now path.now (W.output w.old) (W.output w.new) result }
 {
     match check(alloc, bytes, Limits::usual()) {
         Ok(mut image) => copy_file(&mut image, path, w),
-        Err(CheckError::Fault { number, at }) => match write_fault_line(w, number, at) {
-            Ok(()) => Copied::Refused,
-            Err(_) => Copied::WriteFault,
-        },
+        Err(CheckError::Fault { number, at }) => Copied::Refused { number, at },
         Err(CheckError::OutOfMemory) => Copied::Memory,
     }
 }
@@ -94,10 +97,10 @@ fn no_file_name(error: NoFile) -> &'static [u8]
     }
 }
 
-/// Prints the bytes of the regular file to which a path leads in an image to `out`, and to `err` why
-/// there are none, that memory was refused or that a write failed. What `out` holds back is handed
-/// on. The status is `Done`, `Refused` where the image has a fault or the path leads to no regular
-/// file, `Failed` where memory was refused or a write failed.
+/// Prints the bytes of the regular file to which a path leads in an image to `out`, and to `err`
+/// why there are none, which fault the image has, that memory was refused or that a write failed.
+/// What `out` holds back is handed on. The status is `Done`, `Refused` where the image has a fault
+/// or the path leads to no regular file, `Failed` where memory was refused or a write failed.
 pub fn print_file<X: Write, E: ByteWrite>(
     alloc: Global,
     bytes: &[u8],
@@ -114,7 +117,7 @@ pub fn print_file<X: Write, E: ByteWrite>(
 {
     match copy(alloc, bytes, path, out) {
         Copied::Done => flushed(out, err, Status::Done),
-        Copied::Refused => flushed(out, err, Status::Refused),
+        Copied::Refused { number, at } => complain_of_fault(Fault { number, at }, err),
         Copied::WriteFault => flushed(out, err, Status::Failed),
         Copied::NoFile(error) => {
             complain(err, no_file_name(error), b"");

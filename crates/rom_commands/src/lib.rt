@@ -10,6 +10,7 @@ mod copying;
 mod example;
 mod fault;
 mod printing;
+mod room;
 mod serving;
 mod several;
 mod shown;
@@ -19,7 +20,10 @@ pub use asked::Asked;
 pub use copying::{Copied, NoFile, copy, print_file};
 pub use example::hello;
 pub use printing::{complain, print};
-pub use serving::{Serving, refuse, serve_checked, serve_image, serve_on, serve_under};
+pub use room::image_size;
+pub use serving::{
+    Serving, complain_of_fault, refuse, serve_checked, serve_image, serve_on, serve_under,
+};
 pub use several::{refuse_in, serve_images, serve_several_on};
-pub use shown::{Outcome, has_addresses, show};
+pub use shown::{Outcome, has_addresses, show, takes_fault};
 pub use status::{Failure, Status, tell};

@@ -3,12 +3,15 @@ ghost use Rattle.std.specs.Prelude.{◌≡◌, ◌++◌, codes, length};
 ghost use Rattle.std.specs.Io.KnownBytes.{Keeps};
 ghost use Rattle.rom_fields.specs.Texts.{escaped};
 ghost use Rattle.rom_commands.specs.Asked.{Fits};
-ghost use Rattle.rom_commands.specs.Answers.{Ends, Flushes, IsHandedOn, Prints, complaint_of, status_of};
+ghost use Rattle.rom_commands.specs.Answers.{Ends, Flushes, IsHandedOn, Prints, complaint_of};
+ghost use Rattle.rom_commands.specs.Answers.{status_of};
 ghost use Rattle.rom_commands.specs.declared.shown.Outcome.{Outcome};
 
 use crate::asked::Asked;
+use crate::serving::complain_of_fault;
 use crate::shown::{Outcome, show};
 use crate::status::Status;
+use rom_faults::Fault;
 use rom_fields::{ByteWrite, Plain, put, put_escaped};
 use std::alloc::Global;
 use std::io::Write;
@@ -45,10 +48,11 @@ pub(crate) fn flushed<X: Write, E: ByteWrite>(
     status
 }
 
-/// Prints what `check`, `list`, `map`, `linux` or `info` says of an image to `out`, and to `err` that
-/// memory was refused or a write failed. What `out` holds back is handed on. The status is `Done`
-/// where the image is sound, `Refused` where it has a fault or Linux gets something of it wrong that
-/// was asked for, `Failed` where memory was refused or a write failed.
+/// Prints what `check`, `list`, `map`, `linux` or `info` says of an image to `out`, and to `err`
+/// that memory was refused or a write failed. The line of a fault goes to `out` if `takes_fault`
+/// says so, and to `err` if not. What `out` holds back is handed on. The status is `Done` where the
+/// image is sound, `Refused` where it has a fault, does not fit, or Linux gets something of it
+/// wrong that was asked for, `Failed` where memory was refused or a write failed.
 pub fn print<X: Write, E: ByteWrite>(
     alloc: Global,
     bytes: &[u8],
@@ -68,6 +72,7 @@ pub fn print<X: Write, E: ByteWrite>(
         Outcome::Done => flushed(out, err, Status::Done),
         Outcome::Warned => flushed(out, err, Status::Refused),
         Outcome::Refused => flushed(out, err, Status::Refused),
+        Outcome::Faulty { number, at } => complain_of_fault(Fault { number, at }, err),
         Outcome::WriteFault => flushed(out, err, Status::Failed),
         Outcome::Memory => {
             complain(err, b"memory", b"");

@@ -1,5 +1,5 @@
 //! Serving images to lines, and how it ends.
-ghost use Rattle.std.specs.Prelude.{◌≡◌, ◌≤◌, ℕ, List, length, map, IfOk, OnOk};
+ghost use Rattle.std.specs.Prelude.{◌≡◌, ◌≤◌, ℕ, List, length, map, false, true, IfOk, OnOk};
 ghost use Rattle.rom_fields.specs.Failures.{Counts, one_more};
 ghost use Rattle.rom_fields.specs.Written.{WritesText};
 ghost use Rattle.rom_tree.specs.Tree.{levels};
@@ -9,12 +9,17 @@ ghost use Rattle.rom_serve.specs.Machines.{image_machine};
 ghost use Rattle.rom_commands.specs.Lines.{fault_line};
 ghost use Rattle.rom_commands.specs.Answers.{Ends, HasFault, Prints, complaint_of, status_of};
 ghost use Rattle.rom_commands.specs.Serving.{Says, TellsFault};
-ghost use Rattle.rom_commands.specs.declared.asked.Asked.{Asked};
+ghost use Rattle.rom_commands.specs.Asked.{takes_fault};
 ghost use Rattle.rom_commands.specs.declared.shown.Outcome.{Outcome};
-ghost use Rattle.rom_commands.specs.Serving.{input_of, EndsServed, CheckedEnds, serving_of, refusal_of, ServingEnds, ServingEndsUnder, serving_status, serving_complaint};
+ghost use Rattle.rom_commands.specs.declared.status.Status.TheVariants.{Refused as refused_status};
+ghost use Rattle.rom_commands.specs.Serving.{input_of, EndsServed, CheckedEnds, serving_of};
+ghost use Rattle.rom_commands.specs.Serving.{refusal_of, ServingEnds, ServingEndsUnder};
+ghost use Rattle.rom_commands.specs.Serving.{serving_status, serving_complaint};
 
+use crate::asked::Asked;
+use crate::fault::put_fault;
 use crate::printing::complain;
-use crate::shown::write_fault_line;
+use crate::shown::{takes_fault, write_fault_line};
 use crate::status::Status;
 use image_check::{AnyImage, check};
 use name_index::Indexed;
@@ -116,19 +121,41 @@ pub(crate) fn told<E: ByteWrite>(written: Result<(), Failed>, err: &mut E) -> St
     }
 }
 
-/// Writes the line of a file's fault to `w`, and returns the status, as `print`, `print_file` and
-/// `serve_on` do of bytes that have this fault. So a fault that is known by the front of a file needs
-/// no more of it.
-pub fn refuse<W: ByteWrite, E: ByteWrite>(fault: Fault, w: &mut W, err: &mut E) -> Status
-    ensures tells { TellsFault (fault_line fault.number fault.at) (W.output w.old) (W.output w.new)
+/// Says on `err` which fault an image has, and returns the status of a refusal.
+pub fn complain_of_fault<E: ByteWrite>(fault: Fault, err: &mut E) -> Status
+    ensures said { Prints (E.output err.old) (E.output err.new)
+        (fault_line fault.number fault.at) }
+    ensures status { result ≡ refused_status }
+{
+    let mut failed = false;
+    put_fault(err, &mut failed, fault.number, fault.at);
+    put(err, &mut failed, b"\n");
+    Status::Refused
+}
+
+/// Writes the line of a file's fault, and returns the status, as `print` does of bytes that have
+/// this fault, and `serve_on` where a report is asked for: to `w` if `takes_fault` says so, and to
+/// `err` if not. So a fault that is known by the front of a file needs no more of it.
+pub fn refuse<W: ByteWrite, E: ByteWrite>(
+    fault: Fault,
+    asked: Asked,
+    w: &mut W,
+    err: &mut E,
+) -> Status
+    ensures tells { takes_fault asked ≡ true
+        → TellsFault (fault_line fault.number fault.at) (W.output w.old) (W.output w.new)
         (E.output err.old) (E.output err.new) result }
-    ensures ends { (bytes : List ℕ) (asked : Asked) → HasFault bytes fault.number fault.at
+    ensures ends { (bytes : List ℕ) → HasFault bytes fault.number fault.at
         → (o : Outcome) × (result ≡ status_of o)
         × Ends bytes asked (W.output w.old) (W.output w.new) o
         × Prints (E.output err.old) (E.output err.new) (complaint_of o) }
 {
-    let written = tell_fault(w, fault.number, fault.at);
-    told(written, err)
+    if takes_fault(asked) {
+        let written = tell_fault(w, fault.number, fault.at);
+        told(written, err)
+    } else {
+        complain_of_fault(fault, err)
+    }
 }
 
 /// Answers the lines of `r` from an image on `w`, through indices of its lists, and before them a
@@ -151,9 +178,9 @@ fn answer_lines<'a, R: ByteRead, W: ByteWrite>(
     }
 }
 
-/// Serves what a check answered, whatever its limits: answers the lines of `r` on `w` from the image
-/// that it accepted, as `rom_serve::serve` does, or writes the line of the fault that it found, and
-/// flushes it. It ends with `Memory` only if memory was refused to the check.
+/// Serves what a check answered, whatever its limits: answers the lines of `r` on `w` from the
+/// image that it accepted, as `rom_serve::serve` does, or writes the line of the fault that it
+/// found, and flushes it. It ends with `Memory` only if memory was refused to the check.
 pub fn serve_checked<'a, R: ByteRead, W: ByteWrite>(
     alloc: Global,
     checked: Result<AnyImage<'a>, CheckError>,
@@ -221,8 +248,8 @@ pub(crate) fn conclude<E: ByteWrite>(serving: Serving, err: &mut E) -> Status
 }
 
 /// Serves an image as `serve_image` does, says on `err` what went wrong, and gives the status:
-/// `Done` where all replies were written, `Refused` where the image has a fault, `Failed` where memory
-/// was refused or a stream failed.
+/// `Done` where all replies were written, `Refused` where the image has a fault, `Failed` where
+/// memory was refused or a stream failed.
 pub fn serve_on<R: ByteRead, W: ByteWrite, E: ByteWrite>(
     alloc: Global,
     bytes: &[u8],

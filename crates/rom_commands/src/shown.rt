@@ -1,5 +1,5 @@
 //! What is printed of an image.
-ghost use Rattle.std.specs.Prelude.{◌≡◌, ◌≤◌, ◌↔◌, false, length, IfOk, IsTrue};
+ghost use Rattle.std.specs.Prelude.{◌≡◌, ◌≤◌, ◌↔◌, ◌++◌, false, length, not, IfOk, IsTrue};
 ghost use Rattle.rom_fields.specs.Failures.{Counts};
 ghost use Rattle.rom_fields.specs.Written.{WritesText};
 ghost use Rattle.rom_tree.specs.Tree.{levels};
@@ -8,13 +8,15 @@ ghost use Rattle.image_info.specs.Info.{info_text};
 ghost use Rattle.image_check.specs.Any.{any_view, report_of};
 ghost use Rattle.image_gaps.specs.Gaps.{IsChecked};
 ghost use Rattle.rom_commands.specs.Lines.{fault_line, ok_line};
-ghost use Rattle.rom_commands.specs.Asked.{sound_text, warns, Fits};
-ghost use Rattle.rom_commands.specs.Answers.{Ends};
+ghost use Rattle.rom_commands.specs.Asked.{sound_text, takes_fault, warns, Fits};
+ghost use Rattle.rom_commands.specs.Answers.{Ends, FaultEnds};
+ghost use Rattle.rom_commands.specs.Room.{fits, room_text};
 ghost use Rattle.rom_commands.specs.Formats.{format_of};
 ghost use Rattle.rom_commands.specs.declared.shown.Outcome.{Outcome};
 
 use crate::asked::Asked;
 use crate::fault::put_fault;
+use crate::room::{free_bytes, image_size, write_room};
 use image_check::{AnyImage, check};
 use image_info::{InfoError, write_info};
 use image_map::map;
@@ -29,24 +31,43 @@ use std::alloc::Global;
 pub enum Outcome {
     /// The image is sound, and all of its text was written.
     Done,
-    /// The image is sound, Linux gets something of it wrong, and the lines of that were written.
+    /// The image is sound, and all of its text was written: Linux gets something of it wrong that
+    /// was asked for, or it does not fit.
     Warned,
     /// The image has a fault, whose line was written.
     Refused,
+    /// The image has a fault, whose line is one for standard error. Nothing was written.
+    Faulty {
+        /// The fault's number.
+        number: u32,
+        /// Its offset.
+        at: u32,
+    },
     /// Memory was refused, and nothing was written.
     Memory,
     /// A write failed. A prefix of the text was written.
     WriteFault,
 }
 
-/// Whether each byte of an image of this length has an address of 64 bits, where addresses are asked
-/// for.
+/// Whether each byte of an image of this length has an address of 64 bits, where addresses are
+/// asked for.
 pub fn has_addresses(asked: Asked, len: usize) -> bool
     ensures { IsTrue result ↔ Fits asked len }
 {
     match asked {
         Asked::Map(base) => len == 0 || base.checked_add(len as u64 - 1).is_some(),
         _ => true,
+    }
+}
+
+/// Whether the line of a fault stands in the place of what is asked, as it does of a report and of
+/// a list. Of all else standard error has the line, so that no fault stands among data.
+pub fn takes_fault(asked: Asked) -> bool
+    ensures { result ≡ takes_fault asked }
+{
+    match asked {
+        Asked::Report | Asked::List => true,
+        Asked::Map(_) | Asked::Misreads | Asked::Facts(_) | Asked::Fit { .. } => false,
     }
 }
 
@@ -108,6 +129,30 @@ fn write_facts<W: ByteWrite>(
     }
 }
 
+/// Writes the facts of a sound image and whether it fits, and says whether it does not.
+fn write_fit<W: ByteWrite>(
+    alloc: Global,
+    image: &AnyImage,
+    file: u64,
+    limit: u64,
+    w: &mut W,
+) -> Result<bool, InfoError>
+    requires shallow { levels (any_view image.now).tree ≤ 65 }
+    requires checked { IsChecked image.now }
+    ensures text { WritesAll (W.output w.old) (W.output w.new)
+        (info_text file image.now ++ room_text limit image.now) result }
+    ensures warns { IfOk result (λ b. b ≡ not (fits limit image.now)) }
+{
+    let (free, size) = (free_bytes(alloc, image)?, image_size(image));
+    match write_info(alloc, image, file, w) {
+        Ok(()) => match write_room(w, free, size, limit) {
+            Ok(()) => Ok(limit < size),
+            Err(_) => Err(InfoError::WriteFault),
+        },
+        Err(error) => Err(error),
+    }
+}
+
 /// Writes what is asked of a sound image, and says whether it is a warning.
 fn write_sound<W: ByteWrite>(
     alloc: Global,
@@ -119,7 +164,7 @@ fn write_sound<W: ByteWrite>(
     requires checked { IsChecked image.now }
     requires fits { Fits asked (length (any_view image.now).bytes) }
     ensures text { WritesAll (W.output w.old) (W.output w.new) (sound_text asked image.now) result }
-    ensures warns { IfOk result (λ b. b ≡ warns asked (sound_text asked image.now)) }
+    ensures warns { IfOk result (λ b. b ≡ warns asked image.now) }
 {
     match asked {
         Asked::Report => match write_ok_line(w, format_name(image), image.report()) {
@@ -136,10 +181,25 @@ fn write_sound<W: ByteWrite>(
         },
         Asked::Misreads => misreads(alloc, image, w),
         Asked::Facts(file) => write_facts(alloc, image, file, w),
+        Asked::Fit { file, limit } => write_fit(alloc, image, file, limit, w),
     }
 }
 
-/// Checks an image under the usual limits, and writes what is asked of it, or the line of its fault.
+/// Writes the line of a fault if it stands in the place of what is asked.
+fn show_fault<W: ByteWrite>(asked: Asked, number: u32, at: u32, w: &mut W) -> Outcome
+    ensures { FaultEnds number at asked (W.output w.old) (W.output w.new) result }
+{
+    if !takes_fault(asked) {
+        return Outcome::Faulty { number, at };
+    }
+    match write_fault_line(w, number, at) {
+        Ok(()) => Outcome::Refused,
+        Err(_) => Outcome::WriteFault,
+    }
+}
+
+/// Checks an image under the usual limits, and writes what is asked of it; or of an image with a
+/// fault the line of the fault, or nothing, as `takes_fault` says.
 pub fn show<W: ByteWrite>(alloc: Global, bytes: &[u8], asked: Asked, w: &mut W) -> Outcome
     requires { Fits asked (length bytes.now) }
     ensures { Ends bytes.now asked (W.output w.old) (W.output w.new) result }
@@ -156,10 +216,7 @@ pub fn show<W: ByteWrite>(alloc: Global, bytes: &[u8], asked: Asked, w: &mut W) 
             Err(InfoError::OutOfMemory) => Outcome::Memory,
             Err(InfoError::WriteFault) => Outcome::WriteFault,
         },
-        Err(CheckError::Fault { number, at }) => match write_fault_line(w, number, at) {
-            Ok(()) => Outcome::Refused,
-            Err(_) => Outcome::WriteFault,
-        },
+        Err(CheckError::Fault { number, at }) => show_fault(asked, number, at, w),
         Err(CheckError::OutOfMemory) => Outcome::Memory,
     }
 }

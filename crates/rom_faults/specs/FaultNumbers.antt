@@ -1,4 +1,5 @@
--- The numbers of the faults of an image, whatever its format; docs/FAULTS.md has them in words. (This project's own.)
+-- The number of each fault of an image, the same in all formats. docs/FAULTS.md has the faults in
+-- words. (This project's own.)
 use Rattle.std.specs.Prelude.{ℕ}
 
 -- more references than the limit
@@ -33,11 +34,11 @@ CRC = 7
 abbrev pub SIGNATURE : ℕ
 SIGNATURE = 8
 
--- the root is no directory, or does not stand where a root may
+-- the root is not a directory, or is not where a root may be
 abbrev pub ROOT : ℕ
 ROOT = 9
 
--- what a record names does not lie within the image
+-- something that a record names is not within the image
 abbrev pub BOUNDS : ℕ
 BOUNDS = 11
 
@@ -45,7 +46,7 @@ BOUNDS = 11
 abbrev pub HEADER_SUM : ℕ
 HEADER_SUM = 12
 
--- a name that is empty, too long, or has a byte that no name has
+-- a name that is empty, is too long, or has a byte that no name may have
 abbrev pub BAD_NAME : ℕ
 BAD_NAME = 13
 
@@ -77,11 +78,11 @@ TOO_DEEP = 21
 abbrev pub OVERLAP : ℕ
 OVERLAP = 22
 
--- a name stands twice in one list
+-- a name occurs twice in one list
 abbrev pub DUPLICATE_NAME : ℕ
 DUPLICATE_NAME = 23
 
--- `.` or `..` stands or leads where it may not
+-- `.` or `..` is or leads where it may not
 abbrev pub DOT : ℕ
 DOT = 24
 
@@ -89,6 +90,6 @@ DOT = 24
 abbrev pub HARD_LINK : ℕ
 HARD_LINK = 25
 
--- a name comes before the one just before it, where lists are sorted
+-- a name sorts before the one directly before it, in a format with sorted lists
 abbrev pub UNSORTED : ℕ
 UNSORTED = 26

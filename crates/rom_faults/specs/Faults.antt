@@ -1,9 +1,13 @@
--- The names of the faults by their numbers, and a fault as the answer of a check. (This project's own.)
+-- `name_of_fault`: the names of the faults by their numbers. `fault_answer`: a fault as the answer
+-- of a check. (This project's own.)
 use Rattle.std.specs.Prelude.{ℕ, List, ◌==◌, if◌then◌else◌, codes}
 use Rattle.rom_faults.specs.declared.error.CheckError.{CheckError}
 use Rattle.rom_faults.specs.declared.error.CheckError.TheVariants.{Fault as FaultAnswer}
 use Rattle.rom_faults.specs.declared.fault.Fault.{Fault}
-use Rattle.rom_faults.specs.FaultNumbers.{TOO_MANY, SHORT, MAGIC, SIZE, SUM, FLAGS, CRC, SIGNATURE, ROOT, BOUNDS, HEADER_SUM, BAD_NAME, KIND, LINK_SIZE, BLOCK_KIND, LIST_END, TWICE, TOO_DEEP, OVERLAP, DUPLICATE_NAME, DOT, HARD_LINK, UNSORTED}
+use Rattle.rom_faults.specs.FaultNumbers.{TOO_MANY, SHORT, MAGIC, SIZE, SUM, FLAGS, CRC, SIGNATURE}
+use Rattle.rom_faults.specs.FaultNumbers.{ROOT, BOUNDS, HEADER_SUM, BAD_NAME, KIND, LINK_SIZE}
+use Rattle.rom_faults.specs.FaultNumbers.{BLOCK_KIND, LIST_END, TWICE, TOO_DEEP, OVERLAP}
+use Rattle.rom_faults.specs.FaultNumbers.{DUPLICATE_NAME, DOT, HARD_LINK, UNSORTED}
 
 abbrev pub name_of_fault : ℕ → List ℕ
 name_of_fault n =
@@ -32,6 +36,6 @@ name_of_fault n =
     else (if n == UNSORTED then codes "Unsorted"
     else codes "Unknown"))))))))))))))))))))))
 
--- a fault as an answer: its number and its offset
+-- a fault as an answer, by its number and its offset
 abbrev pub fault_answer : Fault → CheckError
 fault_answer e = FaultAnswer e.number e.at

@@ -1,4 +1,4 @@
-//! Why a check took no image.
+//! The answer of a check that refuses an image.
 ghost use Rattle.std.specs.Prelude.{◌≡◌};
 ghost use Rattle.rom_faults.specs.Faults.{fault_answer};
 ghost use Rattle.rom_faults.specs.declared.error.CheckError.{CheckError};
@@ -7,14 +7,14 @@ use crate::fault::{Fault, name};
 use rom_fields::OutOfMemory;
 use std::fmt::{self, Display, Formatter};
 
-/// Why an image was not taken: its least fault, by number and offset, or memory that was refused.
+/// The reason why an image was refused: its least fault, by number and offset, or refused memory.
 #[derive(Clone, Copy, Debug, PartialEq, Eq)]
 pub enum CheckError {
     OutOfMemory,
     Fault { number: u32, at: u32 },
 }
 
-/// A fault as `12 HeaderSum at 96`: its number, its name and its offset.
+/// Shows a fault as `12 HeaderSum at 96`: its number, its name and its offset.
 impl Display for CheckError {
     fn fmt<W: fmt::Write>(&self, f: &mut Formatter<W>) -> fmt::Result {
         match self {
@@ -35,7 +35,7 @@ impl From<OutOfMemory> for CheckError {
     }
 }
 
-/// A fault is answered by its number and its offset.
+/// Answers a fault by its number and its offset.
 impl From<Fault> for CheckError {
     ghost from_gives = { λ fault answer. answer ≡ fault_answer fault };
 

@@ -1,4 +1,4 @@
-//! The faults by number. Their meaning is this project's own, and docs/FAULTS.md has them in words.
+//! The faults by number. Their meanings are this project's own; docs/FAULTS.md has them in words.
 ghost use Rattle.std.specs.Prelude.{◌≡◌};
 ghost use Rattle.rom_faults.specs.Faults.{name_of_fault};
 
@@ -26,16 +26,16 @@ pub const CRC: u32 = 7;
 /// Another signature.
 pub const SIGNATURE: u32 = 8;
 
-/// The root is no directory, or does not stand where a root may.
+/// The root is not a directory, or is not where a root may be.
 pub const ROOT: u32 = 9;
 
-/// What a record names does not lie within the image.
+/// Something that a record names is not within the image.
 pub const BOUNDS: u32 = 11;
 
 /// The words of a record's header do not sum to 0.
 pub const HEADER_SUM: u32 = 12;
 
-/// A name that is empty, too long, or has a byte that no name has.
+/// A name that is empty, is too long, or has a byte that no name may have.
 pub const BAD_NAME: u32 = 13;
 
 /// A kind of file that the format does not have.
@@ -59,26 +59,26 @@ pub const TOO_DEEP: u32 = 21;
 /// Two parts of the image share bytes that may not be shared.
 pub const OVERLAP: u32 = 22;
 
-/// A name stands twice in one list.
+/// A name occurs twice in one list.
 pub const DUPLICATE_NAME: u32 = 23;
 
-/// `.` or `..` stands or leads where it may not.
+/// `.` or `..` is or leads where it may not.
 pub const DOT: u32 = 24;
 
 /// A hard link leads to no file.
 pub const HARD_LINK: u32 = 25;
 
-/// A name comes before the one just before it, where lists are sorted.
+/// A name sorts before the one directly before it, in a format with sorted lists.
 pub const UNSORTED: u32 = 26;
 
-/// A fault of an image: its number, and the offset at which it stands, in bytes from the front.
+/// A fault of an image: its number, and its offset in bytes from the front.
 #[derive(Clone, Copy, Debug, PartialEq, Eq)]
 pub struct Fault {
     pub number: u32,
     pub at: u32,
 }
 
-/// The name of the fault of this number, and `Unknown` for a number that no fault has.
+/// Returns the name of the fault of this number, or `Unknown` if no fault has the number.
 pub fn name(number: u32) -> &'static str
     ensures { result.now ≡ name_of_fault number }
 {

@@ -1,7 +1,7 @@
-//! The faults of an image: their numbers and names, and the answer of a check that refuses one.
+//! The faults of an image by number, with their names, and `CheckError`, the answer of a check that
+//! refuses an image. A fault has the same number in all formats.
 //!
-//! A fault has one number, whatever the format. `specs/Faults.antt` has the names by numbers, which
-//! `name` gives.
+//! Proved: `name` returns the names of `specs/Faults.antt`.
 #![tactic(auto)]
 
 mod error;

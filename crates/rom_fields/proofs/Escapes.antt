@@ -27,17 +27,21 @@ all_agree = refl
 encode_same : (b : ℕ) → b < 256 → encode_byte escaped_set b ≡ escaped_byte b
 unfolding agree
 encode_same b small =
-    (Decides-below_and (λ n. bytes_eq (encode_byte escaped_set n) (escaped_byte n)) (λ n. encode_byte escaped_set n ≡ escaped_byte n) agree
+    (Decides-below_and (λ n. bytes_eq (encode_byte escaped_set n) (escaped_byte n))
+    (λ n. encode_byte escaped_set n ≡ escaped_byte n) agree
     (λ n. bytes_eq-Decides (encode_byte escaped_set n) (escaped_byte n)) refl (λ n. refl) 256).0 all_agree b small
 
 -- what bytes become
-encode_all : (bytes : List ℕ) → ((i : ℕ) → get_or bytes i 0 < 256) → flat_map (encode_byte escaped_set) bytes ≡ flat_map escaped_byte bytes
+encode_all : (bytes : List ℕ) → ((i : ℕ) → get_or bytes i 0 < 256)
+    → flat_map (encode_byte escaped_set) bytes ≡ flat_map escaped_byte bytes
 encode_all [] small = refl
 encode_all (b ∷ bytes) small =
     let first = encode_same b (small 0) in
     let rest = encode_all bytes (λ i. small (suc i)) in
-    ap (λ (x : List ℕ). x ++ flat_map (encode_byte escaped_set) bytes) first ∙ ap (λ (x : List ℕ). escaped_byte b ++ x) rest
+    ap (λ (x : List ℕ). x ++ flat_map (encode_byte escaped_set) bytes) first
+    ∙ ap (λ (x : List ℕ). escaped_byte b ++ x) rest
 
-pub percent_encode-escaped : (bytes : List ℕ) → ((i : ℕ) → get_or bytes i 0 < 256) → percent_encode escaped_set bytes ≡ escaped bytes
+pub percent_encode-escaped : (bytes : List ℕ) → ((i : ℕ) → get_or bytes i 0 < 256)
+    → percent_encode escaped_set bytes ≡ escaped bytes
 unfolding percent_encode escaped
 percent_encode-escaped bytes small = encode_all bytes small

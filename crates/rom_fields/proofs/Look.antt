@@ -1,5 +1,6 @@
 -- One look at extents whose starts do not fall.
-use Rattle.std.proofs.Common.{◌≡◌, ℕ, ◌+◌, ◌<◌, ◌≤◌, max, None, Some, List, length, get_or, ◌⊎◌, inl, inr, refl, sym, ap, subst, ◌∙◌, arith}
+use Rattle.std.proofs.Common.{◌≡◌, ℕ, ◌+◌, ◌<◌, ◌≤◌, max, None, Some, List, length, get_or, ◌⊎◌, inl, inr, refl, sym}
+use Rattle.std.proofs.Common.{ap, subst, ◌∙◌, arith}
 use Rattle.std.proofs.Math.Nat.{max-eq_right}
 use Rattle.std.proofs.lemmas.Bool.{cases_lt}
 use Rattle.std.specs.List.Sorted.{IsNonDecreasingBy}
@@ -14,16 +15,19 @@ pub record Looked (xs : List Span) (i : ℕ) (f : Span) : Type 0 where
   pub found : (f ≡ blank) ⊎ ((k : ℕ) × (k < i) × (get_or xs k blank ≡ f))
 
 pub look_start : (xs : List Span) → Looked xs 0 blank
-look_start xs = record { clear = λ j k n l m o. absurd (omega arith); furthest = λ k l. absurd (omega arith); found = inl refl }
+look_start xs =
+    record { clear = λ j k n l m o. absurd (omega arith); furthest = λ k l. absurd (omega arith); found = inl refl }
 
 shared_on : (x y z : Span) → AreShared x y → AreShared y z → AreShared x z
-shared_on x y z s t = record { kind = s.kind ∙ t.kind; shareable = s.shareable; start = s.start ∙ t.start; len = s.len ∙ t.len }
+shared_on x y z s t =
+    record { kind = s.kind ∙ t.kind; shareable = s.shareable; start = s.start ∙ t.start; len = s.len ∙ t.len }
 
 overlap_back : (x y : Span) → Overlap x y → Overlap y x
 overlap_back x y o = (turned (max x.start y.start) x y (o, refl)).0
 
 -- an earlier extent that meets one which the furthest does not overlap
-none_meets : (xs : List Span) (i : ℕ) (f : Span) → IsNonDecreasingBy (λ (x : Span). x.start) xs → i < length xs → Looked xs i f → (Overlap f (get_or xs i blank) → ⊥)
+none_meets : (xs : List Span) (i : ℕ) (f : Span) → IsNonDecreasingBy (λ (x : Span). x.start) xs → i < length xs
+    → Looked xs i f → (Overlap f (get_or xs i blank) → ⊥)
     → (j : ℕ) → j < i → Overlap (get_or xs j blank) (get_or xs i blank) → ⊥
 none_meets xs i f up l w misses j m o =
     let x : Span = get_or xs i blank in
@@ -36,31 +40,38 @@ none_meets xs i f up l w misses j m o =
     elim w.found [
       | inl e ↦ (let u : f.start + f.len ≡ 0 = ap (λ (v : Span). v.start + v.len) e in absurd (omega arith))
       | inr k ↦
-          let first : f.start ≤ x.start = subst (λ (v : Span). v.start ≤ x.start) k.2 (up k.0 i blank (let h = k.1 in omega arith) l) in
+          let first : f.start ≤ x.start =
+          subst (λ (v : Span). v.start ≤ x.start) k.2 (up k.0 i blank (let h = k.1 in omega arith) l) in
           misses (
             (x.start, (first, far), (omega arith, some)),
             λ s.
                 let other : AreShared y f → ⊥ = λ t. o.1 (shared_on y f x t s) in
                 let both : Overlap y f = ((x.start, (before, reach), (first, far)), other) in
-                let apart : j ≡ k.0 → ⊥ = λ e. o.1 (subst (λ (v : Span). AreShared v x) (sym (ap (λ (n : ℕ). get_or xs n blank) e ∙ k.2)) s) in
+                let apart : j ≡ k.0 → ⊥ = λ e. o.1
+                (subst (λ (v : Span). AreShared v x) (sym (ap (λ (n : ℕ). get_or xs n blank) e ∙ k.2)) s) in
                 w.clear j k.0 apart m k.1 (subst (Overlap y) (sym k.2) both),
           )
     ]
 
 -- one extent further
-pub look_more : (xs : List Span) (i : ℕ) (f g : Span) → IsNonDecreasingBy (λ (x : Span). x.start) xs → i < length xs → Looked xs i f → (Overlap f (get_or xs i blank) → ⊥)
-    → ((g ≡ get_or xs i blank) × (f.start + f.len ≤ (get_or xs i blank).start + (get_or xs i blank).len)) ⊎ ((g ≡ f) × ((get_or xs i blank).start + (get_or xs i blank).len ≤ f.start + f.len))
+pub look_more : (xs : List Span) (i : ℕ) (f g : Span) → IsNonDecreasingBy (λ (x : Span). x.start) xs → i < length xs
+    → Looked xs i f → (Overlap f (get_or xs i blank) → ⊥)
+    → ((g ≡ get_or xs i blank) × (f.start + f.len ≤ (get_or xs i blank).start + (get_or xs i blank).len))
+    ⊎ ((g ≡ f) × ((get_or xs i blank).start + (get_or xs i blank).len ≤ f.start + f.len))
     → Looked xs (i + 1) g
 look_more xs i f g up l w misses c = record {
   clear = λ j k n a b o. elim (cases_lt j i) [
     | inl u ↦ elim (cases_lt k i) [
       | inl v ↦ w.clear j k n u v o
-      | inr v ↦ let e : k ≡ i = omega arith in none_meets xs i f up l w misses j u (subst (λ (m : ℕ). Overlap (get_or xs j blank) (get_or xs m blank)) e o)
+      | inr v ↦ let e : k ≡ i = omega arith in none_meets xs i f up l w misses j u
+          (subst (λ (m : ℕ). Overlap (get_or xs j blank) (get_or xs m blank)) e o)
     ]
     | inr u ↦
         let e : j ≡ i = omega arith in
         let m : k < i = (let d : k ≡ i → ⊥ = (λ h. n (omega arith)) in omega arith) in
-        none_meets xs i f up l w misses k m (overlap_back (get_or xs i blank) (get_or xs k blank) (subst (λ (v : ℕ). Overlap (get_or xs v blank) (get_or xs k blank)) e o))
+        none_meets xs i f up l w misses k m
+        (overlap_back (get_or xs i blank) (get_or xs k blank)
+        (subst (λ (v : ℕ). Overlap (get_or xs v blank) (get_or xs k blank)) e o))
   ];
   furthest = λ k b. reach k b;
   found = elim c [
@@ -71,26 +82,34 @@ look_more xs i f g up l w misses c = record {
   where
     top : ((get_or xs i blank).start + (get_or xs i blank).len ≤ g.start + g.len) × (f.start + f.len ≤ g.start + g.len)
     top = elim c [
-      | inl h ↦ let e : g.start + g.len ≡ (get_or xs i blank).start + (get_or xs i blank).len = ap (λ (v : Span). v.start + v.len) h.0 in (omega arith, (let u = h.1 in omega arith))
-      | inr h ↦ let e : g.start + g.len ≡ f.start + f.len = ap (λ (v : Span). v.start + v.len) h.0 in ((let u = h.1 in omega arith), omega arith)
+      | inl h ↦ let e : g.start + g.len ≡ (get_or xs i blank).start + (get_or xs i blank).len =
+          ap (λ (v : Span). v.start + v.len) h.0 in (omega arith, (let u = h.1 in omega arith))
+      | inr h ↦ let e : g.start + g.len ≡ f.start + f.len =
+          ap (λ (v : Span). v.start + v.len) h.0 in ((let u = h.1 in omega arith), omega arith)
     ]
 
     reach : (k : ℕ) → k < i + 1 → (get_or xs k blank).start + (get_or xs k blank).len ≤ g.start + g.len
     reach k b = elim (cases_lt k i) [
       | inl v ↦ (let h = w.furthest k v in let t = top.1 in omega arith)
-      | inr v ↦ (let e : k ≡ i = omega arith in subst (λ (m : ℕ). (get_or xs m blank).start + (get_or xs m blank).len ≤ g.start + g.len) (sym e) top.0)
+      | inr v ↦ (let e : k ≡ i = omega arith in subst
+          (λ (m : ℕ). (get_or xs m blank).start + (get_or xs m blank).len ≤ g.start + g.len) (sym e) top.0)
     ]
 
 -- the first one that the furthest before it overlaps
-pub look_found : (xs : List Span) (i : ℕ) (f : Span) → IsNonDecreasingBy (λ (x : Span). x.start) xs → i < length xs → Looked xs i f → Overlap f (get_or xs i blank) → IsLeastOf (OverlapsAt xs) (Some (get_or xs i blank).start)
+pub look_found : (xs : List Span) (i : ℕ) (f : Span) → IsNonDecreasingBy (λ (x : Span). x.start) xs → i < length xs
+    → Looked xs i f → Overlap f (get_or xs i blank) → IsLeastOf (OverlapsAt xs) (Some (get_or xs i blank).start)
 look_found xs i f up l w o = record {
   here = elim w.found [
-    | inl e ↦ (let q = subst (λ (v : Span). HaveCommonByte v (get_or xs i blank)) e o.0 in let a = q.1 in absurd (omega arith))
+    | inl e ↦ (let q = subst (λ (v : Span). HaveCommonByte v (get_or xs i blank)) e o.0 in let a = q.1 in absurd
+        (omega arith))
     | inr k ↦
-        let first : f.start ≤ (get_or xs i blank).start = subst (λ (v : Span). v.start ≤ (get_or xs i blank).start) k.2 (up k.0 i blank (let h = k.1 in omega arith) l) in
+        let first : f.start ≤ (get_or xs i blank).start =
+        subst (λ (v : Span). v.start ≤ (get_or xs i blank).start) k.2
+        (up k.0 i blank (let h = k.1 in omega arith) l) in
         let m = k.1 in
         pair_to xs (get_or xs i blank).start k.0 i (λ e. (omega arith)) (omega arith) l
-        (subst (λ (v : Span). Hit (get_or xs i blank).start v (get_or xs i blank)) (sym k.2) (o, (let z = max-eq_right first in sym z)))
+        (subst (λ (v : Span). Hit (get_or xs i blank).start v (get_or xs i blank)) (sym k.2)
+        (o, (let z = max-eq_right first in sym z)))
   ];
   least = λ p h. (let k = pair_from xs p h in past p k);
 }
@@ -110,5 +129,6 @@ look_found xs i f up l w o = record {
 pub look_end : (xs : List Span) (i : ℕ) (f : Span) → i ≡ length xs → Looked xs i f → IsLeastOf (OverlapsAt xs) None
 look_end xs i f e w = record {
   here = tt;
-  least = λ p h. (let k = pair_from xs p h in let a = k.one_in in let b = k.other_in in absurd (w.clear k.i k.j k.apart (omega arith) (omega arith) k.hit.0));
+  least = λ p h. (let k = pair_from xs p h in let a = k.one_in in let b = k.other_in in absurd
+      (w.clear k.i k.j k.apart (omega arith) (omega arith) k.hit.0));
 }

@@ -1,9 +1,11 @@
 -- Lists of extents with the same members and the same overlaps.
-use Rattle.std.proofs.Common.{◌≡◌, ℕ, zero, suc, ◌<◌, max, Option, None, Some, List, [], ◌∷◌, length, get_or, inl, inr, refl, sym, ap, subst, ◌∙◌, arith}
+use Rattle.std.proofs.Common.{◌≡◌, ℕ, zero, suc, ◌<◌, max, Option, None, Some, List, [], ◌∷◌, length, get_or, inl, inr}
+use Rattle.std.proofs.Common.{refl, sym, ap, subst, ◌∙◌, arith}
 use Rattle.std.proofs.Math.Nat.{max_comm}
 use Rattle.std.proofs.lemmas.Bool.{cases_eq}
 use Rattle.std.proofs.lemmas.List.Edits.{swapped_from_swap}
-use Rattle.std.proofs.lemmas.List.Sorted.{IsPermutation-keeps, IsPermutation-sym, length_permutation, IsPermutation-swap}
+use Rattle.std.proofs.lemmas.List.Sorted.{IsPermutation-keeps, IsPermutation-sym, length_permutation}
+use Rattle.std.proofs.lemmas.List.Sorted.{IsPermutation-swap}
 use Rattle.std.specs.Prelude.{IfSome, IsPermutation}
 use Rattle.std.specs.List.{swap}
 use Rattle.rom_fields.specs.declared.span.Span.{Span}
@@ -16,11 +18,20 @@ Hit p x y = Overlap x y × (p ≡ max x.start y.start)
 
 pub turned : (p : ℕ) (x y : Span) → Hit p x y → Hit p y x
 turned p x y h = (
-  ((h.0.0.0, h.0.0.2, h.0.0.1), λ s. h.0.1 (record { kind = sym s.kind; shareable = ap is_shareable (sym s.kind) ∙ s.shareable; start = sym s.start; len = sym s.len })),
+  (
+    (h.0.0.0, h.0.0.2, h.0.0.1),
+    λ s. h.0.1
+        (record {
+          kind = sym s.kind;
+          shareable = ap is_shareable (sym s.kind) ∙ s.shareable;
+          start = sym s.start;
+          len = sym s.len;
+        }),
+  ),
   h.1 ∙ max_comm x.start y.start,
 )
 
--- what stands past the end of a list of extents
+-- what is past the end of a list of extents
 abbrev pub blank : Span
 blank = record { kind = Super; start = 0; len = 0 }
 
@@ -33,29 +44,47 @@ pub record Pair (xs : List Span) (p : ℕ) : Type 0 where
   pub other_in : j < length xs
   pub hit : Hit p (get_or xs i blank) (get_or xs j blank)
 
-meets_index : (x : Span) (xs : List Span) (p : ℕ) → MeetsAt x xs p → (j : ℕ) × (j < length xs) × Hit p x (get_or xs j blank)
+meets_index : (x : Span) (xs : List Span) (p : ℕ) → MeetsAt x xs p
+    → (j : ℕ) × (j < length xs) × Hit p x (get_or xs j blank)
 meets_index x [] p h = absurd h
 meets_index x (y ∷ ys) p (inl h) = (0, (omega arith), h)
 meets_index x (y ∷ ys) p (inr h) = let k = meets_index x ys p h in (suc k.0, (omega arith), k.2)
 
 pub pair_from : (xs : List Span) (p : ℕ) → OverlapsAt xs p → Pair xs p
 pair_from [] p h = absurd h
-pair_from (x ∷ xs) p (inl h) = let k = meets_index x xs p h in record { i = 0; j = suc k.0; apart = λ e. (omega arith); one_in = omega arith; other_in = omega arith; hit = k.2 }
-pair_from (x ∷ xs) p (inr h) = let k = pair_from xs p h in record { i = suc k.i; j = suc k.j; apart = λ e. k.apart (omega arith); one_in = omega arith; other_in = omega arith; hit = k.hit }
+pair_from (x ∷ xs) p (inl h) = let k =
+    meets_index x xs p h in record {
+      i = 0;
+      j = suc k.0;
+      apart = λ e. (omega arith);
+      one_in = omega arith;
+      other_in = omega arith;
+      hit = k.2;
+    }
+pair_from (x ∷ xs) p (inr h) = let k =
+    pair_from xs p h in record {
+      i = suc k.i;
+      j = suc k.j;
+      apart = λ e. k.apart (omega arith);
+      one_in = omega arith;
+      other_in = omega arith;
+      hit = k.hit;
+    }
 
 index_meets : (x : Span) (xs : List Span) (p j : ℕ) → j < length xs → Hit p x (get_or xs j blank) → MeetsAt x xs p
 index_meets x [] p j l h = absurd (omega arith)
 index_meets x (y ∷ ys) p zero l h = inl h
 index_meets x (y ∷ ys) p (suc j) l h = inr (index_meets x ys p j (omega arith) h)
 
-pub pair_to : (xs : List Span) (p i j : ℕ) → (i ≡ j → ⊥) → i < length xs → j < length xs → Hit p (get_or xs i blank) (get_or xs j blank) → OverlapsAt xs p
+pub pair_to : (xs : List Span) (p i j : ℕ) → (i ≡ j → ⊥) → i < length xs → j < length xs
+    → Hit p (get_or xs i blank) (get_or xs j blank) → OverlapsAt xs p
 pair_to [] p i j n l m h = absurd (omega arith)
 pair_to (x ∷ xs) p zero zero n l m h = absurd (n refl)
 pair_to (x ∷ xs) p zero (suc j) n l m h = inl (index_meets x xs p j (omega arith) h)
 pair_to (x ∷ xs) p (suc i) zero n l m h = inl (index_meets x xs p i (omega arith) (turned p (get_or xs i blank) x h))
 pair_to (x ∷ xs) p (suc i) (suc j) n l m h = inr (pair_to xs p i j (λ e. n (ap suc e)) (omega arith) (omega arith) h)
 
--- where the extent at k stands after those at a and b have changed places
+-- the index of the extent at k after those at a and b have changed places
 data Moved (xs ys : List Span) (a b k m : ℕ) : Type 0 where
   first : k ≡ a → m ≡ b → Moved xs ys a b k m
   second : k ≡ b → m ≡ a → Moved xs ys a b k m
@@ -74,7 +103,8 @@ moved xs ys a b k la lb lk e =
     ]
 
 -- two places do not become one
-apart_moved : (xs ys : List Span) (a b i j m n : ℕ) → (i ≡ j → ⊥) → Moved xs ys a b i m → Moved xs ys a b j n → m ≡ n → ⊥
+apart_moved : (xs ys : List Span) (a b i j m n : ℕ) → (i ≡ j → ⊥) → Moved xs ys a b i m → Moved xs ys a b j n → m ≡ n
+    → ⊥
 apart_moved xs ys a b i j m n d (first p q) (first r s) e = d (omega arith)
 apart_moved xs ys a b i j m n d (first p q) (second r s) e = d (omega arith)
 apart_moved xs ys a b i j m n d (first p q) (neither r s t) e = s (omega arith)
@@ -85,23 +115,29 @@ apart_moved xs ys a b i j m n d (neither p q t) (first r s) e = q (omega arith)
 apart_moved xs ys a b i j m n d (neither p q t) (second r s) e = p (omega arith)
 apart_moved xs ys a b i j m n d (neither p q t) (neither r s u) e = d (omega arith)
 
-swap_kept : (p : ℕ) (xs : List Span) (a b : ℕ) → a < length xs → b < length xs → OverlapsAt xs p → OverlapsAt (swap xs a b) p
+swap_kept : (p : ℕ) (xs : List Span) (a b : ℕ) → a < length xs → b < length xs → OverlapsAt xs p
+    → OverlapsAt (swap xs a b) p
 swap_kept p xs a b la lb h =
     let k = pair_from xs p h in
     let one = moved xs (swap xs a b) a b k.i la lb k.one_in refl in
     let other = moved xs (swap xs a b) a b k.j la lb k.other_in refl in
-    let e : length (swap xs a b) ≡ length xs = length_permutation xs (swap xs a b) (IsPermutation-swap xs (swap xs a b) a b la lb refl) in
-    pair_to (swap xs a b) p one.0 other.0 (apart_moved xs (swap xs a b) a b k.i k.j one.0 other.0 k.apart one.3 other.3) (omega arith) (omega arith)
-    (subst (λ (v : Span). Hit p v (get_or (swap xs a b) other.0 blank)) (sym one.2) (subst (Hit p (get_or xs k.i blank)) (sym other.2) k.hit))
+    let e : length (swap xs a b) ≡ length xs =
+    length_permutation xs (swap xs a b) (IsPermutation-swap xs (swap xs a b) a b la lb refl) in
+    pair_to (swap xs a b) p one.0 other.0 (apart_moved xs (swap xs a b) a b k.i k.j one.0 other.0 k.apart one.3 other.3)
+    (omega arith) (omega arith)
+    (subst (λ (v : Span). Hit p v (get_or (swap xs a b) other.0 blank)) (sym one.2)
+    (subst (Hit p (get_or xs k.i blank)) (sym other.2) k.hit))
 
 pub overlaps_permuted : (xs ys : List Span) (p : ℕ) → IsPermutation xs ys → OverlapsAt xs p → OverlapsAt ys p
-overlaps_permuted xs ys p s h = IsPermutation-keeps xs (λ (v : List Span). OverlapsAt v p) h (λ l i j a b k. swap_kept p l i j a b k) ys s
+overlaps_permuted xs ys p s h =
+    IsPermutation-keeps xs (λ (v : List Span). OverlapsAt v p) h (λ l i j a b k. swap_kept p l i j a b k) ys s
 
 least_if : (P Q : ℕ → Type 0) (v : Option ℕ) → ((p : ℕ) → P p → Q p) → IfSome v P → IfSome v Q
 least_if P Q None f h = h
 least_if P Q (Some p) f h = f p h
 
-pub least_permuted : (xs ys : List Span) (v : Option ℕ) → IsPermutation xs ys → IsLeastOf (OverlapsAt ys) v → IsLeastOf (OverlapsAt xs) v
+pub least_permuted : (xs ys : List Span) (v : Option ℕ) → IsPermutation xs ys → IsLeastOf (OverlapsAt ys) v
+    → IsLeastOf (OverlapsAt xs) v
 least_permuted xs ys v s h = record {
   here = least_if (OverlapsAt ys) (OverlapsAt xs) v (λ p. overlaps_permuted ys xs p (IsPermutation-sym xs ys s)) h.here;
   least = λ p k. h.least p (overlaps_permuted xs ys p s k);

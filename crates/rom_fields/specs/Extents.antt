@@ -1,8 +1,11 @@
--- Extents: runs of bytes, each with what it belongs to, and the places where two of them overlap.
--- (This project's own.)
-use Rattle.std.specs.Prelude.{◌≡◌, ℕ, zero, suc, ◌+◌, ◌<◌, ◌≤◌, ◌⊎◌, max, Bool, true, false, List, [], ◌∷◌, Option, IfSome, IsSomeAnd}
+-- `Overlap`: two extents share a byte and are not the same table or data. `OverlapsAt`: two extents
+-- of a list overlap at an offset. `IsLeastOf`: the least such offset, or none. (This project's
+-- own.)
+use Rattle.std.specs.Prelude.{◌≡◌, ℕ, zero, suc, ◌+◌, ◌<◌, ◌≤◌, ◌⊎◌, max, Bool, true, false, List}
+use Rattle.std.specs.Prelude.{[], ◌∷◌, Option, IfSome, IsSomeAnd}
 use Rattle.rom_fields.specs.declared.span.Extent.{Extent}
-use Rattle.rom_fields.specs.declared.span.Extent.TheVariants.{Super, Record, List as ListOf, Table, Data}
+use Rattle.rom_fields.specs.declared.span.Extent.TheVariants.{Super, Record, List as ListOf, Table}
+use Rattle.rom_fields.specs.declared.span.Extent.TheVariants.{Data}
 use Rattle.rom_fields.specs.declared.span.Span.{Span}
 
 -- tables and data may be shared whole
@@ -42,12 +45,12 @@ abbrev pub OverlapsAt : List Span → ℕ → Type 0
 OverlapsAt [] p = ⊥
 OverlapsAt (x ∷ xs) p = MeetsAt x xs p ⊎ OverlapsAt xs p
 
--- the least number of which P holds, or none where it holds of none
+-- the least number for which P holds, or none if there is none
 pub record IsLeastOf (P : ℕ → Type 0) (o : Option ℕ) : Type 0 where
   pub here : IfSome o P
   pub least : (p : ℕ) → P p → IsSomeAnd o (λ q. q ≤ p)
 
--- what an extent adds to the list: nothing where it has no byte
+-- the members that an extent adds to the list: none if it has no byte
 abbrev pub added : Extent → ℕ → ℕ → List Span
 added kind start zero = []
 added kind start (suc n) = record { kind = kind; start = start; len = suc n } ∷ []

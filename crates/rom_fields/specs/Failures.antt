@@ -1,6 +1,8 @@
--- How the counts of a reader's or writer's failures, and of a writer's flushes, move. They stop at 2^64 - 1.
--- (This project's own.)
-use Rattle.std.specs.Prelude.{ℕ, zero, suc, ◌+◌, ◌-◌, ◌^◌, ◌<◌, ◌≤◌, ◌≡◌, ◌⊎◌, min, if◌then◌else◌, ◌==◌, ◌&&◌, nat_lt, Result, Ok, Err, MatchResult}
+-- Changes of the count of failures of a reader or writer. `after_read`, `after_write`,
+-- `after_flush`: a count after one call. `Rose`: it rose, or was at its end, 2^64 - 1.
+-- `after_flushes`: a writer's count of flushes after some flushes. (This project's own.)
+use Rattle.std.specs.Prelude.{ℕ, zero, suc, ◌+◌, ◌-◌, ◌^◌, ◌<◌, ◌≤◌, ◌≡◌, ◌⊎◌, min, if◌then◌else◌}
+use Rattle.std.specs.Prelude.{◌==◌, ◌&&◌, nat_lt, Result, Ok, Err, MatchResult}
 
 -- one more failure, or one more flush
 abbrev pub one_more : ℕ → ℕ
@@ -11,25 +13,25 @@ abbrev pub after_read : {A E : Type 0} → ℕ → Result A E → ℕ
 after_read n (Ok k) = n
 after_read n (Err e) = one_more n
 
--- a write of `len` bytes fails at `Err`, and where it took none of some bytes
+-- a write of `len` bytes fails at `Err`, and if it accepts none of some bytes
 abbrev pub after_write : {E : Type 0} → ℕ → ℕ → Result ℕ E → ℕ
 after_write n len (Ok k) = if k == 0 && nat_lt 0 len then one_more n else n
 after_write n len (Err e) = one_more n
 
--- a flush counts where it is `Ok`
+-- a flush is counted if it is `Ok`
 abbrev pub after_flush : {A E : Type 0} → ℕ → Result A E → ℕ
 after_flush n (Ok k) = one_more n
 after_flush n (Err e) = n
 
--- so many of them, one after the other
+-- the count of flushes after k flushes, one after the other
 abbrev pub after_flushes : ℕ → ℕ → ℕ
 after_flushes n zero = n
 after_flushes n (suc k) = one_more (after_flushes n k)
 
--- the count rose, or stood at its end
+-- the count rose, or was at its end
 abbrev pub Rose : ℕ → ℕ → Type 0
 Rose old new = (old < new) ⊎ (2 ^ 64 - 1 ≤ old)
 
--- a failure was counted where there is an error, and none where there is none
+-- failures were counted if there is an error, and none if there is none
 abbrev pub Counts : {T E : Type 0} → ℕ → ℕ → Result T E → Type 0
 Counts old new r = MatchResult r (λ _. new ≡ old) (λ _. Rose old new)

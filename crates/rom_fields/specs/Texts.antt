@@ -1,5 +1,6 @@
--- The texts of numbers and names. (This project's own.)
-use Rattle.std.specs.Prelude.{ℕ, ◌+◌, ◌/◌, ◌%◌, Bool, not, ◌==◌, ◌&&◌, nat_lt, nat_le, if◌then◌else◌, List, [], ◌∷◌}
+-- `octal`, `escaped`: the texts of modes and names. (This project's own.)
+use Rattle.std.specs.Prelude.{ℕ, ◌+◌, ◌/◌, ◌%◌, Bool, not, ◌==◌, ◌&&◌, nat_lt, nat_le}
+use Rattle.std.specs.Prelude.{if◌then◌else◌, List, [], ◌∷◌}
 use Rattle.std.specs.List.{flat_map}
 
 -- the last four octal digits, with leading zeros
@@ -16,7 +17,8 @@ hexadecimal_digit n = if nat_lt n 10 then 48 + n else 55 + n
 
 -- a plain byte as it is, any other as `%` and its two upper-case hexadecimal digits
 abbrev pub escaped_byte : ℕ → List ℕ
-escaped_byte b = if is_plain b then b ∷ [] else 37 ∷ hexadecimal_digit (b / 16) ∷ hexadecimal_digit (b % 16) ∷ []
+escaped_byte b =
+    if is_plain b then b ∷ [] else 37 ∷ hexadecimal_digit (b / 16) ∷ hexadecimal_digit (b % 16) ∷ []
 
 unfoldable pub escaped : List ℕ → List ℕ
 escaped bytes = flat_map escaped_byte bytes

@@ -1,6 +1,10 @@
--- Words of 32 bits in a list of bytes, their sum, and parts of the list.
--- romfs stores words with the highest byte first (Documentation/filesystems/romfs.rst). A cramfs image is in the byte
--- order of the machine that it is made for (Documentation/filesystems/cramfs.rst), on most the lowest byte first.
+-- `word_be`, `word_le`: the word of 32 bits at an offset, in big-endian and in little-endian order.
+-- `with_word_be`, `with_word_le`: the bytes with one word set. `words_total`, `words_sum`: the sum
+-- of the big-endian words from the front, and this sum modulo 2^32. `part_of`: some bytes from an
+-- offset on. (Linux Documentation/filesystems/romfs.rst and cramfs.rst.)
+--
+-- romfs stores big-endian words. A cramfs image has the byte order of the machine that it is made
+-- for.
 use Rattle.std.specs.Prelude.{ℕ, ◌+◌, ◌%◌, ◌^◌, List, [], ◌∷◌, ◌++◌, take, drop}
 use Rattle.byteorder.specs.Endian.{big_number, big_bytes, little_number, little_bytes}
 
@@ -20,7 +24,7 @@ word_le b p = little_number 4 (drop p b)
 unfoldable pub with_word_le : List ℕ → ℕ → ℕ → List ℕ
 with_word_le b p v = take p b ++ (little_bytes 4 v ++ drop (p + 4) b)
 
--- the sum of the words from the front, as a whole number; a rest of fewer than four bytes is not counted
+-- the sum of the words from the front, not reduced; a rest of fewer than four bytes is not counted
 abbrev pub words_total : List ℕ → ℕ
 words_total [] = 0
 words_total (a ∷ []) = 0
@@ -28,7 +32,7 @@ words_total (a ∷ b ∷ []) = 0
 words_total (a ∷ b ∷ c ∷ []) = 0
 words_total (a ∷ b ∷ c ∷ d ∷ rest) = big_number 4 (a ∷ b ∷ c ∷ d ∷ []) + words_total rest
 
--- the same modulo 2^32, as romfs sums
+-- this sum modulo 2^32, as in the checksums of romfs
 unfoldable pub words_sum : List ℕ → ℕ
 words_sum b = words_total b % 2 ^ 32
 

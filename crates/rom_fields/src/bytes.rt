@@ -7,33 +7,33 @@ ghost use Rattle.rom_fields.specs.Written.{Output, output_of};
 
 use std::io::{Read, Write};
 
-/// A read, a write or a flush failed.
+/// The error of a read, a write or a flush that failed.
 #[derive(Debug, Clone, Copy, PartialEq, Eq)]
 pub struct Failed;
 
 /// A reader whose failed reads are counted.
 pub trait ByteRead {
-    // The bytes that reads will give from here on, where they are known.
+    // The bytes that later reads return, if they are known.
     ghost remaining: { Self → Option (List ℕ) };
 
-    // How many reads failed, up to 2^64 - 1.
+    // The number of reads that failed, up to 2^64 - 1.
     ghost failures: { Self → ℕ };
 
-    /// Puts the next bytes into a prefix of `buf`, and says how many; none at the end.
+    /// Reads the next bytes into a prefix of `buf`, and returns their number: 0 at the end.
     fn read(&mut self, buf: &mut [u8]) -> Result<usize, Failed>
         ensures bound { ReadsAtMost result buf.new }
         ensures bytes { ReadConsumes (remaining self.old) (remaining self.new) result buf.new }
         ensures count { failures self.new ≡ after_read (failures self.old) result };
 }
 
-/// A writer whose failed writes and flushes are counted, among them each write that took
-/// none of some bytes, and whose other flushes are counted too.
+/// A writer that counts its failures: writes and flushes that failed, and writes that accepted no
+/// byte of a nonempty slice. It also counts the flushes that succeeded.
 pub trait ByteWrite {
-    // The bytes that the writer holds, where they are known, how many of its writes and flushes
-    // failed, and how many flushes did not, both up to 2^64 - 1.
+    // The bytes that the writer holds, if they are known; the number of its failures; and the
+    // number of its flushes that succeeded. Both numbers stop at 2^64 - 1.
     ghost output: { Self → Output };
 
-    /// Takes a prefix of the bytes, and says how many.
+    /// Writes a prefix of the bytes, and returns its length.
     fn write(&mut self, b: &[u8]) -> Result<usize, Failed>
         ensures bound { WritesAtMost result b.now }
         ensures bytes { WriteAppends (output self.old).contents
@@ -42,14 +42,15 @@ pub trait ByteWrite {
             ≡ after_write (output self.old).failures (length b.now) result }
         ensures unflushed { (output self.new).flushes ≡ (output self.old).flushes };
 
-    /// Hands on what was taken and is still held back.
+    /// Passes on the bytes that were accepted and are still held back.
     fn flush(&mut self) -> Result<(), Failed>
         ensures bytes { Keeps (output self.old).contents (output self.new).contents }
         ensures count { (output self.new).failures ≡ after_read (output self.old).failures result }
-        ensures flushed { (output self.new).flushes ≡ after_flush (output self.old).flushes result };
+        ensures flushed { (output self.new).flushes
+            ≡ after_flush (output self.old).flushes result };
 }
 
-/// A reader or a writer of std with a count of its failures, and of the flushes that succeeded.
+/// A reader or writer of std that counts its failures, and its flushes that succeeded.
 #[derive(Drop)]
 pub struct Plain<X> {
     inner: X,
@@ -58,7 +59,7 @@ pub struct Plain<X> {
 }
 
 impl<X> Plain<X> {
-    /// With no failure and no flush counted yet.
+    /// Wraps a reader or writer, with no failure and no flush counted yet.
     pub fn new(x: X) -> Plain<X>
         ensures inner { result.inner ≡ x }
         ensures failures { result.failures ≡ 0 }
@@ -71,21 +72,21 @@ impl<X> Plain<X> {
         }
     }
 
-    /// How many of its calls failed.
+    /// Returns the number of failures that were counted.
     pub fn failures(&self) -> u64
         ensures { result ≡ self.now.failures }
     {
         self.failures
     }
 
-    /// How many of its flushes succeeded.
+    /// Returns the number of flushes that succeeded.
     pub fn flushes(&self) -> u64
         ensures { result ≡ self.now.flushes }
     {
         self.flushes
     }
 
-    /// The reader or writer itself.
+    /// Returns the inner reader or writer.
     pub fn into_inner(self) -> X
         ensures { result ≡ self.inner }
     {

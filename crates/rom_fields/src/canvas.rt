@@ -1,11 +1,11 @@
-//! Windows into a buffer, none of which meets another: for callers that lay an image out in memory
-//! of their own. The writers of this project stream, and do not use it.
+//! Windows into a buffer that do not overlap, for callers that lay an image out in memory of their
+//! own. The writers of this project stream, and do not use it.
 ghost use Rattle.std.specs.Prelude.{◌≡◌, ◌+◌, ◌≤◌, length, take, drop};
 
 use std::marker::Model;
 use std::mem;
 
-/// A slice cut twice: its first `gap` bytes, the `len` bytes behind them, and the rest.
+/// Cuts a slice into its first `gap` bytes, the `len` bytes behind them, and the rest.
 fn cut(whole: &mut [u8], gap: usize, len: usize) -> (&mut [u8], &mut [u8], &mut [u8])
     requires { gap + len ≤ length whole.old }
     ensures gap { result.0.now ≡ take gap whole.old }
@@ -40,7 +40,7 @@ impl<'b> Canvas<'b> {
     ghost use Rattle.std.specs.Prelude.{◌≡◌, ◌↔◌, IsSome, IfSome, IfNone};
     ghost use Rattle.rom_fields.specs.Canvases.{LiesIn, window, behind};
 
-    /// The whole buffer, of which nothing was taken.
+    /// Makes a canvas of the whole buffer, from which nothing was taken.
     pub fn new(buffer: &'b mut [u8]) -> Canvas<'b>
         ensures at { result.at ≡ 0 }
         ensures bytes { result.bytes ≡ buffer.old }
@@ -53,8 +53,8 @@ impl<'b> Canvas<'b> {
         }
     }
 
-    /// The bytes from `start` on, `len` of them; nothing where some of them lie before the end of the
-    /// last window or behind the end of the buffer, and the canvas is then as it was.
+    /// Takes the `len` bytes from `start` on. Returns `None`, and changes nothing, if some of them
+    /// are before the end of the last window or behind the end of the buffer.
     pub fn take(&mut self, start: usize, len: usize) -> Option<&'b mut [u8]>
         ensures some { IsSome result ↔ LiesIn self.old start len }
         ensures window { IfSome result (λ w. w.now ≡ window self.old start len) }

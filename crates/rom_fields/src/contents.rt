@@ -18,9 +18,10 @@ impl<'c> Model for Contents<'c> {
 }
 
 impl<'c> Contents<'c> {
-    ghost use Rattle.std.specs.Prelude.{◌≡◌, ◌<◌, [], ◌∷◌, ◌++◌, OnOk, OnErr, SomeIff, length, get_or, option_copied};
+    ghost use Rattle.std.specs.Prelude.{◌≡◌, ◌<◌, [], ◌∷◌, ◌++◌, OnOk, OnErr, SomeIff, length};
+    ghost use Rattle.std.specs.Prelude.{get_or, option_copied};
 
-    /// No contents. Takes no memory.
+    /// Makes an empty list. Allocates no memory.
     pub fn new(alloc: Global) -> Contents<'c>
         ensures { result ≡ [] }
     {
@@ -29,7 +30,7 @@ impl<'c> Contents<'c> {
         }
     }
 
-    /// Adds those of one more file at the end. After an error the list is as it was.
+    /// Adds the contents of one more file at the end. If memory is refused, the list is unchanged.
     pub fn add(&mut self, c: &'c [u8]) -> Result<(), OutOfMemory>
         ensures ok { OnOk result (self.new ≡ self.old ++ c.now ∷ []) }
         ensures err { OnErr result (self.new ≡ self.old) }
@@ -38,14 +39,14 @@ impl<'c> Contents<'c> {
         Ok(())
     }
 
-    /// Of how many files there are contents.
+    /// Returns the number of files.
     pub fn len(&self) -> usize
         ensures { result ≡ length self.now }
     {
         self.slices.len()
     }
 
-    /// The contents of the file of this index. `None` where there are fewer files.
+    /// Returns the contents of the file of this index, or `None` if there are fewer files.
     pub fn get(&self, i: usize) -> Option<&'c [u8]>
         ensures { SomeIff (option_copied result) (i < length self.now) (get_or self.now i []) }
     {

@@ -1,4 +1,4 @@
-//! The extents of an image: the bytes that its parts take, and the first place where two overlap.
+//! The extents of an image, and the first offset at which two of them overlap.
 use crate::memory::OutOfMemory;
 use crate::span::{Extent, Span, least_overlap};
 use std::alloc::Global;
@@ -20,10 +20,11 @@ impl Model for Extents {
 }
 
 impl Extents {
-    ghost use Rattle.std.specs.Prelude.{◌≡◌, ◌+◌, ◌<◌, ◌^◌, [], ◌∷◌, ◌++◌, OnOk, OnErr, IsPermutation};
+    ghost use Rattle.std.specs.Prelude.{◌≡◌, ◌+◌, ◌<◌, ◌^◌, [], ◌∷◌, ◌++◌, OnOk, OnErr};
+    ghost use Rattle.std.specs.Prelude.{IsPermutation};
     ghost use Rattle.rom_fields.specs.Extents.{added, OverlapsAt, IsLeastOf};
 
-    /// No extents. Takes no memory.
+    /// Makes an empty list. Allocates no memory.
     pub fn new(alloc: Global) -> Extents
         ensures { result ≡ [] }
     {
@@ -32,7 +33,8 @@ impl Extents {
         }
     }
 
-    /// Adds an extent at the end. One of length 0 is ignored. After an error the list is as it was.
+    /// Adds an extent at the end. An extent of length 0 is ignored. If memory is refused, the list
+    /// is unchanged.
     pub fn add(&mut self, kind: Extent, start: u32, len: u32) -> Result<(), OutOfMemory>
         requires { start + len < 2 ^ 32 }
         ensures ok { OnOk result (self.new ≡ self.old ++ added kind start len) }
@@ -44,8 +46,9 @@ impl Extents {
         Ok(())
     }
 
-    /// The least place where two of the extents overlap: the greater of their two starts. `None`
-    /// where no two do. The extents stay, perhaps in another order.
+    /// Returns the least offset at which two of the extents overlap, or `None` if no two do. Two
+    /// extents overlap at the greater of their starts. The extents stay the same, perhaps in
+    /// another order.
     pub fn first_overlap(&mut self) -> Option<u32>
         ensures least { IsLeastOf (OverlapsAt self.old) result }
         ensures kept { IsPermutation self.new self.old }

@@ -7,8 +7,8 @@ ghost use Rattle.rom_fields.specs.Written.{output_of};
 
 use crate::bytes::{ByteRead, ByteWrite, Failed};
 
-/// A reader or a writer that passes `calls` calls, each of at most `most` bytes, and fails each
-/// later one. A read that may give no byte fails too.
+/// A reader or writer that passes on `calls` calls, each of at most `most` bytes, and fails each
+/// later one. A read into a nonempty buffer fails too if `most` is 0.
 #[derive(Drop)]
 pub struct Faulty<X> {
     inner: X,
@@ -19,7 +19,7 @@ pub struct Faulty<X> {
 }
 
 impl<X> Faulty<X> {
-    /// With no call made yet.
+    /// Wraps a reader or writer. No call was made yet.
     pub fn new(inner: X, calls: u64, most: usize) -> Faulty<X>
         ensures inner { result.inner ≡ inner }
         ensures calls { result.calls ≡ calls }
@@ -48,7 +48,7 @@ impl<X> Faulty<X> {
         Failed
     }
 
-    /// The reader or writer itself.
+    /// Returns the inner reader or writer.
     pub fn into_inner(self) -> X
         ensures { result ≡ self.inner }
     {

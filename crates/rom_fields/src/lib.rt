@@ -1,10 +1,10 @@
-//! What the crates that read, build and serve read-only file system images share: words in bytes
-//! and their sums, and readers and writers that count their failures, with the texts of numbers
-//! and names written to them.
+//! What the crates that read, build and serve images share: words of bytes and their sums, readers
+//! and writers that count their failures, texts that are written whole or as a prefix, and the
+//! first overlap of extents.
 //!
-//! Proved: each word that is read or put is that of the definitions in `specs/Words.antt` (romfs
-//! stores big-endian words, Linux Documentation/filesystems/romfs.rst), and each text goes out
-//! whole, or a prefix of it where the writer failed.
+//! Proved: each word that is read or put is that of `specs/Words.antt` (romfs stores big-endian
+//! words: Linux Documentation/filesystems/romfs.rst). Each text is written whole, or as a prefix if
+//! the writer failed.
 #![tactic(auto)]
 
 mod bytes;

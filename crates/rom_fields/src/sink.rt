@@ -1,12 +1,12 @@
-//! Whole texts to a writer, and a sink that stays failed.
+//! The writing of whole texts, and a sink that stays failed.
 ghost use Rattle.std.specs.Prelude.{◌≡◌, length};
 ghost use Rattle.rom_fields.specs.Failures.{Counts};
 ghost use Rattle.rom_fields.specs.Written.{WritesText, Puts, sink};
 
 use crate::bytes::{ByteWrite, Failed};
 
-/// Writes all of the bytes. A write that takes none of them is a failure. After an error a prefix
-/// of them was written.
+/// Writes all of the bytes. A write that accepts none of them is a failure. After an error, a
+/// prefix of them was written.
 pub fn write_whole<W: ByteWrite>(w: &mut W, b: &[u8]) -> Result<(), Failed>
     ensures text { WritesText (W.output w.old).contents (W.output w.new).contents result b.now }
     ensures count { Counts (W.output w.old).failures (W.output w.new).failures result }
@@ -23,8 +23,8 @@ pub fn write_whole<W: ByteWrite>(w: &mut W, b: &[u8]) -> Result<(), Failed>
     Ok(())
 }
 
-/// Writes all of the bytes where nothing failed yet, and notes a failure in `failed`. Texts that
-/// are put one after the other so need no test between them.
+/// Writes all of the bytes if nothing failed yet, and sets `failed` if a write fails. So texts can
+/// be put one after the other without a test between them.
 pub fn put<W: ByteWrite>(w: &mut W, failed: &mut bool, b: &[u8])
     ensures { Puts (sink (W.output w.old) failed.old) (sink (W.output w.new) failed.new) b.now }
 {

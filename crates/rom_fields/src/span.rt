@@ -1,8 +1,9 @@
-//! Extents of bytes, and whether two of them overlap.
+//! Extents of bytes, and the overlaps between them.
 ghost use Rattle.std.specs.Prelude.{◌≡◌, ◌+◌, IsTrue, ◌↔◌, IsPermutation};
 ghost use Rattle.std.specs.List.Sorted.{IsNonDecreasingBy};
 ghost use Rattle.rom_fields.specs.declared.span.Span.{Span};
-ghost use Rattle.rom_fields.specs.Extents.{is_shareable, AreShared, HaveCommonByte, Overlap, OverlapsAt, IsLeastOf};
+ghost use Rattle.rom_fields.specs.Extents.{is_shareable, AreShared, HaveCommonByte, Overlap};
+ghost use Rattle.rom_fields.specs.Extents.{OverlapsAt, IsLeastOf};
 
 /// What an extent of bytes holds: the superblock, a record, a directory's list, a file's block
 /// table, or contents.
@@ -40,7 +41,7 @@ fn are_shared(x: Span, y: Span) -> bool
     x.kind == y.kind && is_shareable_kind(x.kind) && x.start == y.start && x.len == y.len
 }
 
-/// Where an extent ends.
+/// The offset at which an extent ends.
 fn end(x: Span) -> u64
     ensures { result ≡ x.start + x.len }
 {
@@ -55,15 +56,15 @@ fn have_common_byte(x: Span, y: Span) -> bool
     first < end(x) && first < end(y)
 }
 
-/// Whether two extents have a byte in common and are not shared.
+/// Returns whether two extents have a byte in common and are not shared.
 pub fn overlap(x: Span, y: Span) -> bool
     ensures { IsTrue result ↔ Overlap x y }
 {
     have_common_byte(x, y) && !are_shared(x, y)
 }
 
-/// The least place at which two of the extents overlap, whose starts do not fall: the start of the
-/// first that overlaps the one which reaches furthest of those before it.
+/// The least offset at which two of the extents overlap, which are sorted by their starts. It is
+/// the start of the first extent that overlaps the earlier one that reaches furthest.
 fn first_meeting(spans: &[Span]) -> Option<u32>
     requires { IsNonDecreasingBy (λ (x : Span). x.start) spans.now }
     ensures { IsLeastOf (OverlapsAt spans.now) result }
@@ -84,8 +85,9 @@ fn first_meeting(spans: &[Span]) -> Option<u32>
     None
 }
 
-/// The least place at which two of the extents overlap: the greater of their two starts. The
-/// extents stay, in another order.
+/// Returns the least offset at which two of the extents overlap, or `None` if no two do. Two
+/// extents overlap at the greater of their starts. The extents stay the same, perhaps in another
+/// order.
 pub fn least_overlap(spans: &mut [Span]) -> Option<u32>
     ensures least { IsLeastOf (OverlapsAt spans.old) result }
     ensures kept { IsPermutation spans.new spans.old }

@@ -42,8 +42,8 @@ pub fn put_octal<W: ByteWrite>(w: &mut W, failed: &mut bool, mode: u32)
     put(w, failed, &digits);
 }
 
-/// Puts a name with each byte that is no visible ASCII character, and each `%`, escaped as `%` and
-/// two upper-case hexadecimal digits.
+/// Puts a name. Each byte that is not a visible ASCII character, and each `%`, is escaped as `%`
+/// and two upper-case hexadecimal digits.
 pub fn put_escaped<W: ByteWrite>(w: &mut W, failed: &mut bool, name: &[u8])
     ensures { Puts (sink (W.output w.old) failed.old) (sink (W.output w.new) failed.new)
         (escaped name.now) }

@@ -1,11 +1,13 @@
-//! Words of 32 bits in a slice of bytes, and parts of it.
-ghost use Rattle.std.specs.Prelude.{◌≡◌, ◌+◌, ◌-◌, ◌*◌, ◌/◌, ◌^◌, ◌<◌, ◌≤◌, ℕ, length, SomeIff, IsTrue, ◌↔◌, option_copied};
+//! Words of 32 bits in a slice of bytes, and parts of a slice.
+ghost use Rattle.std.specs.Prelude.{◌≡◌, ◌+◌, ◌-◌, ◌*◌, ◌/◌, ◌^◌, ◌<◌, ◌≤◌, ℕ, length, SomeIff};
+ghost use Rattle.std.specs.Prelude.{IsTrue, ◌↔◌, option_copied};
 ghost use Rattle.std.specs.Bool.{OnTrue, OnFalse};
-ghost use Rattle.rom_fields.specs.Words.{word_be, with_word_be, word_le, with_word_le, words_sum, part_of};
+ghost use Rattle.rom_fields.specs.Words.{word_be, with_word_be, word_le, with_word_le, words_sum};
+ghost use Rattle.rom_fields.specs.Words.{part_of};
 
 use byteorder::{BigEndian, ByteOrder, LittleEndian};
 
-/// The word at `at`, the highest byte first. `None` where its four bytes do not lie in `b`.
+/// Returns the big-endian word at offset `at`, or `None` if its four bytes are not all in `b`.
 #[tactic(auto, unfolding(crate::specs::Words::word_be))]
 pub fn be32(b: &[u8], at: usize) -> Option<u32>
     ensures { SomeIff result (at + 4 ≤ length b.now) (word_be b.now at) }
@@ -17,8 +19,8 @@ pub fn be32(b: &[u8], at: usize) -> Option<u32>
     Some(BigEndian::read_u32(rest))
 }
 
-/// Sets the word at `at`, the highest byte first. False, and nothing changes, where its four bytes
-/// do not lie in `b`.
+/// Sets the big-endian word at offset `at`. Returns false, and changes nothing, if its four bytes
+/// are not all in `b`.
 pub fn put_be32(b: &mut [u8], at: usize, v: u32) -> bool
     ensures fits { IsTrue result ↔ (at + 4 ≤ length b.old) }
     ensures put { OnTrue result (b.new ≡ with_word_be b.old at v) }
@@ -31,7 +33,7 @@ pub fn put_be32(b: &mut [u8], at: usize, v: u32) -> bool
     true
 }
 
-/// The word at `at`, the lowest byte first. `None` where its four bytes do not lie in `b`.
+/// Returns the little-endian word at offset `at`, or `None` if its four bytes are not all in `b`.
 #[tactic(auto, unfolding(crate::specs::Words::word_le))]
 pub fn le32(b: &[u8], at: usize) -> Option<u32>
     ensures { SomeIff result (at + 4 ≤ length b.now) (word_le b.now at) }
@@ -43,8 +45,8 @@ pub fn le32(b: &[u8], at: usize) -> Option<u32>
     Some(LittleEndian::read_u32(rest))
 }
 
-/// Sets the word at `at`, the lowest byte first. False, and nothing changes, where its four bytes
-/// do not lie in `b`.
+/// Sets the little-endian word at offset `at`. Returns false, and changes nothing, if its four
+/// bytes are not all in `b`.
 pub fn put_le32(b: &mut [u8], at: usize, v: u32) -> bool
     ensures fits { IsTrue result ↔ (at + 4 ≤ length b.old) }
     ensures put { OnTrue result (b.new ≡ with_word_le b.old at v) }
@@ -57,8 +59,8 @@ pub fn put_le32(b: &mut [u8], at: usize, v: u32) -> bool
     true
 }
 
-/// The sum modulo 2^32 of the big-endian words from the front. A rest of fewer than four bytes is
-/// not counted.
+/// Returns the sum modulo 2^32 of the big-endian words from the front. A rest of fewer than four
+/// bytes is not counted.
 pub fn word_sum(b: &[u8]) -> u32
     ensures { result ≡ words_sum b.now }
 {
@@ -71,7 +73,7 @@ pub fn word_sum(b: &[u8]) -> u32
     sum
 }
 
-/// The least multiple of `k` that is at least `n`.
+/// Returns the least multiple of `k` that is at least `n`.
 pub fn pad(n: u64, k: u64) -> u64
     requires low { 1 ≤ k }
     requires high { k ≤ 65536 }
@@ -85,7 +87,7 @@ pub fn pad(n: u64, k: u64) -> u64
     (n + (k - 1)) / k * k
 }
 
-/// Exactly the `len` bytes from `at`. `None` where they do not all lie in `b`.
+/// Returns the `len` bytes from offset `at` on, or `None` if they are not all in `b`.
 pub fn part<'a>(b: &'a [u8], at: usize, len: usize) -> Option<&'a [u8]>
     ensures { SomeIff (option_copied result) (at + len ≤ length b.now) (part_of b.now at len) }
 {

@@ -50,13 +50,15 @@ module _ {Shared Own : Type 0} (p : Parts Shared Own) where
       (λ i path. ap (λ (u : Shared). result_text of_done (p.mounted u i path).reply) e)
       (λ i. ap (λ (u : Shared). result_text of_done (p.unmounted u i).reply) e)
       (λ c h. ap (λ (a : Said (Sessions Shared Own)). a.text) (lifted k s c h)
-      ∙ (ap (λ (u : Shared). (obeyed (p.over u) (s.own k) c).text) e ∙ ap (λ (o : Own). (obeyed (p.over t.shared) o c).text) f)
+      ∙ (ap (λ (u : Shared). (obeyed (p.over u) (s.own k) c).text) e
+      ∙ ap (λ (o : Own). (obeyed (p.over t.shared) o c).text) f)
       ∙ sym (ap (λ (a : Said (Sessions Shared Own)). a.text) (lifted k t c h)))
 
   -- and so does its own part afterwards
   pub call_own : (k : ℕ) (s t : Sessions Shared Own) → s.shared ≡ t.shared → s.own k ≡ t.own k → (c : Call)
       → (obeyed (session_calls p k) s c).state.own k ≡ (obeyed (session_calls p k) t c).state.own k
-  call_own k s t e f = by_kind (λ c. (obeyed (session_calls p k) s c).state.own k ≡ (obeyed (session_calls p k) t c).state.own k)
+  call_own k s t e f =
+      by_kind (λ c. (obeyed (session_calls p k) s c).state.own k ≡ (obeyed (session_calls p k) t c).state.own k)
       (λ i path. f)
       (λ i. f)
       (λ c h. ap (λ (a : Said (Sessions Shared Own)). a.state.own k) (lifted k s c h)
@@ -68,7 +70,8 @@ module _ {Shared Own : Type 0} (p : Parts Shared Own) where
   -- what is shared comes from itself, whichever the session
   pub call_shared : (k : ℕ) (s t : Sessions Shared Own) → s.shared ≡ t.shared → (c : Call)
       → (obeyed (session_calls p k) s c).state.shared ≡ (obeyed (session_calls p k) t c).state.shared
-  call_shared k s t e = by_kind (λ c. (obeyed (session_calls p k) s c).state.shared ≡ (obeyed (session_calls p k) t c).state.shared)
+  call_shared k s t e =
+      by_kind (λ c. (obeyed (session_calls p k) s c).state.shared ≡ (obeyed (session_calls p k) t c).state.shared)
       (λ i path. ap (λ (u : Shared). (p.mounted u i path).state) e)
       (λ i. ap (λ (u : Shared). (p.unmounted u i).state) e)
       (λ c h. ap (λ (a : Said (Sessions Shared Own)). a.state.shared) (lifted k s c h) ∙ e

@@ -1,5 +1,6 @@
 -- Several images of which one, that is not mounted, is another.
-use Rattle.std.proofs.Common.{◌≡◌, ℕ, zero, suc, ◌<◌, ◌==◌, Bool, true, false, cond, List, [], ◌∷◌, ◌++◌, Option, Some, None, Result, Ok, Err, refl, ap, ◌∙◌, subst, arith, length, nat_lt}
+use Rattle.std.proofs.Common.{◌≡◌, ℕ, zero, suc, ◌<◌, ◌==◌, Bool, true, false, cond, List, [], ◌∷◌, ◌++◌, Option, Some}
+use Rattle.std.proofs.Common.{None, Result, Ok, Err, refl, ap, ◌∙◌, subst, arith, length, nat_lt}
 use Rattle.std.specs.Prelude.{slice_set, option_map, find, ◌||◌, not}
 use Rattle.std.proofs.lemmas.Bool.{true≢false}
 use Rattle.std.proofs.lemmas.Bool.Decides.{nat_tests}
@@ -34,7 +35,8 @@ tree_other (x ∷ ms) zero (suc j) m h = refl
 tree_other (x ∷ ms) (suc i) zero m h = refl
 tree_other (x ∷ ms) (suc i) (suc j) m h = tree_other ms i j m (before i j h)
 
-pub bytes_other : (ms : List Image) (i j : ℕ) (m : Image) → (j == i) ≡ false → bytes_in (slice_set ms i m) j ≡ bytes_in ms j
+pub bytes_other : (ms : List Image) (i j : ℕ) (m : Image) → (j == i) ≡ false
+    → bytes_in (slice_set ms i m) j ≡ bytes_in ms j
 bytes_other [] i j m h = refl
 bytes_other (x ∷ ms) zero zero m h = absurd (true≢false h)
 bytes_other (x ∷ ms) zero (suc j) m h = refl
@@ -61,7 +63,8 @@ module _ (i : ℕ) (m : Image) (ms : List Image) where
   over_other (u ∷ us) h p s =
       let both = neither (u.image == i) (is_mounted i us) h in
       of_both (λ o. over (slice_set ms i m) s o ≡ over ms s o) (p u) (Some u) (find p us)
-      (ap (λ (t : Node). record { image = u.image; node = t }) (tree_other ms i u.image m both.0)) (over_other us both.1 p s)
+      (ap (λ (t : Node). record { image = u.image; node = t }) (tree_other ms i u.image m both.0))
+      (over_other us both.1 p s)
 
   over_fine : (us : List Mount) → is_mounted i us ≡ false → (p : Mount → Bool) (s : MountedNode) → Fine i s
       → Fine i (over ms s (find p us))
@@ -79,7 +82,8 @@ module _ (i : ℕ) (m : Image) (ms : List Image) (us : List Mount) (some : 0 < i
   unfolding shown
   shown_fine s h = over_fine i m ms us free (covers s.image (ino_of s.node)) s h
 
-  entry_other : (j : ℕ) (o : Option Node) → option_map (λ x. shown (slice_set ms i m) us (record { image = j; node = x })) o
+  entry_other : (j : ℕ) (o : Option Node)
+      → option_map (λ x. shown (slice_set ms i m) us (record { image = j; node = x })) o
       ≡ option_map (λ x. shown ms us (record { image = j; node = x })) o
   entry_other j None = refl
   entry_other j (Some x) = ap (λ (s : MountedNode). Some s) (shown_other (record { image = j; node = x }))
@@ -88,18 +92,23 @@ module _ (i : ℕ) (m : Image) (ms : List Image) (us : List Mount) (some : 0 < i
       → option_map (λ x. shown ms us (record { image = j; node = x })) o ≡ Some y → Fine i y
   entry_fine j None y h e = absurd (none_some y e)
   entry_fine j (Some x) y h e =
-      subst (Fine i) (some_same (shown ms us (record { image = j; node = x })) y e) (shown_fine (record { image = j; node = x }) h)
+      subst (Fine i) (some_same (shown ms us (record { image = j; node = x })) y e)
+      (shown_fine (record { image = j; node = x }) h)
 
   -- paths lead alike, and never to image i
-  pub leads_same : (path : List ℕ) (follow : Bool) → resolution (graft (slice_set ms i m) us) path follow ≡ resolution (graft ms us) path follow
+  pub leads_same : (path : List ℕ) (follow : Bool)
+      → resolution (graft (slice_set ms i m) us) path follow ≡ resolution (graft ms us) path follow
   leads_same = walk_same (Fine i) (graft ms us) (graft (slice_set ms i m) us)
-      (λ x h. refl) (λ x h. bytes_other ms i x.image m h) (λ x n h. entry_other x.image (find_entry (entries_of x.node) n))
+      (λ x h. refl) (λ x h. bytes_other ms i x.image m h)
+      (λ x n h. entry_other x.image (find_entry (entries_of x.node) n))
       (λ x n y h e. entry_fine x.image (find_entry (entries_of x.node) n) y h e) (first_other i some)
       (ap (λ (t : Node). record { image = 0; node = t }) (tree_other ms i 0 m (first_other i some)))
 
-  pub leads_fine : (path : List ℕ) (follow : Bool) (s : MountedNode) → resolution (graft ms us) path follow ≡ Ok s → Fine i s
+  pub leads_fine : (path : List ℕ) (follow : Bool) (s : MountedNode) → resolution (graft ms us) path follow ≡ Ok s
+      → Fine i s
   leads_fine = walk_fine (Fine i) (graft ms us) (graft (slice_set ms i m) us)
-      (λ x h. refl) (λ x h. bytes_other ms i x.image m h) (λ x n h. entry_other x.image (find_entry (entries_of x.node) n))
+      (λ x h. refl) (λ x h. bytes_other ms i x.image m h)
+      (λ x n h. entry_other x.image (find_entry (entries_of x.node) n))
       (λ x n y h e. entry_fine x.image (find_entry (entries_of x.node) n) y h e) (first_other i some)
       (ap (λ (t : Node). record { image = 0; node = t }) (tree_other ms i 0 m (first_other i some)))
 
@@ -108,13 +117,16 @@ module _ (i : ℕ) (m : Image) (ms : List Image) (us : List Mount) (some : 0 < i
       → mount_at_place (slice_set ms i m) us j r ≡ mount_at_place ms us j r
   at_place_other j (Err e) h = refl
   at_place_other j (Ok s) h =
-      ap (λ (t : Node). mount_over us j s (is_directory s.node) (ino_of s.node == ino_of t)) (tree_other ms i s.image m (h s refl))
+      ap (λ (t : Node). mount_over us j s (is_directory s.node) (ino_of s.node == ino_of t))
+      (tree_other ms i s.image m (h s refl))
 
   pub mounting_other : (j : ℕ) (path : List ℕ) → mounting (slice_set ms i m) us j path ≡ mounting ms us j path
   mounting_other j path =
       ap (λ n. cond (not (nat_lt j n)) (refuse Enodev us) (cond ((j == 0) || is_mounted j us) (refuse Ebusy us)
-      (mount_at_place (slice_set ms i m) us j (resolution (graft (slice_set ms i m) us) path true)))) (length-set ms i m)
-      ∙ ap (λ (a : Answer (List Mount) (Unit {0})). cond (not (nat_lt j (length ms))) (refuse Enodev us) (cond ((j == 0) || is_mounted j us) (refuse Ebusy us) a))
+      (mount_at_place (slice_set ms i m) us j (resolution (graft (slice_set ms i m) us) path true))))
+      (length-set ms i m)
+      ∙ ap (λ (a : Answer (List Mount) (Unit {0})). cond (not (nat_lt j (length ms))) (refuse Enodev us)
+      (cond ((j == 0) || is_mounted j us) (refuse Ebusy us) a))
       (ap (λ (r : Result MountedNode WalkError). mount_at_place (slice_set ms i m) us j r) (leads_same path true)
       ∙ at_place_other j (resolution (graft ms us) path true) (leads_fine path true))
 
@@ -124,18 +136,22 @@ module _ (i : ℕ) (m : Image) (ms : List Image) (us : List Mount) (some : 0 < i
       (cond (has_mount j us) (refuse Ebusy us) (give tt (without j us))))) (length-set ms i m)
 
   -- and image i is still not mounted
-  push_free : (vs : List Mount) (u : Mount) → is_mounted i vs ≡ false → (u.image == i) ≡ false → is_mounted i (vs ++ u ∷ []) ≡ false
+  push_free : (vs : List Mount) (u : Mount) → is_mounted i vs ≡ false → (u.image == i) ≡ false
+      → is_mounted i (vs ++ u ∷ []) ≡ false
   push_free [] u h k = ap (λ (t : Bool). t || false) k
   push_free (v ∷ vs) u h k =
       let both = neither (v.image == i) (is_mounted i vs) h in
       ap (λ (t : Bool). t || is_mounted i (vs ++ u ∷ [])) both.0 ∙ push_free vs u both.1 k
 
-  over_free : (j : ℕ) (s : MountedNode) (a b : Bool) → (j == i) ≡ false → is_mounted i (mount_over us j s a b).state ≡ false
+  over_free : (j : ℕ) (s : MountedNode) (a b : Bool) → (j == i) ≡ false
+      → is_mounted i (mount_over us j s a b).state ≡ false
   over_free j s false b h = free
   over_free j s true true h = free
-  over_free j s true false h = push_free us (record { image = j; on = s.image; dir = record { 0 = ino_of s.node } }) free h
+  over_free j s true false h =
+      push_free us (record { image = j; on = s.image; dir = record { 0 = ino_of s.node } }) free h
 
-  place_free : (j : ℕ) (r : Result MountedNode WalkError) → (j == i) ≡ false → is_mounted i (mount_at_place ms us j r).state ≡ false
+  place_free : (j : ℕ) (r : Result MountedNode WalkError) → (j == i) ≡ false
+      → is_mounted i (mount_at_place ms us j r).state ≡ false
   place_free j (Err e) h = free
   place_free j (Ok s) h = over_free j s (is_directory s.node) (ino_of s.node == ino_of (tree_in ms s.image)) h
 

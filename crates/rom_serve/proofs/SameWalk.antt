@@ -1,5 +1,4 @@
--- Paths lead alike in two namespaces that are alike at fine places, where no name leads from a fine place to
--- another.
+-- Paths lead alike in two namespaces that are alike at fine places, if no name leads from a fine place to another.
 use Rattle.std.proofs.Common.{◌≡◌, ℕ, Bool, List, Option, Some, None, Result, Ok, Err, refl, sym, ◌∙◌, subst}
 use Rattle.std.specs.Prelude.{option_map}
 use Rattle.path_walk.specs.declared.error.WalkError.{WalkError}
@@ -29,7 +28,7 @@ module _ {F : Type 0} (Fine : F → Type 0) (a b : Namespace F)
   its_place None h = refl
   its_place (Some y) h = refl
 
-  -- the fine places alone
+  -- only the fine places
   fine_names : Namespace FinePlace
   unfolding FinePlace
   fine_names = record {
@@ -39,13 +38,15 @@ module _ {F : Type 0} (Fine : F → Type 0) (a b : Namespace F)
     entry = λ x n. with_fact (a.entry x.0 n) (λ y e. stays x.0 n y x.1 e);
   }
 
-  in_a : (path : List ℕ) (follow : Bool) → resolution a path follow ≡ lift_result fine_names a place (resolution fine_names path follow)
+  in_a : (path : List ℕ) (follow : Bool)
+      → resolution a path follow ≡ lift_result fine_names a place (resolution fine_names path follow)
   unfolding FinePlace place fine_names
   in_a path follow =
       walk_lift fine_names a place (λ x. refl) (λ x. refl)
       (λ x n. sym (its_place (a.entry x.0 n) (λ y e. stays x.0 n y x.1 e))) refl path follow
 
-  in_b : (path : List ℕ) (follow : Bool) → resolution b path follow ≡ lift_result fine_names b place (resolution fine_names path follow)
+  in_b : (path : List ℕ) (follow : Bool)
+      → resolution b path follow ≡ lift_result fine_names b place (resolution fine_names path follow)
   unfolding FinePlace place fine_names
   in_b path follow =
       walk_lift fine_names b place (λ x. node x.0 x.1) (λ x. bytes x.0 x.1)

@@ -1,5 +1,6 @@
 -- Sessions over something that they share are apart.
-use Rattle.std.proofs.Common.{◌≡◌, ℕ, ◌+◌, true, false, List, ◌∷◌, Option, Some, None, drop, refl, sym, ap, ◌∙◌, arith, ◌==◌}
+use Rattle.std.proofs.Common.{◌≡◌, ℕ, ◌+◌, true, false, List, ◌∷◌, Option, Some, None, drop, refl, sym, ap, ◌∙◌, arith}
+use Rattle.std.proofs.Common.{◌==◌}
 use Rattle.std.proofs.lemmas.Bool.Decides.{nat_tests}
 use Rattle.std.proofs.lemmas.Bool.{eqb-true, true≢false}
 use Rattle.open_files.specs.Sessions.{Sessions, Parts, session_calls}
@@ -52,10 +53,12 @@ module _ {Shared Own : Type 0} (p : Parts Shared Own) where
   by_text k s t l None e f h = absurd (true≢false (sym h))
   by_text k s t l (Some j) e f h =
       let same : j ≡ k = eqb-true j k h in
-      ap (λ x. (48 + j) ∷ 32 ∷ x) (line_text j s t (line_of true (drop 2 l)) e (ap s.own same ∙ f ∙ sym (ap t.own same)))
+      ap (λ x. (48 + j) ∷ 32 ∷ x) (line_text j s t (line_of true (drop 2 l)) e
+      (ap s.own same ∙ f ∙ sym (ap t.own same)))
 
   by_own : (k : ℕ) (s t : Sessions Shared Own) (l : List ℕ) (o : Option ℕ) → s.shared ≡ t.shared → s.own k ≡ t.own k
-      → is_of k o ≡ true → (answered_by (session_calls p) s l o).state.own k ≡ (answered_by (session_calls p) t l o).state.own k
+      → is_of k o ≡ true → (answered_by (session_calls p) s l o).state.own k
+      ≡ (answered_by (session_calls p) t l o).state.own k
   by_own k s t l None e f h = absurd (true≢false (sym h))
   by_own k s t l (Some j) e f h =
       let same : j ≡ k = eqb-true j k h in
@@ -93,7 +96,7 @@ module _ {Shared Own : Type 0} (p : Parts Shared Own) where
     unshared = λ s l h. by_kept s l (session_of l) h;
   }
 
-  -- among the replies, those of one session are those that it gets for its view alone
+  -- among the replies, those of one session are those that it gets if its view is the whole input
   pub views : (s : Sessions Shared Own) → SeesItsView (session_lines p) s
   views = sees_its_view (session_lines p) apart
 
@@ -102,5 +105,6 @@ module _ {Shared Own : Type 0} (p : Parts Shared Own) where
   leaves_own k s l e = by_mount k s l (session_of l) e
 
   -- a line that names no session changes nothing
-  pub unnamed_stays : (s : Sessions Shared Own) (l : List ℕ) → session_of l ≡ None → (answered_among (session_calls p) s l).state ≡ s
+  pub unnamed_stays : (s : Sessions Shared Own) (l : List ℕ) → session_of l ≡ None
+      → (answered_among (session_calls p) s l).state ≡ s
   unnamed_stays s l h = ap (λ o. (answered_by (session_calls p) s l o).state) h

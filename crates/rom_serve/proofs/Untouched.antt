@@ -6,7 +6,8 @@ use Rattle.path_walk.specs.declared.mount.Mount.{Mount}
 use Rattle.path_walk.specs.Graft.{MountedNode}
 use Rattle.open_files.specs.Calls.{Answer}
 use Rattle.open_files.specs.Machine.{Table}
-use Rattle.open_files.specs.Sessions.{Sessions, with_own, shared_answer, graft_parts, space_calls, is_mounted, no_sessions}
+use Rattle.open_files.specs.Sessions.{Sessions, with_own, shared_answer, graft_parts, space_calls, is_mounted}
+use Rattle.open_files.specs.Sessions.{no_sessions}
 use Rattle.serve_lines.specs.Commands.{Call, Line, asks, is_bad, line_of}
 use Rattle.serve_lines.specs.Served.{exchanges, lines_of}
 use Rattle.serve_lines.specs.Views.{AgreeOn}
@@ -30,10 +31,13 @@ module _ (i : ℕ) (m : Image) (ms : List Image) (some : 0 < i) where
   call_same : (k : ℕ) (s : State) → IsClean i s → (c : Call)
       → obeyed (space_calls 64 (slice_set ms i m) k) s c ≡ obeyed (space_calls 64 ms k) s c
   call_same k s h = by_kind (λ c. obeyed (space_calls 64 (slice_set ms i m) k) s c ≡ obeyed (space_calls 64 ms k) s c)
-      (λ j x. ap (λ (a : Answer (List Mount) (Unit {0})). said of_done (shared_answer s a)) (mounting_other i m ms s.shared some h.shared j x))
-      (λ j. ap (λ (a : Answer (List Mount) (Unit {0})). said of_done (shared_answer s a)) (unmounting_other i m ms s.shared some h.shared j))
+      (λ j x. ap (λ (a : Answer (List Mount) (Unit {0})). said of_done (shared_answer s a))
+      (mounting_other i m ms s.shared some h.shared j x))
+      (λ j. ap (λ (a : Answer (List Mount) (Unit {0})). said of_done (shared_answer s a))
+      (unmounting_other i m ms s.shared some h.shared j))
       (λ c e. let F : Said (Table MountedNode) → Said (State) = λ a. says a.text (with_own s k a.state) in
-      lifted (graft_parts 64 (slice_set ms i m)) k s c e ∙ ap F (obeyed_same i m ms s.shared some h.shared (s.own k) c (h.own k))
+      lifted (graft_parts 64 (slice_set ms i m)) k s c e
+      ∙ ap F (obeyed_same i m ms s.shared some h.shared (s.own k) c (h.own k))
       ∙ sym (lifted (graft_parts 64 ms) k s c e))
 
   call_clean : (k : ℕ) (s : State) → IsClean i s → (c : Call) → mounts_call i c ≡ false
@@ -44,7 +48,8 @@ module _ (i : ℕ) (m : Image) (ms : List Image) (some : 0 < i) where
       (λ c e f. let P : Said (State) → Type 0 = λ a. IsClean i a.state in
       subst P (sym (lifted (graft_parts 64 ms) k s c e)) (record {
         shared = h.shared;
-        own = λ j. of_both (AreOther i) (j == k) _ (s.own j) (obeyed_other i m ms s.shared some h.shared (s.own k) c (h.own k)) (h.own j);
+        own = λ j. of_both (AreOther i) (j == k) _ (s.own j)
+            (obeyed_other i m ms s.shared some h.shared (s.own k) c (h.own k)) (h.own j);
       }))
 
   line_same : (k : ℕ) (s : State) → IsClean i s → (l : Line)
@@ -67,7 +72,8 @@ module _ (i : ℕ) (m : Image) (ms : List Image) (some : 0 < i) where
   by_clean s l None e h = h
   by_clean s l (Some k) e h = line_clean k s h (line_of true (drop 2 l)) e
 
-  agree : AgreeOn (space_machine (slice_set ms i m)) (space_machine ms) (IsClean i) (λ l. mounts_of i l (session_of l) ≡ false)
+  agree : AgreeOn (space_machine (slice_set ms i m)) (space_machine ms) (IsClean i)
+      (λ l. mounts_of i l (session_of l) ≡ false)
   agree = record {
     ends = λ l. refl;
     reply = λ s l h e. ap (λ (a : Said (State)). a.text) (by_same s l (session_of l) h);
@@ -78,7 +84,9 @@ module _ (i : ℕ) (m : Image) (ms : List Image) (some : 0 < i) where
 
   -- all replies stay the same
   pub untouched : (x : List ℕ) → NeverMounts i x
-      → exchanges (space_machine (slice_set ms i m)) (no_sessions 64) (lines_of x) ≡ exchanges (space_machine ms) (no_sessions 64) (lines_of x)
+      → exchanges (space_machine (slice_set ms i m)) (no_sessions 64) (lines_of x)
+      ≡ exchanges (space_machine ms) (no_sessions 64) (lines_of x)
   untouched x never =
-      same_replies (space_machine (slice_set ms i m)) (space_machine ms) (IsClean i) (λ l. mounts_of i l (session_of l) ≡ false) agree
+      same_replies (space_machine (slice_set ms i m)) (space_machine ms) (IsClean i)
+      (λ l. mounts_of i l (session_of l) ≡ false) agree
       (no_sessions 64) (lines_of x) (record { shared = refl; own = λ k. none_other i 64 }) never

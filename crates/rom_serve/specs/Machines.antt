@@ -1,5 +1,7 @@
--- The machines of lines: that of one image, and that of several with sessions. (This project's own.)
-use Rattle.std.specs.Prelude.{ℕ, ◌+◌, ◌-◌, ◌==◌, nat_lt, Bool, true, false, if◌then◌else◌, List, ◌∷◌, length, drop, slice_index, Option, Some, None}
+-- `image_machine`, `space_machine`: the machines of lines of one image, and of several with
+-- sessions. `session_of`: the session that a line names. (This project's own.)
+use Rattle.std.specs.Prelude.{ℕ, ◌+◌, ◌-◌, ◌==◌, nat_lt, Bool, true, false, if◌then◌else◌, List}
+use Rattle.std.specs.Prelude.{◌∷◌, length, drop, slice_index, Option, Some, None}
 use Rattle.rom_tree.specs.Tree.{Node}
 use Rattle.rom_tree.specs.Image.{Image}
 use Rattle.path_walk.specs.declared.mount.Mount.{Mount}
@@ -22,7 +24,7 @@ abbrev pub is_quit : Line → Bool
 is_quit (asks c) = is_quit_call c
 is_quit (is_bad b) = false
 
--- lines of one table of open files: `quit` ends the serving
+-- lines of one table of open files; `quit` ends the serving
 abbrev pub lines_alone : {S : Type 0} → Calls S → Machine S
 lines_alone c = record {
   reply = λ s line. (answered c s (line_of false line)).text;
@@ -30,7 +32,7 @@ lines_alone c = record {
   ends = λ line. is_quit (line_of false line);
 }
 
--- A line names its session by a digit from 0 to 7 and a space in front.
+-- A line names its session by a digit from 0 to 7 and a space at its front.
 abbrev pub session_digit : List ℕ → Option ℕ
 session_digit line =
     if nat_lt (length line) 2 then None
@@ -38,11 +40,11 @@ session_digit line =
     else if nat_lt 55 (slice_index line 0) then None
     else if slice_index line 1 == 32 then Some (slice_index line 0 - 48) else None
 
--- one that is too long names none
+-- a line that is too long names none
 unfoldable pub session_of : List ℕ → Option ℕ
 session_of line = if nat_lt 8191 (length line) then None else session_digit line
 
--- a reply begins as its line does
+-- a reply begins with the digit and the space of its line
 abbrev pub prefixed : {S : Type 0} → ℕ → Said S → Said S
 prefixed k a = says ((48 + k) ∷ 32 ∷ a.text) a.state
 
@@ -56,7 +58,7 @@ answered_by c s line (Some k) = prefixed k (answered (c k) s (line_of true (drop
 abbrev pub answered_among : {S : Type 0} → (ℕ → Calls S) → S → List ℕ → Said S
 answered_among c s line = answered_by c s line (session_of line)
 
--- lines of several sessions, each with calls of its own: no line ends the serving
+-- lines of several sessions, each with its own calls; no line ends the serving
 abbrev pub lines_among : {S : Type 0} → (ℕ → Calls S) → Machine S
 lines_among c = record {
   reply = λ s line. (answered_among c s line).text;

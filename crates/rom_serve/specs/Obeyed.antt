@@ -1,12 +1,15 @@
--- What a line is answered, over the calls on open files. (This project's own.)
+-- `obeyed`, `answered`: the reply to a command, over any calls on open files. (This project's own.)
 use Rattle.std.specs.Prelude.{ℕ, List, Option, Some, None, Result, Ok, Err}
 use Rattle.rom_tree.specs.declared.types.Stat.{Stat}
 use Rattle.open_files.specs.declared.error.CallError.{CallError}
 use Rattle.open_files.specs.Calls.{Answer, Of, Lent, Named, Calls}
 use Rattle.serve_lines.specs.declared.word.PathCall.TheVariants as path_call
 use Rattle.serve_lines.specs.declared.word.FdCall.TheVariants as fd_call
-use Rattle.serve_lines.specs.Commands.{Call, on_path, on_fd, read, lend, seek, map_part, quit, mount, umount, Line, asks, is_bad}
-use Rattle.serve_lines.specs.Texts.{done_text, end_text, descriptor_text, node_text, attributes_text, piece_text, bytes_text, entry_text, refused_text, bad_text}
+use Rattle.serve_lines.specs.Commands.{Call, on_path, on_fd, read, lend, seek, map_part, quit}
+use Rattle.serve_lines.specs.Commands.{mount, umount, Line, asks, is_bad}
+use Rattle.serve_lines.specs.Texts.{done_text, end_text, descriptor_text, node_text}
+use Rattle.serve_lines.specs.Texts.{attributes_text, piece_text, bytes_text, entry_text}
+use Rattle.serve_lines.specs.Texts.{refused_text, bad_text}
 
 -- the text of a reply, and the state after it
 pub record Said (S : Type 0) : Type 0 where
@@ -39,7 +42,7 @@ abbrev pub of_entry : Option (Of Named) → List ℕ
 of_entry None = end_text
 of_entry (Some e) = entry_text e.0 e.1.name e.1.node
 
--- each call's reply
+-- the reply to each call
 abbrev pub obeyed : {S : Type 0} → Calls S → S → Call → Said S
 obeyed c s (on_path path_call.Lookup p) = said of_node (c.lookup s p)
 obeyed c s (on_path path_call.Stat p) = said of_stat (c.stat s p)

@@ -1,4 +1,6 @@
--- What the laws of several sessions speak of: which lines mount, and what is shared. (This project's own.)
+-- `space_lines`: the lines of sessions over several images, with the shared part of the state and
+-- each session's own part. `NeverMounts`: no line of an input mounts an image. (This project's
+-- own.)
 use Rattle.std.specs.Prelude.{◌≡◌, ℕ, ◌==◌, Bool, true, false, List, drop, Option, Some, None}
 use Rattle.rom_tree.specs.Image.{Image}
 use Rattle.path_walk.specs.declared.mount.Mount.{Mount}
@@ -10,7 +12,7 @@ use Rattle.serve_lines.specs.Served.{lines_of}
 use Rattle.serve_lines.specs.Views.{SessionMachine, AllFine}
 use Rattle.rom_serve.specs.Machines.{lines_among, session_of}
 
--- `mount` and `umount` may change what is shared
+-- `mount` and `umount` may change the shared part
 abbrev pub is_mount_call : Call → Bool
 is_mount_call (mount i path) = true
 is_mount_call (umount i) = true
@@ -35,7 +37,7 @@ session_lines p = record {
   own_of = λ s k. s.own k;
 }
 
--- those over several images: the mounts are shared
+-- those over several images, which share the mounts
 abbrev pub space_lines : List Image
     → SessionMachine (Sessions (List Mount) (Table MountedNode)) (List Mount) (Table MountedNode)
 space_lines ms = session_lines (graft_parts 64 ms)

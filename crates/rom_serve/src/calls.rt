@@ -1,4 +1,4 @@
-//! What answers calls: the open files of one image, or those of several.
+//! The trait of open files that answer calls: those of one image, or of several.
 ghost use Rattle.std.specs.Prelude.{◌≡◌, ◌<◌, ℕ, length, take};
 ghost use Rattle.open_files.specs.Calls.{Calls, answer, give, viewed};
 ghost use Rattle.serve_lines.specs.Commands.{on_path, on_fd, lend, map_part};
@@ -8,25 +8,26 @@ ghost use Rattle.rom_serve.specs.Obeyed.{says, obeyed};
 use open_files::{CallError, Fd};
 use serve_lines::{FdCall, PathCall, Reply};
 
-/// Open files, with a table for each session. Each call answers as `calls` does; what is said of a
-/// node is given as a reply, since it comes with the number of its image where several are served.
+/// Open files, with a table for each session. Each call answers as `calls` does. A call whose
+/// answer is about a node returns a reply, since the reply has the number of the node's image if
+/// several images are served.
 pub(crate) trait OpenCalls<'a>: Drop {
     ghost State: { Type 0 };
 
-    // What is open and mounted.
+    // The open files and the mounts.
     ghost state: { Self → State };
 
     // The calls of each session.
     ghost calls: { Self → ℕ → Calls State };
 
-    /// What is asked about a path.
+    /// Returns the reply to a call with only a path.
     fn path_reply(&mut self, session: u32, call: PathCall, path: &[u8]) -> Reply<'a>
         requires { session < 8 }
         ensures reply { obeyed (calls self.old session) (state self.old) (on_path call path.now)
             ≡ says (reply_text result) (state self.new) }
         ensures stays { calls self.new ≡ calls self.old };
 
-    /// What is asked of a descriptor alone.
+    /// Returns the reply to a call with only a descriptor.
     fn fd_reply(&mut self, session: u32, call: FdCall, fd: Fd) -> Reply<'a>
         requires { session < 8 }
         ensures reply { obeyed (calls self.old session) (state self.old) (on_fd call fd.0)

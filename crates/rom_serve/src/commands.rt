@@ -1,4 +1,4 @@
-//! Commands, obeyed over open files of any kind.
+//! Commands that are obeyed over open files of any kind.
 ghost use Rattle.std.specs.Prelude.{◌≡◌, ◌<◌, length, take};
 ghost use Rattle.rom_fields.specs.Written.{Puts, sink};
 ghost use Rattle.serve_lines.specs.Commands.{read, quit, line_of};
@@ -13,7 +13,7 @@ use open_files::Fd;
 use rom_fields::ByteWrite;
 use serve_lines::{Command, Reply, put_reply, read_line};
 
-/// Closes all that a session has open.
+/// Closes all that a session has open, and returns the reply.
 fn quit_reply<'a, C: OpenCalls<'a>>(calls: &mut C, session: u32) -> Reply<'a>
     requires { session < 8 }
     ensures reply { obeyed (C.calls calls.old session) (C.state calls.old) quit
@@ -24,7 +24,7 @@ fn quit_reply<'a, C: OpenCalls<'a>>(calls: &mut C, session: u32) -> Reply<'a>
     Reply::Done
 }
 
-/// Reads as many bytes as the buffer has, and puts the reply.
+/// Reads as many bytes as the buffer has room for, and puts the reply.
 fn put_read<'a, C: OpenCalls<'a>, W: ByteWrite>(
     calls: &mut C,
     session: u32,
@@ -47,7 +47,7 @@ fn put_read<'a, C: OpenCalls<'a>, W: ByteWrite>(
     }
 }
 
-/// The first `n` bytes of a buffer, or all of them.
+/// Returns the first `n` bytes of a buffer, or all of them.
 fn front(buf: &[u8], n: usize) -> &[u8]
     ensures { result.now ≡ take n buf.now }
 {
@@ -109,15 +109,15 @@ fn put_obeyed<'a, C: OpenCalls<'a>, W: ByteWrite>(
     }
 }
 
-/// Whether a command is `quit`.
+/// Returns whether a command is `quit`.
 fn is_quit(command: &Command<'_>) -> bool
     ensures { result ≡ is_quit_call (call_by command.now) }
 {
     matches!(command, Command::Quit)
 }
 
-/// Answers what a line asks for that names no session, and tells whether this is `quit`. `mounts`
-/// says whether `mount` and `umount` are words.
+/// Puts the reply to a line without its session, and returns whether the line is `quit`. `mounts`
+/// is true if `mount` and `umount` are words.
 pub(crate) fn put_answer<'a, C: OpenCalls<'a>, W: ByteWrite>(
     calls: &mut C,
     session: u32,

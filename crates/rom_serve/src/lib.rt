@@ -1,11 +1,12 @@
-//! A server of lines over read-only file system images.
+//! A server of lines over read-only file system images. `serve` and `serve_space` answer lines as
+//! the calls on open files do, over one image, or over several with eight sessions; there are laws
+//! on sessions.
 //!
-//! `specs/Machines.antt` says what each line is answered: over one image, and over several images
-//! with eight sessions. Proved: `serve`, `serve_bounded` and `serve_space` write just these
-//! replies, each of them whole before the next byte is read, and say why they ended early; no
-//! failed write or flush is passed over, and as many flushes succeed as replies are written. `laws`
-//! has what holds of the replies of several sessions. No memory is taken, but by look-ups in an image
-//! that keeps something of them, as a `Cached` one does.
+//! Proved: `serve`, `serve_bounded` and `serve_space` write exactly the replies of
+//! `specs/Machines.antt`, each of them whole before the next byte is read, and report why they
+//! ended early. No failed write or flush is ignored, and as many flushes succeed as replies are
+//! written. `laws` has what holds for the replies of several sessions. No memory is taken, except
+//! by look-ups in an image that remembers them, such as a `Cached` one.
 #![tactic(auto)]
 
 mod calls;

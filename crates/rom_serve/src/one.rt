@@ -3,7 +3,8 @@ ghost use Rattle.std.specs.Prelude.{◌≡◌, ◌≤◌, true, option_map};
 ghost use Rattle.rom_tree.specs.Tree.{Node, levels};
 ghost use Rattle.open_files.specs.Calls.{Of, Named, viewed};
 ghost use Rattle.open_files.specs.Machine.{Table, image_calls};
-ghost use Rattle.open_files.specs.Slots.{image_view, are_sound, table_of, unlabelled, lent_by, named_by};
+ghost use Rattle.open_files.specs.Slots.{image_view, are_sound, table_of, unlabelled, lent_by};
+ghost use Rattle.open_files.specs.Slots.{named_by};
 ghost use Rattle.serve_lines.specs.Replies.{reply_text};
 ghost use Rattle.rom_serve.specs.Obeyed.{result_text, of_node, of_stat, of_piece, of_entry};
 
@@ -13,7 +14,7 @@ use open_files::{CallError, Fd, Slots, one_image};
 use rom_tree::{Entry, NodeId, Piece, Stat, TreeImage, Viewed};
 use serve_lines::{FdCall, PathCall, Reply};
 
-// The replies that the results of calls on one image give: no image is named.
+// The replies for the results of calls on one image. They name no image.
 
 #[tactic(auto, unfolding(serve_lines::specs::Replies::reply_text))]
 fn node_reply(r: Result<NodeId, CallError>) -> Reply<'static>
@@ -57,7 +58,7 @@ fn entry_reply<'a>(r: Result<Option<Entry<'a>>, CallError>) -> Reply<'a>
     }
 }
 
-/// One image with 64 descriptors, whatever the session. Nothing is ever mounted.
+/// One image with 64 descriptors, for any session. Nothing is ever mounted.
 #[derive(Drop)]
 pub(crate) struct One<'s, T: Viewed> {
     pub(crate) image: &'s mut T,

@@ -1,4 +1,4 @@
-//! The replies that the results of calls give, where no image is named.
+//! The replies for results of calls that name no image.
 ghost use Rattle.std.specs.Prelude.{◌≡◌};
 ghost use Rattle.open_files.specs.Calls.{viewed};
 ghost use Rattle.serve_lines.specs.Replies.{reply_text};

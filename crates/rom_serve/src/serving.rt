@@ -1,4 +1,4 @@
-//! Serving lines over images.
+//! The serving of lines over images.
 ghost use Rattle.std.specs.Prelude.{◌≡◌, ◌≤◌, ◌<◌, ◌^◌, ℕ, List, length, map, Err, OnOk};
 ghost use Rattle.rom_fields.specs.Failures.{Rose};
 ghost use Rattle.rom_tree.specs.Tree.{levels};
@@ -6,7 +6,8 @@ ghost use Rattle.path_walk.specs.Graft.{AreShallow};
 ghost use Rattle.open_files.specs.Machine.{no_files};
 ghost use Rattle.open_files.specs.Sessions.{no_sessions};
 ghost use Rattle.serve_lines.specs.Served.{Serves, Finishes, Breaks, ReadsUpTo};
-ghost use Rattle.serve_lines.specs.declared.error.ServeError.TheVariants.{ReadFault, WriteFault, TooManyReads};
+ghost use Rattle.serve_lines.specs.declared.error.ServeError.TheVariants.{ReadFault, WriteFault};
+ghost use Rattle.serve_lines.specs.declared.error.ServeError.TheVariants.{TooManyReads};
 ghost use Rattle.rom_serve.specs.Machines.{image_machine, space_machine};
 
 use crate::one::One;
@@ -19,16 +20,16 @@ use serve_lines::{ServeError, serve_lines};
 use std::marker::PhantomData;
 
 /// Answers the lines of `r` on `w` over an image, up to `quit` or to the end of the input, with 64
-/// descriptors. It reads one byte a call, at most 2^40 times, and writes each reply whole and
-/// flushes it before it reads on, in one write for each 4,096 bytes of it. Directories of the image
-/// may lie 64 deep. No memory is taken but what the image itself takes for look-ups.
+/// descriptors. It reads one byte with each call, at most 2^40 times. It writes each reply whole,
+/// with one write for each 4,096 bytes of it, and flushes it before it reads on. Directories of the
+/// image may be 64 deep. No memory is taken, except by the image itself for look-ups.
 ///
 /// # Errors
 ///
-/// `ReadFault` where a read failed, `TooManyReads` where 2^40 bytes were read and the input had not
-/// ended: just the replies to those lines were written that end with a line feed. `WriteFault`
-/// where a write or a flush failed, or a write took no byte: a prefix of the replies was written,
-/// which holds the replies to all lines but the last.
+/// `ReadFault` if a read failed, and `TooManyReads` if 2^40 bytes were read and the input had not
+/// ended. Exactly the replies to the lines that end with a line feed were then written.
+/// `WriteFault` if a write or a flush failed, or a write accepted no byte. A prefix of the replies
+/// was then written, which holds the replies to all lines except the last.
 pub fn serve<'a, T: TreeImage<'a>, R: ByteRead, W: ByteWrite>(
     image: T,
     r: &mut R,
@@ -54,11 +55,12 @@ pub fn serve<'a, T: TreeImage<'a>, R: ByteRead, W: ByteWrite>(
     serve_bounded(image, r, w, 1 << 40)
 }
 
-/// The same, with at most `reads` reads. A read that gives no byte counts, too.
+/// Answers lines as `serve` does, with at most `reads` reads. A read that returns no byte counts as
+/// well.
 ///
 /// # Errors
 ///
-/// Those of `serve`, with `reads` in place of 2^40.
+/// Those of `serve`, with `reads` instead of 2^40.
 pub fn serve_bounded<'a, T: TreeImage<'a>, R: ByteRead, W: ByteWrite>(
     mut image: T,
     r: &mut R,
@@ -93,8 +95,8 @@ pub fn serve_bounded<'a, T: TreeImage<'a>, R: ByteRead, W: ByteWrite>(
 }
 
 /// Answers the lines of up to eight sessions of `r` on `w`, up to the end of the input, over 1 to 8
-/// images that the lines mount in one another, with 64 descriptors for each session. Otherwise as
-/// `serve`.
+/// images that the lines mount in one another, with 64 descriptors for each session. Otherwise it
+/// is like `serve`.
 ///
 /// # Errors
 ///

@@ -16,7 +16,7 @@ use open_files::{CallError, Fd, Space};
 use rom_tree::{Entry, NodeId, Piece, Stat, TreeImage};
 use serve_lines::{FdCall, PathCall, Reply};
 
-// The replies that the results of calls on several images give, with the number of the image.
+// The replies for the results of calls on several images, with the number of the image.
 
 #[tactic(auto, unfolding(serve_lines::specs::Replies::reply_text))]
 fn node_reply(r: Result<(u32, NodeId), CallError>) -> Reply<'static>

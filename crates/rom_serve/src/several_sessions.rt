@@ -9,7 +9,7 @@ use rom_fields::{ByteWrite, put};
 use serve_lines::{Bad, LineMachine, Reply, put_reply};
 use std::marker::PhantomData;
 
-/// The digit by which a line names its session, and what follows the space behind it.
+/// Returns the digit by which a line names its session, and the part behind the space after it.
 fn session_of(line: &[u8]) -> Option<(u8, &[u8])>
     ensures names { MatchOption result (session_digit line.now ≡ None)
         (λ p. session_digit line.now ≡ Some (p.0 - 48)) }

@@ -1,4 +1,4 @@
--- What a refusal says, from the error that it was made of.
+-- The meaning of a refusal, by the error that it was made of.
 use Rattle.std.proofs.Common.{Result, Ok, Err, IfErr}
 use Rattle.std.specs.Result.{IsErrAnd}
 

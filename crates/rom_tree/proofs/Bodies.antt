@@ -1,7 +1,8 @@
 -- Kinds against bodies.
 use Rattle.std.proofs.Common.{◌≡◌, true, false, refl}
 use Rattle.rom_tree.specs.declared.types.Kind.TheVariants.{Directory, Regular, Symlink}
-use Rattle.rom_tree.specs.Tree.{Body, directory, regular, symlink, block, character, socket, fifo, body_kind, is_directory_body, is_regular_body, is_link_body}
+use Rattle.rom_tree.specs.Tree.{Body, directory, regular, symlink, block, character, socket, fifo, body_kind}
+use Rattle.rom_tree.specs.Tree.{is_directory_body, is_regular_body, is_link_body}
 
 -- what has the kind of a directory passes its test
 pub directory_kind : (b : Body) → body_kind b ≡ Directory → true ≡ is_directory_body b

@@ -1,8 +1,10 @@
 -- The lines of the names of a tree are its list.
-use Rattle.std.proofs.Common.{◌≡◌, ◌<◌, ℕ, ◌∷◌, [], ◌++◌, List, length, refl, sym, ap, ◌∙◌, arith, append_assoc, append-nil}
+use Rattle.std.proofs.Common.{◌≡◌, ◌<◌, ℕ, ◌∷◌, [], ◌++◌, List, length, refl, sym, ap, ◌∙◌, arith, append_assoc}
+use Rattle.std.proofs.Common.{append-nil}
 use Rattle.std.proofs.lemmas.Grind.{flat_map-append}
 use Rattle.rom_fields.specs.Texts.{escaped}
-use Rattle.rom_tree.specs.Tree.{Node, node, directory, regular, symlink, block, character, socket, fifo, Entries, no_entries, entry}
+use Rattle.rom_tree.specs.Tree.{Node, node, directory, regular, symlink, block, character, socket, fifo, Entries}
+use Rattle.rom_tree.specs.Tree.{no_entries, entry}
 use Rattle.rom_tree.specs.Listing.{line, below, node_lines, entries_lines, list_text}
 use Rattle.rom_tree.specs.Names.{Name, named, names, node_names, entries_names, path_below, name_line, listed}
 use Rattle.rom_tree.proofs.Paths.{escaped_none, escaped_both, escaped_slash, escaped_below}
@@ -36,7 +38,8 @@ mutual
   node_listed b path (node a socket) = sym (listed_none b)
   node_listed b path (node a fifo) = sym (listed_none b)
 
-  entries_listed : (b path : List ℕ) (es : Entries) → entries_lines b (escaped path) es ≡ listed b (entries_names path es)
+  entries_listed : (b path : List ℕ) (es : Entries)
+      → entries_lines b (escaped path) es ≡ listed b (entries_names path es)
   entries_listed b path no_entries = sym (listed_none b)
   entries_listed b path (entry name x es) =
       let p : List ℕ = path_below path name in
@@ -53,17 +56,20 @@ unfolding list_text names
 tree_listed b t =
     listed_more b (named (47 ∷ []) [] t) (node_names [] t)
     ∙ (ap (λ (v : List ℕ). line b v t ++ listed b (node_names [] t)) escaped_slash
-    ∙ ap (λ (v : List ℕ). line b (47 ∷ []) t ++ v) (sym (node_listed b [] t) ∙ ap (λ (v : List ℕ). node_lines b v t) escaped_none))
+    ∙ ap (λ (v : List ℕ). line b (47 ∷ []) t ++ v)
+    (sym (node_listed b [] t) ∙ ap (λ (v : List ℕ). node_lines b v t) escaped_none))
 
 -- the text so far, the line of the name that was given, and the rest
-pub more_texts : (b done all : List ℕ) (given : Name) (old new : List Name) → old ≡ given ∷ new → done ++ listed b old ≡ all → (done ++ name_line b given) ++ listed b new ≡ all
+pub more_texts : (b done all : List ℕ) (given : Name) (old new : List Name) → old ≡ given ∷ new
+    → done ++ listed b old ≡ all → (done ++ name_line b given) ++ listed b new ≡ all
 more_texts b done all given old new e h =
     append_assoc done (name_line b given) (listed b new)
     ∙ (ap (λ (v : List ℕ). done ++ v) (sym (ap (listed b) e ∙ listed_more b given new)) ∙ h)
 
 -- nothing is left
 pub last_texts : (b done all : List ℕ) (old : List Name) → old ≡ [] → done ++ listed b old ≡ all → done ≡ all
-last_texts b done all old e h = sym (append-nil done) ∙ (ap (λ (v : List ℕ). done ++ v) (sym (ap (listed b) e ∙ listed_none b)) ∙ h)
+last_texts b done all old e h =
+    sym (append-nil done) ∙ (ap (λ (v : List ℕ). done ++ v) (sym (ap (listed b) e ∙ listed_none b)) ∙ h)
 
 -- a name less is to come
 pub fewer : (given : Name) (old new : List Name) → old ≡ given ∷ new → length new < length old

@@ -34,7 +34,8 @@ some_and_by (Some x) P h = (x, refl, h)
 pub node_by : (m : Image) (n : ℕ) → HasNode m n → (x : Node) × (image_node m n ≡ Some x)
 node_by m n h = some_by (image_node m n) h
 
-pub directory_by : (m : Image) (n : ℕ) → HasDirectory m n → (x : Node) × (image_node m n ≡ Some x) × (is_directory x ≡ true)
+pub directory_by : (m : Image) (n : ℕ) → HasDirectory m n
+    → (x : Node) × (image_node m n ≡ Some x) × (is_directory x ≡ true)
 directory_by m n h = some_and_by (image_node m n) (λ y. is_directory y ≡ true) h
 
 pub link_by : (m : Image) (n : ℕ) → HasLink m n → (x : Node) × (image_node m n ≡ Some x) × (is_link x ≡ true)
@@ -52,7 +53,8 @@ index_by m d c h = some_number (m.cursor_index d c) h
 pub start_cursor : (m : Image) (d : ℕ) → HasCursor m d 0
 start_cursor m d = some_is (m.cursor_index d 0) 0 (m.starts d)
 
-pub next_cursor : (m : Image) (d : ℕ) (es : Entries) (i : ℕ) (name : List ℕ) (n c : ℕ) → IsEntry m d es i name n c → HasCursor m d c
+pub next_cursor : (m : Image) (d : ℕ) (es : Entries) (i : ℕ) (name : List ℕ) (n c : ℕ) → IsEntry m d es i name n c
+    → HasCursor m d c
 next_cursor m d es i name n c e = some_is (m.cursor_index d c) (i + 1) e.next
 
 -- a number names one node
@@ -68,12 +70,16 @@ pub root_node : (m : Image) (n : ℕ) → n ≡ ino_of m.tree → image_node m n
 root_node m n e = ap (image_node m) e ∙ node_at-root m.tree m.coherent
 
 -- the number in an entry names the entry's node
-pub entry_node : (m : Image) (d : ℕ) (x : Node) (i : ℕ) (name : List ℕ) (n c : ℕ) → image_node m d ≡ Some x → (e : IsEntry m d (entries_of x) i name n c) → image_node m n ≡ Some e.target
-entry_node m d x i name n c h e = ap (image_node m) (sym e.number) ∙ node_at-child m.tree x d i name e.target m.coherent h e.at
+pub entry_node : (m : Image) (d : ℕ) (x : Node) (i : ℕ) (name : List ℕ) (n c : ℕ) → image_node m d ≡ Some x
+    → (e : IsEntry m d (entries_of x) i name n c) → image_node m n ≡ Some e.target
+entry_node m d x i name n c h e =
+    ap (image_node m) (sym e.number) ∙ node_at-child m.tree x d i name e.target m.coherent h e.at
 
 -- the number of the node that a name names in a directory names that node
-pub named_node : (m : Image) (n : ℕ) (d x : Node) (name : List ℕ) → image_node m n ≡ Some d → find_entry (entries_of d) name ≡ Some x → image_node m (ino_of x) ≡ Some x
-named_node m n d x name e f = let r = find_entry-at (entries_of d) name x f in node_at-child m.tree d n r.index r.name x m.coherent e r.at
+pub named_node : (m : Image) (n : ℕ) (d x : Node) (name : List ℕ) → image_node m n ≡ Some d
+    → find_entry (entries_of d) name ≡ Some x → image_node m (ino_of x) ≡ Some x
+named_node m n d x name e f =
+    let r = find_entry-at (entries_of d) name x f in node_at-child m.tree d n r.index r.name x m.coherent e r.at
 
 -- and has one level less below it
 pub named_levels : (d x : Node) (name : List ℕ) → find_entry (entries_of d) name ≡ Some x → suc (levels x) ≤ levels d

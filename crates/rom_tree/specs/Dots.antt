@@ -1,4 +1,5 @@
--- `.` and `..`, which name a directory itself and its parent: POSIX.1-2017, 3.170 "Dot" and 3.171 "Dot-Dot".
+-- `dot`, `dot_dot`, `is_dots`: the names of a directory itself and of its parent, `.` and `..`
+-- (POSIX.1-2017, 3.170 "Dot" and 3.171 "Dot-Dot").
 use Rattle.std.specs.Prelude.{ℕ, Bool, false, ◌==◌, if◌then◌else◌, List, [], ◌∷◌}
 
 abbrev pub dot : List ℕ

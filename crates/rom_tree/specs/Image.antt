@@ -1,11 +1,17 @@
--- What an image is to the layers above, and the answers of its calls. (This project's own.)
-use Rattle.std.specs.Prelude.{◌≡◌, ℕ, ◌+◌, ◌≤◌, ◌<◌, true, false, List, length, take, drop, slice_index, Option, Some, None, MatchOption, IsSomeAnd, IsSome, map, if◌then◌else◌}
+-- `Image`: bytes, tree, the meaning of cursors, and the laws that hold for them. `stat_of`,
+-- `find_entry`, `IsEntry`, `IsRun`, `contents_of`: the answers of the calls. `LieIn`: bytes occur
+-- somewhere among others. (This project's own.)
+use Rattle.std.specs.Prelude.{◌≡◌, ℕ, ◌+◌, ◌≤◌, ◌<◌, true, false, List, length, take, drop}
+use Rattle.std.specs.Prelude.{slice_index, Option, Some, None, MatchOption, IsSomeAnd, IsSome, map}
+use Rattle.std.specs.Prelude.{if◌then◌else◌}
 use Rattle.std.specs.Str.{bytes_eq}
 use Rattle.rom_tree.specs.declared.types.Stat.{Stat}
 use Rattle.rom_tree.specs.declared.types.Run.{Run}
-use Rattle.rom_tree.specs.Tree.{Node, Entries, attributes_of, ino_of, kind_of, is_directory, places_of, entry_at, node_at, nodes, IsIn, is_link, is_device, no_entries, entry, IsCoherent}
+use Rattle.rom_tree.specs.Tree.{Node, Entries, attributes_of, ino_of, kind_of, is_directory}
+use Rattle.rom_tree.specs.Tree.{places_of, entry_at, node_at, nodes, IsIn, is_link, is_device}
+use Rattle.rom_tree.specs.Tree.{no_entries, entry, IsCoherent}
 
--- An image: its bytes, its tree, and what holds of them.
+-- An image: its bytes, its tree, and the laws that hold for them.
 pub record Image : Type 0 where
   pub bytes : List ℕ
   pub tree : Node
@@ -15,13 +21,13 @@ pub record Image : Type 0 where
   pub coherent : IsCoherent tree
   -- a list begins at cursor 0
   pub starts : (d : ℕ) → cursor_index d 0 ≡ Some 0
-  -- what is no device has 0 for the numbers of one
+  -- a node that is no device has 0 for the numbers of a device
   pub devices : (x : Node) → IsIn x (nodes tree) → is_device x ≡ false
       → ((attributes_of x).major ≡ 0) × ((attributes_of x).minor ≡ 0)
   -- a link has a text of 1 to 4095 bytes
   pub links : (x : Node) → IsIn x (nodes tree) → is_link x ≡ true
       → (0 < length (places_of x)) × (length (places_of x) ≤ 4095)
-  -- each byte of a file or a link is one of the image
+  -- each byte of a file or a link is in the image
   pub placed : (x : Node) → IsIn x (nodes tree) → (k : ℕ) → k < length (places_of x)
       → slice_index (places_of x) k < length bytes
 
@@ -54,38 +60,41 @@ stat_of n = record {
   minor = (attributes_of n).minor;
 }
 
--- the node of the first entry with just that name
+-- the node of the first entry with exactly that name
 abbrev pub find_entry : Entries → List ℕ → Option Node
 find_entry no_entries name = None
 find_entry (entry n x es) name = (if bytes_eq n name then Some x else find_entry es name)
 
--- these bytes stand somewhere among the others
+-- these bytes occur somewhere among the others
 abbrev pub LieIn : List ℕ → List ℕ → Type 0
-LieIn bytes part = (p : ℕ) × (p + length part ≤ length bytes) × (take (length part) (drop p bytes) ≡ part)
+LieIn bytes part =
+    (p : ℕ) × (p + length part ≤ length bytes) × (take (length part) (drop p bytes) ≡ part)
 
--- A name, a node's number and a cursor are those of the entry at an index: the cursor stands one further. The name is
--- read where it stands in the image.
-pub record IsEntry (m : Image) (d : ℕ) (es : Entries) (i : ℕ) (name : List ℕ) (n c : ℕ) : Type 0 where
+-- A name, a node's number and a cursor are those of the entry at an index: the cursor is at the
+-- next index. The name is a part of the image's bytes.
+pub record IsEntry (m : Image) (d : ℕ) (es : Entries) (i : ℕ) (name : List ℕ)
+    (n c : ℕ) : Type 0 where
   pub target : Node
   pub at : entry_at es i ≡ Some (name, target)
   pub number : ino_of target ≡ n
   pub next : m.cursor_index d c ≡ Some (i + 1)
   pub lies : LieIn m.bytes name
 
--- r is where byte `off` lies, and how many bytes follow one another from there
+-- r has the offset of byte `off`, and a number of bytes that follow one another from there
 pub record IsRun (ps : List ℕ) (off : ℕ) (r : Run) : Type 0 where
   pub some : 0 < r.len
   pub within : off + r.len ≤ length ps
   pub row : (k : ℕ) → k < r.len → slice_index ps (off + k) ≡ r.place + k
 
--- no run exactly where there is no byte `off`
+-- there is no run if there is no byte `off`, and only then
 abbrev pub GivesRun : List ℕ → ℕ → Option Run → Type 0
 GivesRun ps off r = MatchOption r (length ps ≤ off) (IsRun ps off)
 
 -- from its front on, a link is one run
 abbrev pub GivesWhole : Node → ℕ → Option Run → Type 0
-GivesWhole x off r = is_link x ≡ true → off ≡ 0 → MatchOption r (Unit {0}) (λ v. v.len ≡ length (places_of x))
+GivesWhole x off r =
+    is_link x ≡ true → off ≡ 0 → MatchOption r (Unit {0}) (λ v. v.len ≡ length (places_of x))
 
--- the bytes at a node's places: a link's text
+-- the bytes at a node's offsets: the contents of a file, or a link's text
 abbrev pub contents_of : List ℕ → Node → List ℕ
 contents_of b x = map (λ p. slice_index b p) (places_of x)

@@ -1,8 +1,12 @@
--- What goes by the kind of a node, where a format has numbers of its own for the kinds. (This project's own.)
+-- `by_kind`: a value that depends on the kind of a node, if a format has numbers of its own for the
+-- kinds. `kind_by`, `body_by`, `device_by`: a node's kind, body and device number by such a number.
+-- (This project's own.)
 use Rattle.std.specs.Prelude.{ℕ, if◌then◌else◌, ◌==◌, List}
 use Rattle.rom_tree.specs.declared.types.Kind.{Kind}
-use Rattle.rom_tree.specs.declared.types.Kind.TheVariants.{Directory, Regular, Symlink, Block, Character, Socket, Fifo}
-use Rattle.rom_tree.specs.Tree.{Body, directory, regular, symlink, block, character, socket, fifo, Entries}
+use Rattle.rom_tree.specs.declared.types.Kind.TheVariants.{Directory, Regular, Symlink, Block}
+use Rattle.rom_tree.specs.declared.types.Kind.TheVariants.{Character, Socket, Fifo}
+use Rattle.rom_tree.specs.Tree.{Body, directory, regular, symlink, block, character, socket, fifo}
+use Rattle.rom_tree.specs.Tree.{Entries}
 
 -- a format's numbers for six kinds; any other number is that of a fifo
 pub record KindNumbers : Type 0 where
@@ -13,7 +17,7 @@ pub record KindNumbers : Type 0 where
   pub of_character : ℕ
   pub of_socket : ℕ
 
--- one of seven things, by the number t
+-- one of seven values, by the number t
 abbrev pub by_kind : {A : Type 0} → KindNumbers → ℕ → A → A → A → A → A → A → A → A
 by_kind k t directory' regular' symlink' block' character' socket' fifo' =
     if t == k.of_directory then directory'
@@ -26,10 +30,10 @@ by_kind k t directory' regular' symlink' block' character' socket' fifo' =
 abbrev pub kind_by : KindNumbers → ℕ → Kind
 kind_by k t = by_kind k t Directory Regular Symlink Block Character Socket Fifo
 
--- the body of a node whose places and entries, if its kind has them, are these
+-- the body of a node, which has these offsets or entries if its kind has them
 abbrev pub body_by : KindNumbers → ℕ → List ℕ → Entries → Body
 body_by k t ps es = by_kind k t (directory es) (regular ps) (symlink ps) block character socket fifo
 
--- what only block and character devices have, and 0 for all else
+-- n for block and character devices, and 0 for all other kinds
 abbrev pub device_by : KindNumbers → ℕ → ℕ → ℕ
 device_by k t n = by_kind k t 0 0 0 n n 0 0

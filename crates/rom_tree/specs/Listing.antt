@@ -1,8 +1,10 @@
--- The list of a tree: a line for each name of a node, in preorder. (This project's own.)
+-- `list_text`: the preorder text of a tree. `line`: the line of one name of a node. (This project's
+-- own.)
 use Rattle.std.specs.Prelude.{ℕ, List, [], ◌∷◌, ◌++◌, decimal, if◌then◌else◌}
 use Rattle.rom_fields.specs.Texts.{octal, escaped}
 use Rattle.rom_tree.specs.declared.types.Kind.{Kind}
-use Rattle.rom_tree.specs.declared.types.Kind.TheVariants.{Directory, Regular, Symlink, Block, Character, Socket, Fifo}
+use Rattle.rom_tree.specs.declared.types.Kind.TheVariants.{Directory, Regular, Symlink, Block}
+use Rattle.rom_tree.specs.declared.types.Kind.TheVariants.{Character, Socket, Fifo}
 use Rattle.rom_tree.specs.declared.types.Stat.{Stat}
 use Rattle.rom_tree.specs.Image.{stat_of, contents_of}
 use Rattle.rom_tree.specs.Tree.{Node, node, Body, directory, Entries, no_entries, entry, is_link}
@@ -28,19 +30,19 @@ stat_text s =
     ++ (32 ∷ [] ++ (decimal s.uid ++ (32 ∷ [] ++ (decimal s.gid ++ (32 ∷ [] ++ (decimal s.size
     ++ (32 ∷ [] ++ (decimal s.major ++ (32 ∷ [] ++ decimal s.minor)))))))))))
 
--- these, PATH, what follows the path, and a line feed
+-- the line of these: PATH and what follows it come after them, and a line feed
 unfoldable pub stat_line : List ℕ → List ℕ → Stat → List ℕ
 stat_line path target s = stat_text s ++ (32 ∷ [] ++ (path ++ (target ++ 10 ∷ [])))
 
--- a node's line, where the image has these bytes
+-- a node's line, if the image has these bytes
 unfoldable pub line : List ℕ → List ℕ → Node → List ℕ
 line b path x = stat_line path (target_text b x) (stat_of x)
 
--- the path of a name in the directory of a path, which is empty for the root
+-- the path of a name in the directory at `path`, which is empty for the root
 abbrev pub below : List ℕ → List ℕ → List ℕ
 below path name = path ++ 47 ∷ escaped name
 
--- the lines of all that lies below the node of a path
+-- the lines of all names below the node at a path
 unfoldable mutual
   pub node_lines : List ℕ → List ℕ → Node → List ℕ
   node_lines b path (node a body) = body_lines b path body

@@ -1,4 +1,5 @@
--- The names of a tree, in preorder. (This project's own.)
+-- `names`: the names of a tree in preorder, each with its path and its node. `listed`: their lines.
+-- (This project's own.)
 use Rattle.std.specs.Prelude.{ℕ, List, [], ◌∷◌, ◌++◌, flat_map}
 use Rattle.rom_fields.specs.Texts.{escaped}
 use Rattle.rom_tree.specs.Tree.{Node, node, Body, directory, Entries, no_entries, entry}
@@ -13,11 +14,11 @@ pub record Name : Type 0 where
 abbrev pub named : List ℕ → List ℕ → Node → Name
 named p name x = record { path = p; last = name; node = x }
 
--- the path of a name in the directory of a path, which is empty for the root
+-- the path of a name in the directory at `path`, which is empty for the root
 abbrev pub path_below : List ℕ → List ℕ → List ℕ
 path_below path name = path ++ 47 ∷ name
 
--- the names below the node of a path
+-- the names below the node at a path
 unfoldable mutual
   pub node_names : List ℕ → Node → List Name
   node_names path (node a body) = body_names path body

@@ -1,8 +1,9 @@
--- The bytes of a file that follow one another in the image. (This project's own.)
+-- `IsLongest`: the longest front of bytes of a file that follow one another in the image. (This
+-- project's own.)
 use Rattle.std.specs.Prelude.{◌≡◌, ℕ, ◌+◌, ◌^◌, ◌<◌, ◌≤◌, List, length, slice_index}
 
--- From byte `at` on, the longest consecutive front of at most `most` places has `len` of them and begins
--- at `place`, which is 0 where it is empty.
+-- From byte `at` on, the longest consecutive front of at most `most` offsets has `len` of them and
+-- begins at `place`, which is 0 if the front is empty.
 pub record IsLongest (ps : List ℕ) (at most place len : ℕ) : Type 0 where
   pub within : 0 < len → at + len ≤ length ps
   pub fits : len ≤ most

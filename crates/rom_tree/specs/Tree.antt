@@ -1,10 +1,14 @@
--- A tree of files: a node has its attributes and a body, and a directory's body is a list of names
--- with nodes. (This project's own.)
-use Rattle.std.specs.Prelude.{◌≡◌, ℕ, zero, suc, ◌+◌, max, ◌==◌, Bool, true, false, List, [], ◌∷◌, ◌++◌, find, Option, Some, None}
+-- `Node`, `Body`, `Entries`: a plain tree of files. A node has its attributes and a body, and a
+-- directory's body is a list of names with nodes. `node_at`: the node of a number. `depth`,
+-- `levels`: the depth of a tree in names, and in directories. `IsCoherent`: two nodes of one number
+-- are equal. (This project's own.)
+use Rattle.std.specs.Prelude.{◌≡◌, ℕ, zero, suc, ◌+◌, max, ◌==◌, Bool, true, false, List, [], ◌∷◌}
+use Rattle.std.specs.Prelude.{◌++◌, find, Option, Some, None}
 use Rattle.rom_tree.specs.declared.types.Kind.{Kind}
-use Rattle.rom_tree.specs.declared.types.Kind.TheVariants.{Directory, Regular, Symlink, Block, Character, Socket, Fifo}
+use Rattle.rom_tree.specs.declared.types.Kind.TheVariants.{Directory, Regular, Symlink, Block}
+use Rattle.rom_tree.specs.declared.types.Kind.TheVariants.{Character, Socket, Fifo}
 
--- what a node has beside its body
+-- the attributes of a node
 pub record Attributes : Type 0 where
   pub ino : ℕ
   pub mode : ℕ
@@ -13,8 +17,8 @@ pub record Attributes : Type 0 where
   pub major : ℕ
   pub minor : ℕ
 
--- The body says the kind. That of a directory is a list of names with nodes. That of a regular file
--- or a symbolic link is the list of the places of its bytes, from the front of the image.
+-- The body determines the kind. The body of a directory is a list of names with nodes. The body of
+-- a regular file or a symbolic link is the list of the offsets of its bytes in the image.
 mutual
   pub data Node : Type 0 where
     node : Attributes → Body → Node
@@ -73,7 +77,7 @@ body_places (regular ps) = ps
 body_places (symlink ps) = ps
 body_places _ = []
 
--- the places of a file or a link, and none at other nodes
+-- the offsets of the bytes of a file or a link, and none at other nodes
 abbrev pub places_of : Node → List ℕ
 places_of n = body_places (body_of n)
 
@@ -99,7 +103,7 @@ is_device_body _ = false
 abbrev pub is_device : Node → Bool
 is_device n = is_device_body (body_of n)
 
--- k places in a row from p on
+-- k offsets in a row from p on
 abbrev pub row_from : ℕ → ℕ → List ℕ
 row_from p zero = []
 row_from p (suc k) = p ∷ row_from (p + 1) k
@@ -114,7 +118,7 @@ abbrev pub entry_count : Entries → ℕ
 entry_count no_entries = 0
 entry_count (entry name n es) = suc (entry_count es)
 
--- what follows from an index on
+-- the entries from an index on
 abbrev pub drop_entries : ℕ → Entries → Entries
 drop_entries zero es = es
 drop_entries (suc i) no_entries = no_entries
@@ -150,7 +154,8 @@ abbrev mutual
   entries_depth no_entries = 0
   entries_depth (entry name n es) = max (suc (depth n)) (entries_depth es)
 
--- how deep directories lie below a node, counting the node where it is a directory
+-- the number of directories below one another from a node on, the node included if it is a
+-- directory
 abbrev mutual
   pub levels : Node → ℕ
   levels (node a body) = body_levels body
@@ -163,7 +168,7 @@ abbrev mutual
   entries_levels no_entries = 0
   entries_levels (entry name n es) = max (levels n) (entries_levels es)
 
--- x stands in the list
+-- x is in the list
 pub data IsIn (x : Node) : List Node → Type 0 where
   here : {xs : List Node} → IsIn x (x ∷ xs)
   there : {y : Node} {xs : List Node} → IsIn x xs → IsIn x (y ∷ xs)

@@ -1,5 +1,5 @@
--- A walk through the names of a tree: what it has still to give, and what it gave last.
--- (This project's own.)
+-- `to_come`: the names that a walk has still to return. `IsGiven`: the first of them was returned,
+-- with its path and name. (This project's own.)
 use Rattle.std.specs.Prelude.{◌≡◌, ◌≤◌, ℕ, false, List, [], ◌∷◌, Some, None, if◌then◌else◌}
 use Rattle.rom_tree.specs.Tree.{levels}
 use Rattle.rom_tree.specs.Image.{Image, image_node}
@@ -17,15 +17,15 @@ pub record IsWalk (m : Image) (w : Walk) : Type 0 where
 abbrev pub to_come : Image → Walk → List Name
 to_come m w = if w.begun then pending m [] w.stack.items else names m.tree
 
--- the path and the last name of the node that was given last
+-- the path and the last name of the node that was returned last
 abbrev pub given_path : Walk → List ℕ
 given_path w = way_of w.name w.entered w.stack.items
 
 abbrev pub given_name : Walk → List ℕ
 given_name w = last_name w.name
 
--- The walk `new` follows the walk `old` where the node of number n was given: the first of the names
--- that were to come, whose path and last name the walk has now.
+-- The walk `new` follows the walk `old` after the node of number n was returned: the node of the
+-- first name that was to come, whose path and last name the walk has now.
 pub record IsGiven (m : Image) (old new : Walk) (n : ℕ) : Type 0 where
   pub name : Name
   pub first : to_come m old ≡ name ∷ to_come m new

@@ -3,7 +3,7 @@ ghost use Rattle.std.specs.Prelude.{◌≡◌, ◌↔◌, IsTrue};
 ghost use Rattle.std.specs.Str.{bytes_eq};
 ghost use Rattle.rom_tree.specs.Dots.{dot, dot_dot, is_dots};
 
-/// Whether a name is `.`.
+/// Returns whether a name is `.`.
 pub fn is_dot(name: &[u8]) -> bool
     ensures test { result ≡ bytes_eq name.now dot }
     ensures dot { IsTrue result ↔ (name.now ≡ dot) }
@@ -11,7 +11,7 @@ pub fn is_dot(name: &[u8]) -> bool
     name == b".".as_slice()
 }
 
-/// Whether a name is `..`.
+/// Returns whether a name is `..`.
 pub fn is_dot_dot(name: &[u8]) -> bool
     ensures test { result ≡ bytes_eq name.now dot_dot }
     ensures dot_dot { IsTrue result ↔ (name.now ≡ dot_dot) }
@@ -19,7 +19,7 @@ pub fn is_dot_dot(name: &[u8]) -> bool
     name == b"..".as_slice()
 }
 
-/// Whether a name is `.` or `..`.
+/// Returns whether a name is `.` or `..`.
 pub fn is_dots(name: &[u8]) -> bool
     ensures { result ≡ is_dots name.now }
 {

@@ -2,7 +2,8 @@
 use crate::types::{Cursor, NodeId};
 use arrayvec::ArrayVec;
 
-/// A directory in which a walk stands: where its list goes on, and its name, which the root has not.
+/// A directory that a walk has entered: the cursor of its next entry, and its name, which the root
+/// does not have.
 #[derive(Clone, Copy, Default)]
 pub struct Frame<'a> {
     pub directory: NodeId,
@@ -10,16 +11,16 @@ pub struct Frame<'a> {
     pub name: Option<&'a [u8]>,
 }
 
-/// A walk through all names of a tree, in preorder and the root first: the order of a list. A
-/// directory's names come in the order of its list. It takes no memory, and needs an image whose
-/// directories lie at most 64 deep.
+/// A walk through all names of a tree, in preorder from the root on. A directory's names come in
+/// the order of its list. A walk allocates no memory. It needs an image with directories at most 64
+/// deep.
 #[derive(Drop)]
 pub struct Walk<'a> {
     /// The directories on the way, the deepest last.
     pub(crate) stack: ArrayVec<Frame<'a>, 65>,
-    /// Whether the root was given.
+    /// Whether the root was returned.
     pub(crate) begun: bool,
-    /// The name of the node that was given last, which the root has not.
+    /// The name of the node that was returned last; none for the root.
     pub(crate) name: Option<&'a [u8]>,
     /// Whether that node is a directory, which is then the last on the way.
     pub(crate) entered: bool,

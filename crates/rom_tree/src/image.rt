@@ -1,37 +1,41 @@
-//! Images as trees of files, and what each of them answers.
-ghost use Rattle.std.specs.Prelude.{◌≡◌, ℕ, ◌+◌, ◌<◌, ◌≤◌, ◌↔◌, length, Some, None, Option, IsTrue, IsSome, MatchOption, take, drop};
-ghost use Rattle.rom_tree.specs.Tree.{Node, ino_of, is_directory, entries_of, entry_at, places_of, is_link, is_regular};
-ghost use Rattle.rom_tree.specs.Image.{Image, image_node, HasNode, HasDirectory, HasLink, HasCursor, stat_of, find_entry, contents_of, IsEntry, GivesRun, GivesWhole};
+//! Images as trees of files, and the answers of their calls.
+ghost use Rattle.std.specs.Prelude.{◌≡◌, ℕ, ◌+◌, ◌<◌, ◌≤◌, ◌↔◌, length, Some, None, Option, IsTrue};
+ghost use Rattle.std.specs.Prelude.{IsSome, MatchOption, take, drop};
+ghost use Rattle.rom_tree.specs.Tree.{Node, ino_of, is_directory, entries_of, entry_at, places_of};
+ghost use Rattle.rom_tree.specs.Tree.{is_link, is_regular};
+ghost use Rattle.rom_tree.specs.Image.{Image, image_node, HasNode, HasDirectory, HasLink};
+ghost use Rattle.rom_tree.specs.Image.{HasCursor, stat_of, find_entry, contents_of, IsEntry};
+ghost use Rattle.rom_tree.specs.Image.{GivesRun, GivesWhole};
 
 use crate::types::{Cursor, Entry, Kind, NodeId, Run, Stat};
 
-/// What is seen as an image.
+/// A value that is viewed as an image.
 pub trait Viewed: Drop {
-    // Its bytes, its tree, and where each cursor stands.
+    // Its bytes, its tree, and the index of each cursor.
     ghost image: { Self → Image };
 }
 
-/// An image whose every answer is that of its one tree. `n` and `d` are numbers of its nodes, `d`
-/// that of a directory, and a cursor is `Cursor::START` or came from an entry of `d`.
+/// An image whose every answer is that of its one tree. `n` and `d` are numbers of its nodes, and
+/// `d` is that of a directory. A cursor is `Cursor::START` or came from an entry of `d`.
 pub trait TreeImage<'a>: Viewed {
-    /// All bytes of the image.
+    /// Returns all bytes of the image.
     fn bytes(&self) -> &'a [u8]
         ensures { result.now ≡ (Self.image self.now).bytes };
 
-    /// The root of the tree.
+    /// Returns the root of the tree.
     fn root(&self) -> NodeId
         ensures { result.0 ≡ ino_of (Self.image self.now).tree };
 
-    /// Whether the tree has a node of this number.
+    /// Returns whether the tree has a node of this number.
     fn is_node(&self, n: NodeId) -> bool
         ensures { IsTrue result ↔ HasNode (Self.image self.now) n.0 };
 
-    /// A node's kind and numbers.
+    /// Returns a node's kind and numbers.
     fn stat(&self, n: NodeId) -> Stat
         requires { HasNode (Self.image self.now) n.0 }
         ensures { (x : Node) → image_node (Self.image self.now) n.0 ≡ Some x → result ≡ stat_of x };
 
-    /// The entry at a cursor of a directory's list. `None` at the list's end.
+    /// Returns the entry at a cursor of a directory's list, or `None` at the list's end.
     fn entry(&self, d: NodeId, c: Cursor) -> Option<Entry<'a>>
         requires directory { HasDirectory (Self.image self.now) d.0 }
         requires cursor { HasCursor (Self.image self.now) d.0 c.0 }
@@ -41,8 +45,8 @@ pub trait TreeImage<'a>: Viewed {
             (λ e. IsEntry (Self.image self.now) d.0
             (entries_of x) i e.name.now e.node.0 e.cursor.0) };
 
-    /// The node of the entry with just this name. `None` where the directory has no such entry.
-    /// The image stays as it is.
+    /// Returns the node of the first entry with exactly this name, or `None` if the directory has
+    /// no such entry. The image does not change.
     fn lookup(&mut self, d: NodeId, name: &[u8]) -> Option<NodeId>
         requires { HasDirectory (Self.image self.old) d.0 }
         ensures stays { Self.image self.new ≡ Self.image self.old }
@@ -50,9 +54,9 @@ pub trait TreeImage<'a>: Viewed {
             → MatchOption result (find_entry (entries_of x) name.now ≡ None)
             (λ n. (y : Node) × (find_entry (entries_of x) name.now ≡ Some y) × (ino_of y ≡ n.0)) };
 
-    /// The place of byte `off` of a file or a link, and how many bytes follow one another from
-    /// there, at least one. `None` where the node has no such byte. From 0 on, a link's run has
-    /// its whole text.
+    /// Returns the offset of byte `off` of a file or a link, and a number of bytes, at least one,
+    /// that follow one another from there. Returns `None` if the node has no such byte. From 0 on,
+    /// a link's run has its whole text.
     fn run(&self, n: NodeId, off: u64) -> Option<Run>
         requires { HasNode (Self.image self.now) n.0 }
         ensures row { (x : Node) → image_node (Self.image self.now) n.0 ≡ Some x
@@ -61,7 +65,7 @@ pub trait TreeImage<'a>: Viewed {
             → GivesWhole x off result };
 }
 
-/// Whether a node is a directory.
+/// Returns whether a node is a directory.
 pub fn is_directory_at<'a, T: TreeImage<'a>>(image: &T, n: NodeId) -> bool
     requires { HasNode (T.image image.now) n.0 }
     ensures { (x : Node) → image_node (T.image image.now) n.0 ≡ Some x → result ≡ is_directory x }
@@ -72,7 +76,7 @@ pub fn is_directory_at<'a, T: TreeImage<'a>>(image: &T, n: NodeId) -> bool
     }
 }
 
-/// Whether a node is a symbolic link.
+/// Returns whether a node is a symbolic link.
 pub fn is_link_at<'a, T: TreeImage<'a>>(image: &T, n: NodeId) -> bool
     requires { HasNode (T.image image.now) n.0 }
     ensures { (x : Node) → image_node (T.image image.now) n.0 ≡ Some x → result ≡ is_link x }
@@ -83,7 +87,7 @@ pub fn is_link_at<'a, T: TreeImage<'a>>(image: &T, n: NodeId) -> bool
     }
 }
 
-/// Whether a node is a regular file.
+/// Returns whether a node is a regular file.
 pub fn is_regular_at<'a, T: TreeImage<'a>>(image: &T, n: NodeId) -> bool
     requires { HasNode (T.image image.now) n.0 }
     ensures { (x : Node) → image_node (T.image image.now) n.0 ≡ Some x → result ≡ is_regular x }
@@ -94,7 +98,7 @@ pub fn is_regular_at<'a, T: TreeImage<'a>>(image: &T, n: NodeId) -> bool
     }
 }
 
-/// The `len` bytes from `place` on.
+/// Returns the `len` bytes from offset `place` on.
 pub fn bytes_from<'a>(bytes: &'a [u8], place: u32, len: u32) -> &'a [u8]
     requires { place + len ≤ length bytes.now }
     ensures { result.now ≡ take len (drop place bytes.now) }
@@ -102,7 +106,7 @@ pub fn bytes_from<'a>(bytes: &'a [u8], place: u32, len: u32) -> &'a [u8]
     &bytes[place as usize..place as usize + len as usize]
 }
 
-/// The text of a symbolic link.
+/// Returns the text of a symbolic link.
 pub fn link_text<'a, T: TreeImage<'a>>(image: &T, n: NodeId) -> &'a [u8]
     requires { HasLink (T.image image.now) n.0 }
     ensures { (x : Node) → image_node (T.image image.now) n.0 ≡ Some x

@@ -1,10 +1,10 @@
-//! Laws over the definitions of the list, which have no code of their own.
+//! Laws of the definitions of the list.
 ghost use Rattle.std.specs.Prelude.{◌≡◌, ℕ, List};
 ghost use Rattle.rom_tree.specs.Tree.{Node};
 ghost use Rattle.rom_tree.specs.Listing.{list_text};
 ghost use Rattle.rom_tree.specs.Names.{names, listed};
 
-/// The list of a tree has a line for each of its names, in their order.
+/// States that the list of a tree has a line for each of its names, in their order.
 pub fn names_are_listed()
     ensures { (b : List ℕ) (t : Node) → list_text b t ≡ listed b (names t) }
 {}

@@ -1,11 +1,12 @@
-//! What the crates that read and serve read-only file system images share: the tree of an image,
-//! the calls that read it, and the list of a tree.
+//! The tree of an image, and what the crates that read it share. `TreeImage`: every call answers
+//! from one tree. `Walk` returns the names of the tree in preorder, and `list` writes them.
 //!
-//! A tree is that of `specs/Tree.antt`: a node has its attributes and a body, and a directory's
-//! body is a list of names with nodes. `specs/Image.antt` says what an image is. Proved: generic
-//! code that cites the trait `TreeImage` gets for each call the answer of that one tree, and
-//! `list` writes one line for each name of it, in preorder, or a prefix of these lines where the
-//! writer failed. Nothing here takes memory.
+//! Proved: code over any `TreeImage` gets from each call the answer of that one tree. `list` writes
+//! one line for each name, in preorder, or a prefix of these lines if the writer failed.
+//!
+//! `specs/Tree.antt` defines a tree: a node has its attributes and a body, and a directory's body
+//! is a list of names with nodes. `specs/Image.antt` defines an image. Nothing here allocates
+//! memory.
 #![tactic(auto)]
 
 mod dots;

@@ -45,7 +45,7 @@ fn letter_of(kind: Kind) -> u8
     }
 }
 
-/// Puts a node's numbers, `INO KIND MODE UID GID SIZE MAJOR MINOR`. KIND is the letter of a list,
+/// Puts a node's numbers, `INO KIND MODE UID GID SIZE MAJOR MINOR`. KIND is the letter of the kind,
 /// MODE has four octal digits, and the other numbers are decimal.
 pub fn put_stat<W: ByteWrite>(w: &mut W, failed: &mut bool, stat: Stat)
     ensures { Puts (sink (W.output w.old) failed.old)
@@ -67,7 +67,7 @@ pub fn put_stat<W: ByteWrite>(w: &mut W, failed: &mut bool, stat: Stat)
     put_decimal(w, failed, stat.minor);
 }
 
-/// Puts the line of the node that a walk gave last.
+/// Puts the line of the node that a walk returned last.
 pub fn put_line<'a, T: TreeImage<'a>, W: ByteWrite>(
     image: &T,
     w: &mut W,

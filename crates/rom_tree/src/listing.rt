@@ -12,16 +12,16 @@ use crate::line::put_line;
 use crate::types::ListError;
 use rom_fields::ByteWrite;
 
-/// Writes the list of the image's tree: for each name of a node one line, in preorder and the root
-/// first, `INO KIND MODE UID GID SIZE MAJOR MINOR PATH`. KIND is a letter: d directory, f regular
+/// Writes the list of the image's tree. It has one line for each name, in preorder from the root
+/// on: `INO KIND MODE UID GID SIZE MAJOR MINOR PATH`. KIND is a letter: d directory, f regular
 /// file, l symbolic link, b block device, c character device, s socket, p fifo. MODE has four octal
-/// digits, and the other numbers are decimal. PATH is `/` for the root, and else each name on the
-/// way, escaped, after a slash. A space and the link's text, escaped, follow the path of a symbolic
-/// link. Each line ends with a line feed. Directories may lie 64 deep.
+/// digits, and the other numbers are decimal. PATH is `/` for the root; otherwise it has each name
+/// on the way, escaped, after a slash. A space and the link's text, escaped, follow the path of a
+/// symbolic link. Each line ends with a line feed. Directories may be 64 deep.
 ///
 /// # Errors
 ///
-/// `WriteFault` where a write failed. Then a prefix of the list was written.
+/// `WriteFault` if a write failed. Then a prefix of the list was written.
 pub fn list<'a, T: TreeImage<'a>, W: ByteWrite>(image: &T, w: &mut W) -> Result<(), ListError>
     requires { levels (T.image image.now).tree ≤ 65 }
     ensures ok { OnOk result (Appends (W.output w.old).contents (W.output w.new).contents

@@ -10,7 +10,7 @@ use crate::types::NoRoom;
 use arrayvec::ArrayVec;
 use rom_fields::{ByteWrite, put, put_escaped};
 
-/// Puts a slash and a name, escaped, and nothing for the root.
+/// Puts a slash and a name, escaped. Puts nothing for the root.
 pub(crate) fn put_name<'a, W: ByteWrite>(w: &mut W, failed: &mut bool, name: Option<&'a [u8]>)
     ensures { Puts (sink (W.output w.old) failed.old)
         (sink (W.output w.new) failed.new) (escaped (name_text name.entry)) }
@@ -31,7 +31,7 @@ pub(crate) fn put_frames<'a, W: ByteWrite>(w: &mut W, failed: &mut bool, frames:
     }
 }
 
-/// Appends a slash and a name, and nothing for the root. Where they do not fit, nothing is appended.
+/// Appends a slash and a name. Appends nothing for the root, or if they do not fit.
 fn append_name<'a, const N: usize>(
     path: &mut ArrayVec<u8, N>,
     name: Option<&'a [u8]>,
@@ -53,7 +53,7 @@ fn append_name<'a, const N: usize>(
     }
 }
 
-/// Appends the path of the last of some frames. Where it does not fit, a front of it is appended.
+/// Appends the path of the last of some frames. If it does not fit, some bytes may be appended.
 fn append_frames<'a, const N: usize>(
     path: &mut ArrayVec<u8, N>,
     frames: &[Frame<'a>],
@@ -68,14 +68,15 @@ fn append_frames<'a, const N: usize>(
     Ok(())
 }
 
-/// Appends the path of a name in some frames. Where it does not fit, a front of it is appended.
+/// Appends the path of a name in some frames. If it does not fit, some bytes may be appended.
 pub(crate) fn append_way<'a, const N: usize>(
     path: &mut ArrayVec<u8, N>,
     name: Option<&'a [u8]>,
     entered: bool,
     frames: &[Frame<'a>],
 ) -> Result<(), NoRoom>
-    ensures fits { array_vec_len path.old + length (way_of name.entry entered frames.now) ≤ N → IsOk result }
+    ensures fits { array_vec_len path.old + length (way_of name.entry entered frames.now) ≤ N
+        → IsOk result }
     ensures ok { OnOk result
         (path.new.items ≡ path.old.items ++ way_of name.entry entered frames.now) }
     ensures err { OnErr result ((xs : List ℕ) × (path.new.items ≡ path.old.items ++ xs)) }

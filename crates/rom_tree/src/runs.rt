@@ -1,4 +1,4 @@
-//! Where the bytes of a file lie that follow one another.
+//! The bytes of a file that follow one another in the image.
 ghost use Rattle.std.specs.Prelude.{◌≡◌, Some, min};
 ghost use Rattle.rom_tree.specs.Tree.{Node, places_of};
 ghost use Rattle.rom_tree.specs.Image.{image_node, HasNode};
@@ -7,8 +7,8 @@ ghost use Rattle.rom_tree.specs.Runs.{IsLongest};
 use crate::image::TreeImage;
 use crate::types::NodeId;
 
-/// Where byte `at` of a node lies, and how many of at most `most` bytes from there follow one another
-/// in the image. Both are 0 where the node has no such byte or `most` is 0.
+/// Returns the offset of byte `at` of a node, and the number of bytes from there that follow one
+/// another in the image, at most `most`. Both are 0 if the node has no such byte or `most` is 0.
 pub fn longest_run<'a, T: TreeImage<'a>>(image: &T, node: NodeId, at: u64, most: u64) -> (u32, u64)
     requires { HasNode (T.image image.now) node.0 }
     ensures { (x : Node) → image_node (T.image image.now) node.0 ≡ Some x
@@ -35,7 +35,7 @@ pub fn longest_run<'a, T: TreeImage<'a>>(image: &T, node: NodeId, at: u64, most:
     (place, len)
 }
 
-/// The lesser of two numbers.
+/// Returns the lesser of two numbers.
 pub fn lesser(a: u64, b: u64) -> u64
     ensures { result ≡ min a b }
 {

@@ -1,9 +1,9 @@
-//! What the calls of an image take and give.
+//! The arguments and results of an image's calls.
 ghost use Rattle.std.specs.Prelude.{◌≡◌};
 
 use thiserror::Error;
 
-/// What a node is.
+/// The kind of a node.
 #[derive(Clone, Copy, Debug, PartialEq, Eq)]
 pub enum Kind {
     Directory,
@@ -19,17 +19,17 @@ pub enum Kind {
 #[derive(Clone, Copy, Debug, Default, PartialEq, Eq)]
 pub struct NodeId(pub u32);
 
-/// A place in a directory's list.
+/// A cursor in a directory's list: it names the entry that comes next.
 #[derive(Clone, Copy, Default, PartialEq, Eq)]
 pub struct Cursor(pub u64);
 
 impl Cursor {
-    /// The place before the first entry of each directory.
+    /// The cursor at the front of each directory's list.
     pub const START: Cursor = Cursor(0);
 }
 
-/// What is kept of a node beside its contents. `size` counts the bytes of a regular file or of a
-/// symbolic link's text, and is 0 for other kinds. `major` and `minor` name a device.
+/// The attributes of a node. `size` is the number of bytes of a regular file or of a symbolic
+/// link's text, and 0 for other kinds. `major` and `minor` are the numbers of a device.
 #[derive(Clone, Copy, Debug, PartialEq, Eq)]
 pub struct Stat {
     pub ino: u32,
@@ -42,7 +42,7 @@ pub struct Stat {
     pub minor: u32,
 }
 
-/// Bytes of a file that follow one another in the image: `len` of them from `place` on.
+/// Bytes of a file that follow one another in the image: `len` bytes from offset `place` on.
 #[derive(Clone, Copy, PartialEq, Eq)]
 pub struct Run {
     pub place: u32,
@@ -57,16 +57,15 @@ pub struct Entry<'a> {
     pub cursor: Cursor,
 }
 
-/// Bytes of an image and the place where they begin.
+/// Bytes of an image, and the offset of the first of them.
 #[derive(Clone, Copy)]
 pub struct Piece<'a> {
     pub place: u32,
     pub bytes: &'a [u8],
 }
 
-/// How much of an image a check follows: at most `references` references to records, the
-/// superblock's among them, and at most `depth` names on the way to an entry (above 64 counts as
-/// 64).
+/// The limits of a check: at most `references` references to records, including the superblock's,
+/// and at most `depth` names on the way to an entry (more than 64 counts as 64).
 #[derive(Clone, Copy, PartialEq, Eq)]
 pub struct Limits {
     pub references: u32,
@@ -74,7 +73,7 @@ pub struct Limits {
 }
 
 impl Limits {
-    /// 1,048,576 references and 64 names.
+    /// Returns the usual limits: 1,048,576 references and 64 names.
     pub fn usual() -> Limits
         ensures references { result.references ≡ 1048576 }
         ensures depth { result.depth ≡ 64 }
@@ -86,7 +85,7 @@ impl Limits {
     }
 }
 
-/// What a check found in a sound image: how many references it has, and the greatest number of
+/// What a check found in a valid image: the number of its references, and the greatest number of
 /// names from the root to a node.
 #[derive(Clone, Copy, Debug, PartialEq, Eq)]
 pub struct Report {
@@ -94,14 +93,14 @@ pub struct Report {
     pub depth: u32,
 }
 
-/// Why a list was not written whole.
+/// The reason why a list was not written whole.
 #[derive(Clone, Copy, Debug, PartialEq, Eq, Error)]
 pub enum ListError {
     #[error("a write failed")]
     WriteFault,
 }
 
-/// A path has no room in a buffer.
+/// The error of a path that does not fit in a buffer.
 #[derive(Clone, Copy, Debug, PartialEq, Eq, Error)]
 #[error("no room for a path")]
 pub struct NoRoom;

@@ -1,5 +1,6 @@
 //! The steps of a walk through the names of a tree.
-ghost use Rattle.std.specs.Prelude.{◌≡◌, ◌+◌, ◌<◌, ◌≤◌, ◌++◌, false, [], length, MatchOption, IsOk, OnOk, OnErr};
+ghost use Rattle.std.specs.Prelude.{◌≡◌, ◌+◌, ◌<◌, ◌≤◌, ◌++◌, false, [], length, MatchOption, IsOk};
+ghost use Rattle.std.specs.Prelude.{OnOk, OnErr};
 ghost use Rattle.arrayvec.specs.ArrayVec.{array_vec_len};
 ghost use Rattle.rom_fields.specs.Texts.{escaped};
 ghost use Rattle.rom_fields.specs.Written.{Puts, sink};
@@ -16,7 +17,7 @@ use crate::types::{Cursor, NoRoom, NodeId};
 use arrayvec::ArrayVec;
 use rom_fields::{ByteWrite, put};
 
-/// What a step gives: a node, its name, and whether it is a directory that was entered.
+/// The result of a step: a node, its name, and whether it is a directory that was entered.
 #[derive(Clone, Copy)]
 struct Found<'a> {
     node: NodeId,
@@ -24,7 +25,8 @@ struct Found<'a> {
     entered: bool,
 }
 
-/// One step of a walk: the last frame's next entry, or nothing at the end of that frame.
+/// Makes one step of a walk: returns the last frame's next entry, or nothing at the end of that
+/// frame.
 fn step<'a, T: TreeImage<'a>>(image: &T, stack: &mut ArrayVec<Frame<'a>, 65>) -> Option<Found<'a>>
     requires frames { AreFrames (T.image image.now) 0 stack.old.items }
     requires some { 0 < array_vec_len stack.old }
@@ -58,7 +60,7 @@ fn step<'a, T: TreeImage<'a>>(image: &T, stack: &mut ArrayVec<Frame<'a>, 65>) ->
 }
 
 impl<'a> Walk<'a> {
-    /// A walk that has given no name yet.
+    /// Makes a walk that has returned no name yet.
     pub fn new() -> Walk<'a>
         ensures walk { (m : Image) → levels m.tree ≤ 65 → IsWalk m result }
         ensures all { (m : Image) → to_come m result ≡ names m.tree }
@@ -71,7 +73,7 @@ impl<'a> Walk<'a> {
         }
     }
 
-    /// Gives the root.
+    /// Returns the root.
     fn begin<T: TreeImage<'a>>(&mut self, image: &T) -> NodeId
         requires walk { IsWalk (T.image image.now) self.old }
         requires fresh { self.old.begun ≡ false }
@@ -91,8 +93,8 @@ impl<'a> Walk<'a> {
         root
     }
 
-    /// The next name's node, or `None` after the last name. The path of the name and the name itself
-    /// are the walk's from then on.
+    /// Returns the next name's node, or `None` after the last name. Then the walk has that name and
+    /// its path.
     pub fn next<T: TreeImage<'a>>(&mut self, image: &T) -> Option<NodeId>
         requires { IsWalk (T.image image.now) self.old }
         ensures walk { IsWalk (T.image image.now) self.new }
@@ -112,7 +114,7 @@ impl<'a> Walk<'a> {
         None
     }
 
-    /// The name of the node that was given last, and nothing for the root.
+    /// Returns the name of the node that was returned last. It is empty for the root.
     pub fn name(&self) -> &'a [u8]
         ensures { result.now ≡ given_name self.now }
     {
@@ -122,7 +124,7 @@ impl<'a> Walk<'a> {
         }
     }
 
-    /// Puts the path of the node that was given last, escaped.
+    /// Puts the path, escaped, of the node that was returned last.
     pub fn put_path<W: ByteWrite>(&self, w: &mut W, failed: &mut bool)
         ensures { Puts (sink (W.output w.old) failed.old)
             (sink (W.output w.new) failed.new) (escaped (given_path self.now)) }
@@ -138,11 +140,11 @@ impl<'a> Walk<'a> {
         }
     }
 
-    /// Appends the path of the node that was given last, as it stands.
+    /// Appends the path, not escaped, of the node that was returned last.
     ///
     /// # Errors
     ///
-    /// `NoRoom` where it does not fit. Then the buffer stays as it was.
+    /// `NoRoom` if it does not fit. Then the buffer is unchanged.
     pub fn append_path<const N: usize>(&self, path: &mut ArrayVec<u8, N>) -> Result<(), NoRoom>
         ensures fits { array_vec_len path.old + length (given_path self.now) ≤ N → IsOk result }
         ensures ok { OnOk result (path.new.items ≡ path.old.items ++ given_path self.now) }

@@ -1,4 +1,4 @@
--- The faults of one record, and its soundness.
+-- The faults of one record, and its validity.
 use Rattle.std.proofs.Common.{◌≡◌, ◌≢◌, ℕ, ◌+◌, ◌-◌, ◌<◌, ◌≤◌, List, length, ◌⊎◌, inl, inr, refl, arith}
 use Rattle.std.proofs.lemmas.Bool.{cases_lt}
 use Rattle.std.proofs.lemmas.Bool.Decides.{eqb_tells}
@@ -6,7 +6,9 @@ use Rattle.std.specs.Prelude.{IsTrue}
 use Rattle.std.specs.List.{Contains}
 use Rattle.rom_fields.specs.Words.{words_sum, part_of}
 use Rattle.record_forest.specs.Faults.{IsLeast}
-use Rattle.romfs_format.specs.Record.{name_of, end_of, size_of, type_of, has_data, IsSound, HeaderLies, NameEnds, IsWhole, HasRecordFault, outside, name_unended, end_outside, data_outside, bad_sum, empty_name, slash, link_size}
+use Rattle.romfs_format.specs.Record.{name_of, end_of, size_of, type_of, has_data, IsSound, HeaderLies, NameEnds}
+use Rattle.romfs_format.specs.Record.{IsWhole, HasRecordFault, outside, name_unended, end_outside, data_outside}
+use Rattle.romfs_format.specs.Record.{bad_sum, empty_name, slash, link_size}
 
 -- a fault that is the only one
 module _ {b : List ℕ} {r p : ℕ} where
@@ -56,7 +58,8 @@ module _ {b : List ℕ} {r p : ℕ} where
   }
 
   -- of several faults the one of the least number
-  pub least_data : IsWhole b r p → IsTrue (has_data (type_of b p)) → length b < end_of b p + size_of b p → IsLeast (HasRecordFault b r p) 11
+  pub least_data : IsWhole b r p → IsTrue (has_data (type_of b p)) → length b < end_of b p + size_of b p
+      → IsLeast (HasRecordFault b r p) 11
   least_data w d past = record {
     here = data_outside refl w d past;
     least = λ m h. elim h [
@@ -134,29 +137,39 @@ module _ {b : List ℕ} {r p : ℕ} where
           link_size = l;
         }
 
-  -- a record without a fault is sound
+  -- a record without a fault is valid
   pub faultless_sound : ((n : ℕ) → HasRecordFault b r p n → ⊥) → IsSound b r p
   faultless_sound h =
       let lies : HeaderLies b r p = (
         elim (cases_lt p r) [ inl i ↦ absurd (h 11 (outside refl (λ k. let z = k.0 in omega arith))) | inr i ↦ i ],
-        elim (cases_lt (length b) (p + 32)) [ inl i ↦ absurd (h 11 (outside refl (λ k. let z = k.1 in omega arith))) | inr i ↦ i ],
+        elim (cases_lt (length b) (p + 32))
+            [ inl i ↦ absurd (h 11 (outside refl (λ k. let z = k.1 in omega arith))) | inr i ↦ i ],
       ) in
       let ends : NameEnds b p = (
-        elim (cases_lt (p + 16 + length (name_of b p)) (length b)) [ inl i ↦ i | inr i ↦ absurd (h 13 (name_unended refl lies (λ k. let z = k.0 in omega arith))) ],
-        elim (cases_lt (length (name_of b p)) 256) [ inl i ↦ i | inr i ↦ absurd (h 13 (name_unended refl lies (λ k. let z = k.1 in omega arith))) ],
+        elim (cases_lt (p + 16 + length (name_of b p)) (length b))
+            [ inl i ↦ i | inr i ↦ absurd (h 13 (name_unended refl lies (λ k. let z = k.0 in omega arith))) ],
+        elim (cases_lt (length (name_of b p)) 256)
+            [ inl i ↦ i | inr i ↦ absurd (h 13 (name_unended refl lies (λ k. let z = k.1 in omega arith))) ],
       ) in
-      let within : end_of b p ≤ length b = elim (cases_lt (length b) (end_of b p)) [ inl i ↦ absurd (h 11 (end_outside refl lies ends i)) | inr i ↦ i ] in
+      let within : end_of b p ≤ length b =
+      elim (cases_lt (length b) (end_of b p))
+      [ inl i ↦ absurd (h 11 (end_outside refl lies ends i)) | inr i ↦ i ] in
       let w : IsWhole b r p = (lies, ends, within) in
       let contents : IsTrue (has_data (type_of b p)) → end_of b p + size_of b p ≤ length b =
-      λ d. elim (cases_lt (length b) (end_of b p + size_of b p)) [ inl i ↦ absurd (h 11 (data_outside refl w d i)) | inr i ↦ i ] in
-      let sum : words_sum (part_of b p (end_of b p - p)) ≡ 0 = elim (eqb_tells (words_sum (part_of b p (end_of b p - p))) 0) [ inl i ↦ i.1 | inr i ↦ absurd (h 12 (bad_sum refl w i.1)) ] in
-      let named : 0 < length (name_of b p) = elim (cases_lt 0 (length (name_of b p))) [ inl i ↦ i | inr i ↦ absurd (h 13 (empty_name refl w (omega arith))) ] in
+      λ d. elim (cases_lt (length b) (end_of b p + size_of b p))
+      [ inl i ↦ absurd (h 11 (data_outside refl w d i)) | inr i ↦ i ] in
+      let sum : words_sum (part_of b p (end_of b p - p)) ≡ 0 =
+      elim (eqb_tells (words_sum (part_of b p (end_of b p - p))) 0)
+      [ inl i ↦ i.1 | inr i ↦ absurd (h 12 (bad_sum refl w i.1)) ] in
+      let named : 0 < length (name_of b p) =
+      elim (cases_lt 0 (length (name_of b p)))
+      [ inl i ↦ i | inr i ↦ absurd (h 13 (empty_name refl w (omega arith))) ] in
       sound_of w contents sum named (λ z. h 13 (slash refl w z)) (λ t. (
         elim (cases_lt 0 (size_of b p)) [ inl i ↦ i | inr i ↦ absurd (h 15 (link_size refl w t (inl (omega arith)))) ],
         elim (cases_lt 4095 (size_of b p)) [ inl i ↦ absurd (h 15 (link_size refl w t (inr i))) | inr i ↦ i ],
       ))
 
-  -- a sound record has no fault
+  -- a valid record has no fault
   pub sound_faultless : IsSound b r p → (n : ℕ) → HasRecordFault b r p n → ⊥
   sound_faultless s n h =
       let lies : HeaderLies b r p = (s.from_root, s.header) in

@@ -1,6 +1,8 @@
--- What is wrong with a romfs image as a whole. The tests stand in this order, and the first that fails is the image's
--- fault: 2 Short and 3 Magic at 0, 4 Size at 8, 5 Sum at 12, 9 Root at 16 or at the root.
--- (Linux Documentation/filesystems/romfs.rst.)
+-- `HasImageFault`: the fault of a romfs image as a whole, that of the first test that fails. (Linux
+-- Documentation/filesystems/romfs.rst. What is refused is this project's own.)
+--
+-- The tests in their order: 2 Short and 3 Magic at 0, 4 Size at 8, 5 Sum at 12, 9 Root at 16 or at
+-- the root.
 use Rattle.std.specs.Prelude.{◌≡◌, ◌≢◌, ℕ, ◌+◌, ◌<◌, ◌≤◌, min, List, length, take, drop}
 use Rattle.rom_fields.specs.Words.{words_sum}
 use Rattle.rom_faults.specs.declared.fault.Fault.{Fault}
@@ -15,25 +17,31 @@ accessible bytes = take (full_size bytes) bytes
 abbrev pub HasSize : List ℕ → Type 0
 HasSize bytes = (32 ≤ full_size bytes) × (full_size bytes ≤ length bytes)
 
--- the words of the first 512 bytes, or of all where they are fewer, sum to 0
+-- the words of the first 512 bytes, or of all if there are fewer, sum to 0
 abbrev pub HasSum : List ℕ → Type 0
 HasSum b = words_sum (take (min 512 (length b)) b) ≡ 0
 
--- a zero ends the volume name, and the root's header lies behind it
+-- a zero ends the volume name, and the root's header is behind it
 abbrev pub HasRoot : List ℕ → Type 0
 HasRoot b = (16 + length (before_zero (drop 16 b)) < length b) × (root_of b + 32 ≤ length b)
 
 pub data HasImageFault (bytes : List ℕ) : Fault → Type 0 where
-  short : {e : Fault} → length bytes < 32 → e ≡ record { number = SHORT; at = 0 } → HasImageFault bytes e
-  no_magic : {e : Fault} → 32 ≤ length bytes → take 8 bytes ≢ magic → e ≡ record { number = MAGIC; at = 0 }
+  short : {e : Fault} → length bytes < 32 → e ≡ record { number = SHORT; at = 0 }
+      → HasImageFault bytes e
+  no_magic : {e : Fault} → 32 ≤ length bytes → take 8 bytes ≢ magic
+      → e ≡ record { number = MAGIC; at = 0 }
       → HasImageFault bytes e
   bad_size : {e : Fault} → 32 ≤ length bytes → take 8 bytes ≡ magic → (HasSize bytes → ⊥)
       → e ≡ record { number = SIZE; at = 8 } → HasImageFault bytes e
-  bad_sum : {e : Fault} → 32 ≤ length bytes → take 8 bytes ≡ magic → HasSize bytes → (HasSum (accessible bytes) → ⊥)
+  bad_sum : {e : Fault} → 32 ≤ length bytes → take 8 bytes ≡ magic → HasSize bytes
+      → (HasSum (accessible bytes) → ⊥)
       → e ≡ record { number = SUM; at = 12 } → HasImageFault bytes e
-  no_root : {e : Fault} → 32 ≤ length bytes → take 8 bytes ≡ magic → HasSize bytes → HasSum (accessible bytes)
-      → (HasRoot (accessible bytes) → ⊥) → e ≡ record { number = ROOT; at = 16 } → HasImageFault bytes e
-  root_kind : {e : Fault} → 32 ≤ length bytes → take 8 bytes ≡ magic → HasSize bytes → HasSum (accessible bytes)
+  no_root : {e : Fault} → 32 ≤ length bytes → take 8 bytes ≡ magic → HasSize bytes
+      → HasSum (accessible bytes)
+      → (HasRoot (accessible bytes) → ⊥) → e ≡ record { number = ROOT; at = 16 }
+      → HasImageFault bytes e
+  root_kind : {e : Fault} → 32 ≤ length bytes → take 8 bytes ≡ magic → HasSize bytes
+      → HasSum (accessible bytes)
       → HasRoot (accessible bytes)
       → type_of (accessible bytes) (root_of (accessible bytes)) ≢ 1
       → e ≡ record { number = ROOT; at = root_of (accessible bytes) } → HasImageFault bytes e

@@ -1,13 +1,15 @@
-//! The fields of a file header, as they stand in the accessible bytes of an image.
+//! The fields of a file header, read from the accessible bytes of an image (Linux
+//! Documentation/filesystems/romfs.rst).
 ghost use Rattle.std.specs.Prelude.{◌≡◌, ◌+◌, ◌≤◌, ◌<◌, ◌^◌, length, drop};
 ghost use Rattle.rom_fields.specs.Words.{word_be};
-ghost use Rattle.romfs_format.specs.Record.{before_zero, end_of, first_of, name_of, next_of, size_of, spec_offset_of, type_of};
+ghost use Rattle.romfs_format.specs.Record.{before_zero, end_of, first_of, name_of, next_of};
+ghost use Rattle.romfs_format.specs.Record.{size_of, spec_offset_of, type_of};
 ghost use Rattle.romfs_format.specs.Made.{start_of};
 
 use byteorder::{BigEndian, ByteOrder};
 use memchr::memchr;
 
-/// Reads the word at `at`, its highest byte first.
+/// Reads the big-endian word at `at`.
 #[tactic(auto, unfolding(rom_fields::specs::Words::word_be))]
 pub fn word(b: &[u8], at: usize) -> u32
     requires { at + 4 ≤ length b.now }
@@ -25,7 +27,7 @@ pub fn type_at(b: &[u8], at: usize) -> u32
     word(b, at) % 8
 }
 
-/// Reads the offset of the header that follows that at `at` in its list, 0 at the list's end.
+/// Reads the offset of the next header in the list of the header at `at`, or 0 at the list's end.
 #[tactic(auto, unfolding(crate::specs::Record::next_of))]
 pub fn next_at(b: &[u8], at: usize) -> u32
     requires { at + 16 ≤ length b.now }
@@ -34,7 +36,7 @@ pub fn next_at(b: &[u8], at: usize) -> u32
     word(b, at) / 16 * 16
 }
 
-/// Reads the offset that the spec of the header at `at` has.
+/// Reads the offset in the spec of the header at `at`.
 #[tactic(auto, unfolding(crate::specs::Record::spec_offset_of))]
 pub fn spec_at(b: &[u8], at: usize) -> u32
     requires { at + 16 ≤ length b.now }
@@ -43,7 +45,7 @@ pub fn spec_at(b: &[u8], at: usize) -> u32
     word(b, at + 4) / 16 * 16
 }
 
-/// Reads the size of the header at `at`, in bytes.
+/// Reads the size in the header at `at`, in bytes.
 #[tactic(auto, unfolding(crate::specs::Record::size_of))]
 pub fn size_at(b: &[u8], at: usize) -> u32
     requires { at + 16 ≤ length b.now }
@@ -52,7 +54,8 @@ pub fn size_at(b: &[u8], at: usize) -> u32
     word(b, at + 8)
 }
 
-/// Reads the offset of the first header in the list of that at `at`, 0 if it is no directory.
+/// Reads the offset of the first header in the list of the header at `at`, or 0 if that is no
+/// directory.
 #[tactic(auto, unfolding(crate::specs::Record::first_of))]
 pub fn first_at(b: &[u8], at: usize) -> u32
     requires { at + 16 ≤ length b.now }
@@ -65,7 +68,7 @@ pub fn first_at(b: &[u8], at: usize) -> u32
     }
 }
 
-/// Reads where the list of the root begins, without the root itself.
+/// Reads the offset at which the list of the root begins, without the root itself.
 #[tactic(auto, unfolding(crate::specs::Made::start_of, crate::specs::Refers::heads_itself))]
 pub fn start_at(b: &[u8], root: u32) -> u32
     requires { root + 16 ≤ length b.now }
@@ -79,7 +82,7 @@ pub fn start_at(b: &[u8], root: u32) -> u32
     }
 }
 
-/// Counts the bytes from `at` on before a zero, which there is.
+/// Counts the bytes from `at` on before the first zero. There must be one.
 fn len_to_zero(b: &[u8], at: usize) -> usize
     requires { at + length (before_zero (drop at b.now)) < length b.now }
     ensures { result ≡ length (before_zero (drop at b.now)) }
@@ -90,7 +93,7 @@ fn len_to_zero(b: &[u8], at: usize) -> usize
     len
 }
 
-/// Reads where the header at `at` ends with its padded name, and its data begin.
+/// Reads the offset at which the header at `at` ends with its padded name, and its data begin.
 #[tactic(auto, unfolding(crate::specs::Record::name_of, crate::specs::Record::end_of))]
 pub fn end_at(b: &[u8], at: u32) -> u32
     requires small { length b.now < 2 ^ 32 }

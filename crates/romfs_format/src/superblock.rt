@@ -1,4 +1,5 @@
-//! The fields of the superblock, as they stand in the bytes of an image.
+//! The fields of the superblock, read from the bytes of an image (Linux
+//! Documentation/filesystems/romfs.rst).
 ghost use Rattle.std.specs.Prelude.{◌≡◌, ◌≤◌, ◌↔◌, IsTrue, length, take, drop};
 ghost use Rattle.rom_fields.specs.Words.{word_be};
 ghost use Rattle.romfs_format.specs.Record.{before_zero};
@@ -8,14 +9,14 @@ use crate::disk::MAGIC;
 use crate::header::word;
 use memchr::memchr;
 
-/// Says whether the bytes begin with the magic of romfs.
+/// Returns whether the bytes begin with the magic of romfs.
 pub fn begins(bytes: &[u8]) -> bool
     ensures { IsTrue result ↔ (take 8 bytes.now ≡ magic) }
 {
     bytes.len() >= 8 && &bytes[..8] == MAGIC.as_slice()
 }
 
-/// Reads the full size that an image states, in bytes: so many are accessible.
+/// Reads the full size that an image states, in bytes. It is the number of accessible bytes.
 pub fn stated_size(bytes: &[u8]) -> u32
     requires { 12 ≤ length bytes.now }
     ensures { result ≡ full_size bytes.now }
@@ -31,7 +32,7 @@ pub fn stored_sum(bytes: &[u8]) -> u32
     word(bytes, 12)
 }
 
-/// Gives the bytes before the first zero, or all if there is none.
+/// Returns the bytes before the first zero, or all if there is none.
 pub fn upto_zero<'a>(bytes: &'a [u8]) -> &'a [u8]
     ensures { result.now ≡ before_zero bytes.now }
 {
@@ -41,7 +42,7 @@ pub fn upto_zero<'a>(bytes: &'a [u8]) -> &'a [u8]
     }
 }
 
-/// Reads the name of the volume: the bytes from 16 on up to the first zero.
+/// Reads the name of the volume: the bytes from offset 16 to the first zero.
 pub fn volume<'a>(bytes: &'a [u8]) -> &'a [u8]
     ensures { result.now ≡ before_zero (drop 16 bytes.now) }
 {

@@ -1,13 +1,14 @@
--- The faults of a name, and what a row without them says.
+-- The faults of a name, and the facts of a row without them.
 use Rattle.std.proofs.Common.{◌≡◌, ◌≢◌, ℕ, List, length, Option, None, Some, refl, sym, ap, subst, ◌∙◌, arith}
 use Rattle.record_forest.specs.declared.reference.Row.{Row}
 use Rattle.record_forest.specs.Faults.{IsLeast}
 use Rattle.romfs_format.specs.Record.{name_of, type_of}
 use Rattle.romfs_format.specs.Tree.{follow}
 use Rattle.rom_tree.specs.Dots.{dot, dot_dot}
-use Rattle.romfs_image.specs.Phases.{Repeats, IsNameFault, repeated, here_astray, above_astray, root_renamed, link_astray, IsWellNamed}
+use Rattle.romfs_image.specs.Phases.{Repeats, IsNameFault, repeated, here_astray, above_astray, root_renamed}
+use Rattle.romfs_image.specs.Phases.{link_astray, IsWellNamed}
 
--- each number of such a fault is at least 23, and 24 where the name is not repeated
+-- each number of such a fault is at least 23, and at least 24 if the name is not repeated
 module _ {b : List ℕ} {r : ℕ} {all before : List Row} {x : Row} where
   pub least_repeated : Repeats b before x → IsLeast (IsNameFault b r all before x) 23
   least_repeated h = record {
@@ -21,7 +22,8 @@ module _ {b : List ℕ} {r : ℕ} {all before : List Row} {x : Row} where
     ];
   }
 
-  pub least_astray : (Repeats b before x → ⊥) → IsNameFault b r all before x 24 → IsLeast (IsNameFault b r all before x) 24
+  pub least_astray : (Repeats b before x → ⊥) → IsNameFault b r all before x 24
+      → IsLeast (IsNameFault b r all before x) 24
   least_astray fresh h = record {
     here = h;
     least = λ n f. elim f [
@@ -33,8 +35,10 @@ module _ {b : List ℕ} {r : ℕ} {all before : List Row} {x : Row} where
     ];
   }
 
-  pub least_link : (Repeats b before x → ⊥) → (name_of b x.offset ≡ dot → follow b all 8 x.offset ≡ Some x.directory) → (name_of b x.offset ≡ dot_dot → follow b all 8 x.offset ≡ Some x.parent)
-      → (x.offset ≡ r → name_of b x.offset ≡ dot) → IsNameFault b r all before x 25 → IsLeast (IsNameFault b r all before x) 25
+  pub least_link : (Repeats b before x → ⊥) → (name_of b x.offset ≡ dot → follow b all 8 x.offset ≡ Some x.directory)
+      → (name_of b x.offset ≡ dot_dot → follow b all 8 x.offset ≡ Some x.parent)
+      → (x.offset ≡ r → name_of b x.offset ≡ dot) → IsNameFault b r all before x 25
+      → IsLeast (IsNameFault b r all before x) 25
   least_link fresh here above root h = record {
     here = h;
     least = λ n f. elim f [
@@ -59,9 +63,11 @@ module _ {b : List ℕ} {r : ℕ} {all before : List Row} {x : Row} where
 pub dot_apart : (name : List ℕ) → name ≡ dot → name ≡ dot_dot → ⊥
 dot_apart name e f = let z = ap length (sym e ∙ f) in absurd (omega arith)
 
--- where following a record leads to no record, or to a directory
+-- if a record leads to no record, or to a directory
 pub no_target : (b : List ℕ) (o : Option ℕ) → o ≡ None → (q : ℕ) → o ≡ Some q → type_of b q ≢ 1 → ⊥
 no_target b o e q f n = let z : None ≡ Some q = sym e ∙ f in absurd (cc)
 
-pub directory_target : (b : List ℕ) (o : Option ℕ) (p : ℕ) → o ≡ Some p → type_of b p ≡ 1 → (q : ℕ) → o ≡ Some q → type_of b q ≢ 1 → ⊥
-directory_target b o p e t q f n = let z : Some p ≡ Some q = sym e ∙ f in let i : p ≡ q = cc in n (subst (λ (v : ℕ). type_of b v ≡ 1) i t)
+pub directory_target : (b : List ℕ) (o : Option ℕ) (p : ℕ) → o ≡ Some p → type_of b p ≡ 1 → (q : ℕ) → o ≡ Some q
+    → type_of b q ≢ 1 → ⊥
+directory_target b o p e t q f n =
+    let z : Some p ≡ Some q = sym e ∙ f in let i : p ≡ q = cc in n (subst (λ (v : ℕ). type_of b v ≡ 1) i t)

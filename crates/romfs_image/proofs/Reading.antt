@@ -1,5 +1,6 @@
--- What the numbers read from a record say.
-use Rattle.std.proofs.Common.{◌<◌, ◌≤◌, ◌≡◌, ◌+◌, ◌-◌, ◌*◌, ◌/◌, ℕ, suc, true, false, cond, eqb, List, [], ◌∷◌, length, take, drop, refl, ap, ◌∙◌, arith}
+-- The meaning of the numbers that are read from a record.
+use Rattle.std.proofs.Common.{◌<◌, ◌≤◌, ◌≡◌, ◌+◌, ◌-◌, ◌*◌, ◌/◌, ℕ, suc, true, false, cond, eqb, List, [], ◌∷◌, length}
+use Rattle.std.proofs.Common.{take, drop, refl, ap, ◌∙◌, arith}
 use Rattle.std.proofs.lemmas.Bool.{ne_eqb, eq-eqb}
 use Rattle.romfs_format.specs.Record.{before_zero, name_of, end_of, type_of, spec_offset_of, NameEnds}
 use Rattle.romfs_format.specs.Tree.{led, root_of}
@@ -8,20 +9,23 @@ take_before_zero : (ys : List ℕ) → take (length (before_zero ys)) ys ≡ bef
 take_before_zero [] = refl
 take_before_zero (y ∷ ys) =
     let ih = take_before_zero ys in
-    elim (eqb y 0) as (λ t. take (length (cond t [] (y ∷ before_zero ys))) (y ∷ ys) ≡ cond t [] (y ∷ before_zero ys)) [ true ↦ refl | false ↦ ap (λ (x : List ℕ). y ∷ x) ih ]
+    elim (eqb y 0) as (λ t. take (length (cond t [] (y ∷ before_zero ys))) (y ∷ ys) ≡ cond t [] (y ∷ before_zero ys))
+    [ true ↦ refl | false ↦ ap (λ (x : List ℕ). y ∷ x) ih ]
 
--- a name is read where it stands
+-- a name is read at its offset
 pub name_stands : (b : List ℕ) (p : ℕ) → take (length (name_of b p)) (drop (p + 16) b) ≡ name_of b p
 unfolding name_of
 name_stands b p = take_before_zero (drop (p + 16) b)
 
-pub name_slice : (b : List ℕ) (p len : ℕ) → len ≡ length (before_zero (drop (p + 16) b)) → take (p + 16 + len - (p + 16)) (drop (p + 16) b) ≡ name_of b p
+pub name_slice : (b : List ℕ) (p len : ℕ) → len ≡ length (before_zero (drop (p + 16) b))
+    → take (p + 16 + len - (p + 16)) (drop (p + 16) b) ≡ name_of b p
 unfolding name_of
 name_slice b p len e =
     let n : p + 16 + len - (p + 16) ≡ length (before_zero (drop (p + 16) b)) = omega (arith, e) in
     ap (λ (x : ℕ). take x (drop (p + 16) b)) n ∙ take_before_zero (drop (p + 16) b)
 
-pub end_is : (b : List ℕ) (p : ℕ) (name : List ℕ) → name ≡ name_of b p → p + 16 + (length name + 1 + 15) / 16 * 16 ≡ end_of b p
+pub end_is : (b : List ℕ) (p : ℕ) (name : List ℕ) → name ≡ name_of b p
+    → p + 16 + (length name + 1 + 15) / 16 * 16 ≡ end_of b p
 unfolding end_of
 end_is b p name e = ap (λ (x : List ℕ). p + 16 + (length x + 1 + 15) / 16 * 16) e
 
@@ -35,11 +39,15 @@ unfolding led
 led_stay b n p q e h = rw (← e, ne_eqb (type_of b p) 0 h) refl
 
 -- what the search for a name's zero says of the name
-pub name_ends : (b : List ℕ) (p : ℕ) → (p + 16 + length (before_zero (drop (p + 16) b)) < length b) × (length (before_zero (drop (p + 16) b)) < 256) → NameEnds b p
+pub name_ends : (b : List ℕ) (p : ℕ)
+    → (p + 16 + length (before_zero (drop (p + 16) b)) < length b) × (length (before_zero (drop (p + 16) b)) < 256)
+    → NameEnds b p
 unfolding name_of
 name_ends b p h = h
 
-pub name_unended : (b : List ℕ) (p : ℕ) → ((p + 16 + length (before_zero (drop (p + 16) b)) < length b) × (length (before_zero (drop (p + 16) b)) < 256) → ⊥) → NameEnds b p → ⊥
+pub name_unended : (b : List ℕ) (p : ℕ)
+    → ((p + 16 + length (before_zero (drop (p + 16) b)) < length b) × (length (before_zero (drop (p + 16) b)) < 256)
+    → ⊥) → NameEnds b p → ⊥
 unfolding name_of
 name_unended b p h = h
 
@@ -60,7 +68,7 @@ pub end_after : (b : List ℕ) (p : ℕ) → p ≤ end_of b p
 unfolding end_of
 end_after b p = omega arith
 
--- the root stands behind the front of the superblock
+-- the root is behind the front of the superblock
 pub root_above : (b : List ℕ) (r : ℕ) → r ≡ root_of b → 0 < r
 unfolding root_of
 root_above b r e = omega arith

@@ -1,4 +1,5 @@
--- What a check answers. (This project's own.)
+-- `Shows`: an image value shows the tree of the bytes. `IsRefused`: the meaning of a refusal: there
+-- is no tree. `IsLeastAnswer`: the fault of a refusal is the image's least. (This project's own.)
 use Rattle.std.specs.Prelude.{◌≡◌, ℕ, List, length}
 use Rattle.rom_tree.specs.Tree.{depth}
 use Rattle.rom_tree.specs.Image.{Image}
@@ -13,17 +14,20 @@ use Rattle.romfs_format.specs.Tree.{RomfsTree}
 use Rattle.romfs_format.specs.Superblock.{HasImageFault}
 use Rattle.romfs_format.specs.Faults.{IsLeastImageFault}
 
--- The image m shows the tree of these bytes; the report counts the records of its forest, and is as deep as the tree.
+-- The image m shows the tree of these bytes. The report has the number of the records of its
+-- forest, and the depth of the tree.
 pub record Shows (all : List ℕ) (limits : Limits) (m : Image) (report : Report) : Type 0 where
   pub bytes : m.bytes ≡ all
   pub tree : RomfsTree all limits.references limits.depth m.tree
   pub count : report.references ≡ length (all_rows (references tree.b tree.r) tree.forest)
   pub deep : report.depth ≡ depth m.tree
 
--- a fault only where the bytes hold no tree
+-- a fault is answered only if the bytes hold no tree
 abbrev pub IsRefused : List ℕ → Limits → CheckError → Type 0
 IsRefused all limits = Refuses (RomfsTree all limits.references limits.depth)
 
--- the fault is the least of the image's faults, by phases; memory is refused only where the image as a whole has none
+-- the fault is the least of the image's faults, by phases; refused memory is answered only if the
+-- image as a whole has no fault
 abbrev pub IsLeastAnswer : List ℕ → Limits → CheckError → Type 0
-IsLeastAnswer all limits = AnswersLeast (HasImageFault all) (IsLeastImageFault all limits.references limits.depth)
+IsLeastAnswer all limits =
+    AnswersLeast (HasImageFault all) (IsLeastImageFault all limits.references limits.depth)

@@ -1,5 +1,7 @@
--- What the later phases of the check look for among the records of a forest. (This project's own.)
-use Rattle.std.specs.Prelude.{◌≡◌, ◌≢◌, ℕ, ◌<◌, ◌≤◌, ◌==◌, Bool, true, false, length, slice_index, List, ◌∷◌, ◌++◌, None, Some}
+-- `IsTooDeep`, `IsNameFault`, `IsLaterFault`: the faults that the phases of depth, extents and
+-- names look for among the rows of a forest. (This project's own.)
+use Rattle.std.specs.Prelude.{◌≡◌, ◌≢◌, ℕ, ◌<◌, ◌≤◌, ◌==◌, Bool, true, false, length, slice_index}
+use Rattle.std.specs.Prelude.{List, ◌∷◌, ◌++◌, None, Some}
 use Rattle.std.specs.List.{Any, list_any}
 use Rattle.rom_faults.specs.declared.fault.Fault.{Fault}
 use Rattle.record_forest.specs.declared.reference.Row.{Row}
@@ -17,14 +19,16 @@ pub record AreOffsets (rows : List Row) (offsets : List ℕ) : Type 0 where
 
 -- 21 TooDeep: an entry deeper than the limit
 abbrev pub IsTooDeep : List ℕ → ℕ → List Row → Row → ℕ → Type 0
-IsTooDeep b most before x n = (n ≡ TOO_DEEP) × (is_dots (name_of b x.offset) ≡ false) × (most < x.depth)
+IsTooDeep b most before x n =
+    (n ≡ TOO_DEEP) × (is_dots (name_of b x.offset) ≡ false) × (most < x.depth)
 
 abbrev pub IsShallow : List ℕ → ℕ → List Row → Row → Type 0
 IsShallow b most before x = is_dots (name_of b x.offset) ≡ false → x.depth ≤ most
 
 -- an earlier row of the same list has the same name
 abbrev pub Repeats : List ℕ → List Row → Row → Type 0
-Repeats b before x = Any (λ (y : Row). (y.directory ≡ x.directory) × (name_of b y.offset ≡ name_of b x.offset)) before
+Repeats b before x = Any (λ (y : Row). (y.directory ≡ x.directory)
+    × (name_of b y.offset ≡ name_of b x.offset)) before
 
 -- whether an earlier row of the same list has the same name
 pub record TellsRepeated (b : List ℕ) (before : List Row) (x : Row) (repeated : Bool) : Type 0 where
@@ -34,31 +38,40 @@ pub record TellsRepeated (b : List ℕ) (before : List Row) (x : Row) (repeated 
 -- 23 DupName, 24 Dot, 25 HardLink
 pub data IsNameFault (b : List ℕ) (r : ℕ) (all before : List Row) (x : Row) : ℕ → Type 0 where
   repeated : {n : ℕ} → n ≡ DUPLICATE_NAME → Repeats b before x → IsNameFault b r all before x n
-  here_astray : {n : ℕ} → n ≡ DOT → name_of b x.offset ≡ dot → follow b all 8 x.offset ≢ Some x.directory
+  here_astray : {n : ℕ} → n ≡ DOT → name_of b x.offset ≡ dot
+      → follow b all 8 x.offset ≢ Some x.directory
       → IsNameFault b r all before x n
-  above_astray : {n : ℕ} → n ≡ DOT → name_of b x.offset ≡ dot_dot → follow b all 8 x.offset ≢ Some x.parent
+  above_astray : {n : ℕ} → n ≡ DOT → name_of b x.offset ≡ dot_dot
+      → follow b all 8 x.offset ≢ Some x.parent
       → IsNameFault b r all before x n
-  root_renamed : {n : ℕ} → n ≡ DOT → x.offset ≡ r → name_of b x.offset ≢ dot → IsNameFault b r all before x n
-  link_astray : {n : ℕ} → n ≡ HARD_LINK → is_dots (name_of b x.offset) ≡ false → type_of b x.offset ≡ 0
-      → ((q : ℕ) → follow b all 8 x.offset ≡ Some q → type_of b q ≢ 1 → ⊥) → IsNameFault b r all before x n
+  root_renamed : {n : ℕ} → n ≡ DOT → x.offset ≡ r → name_of b x.offset ≢ dot
+      → IsNameFault b r all before x n
+  link_astray : {n : ℕ} → n ≡ HARD_LINK → is_dots (name_of b x.offset) ≡ false
+      → type_of b x.offset ≡ 0
+      → ((q : ℕ) → follow b all 8 x.offset ≡ Some q → type_of b q ≢ 1 → ⊥)
+      → IsNameFault b r all before x n
 
 pub record IsWellNamed (b : List ℕ) (r : ℕ) (all before : List Row) (x : Row) : Type 0 where
   pub fresh : Repeats b before x → ⊥
   pub leads : LeadsWell b all x
   pub root : x.offset ≡ r → name_of b x.offset ≡ dot
 
--- no entry too deep, no overlap, and each name in its place
+-- no entry is too deep, nothing overlaps, and each name is valid in its list
 pub record AreWell (b : List ℕ) (r most : ℕ) (all : List Row) : Type 0 where
-  pub shallow : (before : List Row) (x : Row) (after : List Row) → all ≡ before ++ x ∷ after → IsShallow b most before x
+  pub shallow : (before : List Row) (x : Row) (after : List Row) → all ≡ before ++ x ∷ after
+      → IsShallow b most before x
   pub apart : (p : ℕ) → OverlapsAt (extents_of b r all) p → ⊥
-  pub named : (before : List Row) (x : Row) (after : List Row) → listed_rows b r all ≡ before ++ x ∷ after
+  pub named : (before : List Row) (x : Row) (after : List Row)
+      → listed_rows b r all ≡ before ++ x ∷ after
       → IsWellNamed b r all before x
 
 -- the least fault of the first of these phases that has one
 pub data IsLaterFault (b : List ℕ) (r most : ℕ) (all : List Row) (e : Fault) : Type 0 where
-  deep : IsLeastRowFault (IsShallow b most) (IsTooDeep b most) all (Some e) → IsLaterFault b r most all e
+  deep : IsLeastRowFault (IsShallow b most) (IsTooDeep b most) all (Some e)
+      → IsLaterFault b r most all e
   overlap : IsLeastRowFault (IsShallow b most) (IsTooDeep b most) all None → {p : ℕ}
-      → IsLeastOf (OverlapsAt (extents_of b r all)) (Some p) → e ≡ record { number = OVERLAP; at = p }
+      → IsLeastOf (OverlapsAt (extents_of b r all)) (Some p)
+      → e ≡ record { number = OVERLAP; at = p }
       → IsLaterFault b r most all e
   name : IsLeastRowFault (IsShallow b most) (IsTooDeep b most) all None
       → IsLeastOf (OverlapsAt (extents_of b r all)) None

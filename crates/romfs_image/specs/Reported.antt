@@ -1,4 +1,4 @@
--- What an image value reports. (This project's own.)
+-- `report_of`: what an image value reports. (This project's own.)
 use Rattle.rom_tree.specs.declared.types.Report.{Report}
 use Rattle.romfs_image.specs.declared.image.Romfs.{Romfs}
 

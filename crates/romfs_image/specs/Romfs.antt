@@ -1,4 +1,5 @@
--- What a checked romfs image is to the layers above. (This project's own.)
+-- `romfs_view`: a checked romfs image as an `Image`. `GivesRest`: a run has the rest of the file.
+-- (This project's own.)
 use Rattle.std.proofs.Common.{◌≡◌, ℕ, ◌≤◌, List, length, Some, refl}
 use Rattle.std.specs.Prelude.{◌-◌, Option, MatchOption}
 use Rattle.rom_tree.specs.declared.types.Run.{Run}
@@ -11,8 +12,10 @@ pub starts_at : (b : List ℕ) (r k d : ℕ) → cursor_of b r k d 0 ≡ Some 0
 unfolding cursor_of
 starts_at b r k d = refl
 
--- All bytes of the image, and the tree that the accessible ones, b, give: the root is at r, and there are k records.
-abbrev pub romfs_view : (bytes b : List ℕ) (r k : ℕ) → IsRomfs b r k → length b ≤ length bytes → Image
+-- All bytes of the image, and the tree of the accessible bytes b. The root is at r, and there are k
+-- records.
+abbrev pub romfs_view : (bytes b : List ℕ) (r k : ℕ) → IsRomfs b r k → length b ≤ length bytes
+    → Image
 romfs_view bytes b r k s within = record {
   bytes = bytes;
   tree = made b r k r;

@@ -1,13 +1,14 @@
-//! The accessible bytes of an image with the place of its root, and its records as the traversal
+//! The accessible bytes of an image with the offset of its root, and its records as the traversal
 //! reads them.
 ghost use Rattle.std.specs.Prelude.{◌≡◌, ◌≢◌, ◌+◌, ◌<◌, ◌≤◌, ◌^◌, length};
-ghost use Rattle.romfs_format.specs.Refers.{references, LeadsToSound, LeadsToFault, some_offset, list_of, following, reference_offset};
+ghost use Rattle.romfs_format.specs.Refers.{references, LeadsToSound, LeadsToFault, some_offset};
+ghost use Rattle.romfs_format.specs.Refers.{list_of, following, reference_offset};
 
 use crate::soundness::record_fault;
 use record_forest::{Edge, Edges, Records, Reference, VerifiedRanges};
 use rom_faults::Fault;
 
-/// The accessible bytes of an image, and where the root's header stands among them.
+/// The accessible bytes of an image, and the offset of the root's header among them.
 #[derive(Clone, Copy)]
 pub struct Accessible<'a> {
     pub bytes: &'a [u8],
@@ -17,7 +18,7 @@ pub struct Accessible<'a> {
     ghost header: { root + 32 ≤ length bytes.now },
 }
 
-/// An offset, where it is not 0.
+/// An offset if it is not 0, otherwise none.
 fn some(offset: u32) -> Option<u32>
     ensures { result ≡ some_offset offset }
 {
@@ -25,7 +26,8 @@ fn some(offset: u32) -> Option<u32>
 }
 
 impl Accessible<'_> {
-    /// Where the list of the record at `at` begins; that the root heads its own is no reference.
+    /// The offset at which the list of the record at `at` begins, by a reference: if the root is
+    /// the first of its own list, that is no reference.
     #[tactic(auto, unfolding(romfs_format::specs::Refers::list_of, romfs_format::specs::Refers::heads_itself))]
     fn list_at(&self, at: u32) -> u32
         requires { at + 16 ≤ length self.now.bytes.now }
@@ -60,7 +62,7 @@ impl Records for Accessible<'_> {
 
     ghost faulty = { λ s. LeadsToFault s.bytes.now s.root };
 
-    // Nothing is kept: a record is looked at once for each reference.
+    // No numbers are kept: a record is looked at once for each reference.
     ghost well = { λ _ _. Unit {0} };
 
     #[tactic(auto, unfolding(romfs_format::specs::Refers::reference_offset))]

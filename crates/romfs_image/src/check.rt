@@ -15,13 +15,13 @@ impl<'a> Romfs<'a> {
     ghost use Rattle.rom_tree.specs.Tree.{levels};
     ghost use Rattle.romfs_image.specs.Reported.{report_of};
 
-    /// The image of these bytes, where they hold the tree of a romfs image within the limits (a
-    /// depth limit above 64 counts as 64), which is where they have no fault; else their least
-    /// fault, by phases: the image as a whole, the count of references, records, references, depth,
-    /// extents, names (`romfs_format/specs/Faults.antt`).
+    /// Checks these bytes, and returns their image if they hold the tree of a romfs image within
+    /// the limits (a depth limit above 64 counts as 64). Otherwise returns their least fault, by
+    /// phases: the image as a whole, the count of references, records, references, depth, extents,
+    /// names (`romfs_format/specs/Faults.antt`).
     ///
-    /// It looks at no more than `limits.references` references and one more. Of r records it takes
-    /// time as r log r and memory for some 120 bytes a record. `OutOfMemory` where that is refused.
+    /// Returns `OutOfMemory` if memory is refused. For r records, the time grows as r log r, and
+    /// the memory is some 120 bytes a record (this is not proved).
     pub fn check(alloc: Global, bytes: &'a [u8], limits: Limits) -> Result<Romfs<'a>, CheckError>
         ensures ok { IfOk result (λ v. Shows bytes.now limits (⟦<Romfs<'a> as Viewed>⟧.image v)
             (report_of v)) }

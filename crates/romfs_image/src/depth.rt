@@ -32,7 +32,7 @@ fn is_too_deep(b: &Accessible<'_>, row: Row, most: u32) -> bool
     row.depth > most && is_entry(b, row)
 }
 
-/// The least fault of an entry deeper than `most`.
+/// Returns the least fault of an entry deeper than `most`, or `None` if there is none.
 pub fn least_too_deep(b: &Accessible<'_>, rows: &[Row], most: u32) -> Option<Fault>
     requires { All (λ x. IsSound b.now.bytes.now b.now.root x.offset) rows.now }
     ensures { IsLeastRowFault (IsShallow b.now.bytes.now most)
@@ -51,7 +51,7 @@ pub fn least_too_deep(b: &Accessible<'_>, rows: &[Row], most: u32) -> Option<Fau
     noted
 }
 
-/// The greatest depth of an entry, 0 where there is none.
+/// Returns the greatest depth of an entry, or 0 if there is none.
 pub fn greatest_depth(b: &Accessible<'_>, rows: &[Row]) -> u32
     requires { All (λ x. IsSound b.now.bytes.now b.now.root x.offset) rows.now }
     ensures bound { All (λ x. is_dots (name_of b.now.bytes.now x.offset) ≡ false

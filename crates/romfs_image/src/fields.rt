@@ -1,7 +1,9 @@
-//! The fields of a record, which is a file header with its name, and what its type says.
-ghost use Rattle.std.specs.Prelude.{◌≡◌, ◌≢◌, ◌+◌, ◌≤◌, ◌<◌, ◌^◌, ℕ, List, length, MatchOption, SomeIff, drop, IsTrue};
+//! The fields of a record, which is a file header with its name, and the meaning of its type.
+ghost use Rattle.std.specs.Prelude.{◌≡◌, ◌≢◌, ◌+◌, ◌≤◌, ◌<◌, ◌^◌, ℕ, List, length, MatchOption};
+ghost use Rattle.std.specs.Prelude.{SomeIff, drop, IsTrue};
 ghost use Rattle.rom_fields.specs.Words.{word_be};
-ghost use Rattle.romfs_format.specs.Record.{before_zero, name_of, end_of, next_of, first_of, type_of, spec_offset_of, size_of, IsSound};
+ghost use Rattle.romfs_format.specs.Record.{before_zero, name_of, end_of, next_of, first_of};
+ghost use Rattle.romfs_format.specs.Record.{type_of, spec_offset_of, size_of, IsSound};
 ghost use Rattle.romfs_format.specs.Tree.{kind_named, mode_named, led, by_type};
 ghost use Rattle.romfs_format.specs.Made.{begins};
 
@@ -10,7 +12,7 @@ use memchr::memchr;
 use rom_tree::Kind;
 use romfs_format::header;
 
-/// How long the name at `at` is, where a zero ends it within 256 bytes.
+/// Returns the length of the name at `at`, or `None` if no zero ends it within 256 bytes.
 pub fn name_len(b: &[u8], at: usize) -> Option<usize>
     ensures { SomeIff result ((at + length (before_zero (drop at b.now)) < length b.now)
         × (length (before_zero (drop at b.now)) < 256))
@@ -26,7 +28,7 @@ pub fn name_len(b: &[u8], at: usize) -> Option<usize>
 }
 
 impl<'a> Accessible<'a> {
-    /// The word at `at`.
+    /// Reads the word at `at`.
     pub fn word(&self, at: usize) -> u32
         requires { at + 4 ≤ length self.now.bytes.now }
         ensures { result ≡ word_be self.now.bytes.now at }
@@ -34,7 +36,7 @@ impl<'a> Accessible<'a> {
         header::word(self.bytes, at)
     }
 
-    /// The record's type, 0 to 7.
+    /// Reads the record's type, 0 to 7.
     pub fn type_at(&self, at: usize) -> u32
         requires { at + 16 ≤ length self.now.bytes.now }
         ensures { result ≡ type_of self.now.bytes.now at }
@@ -42,7 +44,7 @@ impl<'a> Accessible<'a> {
         header::type_at(self.bytes, at)
     }
 
-    /// The offset of the record after it.
+    /// Reads the offset of the next record.
     pub fn next_offset(&self, at: usize) -> u32
         requires { at + 16 ≤ length self.now.bytes.now }
         ensures { result ≡ next_of self.now.bytes.now at }
@@ -50,7 +52,7 @@ impl<'a> Accessible<'a> {
         header::next_at(self.bytes, at)
     }
 
-    /// The offset in its spec.
+    /// Reads the offset in its spec.
     pub fn spec_offset(&self, at: usize) -> u32
         requires { at + 16 ≤ length self.now.bytes.now }
         ensures { result ≡ spec_offset_of self.now.bytes.now at }
@@ -58,7 +60,7 @@ impl<'a> Accessible<'a> {
         header::spec_at(self.bytes, at)
     }
 
-    /// Its size.
+    /// Reads its size.
     pub fn size_at(&self, at: usize) -> u32
         requires { at + 16 ≤ length self.now.bytes.now }
         ensures { result ≡ size_of self.now.bytes.now at }
@@ -66,7 +68,7 @@ impl<'a> Accessible<'a> {
         header::size_at(self.bytes, at)
     }
 
-    /// The first record of its list, 0 where it has none.
+    /// Reads the offset of the first record of its list, or 0 if it has no list.
     pub fn first_offset(&self, at: usize) -> u32
         requires { at + 16 ≤ length self.now.bytes.now }
         ensures { result ≡ first_of self.now.bytes.now at }
@@ -74,7 +76,7 @@ impl<'a> Accessible<'a> {
         header::first_at(self.bytes, at)
     }
 
-    /// The name of a record.
+    /// Returns the name of a record.
     pub fn name_at(&self, at: u32) -> &'a [u8]
         requires { IsSound self.now.bytes.now self.now.root at }
         ensures { result.now ≡ name_of self.now.bytes.now at }
@@ -86,7 +88,7 @@ impl<'a> Accessible<'a> {
         &self.bytes[start..start + len]
     }
 
-    /// Where the record ends and its data begin.
+    /// Returns the offset at which the record ends and its data begin.
     pub fn end_at(&self, at: u32) -> u32
         requires { IsSound self.now.bytes.now self.now.root at }
         ensures value { result ≡ end_of self.now.bytes.now at }
@@ -96,7 +98,7 @@ impl<'a> Accessible<'a> {
         at + 16 + (name.len() as u32 + 1 + 15) / 16 * 16
     }
 
-    /// Where the list of a directory begins; 0 where there is none.
+    /// Returns the offset at which the list of a directory begins, or 0 if there is none.
     #[tactic(auto, unfolding(romfs_format::specs::Made::begins, romfs_format::specs::Made::start_of, romfs_format::specs::Refers::heads_itself))]
     pub fn list_start(&self, at: u32) -> u32
         requires { IsSound self.now.bytes.now self.now.root at }
@@ -110,7 +112,7 @@ impl<'a> Accessible<'a> {
         }
     }
 
-    /// Where a record leads over hard links.
+    /// Returns the offset of the record to which a record leads over hard links.
     pub fn led_at(&self, at: u32) -> u32
         requires { (n : ℕ) → n ≤ 8 → IsSound self.now.bytes.now self.now.root
             (led n self.now.bytes.now at) }
@@ -126,7 +128,7 @@ impl<'a> Accessible<'a> {
     }
 }
 
-/// The kind of a record by its type.
+/// Returns the kind of a record by its type.
 pub fn kind_at(t: u32) -> Kind
     ensures { result ≡ kind_named t }
 {
@@ -147,7 +149,7 @@ pub fn kind_at(t: u32) -> Kind
     }
 }
 
-/// The permissions of a record by its type.
+/// Returns the permissions of a record by its type.
 pub fn mode_at(t: u32, executable: bool) -> u32
     ensures { result ≡ mode_named t executable }
 {
@@ -162,14 +164,14 @@ pub fn mode_at(t: u32, executable: bool) -> u32
     }
 }
 
-/// What only regular files and symbolic links have.
+/// Returns `x` for regular files and symbolic links, and 0 for other types.
 pub fn file_at(t: u32, x: u32) -> u32
     ensures { result ≡ by_type t 0 x x 0 0 0 0 }
 {
     if t == 2 || t == 3 { x } else { 0 }
 }
 
-/// What only devices have.
+/// Returns `x` for devices, and 0 for other types.
 pub fn device_at(t: u32, x: u32) -> u32
     ensures { result ≡ by_type t 0 0 0 x x 0 0 }
 {

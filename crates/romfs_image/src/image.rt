@@ -1,3 +1,4 @@
+//! A checked image as a tree of files.
 ghost use Rattle.std.specs.Prelude.{◌≡◌, ◌<◌, ◌≤◌, ◌^◌, length, take};
 ghost use Rattle.romfs_format.specs.Made.{IsRomfs};
 ghost use Rattle.romfs_image.specs.Romfs.{romfs_view};
@@ -9,11 +10,11 @@ use arrayvec::ArrayVec;
 use record_forest::Row;
 use rom_tree::{Cursor, Entry, Limits, NodeId, Report, Run, Stat, TreeImage, Viewed, is_dots};
 
-/// A cursor other than the start is the offset of the next record from here on: the end of a list,
-/// whose offset is 0, is told from the start in this way.
+/// Added to the offset of the next record to make a cursor other than the start. So the end of a
+/// list, whose offset is 0, differs from the start.
 const CURSOR_BASE: u64 = 1 << 32;
 
-/// An image that has been checked.
+/// A checked image.
 #[derive(Drop)]
 pub struct Romfs<'a> {
     all: &'a [u8],
@@ -25,8 +26,8 @@ pub struct Romfs<'a> {
     ghost front: { accessible.bytes.now ≡ take (length accessible.bytes.now) all.now },
 }
 
-/// The numbers of a checked image, by which it is made again of its bytes: how many of them are
-/// accessible, where the root is, and what the check reported.
+/// The numbers that make a checked image again from its bytes: the number of accessible bytes, the
+/// root's offset, and what the check reported.
 #[derive(Clone, Copy)]
 pub struct Parts {
     pub accessible: u32,
@@ -43,7 +44,8 @@ impl Viewed for Romfs<'_> {
 impl<'a> TreeImage<'a> for Romfs<'a> {
     ghost use Rattle.std.specs.Prelude.{Some, None, MatchOption};
     ghost use Rattle.rom_tree.specs.Tree.{Node, places_of, entries_of, ino_of};
-    ghost use Rattle.rom_tree.specs.Image.{image_node, find_entry, HasNode, HasDirectory, GivesRun, GivesWhole};
+    ghost use Rattle.rom_tree.specs.Image.{image_node, find_entry, HasNode, HasDirectory, GivesRun};
+    ghost use Rattle.rom_tree.specs.Image.{GivesWhole};
     ghost use Rattle.romfs_image.specs.Reported.{report_of};
     ghost use Rattle.romfs_image.specs.Romfs.{GivesRest};
 
@@ -116,7 +118,7 @@ impl<'a> TreeImage<'a> for Romfs<'a> {
         None
     }
 
-    /// The report stays as it is.
+    /// Does not change the report.
     fn lookup(&mut self, d: NodeId, name: &[u8]) -> Option<NodeId>
         requires { HasDirectory (⟦<Romfs<'a> as Viewed>⟧.image self.old) d.0 }
         ensures stays { ⟦<Romfs<'a> as Viewed>⟧.image self.new
@@ -138,7 +140,7 @@ impl<'a> TreeImage<'a> for Romfs<'a> {
         None
     }
 
-    /// It has the rest of the file.
+    /// Returns a run with the rest of the file.
     fn run(&self, n: NodeId, off: u64) -> Option<Run>
         requires { HasNode (⟦<Romfs<'a> as Viewed>⟧.image self.now) n.0 }
         ensures row { (x : Node) → image_node (⟦<Romfs<'a> as Viewed>⟧.image self.now) n.0 ≡ Some x
@@ -174,8 +176,8 @@ impl<'a> Romfs<'a> {
     ghost use Rattle.romfs_image.specs.Reported.{report_of};
     ghost use Rattle.romfs_image.specs.Parts.{AreParts, tree_of_parts, cursors_of_parts};
 
-    /// The image of the bytes `all`, whose accessible ones are those of `b`, with the rows of its
-    /// tree.
+    /// Makes the image of the bytes `all`, whose accessible bytes are those of `b`, from the rows
+    /// of its tree.
     pub(crate) fn opened(
         all: &'a [u8],
         b: Accessible<'a>,
@@ -198,7 +200,7 @@ impl<'a> Romfs<'a> {
         }
     }
 
-    /// Its numbers, by which `again` gives an image of the same bytes.
+    /// Returns its numbers, by which `again` makes an image of the same bytes.
     pub fn parts(&self) -> Parts
         ensures are { AreParts (⟦<Romfs<'a> as Viewed>⟧.image self.now).bytes result }
         ensures tree { (⟦<Romfs<'a> as Viewed>⟧.image self.now).tree
@@ -215,7 +217,7 @@ impl<'a> Romfs<'a> {
         }
     }
 
-    /// The image of these bytes with these numbers, which a check gave. Nothing is read.
+    /// Makes the image of these bytes again from numbers that a check found. Reads nothing.
     pub fn again(all: &'a [u8], parts: Parts) -> Romfs<'a>
         requires { AreParts all.now parts }
         ensures bytes { (⟦<Romfs<'a> as Viewed>⟧.image result).bytes ≡ all.now }
@@ -235,7 +237,7 @@ impl<'a> Romfs<'a> {
         }
     }
 
-    /// How many references the image has, that of the superblock among them, and the greatest
+    /// Returns the number of references of the image, including the superblock's, and the greatest
     /// number of names from the root to a node.
     pub fn report(&self) -> Report
         ensures { result ≡ report_of self.now }

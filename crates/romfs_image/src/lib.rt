@@ -1,11 +1,11 @@
-//! Checked romfs images.
+//! `Romfs::check`, which accepts the bytes of a romfs image or names their least fault; and
+//! `Romfs`, the checked image as a `TreeImage`, which copies no contents (Linux
+//! Documentation/filesystems/romfs.rst).
 //!
-//! `Romfs::check` takes the bytes of an image (Linux Documentation/filesystems/romfs.rst) and gives
-//! an image value, or the least fault. Proved: it gives a value only where the bytes hold a tree of
-//! files, as `romfs_format` defines it, and have no fault; it gives a fault only where they hold
-//! none, and that fault is the least one; and each call on the value answers from the tree
-//! (`rom_tree::TreeImage`). Contents are never copied. By `laws::exact` the set of faults,
-//! which knows no tree, is empty exactly where a tree stands.
+//! Proved: an image is returned only if the bytes hold a tree of files, as `romfs_format` defines
+//! it, and have no fault. A fault is returned only if they hold no tree, and it is the least one.
+//! Each call on the image answers from the tree. By `laws::exact` there is no fault exactly if
+//! there is a tree.
 #![tactic(auto)]
 
 mod accessible;

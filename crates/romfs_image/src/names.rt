@@ -1,5 +1,6 @@
-//! The phase that looks at the names in each list, and at what hard links lead to.
-ghost use Rattle.std.specs.Prelude.{◌≡◌, ◌≢◌, ◌<◌, ◌↔◌, IsTrue, IfNone, IfSome, IfOk, Some, List, ℕ, false};
+//! The phase that looks at the names in each list, and at the records to which hard links lead.
+ghost use Rattle.std.specs.Prelude.{◌≡◌, ◌≢◌, ◌<◌, ◌↔◌, IsTrue, IfNone, IfSome, IfOk, Some, List};
+ghost use Rattle.std.specs.Prelude.{ℕ, false};
 ghost use Rattle.std.specs.Bool.{OnTrue, OnFalse};
 ghost use Rattle.std.specs.List.{All};
 ghost use Rattle.record_forest.specs.declared.reference.Row.{Row};
@@ -20,7 +21,7 @@ use rom_fields::OutOfMemory;
 use rom_tree::{is_dot, is_dot_dot, is_dots};
 use std::alloc::Global;
 
-/// Whether following a record leads to the one at `to`.
+/// Whether a record leads to the one at `to`.
 fn leads(led: Option<u32>, to: u32) -> bool
     ensures { IsTrue result ↔ (led ≡ Some to) }
 {
@@ -30,8 +31,8 @@ fn leads(led: Option<u32>, to: u32) -> bool
     }
 }
 
-/// Whether `.` or `..` leads elsewhere than it is to, or the root heads its list under another
-/// name.
+/// Whether `.` or `..` does not lead where it must, or the root is the first of its own list under
+/// another name.
 fn is_astray(b: &Accessible<'_>, all: &[Row], offsets: &[u32], row: Row) -> bool
     requires all { All (λ x. IsSound b.now.bytes.now b.now.root x.offset) all.now }
     requires offsets { AreOffsets all.now offsets.now }
@@ -93,8 +94,8 @@ fn is_link_astray(b: &Accessible<'_>, all: &[Row], offsets: &[u32], row: Row) ->
     }
 }
 
-/// The least fault of a row's name, whatever rows stand before it; `repeated` tells whether one of
-/// them has the name in its list.
+/// The least fault of a row's name, for any rows before it; `repeated` is whether one of them has
+/// the name in its list.
 fn name_fault(
     b: &Accessible<'_>,
     all: &[Row],
@@ -123,7 +124,7 @@ fn name_fault(
     None
 }
 
-/// The names of the rows, by their indices.
+/// The names of the rows, by their index.
 fn names_of<'a>(
     alloc: Global,
     b: &Accessible<'a>,
@@ -144,8 +145,8 @@ fn names_of<'a>(
     Ok(names)
 }
 
-/// The least fault of a name among the rows that stand in lists; `all` are those of the whole
-/// image.
+/// Returns the least fault of a name among the rows that are in lists, or `None` if there is none.
+/// `all` are the rows of the whole image.
 pub fn least_name_fault(
     alloc: Global,
     b: &Accessible<'_>,

@@ -10,7 +10,7 @@ use record_forest::Row;
 use rom_fields::{Extent, Extents, OutOfMemory};
 use std::alloc::Global;
 
-/// Adds what the record of a row takes: its header with its name, and its data where it has any.
+/// Adds the extents of a row's record: its header with its name, and its data if it has any.
 fn add_row(extents: &mut Extents, b: &Accessible<'_>, row: Row) -> Result<(), OutOfMemory>
     requires sound { IsSound b.now.bytes.now b.now.root row.offset }
     ensures { OnOk result (extents.new ≡ extents.old ++ row_extents b.now.bytes.now row) }
@@ -24,7 +24,7 @@ fn add_row(extents: &mut Extents, b: &Accessible<'_>, row: Row) -> Result<(), Ou
     Ok(())
 }
 
-/// The least place where two extents of the image overlap.
+/// Returns the least offset at which two extents of the image overlap, or `None` if no two do.
 pub fn least_overlap(
     alloc: Global,
     b: &Accessible<'_>,

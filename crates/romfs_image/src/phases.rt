@@ -15,7 +15,8 @@ use rom_faults::fault::OVERLAP;
 use rom_fields::OutOfMemory;
 use std::alloc::Global;
 
-/// The rows that stand in lists: all, where the root heads its own list, else all but the root's.
+/// The rows that are in lists: all of them if the root is the first of its own list, otherwise all
+/// except the root's.
 #[tactic(auto, unfolding(romfs_format::specs::Tree::listed_rows, romfs_format::specs::Refers::heads_itself))]
 fn listed<'a>(b: &Accessible<'_>, rows: &'a [Row]) -> &'a [Row]
     requires some { 1 ≤ length rows.now }
@@ -28,8 +29,8 @@ fn listed<'a>(b: &Accessible<'_>, rows: &'a [Row]) -> &'a [Row]
     }
 }
 
-/// The least fault of depth, extents and names among the rows of an image, by phases; none where
-/// they are well.
+/// Returns the least fault of depth, extents and names among the rows of an image, by phases, or
+/// `None` if they have none.
 pub fn later_fault(
     alloc: Global,
     b: &Accessible<'_>,

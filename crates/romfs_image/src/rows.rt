@@ -1,4 +1,4 @@
-//! Facts that several phases ask of the rows.
+//! Facts about the rows that several phases need.
 ghost use Rattle.std.specs.Prelude.{◌≡◌, ◌==◌, IfSome, IfOk};
 ghost use Rattle.std.specs.List.{All, list_any};
 ghost use Rattle.romfs_format.specs.Record.{IsSound};
@@ -10,7 +10,7 @@ use record_forest::Row;
 use rom_fields::OutOfMemory;
 use std::alloc::Global;
 
-/// The offsets of the rows, in rising order.
+/// Returns the offsets of the rows, in rising order.
 pub fn offsets_of(alloc: Global, rows: &[Row]) -> Result<Vec<u32>, OutOfMemory>
     ensures { IfOk result (λ v. AreOffsets rows.now v.items) }
 {
@@ -22,7 +22,7 @@ pub fn offsets_of(alloc: Global, rows: &[Row]) -> Result<Vec<u32>, OutOfMemory>
     Ok(offsets)
 }
 
-/// Whether one of the rows that have these offsets has this one.
+/// Whether one of the rows, which have these offsets, has this offset.
 fn is_among(rows: &[Row], offsets: &[u32], offset: u32) -> bool
     requires { AreOffsets rows.now offsets.now }
     ensures { result ≡ list_any (λ x. x.offset == offset) rows.now }
@@ -30,7 +30,8 @@ fn is_among(rows: &[Row], offsets: &[u32], offset: u32) -> bool
     offsets.binary_search(&offset).is_ok()
 }
 
-/// The record that the one at `at` leads to among the rows, over at most 8 hard links.
+/// Returns the offset of the record to which the one at `at` leads among the rows, over at most 8
+/// hard links.
 pub fn led_to(b: &Accessible<'_>, rows: &[Row], offsets: &[u32], at: u32) -> Option<u32>
     requires here { IsSound b.now.bytes.now b.now.root at }
     requires offsets { AreOffsets rows.now offsets.now }

@@ -1,24 +1,27 @@
-//! The tests of one record, wherever a reference leads.
-ghost use Rattle.std.specs.Prelude.{◌≡◌, ◌≢◌, ◌+◌, ◌-◌, ◌≤◌, ◌<◌, ◌^◌, ◌⊎◌, ℕ, length, IfOk, IfErr, IfNone, IfSome, IsTrue, ◌↔◌};
+//! The tests of one record to which a reference leads.
+ghost use Rattle.std.specs.Prelude.{◌≡◌, ◌≢◌, ◌+◌, ◌-◌, ◌≤◌, ◌<◌, ◌^◌, ◌⊎◌, ℕ, length, IfOk, IfErr};
+ghost use Rattle.std.specs.Prelude.{IfNone, IfSome, IsTrue, ◌↔◌};
 ghost use Rattle.std.specs.Bool.{OnTrue, OnFalse};
 ghost use Rattle.std.specs.List.{Contains};
 ghost use Rattle.rom_fields.specs.Words.{words_sum, part_of};
 ghost use Rattle.record_forest.specs.Faults.{IsLeast};
-ghost use Rattle.romfs_format.specs.Record.{name_of, end_of, next_of, first_of, type_of, spec_offset_of, size_of, has_data, IsSound, IsWhole, HasRecordFault};
+ghost use Rattle.romfs_format.specs.Record.{name_of, end_of, next_of, first_of, type_of};
+ghost use Rattle.romfs_format.specs.Record.{spec_offset_of, size_of, has_data, IsSound, IsWhole};
+ghost use Rattle.romfs_format.specs.Record.{HasRecordFault};
 
 use crate::accessible::Accessible;
 use crate::fields::name_len;
 use rom_faults::fault::{BAD_NAME, BOUNDS, HEADER_SUM, LINK_SIZE};
 use rom_fields::word_sum;
 
-/// How long the name of a whole record is, and where the record ends.
+/// The length of the name of a whole record, and the offset at which the record ends.
 #[derive(Clone, Copy)]
 pub struct Whole {
     pub name: usize,
     pub end: usize,
 }
 
-/// Whether the record at `at` lies whole among the bytes; its one fault where it does not.
+/// Checks whether the whole record at `at` is among the bytes. Otherwise returns its only fault.
 pub fn whole_record(b: &Accessible<'_>, at: usize) -> Result<Whole, u32>
     ensures whole { IfOk result (λ w. IsWhole b.now.bytes.now b.now.root at) }
     ensures name { IfOk result (λ w. w.name ≡ length (name_of b.now.bytes.now at)) }
@@ -39,7 +42,7 @@ pub fn whole_record(b: &Accessible<'_>, at: usize) -> Result<Whole, u32>
     Ok(Whole { name, end })
 }
 
-/// Whether the data of the record lie among the bytes, from `end` on.
+/// Whether the data of the record are among the bytes, from `end` on.
 fn data_lie(b: &Accessible<'_>, at: usize, end: usize) -> bool
     requires header { at + 16 ≤ length b.now.bytes.now }
     requires end { end ≤ length b.now.bytes.now }
@@ -73,7 +76,7 @@ fn has_slash(name: &[u8]) -> bool
     name.contains(&47)
 }
 
-/// Whether its name of `len` bytes is a name: not empty, and without a slash.
+/// Whether its name of `len` bytes is valid: not empty, and without a slash.
 fn has_name(b: &Accessible<'_>, at: usize, len: usize) -> bool
     requires len { len ≡ length (name_of b.now.bytes.now at) }
     requires fits { at + 16 + len < length b.now.bytes.now }
@@ -92,7 +95,7 @@ fn has_name(b: &Accessible<'_>, at: usize, len: usize) -> bool
     true
 }
 
-/// Whether the size of a symbolic link is that of a text: 1 to 4,095 bytes.
+/// Whether the size of a symbolic link is that of a valid text: 1 to 4,095 bytes.
 fn has_link_size(b: &Accessible<'_>, at: usize) -> bool
     requires { at + 16 ≤ length b.now.bytes.now }
     ensures fits { OnTrue result (type_of b.now.bytes.now at ≡ 3
@@ -109,7 +112,7 @@ fn has_link_size(b: &Accessible<'_>, at: usize) -> bool
     }
 }
 
-/// The least fault of a record, if it is not sound.
+/// Returns the least fault of a record, or `None` if it is valid.
 pub fn record_fault(b: &Accessible<'_>, at: usize) -> Option<u32>
     ensures sound { IfNone result (IsSound b.now.bytes.now b.now.root at) }
     ensures fault { IfSome result (λ n. IsLeast (HasRecordFault b.now.bytes.now b.now.root at) n) }

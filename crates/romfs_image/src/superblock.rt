@@ -1,9 +1,11 @@
-//! The superblock of an image: which bytes are accessible, and where the root is.
-ghost use Rattle.std.specs.Prelude.{◌≡◌, ◌≤◌, ◌<◌, ◌+◌, ◌^◌, length, IfOk, IfErr, IsTrue, ◌↔◌, take, min, drop, SomeIff, IfSome, option_copied};
+//! The superblock of an image: the accessible bytes, and the offset of the root.
+ghost use Rattle.std.specs.Prelude.{◌≡◌, ◌≤◌, ◌<◌, ◌+◌, ◌^◌, length, IfOk, IfErr, IsTrue, ◌↔◌};
+ghost use Rattle.std.specs.Prelude.{take, min, drop, SomeIff, IfSome, option_copied};
 ghost use Rattle.rom_fields.specs.Words.{words_sum};
 ghost use Rattle.romfs_format.specs.Record.{type_of, before_zero};
 ghost use Rattle.romfs_format.specs.Tree.{root_of, IsSuperblock};
-ghost use Rattle.romfs_format.specs.Superblock.{accessible, HasSize, HasSum, HasRoot, HasImageFault};
+ghost use Rattle.romfs_format.specs.Superblock.{accessible, HasSize, HasSum, HasRoot};
+ghost use Rattle.romfs_format.specs.Superblock.{HasImageFault};
 
 use crate::accessible::Accessible;
 use memchr::memchr;
@@ -11,7 +13,7 @@ use rom_faults::{Fault, fault};
 use rom_fields::word_sum;
 use romfs_format::superblock::{begins, stated_size};
 
-/// The accessible bytes, where the size is one that the image can have.
+/// The accessible bytes, if the image can have its stated size.
 fn accessible_bytes<'a>(bytes: &'a [u8]) -> Option<&'a [u8]>
     requires { 32 ≤ length bytes.now }
     ensures part { SomeIff (option_copied result) (HasSize bytes.now) (accessible bytes.now) }
@@ -31,7 +33,7 @@ fn has_sum(b: &[u8]) -> bool
     word_sum(&b[..b.len().min(512)]) == 0
 }
 
-/// How many bytes stand from `at` before the first zero, where there is a zero.
+/// The number of bytes from `at` on before the first zero, if there is a zero.
 fn zero_after(b: &[u8], at: usize) -> Option<usize>
     requires { at ≤ length b.now }
     ensures { SomeIff result (at + length (before_zero (drop at b.now)) < length b.now)
@@ -41,7 +43,7 @@ fn zero_after(b: &[u8], at: usize) -> Option<usize>
     found
 }
 
-/// The root's offset, where a zero ends the volume name and a header lies behind it.
+/// The root's offset, if a zero ends the volume name and a header is behind it.
 fn root_offset(b: &[u8]) -> Option<u32>
     requires long { 32 ≤ length b.now }
     requires small { length b.now < 2 ^ 32 }
@@ -57,7 +59,7 @@ fn root_offset(b: &[u8]) -> Option<u32>
     Some(root as u32)
 }
 
-// The faults of an image as a whole, each at the place of the word that it is about.
+// The faults of an image as a whole, each at the offset of the word that it is about.
 const SHORT: Fault = Fault {
     number: fault::SHORT,
     at: 0,
@@ -83,8 +85,8 @@ const NO_ROOT: Fault = Fault {
     at: 16,
 };
 
-/// The accessible bytes with the place of the root, or the first fault of the image as a whole: 2
-/// Short, 3 Magic, 4 Size, 5 Sum, 9 Root.
+/// Returns the accessible bytes with the offset of the root, or the first fault of the image as a
+/// whole: 2 Short, 3 Magic, 4 Size, 5 Sum, 9 Root.
 pub fn read_superblock<'a>(bytes: &'a [u8]) -> Result<Accessible<'a>, Fault>
     ensures ok { IfOk result (λ b. IsSuperblock bytes.now b.bytes.now b.root) }
     ensures fault { IfErr result (HasImageFault bytes.now) }

@@ -3,7 +3,8 @@ use Rattle.std.proofs.Common.{◌≡◌, ◌≢◌, ℕ, zero, suc, ◌+◌, ◌
 use Rattle.std.proofs.lemmas.Bool.{ne_eqb, eq-eqb}
 use Rattle.std.proofs.lemmas.Bool.Decides.{eqb_tells}
 use Rattle.std.specs.List.{AllByRecursion as Every}
-use Rattle.rom_tree.specs.Tree.{Entries, no_entries, entry, entries_depth, body_depth, depth, directory, regular, symlink, block, character, socket, fifo}
+use Rattle.rom_tree.specs.Tree.{Entries, no_entries, entry, entries_depth, body_depth, depth, directory, regular}
+use Rattle.rom_tree.specs.Tree.{symlink, block, character, socket, fifo}
 use Rattle.record_forest.specs.declared.reference.Row.{Row}
 use Rattle.record_forest.proofs.Lists.{every_left, every_right}
 use Rattle.record_forest.specs.Forest.{Forest, none, at}
@@ -26,8 +27,10 @@ use Rattle.romfs_layout.proofs.Leads.{AreLed}
 -- the entries of names whose list is placed from `from` on
 abbrev pub made_of : List ℕ → (ℕ → ℕ) → ℕ → Names → Entries
 made_of b at' from nothing = no_entries
-made_of b at' from (leaf name i after) = entry name (node_of b (place_of from name i) no_entries) (made_of b at' (leaf_end from name i) after)
-made_of b at' from (link name i after) = entry name (node_of b (at' i.line) no_entries) (made_of b at' (header_end from name) after)
+made_of b at' from (leaf name i after) =
+    entry name (node_of b (place_of from name i) no_entries) (made_of b at' (leaf_end from name i) after)
+made_of b at' from (link name i after) =
+    entry name (node_of b (at' i.line) no_entries) (made_of b at' (header_end from name) after)
 made_of b at' from (folder name i own after) =
     let h = header_end from name in
     entry name (node_of b (pad16 from) (made_of b at' (h + 64) own)) (made_of b at' (ends (h + 64) own) after)
@@ -59,7 +62,8 @@ entries_is b cs all at' dir from (leaf name i after) h led reads =
     let q = leaf_end from name i in
     let c = code_is i in
     let s = says b p (first_place q after) (code_of i) reads.0.word (first_even cs q after h.2) c.small in
-    take_entry b p p name none (offsets q after) no_entries (made_of b at' q after) reads.0.name h.0.no_dots (led_self 8 b p (λ z. (number_is cs i h.1).1 (sym (s.kind ∙ c.kind) ∙ z))) refl
+    take_entry b p p name none (offsets q after) no_entries (made_of b at' q after) reads.0.name h.0.no_dots
+    (led_self 8 b p (λ z. (number_is cs i h.1).1 (sym (s.kind ∙ c.kind) ∙ z))) refl
     (entries_is b cs all at' dir q after h.2 led reads.1)
 entries_is b cs all at' dir from (link name i after) h led reads =
     let p = pad16 from in
@@ -79,8 +83,10 @@ entries_is b cs all at' dir from (folder name i own after) h led reads =
     let kind : type_of b p ≡ 1 = s.kind ∙ c.kind ∙ ap number_of h.1.kind in
     let inner = entries_is b cs all at' p (he + 64) own h.2 led.0 (every_left (Reads b cs) mine theirs reads.1.1.1) in
     let later = entries_is b cs all at' dir q after h.3 led.1 (every_right (Reads b cs) mine theirs reads.1.1.1) in
-    let list = skip b he none (at (he + 32) none (offsets (he + 64) own)) (ap is_dots reads.1.0.name) ∙ skip b (he + 32) none (offsets (he + 64) own) (ap is_dots reads.1.1.0.name) ∙ inner in
-    take_entry b p p name (at he none (at (he + 32) none (offsets (he + 64) own))) (offsets q after) (made_of b at' (he + 64) own) (made_of b at' q after) reads.0.name h.0.no_dots
+    let list = skip b he none (at (he + 32) none (offsets (he + 64) own)) (ap is_dots reads.1.0.name)
+    ∙ skip b (he + 32) none (offsets (he + 64) own) (ap is_dots reads.1.1.0.name) ∙ inner in
+    take_entry b p p name (at he none (at (he + 32) none (offsets (he + 64) own))) (offsets q after)
+    (made_of b at' (he + 64) own) (made_of b at' q after) reads.0.name h.0.no_dots
     (led_self 8 b p (λ z. absurd (omega (arith, kind, z)))) list later
 
 -- a node is no deeper than its list
@@ -89,7 +95,8 @@ unfolding node_of
 node_depth b p es =
     let t = type_of b p in
     let ps = places_at b p in
-    let e : body_depth (body_named t ps es) ≡ by_type t (entries_depth es) 0 0 0 0 0 0 = by_kind_map body_depth kind_numbers t (directory es) (regular ps) (symlink ps) block character socket fifo in
+    let e : body_depth (body_named t ps es) ≡ by_type t (entries_depth es) 0 0 0 0 0 0 =
+    by_kind_map body_depth kind_numbers t (directory es) (regular ps) (symlink ps) block character socket fifo in
     elim (eqb_tells t 1) [
       | inl k ↦ let f = e ∙ by_kind_directory kind_numbers t (entries_depth es) 0 0 0 0 0 0 k.1 in omega (arith, f)
       | inr k ↦ let f = e ∙ by_kind_rest kind_numbers t (entries_depth es) 0 k.1 in omega (arith, f)

@@ -1,5 +1,6 @@
--- Each file of a layout is what stands at its place.
-use Rattle.std.proofs.Common.{◌≡◌, ◌≢◌, ℕ, ◌+◌, ◌/◌, ◌%◌, true, false, eqb, if◌then◌else◌, List, [], ◌∷◌, ◌++◌, map, refl, sym, ap, subst, ◌∙◌, arith, Some}
+-- Each file of a layout is what is at its offset.
+use Rattle.std.proofs.Common.{◌≡◌, ◌≢◌, ℕ, ◌+◌, ◌/◌, ◌%◌, true, false, eqb, if◌then◌else◌, List, [], ◌∷◌, ◌++◌, map}
+use Rattle.std.proofs.Common.{refl, sym, ap, subst, ◌∙◌, arith, Some}
 use Rattle.std.proofs.lemmas.List.{map-append}
 use Rattle.std.specs.List.{AllByRecursion as Every}
 use Rattle.rom_fields.specs.Words.{word_be}
@@ -11,7 +12,8 @@ use Rattle.romfs_format.specs.Record.{pad16, type_of, size_of, end_of}
 use Rattle.romfs_format.specs.Tree.{executable, mode_named}
 use Rattle.image_parts.specs.Parts.{HasAt}
 use Rattle.manifest_tree.specs.Names.{Inode, Names, nothing, leaf, link, folder, bytes_of}
-use Rattle.romfs_layout.specs.Layout.{Header, placed, place_with, number_of, mode_bit, runnable, code_of, device_of, place_of, leaf_end, header_end, ends, first_place, headers}
+use Rattle.romfs_layout.specs.Layout.{Header, placed, place_with, number_of, mode_bit, runnable, code_of, device_of}
+use Rattle.romfs_layout.specs.Layout.{place_of, leaf_end, header_end, ends, first_place, headers}
 use Rattle.layout_terms.specs.Files.{Placed}
 use Rattle.romfs_layout.specs.Reads.{Reads}
 use Rattle.romfs_layout.specs.Wells.{FitsKind, IsFile, HasMode, AreWell, file_of, AreLinks}
@@ -32,14 +34,16 @@ pub record IsAt (b : List ℕ) (cs : List (List ℕ)) (i : Inode) (p : ℕ) : Ty
 
 mode_by : (k : Kind) (m q word : ℕ) → word ≡ q + (number_of k + mode_bit k m) → q % 16 ≡ 0
     → mode_named (number_of k) (eqb (word / 8 % 2) 1) ≡ mode_named (number_of k) (eqb m runnable)
-mode_by Directory m q word e even = elim (eqb m runnable) as (λ t. word ≡ q + (1 + (if t then 8 else 0)) → mode_named 1 (eqb (word / 8 % 2) 1) ≡ mode_named 1 t) [
-  | true ↦ λ w. let x : word / 8 % 2 ≡ 1 = omega (arith, w, even) in rw x refl
-  | false ↦ λ w. let x : word / 8 % 2 ≡ 0 = omega (arith, w, even) in rw x refl
-] e
-mode_by Regular m q word e even = elim (eqb m runnable) as (λ t. word ≡ q + (2 + (if t then 8 else 0)) → mode_named 2 (eqb (word / 8 % 2) 1) ≡ mode_named 2 t) [
-  | true ↦ λ w. let x : word / 8 % 2 ≡ 1 = omega (arith, w, even) in rw x refl
-  | false ↦ λ w. let x : word / 8 % 2 ≡ 0 = omega (arith, w, even) in rw x refl
-] e
+mode_by Directory m q word e even = elim (eqb m runnable) as
+    (λ t. word ≡ q + (1 + (if t then 8 else 0)) → mode_named 1 (eqb (word / 8 % 2) 1) ≡ mode_named 1 t) [
+      | true ↦ λ w. let x : word / 8 % 2 ≡ 1 = omega (arith, w, even) in rw x refl
+      | false ↦ λ w. let x : word / 8 % 2 ≡ 0 = omega (arith, w, even) in rw x refl
+    ] e
+mode_by Regular m q word e even = elim (eqb m runnable) as
+    (λ t. word ≡ q + (2 + (if t then 8 else 0)) → mode_named 2 (eqb (word / 8 % 2) 1) ≡ mode_named 2 t) [
+      | true ↦ λ w. let x : word / 8 % 2 ≡ 1 = omega (arith, w, even) in rw x refl
+      | false ↦ λ w. let x : word / 8 % 2 ≡ 0 = omega (arith, w, even) in rw x refl
+    ] e
 mode_by Symlink m q word e even = refl
 mode_by Block m q word e even = refl
 mode_by Character m q word e even = refl
@@ -63,7 +67,7 @@ not_directory Fifo i h = λ e. absurd (let n = ap number_of e in omega (arith, n
 pub file_kind : (cs : List (List ℕ)) (i : Inode) → IsFile cs i → i.kind ≢ Directory
 file_kind cs i h = not_directory i.kind i h.kind
 
--- a file, and what else holds of its place
+-- a file, and what also holds for its offset
 abbrev pub AtPlace : List ℕ → List (List ℕ) → (ℕ → Type 0) → Placed → Type 0
 AtPlace b cs Q x = IsAt b cs x.inode x.place × Q x.place
 
@@ -91,7 +95,8 @@ files_at b cs Q at' dir from (leaf name i after) h reads k =
       ),
       files_at b cs Q at' dir q after h.2 reads.1 k.1,
     )
-files_at b cs Q at' dir from (link name i after) h reads k = files_at b cs Q at' dir (header_end from name) after h.2 reads.1 k.1
+files_at b cs Q at' dir from (link name i after) h reads k =
+    files_at b cs Q at' dir (header_end from name) after h.2 reads.1 k.1
 files_at b cs Q at' dir from (folder name i own after) h reads k =
     let p = pad16 from in
     let he = header_end from name in
@@ -113,8 +118,10 @@ files_at b cs Q at' dir from (folder name i own after) h reads k =
         k.0,
       ),
       every_join (AtPlace b cs Q) (placed (he + 64) own) (placed q after)
-          (files_at b cs Q at' p (he + 64) own h.2 (every_left (Reads b cs) mine theirs reads.1.1.1) (every_left (λ (j : Header). Q j.place) mine theirs k.1.1.1))
-          (files_at b cs Q at' dir q after h.3 (every_right (Reads b cs) mine theirs reads.1.1.1) (every_right (λ (j : Header). Q j.place) mine theirs k.1.1.1)),
+          (files_at b cs Q at' p (he + 64) own h.2 (every_left (Reads b cs) mine theirs reads.1.1.1)
+          (every_left (λ (j : Header). Q j.place) mine theirs k.1.1.1))
+          (files_at b cs Q at' dir q after h.3 (every_right (Reads b cs) mine theirs reads.1.1.1)
+          (every_right (λ (j : Header). Q j.place) mine theirs k.1.1.1)),
     )
 
 pub placed_files : (from : ℕ) (n : Names) → map (λ (x : Placed). x.inode) (placed from n) ≡ files n
@@ -125,14 +132,18 @@ placed_files from (folder name i own after) =
     let he = header_end from name in
     let q = ends (he + 64) own in
     ap (λ (is : List Inode). i ∷ is) (map-append (λ (x : Placed). x.inode) (placed (he + 64) own) (placed q after)
-    ∙ ap (λ (is : List Inode). is ++ map (λ (x : Placed). x.inode) (placed q after)) (placed_files (he + 64) own) ∙ ap (λ (is : List Inode). files own ++ is) (placed_files q after))
+    ∙ ap (λ (is : List Inode). is ++ map (λ (x : Placed). x.inode) (placed q after)) (placed_files (he + 64) own)
+    ∙ ap (λ (is : List Inode). files own ++ is) (placed_files q after))
 
--- the file of a line stands where the line does
-pub with_line : (P : Placed → Type 0) (xs : List Placed) (line : ℕ) (i : Inode) → Every P xs → file_of (map (λ (x : Placed). x.inode) xs) line ≡ Some i → P (record { inode = i; place = place_with xs line })
+-- the offset of a line's file is that of the line
+pub with_line : (P : Placed → Type 0) (xs : List Placed) (line : ℕ) (i : Inode) → Every P xs
+    → file_of (map (λ (x : Placed). x.inode) xs) line ≡ Some i → P (record { inode = i; place = place_with xs line })
 with_line P [] line i h e = absurd (cc)
 with_line P (x ∷ xs) line i h e =
-    elim (eqb x.inode.line line) as (λ t. (if t then Some x.inode else file_of (map (λ (y : Placed). y.inode) xs) line) ≡ Some i → P (record { inode = i; place = if t then x.place else place_with xs line })) [
-      | true ↦ λ z. let same : x.inode ≡ i = cc in subst (λ (j : Inode). P (record { inode = j; place = x.place })) same h.0
+    elim (eqb x.inode.line line) as (λ t. (if t then Some x.inode else file_of (map (λ (y : Placed). y.inode) xs) line)
+    ≡ Some i → P (record { inode = i; place = if t then x.place else place_with xs line })) [
+      | true ↦ λ z. let same : x.inode ≡ i =
+          cc in subst (λ (j : Inode). P (record { inode = j; place = x.place })) same h.0
       | false ↦ λ z. with_line P xs line i h.1 z
     ] e
 
@@ -142,6 +153,10 @@ pub led_by : (b : List ℕ) (cs : List (List ℕ)) (all : List Row) (xs : List P
 led_by b cs all xs nothing h l a = tt
 led_by b cs all xs (leaf name i after) h l a = led_by b cs all xs after h.2 l a
 led_by b cs all xs (link name i after) h l a =
-    let k = with_line (AtPlace b cs (IsListed all)) xs i.line i a l.0 in
-    (record { even = k.0.even; listed = k.1; live = λ z. (number_is cs i h.1).1 (sym k.0.kind ∙ z) }, λ z. (number_is cs i h.1).0 (sym k.0.kind ∙ z), led_by b cs all xs after h.2 l.1 a)
-led_by b cs all xs (folder name i own after) h l a = (led_by b cs all xs own h.2 l.0 a, led_by b cs all xs after h.3 l.1 a)
+    let k = with_line (AtPlace b cs (IsListed all)) xs i.line i a l.0 in (
+      record { even = k.0.even; listed = k.1; live = λ z. (number_is cs i h.1).1 (sym k.0.kind ∙ z) },
+      λ z. (number_is cs i h.1).0 (sym k.0.kind ∙ z),
+      led_by b cs all xs after h.2 l.1 a,
+    )
+led_by b cs all xs (folder name i own after) h l a =
+    (led_by b cs all xs own h.2 l.0 a, led_by b cs all xs after h.3 l.1 a)

@@ -1,5 +1,6 @@
--- The headers of a layout can be written, and stand one after the other.
-use Rattle.std.proofs.Common.{◌≡◌, ◌≢◌, ℕ, zero, suc, ◌+◌, ◌*◌, ◌%◌, ◌^◌, ◌<◌, ◌≤◌, Bool, true, false, eqb, if◌then◌else◌, List, [], ◌∷◌, ◌++◌, length, refl, sym, ap, ◌∙◌, arith, rules}
+-- The headers of a layout can be written, and are one after the other.
+use Rattle.std.proofs.Common.{◌≡◌, ◌≢◌, ℕ, zero, suc, ◌+◌, ◌*◌, ◌%◌, ◌^◌, ◌<◌, ◌≤◌, Bool, true, false, eqb}
+use Rattle.std.proofs.Common.{if◌then◌else◌, List, [], ◌∷◌, ◌++◌, length, refl, sym, ap, ◌∙◌, arith, rules}
 use Rattle.std.specs.List.{AllByRecursion as Every, Contains}
 use Rattle.rom_tree.specs.declared.types.Kind.{Kind}
 use Rattle.rom_tree.specs.declared.types.Kind.TheVariants.{Directory, Regular, Symlink, Block, Character, Socket, Fifo}
@@ -7,7 +8,8 @@ use Rattle.record_forest.proofs.Lists.{every_join}
 use Rattle.romfs_format.specs.Record.{pad16}
 use Rattle.rom_tree.specs.Dots.{dot, dot_dot}
 use Rattle.manifest_tree.specs.Names.{Fill, no_bytes, Inode, Names, nothing, leaf, link, folder, bytes_of}
-use Rattle.romfs_layout.specs.Layout.{Header, record_len, number_of, mode_bit, runnable, code_of, device_of, leaf_end, header_end, ends, first_place, headers}
+use Rattle.romfs_layout.specs.Layout.{Header, record_len, number_of, mode_bit, runnable, code_of, device_of, leaf_end}
+use Rattle.romfs_layout.specs.Layout.{header_end, ends, first_place, headers}
 use Rattle.romfs_layout.specs.Reads.{IsHeader}
 use Rattle.layout_terms.specs.Lists.{IsName}
 use Rattle.romfs_layout.specs.Wells.{FitsKind, IsFile, AreWell}
@@ -23,8 +25,10 @@ pub record IsCode (i : Inode) : Type 0 where
   pub kind : code_of i % 8 ≡ number_of i.kind
 
 code_by : (k : Kind) (m : ℕ) → (number_of k + mode_bit k m < 16) × ((number_of k + mode_bit k m) % 8 ≡ number_of k)
-code_by Directory m = bit_cases (eqb m runnable) (λ x. (1 + x < 16) × ((1 + x) % 8 ≡ 1)) (omega arith, refl) (omega arith, refl)
-code_by Regular m = bit_cases (eqb m runnable) (λ x. (2 + x < 16) × ((2 + x) % 8 ≡ 2)) (omega arith, refl) (omega arith, refl)
+code_by Directory m =
+    bit_cases (eqb m runnable) (λ x. (1 + x < 16) × ((1 + x) % 8 ≡ 1)) (omega arith, refl) (omega arith, refl)
+code_by Regular m =
+    bit_cases (eqb m runnable) (λ x. (2 + x < 16) × ((2 + x) % 8 ≡ 2)) (omega arith, refl) (omega arith, refl)
 code_by Symlink m = (omega arith, refl)
 code_by Block m = (omega arith, refl)
 code_by Character m = (omega arith, refl)
@@ -105,7 +109,15 @@ headers_well cs at dir from (link name i after) up h low fits =
     let e = ends_after cs q after h.2 in
     let w = first_within cs q after h.2 in
     let v = first_even cs q after h.2 in (
-      alone_header cs (record { place = pad16 from; next = first_place q after; spec = at i.line; size = 0; name = name; start = 0; fill = no_bytes }) refl refl (omega arith) (up i.line) h.0.written (λ z. absurd (omega arith)),
+      alone_header cs (record {
+        place = pad16 from;
+        next = first_place q after;
+        spec = at i.line;
+        size = 0;
+        name = name;
+        start = 0;
+        fill = no_bytes;
+      }) refl refl (omega arith) (up i.line) h.0.written (λ z. absurd (omega arith)),
       headers_well cs at dir q after up h.2 low fits,
     )
 headers_well cs at dir from (folder name i own after) up h low fits =
@@ -121,18 +133,44 @@ headers_well cs at dir from (folder name i own after) up h low fits =
     let v = first_even cs q after h.3 in
     let w1 = first_within cs (he + 64) own h.2 in
     let v1 = first_even cs (he + 64) own h.2 in (
-      alone_header cs (record { place = p; next = first_place q after + code_of i; spec = he; size = 0; name = name; start = 0; fill = no_bytes }) refl refl (omega arith) (omega arith) h.0.written (λ z. absurd (omega arith)),
+      alone_header cs (record {
+        place = p;
+        next = first_place q after + code_of i;
+        spec = he;
+        size = 0;
+        name = name;
+        start = 0;
+        fill = no_bytes;
+      }) refl refl (omega arith) (omega arith) h.0.written (λ z. absurd (omega arith)),
       (
-        alone_header cs (record { place = he; next = he + 32; spec = p; size = 0; name = dot; start = 0; fill = no_bytes }) refl refl (omega arith) (omega arith) dot_name (λ z. absurd (omega arith)),
+        alone_header cs (record {
+          place = he;
+          next = he + 32;
+          spec = p;
+          size = 0;
+          name = dot;
+          start = 0;
+          fill = no_bytes;
+        }) refl refl (omega arith) (omega arith) dot_name (λ z. absurd (omega arith)),
         (
-          alone_header cs (record { place = he + 32; next = first_place (he + 64) own; spec = dir; size = 0; name = dot_dot; start = 0; fill = no_bytes }) refl refl (omega arith) low dots_name (λ z. absurd (omega arith)),
+          alone_header cs (record {
+            place = he + 32;
+            next = first_place (he + 64) own;
+            spec = dir;
+            size = 0;
+            name = dot_dot;
+            start =
+                0;
+            fill = no_bytes;
+          }) refl refl (omega arith) low dots_name (λ z. absurd (omega arith)),
           every_join (IsHeader cs) (headers at p (he + 64) own) (headers at dir q after)
-              (headers_well cs at p (he + 64) own up h.2 (omega arith) (omega arith)) (headers_well cs at dir q after up h.3 low fits),
+              (headers_well cs at p (he + 64) own up h.2 (omega arith) (omega arith))
+              (headers_well cs at dir q after up h.3 low fits),
         ),
       ),
     )
 
--- headers that stand one after the other, from a place to another
+-- headers that are one after the other, from one offset to another
 abbrev pub Ascend : ℕ → ℕ → List Header → Type 0
 Ascend from to [] = from ≤ to
 Ascend from to (i ∷ is) = (from ≤ i.place) × Ascend (i.place + record_len i.name + i.size) to is
@@ -149,14 +187,27 @@ ascend_join from mid to (i ∷ is) js h k = (h.0, ascend_join (i.place + record_
 pub headers_ascend : (cs : List (List ℕ)) (at : ℕ → ℕ) (dir from : ℕ) (n : Names) → AreWell cs n
     → Ascend from (ends from n) (headers at dir from n)
 headers_ascend cs at dir from nothing h = omega arith
-headers_ascend cs at dir from (leaf name i after) h = (place_after cs from name i h.1, headers_ascend cs at dir (leaf_end from name i) after h.2)
+headers_ascend cs at dir from (leaf name i after) h =
+    (place_after cs from name i h.1, headers_ascend cs at dir (leaf_end from name i) after h.2)
 headers_ascend cs at dir from (link name i after) h =
-    let q = header_end from name in
-    (omega arith, ascend_later (q + 0) q (ends q after) (headers at dir q after) (omega arith) (headers_ascend cs at dir q after h.2))
+    let q = header_end from name in (
+      omega arith,
+      ascend_later (q + 0) q (ends q after) (headers at dir q after) (omega arith)
+          (headers_ascend cs at dir q after h.2),
+    )
 headers_ascend cs at dir from (folder name i own after) h =
     let p = pad16 from in
     let he = header_end from name in
     let q = ends (he + 64) own in
     let both = headers at p (he + 64) own ++ headers at dir q after in
-    let joined = ascend_join (he + 64) q (ends q after) (headers at p (he + 64) own) (headers at dir q after) (headers_ascend cs at p (he + 64) own h.2) (headers_ascend cs at dir q after h.3) in
-    (omega arith, (omega arith, (omega arith, ascend_later (he + 32 + 32 + 0) (he + 64) (ends q after) both (omega arith) joined)))
+    let joined = ascend_join (he + 64) q (ends q after) (headers at p (he + 64) own) (headers at dir q after)
+    (headers_ascend cs at p (he + 64) own h.2) (headers_ascend cs at dir q after h.3) in (
+      omega arith,
+      (
+        omega arith,
+        (
+          omega arith,
+          ascend_later (he + 32 + 32 + 0) (he + 64) (ends q after) both (omega arith) joined,
+        ),
+      ),
+    )

@@ -9,10 +9,32 @@ use Rattle.romfs_layout.specs.Wells.{IsFile, IsFolder}
 use Rattle.romfs_layout.specs.Planned.{IsPlanned}
 
 directory : ℕ → Inode
-directory line = record { line = line; kind = Directory; mode = 493; uid = 0; gid = 0; major = 0; minor = 0; align = 4; size = 0; fill = no_bytes }
+directory line = record {
+  line = line;
+  kind = Directory;
+  mode = 493;
+  uid = 0;
+  gid = 0;
+  major = 0;
+  minor = 0;
+  align = 4;
+  size = 0;
+  fill = no_bytes;
+}
 
 file : Inode
-file = record { line = 1; kind = Regular; mode = 420; uid = 0; gid = 0; major = 0; minor = 0; align = 4; size = 5; fill = source 0 }
+file = record {
+  line = 1;
+  kind = Regular;
+  mode = 420;
+  uid = 0;
+  gid = 0;
+  major = 0;
+  minor = 0;
+  align = 4;
+  size = 5;
+  fill = source 0;
+}
 
 no_slash : (x : ℕ) → x ≢ 47 → Contains {X = ℕ} (x ∷ []) 47 → ⊥
 no_slash x n (zero, k, e) = n e
@@ -27,25 +49,60 @@ is_folder line = record { kind = refl; mode = refl; owner = (refl, refl); number
 
 is_file : IsFile (codes "hello" ∷ []) file
 unfolding file data_align
-is_file = record { kind = (refl, refl); mode = refl; owner = (refl, refl); bytes = refl; sixteens = 1; some = omega arith; aligned = refl; times = 4; of_align = refl }
+is_file = record {
+  kind = (refl, refl);
+  mode = refl;
+  owner = (refl, refl);
+  bytes = refl;
+  sixteens = 1;
+  some = omega arith;
+  aligned = refl;
+  times = 4;
+  of_align = refl;
+}
 
-planned : IsPlanned (codes "vol") (directory 0) (leaf (codes "a") file (folder (codes "d") (directory 2) (link (codes "c") file nothing) nothing)) (codes "hello" ∷ [])
+planned : IsPlanned (codes "vol") (directory 0)
+    (leaf (codes "a") file (folder (codes "d") (directory 2) (link (codes "c") file nothing) nothing))
+    (codes "hello" ∷ [])
 unfolding directory file place_of data_align
 planned = record {
   short = omega arith;
   no_zero = search rules;
   folder = is_folder 0;
   well = (
-    record { written = is_name 97 (λ z. absurd (omega (arith, z))) (λ z. absurd (omega (arith, z))); no_dots = refl; alone = λ z. elim z [ inl e ↦ let x : 97 ≡ 100 = ap (λ (l : List ℕ). get_or l 0 0) e in absurd (omega (arith, x)) | inr e ↦ e ] },
+    record {
+      written = is_name 97 (λ z. absurd (omega (arith, z))) (λ z. absurd (omega (arith, z)));
+      no_dots = refl;
+      alone = λ z. elim z [
+        | inl e ↦ let x : 97
+            ≡ 100 = ap (λ (l : List ℕ). get_or l 0 0) e in absurd (omega (arith, x))
+        | inr e ↦ e
+      ];
+    },
     is_file,
     (
-      record { written = is_name 100 (λ z. absurd (omega (arith, z))) (λ z. absurd (omega (arith, z))); no_dots = refl; alone = λ z. z },
+      record {
+        written = is_name 100 (λ z. absurd (omega (arith, z))) (λ z. absurd (omega (arith, z)));
+        no_dots = refl;
+        alone = λ z. z;
+      },
       is_folder 2,
-      (record { written = is_name 99 (λ z. absurd (omega (arith, z))) (λ z. absurd (omega (arith, z))); no_dots = refl; alone = λ z. z }, is_file, tt),
+      (
+        record {
+          written = is_name 99 (λ z. absurd (omega (arith, z))) (λ z. absurd (omega (arith, z)));
+          no_dots = refl;
+          alone = λ z. z;
+        },
+        is_file,
+        tt,
+      ),
       tt,
     ),
   );
-  lines = ((λ z. absurd (omega (arith, z)), (λ z. absurd (omega (arith, z)), tt)), ((λ z. absurd (omega (arith, z)), tt), (tt, tt)));
+  lines = (
+    (λ z. absurd (omega (arith, z)), (λ z. absurd (omega (arith, z)), tt)),
+    ((λ z. absurd (omega (arith, z)), tt), (tt, tt)),
+  );
   links = ((refl, tt), tt);
   room = omega arith;
   few = omega arith;

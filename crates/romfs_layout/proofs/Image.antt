@@ -1,5 +1,7 @@
 -- A planned volume, laid out, is a romfs image.
-use Rattle.std.proofs.Common.{◌≡◌, ◌≢◌, ℕ, ◌+◌, ◌-◌, ◌%◌, ◌^◌, ◌<◌, ◌≤◌, suc, min, true, false, eqb, if◌then◌else◌, List, [], ◌∷◌, ◌++◌, length, take, drop, replicate, refl, sym, ap, subst, ◌∙◌, arith, inl, inr, length-append}
+use Rattle.std.proofs.Common.{◌≡◌, ◌≢◌, ℕ, ◌+◌, ◌-◌, ◌%◌, ◌^◌, ◌<◌, ◌≤◌, suc, min, true, false, eqb, if◌then◌else◌}
+use Rattle.std.proofs.Common.{List, [], ◌∷◌, ◌++◌, length, take, drop, replicate, refl, sym, ap, subst, ◌∙◌, arith, inl}
+use Rattle.std.proofs.Common.{inr, length-append}
 use Rattle.std.proofs.lemmas.Bool.{cases_lt}
 use Rattle.std.proofs.lemmas.List.{length-replicate, length-take, length-drop, take_at, take_all, drop-append-le}
 use Rattle.std.specs.List.{AllByRecursion as Every}
@@ -14,7 +16,9 @@ use Rattle.rom_tree.specs.Dots.{dot, dot_dot}
 use Rattle.image_parts.specs.Parts.{Part, end_of_part, with_part, laid, Rises, end_of_parts, HasAt, HasParts}
 use Rattle.image_parts.specs.Sums.{balance, sealed}
 use Rattle.manifest_tree.specs.Names.{no_bytes, Inode, Names, nothing, leaf, link, folder, bytes_of}
-use Rattle.romfs_layout.specs.Layout.{Header, placed, place_with, number_of, code_of, record_len, leaf_end, header_end, ends, first_place, padded_name, parts, root_at, all_headers, full_size_of, superblock, image_of, layout}
+use Rattle.romfs_layout.specs.Layout.{Header, placed, place_with, number_of, code_of, record_len, leaf_end, header_end}
+use Rattle.romfs_layout.specs.Layout.{ends, first_place, padded_name, parts, root_at, all_headers, full_size_of}
+use Rattle.romfs_layout.specs.Layout.{superblock, image_of, layout}
 use Rattle.image_parts.specs.Parts.{part}
 use Rattle.image_parts.specs.Padding.{pad}
 use Rattle.layout_terms.specs.Files.{Placed}
@@ -32,7 +36,7 @@ use Rattle.romfs_layout.proofs.Stands.{says}
 use Rattle.romfs_layout.proofs.Entries.{made_of}
 use Rattle.romfs_layout.proofs.Whole.{Holds, all_ascend, is_tree}
 
--- each file stands before the end
+-- each file is before the end
 placed_low : (cs : List (List ℕ)) (from to : ℕ) (n : Names) → AreWell cs n → ends from n ≤ to
     → Every (λ (x : Placed). x.place ≤ to) (placed from n)
 placed_low cs from to nothing h l = tt
@@ -44,14 +48,18 @@ placed_low cs from to (folder name i own after) h l =
     let he = header_end from name in
     let q = ends (he + 64) own in
     let o = ends_after cs (he + 64) own h.2 in
-    let e = ends_after cs q after h.3 in
-    (omega arith, every_join (λ (x : Placed). x.place ≤ to) (placed (he + 64) own) (placed q after) (placed_low cs (he + 64) to own h.2 (omega arith)) (placed_low cs q to after h.3 l))
+    let e = ends_after cs q after h.3 in (
+      omega arith,
+      every_join (λ (x : Placed). x.place ≤ to) (placed (he + 64) own) (placed q after)
+          (placed_low cs (he + 64) to own h.2 (omega arith)) (placed_low cs q to after h.3 l),
+    )
 
 with_low : (to : ℕ) (xs : List Placed) (line : ℕ) → Every (λ (x : Placed). x.place ≤ to) xs → place_with xs line ≤ to
 with_low to [] line h = omega arith
-with_low to (x ∷ xs) line h = elim (eqb x.inode.line line) as (λ t. (if t then x.place else place_with xs line) ≤ to) [ true ↦ h.0 | false ↦ with_low to xs line h.1 ]
+with_low to (x ∷ xs) line h = elim (eqb x.inode.line line) as (λ t. (if t then x.place else place_with xs line) ≤ to)
+    [ true ↦ h.0 | false ↦ with_low to xs line h.1 ]
 
--- the parts of headers stand one after the other, up to the end
+-- the parts of headers are one after the other, up to the end
 record AreParts (from size : ℕ) (ps : List Part) : Type 0 where
   rises : Rises from ps
   ends_at : end_of_parts from ps ≡ size
@@ -85,7 +93,13 @@ length-sealed : (b : List ℕ) → 16 ≤ length b → length (sealed b) ≡ len
 unfolding sealed
 length-sealed b h =
     let w = big_bytes 4 (balance (words_total (take 512 b))) in
-    omega (arith, length-append (take 12 b) (w ++ drop 16 b), length-append w (drop 16 b), length-take 12 b, length-drop 16 b)
+    omega (
+      arith,
+      length-append (take 12 b) (w ++ drop 16 b),
+      length-append w (drop 16 b),
+      length-take 12 b,
+      length-drop 16 b,
+    )
 
 -- what an image with this superblock begins with
 sealed_begins : (size : ℕ) (volume more : List ℕ)
@@ -118,10 +132,27 @@ planned_headers volume root n cs h =
     let e = first_even cs (r + 64) n h.well in
     let w = first_within cs (r + 64) n h.well in
     let low = placed_low cs (r + 64) (2 ^ 28) n h.well room in (
-      alone_header cs (record { place = r; next = r + 32 + code_of root; spec = r; size = 0; name = dot; start = 0; fill = no_bytes }) refl refl (omega arith) (omega arith) dot_name (λ z. absurd (omega arith)),
+      alone_header cs (record {
+        place = r;
+        next = r + 32 + code_of root;
+        spec = r;
+        size = 0;
+        name = dot;
+        start = 0;
+        fill = no_bytes;
+      }) refl refl (omega arith) (omega arith) dot_name (λ z. absurd (omega arith)),
       (
-        alone_header cs (record { place = r + 32; next = first_place (r + 64) n; spec = r; size = 0; name = dot_dot; start = 0; fill = no_bytes }) refl refl (omega arith) (omega arith) dots_name (λ z. absurd (omega arith)),
-        headers_well cs (place_with xs) r (r + 64) n (λ k. let p = with_low (2 ^ 28) xs k low in omega arith) h.well (omega arith) (omega arith),
+        alone_header cs (record {
+          place = r + 32;
+          next = first_place (r + 64) n;
+          spec = r;
+          size = 0;
+          name = dot_dot;
+          start = 0;
+          fill = no_bytes;
+        }) refl refl (omega arith) (omega arith) dots_name (λ z. absurd (omega arith)),
+        headers_well cs (place_with xs) r (r + 64) n (λ k. let p = with_low (2 ^ 28) xs k low in omega arith) h.well
+            (omega arith) (omega arith),
       ),
     )
 
@@ -133,11 +164,13 @@ named b name k a = name_of-has b 0 name k a
 sum_at : (b : List ℕ) → words_sum (take 512 b) ≡ 0 → words_sum (take (min 512 (length b)) b) ≡ 0
 sum_at b e = elim (cases_lt 512 (length b)) [
   | inl l ↦ let m : min 512 (length b) ≡ 512 = omega arith in rw m e
-  | inr l ↦ let m : take (min 512 (length b)) b ≡ take 512 b = take_all (min 512 (length b)) b (omega arith) ∙ sym (take_all 512 b (omega arith)) in ap words_sum m ∙ e
+  | inr l ↦ let m : take (min 512 (length b)) b ≡ take 512 b =
+      take_all (min 512 (length b)) b (omega arith) ∙ sym (take_all 512 b (omega arith)) in ap words_sum m ∙ e
 ]
 
 pub is_image : (volume : List ℕ) (root : Inode) (n : Names) (cs : List (List ℕ)) → IsPlanned volume root n cs
-    → IsImage volume root n cs (image_of volume (full_size_of (root_at volume) n) cs (all_headers (root_at volume) root n))
+    → IsImage volume root n cs (image_of volume (full_size_of (root_at volume) n) cs
+    (all_headers (root_at volume) root n))
 unfolding image_of with_part
 is_image volume root n cs h =
     let r = root_at volume in
@@ -155,7 +188,8 @@ is_image volume root n cs h =
     let are = parts_rise cs r (ends (r + 64) n) size is headers' up (omega arith) in
     let first_end : r ≡ end_of_part (part 0 sb) = omega (arith, lsb) in
     let rises : Rises 0 (part 0 sb ∷ tail) = (omega arith, subst (λ (v : ℕ). Rises v tail) first_end are.rises) in
-    let lu : length u ≡ size = length-laid [] (part 0 sb ∷ tail) rises ∙ ap (λ (v : ℕ). end_of_parts v tail) (sym first_end) ∙ are.ends_at in
+    let lu : length u ≡ size =
+    length-laid [] (part 0 sb ∷ tail) rises ∙ ap (λ (v : ℕ). end_of_parts v tail) (sym first_end) ∙ are.ends_at in
     let b = sealed u in
     let lb : length b ≡ size = length-sealed u (omega (arith, lu)) ∙ lu in
     let laid_parts = HasParts-laid [] (part 0 sb ∷ tail) rises in
@@ -184,7 +218,8 @@ is_image volume root n cs h =
     }
 
 pub has_tree : (volume : List ℕ) (root : Inode) (n : Names) (cs : List (List ℕ)) → IsPlanned volume root n cs
-    → RomfsTree (layout volume root n cs) (2 ^ 20) 64 (tree_in (image_of volume (full_size_of (root_at volume) n) cs (all_headers (root_at volume) root n)) volume n)
+    → RomfsTree (layout volume root n cs) (2 ^ 20) 64
+    (tree_in (image_of volume (full_size_of (root_at volume) n) cs (all_headers (root_at volume) root n)) volume n)
 unfolding layout word_be root_of tree_in
 has_tree volume root n cs h =
     let r = root_at volume in
@@ -199,7 +234,8 @@ has_tree volume root n cs h =
     let after = ends_after cs (r + 64) n h.well in
     let lv = length-append b zeros in
     let whole : v ≡ magic ++ (big_bytes 4 size ++ (i.begins.0 ++ zeros)) = ap (λ (x : List ℕ). x ++ zeros) i.begins.1 in
-    let full : full_size v ≡ size = ap (λ (x : List ℕ). big_number 4 (drop 8 x)) whole ∙ big_number-reads_back 4 size (i.begins.0 ++ zeros) (omega arith) in
+    let full : full_size v ≡ size = ap (λ (x : List ℕ). big_number 4 (drop 8 x)) whole
+    ∙ big_number-reads_back 4 size (i.begins.0 ++ zeros) (omega arith) in
     let cut : b ≡ take (full_size v) v = sym (take_at b zeros (full_size v) (i.size ∙ sym full)) in
     let name_len : length (before_zero (drop 16 b)) ≡ length volume = ap length i.name in
     let t = is_tree b r cs root n (2 ^ 20) 64 i.holds h.few (let s = h.shallow in omega arith) in
@@ -236,11 +272,12 @@ has_length volume root n cs h =
     let up = pad-after size 1024 (omega arith) in
     omega (arith, length-append b zeros, length-replicate {A = ℕ} (pad size 1024 - size) 0, e, up)
 
--- what stands before a zero stands there, too, where more follows
+-- the part before a zero is the same if more bytes follow
 before_zero_more : (xs ys : List ℕ) → length (before_zero xs) < length xs → before_zero (xs ++ ys) ≡ before_zero xs
 before_zero_more [] ys h = absurd (omega (arith, h))
 before_zero_more (x ∷ xs) ys h =
-    elim (eqb x 0) as (λ t. length (if t then [] else x ∷ before_zero xs) < suc (length xs) → (if t then [] else x ∷ before_zero (xs ++ ys)) ≡ (if t then [] else x ∷ before_zero xs)) [
+    elim (eqb x 0) as (λ t. length (if t then [] else x ∷ before_zero xs) < suc (length xs)
+    → (if t then [] else x ∷ before_zero (xs ++ ys)) ≡ (if t then [] else x ∷ before_zero xs)) [
       | true ↦ λ l. refl
       | false ↦ λ l. ap (λ (zs : List ℕ). x ∷ zs) (before_zero_more xs ys (omega (arith, l)))
     ] h
@@ -257,4 +294,5 @@ has_name volume root n cs h =
     let zeros = replicate {A = ℕ} (pad size 1024 - size) 0 in
     let after = ends_after cs (r + 64) n h.well in
     let name_len : length (before_zero (drop 16 b)) ≡ length volume = ap length i.name in
-    ap before_zero (drop-append-le 16 b zeros (omega (arith, ls))) ∙ before_zero_more (drop 16 b) zeros (omega (arith, name_len, ls, length-drop 16 b)) ∙ i.name
+    ap before_zero (drop-append-le 16 b zeros (omega (arith, ls)))
+    ∙ before_zero_more (drop 16 b) zeros (omega (arith, name_len, ls, length-drop 16 b)) ∙ i.name

@@ -1,4 +1,4 @@
--- Hard links of a layout lead where they should.
+-- Hard links of a layout lead to their targets.
 use Rattle.std.proofs.Common.{◌≡◌, ◌≢◌, ℕ, ◌+◌, ◌%◌, true, false, eqb, List, ◌∷◌, refl, sym, ap, ◌∙◌, arith, Some}
 use Rattle.std.proofs.lemmas.Bool.{false≢true, ne_eqb, eq-eqb}
 use Rattle.std.specs.List.{AllByRecursion as Every, list_any}
@@ -11,7 +11,8 @@ use Rattle.romfs_format.specs.Refers.{references}
 use Rattle.romfs_format.specs.Tree.{follow, LeadsWell}
 use Rattle.rom_tree.specs.Dots.{dot, dot_dot, is_dots}
 use Rattle.manifest_tree.specs.Names.{Names, nothing, leaf, link, folder}
-use Rattle.romfs_layout.specs.Layout.{Header, number_of, code_of, place_of, leaf_end, header_end, ends, first_place, headers}
+use Rattle.romfs_layout.specs.Layout.{Header, number_of, code_of, place_of, leaf_end, header_end, ends, first_place}
+use Rattle.romfs_layout.specs.Layout.{headers}
 use Rattle.romfs_layout.specs.Reads.{Reads}
 use Rattle.romfs_layout.specs.Wells.{AreWell}
 use Rattle.romfs_layout.specs.Forest.{offsets}
@@ -20,7 +21,7 @@ use Rattle.romfs_layout.proofs.Headers.{code_is}
 use Rattle.romfs_layout.proofs.Stands.{says, says_target, number_is}
 use Rattle.romfs_layout.proofs.Named.{dot_is_not}
 
--- a record of the rows stands at q
+-- a record of the rows is at q
 abbrev pub IsListed : List Row → ℕ → Type 0
 IsListed all q = list_any (λ (x : Row). eqb x.offset q) all ≡ true
 
@@ -34,7 +35,8 @@ pub record IsTarget (b : List ℕ) (all : List Row) (q : ℕ) : Type 0 where
 abbrev pub AreLed : List ℕ → List Row → (ℕ → ℕ) → Names → Type 0
 AreLed b all at' nothing = Unit {0}
 AreLed b all at' (leaf name i after) = AreLed b all at' after
-AreLed b all at' (link name i after) = IsTarget b all (at' i.line) × (type_of b (at' i.line) ≢ 1) × AreLed b all at' after
+AreLed b all at' (link name i after) =
+    IsTarget b all (at' i.line) × (type_of b (at' i.line) ≢ 1) × AreLed b all at' after
 AreLed b all at' (folder name i own after) = AreLed b all at' own × AreLed b all at' after
 
 pub follow_once : (b : List ℕ) (all : List Row) (p q : ℕ) → type_of b p ≡ 0 → spec_offset_of b p ≡ q
@@ -66,7 +68,8 @@ dots_leads b all x d f = record {
   link = λ e _. absurd (false≢true (sym e ∙ ap is_dots d));
 }
 
-pub leads : (b : List ℕ) (r : ℕ) (cs : List (List ℕ)) (at' : ℕ → ℕ) (all : List Row) (x : Reference) (dir up depth from : ℕ) (n : Names)
+pub leads : (b : List ℕ) (r : ℕ) (cs : List (List ℕ)) (at' : ℕ → ℕ) (all : List Row) (x : Reference)
+    (dir up depth from : ℕ) (n : Names)
     → AreWell cs n → AreLed b all at' n → IsTarget b all dir
     → Every (Reads b cs) (headers at' dir from n)
     → Every (λ (i : Header). IsListed all i.place) (headers at' dir from n)
@@ -78,8 +81,11 @@ leads b r cs at' all x dir up depth from (leaf name i after) h led d reads liste
     let q = leaf_end from name i in
     let c = code_is i in
     let s = says b p (first_place q after) (code_of i) reads.0.word (first_even cs q after h.2) c.small in
-    let head : Row = record { offset = p; reference = x; directory = dir; parent = up; depth = depth } in
-    (plain_leads b all head (ap is_dots reads.0.name ∙ h.0.no_dots) (λ z. (number_is cs i h.1).1 (sym (s.kind ∙ c.kind) ∙ z)), leads b r cs at' all (g.after x) dir up depth q after h.2 led d reads.1 listed.1)
+    let head : Row = record { offset = p; reference = x; directory = dir; parent = up; depth = depth } in (
+      plain_leads b all head (ap is_dots reads.0.name ∙ h.0.no_dots)
+          (λ z. (number_is cs i h.1).1 (sym (s.kind ∙ c.kind) ∙ z)),
+      leads b r cs at' all (g.after x) dir up depth q after h.2 led d reads.1 listed.1,
+    )
 leads b r cs at' all x dir up depth from (link name i after) h led d reads listed =
     let g = references b r in
     let p = pad16 from in
@@ -107,9 +113,11 @@ leads b r cs at' all x dir up depth from (folder name i own after) h led d reads
     let y3 = g.after y2 in
     let s = says b p (first_place q after) (code_of i) reads.0.word (first_even cs q after h.3) c.small in
     let s1 = says b he (he + 32) 0 (reads.1.0.word ∙ omega arith) (omega arith) (omega arith) in
-    let s2 = says b (he + 32) (first_place (he + 64) own) 0 (reads.1.1.0.word ∙ omega arith) (first_even cs (he + 64) own h.2) (omega arith) in
+    let s2 = says b (he + 32) (first_place (he + 64) own) 0 (reads.1.1.0.word ∙ omega arith)
+    (first_even cs (he + 64) own h.2) (omega arith) in
     let kind : type_of b p ≡ 1 = s.kind ∙ c.kind ∙ ap number_of h.1.kind in
-    let d' : IsTarget b all p = record { even = omega arith; listed = listed.0; live = λ z. absurd (omega (arith, kind, z)) } in
+    let d' : IsTarget b all p =
+    record { even = omega arith; listed = listed.0; live = λ z. absurd (omega (arith, kind, z)) } in
     let head : Row = record { offset = p; reference = x; directory = dir; parent = up; depth = depth } in
     let row1 : Row = record { offset = he; reference = y1; directory = p; parent = dir; depth = depth + 1 } in
     let row2 : Row = record { offset = he + 32; reference = y2; directory = p; parent = dir; depth = depth + 1 } in
@@ -117,8 +125,13 @@ leads b r cs at' all x dir up depth from (folder name i own after) h led d reads
     let after_rows = rows g (g.after x) dir up depth (offsets q after) in
     let f1 = follow_once b all he p s1.kind (says_target b he p reads.1.0.spec (omega arith)) d' in
     let f2 = follow_once b all (he + 32) dir s2.kind (says_target b (he + 32) dir reads.1.1.0.spec d.even) d in
-    let inner = leads b r cs at' all y3 p dir (depth + 1) (he + 64) own h.2 led.0 d' (every_left (Reads b cs) mine theirs reads.1.1.1) (every_left (λ (j : Header). IsListed all j.place) mine theirs listed.1.1.1) in
-    let later = leads b r cs at' all (g.after x) dir up depth q after h.3 led.1 d (every_right (Reads b cs) mine theirs reads.1.1.1) (every_right (λ (j : Header). IsListed all j.place) mine theirs listed.1.1.1) in (
+    let inner = leads b r cs at' all y3 p dir (depth + 1) (he + 64) own h.2 led.0 d'
+    (every_left (Reads b cs) mine theirs reads.1.1.1)
+    (every_left (λ (j : Header). IsListed all j.place) mine theirs listed.1.1.1) in
+    let later = leads b r cs at' all (g.after x) dir up depth q after h.3 led.1 d
+    (every_right (Reads b cs) mine theirs reads.1.1.1)
+    (every_right (λ (j : Header). IsListed all j.place) mine theirs listed.1.1.1) in (
       plain_leads b all head (ap is_dots reads.0.name ∙ h.0.no_dots) (λ z. absurd (omega (arith, kind, z))),
-      every_join (LeadsWell b all) (row1 ∷ row2 ∷ own_rows) after_rows (dot_leads b all row1 reads.1.0.name f1, (dots_leads b all row2 reads.1.1.0.name f2, inner)) later,
+      every_join (LeadsWell b all) (row1 ∷ row2 ∷ own_rows) after_rows
+          (dot_leads b all row1 reads.1.0.name f1, (dots_leads b all row2 reads.1.1.0.name f2, inner)) later,
     )

@@ -1,8 +1,10 @@
--- Files of different lines have their bytes at different places.
-use Rattle.std.proofs.Common.{◌≡◌, ◌≢◌, ℕ, zero, suc, ◌+◌, ◌<◌, ◌≤◌, List, [], ◌∷◌, ◌++◌, inl, inr, sym, ap, subst, ◌∙◌, arith}
+-- Files of different lines have their bytes at different offsets.
+use Rattle.std.proofs.Common.{◌≡◌, ◌≢◌, ℕ, zero, suc, ◌+◌, ◌<◌, ◌≤◌, List, [], ◌∷◌, ◌++◌, inl, inr, sym, ap, subst, ◌∙◌}
+use Rattle.std.proofs.Common.{arith}
 use Rattle.std.specs.List.{AllByRecursion as Every}
 use Rattle.record_forest.specs.Members.{Has, Pairs}
-use Rattle.record_forest.proofs.Lists.{every_join, every_left, every_right, every_weaker, every_all, pairs_join, pairs_pick}
+use Rattle.record_forest.proofs.Lists.{every_join, every_left, every_right, every_weaker, every_all, pairs_join}
+use Rattle.record_forest.proofs.Lists.{pairs_pick}
 use Rattle.rom_tree.specs.declared.types.Kind.{Kind}
 use Rattle.rom_tree.specs.declared.types.Kind.TheVariants.{Directory, Regular, Symlink, Block, Character, Socket, Fifo}
 use Rattle.rom_tree.specs.Tree.{Node, Entries, places_of, row_from}
@@ -14,7 +16,8 @@ use Rattle.manifest_tree.specs.Shape.{node_under, file_under, with_names}
 use Rattle.layout_terms.specs.Files.{Placed, at_place}
 use Rattle.layout_terms.proofs.Alike.{alike_some}
 use Rattle.romfs_layout.specs.Disjoint.{AreDisjoint, FilesAreApart}
-use Rattle.romfs_layout.specs.Layout.{record_len, place_of, leaf_end, header_end, ends, placed, place_with, headers, number_of, root_at}
+use Rattle.romfs_layout.specs.Layout.{record_len, place_of, leaf_end, header_end, ends, placed, place_with, headers}
+use Rattle.romfs_layout.specs.Layout.{number_of, root_at}
 use Rattle.romfs_layout.specs.Planned.{IsPlanned}
 use Rattle.romfs_layout.specs.Reads.{Reads}
 use Rattle.romfs_layout.specs.Wells.{AreWell}
@@ -41,11 +44,15 @@ record AreRising (b : List ℕ) (from to : ℕ) (xs : List Placed) : Type 0 wher
 rising_join : (b : List ℕ) (from mid to : ℕ) (xs ys : List Placed) → from ≤ mid → mid ≤ to → AreRising b from mid xs
     → AreRising b mid to ys → AreRising b from to (xs ++ ys)
 rising_join b from mid to xs ys l m a c = record {
-  low = every_join (λ (x : Placed). from ≤ x.place) xs ys a.low (every_weaker (λ (x : Placed). mid ≤ x.place) (λ (x : Placed). from ≤ x.place) (λ x k. omega (arith, k, l)) ys c.low);
-  high = every_join (EndsBy b to) xs ys (every_weaker (EndsBy b mid) (EndsBy b to) (λ x k z. let e = k z in omega (arith, e, m)) xs a.high) c.high;
+  low = every_join (λ (x : Placed). from ≤ x.place) xs ys a.low
+      (every_weaker (λ (x : Placed). mid ≤ x.place) (λ (x : Placed). from ≤ x.place)
+      (λ x k. omega (arith, k, l)) ys c.low);
+  high = every_join (EndsBy b to) xs ys
+      (every_weaker (EndsBy b mid) (EndsBy b to) (λ x k z. let e = k z in omega (arith, e, m)) xs a.high) c.high;
   rises = pairs_join (IsBefore b) xs ys a.rises c.rises
       (every_weaker (EndsBy b mid) (λ (x : Placed). Every (IsBefore b x) ys)
-      (λ x k. every_weaker (λ (y : Placed). mid ≤ y.place) (IsBefore b x) (λ y j z. let e = k z in omega (arith, e, j)) ys c.low) xs a.high);
+      (λ x k. every_weaker (λ (y : Placed). mid ≤ y.place) (IsBefore b x)
+      (λ y j z. let e = k z in omega (arith, e, j)) ys c.low) xs a.high);
 }
 
 no_file : (b : List ℕ) (from to : ℕ) → AreRising b from to []
@@ -78,13 +85,14 @@ files_rise b cs at' dir from (folder name i own after) h r =
     let e = ends_after cs q after h.3 in
     let mine = headers at' p (he + 64) own in
     let theirs = headers at' dir q after in
-    rising_join b from (he + 64) (ends q after) (x ∷ []) (placed (he + 64) own ++ placed q after) (omega arith) (omega (arith, o, e))
+    rising_join b from (he + 64) (ends q after) (x ∷ []) (placed (he + 64) own ++ placed q after) (omega arith)
+    (omega (arith, o, e))
     (one_file b from (he + 64) x (omega arith) (λ z. absurd (z h.1.kind)))
     (rising_join b (he + 64) q (ends q after) (placed (he + 64) own) (placed q after) o e
     (files_rise b cs at' p (he + 64) own h.2 (every_left (Reads b cs) mine theirs r.1.1.1))
     (files_rise b cs at' dir q after h.3 (every_right (Reads b cs) mine theirs r.1.1.1)))
 
--- v is one of n places from e on
+-- v is one of n offsets from e on
 record IsWithin (k : Kind) (v e n : ℕ) : Type 0 where
   other : k ≢ Directory
   low : e ≤ v
@@ -104,15 +112,23 @@ kind_within : (k : Kind) (v e n : ℕ)
     → Has (λ x. x ≡ v) (by_type (number_of k) [] (row_from e n) (row_from e n) [] [] [] []) → IsWithin k v e n
 kind_within Directory v e n h = absurd h
 kind_within Regular v e n h =
-    record { other = λ z. absurd (let m = ap number_of z in omega (arith, m)); low = row_low v n e h; high = row_high v n e h }
+    record {
+      other = λ z. absurd (let m = ap number_of z in omega (arith, m));
+      low = row_low v n e h;
+      high = row_high v n e h;
+    }
 kind_within Symlink v e n h =
-    record { other = λ z. absurd (let m = ap number_of z in omega (arith, m)); low = row_low v n e h; high = row_high v n e h }
+    record {
+      other = λ z. absurd (let m = ap number_of z in omega (arith, m));
+      low = row_low v n e h;
+      high = row_high v n e h;
+    }
 kind_within Block v e n h = absurd h
 kind_within Character v e n h = absurd h
 kind_within Socket v e n h = absurd h
 kind_within Fifo v e n h = absurd h
 
--- each place of a file is one of its bytes behind its header
+-- each offset of a file is one of its bytes behind its header
 node_within : (b : List ℕ) (cs : List (List ℕ)) (i : Inode) (p : ℕ) (es : Entries) (v : ℕ) → IsAt b cs i p
     → Has (λ x. x ≡ v) (places_of (node_of b p es)) → IsWithin i.kind v (end_of b p) (size_of b p)
 unfolding node_of places_at
@@ -140,15 +156,17 @@ behind b x y v l u w =
 same_before : (b : List ℕ) (x y u w : Placed) → x ≡ u → y ≡ w → IsBefore b x y → IsBefore b u w
 same_before b x y u w e f l = subst (λ (z : Placed). IsBefore b u z) f (subst (λ (z : Placed). IsBefore b z y) e l)
 
--- what stands at the ends of two paths, of two lines
+-- what is at the ends of two paths, of two lines
 ends_apart : (b : List ℕ) (cs : List (List ℕ)) (all : List Placed) (x y : Node) (i j : Inode) → Pairs (IsBefore b) all
     → IsEnd b cs (IsOne b cs all) x i → IsEnd b cs (IsOne b cs all) y j → i.line ≢ j.line
     → AreDisjoint (places_of x) (places_of y)
 ends_apart b cs all x y i j rise e f differ v h k =
     let u = at_place i e.place in
     let w = at_place j f.place in
-    let a = node_within b cs i e.place e.entries v e.known.0 (subst (λ (z : Node). Has (λ p. p ≡ v) (places_of z)) e.is h) in
-    let c = node_within b cs j f.place f.entries v f.known.0 (subst (λ (z : Node). Has (λ p. p ≡ v) (places_of z)) f.is k) in
+    let a = node_within b cs i e.place e.entries v e.known.0
+    (subst (λ (z : Node). Has (λ p. p ≡ v) (places_of z)) e.is h) in
+    let c = node_within b cs j f.place f.entries v f.known.0
+    (subst (λ (z : Node). Has (λ p. p ≡ v) (places_of z)) f.is k) in
     elim (pairs_pick (IsBefore b) (λ z. z ≡ u) (λ z. z ≡ w) all rise e.known.1.1 f.known.1.1) [
       | inl s ↦ absurd (differ (ap (λ (z : Placed). z.inode.line) (sym s.1 ∙ s.2)))
       | inr s ↦ elim s.4 [
@@ -169,7 +187,8 @@ has_apart volume root n cs h q s x y i j a c e f differ =
     let m = with_names root n in
     let reads = (is_image volume root n cs h).holds.reads in
     let rising = files_rise b cs (place_with xs) r (r + 64) n h.well reads.1.1 in
-    let rise : Pairs (IsBefore b) all = (every_all (IsBefore b (at_place root r)) (λ y z. absurd (z h.folder.kind)) xs, rising.rises) in
+    let rise : Pairs (IsBefore b) all =
+    (every_all (IsBefore b (at_place root r)) (λ y z. absurd (z h.folder.kind)) xs, rising.rises) in
     let alike = ends_alike volume root n cs h in
     ends_apart b cs all x y i j rise (alike_some (IsEnd b cs Q) (node_under q t) (file_under q m) x i (alike q) a e)
     (alike_some (IsEnd b cs Q) (node_under s t) (file_under s m) y j (alike s) c f) differ

@@ -1,4 +1,4 @@
--- Where headers and data stand.
+-- The offsets of headers and data.
 use Rattle.image_parts.proofs.Padding.{pad-after}
 use Rattle.std.proofs.Common.{◌≡◌, ℕ, ◌+◌, ◌-◌, ◌*◌, ◌/◌, ◌%◌, ◌<◌, ◌≤◌, List, refl, ap, ◌∙◌, arith}
 use Rattle.romfs_format.specs.Record.{pad16}
@@ -30,7 +30,8 @@ unfolding place_of
 place_even cs from name i h =
     let a : 0 < data_align i = rw h.aligned (let s = h.some in omega arith) in
     let n = pad-after (pad16 from + record_len name) (data_align i) a in
-    sub_even (pad (pad16 from + record_len name) (data_align i)) (record_len name) (pad_even (pad16 from + record_len name) (data_align i) h.sixteens h.aligned) (omega arith) (omega arith)
+    sub_even (pad (pad16 from + record_len name) (data_align i)) (record_len name)
+    (pad_even (pad16 from + record_len name) (data_align i) h.sixteens h.aligned) (omega arith) (omega arith)
 
 pub ends_after : (cs : List (List ℕ)) (from : ℕ) (n : Names) → AreWell cs n → from ≤ ends from n
 ends_after cs from nothing h = omega arith

@@ -1,6 +1,7 @@
 -- A header that was laid is read back.
 use Rattle.image_parts.proofs.Parts.{HasAt-before, HasAt-after, HasAt-moved}
-use Rattle.std.proofs.Common.{◌≡◌, ◌≢◌, ℕ, zero, suc, ◌+◌, ◌-◌, ◌<◌, true, false, eqb, cond, List, [], ◌∷◌, ◌++◌, length, drop, take, replicate, refl, ap, ◌∙◌, arith, append_assoc, length-append}
+use Rattle.std.proofs.Common.{◌≡◌, ◌≢◌, ℕ, zero, suc, ◌+◌, ◌-◌, ◌<◌, true, false, eqb, cond, List, [], ◌∷◌, ◌++◌}
+use Rattle.std.proofs.Common.{length, drop, take, replicate, refl, ap, ◌∙◌, arith, append_assoc, length-append}
 use Rattle.std.proofs.lemmas.List.{length-replicate, take_at}
 use Rattle.std.proofs.lemmas.Bool.{eqb-true}
 use Rattle.std.specs.List.{AllByRecursion}
@@ -33,14 +34,15 @@ pub length-header : (next spec size : ℕ) (name : List ℕ) → length (header_
 unfolding header_bytes balanced
 length-header next spec size name = let e = length-padded_name name in omega (arith, e)
 
--- the name stands before its zeros
+-- the name is before its zeros
 pub name_of-has : (b : List ℕ) (p : ℕ) (name : List ℕ) → AllByRecursion (λ x. x ≢ 0) name
     → HasAt b (p + 16) (padded_name name) → name_of b p ≡ name
 unfolding name_of padded_name
 name_of-has b p name h (more, e) =
     let k = pad16 (length name + 1) - length name in
     let z = replicate_more k (omega arith) in
-    let s : drop (p + 16) b ≡ name ++ (0 ∷ (replicate (k - 1) 0 ++ more)) = e ∙ append_assoc name (replicate k 0) more ∙ ap (λ (x : List ℕ). name ++ (x ++ more)) z in
+    let s : drop (p + 16) b ≡ name ++ (0 ∷ (replicate (k - 1) 0 ++ more)) =
+    e ∙ append_assoc name (replicate k 0) more ∙ ap (λ (x : List ℕ). name ++ (x ++ more)) z in
     ap before_zero s ∙ before_zero_ended name (replicate (k - 1) 0 ++ more) h
 
 -- an item that was laid is read back
@@ -58,9 +60,11 @@ header_reads b contents i w has laid =
     let small_size = w.size in
     let h0 = HasAt-before b p numbers (sum_word ++ padded_name name) has in
     let h4 = HasAt-after b p (big_bytes 4 i.next) (big_bytes 4 i.spec ++ big_bytes 4 i.size) h0 in
-    let h8 = HasAt-moved b (p + 4 + 4) (p + 8) (big_bytes 4 i.size) (omega arith) (HasAt-after b (p + 4) (big_bytes 4 i.spec) (big_bytes 4 i.size) h4) in
+    let h8 = HasAt-moved b (p + 4 + 4) (p + 8) (big_bytes 4 i.size) (omega arith)
+    (HasAt-after b (p + 4) (big_bytes 4 i.spec) (big_bytes 4 i.size) h4) in
     let h12 = HasAt-after b p numbers (sum_word ++ padded_name name) has in
-    let h16 = HasAt-moved b (p + 12 + 4) (p + 16) (padded_name name) (omega arith) (HasAt-after b (p + 12) sum_word (padded_name name) h12) in
+    let h16 = HasAt-moved b (p + 12 + 4) (p + 16) (padded_name name) (omega arith)
+    (HasAt-after b (p + 12) sum_word (padded_name name) h12) in
     let n = name_of-has b p name w.name.no_zero h16 in
     record {
       word = word_be-has b p i.next (big_bytes 4 i.spec ++ big_bytes 4 i.size) (omega arith) h0;
@@ -69,7 +73,10 @@ header_reads b contents i w has laid =
       name = n;
       ends = rw n (omega arith);
       sum =
-          let t : part_of b p (record_len name) ≡ header_bytes i.next i.spec i.size name = ap (λ (x : List ℕ). take (record_len name) x) has.1 ∙ take_at (header_bytes i.next i.spec i.size name) has.0 (record_len name) (length-header i.next i.spec i.size name) in
+          let t : part_of b p (record_len name) ≡ header_bytes i.next i.spec i.size name =
+          ap (λ (x : List ℕ). take (record_len name) x) has.1
+          ∙ take_at (header_bytes i.next i.spec i.size name) has.0 (record_len name)
+          (length-header i.next i.spec i.size name) in
           ap words_sum t ∙ words_sum-balanced 3 numbers (padded_name name) refl;
       content = laid;
     }

@@ -1,5 +1,6 @@
--- The bytes of each file stand in one run, from a multiple of its alignment on.
-use Rattle.std.proofs.Common.{◌≡◌, ◌≢◌, ℕ, ◌+◌, ◌-◌, ◌*◌, ◌/◌, ◌<◌, ◌≤◌, max, List, [], inl, inr, sym, ap, subst, ◌∙◌, arith, ◌⊎◌}
+-- The bytes of each file are in one run, from a multiple of its alignment on.
+use Rattle.std.proofs.Common.{◌≡◌, ◌≢◌, ℕ, ◌+◌, ◌-◌, ◌*◌, ◌/◌, ◌<◌, ◌≤◌, max, List, [], inl, inr, sym, ap, subst, ◌∙◌}
+use Rattle.std.proofs.Common.{arith, ◌⊎◌}
 use Rattle.std.proofs.Math.Nat.{mul_assoc}
 use Rattle.std.proofs.lemmas.Bool.Decides.{eqb_tells}
 use Rattle.std.specs.List.{AllByRecursion as Every}
@@ -16,7 +17,8 @@ use Rattle.manifest_tree.specs.Names.{Inode, Names, nothing, leaf, link, folder}
 use Rattle.layout_terms.specs.Files.{Placed, at_place}
 use Rattle.layout_terms.specs.Placement.{IsRun}
 use Rattle.layout_terms.proofs.Runs.{no_run, run_of}
-use Rattle.romfs_layout.specs.Layout.{record_len, data_align, place_of, data_of, leaf_end, header_end, ends, placed, headers, number_of}
+use Rattle.romfs_layout.specs.Layout.{record_len, data_align, place_of, data_of, leaf_end, header_end, ends, placed}
+use Rattle.romfs_layout.specs.Layout.{headers, number_of}
 use Rattle.romfs_layout.specs.Reads.{Reads}
 use Rattle.romfs_layout.specs.Wells.{IsFile, IsFolder, AreWell}
 use Rattle.romfs_layout.proofs.Files.{IsAt}
@@ -43,7 +45,8 @@ files_aligned b cs at' dir from nothing h r = tt
 files_aligned b cs at' dir from (leaf name i after) h r =
     let d = data_aligned cs from name i h.1 in
     ((λ _. (d.0, r.0.ends ∙ d.1)), files_aligned b cs at' dir (leaf_end from name i) after h.2 r.1)
-files_aligned b cs at' dir from (link name i after) h r = files_aligned b cs at' dir (header_end from name) after h.2 r.1
+files_aligned b cs at' dir from (link name i after) h r =
+    files_aligned b cs at' dir (header_end from name) after h.2 r.1
 files_aligned b cs at' dir from (folder name i own after) h r =
     let p = pad16 from in
     let he = header_end from name in
@@ -56,7 +59,7 @@ files_aligned b cs at' dir from (folder name i own after) h r =
           (files_aligned b cs at' dir q after h.3 (every_right (Reads b cs) mine theirs r.1.1.1)),
     )
 
--- the places of a file with bytes, or of one without
+-- the offsets of a file with bytes, or of one without
 data_run : (i : Inode) (times k e s : ℕ) → max 16 i.align ≡ times * i.align → e ≡ k * data_align i → s ≡ i.size
     → IsRun i.align (row_from e s)
 unfolding data_align
@@ -67,7 +70,7 @@ data_run i times k e s t a z = elim (eqb_tells i.size 0) [
       run_of i.align (k * times) e s (m ∙ ap (λ (v : ℕ). k * v) t ∙ sym (mul_assoc k times i.align))
 ]
 
--- what a kind has of places
+-- what a kind has of offsets
 run_by : (k : Kind) (align : ℕ) (ps : List ℕ) → (k ≢ Directory → IsRun align ps)
     → IsRun align (by_type (number_of k) [] ps ps [] [] [] [])
 run_by Directory align ps h = no_run align
@@ -78,7 +81,7 @@ run_by Character align ps h = no_run align
 run_by Socket align ps h = no_run align
 run_by Fifo align ps h = no_run align
 
--- the node of a file has its places in a run
+-- the node of a file has its offsets in a run
 pub node_run : (b : List ℕ) (cs : List (List ℕ)) (i : Inode) (p : ℕ) (es : Entries) → IsFile cs i ⊎ IsFolder i
     → IsAt b cs i p → IsAligned b (at_place i p) → IsRun i.align (places_of (node_of b p es))
 unfolding node_of places_at

@@ -1,7 +1,8 @@
 -- The tree of a planned volume has the shape of its names.
 use Rattle.layout_terms.proofs.Alike.{Alike, alike_map, alike_some, same_both, pairs_unmap}
 use Rattle.image_parts.proofs.Parts.{moved}
-use Rattle.std.proofs.Common.{◌↔◌, ◌≡◌, ◌≢◌, ℕ, ◌+◌, ◌-◌, ◌<◌, ◌≤◌, ◌⊎◌, List, [], ◌∷◌, ◌++◌, replicate, refl, sym, ap, subst, ◌∙◌, arith, inl, inr}
+use Rattle.std.proofs.Common.{◌↔◌, ◌≡◌, ◌≢◌, ℕ, ◌+◌, ◌-◌, ◌<◌, ◌≤◌, ◌⊎◌, List, [], ◌∷◌, ◌++◌, replicate, refl, sym, ap}
+use Rattle.std.proofs.Common.{subst, ◌∙◌, arith, inl, inr}
 use Rattle.std.specs.List.{AllByRecursion as Every}
 use Rattle.rom_tree.specs.Tree.{Node, Entries, ino_of, places_of}
 use Rattle.record_forest.specs.Members.{Has, Pairs}
@@ -9,7 +10,8 @@ use Rattle.record_forest.proofs.Lists.{every_join, every_weaker, every_both, eve
 use Rattle.romfs_format.specs.Record.{pad16}
 use Rattle.romfs_format.specs.Tree.{node_of, attributes_at}
 use Rattle.manifest_tree.specs.Names.{Inode, Names, nothing, leaf, link, folder}
-use Rattle.romfs_layout.specs.Layout.{Header, placed, place_with, code_of, place_of, leaf_end, header_end, ends, root_at, all_headers, full_size_of, image_of, layout, number_of, headers}
+use Rattle.romfs_layout.specs.Layout.{Header, placed, place_with, code_of, place_of, leaf_end, header_end, ends}
+use Rattle.romfs_layout.specs.Layout.{root_at, all_headers, full_size_of, image_of, layout, number_of, headers}
 use Rattle.image_parts.specs.Padding.{pad}
 use Rattle.layout_terms.specs.Files.{Placed, at_place}
 use Rattle.layout_terms.specs.Placement.{IsRun, AreInRuns}
@@ -37,10 +39,13 @@ good_files cs from (leaf name i after) h = (inl h.1, good_files cs (leaf_end fro
 good_files cs from (link name i after) h = good_files cs (header_end from name) after h.2
 good_files cs from (folder name i own after) h =
     let he = header_end from name in
-    let q = ends (he + 64) own in
-    (inr h.1, every_join (λ (x : Placed). IsGood cs x.inode) (placed (he + 64) own) (placed q after) (good_files cs (he + 64) own h.2) (good_files cs q after h.3))
+    let q = ends (he + 64) own in (
+      inr h.1,
+      every_join (λ (x : Placed). IsGood cs x.inode) (placed (he + 64) own) (placed q after)
+          (good_files cs (he + 64) own h.2) (good_files cs q after h.3),
+    )
 
--- files stand from `from` on and before `to`, and no two at one place
+-- files are from `from` on and before `to`, and no two at one offset
 record AreApart (from to : ℕ) (xs : List Placed) : Type 0 where
   within : Every (λ (x : Placed). (from ≤ x.place) × (x.place < to)) xs
   apart : Pairs (λ (x y : Placed). x.place ≢ y.place) xs
@@ -49,11 +54,15 @@ apart_join : (from mid to : ℕ) (xs ys : List Placed) → from ≤ mid → mid 
     → AreApart mid to ys → AreApart from to (xs ++ ys)
 apart_join from mid to xs ys l m a c = record {
   within = every_join (λ (x : Placed). (from ≤ x.place) × (x.place < to)) xs ys
-      (every_weaker (λ (x : Placed). (from ≤ x.place) × (x.place < mid)) (λ (x : Placed). (from ≤ x.place) × (x.place < to)) (λ x k. let u = k.1 in (k.0, omega arith)) xs a.within)
-      (every_weaker (λ (x : Placed). (mid ≤ x.place) × (x.place < to)) (λ (x : Placed). (from ≤ x.place) × (x.place < to)) (λ x k. let u = k.0 in (omega arith, k.1)) ys c.within);
+      (every_weaker (λ (x : Placed). (from ≤ x.place) × (x.place < mid))
+      (λ (x : Placed). (from ≤ x.place) × (x.place < to)) (λ x k. let u = k.1 in (k.0, omega arith)) xs a.within)
+      (every_weaker (λ (x : Placed). (mid ≤ x.place) × (x.place < to))
+      (λ (x : Placed). (from ≤ x.place) × (x.place < to)) (λ x k. let u = k.0 in (omega arith, k.1)) ys c.within);
   apart = pairs_join (λ (x y : Placed). x.place ≢ y.place) xs ys a.apart c.apart
-      (every_weaker (λ (x : Placed). (from ≤ x.place) × (x.place < mid)) (λ (x : Placed). Every (λ (y : Placed). x.place ≢ y.place) ys)
-      (λ x k. every_weaker (λ (y : Placed). (mid ≤ y.place) × (y.place < to)) (λ (y : Placed). x.place ≢ y.place) (λ y j z. let u = k.1 in let w = j.0 in absurd (omega (arith, z))) ys c.within) xs a.within);
+      (every_weaker (λ (x : Placed). (from ≤ x.place) × (x.place < mid))
+      (λ (x : Placed). Every (λ (y : Placed). x.place ≢ y.place) ys)
+      (λ x k. every_weaker (λ (y : Placed). (mid ≤ y.place) × (y.place < to)) (λ (y : Placed). x.place ≢ y.place)
+      (λ y j z. let u = k.1 in let w = j.0 in absurd (omega (arith, z))) ys c.within) xs a.within);
 }
 
 apart_one : (from to : ℕ) (x : Placed) → from ≤ x.place → x.place < to → AreApart from to (x ∷ [])
@@ -64,25 +73,29 @@ files_apart cs from nothing h = record { within = tt; apart = tt }
 files_apart cs from (leaf name i after) h =
     let q = leaf_end from name i in
     let a = place_after cs from name i h.1 in
-    apart_join from q (ends q after) (record { inode = i; place = place_of from name i } ∷ []) (placed q after) (omega arith) (ends_after cs q after h.2)
+    apart_join from q (ends q after) (record { inode = i; place = place_of from name i } ∷ []) (placed q after)
+    (omega arith) (ends_after cs q after h.2)
     (apart_one from q (record { inode = i; place = place_of from name i }) a (omega arith)) (files_apart cs q after h.2)
 files_apart cs from (link name i after) h =
     let q = header_end from name in
-    apart_join from q (ends q after) [] (placed q after) (omega arith) (ends_after cs q after h.2) (record { within = tt; apart = tt }) (files_apart cs q after h.2)
+    apart_join from q (ends q after) [] (placed q after) (omega arith) (ends_after cs q after h.2)
+    (record { within = tt; apart = tt }) (files_apart cs q after h.2)
 files_apart cs from (folder name i own after) h =
     let he = header_end from name in
     let q = ends (he + 64) own in
     let x : Placed = record { inode = i; place = pad16 from } in
     let o = ends_after cs (he + 64) own h.2 in
     let e = ends_after cs q after h.3 in
-    apart_join from (he + 64) (ends q after) (x ∷ []) (placed (he + 64) own ++ placed q after) (omega arith) (omega arith) (apart_one from (he + 64) x (omega arith) (omega arith))
-    (apart_join (he + 64) q (ends q after) (placed (he + 64) own) (placed q after) o e (files_apart cs (he + 64) own h.2) (files_apart cs q after h.3))
+    apart_join from (he + 64) (ends q after) (x ∷ []) (placed (he + 64) own ++ placed q after) (omega arith)
+    (omega arith) (apart_one from (he + 64) x (omega arith) (omega arith))
+    (apart_join (he + 64) q (ends q after) (placed (he + 64) own) (placed q after) o e
+    (files_apart cs (he + 64) own h.2) (files_apart cs q after h.3))
 
 ino_at : (b : List ℕ) (p : ℕ) (es : Entries) → ino_of (node_of b p es) ≡ p
 unfolding node_of attributes_at
 ino_at b p es = refl
 
--- two nodes have one number exactly where they have one place
+-- two nodes have one number exactly if they have one offset
 same_nodes : (b : List ℕ) (x y : Node) (p q : ℕ) (es fs : Entries) (A : Type 0) → x ≡ node_of b p es
     → y ≡ node_of b q fs → (p ≡ q) ↔ A → (ino_of x ≡ ino_of y) ↔ A
 same_nodes b x y p q es fs A e f both =
@@ -90,7 +103,7 @@ same_nodes b x y p q es fs A e f both =
     let n2 : ino_of y ≡ q = ap ino_of f ∙ ino_at b q fs in
     (λ z. both.0 (sym n1 ∙ z ∙ n2), λ a. n1 ∙ both.1 a ∙ sym n2)
 
--- what is known of a placed file: it is one, it stands among all of them, and its data are aligned
+-- the known facts of a placed file: it is a file, it is among all of them, and its data are aligned
 abbrev pub IsOne : List ℕ → List (List ℕ) → List Placed → Placed → Type 0
 IsOne b cs all x = IsGood cs x.inode × Has (λ u. u ≡ x) all × IsAligned b x
 
@@ -102,7 +115,7 @@ all_placed volume root n = at_place root (root_at volume) ∷ placed (root_at vo
 abbrev pub bytes_in : List ℕ → Inode → Names → List (List ℕ) → List ℕ
 bytes_in volume root n cs = image_of volume (full_size_of (root_at volume) n) cs (all_headers (root_at volume) root n)
 
--- what stands at each path of the tree is the file there
+-- what is at each path of the tree is the file there
 pub ends_alike : (volume : List ℕ) (root : Inode) (n : Names) (cs : List (List ℕ)) → IsPlanned volume root n cs
     → (q : List (List ℕ))
     → Alike (IsEnd (bytes_in volume root n cs) cs (IsOne (bytes_in volume root n cs) cs (all_placed volume root n)))
@@ -127,16 +140,21 @@ ends_alike volume root n cs h q =
       numbers = λ z. absurd (z h.folder.kind);
       content = λ z. absurd (z h.folder.kind);
     } in
-    let ats = files_at b cs (λ _. Unit {0}) at' r (r + 64) n h.well reads.1.1 (every_all (λ (i : Header). Unit {0}) (λ _. tt) (headers at' r (r + 64) n)) in
+    let ats = files_at b cs (λ _. Unit {0}) at' r (r + 64) n h.well reads.1.1
+    (every_all (λ (i : Header). Unit {0}) (λ _. tt) (headers at' r (r + 64) n)) in
     let goods = good_files cs (r + 64) n h.well in
     let listed = every_of (λ (x : Placed). Has (λ u. u ≡ x) all) xs (λ x k. inr k) in
     let aligned = files_aligned b cs at' r (r + 64) n h.well reads.1.1 in
     let known : Every (KnownAt b cs Q) xs =
-    every_weaker (λ (x : Placed). AtPlace b cs (λ _. Unit {0}) x × (IsGood cs x.inode × (Has (λ u. u ≡ x) all × IsAligned b x))) (KnownAt b cs Q) (λ x k. (k.0.0, (k.1.0, k.1.1.0, k.1.1.1))) xs
-    (every_both (AtPlace b cs (λ _. Unit {0})) (λ (x : Placed). IsGood cs x.inode × (Has (λ u. u ≡ x) all × IsAligned b x)) xs ats
+    every_weaker (λ (x : Placed). AtPlace b cs (λ _. Unit {0}) x
+    × (IsGood cs x.inode × (Has (λ u. u ≡ x) all × IsAligned b x))) (KnownAt b cs Q)
+    (λ x k. (k.0.0, (k.1.0, k.1.1.0, k.1.1.1))) xs
+    (every_both (AtPlace b cs (λ _. Unit {0}))
+    (λ (x : Placed). IsGood cs x.inode × (Has (λ u. u ≡ x) all × IsAligned b x)) xs ats
     (every_both (λ (x : Placed). IsGood cs x.inode) (λ (x : Placed). Has (λ u. u ≡ x) all × IsAligned b x) xs goods
     (every_both (λ (x : Placed). Has (λ u. u ≡ x) all) (IsAligned b) xs listed aligned))) in
-    let links = links_at b cs Q xs n (subst (λ (js : List Inode). AreLinks js n) (sym (placed_files (r + 64) n)) h.links) known in
+    let links = links_at b cs Q xs n (subst (λ (js : List Inode). AreLinks js n)
+    (sym (placed_files (r + 64) n)) h.links) known in
     let es = made_of b at' (r + 64) n in
     let t = node_of b r es in
     let top : IsShown b cs Q at' t (with_names root n) = record {
@@ -171,21 +189,28 @@ has_shape volume root n cs h =
       | inr f ↦ folder_is v b cs i k.place k.entries f k.known.0
     ] in
     let apart = files_apart cs (r + 64) n h.well in
-    let places : Pairs (λ (u w : Placed). u.place ≢ w.place) all =
-    (every_weaker (λ (x : Placed). (r + 64 ≤ x.place) × (x.place < ends (r + 64) n)) (λ (x : Placed). r ≢ x.place) (λ x k z. let u = k.0 in absurd (omega (arith, z))) xs apart.within, apart.apart) in
+    let places : Pairs (λ (u w : Placed). u.place ≢ w.place) all = (
+      every_weaker (λ (x : Placed). (r + 64 ≤ x.place) × (x.place < ends (r + 64) n)) (λ (x : Placed). r ≢ x.place)
+          (λ x k z. let u = k.0 in absurd (omega (arith, z))) xs apart.within,
+      apart.apart,
+    ) in
     let lines : Pairs (λ (u w : Placed). u.inode.line ≢ w.inode.line) all =
-    pairs_unmap (λ (x : Placed). x.inode) (λ (i j : Inode). i.line ≢ j.line) all (subst (Pairs (λ (i j : Inode). i.line ≢ j.line)) (ap (λ (js : List Inode). root ∷ js) (sym (placed_files (r + 64) n))) h.lines) in
+    pairs_unmap (λ (x : Placed). x.inode) (λ (i j : Inode). i.line ≢ j.line) all
+    (subst (Pairs (λ (i j : Inode). i.line ≢ j.line))
+    (ap (λ (js : List Inode). root ∷ js) (sym (placed_files (r + 64) n))) h.lines) in
     let alike = ends_alike volume root n cs h in
     record {
-      values = λ q. alike_map (IsEnd b cs Q) (node_value v) (file_value cs) value (node_under q t) (file_under q (with_names root n)) (alike q);
+      values = λ q. alike_map (IsEnd b cs Q) (node_value v) (file_value cs) value (node_under q t)
+          (file_under q (with_names root n)) (alike q);
       shared = λ p q x y i j a e f g.
           let u = alike_some (IsEnd b cs Q) (node_under p t) (file_under p (with_names root n)) x i (alike p) a f in
           let w = alike_some (IsEnd b cs Q) (node_under q t) (file_under q (with_names root n)) y j (alike q) e g in
-          let both = same_both all (record { inode = i; place = u.place }) (record { inode = j; place = w.place }) places lines u.known.1.1 w.known.1.1 in
+          let both = same_both all (record { inode = i; place = u.place })
+          (record { inode = j; place = w.place }) places lines u.known.1.1 w.known.1.1 in
           same_nodes b x y u.place w.place u.entries w.entries (i.line ≡ j.line) u.is w.is both;
     }
 
--- at the end of a path the file has its places in a run
+-- at the end of a path the file has its offsets in a run
 end_run : (b : List ℕ) (cs : List (List ℕ)) (all : List Placed) (x : Node) (i : Inode) → IsEnd b cs (IsOne b cs all) x i
     → IsRun i.align (places_of x)
 end_run b cs all x i e =
@@ -198,5 +223,6 @@ has_runs volume root n cs h q x i a f =
     let b = bytes_in volume root n cs in
     let Q = IsOne b cs (all_placed volume root n) in
     let t = tree_in b volume n in
-    let e = alike_some (IsEnd b cs Q) (node_under q t) (file_under q (with_names root n)) x i (ends_alike volume root n cs h q) a f in
+    let e = alike_some (IsEnd b cs Q) (node_under q t) (file_under q (with_names root n)) x i
+    (ends_alike volume root n cs h q) a f in
     end_run b cs (all_placed volume root n) x i e

@@ -1,4 +1,4 @@
--- A romfs image composed of the sections of its items. (This project's own.)
+-- `composed`: a romfs image from the sections of its items. (This project's own.)
 use Rattle.std.specs.Prelude.{ℕ, ◌-◌, List, [], ◌∷◌, ◌++◌, map, replicate}
 use Rattle.image_parts.specs.Padding.{pad}
 use Rattle.image_parts.specs.Parts.{Part, part, laid}
@@ -14,11 +14,13 @@ written i = header_bytes i.first i.second i.third i.name
 
 -- a section as a part of an image of this size; there are no tables
 abbrev pub romfs_part : List ℕ → ℕ → List (List ℕ) → List Item → Section → Part
-romfs_part volume size contents is s = section_part (superblock size volume) written (λ i. []) contents is s
+romfs_part volume size contents is s =
+    section_part (superblock size volume) written (λ i. []) contents is s
 
--- the sections one after the other, zeros between them and behind them, the word of the superblock's sum, and zeros up to
--- a multiple of 1024
+-- The sections one after the other, with zeros between and behind them, the word that brings the
+-- superblock's sum to 0, and zeros up to a multiple of 1,024.
 unfoldable pub composed : List ℕ → ℕ → List (List ℕ) → List Item → List ℕ
 composed volume size contents is =
-    sealed (laid [] (map (romfs_part volume size contents is) (sections_of volume is) ++ part size [] ∷ []))
+    sealed (laid [] (map (romfs_part volume size contents is) (sections_of volume is)
+    ++ part size [] ∷ []))
     ++ replicate (pad size 1024 - size) 0

@@ -1,22 +1,29 @@
--- The layout of a romfs image: where its headers and data stand, and its bytes (Linux
--- Documentation/filesystems/romfs.rst; the order, and that places are the least, are this project's own). Children
--- stand in the order of their names. A header is followed by its file's bytes, or by the list of its directory: the
--- hard links `.` to its header and `..` to that of its parent, and its children. The root heads its own list.
-use Rattle.std.specs.Prelude.{ℕ, ◌+◌, ◌-◌, ◌*◌, max, if◌then◌else◌, ◌==◌, List, [], ◌∷◌, ◌++◌, length, replicate}
+-- `layout`: the bytes of a romfs image, from the root's attributes, its names and the contents of
+-- the sources. `headers`, `placed`: the words of each header, and the offsets of all that names
+-- have. (Linux Documentation/filesystems/romfs.rst. The order, and that each offset is the least
+-- possible, are this project's own.)
+--
+-- Children are in the order of their names. A header is followed by its file's bytes, or by the
+-- list of its directory: the hard links `.` to its header and `..` to that of its parent, and its
+-- children. The root heads its own list.
+use Rattle.std.specs.Prelude.{ℕ, ◌+◌, ◌-◌, ◌*◌, max, if◌then◌else◌, ◌==◌, List, [], ◌∷◌, ◌++◌}
+use Rattle.std.specs.Prelude.{length, replicate}
 use Rattle.byteorder.specs.Endian.{big_bytes}
 use Rattle.rom_tree.specs.declared.types.Kind.{Kind}
-use Rattle.rom_tree.specs.declared.types.Kind.TheVariants.{Directory, Regular, Symlink, Block, Character, Socket, Fifo}
+use Rattle.rom_tree.specs.declared.types.Kind.TheVariants.{Directory, Regular, Symlink, Block}
+use Rattle.rom_tree.specs.declared.types.Kind.TheVariants.{Character, Socket, Fifo}
 use Rattle.romfs_format.specs.Record.{pad16}
 use Rattle.rom_tree.specs.Dots.{dot, dot_dot}
 use Rattle.romfs_format.specs.Tree.{magic}
 use Rattle.image_parts.specs.Padding.{pad}
 use Rattle.image_parts.specs.Parts.{Part, part, laid}
 use Rattle.image_parts.specs.Sums.{balanced, sealed}
-use Rattle.manifest_tree.specs.Names.{Fill, no_bytes, Inode, Names, nothing, leaf, link, folder, bytes_of}
+use Rattle.manifest_tree.specs.Names.{Fill, no_bytes, Inode, Names, nothing, leaf, link, folder}
+use Rattle.manifest_tree.specs.Names.{bytes_of}
 use Rattle.layout_terms.specs.Files.{Placed, at_place}
 
--- One header: its place, its words next (with the mode), spec and size, its name, and its data: where they begin, 0
--- where there are none, and which.
+-- One header: its offset; its words next (with the mode), spec and size; its name; and its data:
+-- their offset, or 0 if there are none, and which they are.
 pub record Header : Type 0 where
   pub place : ℕ
   pub next : ℕ
@@ -26,7 +33,7 @@ pub record Header : Type 0 where
   pub start : ℕ
   pub fill : Fill
 
--- how long a header with its name is
+-- the length of a header with its name
 abbrev pub record_len : List ℕ → ℕ
 record_len name = 16 + pad16 (length name + 1)
 
@@ -40,7 +47,7 @@ number_of Character = 5
 number_of Socket = 6
 number_of Fifo = 7
 
--- 0755, the mode of what is executable
+-- 0755, the mode of an executable file
 abbrev pub runnable : ℕ
 runnable = 493
 
@@ -58,53 +65,55 @@ mode_bit Fifo mode = 0
 unfoldable pub code_of : Inode → ℕ
 code_of i = number_of i.kind + mode_bit i.kind i.mode
 
--- the numbers of a device, 0 at other files
+-- the numbers of a device, 0 for other files
 unfoldable pub device_of : Inode → ℕ
 device_of i = i.major * 65536 + i.minor
 
--- where data end up: at their alignment
+-- the alignment of a file's data
 unfoldable pub data_align : Inode → ℕ
 data_align i = if i.size == 0 then 16 else max 16 i.align
 
--- where a file's header stands, if what was placed before ends at `from`
+-- the offset of a file's header, if what was placed before ends at `from`
 unfoldable pub place_of : ℕ → List ℕ → Inode → ℕ
 place_of from name i = pad (pad16 from + record_len name) (data_align i) - record_len name
 
--- where a file's data begin, and end
+-- the offset of a file's data, and their end
 abbrev pub data_of : ℕ → List ℕ → Inode → ℕ
 data_of from name i = place_of from name i + record_len name
 
 abbrev pub leaf_end : ℕ → List ℕ → Inode → ℕ
 leaf_end from name i = data_of from name i + i.size
 
--- where the header of a further name, or a directory, ends
+-- the end of a header of a further name or of a directory
 abbrev pub header_end : ℕ → List ℕ → ℕ
 header_end from name = pad16 from + record_len name
 
--- where all that is placed from `from` on ends; a directory's list has `.` and `..` first, 32 bytes each
+-- the end of all that is placed from `from` on; a directory's list has `.` and `..` first, 32 bytes
+-- each
 abbrev pub ends : ℕ → Names → ℕ
 ends from nothing = from
 ends from (leaf name i after) = ends (leaf_end from name i) after
 ends from (link name i after) = ends (header_end from name) after
 ends from (folder name i own after) = ends (ends (header_end from name + 64) own) after
 
--- the first header from `from` on, 0 where there is none
+-- the offset of the first header from `from` on, or 0 if there is none
 abbrev pub first_place : ℕ → Names → ℕ
 first_place from nothing = 0
 first_place from (leaf name i after) = place_of from name i
 first_place from (link name i after) = pad16 from
 first_place from (folder name i own after) = pad16 from
 
--- the files that are placed from `from` on, each with the place of its header
+-- the files that are placed from `from` on, each with the offset of its header
 abbrev pub placed : ℕ → Names → List Placed
 placed from nothing = []
-placed from (leaf name i after) = at_place i (place_of from name i) ∷ placed (leaf_end from name i) after
+placed from (leaf name i after) =
+    at_place i (place_of from name i) ∷ placed (leaf_end from name i) after
 placed from (link name i after) = placed (header_end from name) after
 placed from (folder name i own after) =
     at_place i (pad16 from)
     ∷ placed (header_end from name + 64) own ++ placed (ends (header_end from name + 64) own) after
 
--- where the header of the file of a line stands
+-- the offset of the header of a line's file
 abbrev pub place_with : List Placed → ℕ → ℕ
 place_with [] line = 0
 place_with (x ∷ xs) line = if x.inode.line == line then x.place else place_with xs line
@@ -121,8 +130,8 @@ header_alone place next spec name = record {
   fill = no_bytes;
 }
 
--- The headers of a list that is placed from `from` on, in the directory at `dir`; `at` says where the header of a
--- line stands.
+-- The headers of a list that is placed from `from` on, in the directory at `dir`. `at` is the
+-- offset of the header of a line.
 abbrev pub headers : (ℕ → ℕ) → ℕ → ℕ → Names → List Header
 headers at dir from nothing = []
 headers at dir from (leaf name i after) =
@@ -147,7 +156,7 @@ headers at dir from (folder name i own after) =
     ∷ header_alone (h + 32) (first_place (h + 64) own) dir dot_dot
     ∷ (headers at (pad16 from) (h + 64) own ++ headers at dir q after)
 
--- a name ended by a zero and padded with it
+-- a name that ends with a zero and is padded with zeros
 unfoldable pub padded_name : List ℕ → List ℕ
 padded_name name = name ++ replicate (pad16 (length name + 1) - length name) 0
 
@@ -164,7 +173,7 @@ parts contents (i ∷ is) =
     ∷ part (i.place + record_len i.name) (bytes_of contents i.fill)
     ∷ parts contents is
 
--- where the root's header stands, behind the volume name
+-- the offset of the root's header, behind the volume name
 abbrev pub root_at : List ℕ → ℕ
 root_at volume = 16 + pad16 (length volume + 1)
 
@@ -183,14 +192,14 @@ full_size_of r n = pad16 (ends (r + 64) n)
 abbrev pub superblock : ℕ → List ℕ → List ℕ
 superblock size volume = magic ++ (big_bytes 4 size ++ (big_bytes 4 0 ++ padded_name volume))
 
--- The accessible bytes: the superblock and the headers with their data, `size` in all, and in the superblock the word
--- that brings its sum to 0.
+-- The accessible bytes: the superblock and the headers with their data, `size` in all, and in the
+-- superblock the word that brings its sum to 0.
 unfoldable pub image_of : List ℕ → ℕ → List (List ℕ) → List Header → List ℕ
 image_of volume size contents is =
     sealed (laid [] (part 0 (superblock size volume) ∷ (parts contents is ++ part size [] ∷ [])))
 
--- The layout of a volume, from the root's attributes, its names, and the contents of the sources: the accessible bytes,
--- and zeros up to a multiple of 1024.
+-- The layout of a volume, from the root's attributes, its names, and the contents of the sources:
+-- the accessible bytes, and zeros up to a multiple of 1,024.
 unfoldable pub layout : List ℕ → Inode → Names → List (List ℕ) → List ℕ
 layout volume root n contents =
     let r = root_at volume in

@@ -1,5 +1,5 @@
--- A volume that can be laid out as a romfs image. (This project's own; 2^20 references and 64 names are the usual
--- limits of a check.)
+-- `IsPlanned`: a volume that can be laid out as a romfs image. (This project's own. 2^20 references
+-- and 64 names are the usual limits of a check.)
 use Rattle.std.specs.Prelude.{◌≢◌, ℕ, ◌+◌, ◌^◌, ◌<◌, ◌≤◌, List, ◌∷◌, length}
 use Rattle.std.specs.List.{AllByRecursion as Every}
 use Rattle.record_forest.specs.Members.{Pairs}
@@ -8,7 +8,8 @@ use Rattle.layout_terms.specs.Files.{files, height}
 use Rattle.romfs_layout.specs.Layout.{root_at, ends, all_headers}
 use Rattle.romfs_layout.specs.Wells.{IsFolder, AreWell, AreLinks}
 
-pub record IsPlanned (volume : List ℕ) (root : Inode) (n : Names) (contents : List (List ℕ)) : Type 0 where
+pub record IsPlanned (volume : List ℕ) (root : Inode) (n : Names)
+    (contents : List (List ℕ)) : Type 0 where
   -- the volume's name
   pub short : length volume < 256
   pub no_zero : Every (λ x. x ≢ 0) volume

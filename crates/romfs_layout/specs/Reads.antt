@@ -1,5 +1,5 @@
--- What a header of the layout says in the bytes, and when it can be written. (The fields are those of Linux
--- Documentation/filesystems/romfs.rst.)
+-- For the proofs: `Reads`: the meaning of a header of the layout in the bytes. `IsHeader`: a header
+-- that can be written. (The fields are those of Linux Documentation/filesystems/romfs.rst.)
 use Rattle.std.specs.Prelude.{◌≡◌, ℕ, ◌+◌, ◌%◌, ◌^◌, ◌<◌, ◌≤◌, List, length}
 use Rattle.rom_fields.specs.Words.{word_be, words_sum, part_of}
 use Rattle.romfs_format.specs.Record.{size_of, name_of, end_of}
@@ -8,7 +8,7 @@ use Rattle.manifest_tree.specs.Names.{bytes_of}
 use Rattle.layout_terms.specs.Lists.{IsName}
 use Rattle.romfs_layout.specs.Layout.{Header, record_len}
 
--- the bytes say what the header says, and its data stand behind it
+-- the bytes have the fields of the header, and its data are behind it
 pub record Reads (b : List ℕ) (contents : List (List ℕ)) (i : Header) : Type 0 where
   pub word : word_be b i.place ≡ i.next
   pub spec : word_be b (i.place + 4) ≡ i.spec

@@ -1,18 +1,23 @@
--- Names and files that a romfs image can hold, where the sources have these contents. Its headers have no owner, of the
--- mode one bit, and 16 bits for each number of a device (Linux Documentation/filesystems/romfs.rst).
-use Rattle.std.specs.Prelude.{◌≡◌, ℕ, ◌*◌, ◌<◌, ◌≤◌, max, List, [], ◌∷◌, length, Option, Some, None, if◌then◌else◌, ◌==◌}
+-- `AreWell`: names and files that a romfs image can hold, if the sources have these contents.
+-- `AreLinks`: each further name is that of one of the files. Headers of romfs have no owner, one
+-- bit of the mode, and 16 bits for each number of a device. (Linux
+-- Documentation/filesystems/romfs.rst.)
+use Rattle.std.specs.Prelude.{◌≡◌, ℕ, ◌*◌, ◌<◌, ◌≤◌, max, List, [], ◌∷◌, length, Option, Some, None}
+use Rattle.std.specs.Prelude.{if◌then◌else◌, ◌==◌}
 use Rattle.rom_tree.specs.declared.types.Kind.{Kind}
-use Rattle.rom_tree.specs.declared.types.Kind.TheVariants.{Directory, Regular, Symlink, Block, Character, Socket, Fifo}
+use Rattle.rom_tree.specs.declared.types.Kind.TheVariants.{Directory, Regular, Symlink, Block}
+use Rattle.rom_tree.specs.declared.types.Kind.TheVariants.{Character, Socket, Fifo}
 use Rattle.romfs_format.specs.Tree.{mode_named}
 use Rattle.manifest_tree.specs.Names.{no_bytes, Inode, Names, nothing, leaf, link, folder, bytes_of}
 use Rattle.romfs_layout.specs.Layout.{number_of, data_align, runnable}
 use Rattle.layout_terms.specs.Lists.{IsFree}
 
--- the mode is the one that romfs gives its kind, with the bit "executable" or without it
+-- the mode is the one that romfs has for its kind, with the bit "executable" or without it
 abbrev pub HasMode : Inode → Type 0
 HasMode i = mode_named (number_of i.kind) (i.mode == runnable) ≡ i.mode
 
--- only a device has numbers, and only a file or a link has bytes; a link's text has 1 to 4095 bytes
+-- Only a device has numbers, and only a file or a link has bytes. A link's text has 1 to 4,095
+-- bytes.
 abbrev pub FitsKind : Kind → Inode → Type 0
 FitsKind Directory i = ⊥
 FitsKind Regular i = (i.major ≡ 0) × (i.minor ≡ 0)
@@ -22,7 +27,7 @@ FitsKind Character i = (i.major < 65536) × (i.minor < 65536) × (i.fill ≡ no_
 FitsKind Socket i = (i.major ≡ 0) × (i.minor ≡ 0) × (i.fill ≡ no_bytes)
 FitsKind Fifo i = (i.major ≡ 0) × (i.minor ≡ 0) × (i.fill ≡ no_bytes)
 
--- a file that is no directory; its data stand at a multiple of 16 bytes, and of its alignment
+-- a file that is not a directory; its data are at a multiple of 16 bytes, and of its alignment
 pub record IsFile (contents : List (List ℕ)) (i : Inode) : Type 0 where
   pub kind : FitsKind i.kind i
   pub mode : HasMode i
@@ -42,11 +47,13 @@ pub record IsFolder (i : Inode) : Type 0 where
   pub numbers : (i.major ≡ 0) × (i.minor ≡ 0)
   pub bytes : i.fill ≡ no_bytes
 
--- names and files as they are to be
+-- names and files that romfs can hold
 abbrev pub AreWell : List (List ℕ) → Names → Type 0
 AreWell contents nothing = Unit {0}
-AreWell contents (leaf name i after) = IsFree name after × IsFile contents i × AreWell contents after
-AreWell contents (link name i after) = IsFree name after × IsFile contents i × AreWell contents after
+AreWell contents (leaf name i after) =
+    IsFree name after × IsFile contents i × AreWell contents after
+AreWell contents (link name i after) =
+    IsFree name after × IsFile contents i × AreWell contents after
 AreWell contents (folder name i own after) =
     IsFree name after × IsFolder i × AreWell contents own × AreWell contents after
 

@@ -1,4 +1,4 @@
-//! Laws about the layout of a romfs image.
+//! Laws on the layout of a romfs image.
 ghost use Rattle.std.specs.Prelude.{◌≡◌, List, ℕ, ◌^◌, length, drop};
 ghost use Rattle.image_parts.specs.Padding.{pad};
 ghost use Rattle.std.specs.List.{AllByRecursion as Every};
@@ -15,8 +15,8 @@ ghost use Rattle.romfs_layout.specs.Items.{items_of, sections_of};
 ghost use Rattle.romfs_layout.specs.Layout.{layout, full_size_of, root_at};
 ghost use Rattle.romfs_layout.specs.Planned.{IsPlanned};
 
-/// The layout of a planned volume is a romfs image, within the usual limits, and its tree has the
-/// shape of the volume's names.
+/// Shows that the layout of a planned volume is a romfs image, within the usual limits, and that
+/// its tree has the shape of the volume's names.
 pub fn layout_has_tree()
     ensures { (volume : List ℕ) (root : Inode) (n : Names) (contents : List (List ℕ))
         → IsPlanned volume root n contents
@@ -24,13 +24,14 @@ pub fn layout_has_tree()
         × HasShape (layout volume root n contents) t contents root n }
 {}
 
-/// In that tree each file has its bytes in one run of the image, from a multiple of its alignment
-/// on. Files of different lines have no place in common. The volume's name stands at 16, up to the
-/// first zero.
+/// Shows that each file of that tree has its bytes in one run of the image, from a multiple of its
+/// alignment on. Files of different lines have no offset in common. The volume's name is at offset
+/// 16, up to the first zero.
 pub fn layout_is_placed()
     ensures runs { (volume : List ℕ) (root : Inode) (n : Names) (contents : List (List ℕ))
         → IsPlanned volume root n contents
-        → (t : Node) × RomfsTree (layout volume root n contents) (2 ^ 20) 64 t × AreInRuns t root n }
+        → (t : Node) × RomfsTree (layout volume root n contents) (2 ^ 20) 64 t
+        × AreInRuns t root n }
     ensures apart { (volume : List ℕ) (root : Inode) (n : Names) (contents : List (List ℕ))
         → IsPlanned volume root n contents
         → (t : Node) × RomfsTree (layout volume root n contents) (2 ^ 20) 64 t
@@ -40,23 +41,24 @@ pub fn layout_is_placed()
         → before_zero (drop 16 (layout volume root n contents)) ≡ volume }
 {}
 
-/// How long it is depends on the names and sizes alone.
+/// Shows that the layout's length depends only on the names and sizes.
 pub fn layout_length()
     ensures { (volume : List ℕ) (root : Inode) (n : Names) (contents : List (List ℕ))
         → IsPlanned volume root n contents
         → length (layout volume root n contents) ≡ pad (full_size_of (root_at volume) n) 1024 }
 {}
 
-/// The sections of a planned volume stand one after the other, none is empty, and the last ends
-/// within the accessible bytes.
+/// Shows that the sections of a planned volume are one after the other, none is empty, and the last
+/// ends within the accessible bytes.
 pub fn sections_rise()
     ensures { (volume : List ℕ) (root : Inode) (n : Names) (contents : List (List ℕ))
         → IsPlanned volume root n contents
-        → SectionsRise 0 (full_size_of (root_at volume) n) (sections_of volume (items_of volume root n)) }
+        → SectionsRise 0 (full_size_of (root_at volume) n)
+        (sections_of volume (items_of volume root n)) }
 {}
 
-/// The sections of a planned volume, with their bytes at their places and zeros between them, are
-/// its layout; and each section is as long as its bytes.
+/// Shows that the sections of a planned volume, with their bytes at their offsets and zeros between
+/// them, are its layout, and that each section is as long as its bytes.
 pub fn sections_make_layout()
     ensures bytes { (volume : List ℕ) (root : Inode) (n : Names) (contents : List (List ℕ))
         → IsPlanned volume root n contents

@@ -1,9 +1,9 @@
-//! The layout of a romfs image: the bytes that a volume's names and files are written as, and the
-//! law that these bytes hold a tree with the names' shape.
+//! Definitions and laws: the layout of a romfs image, which has an offset for everything of a
+//! volume. The bytes hold a tree with the shape of the volume's names.
 //!
-//! `specs/Layout.antt` has the layout, `specs/Planned.antt` what it asks of a volume, and `laws`
-//! the promise. The other definitions serve its proof. `proofs/Examples.antt` computes whole
-//! images, and `proofs/Hello.antt` shows that what is asked can be met.
+//! Proved in `laws`: the layout (`specs/Layout.antt`) of a volume that fits (`specs/Planned.antt`)
+//! holds this tree. The other definitions serve the proof. `proofs/Examples.antt` computes whole
+//! images, and `proofs/Hello.antt` shows that the conditions on a volume can be met.
 #![tactic(auto)]
 
 pub mod laws;

@@ -1,4 +1,4 @@
--- What is planned has places and words within their limits.
+-- What is planned has offsets and words within their limits.
 use Rattle.std.proofs.Common.{◌≡◌, ◌+◌, ◌<◌, ◌≤◌, ◌^◌, ℕ, List, length, map, get_or, sym, ap, subst, ◌∙◌, arith}
 use Rattle.std.proofs.lemmas.List.{length-map}
 use Rattle.std.proofs.lemmas.List.Elements.{All-from_recursion}
@@ -30,8 +30,9 @@ numbers Character i h = (h.0, h.1)
 numbers Socket i h = (let a = h.0 in omega (arith, a), let b = h.1 in omega (arith, b))
 numbers Fifo i h = (let a = h.0 in omega (arith, a), let b = h.1 in omega (arith, b))
 
--- places within the image
-near : (cs : List (List ℕ)) (from : ℕ) (n : Names) → AreWell cs n → ends from n ≤ 2 ^ 28 → Every IsNear (named_places from n)
+-- offsets within the image
+near : (cs : List (List ℕ)) (from : ℕ) (n : Names) → AreWell cs n → ends from n ≤ 2 ^ 28
+    → Every IsNear (named_places from n)
 near cs from nothing w room = tt
 near cs from (leaf name i after) w room =
     let q = leaf_end from name i in
@@ -52,17 +53,21 @@ near cs from (folder name i own after) w room =
     let e = first_within cs h own w.2 in
     let within : q ≤ 2 ^ 28 = omega (arith, room, a) in (
       (omega (arith, room, a, c), omega (arith, room, b), omega (arith, room, a, e)),
-      every_join IsNear (named_places h own) (named_places q after) (near cs h own w.2 within) (near cs q after w.3 room),
+      every_join IsNear (named_places h own) (named_places q after) (near cs h own w.2 within)
+          (near cs q after w.3 room),
     )
 
 -- rows whose words fit
-fine : (cs : List (List ℕ)) (d from : ℕ) (n : Names) → AreWell cs n → d + height n ≤ 65 → ends from n ≤ 2 ^ 28 → Every IsFineRow (rows d n)
+fine : (cs : List (List ℕ)) (d from : ℕ) (n : Names) → AreWell cs n → d + height n ≤ 65 → ends from n ≤ 2 ^ 28
+    → Every IsFineRow (rows d n)
 fine cs d from nothing w low room = tt
 fine cs d from (leaf name i after) w low room =
     let q = leaf_end from name i in
     let a = ends_after cs q after w.2 in
-    let k = numbers i.kind i w.1.kind in
-    ((w.0.written.short, omega (arith, low), (omega (arith, room, a), k.0, k.1)), fine cs d q after w.2 (omega (arith, low)) room)
+    let k = numbers i.kind i w.1.kind in (
+      (w.0.written.short, omega (arith, low), (omega (arith, room, a), k.0, k.1)),
+      fine cs d q after w.2 (omega (arith, low)) room,
+    )
 fine cs d from (link name i after) w low room =
     let q = header_end from name in
     ((w.0.written.short, omega (arith, low), tt), fine cs d q after w.2 (omega (arith, low)) room)
@@ -72,7 +77,8 @@ fine cs d from (folder name i own after) w low room =
     let a = ends_after cs q after w.3 in
     let within : q ≤ 2 ^ 28 = omega (arith, room, a) in (
       (w.0.written.short, omega (arith, low), tt),
-      every_join IsFineRow (rows (d + 1) own) (rows d after) (fine cs (d + 1) h own w.2 (omega (arith, low)) within) (fine cs d q after w.3 (omega (arith, low)) room),
+      every_join IsFineRow (rows (d + 1) own) (rows d after) (fine cs (d + 1) h own w.2 (omega (arith, low)) within)
+          (fine cs d q after w.3 (omega (arith, low)) room),
     )
 
 -- of planned names
@@ -85,7 +91,8 @@ fine_rows volume root n cs rs e p =
 pub near_places : (volume : List ℕ) (root : Inode) (n : Names) (cs : List (List ℕ)) (ps : List Place)
     → IsPlanned volume root n cs → ps ≡ named_places (root_at volume + 64) n → All IsNear ps
 near_places volume root n cs ps p e =
-    subst (All IsNear) (sym e) (All-from_recursion IsNear (named_places (root_at volume + 64) n) (near cs (root_at volume + 64) n p.well p.room))
+    subst (All IsNear) (sym e) (All-from_recursion IsNear (named_places (root_at volume + 64) n)
+    (near cs (root_at volume + 64) n p.well p.room))
 
 pub few_rows : (volume : List ℕ) (root : Inode) (n : Names) (cs : List (List ℕ)) (rs : List CodeRow)
     → map row_view rs ≡ rows 1 n → IsPlanned volume root n cs → length rs ≤ 2 ^ 20

@@ -1,4 +1,4 @@
--- What holds of each of the values that elements stand for.
+-- A property of each of the values that elements have.
 use Rattle.std.proofs.Common.{◌≡◌, ◌<◌, ℕ, zero, suc, List, [], ◌∷◌, length, map, get_or, subst, sym, arith}
 use Rattle.std.specs.List.{All, AllByRecursion as Every}
 

@@ -6,21 +6,32 @@ use Rattle.romfs_format.specs.Record.{pad16}
 use Rattle.manifest_tree.specs.Names.{Inode, Names, nothing, leaf, link, folder}
 use Rattle.layout_terms.specs.Items.{Item}
 use Rattle.romfs_layout.specs.Items.{item_of, items_of}
-use Rattle.romfs_layout.specs.Layout.{Header, headers, leaf_end, header_end, ends, root_at, all_headers, placed, place_with}
+use Rattle.romfs_layout.specs.Layout.{Header, headers, leaf_end, header_end, ends, root_at, all_headers, placed}
+use Rattle.romfs_layout.specs.Layout.{place_with}
 use Rattle.romfs_layout.specs.Planned.{IsPlanned}
 use Rattle.romfs_layout.specs.Wells.{AreWell}
 
 abbrev IsShort : Header → Type 0
 IsShort h = length h.name < 256
 
-short_headers : (at : ℕ → ℕ) (cs : List (List ℕ)) (dir from : ℕ) (n : Names) → AreWell cs n → Every IsShort (headers at dir from n)
+short_headers : (at : ℕ → ℕ) (cs : List (List ℕ)) (dir from : ℕ) (n : Names) → AreWell cs n
+    → Every IsShort (headers at dir from n)
 short_headers at cs dir from nothing w = tt
-short_headers at cs dir from (leaf name i after) w = (w.0.written.short, short_headers at cs dir (leaf_end from name i) after w.2)
-short_headers at cs dir from (link name i after) w = (w.0.written.short, short_headers at cs dir (header_end from name) after w.2)
+short_headers at cs dir from (leaf name i after) w =
+    (w.0.written.short, short_headers at cs dir (leaf_end from name i) after w.2)
+short_headers at cs dir from (link name i after) w =
+    (w.0.written.short, short_headers at cs dir (header_end from name) after w.2)
 short_headers at cs dir from (folder name i own after) w =
     let h = header_end from name + 64 in (
       w.0.written.short,
-      (omega arith, (omega arith, every_join IsShort (headers at (pad16 from) h own) (headers at dir (ends h own) after) (short_headers at cs (pad16 from) h own w.2) (short_headers at cs dir (ends h own) after w.3))),
+      (
+        omega arith,
+        (
+          omega arith,
+          every_join IsShort (headers at (pad16 from) h own) (headers at dir (ends h own) after)
+              (short_headers at cs (pad16 from) h own w.2) (short_headers at cs dir (ends h own) after w.3),
+        ),
+      ),
     )
 
 to_items : (hs : List Header) → Every IsShort hs → Every (λ (i : Item). length i.name < 256) (map item_of hs)

@@ -1,5 +1,6 @@
--- The rows of names tell how long the image is, and whether it is too large.
-use Rattle.std.proofs.Common.{◌≡◌, ◌+◌, ◌<◌, ◌≤◌, ◌^◌, ◌||◌, ℕ, Bool, true, false, nat_lt, List, [], ◌∷◌, ◌++◌, length, refl, ap, ◌∙◌, arith}
+-- The rows of names determine the length of the image, and whether it is too large.
+use Rattle.std.proofs.Common.{◌≡◌, ◌+◌, ◌<◌, ◌≤◌, ◌^◌, ◌||◌, ℕ, Bool, true, false, nat_lt, List, [], ◌∷◌, ◌++◌, length}
+use Rattle.std.proofs.Common.{refl, ap, ◌∙◌, arith}
 use Rattle.std.proofs.lemmas.Bool.{lt-ltb, le-ltb}
 use Rattle.std.proofs.lemmas.List.{length-append, length-map}
 use Rattle.image_parts.specs.Padding.{pad}
@@ -7,7 +8,8 @@ use Rattle.romfs_format.specs.Record.{pad16}
 use Rattle.manifest_tree.specs.Names.{Inode, Names, nothing, leaf, link, folder}
 use Rattle.manifest_tree.specs.Tree.{What, a_leaf, a_link, a_folder}
 use Rattle.layout_terms.specs.Files.{height}
-use Rattle.romfs_layout.specs.Layout.{root_at, full_size_of, headers, all_headers, leaf_end, header_end, ends, placed, place_with}
+use Rattle.romfs_layout.specs.Layout.{root_at, full_size_of, headers, all_headers, leaf_end, header_end, ends, placed}
+use Rattle.romfs_layout.specs.Layout.{place_with}
 use Rattle.romfs_layout.specs.Items.{item_of, items_of}
 use Rattle.manifest_rows.proofs.Depths.{deepest_is}
 use Rattle.manifest_rows.specs.Rows.{Row, rows, deepest}
@@ -30,7 +32,8 @@ counted at d dir from (folder name i own after) =
     let k = header_count-append (rows (d + 1) own) (rows d after) in
     omega (arith, e, f, g, k)
 
-items_counted : (volume : List ℕ) (root : Inode) (n : Names) → length (items_of volume root n) ≡ 2 + header_count (rows 1 n)
+items_counted : (volume : List ℕ) (root : Inode) (n : Names)
+    → length (items_of volume root n) ≡ 2 + header_count (rows 1 n)
 items_counted volume root n =
     let r = root_at volume in
     let e = counted (place_with (placed (r + 64) n)) 1 r (r + 64) n in
@@ -55,7 +58,8 @@ pub too_many : (volume : List ℕ) (root : Inode) (n : Names) → 2 ^ 20 < 2 + h
     → too_large volume root n ≡ true
 too_many volume root n h =
     let k = items_counted volume root n in
-    let e : nat_lt (2 ^ 20) (length (items_of volume root n)) ≡ true = lt-ltb (2 ^ 20) (length (items_of volume root n)) (omega (arith, h, k)) in
+    let e : nat_lt (2 ^ 20) (length (items_of volume root n)) ≡ true =
+    lt-ltb (2 ^ 20) (length (items_of volume root n)) (omega (arith, h, k)) in
     let a = nat_lt (2 ^ 28) (pad (full_size_of (root_at volume) n) 1024) in
     let b = nat_lt 64 (height n) in
     ap (λ (t : Bool). a || (false || (b || t))) e ∙ ap (λ (t : Bool). a || t) (or_true b) ∙ or_true a
@@ -83,5 +87,6 @@ not_large volume root n few shallow short =
     let l = deepest_is n in
     let a = le-ltb (2 ^ 28) (pad (full_size_of (root_at volume) n) 1024) short in
     let b : nat_lt 64 (height n) ≡ false = le-ltb 64 (height n) (omega (arith, shallow, l)) in
-    let c : nat_lt (2 ^ 20) (length (items_of volume root n)) ≡ false = le-ltb (2 ^ 20) (length (items_of volume root n)) (omega (arith, few, k)) in
+    let c : nat_lt (2 ^ 20) (length (items_of volume root n)) ≡ false =
+    le-ltb (2 ^ 20) (length (items_of volume root n)) (omega (arith, few, k)) in
     rw (a, b, c) refl

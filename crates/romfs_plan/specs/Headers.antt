@@ -1,5 +1,8 @@
--- The headers of rows, by a pass over the rows and their places. (This project's own.)
-use Rattle.std.specs.Prelude.{ℕ, ◌+◌, ◌^◌, ◌<◌, ◌≤◌, ◌==◌, if◌then◌else◌, List, [], ◌∷◌, ◌++◌, length, slice_index, slice_set}
+-- `headers_of`: the headers of rows, by a pass over the rows and their offsets. `placed_of`,
+-- `noted`: the files of rows with the offsets of their headers, in a list and in a map. (This
+-- project's own.)
+use Rattle.std.specs.Prelude.{ℕ, ◌+◌, ◌^◌, ◌<◌, ◌≤◌, ◌==◌, if◌then◌else◌, List, [], ◌∷◌, ◌++◌}
+use Rattle.std.specs.Prelude.{length, slice_index, slice_set}
 use Rattle.std.specs.Option.{unwrap_or}
 use Rattle.std.specs.Ordering.{nat_cmp}
 use Rattle.std.specs.BTreeMap.{get_by, BTreeMap}
@@ -11,7 +14,7 @@ use Rattle.romfs_layout.specs.Layout.{Header, header_alone, code_of, device_of, 
 use Rattle.manifest_rows.specs.Rows.{Row}
 use Rattle.romfs_plan.specs.declared.places.Place.{Place}
 
--- the header of a file whose header has this place
+-- the header of a file, if it is at this offset
 abbrev pub leaf_header : List ℕ → Inode → Place → Header
 leaf_header name i p = record {
   place = p.at;
@@ -23,7 +26,7 @@ leaf_header name i p = record {
   fill = i.fill;
 }
 
--- those of a directory in the directory at `dir`: its own, `.` and `..`
+-- the headers of a directory that is in the directory at `dir`: its own, `.` and `..`
 abbrev pub folder_headers : ℕ → List ℕ → Inode → Place → List Header
 folder_headers dir name i p =
     let h = p.at + record_len name in
@@ -32,13 +35,13 @@ folder_headers dir name i p =
     ∷ header_alone (h + 32) p.first dir dot_dot
     ∷ []
 
--- those of a name; `at` says where the header of a line stands
+-- the headers of a name; `at` is the offset of the header of a line
 abbrev pub headers_by : (ℕ → ℕ) → ℕ → List ℕ → What → Place → List Header
 headers_by at dir name (a_leaf i) p = leaf_header name i p ∷ []
 headers_by at dir name (a_link i) p = header_alone p.at p.next (at i.line) name ∷ []
 headers_by at dir name (a_folder i) p = folder_headers dir name i p
 
--- those of rows; `dirs` has for each depth the directory whose list was met last there
+-- the headers of rows; for each depth, `dirs` has the directory whose list was met last there
 abbrev pub headers_of : (ℕ → ℕ) → List ℕ → List Row → List Place → List Header
 headers_of at dirs [] ps = []
 headers_of at dirs (r ∷ rs) [] = []
@@ -46,16 +49,17 @@ headers_of at dirs (r ∷ rs) (p ∷ ps) =
     headers_by at (slice_index dirs r.depth) r.name r.what p
     ++ headers_of at (slice_set dirs (r.depth + 1) p.at) rs ps
 
--- the root's, which heads its own list, and `..`
+-- the root's header, which heads its own list, and `..`
 abbrev pub root_headers : ℕ → ℕ → Inode → List Header
-root_headers r first i = header_alone r (r + 32 + code_of i) r dot ∷ header_alone (r + 32) first r dot_dot ∷ []
+root_headers r first i =
+    header_alone r (r + 32 + code_of i) r dot ∷ header_alone (r + 32) first r dot_dot ∷ []
 
--- the first place, 0 where there is none
+-- the first offset, or 0 if there is none
 abbrev pub first_of : List Place → ℕ
 first_of [] = 0
 first_of (p ∷ ps) = p.at
 
--- the files of rows with the places of their headers
+-- the files of rows with the offsets of their headers
 abbrev pub placed_by : What → ℕ → List Placed
 placed_by (a_leaf i) at = at_place i at ∷ []
 placed_by (a_link i) at = []
@@ -66,17 +70,17 @@ placed_of [] ps = []
 placed_of (r ∷ rs) [] = []
 placed_of (r ∷ rs) (p ∷ ps) = placed_by r.what p.at ++ placed_of rs ps
 
--- where the map has the header of the file of a line, 0 where it has none
+-- the offset of the header of a line's file in the map, or 0 if it has none
 abbrev pub noted : BTreeMap ℕ ℕ → ℕ → ℕ
 noted m line = unwrap_or (get_by (nat_cmp line) m) 0
 
--- the same after a row in front of the others, where it was `old` before
+-- the same after a row in front of the others, if it was `old` before
 abbrev pub noted_by : What → ℕ → ℕ → ℕ → ℕ
 noted_by (a_leaf i) at old line = if i.line == line then at else old
 noted_by (a_link i) at old line = old
 noted_by (a_folder i) at old line = if i.line == line then at else old
 
--- places within the greatest image
+-- offsets within the greatest image
 abbrev pub IsNear : Place → Type 0
 IsNear p = (p.at ≤ 2 ^ 28) × (p.next ≤ 2 ^ 28) × (p.first ≤ 2 ^ 28)
 

@@ -1,5 +1,6 @@
--- Two passes over rows: forwards for the places of their headers, and backwards for what each leads on to. (This
--- project's own.)
+-- The two passes over rows that compute offsets. `places`: forwards, the offset of each header.
+-- `places_of`: backwards, what each header leads on to. `named_places`: the same in the layout's
+-- words. (This project's own.)
 use Rattle.std.specs.Prelude.{ℕ, ◌+◌, List, [], ◌∷◌, ◌++◌, slice_index, slice_set}
 use Rattle.manifest_tree.specs.Names.{Names, nothing, leaf, link, folder}
 use Rattle.manifest_tree.specs.Tree.{What, a_leaf, a_link, a_folder}
@@ -8,7 +9,7 @@ use Rattle.romfs_layout.specs.Layout.{place_of, leaf_end, header_end, ends, firs
 use Rattle.manifest_rows.specs.Rows.{Row}
 use Rattle.romfs_plan.specs.declared.places.Place.{Place}
 
--- where the header of a row stands, if what was placed before ends at `from`
+-- the offset of a row's header, if what was placed before ends at `from`
 abbrev pub place_by : ℕ → List ℕ → What → ℕ
 place_by from name (a_leaf i) = place_of from name i
 place_by from name (a_link i) = pad16 from
@@ -17,7 +18,7 @@ place_by from name (a_folder i) = pad16 from
 abbrev pub row_place : ℕ → Row → ℕ
 row_place from r = place_by from r.name r.what
 
--- where what the row places ends: a directory's list begins with two headers of 32 bytes
+-- the end of what the row places; a directory's list begins with two headers of 32 bytes
 abbrev pub end_by : ℕ → List ℕ → What → ℕ
 end_by from name (a_leaf i) = leaf_end from name i
 end_by from name (a_link i) = header_end from name
@@ -26,7 +27,7 @@ end_by from name (a_folder i) = header_end from name + 64
 abbrev pub row_end : ℕ → Row → ℕ
 row_end from r = end_by from r.name r.what
 
--- forwards: where each header stands
+-- forwards: the offset of each header
 abbrev pub places : ℕ → List Row → List ℕ
 places from [] = []
 places from (r ∷ rs) = row_place from r ∷ places (row_end from r) rs
@@ -35,11 +36,12 @@ abbrev pub places_end : ℕ → List Row → ℕ
 places_end from [] = from
 places_end from (r ∷ rs) = places_end (row_end from r) rs
 
--- a header's place, the next of its list and the first of its own, 0 where there is none
+-- the offset of a header, of the next one in its list, and of the first in its own list; 0 if there
+-- is none
 abbrev pub place : ℕ → ℕ → ℕ → Place
 place at next first = record { at = at; next = next; first = first }
 
--- the first header that was met at each depth, after one more
+-- the first header that was met at each depth, after one more header
 abbrev pub heads_with : List ℕ → Row → ℕ → List ℕ
 heads_with heads r p = slice_set (slice_set heads (r.depth + 1) 0) r.depth p
 
@@ -57,13 +59,15 @@ places_of heads [] ps = []
 places_of heads (r ∷ rs) [] = []
 places_of heads (r ∷ rs) (p ∷ ps) = placed (heads_of heads rs ps) r p ∷ places_of heads rs ps
 
--- the same of names that are placed from `from` on, in the layout's own words
+-- the same for names that are placed from `from` on, in the layout's words
 abbrev pub named_places : ℕ → Names → List Place
 named_places from nothing = []
 named_places from (leaf name i after) =
-    place (place_of from name i) (first_place (leaf_end from name i) after) 0 ∷ named_places (leaf_end from name i) after
+    place (place_of from name i) (first_place (leaf_end from name i) after) 0
+    ∷ named_places (leaf_end from name i) after
 named_places from (link name i after) =
-    place (pad16 from) (first_place (header_end from name) after) 0 ∷ named_places (header_end from name) after
+    place (pad16 from) (first_place (header_end from name) after) 0
+    ∷ named_places (header_end from name) after
 named_places from (folder name i own after) =
     let h = header_end from name + 64 in
     place (pad16 from) (first_place (ends h own) after) (first_place h own)

@@ -1,6 +1,8 @@
--- The rows of names, with what of them tells how long a romfs image is. (This project's own; 2^28 bytes, 2^20
--- references and 64 names are this project's limits.)
-use Rattle.std.specs.Prelude.{ℕ, ◌+◌, ◌^◌, ◌<◌, ◌≤◌, ◌||◌, nat_lt, Bool, false, List, [], ◌∷◌, length}
+-- `too_large`: the whole of a tree does not fit romfs. `header_count`: the number of headers of
+-- rows. (This project's own. The limits of 2^28 bytes, 2^20 references and 64 names are this
+-- project's.)
+use Rattle.std.specs.Prelude.{ℕ, ◌+◌, ◌^◌, ◌<◌, ◌≤◌, ◌||◌, nat_lt, Bool, false, List, [], ◌∷◌}
+use Rattle.std.specs.Prelude.{length}
 use Rattle.image_parts.specs.Padding.{pad}
 use Rattle.manifest_tree.specs.Names.{Inode, Names}
 use Rattle.manifest_tree.specs.Tree.{What, a_leaf, a_link, a_folder}
@@ -9,7 +11,7 @@ use Rattle.romfs_layout.specs.Layout.{root_at, full_size_of}
 use Rattle.romfs_layout.specs.Items.{items_of}
 use Rattle.manifest_rows.specs.Rows.{Row}
 
--- how many headers are written for what a name is: a directory's list begins with `.` and `..`
+-- the number of headers of a name; a directory's list begins with `.` and `..`
 abbrev pub count_of : What → ℕ
 count_of (a_leaf i) = 1
 count_of (a_link i) = 1

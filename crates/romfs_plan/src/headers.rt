@@ -4,7 +4,8 @@ ghost use Rattle.manifest_rows.specs.Rows.{bytes_view, inode_view, row_view};
 ghost use Rattle.plan_types.specs.Views.{item_view, fill_view};
 ghost use Rattle.romfs_layout.specs.Items.{item_of};
 ghost use Rattle.romfs_layout.specs.Layout.{code_of, device_of, header_alone, mode_bit, number_of};
-ghost use Rattle.romfs_plan.specs.Headers.{leaf_header, folder_headers, headers_by, root_headers, noted, IsNear, IsFineRow};
+ghost use Rattle.romfs_plan.specs.Headers.{leaf_header, folder_headers, headers_by, root_headers};
+ghost use Rattle.romfs_plan.specs.Headers.{noted, IsNear, IsFineRow};
 
 use crate::places::{Place, record_len};
 use manifest::Name;
@@ -15,10 +16,10 @@ use rom_tree::Kind;
 use std::alloc::Global;
 use std::collections::BTreeMap;
 
-/// The mode of what is executable.
+/// The mode of an executable file.
 const RUNNABLE: u32 = 0o755;
 
-/// The type of a header, in the low three bits of next.
+/// Returns the type of a header, in the low three bits of next.
 fn number_of(kind: Kind) -> u32
     ensures number { result ≡ number_of kind }
     ensures few { result < 8 }
@@ -34,7 +35,7 @@ fn number_of(kind: Kind) -> u32
     }
 }
 
-/// The bit "executable", which only a directory or a regular file has.
+/// Returns the bit "executable", which only a directory or a regular file has.
 fn mode_bit(kind: Kind, mode: u32) -> u32
     ensures bit { result ≡ mode_bit kind mode }
     ensures few { result ≤ 8 }
@@ -46,7 +47,7 @@ fn mode_bit(kind: Kind, mode: u32) -> u32
     }
 }
 
-/// The low four bits of next.
+/// Returns the low four bits of next.
 #[tactic(auto, unfolding(romfs_layout::specs::Layout::code_of))]
 fn code_of(inode: &Inode<'_>) -> u32
     ensures code { result ≡ code_of (inode_view inode.now) }
@@ -55,7 +56,7 @@ fn code_of(inode: &Inode<'_>) -> u32
     number_of(inode.kind) + mode_bit(inode.kind, inode.mode)
 }
 
-/// The numbers of a device in a word.
+/// Returns the numbers of a device in a word.
 #[tactic(auto, unfolding(romfs_layout::specs::Layout::device_of))]
 fn device_of(inode: &Inode<'_>) -> u32
     requires { (inode.now.major < 65536) × (inode.now.minor < 65536) }
@@ -64,7 +65,7 @@ fn device_of(inode: &Inode<'_>) -> u32
     inode.major * 65536 + inode.minor
 }
 
-/// A name of these bytes.
+/// Returns a name of these bytes.
 fn name_of(alloc: Global, bytes: &[u8]) -> Result<Name, OutOfMemory>
     ensures { IfOk result (λ name. name ≡ bytes.now) }
 {
@@ -72,7 +73,7 @@ fn name_of(alloc: Global, bytes: &[u8]) -> Result<Name, OutOfMemory>
     Ok(Name::from(bytes))
 }
 
-/// What the bytes of a file are.
+/// Returns the bytes of a file.
 fn fill_of(alloc: Global, bytes: &Bytes<'_>) -> Result<Fill, OutOfMemory>
     ensures { IfOk result (λ fill. fill_view fill ≡ bytes_view bytes.now) }
 {
@@ -83,7 +84,7 @@ fn fill_of(alloc: Global, bytes: &Bytes<'_>) -> Result<Fill, OutOfMemory>
     }
 }
 
-/// A header without data.
+/// Returns a header without data.
 fn header_alone(place: u32, next: u32, spec: u32, name: Name) -> Item
     ensures { item_view result ≡ item_of (header_alone place next spec name) }
 {
@@ -98,7 +99,7 @@ fn header_alone(place: u32, next: u32, spec: u32, name: Name) -> Item
     }
 }
 
-/// The header of a file that is no directory.
+/// Returns the header of a file that is not a directory.
 fn leaf_header(alloc: Global, row: &Row<'_>, place: Place) -> Result<Item, OutOfMemory>
     requires name { length row.now.name.now < 256 }
     requires size { row.now.inode.size ≤ 2 ^ 28 }
@@ -122,7 +123,7 @@ fn leaf_header(alloc: Global, row: &Row<'_>, place: Place) -> Result<Item, OutOf
     })
 }
 
-/// The headers of a directory in the directory at `dir`: its own, `.` and `..`.
+/// Appends the headers of a directory that is in the directory at `dir`: its own, `.` and `..`.
 fn push_folder(
     alloc: Global,
     found: &mut Vec<Item>,
@@ -145,8 +146,8 @@ fn push_folder(
     Ok(())
 }
 
-/// The headers of the root, which heads its own list, and `..`; the root's stands at `at`, and the
-/// first of its children's at `first`.
+/// Appends the headers of the root, which heads its own list, and `..`. The root's header is at
+/// `at`, and that of its first child at `first`.
 pub fn push_root(
     alloc: Global,
     found: &mut Vec<Item>,
@@ -164,7 +165,7 @@ pub fn push_root(
     Ok(())
 }
 
-/// Where the header of the file of a line stands.
+/// Returns the offset of the header of a line's file, or 0 if the map has none.
 fn place_of(lines: &BTreeMap<u64, u32>, line: u64) -> u32
     ensures { result ≡ noted lines.now line }
 {
@@ -174,7 +175,7 @@ fn place_of(lines: &BTreeMap<u64, u32>, line: u64) -> u32
     }
 }
 
-/// The headers of a name in the directory at `dir`.
+/// Appends the headers of a name in the directory at `dir`.
 pub fn push_row(
     alloc: Global,
     found: &mut Vec<Item>,

@@ -7,7 +7,8 @@ ghost use Rattle.plan_types.specs.Views.{item_view};
 ghost use Rattle.romfs_layout.specs.Items.{item_of, items_of};
 ghost use Rattle.romfs_layout.specs.Layout.{place_with};
 ghost use Rattle.romfs_layout.specs.Planned.{IsPlanned};
-ghost use Rattle.romfs_plan.specs.Headers.{headers_of, noted, noted_by, placed_of, first_of, IsNear, IsFineRow};
+ghost use Rattle.romfs_plan.specs.Headers.{headers_of, noted, noted_by, placed_of, first_of};
+ghost use Rattle.romfs_plan.specs.Headers.{IsNear, IsFineRow};
 
 use crate::headers::{push_root, push_row};
 use crate::passes::{DEPTHS, places_of};
@@ -19,7 +20,7 @@ use rom_fields::OutOfMemory;
 use std::alloc::Global;
 use std::collections::BTreeMap;
 
-/// Notes where the header of a file stands, if the row is no further name of one.
+/// Notes the offset of a file's header, unless the row is a further name.
 fn note_row(lines: &mut BTreeMap<u64, u32>, row: &Row<'_>, at: u32) -> Result<(), OutOfMemory>
     ensures { OnOk result ((line : ℕ) → noted lines.new line
         ≡ noted_by (row_view row.now).what at (noted lines.old line) line) }
@@ -33,7 +34,8 @@ fn note_row(lines: &mut BTreeMap<u64, u32>, row: &Row<'_>, at: u32) -> Result<()
     Ok(())
 }
 
-/// Where the headers of the files of lines stand: of each file the first, in the order of rows.
+/// Returns the offsets of the headers of the lines' files: for each file the first, in the order of
+/// rows.
 fn lines_of(
     alloc: Global,
     rows: &[Row<'_>],
@@ -51,7 +53,7 @@ fn lines_of(
     Ok(lines)
 }
 
-/// The headers of rows, where the root's header stands at `root`.
+/// Appends the headers of rows. The root's header is at `root`.
 fn push_rows(
     alloc: Global,
     found: &mut Vec<Item>,
@@ -77,7 +79,7 @@ fn push_rows(
     Ok(())
 }
 
-/// Where the first of places is, and 0 where there is none.
+/// Returns the offset of the first header, or 0 if there is none.
 fn first_of(places: &[Place]) -> u32
     requires { All IsNear places.now }
     ensures { result ≡ first_of places.now }
@@ -88,7 +90,7 @@ fn first_of(places: &[Place]) -> u32
     }
 }
 
-/// The items of the image of a volume, whose names below the root have these rows.
+/// Returns the items of the image of a volume, if its names below the root have these rows.
 pub fn items(
     alloc: Global,
     volume: &[u8],
@@ -96,7 +98,8 @@ pub fn items(
     rows: &[Row<'_>],
 ) -> Result<Vec<Item>, OutOfMemory>
     requires planned { (n : Names) × (contents : List (List ℕ))
-        × (map row_view rows.now ≡ rows_of 1 n) × IsPlanned volume.now (inode_view root.now) n contents }
+        × (map row_view rows.now ≡ rows_of 1 n)
+        × IsPlanned volume.now (inode_view root.now) n contents }
     ensures { (n : Names) (contents : List (List ℕ)) → map row_view rows.now ≡ rows_of 1 n
         → IsPlanned volume.now (inode_view root.now) n contents
         → IfOk result (λ v. map item_view v.items ≡ items_of volume.now (inode_view root.now) n) }

@@ -1,4 +1,4 @@
-//! Laws about the rows of names.
+//! Laws on the rows of names.
 ghost use Rattle.std.specs.Prelude.{◌≡◌, ◌≤◌, ℕ, replicate};
 ghost use Rattle.layout_terms.specs.Files.{height};
 ghost use Rattle.manifest_tree.specs.Names.{Names};
@@ -6,7 +6,7 @@ ghost use Rattle.manifest_rows.specs.Rows.{rows};
 ghost use Rattle.romfs_layout.specs.Layout.{ends};
 ghost use Rattle.romfs_plan.specs.Passes.{places, places_end, places_of, named_places};
 
-/// The passes over the rows of names give the places of the layout.
+/// Shows that the passes over the rows of names compute the offsets of the layout.
 pub fn rows_are_placed()
     ensures places { (from : ℕ) (n : Names) → height n ≤ 64
         → places_of (replicate 66 0) (rows 1 n) (places from (rows 1 n)) ≡ named_places from n }

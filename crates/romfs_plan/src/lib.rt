@@ -1,10 +1,10 @@
-//! The plan of a romfs image, from the names of a manifest in a row.
+//! The plan of a romfs image, from the names of a manifest in a row. `image_len`, `items` and
+//! `sections` return its length, headers and sections, with offsets that two passes over the rows
+//! compute.
 //!
-//! `image_len` says how long the image is, and whether it is too large; `items` are its headers,
-//! and `sections` its bytes that stand together. Proved: they are those of the layout.
-//!
-//! `specs/Passes.antt` has the two passes over the rows that give places, forwards and backwards;
-//! they need no recursion.
+//! Proved: they are those of the layout (`romfs_layout`); `image_len` returns nothing exactly if
+//! the image is too large. `specs/Passes.antt` has the two passes, forwards and backwards. They
+//! need no recursion.
 #![tactic(auto)]
 
 mod headers;

@@ -15,7 +15,7 @@ use std::alloc::Global;
 /// One more than the greatest depth of a row, and one for the list below it.
 pub const DEPTHS: usize = 66;
 
-/// Where the headers of rows stand, if what was placed before ends at `from`.
+/// Returns the offsets of the headers of rows, if what was placed before ends at `from`.
 fn row_places(alloc: Global, rows: &[Row<'_>], from: u64) -> Result<Vec<u64>, OutOfMemory>
     requires fit { All (λ r. IsFitRow (row_view r)) rows.now }
     requires few { length rows.now ≤ 2 ^ 20 }
@@ -31,7 +31,7 @@ fn row_places(alloc: Global, rows: &[Row<'_>], from: u64) -> Result<Vec<u64>, Ou
     Ok(found)
 }
 
-/// Where all that rows place ends, if what was placed before ends at `from`.
+/// Returns the end of all that rows place, if what was placed before ends at `from`.
 pub fn rows_end(rows: &[Row<'_>], from: u64) -> u64
     requires fit { All (λ r. IsFitRow (row_view r)) rows.now }
     requires few { length rows.now ≤ 2 ^ 20 }
@@ -46,7 +46,7 @@ pub fn rows_end(rows: &[Row<'_>], from: u64) -> u64
     at
 }
 
-/// What rows lead on to, where their headers stand at these places.
+/// Returns what rows lead on to, if their headers are at these offsets.
 fn linked(alloc: Global, rows: &[Row<'_>], places: &[u64]) -> Result<Vec<Place>, OutOfMemory>
     requires shallow { All (λ r. r.depth < 65) rows.now }
     requires places { length places.now ≡ length rows.now }
@@ -70,15 +70,16 @@ fn linked(alloc: Global, rows: &[Row<'_>], places: &[u64]) -> Result<Vec<Place>,
     Ok(found)
 }
 
-/// Where the headers of rows stand and what they lead on to, if what was placed before ends at
-/// `from`.
+/// Returns the offsets of the headers of rows and what they lead on to, if what was placed before
+/// ends at `from`.
 pub fn places_of(alloc: Global, rows: &[Row<'_>], from: u64) -> Result<Vec<Place>, OutOfMemory>
     requires fit { All (λ r. IsFitRow (row_view r)) rows.now }
     requires shallow { All (λ r. r.depth < 65) rows.now }
     requires few { length rows.now ≤ 2 ^ 20 }
     requires from { from < 2 ^ 30 }
     ensures passes { IfOk result (λ v. v.items
-        ≡ places_of (replicate 66 0) (map row_view rows.now) (places from (map row_view rows.now))) }
+        ≡ places_of (replicate 66 0) (map row_view rows.now)
+        (places from (map row_view rows.now))) }
     ensures named { (n : Names) → map row_view rows.now ≡ rows_of 1 n → height n ≤ 64
         → IfOk result (λ v. v.items ≡ named_places from n) }
 {

@@ -1,4 +1,4 @@
-//! Where the headers of rows stand.
+//! The offsets of the headers of rows.
 ghost use Rattle.std.specs.Prelude.{◌≡◌, ◌+◌, ◌*◌, ◌<◌, ◌≤◌, ◌^◌, length};
 ghost use Rattle.image_parts.specs.Padding.{pad};
 ghost use Rattle.manifest_rows.specs.Rows.{row_view};
@@ -9,8 +9,8 @@ ghost use Rattle.romfs_plan.specs.Rows.{IsFitRow};
 use manifest_rows::{Row, What};
 use std::cmp::max;
 
-/// Where a header stands, and where the next of its list and the first of its own do, 0 where there
-/// is none.
+/// The offset of a header, of the next one in its list, and of the first in its own list; 0 if
+/// there is none.
 #[derive(Clone, Copy, PartialEq, Eq)]
 pub struct Place {
     pub at: u64,
@@ -18,7 +18,7 @@ pub struct Place {
     pub first: u64,
 }
 
-/// The least multiple of k that is at least n.
+/// Returns the least multiple of k that is at least n.
 pub fn padded(n: u64, k: u64) -> u64
     requires some { 0 < k }
     requires few { k < 2 ^ 32 }
@@ -30,7 +30,7 @@ pub fn padded(n: u64, k: u64) -> u64
     (n + (k - 1)) / k * k
 }
 
-/// How many bytes a header with this name has.
+/// Returns the length of a header with this name in bytes.
 pub fn record_len(name: &[u8]) -> u32
     requires { length name.now < 256 }
     ensures len { result ≡ record_len name.now }
@@ -39,7 +39,7 @@ pub fn record_len(name: &[u8]) -> u32
     16 + padded(name.len() as u64 + 1, 16) as u32
 }
 
-/// Where the header of a row stands, if what was placed before ends at `from`.
+/// Returns the offset of a row's header, if what was placed before ends at `from`.
 #[tactic(auto, unfolding(romfs_layout::specs::Layout::place_of, romfs_layout::specs::Layout::data_align))]
 pub fn row_place(from: u64, row: &Row<'_>) -> u64
     requires row { IsFitRow (row_view row.now) }
@@ -63,7 +63,7 @@ pub fn row_place(from: u64, row: &Row<'_>) -> u64
     }
 }
 
-/// Where what a row places ends: a directory's list begins with two headers of 32 bytes.
+/// Returns the end of what a row places. A directory's list begins with two headers of 32 bytes.
 pub fn row_end(from: u64, row: &Row<'_>) -> u64
     requires row { IsFitRow (row_view row.now) }
     requires from { from < 2 ^ 56 }

@@ -13,7 +13,7 @@ use plan_types::{Body, Fill, Item, Section};
 use rom_fields::OutOfMemory;
 use std::alloc::Global;
 
-/// The section of an item's header.
+/// Returns the section of an item's header.
 fn record_section(index: usize, item: &Item) -> Section
     requires { length (item_view item.now).name < 256 }
     ensures { section_view result
@@ -26,7 +26,7 @@ fn record_section(index: usize, item: &Item) -> Section
     }
 }
 
-/// The section of an item's bytes, if it has any.
+/// Returns the section of an item's bytes, if it has any.
 fn bytes_section(index: usize, item: &Item) -> Option<Section>
     ensures { option_to_list (option_map section_view result)
         ≡ bytes_section index (item_view item.now) }
@@ -46,8 +46,8 @@ fn bytes_section(index: usize, item: &Item) -> Option<Section>
     })
 }
 
-/// The sections of an image with these items, in the order of their places: the superblock, and
-/// each header with its bytes behind it.
+/// Returns the sections of an image with these items, in the order of their offsets: the
+/// superblock, and each header with its bytes behind it.
 pub fn sections(alloc: Global, volume: &[u8], items: &[Item]) -> Result<Vec<Section>, OutOfMemory>
     requires volume { length volume.now < 256 }
     requires names { Every (λ i. length i.name < 256) (map item_view items.now) }

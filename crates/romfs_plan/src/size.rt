@@ -1,5 +1,6 @@
-//! How long a romfs image is.
-ghost use Rattle.std.specs.Prelude.{◌≡◌, ◌+◌, ◌*◌, ◌<◌, ◌≤◌, ◌^◌, if◌then◌else◌, Some, None, map, length};
+//! The length of a romfs image.
+ghost use Rattle.std.specs.Prelude.{◌≡◌, ◌+◌, ◌*◌, ◌<◌, ◌≤◌, ◌^◌, if◌then◌else◌, Some, None, map};
+ghost use Rattle.std.specs.Prelude.{length};
 ghost use Rattle.std.specs.List.{AllByRecursion as Every};
 ghost use Rattle.image_parts.specs.Padding.{pad};
 ghost use Rattle.manifest_tree.specs.Names.{Inode, Names};
@@ -21,7 +22,7 @@ const MOST_NAMES: usize = 64;
 /// The most bytes of an image.
 const MOST_BYTES: u64 = disk::MOST_BYTES as u64;
 
-/// How many headers are written for a row.
+/// Returns the number of headers of a row.
 fn count_of(row: &Row<'_>) -> usize
     ensures count { result ≡ count_of (row_view row.now).what }
     ensures few { result ≤ 3 }
@@ -32,7 +33,7 @@ fn count_of(row: &Row<'_>) -> usize
     }
 }
 
-/// How many headers are written for rows.
+/// Returns the number of headers of rows.
 fn header_count(rows: &[Row<'_>]) -> usize
     requires { length rows.now ≤ 2 ^ 20 }
     ensures count { result ≡ header_count (map row_view rows.now) }
@@ -45,7 +46,7 @@ fn header_count(rows: &[Row<'_>]) -> usize
     count
 }
 
-/// Where the root's header stands, behind the superblock with the volume's name.
+/// Returns the offset of the root's header, behind the superblock with the volume's name.
 pub fn root_at(volume: &[u8]) -> u64
     requires { length volume.now < 256 }
     ensures root { result ≡ root_at volume.now }
@@ -54,8 +55,8 @@ pub fn root_at(volume: &[u8]) -> u64
     record_len(volume) as u64
 }
 
-/// How many bytes the image of rows has, and nothing where it is too large: where it has more than
-/// 2^28 bytes or 2^20 headers, or more than 64 names lead to a file.
+/// Returns the length of the image of rows in bytes, or nothing if it is too large: it has more
+/// than 2^28 bytes or 2^20 headers, or more than 64 names lead to a file.
 pub fn image_len(volume: &[u8], rows: &[Row<'_>]) -> Option<usize>
     requires volume { length volume.now < 256 }
     requires fit { Every IsFitRow (map row_view rows.now) }

@@ -1,5 +1,6 @@
--- What is known of a romfs plan.
-use Rattle.std.proofs.Common.{◌≡◌, ℕ, ◌+◌, ◌-◌, ◌^◌, ◌<◌, List, [], ◌∷◌, ◌++◌, map, length, get_or, refl, sym, ap, subst, ◌∙◌, arith}
+-- The known facts of a romfs plan.
+use Rattle.std.proofs.Common.{◌≡◌, ℕ, ◌+◌, ◌-◌, ◌^◌, ◌<◌, List, [], ◌∷◌, ◌++◌, map, length, get_or, refl, sym, ap}
+use Rattle.std.proofs.Common.{subst, ◌∙◌, arith}
 use Rattle.manifest.specs.Grammar.{IsManifest}
 use Rattle.manifest.specs.Lines.{ManifestLines, sources_of}
 use Rattle.manifest_tree.specs.Names.{Inode, Names, nothing, leaf, link, folder}
@@ -8,7 +9,8 @@ use Rattle.romfs_format.specs.Record.{pad16}
 use Rattle.image_parts.specs.Padding.{pad}
 use Rattle.layout_terms.specs.Items.{Item, Section, SectionsRise}
 use Rattle.layout_terms.specs.Bodies.{item_at}
-use Rattle.romfs_layout.specs.Layout.{Header, record_len, leaf_end, header_end, ends, headers, all_headers, place_with, placed, root_at, full_size_of}
+use Rattle.romfs_layout.specs.Layout.{Header, record_len, leaf_end, header_end, ends, headers, all_headers, place_with}
+use Rattle.romfs_layout.specs.Layout.{placed, root_at, full_size_of}
 use Rattle.romfs_layout.specs.Items as romfs_items
 use Rattle.romfs_layout.specs.Items.{item_of, items_of, sections_from}
 use Rattle.romfs_layout.specs.Planned.{IsPlanned}
@@ -25,7 +27,7 @@ use Rattle.romfs_write.proofs.Sections.{are_parts}
 use Rattle.plan_types.proofs.Sized.{Fitting, zeros, lengths}
 use Rattle.plan_types.proofs.SourceSizes.{sizes_small}
 
--- where the last of some headers ends, with its bytes
+-- the end of the last of some headers, with its bytes
 abbrev last_end : ℕ → List Header → ℕ
 last_end from [] = from
 last_end from (h ∷ hs) = last_end (h.place + record_len h.name + h.size) hs
@@ -69,7 +71,8 @@ last_of hs (h ∷ gs) e l =
     ap (λ (xs : List Header). item_end (item_at (map item_of xs) (length (map item_of xs) - 1))) (sym e)
     ∙ ap (λ (n : ℕ). item_end (item_at (map item_of (h ∷ gs)) n)) k ∙ at_last 0 h gs ∙ ap (last_end 0) e
 
-pub full_is : (volume : List ℕ) (root : Inode) (n : Names) → full_size (items_of volume root n) ≡ full_size_of (root_at volume) n
+pub full_is : (volume : List ℕ) (root : Inode) (n : Names)
+    → full_size (items_of volume root n) ≡ full_size_of (root_at volume) n
 full_is volume root n =
     let hs = all_headers (root_at volume) root n in
     ap pad16 (last_of hs hs refl (omega arith) ∙ all_last (root_at volume) root n)
@@ -91,20 +94,51 @@ planned_by volume root n sizes =
 abbrev pub planned : ManifestLines → List ℕ → Planned
 planned m sizes = planned_by m.volume (root_of m.lines sizes) (tree_of m.lines sizes) sizes
 
-same_plan : (p : Planned) (f : Format) (v : List ℕ) (l : ℕ) (i : List Item) (s : List Section) (z : List ℕ) → p.format ≡ f → p.volume ≡ v
+same_plan : (p : Planned) (f : Format) (v : List ℕ) (l : ℕ) (i : List Item) (s : List Section) (z : List ℕ)
+    → p.format ≡ f → p.volume ≡ v
     → p.image_len ≡ l → p.items ≡ i → p.sections ≡ s → p.sizes ≡ z
     → p ≡ record { format = f; volume = v; image_len = l; items = i; sections = s; sizes = z }
 same_plan p f v l i s z ef ev el ei es ez =
-    ap (λ (x : Format). record { format = x; volume = p.volume; image_len = p.image_len; items = p.items; sections = p.sections; sizes = p.sizes }) ef
-    ∙ ap (λ (x : List ℕ). record { format = f; volume = x; image_len = p.image_len; items = p.items; sections = p.sections; sizes = p.sizes }) ev
-    ∙ ap (λ (x : ℕ). record { format = f; volume = v; image_len = x; items = p.items; sections = p.sections; sizes = p.sizes }) el
-    ∙ ap (λ (x : List Item). record { format = f; volume = v; image_len = l; items = x; sections = p.sections; sizes = p.sizes }) ei
-    ∙ ap (λ (x : List Section). record { format = f; volume = v; image_len = l; items = i; sections = x; sizes = p.sizes }) es
+    ap (λ (x : Format). record {
+      format = x;
+      volume = p.volume;
+      image_len = p.image_len;
+      items = p.items;
+      sections = p.sections;
+      sizes = p.sizes;
+    }) ef
+    ∙ ap (λ (x : List ℕ). record {
+      format = f;
+      volume = x;
+      image_len = p.image_len;
+      items = p.items;
+      sections = p.sections;
+      sizes = p.sizes;
+    }) ev
+    ∙ ap (λ (x : ℕ). record {
+      format = f;
+      volume = v;
+      image_len = x;
+      items = p.items;
+      sections = p.sections;
+      sizes = p.sizes;
+    }) el
+    ∙ ap (λ (x : List Item). record {
+      format = f;
+      volume = v;
+      image_len = l;
+      items = x;
+      sections = p.sections;
+      sizes = p.sizes;
+    }) ei
+    ∙ ap (λ (x : List Section). record
+    { format = f; volume = v; image_len = l; items = i; sections = x; sizes = p.sizes }) es
     ∙ ap (λ (x : List ℕ). record { format = f; volume = v; image_len = l; items = i; sections = s; sizes = x }) ez
 
 pub planned_is : (m : ManifestLines) (sizes : List ℕ) (p : Planned) → IsPlanOf romfs m sizes p → p ≡ planned m sizes
 planned_is m sizes p h =
-    same_plan p romfs m.volume (len_of romfs m sizes) (of_format.items_of romfs m sizes) (sections_of romfs m sizes) sizes h.format h.volume h.image_len h.items h.sections h.of_sources
+    same_plan p romfs m.volume (len_of romfs m sizes) (of_format.items_of romfs m sizes)
+    (sections_of romfs m sizes) sizes h.format h.volume h.image_len h.items h.sections h.of_sources
 
 pub of_names : (volume : List ℕ) (root : Inode) (n : Names) (cs : List (List ℕ)) → IsPlanned volume root n cs
     → ((file : ℕ) → get_or (map length cs) file 0 < 2 ^ 32) → IsRomfsPlan (planned_by volume root n (map length cs))
@@ -127,13 +161,17 @@ of_names volume root n cs h sized =
       sized = sized;
     }
 
-pub known : Fitting → (m : ManifestLines) (sizes : List ℕ) → IsManifest m → (length sizes ≡ length (sources_of m.lines)) → HasNoMisfit romfs m sizes → IsRomfsPlan (planned m sizes)
+pub known : Fitting → (m : ManifestLines) (sizes : List ℕ) → IsManifest m → (length sizes ≡ length (sources_of m.lines))
+    → HasNoMisfit romfs m sizes → IsRomfsPlan (planned m sizes)
 known fitting m sizes h l n =
     let e = lengths sizes in
     let cs = zeros sizes in
     let n' = subst (HasNoMisfit romfs m) (sym e) n in
-    let sized = subst (λ (xs : List ℕ). (file : ℕ) → get_or xs file 0 < 2 ^ 32) (sym e) (sizes_small romfs m sizes h l n) in
-    subst (λ (xs : List ℕ). IsRomfsPlan (planned m xs)) e (of_names m.volume (root_of m.lines (map length cs)) (tree_of m.lines (map length cs)) cs (fitting romfs m cs h n') sized)
+    let sized =
+    subst (λ (xs : List ℕ). (file : ℕ) → get_or xs file 0 < 2 ^ 32) (sym e) (sizes_small romfs m sizes h l n) in
+    subst (λ (xs : List ℕ). IsRomfsPlan (planned m xs)) e
+    (of_names m.volume (root_of m.lines (map length cs)) (tree_of m.lines (map length cs)) cs
+    (fitting romfs m cs h n') sized)
 
 pub plan_known : Fitting → (p : Planned) → IsPlan p → p.format ≡ romfs → IsRomfsPlan p
 plan_known fitting p h e =

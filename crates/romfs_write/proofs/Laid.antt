@@ -1,10 +1,12 @@
 -- The form of a plan is laid out.
-use Rattle.std.proofs.Common.{◌≡◌, ℕ, zero, suc, ◌+◌, ◌<◌, ◌≤◌, List, [], ◌∷◌, map, length, drop, refl, sym, ap, ◌∙◌, arith}
+use Rattle.std.proofs.Common.{◌≡◌, ℕ, zero, suc, ◌+◌, ◌<◌, ◌≤◌, List, [], ◌∷◌, map, length, drop, refl, sym, ap, ◌∙◌}
+use Rattle.std.proofs.Common.{arith}
 use Rattle.std.specs.List.{AllByRecursion as Every}
 use Rattle.image_parts.proofs.Padding.{pad-after}
 use Rattle.image_stream.specs.Segments.{place, len, segment_at, SegmentsRise, HasSource, IsLaidOut}
 use Rattle.manifest_tree.specs.Names.{Fill, bytes_of}
-use Rattle.layout_terms.specs.Items.{Item, Section, Body, super, record_of, table_of, text_of, contents_of, SectionsRise}
+use Rattle.layout_terms.specs.Items.{Item, Section, Body, super, record_of, table_of, text_of, contents_of}
+use Rattle.layout_terms.specs.Items.{SectionsRise}
 use Rattle.plan_types.specs.Plans.{Planned}
 use Rattle.romfs_layout.specs.Layout.{root_at}
 use Rattle.romfs_write.specs.Form.{full_size, segment_by, segment_of, form_of}
@@ -17,14 +19,16 @@ place_by is at n (table_of k) = refl
 place_by is at n (text_of k) = refl
 place_by is at n (contents_of k) = refl
 
-pub len_by : (is : List Item) (sizes : List ℕ) (at n : ℕ) (b : Body) → IsBody is sizes n b → len (segment_by is at n b) ≡ n
+pub len_by : (is : List Item) (sizes : List ℕ) (at n : ℕ) (b : Body) → IsBody is sizes n b
+    → len (segment_by is at n b) ≡ n
 len_by is sizes at n super h = absurd h
 len_by is sizes at n (record_of k) h = h.2
 len_by is sizes at n (table_of k) h = absurd h
 len_by is sizes at n (text_of k) h = ap (λ (f : Fill). length (bytes_of [] f)) h.2 ∙ h.3
 len_by is sizes at n (contents_of k) h = refl
 
-source_by : (is : List Item) (sizes : List ℕ) (at n : ℕ) (b : Body) → IsBody is sizes n b → HasSource sizes (segment_by is at n b)
+source_by : (is : List Item) (sizes : List ℕ) (at n : ℕ) (b : Body) → IsBody is sizes n b
+    → HasSource sizes (segment_by is at n b)
 source_by is sizes at n super h = tt
 source_by is sizes at n (record_of k) h = tt
 source_by is sizes at n (table_of k) h = tt
@@ -59,7 +63,9 @@ laid_out p h =
     let after = pad-after (full_size p.items) 1024 (omega arith) in
     let wide : full_size p.items ≤ p.image_len = omega arith in
     record {
-      rises = rise p.items p.sizes (root_at p.volume) p.image_len (drop 1 p.sections) (rise_up p.items p.sizes (root_at p.volume) (full_size p.items) p.image_len (drop 1 p.sections) wide h.rises) h.bodies;
+      rises = rise p.items p.sizes (root_at p.volume) p.image_len (drop 1 p.sections)
+          (rise_up p.items p.sizes (root_at p.volume) (full_size p.items) p.image_len
+          (drop 1 p.sections) wide h.rises) h.bodies;
       files = sources p.items p.sizes (drop 1 p.sections) h.bodies;
       small = omega arith;
       short = omega arith;

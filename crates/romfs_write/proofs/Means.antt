@@ -1,5 +1,7 @@
 -- The image of a plan's form is the layout.
-use Rattle.std.proofs.Common.{◌≡◌, ℕ, ◌+◌, ◌-◌, ◌*◌, ◌/◌, ◌≤◌, zero, suc, nat_lt, true, false, if◌then◌else◌, List, [], ◌∷◌, ◌++◌, map, length, take, drop, replicate, get_or, refl, sym, ap, subst, ◌∙◌, arith, append_assoc, append-nil, length-append}
+use Rattle.std.proofs.Common.{◌≡◌, ℕ, ◌+◌, ◌-◌, ◌*◌, ◌/◌, ◌≤◌, zero, suc, nat_lt, true, false, if◌then◌else◌, List, []}
+use Rattle.std.proofs.Common.{◌∷◌, ◌++◌, map, length, take, drop, replicate, get_or, refl, sym, ap, subst, ◌∙◌, arith}
+use Rattle.std.proofs.Common.{append_assoc, append-nil, length-append}
 use Rattle.std.proofs.lemmas.List.{replicate-append-replicate, take_all, take-append-le, drop-append-le}
 use Rattle.std.specs.List.{AllByRecursion as Every}
 use Rattle.byteorder.specs.Endian.{big_bytes}
@@ -16,7 +18,8 @@ use Rattle.image_stream.proofs.Laid.{image_laid}
 use Rattle.image_stream.proofs.ByWords.{weighted_words}
 use Rattle.manifest_tree.specs.Names.{Fill, Inode, Names, bytes_of}
 use Rattle.plan_types.specs.Plans.{Planned, IsPlanOf}
-use Rattle.layout_terms.specs.Items.{Item, Section, Body, super, record_of, table_of, text_of, contents_of, section, SectionsRise}
+use Rattle.layout_terms.specs.Items.{Item, Section, Body, super, record_of, table_of, text_of, contents_of, section}
+use Rattle.layout_terms.specs.Items.{SectionsRise}
 use Rattle.layout_terms.specs.Bodies.{item_at}
 use Rattle.layout_terms.proofs.Bodies.{sections_are}
 use Rattle.romfs_layout.specs.Layout.{root_at, superblock, layout}
@@ -47,7 +50,9 @@ none_weighted zero k = refl
 none_weighted (suc n) k = let h = none_weighted n (k + 1) in let t = no_term k in omega (arith, h, t)
 
 joined : (xs ys : List ℕ) (k : ℕ) → weighted k (xs ++ ys) ≡ weighted k xs + weighted (k + length xs) ys
-joined [] ys k = let e : k ≡ k + 0 = omega arith in ap (λ j. weighted j ys) e ∙ (let z : weighted (k + 0) ys ≡ 0 + weighted (k + 0) ys = omega arith in z)
+joined [] ys k = let e : k ≡ k + 0 =
+    omega arith in ap (λ j. weighted j ys) e
+    ∙ (let z : weighted (k + 0) ys ≡ 0 + weighted (k + 0) ys = omega arith in z)
 joined (x ∷ xs) ys k =
     let h = joined xs ys (k + 1) in
     let e : k + 1 + length xs ≡ k + length (x ∷ xs) = omega arith in
@@ -64,24 +69,29 @@ balance_before b n k e =
     let w : weighted 0 (b ++ replicate k 0) ≡ weighted 0 b = omega (arith, z, j) in
     ap balance (w ∙ weighted_words b n e)
 
--- zeros up to the end are zeros up to a place before it, and those from there
+-- zeros up to the end are zeros up to an offset before it, and those from there
 extended : (l : List ℕ) (size end : ℕ) → length l ≤ size → size ≤ end
-    → l ++ (replicate (end - length l) 0 ++ []) ≡ (l ++ (replicate (size - length l) 0 ++ [])) ++ replicate (end - size) 0
+    → l ++ (replicate (end - length l) 0 ++ [])
+    ≡ (l ++ (replicate (size - length l) 0 ++ [])) ++ replicate (end - size) 0
 extended l size end h k =
     let a = replicate {A = ℕ} (size - length l) 0 in
     let c = replicate {A = ℕ} (end - size) 0 in
     let n : end - length l ≡ (size - length l) + (end - size) = omega arith in
-    let e : replicate {A = ℕ} (end - length l) 0 ≡ a ++ c = ap (λ (m : ℕ). replicate m 0) n ∙ sym (replicate-append-replicate (size - length l) (end - size) 0) in
+    let e : replicate {A = ℕ} (end - length l) 0 ≡ a ++ c =
+    ap (λ (m : ℕ). replicate m 0) n ∙ sym (replicate-append-replicate (size - length l) (end - size) 0) in
     ap (λ (x : List ℕ). l ++ x) (append-nil (replicate (end - length l) 0) ∙ e) ∙ sym (append_assoc l a c)
     ∙ ap (λ (x : List ℕ). (l ++ x) ++ c) (sym (append-nil a))
 
 -- the word put into an image, of which bytes with zeros behind them are all
-put_into : (b z rest : List ℕ) (size v : ℕ) (volume : List ℕ) → 16 ≤ length b → superblock_storing 0 size volume ++ rest ≡ b ++ z
+put_into : (b z rest : List ℕ) (size v : ℕ) (volume : List ℕ) → 16 ≤ length b
+    → superblock_storing 0 size volume ++ rest ≡ b ++ z
     → superblock_storing v size volume ++ rest ≡ (take 12 b ++ (big_bytes 4 v ++ drop 16 b)) ++ z
 put_into b z rest size v volume h e =
     let front = take 12 b in
     let w = big_bytes 4 v in
-    let x : superblock_storing v size volume ++ rest ≡ take 12 (superblock_storing 0 size volume ++ rest) ++ (w ++ drop 16 (superblock_storing 0 size volume ++ rest)) = refl in
+    let x : superblock_storing v size volume ++ rest
+    ≡ take 12 (superblock_storing 0 size volume ++ rest)
+    ++ (w ++ drop 16 (superblock_storing 0 size volume ++ rest)) = refl in
     x ∙ ap (λ (y : List ℕ). take 12 y ++ (w ++ drop 16 y)) e
     ∙ ap (λ (y : List ℕ). y ++ (w ++ drop 16 (b ++ z))) (take-append-le 12 b z (omega arith))
     ∙ ap (λ (y : List ℕ). front ++ (w ++ y)) (drop-append-le 16 b z (omega arith))
@@ -93,7 +103,8 @@ module _ (volume : List ℕ) (size : ℕ) (cs : List (List ℕ)) (is : List Item
   part_by at n super h = absurd h
   part_by at n (record_of k) h = refl
   part_by at n (table_of k) h = absurd h
-  part_by at n (text_of k) h = ap (λ (f : Fill). part at (bytes_of [] f)) h.2 ∙ sym (ap (λ (f : Fill). part at (bytes_of cs f)) h.2)
+  part_by at n (text_of k) h =
+      ap (λ (f : Fill). part at (bytes_of [] f)) h.2 ∙ sym (ap (λ (f : Fill). part at (bytes_of cs f)) h.2)
   part_by at n (contents_of k) h =
       let e : length (get_or cs k []) ≡ n = size_is cs k ∙ h.1 in
       ap (λ (b : List ℕ). part at b) (take_all n (get_or cs k []) (omega arith))
@@ -105,28 +116,35 @@ module _ (volume : List ℕ) (size : ℕ) (cs : List (List ℕ)) (is : List Item
       ap (λ (p : Part). p ∷ map (segment_part cs) (map (segment_of is) ss)) (part_by s.place s.len s.body h.0)
       ∙ ap (λ (ps : List Part). romfs_part volume size cs is s ∷ ps) (parts_by ss h.1)
 
-  -- the image in which the superblock stores this word in place of its sum
+  -- the image in which the superblock stores this word instead of its sum
   image_is : (rest : List ℕ) (n : ℕ) → size ≡ 4 * n → 16 ≤ size
       → SectionsRise 0 size (sections_of volume is)
       → Every (λ s. length (romfs_part volume size cs is s).bytes ≡ s.len) (sections_of volume is)
-      → superblock_storing 0 size volume ++ rest ≡ laid [] (map (romfs_part volume size cs is) (sections_of volume is) ++ part (pad size 1024) [] ∷ [])
-      → superblock_storing (balance_of (superblock_storing 0 size volume ++ rest)) size volume ++ rest ≡ composed volume size cs is
+      → superblock_storing 0 size volume ++ rest
+      ≡ laid [] (map (romfs_part volume size cs is) (sections_of volume is) ++ part (pad size 1024) [] ∷ [])
+      → superblock_storing (balance_of (superblock_storing 0 size volume ++ rest)) size volume ++ rest
+      ≡ composed volume size cs is
   unfolding composed with_part sealed
   image_is rest n e low up long all =
       let end = pad size 1024 in
       let ps = map (romfs_part volume size cs is) (sections_of volume is) in
       let b = laid [] (ps ++ part size [] ∷ []) in
       let l = laid [] ps in
-      let are = sections_are (λ s. (romfs_part volume size cs is s).bytes) 0 size size (sections_of volume is) (omega arith) up long in
+      let are = sections_are (λ s. (romfs_part volume size cs is s).bytes) 0 size size (sections_of volume is)
+      (omega arith) up long in
       let lb : length b ≡ size = length-laid [] (ps ++ part size [] ∷ []) are.rises ∙ are.ends_at in
       let split : b ≡ l ++ (replicate (size - length l) 0 ++ []) = laid-append [] ps (part size [] ∷ []) in
-      let split_end : laid [] (ps ++ part end [] ∷ []) ≡ l ++ (replicate (end - length l) 0 ++ []) = laid-append [] ps (part end [] ∷ []) in
-      let nl : length b ≡ length l + length (replicate {A = ℕ} (size - length l) 0 ++ []) = ap length split ∙ length-append l (replicate (size - length l) 0 ++ []) in
+      let split_end : laid [] (ps ++ part end [] ∷ []) ≡ l ++ (replicate (end - length l) 0 ++ []) =
+      laid-append [] ps (part end [] ∷ []) in
+      let nl : length b ≡ length l + length (replicate {A = ℕ} (size - length l) 0 ++ []) =
+      ap length split ∙ length-append l (replicate (size - length l) 0 ++ []) in
       let within : length l ≤ size = omega arith in
       let after : size ≤ end = pad-after size 1024 (omega arith) in
       let z = replicate {A = ℕ} (end - size) 0 in
-      let whole : superblock_storing 0 size volume ++ rest ≡ b ++ z = all ∙ split_end ∙ extended l size end within after ∙ ap (λ (y : List ℕ). y ++ z) (sym split) in
-      let v : balance_of (superblock_storing 0 size volume ++ rest) ≡ balance (words_total (take 512 b)) = ap balance_of whole ∙ balance_before b n (end - size) (omega (arith, lb)) in
+      let whole : superblock_storing 0 size volume ++ rest ≡ b ++ z =
+      all ∙ split_end ∙ extended l size end within after ∙ ap (λ (y : List ℕ). y ++ z) (sym split) in
+      let v : balance_of (superblock_storing 0 size volume ++ rest) ≡ balance (words_total (take 512 b)) =
+      ap balance_of whole ∙ balance_before b n (end - size) (omega (arith, lb)) in
       put_into b z rest size (balance_of (superblock_storing 0 size volume ++ rest)) volume (omega (arith, lb)) whole
       ∙ ap (λ (k : ℕ). (take 12 b ++ (big_bytes 4 k ++ drop 16 b)) ++ z) v
 
@@ -151,10 +169,12 @@ names_mean volume root n cs h known =
     let lp = length-padded_name volume in
     let ls : length sb ≡ root_at volume = omega (arith, lp) in
     let il = image_laid f cs (laid_out p known) (λ k l. size_is cs k) ls in
-    let all = il ∙ ap (λ (ps : List Part). laid [] (part 0 sb ∷ (ps ++ part f.end [] ∷ []))) (parts_by volume size cs is ss known.bodies)
+    let all = il ∙ ap (λ (ps : List Part). laid [] (part 0 sb ∷ (ps ++ part f.end [] ∷ [])))
+    (parts_by volume size cs is ss known.bodies)
     ∙ ap (λ (k : ℕ). laid [] (part 0 sb ∷ (map rp ss ++ part k [] ∷ []))) known.end in
     let up = subst (λ (k : ℕ). SectionsRise 0 k (sections_of volume is)) (sym fs) (in_romfs.rise volume root n cs h) in
-    let long = subst (λ (k : ℕ). Every (λ s. length (romfs_part volume k cs is s).bytes ≡ s.len) (sections_of volume is)) (sym fs) (are_long volume root n cs h) in
+    let long = subst (λ (k : ℕ). Every (λ s. length (romfs_part volume k cs is s).bytes ≡ s.len)
+    (sections_of volume is)) (sym fs) (are_long volume root n cs h) in
     let low = rise_low (0 + root_at volume) size ss up.2 in
     let x = item_end (item_at is (length is - 1)) in
     image_is volume size cs is rest ((x + 15) / 16 * 4) (omega arith) (omega (arith, low)) up long all
@@ -165,9 +185,11 @@ pub means : Fitting → (p : Planned) (m : ManifestLines) (cs : List (List ℕ))
 means fitting p m cs hm known is =
     let e = planned_is m (map length cs) p is in
     subst (λ (q : Planned). image_of (form_of q) balance_of cs ≡ layout_of romfs m cs) (sym e)
-    (names_mean m.volume (root_of m.lines (map length cs)) (tree_of m.lines (map length cs)) cs (fitting romfs m cs hm is.fits) (subst IsRomfsPlan e known))
+    (names_mean m.volume (root_of m.lines (map length cs)) (tree_of m.lines (map length cs)) cs
+    (fitting romfs m cs hm is.fits) (subst IsRomfsPlan e known))
 
-pub sized_means : Fitting → (p : Planned) (m : ManifestLines) (sizes : List ℕ) (cs : List (List ℕ)) → IsManifest m → IsRomfsPlan p
+pub sized_means : Fitting → (p : Planned) (m : ManifestLines) (sizes : List ℕ) (cs : List (List ℕ)) → IsManifest m
+    → IsRomfsPlan p
     → IsPlanOf romfs m sizes p → length cs ≡ length p.sizes → AreSized p.sizes cs
     → (map length cs ≡ sizes) × (image_of (form_of p) balance_of cs ≡ layout_of romfs m cs)
 sized_means fitting p m sizes cs hm known is n sized =

@@ -1,5 +1,6 @@
 -- A header and a superblock that are written piece by piece.
-use Rattle.std.proofs.Common.{◌≡◌, ℕ, ◌+◌, ◌-◌, ◌^◌, ◌%◌, List, ◌++◌, length, drop, take, replicate, refl, sym, ap, ◌∙◌, arith, append_assoc, length-append}
+use Rattle.std.proofs.Common.{◌≡◌, ℕ, ◌+◌, ◌-◌, ◌^◌, ◌%◌, List, ◌++◌, length, drop, take, replicate, refl, sym, ap, ◌∙◌}
+use Rattle.std.proofs.Common.{arith, append_assoc, length-append}
 use Rattle.std.proofs.lemmas.List.{length-replicate, drop_at, take_at, replicate-append-replicate}
 use Rattle.byteorder.specs.Endian.{big_bytes}
 use Rattle.rom_fields.specs.Words.{words_total, words_sum}
@@ -16,7 +17,8 @@ over : (a old w rest : List ℕ) (p : ℕ) → length a ≡ p → length old ≡
 over a old w rest p h k =
     let t : take p (a ++ (old ++ rest)) ≡ a = take_at a (old ++ rest) p h in
     let n : length (a ++ old) ≡ p + length w = omega (arith, length-append a old) in
-    let d : drop (p + length w) (a ++ (old ++ rest)) ≡ rest = ap (drop (p + length w)) (sym (append_assoc a old rest)) ∙ drop_at (a ++ old) rest (p + length w) n in
+    let d : drop (p + length w) (a ++ (old ++ rest)) ≡ rest =
+    ap (drop (p + length w)) (sym (append_assoc a old rest)) ∙ drop_at (a ++ old) rest (p + length w) n in
     ap (λ (x : List ℕ). x ++ (w ++ drop (p + length w) (a ++ (old ++ rest)))) t ∙ ap (λ (x : List ℕ). a ++ (w ++ x)) d
 
 -- the words of a header without its sum, and the word that balances them
@@ -26,12 +28,14 @@ unfolding words_sum balance
 balance_of front back h =
     let a = words_total-append 3 front (big_bytes 4 0 ++ back) h in
     let c = words_total-word 0 back (omega arith) in
-    let s : words_total (front ++ (big_bytes 4 0 ++ back)) ≡ words_total front + words_total back = omega (arith, a, c) in
+    let s : words_total (front ++ (big_bytes 4 0 ++ back)) ≡ words_total front + words_total back =
+    omega (arith, a, c) in
     ap (λ (n : ℕ). (2 ^ 32 - n % 2 ^ 32) % 2 ^ 32) s
 
 -- sixteen bytes for words, and room for a name
 room_is : (name : List ℕ) → let z = big_bytes 4 0 in
-    replicate (record_len name) 0 ≡ z ++ (z ++ (z ++ (z ++ (replicate (length name) 0 ++ replicate (pad16 (length name + 1) - length name) 0))))
+    replicate (record_len name) 0 ≡ z ++
+    (z ++ (z ++ (z ++ (replicate (length name) 0 ++ replicate (pad16 (length name + 1) - length name) 0))))
 room_is name =
     let k = pad16 (length name + 1) - length name in
     let n : record_len name ≡ 16 + (length name + k) = omega arith in
@@ -57,9 +61,13 @@ header_built x0 x1 x2 x3 x4 x5 next spec size s name e0 e1 e2 e3 e4 es e5 =
     let f2 : x2 ≡ wn ++ (wp ++ (z ++ (z ++ rest))) = e2 ∙ ap (λ (x : List ℕ). take 4 x ++ (wp ++ drop 8 x)) f1 in
     let f3 : x3 ≡ wn ++ (wp ++ (wz ++ (z ++ rest))) = e3 ∙ ap (λ (x : List ℕ). take 8 x ++ (wz ++ drop 12 x)) f2 in
     let numbers = wn ++ (wp ++ wz) in
-    let f4 : x4 ≡ numbers ++ (z ++ (name ++ pad)) = e4 ∙ ap (λ (x : List ℕ). take 16 x ++ (name ++ drop (16 + length name) x)) f3 ∙ over (numbers ++ z) none name pad 16 refl (length-replicate (length name) 0) in
-    let b : s ≡ balance (words_total numbers + words_total (name ++ pad)) = es ∙ ap (λ (x : List ℕ). (2 ^ 32 - words_sum x) % 2 ^ 32) f4 ∙ balance_of numbers (name ++ pad) refl in
-    e5 ∙ ap (λ (x : List ℕ). take 12 x ++ (big_bytes 4 s ++ drop 16 x)) f4 ∙ over numbers z (big_bytes 4 s) (name ++ pad) 12 refl refl
+    let f4 : x4 ≡ numbers ++ (z ++ (name ++ pad)) =
+    e4 ∙ ap (λ (x : List ℕ). take 16 x ++ (name ++ drop (16 + length name) x)) f3
+    ∙ over (numbers ++ z) none name pad 16 refl (length-replicate (length name) 0) in
+    let b : s ≡ balance (words_total numbers + words_total (name ++ pad)) =
+    es ∙ ap (λ (x : List ℕ). (2 ^ 32 - words_sum x) % 2 ^ 32) f4 ∙ balance_of numbers (name ++ pad) refl in
+    e5 ∙ ap (λ (x : List ℕ). take 12 x ++ (big_bytes 4 s ++ drop 16 x)) f4
+    ∙ over numbers z (big_bytes 4 s) (name ++ pad) 12 refl refl
     ∙ ap (λ (m : ℕ). numbers ++ (big_bytes 4 m ++ (name ++ pad))) b
 
 pub superblock_built : (x0 x1 x2 x3 x4 : List ℕ) (size sum : ℕ) (name : List ℕ)
@@ -79,4 +87,5 @@ superblock_built x0 x1 x2 x3 x4 size sum name e0 e1 e2 e3 e4 =
     let f2 : x2 ≡ magic ++ (ws ++ (z ++ rest)) = e2 ∙ ap (λ (x : List ℕ). take 8 x ++ (ws ++ drop 12 x)) f1 in
     let f3 : x3 ≡ magic ++ (ws ++ (wv ++ rest)) = e3 ∙ ap (λ (x : List ℕ). take 12 x ++ (wv ++ drop 16 x)) f2 in
     let front = magic ++ (ws ++ wv) in
-    e4 ∙ ap (λ (x : List ℕ). take 16 x ++ (name ++ drop (16 + length name) x)) f3 ∙ over front none name pad 16 refl (length-replicate (length name) 0)
+    e4 ∙ ap (λ (x : List ℕ). take 16 x ++ (name ++ drop (16 + length name) x)) f3
+    ∙ over front none name pad 16 refl (length-replicate (length name) 0)

@@ -1,25 +1,29 @@
--- What a romfs image is made of, from its plan. (This project's own; the bytes are those of the layout.)
+-- `form_of`: the plan of a romfs image as a superblock and segments, before the contents of its
+-- files are known. (This project's own; the bytes are those of the layout.)
 use Rattle.std.specs.Prelude.{ℕ, ◌+◌, ◌-◌, List, [], ◌++◌, map, length, drop}
 use Rattle.byteorder.specs.Endian.{big_bytes}
 use Rattle.image_stream.specs.Segments.{Segment, fixed, content, Form}
 use Rattle.plan_types.specs.Plans.{Planned}
 use Rattle.layout_terms.specs.Bodies.{item_at}
-use Rattle.layout_terms.specs.Items.{Item, Section, Body, super, record_of, table_of, text_of, contents_of}
+use Rattle.layout_terms.specs.Items.{Item, Section, Body, super, record_of, table_of, text_of}
+use Rattle.layout_terms.specs.Items.{contents_of}
 use Rattle.manifest_tree.specs.Names.{bytes_of}
 use Rattle.romfs_format.specs.Record.{pad16}
 use Rattle.romfs_format.specs.Tree.{magic}
 use Rattle.romfs_layout.specs.Composed.{written}
 use Rattle.romfs_layout.specs.Layout.{padded_name, record_len, root_at}
 
--- the superblock with a word in the place of its sum
+-- the superblock with this word as its sum
 abbrev pub superblock_storing : ℕ → ℕ → List ℕ → List ℕ
-superblock_storing sum size volume = magic ++ (big_bytes 4 size ++ (big_bytes 4 sum ++ padded_name volume))
+superblock_storing sum size volume =
+    magic ++ (big_bytes 4 size ++ (big_bytes 4 sum ++ padded_name volume))
 
--- where an item's bytes end
+-- the end of an item's bytes
 abbrev pub item_end : Item → ℕ
 item_end i = i.place + record_len i.name + i.len
 
--- the size that the superblock stores: where the last item's bytes end, brought up to a multiple of 16
+-- the size that the superblock stores: the end of the last item's bytes, rounded up to a multiple
+-- of 16
 abbrev pub full_size : List Item → ℕ
 full_size is = pad16 (item_end (item_at is (length is - 1)))
 

@@ -1,22 +1,25 @@
--- What is known of the plan of a romfs image. (This project's own.)
+-- `IsRomfsPlan`: the known facts of the plan of a romfs image. (This project's own.)
 use Rattle.std.specs.Prelude.{◌≡◌, ℕ, ◌+◌, ◌^◌, ◌<◌, List, ◌∷◌, length, drop, get_or}
 use Rattle.std.specs.List.{AllByRecursion as Every}
 use Rattle.manifest_tree.specs.Names.{text}
 use Rattle.image_parts.specs.Padding.{pad}
 use Rattle.plan_types.specs.Plans.{Planned}
-use Rattle.layout_terms.specs.Items.{Item, Body, super, record_of, table_of, text_of, contents_of, section, SectionsRise}
+use Rattle.layout_terms.specs.Items.{Item, Body, super, record_of, table_of, text_of, contents_of}
+use Rattle.layout_terms.specs.Items.{section, SectionsRise}
 use Rattle.layout_terms.specs.Bodies.{item_at}
 use Rattle.romfs_layout.specs.Composed.{written}
 use Rattle.romfs_layout.specs.Layout.{root_at}
 use Rattle.romfs_write.specs.Form.{full_size}
 
--- what a section of this length holds: a header, a link's text, or the whole contents of a file
+-- the contents of a section of this length: a header, a link's text, or the whole contents of a
+-- file
 abbrev pub IsBody : List Item → List ℕ → ℕ → Body → Type 0
 IsBody is sizes len super = ⊥
 IsBody is sizes len (record_of k) =
     (k < length is) × (length (item_at is k).name < 256) × (length (written (item_at is k)) ≡ len)
 IsBody is sizes len (table_of k) = ⊥
-IsBody is sizes len (text_of k) = (k < length is) × (t : List ℕ) × ((item_at is k).fill ≡ text t) × (length t ≡ len)
+IsBody is sizes len (text_of k) =
+    (k < length is) × (t : List ℕ) × ((item_at is k).fill ≡ text t) × (length t ≡ len)
 IsBody is sizes len (contents_of k) = (k < length sizes) × (get_or sizes k 0 ≡ len)
 
 pub record IsRomfsPlan (p : Planned) : Type 0 where

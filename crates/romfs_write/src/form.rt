@@ -1,5 +1,6 @@
 //! A plan as an image that can be written segment by segment.
-ghost use Rattle.std.specs.Prelude.{◌≡◌, ◌+◌, ◌<◌, ◌≤◌, ◌^◌, ℕ, List, [], length, take, drop, get_or};
+ghost use Rattle.std.specs.Prelude.{◌≡◌, ◌+◌, ◌<◌, ◌≤◌, ◌^◌, ℕ, List, [], length, take, drop};
+ghost use Rattle.std.specs.Prelude.{get_or};
 ghost use Rattle.image_stream.specs.Segments.{fixed};
 ghost use Rattle.layout_terms.specs.Bodies.{item_at};
 ghost use Rattle.layout_terms.specs.Items.{section, super};
@@ -23,7 +24,7 @@ pub struct RomfsForm<'p> {
     ghost romfs: { plan.now.format ≡ romfs },
 }
 
-/// What is known of the plan of a romfs image.
+/// Shows the known facts of the plan of a romfs image.
 pub fn known(plan: &Plan)
     requires { plan.now.format ≡ romfs }
     ensures plan { IsRomfsPlan plan.now }
@@ -33,7 +34,7 @@ pub fn known(plan: &Plan)
     manifest_layout::laws::fitting_is_planned();
 }
 
-/// The least multiple of 16 that is at least the length of a name with its zero.
+/// Returns the least multiple of 16 that is at least the length of a name with its zero.
 fn padded_len(name: &[u8]) -> usize
     ensures { result ≡ pad16 (length name.now + 1) }
 {
@@ -64,7 +65,7 @@ fn fill_text(fill: &Fill, from: usize, out: &mut [u8])
 }
 
 impl<'p> RomfsForm<'p> {
-    /// That of a plan.
+    /// Returns the form of a plan.
     pub fn new(plan: &'p Plan) -> RomfsForm<'p>
         requires { plan.now.format ≡ romfs }
         ensures { result.plan.now ≡ plan.now }
@@ -72,7 +73,7 @@ impl<'p> RomfsForm<'p> {
         RomfsForm { plan }
     }
 
-    /// The size that the superblock stores.
+    /// Returns the size that the superblock stores.
     fn full_size(&self) -> u32
         ensures { result ≡ full_size self.now.plan.now.items }
     {
@@ -84,7 +85,7 @@ impl<'p> RomfsForm<'p> {
         ((end + 15) / 16 * 16) as u32
     }
 
-    /// A section behind the superblock.
+    /// Returns the section at an index behind the superblock.
     fn section_behind(&self, i: usize) -> Section
         requires { i < length (drop 1 self.now.plan.now.sections) }
         ensures is { section_view result
@@ -103,7 +104,7 @@ impl<'p> RomfsForm<'p> {
         }
     }
 
-    /// Fills `out` with the bytes from `from` on of a section that is no file's contents.
+    /// Fills `out` with the bytes from `from` on of a section that is not a file's contents.
     fn fill_section(&self, section: Section, from: usize, out: &mut [u8])
         requires body { IsBody self.now.plan.now.items self.now.plan.now.sizes section.len
             (section_view section).body }

@@ -23,7 +23,7 @@ fn put(out: &mut [u8], start: usize, bytes: &[u8])
     out[start..start + bytes.len()].copy_from_slice(bytes);
 }
 
-/// Puts a word over four bytes, from `start` on, the highest byte first.
+/// Puts a word over four bytes, from `start` on, with the highest byte first.
 #[tactic(auto, unfolding(rom_fields::specs::Words::with_word_be))]
 fn put_word(out: &mut [u8], start: usize, word: u32)
     requires { start + 4 ≤ length out.old }
@@ -44,8 +44,8 @@ pub fn put_superblock(volume: &[u8], size: u32, sum: u32, out: &mut [u8])
     put(out, 16, volume);
 }
 
-/// Puts a header, whose three words are next, spec and size, with the word that brings its sum to
-/// zero.
+/// Puts a header with the word that brings its sum to zero. Its three words are next, spec and
+/// size.
 pub fn put_header(words: [u32; 3], name: &[u8], out: &mut [u8])
     requires { length out.old ≡ record_len name.now }
     ensures { out.new

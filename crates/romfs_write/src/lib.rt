@@ -1,10 +1,11 @@
-//! A romfs image from its plan.
+//! A romfs image from its plan. `write` puts it into a buffer; `stream_through` and `stream` write
+//! it to a writer.
 //!
-//! `specs/Form.antt` says what the image is made of, and `romfs_layout` and `manifest_layout` what
-//! its layout is. Proved: at an `Ok` of `write` the buffer holds just that layout, whatever it
-//! held, and at an `Ok` of `stream` or `stream_through` just that was written, where the sources
-//! tell their contents; an error of `write` leaves the buffer as it was, and names the first file
-//! of another size.
+//! Proved: at an `Ok` of `write`, the buffer holds exactly the layout (`romfs_layout`,
+//! `manifest_layout`), whatever it held before. At an `Ok` of `stream` or `stream_through`, exactly
+//! the layout was written, if the contents of the sources are known. An error of `write` leaves the
+//! buffer as it was, and has the first file with another size. `specs/Form.antt` has the image's
+//! segments.
 #![tactic(auto)]
 
 mod form;

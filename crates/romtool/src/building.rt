@@ -4,29 +4,34 @@ ghost use Rattle.manifest.specs.Lines.{sources_of};
 ghost use Rattle.plan_types.specs.Formats.{format_of};
 ghost use Rattle.plan_types.specs.Plans.{IsPlanOf};
 
-use crate::disk::{Disk, first_changed, stamp_unlinked};
+use crate::depfile::Rule;
+use crate::disk::{Disk, first_changed};
+use crate::foreseen::{Warnings, foreseen};
 use crate::origin::Origin;
 use crate::progress::Progress;
-use crate::stamp::{Identity, Stamp, has_changed, let_rest, stamp_of};
+use crate::sources::{joined_names, names_of, sizes_of, stamps_of, texts_of};
+use crate::stamp::{Identity, Stamp, has_changed, let_rest};
 use crate::target::{KeepError, Target, Writer};
 use crate::teller::Teller;
-use crate::{explained, reading};
-use build_commands::{tell_bad_manifest, tell_built, tell_misfit};
+use crate::{bad_lines, depfile, explained, reading, warned};
+use build_commands::{tell_bad_manifest, tell_built, tell_misfit, tell_size, tell_strict};
 use command_line::Build;
 use image_build::{StreamError, stream, stream_through};
 use layout_plan::{PlanError, plan};
-use manifest::{Manifest, ManifestError, Name, parse};
+use manifest::{Manifest, ManifestError, parse};
 use plan_types::{Format, Plan};
 use program_streams::Held;
 use rom_commands::{Failure, Status};
 use rom_fields::{Failed, Plain};
 use sentences::reasons::{
-    NO_TEXT, NOT_TAKEN, OWN_INPUT, OWN_OUTPUT, PART_REPLACED, SOURCE_CHANGED, SOURCE_UNREAD,
-    SUM_DIFFERS,
+    NOT_TAKEN, OWN_INPUT, OWN_OUTPUT, PART_REPLACED, SOURCE_CHANGED, SOURCE_UNREAD, SUM_DIFFERS,
 };
 use std::fs::Metadata;
 use std::os::unix::fs::{FileTypeExt, MetadataExt};
-use std::{fs, io, str};
+use std::{fs, io};
+
+/// The word for a manifest on standard input.
+const INPUT: &str = "-";
 
 /// How many bytes of a source are read at once, where there is memory for them.
 const LARGE: usize = 256 << 10;
@@ -47,7 +52,12 @@ fn told(teller: &Teller<'_>, written: Result<(), Failed>) -> Status {
 
 /// The text of the manifest in a file.
 fn text_of(teller: &Teller<'_>, name: &str) -> Result<reading::Text, Status> {
-    match reading::manifest(teller.rt, name) {
+    let text = if name == INPUT {
+        reading::manifest_of_input(teller.rt)
+    } else {
+        reading::manifest(teller.rt, name)
+    };
+    match text {
         Ok(text) => {
             explained::returns(teller, name, &text.bytes);
             Ok(text)
@@ -66,91 +76,10 @@ fn manifest_of(teller: &Teller<'_>, name: &str, text: &[u8]) -> Result<Manifest,
             let out = &mut Plain::new(Held::new(rt.alloc(), io::writer(rt)));
             let status = told(teller, tell_bad_manifest(out, line, number));
             explained::bad_manifest(teller, name, text, line, number);
+            bad_lines::explain_others(teller, name, text, line);
             Err(status)
         }
     }
-}
-
-/// The state of a source, by its number.
-fn stamp_of_source(
-    teller: &Teller<'_>,
-    origin: Origin<'_>,
-    number: usize,
-    name: &str,
-) -> Result<Stamp, Status> {
-    let stamp = if origin.no_follow {
-        stamp_unlinked(teller.rt, name)
-    } else {
-        stamp_of(teller.rt, name)
-    };
-    match stamp {
-        Ok(stamp) => Ok(stamp),
-        Err(e) => Err(teller.refused_source(origin, number, &e)),
-    }
-}
-
-/// Says what is wrong with the first source that cannot be read: one of these, or the one behind
-/// them, whose name is no text.
-fn first_refused(teller: &Teller<'_>, origin: Origin<'_>, before: &[&str]) -> Status {
-    for (number, name) in before.iter().enumerate() {
-        if let Err(status) = stamp_of_source(teller, origin, number, name) {
-            return status;
-        }
-    }
-    let number = before.len();
-    let status = teller.say(Failure::File(origin.source(number)));
-    teller.explain_source(origin, number, &NO_TEXT);
-    status
-}
-
-/// The names of the sources as texts, since a file has no other name here.
-fn names_of<'m>(
-    teller: &Teller<'_>,
-    origin: Origin<'_>,
-    sources: &'m [Name],
-) -> Result<Vec<&'m str>, Status>
-    ensures { IfOk result (λ names. length names.items ≡ length sources.now) }
-{
-    let mut names = Vec::new(teller.rt.alloc());
-    for source in sources {
-        let Ok(name) = str::from_utf8(source.as_bytes()) else {
-            return Err(first_refused(teller, origin, &names));
-        };
-        if names.push(name).is_err() {
-            return Err(teller.say(Failure::Memory));
-        }
-    }
-    Ok(names)
-}
-
-/// The state of each source.
-fn stamps_of(teller: &Teller<'_>, origin: Origin<'_>, names: &[&str]) -> Result<Vec<Stamp>, Status>
-    ensures { IfOk result (λ stamps. length stamps.items ≡ length names.now) }
-{
-    let mut stamps = Vec::new(teller.rt.alloc());
-    for name in names {
-        let stamp = match stamp_of_source(teller, origin, stamps.len(), name) {
-            Ok(stamp) => stamp,
-            Err(status) => return Err(status),
-        };
-        if stamps.push(stamp).is_err() {
-            return Err(teller.say(Failure::Memory));
-        }
-    }
-    Ok(stamps)
-}
-
-/// How many bytes each source has.
-fn sizes_of(teller: &Teller<'_>, stamps: &[Stamp]) -> Result<Vec<u64>, Status>
-    ensures { IfOk result (λ sizes. length sizes.items ≡ length stamps.now) }
-{
-    let mut sizes = Vec::new(teller.rt.alloc());
-    for stamp in stamps {
-        if sizes.push(stamp.len()).is_err() {
-            return Err(teller.say(Failure::Memory));
-        }
-    }
-    Ok(sizes)
 }
 
 /// The plan of a manifest whose sources have these sizes.
@@ -193,8 +122,8 @@ impl Files<'_> {
         status
     }
 
-    /// Says that a source could not be read as it was: it changed, or it is at fault, for the reason
-    /// that the system gave, if it gave one.
+    /// Says that a source could not be read as it was: it changed, or it is at fault, for the
+    /// reason that the system gave, if it gave one.
     fn say_fault(&self, teller: &Teller<'_>, file: usize, reason: Option<io::Error>) -> Status {
         let (Some(name), Some(stamp)) = (self.names.get(file), self.stamps.get(file)) else {
             return teller.say(Failure::Changed);
@@ -247,29 +176,74 @@ fn is_own_output(rt: &HostRuntime, found: &Metadata) -> bool {
     }
 }
 
-/// Opens what an image is written to. That is neither the manifest nor a source, nor standard
+/// What an image is made of: the file of its manifest, if it has one, and its sources.
+#[derive(Clone, Copy)]
+struct Inputs<'a> {
+    manifest: Option<Identity>,
+    stamps: &'a [Stamp],
+}
+
+impl Inputs<'_> {
+    /// Whether a file is one of these.
+    fn has(&self, identity: Identity) -> bool {
+        self.manifest == Some(identity)
+            || self.stamps.iter().any(|stamp| stamp.identity() == identity)
+    }
+}
+
+/// Refuses a file that is not to be written, since the image is made of it, or since it is standard
 /// output.
-fn target_of(
-    teller: &Teller<'_>,
-    out: &str,
-    manifest: Identity,
-    stamps: &[Stamp],
-) -> Result<Target, Status> {
-    if let Ok(found) = fs::metadata(teller.rt, out) {
-        let identity = Identity::of(&found);
-        if identity == manifest || stamps.iter().any(|stamp| stamp.identity() == identity) {
-            return Err(teller.failed(out.as_bytes(), &OWN_INPUT));
+fn check_output(teller: &Teller<'_>, name: &str, inputs: Inputs<'_>) -> Result<(), Status> {
+    if let Ok(found) = fs::metadata(teller.rt, name) {
+        if inputs.has(Identity::of(&found)) {
+            return Err(teller.failed(name.as_bytes(), &OWN_INPUT));
         }
         if is_own_output(teller.rt, &found) {
-            return Err(teller.failed(out.as_bytes(), &OWN_OUTPUT));
+            return Err(teller.failed(name.as_bytes(), &OWN_OUTPUT));
         }
     }
+    Ok(())
+}
+
+/// Opens what an image is written to. That is neither the manifest nor a source, nor standard
+/// output.
+fn target_of(teller: &Teller<'_>, out: &str, inputs: Inputs<'_>) -> Result<Target, Status> {
+    check_output(teller, out, inputs)?;
     match Target::open(teller.rt, out) {
         Ok(target) => {
             explained::parts(teller, &target);
             Ok(target)
         }
         Err(e) => Err(teller.refused(out.as_bytes(), &e)),
+    }
+}
+
+/// What the rule of a build is written to, if one is asked for. It is written, and has not its name
+/// yet.
+fn rule_of(
+    teller: &Teller<'_>,
+    asked: Build<'_>,
+    names: &[&str],
+    inputs: Inputs<'_>,
+    image: &Target,
+) -> Result<Option<Target>, Status> {
+    let Some(name) = asked.depfile else {
+        return Ok(None);
+    };
+    check_output(teller, name, inputs)?;
+    Ok(Some(depfile::written(teller, name, rule(asked, names), image)?))
+}
+
+/// The rule of a build.
+fn rule<'a>(asked: Build<'a>, names: &'a [&'a str]) -> Rule<'a> {
+    Rule {
+        out: asked.out,
+        manifest: if asked.manifest == INPUT {
+            None
+        } else {
+            Some(asked.manifest)
+        },
+        sources: names,
     }
 }
 
@@ -336,6 +310,15 @@ fn write_to(
     }
 }
 
+/// Gives what was written its name.
+fn keep(teller: &Teller<'_>, target: Target, name: &str) -> Result<(), Status> {
+    match target.keep(teller.rt) {
+        Ok(()) => Ok(()),
+        Err(KeepError::Refused(e)) => Err(teller.refused(name.as_bytes(), &e)),
+        Err(KeepError::Changed) => Err(teller.changed(name.as_bytes(), &PART_REPLACED)),
+    }
+}
+
 /// Writes the image of a plan, made of these files, and gives it its name.
 fn write_image(
     teller: &Teller<'_>,
@@ -346,65 +329,196 @@ fn write_image(
 ) -> Result<(), Status>
     requires { length plan.now.sizes ≡ length files.names.now }
 {
-    let rt = teller.rt;
     if let Err(status) = write_to(teller, plan, files, &target, out) {
-        target.abandon(rt);
+        target.abandon(teller.rt);
         return Err(status);
     }
-    match target.keep(rt) {
-        Ok(()) => Ok(()),
-        Err(KeepError::Refused(e)) => Err(teller.refused(out.as_bytes(), &e)),
-        Err(KeepError::Changed) => Err(teller.changed(out.as_bytes(), &PART_REPLACED)),
+    keep(teller, target, out)
+}
+
+/// Removes what was written, if something was.
+fn abandon(teller: &Teller<'_>, target: Option<Target>) {
+    if let Some(target) = target {
+        target.abandon(teller.rt);
     }
 }
 
-/// Builds the image of a manifest in a format into the file `out`, from the files that the manifest
-/// names. Its text stood in the file of this identity.
+/// Refuses a plan whose image is longer than it may be.
+fn check_size(teller: &Teller<'_>, asked: Build<'_>, plan: &Plan) -> Result<(), Status> {
+    let len = plan.image_len() as u64;
+    match asked.max_size {
+        Some(most) if len > most => {
+            let out = &mut Plain::new(Held::new(teller.rt.alloc(), io::writer(teller.rt)));
+            let status = told(teller, tell_size(out, len, most));
+            warned::explain_size(teller, asked.out, len, most);
+            Err(status)
+        }
+        _ => Ok(()),
+    }
+}
+
+/// What is to be warned of in the image that is planned. A strict build refuses it.
+fn warnings_of<'m>(
+    teller: &Teller<'_>,
+    asked: Build<'_>,
+    origin: Origin<'m>,
+    sizes: &[u64],
+) -> Result<Warnings<'m>, Status>
+    requires { length sizes.now ≡ length (sources_of origin.manifest.now.lines) }
+{
+    let alloc = teller.rt.alloc();
+    let Ok(warnings) = foreseen(alloc, asked.format, origin.manifest, sizes) else {
+        return Err(teller.say(Failure::Memory));
+    };
+    match warnings.least() {
+        Some((line, number)) if asked.strict => {
+            let number = u32::try_from(number).unwrap_or(u32::MAX);
+            let out = &mut Plain::new(Held::new(alloc, io::writer(teller.rt)));
+            let status = told(teller, tell_strict(out, line, number));
+            warned::explain(teller, origin, &warnings, "");
+            Err(status)
+        }
+        _ => Ok(warnings),
+    }
+}
+
+/// Writes the image of a plan into the file that is asked for, and the rule if one is.
+fn write_files(
+    teller: &Teller<'_>,
+    asked: Build<'_>,
+    plan: &Plan,
+    files: Files<'_>,
+    manifest: Option<Identity>,
+) -> Result<(), Status>
+    requires { length plan.now.sizes ≡ length files.names.now }
+{
+    let inputs = Inputs {
+        manifest,
+        stamps: files.stamps,
+    };
+    if let Some(name) = asked.depfile {
+        depfile::check(teller, name, rule(asked, files.names))?;
+    }
+    let target = target_of(teller, asked.out, inputs)?;
+    let rule = match rule_of(teller, asked, files.names, inputs, &target) {
+        Ok(rule) => rule,
+        Err(status) => {
+            target.abandon(teller.rt);
+            return Err(status);
+        }
+    };
+    let_rest(teller.rt, files.stamps);
+    if let Err(status) = write_image(teller, plan, files, target, asked.out) {
+        abandon(teller, rule);
+        return Err(status);
+    }
+    match (rule, asked.depfile) {
+        (Some(rule), Some(name)) => keep(teller, rule, name),
+        _ => Ok(()),
+    }
+}
+
+/// Builds the image of a manifest, whose sources have these names. Its text is in the file of this
+/// identity, if it is in one.
 fn build_from(
     teller: &Teller<'_>,
-    format: Format,
+    asked: Build<'_>,
     origin: Origin<'_>,
-    text: Identity,
-    out: &str,
-) -> Result<u64, Status> {
-    let names = names_of(teller, origin, origin.manifest.sources())?;
-    let stamps = stamps_of(teller, origin, &names)?;
+    names: &[&str],
+    manifest: Option<Identity>,
+) -> Result<Status, Status>
+    requires { length names.now ≡ length (sources_of origin.manifest.now.lines) }
+{
+    let stamps = stamps_of(teller, origin, names)?;
     let sizes = sizes_of(teller, &stamps)?;
-    let plan = planned(teller, format, origin, &sizes)?;
-    let target = target_of(teller, out, text, &stamps)?;
-    let_rest(teller.rt, &stamps);
+    let plan = planned(teller, asked.format, origin, &sizes)?;
+    check_size(teller, asked, &plan)?;
+    let warnings = warnings_of(teller, asked, origin, &sizes)?;
     let files = Files {
         origin,
-        names: &names,
+        names,
         stamps: &stamps,
     };
-    write_image(teller, &plan, files, target, out)?;
-    Ok(plan.image_len() as u64)
+    write_files(teller, asked, &plan, files, manifest)?;
+    let status = say_built(teller, plan.image_len() as u64);
+    warned::explain(teller, origin, &warnings, "warning: ");
+    warned::explain_pages(teller, &plan, asked.out);
+    Ok(status)
 }
 
-/// Builds the image of the manifest in a file, in a format, into the file `out`.
-fn build(teller: &Teller<'_>, asked: Build<'_>) -> Result<u64, Status> {
-    let name = asked.manifest;
-    let text = text_of(teller, name)?;
-    let manifest = &manifest_of(teller, name, &text.bytes)?;
+/// Says that an image of so many bytes was built.
+fn say_built(teller: &Teller<'_>, len: u64) -> Status {
+    let line = &mut Plain::new(Held::new(teller.rt.alloc(), io::writer(teller.rt)));
+    match tell_built(line, len) {
+        Ok(()) => Status::Done,
+        Err(Failed) => teller.say(Failure::WriteFault),
+    }
+}
+
+/// Builds the image of a manifest, whose sources are named as it names them.
+fn build_plain<'a>(
+    teller: &Teller<'_>,
+    asked: Build<'a>,
+    manifest: &'a Manifest,
+    identity: Option<Identity>,
+) -> Result<Status, Status> {
     let origin = Origin {
-        name,
+        name: asked.manifest,
         manifest,
+        joined: None,
         no_follow: asked.no_follow,
     };
-    build_from(teller, asked.format, origin, text.identity, asked.out)
+    let names = names_of(teller, origin, manifest.sources())?;
+    build_from(teller, asked, origin, &names, identity)
 }
 
-/// Builds as `build` does, says what came of it, and how the command ended.
+/// Builds the image of a manifest, whose sources have these joined names.
+fn build_joined<'a>(
+    teller: &Teller<'_>,
+    asked: Build<'a>,
+    joined: &'a [Vec<u8>],
+    manifest: &'a Manifest,
+    identity: Option<Identity>,
+) -> Result<Status, Status>
+    requires { length joined.now ≡ length (sources_of manifest.now.lines) }
+{
+    let given = Some(joined);
+    let origin = Origin {
+        name: asked.manifest,
+        manifest,
+        joined: given,
+        no_follow: asked.no_follow,
+    };
+    let names = texts_of(teller, origin, joined)?;
+    build_from(teller, asked, origin, &names, identity)
+}
+
+/// Builds the image of a manifest, whose sources are in a directory.
+fn build_in(
+    teller: &Teller<'_>,
+    asked: Build<'_>,
+    folder: &str,
+    manifest: &Manifest,
+    identity: Option<Identity>,
+) -> Result<Status, Status> {
+    let joined = joined_names(teller, folder, manifest.sources())?;
+    build_joined(teller, asked, &joined, manifest, identity)
+}
+
+/// Builds what is asked for, and says what came of it.
+fn build(teller: &Teller<'_>, asked: Build<'_>) -> Result<Status, Status> {
+    let text = text_of(teller, asked.manifest)?;
+    let manifest = manifest_of(teller, asked.manifest, &text.bytes)?;
+    match asked.sources {
+        None => build_plain(teller, asked, &manifest, text.identity),
+        Some(folder) => build_in(teller, asked, folder, &manifest, text.identity),
+    }
+}
+
+/// Builds what is asked for, says what came of it, and gives how the command ended.
 pub fn run(teller: &Teller<'_>, asked: Build<'_>) -> Status {
     match build(teller, asked) {
-        Ok(len) => {
-            let line = &mut Plain::new(Held::new(teller.rt.alloc(), io::writer(teller.rt)));
-            match tell_built(line, len) {
-                Ok(()) => Status::Done,
-                Err(Failed) => teller.say(Failure::WriteFault),
-            }
-        }
+        Ok(status) => status,
         Err(status) => status,
     }
 }

@@ -32,8 +32,8 @@ pub fn close<F: Drop>(rt: &HostRuntime, open: F) -> io::Result<()> {
 }
 
 /// Looks whether standard output keeps what was written to it: closes a further descriptor of it,
-/// at which its file system tells what it lost. It stays open. Of a pipe or a terminal nothing comes
-/// of it.
+/// at which its file system tells what it lost. It stays open. Of a pipe or a terminal nothing
+/// comes of it.
 ///
 /// # Errors
 ///

@@ -1,9 +1,9 @@
 //! What of a build is said in words alone: why a manifest is refused, and warnings.
 use crate::origin::Origin;
-use crate::target::Target;
+use crate::target::{Others, Target};
 use crate::teller::Teller;
 use plan_types::Format;
-use sentences::{manifest_line, manifest_sentence, misfit_sentence, plan_line, words};
+use sentences::{manifest_line, manifest_sentence, misfit_sentence, plan_line};
 use std::alloc::AllocError;
 use std::fmt::Display;
 
@@ -43,6 +43,13 @@ fn try_bad_manifest(
     let seen = manifest_line::seen(alloc, text, line, number)?;
     let what = format!(in alloc; "{name} ({number}): {sentence}: {seen}")?;
     of_line(teller, manifest, line, &what)
+}
+
+/// Says in words for which reason a line of a text is refused.
+pub fn bad_line(teller: &Teller<'_>, manifest: &str, line: u64, reason: &'static str) {
+    if teller.is_explained() {
+        let _ = of_line(teller, manifest, line, &reason);
+    }
 }
 
 /// Says in words what of a manifest does not fit a format.
@@ -90,7 +97,7 @@ fn try_returns(teller: &Teller<'_>, manifest: &str, text: &[u8]) -> Result<(), A
     of_line(teller, manifest, first, &what)
 }
 
-/// Warns of parts of other builds beside the image.
+/// Says which parts of other builds are beside the image, and which were removed.
 pub fn parts(teller: &Teller<'_>, target: &Target) {
     if teller.is_explained() {
         let _ = try_parts(teller, target);
@@ -98,18 +105,18 @@ pub fn parts(teller: &Teller<'_>, target: &Target) {
 }
 
 fn try_parts(teller: &Teller<'_>, target: &Target) -> Result<(), AllocError> {
-    let Some((whole, count)) = target.parts() else {
+    let Some((whole, Others { removed, kept })) = target.others() else {
         return Ok(());
     };
     let alloc = teller.rt.alloc();
     let place = format!(in alloc; "{whole}.0.part")?;
-    let whole = words::escaped(alloc, whole.as_bytes())?;
-    let last = count.saturating_sub(1);
-    let what = if count == 1 {
-        format!(in alloc; "warning: another build left it, or is still at it")?
-    } else {
-        format!(in alloc; "warning: other builds left it, up to {whole}.{last}.part, or are at it")?
-    };
-    teller.explain(place.as_bytes(), &what);
+    if removed > 0 {
+        let what = format!(in alloc; "removed what interrupted builds had left; parts: {removed}")?;
+        teller.explain(place.as_bytes(), &what);
+    }
+    if kept > 0 {
+        let what = format!(in alloc; "warning: other builds are at it, or left it; parts: {kept}")?;
+        teller.explain(place.as_bytes(), &what);
+    }
     Ok(())
 }

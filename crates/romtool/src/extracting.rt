@@ -250,7 +250,8 @@ impl<'a> Extraction<'a> {
         finish_file(self.teller.rt, file, self.rights(stat))
     }
 
-    /// Makes a further name of a file that was made, where the system lets it, and says whether it did.
+    /// Makes a further name of a file that was made, where the system lets it, and says whether it
+    /// did.
     fn make_again(&self, first: usize, place: &str) -> io::Result<bool>
         requires names { AreMembers (any_view self.now.image.now) self.now.members.now }
     {
@@ -260,8 +261,8 @@ impl<'a> Extraction<'a> {
         new_name(self.teller.rt, &self.place(first)?, place)
     }
 
-    /// Makes a file. A further name of a file that was made leads to the same file; where the system
-    /// makes no such names, to a file of its own.
+    /// Makes a file. A further name of a file that was made leads to the same file; where the
+    /// system makes no such names, to a file of its own.
     fn make_file(
         &self,
         index: usize,
@@ -366,8 +367,8 @@ impl<'a> Extraction<'a> {
         }
     }
 
-    /// Makes everything in the folder of this name. Nothing is made where the system does not take a
-    /// name of the image.
+    /// Makes everything in the folder of this name. Nothing is made where the system does not take
+    /// a name of the image.
     fn run(&self, folder: &str) -> Result<Counts, Status>
         requires { AreMembers (any_view self.now.image.now) self.now.members.now }
     {

@@ -12,8 +12,13 @@ pub fn base(folder: &str) -> &str {
     folder.trim_end_matches('/')
 }
 
-/// Says why an entry of the folder of this name cannot be read: which one it is, the system does not
-/// tell.
+/// Whether it is said of a name or a text that it is no UTF-8.
+pub fn is_foreign(e: &io::Error) -> bool {
+    e.kind() == io::ErrorKind::InvalidFilename && e.raw_os_error().is_none()
+}
+
+/// Says why an entry of the folder of this name cannot be read: which one it is, the system does
+/// not tell.
 pub fn refused_entry(teller: &Teller<'_>, folder: &str, e: &io::Error) -> Status {
     if e.kind() == io::ErrorKind::InvalidFilename {
         teller.failed(folder.as_bytes(), &FOREIGN_NAME)
@@ -29,6 +34,11 @@ pub struct Reach {
 }
 
 impl Reach {
+    /// Of a scan that crosses mounts.
+    pub fn all() -> Reach {
+        Reach { device: None }
+    }
+
     /// Of a scan of the folder of which the system says this.
     pub fn of(top: &Metadata, one_file_system: bool) -> Reach {
         Reach {
@@ -72,8 +82,8 @@ impl Folder {
         self.place.len() == base(top).len()
     }
 
-    /// The name by which it is reached: that of the folder that is scanned is the one that was asked
-    /// for.
+    /// The name by which it is reached: that of the folder that is scanned is the one that was
+    /// asked for.
     pub fn name<'a>(&'a self, top: &'a str) -> &'a str {
         if self.is_top(top) { top } else { &self.place }
     }

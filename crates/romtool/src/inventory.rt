@@ -1,18 +1,21 @@
-//! A folder as it is, as a manifest.
-use crate::folders::{self, Folder, Reach, all_stayed, base, refused_entry};
+//! All that is below directories, as it is.
+use crate::folders::{self, Folder, Reach, all_stayed, base, is_foreign};
+use crate::patterns::Patterns;
 use crate::teller::Teller;
-use build_commands::inventory::{Device, FileKind, Inode, NamedFile, Wishes, lines, put_found};
+use build_commands::inventory::{Device, FileKind, Inode, NamedFile};
 use command_line::ScanAll;
-use program_streams::Again;
 use rom_commands::{Failure, Status};
-use rom_fields::{Failed, Plain};
-use sentences::reasons::NO_KIND;
+use sentences::reasons::{FOREIGN_LINK, FOREIGN_NAME, NO_KIND};
+use std::alloc::AllocError;
 use std::fs::{self, DirEntry, Metadata};
-use std::io::{self, BufWriter};
 use std::os::unix::fs::{FileTypeExt, MetadataExt};
+use std::{io, mem};
 
 /// The bits of a mode that do not tell the kind of a file.
 const MODE_BITS: u32 = 0o7777;
+
+/// The alignment of a file before another one is asked for.
+const USUAL_ALIGN: u32 = 4;
 
 /// The numbers of a device, of which Linux makes one.
 fn device_of(numbers: u64) -> Device {
@@ -46,17 +49,34 @@ fn kind_of(rt: &HostRuntime, place: &str, told: &Metadata) -> io::Result<FileKin
     })
 }
 
-/// What is found below a folder, and the folders of it: those that are still to be looked into, and
-/// those that were.
+/// What cannot be read as text: the name of something in a directory, or the text of a link.
 #[derive(Drop)]
-struct Below {
+struct Foreign {
+    place: String,
+    why: &'static str,
+}
+
+/// A directory that was walked, with the directories below it that were looked into.
+#[derive(Drop)]
+struct Walked<'a> {
+    top: &'a str,
+    seen: Vec<Folder>,
+}
+
+/// What is found below a directory, and the directories of it that are still to be looked into, or
+/// were.
+#[derive(Drop)]
+struct Below<'a> {
+    patterns: &'a Patterns,
+    top: &'a str,
     found: Vec<NamedFile>,
+    foreign: Vec<Foreign>,
     waiting: Vec<Folder>,
     seen: Vec<Folder>,
     reach: Reach,
 }
 
-impl Below {
+impl<'a> Below<'a> {
     /// Adds the file at a place, of which the system says this.
     fn add(&mut self, rt: &HostRuntime, place: String, told: &Metadata) -> io::Result<()> {
         let kind = kind_of(rt, &place, told)?;
@@ -65,10 +85,12 @@ impl Below {
         }
         self.found.push(NamedFile {
             place,
+            front: base(self.top).len(),
             kind,
             mode: told.mode() & MODE_BITS,
             uid: told.uid(),
             gid: told.gid(),
+            align: USUAL_ALIGN,
             inode: Inode {
                 device: told.dev(),
                 number: told.ino(),
@@ -77,27 +99,49 @@ impl Below {
         Ok(())
     }
 
-    /// Adds an entry of a folder, or says that it is the entry which cannot be looked at.
+    /// Whether what is at a place is left out.
+    fn excludes(&self, rt: &HostRuntime, place: &str) -> Result<bool, AllocError> {
+        let path = place.get(base(self.top).len()..).unwrap_or("");
+        self.patterns
+            .exclude(rt.alloc(), path.trim_start_matches('/'))
+    }
+
+    /// Notes that something at a place, or in the directory there, is no text.
+    fn note(&mut self, teller: &Teller<'_>, place: &str, why: &'static str) -> Result<(), Status> {
+        let Ok(place) = String::from_str(teller.rt.alloc(), place) else {
+            return Err(teller.say(Failure::Memory));
+        };
+        match self.foreign.push(Foreign { place, why }) {
+            Ok(()) => Ok(()),
+            Err(_) => Err(teller.say(Failure::Memory)),
+        }
+    }
+
+    /// Adds an entry of a directory that has this place, if it is not left out, or says that it is
+    /// the entry which cannot be looked at.
     fn add_entry(
         &mut self,
         teller: &Teller<'_>,
-        folder: &str,
+        place: String,
         entry: &DirEntry,
     ) -> Result<(), Status> {
-        let Ok(place) = format!(in teller.rt.alloc(); "{folder}/{}", entry.file_name()) else {
-            return Err(teller.say(Failure::Memory));
-        };
+        match self.excludes(teller.rt, &place) {
+            Ok(false) => {}
+            Ok(true) => return Ok(()),
+            Err(_) => return Err(teller.say(Failure::Memory)),
+        }
         let added = match entry.metadata() {
             Ok(told) => self.add(teller.rt, place, &told),
             Err(e) => Err(e),
         };
         match added {
             Ok(()) => Ok(()),
+            Err(e) if is_foreign(&e) => self.note(teller, entry.path().as_str(), FOREIGN_LINK),
             Err(e) => Err(teller.refused(entry.path().as_str().as_bytes(), &e)),
         }
     }
 
-    /// Adds what a folder holds. It is looked into by the name `named`.
+    /// Adds what a directory holds. It is looked into by the name `named`.
     fn look_into(
         &mut self,
         teller: &Teller<'_>,
@@ -109,74 +153,111 @@ impl Below {
             Ok(entries) => entries,
             Err(e) => return Err(teller.refused(named.as_bytes(), &e)),
         };
+        let mut has_foreign = false;
         for entry in entries {
             match entry {
-                Ok(entry) => self.add_entry(teller, &folder.place, &entry)?,
-                Err(e) => return Err(refused_entry(teller, named, &e)),
+                Ok(entry) => {
+                    let alloc = teller.rt.alloc();
+                    match format!(in alloc; "{}/{}", &folder.place, entry.file_name()) {
+                        Ok(place) => self.add_entry(teller, place, &entry)?,
+                        Err(_) => return Err(teller.say(Failure::Memory)),
+                    }
+                }
+                Err(e) if is_foreign(&e) => has_foreign = true,
+                Err(e) => return Err(teller.refused(named.as_bytes(), &e)),
+            }
+        }
+        if has_foreign {
+            self.note(teller, named, FOREIGN_NAME)
+        } else {
+            Ok(())
+        }
+    }
+
+    /// Starts with the directory of this name, which is the first that is found.
+    fn start(&mut self, rt: &HostRuntime, top: &'a str, one_file_system: bool) -> io::Result<()> {
+        let told = folders::top(rt, top)?;
+        self.top = top;
+        self.reach = Reach::of(&told, one_file_system);
+        self.add(rt, String::from_str(rt.alloc(), base(top))?, &told)
+    }
+
+    /// Adds all that is below the directory that was started with.
+    fn walk(&mut self, teller: &Teller<'_>) -> Result<(), Status> {
+        for _ in 0..u64::MAX {
+            let Some(waiting) = self.waiting.pop() else {
+                break;
+            };
+            self.look_into(teller, &waiting, waiting.name(self.top))?;
+            if self.seen.push(waiting).is_err() {
+                return Err(teller.say(Failure::Memory));
             }
         }
         Ok(())
     }
+
+    /// Adds the directory of this name and all that is below it.
+    fn add_top(
+        &mut self,
+        teller: &Teller<'_>,
+        top: &'a str,
+        one_file_system: bool,
+    ) -> Result<Walked<'a>, Status> {
+        if let Err(e) = self.start(teller.rt, top, one_file_system) {
+            return Err(teller.refused(top.as_bytes(), &e));
+        }
+        self.walk(teller)?;
+        let seen = mem::replace(&mut self.seen, Vec::new(teller.rt.alloc()));
+        Ok(Walked { top, seen })
+    }
+
+    /// Says all that is no text, in the order of the bytes of names, if something is.
+    fn all_texts(&mut self, teller: &Teller<'_>) -> Result<(), Status> {
+        if self.foreign.sort_by(|a, b| a.place.cmp(&b.place)).is_err() {
+            return Err(teller.say(Failure::Memory));
+        }
+        let mut status = Ok(());
+        for foreign in &self.foreign {
+            status = Err(teller.failed(foreign.place.as_bytes(), &foreign.why));
+        }
+        status
+    }
 }
 
-/// The folder that is scanned, as the first that is found.
-fn top(rt: &HostRuntime, scan: ScanAll<'_>) -> io::Result<Below> {
-    let told = folders::top(rt, scan.folder)?;
+/// The directories of a scan and all that is below them, those of each directory one after the
+/// other, but for what is left out. What cannot be looked at is named, and so is a directory that
+/// changed before all were looked into.
+pub fn all_below<'a>(
+    teller: &Teller<'_>,
+    scan: &'a ScanAll<'a>,
+    patterns: &'a Patterns,
+) -> Result<Vec<NamedFile>, Status> {
+    let alloc = teller.rt.alloc();
     let mut below = Below {
-        found: Vec::new(rt.alloc()),
-        waiting: Vec::new(rt.alloc()),
-        seen: Vec::new(rt.alloc()),
-        reach: Reach::of(&told, scan.one_file_system),
+        patterns,
+        top: "",
+        found: Vec::new(alloc),
+        foreign: Vec::new(alloc),
+        waiting: Vec::new(alloc),
+        seen: Vec::new(alloc),
+        reach: Reach::all(),
     };
-    below.add(rt, String::from_str(rt.alloc(), base(scan.folder))?, &told)?;
-    Ok(below)
-}
-
-/// A folder and all that is below it, in the order of the bytes of paths, so that a folder comes
-/// before what it holds. What cannot be looked at is named, and so is a folder that changed before
-/// all were looked into; what has no text as its name is the fault of its folder.
-fn all_below(teller: &Teller<'_>, scan: ScanAll<'_>) -> Result<Vec<NamedFile>, Status> {
-    let folder = scan.folder;
-    let mut below = match top(teller.rt, scan) {
-        Ok(below) => below,
-        Err(e) => return Err(teller.refused(folder.as_bytes(), &e)),
-    };
-    for _ in 0..u64::MAX {
-        let Some(waiting) = below.waiting.pop() else {
-            break;
-        };
-        below.look_into(teller, &waiting, waiting.name(folder))?;
-        if below.seen.push(waiting).is_err() {
+    let mut walked = Vec::new(alloc);
+    for top in &scan.folders {
+        let one = below.add_top(teller, top, scan.one_file_system)?;
+        if walked.push(one).is_err() {
             return Err(teller.say(Failure::Memory));
         }
     }
-    all_stayed(teller, folder, &below.seen)?;
-    let Below { mut found, .. } = below;
-    match found.sort_by(|a, b| a.place.cmp(&b.place)) {
-        Ok(()) => Ok(found),
-        Err(_) => Err(teller.say(Failure::Memory)),
-    }
+    below.all_texts(teller)?;
+    stayed(teller, &walked)?;
+    Ok(below.found)
 }
 
-/// Prints a manifest of a folder as it is, and says how the command ended. Nothing is printed where
-/// something below it cannot be looked at.
-pub fn run(teller: &Teller<'_>, scan: ScanAll<'_>) -> Status {
-    let found = match all_below(teller, scan) {
-        Ok(found) => found,
-        Err(status) => return status,
-    };
-    let wishes = Wishes {
-        format: scan.format,
-        align: scan.align,
-    };
-    let Ok(lines) = lines(teller.rt.alloc(), base(scan.folder).len(), wishes, &found) else {
-        return teller.say(Failure::Memory);
-    };
-    let Ok(out) = BufWriter::new(teller.rt.alloc(), Again::new(io::writer(teller.rt))) else {
-        return teller.say(Failure::Memory);
-    };
-    match put_found(&mut Plain::new(out), &lines) {
-        Ok(()) => Status::Done,
-        Err(Failed) => teller.say(Failure::WriteFault),
+/// Says which of the directories that were walked did not stay as it was found, if one did not.
+fn stayed(teller: &Teller<'_>, walked: &[Walked<'_>]) -> Result<(), Status> {
+    for one in walked {
+        all_stayed(teller, one.top, &one.seen)?;
     }
+    Ok(())
 }

@@ -2,26 +2,39 @@
 //!
 //! `romtool build FORMAT MANIFEST OUT` builds an image from a manifest and the files that it names,
 //! `romtool scan DIR` prints a manifest of the names and contents of a folder, and `romtool scan
-//! --all DIR` of the folder as it is. `romtool check IMAGE` says whether a file holds a sound image,
-//! `romtool list IMAGE` lists its tree, and `info`, `map`, `cat` and `linux` tell more of it.
-//! `romtool extract IMAGE DIR` takes it apart. `romtool serve IMAGE` answers lines from its tree, and
-//! `romtool space IMAGE..` from the trees of several images, with sessions. Without words the
-//! example image `hello` is checked and listed. What is printed, answered and written is proved in
-//! `rom_commands`, `build_commands`, `image_manifest` and `image_build`, and what standard error
-//! says in `rom_commands` too; what stands in front of the streams, and what is read into memory, in
-//! `program_streams` and `image_load`. The work with files and folders is only tested.
+//! --all DIR` of the folder as it is. `romtool check IMAGE` says whether a file holds a sound
+//! image, `romtool list IMAGE` lists its tree, and `info`, `map`, `cat` and `linux` tell more of
+//! it. `romtool extract IMAGE DIR` takes it apart. `romtool serve IMAGE` answers lines from its
+//! tree, and `romtool space IMAGE..` from the trees of several images, with sessions. Without words
+//! the example image `hello` is checked and listed. What is printed, answered and written is proved
+//! in `rom_commands`, `build_commands`, `image_manifest` and `image_build`, and what standard error
+//! says in `rom_commands` too; what stands in front of the streams, and what is read into memory,
+//! in `program_streams` and `image_load`. The work with files and folders is only tested.
 #![tactic(auto)]
 
+mod advice;
+mod aligning;
 mod arguments;
+mod bad_lines;
 mod building;
 mod closing;
+mod depfile;
+mod devices;
+mod differing;
+mod digesting;
 mod disk;
 mod explained;
 mod extracting;
+mod flash;
 mod folders;
+mod foreseen;
 mod inventory;
 mod making;
 mod origin;
+mod overlay;
+mod packing;
+mod parts;
+mod patterns;
 mod place;
 mod printed;
 mod program;
@@ -29,11 +42,17 @@ mod progress;
 mod reading;
 mod replies;
 mod scanning;
+mod sound;
+mod sources;
 mod stamp;
 mod streams;
 mod target;
 mod teller;
 mod totals;
+mod unfit;
+mod verifying;
+mod version;
+mod warned;
 
 use std::process::ExitCode;
 

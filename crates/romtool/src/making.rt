@@ -38,8 +38,8 @@ pub struct Owner {
     pub gid: u32,
 }
 
-/// Who may use what is made, and whom it is given to; where to nobody, it stays with whom the process
-/// works for.
+/// Who may use what is made, and whom it is given to; where to nobody, it stays with whom the
+/// process works for.
 #[derive(Clone, Copy)]
 pub struct Rights {
     pub mode: u32,
@@ -47,8 +47,8 @@ pub struct Rights {
 }
 
 impl Rights {
-    /// Gives a file or a folder these rights. The owner comes first, since a change of it takes bits
-    /// of the mode away.
+    /// Gives a file or a folder these rights. The owner comes first, since a change of it takes
+    /// bits of the mode away.
     pub fn give(&self, file: &File) -> io::Result<()> {
         if let Some(owner) = self.owner {
             fchown(file, Some(owner.uid), Some(owner.gid))?;
@@ -62,7 +62,8 @@ pub fn new_folder(rt: &HostRuntime, place: &str) -> io::Result<()> {
     DirBuilder::new().mode(PRIVATE_FOLDER).create(rt, place)
 }
 
-/// Makes an empty file that nobody else may read. No link is followed to it, and nothing is replaced.
+/// Makes an empty file that nobody else may read. No link is followed to it, and nothing is
+/// replaced.
 pub fn new_file(rt: &HostRuntime, place: &str) -> io::Result<File> {
     OpenOptions::new()
         .write(true)
@@ -140,9 +141,9 @@ pub struct Top {
 }
 
 impl Top {
-    /// Makes the folder of this name, into which nobody else may look, or takes the one that is there,
-    /// if it is empty. It has to belong to the user that the process works for: the owner of a folder
-    /// may put a link in the place of what is made in it.
+    /// Makes the folder of this name, into which nobody else may look, or takes the one that is
+    /// there, if it is empty. It has to belong to the user that the process works for: the owner of
+    /// a folder may put a link in the place of what is made in it.
     ///
     /// # Errors
     ///
@@ -172,8 +173,8 @@ impl Top {
         self.masked
     }
 
-    /// Gives the folder that was made these rights once it is filled, and hands it to the disk, with
-    /// its own name. One that was there keeps its rights.
+    /// Gives the folder that was made these rights once it is filled, and hands it to the disk,
+    /// with its own name. One that was there keeps its rights.
     pub fn end(self, rt: &HostRuntime, name: &str, rights: Rights) -> io::Result<()> {
         if Identity::of(&fs::metadata(rt, name)?) != Identity::of(&self.folder.metadata()?) {
             return Err(io::Error::new(io::ErrorKind::NotFound, REPLACED));
@@ -192,8 +193,8 @@ impl Top {
     }
 }
 
-/// The bits of a mode that the process takes from what it makes in an open folder of this name, which
-/// has to belong to its user. Both are told by an empty file, which is removed again.
+/// The bits of a mode that the process takes from what it makes in an open folder of this name,
+/// which has to belong to its user. Both are told by an empty file, which is removed again.
 fn masked_in(rt: &HostRuntime, name: &str, folder: &File) -> io::Result<u32> {
     let place = format!(in rt.alloc(); "{}/{PROBE}", name.trim_end_matches('/'))?;
     let probe = OpenOptions::new()

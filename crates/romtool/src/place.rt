@@ -14,6 +14,14 @@ pub fn folder_of(name: &str) -> &str {
     }
 }
 
+/// The last name of a path, which a file has in its folder.
+pub fn name_in_folder(name: &str) -> &str {
+    match name.rsplit_once('/') {
+        Some((_, last)) => last,
+        None => name,
+    }
+}
+
 /// The name that a link's text is, where the link has this name.
 fn led_to(rt: &HostRuntime, link: &str, text: &str) -> io::Result<String> {
     match link.rsplit_once('/') {

@@ -13,7 +13,10 @@ pub fn asked_by(request: &Request<'_>) -> Asked
         Request::List(_) => Asked::List,
         Request::Map(map) => Asked::Map(map.base),
         Request::Linux(_) => Asked::Misreads,
-        Request::Info(_) => Asked::Facts(0),
+        Request::Info(info) => match info.size {
+            None => Asked::Facts(0),
+            Some(limit) => Asked::Fit { file: 0, limit },
+        },
         _ => Asked::Report,
     }
 }
@@ -24,6 +27,7 @@ pub fn in_file(len: u64, asked: Asked) -> Asked
 {
     match asked {
         Asked::Facts(_) => Asked::Facts(len),
+        Asked::Fit { limit, .. } => Asked::Fit { file: len, limit },
         _ => asked,
     }
 }

@@ -8,16 +8,19 @@ use crate::printed::{asked_by, in_file};
 use crate::replies::Replies;
 use crate::streams::hold_closed;
 use crate::teller::Teller;
-use crate::{building, extracting, inventory, reading, scanning, totals};
-use command_line::{Extract, Request, read};
+use crate::{
+    advice, building, differing, digesting, extracting, flash, packing, reading, scanning, totals,
+    verifying, version,
+};
+use command_line::{Extract, Linux, MapForm, Request, read};
 use image_check::check;
 use image_load::{Found, Front, Loaded};
 use program_streams::{Again, Ahead, Held};
 use rom_commands::{
-    Asked, Failure, Status, has_addresses, hello, print, print_file, refuse, refuse_in, serve_on,
-    serve_several_on,
+    Asked, Failure, Status, complain_of_fault, has_addresses, hello, image_size, print, print_file,
+    refuse, refuse_in, serve_on, serve_several_on,
 };
-use rom_faults::CheckError;
+use rom_faults::{CheckError, Fault};
 use rom_fields::{ByteRead, ByteWrite, Plain};
 use rom_tree::Limits;
 use sentences::reasons::{MISREAD, NO_ADDRESS};
@@ -62,18 +65,25 @@ fn done(teller: &Teller<'_>, request: Request<'_>) -> Status {
     let asked = asked_by(&request);
     match request {
         Request::Example => example(teller),
-        Request::Check(image)
-        | Request::List(image)
-        | Request::Info(image)
-        | Request::Linux(image) => file(teller, image, asked),
-        Request::Map(map) => file(teller, map.image, asked),
+        Request::Version => version::run(teller),
+        Request::Check(image) | Request::List(image) => file(teller, image, asked),
+        Request::Info(info) => file(teller, info.image, asked),
+        Request::Linux(linux) => misread(teller, linux, asked),
+        Request::Map(map) => match map.form {
+            MapForm::Files => file(teller, map.image, asked),
+            _ => flash::map(teller, map),
+        },
+        Request::Which(which) => flash::which(teller, &which),
         Request::Cat(cat) => copy(teller, cat.image, cat.path),
         Request::Serve(image) => serve(teller, image),
         Request::Space(images) => space(teller, images.as_slice()),
         Request::Build(build) => building::run(teller, build),
         Request::Scan(scan) => scanning::run(teller, scan),
-        Request::ScanAll(scan) => inventory::run(teller, scan),
+        Request::ScanAll(scan) => packing::run(teller, &scan),
         Request::Extract(extract) => take_apart(teller, extract),
+        Request::Digest(digest) => digesting::run(teller, digest),
+        Request::Verify(verify) => verifying::run(teller, verify),
+        Request::Diff(diff) => differing::run(teller, diff),
     }
 }
 
@@ -99,27 +109,47 @@ fn image_in(teller: &Teller<'_>, name: &str, asked: Asked) -> Result<Loaded, Sta
         Ok(Found::Refused(front)) if !has_addresses(asked, front.reach as usize) => {
             Err(no_address(teller, name))
         }
-        Ok(Found::Refused(front)) => Err(refuse_front(teller, name, &front)),
+        Ok(Found::Refused(front)) => Err(refuse_front(teller, name, &front, asked)),
         Err(e) => Err(teller.refused(name.as_bytes(), &e)),
     }
 }
 
 /// Prints the fault that a file has by its first bytes.
-fn refuse_front(teller: &Teller<'_>, name: &str, front: &Front) -> Status {
+fn refuse_front(teller: &Teller<'_>, name: &str, front: &Front, asked: Asked) -> Status {
     let rt = teller.rt;
     let mut out = Plain::new(Held::new(rt.alloc(), io::writer(rt)));
     let mut err = Plain::new(Held::new(rt.alloc(), rt.stderr()));
-    let status = refuse(front.fault, &mut out, &mut err);
+    let status = refuse(front.fault, asked, &mut out, &mut err);
+    teller.hand_on(err);
     if status == Status::Refused {
         teller.explain_fault(name.as_bytes(), &front.bytes, front.fault);
     }
-    teller.hand_on(err);
     status
 }
 
-/// The bytes of the image in a file.
+/// The bytes of the image in a file, of which a report is asked for, if it has a fault.
 fn bytes_of(teller: &Teller<'_>, name: &str) -> Result<Vec<u8>, Status> {
     Ok(image_in(teller, name, Asked::Report)?.bytes)
+}
+
+/// The bytes of the image in a file that is to be copied, so that standard error has the line of
+/// its fault.
+fn bytes_to_copy(teller: &Teller<'_>, name: &str) -> Result<Vec<u8>, Status> {
+    match reading::image(teller.rt, name) {
+        Ok(Found::Image(image)) => Ok(image.bytes),
+        Ok(Found::Refused(front)) => Err(complain(teller, name, &front.bytes, front.fault)),
+        Err(e) => Err(teller.refused(name.as_bytes(), &e)),
+    }
+}
+
+/// Says on standard error which fault a file has, by its bytes or its first ones.
+fn complain(teller: &Teller<'_>, name: &str, bytes: &[u8], fault: Fault) -> Status {
+    let rt = teller.rt;
+    let mut err = Plain::new(Held::new(rt.alloc(), rt.stderr()));
+    let status = complain_of_fault(fault, &mut err);
+    teller.hand_on(err);
+    teller.explain_fault(name.as_bytes(), bytes, fault);
+    status
 }
 
 /// Says that an image has bytes without an address.
@@ -137,6 +167,19 @@ fn file(teller: &Teller<'_>, name: &str, asked: Asked) -> Status {
     }
 }
 
+/// Prints what Linux misreads in the image in a file, and with `--advice` which files share their
+/// last pages.
+fn misread(teller: &Teller<'_>, linux: Linux<'_>, asked: Asked) -> Status {
+    match image_in(teller, linux.image, asked) {
+        Ok(image) => match shown(teller, linux.image, &image.bytes, asked) {
+            Status::Failed => Status::Failed,
+            status if linux.advice => advice::run(teller, &image.bytes, status),
+            status => status,
+        },
+        Err(status) => status,
+    }
+}
+
 /// Prints what is asked of an image, where its bytes have addresses.
 fn shown(teller: &Teller<'_>, name: &str, bytes: &[u8], asked: Asked) -> Status {
     if !has_addresses(asked, bytes.len()) {
@@ -149,7 +192,7 @@ fn shown(teller: &Teller<'_>, name: &str, bytes: &[u8], asked: Asked) -> Status 
 /// Prints the bytes of the file to which a path leads in the image in a file.
 fn copy(teller: &Teller<'_>, name: &str, path: &str) -> Status {
     let rt = teller.rt;
-    let bytes = match bytes_of(teller, name) {
+    let bytes = match bytes_to_copy(teller, name) {
         Ok(bytes) => bytes,
         Err(status) => return status,
     };
@@ -159,24 +202,24 @@ fn copy(teller: &Teller<'_>, name: &str, path: &str) -> Status {
     let mut err = Plain::new(Held::new(rt.alloc(), rt.stderr()));
     let path = path.as_bytes();
     let status = print_file(rt.alloc(), &bytes, path, &mut Plain::new(out), &mut err);
+    teller.hand_on_about(err, path);
     if status == Status::Refused {
         teller.explain_image(name.as_bytes(), &bytes);
     }
-    teller.hand_on_about(err, path);
     status
 }
 
 /// Takes the image in a file apart.
 fn take_apart(teller: &Teller<'_>, asked: Extract<'_>) -> Status {
-    let bytes = match bytes_of(teller, asked.image) {
+    let bytes = match bytes_to_copy(teller, asked.image) {
         Ok(bytes) => bytes,
         Err(status) => return status,
     };
     match check(teller.rt.alloc(), &bytes, Limits::usual()) {
         Ok(image) => extracting::run(teller, &image, asked),
         Err(CheckError::OutOfMemory) => teller.say(Failure::Memory),
-        Err(CheckError::Fault { .. }) => {
-            print_out(teller, asked.image.as_bytes(), &bytes, Asked::Report)
+        Err(CheckError::Fault { number, at }) => {
+            complain(teller, asked.image, &bytes, Fault { number, at })
         }
     }
 }
@@ -225,8 +268,8 @@ fn read_one(rt: &HostRuntime, name: &str, files: &mut Vec<Vec<u8>>) -> Result<()
     }
 }
 
-/// Reads files behind those that are there, in their order, up to the first that is missing. Of that
-/// one it gives the name, and why.
+/// Reads files behind those that are there, in their order, up to the first that is missing. Of
+/// that one it gives the name, and why.
 fn read_all<'a>(
     rt: &HostRuntime,
     names: &[&'a str],
@@ -279,8 +322,8 @@ fn serve_files<R: ByteRead>(
     status
 }
 
-/// Serves the images in one to eight files. Where one of these is missing, a fault of an image before
-/// it comes first: these are served no lines, to see whether they have one.
+/// Serves the images in one to eight files. Where one of these is missing, a fault of an image
+/// before it comes first: these are served no lines, to see whether they have one.
 fn space(teller: &Teller<'_>, names: &[&str]) -> Status {
     let rt = teller.rt;
     let mut files = Vec::new(rt.alloc());
@@ -308,6 +351,28 @@ fn space(teller: &Teller<'_>, names: &[&str]) -> Status {
     }
 }
 
+/// Says in words how many bytes an image has too many.
+fn explain_size(teller: &Teller<'_>, name: &[u8], bytes: &[u8], limit: u64) {
+    let alloc = teller.rt.alloc();
+    let Ok(image) = check(alloc, bytes, Limits::usual()) else {
+        return;
+    };
+    let size = image_size(&image);
+    let more = size.saturating_sub(limit);
+    if let Ok(what) = format!(in alloc; "it has {size} bytes, {more} more than {limit}") {
+        teller.explain(name, &what);
+    }
+}
+
+/// Says in words why a sound image was refused: Linux misreads it, or it does not fit.
+fn explain_warning(teller: &Teller<'_>, name: &[u8], bytes: &[u8], asked: Asked) {
+    match asked {
+        Asked::Misreads => teller.explain(name, &MISREAD),
+        Asked::Fit { limit, .. } => explain_size(teller, name, bytes, limit),
+        _ => {}
+    }
+}
+
 /// Prints what is shown of an image on the standard streams. The image has this name.
 fn print_out(teller: &Teller<'_>, name: &[u8], bytes: &[u8], asked: Asked) -> Status
     requires { Fits asked (length bytes.now) }
@@ -318,9 +383,9 @@ fn print_out(teller: &Teller<'_>, name: &[u8], bytes: &[u8], asked: Asked) -> St
     };
     let mut err = Plain::new(Held::new(rt.alloc(), rt.stderr()));
     let status = print(rt.alloc(), bytes, asked, &mut Plain::new(out), &mut err);
-    if status == Status::Refused && teller.explain_image(name, bytes) && asked == Asked::Misreads {
-        teller.explain(name, &MISREAD);
-    }
     teller.hand_on(err);
+    if status == Status::Refused && teller.explain_image(name, bytes) {
+        explain_warning(teller, name, bytes, asked);
+    }
     status
 }

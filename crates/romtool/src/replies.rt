@@ -11,8 +11,8 @@ use std::io::{self, Write};
 /// How many bytes of a reply tell why it refuses: `0 err ENAMETOOLONG` has eighteen.
 const FRONT: usize = 32;
 
-/// A writer of replies, each of which is flushed. Behind one that refuses a line it is said in words
-/// why, where that is asked for.
+/// A writer of replies, each of which is flushed. Behind one that refuses a line it is said in
+/// words why, where that is asked for.
 #[derive(Drop)]
 pub struct Replies<'a, X> {
     inner: Held<X>,

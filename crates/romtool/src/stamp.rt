@@ -77,8 +77,9 @@ impl Stamp {
         Some(Duration::from_secs(seconds).saturating_add(Duration::from_nanos(nanoseconds)))
     }
 
-    /// How long it is to rest from `now`, a time since 1970, on, until no later change has the time of
-    /// its last one: nothing where that one lies further off than a clock may lag, on either side.
+    /// How long it is to rest from `now`, a time since 1970, on, until no later change has the time
+    /// of its last one: nothing where that one lies further off than a clock may lag, on either
+    /// side.
     fn rest(&self, now: Duration) -> Option<Duration> {
         let changed = self.changed()?;
         let lag = Duration::from_millis(LAG);

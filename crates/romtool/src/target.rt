@@ -1,6 +1,7 @@
 //! Where an image is written: under its name only once it is whole.
 use crate::closing::close;
-use crate::place::{behind_links, folder_of};
+use crate::parts::{Lock, lock_part, remove_left};
+use crate::place::{behind_links, folder_of, name_in_folder};
 use crate::stamp::Identity;
 use program_streams::{Held, Remembering};
 use rom_fields::Plain;
@@ -27,8 +28,19 @@ struct Beside {
     name: String,
     whole: String,
     folder: Option<File>,
-    // how many parts of other builds are there
-    left: u32,
+    // the lock that says that a build is at the part, where its file system has locks
+    lock: Option<File>,
+    // what was found of other builds
+    others: Others,
+}
+
+/// Parts of other builds of the same name.
+#[derive(Clone, Copy, Default)]
+pub struct Others {
+    /// How many were left by interrupted builds, and were removed.
+    pub removed: u32,
+    /// How many stay, since builds are at them or cannot be asked.
+    pub kept: u32,
 }
 
 /// A writer of an image, which holds back what is short and remembers why the system took no more.
@@ -64,29 +76,88 @@ fn opened_folder(rt: &HostRuntime, name: &str) -> io::Result<Option<File>> {
     }
 }
 
+/// The name of the part of this number.
+fn part_of(rt: &HostRuntime, whole: &str, number: u32) -> io::Result<String> {
+    Ok(format!(in rt.alloc(); "{whole}.{number}.part")?)
+}
+
+/// Makes a new file of this name with these permissions, where nothing has it.
+fn made(rt: &HostRuntime, name: &str, mode: u32) -> io::Result<Option<File>> {
+    let mut options = OpenOptions::new();
+    match options
+        .write(true)
+        .create_new(true)
+        .mode(mode)
+        .open(rt, name)
+    {
+        Ok(file) => Ok(Some(file)),
+        Err(e) if e.kind() == io::ErrorKind::AlreadyExists => Ok(None),
+        Err(e) => Err(e),
+    }
+}
+
+/// Makes a part of this name, also where an interrupted build left one, and counts what was found.
+fn made_part(
+    rt: &HostRuntime,
+    name: &str,
+    mode: u32,
+    others: &mut Others,
+) -> io::Result<Option<(File, Option<File>)>> {
+    let mut file = made(rt, name, mode)?;
+    if file.is_none() && remove_left(rt, name) {
+        others.removed = others.removed.saturating_add(1);
+        file = made(rt, name, mode)?;
+    }
+    match file {
+        Some(file) => match lock_part(rt, name, &file) {
+            Lock::Held(lock) => return Ok(Some((file, Some(lock)))),
+            Lock::Refused => return Ok(Some((file, None))),
+            Lock::Lost => {}
+        },
+        None => others.kept = others.kept.saturating_add(1),
+    }
+    Ok(None)
+}
+
+/// Removes the parts behind the one of this number that interrupted builds left, up to the first
+/// number of which there is none, and counts them.
+fn remove_following(
+    rt: &HostRuntime,
+    whole: &str,
+    number: u32,
+    others: &mut Others,
+) -> io::Result<()> {
+    for k in number.saturating_add(1)..TRIES {
+        let name = part_of(rt, whole, k)?;
+        if fs::symlink_metadata(rt, &name).is_err() {
+            break;
+        }
+        if remove_left(rt, &name) {
+            others.removed = others.removed.saturating_add(1);
+        } else {
+            others.kept = others.kept.saturating_add(1);
+        }
+    }
+    Ok(())
+}
+
 /// A new file beside the one of this name, with these permissions where the mask leaves them.
 fn new_beside(rt: &HostRuntime, whole: &str, mode: u32) -> io::Result<Target> {
     let folder = opened_folder(rt, whole)?;
     let whole = String::from_str(rt.alloc(), whole)?;
+    let mut others = Others::default();
     for k in 0..TRIES {
-        let name = format!(in rt.alloc(); "{whole}.{k}.part")?;
-        match OpenOptions::new()
-            .write(true)
-            .create_new(true)
-            .mode(mode)
-            .open(rt, &name)
-        {
-            Ok(file) => {
-                let beside = Some(Beside {
-                    name,
-                    whole,
-                    folder,
-                    left: k,
-                });
-                return Ok(Target { file, beside });
-            }
-            Err(e) if e.kind() == io::ErrorKind::AlreadyExists => {}
-            Err(e) => return Err(e),
+        let name = part_of(rt, &whole, k)?;
+        if let Some((file, lock)) = made_part(rt, &name, mode, &mut others)? {
+            let _ = remove_following(rt, &whole, k, &mut others);
+            let beside = Some(Beside {
+                name,
+                whole,
+                folder,
+                lock,
+                others,
+            });
+            return Ok(Target { file, beside });
         }
     }
     Err(io::Error::new(io::ErrorKind::AlreadyExists, HUNDRED_PARTS))
@@ -162,6 +233,21 @@ fn sync_any(file: &File) -> Result<(), KeepError> {
 }
 
 impl Beside {
+    /// Whether both are to get one name in one folder.
+    fn is_for_name_of(&self, rt: &HostRuntime, other: &Beside) -> bool {
+        let folders = (
+            fs::metadata(rt, folder_of(&self.whole)),
+            fs::metadata(rt, folder_of(&other.whole)),
+        );
+        match folders {
+            (Ok(one), Ok(another)) => {
+                Identity::of(&one) == Identity::of(&another)
+                    && name_in_folder(&self.whole) == name_in_folder(&other.whole)
+            }
+            _ => self.whole.as_str() == other.whole.as_str(),
+        }
+    }
+
     /// Whether its name still leads to the file of this identity.
     fn leads_to(&self, rt: &HostRuntime, mine: Identity) -> io::Result<bool> {
         Ok(Identity::of(&fs::symlink_metadata(rt, &self.name)?) == mine)
@@ -174,8 +260,8 @@ impl Beside {
         }
     }
 
-    /// Hands this file, which was written, to the disk, sees that the part's name still leads to it,
-    /// and gives its identity.
+    /// Hands this file, which was written, to the disk, sees that the part's name still leads to
+    /// it, and gives its identity.
     fn settled(&self, rt: &HostRuntime, file: &File) -> Result<Identity, KeepError> {
         let mine = match file.sync_all().and_then(|()| file.metadata()) {
             Ok(found) => Identity::of(&found),
@@ -225,11 +311,23 @@ impl Target {
         }
     }
 
-    /// The name that it is to have, and how many parts of other builds are beside it.
-    pub fn parts(&self) -> Option<(&str, u32)> {
+    /// The name that it is to have, and what was found of other builds beside it.
+    pub fn others(&self) -> Option<(&str, Others)> {
         match &self.beside {
-            Some(beside) if beside.left > 0 => Some((&beside.whole, beside.left)),
-            _ => None,
+            Some(beside) => Some((&beside.whole, beside.others)),
+            None => None,
+        }
+    }
+
+    /// Whether both are written to one file, or are to get one name in one folder.
+    pub fn has_place_of(&self, rt: &HostRuntime, other: &Target) -> bool {
+        match (&self.beside, &other.beside) {
+            (Some(one), Some(another)) => one.is_for_name_of(rt, another),
+            (None, None) => match (self.file.metadata(), other.file.metadata()) {
+                (Ok(one), Ok(another)) => Identity::of(&one) == Identity::of(&another),
+                _ => false,
+            },
+            _ => false,
         }
     }
 

@@ -1,5 +1,5 @@
-//! What standard error says: a line of the protocol, and where it is asked for or a person reads it,
-//! a line in words behind it.
+//! What standard error says: a line of the protocol, and where it is asked for or a person reads
+//! it, a line in words behind it.
 ghost use Rattle.std.specs.Prelude.{◌≡◌};
 ghost use Rattle.rom_commands.specs.Endings.{failure_status};
 
@@ -16,12 +16,52 @@ use sentences::reasons::NO_WORD;
 use sentences::words::escaped;
 use sentences::{call_sentence, ending_sentence, fault_sentence, image};
 use std::alloc::AllocError;
-use std::env::Env;
+use std::env::{Env, FillError};
 use std::fmt::Display;
 use std::io::{self, IsTerminal, Write};
+use std_io::io::last_error;
 
 /// How many bytes the word has that asks to explain.
 const EXPLAIN_LEN: usize = 9;
+
+/// The variable of the environment that asks to explain, if it is `1`.
+const VARIABLE: &str = "ROMTOOL_EXPLAIN";
+
+/// Linux's number of the error that a pipe has no reader any more.
+const NO_READER: i32 = 32;
+
+/// Whether a word up to the first `--` asks to explain.
+fn has_explain(rt: &HostRuntime) -> bool {
+    for number in 1..usize::MAX {
+        let mut word = [0; EXPLAIN_LEN];
+        match rt.arg(number, &mut word) {
+            Ok(len) => {
+                let word = word.get(..len).unwrap_or(&[]);
+                if is_explain(word) || word == b"--".as_slice() {
+                    return is_explain(word);
+                }
+            }
+            Err(FillError::TooLong) => {}
+            Err(FillError::NotPresent) => return false,
+        }
+    }
+    false
+}
+
+/// Whether the environment asks to explain.
+fn is_set(rt: &HostRuntime) -> bool {
+    let mut value = [0; 1];
+    match rt.var(VARIABLE, &mut value) {
+        Ok(len) => value.get(..len) == Some(b"1".as_slice()),
+        Err(_) => false,
+    }
+}
+
+/// Whether a line of standard error says that standard output failed since nobody reads it any
+/// more, as the number of the last error has it: then there is nothing to explain.
+fn is_left(said: &[u8]) -> bool {
+    said == b"write fault\n".as_slice() && last_error().raw_os_error() == Some(NO_READER)
+}
 
 /// What is to be said in words of a line of standard error.
 fn ending_of(said: &[u8]) -> Option<&'static str> {
@@ -45,8 +85,8 @@ fn place_of<'a>(said: &[u8], path: &'a [u8]) -> &'a [u8] {
     }
 }
 
-/// Says how a command ends, and explains it in words where standard error is a terminal or the words
-/// ask for it. What it fails to say in words changes nothing.
+/// Says how a command ends, and explains it in words where standard error is a terminal or the
+/// words ask for it. What it fails to say in words changes nothing.
 #[derive(Clone, Copy)]
 pub struct Teller<'a> {
     pub rt: &'a HostRuntime,
@@ -54,16 +94,11 @@ pub struct Teller<'a> {
 }
 
 impl<'a> Teller<'a> {
-    /// As the first word behind the program's name has it, and standard error.
+    /// As the words, the environment and standard error have it.
     pub fn new(rt: &'a HostRuntime) -> Teller<'a> {
-        let mut word = [0; EXPLAIN_LEN];
-        let is_asked = match rt.arg(1, &mut word) {
-            Ok(len) => is_explain(word.get(..len).unwrap_or(&[])),
-            Err(_) => false,
-        };
         Teller {
             rt,
-            is_explained: is_asked || rt.stderr().is_terminal(),
+            is_explained: has_explain(rt) || is_set(rt) || rt.stderr().is_terminal(),
         }
     }
 
@@ -73,7 +108,7 @@ impl<'a> Teller<'a> {
     }
 
     /// Writes a text on standard error as it is.
-    fn put(&self, text: &[u8]) {
+    pub fn put(&self, text: &[u8]) {
         let mut err = Held::new(self.rt.alloc(), self.rt.stderr());
         let _ = err.write_all(text);
         let _ = err.flush();
@@ -112,8 +147,11 @@ impl<'a> Teller<'a> {
     pub fn hand_on_about<X: Write + Drop>(&self, err: Plain<Held<X>>, path: &[u8]) {
         let mut held = err.into_inner();
         let (ending, place) = (ending_of(held.held()), place_of(held.held(), path));
+        let is_left = is_left(held.held());
         let _ = held.flush();
-        if let Some(sentence) = ending {
+        if let Some(sentence) = ending
+            && !is_left
+        {
             self.explain(place, &sentence);
         }
     }
@@ -211,8 +249,8 @@ impl<'a> Teller<'a> {
         }
     }
 
-    /// Says in words which fault the image in a file has, where it has one. Where words are wanted, it
-    /// gives whether the image has none.
+    /// Says in words which fault the image in a file has, where it has one. Where words are wanted,
+    /// it gives whether the image has none.
     pub fn explain_image(&self, name: &[u8], bytes: &[u8]) -> bool {
         self.is_explained && !self.try_explain_image(name, bytes).unwrap_or(true)
     }

@@ -1,5 +1,6 @@
 -- What the sample's numbers name, and its entries and runs.
-use Rattle.std.proofs.Common.{◌≡◌, ◌≢◌, ℕ, zero, suc, ◌+◌, ◌-◌, ◌<◌, ◌≤◌, List, length, Some, None, refl, sym, ap, subst, ◌∙◌, arith}
+use Rattle.std.proofs.Common.{◌≡◌, ◌≢◌, ℕ, zero, suc, ◌+◌, ◌-◌, ◌<◌, ◌≤◌, List, length, Some, None, refl, sym, ap}
+use Rattle.std.proofs.Common.{subst, ◌∙◌, arith}
 use Rattle.rom_tree.specs.Tree.{Node, ino_of, places_of, entries_of, entry_at, entry_count, node_at}
 use Rattle.rom_tree.specs.Image.{image_node, HasNode, stat_of, IsEntry, IsRun, LieIn}
 use Rattle.rom_tree.specs.declared.types.Stat.{Stat}
@@ -11,7 +12,8 @@ use Rattle.sample_image.specs.Sample.{sample_bytes, root, bin, sh, deep, pipe, l
 use Rattle.sample_image.specs.SampleLaws.{sample, each}
 
 -- what holds of each node holds of each that a number names
-pub each_named : (P : ℕ → Node → Type 0) → P 1 root → P 2 bin → P 3 sh → P 4 deep → P 5 pipe → P 6 link → P 7 disk → P 8 tty → P 9 log → P 10 empty → (n : ℕ) (x : Node) → image_node sample n ≡ Some x → P n x
+pub each_named : (P : ℕ → Node → Type 0) → P 1 root → P 2 bin → P 3 sh → P 4 deep → P 5 pipe → P 6 link → P 7 disk
+    → P 8 tty → P 9 log → P 10 empty → (n : ℕ) (x : Node) → image_node sample n ≡ Some x → P n x
 each_named P a b c d e f g h i j n x q =
     let r = node_at-some root n x q in
     let Q : ℕ → Type 0 = λ v. P v x in
@@ -74,30 +76,48 @@ has (suc (suc (suc (suc (suc (suc (suc (suc (suc (suc (suc n))))))))))) h k = ab
 
 -- and no others do
 pub within : (n : ℕ) → HasNode sample n → (1 ≤ n) × (n ≤ 10)
-within n h = let x = node_by sample n h in each_named (λ m y. (1 ≤ m) × (m ≤ 10)) (omega arith, omega arith) (omega arith, omega arith) (omega arith, omega arith) (omega arith, omega arith) (omega arith, omega arith) (omega arith, omega arith) (omega arith, omega arith) (omega arith, omega arith) (omega arith, omega arith) (omega arith, omega arith) n x.0 x.1
+within n h = let x = node_by sample n h in each_named (λ m y. (1 ≤ m) × (m ≤ 10)) (omega arith, omega arith)
+    (omega arith, omega arith) (omega arith, omega arith) (omega arith, omega arith) (omega arith, omega arith)
+    (omega arith, omega arith) (omega arith, omega arith) (omega arith, omega arith) (omega arith, omega arith)
+    (omega arith, omega arith) n x.0 x.1
 
 -- a number names one node
-pub is_node : (n k : ℕ) (y : Node) → image_node sample k ≡ Some y → n ≡ k → (x : Node) → image_node sample n ≡ Some x → y ≡ x
+pub is_node : (n k : ℕ) (y : Node) → image_node sample k ≡ Some y → n ≡ k → (x : Node) → image_node sample n ≡ Some x
+    → y ≡ x
 is_node n k y h e x q = let p : Some y ≡ Some x = sym h ∙ (ap (image_node sample) (sym e) ∙ q) in cc
 
-pub stat_is : (n k : ℕ) (y : Node) (s : Stat) → image_node sample k ≡ Some y → n ≡ k → s ≡ stat_of y → (x : Node) → image_node sample n ≡ Some x → s ≡ stat_of x
+pub stat_is : (n k : ℕ) (y : Node) (s : Stat) → image_node sample k ≡ Some y → n ≡ k → s ≡ stat_of y → (x : Node)
+    → image_node sample n ≡ Some x → s ≡ stat_of x
 stat_is n k y s h e q x r = q ∙ ap stat_of (is_node n k y h e x r)
 
 -- the last number
 pub is_last : (n : ℕ) (x : Node) → image_node sample n ≡ Some x → 10 ≤ n → empty ≡ x
-is_last = each_named (λ n x. 10 ≤ n → empty ≡ x) (λ h. absurd (omega arith)) (λ h. absurd (omega arith)) (λ h. absurd (omega arith)) (λ h. absurd (omega arith)) (λ h. absurd (omega arith)) (λ h. absurd (omega arith)) (λ h. absurd (omega arith)) (λ h. absurd (omega arith)) (λ h. absurd (omega arith)) (λ h. refl)
+is_last = each_named (λ n x. 10 ≤ n → empty ≡ x) (λ h. absurd (omega arith)) (λ h. absurd (omega arith))
+    (λ h. absurd (omega arith)) (λ h. absurd (omega arith)) (λ h. absurd (omega arith)) (λ h. absurd (omega arith))
+    (λ h. absurd (omega arith)) (λ h. absurd (omega arith)) (λ h. absurd (omega arith)) (λ h. refl)
 
 -- an entry of the node of a number
-pub entry_is : (d c k j : ℕ) (y target : Node) (name nm : List ℕ) (n after : ℕ) → image_node sample k ≡ Some y → entry_at (entries_of y) j ≡ Some (name, target) → d ≡ k → c ≡ j → nm ≡ name → n ≡ ino_of target → after ≡ j + 1 → LieIn sample_bytes name
-    → (x : Node) (i : ℕ) → image_node sample d ≡ Some x → sample.cursor_index d c ≡ Some i → IsEntry sample d (entries_of x) i nm n after
+pub entry_is : (d c k j : ℕ) (y target : Node) (name nm : List ℕ) (n after : ℕ) → image_node sample k ≡ Some y
+    → entry_at (entries_of y) j ≡ Some (name, target) → d ≡ k → c ≡ j → nm ≡ name → n ≡ ino_of target → after ≡ j + 1
+    → LieIn sample_bytes name
+    → (x : Node) (i : ℕ) → image_node sample d ≡ Some x → sample.cursor_index d c ≡ Some i
+    → IsEntry sample d (entries_of x) i nm n after
 entry_is d c k j y target name nm n after h e p q r s t o x i u v =
     let same : y ≡ x = is_node d k y h p x u in
     let index : i ≡ j = (let w : c ≡ i = cc in sym w ∙ q) in
-    rw (← same, index, r) (record { target = target; at = e; number = sym s; next = ap (λ (w : ℕ). Some w) t; lies = o })
+    rw (← same, index, r) (record {
+      target = target;
+      at = e;
+      number = sym s;
+      next = ap (λ (w : ℕ). Some w) t;
+      lies = o;
+    })
 
 -- at the end of each list there is no entry
-pub no_entry : (n : ℕ) (x : Node) → image_node sample n ≡ Some x → (c : ℕ) → (n ≡ 1 → 7 ≤ c) → (n ≡ 2 → 2 ≤ c) → (n ≡ 4 → 1 ≤ c) → entry_at (entries_of x) c ≡ None
-no_entry = each_named (λ n x. (c : ℕ) → (n ≡ 1 → 7 ≤ c) → (n ≡ 2 → 2 ≤ c) → (n ≡ 4 → 1 ≤ c) → entry_at (entries_of x) c ≡ None)
+pub no_entry : (n : ℕ) (x : Node) → image_node sample n ≡ Some x → (c : ℕ) → (n ≡ 1 → 7 ≤ c) → (n ≡ 2 → 2 ≤ c)
+    → (n ≡ 4 → 1 ≤ c) → entry_at (entries_of x) c ≡ None
+no_entry =
+    each_named (λ n x. (c : ℕ) → (n ≡ 1 → 7 ≤ c) → (n ≡ 2 → 2 ≤ c) → (n ≡ 4 → 1 ≤ c) → entry_at (entries_of x) c ≡ None)
     (λ c f g h. entry_at-none (entries_of root) c (f refl))
     (λ c f g h. entry_at-none (entries_of bin) c (g refl))
     (λ c f g h. refl)
@@ -111,9 +131,10 @@ no_entry = each_named (λ n x. (c : ℕ) → (n ≡ 1 → 7 ≤ c) → (n ≡ 2 
 
 -- no list is longer than the root's
 pub few : (n : ℕ) (x : Node) → image_node sample n ≡ Some x → entry_count (entries_of x) ≤ 7
-few = each_named (λ n x. entry_count (entries_of x) ≤ 7) (omega arith) (omega arith) (omega arith) (omega arith) (omega arith) (omega arith) (omega arith) (omega arith) (omega arith) (omega arith)
+few = each_named (λ n x. entry_count (entries_of x) ≤ 7) (omega arith) (omega arith) (omega arith) (omega arith)
+    (omega arith) (omega arith) (omega arith) (omega arith) (omega arith) (omega arith)
 
--- what has no place
+-- nodes whose contents have no bytes
 pub no_places : (n : ℕ) (x : Node) → image_node sample n ≡ Some x → n ≢ 3 → n ≢ 6 → length (places_of x) ≡ 0
 no_places = each_named (λ n x. n ≢ 3 → n ≢ 6 → length (places_of x) ≡ 0)
     (λ f g. refl)
@@ -127,7 +148,8 @@ no_places = each_named (λ n x. n ≢ 3 → n ≢ 6 → length (places_of x) ≡
     (λ f g. refl)
     (λ f g. refl)
 
-pub run_is : (place len off : ℕ) → off < len → IsRun (row_from place len) off (record { place = place + off; len = len - off })
+pub run_is : (place len off : ℕ) → off < len
+    → IsRun (row_from place len) off (record { place = place + off; len = len - off })
 run_is place len off h = record {
   some = omega arith;
   within = rw (length_row place len) (omega arith);

@@ -1,16 +1,20 @@
--- A small tree with a node of each kind. (This project's own.)
+-- `sample_bytes`, `root`: the bytes and the tree of a small image with a node of each kind. (This
+-- project's own.)
 use Rattle.std.specs.Prelude.{◌≡◌, ℕ, List, [], ◌∷◌, Option, MatchOption}
 use Rattle.rom_tree.specs.declared.types.Run.{Run}
-use Rattle.rom_tree.specs.Tree.{Node, node, directory, regular, symlink, block, character, socket, fifo, Entries, no_entries, entry, Attributes, row_from}
+use Rattle.rom_tree.specs.Tree.{Node, node, directory, regular, symlink, block, character, socket}
+use Rattle.rom_tree.specs.Tree.{fifo, Entries, no_entries, entry, Attributes, row_from}
 
--- from the front on, a run has all len bytes
+-- from its first byte on, a run has all `len` bytes
 abbrev pub IsWhole : ℕ → ℕ → Option Run → Type 0
 IsWhole len off r = off ≡ 0 → MatchOption r (Unit {0}) (λ v. v.len ≡ len)
 
 abbrev pub attributes : ℕ → ℕ → ℕ → ℕ → Attributes
-attributes ino mode major minor = record { ino = ino; mode = mode; uid = 1000; gid = 100; major = major; minor = minor }
+attributes ino mode major minor =
+    record { ino = ino; mode = mode; uid = 1000; gid = 100; major = major; minor = minor }
 
--- "helloa b%", a file's five bytes and a link's text, which is a name as well; and all other names
+-- "helloa b%", which is a file's five bytes, and a link's text that is also a name; then all other
+-- names
 abbrev pub sample_bytes : List ℕ
 sample_bytes =
     104 ∷ 101 ∷ 108 ∷ 108 ∷ 111 ∷ 97 ∷ 32 ∷ 98 ∷ 37

@@ -1,8 +1,8 @@
-//! A small image in memory, by which `rom_tree` is tried, and in `image_examples` the crates over
-//! it. It has a node of each kind, nested directories, a node of two names, and names and a link's
-//! text that need escapes.
+//! A small image in memory that implements `TreeImage` with proof. `rom_tree` is tested over it,
+//! and so are, in `image_examples`, the crates that list, walk and serve. It has a node of each
+//! kind, nested directories, a node with two names, and names and a link's text that need escapes.
 //!
-//! Proved: each call answers as `specs/Sample.antt` says the tree is.
+//! Proved: each call answers as the tree of `specs/Sample.antt` does.
 #![tactic(auto)]
 
 mod sample;

@@ -1,6 +1,7 @@
 -- The faults of a manifest in words, by their numbers. (This project's own.)
 use Rattle.std.specs.Prelude.{ℕ, List, ◌==◌, if◌then◌else◌, codes}
-use Rattle.manifest.specs.FaultNumbers.{BAD_WORD, BAD_NUMBER, BAD_PATH, NO_PARENT, EXISTS, BAD_ALIGN, BAD_TARGET}
+use Rattle.manifest.specs.FaultNumbers.{BAD_WORD, BAD_NUMBER, BAD_PATH, NO_PARENT, EXISTS}
+use Rattle.manifest.specs.FaultNumbers.{BAD_ALIGN, BAD_TARGET}
 
 -- the sentence of the fault of this number
 abbrev pub manifest_sentence : ℕ → List ℕ

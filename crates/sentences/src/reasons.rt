@@ -39,6 +39,12 @@ pub const OWN_INPUT: &str = "the image would replace its own manifest or source"
 pub const OWN_OUTPUT: &str =
     "it is standard output, and the line ok LENGTH would get into the image";
 
+/// The rule's name is that of the image.
+pub const OWN_RULE: &str = "it is the file of the image as well";
+
+/// A rule has a name that make cannot read.
+pub const RULE_UNFIT: &str = "a name in it is one that make cannot read; PROTOCOL.md says which";
+
 /// A source is a symbolic link, and none is followed.
 pub const SOURCE_LINK: &str = "it is a symbolic link, and --no-follow refuses these";
 
@@ -60,6 +66,10 @@ pub const SUM_DIFFERS: &str = "a source changed while it was read: the stored su
 
 /// An image would end above the last address.
 pub const NO_ADDRESS: &str = "with this base it has addresses of more than 64 bits";
+
+/// The front of names for C is none.
+pub const NO_PREFIX: &str =
+    "the names of a header begin with a letter, and have letters, digits and _";
 
 /// Linux gets something of a sound image wrong.
 pub const MISREAD: &str = "it is sound, and Linux gets wrong what the lines say: docs/LINUX.md";
@@ -91,3 +101,37 @@ pub const LONG_VOLUME: &str = "its volume's name has more than 255 bytes, which 
 
 /// A folder that is scanned has a name that cannot be read, which only the folder is told of.
 pub const FOREIGN_NAME: &str = "a name in it is no UTF-8; ls -b shows it";
+
+/// A link that is scanned has a text that cannot be read.
+pub const FOREIGN_LINK: &str = "the text of the link is no UTF-8; readlink shows it";
+
+/// A pattern ends within brackets or behind a backslash.
+pub const PATTERN_UNFINISHED: &str = "no ] closes its [, or it ends with a backslash";
+
+/// A pattern has a class of characters.
+pub const PATTERN_CLASS: &str = "it has a class, as [:alpha:], and patterns have none";
+
+/// A later directory has another kind of file than an earlier one.
+pub const KINDS_DIFFER: &str = "only one of it and what it would replace is a directory";
+
+/// A manifest would be written over what it lists.
+pub const OWN_FILE: &str = "the manifest would replace a file that it lists";
+
+/// The system refused to take a part of a manifest.
+pub const MANIFEST_NOT_TAKEN: &str = "it did not take the whole manifest";
+
+/// The name of a volume is too long.
+pub const LONG_NAME: &str = "the name of a volume has at most 255 bytes";
+
+/// A file of devices has another line.
+pub const DEVICE_WORD: &str = "a file of devices has only dir, slink, nod, pipe and sock";
+
+/// A path in a file of devices is there already.
+pub const DEVICE_EXISTS: &str =
+    "an earlier line has the path, or only one of it and what is there is a directory";
+
+/// A path in a file of devices is in no directory.
+pub const DEVICE_NO_PARENT: &str = "no DIR and no dir line has the directory that the path is in";
+
+/// A path or a text in a file of devices cannot be read.
+pub const DEVICE_NO_TEXT: &str = "a path or the text of a link has to be UTF-8 here";

@@ -4,9 +4,11 @@ use Rattle.std.specs.Io.KnownBytes.{Appends, Keeps, append_known}
 use Rattle.rom_fields.specs.Failures.{Rose, one_more}
 use Rattle.rom_fields.proofs.Joins.{appends_keep}
 
--- the reply to a line was put into a buffer that was empty, and still stands behind what the writer held
-pub still_put : (w u v : Option (List ℕ)) (empty part rest text line : List ℕ) (reply : List ℕ → List ℕ) → empty ≡ [] → text ≡ line
-    → Appends (append_known w empty) (append_known u part) (reply text) → Keeps (append_known u part) (append_known v rest)
+-- the reply to a line was put into a buffer that was empty, and still is behind what the writer held
+pub still_put : (w u v : Option (List ℕ)) (empty part rest text line : List ℕ) (reply : List ℕ → List ℕ) → empty ≡ []
+    → text ≡ line
+    → Appends (append_known w empty) (append_known u part) (reply text)
+    → Keeps (append_known u part) (append_known v rest)
     → Appends (append_known w []) (append_known v rest) (reply line)
 still_put w u v empty part rest text line reply none same put kept =
     appends_keep (append_known w []) (append_known u part) (append_known v rest) (reply line)

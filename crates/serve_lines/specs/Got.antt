@@ -1,4 +1,5 @@
--- What a read of one byte does to what a reader still has, and to its count of failures. (This project's own.)
+-- `Gets`: the effect of one read of one byte on the rest of a reader and on its count of failures.
+-- (This project's own.)
 use Rattle.std.specs.Prelude.{◌≡◌, ℕ, List, [], ◌∷◌, Option}
 use Rattle.std.specs.Io.KnownBytes.{Consumes, Keeps, IsAtEnd}
 use Rattle.rom_fields.specs.Failures.{Rose}

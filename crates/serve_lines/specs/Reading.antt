@@ -1,11 +1,13 @@
--- What the values stand for that the code reads from a line. (This project's own.)
+-- `call_by`, `line_by`: the meaning of the code's commands, as calls and lines. (This project's
+-- own.)
 use Rattle.std.specs.Prelude.{ℕ, ◌≤◌, List, Option, Some, None, Result, Ok, Err}
 use Rattle.std.specs.Borrow.{Bor}
 use Rattle.serve_lines.specs.declared.bad.Bad.{Bad}
 use Rattle.serve_lines.specs.declared.bad.Bad.TheVariants as bad
 use Rattle.serve_lines.specs.declared.command.Command.{Command}
 use Rattle.serve_lines.specs.declared.command.Command.TheVariants as command
-use Rattle.serve_lines.specs.Commands.{Call, on_path, on_fd, read, lend, seek, map_part, quit, mount, umount, Line, asks, is_bad, path_of}
+use Rattle.serve_lines.specs.Commands.{Call, on_path, on_fd, read, lend, seek, map_part, quit}
+use Rattle.serve_lines.specs.Commands.{mount, umount, Line, asks, is_bad, path_of}
 
 -- the call of a command
 abbrev pub call_by : Command → Call
@@ -23,7 +25,7 @@ abbrev pub line_by : Result Command Bad → Line
 line_by (Ok c) = asks (call_by c)
 line_by (Err b) = is_bad b
 
--- what fields ask for, where they were read as this
+-- the line of fields that the code has read
 abbrev pub one_by : (List ℕ → Line) → Option (Bor (List ℕ)) → Line
 one_by line None = is_bad bad.Line
 one_by line (Some f) = line f.now
@@ -32,7 +34,8 @@ abbrev pub two_by : (List ℕ → List ℕ → Line) → Option (Bor (List ℕ) 
 two_by line None = is_bad bad.Line
 two_by line (Some p) = line p.0.now p.1.now
 
-abbrev pub three_by : (List ℕ → List ℕ → List ℕ → Line) → Option (Bor (List ℕ) × Bor (List ℕ) × Bor (List ℕ))
+abbrev pub three_by : (List ℕ → List ℕ → List ℕ → Line)
+    → Option (Bor (List ℕ) × Bor (List ℕ) × Bor (List ℕ))
     → Line
 three_by line None = is_bad bad.Line
 three_by line (Some p) = line p.0.now p.1.now p.2.now
@@ -49,7 +52,7 @@ abbrev pub three_numbers_by : (ℕ → ℕ → ℕ → Line) → Result (ℕ × 
 three_numbers_by line (Ok p) = line p.0 p.1 p.2
 three_numbers_by line (Err b) = is_bad b
 
--- a command's `read` has at most 4,096 bytes
+-- a `read` command asks for at most 4,096 bytes
 abbrev pub is_small : Command → Type 0
 is_small (command.Read fd n) = n ≤ 4096
 is_small _ = Unit {0}

@@ -1,8 +1,10 @@
--- The text of a reply of the code. (This project's own.)
+-- `reply_text`: the text of a reply of the code. (This project's own.)
 use Rattle.std.specs.Prelude.{ℕ, List}
 use Rattle.serve_lines.specs.declared.reply.Reply.{Reply}
 use Rattle.serve_lines.specs.declared.reply.Reply.TheVariants as reply
-use Rattle.serve_lines.specs.Texts.{done_text, end_text, descriptor_text, node_text, attributes_text, piece_text, bytes_text, entry_text, refused_text, bad_text}
+use Rattle.serve_lines.specs.Texts.{done_text, end_text, descriptor_text, node_text}
+use Rattle.serve_lines.specs.Texts.{attributes_text, piece_text, bytes_text, entry_text}
+use Rattle.serve_lines.specs.Texts.{refused_text, bad_text}
 
 unfoldable pub reply_text : Reply → List ℕ
 reply_text reply.Done = done_text

@@ -1,4 +1,6 @@
--- The texts of replies, each a line. (This project's own.)
+-- The text of each reply, which is a line: `done_text`, `descriptor_text`, `node_text`,
+-- `attributes_text`, `piece_text`, `bytes_text`, `entry_text`, `end_text`, `refused_text`,
+-- `bad_text`. (This project's own.)
 use Rattle.std.specs.Prelude.{ℕ, List, [], ◌∷◌, ◌++◌, length, decimal, codes, Option, Some, None}
 use Rattle.hex.specs.Hex.{encode_lower}
 use Rattle.rom_fields.specs.Texts.{escaped}
@@ -9,12 +11,12 @@ use Rattle.open_files.specs.Errors.{error_name}
 use Rattle.serve_lines.specs.declared.bad.Bad.{Bad}
 use Rattle.serve_lines.specs.declared.bad.Bad.TheVariants as bad
 
--- the number of an image and a colon, where several images are served
+-- the number of an image and a colon, if several images are served
 abbrev pub image_text : Option ℕ → List ℕ
 image_text None = []
 image_text (Some i) = decimal i ++ codes ":"
 
--- two lower-case hexadecimal digits a byte; `-` for no byte
+-- two lower-case hexadecimal digits for each byte, or `-` for no byte
 abbrev pub hex_text : List ℕ → List ℕ
 hex_text [] = codes "-"
 hex_text (b ∷ bs) = encode_lower (b ∷ bs)
@@ -51,7 +53,8 @@ bytes_text bytes =
 -- `ok NAME INO`
 abbrev pub entry_text : Option ℕ → List ℕ → ℕ → List ℕ
 entry_text image name ino =
-    codes "ok " ++ (escaped name ++ (codes " " ++ (image_text image ++ (decimal ino ++ codes "\n"))))
+    codes "ok " ++ (escaped name
+    ++ (codes " " ++ (image_text image ++ (decimal ino ++ codes "\n"))))
 
 -- `err NAME`
 abbrev pub refused_text : CallError → List ℕ

@@ -1,5 +1,6 @@
-//! A small buffer in front of a writer, so that a reply goes out in one write.
-ghost use Rattle.std.specs.Prelude.{◌≡◌, ◌≤◌, ◌+◌, ◌++◌, [], ℕ, List, Option, None, true, length, drop, OnOk, IsOk};
+//! A small buffer in front of a writer. It sends a reply in one write.
+ghost use Rattle.std.specs.Prelude.{◌≡◌, ◌≤◌, ◌+◌, ◌++◌, [], ℕ, List, Option, None, true, length};
+ghost use Rattle.std.specs.Prelude.{drop, OnOk, IsOk};
 ghost use Rattle.std.specs.Io.{WritesAtMost};
 ghost use Rattle.std.specs.Io.KnownBytes.{Appends, Keeps, WriteAppends, append_known};
 ghost use Rattle.rom_fields.specs.Failures.{after_read, after_write, after_flush};
@@ -11,11 +12,11 @@ use arrayvec::ArrayVec;
 use rom_fields::{ByteWrite, Failed};
 use std::marker::{Brand, PhantomData};
 
-/// How many bytes a buffer holds back.
+/// The most bytes that a buffer holds back.
 pub(crate) const HELD: usize = 4096;
 
-/// What is fixed while a reply is written: the reference through which the writer is reached, and
-/// what the writer held at first. They are chosen at a call that passes `Brand`.
+/// Two values that are fixed while a reply is written: the reference through which the writer is
+/// reached, and what the writer held at first. A call that passes `Brand` chooses them.
 pub(crate) trait Lent {
     ghost start: { Option (List ℕ) };
 
@@ -28,8 +29,8 @@ impl Lent for Brand {
     ghost loan = { 0 };
 }
 
-/// Hands on what is held from byte `sent` on, and empties the buffer. After an error `sent` stands
-/// behind the bytes that the writer took.
+/// Passes on what is held from byte `sent` on, and empties the buffer. After an error, `sent` is
+/// behind the bytes that the writer accepted.
 fn hand_on<W: ByteWrite>(
     w: &mut W,
     held: &mut ArrayVec<u8, HELD>,
@@ -56,7 +57,7 @@ fn hand_on<W: ByteWrite>(
     Ok(())
 }
 
-/// The same, and flushes the writer.
+/// Does the same, and flushes the writer.
 fn hand_on_all<W: ByteWrite>(
     w: &mut W,
     held: &mut ArrayVec<u8, HELD>,
@@ -77,7 +78,7 @@ fn hand_on_all<W: ByteWrite>(
     }
 }
 
-/// Sees that the buffer has room for so many bytes more, of which it can hold all.
+/// Makes room for `room` more bytes, which are at most as many as the buffer can hold.
 fn make_room<W: ByteWrite>(
     w: &mut W,
     held: &mut ArrayVec<u8, HELD>,
@@ -100,14 +101,14 @@ fn make_room<W: ByteWrite>(
     hand_on(w, held, sent)
 }
 
-/// A writer, by its reference.
+/// A writer by its reference.
 #[derive(Drop)]
 pub(crate) struct Reached<'w, W> {
     pub(crate) w: &'w mut W,
 }
 
-/// A writer that takes texts into a buffer first, and hands them on where the buffer has no room
-/// and at a flush. The writer behind it holds what it held at first, and more.
+/// A writer that puts texts into a buffer first. It passes them on if the buffer has no room, and
+/// at a flush. The writer behind it holds what it held at first, and more.
 #[derive(Drop)]
 pub(crate) struct Buffered<'w, W: ByteWrite, K: Lent> {
     pub(crate) reached: Reached<'w, W>,

@@ -1,8 +1,10 @@
-//! What a line asks for.
+//! The commands of lines.
 ghost use Rattle.std.specs.Prelude.{◌≡◌, ◌≤◌, ℕ, List, length, Option, IfSome};
-ghost use Rattle.serve_lines.specs.Commands.{Line, line_of, call_of, fields_left, one_field, two_fields, three_fields, number as number_then};
+ghost use Rattle.serve_lines.specs.Commands.{Line, line_of, call_of, fields_left, one_field};
+ghost use Rattle.serve_lines.specs.Commands.{two_fields, three_fields, number as number_then};
 ghost use Rattle.serve_lines.specs.declared.word.Word.TheVariants.{Read};
-ghost use Rattle.serve_lines.specs.Reading.{line_by, one_by, two_by, three_by, number_by, numbers_by, three_numbers_by, is_small_line};
+ghost use Rattle.serve_lines.specs.Reading.{line_by, one_by, two_by, three_by, number_by};
+ghost use Rattle.serve_lines.specs.Reading.{numbers_by, three_numbers_by, is_small_line};
 
 use crate::bad::Bad;
 use crate::field::{cut, number};
@@ -10,33 +12,33 @@ use crate::path_text::PathText;
 use crate::word::{FdCall, PathCall, Word, word_of};
 use open_files::Fd;
 
-/// How many bytes one `read` may ask for.
+/// The most bytes for which one `read` may ask.
 const MOST_READ: u32 = 4096;
 
-/// What a line asks for, with its numbers and the text of its path.
+/// A command, with its numbers and the text of its path.
 #[derive(Clone, Copy)]
 pub enum Command<'l> {
     /// `lookup`, `stat`, `lstat`, `readlink` or `open`, and a path.
     Path(PathCall, PathText<'l>),
     /// `fstat`, `readdir`, `rewind` or `close`, and a descriptor.
     Fd(FdCall, Fd),
-    /// A descriptor, and how many bytes: at most 4,096.
+    /// `read`: a descriptor, and the number of bytes, at most 4,096.
     Read(Fd, u32),
-    /// A descriptor, and how many bytes at most.
+    /// `lend`: a descriptor, and the most bytes.
     Lend(Fd, u32),
-    /// A descriptor, and its new position.
+    /// `seek`: a descriptor, and its new position.
     Seek(Fd, u32),
-    /// A descriptor, the first byte, and how many bytes.
+    /// `map`: a descriptor, the first byte, and the number of bytes.
     Map(Fd, u32, u32),
-    /// All that is open is closed.
+    /// `quit`, which closes all that is open.
     Quit,
-    /// The number of an image, and the path of the directory that it is to cover.
+    /// `mount`: the number of an image, and the path of the directory that it is to cover.
     Mount(u32, PathText<'l>),
-    /// The number of an image.
+    /// `umount`: the number of an image.
     Umount(u32),
 }
 
-/// The one field that is left, where it is not empty.
+/// Returns the last field, if exactly one is left and it is not empty.
 fn one<'l>(rest: Option<&'l [u8]>) -> Option<&'l [u8]>
     requires { IfSome rest (λ r. length r.now ≤ 8191) }
     ensures field { (line : List ℕ → Line)
@@ -57,7 +59,7 @@ fn one<'l>(rest: Option<&'l [u8]>) -> Option<&'l [u8]>
     }
 }
 
-/// The two fields that are left, where they are not empty.
+/// Returns the last two fields, if exactly two are left and none is empty.
 fn two<'l>(rest: Option<&'l [u8]>) -> Option<(&'l [u8], &'l [u8])>
     requires { IfSome rest (λ r. length r.now ≤ 8191) }
     ensures fields { (line : List ℕ → List ℕ → Line)
@@ -77,7 +79,7 @@ fn two<'l>(rest: Option<&'l [u8]>) -> Option<(&'l [u8], &'l [u8])>
     Some((first, second))
 }
 
-/// The three fields that are left, where they are not empty.
+/// Returns the last three fields, if exactly three are left and none is empty.
 fn three<'l>(rest: Option<&'l [u8]>) -> Option<(&'l [u8], &'l [u8], &'l [u8])>
     requires { IfSome rest (λ r. length r.now ≤ 8191) }
     ensures { (line : List ℕ → List ℕ → List ℕ → Line)
@@ -96,7 +98,7 @@ fn three<'l>(rest: Option<&'l [u8]>) -> Option<(&'l [u8], &'l [u8], &'l [u8])>
     Some((first, second, third))
 }
 
-/// The one number that is left.
+/// Returns the number of the one field that is left.
 fn one_number(rest: Option<&[u8]>) -> Result<u32, Bad>
     requires { IfSome rest (λ r. length r.now ≤ 8191) }
     ensures { (line : ℕ → Line)
@@ -111,7 +113,7 @@ fn one_number(rest: Option<&[u8]>) -> Result<u32, Bad>
     Ok(n)
 }
 
-/// The two numbers that are left.
+/// Returns the numbers of the two fields that are left.
 fn two_numbers(rest: Option<&[u8]>) -> Result<(u32, u32), Bad>
     requires { IfSome rest (λ r. length r.now ≤ 8191) }
     ensures { (line : ℕ → ℕ → Line)
@@ -130,7 +132,7 @@ fn two_numbers(rest: Option<&[u8]>) -> Result<(u32, u32), Bad>
     Ok((n, m))
 }
 
-/// The three numbers that are left.
+/// Returns the numbers of the three fields that are left.
 fn three_numbers(rest: Option<&[u8]>) -> Result<(u32, u32, u32), Bad>
     requires { IfSome rest (λ r. length r.now ≤ 8191) }
     ensures { (line : ℕ → ℕ → ℕ → Line)
@@ -152,7 +154,7 @@ fn three_numbers(rest: Option<&[u8]>) -> Result<(u32, u32, u32), Bad>
     Ok((n, m, k))
 }
 
-/// What the fields behind `read` ask for.
+/// Returns the command of the fields behind `read`.
 fn read_call<'l>(rest: Option<&'l [u8]>) -> Result<Command<'l>, Bad>
     requires { IfSome rest (λ r. length r.now ≤ 8191) }
     ensures asks { call_of Read (fields_left rest.entry) ≡ line_by result }
@@ -169,7 +171,7 @@ fn read_call<'l>(rest: Option<&'l [u8]>) -> Result<Command<'l>, Bad>
     }
 }
 
-/// What a word and the fields behind it ask for.
+/// Returns the command of a word and the fields behind it.
 fn call<'l>(word: Word, rest: Option<&'l [u8]>) -> Result<Command<'l>, Bad>
     requires { IfSome rest (λ r. length r.now ≤ 8191) }
     ensures asks { call_of word (fields_left rest.entry) ≡ line_by result }
@@ -215,14 +217,14 @@ fn call<'l>(word: Word, rest: Option<&'l [u8]>) -> Result<Command<'l>, Bad>
     }
 }
 
-/// What a line, which is given without its line feed, asks for. `mounts` says whether `mount` and
-/// `umount` are words. A `read` asks for at most 4,096 bytes.
+/// Returns the command of a line, which comes without its line feed. `mounts` is true if `mount`
+/// and `umount` are words. A `read` asks for at most 4,096 bytes.
 ///
 /// # Errors
 ///
-/// In this order: `Bad::Line` where the line has more than 8,191 bytes, `Bad::Command` where its
-/// first field is no word, `Bad::Line` where it has more or fewer fields than its word has, or an
-/// empty one, `Bad::Number` where a number is none. Never `Bad::Session`.
+/// They are tested in this order. `Bad::Line`: the line has more than 8,191 bytes. `Bad::Command`:
+/// its first field is not a word. `Bad::Line`: it has more or fewer fields than its word has, or an
+/// empty field. `Bad::Number`: a number is not valid. `Bad::Session` is never returned.
 #[tactic(auto, unfolding(crate::specs::Commands::line_of))]
 pub fn read_line<'l>(line: &'l [u8], mounts: bool) -> Result<Command<'l>, Bad>
     ensures asks { line_of mounts line.now ≡ line_by result }

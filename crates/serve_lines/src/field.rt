@@ -5,7 +5,7 @@ ghost use Rattle.serve_lines.specs.Commands.{fields, fields_left, number_of};
 use itoa::Buffer;
 use memchr::memchr;
 
-/// The first field of a text, and what follows the space behind it.
+/// Returns the first field of a text, and the part behind the space after it, if there is a space.
 pub(crate) fn cut(text: &[u8]) -> (&[u8], Option<&[u8]>)
     ensures fields { fields text.now ≡ result.0.now ∷ fields_left result.1 }
     ensures first { length result.0.now ≤ length text.now }
@@ -17,7 +17,8 @@ pub(crate) fn cut(text: &[u8]) -> (&[u8], Option<&[u8]>)
     }
 }
 
-/// The number that a field is: decimal, without leading zeros, at most 4,294,967,295.
+/// Returns the number of a field, if it is decimal, without leading zeros, and at most
+/// 4,294,967,295.
 pub(crate) fn number(field: &[u8]) -> Option<u32>
     ensures { result ≡ number_of field.now }
 {

@@ -20,7 +20,7 @@ fn put_hex_part<W: ByteWrite>(w: &mut W, failed: &mut bool, part: &[u8])
     }
 }
 
-/// Puts bytes as lower-case hexadecimal digits, two a byte, or `-` for none.
+/// Puts bytes as lower-case hexadecimal digits, two for each byte, or `-` if there is no byte.
 pub(crate) fn put_hex<W: ByteWrite>(w: &mut W, failed: &mut bool, bytes: &[u8])
     ensures { Puts (sink (W.output w.old) failed.old) (sink (W.output w.new) failed.new)
         (hex_text bytes.now) }

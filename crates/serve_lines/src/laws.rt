@@ -1,8 +1,8 @@
-//! Laws of the definitions.
+//! Laws on the definitions.
 ghost use Rattle.std.specs.Prelude.{◌≡◌, ℕ, List};
 ghost use Rattle.serve_lines.specs.Served.{lines_of, joined};
 
-/// The lines of an input, joined to an input and cut again, are the same.
+/// Shows that the lines of an input, joined to an input and cut again, are the same.
 pub fn lines_again()
     ensures { (x : List ℕ) → lines_of (joined (lines_of x)) ≡ lines_of x }
 {}

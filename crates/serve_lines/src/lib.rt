@@ -1,16 +1,16 @@
-//! Serving lines from a reader to a writer: how an input is cut into lines, what a line asks for, and
+//! Serving lines from a reader to a writer. `serve_lines` answers the lines by any machine of
+//! lines, and reports how it ended. `read_line` returns the command of a line, and `put_reply` puts
 //! the text of a reply.
 //!
-//! `specs/Served.antt` says how an input is cut into lines, what a machine of lines replies to
-//! them, and how much of the input is used. Proved: `serve_lines` writes just these replies, each
-//! of them whole before the next byte is read, and says which of reader, writer and count of reads
-//! ended it early; no failed write or flush is passed over, and as many flushes succeed as replies
-//! are written. `specs/Views.antt` says what one of several sessions sees.
+//! Proved: `serve_lines` writes exactly the replies of `specs/Served.antt`, each of them whole
+//! before it reads the next byte, and reports whether the reader, the writer or the count of reads
+//! ended it early. No failed write or flush is ignored, and as many flushes succeed as replies are
+//! written. `specs/Views.antt` defines what one of several sessions sees.
 //!
-//! `specs/Commands.antt` says what a line asks for: its word, its numbers and its path, or what is
-//! bad about it, in the order of the tests; `specs/Texts.antt` has the text of each reply. Proved:
-//! `read_line` gives just what a line asks for, and `put_reply` puts just the text of a reply.
-//! Neither takes memory; contents go out as hexadecimal digits through a fixed buffer.
+//! `read_line` returns exactly the command of a line (`specs/Commands.antt`): its word, its numbers
+//! and its path, or its fault, in the order of the tests. `put_reply` puts exactly the text of a
+//! reply (`specs/Texts.antt`). Neither takes memory. Contents are sent as hexadecimal digits
+//! through a fixed buffer.
 #![tactic(auto)]
 
 mod bad;

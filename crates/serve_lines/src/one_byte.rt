@@ -1,21 +1,21 @@
-//! One byte of a reader.
+//! The reading of one byte.
 ghost use Rattle.std.specs.Prelude.{◌≡◌, [], ◌∷◌};
 ghost use Rattle.serve_lines.specs.Got.{Gets};
 
 use rom_fields::{ByteRead, Failed};
 
-/// What one read of one byte gave.
+/// The result of one read of one byte.
 #[derive(Clone, Copy, PartialEq, Eq)]
 pub enum Got {
     /// The next byte.
     Byte(u8),
-    /// The input is at its end.
+    /// The input has ended.
     End,
     /// The read failed.
     Fault,
 }
 
-/// The next byte, by one read.
+/// Reads the next byte, by one read.
 pub fn read_byte<R: ByteRead>(r: &mut R) -> Got
     ensures { Gets (R.remaining r.old) (R.remaining r.new) (R.failures r.old) (R.failures r.new)
         result }

@@ -1,4 +1,4 @@
-//! Paths as they stand in lines.
+//! Paths as they are in lines.
 ghost use Rattle.std.specs.Prelude.{◌≡◌, ◌≤◌, length};
 ghost use Rattle.serve_lines.specs.Commands.{path_of};
 
@@ -8,7 +8,7 @@ use percent_encoding::percent_decode;
 /// A path of a line, decoded.
 pub type Path = ArrayVec<u8, 8192>;
 
-/// A path as it stands in a line, with its escapes.
+/// A path as it is in a line, with its escapes.
 #[derive(Clone, Copy)]
 pub struct PathText<'l> {
     text: &'l [u8],
@@ -16,7 +16,7 @@ pub struct PathText<'l> {
 }
 
 impl<'l> PathText<'l> {
-    /// Of a field, as it stands in its line.
+    /// Returns the path of a field, as it is in its line.
     pub fn new(text: &'l [u8]) -> PathText<'l>
         requires { length text.now ≤ 8191 }
         ensures { result.text ≡ text.entry }
@@ -24,8 +24,8 @@ impl<'l> PathText<'l> {
         PathText { text }
     }
 
-    /// The path that is meant: each `%` with two hexadecimal digits behind it is one byte, and `-`
-    /// alone is the empty path.
+    /// Returns the decoded path. Each `%` with two hexadecimal digits behind it is one byte, and
+    /// the field `-` is the empty path.
     pub fn decoded(self) -> Path
         ensures { result.items ≡ path_of self.entry.text.now }
     {

@@ -10,8 +10,8 @@ use open_files::{CallError, Fd};
 use rom_fields::{ByteWrite, put, put_decimal, put_escaped, put_long_decimal};
 use rom_tree::{Entry, NodeId, Piece, Stat, put_stat};
 
-/// What is replied to a line. Where several images are served, what is said of a node comes with
-/// the number of its image.
+/// A reply to a line. If several images are served, the reply about a node has the number of the
+/// node's image.
 #[derive(Clone, Copy)]
 pub enum Reply<'r> {
     Done,
@@ -26,7 +26,7 @@ pub enum Reply<'r> {
     Bad(Bad),
 }
 
-/// The reply to a line that asks for nothing.
+/// Returns the text of the reply to a line that is not a command.
 fn bad_line(bad: Bad) -> &'static [u8]
     ensures { result.now ≡ bad_text bad }
 {
@@ -49,7 +49,7 @@ fn put_image<W: ByteWrite>(w: &mut W, failed: &mut bool, image: Option<u32>)
     }
 }
 
-/// Puts a piece of an image: its place, its length, and its bytes as hexadecimal digits.
+/// Puts a piece of an image: its PLACE, its length, and its bytes as hexadecimal digits.
 fn put_piece<'r, W: ByteWrite>(w: &mut W, failed: &mut bool, image: Option<u32>, piece: Piece<'r>)
     ensures { Puts (sink (W.output w.old) failed.old) (sink (W.output w.new) failed.new)
         (piece_text image piece.entry.place piece.entry.bytes.now) }
@@ -64,7 +64,7 @@ fn put_piece<'r, W: ByteWrite>(w: &mut W, failed: &mut bool, image: Option<u32>,
     put(w, failed, b"\n");
 }
 
-/// Puts the text of a reply, a line.
+/// Puts the text of a reply, which is a line.
 pub fn put_reply<'r, W: ByteWrite>(w: &mut W, failed: &mut bool, reply: Reply<'r>)
     ensures { Puts (sink (W.output w.old) failed.old) (sink (W.output w.new) failed.new)
         (reply_text reply.entry) }

@@ -1,10 +1,13 @@
 //! The serving of lines.
-ghost use Rattle.std.specs.Prelude.{◌≡◌, ℕ, List, ◌∷◌, [], ◌++◌, take, length, ◌<◌, Err, IfOk, OnOk, OnErr};
+ghost use Rattle.std.specs.Prelude.{◌≡◌, ℕ, List, ◌∷◌, [], ◌++◌, take, length, ◌<◌, Err, IfOk};
+ghost use Rattle.std.specs.Prelude.{OnOk, OnErr};
 ghost use Rattle.std.specs.Io.KnownBytes.{Appends};
 ghost use Rattle.rom_fields.specs.Failures.{Rose, Counts, after_flush, after_flushes};
 ghost use Rattle.rom_fields.specs.Written.{WritesText, AppendsPrefix};
-ghost use Rattle.serve_lines.specs.Served.{Serves, Finishes, Breaks, ForgetsLong, ReadsUpTo, last_line, last_reply};
-ghost use Rattle.serve_lines.specs.declared.error.ServeError.TheVariants.{ReadFault, WriteFault, TooManyReads};
+ghost use Rattle.serve_lines.specs.Served.{Serves, Finishes, Breaks, ForgetsLong, ReadsUpTo};
+ghost use Rattle.serve_lines.specs.Served.{last_line, last_reply};
+ghost use Rattle.serve_lines.specs.declared.error.ServeError.TheVariants.{ReadFault, WriteFault};
+ghost use Rattle.serve_lines.specs.declared.error.ServeError.TheVariants.{TooManyReads};
 
 use crate::buffered::{Buffered, Lent, Reached};
 use crate::error::ServeError;
@@ -14,13 +17,13 @@ use arrayvec::ArrayVec;
 use rom_fields::{ByteRead, ByteWrite, Failed};
 use std::marker::{Brand, PhantomData};
 
-/// Ends a line.
+/// The byte that ends a line.
 const LINE_FEED: u8 = b'\n';
 
-/// The front of a line whose end was not read yet.
+/// The front of a line whose end has not been read yet.
 type Line = ArrayVec<u8, 8192>;
 
-/// One byte more of a line, of which 8,192 are kept.
+/// Adds one byte to a line, of which 8,192 bytes are kept.
 fn keep(line: &mut Line, b: u8)
     ensures { line.new.items ≡ take 8192 (line.old.items ++ b ∷ []) }
 {
@@ -30,8 +33,8 @@ fn keep(line: &mut Line, b: u8)
     line.push(b);
 }
 
-/// Writes the reply to a line through a buffer, and flushes it. `answered` then says whether the
-/// line ends the serving, or that this failed.
+/// Writes the reply to a line through a buffer, and flushes it. `answered` then is whether the line
+/// ends the serving, or that the writing failed.
 fn answer_through<'w, M: LineMachine, W: ByteWrite, K: Lent>(
     m: &mut M,
     line: &Line,
@@ -73,7 +76,7 @@ fn answer_through<'w, M: LineMachine, W: ByteWrite, K: Lent>(
     reached
 }
 
-/// Writes the reply to a line, and flushes it. Tells whether the line ends the serving.
+/// Writes the reply to a line, and flushes it. Returns whether the line ends the serving.
 fn answer_line<M: LineMachine, W: ByteWrite>(
     m: &mut M,
     line: &Line,
@@ -89,12 +92,12 @@ fn answer_line<M: LineMachine, W: ByteWrite>(
 {
     let mut reached = Reached { w };
     let mut answered = Ok(false);
-    // The reference comes back: so it is known here what was written through it.
+    // The reference comes back, so it is known here what was written through it.
     reached = answer_through::<M, W, Brand>(m, line, reached, &mut answered);
     answered
 }
 
-/// Writes the reply to what stands in a last line without a line feed, if anything does.
+/// Writes the reply to a last line without a line feed, if it has any bytes.
 fn answer_last<M: LineMachine, W: ByteWrite>(
     m: &mut M,
     line: &Line,
@@ -120,16 +123,16 @@ fn answer_last<M: LineMachine, W: ByteWrite>(
 }
 
 /// Answers the lines of `r` on `w`, up to the end of the input or to the first line that ends the
-/// serving. It reads one byte a call, at most `reads` times, and keeps 8,192 bytes of a line. Each
-/// reply is written whole and flushed before the next byte is read, in one write for each 4,096
-/// bytes of it. However it ends, at most `reads` bytes were read.
+/// serving. It reads one byte with each call, at most `reads` times, and keeps 8,192 bytes of a
+/// line. Each reply is written whole and flushed before the next byte is read, with one write for
+/// each 4,096 bytes of it. However it ends, at most `reads` bytes were read.
 ///
 /// # Errors
 ///
-/// `ReadFault` where a read failed, `TooManyReads` where `reads` bytes were read and the input had
-/// not ended: just the replies to those lines were written that end with a line feed. `WriteFault`
-/// where a write or a flush failed: a prefix of the replies was written, which holds the replies to
-/// all lines but the last.
+/// `ReadFault` if a read failed, and `TooManyReads` if `reads` bytes were read and the input had
+/// not ended. Exactly the replies to the lines that end with a line feed were then written.
+/// `WriteFault` if a write or a flush failed. A prefix of the replies was then written, which holds
+/// the replies to all lines except the last.
 pub fn serve_lines<M: LineMachine, R: ByteRead, W: ByteWrite>(
     m: &mut M,
     r: &mut R,

@@ -3,7 +3,7 @@ ghost use Rattle.std.specs.Prelude.{◌≡◌};
 ghost use Rattle.serve_lines.specs.Commands.{fd_word as named_fd, other_word as named_other};
 ghost use Rattle.serve_lines.specs.Commands.{path_word as named_path, word_of as named};
 
-/// What is asked about a path.
+/// A call with only a path.
 #[derive(Clone, Copy, Debug, PartialEq, Eq)]
 pub enum PathCall {
     Lookup,
@@ -13,7 +13,7 @@ pub enum PathCall {
     Open,
 }
 
-/// What is asked of a descriptor alone.
+/// A call with only a descriptor.
 #[derive(Clone, Copy, Debug, PartialEq, Eq)]
 pub enum FdCall {
     Fstat,
@@ -22,7 +22,7 @@ pub enum FdCall {
     Close,
 }
 
-/// What the first field of a line says.
+/// The word of a line, which is its first field.
 #[derive(Clone, Copy, Debug, PartialEq, Eq)]
 pub(crate) enum Word {
     Path(PathCall),
@@ -36,7 +36,7 @@ pub(crate) enum Word {
     Umount,
 }
 
-/// The call that a first field is, if it is one of a path alone.
+/// Returns the call of a first field, if it is one with only a path.
 fn path_word(text: &[u8]) -> Option<PathCall>
     ensures { result ≡ named_path text.now }
 {
@@ -58,7 +58,7 @@ fn path_word(text: &[u8]) -> Option<PathCall>
     None
 }
 
-/// The same of a descriptor alone.
+/// Returns the call of a first field, if it is one with only a descriptor.
 fn fd_word(text: &[u8]) -> Option<FdCall>
     ensures { result ≡ named_fd text.now }
 {
@@ -77,7 +77,7 @@ fn fd_word(text: &[u8]) -> Option<FdCall>
     None
 }
 
-/// The word that is neither.
+/// Returns the word of a first field, if it is one of the others.
 fn other_word(text: &[u8], mounts: bool) -> Option<Word>
     ensures { result ≡ named_other mounts text.now }
 {
@@ -105,7 +105,8 @@ fn other_word(text: &[u8], mounts: bool) -> Option<Word>
     None
 }
 
-/// The word that a first field is. `mounts` says whether `mount` and `umount` are words.
+/// Returns the word of a first field, if it is one. `mounts` is true if `mount` and `umount` are
+/// words.
 pub(crate) fn word_of(text: &[u8], mounts: bool) -> Option<Word>
     ensures { result ≡ named mounts text.now }
 {

@@ -12,17 +12,21 @@ returns-clause-one c = c.one_tree.ensures
 pub returns-clause-built : goal.returns-clause-built
 returns-clause-built c = λ f text contents bytes r₀ r w₀ w o b.
     let law = c.built_is_accepted.ensures in
-    built text contents bytes r₀ r w₀ w o (λ e. law.refused f text contents bytes e b) (law.meant f text contents bytes b)
+    built text contents bytes r₀ r w₀ w o (λ e. law.refused f text contents bytes e b)
+    (law.meant f text contents bytes b)
 
 pub returns-clause-placed : goal.returns-clause-placed
 returns-clause-placed c = λ f text contents bytes m b e.
-    let law = c.built_is_placed.ensures in
-    (law.named f text contents bytes m b e, λ t h. (law.runs f text contents bytes m b e t h, law.copies f text contents bytes m b e t h))
+    let law = c.built_is_placed.ensures in (
+      law.named f text contents bytes m b e,
+      λ t h. (law.runs f text contents bytes m b e t h, law.copies f text contents bytes m b e t h),
+    )
 
 pub returns-clause-built_under : goal.returns-clause-built_under
 returns-clause-built_under c = λ limits f text contents bytes r₀ r w₀ w o b.
     let law = c.built_is_accepted.ensures in
-    built_under limits text contents bytes r₀ r w₀ w o (c.exact.ensures.faultless bytes usual_limits (law.faultless f text contents bytes b))
+    built_under limits text contents bytes r₀ r w₀ w o
+    (c.exact.ensures.faultless bytes usual_limits (law.faultless f text contents bytes b))
     (c.one_tree.ensures bytes limits usual_limits) (law.meant f text contents bytes b)
 
 pub returns-clause-mapped : goal.returns-clause-mapped

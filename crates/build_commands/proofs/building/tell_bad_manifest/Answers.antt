@@ -7,5 +7,6 @@ pub returns-clause-text : goal.returns-clause-text
 returns-clause-text g c =
     let old = (g.W.ByteWrite.output c.args.w.now).contents in
     let new = (g.W.ByteWrite.output c.tell_refusal.new.w).contents in
-    let P : List ℕ → Type 0 = λ n. WritesText old new c.tell_refusal.result (refusal_line (codes "manifest") c.args.line c.args.number n) in
+    let P : List ℕ → Type 0 =
+    λ n. WritesText old new c.tell_refusal.result (refusal_line (codes "manifest") c.args.line c.args.number n) in
     subst P (c.as_bytes.ensures.value ∙ c.name-name.ensures) c.tell_refusal.ensures.text

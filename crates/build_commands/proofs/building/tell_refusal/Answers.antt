@@ -6,7 +6,8 @@ pub returns-clause-text : goal.returns-clause-text
 returns-clause-text g c =
     let old = (g.W.ByteWrite.output c.args.w.now).contents in
     let written = (g.W.ByteWrite.output c.write_refusal_line.new.w).contents in
-    flushed c.flush.result old written (g.W.ByteWrite.output c.flush.new.self).contents _ c.in_ok-write_refusal_line.ensures.text
+    flushed c.flush.result old written
+    (g.W.ByteWrite.output c.flush.new.self).contents _ c.in_ok-write_refusal_line.ensures.text
     c.flush.ensures.bytes
 
 pub returns-in_err-write_refusal_line-clause-text : goal.returns-in_err-write_refusal_line-clause-text

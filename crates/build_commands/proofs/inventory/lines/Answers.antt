@@ -11,9 +11,10 @@ loop-file-preserved c =
     let h = c.loop-file-test.true in
     let i : ℕ = c.loop-file.file-index in
     let first = c.first_noted-first.ensures ∙ c.loop-file.invariant.1 f.inode.device f.inode.number in
-    let line = c.name_line.ensures ∙ ap (λ (o : Option NamedFile). name_line c.args.front c.args.wishes o f) first in (
-      rw (next_line c.args.front c.args.wishes c.args.found.now i f h, sym c.file-item.is)
+    let line = c.name_line.ensures ∙ ap (λ (o : Option NamedFile). name_line c.args.format o f) first in (
+      rw (next_line c.args.format c.args.found.now i f h, sym c.file-item.is)
           (pushed_line _ _ _ c.in_ok-push.ensures.items _ c.loop-file.invariant.0 _ line),
       λ device number. rw (next_first c.args.found.now i f h device number, sym c.file-item.is)
-          (c.in_ok-note_first.ensures device number ∙ ap (λ (o : Option NamedFile). noted_with f o device number) (c.loop-file.invariant.1 device number)),
+          (c.in_ok-note_first.ensures device number
+          ∙ ap (λ (o : Option NamedFile). noted_with f o device number) (c.loop-file.invariant.1 device number)),
     )

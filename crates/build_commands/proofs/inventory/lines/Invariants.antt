@@ -6,5 +6,5 @@ use Rattle.build_commands.proofs.inventory.lines.Given as goal
 
 abbrev pub invariant-loop-file : goal.invariant-loop-file
 invariant-loop-file l =
-    (map line_of l.made.items ≡ lines_found l.front l.wishes (take l.file-index l.found))
+    (map line_of l.made.items ≡ lines_found l.format (take l.file-index l.found))
     × ((device number : ℕ) → noted l.firsts device number ≡ first_of device number (take l.file-index l.found))

@@ -7,4 +7,4 @@ pub returns-clause-plain : goal.returns-clause-plain
 returns-clause-plain c = is_manifest c.reads_back.ensures
 
 pub returns-clause-all : goal.returns-clause-all
-returns-clause-all c = λ front wishes found h. c.reads_back.ensures [] (lines_found front wishes found) no_volume h
+returns-clause-all c = λ format found volume v h. c.reads_back.ensures volume (lines_found format found) v h

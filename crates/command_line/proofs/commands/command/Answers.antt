@@ -1,9 +1,13 @@
-use Rattle.std.proofs.Common.{refl}
-use Rattle.command_line.proofs.Rows.{with_last, with_sub}
+use Rattle.std.proofs.Common.{◌≡◌, Result, Ok, Err, IfOk, ap, ◌∙◌, refl, List}
+use Rattle.clap.specs.Words.{App, Shape, app_of}
+use Rattle.clap.specs.declared.builder.command.Command.{Command}
+use Rattle.command_line.specs.Commands.{romtool_shapes, with_shapes}
 use Rattle.command_line.proofs.commands.command.Goals as goal
 
+onto : {E : Type 0} (r : Result Command E) (a b : App) (ss : List Shape) → a ≡ b
+    → IfOk r (λ c. app_of c ≡ with_shapes a ss) → IfOk r (λ c. app_of c ≡ with_shapes b ss)
+onto (Ok c) a b ss e h = h ∙ ap (λ (x : App). with_shapes x ss) e
+onto (Err _) a b ss e h = tt
+
 pub returns : goal.returns
-returns c =
-    let build = with_sub _ _ _ _ _ c.in_ok-command-2.ensures c.in_ok-command.ensures c.in_ok-with_build.ensures refl in
-    let scan = with_sub _ _ _ _ _ c.in_ok-command-3.ensures build c.in_ok-with_scan.ensures refl in
-    with_last _ _ _ _ _ c.subcommand-3.ensures scan c.in_ok-with_extract.ensures refl
+returns c = onto _ _ _ romtool_shapes c.in_ok-top.ensures c.with_subcommands.ensures

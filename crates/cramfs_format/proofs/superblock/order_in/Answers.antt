@@ -21,7 +21,8 @@ pub returns-then-word-eq-MAGIC-clause-begins : goal.returns-then-word-eq-MAGIC-c
 returns-then-word-eq-MAGIC-clause-begins c = (c.if-bytes-lt4.false, sym c.word.ensures ∙ c.if-word-eq-MAGIC.true)
 
 pub returns-then-word-eq-MAGIC-2-clause-order : goal.returns-then-word-eq-MAGIC-2-clause-order
-returns-then-word-eq-MAGIC-2-clause-order c = little_by c.args.bytes.now (λ e. c.if-word-eq-MAGIC.false (c.word.ensures ∙ e))
+returns-then-word-eq-MAGIC-2-clause-order c =
+    little_by c.args.bytes.now (λ e. c.if-word-eq-MAGIC.false (c.word.ensures ∙ e))
 
 pub returns-then-word-eq-MAGIC-2-clause-begins : goal.returns-then-word-eq-MAGIC-2-clause-begins
 returns-then-word-eq-MAGIC-2-clause-begins c = (c.if-bytes-lt4.false, sym c.word-2.ensures ∙ c.if-word-eq-MAGIC-2.true)
@@ -30,4 +31,5 @@ pub returns-clause-other : goal.returns-clause-other
 returns-clause-other c =
     let b = c.args.bytes.now in
     λ h. c.if-word-eq-MAGIC-2.false (c.word-2.ensures
-    ∙ subst (λ (o : Order). word o b 0 ≡ magic) (sym (little_by b (λ e. c.if-word-eq-MAGIC.false (c.word.ensures ∙ e)))) h.1)
+    ∙ subst (λ (o : Order). word o b 0 ≡ magic)
+    (sym (little_by b (λ e. c.if-word-eq-MAGIC.false (c.word.ensures ∙ e)))) h.1)

@@ -4,4 +4,5 @@ use Rattle.cramfs_image.specs.Phases.{IsTooDeep, IsShallow}
 use Rattle.cramfs_image.proofs.depth.least_too_deep.Given as goal
 
 abbrev pub invariant-rows : goal.invariant-rows
-invariant-rows l = IsLeastRowFault (IsShallow l.b.order l.b.bytes.now l.most) (IsTooDeep l.b.order l.b.bytes.now l.most) (take l.row-index l.rows) l.noted
+invariant-rows l = IsLeastRowFault (IsShallow l.b.order l.b.bytes.now l.most) (IsTooDeep l.b.order l.b.bytes.now l.most)
+    (take l.row-index l.rows) l.noted

@@ -9,12 +9,21 @@ use Rattle.cramfs_image.proofs.phases.later_fault.Goals as goal
 
 pub returns-in-Some-2 : goal.returns-in-Some-2
 returns-in-Some-2 c =
-    of_overlap (subst (λ (xs : List Row). IsLeastRowFault (IsShallow c.args.b.now.order c.args.b.now.bytes.now c.args.most) (IsTooDeep c.args.b.now.order c.args.b.now.bytes.now c.args.most) xs _) c.below_root-below.ensures c.in_default.ensures)
-    (subst (IsLeastOf (OverlapsAt (extents_of c.args.b.now.order c.args.b.now.bytes.now c.args.rows.now))) c.in-Some-2.is c.in_ok-at.ensures) refl
+    of_overlap (subst (λ (xs : List Row). IsLeastRowFault
+    (IsShallow c.args.b.now.order c.args.b.now.bytes.now c.args.most)
+    (IsTooDeep c.args.b.now.order c.args.b.now.bytes.now c.args.most) xs _) c.below_root-below.ensures
+    c.in_default.ensures)
+    (subst (IsLeastOf (OverlapsAt (extents_of c.args.b.now.order c.args.b.now.bytes.now c.args.rows.now)))
+    c.in-Some-2.is c.in_ok-at.ensures) refl
 
 pub returns : goal.returns
 returns c =
     well_or_fault c.args.b.now.order c.args.b.now.bytes.now c.args.most c.args.rows.now c.in_ok-named.named
-    (subst (λ (xs : List Row). IsLeastRowFault (IsShallow c.args.b.now.order c.args.b.now.bytes.now c.args.most) (IsTooDeep c.args.b.now.order c.args.b.now.bytes.now c.args.most) xs _) c.below_root-below.ensures c.in_default.ensures)
-    (subst (IsLeastOf (OverlapsAt (extents_of c.args.b.now.order c.args.b.now.bytes.now c.args.rows.now))) c.in_default-2.is c.in_ok-at.ensures)
-    (subst (λ (xs : List Row). IsLeastRowFault (IsWellNamed c.args.b.now.order c.args.b.now.bytes.now) (IsNameFault c.args.b.now.order c.args.b.now.bytes.now) xs c.in_ok-named.named) c.below_root-below.ensures c.in_ok-named.ensures)
+    (subst (λ (xs : List Row). IsLeastRowFault (IsShallow c.args.b.now.order c.args.b.now.bytes.now c.args.most)
+    (IsTooDeep c.args.b.now.order c.args.b.now.bytes.now c.args.most) xs _) c.below_root-below.ensures
+    c.in_default.ensures)
+    (subst (IsLeastOf (OverlapsAt (extents_of c.args.b.now.order c.args.b.now.bytes.now c.args.rows.now)))
+    c.in_default-2.is c.in_ok-at.ensures)
+    (subst (λ (xs : List Row). IsLeastRowFault (IsWellNamed c.args.b.now.order c.args.b.now.bytes.now)
+    (IsNameFault c.args.b.now.order c.args.b.now.bytes.now) xs c.in_ok-named.named) c.below_root-below.ensures
+    c.in_ok-named.ensures)

@@ -10,5 +10,6 @@ returns-clause-whole c = λ i l.
     let most = c.min.ensures in
     let rest = c.saturating_sub.ensures in
     let is : 4 * (c.args.table / 4 + i) ≡ c.args.table + 4 * i = omega arith in
-    subst (λ (q : ℕ). IsPlain c.args.b.now.order b (word c.args.b.now.order b q) × Lies b (block_start (word c.args.b.now.order b q)) 4096) is
+    subst (λ (q : ℕ). IsPlain c.args.b.now.order b (word c.args.b.now.order b q)
+    × Lies b (block_start (word c.args.b.now.order b q)) 4096) is
     (c.whole_up_to-next.ensures.whole (c.args.table / 4 + i) (omega arith) (omega arith))

@@ -7,4 +7,5 @@ slice_bounds-crc32-end c = let k = length-take 32 c.args.b.now in let l = c.requ
 
 pub returns : goal.returns
 returns c =
-    parts_crc c.args.b.now c.as_slice.result.now c.crc32-front.result c.crc32_more-upto.result c.crc32_more.result c.as_slice.ensures c.crc32-front.ensures c.crc32_more-upto.ensures.more c.crc32_more.ensures.more
+    parts_crc c.args.b.now c.as_slice.result.now c.crc32-front.result c.crc32_more-upto.result c.crc32_more.result
+    c.as_slice.ensures c.crc32-front.ensures c.crc32_more-upto.ensures.more c.crc32_more.ensures.more

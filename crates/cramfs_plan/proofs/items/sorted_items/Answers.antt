@@ -10,7 +10,9 @@ use Rattle.cramfs_plan.proofs.items.sorted_items.Goals as goal
 pub returns : goal.returns
 returns c = λ is up small same.
     let e = c.in_ok-sort_by_key.ensures in
-    let sorted = IsNonDecreasingBy-from_sort_by_key (λ (x : WideInode). x.place) _ e.sorted (λ x b f'. λ k. search rules) in
+    let sorted =
+    IsNonDecreasingBy-from_sort_by_key (λ (x : WideInode). x.place) _ e.sorted (λ x b f'. λ k. search rules) in
     let are = sorted_are _ _ is up small same e.permutation sorted in
-    ok_then (λ items. map item_view items.items ≡ map (λ x. cut (entry_view x)) c.deref.result.now) (λ items. map item_view items.items ≡ is) c.items_of.result
+    ok_then (λ items. map item_view items.items ≡ map (λ x. cut (entry_view x)) c.deref.result.now)
+    (λ items. map item_view items.items ≡ is) c.items_of.result
     (λ items h. h ∙ ap (map (λ x. cut (entry_view x))) c.deref.ensures.value ∙ are) c.items_of.ensures

@@ -9,7 +9,8 @@ returns-clause-knows c = λ s e k.
     let way = kept_view c.how_kept-kept.result in
     let i = inode_view c.args.inode.now in
     subst (λ ts. Knows ts c.note_table.new.tables)
-    (ap (λ n. tables_after way n i.fill s.tables) (sym e) ∙ tables_are s i way (c.how_kept-kept.ensures.kept s.tables k))
+    (ap (λ n. tables_after way n i.fill s.tables) (sym e)
+    ∙ tables_are s i way (c.how_kept-kept.ensures.kept s.tables k))
     (c.in_ok-note_table.ensures.knows s.tables k)
 
 pub returns-clause-tables : goal.returns-clause-tables

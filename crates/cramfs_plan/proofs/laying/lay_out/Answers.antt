@@ -8,9 +8,11 @@ use Rattle.cramfs_layout.specs.Layout.{size_of}
 use Rattle.cramfs_layout.specs.Items.{items_of}
 use Rattle.cramfs_plan.specs.Wholes.{is_long_list, has_long_list}
 use Rattle.cramfs_plan.proofs.Ordered.{items_rise}
-use Rattle.cramfs_plan.proofs.Whole.{too_many, too_deep, too_long, long_lists, not_large, any_long, told, own_counted, all_rows, all_narrow, all_small, all_are, size_is, found_is}
+use Rattle.cramfs_plan.proofs.Whole.{too_many, too_deep, too_long, long_lists, not_large, any_long, told, own_counted}
+use Rattle.cramfs_plan.proofs.Whole.{all_rows, all_narrow, all_small, all_are, size_is, found_is}
 use Rattle.cramfs_plan.proofs.laying.lay_out.Goals as goal
-use Rattle.cramfs_plan.proofs.laying.lay_out.Goals.{then-rows-ge-MOST_ITEMS-via-then-rows-ge-MOST_ITEMS, then-rows-ge-MOST_ITEMS-via-else-rows-ge-MOST_ITEMS+then-deepest-gt-MOST_NAMES}
+use Rattle.cramfs_plan.proofs.laying.lay_out.Goals.{then-rows-ge-MOST_ITEMS-via-then-rows-ge-MOST_ITEMS}
+use Rattle.cramfs_plan.proofs.laying.lay_out.Goals.{then-rows-ge-MOST_ITEMS-via-else-rows-ge-MOST_ITEMS+then-deepest-gt-MOST_NAMES}
 
 pub returns-then-rows-ge-MOST_ITEMS-clause-whole :
     goal.returns-then-rows-ge-MOST_ITEMS-clause-whole
@@ -43,7 +45,8 @@ returns-then-has_long_list-clause-whole c = λ n e.
     let root = c.in_ok-lens.ensures.root ∙ t.root in
     let own = c.in_ok-lens.ensures.own ∙ t.own in
     long_lists c.args.order (inode_view c.args.root.now) n
-    (ap (λ l. is_long_list l || has_long_list n) (sym root) ∙ ap (λ b. is_long_list c.in_ok-lens.lens.root || b) (sym (any_long n) ∙ ap (list_any is_long_list) (sym own))
+    (ap (λ l. is_long_list l || has_long_list n) (sym root)
+    ∙ ap (λ b. is_long_list c.in_ok-lens.lens.root || b) (sym (any_long n) ∙ ap (list_any is_long_list) (sym own))
     ∙ sym c.has_long_list.ensures ∙ c.if-has_long_list.true)
 
 pub place_rows-requires-clause-rows : goal.place_rows-requires-clause-rows
@@ -54,7 +57,8 @@ place_rows-requires-clause-rows c =
 
 pub place_rows-requires-clause-many : goal.place_rows-requires-clause-many
 place_rows-requires-clause-many c =
-    ap length (c.deref.ensures.value ∙ c.in_ok-lens.ensures.own) ∙ own_counted (replicate {A = ℕ} 66 0) (map row_view c.args.rows.now) ∙ length-map c.args.rows.now row_view
+    ap length (c.deref.ensures.value ∙ c.in_ok-lens.ensures.own)
+    ∙ own_counted (replicate {A = ℕ} 66 0) (map row_view c.args.rows.now) ∙ length-map c.args.rows.now row_view
 
 pub returns-then-image_len-gt-MOST_BYTES-clause-whole :
     goal.returns-then-image_len-gt-MOST_BYTES-clause-whole
@@ -66,7 +70,8 @@ returns-then-image_len-gt-MOST_BYTES-clause-whole c = λ n e.
     let root = c.in_ok-lens.ensures.root ∙ t.root in
     let own = c.deref.ensures.value ∙ c.in_ok-lens.ensures.own ∙ t.own in
     let size : c.pad-image_len.result ≡ size_of n =
-    c.pad-image_len.ensures.value ∙ size_is c.args.order rs n c.in_ok-lens.lens.root _ c.deref.result.now t root own c.in_ok-entries.ensures.end in
+    c.pad-image_len.ensures.value ∙ size_is c.args.order rs n c.in_ok-lens.lens.root _ c.deref.result.now t root own
+    c.in_ok-entries.ensures.end in
     let l = c.if-image_len-gt-MOST_BYTES.true in
     too_long c.args.order (inode_view c.args.root.now) n (omega (arith, size, l))
 
@@ -80,16 +85,21 @@ returns-clause-whole c = λ n e.
     let lens = c.in_ok-lens.ensures.own ∙ t.own in
     let own = c.deref.ensures.value ∙ lens in
     let size : c.pad-image_len.result ≡ size_of n =
-    c.pad-image_len.ensures.value ∙ size_is c.args.order rs n c.in_ok-lens.lens.root _ c.deref.result.now t root own c.in_ok-entries.ensures.end in
+    c.pad-image_len.ensures.value ∙ size_is c.args.order rs n c.in_ok-lens.lens.root _ c.deref.result.now t root own
+    c.in_ok-entries.ensures.end in
     let l = c.if-image_len-gt-MOST_BYTES.false in
     let many = c.if-rows-ge-MOST_ITEMS.false in
     let h = length-map c.args.rows.now row_view in
     let count = ap length e in
     let depth = ap deepest e in
     let short =
-    ap (λ x. is_long_list x || has_long_list n) (sym root) ∙ ap (λ b. is_long_list c.in_ok-lens.lens.root || b) (sym (any_long n) ∙ ap (list_any is_long_list) (sym lens))
-    ∙ sym c.has_long_list.ensures ∙ c.if-has_long_list.false in
-    (not_large c.args.order (inode_view c.args.root.now) n (omega (arith, many, h, count)) (omega (arith, k, g, depth)) short (omega (arith, l, size)), size)
+    ap (λ x. is_long_list x || has_long_list n) (sym root)
+    ∙ ap (λ b. is_long_list c.in_ok-lens.lens.root || b) (sym (any_long n) ∙ ap (list_any is_long_list) (sym lens))
+    ∙ sym c.has_long_list.ensures ∙ c.if-has_long_list.false in (
+      not_large c.args.order (inode_view c.args.root.now) n (omega (arith, many, h, count))
+          (omega (arith, k, g, depth)) short (omega (arith, l, size)),
+      size,
+    )
 
 pub returns-clause-items : goal.returns-clause-items
 returns-clause-items c = λ n volume contents e p.
@@ -100,7 +110,9 @@ returns-clause-items c = λ n volume contents e p.
     let t = told c.args.order rs n e (omega (arith, k, g)) in
     let root = c.in_ok-lens.ensures.root ∙ t.root in
     let own = c.deref.ensures.value ∙ c.in_ok-lens.ensures.own ∙ t.own in
-    let found = found_is c.args.order rs n c.in_ok-lens.lens.root c.deref.result.now _ t root own c.in_ok-entries.ensures.entries in
+    let found = found_is c.args.order rs n c.in_ok-lens.lens.root c.deref.result.now _ t root own
+    c.in_ok-entries.ensures.entries in
     let fit = subst (λ qs. Every (IsFit (cramfs c.args.order)) qs) e c.requires in
-    c.in_ok-items.ensures (items_of c.args.order i n) (items_rise c.args.order contents i n p.well) (all_small c.args.order volume i n contents p fit)
+    c.in_ok-items.ensures (items_of c.args.order i n) (items_rise c.args.order contents i n p.well)
+    (all_small c.args.order volume i n contents p fit)
     (all_are c.args.order i n c.in_ok-lens.lens.root _ root found)

@@ -8,5 +8,6 @@ use Rattle.cramfs_plan.proofs.section_list.sections.Goals as goal
 pub returns : goal.returns
 returns c = λ end up.
     let e = c.in_ok-sort_by_key.ensures in
-    let sorted = IsNonDecreasingBy-from_sort_by_key (λ (x : Section). x.place) _ e.sorted (λ x b f'. λ k. search rules) in
+    let sorted =
+    IsNonDecreasingBy-from_sort_by_key (λ (x : Section). x.place) _ e.sorted (λ x b f'. λ k. search rules) in
     sorted_are _ _ (map item_view c.args.items.now) end up c.in_ok-found.ensures e.permutation sorted

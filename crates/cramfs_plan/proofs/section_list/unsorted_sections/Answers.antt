@@ -16,6 +16,7 @@ loop-i-preserved c =
       done = (
         item_view x ∷ d.0,
         holds_more d.0 (item_view x) _ _ d.1 c.in_ok-fresh.ensures.updates,
-        item_done _ _ _ d.0 c.loop-i.i (item_view x) _ _ c.in_ok-fresh.fresh is (c.in_ok-fresh.ensures.added ∙ ap not (d.1 x.table)) c.in_ok-push_item.ensures d.2,
+        item_done _ _ _ d.0 c.loop-i.i (item_view x) _ _ c.in_ok-fresh.fresh is
+            (c.in_ok-fresh.ensures.added ∙ ap not (d.1 x.table)) c.in_ok-push_item.ensures d.2,
       );
     }

@@ -9,5 +9,6 @@ abbrev pub invariant-loop-i : goal.invariant-loop-i
 invariant-loop-i l = record {
   done :
       (earlier : List Item) × HoldsTables earlier l.seen
-      × (map section_view l.found.items ++ sections_from earlier l.i (map item_view (drop l.i l.items)) ≡ unsorted (map item_view l.items));
+      × (map section_view l.found.items ++ sections_from earlier l.i (map item_view (drop l.i l.items))
+      ≡ unsorted (map item_view l.items));
 }

@@ -13,12 +13,15 @@ loop-i-preserved c =
     let many = c.requires.many in
     let below = c.loop-i-test.true in
     record {
-      near = subst (λ n. IsNear n c.place.new.self) (further c.loop-i.i) (e.near (2 ^ 24 + 2 ^ 7 + c.loop-i.i * 2 ^ 26) c.loop-i.invariant.near);
+      near = subst (λ n. IsNear n c.place.new.self) (further c.loop-i.i)
+          (e.near (2 ^ 24 + 2 ^ 7 + c.loop-i.i * 2 ^ 26) c.loop-i.invariant.near);
       walk = (
         step w.0 (row_view (get_or c.args.rows.now c.loop-i.i no_row)) (get_or c.args.lens.now c.loop-i.i 0),
         e.stands w.0 w.1,
-        more_items entry_view c.loop-i.entries.items c.push.new.self.items c.in_ok-place.field-0 _ _ _ _ c.in_ok-push.ensures.items (e.entry w.0 w.1)
-            (walk_step c.args.order w.0 c.args.rows.now c.args.lens.now c.loop-i.i no_row below (omega (arith, below, many))) w.2,
+        more_items entry_view c.loop-i.entries.items c.push.new.self.items c.in_ok-place.field-0 _ _ _ _
+            c.in_ok-push.ensures.items (e.entry w.0 w.1)
+            (walk_step c.args.order w.0 c.args.rows.now c.args.lens.now c.loop-i.i no_row below
+            (omega (arith, below, many))) w.2,
         sym (after_step w.0 c.args.rows.now c.args.lens.now c.loop-i.i no_row below (omega (arith, below, many))) ∙ w.3,
       );
     }

@@ -8,6 +8,8 @@ returns c =
     let words = c.args.item.now.words in
     let len = c.copy_from_slice.ensures.len in
     let same : (c.args.from + length c.args.out.now) - c.args.from ≡ length xs = omega arith in
-    c.copy_from_slice.ensures.after ∙ ap (λ (k : ℕ). take k (drop c.args.from (take c.put_inode-end.result c.put_inode-end.new.out))) same
+    c.copy_from_slice.ensures.after ∙ ap
+    (λ (k : ℕ). take k (drop c.args.from (take c.put_inode-end.result c.put_inode-end.new.out))) same
     ∙ ap (λ (v : List ℕ). take (length xs) (drop c.args.from v)) (c.put_inode-end.ensures.put
-    ∙ ap (λ (v : List ℕ). inode_bytes c.args.order (get_or words 0 0) (get_or words 1 0) (get_or words 2 0) v) c.as_bytes.ensures)
+    ∙ ap (λ (v : List ℕ). inode_bytes c.args.order (get_or words 0 0) (get_or words 1 0)
+    (get_or words 2 0) v) c.as_bytes.ensures)

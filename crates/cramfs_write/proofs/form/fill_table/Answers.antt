@@ -6,4 +6,5 @@ pub returns : goal.returns
 returns c =
     let i = c.args.item.now in
     let q = c.requires in
-    table_filled c.args.order i.start (block_count i.len) c.args.from c.args.out.now c.put_pointers.new.out q.from_word q.words q.within c.put_pointers.ensures
+    table_filled c.args.order i.start (block_count i.len) c.args.from c.args.out.now c.put_pointers.new.out q.from_word
+    q.words q.within c.put_pointers.ensures

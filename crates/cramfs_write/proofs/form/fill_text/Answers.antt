@@ -9,4 +9,5 @@ returns-in-Text c =
     let len = c.copy_from_slice.ensures.len in
     let same : (c.args.from + length c.args.out.now) - c.args.from ≡ length xs = omega arith in
     c.copy_from_slice.ensures.after ∙ ap (λ (k : ℕ). take k (drop c.args.from c.as_bytes.result.now)) same
-    ∙ ap (λ (v : List ℕ). take (length xs) (drop c.args.from v)) (c.as_bytes.ensures ∙ sym (ap (λ f. bytes_of [] (fill_view f)) c.in-Text.is))
+    ∙ ap (λ (v : List ℕ). take (length xs) (drop c.args.from v))
+    (c.as_bytes.ensures ∙ sym (ap (λ f. bytes_of [] (fill_view f)) c.in-Text.is))

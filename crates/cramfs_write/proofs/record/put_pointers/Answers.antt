@@ -7,5 +7,7 @@ pub loop-i-preserved : goal.loop-i-preserved
 loop-i-preserved c = (
   omega (arith, c.put_word-at.ensures.end, c.loop-i.invariant.0),
   c.put_word-at.ensures.length ∙ c.loop-i.invariant.1,
-  c.put_word-at.ensures.put ∙ ap (λ (xs : List ℕ). xs ++ word_bytes c.args.order (3 * 2 ^ 30 + c.args.place / 4 + 1024 * c.loop-i.i)) c.loop-i.invariant.2 ∙ pointer_more c.args.order c.args.place c.loop-i.i (3 * 2 ^ 30 + c.args.place / 4 + 1024 * c.loop-i.i) refl,
+  c.put_word-at.ensures.put ∙ ap (λ (xs : List ℕ). xs
+      ++ word_bytes c.args.order (3 * 2 ^ 30 + c.args.place / 4 + 1024 * c.loop-i.i)) c.loop-i.invariant.2
+      ∙ pointer_more c.args.order c.args.place c.loop-i.i (3 * 2 ^ 30 + c.args.place / 4 + 1024 * c.loop-i.i) refl,
 )

@@ -4,4 +4,5 @@ use Rattle.cramfs_write.proofs.record.put_word.Goals as goal
 
 pub returns-clause-put : goal.returns-clause-put
 returns-clause-put c =
-    ap (take (c.args.start + 4)) c.put_word.ensures ∙ word_put c.args.order c.args.out.now c.args.start c.args.word c.requires
+    ap (take (c.args.start + 4)) c.put_word.ensures
+    ∙ word_put c.args.order c.args.out.now c.args.start c.args.word c.requires

@@ -31,8 +31,12 @@ returns-clause-whole g c = λ o m sizes hm is.
     let old = (g.W.ByteWrite.output c.args.w.now).contents in
     let new = (g.W.ByteWrite.output c.stream_through.new.w).contents in
     ok_both c.stream_through.result (λ sized whole cs told.
-    let r = sized_means c.fitting_is_planned.ensures o p m sizes cs hm known is' (c.count.ensures.told cs told ∙ n) (sized cs told) in
-    (r.0, subst (Appends old new) (ap (λ (q : Order). image_of (form_of q p) crc_of cs) same ∙ r.1) (whole cs told))) c.stream_through.ensures.sized c.stream_through.ensures.whole
+    let r = sized_means c.fitting_is_planned.ensures o p m sizes cs hm known is' (c.count.ensures.told cs told ∙ n)
+    (sized cs told) in (
+      r.0,
+      subst (Appends old new) (ap (λ (q : Order). image_of (form_of q p) crc_of cs) same ∙ r.1)
+          (whole cs told),
+    )) c.stream_through.ensures.sized c.stream_through.ensures.whole
 
 pub returns-clause-front : goal.returns-clause-front
 returns-clause-front g c = λ o m sizes hm is.
@@ -44,19 +48,26 @@ returns-clause-front g c = λ o m sizes hm is.
     let old = (g.W.ByteWrite.output c.args.w.now).contents in
     let new = (g.W.ByteWrite.output c.stream_through.new.w).contents in
     err_weaker c.stream_through.result (λ h cs told s.
-    let r = means c.fitting_is_planned.ensures o p m cs hm known (subst (λ (xs : List ℕ). IsPlanOf (cramfs o) m xs p) (sym s) is') in
-    subst (AppendsPrefix old new) (ap (λ (q : Order). image_of (form_of q p) crc_of cs) same ∙ r) (h cs told)) c.stream_through.ensures.front
+    let r = means c.fitting_is_planned.ensures o p m cs hm known
+    (subst (λ (xs : List ℕ). IsPlanOf (cramfs o) m xs p) (sym s) is') in
+    subst (AppendsPrefix old new) (ap (λ (q : Order). image_of (form_of q p) crc_of cs) same ∙ r)
+    (h cs told)) c.stream_through.ensures.front
 
 pub returns-clause-fault : goal.returns-clause-fault
 returns-clause-fault g c = λ o is.
     let e = c.new-form.ensures in
     let same = one_order (sym c.order_of-order.ensures ∙ is) in
     subst (λ (f : Form). IfErr c.stream_through.result (IsStreamFault (g.S.Sources.told c.args.sources.now) f crc_of
-    (g.S.Sources.reads c.args.sources.now) (g.S.Sources.reads c.stream_through.new.sources) (g.W.ByteWrite.output c.args.w.now) (g.W.ByteWrite.output c.stream_through.new.w))) (one_form (e.order ∙ same) e.plan) c.stream_through.ensures.fault
+    (g.S.Sources.reads c.args.sources.now) (g.S.Sources.reads c.stream_through.new.sources)
+    (g.W.ByteWrite.output c.args.w.now) (g.W.ByteWrite.output c.stream_through.new.w)))
+    (one_form (e.order ∙ same) e.plan) c.stream_through.ensures.fault
 
 pub returns-clause-some : goal.returns-clause-some
 returns-clause-some g c = λ o is.
     let e = c.new-form.ensures in
     let same = one_order (sym c.order_of-order.ensures ∙ is) in
-    subst (λ (f : Form). OnOk c.stream_through.result (IsStreamed (g.S.Sources.told c.args.sources.now) (g.S.Sources.IsLog c.args.sources.now) (g.S.Sources.IsLog c.stream_through.new.sources) f crc_of
-    (g.W.ByteWrite.output c.args.w.now).contents (g.W.ByteWrite.output c.stream_through.new.w).contents)) (one_form (e.order ∙ same) e.plan) c.stream_through.ensures.some
+    subst (λ (f : Form). OnOk c.stream_through.result
+    (IsStreamed (g.S.Sources.told c.args.sources.now) (g.S.Sources.IsLog c.args.sources.now)
+    (g.S.Sources.IsLog c.stream_through.new.sources) f crc_of
+    (g.W.ByteWrite.output c.args.w.now).contents (g.W.ByteWrite.output c.stream_through.new.w).contents))
+    (one_form (e.order ∙ same) e.plan) c.stream_through.ensures.some

@@ -13,9 +13,11 @@ loop-i-preserved c =
     let q = c.requires in
     record {
       room = length-set b c.loop-i.i _ ∙ r;
-      sum = adds b from c.loop-i.i (length c.args.bytes.now - length from) (omega arith) c.loop-i-test.true (omega (arith, c.type_inv.from c.loop-i.i)) ∙ c.loop-i.invariant.sum;
+      sum = adds b from c.loop-i.i (length c.args.bytes.now - length from) (omega arith) c.loop-i-test.true
+          (omega (arith, c.type_inv.from c.loop-i.i)) ∙ c.loop-i.invariant.sum;
     }
 
 pub returns : goal.returns
 unfolding added
-returns c = sym (added_all (after_bytes 0 c.loop-i.bytes) c.args.from.now c.loop-i.i (length c.args.bytes.now - length c.args.from.now) c.loop-i-test.false) ∙ c.loop-i.invariant.sum
+returns c = sym (added_all (after_bytes 0 c.loop-i.bytes) c.args.from.now c.loop-i.i
+    (length c.args.bytes.now - length c.args.from.now) c.loop-i-test.false) ∙ c.loop-i.invariant.sum

@@ -17,11 +17,13 @@ loop-i-preserved c =
     record {
       room = length-set b (i + 300) _ ∙ r;
       small = small_set b (i + 300) _ low s;
-      same = λ next long. gathers b bytes next i _ c.loop-i-test.true (omega arith) long s x low refl ∙ c.loop-i.invariant.same next long;
+      same = λ next long. gathers b bytes next i _ c.loop-i-test.true (omega arith) long s x low refl
+          ∙ c.loop-i.invariant.same next long;
     }
 
 pub returns : goal.returns
 returns c = λ next long.
     let e : length c.args.bytes.now ≡ c.loop-i.i = omega arith in
     ap (λ (k : ℕ). after_history (take 300 (drop k c.loop-i.buf)) next) e
-    ∙ sym (gathered (take 300 (drop c.loop-i.i c.loop-i.buf)) c.args.bytes.now next c.loop-i.i c.loop-i-test.false) ∙ c.loop-i.invariant.same next long
+    ∙ sym (gathered (take 300 (drop c.loop-i.i c.loop-i.buf)) c.args.bytes.now next c.loop-i.i c.loop-i-test.false)
+    ∙ c.loop-i.invariant.same next long

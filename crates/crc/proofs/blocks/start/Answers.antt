@@ -7,4 +7,5 @@ pub returns : goal.returns
 returns c = λ next long.
     let w = c.ranges.c in
     ap (λ (h : List ℕ). after_history (c.copy_from_slice.new.self ++ drop 4 h) next) c.requires
-    ∙ starts c.args.c c.copy_from_slice.new.self (c.copy_from_slice.ensures.after ∙ c.to_le_bytes.ensures) (omega arith) next long
+    ∙ starts c.args.c c.copy_from_slice.new.self (c.copy_from_slice.ensures.after ∙ c.to_le_bytes.ensures)
+    (omega arith) next long

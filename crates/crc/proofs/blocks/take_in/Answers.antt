@@ -9,4 +9,6 @@ returns c = λ next long.
     let e : n + 300 - n ≡ 300 = omega arith in
     let room = c.gather.auto.buf in
     let q = c.requires in
-    ap (λ (xs : List ℕ). after_history xs next) (ap (take 300) c.copy_within.ensures.after ∙ slides c.gather.new.buf n (n + 300 - n) e (omega arith)) ∙ c.gather.ensures next long
+    ap (λ (xs : List ℕ). after_history xs next)
+    (ap (take 300) c.copy_within.ensures.after ∙ slides c.gather.new.buf n (n + 300 - n) e (omega arith))
+    ∙ c.gather.ensures next long

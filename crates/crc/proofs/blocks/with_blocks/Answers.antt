@@ -13,7 +13,8 @@ loop-at-init c =
     record {
       room = omega (arith, length-append new (drop 300 b), length-drop 300 b);
       left = c.requires;
-      value = ap (λ (h : List ℕ). after_history h c.args.bytes.now) (front new (drop 300 b) first) ∙ c.start.ensures c.args.bytes.now c.requires;
+      value = ap (λ (h : List ℕ). after_history h c.args.bytes.now) (front new (drop 300 b) first)
+          ∙ c.start.ensures c.args.bytes.now c.requires;
     }
 
 pub loop-at-preserved : goal.loop-at-preserved
@@ -28,11 +29,13 @@ loop-at-preserved c =
     record {
       room = c.take_in.auto.buf ∙ c.loop-at.invariant.room;
       left = omega arith;
-      value = c.take_in.ensures (drop (at + count) bytes) long ∙ pieces (take 300 c.loop-at.buf) bytes at count (at + count - at) e ∙ c.loop-at.invariant.value;
+      value = c.take_in.ensures (drop (at + count) bytes) long
+          ∙ pieces (take 300 c.loop-at.buf) bytes at count (at + count - at) e ∙ c.loop-at.invariant.value;
     }
 
 pub slice_bounds-finish-end : goal.slice_bounds-finish-end
-slice_bounds-finish-end c = let r = c.loop-at.invariant.room in let l : 300 ≤ length c.loop-at.buf = omega arith in let k = length-take-le 300 c.loop-at.buf l in omega arith
+slice_bounds-finish-end c = let r = c.loop-at.invariant.room in let l : 300 ≤ length c.loop-at.buf =
+    omega arith in let k = length-take-le 300 c.loop-at.buf l in omega arith
 
 pub finish-requires-clause-history : goal.finish-requires-clause-history
 finish-requires-clause-history c = let r = c.loop-at.invariant.room in length-take-le 300 c.loop-at.buf (omega arith)

@@ -6,4 +6,5 @@ pub returns-clause-more : goal.returns-clause-more
 returns-clause-more c = λ xs e. crc_more c.args.c c.remainder.result _ xs c.args.bytes.now e c.remainder.ensures refl
 
 pub returns-clause-first : goal.returns-clause-first
-returns-clause-first c = λ e. crc_more c.args.c c.remainder.result _ [] c.args.bytes.now (e ∙ crc_none) c.remainder.ensures refl
+returns-clause-first c =
+    λ e. crc_more c.args.c c.remainder.result _ [] c.args.bytes.now (e ∙ crc_none) c.remainder.ensures refl

@@ -15,10 +15,17 @@ returns-clause-ok c =
     let bytes = c.fill.new.out in
     let told = c.in_ok-manifest.ensures in
     let given : IsGiven c.args.manifest.now cs m = record { manifest = told; count = search rules } in
-    let plan = subst (λ (s : List ℕ). IsPlanOf f m s c.in_ok-plan.plan) (c.deref.ensures.value ∙ c.in_ok-sizes.ensures) c.in_ok-plan.ensures.ok in
-    let laid = c.fill.ensures m (c.args.manifest.now, told) (subst (λ g. IsPlanOf g m (map length cs) c.in_ok-plan.plan) (sym plan.format) plan) in
+    let plan = subst (λ (s : List ℕ). IsPlanOf f m s c.in_ok-plan.plan)
+    (c.deref.ensures.value ∙ c.in_ok-sizes.ensures) c.in_ok-plan.ensures.ok in
+    let laid = c.fill.ensures m (c.args.manifest.now, told)
+    (subst (λ g. IsPlanOf g m (map length cs) c.in_ok-plan.plan) (sym plan.format) plan) in
     let ok = c.in_ok-image.image.ok in
     let lent = c.deref_mut.ensures.len in
     let kept = c.fill.auto.out in
-    let whole = filled c.in_ok-image.image.len bytes _ (omega arith) in
-    (m, given, plan.fits, image_of f m cs _ (whole ∙ (laid ∙ ap (λ g. layout_of g m cs) plan.format)) (c.layout_is_meant.ensures.tree f m cs (c.args.manifest.now, told) plan.fits))
+    let whole = filled c.in_ok-image.image.len bytes _ (omega arith) in (
+      m,
+      given,
+      plan.fits,
+      image_of f m cs _ (whole ∙ (laid ∙ ap (λ g. layout_of g m cs) plan.format))
+          (c.layout_is_meant.ensures.tree f m cs (c.args.manifest.now, told) plan.fits),
+    )

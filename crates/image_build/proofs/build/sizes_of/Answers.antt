@@ -7,5 +7,7 @@ loop-file-preserved c =
     let cs = c.args.contents.now in
     let i = c.loop-file.file in
     let x = c.in-Some.content.now in
-    c.in_ok-push.ensures.items ∙ ap (λ (s : List ℕ). s ++ length x ∷ []) c.loop-file.invariant ∙ sym (map-append length (take i cs) (x ∷ []))
-    ∙ ap (map length) (sym (take_more cs i [] c.in-Some.ensures.0 ∙ ap (λ y. take i cs ++ y ∷ []) (sym c.in-Some.ensures.1)))
+    c.in_ok-push.ensures.items ∙ ap (λ (s : List ℕ). s ++ length x ∷ []) c.loop-file.invariant
+    ∙ sym (map-append length (take i cs) (x ∷ []))
+    ∙ ap (map length) (sym (take_more cs i [] c.in-Some.ensures.0
+    ∙ ap (λ y. take i cs ++ y ∷ []) (sym c.in-Some.ensures.1)))

@@ -17,11 +17,14 @@ enough n k l e = search (rules, tests)
 
 pub returns-in_err-image-clause-fault : goal.returns-in_err-image-clause-fault
 returns-in_err-image-clause-fault c = err_by c.from_residual.result c.from_residual.ensures.1 (λ e is.
-    subst (IsRefused c.args.bytes.now c.args.limits) (sym is) (refused_romfs c.args.bytes.now c.args.limits c.in_err-image.field-0.0 (c.begins.ensures.0 c.if-begins.true) c.in_err-image.ensures.fault))
+    subst (IsRefused c.args.bytes.now c.args.limits) (sym is)
+    (refused_romfs c.args.bytes.now c.args.limits c.in_err-image.field-0.0
+    (c.begins.ensures.0 c.if-begins.true) c.in_err-image.ensures.fault))
 
 pub returns-in_err-image-clause-least : goal.returns-in_err-image-clause-least
 returns-in_err-image-clause-least c = err_by c.from_residual.result c.from_residual.ensures.1 (λ e is.
-    subst (IsLeastFaultUnder c.args.bytes.now c.args.limits) (sym is) (least_of_romfs (c.begins.ensures.0 c.if-begins.true) c.in_err-image.ensures.least))
+    subst (IsLeastFaultUnder c.args.bytes.now c.args.limits) (sym is)
+    (least_of_romfs (c.begins.ensures.0 c.if-begins.true) c.in_err-image.ensures.least))
 
 pub returns-then-begins-clause-ok : goal.returns-then-begins-clause-ok
 returns-then-begins-clause-ok c = romfs c.in_ok-image.ensures.ok
@@ -30,11 +33,15 @@ pub returns-then-begins-clause-clean : goal.returns-then-begins-clause-clean
 returns-then-begins-clause-clean c = no_romfs_fault (c.begins.ensures.0 c.if-begins.true) c.in_ok-image.ensures.clean
 
 pub returns-in_err-image-2-clause-fault : goal.returns-in_err-image-2-clause-fault
-returns-in_err-image-2-clause-fault c = err_by c.from_residual-in_err-image-2.result c.from_residual-in_err-image-2.ensures.1 (λ e is.
-    subst (IsRefused c.args.bytes.now c.args.limits) (sym is) (refused_cramfs c.args.bytes.now c.args.limits c.in_err-image-2.field-0.0 c.if-is_cramfs.ensures.begins c.in_err-image-2.ensures.fault))
+returns-in_err-image-2-clause-fault c =
+    err_by c.from_residual-in_err-image-2.result c.from_residual-in_err-image-2.ensures.1 (λ e is.
+    subst (IsRefused c.args.bytes.now c.args.limits) (sym is)
+    (refused_cramfs c.args.bytes.now c.args.limits c.in_err-image-2.field-0.0 c.if-is_cramfs.ensures.begins
+    c.in_err-image-2.ensures.fault))
 
 pub returns-clause-fault : goal.returns-clause-fault
-returns-clause-fault c = no_tree c.args.bytes.now c.args.limits (λ h. false≢true (sym c.if-begins.false ∙ c.begins.ensures.1 h)) c.if-is_cramfs.ensures.other
+returns-clause-fault c = no_tree c.args.bytes.now c.args.limits
+    (λ h. false≢true (sym c.if-begins.false ∙ c.begins.ensures.1 h)) c.if-is_cramfs.ensures.other
 
 pub returns-clause-least : goal.returns-clause-least
 returns-clause-least c =
@@ -43,7 +50,8 @@ returns-clause-least c =
       | then-bytes-lt-SHORTEST w ↦ short n c.if-bytes-lt-SHORTEST.number w.if-bytes-lt-SHORTEST.true w.number-is
       | else-bytes-lt-SHORTEST w ↦ enough n c.if-bytes-lt-SHORTEST.number w.if-bytes-lt-SHORTEST.false w.number-is
     ] in
-    of_neither (λ h. false≢true (sym c.if-begins.false ∙ c.begins.ensures.1 h)) c.if-is_cramfs.ensures.other (ap (λ v. Fault v 0) k)
+    of_neither (λ h. false≢true (sym c.if-begins.false ∙ c.begins.ensures.1 h)) c.if-is_cramfs.ensures.other
+    (ap (λ v. Fault v 0) k)
 
 pub returns-clause-neither : goal.returns-clause-neither
 returns-clause-neither c = λ r m.

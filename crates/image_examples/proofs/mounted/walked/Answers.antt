@@ -11,7 +11,8 @@ walk_mounts-requires c κs = (
     (
       omega arith,
       (
-        three_shallow (any_view c.in_ok-first.first) (any_view c.in_ok-second.second) (any_view c.in_ok-third.third) c.in_ok-first.ensures c.in_ok-second.ensures c.in_ok-third.ensures,
+        three_shallow (any_view c.in_ok-first.first) (any_view c.in_ok-second.second)
+            (any_view c.in_ok-third.third) c.in_ok-first.ensures c.in_ok-second.ensures c.in_ok-third.ensures,
         c.can_mount.ensures c.if-not-can_mount.false,
       ),
     ),

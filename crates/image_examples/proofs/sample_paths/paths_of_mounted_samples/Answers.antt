@@ -26,5 +26,16 @@ walk_mounts-led-requires g c κs =
     let ms : List Image = map (λ s. sample) c.loop-path.images in
     let e : ms ≡ sample ∷ sample ∷ [] = c.loop-path.invariant in
     let two : length ms ≡ length c.loop-path.images = length-map c.loop-path.images (λ s. sample) in
-    let is_two : length ms ≡ 2 = ap length e in
-    ((refl, tt), (omega (arith, two, is_two), (omega (arith, two, is_two), (subst AreShallow (sym e) shallow, subst (λ (v : List Image). are_mounts v mounts ≡ true) (sym e) mounted))))
+    let is_two : length ms ≡ 2 = ap length e in (
+      (refl, tt),
+      (
+        omega (arith, two, is_two),
+        (
+          omega (arith, two, is_two),
+          (
+            subst AreShallow (sym e) shallow,
+            subst (λ (v : List Image). are_mounts v mounts ≡ true) (sym e) mounted,
+          ),
+        ),
+      ),
+    )

@@ -10,8 +10,11 @@ slice_bounds-cramfs_spans-end c =
     grind (arith, w, e, l)
 
 pub cramfs_spans-requires : goal.cramfs_spans-requires
-cramfs_spans-requires c = cramfs_known c.args.order c.args.all.now c.accessible_size-size.result c.requires c.accessible_size-size.type_inv c.accessible_size-size.ensures
+cramfs_spans-requires c = cramfs_known c.args.order c.args.all.now c.accessible_size-size.result c.requires
+    c.accessible_size-size.type_inv c.accessible_size-size.ensures
 
 pub returns : goal.returns
 returns c =
-    cramfs_counted c.args.order c.args.all.now c.accessible_size-size.result c.unused_bytes.result c.deref_mut.result.now c.in_ok-spans.spans.items c.requires c.accessible_size-size.ensures c.deref_mut.ensures.value c.in_ok-spans.ensures c.unused_bytes.ensures
+    cramfs_counted c.args.order c.args.all.now c.accessible_size-size.result c.unused_bytes.result
+    c.deref_mut.result.now c.in_ok-spans.spans.items c.requires c.accessible_size-size.ensures
+    c.deref_mut.ensures.value c.in_ok-spans.ensures c.unused_bytes.ensures

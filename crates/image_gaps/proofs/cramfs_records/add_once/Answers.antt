@@ -12,5 +12,6 @@ returns-clause-same c = same_list _ _ c.in_ok-add_file.ensures
 
 pub returns-clause-met : goal.returns-clause-met
 returns-clause-met c =
-    met_now c.args.order c.args.b.now c.args.met.now c.insert.new.self c.args.spans.now.items c.add_file.new.spans.items c.args.table c.args.size
+    met_now c.args.order c.args.b.now c.args.met.now c.insert.new.self c.args.spans.now.items c.add_file.new.spans.items
+    c.args.table c.args.size
     c.requires.met c.in_ok-add_file.ensures c.in_ok-insert.ensures.updates

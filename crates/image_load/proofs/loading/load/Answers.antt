@@ -21,7 +21,8 @@ returns-then-is_sum_refused g c =
     let s1 = read_on a a _ none m1 s0 r1.appends r1.none_lost in
     let head = up_to a a none m1 76 _ s0 (search (rules, places)) (omega arith) r1.bytes in
     let front = up_to a _ m1 m2 c.min.result _ s1 (search (rules, places)) l1 r2.bytes in
-    let summed : IsSumRefused m2 c.args.length = subst (λ l. IsSumRefused l c.args.length) c.deref-2.ensures.value (c.if-is_sum_refused.ensures.0 refl) in
+    let summed : IsSumRefused m2 c.args.length =
+    subst (λ l. IsSumRefused l c.args.length) c.deref-2.ensures.value (c.if-is_sum_refused.ensures.0 refl) in
     refusing a m1 m2 reach c.args.length c.min.result 5 12 head reaches front (search rules) summed refl refl
 
 pub returns : goal.returns

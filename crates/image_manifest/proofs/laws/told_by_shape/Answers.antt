@@ -8,4 +8,5 @@ pub returns : goal.returns
 returns c = λ m volume folder v h k.
     let ls = member_lines m folder in
     let contents = file_contents m in
-    c.shape_is_meant.ensures m.bytes m.tree contents (as_read volume ls) (map length contents) (manifest_text volume ls, c.lines_are_read_back.ensures m volume folder v h) k
+    c.shape_is_meant.ensures m.bytes m.tree contents (as_read volume ls) (map length contents)
+    (manifest_text volume ls, c.lines_are_read_back.ensures m volume folder v h) k

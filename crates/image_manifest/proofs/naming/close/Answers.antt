@@ -18,13 +18,16 @@ pub returns-clause-parent : goal.returns-clause-parent
 returns-clause-parent c =
     let place = c.place_of_length-place.ensures.place ∙ ap (place_of_length c.args.len) c.deref.ensures.value in
     let o : Open = c.index.result.now in
-    let here : o ≡ get_or c.args.on_way.now.items (place_of_length c.args.len c.args.on_way.now.items) o = c.index.ensures ∙ ap (λ v. get_or c.args.on_way.now.items v o) place in
+    let here : o ≡ get_or c.args.on_way.now.items (place_of_length c.args.len c.args.on_way.now.items) o =
+    c.index.ensures ∙ ap (λ v. get_or c.args.on_way.now.items v o) place in
     ap (λ (v : Open). Some v.index) here
     ∙ sym (parent_at c.args.len c.args.on_way.now.items o (omega (arith, place, c.if-place-len.false, c.len.ensures)))
 
 pub returns-clause-left : goal.returns-clause-left
 returns-clause-left c = λ new.
     let place = c.place_of_length-place.ensures.place ∙ ap (place_of_length c.args.len) c.deref.ensures.value in
-    let most : c.place_of_length-place.result + 1 ≡ suc (place_of_length c.args.len c.args.on_way.now.items) = omega (arith, place) in
+    let most : c.place_of_length-place.result + 1 ≡ suc (place_of_length c.args.len c.args.on_way.now.items) =
+    omega (arith, place) in
     opened_as c.args.len new c.args.on_way.now.items
-    ∙ ap (λ (v : List Open). v ++ new ∷ []) (sym (c.truncate.ensures.items ∙ ap (λ v. take v c.args.on_way.now.items) most))
+    ∙ ap (λ (v : List Open). v ++ new ∷ [])
+    (sym (c.truncate.ensures.items ∙ ap (λ v. take v c.args.on_way.now.items) most))

@@ -8,7 +8,7 @@ use Rattle.image_manifest.specs.Firsts.{noted}
 use Rattle.image_manifest.specs.Members.{all_behind, is_long, place_of, told_of}
 use Rattle.image_manifest.proofs.naming.members.Given as goal
 
--- the names in `done` were told, and the map has the first of each of their nodes; `ways` are open
+-- the names in `done` have members, and the map has the first of each of their nodes; `ways` are open
 abbrev pub invariant-loop-node : goal.invariant-loop-node
 invariant-loop-node g l = record {
   walk : IsWalk (g.T.Viewed.image l.image) l.walk;

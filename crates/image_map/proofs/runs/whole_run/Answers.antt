@@ -8,13 +8,15 @@ use Rattle.image_map.proofs.runs.whole_run.Goals as goal
 
 module _ (at size place len : ℕ) (far most : ℕ) (f : far ≡ at) (s : most ≡ size) where
   of_u32 : (x : Node) → IsLongest (places_of x) far most place len → IsLongest (places_of x) at size place len
-  of_u32 x h = let P : ℕ → Type 0 = λ v. IsLongest (places_of x) v most place len in let Q : ℕ → Type 0 = λ v. IsLongest (places_of x) at v place len in subst Q s (subst P f h)
+  of_u32 x h = let P : ℕ → Type 0 = λ v. IsLongest (places_of x) v most place len in let Q : ℕ → Type 0 =
+      λ v. IsLongest (places_of x) at v place len in subst Q s (subst P f h)
 
 pub overflow_cast-result : goal.overflow_cast-result
 overflow_cast-result g c =
     let m : Image = g.T.Viewed.image c.args.image.now in
     let h = node_by m c.args.node.0 c.requires in
-    let r = of_u32 c.args.at c.stat-size.result.size c.longest_run-place.result.0 c.longest_run-place.result.1 _ _ c.from.ensures c.from-2.ensures h.0 (c.longest_run-place.ensures h.0 h.1) in
+    let r = of_u32 c.args.at c.stat-size.result.size c.longest_run-place.result.0 c.longest_run-place.result.1 _ _
+    c.from.ensures c.from-2.ensures h.0 (c.longest_run-place.ensures h.0 h.1) in
     let s = c.stat-size.type_inv in
     omega (arith, s, r.fits)
 

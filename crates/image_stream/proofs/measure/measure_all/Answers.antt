@@ -11,10 +11,13 @@ loop-file-preserved g c =
       room = c.measure.auto.buffer ∙ inv.room;
       told = c.measure.ensures.told ∙ inv.told;
       files = c.measure.ensures.files ∙ inv.files;
-      grew = grew_join (g.S.Sources.IsLog c.args.sources.now) (g.S.Sources.IsLog c.loop-file.sources) (g.S.Sources.IsLog c.measure.new.sources) inv.grew c.in-Ok.ensures.grew;
+      grew = grew_join (g.S.Sources.IsLog c.args.sources.now) (g.S.Sources.IsLog c.loop-file.sources)
+          (g.S.Sources.IsLog c.measure.new.sources) inv.grew c.in-Ok.ensures.grew;
       read = c.in-Ok.ensures.quiet ∙ inv.read;
       sized = λ cs is.
-          let here : length (content_of cs c.loop-file.file) ≡ get_or (g.L.Segmented.form c.args.layout.now).sizes c.loop-file.file 0 = c.in-Ok.ensures.ok cs (inv.told ∙ is) ∙ c.size.ensures in
+          let here : length (content_of cs c.loop-file.file)
+          ≡ get_or (g.L.Segmented.form c.args.layout.now).sizes c.loop-file.file 0 =
+          c.in-Ok.ensures.ok cs (inv.told ∙ is) ∙ c.size.ensures in
           sized_more (g.L.Segmented.form c.args.layout.now).sizes cs c.loop-file.file (inv.sized cs is) here;
     }
 

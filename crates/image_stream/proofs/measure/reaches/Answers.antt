@@ -14,4 +14,12 @@ returns-in-Ok-clause-yes g c = λ _ cs is.
     let b = c.in-Ok.ensures.bound in
     let t = c.in-Ok.field-0-test in
     let same : length (take n bs) ≡ length (take n xs) = ap length (c.in-Ok.ensures.bytes cs is).0 in
-    omega (arith, same, b.0, t, length-take n bs, length-take n xs, length-drop (c.args.size - 1) (content_of cs c.args.file))
+    omega (
+      arith,
+      same,
+      b.0,
+      t,
+      length-take n bs,
+      length-take n xs,
+      length-drop (c.args.size - 1) (content_of cs c.args.file),
+    )

@@ -12,9 +12,12 @@ invariant-loop-from g l = record {
   files : g.S.Sources.files l.sources ≡ g.S.Sources.files l.initial.sources;
   read : g.S.Sources.reads l.sources ≡ g.S.Sources.reads l.initial.sources;
   wrote : (g.W.ByteWrite.output l.w).failures ≡ (g.W.ByteWrite.output l.initial.w).failures;
-  gone : Gone (λ xs. IsFront (g.S.Sources.told l.initial.sources) (segment_at (g.L.Segmented.form l.layout).segments l.i) l.from xs
-      × Read (λ answers zs. IsFrontRead (segment_at (g.L.Segmented.form l.layout).segments l.i) l.from answers zs) (g.S.Sources.IsLog l.initial.sources) (g.S.Sources.IsLog l.sources) xs)
-      (g.W.ByteWrite.output l.initial.w).contents (g.W.ByteWrite.output l.w).contents (g.C.Checksum.Is l.initial.check) (g.C.Checksum.Is l.check);
+  gone : Gone (λ xs. IsFront (g.S.Sources.told l.initial.sources)
+      (segment_at (g.L.Segmented.form l.layout).segments l.i) l.from xs
+      × Read (λ answers zs. IsFrontRead (segment_at (g.L.Segmented.form l.layout).segments l.i) l.from answers zs)
+      (g.S.Sources.IsLog l.initial.sources) (g.S.Sources.IsLog l.sources) xs)
+      (g.W.ByteWrite.output l.initial.w).contents (g.W.ByteWrite.output l.w).contents (g.C.Checksum.Is l.initial.check)
+      (g.C.Checksum.Is l.check);
 }
 
 abbrev pub decreases-loop-from : goal.decreases-loop-from

@@ -7,7 +7,8 @@ abbrev pub invariant-loop-left : goal.invariant-loop-left
 invariant-loop-left g l = record {
   within : l.left ≤ l.count;
   wrote : (g.W.ByteWrite.output l.w).failures ≡ (g.W.ByteWrite.output l.initial.w).failures;
-  gone : Gone (λ xs. xs ≡ zeros (l.count - l.left)) (g.W.ByteWrite.output l.initial.w).contents (g.W.ByteWrite.output l.w).contents (g.C.Checksum.Is l.initial.check) (g.C.Checksum.Is l.check);
+  gone : Gone (λ xs. xs ≡ zeros (l.count - l.left)) (g.W.ByteWrite.output l.initial.w).contents
+      (g.W.ByteWrite.output l.w).contents (g.C.Checksum.Is l.initial.check) (g.C.Checksum.Is l.check);
 }
 
 abbrev pub decreases-loop-left : goal.decreases-loop-left

@@ -1,4 +1,5 @@
-use Rattle.std.proofs.Common.{◌≡◌, ℕ, List, [], ◌∷◌, ◌++◌, ◌+◌, subst, ◌-◌, length, take, drop, ap, sym, ◌∙◌, arith, length-drop, length-take}
+use Rattle.std.proofs.Common.{◌≡◌, ℕ, List, [], ◌∷◌, ◌++◌, ◌+◌, subst, ◌-◌, length, take, drop, ap, sym, ◌∙◌, arith}
+use Rattle.std.proofs.Common.{length-drop, length-take}
 use Rattle.std.proofs.lemmas.List.{drop-drop}
 use Rattle.image_stream.specs.Sources.{content_of}
 use Rattle.image_stream.specs.Answers.{answer, AreReads}
@@ -11,7 +12,8 @@ loop-done-preserved g c =
     let b = c.loop-done.buffer in
     let d = c.loop-done.done in
     let inv = c.loop-done.invariant in
-    let len : length c.read_at.new.buf ≡ length b - d = c.read_at.auto.buf ∙ length-take (length b - d) (drop d b) ∙ omega (arith, length-drop d b) in
+    let len : length c.read_at.new.buf ≡ length b - d =
+    c.read_at.auto.buf ∙ length-take (length b - d) (drop d b) ∙ omega (arith, length-drop d b) in
     let room = length-put_rest b c.read_at.new.buf d inv.within len in
     record {
       within = rw room (omega (arith, len, c.in-Ok.ensures.bound.0));
@@ -30,12 +32,16 @@ loop-done-preserved g c =
           let B : List ℕ → Type 0 = λ v. AreReads c.args.file c.args.at (r.answers ++ one) v in
           record {
             answers = r.answers ++ one;
-            are = subst B (sym (front_step b c.read_at.new.buf d n inv.within)) (reads_join c.args.file c.args.at r.answers one xs ys r.are (subst A (sym m) (reads_one c.args.file (c.args.at + d) ys)));
-            logged = logs_join (g.S.Sources.IsLog c.args.sources.now) (g.S.Sources.IsLog c.loop-done.sources) (g.S.Sources.IsLog c.read_at.new.self) r.answers one r.logged c.in-Ok.ensures.log;
+            are = subst B (sym (front_step b c.read_at.new.buf d n inv.within))
+                (reads_join c.args.file c.args.at r.answers one xs ys r.are
+                (subst A (sym m) (reads_one c.args.file (c.args.at + d) ys)));
+            logged = logs_join (g.S.Sources.IsLog c.args.sources.now) (g.S.Sources.IsLog c.loop-done.sources)
+                (g.S.Sources.IsLog c.read_at.new.self) r.answers one r.logged c.in-Ok.ensures.log;
           };
       read = λ cs is.
           let next = (c.in-Ok.ensures.bytes cs (inv.told ∙ is)).0 in
-          fill_step b c.read_at.new.buf (drop c.args.at (content_of cs c.args.file)) d c.in-Ok.n inv.within (inv.read cs is)
+          fill_step b c.read_at.new.buf (drop c.args.at (content_of cs c.args.file)) d c.in-Ok.n inv.within
+          (inv.read cs is)
           (next ∙ ap (take c.in-Ok.n) (sym (drop-drop d c.args.at (content_of cs c.args.file))));
     }
 

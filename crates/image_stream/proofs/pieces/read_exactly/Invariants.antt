@@ -11,8 +11,10 @@ invariant-loop-done g l = record {
   told : g.S.Sources.told l.sources ≡ g.S.Sources.told l.initial.sources;
   files : g.S.Sources.files l.sources ≡ g.S.Sources.files l.initial.sources;
   quiet : g.S.Sources.reads l.sources ≡ g.S.Sources.reads l.initial.sources;
-  logged : Read (λ answers xs. AreReads l.file l.at answers xs) (g.S.Sources.IsLog l.initial.sources) (g.S.Sources.IsLog l.sources) (take l.done l.buffer);
-  read : Told (g.S.Sources.told l.initial.sources) (λ cs. take l.done l.buffer ≡ take l.done (drop l.at (content_of cs l.file)));
+  logged : Read (λ answers xs. AreReads l.file l.at answers xs) (g.S.Sources.IsLog l.initial.sources)
+      (g.S.Sources.IsLog l.sources) (take l.done l.buffer);
+  read : Told (g.S.Sources.told l.initial.sources)
+      (λ cs. take l.done l.buffer ≡ take l.done (drop l.at (content_of cs l.file)));
 }
 
 abbrev pub decreases-loop-done : goal.decreases-loop-done

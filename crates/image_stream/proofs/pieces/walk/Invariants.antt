@@ -11,7 +11,12 @@ invariant-loop-i g l = record {
   read : g.S.Sources.reads l.sources ≡ g.S.Sources.reads l.initial.sources;
   wrote : (g.W.ByteWrite.output l.w).failures ≡ (g.W.ByteWrite.output l.initial.w).failures;
   rises : SegmentsRise l.at (drop l.i (g.L.Segmented.form l.layout).segments) (g.L.Segmented.form l.layout).end;
-  gone : Gone (λ xs. IsDone (g.S.Sources.told l.initial.sources) (g.L.Segmented.form l.layout).start (g.L.Segmented.form l.layout).segments (g.L.Segmented.form l.layout).end l.at (drop l.i (g.L.Segmented.form l.layout).segments) xs
-      × Read (λ answers zs. IsDoneRead (g.L.Segmented.form l.layout).start (g.L.Segmented.form l.layout).segments (g.L.Segmented.form l.layout).end l.at (drop l.i (g.L.Segmented.form l.layout).segments) answers zs) (g.S.Sources.IsLog l.initial.sources) (g.S.Sources.IsLog l.sources) xs)
-      (g.W.ByteWrite.output l.initial.w).contents (g.W.ByteWrite.output l.w).contents (g.C.Checksum.Is l.initial.check) (g.C.Checksum.Is l.check);
+  gone : Gone (λ xs. IsDone (g.S.Sources.told l.initial.sources) (g.L.Segmented.form l.layout).start
+      (g.L.Segmented.form l.layout).segments (g.L.Segmented.form l.layout).end l.at
+      (drop l.i (g.L.Segmented.form l.layout).segments) xs
+      × Read (λ answers zs. IsDoneRead (g.L.Segmented.form l.layout).start (g.L.Segmented.form l.layout).segments
+      (g.L.Segmented.form l.layout).end l.at (drop l.i (g.L.Segmented.form l.layout).segments) answers zs)
+      (g.S.Sources.IsLog l.initial.sources) (g.S.Sources.IsLog l.sources) xs)
+      (g.W.ByteWrite.output l.initial.w).contents (g.W.ByteWrite.output l.w).contents (g.C.Checksum.Is l.initial.check)
+      (g.C.Checksum.Is l.check);
 }

@@ -13,7 +13,8 @@ invariant-loop-from g l = record {
   files : g.S.Sources.files l.sources ≡ g.S.Sources.files l.initial.sources;
   grew : Grew (g.S.Sources.IsLog l.initial.sources) (g.S.Sources.IsLog l.sources);
   read : g.S.Sources.reads l.sources ≡ g.S.Sources.reads l.initial.sources;
-  gone : Gone (IsFront (g.S.Sources.told l.initial.sources) (segment_at (g.L.Segmented.form l.layout).segments l.i) l.from)
+  gone : Gone (IsFront (g.S.Sources.told l.initial.sources)
+      (segment_at (g.L.Segmented.form l.layout).segments l.i) l.from)
       None None (g.C.Checksum.Is l.initial.check) (g.C.Checksum.Is l.check);
 }
 

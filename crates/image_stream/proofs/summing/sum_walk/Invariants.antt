@@ -12,6 +12,8 @@ invariant-loop-i g l = record {
   grew : Grew (g.S.Sources.IsLog l.initial.sources) (g.S.Sources.IsLog l.sources);
   read : g.S.Sources.reads l.sources ≡ g.S.Sources.reads l.initial.sources;
   rises : SegmentsRise l.at (drop l.i (g.L.Segmented.form l.layout).segments) (g.L.Segmented.form l.layout).end;
-  gone : Gone (IsDone (g.S.Sources.told l.initial.sources) (g.L.Segmented.form l.layout).start (g.L.Segmented.form l.layout).segments (g.L.Segmented.form l.layout).end l.at (drop l.i (g.L.Segmented.form l.layout).segments))
+  gone : Gone (IsDone (g.S.Sources.told l.initial.sources) (g.L.Segmented.form l.layout).start
+      (g.L.Segmented.form l.layout).segments (g.L.Segmented.form l.layout).end l.at
+      (drop l.i (g.L.Segmented.form l.layout).segments))
       None None (g.C.Checksum.Is l.initial.check) (g.C.Checksum.Is l.check);
 }

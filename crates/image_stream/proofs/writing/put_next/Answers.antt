@@ -11,5 +11,7 @@ returns-clause-put g c =
     let bytes = bytes_of c.args.contents.now p in
     let at_place : s.place ≡ place p = outline_place p s c.segment-segment.ensures in
     let n : s.len ≡ len p = outline_len p s c.segment-segment.ensures in
-    written c.args.out.now c.zero.new.out c.put_segment.new.out bytes c.args.at s.place s.len (n ∙ length_bytes (g.L.Segmented.form c.args.layout.now).sizes c.args.contents.now p c.requires.file c.requires.sized) (omega arith) (omega arith) c.zero.ensures c.put_segment.ensures
+    written c.args.out.now c.zero.new.out c.put_segment.new.out bytes c.args.at s.place s.len
+    (n ∙ length_bytes (g.L.Segmented.form c.args.layout.now).sizes c.args.contents.now p c.requires.file
+    c.requires.sized) (omega arith) (omega arith) c.zero.ensures c.put_segment.ensures
     ∙ ap (λ (k : ℕ). take c.args.at c.args.out.now ++ (zeros (k - c.args.at) ++ bytes)) at_place

@@ -7,14 +7,16 @@ use Rattle.image_stream.proofs.writing.write.Goals as goal
 pub put_head-requires : goal.put_head-requires
 put_head-requires g c =
     let L = g.L.Segmented in
-    let h = rises_end (L.form c.args.layout.now).start (L.form c.args.layout.now).end (L.form c.args.layout.now).segments c.requires.laid.rises in
+    let h = rises_end (L.form c.args.layout.now).start (L.form c.args.layout.now).end
+    (L.form c.args.layout.now).segments c.requires.laid.rises in
     let r = c.requires.room in
     omega arith
 
 pub put_next-at-requires-clause-room : goal.put_next-at-requires-clause-room
 put_next-at-requires-clause-room g c =
     let L = g.L.Segmented in
-    let h = rises_here (L.form c.args.layout.now).segments c.loop-i.i c.loop-i.at (L.form c.args.layout.now).end (omega arith) c.loop-i.invariant.rises in
+    let h = rises_here (L.form c.args.layout.now).segments c.loop-i.i c.loop-i.at (L.form c.args.layout.now).end
+    (omega arith) c.loop-i.invariant.rises in
     let r = c.loop-i.invariant.room in
     omega arith
 
@@ -31,7 +33,8 @@ returns-clause-ok g c =
     let stored : c.value.result ≡ g.C.Checksum.stored (f.head 0 ++ rest) =
     c.value.ensures c.zero.new.out (c.add.ensures [] c.start-check.ensures) ∙ ap g.C.Checksum.stored whole in (
       c.in-Ok.ensures.ok,
-      head_over (f.head 0) (f.head c.value.result) c.zero.new.out c.put_head-2.new.out rest f.start c.put_head.ensures.length whole
+      head_over (f.head 0) (f.head c.value.result) c.zero.new.out c.put_head-2.new.out rest f.start
+          c.put_head.ensures.length whole
           c.put_head-2.ensures.put ∙ ap (λ (v : ℕ). f.head v ++ rest) stored,
     )
 
@@ -45,5 +48,6 @@ loop-i-init g c =
       rises = subst (λ (k : ℕ). SegmentsRise k f.segments f.end) (sym at) c.requires.laid.rises;
       put = ap (λ (k : ℕ). take k c.put_head.new.out ++ image_from cs k f.segments f.end) at
           ∙ ap (λ v. v ++ image_from cs f.start f.segments f.end)
-          (head_first (f.head 0) c.args.out.now c.put_head.new.out f.start c.put_head.ensures.length c.put_head.ensures.put);
+          (head_first (f.head 0) c.args.out.now c.put_head.new.out f.start c.put_head.ensures.length
+          c.put_head.ensures.put);
     }

@@ -8,5 +8,7 @@ invariant-loop-i g l =
     record {
       room : length l.out ≡ (L.form l.layout).end;
       rises : SegmentsRise l.at (drop l.i (L.form l.layout).segments) (L.form l.layout).end;
-      put : take l.at l.out ++ image_from l.contents l.at (drop l.i (L.form l.layout).segments) (L.form l.layout).end ≡ (L.form l.layout).head 0 ++ image_from l.contents (L.form l.layout).start (L.form l.layout).segments (L.form l.layout).end;
+      put : take l.at l.out ++ image_from l.contents l.at (drop l.i (L.form l.layout).segments) (L.form l.layout).end
+          ≡ (L.form l.layout).head 0 ++ image_from l.contents (L.form l.layout).start (L.form l.layout).segments
+          (L.form l.layout).end;
     }

@@ -31,9 +31,13 @@ pub returns-in-Cramfs : goal.returns-in-Cramfs
 returns-in-Cramfs c = λ m sizes h n v e.
     let is = map item_view c.args.items.now in
     in_cramfs
-    (λ f. HasNoMisfit f m sizes → is ≡ items_of f m sizes → IfOk c.sections-in-Cramfs.result (λ found. map section_view found.items ≡ sections_of f m sizes))
+    (λ f. HasNoMisfit f m sizes → is ≡ items_of f m sizes
+    → IfOk c.sections-in-Cramfs.result (λ found. map section_view found.items ≡ sections_of f m sizes))
     c.args.format c.in-Cramfs.is
     (λ o fit are.
-    let up = subst (λ js. SectionsRise 0 (len_of (cramfs o) m sizes) (cramfs_items.sections_of js)) (sym are) (rise (cramfs o) m sizes h fit) in
-    subst (λ js. IfOk c.sections-in-Cramfs.result (λ found. map section_view found.items ≡ cramfs_items.sections_of js)) are (c.sections-in-Cramfs.ensures (len_of (cramfs o) m sizes) up))
+    let up = subst (λ js. SectionsRise 0 (len_of (cramfs o) m sizes) (cramfs_items.sections_of js)) (sym are)
+    (rise (cramfs o) m sizes h fit) in
+    subst (λ js. IfOk c.sections-in-Cramfs.result
+    (λ found. map section_view found.items ≡ cramfs_items.sections_of js)) are
+    (c.sections-in-Cramfs.ensures (len_of (cramfs o) m sizes) up))
     n e

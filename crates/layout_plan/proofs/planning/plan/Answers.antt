@@ -17,7 +17,8 @@ returns-in-Some-clause-err c =
     let m = c.args.m.now in
     let sizes = c.args.sizes.now in
     let least = c.least_of_lines.ensures.least sizes c.in_ok-files.ensures in
-    let told = subst (λ o. IsLeastFaultOf (HasLineMisfit (format_of c.args.format) m sizes) o) (ap (λ o. option_map misfit_fault o) c.in-Some.is) least in
+    let told = subst (λ o. IsLeastFaultOf (HasLineMisfit (format_of c.args.format) m sizes) o)
+    (ap (λ o. option_map misfit_fault o) c.in-Some.is) least in
     line_misfit (record { here = told.here; least = λ d p. told.least d p })
 
 pub place-requires : goal.place-requires
@@ -29,7 +30,8 @@ place-requires c =
       sizes,
       record {
         manifest = c.least_of_lines.ensures.of_text;
-        lines = lines_none (format_of c.args.format) m sizes c.least_of_lines.result c.in_default.is (c.least_of_lines.ensures.least sizes of);
+        lines = lines_none (format_of c.args.format) m sizes c.least_of_lines.result c.in_default.is
+            (c.least_of_lines.ensures.least sizes of);
         volume_is = c.volume.ensures;
         root_is = c.root-root.ensures sizes of;
         rows_are = ap (map row_view) c.deref.ensures.value ∙ c.in_ok-rows.ensures sizes of;
@@ -43,14 +45,17 @@ returns-in_default-2-clause-err c =
     let sizes = c.args.sizes.now in
     let of = c.in_ok-files.ensures in
     let none = lines_none f m sizes c.least_of_lines.result c.in_default.is (c.least_of_lines.ensures.least sizes of) in
-    let ready : IsReady f m sizes c.volume.result.now (inode_view c.root-root.result) (map row_view c.deref.result.now) = record {
+    let ready : IsReady f m sizes c.volume.result.now (inode_view c.root-root.result)
+    (map row_view c.deref.result.now) = record {
       manifest = c.least_of_lines.ensures.of_text;
       lines = none;
       volume_is = c.volume.ensures;
       root_is = c.root-root.ensures sizes of;
       rows_are = ap (map row_view) c.deref.ensures.value ∙ c.in_ok-rows.ensures sizes of;
     } in
-    let told = subst (λ o. MatchOption o (HasWholeMisfit f m sizes) (λ l. HasNoMisfit f m sizes × (l.image_len ≡ len_of f m sizes) × (map item_view l.items.items ≡ items_of f m sizes))) c.in_default-2.is (c.in_ok-laid.ensures m sizes ready) in
+    let told = subst (λ o. MatchOption o (HasWholeMisfit f m sizes)
+    (λ l. HasNoMisfit f m sizes × (l.image_len ≡ len_of f m sizes)
+    × (map item_view l.items.items ≡ items_of f m sizes))) c.in_default-2.is (c.in_ok-laid.ensures m sizes ready) in
     whole_misfit none told refl
 
 pub sections-requires : goal.sections-requires
@@ -60,15 +65,24 @@ sections-requires c =
     let sizes = c.args.sizes.now in
     let of = c.in_ok-files.ensures in
     let none = lines_none f m sizes c.least_of_lines.result c.in_default.is (c.least_of_lines.ensures.least sizes of) in
-    let ready : IsReady f m sizes c.volume.result.now (inode_view c.root-root.result) (map row_view c.deref.result.now) = record {
+    let ready : IsReady f m sizes c.volume.result.now (inode_view c.root-root.result)
+    (map row_view c.deref.result.now) = record {
       manifest = c.least_of_lines.ensures.of_text;
       lines = none;
       volume_is = c.volume.ensures;
       root_is = c.root-root.ensures sizes of;
       rows_are = ap (map row_view) c.deref.ensures.value ∙ c.in_ok-rows.ensures sizes of;
     } in
-    let told = subst (λ o. MatchOption o (HasWholeMisfit f m sizes) (λ l. HasNoMisfit f m sizes × (l.image_len ≡ len_of f m sizes) × (map item_view l.items.items ≡ items_of f m sizes))) c.in-Some-2.is (c.in_ok-laid.ensures m sizes ready) in
-    (m, sizes, c.least_of_lines.ensures.of_text, told.0, c.volume-2.ensures, ap (map item_view) c.deref-2.ensures.value ∙ told.2)
+    let told = subst (λ o. MatchOption o (HasWholeMisfit f m sizes)
+    (λ l. HasNoMisfit f m sizes × (l.image_len ≡ len_of f m sizes)
+    × (map item_view l.items.items ≡ items_of f m sizes))) c.in-Some-2.is (c.in_ok-laid.ensures m sizes ready) in (
+      m,
+      sizes,
+      c.least_of_lines.ensures.of_text,
+      told.0,
+      c.volume-2.ensures,
+      ap (map item_view) c.deref-2.ensures.value ∙ told.2,
+    )
 
 pub new-requires-2 : goal.new-requires-2
 new-requires-2 c =
@@ -77,14 +91,17 @@ new-requires-2 c =
     let sizes = c.args.sizes.now in
     let of = c.in_ok-files.ensures in
     let none = lines_none f m sizes c.least_of_lines.result c.in_default.is (c.least_of_lines.ensures.least sizes of) in
-    let ready : IsReady f m sizes c.volume.result.now (inode_view c.root-root.result) (map row_view c.deref.result.now) = record {
+    let ready : IsReady f m sizes c.volume.result.now (inode_view c.root-root.result)
+    (map row_view c.deref.result.now) = record {
       manifest = c.least_of_lines.ensures.of_text;
       lines = none;
       volume_is = c.volume.ensures;
       root_is = c.root-root.ensures sizes of;
       rows_are = ap (map row_view) c.deref.ensures.value ∙ c.in_ok-rows.ensures sizes of;
     } in
-    let told = subst (λ o. MatchOption o (HasWholeMisfit f m sizes) (λ l. HasNoMisfit f m sizes × (l.image_len ≡ len_of f m sizes) × (map item_view l.items.items ≡ items_of f m sizes))) c.in-Some-2.is (c.in_ok-laid.ensures m sizes ready) in
+    let told = subst (λ o. MatchOption o (HasWholeMisfit f m sizes)
+    (λ l. HasNoMisfit f m sizes × (l.image_len ≡ len_of f m sizes)
+    × (map item_view l.items.items ≡ items_of f m sizes))) c.in-Some-2.is (c.in_ok-laid.ensures m sizes ready) in
     let items = ap (map item_view) c.deref-2.ensures.value ∙ told.2 in (
       m,
       sizes,
@@ -108,14 +125,17 @@ returns-clause-ok c =
     let sizes = c.args.sizes.now in
     let of = c.in_ok-files.ensures in
     let none = lines_none f m sizes c.least_of_lines.result c.in_default.is (c.least_of_lines.ensures.least sizes of) in
-    let ready : IsReady f m sizes c.volume.result.now (inode_view c.root-root.result) (map row_view c.deref.result.now) = record {
+    let ready : IsReady f m sizes c.volume.result.now (inode_view c.root-root.result)
+    (map row_view c.deref.result.now) = record {
       manifest = c.least_of_lines.ensures.of_text;
       lines = none;
       volume_is = c.volume.ensures;
       root_is = c.root-root.ensures sizes of;
       rows_are = ap (map row_view) c.deref.ensures.value ∙ c.in_ok-rows.ensures sizes of;
     } in
-    let told = subst (λ o. MatchOption o (HasWholeMisfit f m sizes) (λ l. HasNoMisfit f m sizes × (l.image_len ≡ len_of f m sizes) × (map item_view l.items.items ≡ items_of f m sizes))) c.in-Some-2.is (c.in_ok-laid.ensures m sizes ready) in
+    let told = subst (λ o. MatchOption o (HasWholeMisfit f m sizes)
+    (λ l. HasNoMisfit f m sizes × (l.image_len ≡ len_of f m sizes)
+    × (map item_view l.items.items ≡ items_of f m sizes))) c.in-Some-2.is (c.in_ok-laid.ensures m sizes ready) in
     let items = ap (map item_view) c.deref-2.ensures.value ∙ told.2 in
     subst (IsPlanOf f m sizes) (sym c.new-2.ensures) (record {
       fits = told.0;

@@ -11,5 +11,6 @@ pub returns : goal.returns
 returns c = λ x e.
     let n : c.args.n.0 ≡ ino_of x = sym (node_number (view c.args.image.now) c.args.n.0 x e) in
     let p : c.old_device.result ≡ cramfs_device (order_in c.args.image.now) c.args.image.now.all.now (ino_of x) =
-    c.old_device.ensures ∙ (ap old_device c.size_field.ensures ∙ ap (cramfs_device (order_in c.args.image.now) c.args.image.now.all.now) n) in
+    c.old_device.ensures ∙ (ap old_device c.size_field.ensures
+    ∙ ap (cramfs_device (order_in c.args.image.now) c.args.image.now.all.now) n) in
     c.is_other_device.ensures x e ∙ ap (λ (v : ℕ). is_other_device v x) p

@@ -19,7 +19,8 @@ pub returns : goal.returns
 returns c = λ x e.
     let n : c.args.n.0 ≡ ino_of x = sym (node_number (romfs_view c.args.image.now) c.args.n.0 x e) in
     let w : c.word-spec.result ≡ word_be c.args.image.now.all.now (ino_of x + 4) =
-    c.word-spec.ensures ∙ (ap (λ (v : List ℕ). word_be v (c.args.n.0 + 4)) c.bytes.ensures ∙ ap (λ (v : ℕ). word_be c.args.image.now.all.now (v + 4)) n) in
+    c.word-spec.ensures ∙ (ap (λ (v : List ℕ). word_be v (c.args.n.0 + 4)) c.bytes.ensures
+    ∙ ap (λ (v : ℕ). word_be c.args.image.now.all.now (v + 4)) n) in
     let p : c.device_number.result ≡ romfs_device c.args.image.now.all.now (ino_of x) =
     c.device_number.ensures ∙ ap (λ (v : ℕ). device_number (v / 65536) (v % 65536)) w in
     c.is_other_device.ensures x e ∙ ap (λ (v : ℕ). is_other_device v x) p

@@ -20,9 +20,11 @@ pub returns-in-Some : goal.returns-in-Some
 returns-in-Some c = λ x e.
     let n : c.args.n.0 ≡ ino_of x = sym (node_number (romfs_view c.args.image.now) c.args.n.0 x e) in
     let d : c.romfs_data.result ≡ romfs_data c.args.image.now.all.now (ino_of x) =
-    c.romfs_data.ensures ∙ (ap (λ (v : List ℕ). romfs_data v c.args.n.0) c.bytes.ensures ∙ ap (romfs_data c.args.image.now.all.now) n) in
+    c.romfs_data.ensures ∙ (ap (λ (v : List ℕ). romfs_data v c.args.n.0) c.bytes.ensures
+    ∙ ap (romfs_data c.args.image.now.all.now) n) in
     let r : IsRun (places_of x) 0 c.in-Some.run' = c.in-Some.ensures.row x e in
-    let a : slice_index (places_of x) 0 ≡ c.from.result = let q = r.row 0 r.some in let f = c.from.ensures in omega (arith, q, f) in
+    let a : slice_index (places_of x) 0 ≡ c.from.result =
+    let q = r.row 0 r.some in let f = c.from.ensures in omega (arith, q, f) in
     let l : 0 < length (places_of x) = let q = r.some in let f = r.within in omega (arith, q, f) in
     let f : romfs_finds c.args.name.now ≡ true = sym c.romfs_finds.ensures ∙ c.if-not-romfs_finds.false in
     rw (f, lt-ltb 0 (length (places_of x)) l, a, sym d) refl

@@ -6,11 +6,12 @@ use Rattle.rom_tree.specs.Walks.{IsWalk, to_come}
 use Rattle.linux_misreads.specs.Tables.{either, first_known, view}
 use Rattle.linux_misreads.proofs.files.first_of_tables.Given as goal
 
--- what the map has, and else what the names to come give, is the first of all names
+-- what the map has, and otherwise what the names to come have, is the first of all names
 abbrev pub invariant-loop-node : goal.invariant-loop-node
 invariant-loop-node l = record {
   walk : IsWalk (view l.image) l.walk;
-  firsts : (t : ℕ) → either (get nat_cmp l.first t) (first_known l.image t (to_come (view l.image) l.walk)) ≡ first_known l.image t (names (view l.image).tree);
+  firsts : (t : ℕ) → either (get nat_cmp l.first t) (first_known l.image t (to_come (view l.image) l.walk))
+      ≡ first_known l.image t (names (view l.image).tree);
 }
 
 abbrev pub decreases-loop-node : goal.decreases-loop-node

@@ -9,8 +9,10 @@ pub returns-then-is_misread : goal.returns-then-is_misread
 returns-then-is_misread g c =
     rw c.if-is_misread.true (record {
       puts = chain c.put.ensures (chain c.put_path.ensures c.put-then-is_misread.ensures);
-      told = or_one c.args.told.now ∙ ap (λ (v : Bool). c.args.told.now || v) (sym (told_line c.args.text.now (given_path c.args.walk.now)));
+      told = or_one c.args.told.now ∙ ap (λ (v : Bool). c.args.told.now || v)
+          (sym (told_line c.args.text.now (given_path c.args.walk.now)));
     })
 
 pub returns-else-is_misread : goal.returns-else-is_misread
-returns-else-is_misread g c = rw c.if-is_misread.false (record { puts = puts_nothing _; told = or_none c.args.told.now })
+returns-else-is_misread g c =
+    rw c.if-is_misread.false (record { puts = puts_nothing _; told = or_none c.args.told.now })

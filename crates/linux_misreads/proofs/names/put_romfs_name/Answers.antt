@@ -11,8 +11,15 @@ pub returns : goal.returns
 returns g c = λ x e.
     let path : List ℕ = given_path c.args.walk.now in
     let line : List ℕ → Bool → List ℕ = λ text b. if b then misread_line text path else [] in
-    tells_chain (tells_by (line (codes "linux 3 NameCut ")) (c.is_cut_name-is_cut.ensures ∙ ap is_cut_name c.name.ensures) c.put_line.ensures)
-    (tells_chain (tells_by (line (codes "linux 4 NameTooLong ")) (ap (λ (v : Bool). not v) (c.romfs_finds-is_found.ensures ∙ ap romfs_finds c.name-2.ensures)) c.put_line-2.ensures)
-    (tells_chain (tells_by (line (codes "linux 6 Device ")) (c.is_other_romfs_device-is_other.ensures x e) c.put_line-3.ensures)
+    tells_chain (tells_by (line (codes "linux 3 NameCut "))
+    (c.is_cut_name-is_cut.ensures ∙ ap is_cut_name c.name.ensures) c.put_line.ensures)
+    (tells_chain (tells_by (line (codes "linux 4 NameTooLong "))
+    (ap (λ (v : Bool). not v) (c.romfs_finds-is_found.ensures
+    ∙ ap romfs_finds c.name-2.ensures)) c.put_line-2.ensures)
+    (tells_chain (tells_by (line (codes "linux 6 Device "))
+    (c.is_other_romfs_device-is_other.ensures x e) c.put_line-3.ensures)
     (tells_chain (tells_by (line (codes "linux 8 LinkCut ")) (c.is_cut_link-has_zero.ensures x e) c.put_line-4.ensures)
-    ((tells_by (line (codes "linux 10 OtherPlace ")) (c.is_read_elsewhere-is_elsewhere.ensures x e ∙ ap (λ (v : List ℕ). is_read_elsewhere c.args.image.now.all.now v x) c.name-3.ensures) c.put_line-5.ensures)))))
+    ((tells_by (line (codes "linux 10 OtherPlace "))
+    (c.is_read_elsewhere-is_elsewhere.ensures x e
+    ∙ ap (λ (v : List ℕ). is_read_elsewhere c.args.image.now.all.now v x) c.name-3.ensures)
+    c.put_line-5.ensures)))))

@@ -23,7 +23,8 @@ loop-failed-init g c =
       done = volume_misreads c.args.image.now;
       told = c.put_volume-told.ensures.told;
       puts = c.put_volume-told.ensures.puts;
-      rest = ap (λ (v : List _). volume_misreads c.args.image.now ++ flat_map (name_misreads c.args.image.now) v) (c.new-walk.ensures.all m);
+      rest = ap (λ (v : List _). volume_misreads c.args.image.now ++ flat_map (name_misreads c.args.image.now) v)
+          (c.new-walk.ensures.all m);
     }
 
 pub put_misreads-requires : goal.put_misreads-requires
@@ -39,8 +40,10 @@ loop-failed-preserved g c =
     let line : Name → List ℕ = name_misreads c.args.image.now in
     let old = sink (g.W.ByteWrite.output c.loop-failed.w) c.loop-failed.failed in
     let new = sink (g.W.ByteWrite.output c.put_misreads.new.w) c.put_misreads.new.failed in
-    let P : List ℕ → Type 0 = λ v. Tells old new c.loop-failed.told c.put_misreads.new.told (line (named v (given_name c.next.new.self) n.name.node)) in
-    let Q : List ℕ → Type 0 = λ v. Tells old new c.loop-failed.told c.put_misreads.new.told (line (named n.name.path v n.name.node)) in
+    let P : List ℕ → Type 0 = λ v. Tells old new c.loop-failed.told c.put_misreads.new.told
+    (line (named v (given_name c.next.new.self) n.name.node)) in
+    let Q : List ℕ → Type 0 =
+    λ v. Tells old new c.loop-failed.told c.put_misreads.new.told (line (named n.name.path v n.name.node)) in
     let t : Tells old new c.loop-failed.told c.put_misreads.new.told (line n.name) =
     subst Q n.last (subst P n.path (c.put_misreads.ensures n.name.node n.node)) in
     record {

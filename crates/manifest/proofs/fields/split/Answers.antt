@@ -9,4 +9,5 @@ not_empty [] h = absurd (cc)
 not_empty (b ∷ bs) h = refl
 
 pub loop-rest-preserved : goal.loop-rest-preserved
-loop-rest-preserved c = let field : is_empty c.cut.result.0.now ≡ false = not_empty c.cut.result.0.now (search rules) in grind (arith, common_steps)
+loop-rest-preserved c = let field : is_empty c.cut.result.0.now ≡ false =
+    not_empty c.cut.result.0.now (search rules) in grind (arith, common_steps)

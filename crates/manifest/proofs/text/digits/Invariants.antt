@@ -5,5 +5,6 @@ use Rattle.manifest.proofs.text.digits.Given as goal
 abbrev pub invariant-loop-byte : goal.invariant-loop-byte
 invariant-loop-byte l = record {
   fits : l.number < 2 ^ 32;
-  reads : below (2 ^ 32) (digits_from l.base l.number (drop l.byte-index l.text)) ≡ below (2 ^ 32) (digits_from l.base 0 l.text);
+  reads : below (2 ^ 32) (digits_from l.base l.number (drop l.byte-index l.text))
+      ≡ below (2 ^ 32) (digits_from l.base 0 l.text);
 }

@@ -19,5 +19,6 @@ returns c = by
         (c.fitting_is_planned.ensures romfs m cs h n)
     by (cramfs o) m cs h n =
         let sizes = map length cs in
-        c.sections_make_layout-2.ensures.bytes o m.volume (root_of m.lines sizes) (tree_of m.lines sizes) cs (align_of m.lines)
+        c.sections_make_layout-2.ensures.bytes o m.volume (root_of m.lines sizes) (tree_of m.lines sizes) cs
+        (align_of m.lines)
         (c.fitting_is_planned.ensures (cramfs o) m cs h n) (sourced (cramfs o) m sizes h n)

@@ -12,7 +12,8 @@ pub returns-in_default : goal.returns-in_default
 returns-in_default c = λ sizes h.
     let all = c.args.m.now.lines in
     let path = c.args.path.now in
-    no_file_at all sizes path (subst (λ o. IsIndexOf all o (led (reverse all) path)) c.in_default.is (c.line.ensures all sizes h))
+    no_file_at all sizes path (subst (λ o. IsIndexOf all o (led (reverse all) path)) c.in_default.is
+    (c.line.ensures all sizes h))
 
 pub returns-in-None : goal.returns-in-None
 returns-in-None c = λ sizes h.
@@ -30,5 +31,6 @@ returns-in-Some-get c = λ sizes h.
     let below = c.in-Some-get.ensures.lookup.3.0 in
     let is = c.in-Some-get.ensures.lookup.1 in
     ap (λ x. Some x) (c.inode_of.ensures all sizes h)
-    ∙ sym (ap (option_map (inode_of all sizes)) (got all i l l (rw c.lines.ensures.lines at below) (rw c.lines.ensures.lines at is)))
+    ∙ sym (ap (option_map (inode_of all sizes))
+    (got all i l l (rw c.lines.ensures.lines at below) (rw c.lines.ensures.lines at is)))
     ∙ file_is all sizes c.args.path.now i (c.in-Some.ensures all sizes h)

@@ -7,5 +7,6 @@ use Rattle.manifest_rows.proofs.inodes.inode_of.Goals as goal
 pub returns : goal.returns
 returns c = λ lines sizes h.
     let l = c.args.line.now in
-    c.inode_from.ensures ∙ ap (inode_from l.word l) (c.contents.ensures lines sizes h ∙ ap (contents_at lines sizes) c.as_bytes.ensures)
+    c.inode_from.ensures ∙ ap (inode_from l.word l)
+    (c.contents.ensures lines sizes h ∙ ap (contents_at lines sizes) c.as_bytes.ensures)
     ∙ inode_is lines sizes l

@@ -22,7 +22,8 @@ loop-line-preserved c =
     record {
       all = kept;
       listed = λ sizes h.
-          let step = subst (λ ls. IsStep m.lines sizes l (reverse (take i ls))) (sym kept) (step_at m sizes i _ l c.lines-all.ensures.of_text (rw kept at below) (rw kept at is)) in
+          let step = subst (λ ls. IsStep m.lines sizes l (reverse (take i ls))) (sym kept)
+          (step_at m sizes i _ l c.lines-all.ensures.of_text (rw kept at below) (rw kept at is)) in
           c.in_ok-put_line.ensures sizes h
           ∙ ap (put_file l (file_at m.lines sizes l.path)) (c.loop-line.invariant.listed sizes h)
           ∙ step_puts m.lines sizes l (reverse (take i all)) step
@@ -33,7 +34,10 @@ pub returns : goal.returns
 returns c = λ sizes h.
     let m = c.args.m.now in
     let es = c.loop-line.keyed.entries in
-    let whole = take_all c.loop-line.line-index c.lines-all.result.now c.loop-line-test.false ∙ c.loop-line.invariant.all in
-    let told = c.loop-line.invariant.listed sizes h ∙ ap (λ ls. map by_key (entries_by m.lines sizes (reverse ls))) whole in
+    let whole =
+    take_all c.loop-line.line-index c.lines-all.result.now c.loop-line-test.false ∙ c.loop-line.invariant.all in
+    let told =
+    c.loop-line.invariant.listed sizes h ∙ ap (λ ls. map by_key (entries_by m.lines sizes (reverse ls))) whole in
     IfOk-weaker c.in_order.result _ _
-    (λ v e. ap (map row_view) e ∙ values_are es ∙ ap (map (λ k. k.row)) told ∙ rows_of m sizes c.lines-all.ensures.of_text) c.in_order.ensures
+    (λ v e. ap (map row_view) e ∙ values_are es ∙ ap (map (λ k. k.row)) told
+    ∙ rows_of m sizes c.lines-all.ensures.of_text) c.in_order.ensures

@@ -9,5 +9,7 @@ use Rattle.manifest_text.proofs.printing.put_device.Goals as goal
 pub returns : goal.returns
 returns g c =
     let l = line_of c.args.e.now in
-    and_fields (codes "nod") (attributes l) c.args.letter.now (decimal l.major ∷ decimal l.minor ∷ []) c.put_owned.ensures
-    (chain c.put.ensures (chain c.put-2.ensures (chain c.put-3.ensures (chain c.put_decimal.ensures (chain c.put-4.ensures c.put_decimal-2.ensures)))))
+    and_fields (codes "nod") (attributes l) c.args.letter.now
+    (decimal l.major ∷ decimal l.minor ∷ []) c.put_owned.ensures
+    (chain c.put.ensures (chain c.put-2.ensures
+    (chain c.put-3.ensures (chain c.put_decimal.ensures (chain c.put-4.ensures c.put_decimal-2.ensures)))))

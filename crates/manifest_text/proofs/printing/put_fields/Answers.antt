@@ -22,7 +22,8 @@ pub returns-in-Slink : goal.returns-in-Slink
 returns-in-Slink g c =
     let l = line_of c.args.e.now in
     of_word l Slink c.in-Slink.is
-    (and_fields (codes "slink") (attributes l) (escaped l.text) [] c.put_owned-in-Slink.ensures c.put_text-in-Slink.ensures)
+    (and_fields (codes "slink") (attributes l) (escaped l.text)
+    [] c.put_owned-in-Slink.ensures c.put_text-in-Slink.ensures)
 
 pub returns-in-Block : goal.returns-in-Block
 returns-in-Block g c = of_word (line_of c.args.e.now) Block c.in-Block.is c.put_device.ensures
@@ -38,10 +39,12 @@ returns-in-Socket g c = of_word (line_of c.args.e.now) Socket c.in-Socket.is c.p
 
 pub returns-in-Hard : goal.returns-in-Hard
 returns-in-Hard g c =
-    of_word (line_of c.args.e.now) Hard c.in-Hard.is (chain c.put-in-Hard.ensures (chain c.put_escaped.ensures c.put_text-in-Hard.ensures))
+    of_word (line_of c.args.e.now) Hard c.in-Hard.is
+    (chain c.put-in-Hard.ensures (chain c.put_escaped.ensures c.put_text-in-Hard.ensures))
 
 pub returns-in-Same : goal.returns-in-Same
 returns-in-Same g c =
     let l = line_of c.args.e.now in
     of_word l Same c.in-Same.is
-    (and_fields (codes "same") (attributes l) (escaped l.text) [] c.put_owned-in-Same.ensures c.put_text-in-Same.ensures)
+    (and_fields (codes "same") (attributes l) (escaped l.text)
+    [] c.put_owned-in-Same.ensures c.put_text-in-Same.ensures)

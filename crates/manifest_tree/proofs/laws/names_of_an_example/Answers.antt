@@ -7,5 +7,6 @@ use Rattle.manifest_tree.specs.Tree.{tree_of, file_at, inode_of}
 use Rattle.manifest_tree.proofs.laws.names_of_an_example.Goals as goal
 
 pub returns : goal.returns
-unfolding manifest_of read numbers_of fault_of octal decimal names_of is_bad_name percent_decode tree_of file_at inode_of
+unfolding manifest_of read numbers_of fault_of octal decimal names_of is_bad_name percent_decode tree_of file_at
+    inode_of
 returns c = refl

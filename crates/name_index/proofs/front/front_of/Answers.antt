@@ -17,14 +17,16 @@ returns-then-is_same g c =
     let m : Image = g.T.Viewed.image c.args.image.now in
     let e : Entry = c.in-Some.entry in
     passed_found m c.args.d.0 c.entries.cursor.0 c.args.name.now c.entries.i e c.entries.invariant
-    (is_next m c.args.d.0 c.entries.cursor.0 e c.requires c.entries.invariant.cursor c.in-Some.ensures) (sym c.is_same.ensures ∙ c.if-is_same.true)
+    (is_next m c.args.d.0 c.entries.cursor.0 e c.requires c.entries.invariant.cursor c.in-Some.ensures)
+    (sym c.is_same.ensures ∙ c.if-is_same.true)
 
 pub entries-preserved : goal.entries-preserved
 entries-preserved g c =
     let m : Image = g.T.Viewed.image c.args.image.now in
     let e : Entry = c.in-Some.entry in
     passed_more m c.args.d.0 c.entries.cursor.0 c.args.name.now c.entries.i e c.entries.invariant
-    (is_next m c.args.d.0 c.entries.cursor.0 e c.requires c.entries.invariant.cursor c.in-Some.ensures) (sym c.is_same.ensures ∙ c.if-is_same.false)
+    (is_next m c.args.d.0 c.entries.cursor.0 e c.requires c.entries.invariant.cursor c.in-Some.ensures)
+    (sym c.is_same.ensures ∙ c.if-is_same.false)
 
 pub returns : goal.returns
 returns c = grind (arith, common_steps)

@@ -10,13 +10,15 @@ returns-in_err-get-clause-reply g c =
     let v : View g.I.Served.Place = g.I.Served.view c.args.images.now in
     let slots : List (Option OpenNode) = c.args.slots.now.slots in
     let r = refused c.from_residual.result c.in_err-get.field-0.0 c.from_residual.ensures.1 in
-    close_none v slots c.args.fd.0 c.from_residual.result c.in_err-get.ensures.slot.0 (r ∙ ap (λ (w : CallError). Err w) c.in_err-get.ensures.slot.1)
+    close_none v slots c.args.fd.0 c.from_residual.result c.in_err-get.ensures.slot.0
+    (r ∙ ap (λ (w : CallError). Err w) c.in_err-get.ensures.slot.1)
 
 pub returns-clause-reply : goal.returns-clause-reply
 returns-clause-reply g c =
     let v : View g.I.Served.Place = g.I.Served.view c.args.images.now in
     let slots : List (Option OpenNode) = c.args.slots.now.slots in
-    close_some v slots c.set.new.self.slots c.args.fd.0 c.in_ok-get.field-0 (has_open v slots c.args.fd.0 c.in_ok-get.field-0 c.requires c.in_ok-get.ensures.slot) c.set.ensures
+    close_some v slots c.set.new.self.slots c.args.fd.0 c.in_ok-get.field-0
+    (has_open v slots c.args.fd.0 c.in_ok-get.field-0 c.requires c.in_ok-get.ensures.slot) c.set.ensures
 
 pub returns-clause-sound : goal.returns-clause-sound
 returns-clause-sound g c =

@@ -7,8 +7,11 @@ use Rattle.open_files.proofs.calls.readlink.Goals as goal
 
 pub is_link_at-requires : goal.is_link_at-requires
 is_link_at-requires g c κs =
-    let v = g.I.Served.view c.args.images.now in
-    ((refl, tt), has_node (g.T.Viewed.image c.image-holder.result.now) c.args.node.0 (v.names.node c.requires.0) (c.image-holder.ensures.node c.args.node.0 c.requires.0 c.requires.1))
+    let v = g.I.Served.view c.args.images.now in (
+      (refl, tt),
+      has_node (g.T.Viewed.image c.image-holder.result.now) c.args.node.0 (v.names.node c.requires.0)
+          (c.image-holder.ensures.node c.args.node.0 c.requires.0 c.requires.1),
+    )
 
 pub link_piece-requires : goal.link_piece-requires
 link_piece-requires g c κs =
@@ -23,5 +26,6 @@ pub returns-then-not-is_link_at : goal.returns-then-not-is_link_at
 returns-then-not-is_link_at g c = λ x t h.
     let v = g.I.Served.view c.args.images.now in
     let n = v.names.node x in
-    let l : is_link n ≡ false = sym (c.is_link_at.ensures n (c.image-holder.ensures.node c.args.node.0 x h)) ∙ c.if-not-is_link_at.true in
+    let l : is_link n ≡ false =
+    sym (c.is_link_at.ensures n (c.image-holder.ensures.node c.args.node.0 x h)) ∙ c.if-not-is_link_at.true in
     ap (λ (b : Bool). read_link (v.number x) (v.names.bytes x) t n b) l

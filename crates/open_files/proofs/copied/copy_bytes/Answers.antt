@@ -1,4 +1,5 @@
-use Rattle.std.proofs.Common.{◌≡◌, ℕ, ◌+◌, ◌≤◌, List, Some, ap, ◌∙◌, arith, length, take, drop, length-take, length-drop}
+use Rattle.std.proofs.Common.{◌≡◌, ℕ, ◌+◌, ◌≤◌, List, Some, ap, ◌∙◌, arith, length, take, drop, length-take}
+use Rattle.std.proofs.Common.{length-drop}
 use Rattle.rom_tree.specs.declared.types.Stat.{Stat}
 use Rattle.rom_tree.specs.Tree.{Node, places_of}
 use Rattle.rom_tree.specs.Image.{Image, image_node, IsRun}
@@ -60,14 +61,19 @@ loop-done-preserved g c =
     let old : List ℕ = c.loop-done.buf in
     let text : List ℕ = c.bytes_at.result.now in
     let new : List ℕ = c.copy_at.new.buf in
-    let tl : length text ≡ n = ap length c.bytes_at.ensures ∙ (length-take n (drop c.in-Some.run'.place B) ∙ omega (arith, length-drop c.in-Some.run'.place B, w)) in
-    let sz : c.from-size.result ≡ length (places_of x) = c.from-size.ensures ∙ ap (λ (s : Stat). s.size) (c.stat.ensures x e) in
+    let tl : length text ≡ n = ap length c.bytes_at.ensures
+    ∙ (length-take n (drop c.in-Some.run'.place B) ∙ omega (arith, length-drop c.in-Some.run'.place B, w)) in
+    let sz : c.from-size.result ≡ length (places_of x) =
+    c.from-size.ensures ∙ ap (λ (s : Stat). s.size) (c.stat.ensures x e) in
     record {
       fits = omega (arith, lc, c.loop-done-test.true, c.if-done-size.true, i.same, i.fits);
       within = omega (arith, lc, lf, r.within, sz);
       same = copy_length old text new done (omega (arith, tl, lc, c.loop-done-test.true)) c.copy_at.ensures ∙ i.same;
       bytes = λ y d.
           let ry : IsRun (places_of y) (c.args.at + done) c.in-Some.run' = c.in-Some.ensures.row y d in
-          let t : text ≡ bytes_of m.bytes (take n (drop (c.args.at + done) (places_of y))) = c.bytes_at.ensures ∙ (ap (λ (v : List ℕ). take n (drop c.in-Some.run'.place v)) c.bytes-bytes.ensures ∙ run_text m c.args.node.0 y (c.args.at + done) n c.in-Some.run' d ry (omega (arith, lc, lf))) in
-          copy_step m.bytes (places_of y) old c.args.buf.now text new c.args.at done n (i.bytes y d) (omega (arith, length-drop c.args.at (places_of y), ry.within)) t tl c.copy_at.ensures;
+          let t : text ≡ bytes_of m.bytes (take n (drop (c.args.at + done) (places_of y))) =
+          c.bytes_at.ensures ∙ (ap (λ (v : List ℕ). take n (drop c.in-Some.run'.place v)) c.bytes-bytes.ensures
+          ∙ run_text m c.args.node.0 y (c.args.at + done) n c.in-Some.run' d ry (omega (arith, lc, lf))) in
+          copy_step m.bytes (places_of y) old c.args.buf.now text new c.args.at done n (i.bytes y d)
+          (omega (arith, length-drop c.args.at (places_of y), ry.within)) t tl c.copy_at.ensures;
     }

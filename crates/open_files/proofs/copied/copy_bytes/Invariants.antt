@@ -9,7 +9,9 @@ invariant-loop-done g l = record {
   fits : l.done ≤ length l.fn.buf;
   within : l.at + l.done ≤ l.size;
   same : length l.buf ≡ length l.fn.buf;
-  bytes : (x : Node) → image_node (g.T.Viewed.image l.image) l.node.0 ≡ Some x → l.buf ≡ bytes_of (g.T.Viewed.image l.image).bytes (take l.done (drop l.at (places_of x))) ++ drop l.done l.fn.buf;
+  bytes : (x : Node) → image_node (g.T.Viewed.image l.image) l.node.0 ≡ Some x
+      → l.buf ≡ bytes_of (g.T.Viewed.image l.image).bytes (take l.done (drop l.at (places_of x)))
+      ++ drop l.done l.fn.buf;
 }
 
 abbrev pub decreases-loop-done : goal.decreases-loop-done

@@ -12,5 +12,8 @@ pub returns-in-Some : goal.returns-in-Some
 returns-in-Some g c = λ x h.
     let m : Image = g.T.Viewed.image c.args.image.now in
     let r = c.in-Some.ensures.row x h in
-    let e : first_place (places_of x) ≡ c.in-Some.run'.place = first_is (places_of x) c.in-Some.run'.place (omega (arith, r.some, r.within)) (r.row 0 r.some ∙ add-zero c.in-Some.run'.place) in
-    ap (λ p. lent_of p (bytes_of m.bytes (places_of x))) e ∙ ap (λ bs. lent_of c.in-Some.run'.place bs) (sym (c.link_text-bytes.ensures x h))
+    let e : first_place (places_of x) ≡ c.in-Some.run'.place =
+    first_is (places_of x) c.in-Some.run'.place (omega (arith, r.some, r.within))
+    (r.row 0 r.some ∙ add-zero c.in-Some.run'.place) in
+    ap (λ p. lent_of p (bytes_of m.bytes (places_of x))) e
+    ∙ ap (λ bs. lent_of c.in-Some.run'.place bs) (sym (c.link_text-bytes.ensures x h))

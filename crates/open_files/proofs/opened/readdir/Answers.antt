@@ -10,15 +10,20 @@ use Rattle.open_files.proofs.Standing.{node_asks, IsOpen, is_open, open_director
 use Rattle.open_files.proofs.opened.readdir.Goals as goal
 
 pub is_directory_at-requires : goal.is_directory_at-requires
-is_directory_at-requires g c κs = ((refl, tt), node_asks (g.T.Viewed.image c.args.image.now) c.args.opened.now c.requires)
+is_directory_at-requires g c κs =
+    ((refl, tt), node_asks (g.T.Viewed.image c.args.image.now) c.args.opened.now c.requires)
 
 pub returns-then-not-is_directory_at-clause-moves : goal.returns-then-not-is_directory_at-clause-moves
 returns-then-not-is_directory_at-clause-moves g c = λ o j e.
     let m : Image = g.T.Viewed.image c.args.image.now in
     let s : OpenNode = c.args.opened.now in
     let i : IsOpen (image_view m) s o = is_open (image_view m) s o e in
-    let x : Node = o.place in
-    (ap (λ (v : Bool). directory_only {R = Option (Of Named)} v (next_entry j o.position (entry_at (entries_of x) o.position))) (sym (c.is_directory_at.ensures x i.place) ∙ c.if-not-is_directory_at.true), refl)
+    let x : Node = o.place in (
+      ap (λ (v : Bool). directory_only {R = Option (Of Named)} v
+          (next_entry j o.position (entry_at (entries_of x) o.position)))
+          (sym (c.is_directory_at.ensures x i.place) ∙ c.if-not-is_directory_at.true),
+      refl,
+    )
 
 pub entry-requires : goal.entry-requires
 entry-requires g c κs =
@@ -38,8 +43,15 @@ returns-in_default-clause-moves g c = λ o j e.
     let i : IsOpen (image_view m) s o = is_open (image_view m) s o e in
     let x : Node = o.place in
     let d : is_directory x ≡ true = sym (c.is_directory_at.ensures x i.place) ∙ c.if-not-is_directory_at.false in
-    let k : m.cursor_index s.node.0 s.position ≡ Some o.position = i.directory d in
-    (o.position, ap (λ (v : Bool). directory_only {R = Option (Of Named)} v (next_entry j o.position (entry_at (entries_of x) o.position))) d ∙ ap (next_entry j o.position) (c.in_default.ensures x o.position i.place k), e, refl, refl)
+    let k : m.cursor_index s.node.0 s.position ≡ Some o.position = i.directory d in (
+      o.position,
+      ap (λ (v : Bool). directory_only {R = Option (Of Named)} v
+          (next_entry j o.position (entry_at (entries_of x) o.position))) d
+          ∙ ap (next_entry j o.position) (c.in_default.ensures x o.position i.place k),
+      e,
+      refl,
+      refl,
+    )
 
 pub returns-clause-moves : goal.returns-clause-moves
 returns-clause-moves g c = λ o j e.
@@ -49,11 +61,14 @@ returns-clause-moves g c = λ o j e.
     let x : Node = o.place in
     let d : is_directory x ≡ true = sym (c.is_directory_at.ensures x i.place) ∙ c.if-not-is_directory_at.false in
     let k : m.cursor_index s.node.0 s.position ≡ Some o.position = i.directory d in
-    let n : IsEntry m s.node.0 (entries_of x) o.position c.in-Some.entry.name.now c.in-Some.entry.node.0 c.in-Some.entry.cursor.0 = c.in-Some.ensures x o.position i.place k in
+    let n : IsEntry m s.node.0 (entries_of x) o.position c.in-Some.entry.name.now c.in-Some.entry.node.0
+    c.in-Some.entry.cursor.0 = c.in-Some.ensures x o.position i.place k in
     let u : OpenNode = record { image = s.image; node = s.node; position = c.in-Some.entry.cursor.0 } in
     let ok : ℕ → Outcome (Option (Of Named)) = λ v. Ok (Some (j, named c.in-Some.entry.name.now v), o.position + 1) in (
       o.position + 1,
-      ap (λ (v : Bool). directory_only {R = Option (Of Named)} v (next_entry j o.position (entry_at (entries_of x) o.position))) d ∙ (ap (next_entry j o.position) n.at ∙ ap ok n.number),
+      ap (λ (v : Bool). directory_only {R = Option (Of Named)} v
+          (next_entry j o.position (entry_at (entries_of x) o.position))) d
+          ∙ (ap (next_entry j o.position) n.at ∙ ap ok n.number),
       open_directory (image_view m) u x (o.position + 1) i.place d n.next,
       refl,
       refl,
@@ -68,7 +83,8 @@ returns-clause-lies g c =
     let x : Node = o.place in
     let d : is_directory x ≡ true = sym (c.is_directory_at.ensures x i.place) ∙ c.if-not-is_directory_at.false in
     let k : m.cursor_index s.node.0 s.position ≡ Some o.position = i.directory d in
-    let n : IsEntry m s.node.0 (entries_of x) o.position c.in-Some.entry.name.now c.in-Some.entry.node.0 c.in-Some.entry.cursor.0 = c.in-Some.ensures x o.position i.place k in
+    let n : IsEntry m s.node.0 (entries_of x) o.position c.in-Some.entry.name.now c.in-Some.entry.node.0
+    c.in-Some.entry.cursor.0 = c.in-Some.ensures x o.position i.place k in
     n.lies
 
 pub returns-clause-cursor : goal.returns-clause-cursor

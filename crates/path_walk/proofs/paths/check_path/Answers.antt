@@ -12,16 +12,19 @@ returns-then-path-gt-PATH_MAX-clause-leads c = λ g follow.
 pub returns-then-is_empty-clause-leads : goal.returns-then-is_empty-clause-leads
 returns-then-is_empty-clause-leads c = λ g follow.
     let path : List ℕ = c.args.path.now in
-    walk-empty g path follow (lt_false 4095 (length path) (omega arith)) (empty_is path (sym c.is_empty.ensures ∙ c.if-is_empty.true))
+    walk-empty g path follow (lt_false 4095 (length path) (omega arith))
+    (empty_is path (sym c.is_empty.ensures ∙ c.if-is_empty.true))
 
 pub returns-then-not-is_absolute-clause-leads : goal.returns-then-not-is_absolute-clause-leads
 returns-then-not-is_absolute-clause-leads c = λ g follow.
     let path : List ℕ = c.args.path.now in
     let e : is_empty path ≡ false = empty_not path (sym c.is_empty.ensures ∙ c.if-is_empty.false) in
-    walk-relative g path follow (lt_false 4095 (length path) (omega arith)) e (sym c.is_absolute.ensures ∙ c.if-not-is_absolute.true)
+    walk-relative g path follow (lt_false 4095 (length path) (omega arith)) e
+    (sym c.is_absolute.ensures ∙ c.if-not-is_absolute.true)
 
 pub returns-clause-leads : goal.returns-clause-leads
 returns-clause-leads c = λ g follow.
     let path : List ℕ = c.args.path.now in
     let e : is_empty path ≡ false = empty_not path (sym c.is_empty.ensures ∙ c.if-is_empty.false) in
-    walk-goes g path follow (lt_false 4095 (length path) (omega arith)) e (sym c.is_absolute.ensures ∙ c.if-not-is_absolute.false)
+    walk-goes g path follow (lt_false 4095 (length path) (omega arith)) e
+    (sym c.is_absolute.ensures ∙ c.if-not-is_absolute.false)

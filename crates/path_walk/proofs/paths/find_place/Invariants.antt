@@ -12,7 +12,8 @@ invariant-loop-component g l = record {
   links : l.links ≤ 40;
   full : length l.unread.items + l.links ≤ 41;
   none_empty : NoneEmpty l.unread.items;
-  rest : resolve (graft (g.G.Gathered.held l.fn.images).images l.mounts) l.fn.follow_last l.links trail (unread_components l.unread.items)
+  rest : resolve (graft (g.G.Gathered.held l.fn.images).images l.mounts) l.fn.follow_last l.links trail
+      (unread_components l.unread.items)
       ≡ resolution (graft (g.G.Gathered.held l.fn.images).images l.mounts) l.fn.path l.fn.follow_last;
 }
 

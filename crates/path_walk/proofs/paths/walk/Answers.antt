@@ -23,5 +23,6 @@ returns-in_err-place-clause-leads g c =
     let m : Image = g.T.Viewed.image c.args.image.now in
     let all = resolution (tree_namespace m.bytes m.tree) c.args.path.now c.args.follow_last in
     let e : WalkError = c.in_err-place.field-0.0 in
-    handed_on (λ n. (x : Node) × (all ≡ Ok x) × (image_node m n.0 ≡ Some x)) (λ v. all ≡ Err v) c.from_residual.result e c.from_residual.ensures.1
+    handed_on (λ n. (x : Node) × (all ≡ Ok x) × (image_node m n.0 ≡ Some x))
+    (λ v. all ≡ Err v) c.from_residual.result e c.from_residual.ensures.1
     (one_err m e c.args.path.now c.args.follow_last c.in_err-place.ensures.leads)

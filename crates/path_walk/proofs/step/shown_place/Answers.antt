@@ -21,8 +21,11 @@ returns-in-None g c = λ s i.
 pub root_in-requires : goal.root_in-requires
 root_in-requires g c κs =
     let ms : List Image = (g.G.Gathered.held c.args.images.now).images in
-    let us : List Mount = c.args.mounts.now in
-    ((refl, tt), (good_mount ms us c.in-Some.mount c.requires (find_member (covers c.args.image c.args.node.0) us c.in-Some.mount (sym c.in-Some.ensures)).0).image)
+    let us : List Mount = c.args.mounts.now in (
+      (refl, tt),
+      (good_mount ms us c.in-Some.mount c.requires
+          (find_member (covers c.args.image c.args.node.0) us c.in-Some.mount (sym c.in-Some.ensures)).0).image,
+    )
 
 pub returns-in-Some : goal.returns-in-Some
 returns-in-Some g c = λ s i.
@@ -30,7 +33,8 @@ returns-in-Some g c = λ s i.
     let us : List Mount = c.args.mounts.now in
     let p : Location = record { image = c.args.image; node = c.args.node } in
     let q : Location = record { image = c.in-Some.mount.image; node = c.root_in.result } in
-    let w : find (covers s.image (ino_of s.node)) us ≡ Some c.in-Some.mount = same_cover ms us p s i ∙ sym c.in-Some.ensures in
+    let w : find (covers s.image (ino_of s.node)) us ≡ Some c.in-Some.mount =
+    same_cover ms us p s i ∙ sym c.in-Some.ensures in
     shown_named ms us p q s c.requires i (λ e. absurd (none_some c.in-Some.mount (sym e ∙ w)))
     (λ v e.
     let same : c.in-Some.mount ≡ v = cc in

@@ -8,5 +8,6 @@ abbrev pub invariant-loop-line : goal.invariant-loop-line
 invariant-loop-line l = record {
   all : l.all ≡ l.m.lines;
   rest : (sizes : List ℕ) → IsOf l.m.lines sizes l.files
-      → of_lines (format_of l.format) l.m sizes l.m.lines ≡ of_lines (format_of l.format) l.m sizes (drop l.line-index l.m.lines);
+      → of_lines (format_of l.format) l.m sizes l.m.lines
+      ≡ of_lines (format_of l.format) l.m sizes (drop l.line-index l.m.lines);
 }

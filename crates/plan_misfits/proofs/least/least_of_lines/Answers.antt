@@ -8,4 +8,5 @@ use Rattle.plan_misfits.proofs.least.least_of_lines.Goals as goal
 pub returns-clause-least : goal.returns-clause-least
 returns-clause-least c = λ sizes h.
     let told = rw (c.first_of_lines.ensures.first sizes h, c.of_volume.ensures) at c.lesser_of_both.ensures in
-    subst (IsLeastFaultOf (HasLineMisfit (format_of c.args.format) c.args.m.now sizes)) (sym told) (least_line_is (format_of c.args.format) c.args.m.now sizes)
+    subst (IsLeastFaultOf (HasLineMisfit (format_of c.args.format) c.args.m.now sizes)) (sym told)
+    (least_line_is (format_of c.args.format) c.args.m.now sizes)

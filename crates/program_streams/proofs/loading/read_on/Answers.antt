@@ -4,7 +4,7 @@ use Rattle.std.proofs.Transfers.{starts_with_trans, starts_with_length}
 use Rattle.std.proofs.lemmas.List.{places}
 use Rattle.program_streams.proofs.loading.read_on.Goals as goal
 
--- src/loading.rt:94:5
+-- the loop keeps the bytes that were read
 pub loop-bytes-preserved : goal.loop-bytes-preserved
 loop-bytes-preserved g c =
     let old = c.args.bytes.now.items in
@@ -16,7 +16,8 @@ loop-bytes-preserved g c =
     let left : length mid + c.in_ok-read_some.field-0 ≤ c.args.until = search (rules, places, arith) in
     record {
       starts = starts_with_trans new mid old c.read_some.ensures.appends before.starts;
-      read = Consumes-more _ _ _ old mid new before.starts c.read_some.ensures.appends before.read c.read_some.ensures.bytes;
+      read = Consumes-more _ _ _ old mid new before.starts c.read_some.ensures.appends before.read
+          c.read_some.ensures.bytes;
       most = omega (arith, count, left, within);
       room = search rules;
     }

@@ -7,7 +7,8 @@ use Rattle.record_forest.proofs.traversal.traverse_below.Given as goal
 
 abbrev pub invariant-references : goal.invariant-references
 invariant-references g l = record {
-  whole : Whole (g.R.Records.references l.records) (g.R.Records.sound l.records) (g.R.Records.faulty l.records) l.most l.rows.items (reverse l.stack.items) l.count l.noted l.twice;
+  whole : Whole (g.R.Records.references l.records) (g.R.Records.sound l.records)
+      (g.R.Records.faulty l.records) l.most l.rows.items (reverse l.stack.items) l.count l.noted l.twice;
   visits : Visits l.visited l.rows.items;
   known : AreKnown (g.R.Records.well l.records) l.known;
   deep : All (λ x. x.depth ≤ length l.rows.items) l.stack.items;

@@ -20,7 +20,8 @@ map_in-requires c =
     let m = any_view c.image_of.result in
     let z = c.if-not-is_open.ensures.open in
     let o = some_by (stands_at all n f.node f.position) (f.stands z.0 z.1) in
-    let e = same m all n c.node_of.result f.node f.position c.image_of.ensures.cursors c.node_of.ensures.node c.node_of.ensures.position in
+    let e = same m all n c.node_of.result f.node f.position c.image_of.ensures.cursors c.node_of.ensures.node
+    c.node_of.ensures.position in
     (o.0, e ∙ (kept m all n f.node f.position c.image_of.ensures.tree ∙ o.1))
 
 pub returns-clause-lent : goal.returns-clause-lent
@@ -29,8 +30,11 @@ returns-clause-lent c = λ z t h.
     let all = f.image.bytes.now in
     let n = parts_in f.image in
     let m = any_view c.image_of.result in
-    let K : List ℕ → Node → Open Node → Type 0 = λ b u o. c.map_in.result ≡ place_told (map_on None b c.args.off c.args.len o.place o.position) in
+    let K : List ℕ → Node → Open Node → Type 0 =
+    λ b u o. c.map_in.result ≡ place_told (map_on None b c.args.off c.args.len o.place o.position) in
     let s = ap is_some (kept m all n f.node f.position c.image_of.ensures.tree) ∙ f.stands z.0 z.1 in
-    let e = same m all n c.node_of.result f.node f.position c.image_of.ensures.cursors c.node_of.ensures.node c.node_of.ensures.position in
-    in_tree K all m.bytes t (tree_of_parts all n) m.tree n f.node f.position c.one_tree.ensures (λ o. Prim.hlevel props) (f.image.tree z.0) h
+    let e = same m all n c.node_of.result f.node f.position c.image_of.ensures.cursors c.node_of.ensures.node
+    c.node_of.ensures.position in
+    in_tree K all m.bytes t (tree_of_parts all n) m.tree n f.node f.position c.one_tree.ensures (λ o. Prim.hlevel props)
+    (f.image.tree z.0) h
     c.image_of.ensures.bytes c.image_of.ensures.tree s (λ o k. c.map_in.ensures o (e ∙ k))

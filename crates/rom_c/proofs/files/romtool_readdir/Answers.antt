@@ -21,7 +21,8 @@ readdir_in-error-requires c =
     let m = any_view c.image_of.result in
     let z = c.if-not-is_open.ensures.open in
     let o = some_by (stands_at all n f.node f.position) (f.stands z.0 z.1) in
-    let e = same m all n c.node_of-opened.result f.node f.position c.image_of.ensures.cursors c.node_of-opened.ensures.node c.node_of-opened.ensures.position in
+    let e = same m all n c.node_of-opened.result f.node f.position c.image_of.ensures.cursors
+    c.node_of-opened.ensures.node c.node_of-opened.ensures.position in
     (o.0, e ∙ (kept m all n f.node f.position c.image_of.ensures.tree ∙ o.1))
 
 pub returns-clause-read : goal.returns-clause-read
@@ -33,13 +34,19 @@ returns-clause-read c = λ z t h.
     let p = c.moved.result.position in
     let old = c.node_of-opened.result in
     let new = c.readdir_in-error.new.opened in
-    let A : List ℕ → Open Node → Type 0 = λ b o. IsListed (readdir_on None o.place o.position) c.readdir_in-error.result c.readdir_in-error.new.entry in
+    let A : List ℕ → Open Node → Type 0 =
+    λ b o. IsListed (readdir_on None o.place o.position) c.readdir_in-error.result c.readdir_in-error.new.entry in
     let K : List ℕ → Node → Open Node → Type 0 = λ b u o. A b o × MovesTo u f p (readdir_on None o.place o.position) in
     let s = ap is_some (kept m all n f.node f.position c.image_of.ensures.tree) ∙ f.stands z.0 z.1 in
-    let e = same m all n old f.node f.position c.image_of.ensures.cursors c.node_of-opened.ensures.node c.node_of-opened.ensures.position in
-    let moves = λ (o : Open Node). file_moves f m o old new p (readdir_on None o.place o.position) c.image_of.ensures.cursors (c.readdir_in-error.ensures.node ∙ c.node_of-opened.ensures.node) c.node_of-opened.ensures.position c.moved.ensures.position in
+    let e = same m all n old f.node f.position c.image_of.ensures.cursors c.node_of-opened.ensures.node
+    c.node_of-opened.ensures.position in
+    let moves = λ (o : Open Node). file_moves f m o old new p
+    (readdir_on None o.place o.position) c.image_of.ensures.cursors
+    (c.readdir_in-error.ensures.node ∙ c.node_of-opened.ensures.node) c.node_of-opened.ensures.position
+    c.moved.ensures.position in
     in_tree K all m.bytes t (tree_of_parts all n) m.tree n f.node f.position c.one_tree.ensures
-    (λ o. both (IsListed-prop (readdir_on None o.place o.position) c.readdir_in-error.result c.readdir_in-error.new.entry) (MovesTo-prop t f p (readdir_on None o.place o.position))) (f.image.tree z.0) h
+    (λ o. both (IsListed-prop (readdir_on None o.place o.position) c.readdir_in-error.result
+    c.readdir_in-error.new.entry) (MovesTo-prop t f p (readdir_on None o.place o.position))) (f.image.tree z.0) h
     c.image_of.ensures.bytes c.image_of.ensures.tree s
     (λ o k. let r = c.readdir_in-error.ensures.read o (e ∙ k) in (r.0, moves o r.1))
 

@@ -10,8 +10,11 @@ pub opened-requires-clause-shows : goal.opened-requires-clause-shows
 opened-requires-clause-shows c = c.in-Ok.ensures.ok
 
 pub returns-in-Ok-clause-tree : goal.returns-in-Ok-clause-tree
-returns-in-Ok-clause-tree c = λ z.
-    ((any_view c.in-Ok.found).tree, shows_tree c.args.bytes.now usual (any_view c.in-Ok.found) (report_of c.in-Ok.found) c.in-Ok.ensures.ok)
+returns-in-Ok-clause-tree c = λ z. (
+  (any_view c.in-Ok.found).tree,
+  shows_tree c.args.bytes.now usual (any_view c.in-Ok.found)
+      (report_of c.in-Ok.found) c.in-Ok.ensures.ok,
+)
 
 pub returns-in-Err-Fault-clause-refused : goal.returns-in-Err-Fault-clause-refused
 returns-in-Err-Fault-clause-refused c = λ z.

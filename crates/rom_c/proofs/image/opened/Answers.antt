@@ -9,11 +9,21 @@ opened_romfs-requires-clause-begins c = c.in-Romfs.ensures.format c.args.bytes.n
 pub returns-in-Romfs-clause-report : goal.returns-in-Romfs-clause-report
 returns-in-Romfs-clause-report c =
     let found = c.args.found.now in
-    let e = sym c.in-Romfs.ensures.report in
-    (any_view found, report_of found, c.requires.shows, ap (λ (r : Report). r.references) e ∙ sym c.opened_romfs.ensures.references, ap (λ (r : Report). r.depth) e ∙ sym c.opened_romfs.ensures.depth)
+    let e = sym c.in-Romfs.ensures.report in (
+      any_view found,
+      report_of found,
+      c.requires.shows,
+      ap (λ (r : Report). r.references) e ∙ sym c.opened_romfs.ensures.references,
+      ap (λ (r : Report). r.depth) e ∙ sym c.opened_romfs.ensures.depth,
+    )
 
 pub returns-in-Cramfs-clause-report : goal.returns-in-Cramfs-clause-report
 returns-in-Cramfs-clause-report c =
     let found = c.args.found.now in
-    let e = sym c.in-Cramfs.ensures.report in
-    (any_view found, report_of found, c.requires.shows, ap (λ (r : Report). r.references) e ∙ sym c.opened_cramfs.ensures.references, ap (λ (r : Report). r.depth) e ∙ sym c.opened_cramfs.ensures.depth)
+    let e = sym c.in-Cramfs.ensures.report in (
+      any_view found,
+      report_of found,
+      c.requires.shows,
+      ap (λ (r : Report). r.references) e ∙ sym c.opened_cramfs.ensures.references,
+      ap (λ (r : Report). r.depth) e ∙ sym c.opened_cramfs.ensures.depth,
+    )

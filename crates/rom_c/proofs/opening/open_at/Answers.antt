@@ -14,7 +14,8 @@ pub can_open-requires : goal.can_open-requires
 can_open-requires c =
     let i = c.args.image.now in
     let m = any_view c.image_of.result in
-    node_there i.bytes.now (tree_of_parts i.bytes.now (parts_in i)) m.tree c.args.node.0 (i.tree c.requires.open) c.requires.node
+    node_there i.bytes.now (tree_of_parts i.bytes.now (parts_in i)) m.tree c.args.node.0
+    (i.tree c.requires.open) c.requires.node
     c.image_of.ensures.tree
 
 pub opened_at-requires : goal.opened_at-requires
@@ -22,7 +23,8 @@ opened_at-requires c =
     let i = c.args.image.now in
     let m = any_view c.image_of.result in
     let n = c.args.node in
-    let has = node_there i.bytes.now (tree_of_parts i.bytes.now (parts_in i)) m.tree n.0 (i.tree c.requires.open) c.requires.node c.image_of.ensures.tree in
+    let has = node_there i.bytes.now (tree_of_parts i.bytes.now (parts_in i)) m.tree n.0
+    (i.tree c.requires.open) c.requires.node c.image_of.ensures.tree in
     let w = node_by m n.0 has in
     let b : true ≡ (is_directory w.0 || is_regular w.0) = sym c.if-can_open.true ∙ c.can_open.ensures w.0 w.1 in
     let s = starts m i.bytes.now (parts_in i) n w.0 c.image_of.ensures.cursors w.1 b in
@@ -39,10 +41,17 @@ returns-then-can_open-clause-opened c = λ t h.
     let q : P m.bytes m.tree = if_some (node_at m.tree n.0) (Q m.tree) (λ x e.
     let b : true ≡ (is_directory x || is_regular x) = sym c.if-can_open.true ∙ c.can_open.ensures x e in
     let s = starts m i.bytes.now (parts_in i) n x c.image_of.ensures.cursors e b in
-    let z = file_starts f i m.tree x n.0 c.opened_at.ensures.image c.opened_at.ensures.node c.opened_at.ensures.position s in
-    rw (← b) (c.opened_at.ensures.error, c.opened_at.ensures.node ∙ sym (node_number m n.0 x e), c.opened_at.ensures.position, z)) in
+    let z = file_starts f i m.tree x n.0 c.opened_at.ensures.image c.opened_at.ensures.node c.opened_at.ensures.position
+    s in
+    rw (← b) (
+      c.opened_at.ensures.error,
+      c.opened_at.ensures.node ∙ sym (node_number m n.0 x e),
+      c.opened_at.ensures.position,
+      z,
+    )) in
     told P i.bytes.now m.bytes t (tree_of_parts i.bytes.now (parts_in i)) m.tree c.one_tree.ensures
-    (if_prop (node_at t n.0) (Q t) (λ x. IsOpenAt-prop t x f (is_directory x || is_regular x))) (i.tree c.requires.open) h
+    (if_prop (node_at t n.0) (Q t) (λ x. IsOpenAt-prop t x f (is_directory x || is_regular x)))
+    (i.tree c.requires.open) h
     c.image_of.ensures.bytes c.image_of.ensures.tree q
 
 pub returns-else-can_open-clause-opened : goal.returns-else-can_open-clause-opened
@@ -57,5 +66,6 @@ returns-else-can_open-clause-opened c = λ t h.
     let b : false ≡ (is_directory x || is_regular x) = sym c.if-can_open.false ∙ c.can_open.ensures x e in
     rw (← b) (c.no_file.ensures.error, c.no_file.ensures.numbers.0, c.no_file.ensures.numbers.1)) in
     told P i.bytes.now m.bytes t (tree_of_parts i.bytes.now (parts_in i)) m.tree c.one_tree.ensures
-    (if_prop (node_at t n.0) (Q t) (λ x. IsOpenAt-prop t x f (is_directory x || is_regular x))) (i.tree c.requires.open) h
+    (if_prop (node_at t n.0) (Q t) (λ x. IsOpenAt-prop t x f (is_directory x || is_regular x)))
+    (i.tree c.requires.open) h
     c.image_of.ensures.bytes c.image_of.ensures.tree q

@@ -13,6 +13,8 @@ pub returns-clause-leads : goal.returns-clause-leads
 returns-clause-leads c = λ z t h.
     let i = c.args.image.now in
     let m = any_view c.image_of.result in
-    let P : List ℕ → Node → Type 0 = λ b u. c.lookup_in.result ≡ led_told (resolution (tree_namespace b u) c.args.path.now c.args.follow) in
-    told P i.bytes.now m.bytes t (tree_of_parts i.bytes.now (parts_in i)) m.tree c.one_tree.ensures (Prim.hlevel props) (i.tree z) h
+    let P : List ℕ → Node → Type 0 =
+    λ b u. c.lookup_in.result ≡ led_told (resolution (tree_namespace b u) c.args.path.now c.args.follow) in
+    told P i.bytes.now m.bytes t (tree_of_parts i.bytes.now (parts_in i)) m.tree c.one_tree.ensures (Prim.hlevel props)
+    (i.tree z) h
     c.image_of.ensures.bytes c.image_of.ensures.tree c.lookup_in.ensures

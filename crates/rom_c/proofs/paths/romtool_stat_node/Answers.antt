@@ -15,7 +15,8 @@ stat_at-requires c =
     let i = c.args.image.now in
     let m = any_view c.image_of.result in
     let z = c.if-image-ne-OPEN.false in
-    node_there i.bytes.now (tree_of_parts i.bytes.now (parts_in i)) m.tree c.args.node (i.tree z) (c.requires z) c.image_of.ensures.tree
+    node_there i.bytes.now (tree_of_parts i.bytes.now (parts_in i)) m.tree c.args.node (i.tree z)
+    (c.requires z) c.image_of.ensures.tree
 
 pub returns-clause-shows : goal.returns-clause-shows
 returns-clause-shows c = λ z t h.

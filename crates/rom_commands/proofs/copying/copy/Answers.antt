@@ -1,40 +1,40 @@
-use Rattle.std.proofs.Common.{◌≡◌, ℕ, List, inl, inr}
+use Rattle.std.proofs.Common.{◌≡◌, ℕ, List, refl}
 use Rattle.rom_fields.specs.Written.{Output}
 use Rattle.image_check.specs.declared.any.AnyImage.{AnyImage}
 use Rattle.image_check.specs.Any.{any_view}
 use Rattle.rom_tree.specs.Image.{Image}
-use Rattle.rom_commands.specs.Lines.{fault_line}
 use Rattle.rom_commands.specs.Answers.{Holds, usual_limits}
 use Rattle.rom_commands.specs.Copying.{Copies, CopyEnds}
 use Rattle.rom_commands.specs.declared.copying.Copied.{Copied}
-use Rattle.rom_commands.specs.declared.copying.Copied.TheVariants.{Done, NoFile as Fileless, Refused, Memory, WriteFault}
-use Rattle.rom_commands.proofs.Texts.{usual, held, faulty}
+use Rattle.rom_commands.specs.declared.copying.Copied.TheVariants.{Done, NoFile as Fileless, Refused, Memory}
+use Rattle.rom_commands.specs.declared.copying.Copied.TheVariants.{WriteFault}
+use Rattle.rom_commands.proofs.Texts.{usual, held, fault_of}
 use Rattle.rom_commands.proofs.copying.copy.Goals as goal
 
 -- what was copied of the image that the bytes hold
-copied : (bytes path : List ℕ) (m : Image) (old new : Output) (o : Copied) → Holds bytes m → Copies m path old new o → CopyEnds bytes path old new o
+copied : (bytes path : List ℕ) (m : Image) (old new : Output) (o : Copied) → Holds bytes m → Copies m path old new o
+    → CopyEnds bytes path old new o
 copied bytes path m old new Done h c = (m, h, c)
 copied bytes path m old new (Fileless e) h c = (m, h, c)
-copied bytes path m old new Refused h c = absurd c
+copied bytes path m old new (Refused n at) h c = absurd c
 copied bytes path m old new Memory h c = absurd c
-copied bytes path m old new WriteFault h c = inl (m, h, c)
+copied bytes path m old new WriteFault h c = (m, h, c)
 
 pub returns-in-Ok : goal.returns-in-Ok
 returns-in-Ok g c =
     let v : AnyImage = c.in-Ok.image in
     let e : c.usual.result ≡ usual_limits = usual c.usual.result c.usual.ensures.references c.usual.ensures.depth in
-    copied c.args.bytes.now c.args.path.now (any_view v) (g.W.ByteWrite.output c.args.w.now) (g.W.ByteWrite.output c.copy_file.new.w) c.copy_file.result (held c.args.bytes.now c.usual.result v e c.in-Ok.ensures.ok c.in-Ok.ensures.clean) c.copy_file.ensures
+    copied c.args.bytes.now c.args.path.now (any_view v) (g.W.ByteWrite.output c.args.w.now)
+    (g.W.ByteWrite.output c.copy_file.new.w) c.copy_file.result
+    (held c.args.bytes.now c.usual.result v e c.in-Ok.ensures.ok c.in-Ok.ensures.clean) c.copy_file.ensures
 
-pub returns-in-Ok-write_fault_line : goal.returns-in-Ok-write_fault_line
-returns-in-Ok-write_fault_line g c =
+pub returns-in-Err-Fault : goal.returns-in-Err-Fault
+returns-in-Err-Fault g c =
     let n : ℕ = c.in-Err-Fault.number in
     let at : ℕ = c.in-Err-Fault.at in
-    let e : c.usual.result ≡ usual_limits = usual c.usual.result c.usual.ensures.references c.usual.ensures.depth in
-    (fault_line n at, faulty c.args.bytes.now c.usual.result n at e (rw c.in-Err-Fault.field-0-is at c.in-Err-Fault.ensures.fault) (rw c.in-Err-Fault.field-0-is at c.in-Err-Fault.ensures.least), c.in-Ok-write_fault_line.ensures.text, c.in-Ok-write_fault_line.ensures.count)
-
-pub returns-in-Err : goal.returns-in-Err
-returns-in-Err g c =
-    let n : ℕ = c.in-Err-Fault.number in
-    let at : ℕ = c.in-Err-Fault.at in
-    let e : c.usual.result ≡ usual_limits = usual c.usual.result c.usual.ensures.references c.usual.ensures.depth in
-    inr (fault_line n at, faulty c.args.bytes.now c.usual.result n at e (rw c.in-Err-Fault.field-0-is at c.in-Err-Fault.ensures.fault) (rw c.in-Err-Fault.field-0-is at c.in-Err-Fault.ensures.least), c.in-Err.ensures.text, c.in-Err.ensures.count)
+    let e : c.usual.result ≡ usual_limits = usual c.usual.result c.usual.ensures.references c.usual.ensures.depth in (
+      fault_of c.args.bytes.now c.usual.result n at e
+          (rw c.in-Err-Fault.field-0-is at c.in-Err-Fault.ensures.fault)
+          (rw c.in-Err-Fault.field-0-is at c.in-Err-Fault.ensures.least),
+      refl,
+    )

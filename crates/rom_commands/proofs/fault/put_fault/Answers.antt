@@ -8,5 +8,6 @@ returns g c =
     let from : Sink = sink (g.W.ByteWrite.output c.put-2.new.w) c.put-2.new.failed in
     let to : Sink = sink (g.W.ByteWrite.output c.put-3.new.w) c.put-3.new.failed in
     let P : List ℕ → Type 0 = λ v. Puts from to v in
-    chain c.put.ensures (chain c.put_decimal.ensures (chain c.put-2.ensures (chain (subst P (c.as_bytes.ensures.value ∙ c.name.ensures) c.put-3.ensures)
+    chain c.put.ensures (chain c.put_decimal.ensures
+    (chain c.put-2.ensures (chain (subst P (c.as_bytes.ensures.value ∙ c.name.ensures) c.put-3.ensures)
     (chain c.put-4.ensures c.put_decimal-2.ensures))))

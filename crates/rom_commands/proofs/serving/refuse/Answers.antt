@@ -1,19 +1,32 @@
+use Rattle.std.proofs.Common.{refl, sym, ◌∙◌}
+use Rattle.rom_commands.specs.declared.shown.Outcome.TheVariants as outcome
 use Rattle.rom_fields.specs.Written.{Output}
 use Rattle.rom_commands.proofs.Known.{ends_by, tells_by}
 use Rattle.rom_commands.proofs.serving.refuse.Goals as goal
 
-pub returns-clause-tells : goal.returns-clause-tells
-returns-clause-tells g c =
+pub returns-then-takes_fault-clause-tells : goal.returns-then-takes_fault-clause-tells
+returns-then-takes_fault-clause-tells g c = λ k.
     let w₀ : Output = g.W.ByteWrite.output c.args.w.now in
     let w : Output = g.W.ByteWrite.output c.tell_fault-written.new.w in
     let err : Output = g.E.ByteWrite.output c.args.err.now in
     let err' : Output = g.E.ByteWrite.output c.told.new.err in
-    tells_by _ w₀ w err err' c.tell_fault-written.result _ c.tell_fault-written.ensures.text c.tell_fault-written.ensures.count c.tell_fault-written.ensures.flushed c.told.ensures
+    tells_by _ w₀ w err err' c.tell_fault-written.result _ c.tell_fault-written.ensures.text
+    c.tell_fault-written.ensures.count c.tell_fault-written.ensures.flushed c.told.ensures
 
-pub returns-clause-ends : goal.returns-clause-ends
-returns-clause-ends g c = λ bytes asked h.
+pub returns-then-takes_fault-clause-ends : goal.returns-then-takes_fault-clause-ends
+returns-then-takes_fault-clause-ends g c = λ bytes h.
     let w₀ : Output = g.W.ByteWrite.output c.args.w.now in
     let w : Output = g.W.ByteWrite.output c.tell_fault-written.new.w in
     let err : Output = g.E.ByteWrite.output c.args.err.now in
     let err' : Output = g.E.ByteWrite.output c.told.new.err in
-    ends_by bytes asked _ _ w₀ w err err' _ h (tells_by _ w₀ w err err' c.tell_fault-written.result _ c.tell_fault-written.ensures.text c.tell_fault-written.ensures.count c.tell_fault-written.ensures.flushed c.told.ensures)
+    ends_by bytes c.args.asked _ _ w₀ w err err' _ (sym c.takes_fault.ensures ∙ c.if-takes_fault.true) h
+    (tells_by _ w₀ w err err' c.tell_fault-written.result _ c.tell_fault-written.ensures.text
+    c.tell_fault-written.ensures.count c.tell_fault-written.ensures.flushed c.told.ensures)
+
+pub returns-else-takes_fault-clause-ends : goal.returns-else-takes_fault-clause-ends
+returns-else-takes_fault-clause-ends g c = λ bytes h. (
+  outcome.Faulty c.args.fault.number c.args.fault.at,
+  c.complain_of_fault.ensures.status,
+  (h, sym c.takes_fault.ensures ∙ c.if-takes_fault.false, refl),
+  c.complain_of_fault.ensures.said,
+)

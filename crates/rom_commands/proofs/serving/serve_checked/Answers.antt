@@ -16,6 +16,9 @@ returns-in-Err-Fault g c =
     let r₀ : Input = input_of (g.R.ByteRead.remaining c.args.r.now) (g.R.ByteRead.failures c.args.r.now) in
     let w₀ = g.W.ByteWrite.output c.args.w.now in
     let w = g.W.ByteWrite.output c.tell_fault.new.w in
-    let told : Tells text r₀ r₀ w₀ w c.refused.result = subst (λ o. Tells text r₀ r₀ w₀ w o) (sym c.refused.ensures) (tells_by r₀ w₀ w text c.tell_fault.result c.tell_fault.ensures.text c.tell_fault.ensures.count c.tell_fault.ensures.flushed) in
+    let told : Tells text r₀ r₀ w₀ w c.refused.result =
+    subst (λ o. Tells text r₀ r₀ w₀ w o) (sym c.refused.ensures)
+    (tells_by r₀ w₀ w text c.tell_fault.result c.tell_fault.ensures.text c.tell_fault.ensures.count
+    c.tell_fault.ensures.flushed) in
     let e : v.field-0 ≡ check.Fault v.number v.at = rw v.is at v.field-0-is in
     rw v.is (subst (λ (f : CheckError). CheckedEnds (Err f) r₀ r₀ w₀ w c.refused.result) (sym e) told)

@@ -4,22 +4,32 @@ use Rattle.rom_commands.proofs.several.write_fault_in_line.Goals as goal
 
 pub returns-then-failed-clause-text : goal.returns-then-failed-clause-text
 unfolding fault_in_line
-returns-then-failed-clause-text g c = said_front _ _ _ _ c.if-failed.true (chain c.put_fault.ensures (chain c.put.ensures (chain c.put_decimal.ensures c.put-2.ensures)))
+returns-then-failed-clause-text g c =
+    said_front _ _ _ _ c.if-failed.true
+    (chain c.put_fault.ensures (chain c.put.ensures (chain c.put_decimal.ensures c.put-2.ensures)))
 
 pub returns-then-failed-clause-count : goal.returns-then-failed-clause-count
 unfolding fault_in_line
-returns-then-failed-clause-count g c = said_rose _ _ _ _ c.if-failed.true (chain c.put_fault.ensures (chain c.put.ensures (chain c.put_decimal.ensures c.put-2.ensures)))
+returns-then-failed-clause-count g c =
+    said_rose _ _ _ _ c.if-failed.true
+    (chain c.put_fault.ensures (chain c.put.ensures (chain c.put_decimal.ensures c.put-2.ensures)))
 
 pub returns-else-failed-clause-text : goal.returns-else-failed-clause-text
 unfolding fault_in_line
-returns-else-failed-clause-text g c = said_ok _ _ _ _ c.if-failed.false (chain c.put_fault.ensures (chain c.put.ensures (chain c.put_decimal.ensures c.put-2.ensures)))
+returns-else-failed-clause-text g c =
+    said_ok _ _ _ _ c.if-failed.false (chain c.put_fault.ensures
+    (chain c.put.ensures (chain c.put_decimal.ensures c.put-2.ensures)))
 
 pub returns-else-failed-clause-count : goal.returns-else-failed-clause-count
 unfolding fault_in_line
-returns-else-failed-clause-count g c = said_quiet _ _ _ _ c.if-failed.false (chain c.put_fault.ensures (chain c.put.ensures (chain c.put_decimal.ensures c.put-2.ensures)))
+returns-else-failed-clause-count g c =
+    said_quiet _ _ _ _ c.if-failed.false
+    (chain c.put_fault.ensures (chain c.put.ensures (chain c.put_decimal.ensures c.put-2.ensures)))
 
 pub returns-then-failed-clause-unflushed : goal.returns-then-failed-clause-unflushed
-returns-then-failed-clause-unflushed g c = (chain c.put_fault.ensures (chain c.put.ensures (chain c.put_decimal.ensures c.put-2.ensures))).unflushed
+returns-then-failed-clause-unflushed g c =
+    (chain c.put_fault.ensures (chain c.put.ensures (chain c.put_decimal.ensures c.put-2.ensures))).unflushed
 
 pub returns-else-failed-clause-unflushed : goal.returns-else-failed-clause-unflushed
-returns-else-failed-clause-unflushed g c = (chain c.put_fault.ensures (chain c.put.ensures (chain c.put_decimal.ensures c.put-2.ensures))).unflushed
+returns-else-failed-clause-unflushed g c =
+    (chain c.put_fault.ensures (chain c.put.ensures (chain c.put_decimal.ensures c.put-2.ensures))).unflushed

@@ -1,12 +1,11 @@
-use Rattle.std.proofs.Common.{◌≡◌, ℕ, inl, inr, sym, ◌∙◌}
+use Rattle.std.proofs.Common.{◌≡◌, ℕ, true, false, inl, refl, sym, ◌∙◌}
 use Rattle.rom_fields.specs.Failures.{Rose}
 use Rattle.rom_fields.specs.Written.{AppendsPrefix, Output}
 use Rattle.image_check.specs.declared.any.AnyImage.{AnyImage}
 use Rattle.image_gaps.proofs.Given.{check_gave}
-use Rattle.rom_commands.specs.Asked.{sound_text}
-use Rattle.rom_commands.specs.Lines.{fault_line}
+use Rattle.rom_commands.specs.Asked.{sound_text, warns}
 use Rattle.rom_commands.specs.Answers.{usual_limits}
-use Rattle.rom_commands.proofs.Texts.{usual, sound, faulty, shown_fits}
+use Rattle.rom_commands.proofs.Texts.{usual, sound, fault_of, fault_ends, shown_fits}
 use Rattle.rom_commands.proofs.shown.show.Goals as goal
 
 pub write_sound-requires : goal.write_sound-requires
@@ -21,14 +20,26 @@ write_sound-requires g c =
 pub returns-then-warned : goal.returns-then-warned
 returns-then-warned g c =
     let v : AnyImage = c.in-Ok.image in
-    let e : c.usual.result ≡ usual_limits = usual c.usual.result c.usual.ensures.references c.usual.ensures.depth in
-    (sound_text c.args.asked v, sound c.args.bytes.now c.args.asked c.usual.result v e c.in-Ok.ensures.ok c.in-Ok.ensures.format c.in-Ok.ensures.clean, c.in-Ok-write_sound.ensures.text.0, c.in-Ok-write_sound.ensures.text.1, sym c.in-Ok-write_sound.ensures.warns ∙ c.if-warned.true)
+    let e : c.usual.result ≡ usual_limits = usual c.usual.result c.usual.ensures.references c.usual.ensures.depth in (
+      sound_text c.args.asked v,
+      sound c.args.bytes.now c.args.asked c.usual.result v e c.in-Ok.ensures.ok
+          c.in-Ok.ensures.format c.in-Ok.ensures.clean true
+          (sym c.if-warned.true ∙ c.in-Ok-write_sound.ensures.warns),
+      c.in-Ok-write_sound.ensures.text.0,
+      c.in-Ok-write_sound.ensures.text.1,
+    )
 
 pub returns-else-warned : goal.returns-else-warned
 returns-else-warned g c =
     let v : AnyImage = c.in-Ok.image in
-    let e : c.usual.result ≡ usual_limits = usual c.usual.result c.usual.ensures.references c.usual.ensures.depth in
-    (sound_text c.args.asked v, sound c.args.bytes.now c.args.asked c.usual.result v e c.in-Ok.ensures.ok c.in-Ok.ensures.format c.in-Ok.ensures.clean, c.in-Ok-write_sound.ensures.text.0, c.in-Ok-write_sound.ensures.text.1, sym c.in-Ok-write_sound.ensures.warns ∙ c.if-warned.false)
+    let e : c.usual.result ≡ usual_limits = usual c.usual.result c.usual.ensures.references c.usual.ensures.depth in (
+      sound_text c.args.asked v,
+      sound c.args.bytes.now c.args.asked c.usual.result v e c.in-Ok.ensures.ok
+          c.in-Ok.ensures.format c.in-Ok.ensures.clean false
+          (sym c.if-warned.false ∙ c.in-Ok-write_sound.ensures.warns),
+      c.in-Ok-write_sound.ensures.text.0,
+      c.in-Ok-write_sound.ensures.text.1,
+    )
 
 pub returns-in-Err-WriteFault : goal.returns-in-Err-WriteFault
 returns-in-Err-WriteFault g c =
@@ -39,25 +50,23 @@ returns-in-Err-WriteFault g c =
     let h : AppendsPrefix old.contents new.contents (sound_text c.args.asked v) × Rose old.failures new.failures =
     rw c.in-Err-WriteFault.field-0-is at c.in-Err-WriteFault.ensures.text in (
       sound_text c.args.asked v,
-      inl (sound c.args.bytes.now c.args.asked c.usual.result v e c.in-Ok.ensures.ok c.in-Ok.ensures.format c.in-Ok.ensures.clean),
+      inl (
+        warns c.args.asked v,
+        sound c.args.bytes.now c.args.asked c.usual.result v e c.in-Ok.ensures.ok c.in-Ok.ensures.format
+            c.in-Ok.ensures.clean (warns c.args.asked v) refl,
+      ),
       h.0,
       h.1,
     )
 
-pub returns-in-Ok-write_fault_line : goal.returns-in-Ok-write_fault_line
-returns-in-Ok-write_fault_line g c =
+pub returns-in-Err-Fault : goal.returns-in-Err-Fault
+returns-in-Err-Fault g c =
     let n : ℕ = c.in-Err-Fault.number in
     let at : ℕ = c.in-Err-Fault.at in
     let e : c.usual.result ≡ usual_limits = usual c.usual.result c.usual.ensures.references c.usual.ensures.depth in
-    (fault_line n at, faulty c.args.bytes.now c.usual.result n at e (rw c.in-Err-Fault.field-0-is at c.in-Err-Fault.ensures.fault) (rw c.in-Err-Fault.field-0-is at c.in-Err-Fault.ensures.least), rw c.in-Err-Fault.field-0-is at c.in-Ok-write_fault_line.ensures.text, c.in-Ok-write_fault_line.ensures.count)
-
-pub returns-in-Err : goal.returns-in-Err
-returns-in-Err g c =
-    let n : ℕ = c.in-Err-Fault.number in
-    let at : ℕ = c.in-Err-Fault.at in
-    let e : c.usual.result ≡ usual_limits = usual c.usual.result c.usual.ensures.references c.usual.ensures.depth in (
-      fault_line n at,
-      inr (faulty c.args.bytes.now c.usual.result n at e (rw c.in-Err-Fault.field-0-is at c.in-Err-Fault.ensures.fault) (rw c.in-Err-Fault.field-0-is at c.in-Err-Fault.ensures.least)),
-      rw c.in-Err-Fault.field-0-is at c.in-Err.ensures.text,
-      c.in-Err.ensures.count,
-    )
+    fault_ends c.args.bytes.now n at c.args.asked (g.W.ByteWrite.output c.args.w.now)
+    (g.W.ByteWrite.output c.show_fault.new.w) c.show_fault.result
+    (fault_of c.args.bytes.now c.usual.result n at e
+    (rw c.in-Err-Fault.field-0-is at c.in-Err-Fault.ensures.fault)
+    (rw c.in-Err-Fault.field-0-is at c.in-Err-Fault.ensures.least))
+    (rw c.in-Err-Fault.field-0-is at c.show_fault.ensures)

@@ -5,7 +5,9 @@ use Rattle.rom_fields.proofs.sink.write_whole.Goals as goal
 
 pub returns-in-Ok-eq0-clause-text : goal.returns-in-Ok-eq0-clause-text
 returns-in-Ok-eq0-clause-text g c =
-    front_take _ _ c.args.b.now (c.loop-at.at + c.in-Ok-eq0.field-0) (appends_tail _ _ _ c.args.b.now c.loop-at.at c.in-Ok-eq0.field-0 c.loop-at.invariant.written c.in-Ok-eq0.ensures.bytes)
+    front_take _ _ c.args.b.now (c.loop-at.at + c.in-Ok-eq0.field-0)
+    (appends_tail _ _ _ c.args.b.now c.loop-at.at c.in-Ok-eq0.field-0 c.loop-at.invariant.written
+    c.in-Ok-eq0.ensures.bytes)
 
 pub returns-in-Err-clause-text : goal.returns-in-Err-clause-text
 returns-in-Err-clause-text g c =

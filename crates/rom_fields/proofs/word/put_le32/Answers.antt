@@ -4,10 +4,15 @@ use Rattle.rom_fields.proofs.word.put_le32.Goals as goal
 use Rattle.rom_fields.proofs.word.put_le32.Goals.{then-b-lt4-via-then-b-lt4, then-b-lt4-via-else-b-lt4+then-at-b}
 
 pub returns-clause-put : goal.returns-clause-put
-returns-clause-put c = put_mid-little c.args.b.now c.args.at c.args.v c.write_u32.new.buf (omega arith) c.write_u32.ensures
+returns-clause-put c =
+    put_mid-little c.args.b.now c.args.at c.args.v c.write_u32.new.buf (omega arith) c.write_u32.ensures
 
 pub returns-then-b-lt4-clause-fits : goal.returns-then-b-lt4-clause-fits
 returns-then-b-lt4-clause-fits c = (
   (λ h. absurd (search rules)),
-  (λ h. elim c.then-b-lt4.branch [ then-b-lt4-via-then-b-lt4 w ↦ absurd (omega arith) | then-b-lt4-via-else-b-lt4+then-at-b w ↦ absurd (omega arith) ]),
+  (λ h. elim c.then-b-lt4.branch [
+    | then-b-lt4-via-then-b-lt4 w ↦ absurd
+        (omega arith)
+    | then-b-lt4-via-else-b-lt4+then-at-b w ↦ absurd (omega arith)
+  ]),
 )

@@ -10,7 +10,8 @@ unfolding words_sum
 returns c =
     let none = words_total-short c.loop-rest.rest.now (omega arith) in
     let fits : c.loop-rest.sum < 2 ^ 32 = omega arith in
-    sym (mod-eq_of_lt fits) ∙ ap (λ (x : ℕ). x % 2 ^ 32) (sym (add-zero c.loop-rest.sum) ∙ ap (λ (x : ℕ). c.loop-rest.sum + x) (sym none)) ∙ c.loop-rest.invariant
+    sym (mod-eq_of_lt fits) ∙ ap (λ (x : ℕ). x % 2 ^ 32)
+    (sym (add-zero c.loop-rest.sum) ∙ ap (λ (x : ℕ). c.loop-rest.sum + x) (sym none)) ∙ c.loop-rest.invariant
 
 pub loop-rest-preserved : goal.loop-rest-preserved
 loop-rest-preserved c =
@@ -22,4 +23,5 @@ loop-rest-preserved c =
     ∙ c.loop-rest.invariant)
 
 pub loop-rest-init : goal.loop-rest-init
-loop-rest-init c = let same : 0 + words_total c.args.b.now ≡ words_total c.args.b.now = omega arith in ap (λ (x : ℕ). x % 2 ^ 32) same
+loop-rest-init c =
+    let same : 0 + words_total c.args.b.now ≡ words_total c.args.b.now = omega arith in ap (λ (x : ℕ). x % 2 ^ 32) same

@@ -44,7 +44,8 @@ returns-clause-write_fault g c =
 pub returns-clause-too_many : goal.returns-clause-too_many
 returns-clause-too_many g c =
     let m : Image = g.T.Viewed.image c.args.image in
-    let P : Table Node → Type 0 = λ s. c.serve_lines.result ≡ Err TooManyReads → (y : List ℕ) × (length y ≡ c.args.reads)
+    let P : Table Node → Type 0 =
+    λ s. c.serve_lines.result ≡ Err TooManyReads → (y : List ℕ) × (length y ≡ c.args.reads)
     × Finishes (image_machine m) s
     (g.R.ByteRead.remaining c.args.r.now) (g.R.ByteRead.remaining c.serve_lines.new.r)
     (g.W.ByteWrite.output c.args.w.now) (g.W.ByteWrite.output c.serve_lines.new.w) y in

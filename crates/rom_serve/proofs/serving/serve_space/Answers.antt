@@ -19,47 +19,55 @@ pub returns-clause-ok : goal.returns-clause-ok
 returns-clause-ok g c =
     let same : map g.T.Viewed.image c.new-calls.result.images.items ≡ map g.T.Viewed.image c.args.images.items =
     ap (λ v. map g.T.Viewed.image v.items) c.new-calls.ensures.images in
-    let P : List Image → Sessions (List Mount) (Table MountedNode) → Type 0 = λ ms s. OnOk c.serve_lines.result (Serves (space_machine ms) s
+    let P : List Image → Sessions (List Mount) (Table MountedNode) → Type 0 =
+    λ ms s. OnOk c.serve_lines.result (Serves (space_machine ms) s
     (g.R.ByteRead.remaining c.args.r.now) (g.R.ByteRead.remaining c.serve_lines.new.r)
     (g.W.ByteWrite.output c.args.w.now) (g.W.ByteWrite.output c.serve_lines.new.w)) in
     subst (λ ms. P ms (no_sessions 64)) same
-    (subst (P (map g.T.Viewed.image c.new-calls.result.images.items)) c.new-calls.ensures.empty c.serve_lines.ensures.ok)
+    (subst (P (map g.T.Viewed.image c.new-calls.result.images.items)) c.new-calls.ensures.empty
+    c.serve_lines.ensures.ok)
 
 pub returns-clause-write_fault : goal.returns-clause-write_fault
 returns-clause-write_fault g c =
     let same : map g.T.Viewed.image c.new-calls.result.images.items ≡ map g.T.Viewed.image c.args.images.items =
     ap (λ v. map g.T.Viewed.image v.items) c.new-calls.ensures.images in
-    let P : List Image → Sessions (List Mount) (Table MountedNode) → Type 0 = λ ms s. c.serve_lines.result ≡ Err WriteFault
+    let P : List Image → Sessions (List Mount) (Table MountedNode) → Type 0 =
+    λ ms s. c.serve_lines.result ≡ Err WriteFault
     → Rose ((g.W.ByteWrite.output c.args.w.now).failures) ((g.W.ByteWrite.output c.serve_lines.new.w).failures)
     × Breaks (space_machine ms) s
     (g.R.ByteRead.remaining c.args.r.now) (g.R.ByteRead.remaining c.serve_lines.new.r)
     (g.W.ByteWrite.output c.args.w.now) (g.W.ByteWrite.output c.serve_lines.new.w) in
     subst (λ ms. P ms (no_sessions 64)) same
-    (subst (P (map g.T.Viewed.image c.new-calls.result.images.items)) c.new-calls.ensures.empty c.serve_lines.ensures.write_fault)
+    (subst (P (map g.T.Viewed.image c.new-calls.result.images.items)) c.new-calls.ensures.empty
+    c.serve_lines.ensures.write_fault)
 
 pub returns-clause-read_fault : goal.returns-clause-read_fault
 returns-clause-read_fault g c =
     let same : map g.T.Viewed.image c.new-calls.result.images.items ≡ map g.T.Viewed.image c.args.images.items =
     ap (λ v. map g.T.Viewed.image v.items) c.new-calls.ensures.images in
-    let P : List Image → Sessions (List Mount) (Table MountedNode) → Type 0 = λ ms s. c.serve_lines.result ≡ Err ReadFault
+    let P : List Image → Sessions (List Mount) (Table MountedNode) → Type 0 =
+    λ ms s. c.serve_lines.result ≡ Err ReadFault
     → Rose (g.R.ByteRead.failures c.args.r.now) (g.R.ByteRead.failures c.serve_lines.new.r)
     × ((y : List ℕ) × Finishes (space_machine ms) s
     (g.R.ByteRead.remaining c.args.r.now) (g.R.ByteRead.remaining c.serve_lines.new.r)
     (g.W.ByteWrite.output c.args.w.now) (g.W.ByteWrite.output c.serve_lines.new.w) y) in
     subst (λ ms. P ms (no_sessions 64)) same
-    (subst (P (map g.T.Viewed.image c.new-calls.result.images.items)) c.new-calls.ensures.empty c.serve_lines.ensures.read_fault)
+    (subst (P (map g.T.Viewed.image c.new-calls.result.images.items)) c.new-calls.ensures.empty
+    c.serve_lines.ensures.read_fault)
 
 pub returns-clause-too_many : goal.returns-clause-too_many
 returns-clause-too_many g c =
     let same : map g.T.Viewed.image c.new-calls.result.images.items ≡ map g.T.Viewed.image c.args.images.items =
     ap (λ v. map g.T.Viewed.image v.items) c.new-calls.ensures.images in
-    let P : List Image → Sessions (List Mount) (Table MountedNode) → Type 0 = λ ms s. c.serve_lines.result ≡ Err TooManyReads
+    let P : List Image → Sessions (List Mount) (Table MountedNode) → Type 0 =
+    λ ms s. c.serve_lines.result ≡ Err TooManyReads
     → (y : List ℕ) × (length y ≡ 2 ^ 40)
     × Finishes (space_machine ms) s
     (g.R.ByteRead.remaining c.args.r.now) (g.R.ByteRead.remaining c.serve_lines.new.r)
     (g.W.ByteWrite.output c.args.w.now) (g.W.ByteWrite.output c.serve_lines.new.w) y in
     subst (λ ms. P ms (no_sessions 64)) same
-    (subst (P (map g.T.Viewed.image c.new-calls.result.images.items)) c.new-calls.ensures.empty c.serve_lines.ensures.too_many)
+    (subst (P (map g.T.Viewed.image c.new-calls.result.images.items)) c.new-calls.ensures.empty
+    c.serve_lines.ensures.too_many)
 
 pub returns-clause-bounded : goal.returns-clause-bounded
 returns-clause-bounded g c = c.serve_lines.ensures.bounded

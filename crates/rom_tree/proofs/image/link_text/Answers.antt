@@ -24,7 +24,9 @@ returns-in-Some g c = λ y d.
     let run : Run = c.in-Some.run' in
     let is_run : IsRun (places_of link.0) 0 run = c.in-Some.ensures.row link.0 link.1 in
     let whole : run.len ≡ length (places_of link.0) = c.in-Some.ensures.whole link.0 link.1 link.2 refl in
-    let text : take run.len (drop run.place m.bytes) ≡ contents_of m.bytes link.0 = run_bytes m c.args.n.0 link.0 run link.1 is_run whole in
+    let text : take run.len (drop run.place m.bytes) ≡ contents_of m.bytes link.0 =
+    run_bytes m c.args.n.0 link.0 run link.1 is_run whole in
     let P : List ℕ → Type 0 = λ v. c.bytes_from.result.now ≡ v in
     let Q : List ℕ → Type 0 = λ v. c.bytes_from.result.now ≡ take run.len (drop run.place v) in
-    subst P (text ∙ ap (contents_of m.bytes) (same_node m c.args.n.0 link.0 y link.1 d)) (subst Q c.bytes-bytes.ensures c.bytes_from.ensures)
+    subst P (text ∙ ap (contents_of m.bytes) (same_node m c.args.n.0 link.0 y link.1 d))
+    (subst Q c.bytes-bytes.ensures c.bytes_from.ensures)

@@ -14,6 +14,8 @@ returns g c = λ x e.
     let m : Image = g.T.Viewed.image c.args.image.now in
     let from : Sink = sink (g.W.ByteWrite.output c.args.w.now) c.args.failed.now in
     let to : Sink = sink (g.W.ByteWrite.output c.put-2.new.w) c.put-2.new.failed in
-    let P : Stat → Type 0 = λ v. Puts from to (stat_line (escaped (given_path c.args.walk.now)) (target_text m.bytes x) v) in
+    let P : Stat → Type 0 =
+    λ v. Puts from to (stat_line (escaped (given_path c.args.walk.now)) (target_text m.bytes x) v) in
     subst P (c.stat.ensures x e)
-    (chain c.put_stat.ensures (chain c.put.ensures (chain c.put_path.ensures (chain (c.put_target.ensures x e) c.put-2.ensures))))
+    (chain c.put_stat.ensures (chain c.put.ensures
+    (chain c.put_path.ensures (chain (c.put_target.ensures x e) c.put-2.ensures))))

@@ -20,7 +20,8 @@ returns-then-is_link_at g c = λ x e.
     let to : Sink = sink (g.W.ByteWrite.output c.put_escaped.new.w) c.put_escaped.new.failed in
     let P : Bool → Type 0 = λ v. Puts from to (if v then 32 ∷ escaped (contents_of m.bytes x) else []) in
     let Q : List ℕ → Type 0 = λ v. Puts from to (32 ∷ escaped v) in
-    subst P (c.if-is_link_at.ensures x e) (subst Q (c.link_text.ensures x e) (chain c.put.ensures c.put_escaped.ensures))
+    subst P (c.if-is_link_at.ensures x e)
+    (subst Q (c.link_text.ensures x e) (chain c.put.ensures c.put_escaped.ensures))
 
 pub returns-else-is_link_at : goal.returns-else-is_link_at
 returns-else-is_link_at g c = λ x e.

@@ -26,12 +26,14 @@ loop-failed-preserved g c =
     let m : Image = g.T.Viewed.image c.args.image.now in
     let i = c.loop-failed.invariant in
     let n = c.in-Some.ensures.given in
-    let P : List ℕ → Type 0 = λ v. Puts (sink (g.W.ByteWrite.output c.loop-failed.w) c.loop-failed.failed) (sink (g.W.ByteWrite.output c.put_line.new.w) c.put_line.new.failed) (line m.bytes (escaped v) n.name.node) in
+    let P : List ℕ → Type 0 = λ v. Puts (sink (g.W.ByteWrite.output c.loop-failed.w) c.loop-failed.failed)
+    (sink (g.W.ByteWrite.output c.put_line.new.w) c.put_line.new.failed) (line m.bytes (escaped v) n.name.node) in
     record {
       walk = c.in-Some.ensures.walk;
       done = i.done ++ name_line m.bytes n.name;
       puts = chain i.puts (subst P n.path (c.put_line.ensures n.name.node n.node));
-      rest = more_texts m.bytes i.done (list_text m.bytes m.tree) n.name (to_come m c.loop-failed.walk) (to_come m c.next.new.self) n.first i.rest;
+      rest = more_texts m.bytes i.done (list_text m.bytes m.tree) n.name (to_come m c.loop-failed.walk)
+          (to_come m c.next.new.self) n.first i.rest;
     }
 
 pub loop-failed-smaller : goal.loop-failed-smaller
@@ -50,19 +52,30 @@ pub returns-clause-err : goal.returns-clause-err
 returns-clause-err g c =
     let m : Image = g.T.Viewed.image c.args.image.now in
     let i = c.loop-failed.invariant in
-    let P : List ℕ → Type 0 = λ v. AppendsPrefix (g.W.ByteWrite.output c.args.w.now).contents (g.W.ByteWrite.output c.loop-failed.w).contents v in
-    subst P i.rest (front_first (g.W.ByteWrite.output c.args.w.now).contents (g.W.ByteWrite.output c.loop-failed.w).contents i.done (listed m.bytes (to_come m c.loop-failed.walk)) (said_front (g.W.ByteWrite.output c.args.w.now) (g.W.ByteWrite.output c.loop-failed.w) c.loop-failed.failed i.done c.loop-failed-test.false i.puts))
+    let P : List ℕ → Type 0 = λ v. AppendsPrefix (g.W.ByteWrite.output c.args.w.now).contents
+    (g.W.ByteWrite.output c.loop-failed.w).contents v in
+    subst P i.rest (front_first (g.W.ByteWrite.output c.args.w.now).contents
+    (g.W.ByteWrite.output c.loop-failed.w).contents i.done (listed m.bytes (to_come m c.loop-failed.walk))
+    (said_front (g.W.ByteWrite.output c.args.w.now)
+    (g.W.ByteWrite.output c.loop-failed.w) c.loop-failed.failed i.done c.loop-failed-test.false i.puts))
 
 pub returns-clause-count : goal.returns-clause-count
-returns-clause-count g c = let i = c.loop-failed.invariant in said_rose (g.W.ByteWrite.output c.args.w.now) (g.W.ByteWrite.output c.loop-failed.w) c.loop-failed.failed i.done c.loop-failed-test.false i.puts
+returns-clause-count g c = let i = c.loop-failed.invariant in said_rose (g.W.ByteWrite.output c.args.w.now)
+    (g.W.ByteWrite.output c.loop-failed.w) c.loop-failed.failed i.done c.loop-failed-test.false i.puts
 
 pub returns-in_default-clause-ok : goal.returns-in_default-clause-ok
 returns-in_default-clause-ok g c =
     let m : Image = g.T.Viewed.image c.args.image.now in
     let i = c.loop-failed.invariant in
-    let e : i.done ≡ list_text m.bytes m.tree = last_texts m.bytes i.done (list_text m.bytes m.tree) (to_come m c.loop-failed.walk) c.in_default.ensures.given.before i.rest in
-    let P : List ℕ → Type 0 = λ v. Appends (g.W.ByteWrite.output c.args.w.now).contents (g.W.ByteWrite.output c.loop-failed.w).contents v in
-    subst P e (said_ok (g.W.ByteWrite.output c.args.w.now) (g.W.ByteWrite.output c.loop-failed.w) c.loop-failed.failed i.done c.loop-failed-test.true i.puts)
+    let e : i.done ≡ list_text m.bytes m.tree =
+    last_texts m.bytes i.done (list_text m.bytes m.tree)
+    (to_come m c.loop-failed.walk) c.in_default.ensures.given.before i.rest in
+    let P : List ℕ → Type 0 =
+    λ v. Appends (g.W.ByteWrite.output c.args.w.now).contents (g.W.ByteWrite.output c.loop-failed.w).contents v in
+    subst P e (said_ok (g.W.ByteWrite.output c.args.w.now)
+    (g.W.ByteWrite.output c.loop-failed.w) c.loop-failed.failed i.done c.loop-failed-test.true i.puts)
 
 pub returns-in_default-clause-count : goal.returns-in_default-clause-count
-returns-in_default-clause-count g c = let i = c.loop-failed.invariant in said_quiet (g.W.ByteWrite.output c.args.w.now) (g.W.ByteWrite.output c.loop-failed.w) c.loop-failed.failed i.done c.loop-failed-test.true i.puts
+returns-in_default-clause-count g c = let i =
+    c.loop-failed.invariant in said_quiet (g.W.ByteWrite.output c.args.w.now)
+    (g.W.ByteWrite.output c.loop-failed.w) c.loop-failed.failed i.done c.loop-failed-test.true i.puts

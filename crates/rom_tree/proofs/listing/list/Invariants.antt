@@ -11,7 +11,8 @@ invariant-loop-failed g l = record {
   walk : IsWalk (g.T.Viewed.image l.image) l.walk;
   done : List ℕ;
   puts : Puts (sink (g.W.ByteWrite.output l.fn.w) false) (sink (g.W.ByteWrite.output l.w) l.failed) done;
-  rest : done ++ listed (g.T.Viewed.image l.image).bytes (to_come (g.T.Viewed.image l.image) l.walk) ≡ list_text (g.T.Viewed.image l.image).bytes (g.T.Viewed.image l.image).tree;
+  rest : done ++ listed (g.T.Viewed.image l.image).bytes (to_come (g.T.Viewed.image l.image) l.walk)
+      ≡ list_text (g.T.Viewed.image l.image).bytes (g.T.Viewed.image l.image).tree;
 }
 
 abbrev pub decreases-loop-failed : goal.decreases-loop-failed

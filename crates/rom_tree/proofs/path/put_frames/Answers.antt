@@ -9,11 +9,17 @@ use Rattle.rom_tree.proofs.Paths.{escaped_both, escaped_none}
 use Rattle.rom_tree.proofs.path.put_frames.Goals as goal
 
 pub loop-frame-init : goal.loop-frame-init
-loop-frame-init g c = rw (path_text-nil [], escaped_none) (puts_nothing (sink (g.W.ByteWrite.output c.args.w.now) c.args.failed.now))
+loop-frame-init g c =
+    rw (path_text-nil [], escaped_none) (puts_nothing (sink (g.W.ByteWrite.output c.args.w.now) c.args.failed.now))
 
 pub loop-frame-preserved : goal.loop-frame-preserved
 loop-frame-preserved g c =
     let d : Frame = record { directory = record { 0 = 0 }; cursor = record { 0 = 0 }; name = None } in
     let i : ℕ = c.loop-frame.frame-index in
     let frames : List Frame = c.args.frames.now in
-    rw (take_more frames i d c.loop-frame-test.true, path_text-push [] (take i frames) (get_or frames i d), escaped_both (path_text [] (take i frames)) (name_text (get_or frames i d).name)) (chain c.loop-frame.invariant c.put_name.ensures)
+    rw (
+      take_more frames i d c.loop-frame-test.true,
+      path_text-push [] (take i frames) (get_or frames i d),
+      escaped_both (path_text [] (take i frames)) (name_text (get_or frames i d).name),
+    )
+    (chain c.loop-frame.invariant c.put_name.ensures)

@@ -8,7 +8,8 @@ invariant-loop-len g l = record {
   some : 0 < l.len;
   fits : l.len ≤ l.most;
   within : l.at + l.len ≤ l.size;
-  row : (x : Node) → image_node (g.T.Viewed.image l.image) l.node.0 ≡ Some x → (k : ℕ) → k < l.len → slice_index (places_of x) (l.at + k) ≡ l.place + k;
+  row : (x : Node) → image_node (g.T.Viewed.image l.image) l.node.0 ≡ Some x → (k : ℕ) → k < l.len
+      → slice_index (places_of x) (l.at + k) ≡ l.place + k;
 }
 
 abbrev pub decreases-loop-len : goal.decreases-loop-len

@@ -8,4 +8,5 @@ same : (xs ys zs : List ℕ) (r : Bool) → r ≡ pointwise nat_eq xs ys → ys 
 same xs ys zs r e m = search rules
 
 pub returns-then-bytes-ge8 : goal.returns-then-bytes-ge8
-returns-then-bytes-ge8 c = same (take 8 c.args.bytes.now) c.as_slice.result.now magic c.eq.result c.eq.ensures c.as_slice.ensures
+returns-then-bytes-ge8 c =
+    same (take 8 c.args.bytes.now) c.as_slice.result.now magic c.eq.result c.eq.ensures c.as_slice.ensures

@@ -1,4 +1,5 @@
-use Rattle.std.proofs.Common.{◌≡◌, ◌+◌, ◌<◌, ◌≤◌, ℕ, false, arith, sym, subst, ◌∙◌, take, get_or, List, [], ◌∷◌, ◌++◌, length-append, ◌⊎◌, inl, inr}
+use Rattle.std.proofs.Common.{◌≡◌, ◌+◌, ◌<◌, ◌≤◌, ℕ, false, arith, sym, subst, ◌∙◌, take, get_or, List, [], ◌∷◌, ◌++◌}
+use Rattle.std.proofs.Common.{length-append, ◌⊎◌, inl, inr}
 use Rattle.std.proofs.lemmas.List.{take_more, take_all, get_or_append_left}
 use Rattle.std.proofs.lemmas.List.Elements.{All-push, All-weaker}
 use Rattle.std.proofs.lemmas.List.Quantifiers.{Any-push}
@@ -24,13 +25,16 @@ record Deepest (b : List ℕ) (xs : List Row) (n : ℕ) : Type 0 where
 any_left : (P : Row → Type 0) (xs ys : List Row) → Any P xs → Any P (xs ++ ys)
 any_left P xs ys a = (a.0, a.1, rw length-append (omega arith), get_or_append_left xs ys a.1 a.0 a.2 ∙ a.3, a.4)
 
-higher : (b : List ℕ) (xs : List Row) (x : Row) (n m : ℕ) → Deepest b xs n → m ≡ x.depth → is_dots (name_of b x.offset) ≡ false → n < x.depth → Deepest b (xs ++ x ∷ []) m
+higher : (b : List ℕ) (xs : List Row) (x : Row) (n m : ℕ) → Deepest b xs n → m ≡ x.depth
+    → is_dots (name_of b x.offset) ≡ false → n < x.depth → Deepest b (xs ++ x ∷ []) m
 higher b xs x n m d e t l = record {
-  bound = All-push (Bounds b m) xs x (All-weaker (Bounds b n) (Bounds b m) (λ y h k. let z = h k in omega arith) xs d.bound) (λ k. omega arith);
+  bound = All-push (Bounds b m) xs x (All-weaker (Bounds b n) (Bounds b m)
+      (λ y h k. let z = h k in omega arith) xs d.bound) (λ k. omega arith);
   reached = inr (Any-push (Reaches b m) xs x (t, sym e));
 }
 
-same : (b : List ℕ) (xs : List Row) (x : Row) (n m : ℕ) → Deepest b xs n → m ≡ n → Bounds b n x → Deepest b (xs ++ x ∷ []) m
+same : (b : List ℕ) (xs : List Row) (x : Row) (n m : ℕ) → Deepest b xs n → m ≡ n → Bounds b n x
+    → Deepest b (xs ++ x ∷ []) m
 same b xs x n m d e h = rw e (record {
   bound = All-push (Bounds b n) xs x d.bound h;
   reached = elim d.reached [ inl z ↦ inl z | inr a ↦ inr (any_left (Reaches b n) xs (x ∷ []) a) ];
@@ -42,13 +46,17 @@ rows-preserved c =
     let xs = c.args.rows.now in
     let i = c.rows.row-index in
     let x : Row = get_or xs i blank in
-    let d : Deepest b (take i xs) c.rows.deepest = record { bound = c.rows.invariant.bound; reached = c.rows.invariant.reached } in
+    let d : Deepest b (take i xs) c.rows.deepest =
+    record { bound = c.rows.invariant.bound; reached = c.rows.invariant.reached } in
     let more = take_more xs i blank c.rows-test.true in
     let next : Deepest b (take i xs ++ x ∷ []) c.if-is_too_deep.deepest = elim c.if-is_too_deep.branch [
-      | then-is_too_deep w ↦ higher b (take i xs) x c.rows.deepest c.if-is_too_deep.deepest d w.deepest-is w.if-is_too_deep.ensures.entry w.if-is_too_deep.ensures.deep
-      | else-is_too_deep w ↦ same b (take i xs) x c.rows.deepest c.if-is_too_deep.deepest d w.deepest-is w.if-is_too_deep.ensures.shallow
+      | then-is_too_deep w ↦ higher b (take i xs) x c.rows.deepest c.if-is_too_deep.deepest d w.deepest-is
+          w.if-is_too_deep.ensures.entry w.if-is_too_deep.ensures.deep
+      | else-is_too_deep w ↦ same b (take i xs) x c.rows.deepest c.if-is_too_deep.deepest d w.deepest-is
+          w.if-is_too_deep.ensures.shallow
     ] in
-    let all : Deepest b (take (i + 1) xs) c.if-is_too_deep.deepest = subst (λ (v : List Row). Deepest b v c.if-is_too_deep.deepest) (sym more) next in
+    let all : Deepest b (take (i + 1) xs) c.if-is_too_deep.deepest =
+    subst (λ (v : List Row). Deepest b v c.if-is_too_deep.deepest) (sym more) next in
     record { bound = all.bound; reached = all.reached }
 
 pub returns-clause-bound : goal.returns-clause-bound
@@ -59,4 +67,5 @@ returns-clause-bound c =
 pub returns-clause-reached : goal.returns-clause-reached
 returns-clause-reached c =
     let e = take_all c.rows.row-index c.args.rows.now (omega arith) in
-    subst (λ (v : List Row). (c.rows.deepest ≡ 0) ⊎ Any (Reaches c.args.b.now.bytes.now c.rows.deepest) v) e c.rows.invariant.reached
+    subst (λ (v : List Row). (c.rows.deepest ≡ 0)
+    ⊎ Any (Reaches c.args.b.now.bytes.now c.rows.deepest) v) e c.rows.invariant.reached

@@ -8,5 +8,6 @@ use Rattle.romfs_image.proofs.depth.greatest_depth.Given as goal
 abbrev pub invariant-rows : goal.invariant-rows
 invariant-rows l = record {
   bound : All (λ x. is_dots (name_of l.b.bytes.now x.offset) ≡ false → x.depth ≤ l.deepest) (take l.row-index l.rows);
-  reached : (l.deepest ≡ 0) ⊎ Any (λ x. (is_dots (name_of l.b.bytes.now x.offset) ≡ false) × (x.depth ≡ l.deepest)) (take l.row-index l.rows);
+  reached : (l.deepest ≡ 0) ⊎ Any (λ x. (is_dots (name_of l.b.bytes.now x.offset) ≡ false) × (x.depth ≡ l.deepest))
+      (take l.row-index l.rows);
 }

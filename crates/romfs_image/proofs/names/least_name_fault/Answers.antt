@@ -18,12 +18,19 @@ loop-i-preserved c =
     let i = c.loop-i.i in
     let names = c.in_ok-names_of.ensures in
     let marks = c.in_ok-repeated.repeated.items in
-    let is : get_or marks i false ≡ c.index.result.now = get_or_default marks i false c.index.result.now (let k = c.in_ok-repeated.ensures.count in let l = names.count in let m = c.loop-i-test.true in omega arith) ∙ sym c.index.ensures in
+    let is : get_or marks i false ≡ c.index.result.now =
+    get_or_default marks i false c.index.result.now
+    (let k = c.in_ok-repeated.ensures.count in let l = names.count in let m = c.loop-i-test.true in omega arith)
+    ∙ sym c.index.ensures in
     let tells : TellsRepeated b (take i xs) (get_or xs i blank) c.index.result.now = record {
-      old = λ e. marked_old (name_of b) xs c.in_ok-names_of.field-0.items marks names c.in_ok-repeated.ensures i blank c.loop-i-test.true (is ∙ e);
-      new = λ e. marked_new (name_of b) xs c.in_ok-names_of.field-0.items marks names c.in_ok-repeated.ensures i blank c.loop-i-test.true (is ∙ e);
+      old = λ e. marked_old (name_of b) xs c.in_ok-names_of.field-0.items marks names c.in_ok-repeated.ensures i blank
+          c.loop-i-test.true (is ∙ e);
+      new = λ e. marked_new (name_of b) xs c.in_ok-names_of.field-0.items marks names c.in_ok-repeated.ensures i blank
+          c.loop-i-test.true (is ∙ e);
     } in
     elim c.match-name_fault.branch [
-      | in-Some w ↦ sweep_fault_at xs i w.in-Some.number _ _ c.loop-i-test.true (w.noted-is ∙ w.lesser_fault-noted.ensures) c.loop-i.invariant (w.in-Some.ensures.fault (take i xs) tells)
-      | in_default w ↦ sweep_well_at xs i _ _ c.loop-i-test.true w.noted-is c.loop-i.invariant (w.in_default.ensures.well (take i xs) tells) (well_faultless (w.in_default.ensures.well (take i xs) tells))
+      | in-Some w ↦ sweep_fault_at xs i w.in-Some.number _ _ c.loop-i-test.true
+          (w.noted-is ∙ w.lesser_fault-noted.ensures) c.loop-i.invariant (w.in-Some.ensures.fault (take i xs) tells)
+      | in_default w ↦ sweep_well_at xs i _ _ c.loop-i-test.true w.noted-is c.loop-i.invariant
+          (w.in_default.ensures.well (take i xs) tells) (well_faultless (w.in_default.ensures.well (take i xs) tells))
     ]

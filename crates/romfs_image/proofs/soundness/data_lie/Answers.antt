@@ -8,4 +8,6 @@ lie : (P : Type 0) (r s e n : ℕ) → r ≡ s → OnTrue (nat_le (e + r) n) (P 
 lie P r s e n h = search (rules, tests)
 
 pub returns-then-kind-eq3-clause-lie : goal.returns-then-kind-eq3-clause-lie
-returns-then-kind-eq3-clause-lie c = lie _ c.size_at.result (size_of c.args.b.now.bytes.now c.args.at) c.args.end (length c.args.b.now.bytes.now) c.size_at.ensures
+returns-then-kind-eq3-clause-lie c =
+    lie _ c.size_at.result (size_of c.args.b.now.bytes.now c.args.at) c.args.end
+    (length c.args.b.now.bytes.now) c.size_at.ensures

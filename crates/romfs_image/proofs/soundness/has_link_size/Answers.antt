@@ -8,4 +8,5 @@ fits : (P : Type 0) (r s : ℕ) → r ≡ s → 1 ≤ r → OnTrue (nat_le r 409
 fits P r s e l = search (rules, tests)
 
 pub returns-then-size-ge1-clause-fits : goal.returns-then-size-ge1-clause-fits
-returns-then-size-ge1-clause-fits c = fits _ c.size_at-size.result (size_of c.args.b.now.bytes.now c.args.at) c.size_at-size.ensures c.if-size-ge1.true
+returns-then-size-ge1-clause-fits c =
+    fits _ c.size_at-size.result (size_of c.args.b.now.bytes.now c.args.at) c.size_at-size.ensures c.if-size-ge1.true

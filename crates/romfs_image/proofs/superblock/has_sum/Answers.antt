@@ -10,4 +10,5 @@ pub returns : goal.returns
 returns c =
     let b : List ℕ = c.args.b.now in
     let m : c.min.result ≡ min 512 (length b) = omega (arith, c.min.ensures) in
-    zero_by c.word_sum.result (words_sum (take (min 512 (length b)) b)) (c.word_sum.ensures ∙ ap (λ (n : ℕ). words_sum (take n b)) m)
+    zero_by c.word_sum.result (words_sum (take (min 512 (length b)) b))
+    (c.word_sum.ensures ∙ ap (λ (n : ℕ). words_sum (take n b)) m)

@@ -3,7 +3,7 @@ use Rattle.romfs_format.specs.Record.{before_zero}
 use Rattle.romfs_format.specs.Tree.{root_of}
 use Rattle.romfs_image.proofs.superblock.root_offset.Goals as goal
 
--- the root's place behind a volume name of n bytes
+-- the root's offset behind a volume name of n bytes
 root_is : (b : List ℕ) (n : ℕ) → n ≡ length (before_zero (drop 16 b)) → 16 + (n + 1 + 15) / 16 * 16 ≡ root_of b
 unfolding root_of
 root_is b n e = ap (λ (x : ℕ). 16 + (x + 1 + 15) / 16 * 16) e

@@ -15,13 +15,19 @@ returns-in_ok-push-in-Link c =
     let h = c.header_alone.result in
     let at = c.place_of-target.ensures in
     ap (map item_view) c.in_ok-push-in-Link.ensures.items ∙ map-append item_view found (h ∷ [])
-    ∙ ap (λ v. map item_view found ++ v ∷ []) (c.header_alone.ensures ∙ ap (λ n. item_of (header_alone p.at p.next c.place_of-target.result n)) c.in_ok-name-in-Link.ensures
+    ∙ ap (λ v. map item_view found ++ v ∷ [])
+    (c.header_alone.ensures ∙ ap (λ n. item_of
+    (header_alone p.at p.next c.place_of-target.result n)) c.in_ok-name-in-Link.ensures
     ∙ ap (λ k. item_of (header_alone p.at p.next k row.name.now)) at)
-    ∙ ap (λ w. map item_view found ++ map item_of (headers_by (noted c.args.lines.now) c.args.dir row.name.now (what_view w (inode_view row.inode)) p)) (sym c.in-Link.is)
+    ∙ ap (λ w. map item_view found ++ map item_of
+    (headers_by (noted c.args.lines.now) c.args.dir row.name.now (what_view w (inode_view row.inode)) p))
+    (sym c.in-Link.is)
 
 pub returns-in_ok-push_folder-in-Folder : goal.returns-in_ok-push_folder-in-Folder
 returns-in_ok-push_folder-in-Folder c =
     let row = c.args.row.now in
     c.in_ok-push_folder-in-Folder.ensures
-    ∙ ap (λ w. map item_view c.args.found.now.items ++ map item_of (headers_by (noted c.args.lines.now) c.args.dir row.name.now (what_view w (inode_view row.inode)) c.args.place))
+    ∙ ap (λ w. map item_view c.args.found.now.items
+    ++ map item_of (headers_by (noted c.args.lines.now) c.args.dir row.name.now
+    (what_view w (inode_view row.inode)) c.args.place))
     (sym c.in-Folder.is)

@@ -15,7 +15,18 @@ no_row = record {
   depth = 0;
   name = record { ref_ptr = (0, 0); now = [] };
   what = what.Leaf;
-  inode = record { line = 0; kind = kind.Directory; mode = 0; uid = 0; gid = 0; major = 0; minor = 0; align = 0; size = 0; bytes = bytes.Nothing };
+  inode = record {
+    line = 0;
+    kind = kind.Directory;
+    mode = 0;
+    uid = 0;
+    gid = 0;
+    major = 0;
+    minor = 0;
+    align = 0;
+    size = 0;
+    bytes = bytes.Nothing;
+  };
 }
 
 pub loop-i-preserved : goal.loop-i-preserved
@@ -38,8 +49,11 @@ loop-i-preserved c =
       many = length-set _ _ _ ∙ length-set _ _ _ ∙ c.loop-i.invariant.many;
       heads = ap (λ v. heads_with v (row_view r) p) c.loop-i.invariant.heads
           ∙ sym (λ j. heads_of (replicate {A = ℕ} 66 0) (map row_view (rows j)) (places j));
-      found = ap reverse c.in_ok-push.ensures.items ∙ reverse-append c.loop-i.found.items (placed hs (row_view r) p ∷ [])
+      found = ap reverse c.in_ok-push.ensures.items
+          ∙ reverse-append c.loop-i.found.items (placed hs (row_view r) p ∷ [])
           ∙ ap (λ v. placed hs (row_view r) p ∷ v) c.loop-i.invariant.found
-          ∙ ap (λ v. placed v (row_view r) p ∷ places_of (replicate {A = ℕ} 66 0) (map row_view (drop c.loop-i.i rs)) (drop c.loop-i.i ps)) c.loop-i.invariant.heads
+          ∙ ap (λ v. placed v (row_view r) p
+          ∷ places_of (replicate {A = ℕ} 66 0) (map row_view (drop c.loop-i.i rs))
+          (drop c.loop-i.i ps)) c.loop-i.invariant.heads
           ∙ sym (λ j. places_of (replicate {A = ℕ} 66 0) (map row_view (rows j)) (places j));
     }

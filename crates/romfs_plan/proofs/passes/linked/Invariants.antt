@@ -8,5 +8,6 @@ abbrev pub invariant-loop-i : goal.invariant-loop-i
 invariant-loop-i l = record {
   many : length l.heads ≡ 66;
   heads : l.heads ≡ heads_of (replicate {A = ℕ} 66 0) (map row_view (drop l.i l.rows)) (drop l.i l.places);
-  found : reverse l.found.items ≡ places_of (replicate {A = ℕ} 66 0) (map row_view (drop l.i l.rows)) (drop l.i l.places);
+  found : reverse l.found.items ≡ places_of (replicate {A = ℕ} 66 0) (map row_view (drop l.i l.rows))
+      (drop l.i l.places);
 }

@@ -7,10 +7,12 @@ use Rattle.romfs_plan.proofs.passes.places_of.Goals as goal
 
 pub linked-requires-clause-places : goal.linked-requires-clause-places
 linked-requires-clause-places c =
-    ap length (c.deref.ensures.value ∙ c.in_ok-places.ensures) ∙ length-places c.args.from (map row_view c.args.rows.now)
+    ap length (c.deref.ensures.value ∙ c.in_ok-places.ensures)
+    ∙ length-places c.args.from (map row_view c.args.rows.now)
     ∙ length-map c.args.rows.now row_view
 
 pub returns-clause-named : goal.returns-clause-named
 returns-clause-named c = λ n e low.
     subst (λ (ps : List Place). IfOk c.linked.result (λ v. v.items ≡ ps))
-    (places_are c.args.from (map row_view c.args.rows.now) c.deref.result.now n e (c.deref.ensures.value ∙ c.in_ok-places.ensures) low) c.linked.ensures
+    (places_are c.args.from (map row_view c.args.rows.now) c.deref.result.now n e
+    (c.deref.ensures.value ∙ c.in_ok-places.ensures) low) c.linked.ensures

@@ -6,4 +6,5 @@ use Rattle.romfs_plan.proofs.section_list.sections.Goals as goal
 
 pub record_section-requires : goal.record_section-requires
 record_section-requires c =
-    here (λ (i : Item). length i.name < 256) item_view c.args.items.now c.loop-index.index c.index-items-index.result c.requires.names c.loop-index-test.true c.index-items-index.is
+    here (λ (i : Item). length i.name < 256) item_view c.args.items.now c.loop-index.index c.index-items-index.result
+    c.requires.names c.loop-index-test.true c.index-items-index.is

@@ -1,4 +1,5 @@
-use Rattle.std.proofs.Common.{◌≡◌, ◌+◌, ℕ, map, Option, Some, None, refl, if◌then◌else◌, ap, ◌∙◌, arith, true, false, Bool}
+use Rattle.std.proofs.Common.{◌≡◌, ◌+◌, ℕ, map, Option, Some, None, refl, if◌then◌else◌, ap, ◌∙◌, arith, true, false}
+use Rattle.std.proofs.Common.{Bool}
 use Rattle.image_parts.specs.Padding.{pad}
 use Rattle.manifest_rows.specs.Rows.{deepest, row_view}
 use Rattle.romfs_layout.specs.Layout.{ends}
@@ -47,7 +48,8 @@ rows_end-requires-clause-fit c = each IsFitRow row_view c.args.rows.now c.requir
 pub returns-then-len-gt-MOST_BYTES : goal.returns-then-len-gt-MOST_BYTES
 returns-then-len-gt-MOST_BYTES c = λ root n e.
     let r = c.root_at.ensures.root in
-    let end = c.rows_end.ensures.end ∙ ap (places_end (c.root_at.result + 64)) e ∙ rows_end_is 1 (c.root_at.result + 64) n ∙ ap (λ (k : ℕ). ends (k + 64) n) r in
+    let end = c.rows_end.ensures.end ∙ ap (places_end (c.root_at.result + 64)) e
+    ∙ rows_end_is 1 (c.root_at.result + 64) n ∙ ap (λ (k : ℕ). ends (k + 64) n) r in
     let len = c.padded-len.ensures.padded ∙ ap (λ (k : ℕ). pad k 1024) (c.padded.ensures.padded ∙ ap pad16 end) in
     let k = c.if-len-gt-MOST_BYTES.true in
     large _ _ (too_long c.args.volume.now root n (omega (arith, len, k)))
@@ -55,7 +57,8 @@ returns-then-len-gt-MOST_BYTES c = λ root n e.
 pub returns : goal.returns
 returns c = λ root n e.
     let r = c.root_at.ensures.root in
-    let end = c.rows_end.ensures.end ∙ ap (places_end (c.root_at.result + 64)) e ∙ rows_end_is 1 (c.root_at.result + 64) n ∙ ap (λ (k : ℕ). ends (k + 64) n) r in
+    let end = c.rows_end.ensures.end ∙ ap (places_end (c.root_at.result + 64)) e
+    ∙ rows_end_is 1 (c.root_at.result + 64) n ∙ ap (λ (k : ℕ). ends (k + 64) n) r in
     let len = c.padded-len.ensures.padded ∙ ap (λ (k : ℕ). pad k 1024) (c.padded.ensures.padded ∙ ap pad16 end) in
     let few = c.header_count.ensures.count in
     let a = ap header_count e in
@@ -64,4 +67,5 @@ returns c = λ root n e.
     let b = ap deepest e in
     let m = c.if-deepest-gt-MOST_NAMES.false in
     let l = c.if-len-gt-MOST_BYTES.false in
-    ap Some len ∙ fits _ _ (not_large c.args.volume.now root n (omega (arith, few, a, k)) (omega (arith, d, b, m)) (omega (arith, len, l)))
+    ap Some len ∙ fits _ _ (not_large c.args.volume.now root n (omega (arith, few, a, k)) (omega (arith, d, b, m))
+    (omega (arith, len, l)))

@@ -3,7 +3,9 @@ use Rattle.sample_image.proofs.Answering.{run_is, run_none}
 use Rattle.sample_image.proofs.sample.row_run.Goals as goal
 
 pub returns-then-off-from-clause-row : goal.returns-then-off-from-clause-row
-returns-then-off-from-clause-row c = run_is c.args.place c.args.len c.args.off (let h = c.if-off-from.true in let q = c.from.ensures in omega arith)
+returns-then-off-from-clause-row c =
+    run_is c.args.place c.args.len c.args.off (let h = c.if-off-from.true in let q = c.from.ensures in omega arith)
 
 pub returns-else-off-from-clause-row : goal.returns-else-off-from-clause-row
-returns-else-off-from-clause-row c = run_none c.args.place c.args.len c.args.off (let h = c.if-off-from.false in let q = c.from.ensures in omega arith)
+returns-else-off-from-clause-row c =
+    run_none c.args.place c.args.len c.args.off (let h = c.if-off-from.false in let q = c.from.ensures in omega arith)

@@ -17,21 +17,27 @@ returns-in_default c = sym (number_none c.args.field.now (λ n small e.
 pub returns-in_default-from_str_radix : goal.returns-in_default-from_str_radix
 returns-in_default-from_str_radix c = sym (number_none c.args.field.now (λ n small e.
     let fits : n < 2 ^ 64 = omega arith in
-    c.in_default-from_str_radix.not-Ok n (parse-decimal 32 n c.in-Ok.s.now c.from_str_radix.result small fits (c.in-Ok.ensures.cases.0 ∙ e) c.from_str_radix.ensures.value)))
+    c.in_default-from_str_radix.not-Ok n
+    (parse-decimal 32 n c.in-Ok.s.now c.from_str_radix.result small fits
+    (c.in-Ok.ensures.cases.0 ∙ e) c.from_str_radix.ensures.value)))
 
 pub returns-then-eq : goal.returns-then-eq
 returns-then-eq c =
     let small : c.in-Ok-from_str_radix.n < 2 ^ 32 = search rules in
-    let same : c.as_bytes.result.now ≡ c.args.field.now = (bytes_eq-Decides c.as_bytes.result.now c.args.field.now).0 (sym c.if-eq.ensures) in
-    sym (number_some c.in-Ok-from_str_radix.n c.args.field.now small (sym same ∙ c.as_bytes.ensures.value ∙ c.format.ensures.text))
+    let same : c.as_bytes.result.now ≡ c.args.field.now =
+    (bytes_eq-Decides c.as_bytes.result.now c.args.field.now).0 (sym c.if-eq.ensures) in
+    sym (number_some c.in-Ok-from_str_radix.n c.args.field.now small
+    (sym same ∙ c.as_bytes.ensures.value ∙ c.format.ensures.text))
 
 pub returns-else-eq : goal.returns-else-eq
 returns-else-eq c = sym (number_none c.args.field.now (λ n small e.
     let fits : n < 2 ^ 64 = omega arith in
     let read : Ok c.in-Ok-from_str_radix.n ≡ Ok n =
-    sym c.in-Ok-from_str_radix.is ∙ parse-decimal 32 n c.in-Ok.s.now c.from_str_radix.result small fits (c.in-Ok.ensures.cases.0 ∙ e) c.from_str_radix.ensures.value in
+    sym c.in-Ok-from_str_radix.is ∙ parse-decimal 32 n c.in-Ok.s.now c.from_str_radix.result small fits
+    (c.in-Ok.ensures.cases.0 ∙ e) c.from_str_radix.ensures.value in
     let same : c.in-Ok-from_str_radix.n ≡ n = cc in
     let text : c.as_bytes.result.now ≡ c.args.field.now =
     c.as_bytes.ensures.value ∙ c.format.ensures.text ∙ ap decimal same ∙ sym e in
-    let equal : false ≡ true = c.if-eq.ensures ∙ ap (λ t. pointwise nat_eq t c.args.field.now) text ∙ nat_list_eq_equiv.refl c.args.field.now in
+    let equal : false ≡ true = c.if-eq.ensures ∙ ap (λ t. pointwise nat_eq t c.args.field.now) text
+    ∙ nat_list_eq_equiv.refl c.args.field.now in
     cc))

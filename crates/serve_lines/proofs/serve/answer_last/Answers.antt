@@ -8,7 +8,8 @@ nothing (b ∷ line) none = absurd (omega arith)
 
 pub returns-then-is_empty-clause-ok : goal.returns-then-is_empty-clause-ok
 returns-then-is_empty-clause-ok g c =
-    let none : length c.args.line.now.items ≡ 0 = search rules in rw (nothing c.args.line.now.items none) (appends_none _)
+    let none : length c.args.line.now.items ≡ 0 =
+    search rules in rw (nothing c.args.line.now.items none) (appends_none _)
 
 pub returns-then-is_empty-clause-flushed : goal.returns-then-is_empty-clause-flushed
 returns-then-is_empty-clause-flushed g c =

@@ -11,7 +11,8 @@ use Rattle.serve_lines.proofs.serve.answer_through.Goals as goal
 pub invariant_of-out : goal.invariant_of-out
 invariant_of-out g c = record {
   loan = c.requires.loan;
-  starts = subst (λ (s : Option (List ℕ)). begins_with s ((g.W.ByteWrite.output c.args.reached.w.now).contents) ≡ true) c.requires.start
+  starts = subst (λ (s : Option (List ℕ)). begins_with s ((g.W.ByteWrite.output c.args.reached.w.now).contents)
+      ≡ true) c.requires.start
       (begins_itself ((g.W.ByteWrite.output c.args.reached.w.now).contents));
   within = omega arith;
 }
@@ -27,7 +28,8 @@ returns-then-failed-clause-text g c =
     ((g.M.LineMachine.machine c.args.m.now).reply (g.M.LineMachine.state c.args.m.now) c.as_slice.result.now) in
     prefix_of_prefix w v rest _
     (subst (λ (s : Option (List ℕ)). begins_with s v ≡ true) (sym c.requires.start) c.answer-last.new.w.starts)
-    (subst P c.as_slice.ensures.value (subst Q c.new.ensures (said_front _ _ _ _ c.if-failed.true c.answer-last.ensures.text)))
+    (subst P c.as_slice.ensures.value (subst Q c.new.ensures
+    (said_front _ _ _ _ c.if-failed.true c.answer-last.ensures.text)))
 
 pub returns-then-failed-clause-count : goal.returns-then-failed-clause-count
 returns-then-failed-clause-count g c = said_rose _ _ _ _ c.if-failed.true c.answer-last.ensures.text

@@ -17,13 +17,18 @@ pub invariant_of-result : goal.invariant_of-result
 invariant_of-result c =
     let w = c.requires.tree in
     record {
-      sound = cramfs_by c.requires.superblock c.args.limits.references c.args.limits.depth w.0 c.args.rows.now c.args.b.long c.args.b.small w.1 w.2;
-      front = front c.args.all.now c.args.b.bytes.now (accessible_size c.args.b.order c.args.all.now) c.requires.superblock.cut;
-      within = within c.args.all.now c.args.b.bytes.now (accessible_size c.args.b.order c.args.all.now) c.requires.superblock.cut;
+      sound = cramfs_by c.requires.superblock c.args.limits.references c.args.limits.depth w.0 c.args.rows.now
+          c.args.b.long c.args.b.small w.1 w.2;
+      front = front c.args.all.now c.args.b.bytes.now
+          (accessible_size c.args.b.order c.args.all.now) c.requires.superblock.cut;
+      within = within c.args.all.now c.args.b.bytes.now
+          (accessible_size c.args.b.order c.args.all.now) c.requires.superblock.cut;
     }
 
 pub returns-clause-shows : goal.returns-clause-shows
 returns-clause-shows c =
     let w = c.requires.tree in
-    shows_by c.requires.superblock c.args.limits w.0 c.args.rows.now c.greatest_depth-depth.result _ c.args.b.long c.args.b.small w.1 w.2
-    (deepest_is c.requires.superblock c.args.limits.references c.args.limits.depth c.greatest_depth-depth.result w.0 c.args.rows.now w.1 w.2 c.greatest_depth-depth.ensures.bound c.greatest_depth-depth.ensures.reached) refl refl
+    shows_by c.requires.superblock c.args.limits w.0 c.args.rows.now c.greatest_depth-depth.result _ c.args.b.long
+    c.args.b.small w.1 w.2
+    (deepest_is c.requires.superblock c.args.limits.references c.args.limits.depth c.greatest_depth-depth.result w.0
+    c.args.rows.now w.1 w.2 c.greatest_depth-depth.ensures.bound c.greatest_depth-depth.ensures.reached) refl refl

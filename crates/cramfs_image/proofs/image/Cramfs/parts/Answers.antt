@@ -9,15 +9,19 @@ pub returns-clause-are : goal.returns-clause-are
 returns-clause-are c =
     let s = c.args.self.now in
     let o : Order = s.accessible.order in
-    let e : c.report-report.result.references ≡ s.references = ap (λ (v : Report). v.references) c.report-report.ensures in
+    let e : c.report-report.result.references ≡ s.references =
+    ap (λ (v : Report). v.references) c.report-report.ensures in
     record {
       within = s.within;
-      sound = subst (λ (k : ℕ). IsCramfs o (take (length s.accessible.bytes.now) s.all.now) k) (sym e) (subst (λ (v : List ℕ). IsCramfs o v s.references) s.front s.sound);
+      sound = subst (λ (k : ℕ). IsCramfs o (take (length s.accessible.bytes.now) s.all.now) k) (sym e)
+          (subst (λ (v : List ℕ). IsCramfs o v s.references) s.front s.sound);
     }
 
 pub returns-clause-tree : goal.returns-clause-tree
 returns-clause-tree c =
     let s = c.args.self.now in
     let o : Order = s.accessible.order in
-    let e : c.report-report.result.references ≡ s.references = ap (λ (v : Report). v.references) c.report-report.ensures in
-    ap (λ (v : List ℕ). made o v s.references root_place) s.front ∙ ap (λ (k : ℕ). made o (take (length s.accessible.bytes.now) s.all.now) k root_place) (sym e)
+    let e : c.report-report.result.references ≡ s.references =
+    ap (λ (v : Report). v.references) c.report-report.ensures in
+    ap (λ (v : List ℕ). made o v s.references root_place) s.front
+    ∙ ap (λ (k : ℕ). made o (take (length s.accessible.bytes.now) s.all.now) k root_place) (sym e)

@@ -21,7 +21,8 @@ loop-at-init c =
     let kd = directory_known c.args.self.now.sound c.args.d.0 c.requires in
     let start = c.offset_at-at.ensures.start in
     record {
-      list = subst (IsList c.args.self.now.accessible.order b k (list_end c.args.self.now.accessible.order b c.args.d.0)) (sym start) kd.0.list;
+      list = subst (IsList c.args.self.now.accessible.order b k
+          (list_end c.args.self.now.accessible.order b c.args.d.0)) (sym start) kd.0.list;
       same = rw start refl;
     }
 
@@ -33,8 +34,11 @@ returns-then-eq-clause-found c =
     let e = c.list_end_at-end.ensures in
     let l = c.loop-at-test.true in
     let inside : c.loop-at.at < list_end c.args.self.now.accessible.order b c.args.d.0 = omega arith in
-    let st = step_of c.args.self.now.accessible.order b k (list_end c.args.self.now.accessible.order b c.args.d.0) c.loop-at.at c.loop-at.invariant.list inside in
-    λ x h. found_here c.args.self.now.accessible.order b k c.loop-at.at c.args.d.0 c.args.name.now _ x (named c.args.self.now.sound c.args.d.0 x h).0 kd.1 st c.name_at.ensures (sym c.eq.ensures ∙ c.if-eq.true) c.loop-at.invariant.same
+    let st = step_of c.args.self.now.accessible.order b k
+    (list_end c.args.self.now.accessible.order b c.args.d.0) c.loop-at.at c.loop-at.invariant.list inside in
+    λ x h. found_here c.args.self.now.accessible.order b k c.loop-at.at c.args.d.0 c.args.name.now _ x
+    (named c.args.self.now.sound c.args.d.0 x h).0 kd.1 st c.name_at.ensures
+    (sym c.eq.ensures ∙ c.if-eq.true) c.loop-at.invariant.same
 
 pub loop-at-smaller : goal.loop-at-smaller
 loop-at-smaller c =
@@ -44,7 +48,8 @@ loop-at-smaller c =
     let e = c.list_end_at-end.ensures in
     let l = c.loop-at-test.true in
     let inside : c.loop-at.at < list_end c.args.self.now.accessible.order b c.args.d.0 = omega arith in
-    let st = step_of c.args.self.now.accessible.order b k (list_end c.args.self.now.accessible.order b c.args.d.0) c.loop-at.at c.loop-at.invariant.list inside in
+    let st = step_of c.args.self.now.accessible.order b k
+    (list_end c.args.self.now.accessible.order b c.args.d.0) c.loop-at.at c.loop-at.invariant.list inside in
     let a = end_after c.args.self.now.accessible.order b c.loop-at.at in
     let n = c.end_at-at.ensures.end in
     omega arith
@@ -57,10 +62,14 @@ loop-at-preserved c =
     let e = c.list_end_at-end.ensures in
     let l = c.loop-at-test.true in
     let inside : c.loop-at.at < list_end c.args.self.now.accessible.order b c.args.d.0 = omega arith in
-    let st = step_of c.args.self.now.accessible.order b k (list_end c.args.self.now.accessible.order b c.args.d.0) c.loop-at.at c.loop-at.invariant.list inside in
+    let st = step_of c.args.self.now.accessible.order b k
+    (list_end c.args.self.now.accessible.order b c.args.d.0) c.loop-at.at c.loop-at.invariant.list inside in
     record {
-      list = subst (IsList c.args.self.now.accessible.order b k (list_end c.args.self.now.accessible.order b c.args.d.0)) (sym c.end_at-at.ensures.end) st.next;
-      same = c.loop-at.invariant.same ∙ passed c.args.self.now.accessible.order b k (list_end c.args.self.now.accessible.order b c.args.d.0) c.loop-at.at c.end_at-at.result c.args.name.now _ st c.end_at-at.ensures.end c.name_at.ensures (sym c.eq.ensures ∙ c.if-eq.false);
+      list = subst (IsList c.args.self.now.accessible.order b k
+          (list_end c.args.self.now.accessible.order b c.args.d.0)) (sym c.end_at-at.ensures.end) st.next;
+      same = c.loop-at.invariant.same ∙ passed c.args.self.now.accessible.order b k
+          (list_end c.args.self.now.accessible.order b c.args.d.0) c.loop-at.at c.end_at-at.result c.args.name.now _ st
+          c.end_at-at.ensures.end c.name_at.ensures (sym c.eq.ensures ∙ c.if-eq.false);
     }
 
 pub returns-clause-found : goal.returns-clause-found
@@ -71,7 +80,8 @@ returns-clause-found c =
     let e = c.list_end_at-end.ensures in
     let l = c.loop-at-test.false in
     let past : list_end c.args.self.now.accessible.order b c.args.d.0 ≤ c.loop-at.at = omega arith in
-    λ x h. found_none c.args.self.now.accessible.order b k c.loop-at.at c.args.d.0 c.args.name.now x (named c.args.self.now.sound c.args.d.0 x h).0 kd.1 past c.loop-at.invariant.same
+    λ x h. found_none c.args.self.now.accessible.order b k c.loop-at.at c.args.d.0 c.args.name.now x
+    (named c.args.self.now.sound c.args.d.0 x h).0 kd.1 past c.loop-at.invariant.same
 
 pub returns-then-eq-clause-stays : goal.returns-then-eq-clause-stays
 returns-then-eq-clause-stays c = refl

@@ -8,9 +8,13 @@ use Rattle.cramfs_image.proofs.image.CramfsTreeImage.lookup.Given as goal
 
 abbrev pub invariant-loop-at : goal.invariant-loop-at
 invariant-loop-at l = record {
-  list : IsList l.self.accessible.order l.self.accessible.bytes.now l.self.references (list_end l.self.accessible.order l.self.accessible.bytes.now l.fn.d.0) l.at;
-  same : find_entry (entries_at l.self.accessible.order l.self.accessible.bytes.now (list_at l.self.accessible.order l.self.accessible.bytes.now l.self.references l.fn.d.0)) l.name
-      ≡ find_entry (entries_at l.self.accessible.order l.self.accessible.bytes.now (grow l.self.references l.self.accessible.order l.self.accessible.bytes.now (list_end l.self.accessible.order l.self.accessible.bytes.now l.fn.d.0) l.at)) l.name;
+  list : IsList l.self.accessible.order l.self.accessible.bytes.now l.self.references
+      (list_end l.self.accessible.order l.self.accessible.bytes.now l.fn.d.0) l.at;
+  same : find_entry (entries_at l.self.accessible.order l.self.accessible.bytes.now
+      (list_at l.self.accessible.order l.self.accessible.bytes.now l.self.references l.fn.d.0)) l.name
+      ≡ find_entry (entries_at l.self.accessible.order l.self.accessible.bytes.now
+      (grow l.self.references l.self.accessible.order l.self.accessible.bytes.now
+      (list_end l.self.accessible.order l.self.accessible.bytes.now l.fn.d.0) l.at)) l.name;
 }
 
 abbrev pub decreases-loop-at : goal.decreases-loop-at

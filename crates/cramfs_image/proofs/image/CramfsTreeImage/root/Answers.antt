@@ -4,4 +4,5 @@ use Rattle.cramfs_format.proofs.Trees.{made_ino}
 use Rattle.cramfs_image.proofs.image.CramfsTreeImage.root.Goals as goal
 
 pub returns : goal.returns
-returns c = sym (made_ino c.args.self.now.accessible.order c.args.self.now.accessible.bytes.now c.args.self.now.references root_place)
+returns c = sym (made_ino c.args.self.now.accessible.order c.args.self.now.accessible.bytes.now
+    c.args.self.now.references root_place)

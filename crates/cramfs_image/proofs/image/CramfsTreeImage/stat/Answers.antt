@@ -21,5 +21,7 @@ pub file_len-requires : goal.file_len-requires
 file_len-requires c = (known c.args.self.now.sound c.args.n.0 c.requires).header
 
 pub returns : goal.returns
-returns c = λ x e. stat_is c.args.self.now.accessible.order c.args.self.now.accessible.bytes.now c.args.self.now.references c.args.n.0 _ _ _ _ _ _ _ _ _ x (named c.args.self.now.sound c.args.n.0 x e).0
-    c.type_at-t.ensures c.size_at-size.ensures.size c.kind_named_by.ensures c.mode_at.ensures.mode c.uid_at.ensures c.gid_at.ensures c.file_len.ensures c.of_device.ensures c.of_device-2.ensures
+returns c = λ x e. stat_is c.args.self.now.accessible.order c.args.self.now.accessible.bytes.now
+    c.args.self.now.references c.args.n.0 _ _ _ _ _ _ _ _ _ x (named c.args.self.now.sound c.args.n.0 x e).0
+    c.type_at-t.ensures c.size_at-size.ensures.size c.kind_named_by.ensures c.mode_at.ensures.mode c.uid_at.ensures
+    c.gid_at.ensures c.file_len.ensures c.of_device.ensures c.of_device-2.ensures

@@ -13,7 +13,8 @@ returns-clause-near c = λ near h.
     record {
       at = omega (arith, at, end);
       lists = near_lists near c.stored.new.self.lists c.args.row.depth c.entry_len.result c.pad.result
-          (subst (λ l. Every (λ n. n ≤ near) l) (sym e.same.1) h.lists) c.entry_len.ensures.short (omega (arith, at, up, same));
+          (subst (λ l. Every (λ n. n ≤ near) l) (sym e.same.1) h.lists) c.entry_len.ensures.short
+          (omega (arith, at, up, same));
       tables = λ k t is. let l = e.near near h k t is in omega (arith, l);
     }
 

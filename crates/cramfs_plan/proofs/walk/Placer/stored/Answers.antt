@@ -23,6 +23,7 @@ returns-in_ok-stored-in-Leaf c =
           let x = e.knows w.state (sym st.at) st.tables in
           by_file (λ v. Knows (state_by w.state len v).tables c.stored_file.new.tables) z i c.in-Leaf.is x x;
       same = (refl, refl);
-      near = λ near h. let at = h.at in e.tables (near + 3) (λ k t is. let l = h.tables k t is in omega (arith, l)) (omega (arith, at));
+      near = λ near h. let at =
+          h.at in e.tables (near + 3) (λ k t is. let l = h.tables k t is in omega (arith, l)) (omega (arith, at));
       small = (let l = e.near in omega (arith, l), e.small.0, e.small.1);
     }

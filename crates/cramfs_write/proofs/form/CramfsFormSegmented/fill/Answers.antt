@@ -9,7 +9,8 @@ fill_section-requires-clause-within c =
     let s = c.args.self.now in
     let p = s.plan.now in
     let q = c.section_behind in
-    let long = segment_is_long s.order p.items p.sizes (drop 1 p.sections) c.args.i (section 0 0 super) (section_view q.result) c.requires.index q.ensures.is q.ensures.body in
+    let long = segment_is_long s.order p.items p.sizes (drop 1 p.sections) c.args.i (section 0 0 super)
+    (section_view q.result) c.requires.index q.ensures.is q.ensures.body in
     subst (λ (n : ℕ). c.args.from + length c.args.out.now ≤ n) long c.requires.within
 
 pub fill_section-requires-clause-words : goal.fill_section-requires-clause-words
@@ -17,7 +18,8 @@ fill_section-requires-clause-words c = λ four.
     let s = c.args.self.now in
     let p = s.plan.now in
     let q = c.section_behind in
-    let long = segment_is_long s.order p.items p.sizes (drop 1 p.sections) c.args.i (section 0 0 super) (section_view q.result) c.requires.index q.ensures.is q.ensures.body in
+    let long = segment_is_long s.order p.items p.sizes (drop 1 p.sections) c.args.i (section 0 0 super)
+    (section_view q.result) c.requires.index q.ensures.is q.ensures.body in
     c.requires.words (ap (λ (n : ℕ). n % 4) long ∙ four)
 
 pub returns : goal.returns
@@ -25,5 +27,6 @@ returns c = λ place bytes e.
     let s = c.args.self.now in
     let p = s.plan.now in
     let q = c.section_behind in
-    let seen = segment_found s.order p.items (drop 1 p.sections) c.args.i (section 0 0 super) (section_view q.result) c.requires.index q.ensures.is in
+    let seen = segment_found s.order p.items (drop 1 p.sections) c.args.i (section 0 0 super)
+    (section_view q.result) c.requires.index q.ensures.is in
     c.fill_section.ensures place bytes (sym seen ∙ e)

@@ -12,7 +12,8 @@ returns-in_default c =
     let p = s.plan.now in
     let q = c.section_behind-section in
     outline_by s.order p.items p.sizes q.result.place q.result.len q.result.body q.ensures.body c.in_default.not-Content
-    ∙ ap outline (sym (segment_found s.order p.items (drop 1 p.sections) c.args.i (section 0 0 super) (section_view q.result) c.requires q.ensures.is))
+    ∙ ap outline (sym (segment_found s.order p.items (drop 1 p.sections) c.args.i (section 0 0 super)
+    (section_view q.result) c.requires q.ensures.is))
 
 pub returns-in-Content : goal.returns-in-Content
 returns-in-Content c = grind (arith, common_steps)

@@ -16,5 +16,9 @@ of_hard latest w old told hard targets leads =
 
 pub returns-in-Hard : goal.returns-in-Hard
 returns-in-Hard c =
-    let leads : c.is_no_directory.result ≡ to_no_directory (reached (reverse c.args.self.now.lines.items) c.as_bytes-old.result.now) = c.is_no_directory.ensures ∙ ap to_no_directory c.reached.ensures in
-    of_hard _ _ _ _ c.in-Hard.is c.requires.targets (leads ∙ ap (λ (old : List ℕ). to_no_directory (reached (reverse c.args.self.now.lines.items) old)) c.as_bytes-old.ensures)
+    let leads : c.is_no_directory.result
+    ≡ to_no_directory (reached (reverse c.args.self.now.lines.items) c.as_bytes-old.result.now) =
+    c.is_no_directory.ensures ∙ ap to_no_directory c.reached.ensures in
+    of_hard _ _ _ _ c.in-Hard.is c.requires.targets
+    (leads ∙ ap (λ (old : List ℕ). to_no_directory
+    (reached (reverse c.args.self.now.lines.items) old)) c.as_bytes-old.ensures)

@@ -9,4 +9,5 @@ pub returns-clause-reply : goal.returns-clause-reply
 returns-clause-reply g c =
     let slots = c.args.self.now.slots.slots in
     c.lstat.ensures.reply g.row.N (table_of (image_view (g.T.Viewed.image c.args.self.now.image)) slots)
-    ∙ ap (λ (m : Image). answer {R = Of Stat} (viewed (unlabelled (λ z. z)) c.lstat.result) (table_of (image_view m) slots)) (sym c.lstat.ensures.stays)
+    ∙ ap (λ (m : Image). answer {R = Of Stat} (viewed (unlabelled (λ z. z)) c.lstat.result)
+    (table_of (image_view m) slots)) (sym c.lstat.ensures.stays)

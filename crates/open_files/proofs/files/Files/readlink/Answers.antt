@@ -8,4 +8,5 @@ pub returns-clause-reply : goal.returns-clause-reply
 returns-clause-reply g c =
     let slots = c.args.self.now.slots.slots in
     c.readlink.ensures.reply g.row.N (table_of (image_view (g.T.Viewed.image c.args.self.now.image)) slots)
-    ∙ ap (λ (m : Image). answer {R = Of Lent} (viewed (unlabelled lent_by) c.readlink.result) (table_of (image_view m) slots)) (sym c.readlink.ensures.stays)
+    ∙ ap (λ (m : Image). answer {R = Of Lent} (viewed (unlabelled lent_by) c.readlink.result)
+    (table_of (image_view m) slots)) (sym c.readlink.ensures.stays)

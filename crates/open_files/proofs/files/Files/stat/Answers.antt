@@ -9,4 +9,5 @@ pub returns-clause-reply : goal.returns-clause-reply
 returns-clause-reply g c =
     let slots = c.args.self.now.slots.slots in
     c.stat.ensures.reply g.row.N (table_of (image_view (g.T.Viewed.image c.args.self.now.image)) slots)
-    ∙ ap (λ (m : Image). answer {R = Of Stat} (viewed (unlabelled (λ z. z)) c.stat.result) (table_of (image_view m) slots)) (sym c.stat.ensures.stays)
+    ∙ ap (λ (m : Image). answer {R = Of Stat} (viewed (unlabelled (λ z. z)) c.stat.result)
+    (table_of (image_view m) slots)) (sym c.stat.ensures.stays)

@@ -13,4 +13,5 @@ fstat-requires g c κs =
 pub returns : goal.returns
 returns g c =
     looks c.args.self.now c.args.session c.requires.session c.index-self-session.result
-    (λ t. (calls_of g.row.N (view_of c.args.self.now)).fstat t c.args.fd.0) (viewed (labelled Some (λ s. s)) c.fstat.result) c.fstat.ensures
+    (λ t. (calls_of g.row.N (view_of c.args.self.now)).fstat t c.args.fd.0)
+    (viewed (labelled Some (λ s. s)) c.fstat.result) c.fstat.ensures

@@ -12,9 +12,11 @@ lend-requires g c κs =
     search rules
 
 pub invariant_of-self-clause-sound : goal.invariant_of-self-clause-sound
-invariant_of-self-clause-sound g c = still_sound c.args.self.now c.args.session c.requires.session c.lend.new.slots c.lend.ensures.sound
+invariant_of-self-clause-sound g c =
+    still_sound c.args.self.now c.args.session c.requires.session c.lend.new.slots c.lend.ensures.sound
 
 pub returns-clause-reply : goal.returns-clause-reply
 returns-clause-reply g c =
     answers c.args.self.now c.args.session c.requires.session c.index-tables-session.result c.lend.new.slots
-    (λ t. (calls_of g.row.N (view_of c.args.self.now)).lend_piece t c.args.fd.0 c.args.max) (viewed (labelled Some lent_by) c.lend.result) c.lend.ensures.reply
+    (λ t. (calls_of g.row.N (view_of c.args.self.now)).lend_piece t c.args.fd.0 c.args.max)
+    (viewed (labelled Some lent_by) c.lend.result) c.lend.ensures.reply

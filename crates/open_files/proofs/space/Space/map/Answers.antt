@@ -13,4 +13,5 @@ map-requires g c κs =
 pub returns : goal.returns
 returns g c =
     looks c.args.self.now c.args.session c.requires.session c.index-self-session.result
-    (λ t. (calls_of g.row.N (view_of c.args.self.now)).map_piece t c.args.fd.0 c.args.off c.args.len) (viewed (labelled Some lent_by) c.map.result) c.map.ensures
+    (λ t. (calls_of g.row.N (view_of c.args.self.now)).map_piece t c.args.fd.0 c.args.off c.args.len)
+    (viewed (labelled Some lent_by) c.map.result) c.map.ensures

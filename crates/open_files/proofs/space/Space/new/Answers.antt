@@ -20,7 +20,10 @@ invariant_of-result-clause-sound g c =
     let ms : List Image = map g.T.Viewed.image c.args.images.items in
     let us : List Mount = c.new.result.items in
     let P : List (Option OpenNode) → Type 0 = λ z. are_sound (graft_view ms us) z ≡ true in
-    eight_sound ms us c.new-slots.result.slots (subst P (sym c.new-slots.ensures.blank) (stand-replicate (stands (graft_view ms us)) g.row.N))
+    eight_sound ms us c.new-slots.result.slots
+    (subst P (sym c.new-slots.ensures.blank) (stand-replicate (stands (graft_view ms us)) g.row.N))
 
 pub returns-clause-empty : goal.returns-clause-empty
-returns-clause-empty g c = eight_empty g.row.N (map g.T.Viewed.image c.args.images.items) c.new.result.items c.new-slots.result.slots c.new.ensures c.new-slots.ensures.blank
+returns-clause-empty g c = eight_empty g.row.N
+    (map g.T.Viewed.image c.args.images.items) c.new.result.items c.new-slots.result.slots c.new.ensures
+    c.new-slots.ensures.blank

@@ -13,9 +13,11 @@ read-requires g c κs =
     search rules
 
 pub invariant_of-self-clause-sound : goal.invariant_of-self-clause-sound
-invariant_of-self-clause-sound g c = still_sound c.args.self.now c.args.session c.requires.session c.read.new.slots c.read.ensures.sound
+invariant_of-self-clause-sound g c =
+    still_sound c.args.self.now c.args.session c.requires.session c.read.new.slots c.read.ensures.sound
 
 pub returns-clause-reply : goal.returns-clause-reply
 returns-clause-reply g c =
     answers c.args.self.now c.args.session c.requires.session c.index-tables-session.result c.read.new.slots
-    (λ t. (calls_of g.row.N (view_of c.args.self.now)).read_bytes t c.args.fd.0 (length c.args.buf.now)) (viewed (λ x. take x c.read.new.buf) c.read.result) c.read.ensures.reply
+    (λ t. (calls_of g.row.N (view_of c.args.self.now)).read_bytes t c.args.fd.0 (length c.args.buf.now))
+    (viewed (λ x. take x c.read.new.buf) c.read.result) c.read.ensures.reply

@@ -15,21 +15,27 @@ readdir-requires g c κs =
     search rules
 
 pub invariant_of-self-clause-sound : goal.invariant_of-self-clause-sound
-invariant_of-self-clause-sound g c = still_sound c.args.self.now c.args.session c.requires.session c.readdir.new.slots c.readdir.ensures.sound
+invariant_of-self-clause-sound g c =
+    still_sound c.args.self.now c.args.session c.requires.session c.readdir.new.slots c.readdir.ensures.sound
 
 pub returns-clause-reply : goal.returns-clause-reply
 returns-clause-reply g c =
     answers c.args.self.now c.args.session c.requires.session c.index-tables-session.result c.readdir.new.slots
-    (λ t. (calls_of g.row.N (view_of c.args.self.now)).readdir t c.args.fd.0) (viewed (option_map {U = Of Named} (labelled Some named_by)) c.readdir.result) c.readdir.ensures.reply
+    (λ t. (calls_of g.row.N (view_of c.args.self.now)).readdir t c.args.fd.0)
+    (viewed (option_map {U = Of Named} (labelled Some named_by)) c.readdir.result) c.readdir.ensures.reply
 
 pub returns-clause-cursor : goal.returns-clause-cursor
 returns-clause-cursor g c =
     let v = view_of c.args.self.now in
-    let E : List (Option OpenNode) → Type 0 = λ z. MatchResult c.readdir.result (λ r. MatchOption r (Unit {0}) (λ e. LeadsOn v (table_of v z) c.args.fd.0 e.0 e.1.cursor.0)) (λ e. Unit {0}) in
+    let E : List (Option OpenNode) → Type 0 =
+    λ z. MatchResult c.readdir.result
+    (λ r. MatchOption r (Unit {0}) (λ e. LeadsOn v (table_of v z) c.args.fd.0 e.0 e.1.cursor.0)) (λ e. Unit {0}) in
     in_place c.args.self.now c.args.session c.requires.session E c.readdir.new.slots c.readdir.ensures.cursor
 
 pub returns-clause-part : goal.returns-clause-part
 returns-clause-part g c =
     let v = view_of c.args.self.now in
-    let E : List (Option OpenNode) → Type 0 = λ z. MatchResult c.readdir.result (λ r. MatchOption r (Unit {0}) (λ e. IsPartThere v (table_of v z) c.args.fd.0 e.1.name.now)) (λ e. Unit {0}) in
+    let E : List (Option OpenNode) → Type 0 =
+    λ z. MatchResult c.readdir.result
+    (λ r. MatchOption r (Unit {0}) (λ e. IsPartThere v (table_of v z) c.args.fd.0 e.1.name.now)) (λ e. Unit {0}) in
     in_place c.args.self.now c.args.session c.requires.session E c.readdir.new.slots c.readdir.ensures.part

@@ -10,7 +10,8 @@ rewind-requires g c κs =
     search rules
 
 pub invariant_of-self-clause-sound : goal.invariant_of-self-clause-sound
-invariant_of-self-clause-sound g c = still_sound c.args.self.now c.args.session c.requires.session c.rewind.new.slots c.rewind.ensures.sound
+invariant_of-self-clause-sound g c =
+    still_sound c.args.self.now c.args.session c.requires.session c.rewind.new.slots c.rewind.ensures.sound
 
 pub returns-clause-reply : goal.returns-clause-reply
 returns-clause-reply g c =

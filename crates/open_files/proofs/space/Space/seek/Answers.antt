@@ -10,9 +10,11 @@ seek-requires g c κs =
     search rules
 
 pub invariant_of-self-clause-sound : goal.invariant_of-self-clause-sound
-invariant_of-self-clause-sound g c = still_sound c.args.self.now c.args.session c.requires.session c.seek.new.slots c.seek.ensures.sound
+invariant_of-self-clause-sound g c =
+    still_sound c.args.self.now c.args.session c.requires.session c.seek.new.slots c.seek.ensures.sound
 
 pub returns-clause-reply : goal.returns-clause-reply
 returns-clause-reply g c =
     answers c.args.self.now c.args.session c.requires.session c.index-tables-session.result c.seek.new.slots
-    (λ t. (calls_of g.row.N (view_of c.args.self.now)).seek_to t c.args.fd.0 c.args.position) (c.seek.result) c.seek.ensures.reply
+    (λ t. (calls_of g.row.N (view_of c.args.self.now)).seek_to t c.args.fd.0 c.args.position)
+    (c.seek.result) c.seek.ensures.reply

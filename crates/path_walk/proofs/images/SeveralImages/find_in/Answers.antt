@@ -34,7 +34,8 @@ lookup-requires g c κs =
     let e : node_in (map f xs) i c.args.place.node.0 ≡ Some s.node = c.requires.1.node in
     let b : i < length xs = map_below f xs i (node_below (map f xs) i c.args.place.node.0 s.node e) in
     let y = c.index-self-place.result in
-    let k : image_node (f (get_or xs i y)) c.args.place.node.0 ≡ Some s.node = map_node f xs i c.args.place.node.0 y s.node e in
+    let k : image_node (f (get_or xs i y)) c.args.place.node.0 ≡ Some s.node =
+    map_node f xs i c.args.place.node.0 y s.node e in
     ((refl, tt), has_directory (f (get_or xs i y)) c.args.place.node.0 s.node k c.requires.2)
 
 pub returns-clause-stays : goal.returns-clause-stays
@@ -43,7 +44,8 @@ returns-clause-stays g c =
     let xs = c.args.self.now.images.now in
     let i : ℕ = c.args.place.image in
     let y = c.index-self-place.result in
-    ap (λ (v : List Image). record { images = v; loan = c.args.self.now.images.ghost_name }) (map_set f xs i y c.lookup.new.self c.lookup.ensures.stays)
+    ap (λ (v : List Image). record { images = v; loan = c.args.self.now.images.ghost_name })
+    (map_set f xs i y c.lookup.new.self c.lookup.ensures.stays)
 
 pub returns-clause-found : goal.returns-clause-found
 returns-clause-found g c = λ t h.

@@ -17,4 +17,5 @@ returns-then-not-self g c =
     let from : Sink = sink (g.W.ByteWrite.output c.args.w.now) c.args.failed.now in
     let mid : Sink = sink (g.W.ByteWrite.output c.put_frames.new.w) c.put_frames.new.failed in
     let P : List Frame → Type 0 = λ v. Puts from mid (escaped (path_text [] v)) in
-    rw (c.in-Some.is, c.if-not-self.true, escaped_both (path_text [] fs) (47 ∷ name)) (chain (subst P c.as_slice.ensures.value c.put_frames.ensures) c.put_name.ensures)
+    rw (c.in-Some.is, c.if-not-self.true, escaped_both (path_text [] fs) (47 ∷ name))
+    (chain (subst P c.as_slice.ensures.value c.put_frames.ensures) c.put_name.ensures)

@@ -13,6 +13,9 @@ loop-i-preserved c =
     let one : suc c.loop-i.i ≡ c.loop-i.i + 1 = omega arith in
     let P : ℕ → Type 0 = λ n. c.if-type_at-eq0.p ≡ led n c.args.self.now.bytes.now c.args.at in
     subst P one (elim c.if-type_at-eq0.branch [
-      | then-type_at-eq0 w ↦ w.p-is ∙ w.spec_offset-p.ensures ∙ led_more c.args.self.now.bytes.now c.loop-i.i c.loop-i.p c.args.at c.loop-i.invariant (sym c.type_at.ensures ∙ w.if-type_at-eq0.true)
-      | else-type_at-eq0 w ↦ w.p-is ∙ led_stay c.args.self.now.bytes.now c.loop-i.i c.loop-i.p c.args.at c.loop-i.invariant (λ e. w.if-type_at-eq0.false (c.type_at.ensures ∙ e))
+      | then-type_at-eq0 w ↦ w.p-is ∙ w.spec_offset-p.ensures
+          ∙ led_more c.args.self.now.bytes.now c.loop-i.i c.loop-i.p c.args.at c.loop-i.invariant
+          (sym c.type_at.ensures ∙ w.if-type_at-eq0.true)
+      | else-type_at-eq0 w ↦ w.p-is ∙ led_stay c.args.self.now.bytes.now c.loop-i.i c.loop-i.p c.args.at
+          c.loop-i.invariant (λ e. w.if-type_at-eq0.false (c.type_at.ensures ∙ e))
     ])

@@ -5,7 +5,8 @@ use Rattle.romfs_image.proofs.image.Romfs.again.Goals as goal
 pub invariant_of-accessible : goal.invariant_of-accessible
 invariant_of-accessible c =
     let e = length-take-le c.args.parts.accessible c.args.all.now c.requires.within in
-    let h : c.args.parts.root + 32 ≤ length (take c.args.parts.accessible c.args.all.now) = omega (arith, e, c.requires.header) in
+    let h : c.args.parts.root + 32 ≤ length (take c.args.parts.accessible c.args.all.now) =
+    omega (arith, e, c.requires.header) in
     record { small = c.requires.sound.small; below = c.requires.below; header = h }
 
 pub invariant_of-result : goal.invariant_of-result

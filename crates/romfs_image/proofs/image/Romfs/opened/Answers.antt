@@ -17,7 +17,8 @@ pub invariant_of-result : goal.invariant_of-result
 invariant_of-result c =
     let w = c.requires.tree in
     record {
-      sound = romfs_by c.requires.superblock c.args.limits.references c.args.limits.depth w.0 c.args.rows.now c.args.b.small w.1 w.2;
+      sound = romfs_by c.requires.superblock c.args.limits.references c.args.limits.depth w.0 c.args.rows.now
+          c.args.b.small w.1 w.2;
       front = front c.args.all.now c.args.b.bytes.now (full_size c.args.all.now) c.requires.superblock.cut;
       within = within c.args.all.now c.args.b.bytes.now (full_size c.args.all.now) c.requires.superblock.cut;
     }
@@ -25,5 +26,7 @@ invariant_of-result c =
 pub returns : goal.returns
 returns c =
     let w = c.requires.tree in
-    shows_by c.requires.superblock c.args.limits w.0 c.args.rows.now c.greatest_depth-depth.result _ c.args.b.small w.1 w.2
-    (deepest_is c.requires.superblock c.args.limits.references c.args.limits.depth c.greatest_depth-depth.result w.0 c.args.rows.now w.1 w.2 c.greatest_depth-depth.ensures.bound c.greatest_depth-depth.ensures.reached) refl refl
+    shows_by c.requires.superblock c.args.limits w.0 c.args.rows.now c.greatest_depth-depth.result _ c.args.b.small w.1
+    w.2
+    (deepest_is c.requires.superblock c.args.limits.references c.args.limits.depth c.greatest_depth-depth.result w.0
+    c.args.rows.now w.1 w.2 c.greatest_depth-depth.ensures.bound c.greatest_depth-depth.ensures.reached) refl refl

@@ -7,7 +7,9 @@ use Rattle.romfs_image.proofs.image.RomfsTreeImage.entry.Given as goal
 abbrev pub invariant-loop-at : goal.invariant-loop-at
 invariant-loop-at l = record {
   list : IsList l.fn.self.accessible.bytes.now l.fn.self.accessible.root l.fn.self.references l.at;
-  place : (i : ℕ) → cursor_of l.fn.self.accessible.bytes.now l.fn.self.accessible.root l.fn.self.references l.fn.d.0 l.fn.c.0 ≡ Some i → index_at l.fn.self.accessible.bytes.now (list_at l.fn.self.accessible.bytes.now l.fn.self.accessible.root l.fn.self.references l.fn.d.0) l.at ≡ Some i;
+  place : (i : ℕ) → cursor_of l.fn.self.accessible.bytes.now l.fn.self.accessible.root l.fn.self.references l.fn.d.0
+      l.fn.c.0 ≡ Some i → index_at l.fn.self.accessible.bytes.now
+      (list_at l.fn.self.accessible.bytes.now l.fn.self.accessible.root l.fn.self.references l.fn.d.0) l.at ≡ Some i;
 }
 
 abbrev pub decreases-loop-at : goal.decreases-loop-at

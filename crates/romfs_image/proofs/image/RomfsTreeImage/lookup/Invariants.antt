@@ -9,8 +9,10 @@ use Rattle.romfs_image.proofs.image.RomfsTreeImage.lookup.Given as goal
 abbrev pub invariant-loop-at : goal.invariant-loop-at
 invariant-loop-at l = record {
   list : IsList l.self.accessible.bytes.now l.self.accessible.root l.self.references l.at;
-  same : find_entry (entries_at l.self.accessible.bytes.now (list_at l.self.accessible.bytes.now l.self.accessible.root l.self.references l.fn.d.0)) l.name
-      ≡ find_entry (entries_at l.self.accessible.bytes.now (grow l.self.references l.self.accessible.bytes.now l.at)) l.name;
+  same : find_entry (entries_at l.self.accessible.bytes.now
+      (list_at l.self.accessible.bytes.now l.self.accessible.root l.self.references l.fn.d.0)) l.name
+      ≡ find_entry (entries_at l.self.accessible.bytes.now
+      (grow l.self.references l.self.accessible.bytes.now l.at)) l.name;
 }
 
 abbrev pub decreases-loop-at : goal.decreases-loop-at

@@ -19,7 +19,9 @@ fill_record-requires-clause-within c =
     let b = subst (λ (b : code_body.Body). IsBody p.items p.sizes s.len (body_view b)) c.in-Record.is c.requires.body in
     let n : length xs ≡ length p.items = sym (length-map xs item_view) ∙ ap length c.items.ensures in
     let low = b.0 in
-    let seen = ap (λ (is : List Item). item_at is k) (sym c.items.ensures) ∙ item_seen xs k r (omega (arith, n, low)) ∙ ap item_view (sym c.index-items-item.is) in
-    let long : record_len r.name ≡ s.len = ap (λ (i : Item). record_len i.name) (sym seen) ∙ record_is_long p.items p.sizes s.len k b in
+    let seen = ap (λ (is : List Item). item_at is k) (sym c.items.ensures) ∙ item_seen xs k r (omega (arith, n, low))
+    ∙ ap item_view (sym c.index-items-item.is) in
+    let long : record_len r.name ≡ s.len =
+    ap (λ (i : Item). record_len i.name) (sym seen) ∙ record_is_long p.items p.sizes s.len k b in
     let w = c.requires.within in
     omega (arith, long, w)

@@ -1,7 +1,8 @@
 use Rattle.std.proofs.Common.{◌≤◌, ap, ◌∙◌, arith}
 use Rattle.rom_tree.specs.Image.{stat_of}
 use Rattle.sample_image.specs.Sample.{root, bin, sh, deep, pipe, link, disk, tty, log}
-use Rattle.sample_image.proofs.Answering.{stat_is, is_last, within, node1, node2, node3, node4, node5, node6, node7, node8, node9}
+use Rattle.sample_image.proofs.Answering.{stat_is, is_last, within, node1, node2, node3, node4, node5, node6, node7}
+use Rattle.sample_image.proofs.Answering.{node8, node9}
 use Rattle.sample_image.proofs.sample.SampleTreeImage.stat.Goals as goal
 
 pub returns-in-1 : goal.returns-in-1
@@ -32,4 +33,6 @@ pub returns-in-9 : goal.returns-in-9
 returns-in-9 c = stat_is c.args.n.0 9 log c.plain-in-9.result node9 c.in-9.is c.plain-in-9.ensures
 
 pub returns-in_default : goal.returns-in_default
-returns-in_default c = λ x e. let n : 10 ≤ c.args.n.0 = (let h = within c.args.n.0 c.requires in omega arith) in c.plain-in_default.ensures ∙ ap stat_of (is_last c.args.n.0 x e n)
+returns-in_default c = λ x e. let n : 10 ≤ c.args.n.0 =
+    (let h = within c.args.n.0 c.requires in omega arith) in c.plain-in_default.ensures
+    ∙ ap stat_of (is_last c.args.n.0 x e n)

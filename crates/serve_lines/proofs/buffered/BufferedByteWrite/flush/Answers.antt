@@ -9,4 +9,5 @@ invariant_of-self g c = record {
 }
 
 pub returns-clause-bytes : goal.returns-clause-bytes
-returns-clause-bytes g c = kept _ _ c.hand_on_all.ensures.text.0 _ _ c.hand_on_all.ensures.text.1 c.hand_on_all.ensures.text.2
+returns-clause-bytes g c =
+    kept _ _ c.hand_on_all.ensures.text.0 _ _ c.hand_on_all.ensures.text.1 c.hand_on_all.ensures.text.2

@@ -1,0 +1,30 @@
+-- What a line has otherwise than the file that was found. (This project's own.)
+use Rattle.std.specs.Prelude.{ℕ, ◌/◌, ◌%◌, ◌==◌, ◌&&◌, not, Bool, true, false}
+use Rattle.manifest.specs.declared.line.Line.{Line}
+use Rattle.manifest.specs.declared.line.Word.{Word}
+use Rattle.manifest.specs.declared.line.Word.TheVariants.{Dir, File, Same, Hard}
+use Rattle.build_commands.specs.declared.inventory.NamedFile.{NamedFile}
+
+-- a further name has no attributes of its own
+abbrev pub has_attributes : Word → Bool
+has_attributes Hard = false
+has_attributes _ = true
+
+-- a directory or a regular file, which someone reads by its mode
+abbrev pub has_readers : Word → Bool
+has_readers Dir = true
+has_readers File = true
+has_readers Same = true
+has_readers _ = false
+
+-- the owner, the group and others may read a file of this mode
+abbrev pub all_may_read : ℕ → Bool
+all_may_read mode = (mode / 256 % 2 == 1) && ((mode / 32 % 2 == 1) && (mode / 4 % 2 == 1))
+
+-- some number of the line is not the file's
+abbrev pub is_changed : Word → ℕ → ℕ → Bool
+is_changed w old new = has_attributes w && not (old == new)
+
+-- all may read what is made by the line, and not all might read the file
+abbrev pub is_opened : Line → NamedFile → Bool
+is_opened l f = has_readers l.word && (all_may_read l.mode && not (all_may_read f.mode))

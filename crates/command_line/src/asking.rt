@@ -1,0 +1,502 @@
+//! What each subcommand asks for, by the values that clap has of its arguments.
+ghost use Rattle.std.specs.Prelude.{◌≡◌, ◌≢◌, IfNone, IfOk, IfSome, Some, codes, map, option_map};
+ghost use Rattle.clap.specs.Words.{all_of, first_of, found_of, rows_of};
+ghost use Rattle.command_line.specs.Numbers.{AreAddresses, AreAligns, IsAddress, IsBaseOf};
+ghost use Rattle.command_line.specs.Numbers.{IsOptional, IsSize, NotesAlign, format_word};
+ghost use Rattle.command_line.specs.Words.{AreTexts, HasNoValueForAll, IsAskedBy, IsFlag, IsForm};
+ghost use Rattle.command_line.specs.Words.{IsOffsetOf, IsOwnerOf, IsPlainScan, texts_or_none};
+ghost use Rattle.command_line.specs.Words.{word_of};
+ghost use Rattle.command_line.specs.declared.request.Request.TheVariants as request;
+
+use crate::error::{WordsError, Wrong};
+use crate::numbers::{
+    address_named, align_named, align_rule_named, format_named, owner_named, size_named,
+};
+use crate::request::{
+    AlignRule, Build, Cat, Diff, Digest, Extract, Info, Linux, Map, MapForm, Owner, Request, Scan,
+    ScanAll, Verify, Which,
+};
+use arrayvec::ArrayVec;
+use clap::ArgMatches;
+use plan_types::Format;
+use std::alloc::{AllocError, Global};
+
+/// The alignment of regular files for which none is asked, in bytes.
+const USUAL_ALIGN: u32 = 4;
+
+/// Returns the value of a name, if it has one.
+fn value_of<'a>(values: &ArgMatches<'a>, name: &str) -> Option<&'a str>
+    ensures { option_map (λ v. v.now) result ≡ first_of name.now (rows_of (found_of values.now)) }
+{
+    values.get_str(name)
+}
+
+/// Returns the values of a name, if it has some.
+fn values_of<'m, 'a>(values: &'m ArgMatches<'a>, name: &str) -> Option<&'m [&'a str]>
+    ensures { option_map (λ s. map (λ v. v.now) s.now) result
+        ≡ all_of name.now (rows_of (found_of values.now)) }
+{
+    values.get_strs(name)
+}
+
+/// Returns the value of a name that has to be given.
+fn wanted<'a>(values: &ArgMatches<'a>, name: &str) -> Result<&'a str, WordsError<'a>>
+    ensures { IfOk result (λ v. first_of name.now (rows_of (found_of values.now)) ≡ Some v.now) }
+{
+    match value_of(values, name) {
+        Some(value) => Ok(value),
+        None => Err(Wrong::Missing.into()),
+    }
+}
+
+/// Returns whether the option of this name, which has no value, is given.
+fn is_given(values: &ArgMatches<'_>, name: &str) -> bool
+    ensures { IsFlag (rows_of (found_of values.now)) name.now result }
+{
+    match value_of(values, name) {
+        Some(word) => word == "true",
+        None => false,
+    }
+}
+
+/// Returns the number of bytes that a name's value says, if it has one.
+fn size_of<'a>(values: &ArgMatches<'a>, name: &str) -> Result<Option<u64>, WordsError<'a>>
+    ensures { IfOk result (IsOptional IsSize (first_of name.now (rows_of (found_of values.now)))) }
+{
+    match value_of(values, name) {
+        None => Ok(None),
+        Some(word) => match size_named(word) {
+            Some(size) => Ok(Some(size)),
+            None => Err(Wrong::Size(word).into()),
+        },
+    }
+}
+
+/// Returns the address that a word names.
+fn address<'a>(word: &'a str) -> Result<u64, WordsError<'a>>
+    ensures { IfOk result (IsAddress word.now) }
+{
+    match address_named(word) {
+        Some(address) => Ok(address),
+        None => Err(Wrong::Address(word).into()),
+    }
+}
+
+/// Returns the address of an image's first byte, 0 if none is given.
+fn base_of<'a>(values: &ArgMatches<'a>) -> Result<u64, WordsError<'a>>
+    ensures { IfOk result (IsBaseOf (first_of (codes "base") (rows_of (found_of values.now)))) }
+{
+    match value_of(values, "base") {
+        None => Ok(0),
+        Some(word) => address(word),
+    }
+}
+
+/// Returns the values of a name, none if it has none.
+fn texts_of<'a>(
+    alloc: Global,
+    values: &ArgMatches<'a>,
+    name: &str,
+) -> Result<Vec<&'a str>, AllocError>
+    ensures { IfOk result (λ v. AreTexts (rows_of (found_of values.now)) name.now v.items) }
+{
+    let mut texts = Vec::new(alloc);
+    if let Some(found) = values_of(values, name) {
+        texts.extend_from_slice(found)?;
+    }
+    Ok(texts)
+}
+
+/// Returns the facts that are asked for.
+fn info_of<'a>(values: &ArgMatches<'a>) -> Result<Info<'a>, WordsError<'a>>
+    ensures { IfOk result (λ i. IsAskedBy (rows_of (found_of values.now)) (request.Info i)) }
+{
+    let image = wanted(values, "image")?;
+    let size = size_of(values, "size")?;
+    Ok(Info { image, size })
+}
+
+/// Returns what a map is to show.
+fn form_of<'a>(values: &ArgMatches<'a>) -> Result<MapForm<'a>, WordsError<'a>>
+    ensures { IfOk result (IsForm (rows_of (found_of values.now))) }
+{
+    let all = is_given(values, "all");
+    let c = is_given(values, "c");
+    let svg = is_given(values, "svg");
+    match (all, c, svg, value_of(values, "prefix")) {
+        (false, false, false, None) => Ok(MapForm::Files),
+        (true, false, false, None) => Ok(MapForm::All),
+        (false, true, false, prefix) => Ok(MapForm::C(prefix)),
+        (false, false, true, None) => Ok(MapForm::Svg),
+        _ => Err(Wrong::Forms.into()),
+    }
+}
+
+/// Returns the map that is asked for.
+fn map_of<'a>(values: &ArgMatches<'a>) -> Result<Map<'a>, WordsError<'a>>
+    ensures { IfOk result (λ m. IsAskedBy (rows_of (found_of values.now)) (request.Map m)) }
+{
+    let image = wanted(values, "image")?;
+    let base = base_of(values)?;
+    let form = form_of(values)?;
+    Ok(Map { image, base, form })
+}
+
+/// Returns the addresses that are given.
+fn addresses_of<'a>(alloc: Global, values: &ArgMatches<'a>) -> Result<Vec<u64>, WordsError<'a>>
+    ensures { IfOk result (λ v. AreAddresses
+        (texts_or_none (all_of (codes "address") (rows_of (found_of values.now)))) v.items) }
+{
+    let words = texts_of(alloc, values, "address")?;
+    let mut addresses = Vec::new(alloc);
+    for word in &words {
+        let address = address(word)?;
+        if let Err(e) = addresses.push(address) {
+            return Err(AllocError::from(e).into());
+        }
+    }
+    Ok(addresses)
+}
+
+/// Returns the addresses that are asked about.
+fn which_of<'a>(alloc: Global, values: &ArgMatches<'a>) -> Result<Which<'a>, WordsError<'a>>
+    ensures { IfOk result (λ w. IsAskedBy (rows_of (found_of values.now)) (request.Which w)) }
+{
+    let image = wanted(values, "image")?;
+    let base = base_of(values)?;
+    let addresses = addresses_of(alloc, values)?;
+    Ok(Which {
+        image,
+        base,
+        addresses,
+    })
+}
+
+/// Returns the images that are compared.
+fn diff_of<'a>(values: &ArgMatches<'a>) -> Result<Diff<'a>, WordsError<'a>>
+    ensures { IfOk result (λ d. IsAskedBy (rows_of (found_of values.now)) (request.Diff d)) }
+{
+    let old = wanted(values, "old")?;
+    let new = wanted(values, "new")?;
+    let tree = is_given(values, "tree");
+    Ok(Diff { old, new, tree })
+}
+
+/// Returns the check sums that are asked for.
+fn digest_of<'a>(values: &ArgMatches<'a>) -> Result<Digest<'a>, WordsError<'a>>
+    ensures { IfOk result (λ d. IsAskedBy (rows_of (found_of values.now)) (request.Digest d)) }
+{
+    let image = wanted(values, "file")?;
+    let whole = is_given(values, "image");
+    Ok(Digest { image, whole })
+}
+
+/// Returns the offset in a dump that is given, 0 if none is.
+fn offset_of<'a>(values: &ArgMatches<'a>) -> Result<u64, WordsError<'a>>
+    ensures { IfOk result (IsOffsetOf (first_of (codes "offset") (rows_of (found_of values.now)))) }
+{
+    Ok(size_of(values, "offset")?.unwrap_or(0))
+}
+
+/// Returns the image and the dump that are compared.
+fn verify_of<'a>(values: &ArgMatches<'a>) -> Result<Verify<'a>, WordsError<'a>>
+    ensures { IfOk result (λ v. IsAskedBy (rows_of (found_of values.now)) (request.Verify v)) }
+{
+    let image = wanted(values, "image")?;
+    let dump = wanted(values, "dump")?;
+    let offset = offset_of(values)?;
+    Ok(Verify {
+        image,
+        dump,
+        offset,
+    })
+}
+
+/// Returns the file of an image that is asked for.
+fn cat_of<'a>(values: &ArgMatches<'a>) -> Result<Cat<'a>, WordsError<'a>>
+    ensures { IfOk result (λ c. IsAskedBy (rows_of (found_of values.now)) (request.Cat c)) }
+{
+    let image = wanted(values, "image")?;
+    let path = wanted(values, "path")?;
+    Ok(Cat { image, path })
+}
+
+/// Returns the image of which it is asked what Linux gets wrong.
+fn linux_of<'a>(values: &ArgMatches<'a>) -> Result<Linux<'a>, WordsError<'a>>
+    ensures { IfOk result (λ l. IsAskedBy (rows_of (found_of values.now)) (request.Linux l)) }
+{
+    let image = wanted(values, "image")?;
+    let advice = is_given(values, "advice");
+    Ok(Linux { image, advice })
+}
+
+/// Returns the format that a word names.
+fn format<'a>(word: &'a str) -> Result<Format, WordsError<'a>>
+    ensures { IfOk result (λ f. word.now ≡ format_word f) }
+{
+    match format_named(word) {
+        Some(format) => Ok(format),
+        None => Err(Wrong::Format(word).into()),
+    }
+}
+
+/// Returns the build that is asked for.
+fn build_of<'a>(values: &ArgMatches<'a>) -> Result<Build<'a>, WordsError<'a>>
+    ensures { IfOk result (λ b. IsAskedBy (rows_of (found_of values.now)) (request.Build b)) }
+{
+    let format = format(wanted(values, "format")?)?;
+    let manifest = wanted(values, "manifest")?;
+    let out = wanted(values, "out")?;
+    let max_size = size_of(values, "max-size")?;
+    Ok(Build {
+        format,
+        manifest,
+        out,
+        no_follow: is_given(values, "no-follow"),
+        strict: is_given(values, "strict"),
+        max_size,
+        sources: value_of(values, "directory"),
+        depfile: value_of(values, "depfile"),
+    })
+}
+
+/// Returns the format that a manifest is to fit, if one is named.
+fn wished_format<'a>(values: &ArgMatches<'a>) -> Result<Option<Format>, WordsError<'a>>
+    ensures { IfOk result (λ f. first_of (codes "for") (rows_of (found_of values.now))
+        ≡ option_map format_word f) }
+{
+    match value_of(values, "for") {
+        None => Ok(None),
+        Some(word) => Ok(Some(format(word)?)),
+    }
+}
+
+/// The alignments of regular files.
+#[derive(Drop)]
+struct Aligns<'a> {
+    /// That of files that may be executed and match no pattern.
+    usual: u32,
+    rules: Vec<AlignRule<'a>>,
+}
+
+/// Notes what a word says of alignments: a rule, or the alignment of what matches none.
+fn note_align<'a>(word: &'a str, aligns: &mut Aligns<'a>) -> Result<(), WordsError<'a>>
+    ensures { IfOk result (λ _. NotesAlign word.now
+        (aligns.old.usual, aligns.old.rules.items) (aligns.new.usual, aligns.new.rules.items)) }
+{
+    if let Some(align) = align_named(word.as_bytes()) {
+        aligns.usual = align;
+        return Ok(());
+    }
+    match align_rule_named(word) {
+        Some(rule) => match aligns.rules.push(rule) {
+            Ok(()) => Ok(()),
+            Err(e) => Err(AllocError::from(e).into()),
+        },
+        None => Err(Wrong::Align(word).into()),
+    }
+}
+
+/// Returns the alignments that are asked for.
+fn aligns_of<'a>(alloc: Global, values: &ArgMatches<'a>) -> Result<Aligns<'a>, WordsError<'a>>
+    ensures { IfOk result (λ a. AreAligns
+        (texts_or_none (all_of (codes "align") (rows_of (found_of values.now))))
+        (a.usual, a.rules.items)) }
+{
+    let words = texts_of(alloc, values, "align")?;
+    let mut aligns = Aligns {
+        usual: USUAL_ALIGN,
+        rules: Vec::new(alloc),
+    };
+    for word in &words {
+        note_align(word, &mut aligns)?;
+    }
+    Ok(aligns)
+}
+
+/// Returns the owner of everything, if one is given.
+fn wished_owner<'a>(values: &ArgMatches<'a>) -> Result<Option<Owner>, WordsError<'a>>
+    ensures { IfOk result (IsOwnerOf (rows_of (found_of values.now))) }
+{
+    let root = is_given(values, "all-root");
+    match value_of(values, "owner") {
+        None if root => Ok(Some(Owner { uid: 0, gid: 0 })),
+        None => Ok(None),
+        Some(_) if root => Err(Wrong::Owners.into()),
+        Some(word) => match owner_named(word) {
+            Some(owner) => Ok(Some(owner)),
+            None => Err(Wrong::Owner(word).into()),
+        },
+    }
+}
+
+/// Returns the manifest of directories as they are that is asked for by `--all`.
+fn scan_all_of<'a>(alloc: Global, values: &ArgMatches<'a>) -> Result<ScanAll<'a>, WordsError<'a>>
+    requires { first_of (codes "all") (rows_of (found_of values.now)) ≡ Some (codes "true") }
+    ensures { IfOk result (λ s. IsAskedBy (rows_of (found_of values.now)) (request.ScanAll s)) }
+{
+    let folders = texts_of(alloc, values, "folder")?;
+    let excludes = texts_of(alloc, values, "exclude")?;
+    let format = wished_format(values)?;
+    let aligns = aligns_of(alloc, values)?;
+    let owner = wished_owner(values)?;
+    Ok(ScanAll {
+        folders,
+        format,
+        align: aligns.usual,
+        aligns: aligns.rules,
+        owner,
+        excludes,
+        volume: value_of(values, "volume"),
+        devices: value_of(values, "devices"),
+        output: value_of(values, "output"),
+        one_file_system: is_given(values, "one-file-system"),
+        strict: is_given(values, "strict"),
+    })
+}
+
+/// Returns the name of an option with a value that is given and goes with `--all` only.
+fn value_with_all(values: &ArgMatches<'_>) -> Option<&'static str>
+    ensures { IfNone result (HasNoValueForAll (rows_of (found_of values.now))) }
+{
+    if value_of(values, "for").is_some() {
+        Some("for")
+    } else if value_of(values, "align").is_some() {
+        Some("align")
+    } else if value_of(values, "owner").is_some() {
+        Some("owner")
+    } else if value_of(values, "exclude").is_some() {
+        Some("exclude")
+    } else if value_of(values, "volume").is_some() {
+        Some("volume")
+    } else if value_of(values, "devices").is_some() {
+        Some("devices")
+    } else if value_of(values, "output").is_some() {
+        Some("output")
+    } else {
+        None
+    }
+}
+
+/// Returns the name of an option that is given and goes with `--all` only.
+fn option_with_all(values: &ArgMatches<'_>) -> Option<&'static str>
+    ensures { IfNone result (IsPlainScan (rows_of (found_of values.now))) }
+{
+    if is_given(values, "all-root") {
+        Some("all-root")
+    } else if is_given(values, "strict") {
+        Some("strict")
+    } else {
+        value_with_all(values)
+    }
+}
+
+/// Returns the plain manifest of a directory that is asked for.
+fn scan_of<'a>(values: &ArgMatches<'a>) -> Result<Scan<'a>, WordsError<'a>>
+    requires { first_of (codes "all") (rows_of (found_of values.now)) ≢ Some (codes "true") }
+    ensures { IfOk result (λ s. IsAskedBy (rows_of (found_of values.now)) (request.Scan s)) }
+{
+    if let Some(name) = option_with_all(values) {
+        return Err(Wrong::WithoutAll(name).into());
+    }
+    match values_of(values, "folder") {
+        Some([folder]) => Ok(Scan {
+            folder: *folder,
+            one_file_system: is_given(values, "one-file-system"),
+        }),
+        _ => Err(Wrong::Folders.into()),
+    }
+}
+
+/// Returns the scan that is asked for.
+fn either_scan<'a>(alloc: Global, values: &ArgMatches<'a>) -> Result<Request<'a>, WordsError<'a>>
+    ensures asked { IfOk result (IsAskedBy (rows_of (found_of values.now))) }
+    ensures word { IfOk result (λ r. word_of r ≡ codes "scan") }
+{
+    if is_given(values, "all") {
+        Ok(Request::ScanAll(scan_all_of(alloc, values)?))
+    } else {
+        Ok(Request::Scan(scan_of(values)?))
+    }
+}
+
+/// Returns the image that is to be taken apart.
+fn extract_of<'a>(values: &ArgMatches<'a>) -> Result<Extract<'a>, WordsError<'a>>
+    ensures { IfOk result (λ x. IsAskedBy (rows_of (found_of values.now)) (request.Extract x)) }
+{
+    let image = wanted(values, "image")?;
+    let folder = wanted(values, "folder")?;
+    let owners = is_given(values, "owners");
+    Ok(Extract {
+        image,
+        folder,
+        owners,
+    })
+}
+
+/// Returns the images that are to be served together, up to eight.
+fn images_of<'a>(values: &ArgMatches<'a>) -> Result<ArrayVec<&'a str, 8>, WordsError<'a>>
+    ensures { IfOk result (λ v. all_of (codes "image") (rows_of (found_of values.now))
+        ≡ Some (map (λ i. i.now) v.items)) }
+{
+    let Some(names) = values_of(values, "image") else {
+        return Err(Wrong::Missing.into());
+    };
+    let mut images = ArrayVec::new();
+    match images.try_extend_from_slice(names) {
+        Ok(()) => Ok(images),
+        Err(_) => Err(Wrong::Missing.into()),
+    }
+}
+
+/// Returns what a subcommand that reads one image, or two, asks for with these values, if this is
+/// its name.
+fn reading<'a>(
+    alloc: Global,
+    name: &str,
+    values: &ArgMatches<'a>,
+) -> Result<Option<Request<'a>>, WordsError<'a>>
+    ensures values { IfOk result (λ o. IfSome o (IsAskedBy (rows_of (found_of values.now)))) }
+    ensures word { IfOk result (λ o. IfSome o (λ r. name.now ≡ word_of r)) }
+{
+    Ok(Some(match name {
+        "check" => Request::Check(wanted(values, "image")?),
+        "list" => Request::List(wanted(values, "image")?),
+        "info" => Request::Info(info_of(values)?),
+        "map" => Request::Map(map_of(values)?),
+        "which" => Request::Which(which_of(alloc, values)?),
+        "diff" => Request::Diff(diff_of(values)?),
+        "digest" => Request::Digest(digest_of(values)?),
+        "verify" => Request::Verify(verify_of(values)?),
+        "cat" => Request::Cat(cat_of(values)?),
+        "linux" => Request::Linux(linux_of(values)?),
+        _ => return Ok(None),
+    }))
+}
+
+/// Returns what a subcommand of this name asks for with these values.
+///
+/// # Errors
+///
+/// `Taken` with what is wrong in the values, and `OutOfMemory`.
+pub fn asked<'a>(
+    alloc: Global,
+    name: &str,
+    values: &ArgMatches<'a>,
+) -> Result<Request<'a>, WordsError<'a>>
+    ensures values { IfOk result (IsAskedBy (rows_of (found_of values.now))) }
+    ensures word { IfOk result (λ r. name.now ≡ word_of r) }
+{
+    if let Some(request) = reading(alloc, name, values)? {
+        return Ok(request);
+    }
+    match name {
+        "version" => Ok(Request::Version),
+        "serve" => Ok(Request::Serve(wanted(values, "image")?)),
+        "space" => Ok(Request::Space(images_of(values)?)),
+        "build" => Ok(Request::Build(build_of(values)?)),
+        "scan" => either_scan(alloc, values),
+        "extract" => Ok(Request::Extract(extract_of(values)?)),
+        _ => Err(Wrong::NoSubcommand.into()),
+    }
+}

@@ -1,0 +1,142 @@
+//! The values that single words name: formats, alignments, addresses, sizes and owners.
+ghost use Rattle.std.specs.Prelude.{◌≡◌, ◌≢◌, ◌≤◌, IfNone, IfSome, Some};
+ghost use Rattle.plan_types.specs.declared.format.Format.{Format};
+ghost use Rattle.command_line.specs.Numbers.{IsAddress, IsAlignRule, IsNumber, IsOwner, IsSize};
+ghost use Rattle.command_line.specs.Numbers.{align_named, format_word};
+
+use crate::request::{AlignRule, Owner};
+use memchr::{memchr, memrchr};
+use plan_types::Format;
+
+/// Returns the format that a word names.
+pub fn format_named(word: &str) -> Option<Format>
+    ensures some { IfSome result (λ f. word.now ≡ format_word f) }
+    ensures none { IfNone result ((f : Format) → word.now ≢ format_word f) }
+{
+    match word {
+        "romfs" => Some(Format::Romfs),
+        "cramfs" => Some(Format::Cramfs),
+        "cramfs-be" => Some(Format::CramfsBig),
+        _ => None,
+    }
+}
+
+/// Returns the alignment that bytes name: a power of two that a manifest takes.
+pub fn align_named(word: &[u8]) -> Option<u32>
+    ensures { result ≡ align_named word.now }
+{
+    match word {
+        b"4" => Some(4),
+        b"8" => Some(8),
+        b"16" => Some(16),
+        b"32" => Some(32),
+        b"64" => Some(64),
+        b"128" => Some(128),
+        b"256" => Some(256),
+        b"512" => Some(512),
+        b"1024" => Some(1024),
+        b"2048" => Some(2048),
+        b"4096" => Some(4096),
+        b"8192" => Some(8192),
+        b"16384" => Some(16384),
+        b"32768" => Some(32768),
+        b"65536" => Some(65536),
+        _ => None,
+    }
+}
+
+/// Returns the number that bytes are in digits of this radix.
+fn number(radix: u32, digits: &[u8]) -> Option<u64>
+    requires { (2 ≤ radix) × (radix ≤ 36) }
+    ensures { IfSome result (IsNumber radix digits.now) }
+{
+    if digits.is_empty() || digits[0] == b'+' {
+        return None;
+    }
+    let Ok(text) = std::str::from_utf8(digits) else {
+        return None;
+    };
+    match u64::from_str_radix(text, radix) {
+        Ok(number) => Some(number),
+        Err(_) => None,
+    }
+}
+
+/// Returns the address that bytes name: hexadecimal digits, behind `0x` or not.
+fn address_in(word: &[u8]) -> Option<u64>
+    ensures { IfSome result (IsAddress word.now) }
+{
+    if word.starts_with(b"0x") {
+        number(16, &word[2..])
+    } else {
+        number(16, word)
+    }
+}
+
+/// Returns the address that a word names.
+pub fn address_named(word: &str) -> Option<u64>
+    ensures { IfSome result (IsAddress word.now) }
+{
+    address_in(word.as_bytes())
+}
+
+/// Returns the number of bytes that a word of decimal digits names, if its last byte is a unit.
+fn scaled(word: &[u8]) -> Option<u64>
+    ensures { IfSome result (IsSize word.now) }
+{
+    match word.split_last() {
+        Some((b'K', digits)) => number(10, digits)?.checked_mul(1024),
+        Some((b'M', digits)) => number(10, digits)?.checked_mul(1048576),
+        _ => None,
+    }
+}
+
+/// Returns the number of bytes that a word names: decimal digits, with K or M behind them for
+/// units of 1,024 and 1,048,576, or hexadecimal digits behind `0x`.
+pub fn size_named(word: &str) -> Option<u64>
+    ensures { IfSome result (IsSize word.now) }
+{
+    let word = word.as_bytes();
+    if word.starts_with(b"0x") {
+        return number(16, &word[2..]);
+    }
+    match scaled(word) {
+        Some(size) => Some(size),
+        None => number(10, word),
+    }
+}
+
+/// Returns the number below 2^32 that decimal digits name.
+fn identity(digits: &[u8]) -> Option<u32>
+    ensures { IfSome result (IsNumber 10 digits.now) }
+{
+    match u32::try_from(number(10, digits)?) {
+        Ok(number) => Some(number),
+        Err(_) => None,
+    }
+}
+
+/// Returns the owner and the group that a word names: two decimal numbers with a colon between
+/// them.
+pub fn owner_named(word: &str) -> Option<Owner>
+    ensures { IfSome result (IsOwner word.now) }
+{
+    let word = word.as_bytes();
+    let colon = memchr(b':', word)?;
+    let uid = identity(&word[..colon])?;
+    let gid = identity(&word[colon + 1..])?;
+    Some(Owner { uid, gid })
+}
+
+/// Returns the rule that a word is: a pattern and an alignment, with an equals sign between them.
+pub fn align_rule_named<'a>(word: &'a str) -> Option<AlignRule<'a>>
+    ensures { IfSome result (IsAlignRule word.now) }
+{
+    let word = word.as_bytes();
+    let equals = memrchr(b'=', word)?;
+    let align = align_named(&word[equals + 1..])?;
+    match std::str::from_utf8(&word[..equals]) {
+        Ok(pattern) => Some(AlignRule { pattern, align }),
+        Err(_) => None,
+    }
+}

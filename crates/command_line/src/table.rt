@@ -1,0 +1,432 @@
+//! The program's subcommands: for each, its sentence, its words and its options.
+
+/// How the words of a command line give an argument.
+#[derive(Clone, Copy)]
+pub enum Kind {
+    /// A value, which has to be given.
+    Value,
+    /// One to eight values.
+    Few,
+    /// One value or more.
+    Several,
+    /// `--NAME VALUE`, at most once.
+    Option,
+    /// `--NAME VALUE` or `-LETTER VALUE`, at most once.
+    Lettered(char),
+    /// `--NAME VALUE`, as often as is wished.
+    Repeated,
+    /// `--NAME`, at most once.
+    Flag,
+}
+
+/// An argument of a subcommand.
+#[derive(Clone, Copy)]
+pub struct Word<'a> {
+    pub kind: Kind,
+    pub name: &'a str,
+    /// What help shows for the value.
+    pub shown: &'a str,
+    pub help: &'a str,
+}
+
+/// A subcommand.
+#[derive(Clone, Copy)]
+pub struct Subcommand<'a> {
+    pub name: &'a str,
+    pub about: &'a str,
+    pub words: &'a [Word<'a>],
+}
+
+/// The option that every subcommand has.
+pub const EXPLAIN: Word<'static> = Word {
+    kind: Kind::Flag,
+    name: "explain",
+    shown: "",
+    help: "Says in words, on standard error, why something was refused or failed",
+};
+
+const IMAGE: Word<'static> = Word {
+    kind: Kind::Value,
+    name: "image",
+    shown: "IMAGE",
+    help: "The file of the image",
+};
+
+const SIZE: Word<'static> = Word {
+    kind: Kind::Option,
+    name: "size",
+    shown: "N",
+    help: "Says whether the image fits into N bytes, as 64K, 2M or 0x10000, and what is left",
+};
+
+const BASE: Word<'static> = Word {
+    kind: Kind::Option,
+    name: "base",
+    shown: "HEX",
+    help: "The address of the image's first byte, in hexadecimal digits with or without 0x; else 0",
+};
+
+const ALL_EXTENTS: Word<'static> = Word {
+    kind: Kind::Flag,
+    name: "all",
+    shown: "",
+    help: "Prints a line for each extent of the image: every byte has one",
+};
+
+const C_HEADER: Word<'static> = Word {
+    kind: Kind::Flag,
+    name: "c",
+    shown: "",
+    help: "Prints a header for C with the address, the length and the path of each file",
+};
+
+const PREFIX: Word<'static> = Word {
+    kind: Kind::Option,
+    name: "prefix",
+    shown: "NAME",
+    help: "With --c: how the names in the header begin",
+};
+
+const SVG: Word<'static> = Word {
+    kind: Kind::Flag,
+    name: "svg",
+    shown: "",
+    help: "Prints a picture of the image as SVG",
+};
+
+const ADDRESSES: Word<'static> = Word {
+    kind: Kind::Several,
+    name: "address",
+    shown: "ADDRESS",
+    help: "Addresses in hexadecimal digits, with or without 0x",
+};
+
+const OLD: Word<'static> = Word {
+    kind: Kind::Value,
+    name: "old",
+    shown: "A",
+    help: "The file of the one image",
+};
+
+const NEW: Word<'static> = Word {
+    kind: Kind::Value,
+    name: "new",
+    shown: "B",
+    help: "The file of the other image",
+};
+
+const TREE: Word<'static> = Word {
+    kind: Kind::Flag,
+    name: "tree",
+    shown: "",
+    help: "Compares only the trees, and not where contents lie",
+};
+
+const DIGESTED: Word<'static> = Word {
+    kind: Kind::Value,
+    name: "file",
+    shown: "IMAGE",
+    help: "The file of the image",
+};
+
+const WHOLE: Word<'static> = Word {
+    kind: Kind::Flag,
+    name: "image",
+    shown: "",
+    help: "Prints the SHA-256 of the image's bytes, and not of its files",
+};
+
+const DUMP: Word<'static> = Word {
+    kind: Kind::Value,
+    name: "dump",
+    shown: "DUMP",
+    help: "The file of the dump, which may be longer than the image",
+};
+
+const OFFSET: Word<'static> = Word {
+    kind: Kind::Option,
+    name: "offset",
+    shown: "N",
+    help: "The offset of the image in the dump, in bytes, as 4096, 64K or 0x10000; else 0",
+};
+
+const PATH: Word<'static> = Word {
+    kind: Kind::Value,
+    name: "path",
+    shown: "PATH",
+    help: "The path of the file in the image, from its root",
+};
+
+const ADVICE: Word<'static> = Word {
+    kind: Kind::Flag,
+    name: "advice",
+    shown: "",
+    help: "Prints also which files of cramfs share their last page with something else",
+};
+
+const IMAGES: Word<'static> = Word {
+    kind: Kind::Few,
+    name: "image",
+    shown: "IMAGE",
+    help: "The files of the images, one to eight",
+};
+
+const FORMAT: Word<'static> = Word {
+    kind: Kind::Value,
+    name: "format",
+    shown: "FORMAT",
+    help: "romfs, cramfs or cramfs-be (big-endian)",
+};
+
+const MANIFEST: Word<'static> = Word {
+    kind: Kind::Value,
+    name: "manifest",
+    shown: "MANIFEST",
+    help: "The file of the manifest; - is standard input",
+};
+
+const OUT: Word<'static> = Word {
+    kind: Kind::Value,
+    name: "out",
+    shown: "OUT",
+    help: "The file of the image, which is replaced as a whole",
+};
+
+const NO_FOLLOW: Word<'static> = Word {
+    kind: Kind::Flag,
+    name: "no-follow",
+    shown: "",
+    help: "Refuses a source whose own name is that of a symbolic link",
+};
+
+const STRICT_BUILD: Word<'static> = Word {
+    kind: Kind::Flag,
+    name: "strict",
+    shown: "",
+    help: "Refuses what Linux would misread, and an empty manifest",
+};
+
+const MAX_SIZE: Word<'static> = Word {
+    kind: Kind::Option,
+    name: "max-size",
+    shown: "N",
+    help: "Refuses an image of more than N bytes, as 64K, 2M or 0x10000",
+};
+
+const DIRECTORY: Word<'static> = Word {
+    kind: Kind::Lettered('C'),
+    name: "directory",
+    shown: "DIR",
+    help: "The directory from which the names of sources start",
+};
+
+const DEPFILE: Word<'static> = Word {
+    kind: Kind::Option,
+    name: "depfile",
+    shown: "FILE",
+    help: "Writes to FILE what OUT was made of, as a rule for make",
+};
+
+const DIRECTORIES: Word<'static> = Word {
+    kind: Kind::Several,
+    name: "folder",
+    shown: "DIR",
+    help: "The directory; with --all several, of which a later one replaces files of earlier ones",
+};
+
+const ALL: Word<'static> = Word {
+    kind: Kind::Flag,
+    name: "all",
+    shown: "",
+    help: "Files of all kinds, with their modes, owners and further names",
+};
+
+const FOR: Word<'static> = Word {
+    kind: Kind::Option,
+    name: "for",
+    shown: "FORMAT",
+    help: "With --all: what romfs, cramfs or cramfs-be does not take is brought to the nearest",
+};
+
+const ALIGN: Word<'static> = Word {
+    kind: Kind::Repeated,
+    name: "align",
+    shown: "[GLOB=]N",
+    help: "With --all: the alignment of files that match, or of programs and libraries; 4 to 65536",
+};
+
+const OWNER: Word<'static> = Word {
+    kind: Kind::Option,
+    name: "owner",
+    shown: "UID:GID",
+    help: "With --all: the owner and the group of everything",
+};
+
+const ALL_ROOT: Word<'static> = Word {
+    kind: Kind::Flag,
+    name: "all-root",
+    shown: "",
+    help: "With --all: the same as --owner 0:0",
+};
+
+const EXCLUDE: Word<'static> = Word {
+    kind: Kind::Repeated,
+    name: "exclude",
+    shown: "GLOB",
+    help: "With --all: leaves out the paths below DIR that match",
+};
+
+const VOLUME: Word<'static> = Word {
+    kind: Kind::Option,
+    name: "volume",
+    shown: "NAME",
+    help: "With --all: the name of the volume",
+};
+
+const DEVICES: Word<'static> = Word {
+    kind: Kind::Option,
+    name: "devices",
+    shown: "FILE",
+    help: "With --all: adds the devices and other special lines of a manifest",
+};
+
+const OUTPUT: Word<'static> = Word {
+    kind: Kind::Lettered('o'),
+    name: "output",
+    shown: "FILE",
+    help: "With --all: writes the manifest to FILE, which is replaced as a whole",
+};
+
+const ONE_FILE_SYSTEM: Word<'static> = Word {
+    kind: Kind::Flag,
+    name: "one-file-system",
+    shown: "",
+    help: "Does not look into directories that other file systems are mounted on",
+};
+
+const STRICT_SCAN: Word<'static> = Word {
+    kind: Kind::Flag,
+    name: "strict",
+    shown: "",
+    help: "With --all: refuses to change attributes to fit FORMAT",
+};
+
+const INTO: Word<'static> = Word {
+    kind: Kind::Value,
+    name: "folder",
+    shown: "DIR",
+    help: "The directory, which is made, or is there and empty",
+};
+
+const OWNERS: Word<'static> = Word {
+    kind: Kind::Flag,
+    name: "owners",
+    shown: "",
+    help: "Sets owners, and all bits of modes; else set-user and set-group are left out",
+};
+
+/// The subcommands, in the order in which help shows them.
+pub const SUBCOMMANDS: [Subcommand<'static>; 16] = [
+    Subcommand {
+        name: "check",
+        about: "Says whether a file holds a sound image, or which fault it has",
+        words: &[IMAGE],
+    },
+    Subcommand {
+        name: "list",
+        about: "Prints a line for each name in an image",
+        words: &[IMAGE],
+    },
+    Subcommand {
+        name: "info",
+        about: "Prints the facts of an image: its format, volume, sizes, and how many names of each kind",
+        words: &[IMAGE, SIZE],
+    },
+    Subcommand {
+        name: "map",
+        about: "Prints where each file of an image lies, with its address in the flash",
+        words: &[IMAGE, BASE, ALL_EXTENTS, C_HEADER, PREFIX, SVG],
+    },
+    Subcommand {
+        name: "which",
+        about: "Prints what lies at addresses of the flash",
+        words: &[IMAGE, BASE, ADDRESSES],
+    },
+    Subcommand {
+        name: "diff",
+        about: "Prints how two images differ",
+        words: &[OLD, NEW, TREE],
+    },
+    Subcommand {
+        name: "digest",
+        about: "Prints the SHA-256 of each file of an image",
+        words: &[DIGESTED, WHOLE],
+    },
+    Subcommand {
+        name: "verify",
+        about: "Says whether a dump of the flash holds exactly an image",
+        words: &[IMAGE, DUMP, OFFSET],
+    },
+    Subcommand {
+        name: "cat",
+        about: "Prints the bytes of a file in an image",
+        words: &[IMAGE, PATH],
+    },
+    Subcommand {
+        name: "linux",
+        about: "Prints what Linux gets wrong of a sound image",
+        words: &[IMAGE, ADVICE],
+    },
+    Subcommand {
+        name: "serve",
+        about: "Answers the lines of standard input from an image",
+        words: &[IMAGE],
+    },
+    Subcommand {
+        name: "space",
+        about: "Answers lines from one to eight images, with sessions and mounts",
+        words: &[IMAGES],
+    },
+    Subcommand {
+        name: "build",
+        about: "Builds the image of a manifest and of the files that it names",
+        words: &[
+            FORMAT,
+            MANIFEST,
+            OUT,
+            NO_FOLLOW,
+            STRICT_BUILD,
+            MAX_SIZE,
+            DIRECTORY,
+            DEPFILE,
+        ],
+    },
+    Subcommand {
+        name: "scan",
+        about: "Prints a manifest of a directory",
+        words: &[
+            DIRECTORIES,
+            ALL,
+            FOR,
+            ALIGN,
+            OWNER,
+            ALL_ROOT,
+            EXCLUDE,
+            VOLUME,
+            DEVICES,
+            OUTPUT,
+            ONE_FILE_SYSTEM,
+            STRICT_SCAN,
+        ],
+    },
+    Subcommand {
+        name: "extract",
+        about: "Takes an image apart: its files into a directory, and prints its manifest",
+        words: &[IMAGE, INTO, OWNERS],
+    },
+    Subcommand {
+        name: "version",
+        about: "Prints the program's version",
+        words: &[],
+    },
+];

@@ -1,0 +1,6 @@
+pub mod Compared
+pub mod Agreed
+pub mod Reached
+pub mod Sorting
+pub mod Stepped
+pub mod Told

@@ -1,0 +1,4 @@
+pub mod Diff
+pub mod Rows
+pub mod Endings
+pub mod Alike

@@ -1,0 +1,117 @@
+//! In what two images differ.
+ghost use Rattle.std.specs.Prelude.{◌≡◌, ◌+◌, ◌<◌, ◌≤◌, ◌||◌, List, length};
+ghost use Rattle.std.specs.Bool.{OnTrue, OnFalse};
+ghost use Rattle.rom_tree.specs.Tree.{levels};
+ghost use Rattle.rom_tree.specs.Names.{Name};
+ghost use Rattle.image_diff.specs.Diff.{names_lines};
+ghost use Rattle.image_diff.specs.Endings.{DiffEnds, WritesLines};
+ghost use Rattle.image_diff.specs.Rows.{AreKnown, AreRows};
+
+use crate::rows::{NoRows, Row, rows_of};
+use crate::steps::put_step;
+use rom_fields::{ByteWrite, Failed};
+use rom_tree::TreeImage;
+use std::alloc::Global;
+use thiserror::Error;
+
+/// Why the lines of two images were not written whole.
+#[derive(Clone, Copy, Debug, PartialEq, Eq, Error)]
+pub enum DiffError {
+    /// Memory was refused. Nothing was written.
+    #[error("out of memory")]
+    OutOfMemory,
+    /// A path has more than 16,384 bytes. Nothing was written.
+    #[error("a path of more than 16384 bytes")]
+    LongPath,
+    /// A write failed.
+    #[error("a write failed")]
+    WriteFault,
+}
+
+/// Whether no row is left of both lists.
+fn are_over(xs: &[Row], ys: &[Row]) -> bool
+    ensures over { OnTrue result (length xs.now + length ys.now ≡ 0) }
+    ensures left { OnFalse result (0 < length xs.now + length ys.now) }
+{
+    xs.is_empty() && ys.is_empty()
+}
+
+/// Whether one of two is so.
+fn either(one: bool, other: bool) -> bool
+    ensures { result ≡ (one || other) }
+{
+    one || other
+}
+
+/// Writes the lines of two lists of rows, and says whether there are any.
+fn write_lines<'a, T: TreeImage<'a>, W: ByteWrite>(
+    old: &T,
+    new: &T,
+    places: bool,
+    xs: &[Row],
+    ys: &[Row],
+    w: &mut W,
+) -> Result<bool, Failed>
+    requires old { AreKnown (T.image old.now) xs.now }
+    requires new { AreKnown (T.image new.now) ys.now }
+    ensures { (ps qs : List Name) → AreRows (T.image old.now) xs.now ps
+        → AreRows (T.image new.now) ys.now qs
+        → WritesLines (W.output w.old) (W.output w.new)
+        (names_lines places (T.image old.now).bytes (T.image new.now).bytes ps qs) result }
+{
+    let mut told = false;
+    let mut failed = false;
+    let mut i = 0;
+    let mut j = 0;
+    while !failed {
+        if are_over(&xs[i..], &ys[j..]) {
+            return Ok(told);
+        }
+        let step = put_step(old, new, places, w, &mut failed, &xs[i..], &ys[j..]);
+        i += step.old;
+        j += step.new;
+        told = either(told, step.told);
+    }
+    Err(Failed)
+}
+
+/// Writes in what two images differ: for each path, as bytes compare and from the least on, the
+/// lines `- PATH` if only the old image has it, `+ PATH` if only the new one has it, both if its
+/// nodes have not one kind, and otherwise `m PATH OLD NEW` if attributes differ, `c PATH OLDLEN
+/// NEWLEN` if the bytes of a file or the text of a link differ, and `@ PATH OLD NEW` if places are
+/// asked for and a file's first byte lies at another offset. OLD and NEW of `m` are
+/// KIND/MODE/UID/GID/MAJOR/MINOR, each as a list has it, and those of `@` are `0x` and eight
+/// hexadecimal digits. PATH is that of a list. Returns whether there is a line. Directories may lie
+/// 64 deep.
+///
+/// # Errors
+///
+/// `OutOfMemory` if memory was refused, and `LongPath` if a path has more than 16,384 bytes: then
+/// nothing was written. `WriteFault` if a write failed: then a prefix of the lines was written.
+pub fn write_diff<'a, T: TreeImage<'a>, W: ByteWrite>(
+    alloc: Global,
+    old: &T,
+    new: &T,
+    places: bool,
+    w: &mut W,
+) -> Result<bool, DiffError>
+    requires old { levels (T.image old.now).tree ≤ 65 }
+    requires new { levels (T.image new.now).tree ≤ 65 }
+    ensures { DiffEnds places (T.image old.now) (T.image new.now) (W.output w.old) (W.output w.new)
+        result }
+{
+    let xs = match rows_of(alloc, old) {
+        Ok(rows) => rows,
+        Err(NoRows::OutOfMemory) => return Err(DiffError::OutOfMemory),
+        Err(NoRows::LongPath) => return Err(DiffError::LongPath),
+    };
+    let ys = match rows_of(alloc, new) {
+        Ok(rows) => rows,
+        Err(NoRows::OutOfMemory) => return Err(DiffError::OutOfMemory),
+        Err(NoRows::LongPath) => return Err(DiffError::LongPath),
+    };
+    match write_lines(old, new, places, xs.as_slice(), ys.as_slice(), w) {
+        Ok(told) => Ok(told),
+        Err(_) => Err(DiffError::WriteFault),
+    }
+}

@@ -1,0 +1,5 @@
+pub mod Listed
+pub mod Found
+pub mod Lines
+pub mod Sorted
+pub mod Apart

@@ -1,0 +1,81 @@
+-- The lines of the extents of an image. (This project's own.)
+use Rattle.std.specs.Prelude.{ℕ, ◌+◌, ◌-◌, ◌%◌, ◌^◌, ◌==◌, Bool, true, false, if◌then◌else◌, max}
+use Rattle.std.specs.Prelude.{nat_lt, List, [], ◌∷◌, ◌++◌, length, take, drop, codes, decimal}
+use Rattle.rom_fields.specs.Texts.{escaped}
+use Rattle.image_map.specs.Map.{address_text}
+use Rattle.image_extents.specs.Listed.{path_of}
+use Rattle.image_extents.specs.declared.extent.Extent.{Extent}
+use Rattle.image_extents.specs.declared.extent.Extents.{Extents}
+use Rattle.image_extents.specs.declared.extent.Kind.{Kind}
+use Rattle.image_extents.specs.declared.extent.Kind.TheVariants.{Super, Header, List as ListOf}
+use Rattle.image_extents.specs.declared.extent.Kind.TheVariants.{Table, Data}
+
+abbrev pub word_of : Kind → List ℕ
+word_of Super = codes "super"
+word_of Header = codes "header"
+word_of ListOf = codes "list"
+word_of Table = codes "table"
+word_of Data = codes "data"
+
+-- the address of the byte at an offset, of 64 bits
+abbrev pub address_of : ℕ → ℕ → ℕ
+address_of base at = (base + at) % 2 ^ 64
+
+-- an address, a length and the word of a kind, with a space after each
+unfoldable pub range_text : ℕ → ℕ → List ℕ → List ℕ
+range_text address len word =
+    address_text address ++ (32 ∷ [] ++ (decimal len ++ (32 ∷ [] ++ (word ++ 32 ∷ []))))
+
+abbrev pub is_super : Kind → Bool
+is_super Super = true
+is_super _ = false
+
+-- the path of the record, escaped as in a list; the superblock has none
+abbrev pub owner_text : Extents → Extent → List ℕ
+owner_text e x =
+    if is_super x.kind then 45 ∷ [] else escaped (path_of e.bytes.now e.records.items x.owner)
+
+-- ADDRESS LENGTH KIND PATH
+unfoldable pub extent_text : ℕ → Extents → Extent → List ℕ
+extent_text base e x =
+    range_text (address_of base x.start) x.len (word_of x.kind) ++ owner_text e x
+
+abbrev pub all_zero : List ℕ → Bool
+all_zero [] = true
+all_zero (x ∷ xs) = if x == 0 then all_zero xs else false
+
+-- the word of bytes that are in no extent
+abbrev pub rest_word : List ℕ → List ℕ
+rest_word b = if all_zero b then codes "pad" else codes "gap"
+
+-- the line of the bytes from `from` up to `to`, which are in no extent, if there are any
+unfoldable pub between : ℕ → List ℕ → ℕ → ℕ → List ℕ
+between base b from to =
+    if nat_lt from to then
+    range_text (address_of base from) (to - from) (rest_word (take (to - from) (drop from b)))
+    ++ 45 ∷ 10 ∷ [] else []
+
+-- the line of the bytes of a file after the accessible ones, if it has any
+unfoldable pub beyond : ℕ → ℕ → ℕ → List ℕ
+beyond base size file =
+    if nat_lt size file then
+    range_text (address_of base size) (file - size) (codes "beyond") ++ 45 ∷ 10 ∷ [] else []
+
+-- the lines of some extents, and of the bytes before and between them from `reach` on
+abbrev pub lines_from : ℕ → Extents → ℕ → List Extent → List ℕ
+lines_from base e reach [] = []
+lines_from base e reach (x ∷ xs) =
+    (between base e.bytes.now reach x.start ++ (extent_text base e x ++ 10 ∷ []))
+    ++ lines_from base e (max reach (x.start + x.len)) xs
+
+-- where the last of some extents ends, or `reach`
+abbrev pub reach_after : ℕ → List Extent → ℕ
+reach_after reach [] = reach
+reach_after reach (x ∷ xs) = reach_after (max reach (x.start + x.len)) xs
+
+-- all lines of an image that is in a file of so many bytes
+unfoldable pub extents_text : ℕ → ℕ → Extents → List ℕ
+extents_text base file e =
+    lines_from base e 0 e.extents.items
+    ++ (between base e.bytes.now (reach_after 0 e.extents.items) (length e.bytes.now)
+    ++ beyond base (length e.bytes.now) file)

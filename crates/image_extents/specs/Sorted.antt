@@ -1,0 +1,52 @@
+-- What the collected extents of an image are. (This project's own.)
+use Rattle.std.specs.Prelude.{◌≡◌, ℕ, Bool, List, IsPermutation}
+use Rattle.std.specs.List.Sorted.{IsNonDecreasingBy, IsStableByKey}
+use Rattle.std.specs.Ordering.{nat_cmp}
+use Rattle.romfs_format.specs.Superblock.{accessible as romfs_accessible}
+use Rattle.romfs_format.specs.Tree.{root_of}
+use Rattle.cramfs_format.specs.declared.order.Order.{Order}
+use Rattle.cramfs_format.specs.Superblock.{accessible as cramfs_accessible}
+use Rattle.cramfs_image.specs.Reported.{order_in}
+use Rattle.image_check.specs.declared.any.AnyImage.{AnyImage}
+use Rattle.image_check.specs.declared.any.AnyImage.TheVariants.{Romfs, Cramfs}
+use Rattle.image_extents.specs.declared.extent.Extent.{Extent}
+use Rattle.image_extents.specs.declared.extent.Extents.{Extents}
+use Rattle.image_extents.specs.Apart.{AreApart}
+use Rattle.image_extents.specs.Listed.{romfs_listed, cramfs_listed}
+use Rattle.image_extents.specs.Found.{romfs_all_found, cramfs_all_found}
+
+abbrev pub start_of : Extent → ℕ
+start_of x = x.start
+
+-- ys are the extents xs in the order of offset, those of one offset in the order in which xs has
+-- them
+pub record IsInOrder (xs ys : List Extent) : Type 0 where
+  pub same : IsPermutation xs ys
+  pub sorted : IsNonDecreasingBy start_of ys
+  pub stable : IsStableByKey start_of nat_cmp xs ys
+
+-- the records and the extents of the romfs image with the accessible bytes b and the root at r, no
+-- two of different ranges with a byte in common
+pub record AreRomfs (b : List ℕ) (r : ℕ) (e : Extents) : Type 0 where
+  pub bytes : e.bytes.now ≡ b
+  pub records : e.records.items ≡ romfs_listed b r
+  pub extents : IsInOrder (romfs_all_found b r) e.extents.items
+  pub apart : AreApart e.extents.items
+
+-- the records and the extents of the cramfs image with the accessible bytes b: either blocks that
+-- go on where the one before ends are joined, or none are
+pub record AreBlocks (joined : Bool) (o : Order) (b : List ℕ) (e : Extents) : Type 0 where
+  pub bytes : e.bytes.now ≡ b
+  pub records : e.records.items ≡ cramfs_listed o b
+  pub extents : IsInOrder (cramfs_all_found joined o b) e.extents.items
+
+-- the same, and no two of different ranges have a byte in common
+pub record AreCramfs (o : Order) (b : List ℕ) (e : Extents) : Type 0 where
+  pub joined : Bool
+  pub blocks : AreBlocks joined o b e
+  pub apart : AreApart e.extents.items
+
+-- by the image's format
+abbrev pub AreOf : AnyImage → Extents → Type 0
+AreOf (Romfs s) e = AreRomfs (romfs_accessible s.all.now) (root_of (romfs_accessible s.all.now)) e
+AreOf (Cramfs s) e = AreCramfs (order_in s) (cramfs_accessible (order_in s) s.all.now) e

@@ -1,0 +1,42 @@
+-- The identifier of a path, and a string of C. (This project's own.)
+use Rattle.std.specs.Prelude.{ℕ, ◌+◌, ◌/◌, ◌%◌, ◌==◌, ◌&&◌, ◌||◌, Bool, if◌then◌else◌, nat_lt}
+use Rattle.std.specs.Prelude.{nat_le}
+use Rattle.std.specs.Prelude.{List, [], ◌∷◌, ◌++◌}
+use Rattle.std.specs.List.{flat_map}
+
+abbrev pub is_letter : ℕ → Bool
+is_letter b = (nat_le 65 b && nat_le b 90) || (nat_le 97 b && nat_le b 122)
+
+abbrev pub is_digit : ℕ → Bool
+is_digit b = nat_le 48 b && nat_le b 57
+
+-- the lower-case hexadecimal digit of a number below 16
+abbrev pub hex_digit : ℕ → ℕ
+hex_digit n = if nat_lt n 10 then 48 + n else (if nat_lt n 16 then 87 + n else 102)
+
+-- What an identifier has for a byte of a path: `_` for a slash, a letter other than Z or a digit as
+-- it is, and otherwise Z with a code. No code is the front of another one, so paths that differ
+-- have identifiers that differ.
+unfoldable pub code_of : ℕ → List ℕ
+code_of b =
+    if b == 47 then 95 ∷ [] else (if b == 90 then 90 ∷ 90 ∷ []
+    else (if is_letter b || is_digit b then b ∷ [] else (if b == 46 then 90 ∷ 100 ∷ []
+    else (if b == 45 then 90 ∷ 104 ∷ [] else (if b == 95 then 90 ∷ 117 ∷ []
+    else 90 ∷ 120 ∷ hex_digit (b / 16) ∷ hex_digit (b % 16) ∷ [])))))
+
+unfoldable pub identifier : List ℕ → List ℕ
+identifier path = flat_map code_of path
+
+-- a backslash and three octal digits
+abbrev pub octal_byte : ℕ → List ℕ
+octal_byte b = 92 ∷ (48 + b / 64) ∷ (48 + b / 8 % 8) ∷ (48 + b % 8) ∷ []
+
+-- letters, digits, `/`, `.`, `-` and `_` as they are
+unfoldable pub text_byte : ℕ → List ℕ
+text_byte b =
+    if is_letter b || (is_digit b || (b == 47 || (b == 46 || (b == 45 || b == 95))))
+    then b ∷ [] else octal_byte b
+
+-- a string of C with these bytes
+unfoldable pub text_of : List ℕ → List ℕ
+text_of bytes = 34 ∷ [] ++ (flat_map text_byte bytes ++ 34 ∷ [])

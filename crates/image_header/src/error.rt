@@ -1,0 +1,13 @@
+//! Why a header was not written.
+use thiserror::Error;
+
+/// Why not all of a header was written.
+#[derive(Clone, Copy, Debug, PartialEq, Eq, Error)]
+pub enum HeaderError {
+    /// A path has more than 16,640 bytes.
+    #[error("a path is too long")]
+    LongPath,
+    /// A write failed.
+    #[error("write fault")]
+    WriteFault,
+}

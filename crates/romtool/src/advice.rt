@@ -1,0 +1,311 @@
+//! Which files of cramfs have a last page that Linux does not map, since something else is in it.
+//!
+//! Linux maps the last page of a file in place only if the bytes behind the file's end are zeros,
+//! up to the page's end (`cramfs_last_page_is_shared`). This says it of each file whose bytes are
+//! in one piece and begin at a page.
+ghost use Rattle.std.specs.Prelude.{◌≤◌};
+ghost use Rattle.rom_tree.specs.Tree.{levels};
+ghost use Rattle.image_check.specs.Any.{any_view};
+
+use crate::teller::Teller;
+use cramfs_format::{Order, inode};
+use image_check::{AnyImage, check};
+use program_streams::Again;
+use rom_commands::{Failure, Status};
+use rom_fields::{ByteWrite, Plain, put, put_long_decimal};
+use rom_tree::{Kind, Limits, NodeId, TreeImage, Walk, longest_run};
+use std::alloc::{AllocError, Global};
+use std::collections::BTreeMap;
+use std::io::{self, BufWriter};
+
+/// How many bytes a page of memory has.
+const PAGE: u32 = 4096;
+
+/// How many bytes an inode has without its name.
+const INODE: usize = 12;
+
+/// What lies somewhere in an image.
+#[derive(Clone, Copy)]
+enum What {
+    /// The bytes of a file, or the text of a link.
+    Data,
+    /// The block pointers of a file or of a link.
+    Table,
+    /// The list of a directory.
+    List,
+}
+
+/// What lies at an offset, and whose it is: the number of the first name, from 0 on.
+#[derive(Clone, Copy)]
+struct Piece {
+    what: What,
+    name: usize,
+}
+
+/// The bytes of a file that begin at a page, are in one piece, and end within a page.
+#[derive(Clone, Copy)]
+struct Mapped {
+    name: usize,
+    start: u32,
+    end: u32,
+}
+
+/// A file, and what is first behind its end in its last page, if that is known.
+#[derive(Clone, Copy)]
+struct Shared {
+    mapped: Mapped,
+    behind: Option<Piece>,
+}
+
+/// What is found of the names of an image.
+#[derive(Drop)]
+struct Layout {
+    pieces: BTreeMap<u32, Piece>,
+    mapped: Vec<Mapped>,
+}
+
+impl Layout {
+    /// Notes what lies at an offset. 0 is no offset.
+    fn note(&mut self, at: u32, what: What, name: usize) -> Result<(), AllocError> {
+        if at > 0 && !self.pieces.contains_key(&at) {
+            self.pieces.insert(at, Piece { what, name })?;
+        }
+        Ok(())
+    }
+
+    /// Notes the bytes of a node from `start` on, as many as are in one piece.
+    fn note_data(
+        &mut self,
+        (start, len): (u32, u64),
+        size: u32,
+        name: usize,
+        is_file: bool,
+    ) -> Result<(), AllocError> {
+        self.note(start, What::Data, name)?;
+        if is_file && len == u64::from(size) && start % PAGE == 0 && size % PAGE != 0 {
+            let end = start.saturating_add(size);
+            self.mapped.push(Mapped { name, start, end })?;
+        }
+        Ok(())
+    }
+}
+
+/// Where the list or the block pointers of a node of cramfs are.
+fn offset_of(order: Order, bytes: &[u8], node: NodeId) -> u32 {
+    let at = node.0 as usize;
+    if at > bytes.len() || bytes.len() - at < INODE {
+        return 0;
+    }
+    inode::offset_at(order, bytes, at)
+}
+
+/// What lies where in a cramfs image, by the first names.
+fn layout_of<'a, T: TreeImage<'a>>(
+    alloc: Global,
+    image: &T,
+    order: Order,
+) -> Result<Layout, AllocError>
+    requires depth { levels (T.image image.now).tree ≤ 65 }
+{
+    let mut layout = Layout {
+        pieces: BTreeMap::new(alloc),
+        mapped: Vec::new(alloc),
+    };
+    let mut name = 0usize;
+    let mut walk = Walk::new();
+    while let Some(node) = walk.next(image) {
+        let stat = image.stat(node);
+        let offset = offset_of(order, image.bytes(), node);
+        match stat.kind {
+            Kind::Directory => layout.note(offset, What::List, name)?,
+            Kind::Regular | Kind::Symlink if stat.size > 0 => {
+                layout.note(offset, What::Table, name)?;
+                let is_file = stat.kind == Kind::Regular;
+                let run = longest_run(image, node, 0, u64::from(stat.size));
+                layout.note_data(run, stat.size, name, is_file)?;
+            }
+            _ => {}
+        }
+        name = name.saturating_add(1);
+    }
+    Ok(layout)
+}
+
+/// The files whose last page has a byte behind their end that is not zero.
+fn shared_of(alloc: Global, bytes: &[u8], layout: &Layout) -> Result<Vec<Shared>, AllocError> {
+    let mut all = Vec::new(alloc);
+    for mapped in &layout.mapped {
+        let end = mapped.end as usize;
+        let page_end = end.next_multiple_of(PAGE as usize).min(bytes.len());
+        let tail = bytes.get(end..page_end).unwrap_or(&[]);
+        if tail.iter().any(|byte| *byte != 0) {
+            let page_end = u32::try_from(page_end).unwrap_or(u32::MAX);
+            let mut behind = layout.pieces.range(mapped.end..page_end);
+            let behind = behind.next().map(|(_, piece)| *piece);
+            all.push(Shared {
+                mapped: *mapped,
+                behind,
+            })?;
+        }
+    }
+    Ok(all)
+}
+
+/// The paths of these names of an image, escaped.
+fn add_paths<'a, T: TreeImage<'a>>(
+    alloc: Global,
+    image: &T,
+    paths: &mut BTreeMap<usize, Vec<u8>>,
+) -> Result<(), AllocError>
+    requires depth { levels (T.image image.now).tree ≤ 65 }
+{
+    let mut name = 0usize;
+    let mut walk = Walk::new();
+    while let Some(node) = walk.next(image) {
+        let _ = node;
+        if paths.contains_key(&name) {
+            let mut path = Plain::new(Vec::new(alloc));
+            let mut failed = false;
+            walk.put_path(&mut path, &mut failed);
+            if failed {
+                return Err(AllocError);
+            }
+            paths.insert(name, path.into_inner())?;
+        }
+        name = name.saturating_add(1);
+    }
+    Ok(())
+}
+
+/// The names that are to be told of these files, without their paths.
+fn names_of(alloc: Global, all: &[Shared]) -> Result<BTreeMap<usize, Vec<u8>>, AllocError> {
+    let mut paths = BTreeMap::new(alloc);
+    for shared in all {
+        paths.insert(shared.mapped.name, Vec::new(alloc))?;
+        if let Some(piece) = shared.behind {
+            paths.insert(piece.name, Vec::new(alloc))?;
+        }
+    }
+    Ok(paths)
+}
+
+/// The word for what is behind a file.
+fn word_of(behind: Option<Piece>) -> &'static [u8] {
+    match behind {
+        Some(
+            Piece {
+                what: What::Data,
+                ..
+            },
+        ) => b"data",
+        Some(
+            Piece {
+                what: What::Table,
+                ..
+            },
+        ) => b"table",
+        Some(
+            Piece {
+                what: What::List,
+                ..
+            },
+        ) => b"list",
+        None => b"bytes",
+    }
+}
+
+/// The path of a name.
+fn path_of<'p>(paths: &'p BTreeMap<usize, Vec<u8>>, name: usize) -> &'p [u8] {
+    match paths.get(&name) {
+        Some(path) => path,
+        None => b"-",
+    }
+}
+
+/// The ALIGN that separates a file from what is behind it, 0 if none does.
+fn align_of(behind: Option<Piece>) -> u32 {
+    match behind {
+        Some(
+            Piece {
+                what: What::Data,
+                ..
+            },
+        ) => PAGE,
+        _ => 0,
+    }
+}
+
+/// Prints a line for each of these files.
+fn print(
+    teller: &Teller<'_>,
+    all: &[Shared],
+    paths: &BTreeMap<usize, Vec<u8>>,
+) -> Result<(), Status> {
+    let rt = teller.rt;
+    let Ok(out) = BufWriter::new(rt.alloc(), Again::new(io::writer(rt))) else {
+        return Err(teller.say(Failure::Memory));
+    };
+    let mut out = Plain::new(out);
+    let mut failed = false;
+    for Shared { mapped, behind } in all {
+        let other = match behind {
+            Some(piece) => path_of(paths, piece.name),
+            None => b"-",
+        };
+        put(&mut out, &mut failed, b"shared ");
+        put(&mut out, &mut failed, path_of(paths, mapped.name));
+        put(&mut out, &mut failed, b" ");
+        put(&mut out, &mut failed, word_of(*behind));
+        put(&mut out, &mut failed, b" ");
+        put(&mut out, &mut failed, other);
+        put(&mut out, &mut failed, b" ");
+        put_long_decimal(&mut out, &mut failed, u64::from(align_of(*behind)));
+        put(&mut out, &mut failed, b" ");
+        let whole = mapped
+            .end
+            .saturating_sub(mapped.start)
+            .checked_next_multiple_of(PAGE)
+            .unwrap_or(u32::MAX);
+        put_long_decimal(&mut out, &mut failed, u64::from(whole.saturating_sub(1)));
+        put(&mut out, &mut failed, b"\n");
+    }
+    if out.flush().is_err() || failed {
+        return Err(teller.say(Failure::WriteFault));
+    }
+    Ok(())
+}
+
+/// The files of an image that share their last page, and the paths that are to be told of them.
+fn found(
+    alloc: Global,
+    image: &AnyImage<'_>,
+    order: Order,
+) -> Result<(Vec<Shared>, BTreeMap<usize, Vec<u8>>), AllocError>
+    requires { levels (any_view image.now).tree ≤ 65 }
+{
+    let layout = layout_of(alloc, image, order)?;
+    let all = shared_of(alloc, image.bytes(), &layout)?;
+    let mut paths = names_of(alloc, &all)?;
+    add_paths(alloc, image, &mut paths)?;
+    Ok((all, paths))
+}
+
+/// Prints a line for each file of a sound image of cramfs that shares its last page, and gives this
+/// status if it could.
+pub fn run(teller: &Teller<'_>, bytes: &[u8], status: Status) -> Status {
+    let alloc = teller.rt.alloc();
+    let Ok(image) = check(alloc, bytes, Limits::usual()) else {
+        return status;
+    };
+    let order = match &image {
+        AnyImage::Romfs(_) => return status,
+        AnyImage::Cramfs(image) => image.parts().order,
+    };
+    let Ok((all, paths)) = found(alloc, &image, order) else {
+        return teller.say(Failure::Memory);
+    };
+    match print(teller, &all, &paths) {
+        Ok(()) => status,
+        Err(status) => status,
+    }
+}

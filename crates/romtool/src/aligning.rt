@@ -1,0 +1,63 @@
+//! The alignments of the files that were found.
+use crate::patterns::Patterns;
+use crate::teller::Teller;
+use build_commands::elf::{HEAD_LEN, is_program};
+use build_commands::inventory::{FileKind, NamedFile, align_of};
+use program_streams::read_until;
+use rom_commands::Status;
+use std::fs::{File, OpenFile};
+use std::io;
+
+/// The bits of a mode that let someone execute a file.
+const EXECUTE: u32 = 0o111;
+
+/// Whether the file of this name is an executable or a shared object by its first bytes.
+fn is_program_at(rt: &HostRuntime, name: &str) -> io::Result<bool> {
+    let mut file = File::open(rt, name)?;
+    let mut bytes = Vec::new(rt.alloc());
+    let most = HEAD_LEN as u64;
+    read_until(&mut file, &mut bytes, most, most)?;
+    let mut head = [0u8; HEAD_LEN];
+    if bytes.len() < HEAD_LEN {
+        return Ok(false);
+    }
+    for (to, from) in head.iter_mut().zip(bytes.iter()) {
+        *to = *from;
+    }
+    Ok(is_program(&head))
+}
+
+/// The alignment of a regular file. It is opened only if its mode does not tell.
+fn align_at(
+    rt: &HostRuntime,
+    patterns: &Patterns,
+    align: u32,
+    file: &NamedFile,
+) -> io::Result<u32> {
+    let path = file.place.get(file.front..).unwrap_or("");
+    if let Some(align) = patterns.align(rt.alloc(), path.trim_start_matches('/'))? {
+        return Ok(align);
+    }
+    let is_asked = align != align_of(0, false, align) && file.mode & EXECUTE == 0;
+    let is_program = is_asked && is_program_at(rt, &file.place)?;
+    Ok(align_of(file.mode, is_program, align))
+}
+
+/// Gives each regular file its alignment: that of the last pattern which matches its path, or else
+/// this one if it is executed, or says which one cannot be read.
+pub fn align_all(
+    teller: &Teller<'_>,
+    patterns: &Patterns,
+    align: u32,
+    found: &mut [NamedFile],
+) -> Result<(), Status> {
+    for file in found {
+        if matches!(file.kind, FileKind::Regular) {
+            match align_at(teller.rt, patterns, align, file) {
+                Ok(align) => file.align = align,
+                Err(e) => return Err(teller.refused(file.place.as_bytes(), &e)),
+            }
+        }
+    }
+    Ok(())
+}

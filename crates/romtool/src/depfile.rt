@@ -1,0 +1,174 @@
+//! The rule for make that a build writes: on which files an image depends.
+//!
+//! GNU make reads a backslash in front of some bytes as part of their spelling, and has no spelling
+//! of others. What it cannot read is refused before anything is written.
+use crate::target::Target;
+use crate::teller::Teller;
+use rom_commands::{Failure, Status};
+use rom_fields::{ByteWrite, put};
+use sentences::reasons::{NOT_TAKEN, OWN_RULE, RULE_UNFIT};
+use std::alloc::AllocError;
+
+/// What is in front of each name behind the first.
+const BETWEEN: &[u8] = b" \\\n  ";
+
+/// Where a name is in a rule.
+#[derive(Clone, Copy, PartialEq, Eq)]
+enum Place {
+    /// In front of the colon.
+    Target,
+    /// Behind the colon.
+    First,
+    /// Behind that.
+    Other,
+}
+
+/// Whether make reads a byte as one of a name only behind a backslash.
+fn is_special(byte: u8, place: Place) -> bool {
+    match byte {
+        b' ' | b'#' | b':' | b'*' | b'?' | b'[' => true,
+        b'%' => place == Place::Target,
+        b'\t' | b'|' => place != Place::Target,
+        _ => false,
+    }
+}
+
+/// Whether make has no spelling of a byte.
+fn is_unsayable(byte: u8, place: Place) -> bool {
+    match byte {
+        b'\n' | b';' => true,
+        b'\t' => place == Place::Target,
+        b'=' => place != Place::Other,
+        _ => false,
+    }
+}
+
+/// Whether make has a spelling of a name.
+fn is_name_sayable(name: &str, place: Place) -> bool {
+    let name = name.as_bytes();
+    let last = name.last().copied().unwrap_or(b' ');
+    let ends = !name.starts_with(b"~") && !matches!(last, b' ' | b'\t' | b'\\');
+    let is_group = place == Place::Target && name.ends_with(b"&");
+    let is_member = name.iter().skip(1).any(|byte| *byte == b'(');
+    ends && !is_group && !is_member && !name.iter().any(|byte| is_unsayable(*byte, place))
+}
+
+/// Adds so many backslashes.
+fn add_backslashes(text: &mut Vec<u8>, count: usize) -> Result<(), AllocError> {
+    for _ in 0..count {
+        text.push(b'\\')?;
+    }
+    Ok(())
+}
+
+/// Adds a name as make reads it: backslashes in front of what is special are doubled.
+fn add_name(text: &mut Vec<u8>, name: &str, place: Place) -> Result<(), AllocError> {
+    let mut backslashes = 0usize;
+    for byte in name.as_bytes() {
+        if is_special(*byte, place) {
+            add_backslashes(text, backslashes.saturating_add(1))?;
+        }
+        if *byte == b'$' {
+            text.push(b'$')?;
+        }
+        text.push(*byte)?;
+        backslashes = if *byte == b'\\' {
+            backslashes.saturating_add(1)
+        } else {
+            0
+        };
+    }
+    Ok(())
+}
+
+/// An image, and the files that it depends on.
+#[derive(Clone, Copy)]
+pub struct Rule<'a> {
+    pub out: &'a str,
+    /// The manifest's file, if it has one.
+    pub manifest: Option<&'a str>,
+    pub sources: &'a [&'a str],
+}
+
+impl Rule<'_> {
+    /// Whether make has a spelling of each name.
+    pub fn is_sayable(&self) -> bool {
+        let mut place = Place::First;
+        for name in self.manifest.iter().chain(self.sources) {
+            if !is_name_sayable(name, place) {
+                return false;
+            }
+            place = Place::Other;
+        }
+        is_name_sayable(self.out, Place::Target)
+    }
+
+    /// The text of the rule.
+    fn text(&self, rt: &HostRuntime) -> Result<Vec<u8>, AllocError> {
+        let mut text = Vec::new(rt.alloc());
+        add_name(&mut text, self.out, Place::Target)?;
+        text.push(b':')?;
+        let mut place = Place::First;
+        for name in self.manifest.iter().chain(self.sources) {
+            text.extend_from_slice(BETWEEN)?;
+            add_name(&mut text, name, place)?;
+            place = Place::Other;
+        }
+        text.push(b'\n')?;
+        Ok(text)
+    }
+}
+
+/// Writes a rule to what is to get the name of a file.
+fn write(teller: &Teller<'_>, name: &str, rule: Rule<'_>, target: &Target) -> Result<(), Status> {
+    let rt = teller.rt;
+    let Ok(text) = rule.text(rt) else {
+        return Err(teller.say(Failure::Memory));
+    };
+    let mut writer = target.writer(rt);
+    let mut failed = false;
+    put(&mut writer, &mut failed, &text);
+    if writer.flush().is_ok() && !failed {
+        return Ok(());
+    }
+    Err(match writer.into_inner().error() {
+        Some(e) => teller.failed_by(name.as_bytes(), &e),
+        None => teller.failed(name.as_bytes(), &NOT_TAKEN),
+    })
+}
+
+/// Refuses a rule that make could not read.
+pub fn check(teller: &Teller<'_>, name: &str, rule: Rule<'_>) -> Result<(), Status> {
+    if rule.is_sayable() {
+        Ok(())
+    } else {
+        Err(teller.failed(name.as_bytes(), &RULE_UNFIT))
+    }
+}
+
+/// Writes a rule beside the file of this name, which is not the one that an image is written to. It
+/// gets its name once the image has its own.
+pub fn written(
+    teller: &Teller<'_>,
+    name: &str,
+    rule: Rule<'_>,
+    image: &Target,
+) -> Result<Target, Status> {
+    let rt = teller.rt;
+    let target = match Target::open(rt, name) {
+        Ok(target) => target,
+        Err(e) => return Err(teller.refused(name.as_bytes(), &e)),
+    };
+    let result = if target.has_place_of(rt, image) {
+        Err(teller.failed(name.as_bytes(), &OWN_RULE))
+    } else {
+        write(teller, name, rule, &target)
+    };
+    match result {
+        Ok(()) => Ok(target),
+        Err(status) => {
+            target.abandon(rt);
+            Err(status)
+        }
+    }
+}

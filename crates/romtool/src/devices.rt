@@ -1,0 +1,265 @@
+//! A file of devices, and of directories and links that are made beside what is found.
+use crate::overlay::{file_at, is_directory, sort};
+use crate::teller::Teller;
+use crate::{explained, reading};
+use build_commands::inventory::{Device, FileKind, Inode, NamedFile};
+use build_commands::tell_bad_manifest;
+use manifest::error::{BAD_WORD, EXISTS, NO_PARENT};
+use manifest::{Line, ManifestError, Word, parse};
+use manifest_text::{Entry, write_line};
+use percent_encoding::percent_decode;
+use program_streams::Held;
+use rom_commands::{Failure, Status};
+use rom_fields::Plain;
+use sentences::reasons::{DEVICE_EXISTS, DEVICE_NO_PARENT, DEVICE_NO_TEXT, DEVICE_WORD};
+use std::alloc::{AllocError, AllocFailed, Global};
+use std::str;
+
+/// The device of the files that are on no disk: no file system has it.
+const NOWHERE: u64 = u64::MAX;
+
+/// The alignment of what has no bytes.
+const NO_ALIGN: u32 = 4;
+
+/// The most bytes of a path.
+const MOST_OF_PATH: usize = 4095;
+
+/// The words of the lines that such a file may have.
+const WORDS: [&[u8]; 5] = [b"dir", b"slink", b"nod", b"pipe", b"sock"];
+
+/// Why a line of such a file is refused.
+#[derive(Drop)]
+enum LineError {
+    OutOfMemory,
+    /// By the grammar of manifests.
+    Bad(u32),
+    /// By this number of it, and for this reason.
+    Other(u32, &'static str),
+}
+
+impl<T: Drop> From<AllocFailed<T>> for LineError {
+    fn from(_: AllocFailed<T>) -> LineError {
+        LineError::OutOfMemory
+    }
+}
+
+impl From<AllocError> for LineError {
+    fn from(_: AllocError) -> LineError {
+        LineError::OutOfMemory
+    }
+}
+
+impl From<ManifestError> for LineError {
+    fn from(e: ManifestError) -> LineError {
+        match e {
+            ManifestError::OutOfMemory => LineError::OutOfMemory,
+            ManifestError::Bad { number, .. } => LineError::Bad(number),
+        }
+    }
+}
+
+/// A field of a line.
+fn field(line: &[u8], number: usize) -> &[u8] {
+    line.split(|b| *b == b' ').nth(number).unwrap_or(b"")
+}
+
+/// Puts a line of a manifest behind others: a directory of this path.
+fn put_directory(text: &mut Vec<u8>, path: &[u8]) -> Result<(), LineError> {
+    let entry = Entry {
+        word: Word::Dir,
+        path,
+        mode: 0,
+        uid: 0,
+        gid: 0,
+        align: 0,
+        major: 0,
+        minor: 0,
+        text: b"",
+    };
+    match write_line(&mut Plain::new(text), &entry) {
+        Ok(()) => Ok(()),
+        Err(_) => Err(LineError::OutOfMemory),
+    }
+}
+
+/// The path of a line, or as much of it as a path may have.
+fn path_of(alloc: Global, line: &[u8]) -> Result<Vec<u8>, LineError> {
+    let mut path = Vec::new(alloc);
+    for b in percent_decode(field(line, 1)).take(MOST_OF_PATH) {
+        path.push(b)?;
+    }
+    Ok(path)
+}
+
+/// A manifest of a line behind those of the directories that it is in.
+fn with_parents(alloc: Global, line: &[u8]) -> Result<Vec<u8>, LineError> {
+    let path = path_of(alloc, line)?;
+    let mut text = Vec::new(alloc);
+    for (i, b) in path.iter().enumerate() {
+        if *b == b'/' && i > 0 {
+            put_directory(&mut text, path.get(..i).unwrap_or(&[]))?;
+        }
+    }
+    text.extend_from_slice(line)?;
+    Ok(text)
+}
+
+/// A text that has to be UTF-8.
+fn text_of(alloc: Global, bytes: &[u8]) -> Result<String, LineError> {
+    match str::from_utf8(bytes) {
+        Ok(text) => Ok(String::from_str(alloc, text)?),
+        Err(_) => Err(LineError::Other(manifest::error::BAD_PATH, DEVICE_NO_TEXT)),
+    }
+}
+
+/// The kind of what a line makes.
+fn kind_of(alloc: Global, line: &Line) -> Result<FileKind, LineError> {
+    let (major, minor) = (line.major, line.minor);
+    Ok(match line.word {
+        Word::Dir => FileKind::Directory,
+        Word::Slink => FileKind::Symlink(text_of(alloc, line.text.as_bytes())?),
+        Word::Block => FileKind::Block(Device { major, minor }),
+        Word::Character => FileKind::Character(Device { major, minor }),
+        Word::Fifo => FileKind::Fifo,
+        Word::Socket => FileKind::Socket,
+        Word::File | Word::Hard | Word::Same => return Err(LineError::Other(BAD_WORD, DEVICE_WORD)),
+    })
+}
+
+/// The file that a line makes, as one that was found. Its inode has the number of the line.
+fn file_of(alloc: Global, number: u64, line: &[u8]) -> Result<NamedFile, LineError> {
+    let word = field(line, 0);
+    if !WORDS.iter().any(|known| *known == word) {
+        return Err(LineError::Other(BAD_WORD, DEVICE_WORD));
+    }
+    let parsed = parse(alloc, &with_parents(alloc, line)?)?;
+    let Some(line) = parsed.lines().last() else {
+        return Err(LineError::Bad(BAD_WORD));
+    };
+    let path = text_of(alloc, line.path.as_bytes())?;
+    let front = if path.as_str() == "/" { 1 } else { 0 };
+    Ok(NamedFile {
+        kind: kind_of(alloc, line)?,
+        place: path,
+        front,
+        mode: line.mode,
+        uid: line.uid,
+        gid: line.gid,
+        align: NO_ALIGN,
+        inode: Inode {
+            device: NOWHERE,
+            number,
+        },
+    })
+}
+
+/// What a path is wrong in: behind those of the same list, and among those that were found.
+fn wrong_in(
+    listed: &[NamedFile],
+    found: &[NamedFile],
+    number: usize,
+) -> Option<(u32, &'static str)> {
+    let file = listed.get(number)?;
+    let path = file.path();
+    if let Some(before) = number.checked_sub(1)
+        && let Some(other) = listed.get(before)
+        && other.path() == path
+    {
+        return Some((EXISTS, DEVICE_EXISTS));
+    }
+    if let Some(other) = file_at(found, path)
+        && is_directory(other) != is_directory(file)
+    {
+        return Some((EXISTS, DEVICE_EXISTS));
+    }
+    let end = path.iter().rposition(|b| *b == b'/').unwrap_or(0);
+    let parent = path.get(..end).unwrap_or(&[]);
+    let is_there = parent.is_empty()
+        || file_at(found, parent).is_some_and(is_directory)
+        || file_at(listed, parent).is_some_and(is_directory);
+    if is_there {
+        None
+    } else {
+        Some((NO_PARENT, DEVICE_NO_PARENT))
+    }
+}
+
+/// Says on standard error which line of the file is refused, and why.
+fn refuse(teller: &Teller<'_>, name: &str, text: &[u8], line: u64, why: LineError) -> Status {
+    let (number, reason) = match why {
+        LineError::OutOfMemory => return teller.say(Failure::Memory),
+        LineError::Bad(number) => (number, None),
+        LineError::Other(number, reason) => (number, Some(reason)),
+    };
+    let rt = teller.rt;
+    let _ = tell_bad_manifest(
+        &mut Plain::new(Held::new(rt.alloc(), rt.stderr())),
+        line,
+        number,
+    );
+    match reason {
+        None => explained::bad_manifest(teller, name, text, line, number),
+        Some(reason) => explained::bad_line(teller, name, line, reason),
+    }
+    Status::Refused
+}
+
+/// The lines of a text as files, or the line that is refused, and why.
+fn files_of(alloc: Global, text: &[u8]) -> Result<Vec<NamedFile>, (u64, LineError)> {
+    let mut files = Vec::new(alloc);
+    let mut number = 0u64;
+    for line in text.split(|b| *b == b'\n') {
+        number = number.saturating_add(1);
+        if !line.is_empty() && !line.starts_with(b"#") {
+            let file = match file_of(alloc, number, line) {
+                Ok(file) => file,
+                Err(e) => return Err((number, e)),
+            };
+            if files.push(file).is_err() {
+                return Err((number, LineError::OutOfMemory));
+            }
+        }
+    }
+    Ok(files)
+}
+
+/// The first line that does not fit the others or what was found. All are in the order of `sort`.
+fn first_wrong(listed: &[NamedFile], found: &[NamedFile]) -> Option<(u64, u32, &'static str)> {
+    let mut first: Option<(u64, u32, &'static str)> = None;
+    for number in 0..listed.len() {
+        if let Some((fault, why)) = wrong_in(listed, found, number)
+            && let Some(file) = listed.get(number)
+            && first.is_none_or(|(line, _, _)| file.inode.number < line)
+        {
+            first = Some((file.inode.number, fault, why));
+        }
+    }
+    first
+}
+
+/// The files that the lines of the file of this name make, in the order of `sort`: beside those
+/// that were found, which are in that order too; or it is said why there are none.
+pub fn listed(
+    teller: &Teller<'_>,
+    name: &str,
+    found: &[NamedFile],
+) -> Result<Vec<NamedFile>, Status> {
+    let text = match reading::manifest(teller.rt, name) {
+        Ok(text) => text.bytes,
+        Err(e) => return Err(teller.refused(name.as_bytes(), &e)),
+    };
+    let mut listed = match files_of(teller.rt.alloc(), &text) {
+        Ok(listed) => listed,
+        Err((line, e)) => return Err(refuse(teller, name, &text, line, e)),
+    };
+    if sort(&mut listed).is_err() {
+        return Err(teller.say(Failure::Memory));
+    }
+    match first_wrong(&listed, found) {
+        None => Ok(listed),
+        Some((line, number, why)) => {
+            let why = LineError::Other(number, why);
+            Err(refuse(teller, name, &text, line, why))
+        }
+    }
+}

@@ -1,0 +1,62 @@
+//! The digests of the files of an image, or that of the image.
+ghost use Rattle.std.specs.Prelude.{◌≤◌};
+ghost use Rattle.rom_tree.specs.Tree.{levels};
+ghost use Rattle.image_check.specs.Any.{any_view};
+
+use crate::sound::{checked, read};
+use crate::teller::Teller;
+use command_line::Digest;
+use image_check::AnyImage;
+use image_digest::{DigestError, write_digests, write_image_digest};
+use program_streams::Again;
+use rom_commands::{Failure, Status};
+use rom_fields::{ByteWrite, Plain};
+use rom_tree::TreeImage;
+use std::io::{self, BufWriter};
+
+/// Prints what is asked of the image in a file.
+pub fn run(teller: &Teller<'_>, asked: Digest<'_>) -> Status {
+    let bytes = match read(teller, asked.image) {
+        Ok(bytes) => bytes,
+        Err(status) => return status,
+    };
+    match checked(teller, asked.image, &bytes) {
+        Ok(image) => print(teller, &image, asked),
+        Err(status) => status,
+    }
+}
+
+/// Writes what is asked of a valid image.
+fn write<W: ByteWrite>(
+    image: &AnyImage<'_>,
+    asked: Digest<'_>,
+    w: &mut W,
+) -> Result<(), DigestError>
+    requires { levels (any_view image.now).tree ≤ 65 }
+{
+    if !asked.whole {
+        return write_digests(image, w);
+    }
+    match write_image_digest(image.bytes(), w) {
+        Ok(()) => Ok(()),
+        Err(_) => Err(DigestError::WriteFault),
+    }
+}
+
+/// Prints what is asked of a valid image.
+fn print(teller: &Teller<'_>, image: &AnyImage<'_>, asked: Digest<'_>) -> Status
+    requires { levels (any_view image.now).tree ≤ 65 }
+{
+    let rt = teller.rt;
+    let Ok(out) = BufWriter::new(rt.alloc(), Again::new(io::writer(rt))) else {
+        return teller.say(Failure::Memory);
+    };
+    let mut out = Plain::new(out);
+    let written = write(image, asked, &mut out);
+    let flushed = out.flush();
+    match written {
+        Ok(()) if flushed.is_ok() => Status::Done,
+        Err(DigestError::LongPath) if flushed.is_ok() => teller.say(Failure::LongPath),
+        _ => teller.say(Failure::WriteFault),
+    }
+}

@@ -1,0 +1,171 @@
+//! Directories as they are, as a manifest.
+use crate::aligning::align_all;
+use crate::devices;
+use crate::inventory::all_below;
+use crate::overlay::{OverlayError, laid_over, sort};
+use crate::patterns::Patterns;
+use crate::target::{KeepError, Target};
+use crate::teller::Teller;
+use crate::unfit::Unfit;
+use build_commands::inventory::{NamedFile, lines, put_found};
+use command_line::{Owner, ScanAll};
+use manifest_text::Entry;
+use program_streams::Again;
+use rom_commands::{Failure, Status};
+use rom_fields::{Failed, Plain};
+use sentences::reasons::{KINDS_DIFFER, LONG_NAME, MANIFEST_NOT_TAKEN, OWN_FILE, PART_REPLACED};
+use std::fs;
+use std::io::{self, BufWriter};
+use std::os::unix::fs::MetadataExt;
+
+/// The most bytes of a volume's name.
+const MOST_VOLUME: usize = 255;
+
+/// Lays files over one another, or says which one cannot replace another.
+fn laid(teller: &Teller<'_>, mut found: Vec<NamedFile>) -> Result<Vec<NamedFile>, Status> {
+    if sort(&mut found).is_err() {
+        return Err(teller.say(Failure::Memory));
+    }
+    match laid_over(teller.rt.alloc(), found) {
+        Ok(laid) => Ok(laid),
+        Err(OverlayError::OutOfMemory) => Err(teller.say(Failure::Memory)),
+        Err(OverlayError::Kinds(file)) => {
+            Err(teller.failed(file.place.as_bytes(), &KINDS_DIFFER))
+        }
+    }
+}
+
+/// Gives all files an owner, if one is asked for.
+fn own_all(found: &mut [NamedFile], owner: Option<Owner>) {
+    if let Some(owner) = owner {
+        for file in found {
+            file.uid = owner.uid;
+            file.gid = owner.gid;
+        }
+    }
+}
+
+/// Lays the files of a list over those that were found, if one is named.
+fn with_devices(
+    teller: &Teller<'_>,
+    devices: Option<&str>,
+    mut found: Vec<NamedFile>,
+) -> Result<Vec<NamedFile>, Status> {
+    let Some(name) = devices else {
+        return Ok(found);
+    };
+    for file in devices::listed(teller, name, &found)? {
+        if found.push(file).is_err() {
+            return Err(teller.say(Failure::Memory));
+        }
+    }
+    laid(teller, found)
+}
+
+/// All that the manifest is to have, in the order of its lines.
+fn all_found(teller: &Teller<'_>, scan: &ScanAll<'_>) -> Result<Vec<NamedFile>, Status> {
+    let patterns = Patterns::of(teller, scan)?;
+    let mut found = laid(teller, all_below(teller, scan, &patterns)?)?;
+    own_all(&mut found, scan.owner);
+    align_all(teller, &patterns, scan.align, &mut found)?;
+    with_devices(teller, scan.devices, found)
+}
+
+/// Opens what the manifest is written to, which is none of the files that it names.
+fn target_of(teller: &Teller<'_>, name: &str, found: &[NamedFile]) -> Result<Target, Status> {
+    if let Ok(there) = fs::metadata(teller.rt, name) {
+        let mine = (there.dev(), there.ino());
+        let is_mine = |file: &NamedFile| (file.inode.device, file.inode.number) == mine;
+        if found.iter().any(is_mine) {
+            return Err(teller.failed(name.as_bytes(), &OWN_FILE));
+        }
+    }
+    match Target::open(teller.rt, name) {
+        Ok(target) => Ok(target),
+        Err(e) => Err(teller.refused(name.as_bytes(), &e)),
+    }
+}
+
+/// Writes a manifest to what is open for it, and says if that does not take all of it.
+fn write_to(
+    teller: &Teller<'_>,
+    target: &Target,
+    name: &str,
+    volume: &[u8],
+    lines: &[Entry<'_>],
+) -> Result<(), Status> {
+    let mut writer = target.writer(teller.rt);
+    if put_found(&mut writer, volume, lines).is_ok() {
+        return Ok(());
+    }
+    Err(match writer.into_inner().error() {
+        Some(e) => teller.refused(name.as_bytes(), &e),
+        None => teller.failed(name.as_bytes(), &MANIFEST_NOT_TAKEN),
+    })
+}
+
+/// Writes a manifest into a file, which has it whole or stays as it was.
+fn write_file(
+    teller: &Teller<'_>,
+    name: &str,
+    volume: &[u8],
+    lines: &[Entry<'_>],
+    found: &[NamedFile],
+) -> Result<(), Status> {
+    let target = target_of(teller, name, found)?;
+    if let Err(status) = write_to(teller, &target, name, volume, lines) {
+        target.abandon(teller.rt);
+        return Err(status);
+    }
+    match target.keep(teller.rt) {
+        Ok(()) => Ok(()),
+        Err(KeepError::Refused(e)) => Err(teller.refused(name.as_bytes(), &e)),
+        Err(KeepError::Changed) => Err(teller.changed(name.as_bytes(), &PART_REPLACED)),
+    }
+}
+
+/// Writes a manifest on standard output.
+fn print(teller: &Teller<'_>, volume: &[u8], lines: &[Entry<'_>]) -> Result<(), Status> {
+    let Ok(out) = BufWriter::new(teller.rt.alloc(), Again::new(io::writer(teller.rt))) else {
+        return Err(teller.say(Failure::Memory));
+    };
+    match put_found(&mut Plain::new(out), volume, lines) {
+        Ok(()) => Ok(()),
+        Err(Failed) => Err(teller.say(Failure::WriteFault)),
+    }
+}
+
+/// Scans, and writes the manifest. Nothing is written if something cannot be looked at.
+fn pack(teller: &Teller<'_>, scan: &ScanAll<'_>) -> Result<(), Status> {
+    let volume = scan.volume.unwrap_or("").as_bytes();
+    if volume.len() > MOST_VOLUME {
+        let status = teller.say(Failure::Usage);
+        teller.explain(volume, &LONG_NAME);
+        return Err(status);
+    }
+    let found = all_found(teller, scan)?;
+    let Ok(lines) = lines(teller.rt.alloc(), scan.format, &found) else {
+        return Err(teller.say(Failure::Memory));
+    };
+    let Ok(unfit) = Unfit::of(teller.rt.alloc(), &lines, &found) else {
+        return Err(teller.say(Failure::Memory));
+    };
+    if scan.strict && !unfit.is_none() {
+        return Err(unfit.refuse(teller, scan));
+    }
+    match scan.output {
+        Some(name) => write_file(teller, name, volume, &lines, &found)?,
+        None => print(teller, volume, &lines)?,
+    }
+    unfit.explain(teller, scan);
+    Ok(())
+}
+
+/// Prints a manifest of directories as they are, or writes it into a file, and says how the command
+/// ended.
+pub fn run(teller: &Teller<'_>, scan: &ScanAll<'_>) -> Status {
+    match pack(teller, scan) {
+        Ok(()) => Status::Done,
+        Err(status) => status,
+    }
+}

@@ -1,0 +1,79 @@
+//! Parts of builds. A build locks its part, so that a part without a lock is one that an
+//! interrupted build left.
+use crate::stamp::Identity;
+use std::fs::{File, OpenFile, TryLockError};
+use std::os::unix::fs::MetadataExt;
+use std::{fs, io};
+
+/// Whether a part is this build's.
+#[derive(Drop)]
+pub enum Lock {
+    /// It is, and this holds its lock.
+    Held(File),
+    /// It is, and its file system has no locks, or refuses this one.
+    Refused,
+    /// Another build took it for one that was left.
+    Lost,
+}
+
+/// The file of this name, if it is the one of this identity.
+fn opened(rt: &HostRuntime, name: &str, identity: Identity) -> io::Result<Option<File>> {
+    let file = File::open(rt, name)?;
+    if Identity::of(&file.metadata()?) == identity {
+        Ok(Some(file))
+    } else {
+        Ok(None)
+    }
+}
+
+/// Whether a name leads to the file of this identity.
+fn leads_to(rt: &HostRuntime, name: &str, identity: Identity) -> io::Result<bool> {
+    match fs::symlink_metadata(rt, name) {
+        Ok(found) => Ok(Identity::of(&found) == identity),
+        Err(e) if e.kind() == io::ErrorKind::NotFound => Ok(false),
+        Err(e) => Err(e),
+    }
+}
+
+/// Locks a part that was made, through a descriptor of its own.
+pub fn lock_part(rt: &HostRuntime, name: &str, made: &File) -> Lock {
+    let Ok(found) = made.metadata() else {
+        return Lock::Refused;
+    };
+    let identity = Identity::of(&found);
+    let file = match opened(rt, name, identity) {
+        Ok(Some(file)) => file,
+        Ok(None) => return Lock::Lost,
+        Err(e) if e.kind() == io::ErrorKind::NotFound => return Lock::Lost,
+        Err(_) => return Lock::Refused,
+    };
+    match file.try_lock() {
+        Ok(()) => match leads_to(rt, name, identity) {
+            Ok(true) => Lock::Held(file),
+            Ok(false) => Lock::Lost,
+            Err(_) => Lock::Refused,
+        },
+        Err(TryLockError::WouldBlock) => Lock::Lost,
+        Err(TryLockError::Error(_)) => Lock::Refused,
+    }
+}
+
+/// Removes a part if no build holds its lock, and says whether it did. What is no regular file, or
+/// has further names, is none.
+pub fn remove_left(rt: &HostRuntime, name: &str) -> bool {
+    let Ok(found) = fs::symlink_metadata(rt, name) else {
+        return false;
+    };
+    if !found.is_file() || found.nlink() != 1 {
+        return false;
+    }
+    let identity = Identity::of(&found);
+    match opened(rt, name, identity) {
+        Ok(Some(file)) => {
+            file.try_lock().is_ok()
+                && leads_to(rt, name, identity).unwrap_or(false)
+                && fs::remove_file(rt, name).is_ok()
+        }
+        _ => false,
+    }
+}

@@ -1,0 +1,103 @@
+//! The patterns of the words: what is left out of a scan, and alignments.
+use crate::teller::Teller;
+use command_line::ScanAll;
+use path_patterns::{PatternError, Piece, matches, pieces_of};
+use rom_commands::{Failure, Status};
+use sentences::reasons::{PATTERN_CLASS, PATTERN_UNFINISHED};
+use std::alloc::{AllocError, Global};
+
+/// A pattern, and the alignment of the files that it matches.
+#[derive(Drop)]
+struct AlignPattern {
+    pieces: Vec<Piece>,
+    align: u32,
+}
+
+/// All patterns of a scan.
+#[derive(Drop)]
+pub struct Patterns {
+    excludes: Vec<Vec<Piece>>,
+    aligns: Vec<AlignPattern>,
+}
+
+/// The characters of a text.
+fn characters(alloc: Global, text: &str) -> Result<Vec<char>, AllocError> {
+    let mut characters = Vec::new(alloc);
+    for c in text.chars() {
+        characters.push(c)?;
+    }
+    Ok(characters)
+}
+
+/// The pieces of a pattern, without the slashes at its ends, which no path has.
+fn read(alloc: Global, pattern: &str) -> Result<Vec<Piece>, PatternError> {
+    let text = characters(alloc, pattern.trim_matches('/'))?;
+    pieces_of(alloc, &text)
+}
+
+/// The pieces of a pattern, or it is said why it is none.
+fn pieces(teller: &Teller<'_>, pattern: &str) -> Result<Vec<Piece>, Status> {
+    let why = match read(teller.rt.alloc(), pattern) {
+        Ok(pieces) => return Ok(pieces),
+        Err(PatternError::OutOfMemory) => return Err(teller.say(Failure::Memory)),
+        Err(PatternError::Unfinished) => PATTERN_UNFINISHED,
+        Err(PatternError::Class) => PATTERN_CLASS,
+    };
+    let status = teller.say(Failure::Usage);
+    teller.explain(pattern.as_bytes(), &why);
+    Err(status)
+}
+
+/// The patterns of what is left out.
+fn excludes_of(teller: &Teller<'_>, scan: &ScanAll<'_>) -> Result<Vec<Vec<Piece>>, Status> {
+    let mut excludes = Vec::new(teller.rt.alloc());
+    for pattern in &scan.excludes {
+        if excludes.push(pieces(teller, pattern)?).is_err() {
+            return Err(teller.say(Failure::Memory));
+        }
+    }
+    Ok(excludes)
+}
+
+impl Patterns {
+    /// Those of a scan, or it is said why one of them is none.
+    pub fn of(teller: &Teller<'_>, scan: &ScanAll<'_>) -> Result<Patterns, Status> {
+        let excludes = excludes_of(teller, scan)?;
+        let mut aligns = Vec::new(teller.rt.alloc());
+        for rule in &scan.aligns {
+            let (pieces, align) = (pieces(teller, rule.pattern)?, rule.align);
+            if aligns.push(AlignPattern { pieces, align }).is_err() {
+                return Err(teller.say(Failure::Memory));
+            }
+        }
+        Ok(Patterns { excludes, aligns })
+    }
+
+    /// Whether what has this path below a scanned directory is left out.
+    pub fn exclude(&self, alloc: Global, path: &str) -> Result<bool, AllocError> {
+        if self.excludes.is_empty() {
+            return Ok(false);
+        }
+        let path = characters(alloc, path)?;
+        for pieces in &self.excludes {
+            if matches(alloc, pieces, &path)? {
+                return Ok(true);
+            }
+        }
+        Ok(false)
+    }
+
+    /// The alignment that the last pattern has which matches this path, if one does.
+    pub fn align(&self, alloc: Global, path: &str) -> Result<Option<u32>, AllocError> {
+        if self.aligns.is_empty() {
+            return Ok(None);
+        }
+        let path = characters(alloc, path)?;
+        for rule in self.aligns.iter().rev() {
+            if matches(alloc, &rule.pieces, &path)? {
+                return Ok(Some(rule.align));
+            }
+        }
+        Ok(None)
+    }
+}

@@ -1,0 +1,66 @@
+//! Images that are read for a command whose standard output has no fault in it: the fault of an
+//! image is told on standard error.
+ghost use Rattle.std.specs.Prelude.{◌≤◌, IfOk};
+ghost use Rattle.rom_tree.specs.Tree.{levels};
+ghost use Rattle.image_check.specs.Any.{any_view};
+ghost use Rattle.image_gaps.specs.Gaps.{IsChecked};
+
+use crate::reading;
+use crate::teller::Teller;
+use image_check::{AnyImage, check};
+use image_load::{Found, Loaded};
+use program_streams::Held;
+use rom_commands::{Failure, Status, complain_of_fault};
+use rom_faults::{CheckError, Fault};
+use rom_fields::Plain;
+use rom_tree::Limits;
+
+/// Says on standard error which fault a file has by its bytes.
+fn say_fault(teller: &Teller<'_>, name: &str, bytes: &[u8], fault: Fault) -> Status {
+    let rt = teller.rt;
+    let mut err = Plain::new(Held::new(rt.alloc(), rt.stderr()));
+    let status = complain_of_fault(fault, &mut err);
+    teller.hand_on(err);
+    teller.explain_fault(name.as_bytes(), bytes, fault);
+    status
+}
+
+/// The bytes of the image in a file, as far as a check looks.
+///
+/// # Errors
+///
+/// The status if there is no image, once standard error says why.
+pub fn read(teller: &Teller<'_>, name: &str) -> Result<Vec<u8>, Status> {
+    Ok(loaded(teller, name)?.bytes)
+}
+
+/// The same, with the length of the file.
+///
+/// # Errors
+///
+/// Those of `read`.
+pub fn loaded(teller: &Teller<'_>, name: &str) -> Result<Loaded, Status> {
+    match reading::image(teller.rt, name) {
+        Ok(Found::Image(image)) => Ok(image),
+        Ok(Found::Refused(front)) => Err(say_fault(teller, name, &front.bytes, front.fault)),
+        Err(e) => Err(teller.refused(name.as_bytes(), &e)),
+    }
+}
+
+/// The image that a file of this name has in these bytes.
+///
+/// # Errors
+///
+/// The status if it has a fault or memory was refused, once standard error says so.
+pub fn checked<'a>(teller: &Teller<'_>, name: &str, bytes: &'a [u8]) -> Result<AnyImage<'a>, Status>
+    ensures shallow { IfOk result (λ v. levels (any_view v).tree ≤ 65) }
+    ensures checked { IfOk result IsChecked }
+{
+    match check(teller.rt.alloc(), bytes, Limits::usual()) {
+        Ok(image) => Ok(image),
+        Err(CheckError::OutOfMemory) => Err(teller.say(Failure::Memory)),
+        Err(CheckError::Fault { number, at }) => {
+            Err(say_fault(teller, name, bytes, Fault { number, at }))
+        }
+    }
+}

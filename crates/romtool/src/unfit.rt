@@ -1,0 +1,186 @@
+//! What a format does not keep of the files that were found.
+use crate::teller::Teller;
+use build_commands::changes::{Changes, changes_of};
+use build_commands::inventory::NamedFile;
+use command_line::ScanAll;
+use manifest_text::Entry;
+use plan_types::Format;
+use rom_commands::{Failure, Status};
+use sentences::words::escaped;
+use std::alloc::{AllocError, Global};
+
+/// How many paths are named.
+const NAMED: u64 = 3;
+
+/// The first paths of some, and how many there are.
+#[derive(Drop)]
+struct Paths {
+    first: String,
+    count: u64,
+}
+
+impl Paths {
+    fn new(alloc: Global) -> Paths {
+        Paths {
+            first: String::new(alloc),
+            count: 0,
+        }
+    }
+
+    /// Counts a path, and names it if it is one of the first.
+    fn add(&mut self, alloc: Global, path: &[u8]) -> Result<(), AllocError> {
+        if self.count < NAMED {
+            let comma = if self.count == 0 { "" } else { ", " };
+            let named = format!(in alloc; "{comma}{}", escaped(alloc, path)?)?;
+            self.first.push_str(&named)?;
+        }
+        self.count = self.count.saturating_add(1);
+        Ok(())
+    }
+
+    /// The first paths, and how many more there are.
+    fn shown(&self, alloc: Global) -> Result<String, AllocError> {
+        let more = self.count.saturating_sub(NAMED);
+        if more == 0 {
+            String::from_str(alloc, &self.first)
+        } else {
+            format!(in alloc; "{} and {more} more", &self.first)
+        }
+    }
+}
+
+/// How many owners, groups and modes are changed, where, and what becomes readable by all.
+#[derive(Drop)]
+pub struct Unfit {
+    owners: u64,
+    groups: u64,
+    modes: u64,
+    changed: Paths,
+    opened: Paths,
+}
+
+/// A count with its word.
+fn counted(alloc: Global, count: u64, word: &str) -> Result<String, AllocError> {
+    let s = if count == 1 { "" } else { "s" };
+    format!(in alloc; "{count} {word}{s}")
+}
+
+/// The word of a format.
+fn word_of(format: Format) -> &'static str {
+    match format {
+        Format::Romfs => "romfs",
+        Format::Cramfs => "cramfs",
+        Format::CramfsBig => "cramfs-be",
+    }
+}
+
+impl Unfit {
+    /// Counts what is changed of the file of a path.
+    fn add(&mut self, alloc: Global, path: &[u8], changes: Changes) -> Result<(), AllocError> {
+        self.owners = self.owners.saturating_add(u64::from(changes.owner));
+        self.groups = self.groups.saturating_add(u64::from(changes.group));
+        self.modes = self.modes.saturating_add(u64::from(changes.mode));
+        if changes.owner || changes.group || changes.mode {
+            self.changed.add(alloc, path)?;
+        }
+        if changes.is_opened {
+            self.opened.add(alloc, path)?;
+        }
+        Ok(())
+    }
+
+    /// Of the lines of the files that were found, in the same order.
+    pub fn of(
+        alloc: Global,
+        lines: &[Entry<'_>],
+        found: &[NamedFile],
+    ) -> Result<Unfit, AllocError> {
+        let mut unfit = Unfit {
+            owners: 0,
+            groups: 0,
+            modes: 0,
+            changed: Paths::new(alloc),
+            opened: Paths::new(alloc),
+        };
+        for (line, file) in lines.iter().zip(found) {
+            unfit.add(alloc, file.path(), changes_of(line, file))?;
+        }
+        Ok(unfit)
+    }
+
+    /// Whether nothing is changed.
+    pub fn is_none(&self) -> bool {
+        self.changed.count == 0
+    }
+
+    /// Says in words what is changed, if something is.
+    pub fn explain(&self, teller: &Teller<'_>, scan: &ScanAll<'_>) {
+        if teller.is_explained() && !self.is_none() {
+            let _ = self.try_explain(teller, scan);
+        }
+    }
+
+    fn try_explain(&self, teller: &Teller<'_>, scan: &ScanAll<'_>) -> Result<(), AllocError> {
+        if let (Some(format), Some(place)) = (scan.format, scan.folders.first()) {
+            let format = word_of(format);
+            self.explain_changed(teller, place, format, scan.strict)?;
+            self.explain_opened(teller, place, format)?;
+        }
+        Ok(())
+    }
+
+    /// Says in words how much is changed, or would be if that is refused.
+    fn explain_changed(
+        &self,
+        teller: &Teller<'_>,
+        place: &str,
+        format: &str,
+        is_refused: bool,
+    ) -> Result<(), AllocError> {
+        let alloc = teller.rt.alloc();
+        let does = if is_refused {
+            "would change"
+        } else {
+            "changed"
+        };
+        let owners = counted(alloc, self.owners, "owner")?;
+        let groups = counted(alloc, self.groups, "group")?;
+        let modes = counted(alloc, self.modes, "mode")?;
+        let paths = self.changed.shown(alloc)?;
+        let what = format!(in alloc;
+            "--for {format} {does} {owners}, {groups} and {modes}: {paths}"
+        )?;
+        teller.explain(place.as_bytes(), &what);
+        Ok(())
+    }
+
+    /// Says in words what becomes readable by all, if something does.
+    fn explain_opened(
+        &self,
+        teller: &Teller<'_>,
+        place: &str,
+        format: &str,
+    ) -> Result<(), AllocError> {
+        let alloc = teller.rt.alloc();
+        if self.opened.count > 0 {
+            let count = counted(alloc, self.opened.count, "name")?;
+            let paths = self.opened.shown(alloc)?;
+            let what = format!(in alloc;
+                "{count} not readable by all, and readable by all in {format}: {paths}"
+            )?;
+            teller.explain(place.as_bytes(), &what);
+        }
+        Ok(())
+    }
+
+    /// Refuses what is changed by the line `unfit OWNERS GROUPS MODES` on standard error.
+    pub fn refuse(&self, teller: &Teller<'_>, scan: &ScanAll<'_>) -> Status {
+        let (owners, groups, modes) = (self.owners, self.groups, self.modes);
+        let Ok(line) = format!(in teller.rt.alloc(); "unfit {owners} {groups} {modes}\n") else {
+            return teller.say(Failure::Memory);
+        };
+        teller.put(line.as_bytes());
+        self.explain(teller, scan);
+        Status::Refused
+    }
+}

@@ -1,0 +1,104 @@
+//! An image beside the bytes of a dump.
+ghost use Rattle.std.specs.Prelude.{◌≤◌};
+ghost use Rattle.rom_tree.specs.Tree.{levels};
+ghost use Rattle.image_check.specs.Any.{any_view};
+
+use crate::sound::{checked, read};
+use crate::teller::Teller;
+use command_line::Verify;
+use image_check::AnyImage;
+use image_digest::{compare, find_holder, pass_over, write_verdict};
+use program_streams::{Again, Ahead};
+use rom_commands::{Failure, Status};
+use rom_fields::{ByteWrite, Plain};
+use rom_tree::TreeImage;
+use std::alloc::AllocError;
+use std::fs::{File, OpenFile};
+use std::io::{self, BufReader, BufWriter, Seek, SeekFrom};
+use std::str;
+
+/// Compares the image in a file with a dump, and prints what comes of it.
+pub fn run(teller: &Teller<'_>, asked: Verify<'_>) -> Status {
+    let bytes = match read(teller, asked.image) {
+        Ok(bytes) => bytes,
+        Err(status) => return status,
+    };
+    match checked(teller, asked.image, &bytes) {
+        Ok(image) => match difference(teller.rt, image.bytes(), asked) {
+            Ok(found) => tell(teller, &image, asked, found),
+            Err(e) => teller.refused(asked.dump.as_bytes(), &e),
+        },
+        Err(status) => status,
+    }
+}
+
+/// The offset of the first byte of an image that a dump has not.
+fn difference(rt: &HostRuntime, image: &[u8], asked: Verify<'_>) -> io::Result<Option<usize>> {
+    let mut file = File::open(rt, asked.dump)?;
+    let left = match file.seek(SeekFrom::Start(asked.offset)) {
+        Ok(_) => 0,
+        Err(_) => asked.offset,
+    };
+    let mut dump = Ahead::new(BufReader::new(rt.alloc(), file)?);
+    pass_over(&mut dump, left)?;
+    compare(image, &mut dump)
+}
+
+/// Prints the line of a comparison, and says in words where the dump differs.
+fn tell(
+    teller: &Teller<'_>,
+    image: &AnyImage<'_>,
+    asked: Verify<'_>,
+    found: Option<usize>,
+) -> Status
+    requires { levels (any_view image.now).tree ≤ 65 }
+{
+    let rt = teller.rt;
+    let Ok(out) = BufWriter::new(rt.alloc(), Again::new(io::writer(rt))) else {
+        return teller.say(Failure::Memory);
+    };
+    let mut out = Plain::new(out);
+    let written = write_verdict(image.bytes().len(), found, &mut out);
+    if out.flush().is_err() || written.is_err() {
+        return teller.say(Failure::WriteFault);
+    }
+    let Some(at) = found else {
+        return Status::Done;
+    };
+    if teller.is_explained() {
+        let _ = explain(teller, image, asked, at);
+    }
+    Status::Refused
+}
+
+/// Says in words where the dump differs.
+fn explain(
+    teller: &Teller<'_>,
+    image: &AnyImage<'_>,
+    asked: Verify<'_>,
+    at: usize,
+) -> Result<(), AllocError>
+    requires { levels (any_view image.now).tree ≤ 65 }
+{
+    let alloc = teller.rt.alloc();
+    let place = asked.offset.saturating_add(at as u64);
+    let holder = match u32::try_from(at) {
+        Ok(at) => find_holder(image, at),
+        Err(_) => None,
+    };
+    let what = match holder {
+        None => format!(in alloc; "the header or a list of the image")?,
+        Some(walk) => {
+            let mut path = Plain::new(Vec::new(alloc));
+            walk.put_path(&mut path, &mut false);
+            let path = path.into_inner();
+            format!(in alloc; "the file {}", str::from_utf8(&path).unwrap_or(""))?
+        }
+    };
+    let words = format!(in alloc;
+        "byte {place} is another, or missing: it is byte {at} of the \
+        image, in {what}"
+    )?;
+    teller.explain(asked.dump.as_bytes(), &words);
+    Ok(())
+}

@@ -1,0 +1,19 @@
+//! The program's version, for scripts.
+use crate::teller::Teller;
+use command_line::VERSION;
+use program_streams::Held;
+use rom_commands::{Failure, Status};
+use std::io::{self, Write};
+
+/// Prints `romtool VERSION`, by one write.
+pub fn run(teller: &Teller<'_>) -> Status {
+    let rt = teller.rt;
+    let Ok(line) = format!(in rt.alloc(); "romtool {VERSION}\n") else {
+        return teller.say(Failure::Memory);
+    };
+    let mut out = Held::new(rt.alloc(), io::writer(rt));
+    match out.write_all(line.as_bytes()).and_then(|()| out.flush()) {
+        Ok(()) => Status::Done,
+        Err(_) => teller.say(Failure::WriteFault),
+    }
+}

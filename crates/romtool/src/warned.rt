@@ -1,0 +1,119 @@
+//! What a build warns of, in words, and what it refuses in its place if it is strict.
+use crate::foreseen::{Warning, Warnings};
+use crate::origin::Origin;
+use crate::teller::Teller;
+use plan_types::{Body, Format, Plan};
+use sentences::words::shown;
+use std::alloc::AllocError;
+
+/// How many bytes a page of memory has.
+const PAGE: u32 = 4096;
+
+/// Why Linux misreads what has this number, and what helps.
+fn sentence(number: usize) -> &'static str {
+    match number {
+        0 => "no line makes a file, so the image has only an empty root; did the scan fail?",
+        1 => "Linux reads the last 4,096 bytes of a file as zeros if its length is a multiple of \
+              4,096; append a byte to the source",
+        2 => "Linux gives files that share their contents the mode and the owner of one of them; \
+              write file with the source in place of same",
+        3 => "Linux lists only 127 bytes of a name that has 128; shorten it",
+        4 => "Linux finds no name of more than 128 bytes in romfs; shorten it",
+        5 => "Linux finds no root behind a volume name of more than 143 bytes; shorten it",
+        6 => "Linux keeps no major number above 4095 in romfs; use cramfs, or a lower number",
+        9 => "Linux adds 0555 to the mode of the root in cramfs; give it these bits",
+        10 => "Linux reads a further name's bytes from another offset if the file's own name has \
+               more than 143 bytes; shorten that",
+        _ => "Linux misreads it",
+    }
+}
+
+/// Says in words what is warned of by one number.
+fn explain_one(
+    teller: &Teller<'_>,
+    origin: Origin<'_>,
+    number: usize,
+    warning: &Warning<'_>,
+    word: &str,
+) -> Result<(), AllocError> {
+    let alloc = teller.rt.alloc();
+    let (name, sentence) = (
+        build_commands::warning_name(u32::try_from(number).unwrap_or(u32::MAX)),
+        sentence(number),
+    );
+    let (count, line) = (warning.count, warning.line);
+    let place = if line == 0 {
+        String::from_str(alloc, origin.name)?
+    } else {
+        format!(in alloc; "{}:{line}", origin.name)?
+    };
+    let what = if number == 0 {
+        format!(in alloc; "{word}{name} ({number}): {sentence}")?
+    } else {
+        let path = shown(alloc, warning.path)?;
+        format!(in alloc; "{word}{name} ({number}): {sentence}; files: {count}, first {path}")?
+    };
+    teller.explain(place.as_bytes(), &what);
+    Ok(())
+}
+
+/// Says in words what is warned of, behind a word.
+pub fn explain(teller: &Teller<'_>, origin: Origin<'_>, warnings: &Warnings<'_>, word: &str) {
+    if !teller.is_explained() {
+        return;
+    }
+    for (number, warning) in warnings.all().iter().enumerate() {
+        if warning.count > 0 {
+            let _ = explain_one(teller, origin, number, warning, word);
+        }
+    }
+}
+
+/// How many contents of a planned image begin at a page, and end in one that holds something else
+/// behind them.
+fn shared_pages(plan: &Plan) -> u64 {
+    let mut count = 0u64;
+    for i in 0..plan.sections() {
+        let Some(section) = plan.section(i) else {
+            break;
+        };
+        let is_content = matches!(section.body, Body::Content { .. });
+        let last = section.len % PAGE;
+        if !is_content || section.place % PAGE != 0 || last == 0 {
+            continue;
+        }
+        let end = u64::from(section.place) + u64::from(section.len);
+        let page_end = end + u64::from(PAGE - last);
+        if let Some(next) = plan.section(i.saturating_add(1))
+            && u64::from(next.place) < page_end
+        {
+            count = count.saturating_add(1);
+        }
+    }
+    count
+}
+
+/// Says in words how many files of cramfs have a last page that Linux does not map.
+pub fn explain_pages(teller: &Teller<'_>, plan: &Plan, out: &str) {
+    if !teller.is_explained() || matches!(plan.format(), Format::Romfs) {
+        return;
+    }
+    let count = shared_pages(plan);
+    if count > 0
+        && let Ok(what) = format!(in teller.rt.alloc();
+            "files at a multiple of 4096 whose last page holds something else, so that Linux copies this page: {count}; romtool linux --advice lists them"
+        )
+    {
+        teller.explain(out.as_bytes(), &what);
+    }
+}
+
+/// Says in words how many bytes an image would have too many.
+pub fn explain_size(teller: &Teller<'_>, out: &str, len: u64, most: u64) {
+    let more = len.saturating_sub(most);
+    if let Ok(what) = format!(in teller.rt.alloc();
+        "the image would have {len} bytes, {more} more than {most}"
+    ) {
+        teller.explain(out.as_bytes(), &what);
+    }
+}
