@@ -4,12 +4,12 @@
     bench.py [--binary PATH] [--name TEXT] [--largest N]
 
 A row is one image: its kind, how many records or files it has (MiB, where it says so), its length, the
-user and system time of `check` and of `list` in seconds (the least of three runs, of one where a run
+user and system time of `check` and of `list` in seconds (the least of three runs, of one if a run
 takes five seconds), the peak memory of `check` beside the image and beside what the program takes for its
 example, in bytes a record, the ratio of `list` to `check`, and how many times the time of `check` for a
-record is that of the next smaller image. Rows of other programs stand below, each with the user time of
+record is that of the next smaller image. Rows of other programs are below, each with the user time of
 the program by theirs, and the same with the system time: `check` beside programs that read the image,
-`list` beside those that read its output. It is run by hand, best on a machine that does nothing else.
+`list` beside those that read its output. It is run manually, best on a machine that does nothing else.
 """
 
 import os
@@ -19,11 +19,12 @@ import struct
 import subprocess
 import sys
 import tempfile
-import time
+import threading
 
 sys.path.insert(0, os.path.join(os.path.dirname(os.path.abspath(__file__)), "..", "tests"))
 
 from harness import parser, program_of  # noqa: E402
+
 from images import (  # noqa: E402
     BLOCK, CRAMFS_DIRECTORY, CRAMFS_REGULAR, DIRECT_POINTERS, DIRECTORY, HARD_LINK, REGULAR, SORTED, WITH_SUM,
     cramfs, cramfs_list, header, inode, pointers, romfs, romfs_list, with_crc,
@@ -39,7 +40,7 @@ SIGNS = b"0123456789ABCDEFGHIJKLMNOPQRSTUVWXYZ_abcdefghijklmnopqrstuvwxyz"
 
 
 def name_of(number):
-    """A name of four bytes; names rise with their numbers. A million fit into the list of one folder."""
+    """Returns a name of four bytes; names rise with their numbers. A million fit into the list of one directory."""
     return bytes(SIGNS[number // 63**place % 63] for place in (3, 2, 1, 0))
 
 
@@ -61,7 +62,7 @@ def shuffled(count):
 
 
 def romfs_folders(count):
-    """Folders of 100 records: `.`, `..` and 98 files. The root's list has only the folders."""
+    """Directories of 100 records: `.`, `..` and 98 files. The root's list has only the directories."""
     folders = count // 100
     parts = [header(64, DIRECTORY, 32, 0, b"."), header(96, HARD_LINK, 32, 0, b"..")]
     for number in range(folders):
@@ -88,7 +89,7 @@ def romfs_hard_links(count):
 
 
 def cramfs_folders(count):
-    """Folders of 100 empty files."""
+    """Directories of 100 empty files."""
     folders = count // 100
     first = 76 + 16 * folders
     root = [inode(CRAMFS_DIRECTORY, 1600, first + 1600 * n, name_of(n)) for n in range(folders)]
@@ -98,20 +99,20 @@ def cramfs_folders(count):
 
 
 def cramfs_files(inodes, tables, rest):
-    """A cramfs image of files: the root's list, then what is behind it."""
+    """Returns a cramfs image of files: the root's list, then what is behind it."""
     text = b"".join(inodes)
     return cramfs(SORTED | DIRECT_POINTERS, inode(CRAMFS_DIRECTORY, len(text), 76), text + tables + rest)
 
 
 def one_table(count, size_of):
-    """Files that share one table of 4,095 pointers to one block; each has its own size, or not."""
+    """Returns files that share one table of 4,095 pointers to one block; each has its own size, or not."""
     table = 76 + 16 * count
     inodes = (inode(CRAMFS_REGULAR, size_of(n), table, name_of(n)) for n in range(count))
     return cramfs_files(inodes, pointers(table + 4 * 4095, 4095, 0), bytes(BLOCK))
 
 
 def one_table_one_size(count):
-    """Sound: the files have one table and one size."""
+    """Valid:  the files have one table and one size."""
     return one_table(count, lambda n: 4095 * BLOCK)
 
 
@@ -162,7 +163,7 @@ def large_cramfs(count):
 
 
 def for_fsck(image):
-    """The image with flags and a count of files that fsck.cramfs takes; it looks at the sum alone."""
+    """Returns the image with flags and a count of files that fsck.cramfs accepts; it looks only at the sum."""
     flags = struct.pack("<I", WITH_SUM | SORTED)
     return with_crc(image[:8] + flags + image[12:44] + struct.pack("<I", 1) + image[48:])
 
@@ -200,35 +201,31 @@ class Run:
 
     @property
     def total(self):
-        """The processor time."""
+        """Is the processor time."""
         return self.user + self.system
 
 
 def once(words, out):
-    """A run of the words with its standard output in the file `out`."""
+    """Returns a run of the words with its standard output in the file `out`."""
     with open(out, "wb") as file:
         running = subprocess.Popen(words, stdin=subprocess.DEVNULL, stdout=file, stderr=subprocess.STDOUT)
-        until = time.monotonic() + SECONDS
-        while True:
-            pid, status, used = os.wait4(running.pid, os.WNOHANG)
-            if pid:
-                break
-            if time.monotonic() > until:
-                running.kill()
-            time.sleep(0.002)
+        limit = threading.Timer(SECONDS, running.kill)
+        limit.start()
+        _, status, used = os.wait4(running.pid, 0)
+        limit.cancel()
     running.returncode = os.waitstatus_to_exitcode(status)
     return Run(used.ru_utime, used.ru_stime)
 
 
 def peak_of(words, aside):
-    """The peak memory of a run in bytes, by time(1): of a child of Python the kernel counts Python's, too."""
+    """Returns the peak memory of a run in bytes, by time(1): of a child of Python the kernel counts Python's, too."""
     subprocess.run(["/usr/bin/time", "-q", "-f", "%M", "-o", aside, *words], stdout=subprocess.DEVNULL)
     with open(aside, encoding="ascii") as file:
         return int(file.read()) * 1024
 
 
 def measured(words, out):
-    """The run of least time of three, or the first where it takes five seconds."""
+    """Returns the run of least time of three, or the first if it takes five seconds."""
     best = once(words, out)
     for _ in range(2 if best.total < 5 else 0):
         best = min(best, once(words, out), key=lambda run: run.total)
@@ -249,7 +246,7 @@ def beside(words, out, mine, name):
 
 
 def row(binary, path, out, kind, count, last, base):
-    """Measures an image and prints its row; gives what `check` and `list` took."""
+    """Measures an image and prints its row; returns what `check` and `list` took."""
     size = os.path.getsize(path)
     check = measured([binary, "check", path], out)
     with open(out, encoding="ascii") as file:

@@ -5,12 +5,12 @@
 
 `romtool build` makes an image of each format whose root has N names: empty files, then 300 empty directories, then 40
 links of nearly 4,095 bytes, each of which walks `~000/../~001/../..` through the directories and on to the next link.
-`romtool serve` answers the lines of a file: none, 100,000 look-ups of files by chance, of absent names, of the 300
-directories in turn, of the root alone, and lines that follow the 40 links. A row is the processor time over that of no
-line, and the peak memory; of a row that would take longer than `--longest` just its first 100, 1,000 or 10,000 lines
-are answered. A program `--beside` is measured too, as one from before a change. Where a C compiler is installed, the
+`romtool serve` answers the lines of a file: none, 100,000 look-ups of random files, of absent names, of the 300
+directories in turn, of only the root, and lines that follow the 40 links. A row is the processor time over that of no
+line, and the peak memory; of a row that would take longer than `--longest` only its first 100, 1,000 or 10,000 lines
+are answered. A program `--beside` is measured too, as one from before a change. If a C compiler is installed, the
 first program is measured once more with memory refused from the allocation on that the server can spare
-(tests/refuse.c): then it has no index and no cache. It is run by hand, best on a machine that does nothing else.
+(tests/refuse.c): then it has no index and no cache. It is run manually, best on a machine that does nothing else.
 """
 
 import os
@@ -32,12 +32,12 @@ DIGITS = "0123456789abcdefghijklmnopqrstuvwxyz"
 
 
 def name_of(number):
-    """A name of four letters; they rise with their numbers."""
+    """Returns a name of four letters; they rise with their numbers."""
     return "".join(DIGITS[number // 36**place % 36] for place in (3, 2, 1, 0))
 
 
 def link_texts():
-    """The text of each link, and the look-ups of a path that leads through all of them."""
+    """Returns the text of each link, and the look-ups of a path that leads through all of them."""
     texts, turn = [], 0
     for link in range(LINKS):
         text, last = "", "~l%02d" % (link + 1) if link + 1 < LINKS else "~000"
@@ -49,7 +49,7 @@ def link_texts():
 
 
 def manifest_of(files, texts):
-    """The lines of a manifest with so many files."""
+    """Yields the lines of a manifest with so many files."""
     yield "file /%s 0644 0 0 4 empty\n" % name_of(0)
     for number in range(1, files):
         yield "same /%s 0644 0 0 /%s\n" % (name_of(number), name_of(0))
@@ -60,7 +60,7 @@ def manifest_of(files, texts):
 
 
 def built(binary, form, files, texts, top):
-    """An image in a format."""
+    """Returns an image in a format."""
     with open(os.path.join(top, "manifest"), "w", encoding="ascii") as file:
         file.writelines(manifest_of(files, texts))
     open(os.path.join(top, "empty"), "wb").close()
@@ -69,7 +69,7 @@ def built(binary, form, files, texts, top):
 
 
 def rows_of(files):
-    """What is asked, and its lines."""
+    """Returns what is asked, and its lines."""
     chance = random.Random(1)
     names = [name_of(chance.randrange(files)).encode() for _ in range(LINES)]
     return [
@@ -81,7 +81,7 @@ def rows_of(files):
 
 
 class Server:
-    """A program that serves an image, in a folder of its own files."""
+    """A program that serves an image, in a directory of its own files."""
 
     def __init__(self, program, image, top, environment):
         self.words, self.top = [program, "serve", image], top
@@ -106,7 +106,7 @@ class Server:
         return max(seconds - self.start, 0.0), kib
 
     def row(self, name, lines, longest):
-        """Prints what a row takes, its first lines where all would take too long; gives the seconds of a line."""
+        """Prints what a row takes, its first lines if all would take too long; returns the seconds of a line."""
         count, seconds, kib = 0, 0.0, 0
         while count < len(lines) and seconds * FACTOR <= longest:
             count = min(FACTOR * count or FIRST, len(lines))
@@ -116,7 +116,7 @@ class Server:
         return seconds / count
 
     def links(self, look_ups, longest, each):
-        """Prints what a line takes that follows the links, where a look-up takes so long."""
+        """Prints what a line takes that follows the links, if a look-up takes so long."""
         name, line = "through 40 links", b"lookup /~l00\n"
         if each * look_ups > longest:
             print("    %-18s about %.0f s, a line of %d look-ups" % (name, each * look_ups, look_ups), flush=True)
@@ -135,7 +135,7 @@ def measured(name, server, files, look_ups, longest):
 
 
 def refusing(program, image, top):
-    """An environment that refuses memory from the first allocation on that the server can do without."""
+    """Returns an environment that refuses memory from the first allocation on that the server can do without."""
     library = os.path.join(top, "refuse.so")
     subprocess.run(["cc", "-shared", "-fPIC", "-o", library, os.path.join(TESTS, "refuse.c")], check=True)
 

@@ -1,18 +1,17 @@
 #!/usr/bin/env python3
 """Builds the same inputs by romtool and by the programs that make images of other ways, in one run.
 
-    peers.py [--binary PATH] [--name TEXT] [--folder DIR] [--times N]
+    peers.py [--binary PATH] [--name TEXT] [--directory DIR] [--times N]
 
-Inputs, made in a temporary folder in DIR: one file of 200 MiB, a dozen of 16 MiB, 20,000 of 2,000 bytes, 100,000 empty
-ones, and a tree like that of /usr/bin (2,000 programs by chance, links). Programs: `romtool build` of a manifest that
+Inputs, made in a temporary directory in DIR: one file of 200 MiB, a dozen of 16 MiB, 20,000 of 2,000 bytes, 100,000 empty
+ones, and a tree like that of /usr/bin (2,000 random programs, links). Programs: `romtool build` of a manifest that
 `romtool scan --all` printed, in romfs and in cramfs; genromfs, mkfs.erofs and mksquashfs without compression, tar and
-`cp -a`, where they are installed. Each is run N times (5), and of the least the seconds by the clock are printed, their
+`cp -a`, if they are installed. Each is run N times (5), and of the least the seconds by the clock are printed, their
 ratio to `cp`, and the peak of memory; once as it is and once with what it wrote handed to the disk at the end, which
 `romtool` does of itself. Then checks and lists of what was written. It needs /usr/bin/time (Debian package `time`).
 Nothing of it is a test.
 """
 
-import argparse
 import os
 import random
 import shutil
@@ -21,12 +20,14 @@ import sys
 import tempfile
 import time
 
-HERE = os.path.dirname(os.path.abspath(__file__))
-PROGRAM = os.path.join(HERE, "..", "crates", "romtool", "out", "romtool")
+sys.path.insert(0, os.path.join(os.path.dirname(os.path.abspath(__file__)), "..", "tests"))
+
+from files import put, remove, text_of  # noqa: E402
+from harness import parser, program_of  # noqa: E402
 
 
 def fill(path, size, chance):
-    """Writes a file of bytes made by chance."""
+    """Writes a file of random bytes."""
     os.makedirs(os.path.dirname(path), exist_ok=True)
     with open(path, "wb") as file:
         for _ in range(size >> 20):
@@ -34,36 +35,36 @@ def fill(path, size, chance):
         file.write(chance.randbytes(size & 0xFFFFF))
 
 
-def one_large(chance):
+def one_large(top, chance):
     """One file of 200 MiB."""
-    fill("in/file", 200 << 20, chance)
+    fill(top + "/in/file", 200 << 20, chance)
 
 
-def dozen(chance):
-    """A dozen files of 16 MiB, less a byte each, as cramfs takes them."""
+def dozen(top, chance):
+    """A dozen files of 16 MiB, less a byte each, as cramfs accepts them."""
     for number in range(12):
-        fill("in/%02d" % number, (16 << 20) - 1, chance)
+        fill("%s/in/%02d" % (top, number), (16 << 20) - 1, chance)
 
 
-def many_small(chance):
+def many_small(top, chance):
     """20,000 files of 2,000 bytes."""
     for number in range(20000):
-        fill("in/%02d/%05d" % (number % 20, number), 2000, chance)
+        fill("%s/in/%02d/%05d" % (top, number % 20, number), 2000, chance)
 
 
-def many_empty(chance):
+def many_empty(top, chance):
     """100,000 empty files."""
     for number in range(100000):
-        fill("in/%03d/%06d" % (number % 100, number), 0, chance)
+        fill("%s/in/%03d/%06d" % (top, number % 100, number), 0, chance)
 
 
-def like_bin(chance):
+def like_bin(top, chance):
     """2,000 programs, most of them small, and 200 links."""
     for number in range(2000):
-        fill("in/bin/%04d" % number, int(chance.lognormvariate(10, 1.5)) % (4 << 20), chance)
-        os.chmod("in/bin/%04d" % number, 0o755)
+        fill("%s/in/bin/%04d" % (top, number), int(chance.lognormvariate(10, 1.5)) % (4 << 20), chance)
+        os.chmod("%s/in/bin/%04d" % (top, number), 0o755)
     for number in range(200):
-        os.symlink("%04d" % number, "in/bin/link%03d" % number)
+        os.symlink("%04d" % number, "%s/in/bin/link%03d" % (top, number))
 
 
 INPUTS = {
@@ -73,7 +74,7 @@ INPUTS = {
 
 
 def builders(binary):
-    """The programs that are installed, each with its words; `out` is what they write."""
+    """Yields the programs that are installed, each with its words; `out` is what they write."""
     yield "cp -a", ["cp", "-a", "in", "out"]
     yield "tar", ["tar", "-cf", "out", "in"]
     for form in ("romfs", "cramfs"):
@@ -84,40 +85,31 @@ def builders(binary):
 
 
 def readers(binary):
-    """What looks at an image of romtool, by its format."""
+    """Yields what looks at an image of romtool, by its format."""
     for form in ("romfs", "cramfs"):
         yield "cat %s" % form, form, ["cat", form]
         for word in ("check", "list", "map", "info"):
             yield "romtool %s, %s" % (word, form), form, [binary, word, form]
 
 
-def clear(name):
-    """Removes what was written."""
-    if os.path.isdir(name) and not os.path.islink(name):
-        shutil.rmtree(name)
-    elif os.path.lexists(name):
-        os.remove(name)
-
-
-def measured(words, synced):
-    """The seconds that a command takes, and its peak of memory in KiB; or nothing where it fails."""
+def measured(words, synced, top):
+    """Returns the seconds that a command takes, and its peak of memory in KiB; or nothing if it fails."""
     start = time.monotonic()
     how = ["/usr/bin/time", "-o", "usage", "-f", "%M"]
-    done = subprocess.run([*how, *words], stdout=subprocess.DEVNULL, stderr=subprocess.DEVNULL)
-    if synced and os.path.lexists("out"):
+    done = subprocess.run([*how, *words], stdout=subprocess.DEVNULL, stderr=subprocess.DEVNULL, cwd=top)
+    if synced and os.path.lexists(top + "/out"):
         os.sync()
     spent = time.monotonic() - start
-    with open("usage", encoding="ascii") as file:
-        return None if done.returncode else (spent, int(file.read()))
+    return None if done.returncode else (spent, int(text_of(top + "/usage")))
 
 
-def least(words, synced, times):
-    """The least of some runs."""
+def least(words, synced, times, top):
+    """Returns the least of some runs."""
     runs = []
     for _ in range(times):
-        clear("out")
+        remove(top + "/out")
         os.sync()
-        runs.append(measured(words, synced))
+        runs.append(measured(words, synced, top))
     return None if None in runs else min(runs)
 
 
@@ -131,40 +123,38 @@ def row(name, plain, synced, against):
     print("| %s | %.2f | %s | %s | %d |" % (name, plain[0], ratio, after, plain[1]), flush=True)
 
 
-def table(binary, title, times):
-    """Prints how long each program takes for the folder `in`."""
+def table(binary, title, times, top):
+    """Prints how long each program takes for the directory `in` of another one."""
     for form in ("romfs", "cramfs"):
-        with open("manifest." + form, "wb") as file:
-            subprocess.run([binary, "scan", "--all", "--for", form, "in"], stdout=file, check=True)
+        scanned = subprocess.run([binary, "scan", "--all", "--for", form, "in"], stdout=subprocess.PIPE, cwd=top, check=True)
+        put("%s/manifest.%s" % (top, form), scanned.stdout)
     print("\n| %s | seconds | of cp | with a sync (of cp) | KiB |\n|---|---|---|---|---|" % title)
     against = None
     for name, words in builders(binary):
         if not shutil.which(words[0]):
             continue
-        plain, synced = least(words, False, times), least(words, True, times)
+        plain, synced = least(words, False, times, top), least(words, True, times, top)
         against = against or (plain[0], synced[0])
         row(name, plain, synced, against)
         if plain is not None and name.startswith("romtool"):
-            os.replace("out", name.split()[-1])
+            os.replace(top + "/out", "%s/%s" % (top, name.split()[-1]))
     for name, form, words in readers(binary):
-        if os.path.exists(form):
-            row(name, least(words, False, times), None, against)
+        if os.path.exists("%s/%s" % (top, form)):
+            row(name, least(words, False, times, top), None, against)
 
 
 def main():
-    reader = argparse.ArgumentParser(description="Builds the same inputs by romtool and by other programs.")
-    reader.add_argument("--binary", default=PROGRAM, help="the program, if not the proved one")
+    reader = parser("Builds the same inputs by romtool and by other programs.")
     reader.add_argument("--name", default="", help="the inputs alone whose name has this text")
     reader.add_argument("--folder", help="where the temporary folder is made")
     reader.add_argument("--times", type=int, default=5, help="how often each is run")
     arguments = reader.parse_args()
+    binary = program_of(arguments)
     for title, make in INPUTS.items():
         if arguments.name in title:
             with tempfile.TemporaryDirectory(dir=arguments.folder) as top:
-                os.chdir(top)
-                make(random.Random(1))
-                table(os.path.abspath(os.path.join(HERE, arguments.binary)), title, arguments.times)
-                os.chdir("/")
+                make(top, random.Random(1))
+                table(binary, title, arguments.times, top)
     return 0
 
 

@@ -3,8 +3,8 @@
 
     serve.py [--binary PATH] [--lines N]
 
-The image has a hundred files in its root; the lines look them up, by chance. Through a pipe a client
-sends one line and waits for its reply. Beside each row stands a program in C, where a compiler is
+The image has a hundred files in its root; the lines look them up in a random order. Through a pipe a client
+sends one line and waits for its reply. Beside each row is a program in C, if a compiler is
 installed, that only reads the same bytes, one a call, and writes one reply for each line. It is run by
 hand, best on a machine that does nothing else.
 """
@@ -36,7 +36,7 @@ int main(void)
 
 
 def lines_of(count):
-    """Look-ups of files by chance, the same each time."""
+    """Look-ups of random files, the same each time."""
     chance = random.Random(1)
     return [b"lookup /%02d\n" % chance.randrange(FILES) for _ in range(count)]
 
@@ -68,7 +68,7 @@ def through_pipe(words, lines):
 
 
 def reader_in(top):
-    """The program in C, or nothing where there is no compiler."""
+    """Returns the program in C, or nothing if there is no compiler."""
     source, program = os.path.join(top, "reader.c"), os.path.join(top, "reader")
     with open(source, "w", encoding="ascii") as file:
         file.write(READER)

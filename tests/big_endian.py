@@ -5,11 +5,11 @@
 
 Each little-endian image of a case (see run.py) is turned into a big-endian one: all words of the
 superblock, of the inodes and of the block pointers with the same fields, packed and stored in the
-other order. What is printed has to be the same, but that FORMAT is `cramfs-be`. Where the image has the
+other order. What is printed has to be the same, but that FORMAT is `cramfs-be`. If the image has the
 CRC-32 of its bytes, the turned one has too. Cases without such an image are passed over, and so are the
 runs on an image in which one word is read in two ways, as a pointer and as part of a name: that has no
 like in the other order.
-The last line is `N passed, M failed`, with `, K skipped` where cases were skipped.
+The last line is `N passed, M failed`, with `, K skipped` if cases were skipped.
 """
 
 import struct
@@ -30,7 +30,7 @@ DIRECTORY, REGULAR, SYMLINK = 4, 8, 10
 
 
 def crc_of(image):
-    """The CRC-32 of an image, whose own field is taken as zero."""
+    """Returns the CRC-32 of an image, whose own field is taken as zero."""
     return zlib.crc32(image[:CRC] + bytes(4) + image[CRC + 4 :])
 
 
@@ -51,7 +51,7 @@ class Turned:
             self.put(0, self.word(0))
 
     def word(self, at):
-        """The word at a place of the little-endian image."""
+        """Returns the word at a place of the little-endian image."""
         return struct.unpack_from("<I", self.old, at)[0]
 
     def put(self, at, word):
@@ -70,7 +70,7 @@ class Turned:
         self.seen.add(at)
 
     def tree(self):
-        """Turns the root's inode, and all that stands in a list that can be reached from it."""
+        """Turns the root's inode, and all in a list that can be reached from it."""
         lists = [self.inode(ROOT)]
         met = set()
         while lists:
@@ -103,7 +103,7 @@ class Turned:
         return (place, place + size) if kind == DIRECTORY else None
 
     def mend_crc(self):
-        """Stores the CRC-32 of the turned image, where the image had that of its bytes."""
+        """Stores the CRC-32 of the turned image, if the image had that of its bytes."""
         size = self.word(4)
         if self.word(8) & WITH_SUM and SUPERBLOCK <= size <= len(self.old):
             if self.word(CRC) == crc_of(self.old[:size]):
@@ -111,7 +111,7 @@ class Turned:
 
 
 def turned_case(case):
-    """The case with its little-endian images turned, or None where it has none."""
+    """Returns the case with its little-endian images turned, or None if it has none."""
     files, left_out, turned = {}, set(), False
     for name, told in case.get("files", {}).items():
         sparse = isinstance(told, dict) and "sparse" in told

@@ -1,12 +1,12 @@
 #!/usr/bin/env python3
-"""Builds images from folders and manifests, and looks at them as who uses them does.
+"""Builds images from directories and manifests, and looks at them as who uses them does.
 
     build.py [--binary PATH] [--name TEXT]
 
-A folder is scanned, built in each format, checked, listed, and served to a client that reads each file
+A directory is scanned, built in each format, checked, listed, and served to a client that reads each file
 byte by byte. Then building is made to fail: sources that are not as long as the system says, that
-change while they are read, a file system that takes no more. The last line is `N passed, M failed`, with
-`, K skipped` where something is missing.
+change while they are read, a file system that accepts no more. The last line is `N passed, M failed`, with
+`, K skipped` if something is missing.
 """
 
 import contextlib
@@ -14,15 +14,14 @@ import os
 import resource
 import signal
 import socket
-import subprocess
 import sys
-import tempfile
 import threading
 
-from client import escaped, wrong_image
-from harness import SECONDS, Counts, parser, program_of
+import rooms
+from client import wrong_image
+from files import bytes_in, put
+from romtool import FORMATS, answer, entries_of, escaped, run, without_number
 
-FORMATS = ("romfs", "cramfs", "cramfs-be")
 TIMES = 50  # that a build is tried until what it reads changes
 FILES = {
     b"etc/motd": b"hello\n",
@@ -37,30 +36,8 @@ FILES = {
 FOLDERS = (b"none", b"bin/none")
 
 
-def run(binary, *words, timeout=SECONDS, **more):
-    """The finished program."""
-    return subprocess.run([binary, *words], stdout=subprocess.PIPE, stderr=subprocess.PIPE, timeout=timeout, **more)
-
-
-def answer(done):
-    """What a run printed, and its status."""
-    return done.stdout, done.stderr, done.returncode
-
-
-def put(name, content):
-    """Writes a file of the current folder."""
-    with open(name, "wb") as file:
-        file.write(content)
-
-
-def bytes_in(name):
-    """The bytes of a file."""
-    with open(name, "rb") as file:
-        return file.read()
-
-
 def lay_out():
-    """Makes the folder that is scanned, with what a scan passes over."""
+    """Makes the directory that is scanned, with what a scan passes over."""
     for name in FOLDERS:
         os.makedirs(b"in/" + name)
     for name, content in FILES.items():
@@ -73,7 +50,7 @@ def lay_out():
 
 
 def below():
-    """The paths of folders and of files below the folder, in the order of a scan."""
+    """Returns the paths of directories and of files below the directory, in the order of a scan."""
     folders = set(FOLDERS)
     for name in [*FILES, *FOLDERS]:
         while name := os.path.dirname(name):
@@ -82,30 +59,30 @@ def below():
 
 
 def manifest():
-    """What a scan of the folder prints."""
+    """Yields what a scan of the directory prints."""
     for path, is_folder in below():
-        name = escaped(path)
+        name = escaped(path).encode()
         yield b"dir %s 0755 0 0\n" % name if is_folder else b"file %s 0644 0 0 4 in%s\n" % (name, name)
 
 
 def without_numbers(listed):
-    """The lines of a list, sorted, without the numbers of nodes."""
-    return sorted(line.split(b" ", 1)[1] for line in listed.splitlines())
+    """Returns the lines of a list, sorted, without the numbers of nodes."""
+    return sorted(map(without_number, listed.splitlines()))
 
 
 def wanted_list():
-    """The lines of each image of the folder, without the numbers of nodes."""
+    """Returns the lines of each image of the directory, without the numbers of nodes."""
     lines = [b"d 0755 0 0 0 0 0 /"]
     for path, is_folder in below():
         if is_folder:
-            lines.append(b"d 0755 0 0 0 0 0 " + escaped(path))
+            lines.append(b"d 0755 0 0 0 0 0 " + escaped(path).encode())
         else:
-            lines.append(b"f 0644 0 0 %d 0 0 %s" % (len(FILES[path[1:]]), escaped(path)))
+            lines.append(b"f 0644 0 0 %d 0 0 %s" % (len(FILES[path[1:]]), escaped(path).encode()))
     return sorted(lines)
 
 
 def scan_is_manifest(binary):
-    """A scan prints the manifest of the folder."""
+    """A scan prints the manifest of the directory."""
     lay_out()
     done = run(binary, "scan", "in")
     if answer(done) != (b"".join(manifest()), b"", 0):
@@ -113,7 +90,7 @@ def scan_is_manifest(binary):
 
 
 def folder_is_built(binary):
-    """The manifest is built in each format; the image is accepted, listed and served as the folder."""
+    """The manifest is built in each format; the image is accepted, listed and served as the directory."""
     lay_out()
     put("manifest", b"".join(manifest()))
     for format in FORMATS:
@@ -137,19 +114,17 @@ def folder_is_built(binary):
 
 
 def wrong_contents(binary, listed):
-    """What is wrong in the contents that are lent, as against the folder's."""
-    for path in (line.split(b" ")[8] for line in listed.splitlines() if line.split(b" ")[1] == b"f"):
-        told = run(binary, "serve", "image", input=b"open %s\n" % path + b"lend 0 4294967295\n" * 8).stdout
-        got = b"".join(
-            bytes.fromhex(line.split(b" ")[3].decode()) for line in told.splitlines()[1:] if not line.endswith(b"-")
-        )
+    """Yields what is wrong in the contents that are lent, as against the directory's."""
+    for path in (it.path for it in entries_of(listed) if it.kind == "f"):
+        told = run(binary, "serve", "image", input=b"open %s\n" % path.encode() + b"lend 0 4294967295\n" * 8).stdout
+        got = b"".join(bytes.fromhex(line.split(b" ")[3].decode()) for line in told.splitlines()[1:] if not line.endswith(b"-"))
         name = next(name for name in FILES if escaped(b"/" + name) == path)
         if got != FILES[name]:
             yield "%r: %d bytes were lent, of other contents" % (path, len(got))
 
 
 def refused(binary, line, out="out", **more):
-    """What is wrong where a build into a file that is there is to end with a line and status 3."""
+    """Yields what is wrong if a build into a file that exists has to end with a line and status 3."""
     put("out", b"as it was")
     for format in FORMATS:
         done = run(binary, "build", format, "manifest", out, **more)
@@ -183,12 +158,12 @@ def source_is_shorter(binary):
 
 @contextlib.contextmanager
 def changing(name):
-    """A file that has other bytes each time it is read."""
-    going = True
+    """Provides a file that has other bytes each time it is read."""
+    ended = threading.Event()
 
     def change():
         with open(name, "r+b", buffering=0) as file:
-            while going:
+            while not ended.is_set():
                 for at in range(0, 2**21, 2**18):
                     os.pwrite(file.fileno(), os.urandom(8), at)
 
@@ -197,14 +172,14 @@ def changing(name):
     try:
         yield
     finally:
-        going = False
+        ended.set()
         thread.join()
 
 
 def source_changes(binary):
     """The contents of a source change while they are read, and the stored sum is not theirs.
 
-    Where the source happens to stay as it is between two readings, the image is whole, and is built anew.
+    If the source happens to stay as it is between two readings, the image is whole, and is built anew.
     """
     put("source", bytes(2**21))
     put("manifest", b"file /a 0644 0 0 4 source\n")
@@ -228,14 +203,14 @@ def small_files():
 
 
 def file_system_is_full(binary):
-    """The file system takes a part of the image and no more."""
+    """The file system accepts a part of the image and no more."""
     put("source", bytes(20000))
     put("manifest", b"file /a 0644 0 0 4 source\n")
     yield from refused(binary, b"file out", preexec_fn=small_files, restore_signals=False)
 
 
 def device_is_full(binary):
-    """OUT is a device that takes nothing."""
+    """OUT is a device that accepts nothing."""
     put("manifest", b"")
     yield from refused(binary, b"file /dev/full", out="/dev/full")
 
@@ -266,7 +241,7 @@ def permissions_are_kept(binary):
 
 
 def nothing_on_a_pipe(binary):
-    """How far a long build is, is not said where standard error is no terminal."""
+    """How far a long build is, is not reported if standard error is not a terminal."""
     with open("source", "wb") as file:
         file.truncate(70 * 2**20)
     put("manifest", b"file /a 0644 0 0 4 source\n")
@@ -276,7 +251,7 @@ def nothing_on_a_pipe(binary):
 
 
 def progress_on_a_terminal(binary):
-    """It is said where standard error is one, and wiped out at the end."""
+    """It is reported if standard error is one, and erased at the end."""
     with open("source", "wb") as file:
         file.truncate(70 * 2**20)
     put("manifest", b"file /a 0644 0 0 4 source\n")
@@ -285,9 +260,7 @@ def progress_on_a_terminal(binary):
     except OSError:
         yield None
         return
-    done = subprocess.run(
-        [binary, "build", "romfs", "manifest", "out"], stdout=subprocess.PIPE, stderr=theirs, timeout=SECONDS
-    )
+    done = run(binary, "build", "romfs", "manifest", "out", stderr=theirs)
     os.close(theirs)
     told = os.read(ours, 65536)
     os.close(ours)
@@ -340,26 +313,5 @@ TESTS = [
 ]  # fmt: skip
 
 
-def main():
-    reader = parser("Build images from folders and manifests.")
-    reader.add_argument("--name", default="", help="the tests alone whose name has this text")
-    arguments = reader.parse_args()
-    binary, counts = program_of(arguments), Counts()
-    for test in TESTS:
-        if arguments.name not in test.__name__:
-            continue
-        with tempfile.TemporaryDirectory(prefix="romtool-") as top:
-            os.chdir(top)
-            wrong = list(test(binary))
-            os.chdir("/")
-        if wrong == [None]:
-            counts.skips(test.__name__)
-        elif wrong:
-            counts.fails(test.__name__, wrong)
-        else:
-            counts.passes()
-    return counts.close()
-
-
 if __name__ == "__main__":
-    sys.exit(main())
+    sys.exit(rooms.main(TESTS, "Build images from directories and manifests."))

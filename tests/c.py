@@ -1,13 +1,13 @@
 #!/usr/bin/env python3
-"""Builds the library for C, and C programs over it, and looks that they answer as romtool does.
+"""Builds the library for C, and C programs over it, and checks that they answer as romtool does.
 
     c.py [--binary PATH] [--library PATH]
 
-The library is what `rt lib` builds of crates/rom_c, if no other is given; it is proved first where that has not been
-done. The programs of c/ are compiled with every warning as an error, and with AddressSanitizer and UBSan where the
+The library is what `rt lib` builds of crates/rom_c, if no other is given; it is proved first if that has not been
+done. The programs of c/ are compiled with every warning as an error, and with AddressSanitizer and UBSan if the
 compiler has them.
-    answers.c  answers `check`, `list` and `serve` on the cases (see run.py) as romtool does, but for lines that ask for
-               nothing, and on one folder that is built in each format
+    answers.c  answers `check`, `list` and `serve` on the cases (see run.py) as romtool does, except for lines that ask for
+               nothing, and on one directory that is built in each format
     closed.c   each call on handles that are zeroed or refused, and with NULL for no bytes
     first.c    where the entry of a program is that is run in place, as docs/C.md shows it
     nodes.c    a directory of 50,000 files, listed and opened by its entries' nodes: a walk that looked names up would take
@@ -19,9 +19,9 @@ compiler has them.
                a heap that records sizes and refuses each call in turn, on the images of the cases
     areas.c    the heap over an array, c/area.c, by itself and under checks
 The header is compiled as C99, C11 and C++11 to C++20 by each compiler that is installed. What the library takes from its
-surroundings is six functions. Where aarch64-linux-gnu-gcc and qemu-aarch64 are installed, the library is built for
+surroundings is six functions. If aarch64-linux-gnu-gcc and qemu-aarch64 are installed, the library is built for
 aarch64, too, and answers.c, closed.c and reader.c are run over it; with qemu-x86_64 answers.c is also run as on an old
-processor, over a library that is built for these. The last line is `N passed, M failed`, with `, K skipped` where
+processor, over a library that is built for these. The last line is `N passed, M failed`, with `, K skipped` if
 nothing was run for want of `cc` or `rt`.
 """
 
@@ -34,7 +34,7 @@ import tempfile
 
 import explain
 import run
-from harness import HERE, SECONDS, Counts, parser, program_of
+from harness import HERE, SECONDS, Counts, missing, parser, program_of
 
 TOP = os.path.join(HERE, "..")
 INCLUDE = os.path.join(TOP, "include")
@@ -60,7 +60,7 @@ int main() {
 """
 FORMATS = ("romfs", "cramfs", "cramfs-be")
 CONTENT = bytes(range(250)) * 24
-# a folder for each format: a program that is used in place, a link and a device
+# a directory for each format: a program that is used in place, a link and a device
 MANIFEST = b"""dir / 0755 0 0
 file /init 0755 0 0 4096 init
 file /empty 0644 0 0 4 empty
@@ -75,12 +75,12 @@ close 0\nread 0 1\nfstat 63\n"""
 
 
 def said(words, **more):
-    """A finished command, with what it printed."""
+    """Returns a finished command, with what it printed."""
     return subprocess.run(words, stdout=subprocess.PIPE, stderr=subprocess.STDOUT, **more)
 
 
 def library(given, counts):
-    """The archive, which is built where none is given; or nothing."""
+    """Returns the archive, which is built if none is given; or nothing."""
     if given:
         return os.path.abspath(given)
     done = said([os.path.join(TOP, "tools", "rt"), "lib"], cwd=CRATE)
@@ -92,7 +92,7 @@ def library(given, counts):
 
 
 def other_library(words, top, counts):
-    """The archive for another processor, or nothing. It is built where that of this machine is, which is put back."""
+    """Returns the archive for another processor, or nothing. It is built in the place of this machine's, which is put back."""
     archive, kept = os.path.join(CRATE, "out", "librom_c.a"), os.path.join(top, "librom_c.a")
     shutil.copy2(archive, kept)
     try:
@@ -106,13 +106,13 @@ def other_library(words, top, counts):
 
 
 def heap():
-    """The kit's three functions over malloc."""
+    """Returns the kit's three functions over malloc."""
     kit = os.path.dirname(said(["rt", "doc"]).stdout.decode().strip())
     return os.path.join(kit, "c", "liblibc_c.a")
 
 
 def sanitizers(top):
-    """The words for what looks for wrong accesses, where the compiler has it."""
+    """Returns the words for what looks for wrong accesses, if the compiler has it."""
     with open(top + "/empty.c", "w", encoding="utf-8") as file:
         file.write("int main(void) { return 0; }\n")
     made = said(["cc", *SANITIZERS, top + "/empty.c", "-o", top + "/empty"])
@@ -120,21 +120,13 @@ def sanitizers(top):
 
 
 def compiled(words, counts):
-    """Whether a compiler takes these words without a warning."""
+    """Returns whether a compiler accepts these words without a warning."""
     done = said(words)
     if done.returncode:
         counts.fails(" ".join(words), done.stdout.decode(errors="replace").splitlines()[:20])
     else:
         counts.passes()
     return done.returncode == 0
-
-
-def is_as_wanted(what, got, wanted, counts):
-    """Counts whether something is what it has to be."""
-    if got == wanted:
-        counts.passes()
-    else:
-        counts.fails(what, ["%r" % (got,), "expected %r" % (wanted,)])
 
 
 def standards(top, archive, counts):
@@ -156,7 +148,7 @@ def standards(top, archive, counts):
         for standard in ("c++11", "c++14", "c++17", "c++20"):
             words = [compiler, "-std=" + standard, *STRICTER, "-Wold-style-cast", top + "/header.cc", archive, heap()]
             if compiled([*words, "-o", top + "/header"], counts):
-                is_as_wanted("%s in %s" % (compiler, standard), said([top + "/header"]).returncode, 0, counts)
+                counts.equal("%s in %s" % (compiler, standard), said([top + "/header"]).returncode, 0)
 
 
 def header(binary, top, program, counts):
@@ -166,12 +158,12 @@ def header(binary, top, program, counts):
     version = said([binary, "--explain", "--version"]).stdout.decode().split()[-1]
     major, minor, patch = (int(it) for it in version.split("."))
     wanted = "%s %d" % (version, 10000 * major + 100 * minor + patch)
-    is_as_wanted("header.c", (done.returncode, lines[:1]), (0, [wanted]), counts)
+    counts.equal("header.c", (done.returncode, lines[:1]), (0, [wanted]))
     names = {number: name for number, (name, _) in explain.FAULTS.items()}
-    is_as_wanted("names of faults", lines[1:41], [names.get(it, "Unknown") for it in range(40)], counts)
+    counts.equal("names of faults", lines[1:41], [names.get(it, "Unknown") for it in range(40)])
     words = [it for it, line in enumerate(lines[41:]) if line != "unknown error"]
-    is_as_wanted("errors in words", words, [0, 1, 2, 3, 4, 5, 6, 7, 8, 10, 13, 14, 15], counts)
-    is_as_wanted("errors in words of their own", len(set(lines[41:])), len(words) + 1, counts)
+    counts.equal("errors in words", words, [0, 1, 2, 3, 4, 5, 6, 7, 8, 10, 13, 14, 15])
+    counts.equal("errors in words of their own", len(set(lines[41:])), len(words) + 1)
 
 
 def needs(archive, counts):
@@ -180,16 +172,16 @@ def needs(archive, counts):
         counts.skips("what the library needs: there is no nm")
         return
     lines = said(["nm", "-u", archive]).stdout.decode().splitlines()
-    is_as_wanted("needs of the library", {line.split()[1] for line in lines if " U " in line}, NEEDS, counts)
+    counts.equal("needs of the library", {line.split()[1] for line in lines if " U " in line}, NEEDS)
 
 
 def asks_for_something(reply):
-    """Whether a reply is that to a line which asks for something."""
+    """Returns whether a reply is that to a line which asks for something."""
     return not reply.startswith(b"bad ")
 
 
 def without_bad_lines(lines, out):
-    """The lines of a session that ask for something, and their replies."""
+    """Returns the lines of a session that ask for something, and their replies."""
     asked, replies = lines.splitlines(True), out.splitlines(True)
     both = [pair for pair in zip(asked, replies) if asks_for_something(pair[1])]
     return b"".join(line for line, _ in both), b"".join(reply for _, reply in both)
@@ -204,11 +196,11 @@ def answered(binary, answers, words, lines, top, place, counts):
         lines, wanted = without_bad_lines(lines, wanted)
     done = subprocess.run([answers, *words], input=lines, **how)
     got = (done.returncode, done.stdout, done.stderr)
-    is_as_wanted("%s, %s" % (place, " ".join(words)), got, (whole.returncode, wanted, b""), counts)
+    counts.equal("%s, %s" % (place, " ".join(words)), got, (whole.returncode, wanted, b""))
 
 
 def is_asked(told):
-    """Whether a run of a case can be asked of the C program, too."""
+    """Returns whether a run of a case can be asked of the C program, too."""
     words, other = told["words"], {"in_from", "left", "out_to", "memory"} & set(told)
     if len(words) != 2 or words[0] not in ("check", "list", "serve") or other:
         return False
@@ -231,13 +223,13 @@ def cases(binary, answers, counts):
 
 
 def build_all(binary, top, counts):
-    """Builds a folder in each format."""
+    """Builds a directory in each format."""
     for name, held in (("manifest", MANIFEST), ("init", CONTENT), ("empty", b"")):
         with open(os.path.join(top, name), "wb") as file:
             file.write(held)
     for form in FORMATS:
         built = said([binary, "build", form, "manifest", form], cwd=top)
-        is_as_wanted("build " + form, built.returncode, 0, counts)
+        counts.equal("build " + form, built.returncode, 0)
 
 
 def each_format(binary, top, answers, counts):
@@ -252,8 +244,8 @@ def entries(binary, top, first, counts):
     for form in FORMATS:
         told = said([binary, "serve", form], cwd=top, input=b"open /init\nmap 0 0 4\n").stdout.split()
         wanted = b"at %s of the image: 00 01 02 03\n" % told[3]
-        is_as_wanted("the entry in " + form, said([first, form, "/init"], cwd=top).stdout, wanted, counts)
-        is_as_wanted("no entry in " + form, said([first, form, "/empty"], cwd=top).returncode, 1, counts)
+        counts.equal("the entry in " + form, said([first, form, "/init"], cwd=top).stdout, wanted)
+        counts.equal("no entry in " + form, said([first, form, "/empty"], cwd=top).returncode, 1)
 
 
 def by_nodes(binary, top, nodes, counts):
@@ -267,8 +259,8 @@ def by_nodes(binary, top, nodes, counts):
         before = os.times().children_user
         done = said([nodes, "many.image"], cwd=top)
         spent = os.times().children_user - before
-        is_as_wanted("files by their nodes in " + form, done.stdout, b"50000 50000\n", counts)
-        is_as_wanted("time for files by their nodes in %s: %.2f s" % (form, spent), spent < 1, True, counts)
+        counts.equal("files by their nodes in " + form, done.stdout, b"50000 50000\n")
+        counts.equal("time for files by their nodes in %s: %.2f s" % (form, spent), spent < 1, True)
 
 
 def reader(top, archive, numbers, counts, compiler="cc", emulator=()):
@@ -280,11 +272,11 @@ def reader(top, archive, numbers, counts, compiler="cc", emulator=()):
         words += ["-static", "-nostdlib", "-Wl,--gc-sections", SOURCES + "/reader.c", archive, "-o", top + "/reader"]
         if compiled(words, counts):
             status = said([*emulator, top + "/reader"], timeout=SECONDS).returncode
-            is_as_wanted("the reader of %s by %s" % (form, compiler), status, sum(CONTENT) % 64, counts)
+            counts.equal("the reader of %s by %s" % (form, compiler), status, sum(CONTENT) % 64)
 
 
 def program(name, top, archive, words, counts, over=None):
-    """A program of c/ over a heap, which is the kit's if no other is given; or nothing."""
+    """Returns a program of c/ over a heap, which is the kit's if no other is given; or nothing."""
     made = os.path.join(top, name)
     source = os.path.join(SOURCES, name + ".c")
     words = ["cc", "-std=c99", *STRICT, *words, source, archive, over or heap(), "-o", made]
@@ -292,7 +284,7 @@ def program(name, top, archive, words, counts, over=None):
 
 
 def of_aarch64(name, top, archive, counts):
-    """A program of c/ for aarch64, as a script that has qemu run it; or nothing."""
+    """Returns a program of c/ for aarch64, as a script that has qemu run it; or nothing."""
     made, script = os.path.join(top, name + "64"), os.path.join(top, name + "64.sh")
     sources = [os.path.join(SOURCES, name + ".c"), os.path.join(HEAPS, "heap.c")]
     words = ["aarch64-linux-gnu-gcc", "-std=c99", "-O2", "-static", *STRICT, *sources, archive, "-o", made]
@@ -318,13 +310,13 @@ def on_aarch64(binary, top, numbers, counts):
         cases(binary, answers, counts)
         each_format(binary, top, answers, counts)
     if closed:
-        is_as_wanted("closed handles on aarch64", said([closed, top + "/tree"]).stdout, b"closed 107\n", counts)
+        counts.equal("closed handles on aarch64", said([closed, top + "/tree"]).stdout, b"closed 107\n")
     if numbers:
         reader(top, archive, numbers, counts, "aarch64-linux-gnu-gcc", ["qemu-aarch64"])
 
 
 def images(top):
-    """The images of the cases, each once, in files of a folder; and the files' names."""
+    """Returns the images of the cases, each once, in files of a directory; and the files' names."""
     held = {}
     for topic in TOPICS:
         for case in run.load(topic):
@@ -350,20 +342,20 @@ def heaps(binary, top, refused, areas, counts):
     if refused:
         done = subprocess.run([refused, *names], **how)
         lines = done.stdout.splitlines(True)
-        is_as_wanted("checks that are refused memory", done.returncode, 0, counts)
+        counts.equal("checks that are refused memory", done.returncode, 0)
         for name, one, line in zip(names, told, lines):
-            is_as_wanted("a check that is refused memory: %s" % name, line, one.stdout, counts)
+            counts.equal("a check that is refused memory: %s" % name, line, one.stdout)
         seen = re.match(rb"(\d+) refusals, (\d+) that a check did without, ", lines[-1])
         are_many = bool(seen) and int(seen[1]) > 3 * len(names) and int(seen[2]) < int(seen[1]) // 20
-        is_as_wanted("refusals of memory: %s" % lines[-1], are_many, True, counts)
+        counts.equal("refusals of memory: %s" % lines[-1], are_many, True)
         print("heap: %s" % lines[-1].decode().strip())
     if areas:
         done = subprocess.run([areas, *names], **how)
         wanted = [b"0" if it.returncode == 0 else b"14" for it in told]
         lines = done.stdout.splitlines()
-        is_as_wanted("areas", (done.returncode, lines[-1][-6:]), (0, b" steps"), counts)
+        counts.equal("areas", (done.returncode, lines[-1][-6:]), (0, b" steps"))
         for name, line, want in zip(names, lines, wanted):
-            is_as_wanted("an area that is just large enough: %s" % name, line.split()[1], want, counts)
+            counts.equal("an area that is just large enough: %s" % name, line.split()[1], want)
 
 
 def on_old_processor(binary, top, counts):
@@ -386,10 +378,9 @@ def main():
     reads = parser("Build the library for C, and look that programs over it answer as romtool does.")
     reads.add_argument("--library", help="the archive, if not the one that `rt lib` builds")
     arguments, counts = reads.parse_args(), Counts()
-    for tool in ("cc", "rt"):
-        if not shutil.which(tool):
-            counts.skips("the library for C: there is no %s" % tool)
-            return counts.close()
+    if tool := missing("cc", "rt"):
+        counts.skips("the library for C: there is no %s" % tool)
+        return counts.close()
     binary = program_of(arguments)
     archive = library(arguments.library, counts)
     if not archive:
@@ -419,7 +410,7 @@ def main():
             with open(top + "/tree", "wb") as file:
                 file.write(run.file_of("romfs/tree/image"))
             done = said([closed, top + "/tree"])
-            is_as_wanted("closed handles", (done.returncode, done.stdout), (0, b"closed 107\n"), counts)
+            counts.equal("closed handles", (done.returncode, done.stdout), (0, b"closed 107\n"))
         if numbers and os.uname().machine == "x86_64":
             reader(top, archive, numbers, counts)
         elif numbers:

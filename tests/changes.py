@@ -6,7 +6,7 @@
 The images are those of cases (see run.py). Each is cut to every length from 0 on, and what `check`
 prints of that is compared with the image's row of CUTS. Each byte of those of CHANGED is set to 0, set
 to 255, and has each of its bits inverted. In a romfs image each such change breaks a sum, so the
-image is run once more with the superblock's sum mended, and once with the sums of the records too. Of
+image is run once more with the superblock's sum corrected, and once with the sums of the records too. Of
 each image that comes of this
     check    prints one line, an `ok` with status 0 or a fault of its format with status 1
     list     prints the same fault line, or with status 0 at most as many lines (in cramfs as many) as
@@ -18,14 +18,15 @@ The last line is `N passed, M failed`.
 import concurrent.futures
 import os
 import re
-import struct
 import subprocess
 import sys
 import tempfile
 
 import run
+from files import put
 from harness import SECONDS, Counts, parser, program_of
 from images import with_sums
+from romtool import run as ran
 
 # image -> where a fault line begins to hold, by length: it holds up to the next one.
 CUTS = {
@@ -48,7 +49,7 @@ CUTS = {
     "cramfs/file-with-sum/image": {0: "fault 2 Short at 0", 76: "fault 4 Size at 4", 4096: "ok cramfs 2 1"},
 }
 
-# image -> where its records begin, for those whose sums are mended.
+# image -> where its records begin, for those whose sums are corrected.
 CHANGED = {
     "romfs/hello/image": [32, 64, 96],
     "romfs/tree/image": [32, 64, 96, 128, 160, 192, 240],
@@ -74,7 +75,7 @@ LINE = re.compile(rb"([0-9]+) ([dflbcsp]) [0-7]{4}( [0-9]+){5} (/[!-~]*)( [!-~]+
 
 
 def changes_of(image, records, place):
-    """What comes of the image by changes of the byte at `place`, each with the words that tell it."""
+    """Yields what comes of the image by changes of the byte at `place`, each with the words that describe it."""
     old = image[place]
     for new in sorted({0, 255} | {old ^ 1 << bit for bit in range(8)}):
         if new == old:
@@ -87,7 +88,7 @@ def changes_of(image, records, place):
 
 
 def wrong_fault(format, image, line):
-    """What is wrong in a fault line, or nothing."""
+    """Returns what is wrong in a fault line, or nothing."""
     number, name, offset = int(line[1]), line[2].decode(), int(line[3])
     if FAULTS[format].get(number) != name:
         return "no fault of %s" % format
@@ -98,7 +99,7 @@ def wrong_fault(format, image, line):
 
 
 def wrong_list(told, done, image):
-    """What is wrong in the list of an accepted image, or nothing."""
+    """Returns what is wrong in the list of an accepted image, or nothing."""
     format, references, depth = told[1].decode(), int(told[2]), int(told[3])
     if done.returncode != 0:
         return "list ends with status %d" % done.returncode
@@ -117,15 +118,9 @@ def wrong_list(told, done, image):
 
 
 def wrong_in(binary, format, image, expected, path):
-    """What is wrong in the runs on the image, or nothing; `expected` is check's line where it is known."""
-    with open(path, "wb") as file:
-        file.write(image)
-    checked, listed = (
-        subprocess.run(
-            [binary, word, path], stdin=subprocess.DEVNULL, capture_output=True, timeout=SECONDS
-        )
-        for word in ("check", "list")
-    )
+    """Returns what is wrong in the runs on the image, or nothing; `expected` is check's line if it is known."""
+    put(path, image)
+    checked, listed = (ran(binary, word, path, stdin=subprocess.DEVNULL) for word in ("check", "list"))
     if checked.stderr or listed.stderr:
         return "standard error: %r %r" % (checked.stderr, listed.stderr)
     told, refused = OK.fullmatch(checked.stdout), FAULT.fullmatch(checked.stdout)
@@ -143,15 +138,12 @@ def wrong_in(binary, format, image, expected, path):
 
 
 def works():
-    """The parts of the work: an image's name, and variants of it as (words, bytes, line or None)."""
+    """Yields the parts of the work: an image's name, and variants of it as (words, bytes, line or None)."""
     for name, rows in CUTS.items():
         image = run.file_of(name)
         for first in range(0, len(image) + 1, 64):
             lengths = range(first, min(first + 64, len(image) + 1))
-            yield name, [
-                ("cut to %d" % length, image[:length], rows[max(row for row in rows if row <= length)])
-                for length in lengths
-            ]
+            yield name, [("cut to %d" % length, image[:length], rows[max(row for row in rows if row <= length)]) for length in lengths]
     for name, records in CHANGED.items():
         image = run.file_of(name)
         for place in range(len(image)):
@@ -159,7 +151,7 @@ def works():
 
 
 def done_work(binary, top, number, work):
-    """How many variants of a part of the work end well, and what is wrong with the others."""
+    """Returns how many variants of a part of the work end well, and what is wrong with the others."""
     name, variants = work
     path = os.path.join(top, str(number))
     failures = []

@@ -4,8 +4,8 @@
     client.py [--binary PATH] [--name TEXT]
 
 Each small image of the cases (see run.py) that the program lists is served to a client that sends one line
-and waits for its reply. It walks the tree from `/`: `lstat`, `open` and `readdir` give the lines of
-`list`, in their order; `readlink`, `lend` and `map` give the bytes that the image has at the places that
+and waits for its reply. It walks the tree from `/`: `lstat`, `open` and `readdir` return the lines of
+`list`, in their order; `readlink`, `lend` and `map` return the bytes that the image has at the places that
 they name, `read` and `seek` the same bytes once more.
 The last line is `N passed, M failed`.
 """
@@ -16,6 +16,8 @@ import tempfile
 
 import run
 from harness import SECONDS, Counts, parser, program_of
+from romtool import entries_of, escaped
+from romtool import run as ran
 
 READ_AT_MOST = 4096
 BYTES_AT_MOST = 2**20  # of all files of an image together
@@ -31,12 +33,10 @@ class Client:
     def __init__(self, binary, image):
         with open(image, "rb") as file:
             self.bytes = file.read()
-        self.server = subprocess.Popen(
-            [binary, "serve", image], stdin=subprocess.PIPE, stdout=subprocess.PIPE, bufsize=0
-        )
+        self.server = subprocess.Popen([binary, "serve", image], stdin=subprocess.PIPE, stdout=subprocess.PIPE, bufsize=0)
 
     def ask(self, line):
-        """The fields of the reply to a line, after `ok`."""
+        """Returns the fields of the reply to a line, after `ok`."""
         self.server.stdin.write(line + b"\n")
         reply = b""
         while not reply.endswith(b"\n"):
@@ -50,7 +50,7 @@ class Client:
         return fields[1:]
 
     def piece(self, line):
-        """The bytes that a line lends, which the image has at their place."""
+        """Returns the bytes that a line lends, which the image has at their place."""
         place, length, told = self.ask(line)
         got = b"" if told == b"-" else bytes.fromhex(told.decode())
         if len(got) != int(length) or (got and self.bytes[int(place) :][: len(got)] != got):
@@ -79,7 +79,7 @@ class Client:
         self.ask(b"close " + fd)
 
     def entries(self, path):
-        """The names of a directory, each with its number, read twice."""
+        """Returns the names of a directory, each with its number, read twice."""
         fd = self.ask(b"open " + (path or b"/"))[0]
         times = []
         for _ in range(2):
@@ -93,12 +93,12 @@ class Client:
         return times[0]
 
     def lines(self, path):
-        """The lines of the list from a path on."""
+        """Yields the lines of the list from a path on."""
         status = self.ask(b"lstat " + (path or b"/"))
         line = b" ".join(status + [path or b"/"])
         kind = status[1]
         if kind == b"l":
-            yield line + b" " + escaped(self.piece(b"readlink " + path))
+            yield line + b" " + escaped(self.piece(b"readlink " + path)).encode()
             return
         yield line
         if kind == b"f":
@@ -117,13 +117,8 @@ class Client:
         return self.server.wait(SECONDS)
 
 
-def escaped(text):
-    """A text with visible ASCII characters alone, but for `%`."""
-    return b"".join(b"%c" % b if 0x21 <= b <= 0x7E and b != 0x25 else b"%%%02X" % b for b in text)
-
-
 def wrong_image(binary, image, listed):
-    """What is wrong in the replies on an image that has this list."""
+    """Returns what is wrong in the replies on an image that has this list."""
     client = Client(binary, image)
     try:
         got = b"".join(line + b"\n" for line in client.lines(b""))
@@ -141,24 +136,8 @@ def wrong_image(binary, image, listed):
 
 
 def is_small(listed):
-    """Whether the files of a list have few bytes together."""
-    return sum(int(line.split()[5]) for line in listed.splitlines()) <= BYTES_AT_MOST
-
-
-def images(name):
-    """The images of the cases, each once, with a place that it has."""
-    seen = set()
-    for topic in run.topics():
-        for case in run.load(topic):
-            if name not in case["name"] or case.get("large"):
-                continue
-            for file, told in case.get("files", {}).items():
-                if isinstance(told, dict) and "sparse" in told:
-                    continue
-                content = run.bytes_of(told)
-                if content not in seen:
-                    seen.add(content)
-                    yield "%s: %s, %s" % (topic, case["name"], file), content
+    """Returns whether the files of a list have few bytes together."""
+    return sum(it.size for it in entries_of(listed)) <= BYTES_AT_MOST
 
 
 def main():
@@ -166,18 +145,14 @@ def main():
     reader.add_argument("--name", default="", help="the cases alone whose name has this text")
     arguments = reader.parse_args()
     binary, counts = program_of(arguments), Counts()
-    for place, content in images(arguments.name):
+    for place, content in run.files_of_cases(arguments.name):
         with tempfile.NamedTemporaryFile(prefix="romtool-") as file:
             file.write(content)
             file.flush()
-            listed = subprocess.run([binary, "list", file.name], stdout=subprocess.PIPE, timeout=SECONDS)
+            listed = ran(binary, "list", file.name)
             if listed.returncode != 0 or not is_small(listed.stdout):
                 continue
-            wrong = wrong_image(binary, file.name, listed.stdout)
-        if wrong:
-            counts.fails(place, wrong)
-        else:
-            counts.passes()
+            counts.result(place, wrong_image(binary, file.name, listed.stdout))
     return counts.close()
 
 

@@ -1,10 +1,10 @@
-# What the shell scripts of this folder share: the counts, and the last line. They read it by `.`, with
+# What the shell scripts of this directory share: the counts, and the last line. They read it by `.`, with
 # `part` set to their name.
 passed=0
 failed=0
 skipped=0
 
-# note NAME STATUS: counts a test that passed, where the status is 0, or failed.
+# note NAME STATUS: counts a test that passed, if the status is 0, or failed.
 note() {
     if [ "$2" = 0 ]; then
         passed=$((passed + 1))
@@ -31,7 +31,7 @@ finish() {
     exit
 }
 
-# needs TOOL PACKAGE: ends the script where the tool is missing.
+# needs TOOL PACKAGE: ends the script if the tool is missing.
 needs() {
     if ! command -v "$1" >/dev/null; then
         skip "$1 is not installed (apt-get install $2)"
@@ -39,7 +39,7 @@ needs() {
     fi
 }
 
-# find_program PATH: sets `binary` to the program's whole path, and ends the script where none is there.
+# find_program PATH: sets `binary` to the program's whole path, and ends the script if there is none.
 find_program() {
     binary=$(realpath "$1")
     if [ ! -x "$binary" ]; then

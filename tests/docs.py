@@ -1,14 +1,18 @@
 #!/usr/bin/env python3
-"""Looks that the documents say what is there.
+"""Checks that the documents say what is there.
 
     docs.py [--binary PATH]
 
-Each block of a document that is marked `console` is run: its lines that begin with `$ ` are given to a shell, one
-after the other in one new folder for each document, with `romtool` on the path, and what they print has to be what
-the block shows; those of the README also as an ordinary user. Each line of a block that is marked `from=FILE` has to stand in that file, in this order. Each link
-has to lead to a file that is there, and to a heading of it. Each function that is named by its crate has to be there, where
-others can name it so, and each function and type that the table of what is proved names has to be declared in its crate, a
-method in its type. The list of what to read to trust the theorem has to be what its clauses cite.
+- Each block of a document that is marked `console` is run. Its lines that begin with `$ ` are given to a shell, one after the
+  other, in one new directory for each document, with `romtool` on the path. They have to print what the block shows. The blocks
+  of the README are also run as an ordinary user.
+- Each line of a block that is marked `from=FILE` has to be in that file, in this order.
+- Each link has to lead to a file that exists, and to a heading of it.
+- Each function that is named by its crate has to exist, and others can name it so. Each function and type in the table of what
+  is proved has to be declared in its crate, a method in its type.
+- What a tool makes of a document has to be what the tool prints.
+- The table of parts in GATE.md has to name the parts of tests/parts, in any order.
+
 The last line is `N passed, M failed`, with `, K skipped`.
 """
 
@@ -20,34 +24,34 @@ import subprocess
 import sys
 import tempfile
 
+from files import repository_text as text_of
 from harness import HERE, SECONDS, Counts, parser, program_of
+from rooms import NOBODY
 
 TOP = os.path.dirname(HERE)
 BLOCK = re.compile(r"^```(console|\w+ from=\S+)\n(.*?)^```$", re.M | re.S)
 LINK = re.compile(r"\]\(([^)\s]+)\)")
-# an ordinary user, by whom the walk-through of the README is gone through as well; cramfs holds groups up to 255
-NOBODY = 65534
+# the parts of documents that tools make, each between a mark and the next `<!-- end -->`
+MADE = (
+    ("docs/internals/ARCHITECTURE.md", ["tools/reading_list"]),
+    ("docs/internals/ARCHITECTURE.md", ["tools/tables", "crates"]),
+    ("docs/internals/DEFINITIONS.md", ["tools/tables", "definitions"]),
+)
 # what documents name of the toolchain
 FOREIGN = ("std", "core", "io", "fs", "std_io", "clap")
 # where a name is declared, or a trait of std is given to a type
 DECLARED = r"\b(?:fn|struct|enum|trait|type|const|mod) %s\b|\bimpl %s for "
 
 
-def text_of(path):
-    """The text of a file of the repository."""
-    with open(os.path.join(TOP, path), encoding="utf-8") as file:
-        return file.read()
-
-
 def documents():
-    """The documents, by their paths in the repository."""
+    """Returns the documents, by their paths in the repository."""
     folders = ("", "docs/", "docs/internals/", "bench/", "crates/*/", "bindings/*/", "web/")
     found = [it for folder in folders for it in glob.glob("%s/%s*.md" % (TOP, folder))]
     return sorted(os.path.relpath(it, TOP) for it in found)
 
 
 def commands(block):
-    """The commands of a session, each with what it prints."""
+    """Returns the commands of a session, each with what it prints."""
     found = []
     for line in block.splitlines(keepends=True):
         if line.startswith("$ "):
@@ -79,7 +83,7 @@ def session(name, blocks, binary, counts, user=0):
 
 
 def quotes(name, file, block, counts):
-    """Looks that the lines of a block stand in a file in their order."""
+    """Checks that the lines of a block are in a file in their order."""
     rest = iter(text_of(file).splitlines())
     lost = [line for line in block.splitlines() if line not in rest]
     if lost:
@@ -89,13 +93,13 @@ def quotes(name, file, block, counts):
 
 
 def anchors(text):
-    """The names by which the headings of a document are reached."""
+    """Returns the names by which the headings of a document are reached."""
     heads = re.findall(r"^#+ (.*)$", text, re.M)
     return {re.sub(r"[^\w\- ]", "", head.lower()).replace(" ", "-") for head in heads}
 
 
 def links(name, text, counts):
-    """Looks where the links of a document lead."""
+    """Checks where the links of a document lead."""
     for link in LINK.findall(text):
         file, _, head = link.partition("#")
         if file.startswith(("http:", "https:")):
@@ -109,7 +113,7 @@ def links(name, text, counts):
 
 
 def names_in(cell):
-    """The names in a cell of the table: the types and the last part of each path, with what stands in braces one by one."""
+    """Yields the names in a cell of the table: the types and the last part of each path, with what is in braces one by one."""
     for path in re.findall(r"`([^`]+)`", cell):
         last = re.sub(r"^.*::(?=[^:{]*$|\{)", "", path)
         yield from re.findall(r"\b([A-Z]\w+)::", path)
@@ -118,36 +122,38 @@ def names_in(cell):
 
 
 def sources_of(crates):
-    """The sources of some crates. What they implement may be a trait of the tree's crate, or for the error of all checks."""
+    """Returns the sources of some crates. What they implement may be a trait of the tree's crate, or for the error of all checks."""
     found = [glob.glob("%s/crates/%s/src/**/*.rt" % (TOP, it), recursive=True) for it in (*crates, "rom_tree", "rom_faults")]
     return "\n".join(text_of(file) for files in found for file in files)
 
 
 def is_declared(name, crates):
-    """Whether one of these crates declares a name."""
+    """Returns whether one of these crates declares a name."""
     return re.search(DECLARED % (re.escape(name), re.escape(name)), sources_of(crates))
 
 
 def has_member(kind, name, crates):
-    """Whether one of these crates declares a name in a type or a trait, or in an impl of it."""
-    blocks = re.findall(r"^(?:pub(?:\([^)]*\))? )?(?:impl|trait|enum|struct)\b[^{;]*\b%s\b[^{;]*\{.*?^\}" % re.escape(kind), sources_of(crates), re.M | re.S)
+    """Returns whether one of these crates declares a name in a type or a trait, or in an impl of it."""
+    blocks = re.findall(
+        r"^(?:pub(?:\([^)]*\))? )?(?:impl|trait|enum|struct)\b[^{;]*\b%s\b[^{;]*\{.*?^\}" % re.escape(kind), sources_of(crates), re.M | re.S
+    )
     return any(re.search(r"\b(?:fn|type|const) %s\b|^    %s\b" % (name, name), it, re.M) for it in blocks)
 
 
 def is_open(crate, name):
-    """Whether a crate has a name for others: its root declares it, as a module too, or hands it on."""
+    """Returns whether a crate has a name for others: its root declares it, as a module too, or hands it on."""
     roots = [text_of("crates/%s/src/%s.rt" % (crate, it)) for it in ("lib", "main") if crate_has(crate, it)]
     handed = re.findall(r"^pub (?:use [^;]+;|(?:const )?(?:mod|fn|struct|enum|trait|const|type) \w+)", "\n".join(roots), re.M)
     return any(re.search(r"\b%s\b" % name, re.sub(r"\w+::", "", it)) for it in handed)
 
 
 def crate_has(crate, root):
-    """Whether a crate has a root of that name."""
+    """Returns whether a crate has a root of that name."""
     return os.path.exists("%s/crates/%s/src/%s.rt" % (TOP, crate, root))
 
 
 def doors(name, counts):
-    """Looks that each function which a document names by its crate, or by a module of one, is there, and that the crate has for
+    """Checks that each function which a document names by its crate, or by a module of one, is there, and that the crate has for
     others what is named by it."""
     crates = {os.path.basename(it) for it in glob.glob(TOP + "/crates/*")}
     files = glob.glob(TOP + "/crates/*/src/**/*.rt", recursive=True)
@@ -166,12 +172,12 @@ def doors(name, counts):
 
 
 def is_given(kind, trait, crates):
-    """Whether one of these crates gives a trait to a type."""
+    """Returns whether one of these crates implements a trait for a type."""
     return re.search(r"\bimpl\b[^{;]*\b%s[^{;]*\bfor %s\b" % (re.escape(trait), re.escape(kind)), sources_of(crates))
 
 
 def promises(counts):
-    """Looks that each crate of the table of what is proved declares what its rows name."""
+    """Checks that each crate of the table of what is proved declares what its rows name."""
     crates = []
     for row in text_of("docs/internals/PROVED.md").splitlines():
         cells = [cell.strip() for cell in row.strip("|").split(" | ")]
@@ -195,18 +201,38 @@ def promises(counts):
                 counts.fails("PROVED.md: %s of %s is not declared" % (name, ", ".join(crates)))
 
 
-def reading_list(counts):
-    """Compares the list of what to read to trust the theorem with what the clauses cite."""
-    told = re.search(r"<!-- made by tools/reading_list -->\n(.*?)<!-- end -->", text_of("docs/internals/ARCHITECTURE.md"), re.S)
-    made = subprocess.run([os.path.join(TOP, "tools", "reading_list")], stdout=subprocess.PIPE, text=True)
-    if told and made.returncode == 0 and told[1] == made.stdout:
+def output_of(command):
+    """The output of a tool of this repository, and nothing if it failed."""
+    made = subprocess.run([os.path.join(TOP, command[0]), *command[1:]], stdout=subprocess.PIPE, text=True, cwd=TOP)
+    return made.stdout if made.returncode == 0 else None
+
+
+def made_parts(counts):
+    """Compares each part of a document that a tool makes with what the tool prints."""
+    for name, command in MADE:
+        mark = re.escape("<!-- made by %s -->" % " ".join(command))
+        told = re.search(mark + r"\n(.*?)<!-- end -->", text_of(name), re.S)
+        if told and told[1] == output_of(command):
+            counts.passes()
+        else:
+            counts.fails("%s: a part of it is not what %s prints" % (name, " ".join(command)))
+    if text_of("docs/internals/dataflow.svg") == output_of(["tools/picture", "docs/internals/dataflow.txt"]):
         counts.passes()
     else:
-        counts.fails("ARCHITECTURE.md: its reading list is not that of tools/reading_list")
+        counts.fails("docs/internals/dataflow.svg is not what tools/picture makes of dataflow.txt")
+
+
+def parts(counts):
+    """Compares the parts in the table of GATE.md with those of tests/parts; `gate`, the proofs, is not in the latter."""
+    section = re.search(r"^## What each part does\n(.*?)^## ", text_of("docs/internals/GATE.md"), re.M | re.S)[1]
+    rows = re.findall(r"^\| ([a-z][a-z0-9_, ]*) \|", section, re.M)
+    told = sorted(name for row in rows for name in row.split(", ") if name != "part")
+    lines = [line.split() for line in text_of("tests/parts").splitlines() if line and not line.startswith("#")]
+    counts.equal("GATE.md: its table of parts is that of tests/parts", told, sorted(["gate", *(name for name, *_ in lines)]))
 
 
 def main():
-    arguments = parser("Look that the documents say what is there.").parse_args()
+    arguments = parser("Check that the documents say what is there.").parse_args()
     binary, counts = program_of(arguments), Counts()
     for name in documents():
         text = text_of(name)
@@ -224,7 +250,8 @@ def main():
             if name == "README.md":
                 session(name, sessions, binary, counts, NOBODY)
     promises(counts)
-    reading_list(counts)
+    made_parts(counts)
+    parts(counts)
     return counts.close()
 
 

@@ -1,115 +1,85 @@
 #!/usr/bin/env python3
-"""Builds and reads where the system gets in the way: files that are lost, torn or read without end.
+"""Builds and reads while the system interferes: files that are lost, torn or read without end.
 
     edge.py [--binary PATH] [--name TEXT]
 
 OUT in odd places, the file beside it, sources that change, images with more behind them, signals, closed
 streams; and each call of the system failed in turn, by `strace`. A test that needs `strace`, or root, is
-skipped where it is missing. The last line is `N passed, M failed`, with `, K skipped`.
+skipped if it is missing. The last line is `N passed, M failed`, with `, K skipped`.
 """
 
 import collections
 import contextlib
+import fcntl
+import itertools
 import os
 import stat
 import subprocess
 import sys
-import tempfile
 import threading
 import time
 
+import rooms
 import traced
-from build import FORMATS, answer, bytes_in, put, run
-from harness import SECONDS, Counts, parser, program_of
+from files import bytes_in, innermost, put, wait_until
+from romtool import FORMATS, answer, run
+from rooms import NOBODY, become_nobody, needs_root
+from traced import needs_strace
 
 HELLO = b"file /a 0644 0 0 4 a\n"
-NOBODY = 65534
-DELAYS = (0.3, 1.5, 6.0)  # seconds for which a call is held up: longer where the machine was too slow
+DELAYS = (0.3, 1.5, 6.0)  # seconds for which a call is held up: longer if the machine was too slow
 FAULTS = ("error=EIO", "error=ENOSPC", "signal=KILL")
 FAILED = ("openat", "read", "pread64", "write", "fsync", "rename", "fchmod", "fchown", "statx", "fcntl", "close")
 
 
-def hello():
-    """Makes a manifest of one file."""
-    put("m", HELLO)
-    put("a", b"hello")
+def hello(at="."):
+    """Makes a manifest of one file in a directory."""
+    put(at + "/m", HELLO)
+    put(at + "/a", b"hello")
 
 
-def wanted(binary, format="romfs"):
-    """The image of that manifest."""
-    run(binary, "build", format, "m", "wanted")
-    image = bytes_in("wanted")
-    os.remove("wanted")
+def wanted(binary, format="romfs", at="."):
+    """Returns the image of the manifest of a directory."""
+    run(binary, "build", format, "m", "wanted", cwd=at)
+    image = bytes_in(at + "/wanted")
+    os.remove(at + "/wanted")
     return image
 
 
-def parts():
-    """The files of the current folder that were to become images."""
-    return sorted(name for name in os.listdir(".") if name.endswith(".part"))
-
-
-def needs_strace(test):
-    """A test that is skipped where calls cannot be traced."""
-
-    def tested(binary):
-        if traced.is_there():
-            yield from test(binary)
-        else:
-            yield None
-
-    tested.__name__ = test.__name__
-    return tested
-
-
-def needs_root(test):
-    """A test that is skipped where the owner of a file cannot be set."""
-
-    def tested(binary):
-        if os.geteuid():
-            yield None
-        else:
-            yield from test(binary)
-
-    tested.__name__ = test.__name__
-    return tested
+def parts(at="."):
+    """Returns the files of a directory that were to become images."""
+    return sorted(name for name in os.listdir(at) if name.endswith(".part"))
 
 
 # OUT and its part
 
 
-def built_here(binary, out="out"):
-    """What is wrong where the image is to be built under a name in the current folder."""
-    hello()
-    image = wanted(binary)
+def built_in(binary, at):
+    """Yields what is wrong if images are built in a directory, as `out` and by a link to it."""
+    hello(at)
+    image, out, link = wanted(binary, at=at), at + "/out", at + "/link"
     for before in (None, b"old"):
         if before:
             put(out, before)
-        done = run(binary, "build", "romfs", "m", out)
-        if answer(done) != (b"ok 1024\n", b"", 0) or bytes_in(out) != image or parts():
-            yield "%r: %r, %r" % (before, answer(done), parts())
+        done = run(binary, "build", "romfs", "m", "out", cwd=at)
+        if answer(done) != (b"ok 1024\n", b"", 0) or bytes_in(out) != image or parts(at):
+            yield "%r: %r, %r" % (before, answer(done), parts(at))
+    os.symlink("out", link)
+    done = run(binary, "build", "romfs", "m", "link", cwd=at)
+    if answer(done) != (b"ok 1024\n", b"", 0) or not os.path.islink(link):
+        yield "link: %r" % (answer(done),)
 
 
 def folder_that_is_no_text(binary):
-    """OUT is taken by its own name in a folder whose name is no UTF-8, also where it is a link."""
+    """OUT is opened by its own name in a directory whose name is not UTF-8, also if it is a link."""
     os.mkdir(b"\xff")
-    os.chdir(b"\xff")
-    yield from built_here(binary)
-    os.symlink("out", "link")
-    done = run(binary, "build", "romfs", "m", "link")
-    if answer(done) != (b"ok 1024\n", b"", 0) or not os.path.islink("link"):
-        yield "link: %r" % (answer(done),)
+    yield from built_in(binary, os.fsdecode(b"\xff"))
 
 
 def folder_that_is_too_long(binary):
-    """OUT is taken by its own name where its folder's is longer than the system takes."""
-    for _ in range(25):
-        os.mkdir("n" * 200)
-        os.chdir("n" * 200)
-    yield from built_here(binary)
-    os.symlink("out", "link")
-    done = run(binary, "build", "romfs", "m", "link")
-    if answer(done) != (b"ok 1024\n", b"", 0) or not os.path.islink("link"):
-        yield "link: %r" % (answer(done),)
+    """OUT is opened by its own name if the path of its directory is longer than the system accepts."""
+    with innermost("n" * 200, 25) as at:
+        yield from built_in(binary, at)
 
 
 def link_to_a_closed_stream(binary):
@@ -117,7 +87,7 @@ def link_to_a_closed_stream(binary):
     hello()
     os.symlink("/proc/self/fd/1", "out")
     words = ["sh", "-c", 'exec "$@" >&-', "sh", binary, "build", "romfs", "m", "out"]
-    done = subprocess.run(words, stderr=subprocess.PIPE, timeout=SECONDS)
+    done = run(*words)
     if (done.stderr, done.returncode) != (b"file out\n", 3) or not os.path.islink("out"):
         yield "%r" % ((done.stderr, done.returncode, os.listdir(".")),)
 
@@ -144,7 +114,7 @@ def private_while_written(binary):
         put("out", b"old")
         os.chmod("out", mode)
         made, done = traced.calls(binary, "build", "romfs", "m", "out")
-        opened = [call.text for call in made if "out.0.part" in call.text and call.name == "openat"]
+        opened = [call.text for call in made if '"out.0.part", O_WRONLY' in call.text and call.name == "openat"]
         if done.returncode or len(opened) != 1 or ", 0600)" not in opened[0]:
             yield "%o: %r" % (mode, opened)
         if stat.S_IMODE(os.stat("out").st_mode) != mode:
@@ -167,7 +137,7 @@ def owner_is_kept(binary):
 
 @needs_root
 def owner_that_cannot_be_set(binary):
-    """Where the owner is another one afterwards, none of the bits is kept that lend its rights."""
+    """If the owner is another one afterwards, none of the bits is kept that lend its rights."""
     os.chmod(".", 0o777)
     hello()
     for mode in (0o6777, 0o1666):
@@ -180,16 +150,9 @@ def owner_that_cannot_be_set(binary):
             yield "%o: %r" % (mode, now)
 
 
-def become_nobody():
-    """Has no rights but those of everyone."""
-    os.setgroups([])
-    os.setgid(NOBODY)
-    os.setuid(NOBODY)
-
-
 @needs_strace
 def handed_to_the_disk(binary):
-    """The part is handed to the disk before it is renamed, and its folder after."""
+    """The part is handed to the disk before it is renamed, and its directory after."""
     hello()
     made, done = traced.calls(binary, "build", "romfs", "m", "out")
     order = [call.name for call in made if call.name in ("fsync", "rename")]
@@ -213,7 +176,7 @@ def kinds_that_are_not_handed_on(binary):
 
 @needs_strace
 def folder_that_is_not_handed_on(binary):
-    """That a folder cannot be handed to the disk is passed over; that the disk did not take it is told."""
+    """That a directory cannot be handed to the disk is passed over; that the disk did not accept it is reported."""
     hello()
     image = wanted(binary)
     for fault, out, line, status in (("EINVAL", b"ok 1024\n", b"", 0), ("EIO", b"", b"file out\n", 3)):
@@ -224,28 +187,23 @@ def folder_that_is_not_handed_on(binary):
 
 
 def held_up(binary, format, call, when, prepare):
-    """How a build ends where something is changed while one of its calls is held up.
+    """Returns how a build ends if something is changed while one of its calls is held up.
 
-    `prepare` lays out the folder before each try, and gives what is then to be done.
+    `prepare` lays out the directory before each try, and returns what is then to be done.
     """
     for delay in DELAYS:
         change = prepare()
-        told = traced.inject(call, "delay_enter=%d" % (delay * 1e6), when)
-        with traced.Slowed(binary, "build", format, "m", "out", told=told) as slowed:
-            end = time.monotonic() + SECONDS
-            while not os.path.exists("out.0.part") and time.monotonic() < end:
-                time.sleep(0.005)
-            time.sleep(delay / 3)
+        with traced.Held(binary, ["build", format, "m", "out"], call, when, delay) as held:
             with contextlib.suppress(FileNotFoundError):
                 change()
-        if slowed.done is None or slowed.done.returncode:
+        if held.answer is None or held.answer[2]:
             break
-    return answer(slowed.done) if slowed.done else None
+    return held.answer
 
 
 @needs_strace
 def part_of_another_file(binary):
-    """Where the part's name leads to another file, or to none, nothing is renamed and nothing removed."""
+    """If the part's name leads to another file, or to none, nothing is renamed and nothing removed."""
     hello()
 
     def take_away():
@@ -266,19 +224,70 @@ def part_of_another_file(binary):
             os.remove(name)
 
 
-def parts_that_are_left(binary):
-    """A part that is left is passed over; a hundred of them end a build, and stay."""
+def parts_that_are_held(binary):
+    """A part that a process has locked is passed over; a hundred of them end a build, and stay."""
     hello()
     image = wanted(binary)
-    for number in range(99):
+    with contextlib.ExitStack() as held:
+        for number in range(99):
+            hold(held, "out.%d.part" % number)
+        done = run(binary, "build", "romfs", "m", "out")
+        if answer(done) != (b"ok 1024\n", b"", 0) or bytes_in("out") != image or len(parts()) != 99:
+            yield "99: %r" % (answer(done),)
+        hold(held, "out.99.part")
+        done = run(binary, "build", "romfs", "m", "out")
+        if answer(done) != (b"", b"file out\n", 3) or bytes_in("out") != image or len(parts()) != 100:
+            yield "100: %r" % (answer(done),)
+
+
+def hold(held, name):
+    """Makes a part, and locks it as a build does."""
+    part = held.enter_context(open(name, "wb"))
+    fcntl.flock(part, fcntl.LOCK_EX)
+
+
+def parts_that_are_left(binary):
+    """Parts that no process has locked are removed, and others stay: those with a lock, links, and files of two names."""
+    hello()
+    image = wanted(binary)
+    for number in range(100):
         put("out.%d.part" % number, b"left")
     done = run(binary, "build", "romfs", "m", "out")
-    if answer(done) != (b"ok 1024\n", b"", 0) or bytes_in("out") != image or len(parts()) != 99:
-        yield "99: %r" % (answer(done),)
-    put("out.99.part", b"left")
-    done = run(binary, "build", "romfs", "m", "out")
-    if answer(done) != (b"", b"file out\n", 3) or bytes_in("out") != image or len(parts()) != 100:
-        yield "100: %r" % (answer(done),)
+    if answer(done) != (b"ok 1024\n", b"", 0) or bytes_in("out") != image or parts():
+        yield "100: %r, %r" % (answer(done), parts())
+    put("kept", b"kept")
+    for number in (0, 2, 4, 6):
+        put("out.%d.part" % number, b"left")
+    os.symlink("kept", "out.1.part")
+    os.link("kept", "out.3.part")
+    with contextlib.ExitStack() as held:
+        hold(held, "out.5.part")
+        done = run(binary, "build", "romfs", "m", "out")
+    names = ["out.1.part", "out.3.part", "out.5.part"]
+    if answer(done) != (b"ok 1024\n", b"", 0) or parts() != names or bytes_in("kept") != b"kept":
+        yield "mixed: %r, %r" % (answer(done), parts())
+    for name in names:
+        os.remove(name)
+
+
+def part_of_a_killed_build(binary):
+    """What a build leaves that is killed, the next one removes; what one is at, the next one does not."""
+    hello()
+    os.mkfifo("pipe")
+    put("late", b"file /a 0644 0 0 4 source\n")
+    put("source", b"x" * (8 << 20))
+    for number in range(20):
+        process = subprocess.Popen([binary, "build", "cramfs", "late", "out"], stdout=subprocess.DEVNULL)
+        wait_until(lambda process=process: parts() or process.poll() is not None, 0.0005)
+        was = parts()
+        second = run(binary, "build", "cramfs", "late", "out")
+        process.kill()
+        process.wait()
+        if second.returncode or len(parts()) > 1:
+            yield "%d: %r, %r, %r" % (number, answer(second), was, parts())
+        run(binary, "build", "cramfs", "late", "out")
+        if parts():
+            yield "%d: %r is left" % (number, parts())
 
 
 # sources
@@ -289,25 +298,24 @@ HEAD = 4096  # more than what a romfs sum covers
 
 @contextlib.contextmanager
 def rewriting(names, length):
-    """Files that are rewritten again and again behind their heads, each time with one byte throughout."""
-    going = True
+    """Provides files that are rewritten again and again behind their heads, each time with one byte throughout."""
+    ended = threading.Event()
 
     def rewrite():
-        files = [open(name, "r+b", buffering=0) for name in names]
-        while going:
-            for byte in b"AB":
+        with contextlib.ExitStack() as opened:
+            files = [opened.enter_context(open(name, "r+b", buffering=0)) for name in names]
+            for byte in itertools.cycle(b"AB"):
                 for file in files:
                     os.pwrite(file.fileno(), bytes([byte]) * length, HEAD)
-                time.sleep(0.002)
-        for file in files:
-            file.close()
+                if ended.wait(0.002):  # so that builds see some of them whole
+                    return
 
     thread = threading.Thread(target=rewrite)
     thread.start()
     try:
         yield
     finally:
-        going = False
+        ended.set()
         thread.join()
 
 
@@ -335,7 +343,7 @@ def rewritten_while_read(binary):
 
 
 def changes():
-    """What is done to the source `s` while it is read, each by its name."""
+    """Returns what is done to the source `s` while it is read, each by its name."""
     state = os.stat("s")
 
     def other_file():
@@ -391,7 +399,7 @@ def changed_while_read(binary):
 
 
 def after_change(binary, format, call, when, what):
-    """How a build ends where its source is changed while one of its calls is held up."""
+    """Returns how a build ends if its source is changed while one of its calls is held up."""
 
     def prepare():
         lay_source()
@@ -447,7 +455,7 @@ def device_without_end(binary):
 
 
 def what_follows_the_last_line(binary):
-    """Behind `quit` a file of lines is left as it stands there, and read ahead before; where its end is the end, it is used."""
+    """Behind `quit` a file of lines is left as it is, and read ahead before; if it ends without `quit`, all of it is used."""
     hello()
     put("image", wanted(binary))
     asked = b"0 lookup /a\n" * 1000
@@ -468,7 +476,7 @@ def what_follows_the_last_line(binary):
 
 @needs_strace
 def lines_of_a_file_are_read_in_blocks(binary):
-    """Lines that stand in a file take few calls of the system, and those of a pipe one a byte."""
+    """Lines of a file take few calls of the system, and those of a pipe one a byte."""
     hello()
     put("image", wanted(binary))
     put("lines", b"lookup /a\n" * 1000)
@@ -500,7 +508,7 @@ def interrupted_calls(binary):
 
 
 def stream_of(given):
-    """What `subprocess.run` has as the standard input of these bytes."""
+    """Returns what `subprocess.run` has as the standard input of these bytes."""
     reader, writer = os.pipe()
     os.write(writer, given)
     os.close(writer)
@@ -535,9 +543,7 @@ def first_word_is_no_text(binary):
         (["check", "out"], (b"ok romfs 3 1\n", b"", 0)),
         (["check", b"\xff"], (b"", b"usage\n", 2)),
     ):
-        done = subprocess.run(
-            [b"\xff\xfe", *words], executable=binary, stdout=subprocess.PIPE, stderr=subprocess.PIPE, timeout=SECONDS
-        )
+        done = run(b"\xff\xfe", *words, executable=binary)
         if answer(done) != wanted_answer:
             yield "%r: %r" % (words, answer(done))
 
@@ -552,7 +558,7 @@ def closed_streams(binary):
         for manifest in "mn":
             put("out", b"as it was")
             words = ["sh", "-c", 'exec "$@" ' + ends, "sh", binary, "build", "romfs", manifest, "out"]
-            done = subprocess.run(words, stdout=subprocess.PIPE, stderr=subprocess.PIPE, timeout=SECONDS)
+            done = run(*words)
             status = 3 if manifest == "n" or closed & 2 else 0
             if done.returncode != status or bytes_in("out") != (image if manifest == "m" else b"as it was") or parts():
                 yield "%s %r: %r, %r" % (manifest, ends, answer(done), bytes_in("out")[:20])
@@ -561,14 +567,14 @@ def closed_streams(binary):
 
 
 def closed_streams_and_a_pipe(binary):
-    """What standard error says does not go into OUT, where OUT is written straight."""
+    """What standard error says does not go into OUT, if OUT is written directly."""
     hello()
     put("n", b"file /a 0644 0 0 4 a\nfile /b 0644 0 0 4 /proc/version\n")
     os.mkfifo("pipe")
     for ends in ("2>&-", "1>&- 2>&-", "0<&- 1>&- 2>&-"):
         reader = os.open("pipe", os.O_RDONLY | os.O_NONBLOCK)
         words = ["sh", "-c", 'exec "$@" ' + ends, "sh", binary, "build", "romfs", "n", "pipe"]
-        done = subprocess.run(words, stdout=subprocess.PIPE, timeout=SECONDS)
+        done = run(*words)
         got = os.read(reader, 65536)
         os.close(reader)
         if done.returncode != 3 or b"file" in got or b"changed" in got:
@@ -577,18 +583,18 @@ def closed_streams_and_a_pipe(binary):
 
 @needs_strace
 def closed_input_of_a_server(binary):
-    """A server whose input is closed reads nothing else in its place."""
+    """A server whose input is closed reads nothing in its place."""
     hello()
     put("image", wanted(binary))
     words = ["sh", "-c", 'exec "$@" 0<&-', "sh", binary, "serve", "image"]
-    done = subprocess.run(words, stdout=subprocess.PIPE, stderr=subprocess.PIPE, timeout=SECONDS)
+    done = run(*words)
     if answer(done) != (b"", b"read fault\n", 3):
         yield "%r" % (answer(done),)
 
 
 @needs_strace
 def entries_of_a_scan(binary):
-    """An entry that vanished, or that cannot be looked at, is named, and not its folder; so is a folder at the end."""
+    """An entry that vanished, or that cannot be looked at, is named, and not its directory; so is a directory at the end."""
     os.makedirs("in/d")
     for name in ("in/a", "in/d/b"):
         put(name, b"")
@@ -600,7 +606,7 @@ def entries_of_a_scan(binary):
             done = traced.run(binary, "scan", "in", told=traced.inject("statx", "error=" + fault, call.number))
             if answer(done) != (b"", b"file %s\n" % name.encode(), 3):
                 yield "%s: %r" % (name, answer(done))
-    # three entries, and the folder once more
+    # three entries, and the directory once more
     if len(looked) != 4:
         yield "%d calls" % len(looked)
 
@@ -609,7 +615,7 @@ def entries_of_a_scan(binary):
 
 
 def wrong_after(done, fault, image, call):
-    """What is wrong after a build one of whose calls was failed."""
+    """Yields what is wrong after a build one of whose calls was failed."""
     now = bytes_in("out") if os.path.exists("out") else None
     if now not in (None, b"old", image):
         yield "%s, %s: OUT is torn: %d bytes" % (call.text[:60], fault, len(now))
@@ -644,14 +650,14 @@ def each_call_failed(binary):
 
 
 def calls_to_fail(binary, format, old):
-    """The calls of a build, each with each fault."""
+    """Returns the calls of a build, each with each fault."""
     lay_old(old)
     made, _ = traced.calls(binary, "build", format, "m", "out")
     return [(call, fault) for call in made if call.name in FAILED for fault in FAULTS]
 
 
 def lay_old(old):
-    """Makes the folder as it is before a build: OUT has some bytes, or is not there."""
+    """Makes the directory as it is before a build: OUT has some bytes, or is not there."""
     for name in ["out", *parts()]:
         with contextlib.suppress(FileNotFoundError):
             os.remove(name)
@@ -662,7 +668,8 @@ def lay_old(old):
 TESTS = [
     folder_that_is_no_text, folder_that_is_too_long, link_to_a_closed_stream, out_that_is_read,
     private_while_written, owner_is_kept, owner_that_cannot_be_set, handed_to_the_disk,
-    kinds_that_are_not_handed_on, folder_that_is_not_handed_on, part_of_another_file, parts_that_are_left,
+    kinds_that_are_not_handed_on, folder_that_is_not_handed_on, part_of_another_file, parts_that_are_held, parts_that_are_left,
+    part_of_a_killed_build,
     rewritten_while_read, changed_while_read, no_further_than_stated, image_from_a_pipe, device_without_end,
     what_follows_the_last_line, lines_of_a_file_are_read_in_blocks,
     interrupted_calls, a_line_is_one_write, first_word_is_no_text, closed_streams, closed_streams_and_a_pipe,
@@ -670,27 +677,5 @@ TESTS = [
 ]  # fmt: skip
 
 
-def run_all(tests, about):
-    """Runs tests, each in a folder of its own, as the command line asks, and gives the status to end with."""
-    reader = parser(about)
-    reader.add_argument("--name", default="", help="the tests alone whose name has this text")
-    arguments = reader.parse_args()
-    binary, counts = program_of(arguments), Counts()
-    for test in tests:
-        if arguments.name not in test.__name__:
-            continue
-        with tempfile.TemporaryDirectory(prefix="romtool-") as top:
-            os.chdir(top)
-            wrong = list(test(binary))
-            os.chdir("/")
-        if wrong == [None]:
-            counts.skips(test.__name__)
-        elif wrong:
-            counts.fails(test.__name__, wrong)
-        else:
-            counts.passes()
-    return counts.close()
-
-
 if __name__ == "__main__":
-    sys.exit(run_all(TESTS, "Build and read where the system gets in the way."))
+    sys.exit(rooms.main(TESTS, "Build and read while the system interferes."))

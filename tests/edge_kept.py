@@ -1,12 +1,12 @@
 #!/usr/bin/env python3
-"""Builds and prints where a file system keeps nothing of what it took, and where others meddle.
+"""Builds and prints while a file system loses what it accepted, and others interfere.
 
     edge_kept.py [--binary PATH] [--name TEXT]
 
 The one descriptor of a part, whose closing fails; standard output whose closing fails, in each subcommand; a file system
-that tells only then what it lost (lossy.c, by FUSE) and a file server that is full (sshfs); OUT that is standard output;
+that reports only then what it lost (lossy.c, by FUSE) and a file server that is full (sshfs); OUT that is standard output;
 the group of OUT; sources that are links; and the reason of a source that cannot be read. A test that needs `strace`,
-FUSE, `sshfs` or root is skipped where it is missing. The last line is `N passed, M failed`, with `, K skipped`.
+FUSE, `sshfs` or root is skipped if it is missing. The last line is `N passed, M failed`, with `, K skipped`.
 """
 
 import contextlib
@@ -16,12 +16,15 @@ import shutil
 import stat
 import subprocess
 import sys
-import time
 
+import rooms
 import traced
-from build import FORMATS, answer, bytes_in, put, run
-from edge import HELLO, NOBODY, hello, lay_old, needs_root, needs_strace, parts, run_all, wanted
-from harness import HERE, SECONDS
+from edge import HELLO, hello, lay_old, parts, wanted
+from files import bytes_in, put, wait_until
+from harness import HERE, SECONDS, missing
+from romtool import FORMATS, answer, run
+from rooms import NOBODY, become_nobody, needs_root
+from traced import needs_strace
 
 FAULTS = {"EIO": "Input/output error", "ENOSPC": "No space left on device", "EDQUOT": "Disk quota exceeded"}
 GROUP = 4321
@@ -33,7 +36,7 @@ LOST = (b"", b"write fault\n", 3)
 
 
 def on_part(made):
-    """The calls of a build on the part's descriptor, and its renaming, from its opening on."""
+    """Yields the calls of a build on the part's descriptor, and its renaming, from its opening on."""
     opened = next(it for it in made if it.name == "openat" and ".part" in it.text)
     number = opened.text.rsplit(" = ", 1)[1]
     for call in made[made.index(opened) + 1 :]:
@@ -63,7 +66,7 @@ def one_descriptor(binary):
 
 @needs_strace
 def part_whose_closing_fails(binary):
-    """Where the closing of the part tells that it was lost, OUT stays what it was, and the part goes."""
+    """If the closing of the part reports that it was lost, OUT stays what it was, and the part goes."""
     hello()
     for old in (None, b"old"):
         for fault, words in FAULTS.items():
@@ -81,7 +84,7 @@ def part_whose_closing_fails(binary):
 
 @needs_strace
 def device_whose_closing_fails(binary):
-    """Where OUT is written straight, an error of its closing is told, too."""
+    """If OUT is written directly, an error of its closing is reported, too."""
     hello()
     made, _ = traced.calls(binary, "build", "romfs", "m", "/dev/null")
     opened = next(it for it in made if '"/dev/null"' in it.text and it.name == "openat")
@@ -97,18 +100,27 @@ def device_whose_closing_fails(binary):
 
 
 def printing(binary):
-    """The words of the subcommands, each with the status that it has where nothing fails."""
+    """Yields the words of the subcommands, each with the status that it has if nothing fails."""
     put("m", HELLO)
     put("a", b"hello")
     os.mkdir("in")
     put("in/x", b"x")
     put("bad", b"-rom1fs-" + bytes(100))
     run(binary, "build", "romfs", "m", "image")
-    for words in (["check"], ["list"], ["info"], ["map"], ["serve"], ["space"]):
+    for words in (["check"], ["list"], ["serve"], ["space"]):
         yield [*words, "image"], 0
         yield [*words, "bad"], 1
+    for words in (["info"], ["map"], ["map", "--all"], ["map", "--c"], ["map", "--svg"]):
+        yield [*words, "image"], 0
     yield ["cat", "image", "/a"], 0
+    yield ["which", "image", "0"], 0
+    yield ["which", "image", "ffffffff"], 1
     yield ["linux", "image"], 0
+    yield ["digest", "image"], 0
+    yield ["digest", "--image", "image"], 0
+    yield ["verify", "image", "image"], 0
+    yield ["verify", "image", "bad"], 1
+    yield ["diff", "image", "image"], 0
     yield ["scan", "in"], 0
     yield ["scan", "--all", "in"], 0
     yield ["extract", "image", "to"], 0
@@ -124,7 +136,7 @@ def forget():
 
 @needs_strace
 def output_whose_closing_fails(binary):
-    """Where the closing of standard output tells that it was lost, the command ends with `write fault`."""
+    """If the closing of standard output reports that it was lost, the command ends with `write fault`."""
     for words, status in printing(binary):
         forget()
         with open("kept", "wb") as kept:
@@ -144,7 +156,7 @@ def output_whose_closing_fails(binary):
 
 @needs_strace
 def image_stays_where_its_line_is_lost(binary):
-    """Where only the line of a build is lost, the image is there, whole."""
+    """If only the line of a build is lost, the image is there, whole."""
     hello()
     image = wanted(binary)
     with open("kept", "wb") as kept:
@@ -161,30 +173,26 @@ def image_stays_where_its_line_is_lost(binary):
 
 
 def unmounted(folder):
-    """Takes a file system of FUSE away."""
+    """Unmounts a file system of FUSE."""
     subprocess.run(["fusermount3", "-u", "-z", folder], stderr=subprocess.DEVNULL, timeout=SECONDS)
 
 
 def has_fuse():
-    """Whether file systems of FUSE can be compiled and mounted here."""
-    if not os.path.exists("/dev/fuse") or not shutil.which("fusermount3") or not shutil.which("cc"):
-        return False
-    if not shutil.which("pkg-config"):
+    """Returns whether file systems of FUSE can be compiled and mounted here."""
+    if not os.path.exists("/dev/fuse") or missing("fusermount3", "cc", "pkg-config"):
         return False
     return not subprocess.run(["pkg-config", "--exists", "fuse3"], timeout=SECONDS).returncode
 
 
 @contextlib.contextmanager
 def lossy(room, *more):
-    """A folder of a file system that tells at the closing that it lost what it has no room for; or nothing."""
+    """Provides a directory of a file system that reports at the closing that it lost what it has no room for; or nothing."""
     flags = subprocess.run(["pkg-config", "--cflags", "--libs", "fuse3"], stdout=subprocess.PIPE, timeout=SECONDS)
     words = ["cc", "-std=gnu99", "-O1", "-o", "lossy", HERE + "/lossy.c", *flags.stdout.decode().split()]
     subprocess.run(words, check=True, timeout=SECONDS)
     os.mkdir("mount")
     server = subprocess.Popen(["./lossy", "mount", str(room), *more], stderr=subprocess.DEVNULL)
-    end = time.monotonic() + SECONDS
-    while not os.path.ismount("mount") and server.poll() is None and time.monotonic() < end:
-        time.sleep(0.01)
+    wait_until(lambda: os.path.ismount("mount") or server.poll() is not None)
     try:
         yield "mount" if os.path.ismount("mount") else None
     finally:
@@ -195,7 +203,7 @@ def lossy(room, *more):
 
 
 def wrong_on(binary, folder, image):
-    """What is wrong on such a file system, which has room for one image."""
+    """Yields what is wrong on such a file system, which has room for one image."""
     out = folder + "/out"
     first = run(binary, "build", "romfs", "m", out)
     if answer(first) != (b"ok %d\n" % len(image), b"", 0) or bytes_in(out) != image:
@@ -207,20 +215,16 @@ def wrong_on(binary, folder, image):
         yield "the second image: %r" % (answer(second),)
     if os.listdir(folder) != ["out"]:
         yield "%r is left" % os.listdir(folder)
-    for words in (["cat", "image", "/a"], ["map", "image"], ["scan", "."], ["scan", "--all", "."]):
+    maps = (["map", "image"], ["map", "--all", "image"], ["which", "image", "0"])
+    for words in (["cat", "image", "/a"], *maps, ["scan", "."], ["scan", "--all", "."]):
         with open(folder + "/kept", "wb") as kept:
-            done = run_into(kept, binary, *words)
+            done = run(binary, *words, stdout=kept)
         if (done.stderr, done.returncode) != LOST[1:]:
             yield "%s: %r" % (words, answer(done))
 
 
-def run_into(kept, binary, *words):
-    """A run whose standard output is a file."""
-    return subprocess.run([binary, *words], stdout=kept, stderr=subprocess.PIPE, timeout=SECONDS)
-
-
 def file_system_that_loses(binary, *more):
-    """An image, and what is printed, is never lost without a word on a file system that tells it at the closing."""
+    """An image, and what is printed, is never lost without a word on a file system that reports it at the closing."""
     if not has_fuse():
         yield None
         return
@@ -235,13 +239,13 @@ def file_system_that_loses(binary, *more):
 
 
 def file_system_that_loses_when_synced(binary):
-    """The same of one that tells it when a file is handed to the disk, too."""
+    """The same of one that reports it when a file is handed to the disk, too."""
     yield from file_system_that_loses(binary, "synced")
 
 
 @contextlib.contextmanager
 def server_of(size):
-    """A folder of a file server whose disk has so many KiB, and that disk; by sshfs."""
+    """Provides a directory of a file server whose disk has so many KiB, and that disk; by sshfs."""
     os.mkdir("disk")
     os.mkdir("mount")
     put("server", b"#!/bin/sh\nexec %s\n" % SFTP.encode())
@@ -279,7 +283,7 @@ def file_server_that_is_full(binary):
             yield "%r, %r, %r" % (answer(first), answer(second), os.listdir("disk"))
         with open(folder + "/kept", "wb") as kept:
             put("image", image)
-            done = run_into(kept, binary, "cat", "image", "/a")
+            done = run(binary, "cat", "image", "/a", stdout=kept)
         if (done.stderr, done.returncode) != LOST[1:]:
             yield "cat: %r" % (answer(done),)
 
@@ -316,7 +320,7 @@ def out_is_standard_output(binary):
 def device_that_keeps_nothing(binary):
     """The device that keeps nothing may be both."""
     hello()
-    done = run_into(subprocess.DEVNULL, binary, "build", "romfs", "m", "/dev/null")
+    done = run(binary, "build", "romfs", "m", "/dev/null", stdout=subprocess.DEVNULL)
     if (done.stderr, done.returncode) != (b"", 0):
         yield "%r" % (answer(done),)
 
@@ -331,28 +335,21 @@ def as_member():
     os.setuid(NOBODY)
 
 
-def as_nobody():
-    """Has the rights of everyone."""
-    os.setgroups([])
-    os.setgid(NOBODY)
-    os.setuid(NOBODY)
-
-
 @needs_root
 def group_of_out(binary):
-    """The group is kept also where the owner is not; where it is not, it has no rights that others have not."""
+    """The group is kept also if the owner is not; if it is not, it has no rights that others have not."""
     os.chmod(".", 0o777)
     hello()
     for become, owner, old, new, group in (
         (as_member, 1234, 0o660, 0o660, GROUP),
         (as_member, 1234, 0o6664, 0o664, GROUP),
         (as_member, NOBODY, 0o640, 0o640, GROUP),
-        (as_nobody, NOBODY, 0o660, 0o600, NOBODY),
-        (as_nobody, NOBODY, 0o640, 0o600, NOBODY),
-        (as_nobody, NOBODY, 0o664, 0o644, NOBODY),
-        (as_nobody, NOBODY, 0o2775, 0o755, NOBODY),
-        (as_nobody, NOBODY, 0o606, 0o600, NOBODY),
-        (as_nobody, 1234, 0o666, 0o666, NOBODY),
+        (become_nobody, NOBODY, 0o660, 0o600, NOBODY),
+        (become_nobody, NOBODY, 0o640, 0o600, NOBODY),
+        (become_nobody, NOBODY, 0o664, 0o644, NOBODY),
+        (become_nobody, NOBODY, 0o2775, 0o755, NOBODY),
+        (become_nobody, NOBODY, 0o606, 0o600, NOBODY),
+        (become_nobody, 1234, 0o666, 0o666, NOBODY),
     ):
         put("out", b"old")
         os.chown("out", owner, GROUP)
@@ -402,14 +399,11 @@ def source_that_becomes_a_link(binary):
             with contextlib.suppress(FileNotFoundError):
                 os.remove(name)
         put("s", b"hello")
-        told = ["-e", "trace=" + call.name, "-e", "inject=%s:delay_enter=1000000:when=%d" % (call.name, call.number)]
-        with traced.Slowed(binary, "build", "--no-follow", "romfs", "m", "out", told=told) as slowed:
-            time.sleep(0.5)
+        with traced.Held(binary, ["build", "--no-follow", "romfs", "m", "out"], call.name, call.number, 1) as held:
             os.remove("s")
             os.symlink("secret", "s")
-        done = slowed.done
-        if done is None or done.returncode != 3 or os.path.exists("out") or parts():
-            yield "%s %d: %r" % (call.name, call.number, done and answer(done))
+        if held.answer is None or held.answer[2] != 3 or os.path.exists("out") or parts():
+            yield "%s %d: %r" % (call.name, call.number, held.answer)
 
 
 @needs_strace
@@ -439,4 +433,4 @@ TESTS = [
 
 
 if __name__ == "__main__":
-    sys.exit(run_all(TESTS, "Build and print where what was taken is not kept."))
+    sys.exit(rooms.main(TESTS, "Build and print if what was written is not kept."))

@@ -1,12 +1,12 @@
 #!/usr/bin/env python3
-"""Scans where the system gets in the way, by `scan` and by `scan --all`.
+"""Scans while the system interferes, by `scan` and by `scan --all`.
 
     edge_scan.py [--binary PATH] [--name TEXT]
 
-Each call of the system failed in turn; folders that change while they are looked into, between any two calls; output
-that is not taken; odd names of folders, of what is in them, and of what cannot be looked at; every kind of file.
-A manifest is right or is not printed: what is told instead is compared, too. A test that needs `strace`, or root, is
-skipped where it is missing. The last line is `N passed, M failed`, with `, K skipped`.
+Each call of the system failed in turn; directories that change while they are looked into, between any two calls; output
+that is not accepted; odd names of directories, of what is in them, and of what cannot be looked at; every kind of file.
+A manifest is right or is not printed: what is reported instead is compared, too. A test that needs `strace`, or root, is
+skipped if it is missing. The last line is `N passed, M failed`, with `, K skipped`.
 """
 
 import collections
@@ -17,35 +17,35 @@ import shutil
 import signal
 import socket
 import stat
-import subprocess
 import sys
-import tempfile
 import time
 
+import rooms
 import traced
-from build import answer, bytes_in, put, run
-from edge import become_nobody, needs_root, needs_strace, run_all
+from files import bytes_in, innermost, put, remove, wait_for_clock
 from harness import SECONDS
-from scan_all import IS_ROOT, Told, escaped
+from romtool import answer, escaped, run
+from rooms import IS_ROOT, become_nobody, needs_root
+from scan_all import Told
+from traced import needs_strace
 
 SCANS = (["scan"], ["scan", "--all"])
 FITTED = ["scan", "--all", "--for", "cramfs", "--align", "16"]
-LONGEST = 4095  # bytes of the longest name that Linux takes
+LONGEST = 4095  # bytes of the longest name that Linux accepts
 FAULTS = ("EIO", "ENOMEM", "EACCES", "ENOENT", "EINTR")
 NAMES = ("openat", "statx", "readlink", "getdents64")  # the calls that are asked of a name
-STOPPED = re.compile(r"(\d+) +--- stopped by SIGSTOP ---")
 ODD = ("a b%\n", "caf\u00e9", "#")
 
 
 def shown(name):
-    """A name as it is told."""
+    """Returns a name as it is reported."""
     return escaped(os.fsencode(name)).encode()
 
 
-def wanted(words, folder="in"):
-    """The manifest that a scan of a folder is to print, by what the system says."""
+def wanted(words, folder="in", at="."):
+    """Returns the manifest that a scan of a directory is to print, by what the system says; `at` is the current directory of the scan."""
     folder = os.fsencode(folder).rstrip(b"/")
-    told = Told(folder)
+    told = Told(folder, at)
     if "--all" in words:
         after = dict(zip(words, words[1:]))
         return told.manifest(after.get("--for"), int(after.get("--align", 4))).encode()
@@ -59,7 +59,7 @@ def wanted(words, folder="in"):
 
 
 def make_kinds():
-    """Makes the folder `in` with each kind of file that the rights allow, and names to be escaped."""
+    """Makes the directory `in` with each kind of file that the rights allow, and names to be escaped."""
     os.makedirs("in/d/a b%\n")
     os.makedirs("in/none")
     for name in ("in/file", "in/d/b", *("in/d/a b%\n/" + name for name in ODD)):
@@ -82,13 +82,13 @@ def make_kinds():
 
 
 def name_in(call):
-    """The name that a call of the system is asked of."""
+    """Returns the name that a call of the system is asked of."""
     quoted = re.search(r'"((?:[^"\\]|\\.)*)"', call.text).group(1)
     return quoted.encode("latin-1").decode("unicode_escape").encode("latin-1")
 
 
 def named_calls(made):
-    """The calls, each with the name that is told where it fails, or `None`."""
+    """Yields the calls, each with the name that is reported if it fails, or `None`."""
     opened = None
     for call in made:
         name = None
@@ -96,13 +96,13 @@ def named_calls(made):
             name = name_in(call)
             name = name.rstrip(b"/") or name
             opened = name if call.name == "openat" else opened
-        elif call.name == "getdents64":
+        elif call.name in ("getdents64", "read"):
             name = opened
         yield call, name
 
 
 def endings(call, name, fault, whole, is_settling):
-    """The answers that are right if a call of the system was failed."""
+    """Returns the answers that are right if a call of the system was failed."""
     if is_settling:
         return [(whole, b"write fault\n", 3)]
     told = {"ENOMEM": b"memory\n"}.get(fault, b"file %s\n" % shown(name or b""))
@@ -120,7 +120,7 @@ def endings(call, name, fault, whole, is_settling):
 
 @needs_strace
 def each_call_failed(binary):
-    """Whichever call is failed, the manifest is whole, or nothing is printed and told is what and why."""
+    """Whichever call is failed, the manifest is whole, or nothing is printed, and what failed is reported, and why."""
     make_kinds()
     ends = collections.Counter()
     for words in (*SCANS, FITTED):
@@ -135,7 +135,7 @@ def each_call_failed(binary):
             is_settling = is_settling or call.name == "fcntl"
             for fault in FAULTS:
                 if (call.name, fault) == ("getdents64", "ENOENT"):
-                    continue  # that a folder was removed, which ends it
+                    continue  # that a directory was removed, which ends it
                 told = traced.inject(call.name, "error=" + fault, call.number)
                 got = answer(traced.run(binary, *words, "in", told=told))
                 ends[(fault, got[2])] += 1
@@ -147,7 +147,7 @@ def each_call_failed(binary):
 
 @needs_strace
 def refusal_that_is_not_taken(binary):
-    """Where standard error takes nothing the status is the same, and nothing goes elsewhere."""
+    """If standard error accepts nothing, the status is the same, and nothing goes elsewhere."""
     for words in SCANS:
         for fault in ("EIO", "EBADF", "ENOSPC"):
             got = answer(traced.run(binary, *words, "none", told=traced.inject("write", "error=" + fault)))
@@ -156,7 +156,7 @@ def refusal_that_is_not_taken(binary):
 
 
 def memory_that_ends(binary):
-    """Where memory ends the manifest is whole, or nothing is printed and `memory` is told."""
+    """If memory ends the manifest is whole, or nothing is printed and `memory` is reported."""
     make_many()
     os.mkdir("none")
     ends = collections.Counter()
@@ -181,7 +181,7 @@ def memory_that_ends(binary):
 
 
 def make_many(count=2500):
-    """Makes the folder `in` with many files."""
+    """Makes the directory `in` with many files."""
     os.makedirs("in/d")
     for number in range(count):
         put("in/d/%04d-%s" % (number, "n" * (number % 40)), b"")
@@ -199,9 +199,7 @@ def each_write_failed(binary):
             yield "%s: %d writes" % (words, len(writes))
         for number in writes:
             for fault in ("EIO", "EAGAIN", "EINTR"):
-                out, said, status = answer(
-                    traced.run(binary, *words, "in", told=traced.inject("write", "error=" + fault, number))
-                )
+                out, said, status = answer(traced.run(binary, *words, "in", told=traced.inject("write", "error=" + fault, number)))
                 is_whole = fault == "EINTR" and (out, said, status) == (whole, b"", 0)
                 is_begun = (said, status) == (b"write fault\n", 3) and whole.startswith(out)
                 if not (is_whole or is_begun):
@@ -209,7 +207,7 @@ def each_write_failed(binary):
 
 
 def room_that_ends(binary):
-    """A file that takes so many bytes and no more holds just these."""
+    """A file that takes so many bytes and no more has exactly these."""
     make_many()
     for words in SCANS:
         whole = wanted(words)
@@ -220,10 +218,7 @@ def room_that_ends(binary):
                 resource.setrlimit(resource.RLIMIT_FSIZE, (room, room))
 
             with open("out", "wb") as out:
-                done = subprocess.run(
-                    [binary, *words, "in"], stdout=out, stderr=subprocess.PIPE, timeout=SECONDS,
-                    preexec_fn=take_no_more,
-                )  # fmt: skip
+                done = run(binary, *words, "in", stdout=out, preexec_fn=take_no_more)
             said = (b"", 0) if room == len(whole) else (b"write fault\n", 3)
             if (done.stderr, done.returncode) != said or bytes_in("out") != whole[:room]:
                 yield "%s, %d: %r, %d bytes" % (words, room, (done.stderr, done.returncode), len(bytes_in("out")))
@@ -235,73 +230,45 @@ def readers_that_leave(binary):
     for words in SCANS:
         for line in ('"$@" | head -n 1 >&3', '"$@" >&-', '"$@" >/dev/full', '"$@" 1</dev/null'):
             ended = "{ %s; echo $? >&4; } 3>/dev/null 4>&1" % line.replace('"$@" |', '{ "$@"; echo $? >&4; } |')
-            done = subprocess.run(
-                ["bash", "-c", ended, "bash", binary, *words, "in"],
-                stdout=subprocess.PIPE, stderr=subprocess.PIPE, timeout=SECONDS,
-            )  # fmt: skip
+            done = run("bash", "-c", ended, "bash", binary, *words, "in")
             if (done.stdout.split()[0], done.stderr) != (b"3", b"write fault\n"):
                 yield "%s, %s: %r" % (words, line, answer(done))
 
 
 def output_into_the_folder(binary):
-    """A manifest that is written into the folder names itself, and is not read."""
+    """A manifest that is written into the directory names itself, and is not read."""
     make_many(300)
     for words in SCANS:
         put("in/manifest", b"")
         with open("in/manifest", "wb") as out:
-            done = subprocess.run([binary, *words, "in"], stdout=out, stderr=subprocess.PIPE, timeout=SECONDS)
+            done = run(binary, *words, "in", stdout=out)
         if (done.stderr, done.returncode, bytes_in("in/manifest")) != (b"", 0, wanted(words)):
             yield "%s: %r" % (words, (done.stderr, done.returncode))
 
 
-# folders that change
+# directories that change
 
 
-class Held:
-    """A scan that is stopped behind one of its calls until the block has ended."""
-
-    def __init__(self, binary, words, call):
-        self.log = tempfile.NamedTemporaryFile("r")
-        told = ["-f", "-o", self.log.name, *traced.inject(call.name, "signal=STOP", call.number)]
-        self.run = subprocess.Popen(
-            traced.words_of(told, binary, words), stdout=subprocess.PIPE, stderr=subprocess.PIPE
-        )
-
-    def __enter__(self):
-        end, found = time.monotonic() + SECONDS, None
-        while not found and self.run.poll() is None and time.monotonic() < end:
-            time.sleep(0.002)
-            found = STOPPED.search(bytes_in(self.log.name).decode("latin-1"))
-        self.process = int(found.group(1)) if found else None
-        return self
-
-    def __exit__(self, *_):
-        if self.process:
-            os.kill(self.process, signal.SIGCONT)
-        try:
-            out, said = self.run.communicate(timeout=SECONDS)
-            self.answer = out, said, self.run.returncode
-        except subprocess.TimeoutExpired:
-            self.run.kill()
-            self.answer = None, None, None
-        self.log.close()
+def held_at(binary, words, call):
+    """Returns a scan that is stopped behind one of its calls until a block has ended."""
+    return traced.Held(binary, words, call.name, call.number)
 
 
 def lay_folder():
-    """Makes the folder `in` anew, with a folder `d` that is to change, and lets its times lie back."""
-    shutil.rmtree("in", ignore_errors=True)
-    shutil.rmtree("aside", ignore_errors=True)
+    """Makes the directory `in` anew, with a directory `d` that is to change, and lets its times lie back."""
+    for name in ("in", "aside"):
+        remove(name)
     os.makedirs("in/d")
     put("in/d/x", b"x")
     put("in/d/y", b"y")
     os.symlink("x", "in/d/z")
     os.makedirs("aside/d")
     put("aside/d/other", b"")
-    time.sleep(0.02)
+    wait_for_clock(".")
 
 
 def inside():
-    """What is done to what the folder `d` holds, each by its name."""
+    """Returns what is done to what the directory `d` holds, each by its name."""
 
     def another_kind(name, make):
         os.remove(name)
@@ -320,7 +287,7 @@ def inside():
 
 
 def beside():
-    """What is done to the folder `d` itself, each by its name."""
+    """Returns what is done to the directory `d` itself, each by its name."""
 
     def another(make):
         os.rename("in/d", "aside/old")
@@ -336,13 +303,13 @@ def beside():
 
 
 def looked(made, name):
-    """The places of the calls that look at a name."""
+    """Returns the places of the calls that look at a name."""
     return [at for at, call in enumerate(made) if call.name == "statx" and name_in(call) == name]
 
 
 @needs_strace
 def changed_between_calls(binary):
-    """A folder that changed since it was found, and until it was looked into, is refused; else it is old or new."""
+    """A directory that changed since it was found, and until it was looked into, is refused; otherwise it is old or new."""
     words = ["scan", "--all", "in"]
     lay_folder()
     made, _ = traced.calls(binary, *words)
@@ -355,33 +322,33 @@ def changed_between_calls(binary):
         for at, call in enumerate(made):
             lay_folder()
             before = wanted(words)
-            with Held(binary, words, call) as held:
+            with held_at(binary, words, call) as held:
                 change()
             after = wanted(words)
             refused = re.compile(rb"file in(/d(/[a-z]+)?)?\n")
             right = after if at < first else before if at >= seen else None
-            out, said, status = held.answer
+            out, said, status = held.answer or (None, b"", None)
             ends["new" if at < first else "old" if at >= seen else "refused"] += 1
             if right is None and (out, status) == (b"", 3) and refused.fullmatch(said):
                 continue
-            if held.process is None or right is None or held.answer != (right, b"", 0):
+            if not held.is_held or right is None or held.answer != (right, b"", 0):
                 yield "%s, behind %s: %r" % (what, call.text[:60], held.answer)
     print("changed_between_calls: %d changes; %s" % (sum(ends.values()), dict(ends)))
 
 
 def lay_two():
-    """Makes the folder `in` anew, with two folders of two depths between which files are moved."""
+    """Makes the directory `in` anew, with two directories of two depths between which files are moved."""
     for name in ("in", "aside"):
-        shutil.rmtree(name, ignore_errors=True)
+        remove(name)
     for name in ("in/a/b", "in/c/d"):
         os.makedirs(name)
         put(name + "/" + name[-1] * 2, b"")
-    time.sleep(0.02)
+    wait_for_clock(".")
 
 
 @needs_strace
 def moved_between_folders(binary):
-    """A file or a folder that is moved is in the manifest once, where it was or where it is, or all is refused."""
+    """A file or a directory that is moved is in the manifest once, where it was or where it is, or all is refused."""
     moves = [("in/a/b/bb", "in/c/bb"), ("in/a/b/bb", "in/c/d/bb"), ("in/c/d/dd", "in/a/dd"), ("in/c/d/dd", "in/a/b/dd")]
     moves += [("in/a/b", "in/c/b"), ("in/c/d", "in/a/d")]
     for words in SCANS:
@@ -392,9 +359,9 @@ def moved_between_folders(binary):
             for move in moves:
                 lay_two()
                 before = wanted(words)
-                with Held(binary, words, call) as held:
+                with held_at(binary, words, call) as held:
                     os.rename(*move)
-                out, said, status = held.answer
+                out, said, status = held.answer or (None, b"", None)
                 is_told = (out, status) == (b"", 3) and re.fullmatch(rb"file in(/[a-z]+)*\n", said)
                 if not is_told and held.answer not in ((before, b"", 0), (wanted(words), b"", 0)):
                     yield "%s, %s, behind %s: %r" % (words, move, call.text[:60], held.answer)
@@ -402,7 +369,7 @@ def moved_between_folders(binary):
 
 @needs_strace
 def entry_that_vanishes(binary):
-    """An entry that vanished since its folder was listed is told by its own name."""
+    """An entry that vanished since its directory was listed is reported by its own name."""
     for words in SCANS:
         words = [*words, "in"]
         lay_folder()
@@ -412,7 +379,7 @@ def entry_that_vanishes(binary):
         call = listed[2 * opened[1:].index(b"in/d/")]
         for what, names in (("removed", b"x"), ("renamed", b"x"), ("emptied", b"xyz")):
             lay_folder()
-            with Held(binary, words, call) as held:
+            with held_at(binary, words, call) as held:
                 inside()[what]()
             if held.answer not in [(b"", b"file in/d/%c\n" % name, 3) for name in names]:
                 yield "%s, %s: %r" % (words, what, held.answer)
@@ -422,7 +389,7 @@ def entry_that_vanishes(binary):
 
 
 def odd_folders(binary):
-    """DIR may be a link, or end in slashes, or be the folder itself or the one above."""
+    """DIR may be a link, or end in slashes, or be the directory itself or the one above."""
     make_kinds()
     os.symlink("in", "led")
     os.symlink("led", "led again")
@@ -435,19 +402,16 @@ def odd_folders(binary):
                 yield "%s %s: %r" % (words, folder, got)
         for at, folder in (("in", "."), ("in", "./"), ("in/d", ".."), ("in/d", "../"), ("in/d", "../d/a b%\n")):
             got = answer(run(binary, *words, folder, cwd=at))
-            before = os.getcwd()
-            os.chdir(at)
-            if got != (wanted_of(words, folder), b"", 0):
+            if got != (wanted(words, folder, at), b"", 0):
                 yield "%s %s: %r" % (words, folder, got)
-            os.chdir(before)
 
 
 def wanted_of(words, folder):
-    """The manifest of a folder that may be a link."""
+    """Returns the manifest of a directory that may be a link."""
     folder = folder.rstrip("/")
     if not os.path.islink(folder):
         return wanted(words, folder)
-    # the same folder by a name of as many bytes, which is no link
+    # the same directory by a name of as many bytes, which is no link
     other = "@" * len(folder)
     os.rename("in", other)
     try:
@@ -458,7 +422,7 @@ def wanted_of(words, folder):
 
 
 def what_is_no_folder(binary):
-    """DIR that is no folder is refused by its name, and no pipe is waited for."""
+    """DIR that is no directory is refused by its name, and no pipe is waited for."""
     put("file", b"")
     os.mkfifo("pipe")
     os.symlink("no where", "dangling")
@@ -478,7 +442,7 @@ def what_is_no_folder(binary):
 
 @needs_root
 def folders_that_are_forbidden(binary):
-    """A folder that may not be listed is told by its name, one that may but for its entries by one of these."""
+    """A directory that may not be listed is reported by its name, one whose entries may not be looked at by one of these."""
     os.chmod(".", 0o755)
     os.makedirs("in/d")
     put("in/d/a", b"")
@@ -487,7 +451,7 @@ def folders_that_are_forbidden(binary):
         for words in SCANS:
             for at, folder, told in ((".", "in", b"in/d"), ("in/d", ".", b"."), (".", "in/d", b"in/d")):
                 if at != "." and not mode & 1:
-                    continue  # it cannot be the current folder either
+                    continue  # it cannot be the current directory either
                 got = answer(run(binary, *words, folder, cwd=at, preexec_fn=become_nobody))
                 said = b"" if mode & 5 == 5 else b"file %s\n" % (told + b"/a" if mode & 4 else told)
                 if got[1:] != (said, 3 if said else 0) or bool(got[0]) == bool(said):
@@ -511,7 +475,7 @@ def every_byte(binary):
         if answer(done) != (wanted(words), b"", 0):
             yield "%s: %r" % (words, answer(done)[1:])
         if words == SCANS[1]:
-            continue  # owners that romfs does not take
+            continue  # owners that romfs does not accept
         put("m", done.stdout)
         built = run(binary, "build", "romfs", "m", "out")
         if built.returncode or len(run(binary, "list", "out").stdout.splitlines()) < len(os.listdir("in")):
@@ -519,25 +483,20 @@ def every_byte(binary):
 
 
 def longest_names(binary):
-    """Names are taken as long as the system takes them, and one that is longer is told whole."""
+    """Names are taken as long as the system accepts them, and a longer one is reported whole."""
     for end in ("file", "folder"):
         for length in (LONGEST - 1, LONGEST, LONGEST + 1, LONGEST + 200):
-            at = os.getcwd()
             os.mkdir("in")
-            os.chdir("in")
-            place = b"in"
-            while len(place) + 202 < length:
-                os.mkdir("n" * 200)
-                os.chdir("n" * 200)
-                place += b"/" + b"n" * 200
+            depth = (length - 4) // 201  # so that a last name of 1 to 201 bytes is left
+            place = b"in" + depth * (b"/" + b"n" * 200)
             last = "n" * (length - len(place) - 1)
-            if end == "file":
-                put(last, b"")
-            else:
-                os.mkdir(last)
+            with innermost("n" * 200, depth, "in") as inner:
+                if end == "file":
+                    put(inner + "/" + last)
+                else:
+                    os.mkdir(inner + "/" + last)
             whole = place + b"/" + last.encode()
-            os.chdir(at)
-            # a folder is opened with a slash behind its name
+            # a directory is opened with a slash behind its name
             is_taken = len(whole) <= LONGEST - (end == "folder")
             for words in SCANS:
                 out, said, status = answer(run(binary, *words, "in"))
@@ -546,27 +505,25 @@ def longest_names(binary):
                 told = min((name for name in (place, whole) if len(name) > LONGEST), key=len, default=whole)
                 if not is_taken and (out, said, status) != (b"", b"file %s\n" % told, 3):
                     yield "%s, %s of %d: %r" % (words, end, length, (out[-300:], said[-300:], status))
-            subprocess.run(["rm", "-rf", "in"], check=True)
+            remove("in")
 
 
 def deep_from_inside(binary):
-    """A folder whose own name is longer than the system takes is scanned from inside."""
-    for _ in range(25):
-        os.mkdir("n" * 200)
-        os.chdir("n" * 200)
-    os.mkdir("d")
-    put("d/a", b"")
-    for words, whole in (
-        (SCANS[0], b"dir /d 0755 0 0\nfile /d/a 0644 0 0 4 ./d/a\n"),
-        ([*SCANS[1], "--for", "romfs"], b"dir / 0755 0 0\ndir /d 0755 0 0\nfile /d/a 0644 0 0 4 ./d/a\n"),
-    ):
-        got = answer(run(binary, *words, ".", preexec_fn=lambda: os.umask(0o022)))
-        if got != (whole, b"", 0):
-            yield "%s: %r" % (words, got)
+    """A directory whose own name is longer than the system accepts is scanned from inside."""
+    with innermost("n" * 200, 25) as inner:
+        os.mkdir(inner + "/d")
+        put(inner + "/d/a")
+        for words, whole in (
+            (SCANS[0], b"dir /d 0755 0 0\nfile /d/a 0644 0 0 4 ./d/a\n"),
+            ([*SCANS[1], "--for", "romfs"], b"dir / 0755 0 0\ndir /d 0755 0 0\nfile /d/a 0644 0 0 4 ./d/a\n"),
+        ):
+            got = answer(run(binary, *words, ".", cwd=inner, preexec_fn=lambda: os.umask(0o022)))
+            if got != (whole, b"", 0):
+                yield "%s: %r" % (words, got)
 
 
 def many_entries(binary):
-    """A folder of 100,000 names, half of them one file, is scanned in a few seconds."""
+    """A directory of 100,000 names, half of them one file, is scanned in a few seconds."""
     os.makedirs("in")
     put("in/0", b"")
     for number in range(1, 50000):
@@ -607,66 +564,67 @@ def greatest_numbers(binary):
             yield "%s: %r" % (words, got)
 
 
+def mounted(binary, words, line):
+    """Returns the scan of the directory `in` after a line of a shell that mounts something for it, or None if it cannot."""
+    shell = ["unshare", "-m", "sh", "-c", line + '; exec "$@"', "sh"]
+    done = run(*shell, binary, *words, "in")
+    return None if done.returncode == 77 else done
+
+
+def first_words(done):
+    """Returns the first two words of each line that a scan printed, in the order of these words."""
+    return sorted(b" ".join(line.split()[:2]).decode() for line in done.stdout.splitlines())
+
+
 @needs_root
 def folder_within_itself(binary):
-    """A folder that is bound into itself, and links that lead to it, end."""
+    """A directory that is bound into itself, and links that lead to it, end."""
     os.makedirs("in/d/self")
     put("in/a", b"")
     os.symlink("..", "in/d/up")
     os.symlink(".", "in/d/here")
-    line = 'mount --bind in in/d/self 2>/dev/null || exit 77; exec "$@"'
+    line = "mount --bind in in/d/self 2>/dev/null || exit 77"
     lines = (
         (SCANS[0], "dir /d\nfile /a\ndir /d/self\nfile /d/self/a\ndir /d/self/d\ndir /d/self/d/self\n"),
         (SCANS[1], "dir /\ndir /d\nfile /a\nslink /d/here\nhard /d/up\ndir /d/self\nhard /d/self/a\n"
          "dir /d/self/d\nhard /d/self/d/here\nslink /d/self/d/up\ndir /d/self/d/self\n"),
     )  # fmt: skip
     for words, whole in lines:
-        done = subprocess.run(
-            ["unshare", "-m", "sh", "-c", line, "sh", binary, *words, "in"],
-            stdout=subprocess.PIPE, stderr=subprocess.PIPE, timeout=SECONDS,
-        )  # fmt: skip
-        if done.returncode == 77:
+        done = mounted(binary, words, line)
+        if not done:
             yield None
             return
-        got = [b" ".join(line.split()[:2]).decode() for line in done.stdout.splitlines()]
-        if sorted(got) != sorted(whole.splitlines()) or (done.stderr, done.returncode) != (b"", 0):
+        if first_words(done) != sorted(whole.splitlines()) or (done.stderr, done.returncode) != (b"", 0):
             yield "%s: %r" % (words, answer(done))
 
 
 @needs_root
 def on_one_file_system(binary):
-    """`--one-file-system` lists a folder that another file system is mounted on, and does not look into it."""
+    """`--one-file-system` lists a directory that another file system is mounted on, and does not look into it."""
     os.makedirs("in/d/mnt")
     put("in/d/a", b"a")
-    line = 'mount -t tmpfs tmpfs in/d/mnt 2>/dev/null || exit 77; mkdir in/d/mnt/e; echo x >in/d/mnt/x; exec "$@"'
+    line = "mount -t tmpfs tmpfs in/d/mnt 2>/dev/null || exit 77; mkdir in/d/mnt/e; echo x >in/d/mnt/x"
     plain = ["dir /d", "file /d/a", "dir /d/mnt"]
     within = ["dir /d/mnt/e", "file /d/mnt/x"]
     for words, lines in (
         (["scan"], plain + within), (["scan", "--one-file-system"], plain),
         (["scan", "--all"], ["dir /", *plain, *within]), (["scan", "--all", "--one-file-system"], ["dir /", *plain]),
     ):  # fmt: skip
-        done = subprocess.run(
-            ["unshare", "-m", "sh", "-c", line, "sh", binary, *words, "in"],
-            stdout=subprocess.PIPE, stderr=subprocess.PIPE, timeout=SECONDS,
-        )  # fmt: skip
-        if done.returncode == 77:
+        done = mounted(binary, words, line)
+        if not done:
             yield None
             return
-        got = [b" ".join(line.split()[:2]).decode() for line in done.stdout.splitlines()]
-        if sorted(got) != sorted(lines) or (done.stderr, done.returncode) != (b"", 0):
+        if first_words(done) != sorted(lines) or (done.stderr, done.returncode) != (b"", 0):
             yield "%s: %r" % (words, answer(done))
 
 
 @needs_strace
 def folders_that_rest(binary):
-    """A scan of folders that were all made before it rests once or twice, and not for each of them."""
+    """A scan of directories that were all made before it rests once or twice, and not for each of them."""
     for number in range(300):
         os.makedirs("in/%d" % number)
     for words in SCANS:
-        done = subprocess.run(
-            ["strace", "-f", "-e", "trace=nanosleep,clock_nanosleep", "-o", "calls", binary, *words, "in"],
-            stdout=subprocess.PIPE, stderr=subprocess.PIPE, timeout=SECONDS,
-        )  # fmt: skip
+        done = run("strace", "-f", "-e", "trace=nanosleep,clock_nanosleep", "-o", "calls", binary, *words, "in")
         rests = bytes_in("calls").count(b"nanosleep(")
         if done.returncode or rests > 3:
             yield "%s: %d rests, status %d" % (words, rests, done.returncode)
@@ -682,4 +640,4 @@ TESTS = [
 
 if __name__ == "__main__":
     os.umask(0o022)
-    sys.exit(run_all(TESTS, "Scan where the system gets in the way."))
+    sys.exit(rooms.main(TESTS, "Scan while the system interferes."))

@@ -1,43 +1,40 @@
 #!/usr/bin/env python3
-"""Takes images apart by `romtool extract`, looks at what was made, and builds them again.
+"""Extracts images by `romtool extract`, checks what was made, and builds them again.
 
     extract.py [--binary PATH] [--count N] [--first SEED] [--name TEXT]
 
-Of each small image of the cases (see run.py), of images of manifests made by chance (see manifests.py), and of images
-that genromfs builds where it is installed: the manifest that is printed is the one that the image's list tells; the
-folder holds just its folders, files and links, with their modes; and what is built of the two has the same list again,
-but for places and numbers. Where each alignment is 4 and nothing is shared it has the same bytes. Images with names that
+Of each small image of the cases (see run.py), of images of random manifests (see manifests.py), and of images
+that genromfs builds if it is installed: the manifest that is printed is the one that the image's list says; the
+directory has exactly its directories, files and links, with their modes; and what is built of the two has the same list again,
+but for places and numbers. If each alignment is 4 and nothing is shared it has the same bytes. Images with names that
 no file can have here make nothing.
 
-Then the edge: folders that are there, links that lead elsewhere, modes that refuse, names that are too long, owners, a
-full disk, each call of the system failed. Tests that need `strace`, or root, or another user, are skipped where these
+Then the edge: directories that are there, links that lead elsewhere, modes that refuse, names that are too long, owners, a
+full disk, each call of the system failed. Tests that need `strace`, or root, or another user, are skipped if these
 are missing. The last line is `N passed, M failed`, with `, K skipped`.
 """
 
 import collections
 import itertools
 import os
-import shutil
 import signal
 import stat
 import subprocess
 import sys
-import tempfile
-import time
 
 import images
 import manifests
-import run as cases
+import rooms
 import traced
-from build import answer, bytes_in, put, run
-from edge import become_nobody, needs_root, needs_strace
-from harness import HERE, SECONDS, Counts, parser, program_of
-from manifests import Made, escaped
-from map import images as images_of_cases
-from map import listed, raw
+from edge_kept import has_fuse, lossy
+from files import bytes_in, clear, put, remove
+from harness import HERE, SECONDS, Counts, add_seeds, missing, program_of
+from manifests import Made
+from romtool import WORDS, answer, entries, escaped, raw, run
+from rooms import IS_ROOT, become_nobody, needs_root
+from run import files_of_cases
+from traced import needs_strace
 
-IS_ROOT = os.geteuid() == 0
-WORDS = {"d": "dir", "f": "file", "l": "slink", "b": "nod", "c": "nod", "p": "pipe", "s": "sock"}
 LENDING = 0o6000
 FAULTS = ("error=EIO", "error=ENOSPC", "error=ENOMEM", "error=EACCES", "signal=KILL")
 FAILED = (
@@ -46,7 +43,7 @@ FAILED = (
 
 
 class Plain(Made):
-    """A manifest made by chance that is built again to the same bytes: texts as names, alignments of 4, no sharing."""
+    """A random manifest that is built again to the same bytes: texts as names, alignments of 4, no sharing."""
 
     def name(self):
         length = self.chance.choice([1, 2, 3, 8, 40, 120])
@@ -64,30 +61,13 @@ class Plain(Made):
             manifests.ALIGNMENTS = before
 
 
-class Name:
-    """A name of an image, as its list tells it."""
-
-    def __init__(self, fields, path, text):
-        self.number, self.kind, self.mode = fields[0], fields[1], int(fields[2], 8)
-        self.user, self.group, self.size = (int(it) for it in fields[3:6])
-        self.device, self.path, self.text = fields[6:8], path, text
-        self.fields = fields[1:]
-
-
-def names_in(binary, image):
-    """The names of an image."""
-    for line in run(binary, "list", image).stdout.decode("ascii").split("\n")[:-1]:
-        fields = line.split(" ")
-        yield Name(fields[:8], fields[8], " ".join(fields[9:]))
-
-
 def volume_of(data):
-    """The name of an image's volume."""
+    """Returns the name of an image's volume."""
     return (data[16:] if data.startswith(b"-rom1fs-") else data[48:64]).split(b"\0")[0]
 
 
 def manifest_of(data, names, folder):
-    """The manifest of an image of these bytes and names, whose files are in a folder."""
+    """Returns the manifest of an image of these bytes and names, whose files are in a directory."""
     volume, firsts, out = volume_of(data), {}, ""
     if volume:
         out += "volume %s\n" % escaped(volume)
@@ -101,18 +81,18 @@ def manifest_of(data, names, folder):
         elif name.kind == "l":
             out += " " + name.text
         elif name.kind in "bc":
-            out += " %s %s %s" % (name.kind, *name.device)
+            out += " %s %d %d" % (name.kind, name.major, name.minor)
         out += "\n"
     return out.encode()
 
 
 def shortly(done):
-    """What a run printed and its status, cut to what can be read."""
+    """Returns what a run printed and its status, cut to what can be read."""
     return "%.200r" % (answer(done),)
 
 
 def is_text(some):
-    """Whether bytes are UTF-8."""
+    """Returns whether bytes are UTF-8."""
     try:
         return bool(some.decode("utf-8") or True)
     except UnicodeDecodeError:
@@ -120,7 +100,7 @@ def is_text(some):
 
 
 def has_place(name, folder):
-    """Whether a file can have a name here."""
+    """Returns whether a file can have a name here."""
     if name.kind not in "dfl":
         return True
     place = folder.encode() + raw(name.path)
@@ -130,7 +110,7 @@ def has_place(name, folder):
 
 
 def wrong_in_folder(binary, image, names, folder):
-    """What is wrong with the files of a folder, compared with the names of an image."""
+    """Yields what is wrong with the files of a directory, compared with the names of an image."""
     wanted = {raw(name.path).rstrip(b"/"): name for name in names if name.kind in "dfl"}
     top = os.fsencode(folder)
     found = {b""}
@@ -157,14 +137,14 @@ def wrong_in_folder(binary, image, names, folder):
 
 
 def numbered(names, binary):
-    """The names of two images sorted by their paths, each with all their numbers of nodes."""
-    for some in (names, list(names_in(binary, "again"))):
+    """Yields the names of two images sorted by their paths, each with all their numbers of nodes."""
+    for some in (names, entries(binary, "again")):
         some = sorted(some, key=lambda it: it.path)
         yield some, [it.number for it in some]
 
 
 def wrong_again(binary, image, names, done, format):
-    """What is wrong with the image that is built of what was taken apart."""
+    """Yields what is wrong with the image that is built of what was extracted."""
     put("manifest", done.stdout)
     built = run(binary, "build", format, "manifest", "again")
     if built.returncode == 1 and built.stdout.endswith((b" 1 Attribute\n", b"plan 0 2 TooLarge\n")):
@@ -172,7 +152,7 @@ def wrong_again(binary, image, names, done, format):
     if built.returncode:
         yield "build: %r" % (built.stdout + built.stderr)
         return
-    before, after = ([(it.path, it.text, it.fields) for it in found] for found in (names, names_in(binary, "again")))
+    before, after = ([(it.path, it.text, it[1:8]) for it in found] for found in (names, entries(binary, "again")))
     if sorted(before) != sorted(after):
         yield "another list: %.300r" % [pair for pair in zip(sorted(before), sorted(after)) if pair[0] != pair[1]][:1]
     shared = [[found.index(it.number) for it in some] for some, found in numbered(names, binary)]
@@ -181,8 +161,8 @@ def wrong_again(binary, image, names, done, format):
 
 
 def wrong_extract(binary, image, folder="out"):
-    """What is wrong after an image was taken apart in the current folder, which had no `out`."""
-    names, data = list(names_in(binary, image)), bytes_in(image)
+    """Yields what is wrong after an image was extracted in the current directory, which had no `out`."""
+    names, data = entries(binary, image), bytes_in(image)
     done = run(binary, "extract", image, folder)
     unfit = [name for name in names if not has_place(name, folder)]
     if unfit:
@@ -198,52 +178,28 @@ def wrong_extract(binary, image, folder="out"):
     yield from wrong_again(binary, image, names, done, format)
 
 
-def clear():
-    """Empties the current folder."""
-    for name in os.listdir("."):
-        if os.path.isdir(name) and not os.path.islink(name):
-            subprocess.run(["chmod", "-R", "u+rwx", name], check=True)
-            shutil.rmtree(name)
-        else:
-            os.remove(name)
-
-
 def of_cases(binary):
-    """Each small image of the cases is taken apart, and built again."""
-    seen, apart = set(), 0
-    for name, told in images_of_cases():
-        if isinstance(told, dict) and "sparse" in told:
-            continue
-        data = cases.bytes_of(told)
-        if data in seen or len(data) > 2**20:
-            continue
-        seen.add(data)
+    """Each small image of the cases is extracted, and built again."""
+    seen = apart = 0
+    for name, data in files_of_cases(most=2**20):
+        seen += 1
         clear()
         put("image", data)
         checked = run(binary, "check", "image")
         if checked.returncode:
             refused = run(binary, "extract", "image", "out")
-            if answer(refused) != answer(checked) or os.path.lexists("out"):
+            if answer(refused) != (b"", checked.stdout + checked.stderr, checked.returncode) or os.path.lexists("out"):
                 yield "%s: %r and not %r" % (name, answer(refused), answer(checked))
             continue
         apart += 1
         for wrong in wrong_extract(binary, "image"):
             yield "%s: %s" % (name, wrong)
-    print("of_cases: %d images taken apart, of %d" % (apart, len(seen)))
-
-
-def lay_out(made):
-    """Writes a manifest made by chance, and its sources."""
-    for number, contents in enumerate(made.sources):
-        put("source%d" % number, contents)
-    put("manifest", "\n".join(made.lines).encode("ascii"))
+    print("of_cases: %d images taken apart, of %d" % (apart, seen))
 
 
 def of_manifest(binary, seed):
-    """What is wrong with the image of a manifest of any names, taken apart."""
-    made = Made(seed)
-    lay_out(made)
-    built = run(binary, "build", made.format, "manifest", "image")
+    """Yields what is wrong with the image of a manifest of any names, extracted."""
+    built = manifests.build(binary, Made(seed), ".")
     if built.returncode:
         yield "build: %r" % (built.stdout + built.stderr)
         return
@@ -251,10 +207,9 @@ def of_manifest(binary, seed):
 
 
 def the_same_bytes(binary, seed):
-    """What is wrong with the image of a plain manifest, taken apart and built again."""
+    """Yields what is wrong with the image of a plain manifest, extracted and built again."""
     made = Plain(seed)
-    lay_out(made)
-    built = run(binary, "build", made.format, "manifest", "image")
+    built = manifests.build(binary, made, ".")
     done = run(binary, "extract", "image", "out")
     put("second", done.stdout)
     again = run(binary, "build", made.format, "second", "again")
@@ -264,19 +219,14 @@ def the_same_bytes(binary, seed):
         yield "other bytes"
 
 
-def by_chance(counts, binary, arguments):
-    """Manifests made by chance."""
+def by_chance(binary, arguments):
+    """Tests random manifests in the current directory, and returns the exit status."""
+    counts = Counts()
     for seed in range(arguments.first, arguments.first + arguments.count):
         for test in (of_manifest, the_same_bytes):
-            with tempfile.TemporaryDirectory(prefix="romtool-") as top:
-                os.chdir(top)
-                wrong = list(test(binary, seed))
-                clear()
-                os.chdir("/")
-            if wrong:
-                counts.fails("%s, seed %d" % (test.__name__, seed), wrong)
-            else:
-                counts.passes()
+            counts.result("%s, seed %d" % (test.__name__, seed), test(binary, seed))
+            clear()
+    return counts.close()
 
 
 # the edge
@@ -299,13 +249,13 @@ def small(binary, format="cramfs"):
 
 
 def refused(done, name, words=b""):
-    """What is wrong with a refusal of a name."""
+    """Yields what is wrong with a refusal of a name."""
     if answer(done) != (b"", b"file %s\n" % escaped(name).encode() + words, 3):
         yield "%r: %r" % (name, answer(done))
 
 
 def folders_that_are_there(binary):
-    """A folder that is there and empty is filled and keeps its mode; anything else is refused, and stays."""
+    """A directory that is there and empty is filled and keeps its mode; anything else is refused, and stays."""
     small(binary)
     os.mkdir("empty", 0o751)
     done = run(binary, "extract", "image", "empty/")
@@ -342,13 +292,13 @@ def links_that_lead_elsewhere(binary):
 
 
 def images_that_are_refused(binary):
-    """A fault of the image is told as `check` tells it, and nothing is made."""
+    """A fault of the image is reported as `check` reports it, on standard error, and nothing is made."""
     small(binary)
     data = bytearray(bytes_in("image"))
     data[100] ^= 1
     put("bad", bytes(data))
     done = run(binary, "extract", "bad", "out")
-    if answer(done) != answer(run(binary, "check", "bad")) or done.returncode != 1:
+    if answer(done) != (b"", run(binary, "check", "bad").stdout, 1):
         yield "bad: %s" % shortly(done)
     yield from refused(run(binary, "extract", "none", "out"), b"none")
     for words in ([], ["image"], ["image", "out", "more"], ["--owner", "image", "out"]):
@@ -359,7 +309,7 @@ def images_that_are_refused(binary):
 
 
 def names_that_no_file_has(binary):
-    """Names and texts that the system does not take are told before anything is made."""
+    """Names and texts that the system does not accept are reported before anything is made."""
     put("image", images.romfs_list([b"first", b"a\xff"]))
     if run(binary, "check", "image").returncode:
         yield "the name is none of romfs"
@@ -378,7 +328,7 @@ def names_that_no_file_has(binary):
 
 
 def images_that_no_manifest_tells(binary):
-    """A path of more than 4095 bytes, and a volume of more than 255, are told before anything is made."""
+    """A path of more than 4095 bytes, and a volume of more than 255, are reported before anything is made."""
     put("image", deep_image(64, 255))
     for words, line in ((("check",), None), (("extract",), b"path\n")):
         done = run(binary, words[0], "image", *["out"] * (line is not None))
@@ -398,15 +348,16 @@ def images_that_no_manifest_tells(binary):
 
 
 def with_volume(name):
-    """A romfs image of an empty root with this volume."""
+    """Returns a romfs image of an empty root with this volume."""
     text = images.padded(name + b"\0", 16)
     at = 16 + len(text)
     body = text + images.header(at + 32, images.DIRECTORY, at, 0, b".") + images.header(0, images.HARD_LINK, at, 0, b"..")
     return images.mended(b"-rom1fs-" + (16 + len(body)).to_bytes(4, "big") + bytes(4) + body, 0, min(512, 16 + len(body)))
 
 
-def deep_image(depth, length):
-    """A romfs image of folders in folders, each with a name of so many bytes."""
+def deep_folders(depth, length):
+    """Returns the parts of a romfs image of directories in each other, each with a name of so many bytes, and the offset
+    behind them."""
     size = 16 + (length + 16) // 16 * 16
     parts = [images.header(64, images.DIRECTORY, 32, 0, b"."), images.header(96, images.HARD_LINK, 32, 0, b"..")]
     above, here = 32, 96
@@ -416,26 +367,32 @@ def deep_image(depth, length):
         parts.append(images.header(first + 32, images.HARD_LINK, here, 0, b"."))
         parts.append(images.header(first + 64, images.HARD_LINK, above, 0, b".."))
         above, here = here, first + 64
-    parts[-1] = images.header(0, images.HARD_LINK, images_before(depth, size), 0, b"..")
+    return parts, here
+
+
+def deep_image(depth, length):
+    """Returns a romfs image of directories in each other, each with a name of so many bytes."""
+    parts, _ = deep_folders(depth, length)
+    parts[-1] = images.header(0, images.HARD_LINK, images_before(depth, 16 + (length + 16) // 16 * 16), 0, b"..")
     return images.romfs(parts)
 
 
 def images_before(depth, size):
-    """Where the header of the last but one of these folders stands."""
+    """Returns where the header of the last but one of these directories is."""
     return 32 if depth == 1 else 96 + (depth - 2) * (size + 64)
 
 
 def without_rights(binary):
-    """Who is not root takes images apart, too: with modes of 0, and folders that cannot be written."""
+    """Users other than root extract images, too: with modes of 0, and directories that cannot be written."""
     modes = ["dir / 0755 0 0", "dir /none 0000 0 0", "file /none/a 0000 0 0 4 a", "dir /none/d 0500 0 0", "file /none/d/b 0200 0 0 4 a"]
     build_image(binary, [*modes, "file /set 6755 0 0 4 a", "dir /sticky 1777 0 0"], "cramfs", [("a", b"a")])
     os.chmod(".", 0o777)
     as_nobody = {"preexec_fn": become_nobody} if IS_ROOT else {}
     done = run(binary, "extract", "image", "out", **as_nobody)
-    if done.returncode or done.stdout != manifest_of(bytes_in("image"), names_in(binary, "image"), "out"):
+    if done.returncode or done.stdout != manifest_of(bytes_in("image"), entries(binary, "image"), "out"):
         yield "%s" % shortly(done)
     if IS_ROOT:
-        yield from wrong_in_folder(binary, "image", list(names_in(binary, "image")), "out")
+        yield from wrong_in_folder(binary, "image", entries(binary, "image"), "out")
     os.mkdir("kept")
     os.chmod("kept", 0o555)
     yield from refused(run(binary, "extract", "image", "kept/out", **as_nobody), b"kept/out")
@@ -451,27 +408,26 @@ def owners(binary):
     lines = ["dir / 2755 1 2", "file /a 6755 3 4 4 a", "slink /l 0777 5 6 a", "dir /d 3770 7 8", "same /b 4711 9 10 /a"]
     build_image(binary, lines, "cramfs", [("a", b"a")])
     for words, mask, bits in ((["--owners"], 1, 0o7777), ([], 0, 0o1777)):
-        clear_out()
+        remove("out")
         done = run(binary, "extract", *words, "image", "out")
-        for path, mode, user, group in (("", 0o2755, 1, 2), ("a", 0o6755, 3, 4), ("d", 0o3770, 7, 8), ("b", 0o4711, 9, 10), ("l", 0o777, 5, 6)):
+        for path, mode, user, group in (
+            ("", 0o2755, 1, 2),
+            ("a", 0o6755, 3, 4),
+            ("d", 0o3770, 7, 8),
+            ("b", 0o4711, 9, 10),
+            ("l", 0o777, 5, 6),
+        ):
             shown = os.lstat("out/" + path)
             got = (stat.S_IMODE(shown.st_mode), shown.st_uid, shown.st_gid)
             if done.returncode or got != (mode & bits, user * mask, group * mask):
                 yield "%r %s: %r" % (words, path, got)
 
 
-def clear_out():
-    """Removes what was taken apart."""
-    if os.path.lexists("out"):
-        subprocess.run(["chmod", "-R", "u+rwx", "out"], check=True)
-        shutil.rmtree("out")
-
-
 def output_that_is_not_taken(binary):
-    """Where standard output takes nothing, what was made stays, and the status says so."""
+    """If standard output accepts nothing, what was made stays, and the status says so."""
     small(binary)
     with open("/dev/full", "wb") as full:
-        done = subprocess.run([binary, "extract", "image", "out"], stdout=full, stderr=subprocess.PIPE)
+        done = run(binary, "extract", "image", "out", stdout=full)
     if (done.returncode, done.stderr) != (3, b"write fault\n") or not os.path.exists("out/d/a"):
         yield "%d %r" % (done.returncode, done.stderr)
 
@@ -480,16 +436,16 @@ def output_that_is_not_taken(binary):
 def each_call_failed(binary):
     """Whichever call is failed: the status says it, nothing is outside, and what is there is a part of the image."""
     small(binary)
-    names = list(names_in(binary, "image"))
+    names = entries(binary, "image")
     wanted = manifest_of(bytes_in("image"), names, "out")
     ends = collections.Counter()
     for there in (False, True):
-        clear_out()
+        remove("out")
         lay(there)
         made, _ = traced.calls(binary, "extract", "image", "out")
         for call in made:
             for fault in FAULTS if call.name in FAILED else ():
-                clear_out()
+                remove("out")
                 lay(there)
                 told = traced.inject(call.name, fault, call.number)
                 done = traced.run(binary, "extract", "image", "out", told=told)
@@ -501,13 +457,13 @@ def each_call_failed(binary):
 
 
 def lay(there):
-    """Makes the folder, or not."""
+    """Makes the directory, or not."""
     if there:
         os.mkdir("out", 0o755)
 
 
 def wrong_after(binary, done, names, wanted, there, fault):
-    """What is wrong after one call was failed."""
+    """Yields what is wrong after one call was failed."""
     if sorted(os.listdir(".")) not in (["a", "b", "image", "m"], ["a", "b", "image", "m", "out"]):
         yield "made outside: %r" % os.listdir(".")
     if done.returncode == 0:
@@ -524,18 +480,18 @@ def wrong_after(binary, done, names, wanted, there, fault):
 
 
 def memory_refused(binary):
-    """Whichever allocation is refused, alone or with all later ones: nothing is printed but `memory`, or all is well."""
+    """Whichever allocation is refused, by itself or with all later ones: nothing is printed but `memory`, or all is well."""
     small(binary)
-    names = list(names_in(binary, "image"))
+    names = entries(binary, "image")
     wanted = manifest_of(bytes_in("image"), names, "out")
     refuse, mark, tried = os.path.abspath("refuse.so"), os.path.abspath("mark"), 0
-    if not shutil.which("cc"):
+    if missing("cc"):
         yield None
         return
     subprocess.run(["cc", "-shared", "-fPIC", "-o", refuse, os.path.join(HERE, "refuse.c"), "-ldl"], check=True)
     for more in ({}, {"REFUSE_ALL": "yes"}):
         for number in itertools.count(1):
-            clear_out()
+            remove("out")
             told = {"LD_PRELOAD": refuse, "REFUSE_AT": str(number), "REFUSED": mark, **more}
             done = run(binary, "extract", "image", "out", env={**os.environ, **told})
             if not os.path.exists(mark):
@@ -550,7 +506,7 @@ def memory_refused(binary):
 
 
 def many_files(binary):
-    """20,000 files are taken apart. Each is handed to the disk, which may take milliseconds for each."""
+    """20,000 files are extracted. Each is handed to the disk, which may take milliseconds for each."""
     put("a", b"a")
     folders = ["dir /%d 0755 0 0" % k for k in range(20)]
     files = ["file /%d/%05d 0644 0 0 4 a" % (k % 20, k) for k in range(20000)]
@@ -562,11 +518,11 @@ def many_files(binary):
 
 @needs_strace
 def links_refused(binary):
-    """Only four errors tell that there are no further names here: then files of their own are made, and it is said."""
+    """Only four errors say that there are no further names here: then files of their own are made, and it is said."""
     build_image(binary, ["file /a 0644 0 0 4 s", "hard /b /a"], "romfs", [("s", b"text")])
     copied = b"romtool: out: further names that are copies here, since this file system makes no further names; a build "
     for error in ("EPERM", "EOPNOTSUPP", "EMLINK", "EXDEV", "EIO", "ENOSPC", "EACCES", "EROFS"):
-        clear_out()
+        remove("out")
         done = traced.run(binary, "--explain", "extract", "image", "out", told=traced.inject("link", "error=" + error, 1))
         if error in ("EPERM", "EOPNOTSUPP", "EMLINK", "EXDEV"):
             if done.returncode or copied not in done.stderr or bytes_in("out/b") != b"text" or b"hard /b /a" not in done.stdout:
@@ -588,7 +544,7 @@ def further_names_are_told(binary):
 
 @needs_root
 def folders_of_another(binary):
-    """An empty folder of another user is refused, also for root, and keeps what it has: nothing."""
+    """An empty directory of another user is refused, also for root, and keeps what it has: nothing."""
     small(binary)
     os.mkdir("theirs", 0o777)
     os.chmod("theirs", 0o777)
@@ -605,18 +561,18 @@ def folders_of_another(binary):
 
 
 def modes_under_a_mask(binary):
-    """The mask of the process is applied to modes, and not with `--owners`; a folder that is there keeps its mode."""
+    """The mask of the process is applied to modes, and not with `--owners`; a directory that is there keeps its mode."""
     modes = ["dir / 0777 0 0", "dir /d 1777 0 0", "file /a 0666 0 0 4 s", "file /x 0755 0 0 4 s"]
     build_image(binary, modes, "cramfs", [("s", b"s")])
     cases = [(0o027, [], 0o750, 0o1750, 0o640), (0o777, [], 0, 0o1000, 0), (0, [], 0o777, 0o1777, 0o666)]
     for mask, words, top, folder, file in cases + ([(0o077, ["--owners"], 0o777, 0o1777, 0o666)] if IS_ROOT else []):
-        clear_out()
+        remove("out")
         done = run(binary, "extract", *words, "image", "out", preexec_fn=lambda: os.umask(mask))
         got = [stat.S_IMODE(os.stat("out").st_mode)]
         got += [stat.S_IMODE(os.stat("out/" + name).st_mode) for name in "da"] if IS_ROOT else [folder, file]
         if done.returncode or got != [top, folder, file]:
             yield "%o %r: %r %s" % (mask, words, [oct(it) for it in got], shortly(done))
-    clear_out()
+    remove("out")
     os.mkdir("out")
     os.chmod("out", 0o1777)
     if run(binary, "extract", "image", "out").returncode or stat.S_IMODE(os.stat("out").st_mode) != 0o1777:
@@ -625,27 +581,25 @@ def modes_under_a_mask(binary):
 
 @needs_strace
 def interrupted(binary):
-    """A signal leaves the mode of a folder that is there, and one that was made is for its owner."""
+    """A signal leaves the mode of a directory that is there, and one that was made is for its owner."""
     small(binary)
     # a shell in the background hands on that SIGINT is ignored
     signal.signal(signal.SIGINT, signal.default_int_handler)
     for there, mode in ((True, 0o755), (False, 0o700)):
         for name in ("INT", "TERM"):
-            clear_out()
+            remove("out")
             lay(there)
             traced.run(binary, "extract", "image", "out", told=traced.inject("write", "signal=" + name, 1))
             if stat.S_IMODE(os.stat("out").st_mode) != mode or os.path.exists("out/.romtool-probe"):
                 yield "%s, %r: %o" % (name, there, os.stat("out").st_mode)
 
 
+@needs_strace
 def failure_is_told(binary):
-    """What failed is told as incomplete, and stays."""
-    if not shutil.which("strace"):
-        yield None
-        return
+    """What failed is reported as incomplete, and stays."""
     small(binary)
     for call in ("write", "fsync"):
-        clear_out()
+        remove("out")
         done = traced.run(binary, "--explain", "extract", "image", "out", told=traced.inject(call, "error=ENOSPC", 1))
         words = b"romtool: out: it is incomplete: what was made in it is left there\n"
         if done.returncode != 3 or done.stdout or not done.stderr.startswith(b"file out/") or words not in done.stderr:
@@ -656,40 +610,27 @@ def failure_is_told(binary):
 
 @needs_root
 def disks_that_fail_at_close(binary):
-    """A file system that tells only at close, or when it is asked to write, that it is full: no manifest is printed."""
-    if not (os.path.exists("/dev/fuse") and shutil.which("cc") and shutil.which("fusermount3")):
-        yield None
-        return
-    flags = subprocess.run(["pkg-config", "--cflags", "--libs", "fuse3"], stdout=subprocess.PIPE, stderr=subprocess.DEVNULL)
-    made = subprocess.run(
-        ["cc", "-w", "-o", "lossy", os.path.join(HERE, "lossy.c"), *flags.stdout.decode().split()], stderr=subprocess.DEVNULL
-    )
-    if flags.returncode or made.returncode:
+    """A file system that reports only at close, or when it is asked to write, that it is full: no manifest is printed."""
+    if not has_fuse():
         yield None
         return
     build_image(binary, ["file /a 0644 0 0 4 s", "file /big 0644 0 0 4 big"], "cramfs", [("s", b"s"), ("big", bytes(100000))])
-    os.mkdir("mnt")
-    server = subprocess.Popen([os.path.abspath("lossy"), os.path.abspath("mnt"), "50000"])
-    try:
-        for _ in range(100):
-            if os.path.ismount("mnt"):
-                break
-            time.sleep(0.05)
-        yield from refused(run(binary, "extract", "image", "mnt/out"), b"mnt/out/big")
-    finally:
-        subprocess.run(["fusermount3", "-uz", "mnt"], check=False)
-        server.wait(timeout=10)
+    with lossy(50000) as folder:
+        if folder:
+            yield from refused(run(binary, "extract", "image", folder + "/out"), b"mount/out/big")
+        else:
+            yield None
 
 
 def many_times_the_image(binary):
-    """Files that are many times longer than the image are told beforehand in words, and made."""
+    """Files that are many times longer than the image are reported beforehand in words, and made."""
     lines = ["file /a 0644 0 0 4 s"] + ["same /b%d 0644 0 0 /a" % number for number in range(59)]
     build_image(binary, lines, "cramfs", [("s", b"x" * 100000)])
     told = b"romtool: out: its files have 6000000 bytes, and the image %d\n" % os.path.getsize("image")
     done = run(binary, "--explain", "extract", "image", "out")
     if done.returncode or done.stderr != told or os.path.getsize("out/b58") != 100000:
         yield "%s" % shortly(done)
-    clear_out()
+    remove("out")
     build_image(binary, lines[:10], "cramfs")
     done = run(binary, "--explain", "extract", "image", "out")
     if done.returncode or done.stderr:
@@ -704,23 +645,15 @@ def memory_of_names(binary):
     for words in (["check", "image"], ["extract", "image", "no/folder"]):
         line = "import resource,subprocess,sys; subprocess.run(sys.argv[1:], stdout=-3, stderr=-3); "
         line += "print(resource.getrusage(resource.RUSAGE_CHILDREN).ru_maxrss)"
-        done = subprocess.run([sys.executable, "-c", line, binary, *words], stdout=subprocess.PIPE, check=True)
+        done = run(sys.executable, "-c", line, binary, *words, check=True)
         most[words[0]] = int(done.stdout) * 1024
     if most["extract"] - most["check"] > 100 * count + 2**20:
         yield "%r" % most
 
 
 def deep_files(depth, length, count):
-    """A romfs image of folders in folders with names of so many bytes, and so many empty files in the last one."""
-    size = 16 + (length + 16) // 16 * 16
-    parts = [images.header(64, images.DIRECTORY, 32, 0, b"."), images.header(96, images.HARD_LINK, 32, 0, b"..")]
-    above, here = 32, 96
-    for _ in range(depth):
-        first = here + size
-        parts.append(images.header(0, images.DIRECTORY, first, 0, b"n" * length))
-        parts.append(images.header(first + 32, images.HARD_LINK, here, 0, b"."))
-        parts.append(images.header(first + 64, images.HARD_LINK, above, 0, b".."))
-        above, here = here, first + 64
+    """Returns a romfs image of directories in each other with names of so many bytes, and so many empty files in the last one."""
+    parts, here = deep_folders(depth, length)
     for number in range(count):
         here += 32
         parts.append(images.header(here if number + 1 < count else 0, images.REGULAR, 0, 0, b"%x" % number))
@@ -737,34 +670,14 @@ TESTS = [
 
 
 def main():
-    reader = parser("Takes images apart, and builds them again.")
-    reader.add_argument("--count", type=int, default=300, help="how many manifests")
-    reader.add_argument("--first", type=int, default=1, help="the seed of the first one")
-    reader.add_argument("--name", default="", help="the tests alone whose name has this text")
+    reader = rooms.reader_of([*TESTS, by_chance], "Takes images apart, and builds them again.")
+    add_seeds(reader, 300)
     arguments = reader.parse_args()
-    binary, counts = program_of(arguments), Counts()
     os.umask(0)  # so that what is made has the modes of the image
-    for test in TESTS:
-        if arguments.name in test.__name__:
-            run_one(counts, test, binary)
-    if not arguments.name:
-        by_chance(counts, binary, arguments)
-    return counts.close()
-
-
-def run_one(counts, test, binary):
-    """Runs a test in a folder of its own."""
-    with tempfile.TemporaryDirectory(prefix="romtool-") as top:
-        os.chdir(top)
-        wrong = list(test(binary))
-        clear()
-        os.chdir("/")
-    if wrong == [None]:
-        counts.skips(test.__name__)
-    elif wrong:
-        counts.fails(test.__name__, wrong[:10])
-    else:
-        counts.passes()
+    if arguments.here == by_chance.__name__:
+        return by_chance(program_of(arguments), arguments)
+    seeds = ["--count", str(arguments.count), "--first", str(arguments.first)]
+    return rooms.run_tests(TESTS if arguments.name else [*TESTS, by_chance], arguments, seeds)
 
 
 if __name__ == "__main__":

@@ -1,5 +1,5 @@
 #!/usr/bin/env python3
-"""Prints what an image of a folder lists, sorted, without the numbers of nodes.
+"""Prints what an image of a directory lists, sorted, without the numbers of nodes.
 
     folder.py FORMAT FOLDER
 
@@ -11,27 +11,18 @@ import os
 import stat
 import sys
 
-KINDS = {
-    stat.S_IFDIR: "d", stat.S_IFREG: "f", stat.S_IFLNK: "l", stat.S_IFBLK: "b",
-    stat.S_IFCHR: "c", stat.S_IFSOCK: "s", stat.S_IFIFO: "p",
-}  # fmt: skip
-ROMFS_MODES = {"l": 0o777, "b": 0o600, "c": 0o600, "s": 0o644, "p": 0o644}
-
-
-def escaped(name):
-    """The name, with bytes that are no visible ASCII character, and `%`, in hexadecimal digits."""
-    return "".join(chr(b) if 0x21 <= b <= 0x7E and b != 0x25 else "%%%02X" % b for b in name)
+from romtool import KINDS, ROMFS_MODES, escaped
 
 
 def owner_and_mode(format, kind, status):
-    """What an image of the format keeps of mode, user and group."""
+    """Returns what an image of the format keeps of mode, user and group."""
     if format == "cramfs":
         return stat.S_IMODE(status.st_mode), status.st_uid & 0xFFFF, status.st_gid & 0xFF
     return ROMFS_MODES.get(kind, 0o755 if status.st_mode & 0o111 else 0o644), 0, 0
 
 
 def line(format, path, shown):
-    """The line of a file at the path, which the image shows at another."""
+    """Returns the line of a file at the path, which the image shows at another."""
     status = os.lstat(path)
     kind = KINDS[stat.S_IFMT(status.st_mode)]
     size = status.st_size if kind in "fl" else 0

@@ -5,7 +5,7 @@
 #
 #     tests/genromfs.sh [BINARY]
 #
-# The last line is `N passed, M failed`, with `, K skipped` where genromfs or the right to make devices
+# The last line is `N passed, M failed`, with `, K skipped` if genromfs or the right to make devices
 # is missing.
 set -u
 here=$(cd "$(dirname "$0")" && pwd)

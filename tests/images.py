@@ -18,24 +18,24 @@ PLAIN = 0xC0000000  # of a block pointer: the block is not compressed, and the p
 
 
 def padded(data, unit):
-    """The bytes with zeros up to a multiple of the unit."""
+    """Returns the bytes with zeros up to a multiple of the unit."""
     return data + bytes(-len(data) % unit)
 
 
 def word_sum(data):
-    """The sum of the words, the highest byte first; a rest of fewer than four bytes is not counted."""
+    """Returns the sum of the words, the highest byte first; a rest of fewer than four bytes is not counted."""
     count = len(data) // 4
     return sum(struct.unpack(">%dI" % count, data[: 4 * count])) % 2**32
 
 
 def mended(image, place, end):
-    """The image with the word at `place + 12` such that the words up to `end` have the sum 0."""
+    """Returns the image with the word at `place + 12` such that the words up to `end` have the sum 0."""
     total = word_sum(image[place : place + 12] + image[place + 16 : end])
     return image[: place + 12] + struct.pack(">I", -total % 2**32) + image[place + 16 :]
 
 
 def with_sums(image, records):
-    """The romfs image with the sums of the records mended, then that of the superblock."""
+    """Returns the romfs image with the sums of the records corrected, then that of the superblock."""
     for place in records:
         name_end = image.find(0, place + 16)
         if name_end >= 0:
@@ -44,28 +44,28 @@ def with_sums(image, records):
 
 
 def with_crc(image):
-    """The cramfs image with its CRC-32 mended."""
+    """Returns the cramfs image with its CRC-32 corrected."""
     size = struct.unpack_from("<I", image, 4)[0]
     crc = zlib.crc32(image[36:size], zlib.crc32(bytes(4), zlib.crc32(image[:32])))
     return image[:32] + struct.pack("<I", crc) + image[36:]
 
 
 def header(following, kind, spec, size, name):
-    """A romfs header with its name; `following` is the offset of the list's next header, or 0."""
+    """Returns a romfs header with its name; `following` is the offset of the list's next header, or 0."""
     bare = struct.pack(">4I", following | kind, spec, size, 0) + padded(name + b"\0", 16)
     return mended(bare, 0, len(bare))
 
 
 def romfs(parts):
-    """A romfs image without a volume name. Its parts stand from 32 on, the root's header first."""
+    """Returns a romfs image without a volume name. Its parts begin at 32, the root's header first."""
     body = b"".join(parts)
     return mended(struct.pack(">8s2I16x", b"-rom1fs-", 32 + len(body), 0) + body, 0, min(512, 32 + len(body)))
 
 
 def romfs_list(names, kind=REGULAR, spec=0, first=()):
-    """A romfs image whose root has `.`, `..`, what is `first`, and a record for each name.
+    """Returns a romfs image whose root has `.`, `..`, what is `first`, and a record for each name.
 
-    `first` is a list of (kind, spec, size, name, data); the first of them stands at 96.
+    `first` is a list of (kind, spec, size, name, data); the first of them is at 96.
     """
     entries = [(HARD_LINK, 32, 0, b"..", b""), *first, *((kind, spec, 0, name, b"") for name in names)]
     parts, place = [header(64, DIRECTORY, 32, 0, b".")], 64
@@ -78,25 +78,25 @@ def romfs_list(names, kind=REGULAR, spec=0, first=()):
 
 
 def inode(mode, size, offset, name=b"", uid=0, gid=0):
-    """An inode of cramfs with its name."""
+    """Returns an inode of cramfs with its name."""
     units = (len(name) + 3) // 4
     words = struct.pack("<3I", mode | uid << 16, size | gid << 24, units | offset // 4 << 6)
     return words + padded(name, 4)
 
 
 def cramfs(flags, root, body):
-    """A cramfs image. The body stands from 76 on, behind the root's inode."""
+    """Returns a cramfs image. The body begins at 76, behind the root's inode."""
     size = 76 + len(body)
     image = struct.pack("<4I16s32x", 0x28CD3D45, size, flags, 0, b"Compressed ROMFS") + root + body
     return with_crc(image) if flags & WITH_SUM else image
 
 
 def cramfs_list(names, flags=WITH_SUM | SORTED | DIRECT_POINTERS):
-    """A cramfs image whose root has an empty file of each name."""
+    """Returns a cramfs image whose root has an empty file of each name."""
     text = b"".join(inode(CRAMFS_REGULAR, 0, 0, name) for name in names)
     return cramfs(flags, inode(CRAMFS_DIRECTORY, len(text), 76), text)
 
 
 def pointers(first, count, step=BLOCK):
-    """The pointers to so many plain blocks, the first at this offset, each so many bytes after the last."""
+    """Returns the pointers to so many plain blocks, the first at this offset, each so many bytes after the last."""
     return struct.pack("<%dI" % count, *(PLAIN | (first + step * n) // 4 for n in range(count)))

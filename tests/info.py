@@ -3,28 +3,28 @@
 
     info.py [--binary PATH] [--count N] [--first SEED]
 
-Of each small image of the cases (see run.py), and of images of manifests made by chance (see manifests.py), with bytes
+Of each small image of the cases (see run.py), and of images of random manifests (see manifests.py), with bytes
 behind some: each line is worked out here, of the superblock's words, of the records, of the list and of the check's
-line. An image that `check` refuses has that line alone. The last line is `N passed, M failed`.
+line. If `check` refuses an image, the line of that is on standard error, and there is no other. The last line is `N passed, M failed`.
 """
 
 import os
 import sys
 import tempfile
 
-import run as cases
-from build import answer, bytes_in, put, run
-from extract import lay_out, names_in, volume_of
-from harness import Counts, parser, program_of
-from manifests import Made, escaped
-from map import images
+from extract import volume_of
+from files import bytes_in, put
+from harness import Counts, add_seeds, parser, program_of
+from manifests import Made, build
+from romtool import answer, entries, escaped, run
+from run import files_of_cases
 
 HAS_SIZE = 1  # the flag of cramfs that says that a size is stored
 LONGEST = 1 << 28  # accessible bytes of a cramfs image that stores no size
 
 
 def superblock(data, format):
-    """The size that is accessible, the flags where the format has them, and the stored sum."""
+    """Returns the size that is accessible, the flags if the format has them, and the stored sum."""
     if format == "romfs":
         return int.from_bytes(data[8:12], "big"), None, int.from_bytes(data[12:16], "big")
     order = "big" if format == "cramfs-be" else "little"
@@ -33,7 +33,7 @@ def superblock(data, format):
 
 
 def romfs_parts(b):
-    """The place and the length of each part of a romfs image with these accessible bytes."""
+    """Yields the place and the length of each part of a romfs image with these accessible bytes."""
 
     def word(at):
         return int.from_bytes(b[at : at + 4], "big")
@@ -61,13 +61,13 @@ def romfs_parts(b):
 
 
 def cramfs_parts(b, order):
-    """The same of a cramfs image in this byte order."""
+    """Yields the same of a cramfs image in this byte order."""
 
     def word(at):
         return int.from_bytes(b[at : at + 4], order)
 
     def fields(at, bits):
-        """The first field of a word, of so many bits, and the rest."""
+        """Returns the first field of a word, of so many bits, and the rest."""
         if order == "little":
             return word(at) % 2**bits, word(at) >> bits
         return word(at) >> (32 - bits), word(at) % 2 ** (32 - bits)
@@ -91,7 +91,7 @@ def cramfs_parts(b, order):
 
 
 def unused(data, format, size):
-    """How many of the accessible bytes are in no part of the image."""
+    """Returns how many of the accessible bytes are in no part of the image."""
     b = data[:size]
     parts = romfs_parts(b) if format == "romfs" else cramfs_parts(b, "big" if format == "cramfs-be" else "little")
     used = bytearray(size)
@@ -101,8 +101,8 @@ def unused(data, format, size):
 
 
 def facts(binary, image):
-    """The lines that `info` is to print of an image that `check` accepts."""
-    data, names = bytes_in(image), list(names_in(binary, image))
+    """Yields the lines that `info` is to print of an image that `check` accepts."""
+    data, names = bytes_in(image), entries(binary, image)
     _, format, references, depth = run(binary, "check", image).stdout.decode("ascii").split()
     size, flags, stored = superblock(data, format)
     kinds = [name.kind for name in names]
@@ -122,57 +122,40 @@ def facts(binary, image):
 
 
 def wrong(binary, image):
-    """What is wrong with the facts that are told of an image."""
+    """Yields what is wrong with the facts that are printed of an image."""
     checked, told = run(binary, "check", image), run(binary, "info", image)
     if checked.returncode:
-        wanted = answer(checked)
+        wanted = (b"", checked.stdout + checked.stderr, checked.returncode)
     else:
         wanted = ("".join(line + "\n" for line in facts(binary, image)).encode(), b"", 0)
     if answer(told) != wanted:
         yield "%.600r and not %.600r" % (answer(told), wanted)
 
 
-def of_manifest(binary, seed):
-    """What is wrong with the facts of the image of a manifest made by chance."""
-    made = Made(seed)
-    lay_out(made)
-    if run(binary, "build", made.format, "manifest", "image").returncode:
+def of_manifest(binary, seed, folder):
+    """Yields what is wrong with the facts of the image of a random manifest."""
+    image = os.path.join(folder, "image")
+    if build(binary, Made(seed), folder).returncode:
         yield "build"
         return
     if seed % 3 == 0:
-        put("image", bytes_in("image") + b"behind")
-    yield from wrong(binary, "image")
+        put(image, bytes_in(image) + b"behind")
+    yield from wrong(binary, image)
 
 
 def main():
     reader = parser("Compares `romtool info` with an image's bytes, its list and its check.")
-    reader.add_argument("--count", type=int, default=100, help="how many manifests")
-    reader.add_argument("--first", type=int, default=1, help="the seed of the first one")
+    add_seeds(reader, 100)
     arguments = reader.parse_args()
-    binary, counts, seen = program_of(arguments), Counts(), set()
+    binary, counts = program_of(arguments), Counts()
     with tempfile.TemporaryDirectory(prefix="romtool-") as top:
-        os.chdir(top)
-        for name, told in images():
-            if isinstance(told, dict) and "sparse" in told:
-                continue
-            data = cases.bytes_of(told)
-            if data not in seen and len(data) <= 2**20:
-                seen.add(data)
-                put("image", data)
-                counted(counts, name, wrong(binary, "image"))
+        image = os.path.join(top, "image")
+        for name, data in files_of_cases(most=2**20):
+            put(image, data)
+            counts.result(name, wrong(binary, image))
         for seed in range(arguments.first, arguments.first + arguments.count):
-            counted(counts, "seed %d" % seed, of_manifest(binary, seed))
-        os.chdir("/")
+            counts.result("seed %d" % seed, of_manifest(binary, seed, top))
     return counts.close()
-
-
-def counted(counts, name, told):
-    """Counts a test of this name."""
-    told = list(told)
-    if told:
-        counts.fails(name, told)
-    else:
-        counts.passes()
 
 
 if __name__ == "__main__":

@@ -3,10 +3,10 @@
 
     linux.py [--binary PATH] [--timeout SECONDS]
 
-A folder is made with a static busybox under several names (a file, a hard link, symbolic links), a script as its
-`init`, a file that its owner alone may read, and a program with the set-user bit. It is packed in romfs and in
-cramfs, and Debian's user-mode Linux mounts both images, and runs the `init` of each in the image alone: what that finds
-is told on the console. Where user-mode Linux, its modules or a static busybox are missing, or the kernel does not start
+A directory is made with a static busybox under several names (a file, a hard link, symbolic links), a script as its
+`init`, a file that only its owner may read, and a program with the set-user bit. It is packed in romfs and in
+cramfs, and Debian's user-mode Linux mounts both images, and runs the `init` of each in the image only: what that finds
+is printed on the console. If user-mode Linux, its modules or a static busybox are missing, or the kernel does not start
 on this processor, all is skipped. The last line is `N passed, M failed`, with `, K skipped`.
 """
 
@@ -17,7 +17,9 @@ import subprocess
 import sys
 import tempfile
 
-from harness import SECONDS, Counts, parser, program_of
+from files import bytes_in, put
+from harness import Counts, missing, parser, program_of
+from romtool import run
 
 FORMATS = ("romfs", "cramfs")
 MODULES = ("loop", "romfs", "cramfs")
@@ -45,20 +47,14 @@ $b poweroff -f
 
 
 def module_of(name):
-    """The path of a module of the installed user-mode Linux, or none."""
+    """Returns the path of a module of the installed user-mode Linux, or none."""
     found = glob.glob("/usr/lib/uml/modules/*/kernel/**/%s.ko" % name, recursive=True)
     return found[0] if found else None
 
 
-def bytes_in(name):
-    """The bytes of a file."""
-    with open(name, "rb") as file:
-        return file.read()
-
-
-def missing():
-    """What is not installed, or nothing."""
-    if not shutil.which("linux.uml"):
+def lacking():
+    """Returns what is not installed, or nothing."""
+    if missing("linux.uml"):
         return "user-mode Linux"
     if not all(map(module_of, MODULES)):
         return "its modules"
@@ -68,19 +64,12 @@ def missing():
     return "" if os.geteuid() == 0 else "root, who makes devices"
 
 
-def put(name, text, mode):
-    """Writes a file with this mode."""
-    os.makedirs(os.path.dirname(name), exist_ok=True)
-    with open(name, "w", encoding="utf-8") as file:
-        file.write(text)
-    os.chmod(name, mode)
-
-
 def make_root(top):
-    """The folder that is packed."""
-    put(top + "/init", ROOT_INIT, 0o755)
-    put(top + "/etc/secret", "hidden\n", 0o600)
-    os.makedirs(top + "/bin")
+    """The directory that is packed."""
+    for name in ("/etc", "/bin"):
+        os.makedirs(top + name)
+    put(top + "/init", ROOT_INIT.encode(), 0o755)
+    put(top + "/etc/secret", b"hidden\n", 0o600)
     shutil.copy(shutil.which("busybox"), top + "/bin/busybox")
     os.link(top + "/bin/busybox", top + "/bin/again")
     shutil.copy(shutil.which("busybox"), top + "/bin/su")
@@ -91,7 +80,7 @@ def make_root(top):
 
 
 def make_host(top):
-    """The folder that the kernel starts from: it holds the images and mounts them."""
+    """The directory that the kernel starts from: it holds the images and mounts them."""
     os.makedirs(top + "/mnt")
     os.makedirs(top + "/dev")
     os.makedirs(top + "/bin")
@@ -101,47 +90,42 @@ def make_host(top):
     for number, _ in enumerate(FORMATS):
         os.mknod("%s/dev/loop%d" % (top, number), 0o60600, os.makedev(7, number))
     words = {"started": STARTED, "modules": " ".join(MODULES), "formats": " ".join(FORMATS)}
-    put(top + "/init", HOST_INIT % words, 0o755)
+    put(top + "/init", (HOST_INIT % words).encode(), 0o755)
 
 
-def pack(binary, form, counts):
-    """Packs the root as it is; whether that went well."""
-    with open("manifest", "wb") as manifest:
-        done = subprocess.run([binary, "scan", "--all", "--for", form, "root"], stdout=manifest, timeout=SECONDS)
-    image = "host/%s.image" % form
+def pack(binary, top, form, counts):
+    """Packs the directory `root` as it is, and returns whether that succeeded."""
+    done = run(binary, "scan", "--all", "--for", form, "root", cwd=top)
+    put(top + "/manifest", done.stdout)
     if not done.returncode:
-        done = subprocess.run([binary, "build", form, "manifest", image], stdout=subprocess.PIPE, timeout=SECONDS)
+        done = run(binary, "build", form, "manifest", "host/%s.image" % form, cwd=top)
     if done.returncode:
         counts.fails("%s is not packed" % form)
     return not done.returncode
 
 
 def wanted(form):
-    """What the init in the image prints. Romfs has no owners, and of modes just whether a file may be run."""
+    """Returns what the init in the image prints. Romfs has no owners, and of modes only whether a file may be run."""
     secret, su = ("644 0 0", "755") if form == "romfs" else ("600 0 7", "4755")
     said = ["runs as 0", "secret %s hidden" % secret, "su %s" % su, "link busybox", "same yes"]
     return ["%s %s" % (form, line) for line in said]
 
 
 def console(top, seconds):
-    """What the kernel's console shows."""
+    """Returns what the kernel's console shows."""
     words = ["linux.uml", "mem=128M", "root=/dev/root", "rootfstype=hostfs", "rootflags=" + top, "rw", "init=/init"]
     words += ["con=null", "con0=null,fd:1", "quiet"]
     done = subprocess.run(words, stdin=subprocess.DEVNULL, stdout=subprocess.PIPE, stderr=subprocess.STDOUT, timeout=seconds)
     return done.stdout.decode(errors="replace").replace("\r", "").split("\n")
 
 
-def tries(binary, counts, seconds):
-    """Packs the root in each format, and starts both."""
-    make_root("root")
-    make_host("host")
-    if not all([pack(binary, form, counts) for form in FORMATS]):
+def tries(binary, top, counts, seconds):
+    """Packs the root in each format in a directory, and starts both."""
+    make_root(top + "/root")
+    make_host(top + "/host")
+    if not all([pack(binary, top, form, counts) for form in FORMATS]):
         return
-    try:
-        lines = console(os.path.abspath("host"), seconds)
-    except subprocess.TimeoutExpired:
-        counts.fails("the kernel does not end within %d seconds" % seconds)
-        return
+    lines = console(top + "/host", seconds)
     if STARTED not in lines:
         counts.skips("user-mode Linux does not start here: %r" % lines[-3:])
         return
@@ -152,21 +136,22 @@ def tries(binary, counts, seconds):
             counts.fails(line, [it for it in lines if it.startswith(line.split(" ", maxsplit=1)[0])])
 
 
-def main():
-    reader = parser("Start a packed root in user-mode Linux.")
-    reader.add_argument("--timeout", type=int, default=300)
+def main(about, tries):
+    """Has a script of these tests read its command line, try what Linux does, and return its exit status."""
+    reader = parser(about)
+    reader.add_argument("--timeout", type=int, default=300, help="how many seconds the kernel may run")
     arguments = reader.parse_args()
     binary, counts = program_of(arguments), Counts()
-    lacks = missing()
-    if lacks:
+    if lacks := lacking():
         counts.skips("%s is not here" % lacks)
         return counts.close()
     with tempfile.TemporaryDirectory(prefix="romtool-") as top:
-        os.chdir(top)
-        tries(binary, counts, arguments.timeout)
-        os.chdir("/")
+        try:
+            tries(binary, top, counts, arguments.timeout)
+        except subprocess.TimeoutExpired:
+            counts.fails("the kernel does not end within %d seconds" % arguments.timeout)
     return counts.close()
 
 
 if __name__ == "__main__":
-    sys.exit(main())
+    sys.exit(main("Start a packed root in user-mode Linux.", tries))

@@ -3,26 +3,28 @@
 
     lookups.py [--binary PATH] [--name TEXT]
 
-Lists of 1, 2, 16, 17, 18 and 400 names, in romfs and in cramfs of either byte order, whose names rise, fall or stand
-by chance: names of one byte and of the longest, names with equal fronts, names of which one begins with the
+Lists of 1, 2, 16, 17, 18 and 400 names, in romfs and in cramfs of either byte order, whose names rise, fall or are
+random: names of one byte and of the longest, names with equal fronts, names of which one begins with the
 other, and bytes of each value. Each name is looked up, and so are names that are absent: before the first, between
-two, behind the last, each name cut by a byte and with one more. The lines go in an order by chance, twice over. A
-romfs list begins with `..` and has hard links; `.` and `..` stand in paths. What is expected comes from the places at
+two, behind the last, each name cut by a byte and with one more. The lines go in a random order, twice over. A
+romfs list begins with `..` and has hard links; `.` and `..` are in paths. What is expected comes from the places at
 which the lists are laid out. In `space` the same lines go to a list that is mounted in another one, of as many names.
 The last line is `N passed, M failed`.
 """
 
 import os
 import random
-import subprocess
 import sys
 import tempfile
 
 from big_endian import Turned
-from harness import SECONDS, Counts, parser, program_of
+from files import put
+from harness import Counts, parser, program_of
+
 from images import (
     CRAMFS_DIRECTORY, CRAMFS_REGULAR, DIRECT_POINTERS, HARD_LINK, REGULAR, SORTED, WITH_SUM, cramfs, inode, romfs_list,
 )  # fmt: skip
+from romtool import run
 
 COUNTS = (1, 2, 16, 17, 18, 400)
 ORDERS = ("rising", "falling", "by chance")
@@ -31,7 +33,7 @@ NOWHERE = (b"\x01", b"\xff" * 9)  # before and behind all names that are made he
 
 
 def names_made(count, longest, chance):
-    """So many names, all of them different, and each begun by a byte that is neither the least nor the greatest."""
+    """Returns so many names, all of them different, and each begun by a byte that is neither the least nor the greatest."""
     names = [b"m", b"m" * longest, b"m" * (longest - 1) + b"n", b"mn"]
     names += [b"m" * chance.randrange(1, longest - 2) + b"%d" % number for number in range(count // 4)]
     names += [b"front of each %05d" % number for number in range(count // 4)]
@@ -43,12 +45,12 @@ def names_made(count, longest, chance):
 
 
 def some_of(names, count, chance):
-    """So many of the names, among them the first and the last."""
+    """Returns so many of the names, among them the first and the last."""
     return sorted({names[0], names[-1], *chance.sample(names[1:-1], count - 2)})
 
 
 def in_order(names, order, chance):
-    """The names as a list has them."""
+    """Returns the names as a list has them."""
     if order == "by chance":
         names = list(names)
         chance.shuffle(names)
@@ -56,20 +58,17 @@ def in_order(names, order, chance):
 
 
 def romfs_image(names):
-    """A romfs image, and where each name leads: each third name but the first is a hard link to the first."""
+    """Returns a romfs image, and where each name leads: each third name but the first is a hard link to the first."""
     place, leads = 96, {}
     for number, name in enumerate(names):
         leads[name] = 96 if number % 3 == 2 else place
         place += 16 + (len(name) + 16) // 16 * 16
-    entries = [
-        (HARD_LINK, 96, 0, name, b"") if number % 3 == 2 else (REGULAR, 0, 0, name, b"")
-        for number, name in enumerate(names)
-    ]
+    entries = [(HARD_LINK, 96, 0, name, b"") if number % 3 == 2 else (REGULAR, 0, 0, name, b"") for number, name in enumerate(names)]
     return romfs_list([], first=entries), leads
 
 
 def cramfs_image(names, rising, directory=b""):
-    """A cramfs image, and where each name leads; the name that is the directory's is an empty one."""
+    """Returns a cramfs image, and where each name leads; the name that is the directory's is an empty one."""
     place, leads, text = 76, {}, b""
     for name in names:
         leads[name] = place + len(text)
@@ -79,7 +78,7 @@ def cramfs_image(names, rising, directory=b""):
 
 
 def image_of(form, names, order):
-    """An image in a format, and where each name leads."""
+    """Returns an image in a format, and where each name leads."""
     if form == "romfs":
         return romfs_image(names)
     image, leads = cramfs_image(names, order == "rising")
@@ -87,7 +86,7 @@ def image_of(form, names, order):
 
 
 def absent_beside(names):
-    """Names that are not among these: beside each, before all and behind all."""
+    """Returns names that are not among these: beside each, before all and behind all."""
     beside = [*NOWHERE]
     for name in names:
         last = name[-1]
@@ -99,20 +98,20 @@ def absent_beside(names):
 
 
 def written(name):
-    """A name as it stands in a line."""
+    """Returns a name as it is written in a line."""
     return b"".join(b"%%%02x" % byte for byte in name)
 
 
 def asked(names, leads, chance):
-    """Names and where they lead, each twice, in an order by chance."""
+    """Returns names and where they lead, each twice, in a random order."""
     told = [(name, leads[name]) for name in names] + [(name, None) for name in absent_beside(names)]
     chance.shuffle(told)
     return told + told[::-1]
 
 
 def wrong_replies(binary, words, lines, replies):
-    """What is wrong in the replies to some lines; the first that differs is told."""
-    done = subprocess.run([binary, *words], input=b"".join(lines), capture_output=True, timeout=SECONDS)
+    """Returns what is wrong in the replies to some lines; the first that differs is reported."""
+    done = run(binary, *words, input=b"".join(lines))
     if done.stderr or done.returncode:
         return ["status %d and %r" % (done.returncode, done.stderr)]
     got = done.stdout.splitlines(keepends=True)
@@ -124,7 +123,7 @@ def wrong_replies(binary, words, lines, replies):
 
 
 def wrong_served(binary, path, told):
-    """What is wrong where an image is served alone; dots go before some names."""
+    """Returns what is wrong if an image is served by itself; dots go before some names."""
     ways = (b"/", b"/./", b"/../", b"//")
     lines = [b"lookup %s%s\n" % (ways[number % 4], written(name)) for number, (name, _) in enumerate(told)]
     replies = [b"err ENOENT\n" if place is None else b"ok %d\n" % place for _, place in told]
@@ -132,11 +131,10 @@ def wrong_served(binary, path, told):
 
 
 def wrong_mounted(binary, path, top, told, others):
-    """What is wrong where an image is mounted in another, whose own names are looked up in turn with its own."""
+    """Returns what is wrong if an image is mounted in another, whose own names are looked up in turn with its own."""
     below = os.path.join(top, "below")
     image, leads = cramfs_image(others, True, others[-1])
-    with open(below, "wb") as file:
-        file.write(image)
+    put(below, image)
     mount = written(others[-1])
     lines, replies = [b"0 mount 1 /%s\n" % mount], [b"0 ok\n"]
     for number, (name, place) in enumerate(told):
@@ -155,16 +153,12 @@ def done_list(binary, form, count, order, counts):
     told = asked(names, leads, chance)
     with tempfile.TemporaryDirectory() as top:
         path = os.path.join(top, "image")
-        with open(path, "wb") as file:
-            file.write(image)
+        put(path, image)
         for word, wrong in (
             ("serve", wrong_served(binary, path, told)),
             ("space", wrong_mounted(binary, path, top, told, names_made(max(count, 2), 252, chance))),
         ):
-            if wrong:
-                counts.fails("look-ups: %s, %d names %s, %s" % (form, count, order, word), wrong)
-            else:
-                counts.passes()
+            counts.result("look-ups: %s, %d names %s, %s" % (form, count, order, word), wrong)
 
 
 def main():

@@ -1,39 +1,33 @@
 #!/usr/bin/env python3
-"""Builds images of manifests made by chance, and reads them again.
+"""Builds images of random manifests, and reads them again.
 
     manifests.py [--binary PATH] [--count N] [--first SEED]
 
 Each manifest has directories, files with their sources, links, devices, FIFOs, sockets and further names,
 with names of any bytes. It is built in one of the three formats; then `check` accepts the image, `list` gives
-just what the manifest says, name by name in the order of bytes, and through `serve` each file's bytes lie
+exactly what the manifest says, name by name in the order of bytes, and through `serve` each file's bytes lie
 at the place that `map` names. What a manifest says is worked out here, line by line as it is made.
-A seed makes the same manifest each time, and is named where a test fails. The last line is
+A seed makes the same manifest each time, and is named if a test fails. The last line is
 `N passed, M failed`.
 """
 
 import os
 import random
-import subprocess
 import sys
 import tempfile
 
-from harness import SECONDS, Counts, parser, program_of
+from files import bytes_in, put
+from harness import Counts, add_seeds, parser, program_of
+from romtool import FORMATS, ROMFS_MODES, escaped, run, without_number
 
-FORMATS = ["romfs", "cramfs", "cramfs-be"]
 OFTEN = b"abcdefghij%. \xe9\xff\n-_"
 SIZES = [0, 1, 5, 16, 4095, 4096, 4097, 8192]
 ALIGNMENTS = [4, 16, 64, 4096, 65536]
-ROMFS_MODES = {"l": 0o777, "b": 0o600, "c": 0o600, "p": 0o644, "s": 0o644}
 SPECIAL = {"p": "pipe", "s": "sock"}
 
 
-def escaped(some):
-    """The bytes as a manifest and a list write them."""
-    return "".join(chr(byte) if 33 <= byte <= 126 and byte != 37 else "%%%02X" % byte for byte in some)
-
-
 class Made:
-    """A manifest made by chance, with what it says of each path."""
+    """A random manifest, with what it says of each path."""
 
     def __init__(self, seed):
         self.chance = random.Random(seed)
@@ -53,14 +47,14 @@ class Made:
         self.lines.insert(self.chance.randint(0, len(self.lines)), line)
 
     def name(self):
-        """A name that a directory may hold: of 1 to 252 bytes, and neither `.` nor `..`."""
+        """Returns a name that a directory may hold: of 1 to 252 bytes, and neither `.` nor `..`."""
         length = self.chance.choice([1, 1, 2, 3, 8, 40, 252])
         bytes_of = OFTEN if self.chance.random() < 0.7 else bytes(range(1, 256)).replace(b"/", b"")
         name = bytes(self.chance.choice(bytes_of) for _ in range(length))
         return b"-" if name in (b".", b"..") else name
 
     def attributes(self, kind):
-        """A mode and an owner that the format can store."""
+        """Returns a mode and an owner that the format can store."""
         if self.format != "romfs":
             return self.chance.randint(0, 0o7777), self.chance.randint(0, 65535), self.chance.randint(0, 255)
         return ROMFS_MODES.get(kind) or self.chance.choice([0o644, 0o755]), 0, 0
@@ -111,33 +105,31 @@ class Made:
         self.lines.append("same %s %04o %d %d %s" % (escaped(path), mode, user, group, escaped(old)))
 
     def in_order(self, folder=b""):
-        """The paths below a folder, each before what it holds, names in the order of their bytes."""
+        """Yields the paths below a directory, each before what it holds, names in the order of their bytes."""
         for path in sorted(path for path in self.told if path.rpartition(b"/")[0] == folder):
             yield path
             if path in self.folders:
                 yield from self.in_order(path)
 
     def listed(self):
-        """The lines of the image's list behind the root's, without their numbers."""
+        """Yields the lines of the image's list behind the root's, without their numbers."""
         for path in self.in_order():
             fields, contents = self.told[path]
             text = " " + escaped(contents) if fields[0] == "l" else ""
             yield "%s %s%s" % (fields, escaped(path), text)
 
 
-def run(binary, *words, **more):
-    """Runs the program on these words."""
-    return subprocess.run([binary, *words], stdout=subprocess.PIPE, stderr=subprocess.PIPE, timeout=SECONDS, **more)
+def build(binary, made, folder):
+    """Writes a manifest and its sources to a directory, builds the file `image` there, and returns the finished run."""
+    for number, contents in enumerate(made.sources):
+        put(os.path.join(folder, "source%d" % number), contents)
+    put(os.path.join(folder, "manifest"), "\n".join(made.lines).encode("ascii"))
+    return run(binary, "build", made.format, "manifest", "image", cwd=folder)
 
 
 def differs(binary, made, folder):
-    """What is wrong with the image of a manifest, or nothing."""
-    for number, contents in enumerate(made.sources):
-        with open(os.path.join(folder, "source%d" % number), "wb") as file:
-            file.write(contents)
-    with open(os.path.join(folder, "manifest"), "w", encoding="ascii") as file:
-        file.write("\n".join(made.lines))
-    ran = run(binary, "build", made.format, "manifest", "image", cwd=folder)
+    """Returns what is wrong with the image of a manifest, or nothing."""
+    ran = build(binary, made, folder)
     if ran.returncode:
         return "build: %r" % (ran.stdout + ran.stderr)
     image = os.path.join(folder, "image")
@@ -147,7 +139,7 @@ def differs(binary, made, folder):
     listed = run(binary, "list", image).stdout.decode("ascii").split("\n")[1:-1]
     wanted = list(made.listed())
     for got, want in zip(listed, wanted):
-        if got.partition(" ")[2] != want:
+        if without_number(got) != want:
             return "list: %r and not %r" % (got, want)
     if len(listed) != len(wanted):
         return "list: %d lines and not %d" % (len(listed), len(wanted))
@@ -155,14 +147,11 @@ def differs(binary, made, folder):
 
 
 def serves(binary, made, image):
-    """What is wrong with the files that are served from an image, or nothing."""
+    """Returns what is wrong with the files that are served from an image, or nothing."""
     files = [path for path in made.files if made.told[path][1]]
-    lines = "".join(
-        "open %s\nmap 0 0 %d\nclose 0\n" % (escaped(path), len(made.told[path][1])) for path in files
-    )
+    lines = "".join("open %s\nmap 0 0 %d\nclose 0\n" % (escaped(path), len(made.told[path][1])) for path in files)
     replies = run(binary, "serve", image, input=lines.encode("ascii")).stdout.decode("ascii").split("\n")
-    with open(image, "rb") as file:
-        stored = file.read()
+    stored = bytes_in(image)
     for path, reply in zip(files, replies[1::3]):
         contents = made.told[path][1]
         fields = reply.split(" ")
@@ -175,18 +164,14 @@ def serves(binary, made, image):
 
 def main():
     reader = parser("Builds images of manifests made by chance, and reads them again.")
-    reader.add_argument("--count", type=int, default=400, help="how many manifests")
-    reader.add_argument("--first", type=int, default=1, help="the seed of the first one")
+    add_seeds(reader, 400)
     arguments = reader.parse_args()
     binary = program_of(arguments)
     counts = Counts()
     for seed in range(arguments.first, arguments.first + arguments.count):
         with tempfile.TemporaryDirectory() as folder:
             wrong = differs(binary, Made(seed), folder)
-        if wrong:
-            counts.fails("seed %d" % seed, [wrong])
-        else:
-            counts.passes()
+        counts.result("seed %d" % seed, [wrong] if wrong else [])
     return counts.close()
 
 

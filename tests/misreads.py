@@ -14,15 +14,13 @@ with `, K skipped`.
 """
 
 import hashlib
-import os
 import struct
-import subprocess
 import sys
-import tempfile
 
 import images
-from harness import SECONDS, Counts, parser, program_of
-from linux import STARTED, console, make_host, missing
+from files import put
+from linux import STARTED, console, main, make_host
+from romtool import run
 
 # files of one table: name, mode, user and group
 SHARED = (("s0", "0644", 1, 2), ("s1", "0644", 1, 2), ("s2", "0755", 1, 2), ("s3", "0644", 3, 2), ("s4", "0644", 1, 4))
@@ -81,41 +79,43 @@ $b poweroff -f
 
 
 def named(length):
-    """A name of this length, which begins as no other one does."""
+    """Returns a name of this length, which begins as no other one does."""
     return "%03d%s" % (length, "n" * (length - 3)) if length > 2 else "n"
 
 
 def contents(size):
-    """Bytes of a file, none of which is zero."""
+    """Returns bytes of a file, none of which is zero."""
     return bytes(1 + (at * 7 + size) % 255 for at in range(size))
 
 
 def told_of(binary, image):
-    """What `romtool linux` says of an image, number by number."""
-    done = subprocess.run([binary, "linux", image], stdout=subprocess.PIPE, timeout=SECONDS, check=False)
+    """Returns what `romtool linux` says of an image, number by number."""
+    done = run(binary, "linux", image)
     told = [line.split(" ") for line in done.stdout.decode("ascii").splitlines()]
     return {number: {path[1:] for _, it, _, path in told if it == str(number)} for number in range(1, 11)}
 
 
-def built(binary, form, lines, name=None):
-    """Builds the image of a manifest, and gives what `romtool linux` says of it."""
-    with open("manifest", "w", encoding="ascii") as file:
-        file.write("".join(line + "\n" for line in lines))
-    image = "host/%s.image" % (name or form)
-    subprocess.run([binary, "build", form, "manifest", image], stdout=subprocess.DEVNULL, timeout=SECONDS, check=True)
+def image_path(top, name):
+    """Returns where the kernel finds an image."""
+    return "%s/host/%s.image" % (top, name)
+
+
+def built(binary, top, form, lines, name=None):
+    """Builds the image of a manifest, and returns what `romtool linux` says of it."""
+    put(top + "/manifest", "".join(line + "\n" for line in lines).encode("ascii"))
+    image = image_path(top, name or form)
+    run(binary, "build", form, "manifest", image, cwd=top, check=True)
     return told_of(binary, image)
 
 
-def laid_out(binary, name, image):
-    """Puts an image where the kernel finds it, and gives what `romtool linux` says of it."""
-    path = "host/%s.image" % name
-    with open(path, "wb") as file:
-        file.write(images.padded(image, images.BLOCK))
-    return told_of(binary, path)
+def laid_out(binary, top, name, image):
+    """Puts an image where the kernel finds it, and returns what `romtool linux` says of it."""
+    put(image_path(top, name), images.padded(image, images.BLOCK))
+    return told_of(binary, image_path(top, name))
 
 
 def romfs_nodes():
-    """A romfs image with devices, links, and files with long names to each of which a hard link leads."""
+    """Returns a romfs image with devices, links, and files with long names to each of which a hard link leads."""
     rows = [(4, major << 16 | minor, 0, b"d%d" % at, b"") for at, (major, minor) in enumerate(DEVICES["romfs"])]
     rows += [(3, 0, len(text), b"l%d" % at, text) for at, text in enumerate(TEXTS)]
     rows += [(images.REGULAR, 0, len(CONTENTS), named(length).encode(), CONTENTS) for length in LONG]
@@ -129,7 +129,7 @@ def romfs_nodes():
 
 
 def cramfs_nodes():
-    """A cramfs image with devices, links, and names that take more room than they need."""
+    """Returns a cramfs image with devices, links, and names that take more room than they need."""
     rows = [("d%d" % at, 1, 0o60600, 256 * major + minor, b"") for at, (major, minor) in enumerate(DEVICES["cramfs"])]
     rows += [("l%d" % at, 1, 0o120777, len(text), text) for at, text in enumerate(TEXTS)]
     rows += [(name, units, images.CRAMFS_REGULAR, 0, b"") for name, units in PADDED]
@@ -144,13 +144,13 @@ def cramfs_nodes():
 
 
 def cramfs_root(mode):
-    """A cramfs image whose root has this mode, and an empty file."""
+    """Returns a cramfs image whose root has this mode, and an empty file."""
     file = images.inode(images.CRAMFS_REGULAR, 0, 0, b"file")
     return images.cramfs(images.DIRECT_POINTERS, images.inode(0o40000 | mode, len(file), 76), file)
 
 
 def look(counts, name, got, wanted):
-    """Counts whether Linux shows what is told."""
+    """Counts whether Linux shows what `romtool linux` says."""
     if got == wanted:
         counts.passes()
     else:
@@ -160,22 +160,21 @@ def look(counts, name, got, wanted):
 class Images:
     """All images, and what `romtool linux` says of them."""
 
-    def __init__(self, binary):
-        self.names = [named(length) for length in LENGTHS]
-        with open("one", "wb") as file:
-            file.write(b"x")
-        self.romfs = built(binary, "romfs", ["file /%s 0644 0 0 4 one" % name for name in self.names])
+    def __init__(self, binary, top):
+        """Makes all of them in a directory."""
+        self.top, self.names = top, [named(length) for length in LENGTHS]
+        put(top + "/one", b"x")
+        self.romfs = built(binary, top, "romfs", ["file /%s 0644 0 0 4 one" % name for name in self.names])
         for size in SIZES:
-            with open("of%d" % size, "wb") as file:
-                file.write(contents(size))
+            put("%s/of%d" % (top, size), contents(size))
         lines = ["file /f%d 0644 0 0 4 of%d" % (size, size) for size in SIZES]
         lines += ["file /%s %s %d %d 4 one" % SHARED[0]]
         lines += ["same /%s %s %d %d /%s" % (*it, SHARED[0][0]) for it in SHARED[1:]]
-        self.cramfs = built(binary, "cramfs", lines)
-        self.volumes = {"of%d" % it: built(binary, "romfs", ["volume " + it * "v"], "of%d" % it) for it in VOLUMES}
+        self.cramfs = built(binary, top, "cramfs", lines)
+        self.volumes = {"of%d" % it: built(binary, top, "romfs", ["volume " + it * "v"], "of%d" % it) for it in VOLUMES}
         nodes = (("romfs", romfs_nodes()), ("cramfs", cramfs_nodes()))
-        self.nodes = {form: laid_out(binary, "nodes." + form, image) for form, image in nodes}
-        self.roots = {"root%o" % mode: laid_out(binary, "root%o" % mode, cramfs_root(mode)) for mode in ROOTS}
+        self.nodes = {form: laid_out(binary, top, "nodes." + form, image) for form, image in nodes}
+        self.roots = {"root%o" % mode: laid_out(binary, top, "root%o" % mode, cramfs_root(mode)) for mode in ROOTS}
         names = ["d%d" % at for at in range(5)] + ["l%d" % at for at in range(len(TEXTS))]
         self.node_names = {
             "romfs": [*names, *("h%d" % length for length in LONG), *map(named, LONG), "z"],
@@ -185,8 +184,7 @@ class Images:
     def put_names(self):
         """Puts the names that are looked up where the kernel finds them."""
         for name, names in (("names", self.names), *(("%s.names" % it, names) for it, names in self.node_names.items())):
-            with open("host/" + name, "w", encoding="ascii") as file:
-                file.write("".join(it + "\n" for it in names))
+            put("%s/host/%s" % (self.top, name), "".join(it + "\n" for it in names).encode("ascii"))
 
 
 def look_at_names(counts, it, told):
@@ -220,7 +218,10 @@ def look_at_volumes(counts, it, told):
 def look_at_nodes(counts, it, form, told):
     """Devices, links, names and data of an image that was laid out here."""
     said, names = it.nodes[form], it.node_names[form]
-    seen = {word: [line[len(word) + 1 :] for line in told("in " + form) if line.startswith(word + " ")] for word in ("name", "found", "device", "link", "data")}
+    seen = {
+        word: [line[len(word) + 1 :] for line in told("in " + form) if line.startswith(word + " ")]
+        for word in ("name", "found", "device", "link", "data")
+    }
     of = {word: {line.rpartition(" ")[2]: line.rpartition(" ")[0] for line in seen[word]} for word in ("device", "link", "data")}
     wrong = {"d%d" % at for at, pair in enumerate(DEVICES[form]) if of["device"].get("d%d" % at) != "%x:%x" % pair}
     look(counts, form + ": devices that have other numbers", wrong, said[6])
@@ -234,15 +235,14 @@ def look_at_nodes(counts, it, form, told):
     look(counts, form + ": files that are read from another place", wrong, said[10])
 
 
-def tries(binary, counts, seconds):
-    """Makes all images, has Linux read them, and compares."""
-    make_host("host")
-    it = Images(binary)
+def tries(binary, top, counts, seconds):
+    """Makes all images in a directory, has Linux read them, and compares."""
+    make_host(top + "/host")
+    it = Images(binary, top)
     it.put_names()
     words = {"started": STARTED, "volumes": " ".join(it.volumes), "roots": " ".join(it.roots)}
-    with open("host/init", "w", encoding="ascii") as file:
-        file.write(HOST_INIT % words)
-    lines = console(os.path.abspath("host"), seconds)
+    put(top + "/host/init", (HOST_INIT % words).encode("ascii"))
+    lines = console(top + "/host", seconds)
     if STARTED not in lines:
         counts.skips("user-mode Linux does not start here: %r" % lines[-3:])
         return
@@ -257,24 +257,5 @@ def tries(binary, counts, seconds):
         look_at_nodes(counts, it, form, told)
 
 
-def main():
-    reader = parser("Ask Linux itself what `romtool linux` says that it misreads.")
-    reader.add_argument("--timeout", type=int, default=300)
-    arguments = reader.parse_args()
-    binary, counts = program_of(arguments), Counts()
-    lacks = missing()
-    if lacks:
-        counts.skips("%s is not here" % lacks)
-        return counts.close()
-    with tempfile.TemporaryDirectory(prefix="romtool-") as top:
-        os.chdir(top)
-        try:
-            tries(binary, counts, arguments.timeout)
-        except subprocess.TimeoutExpired:
-            counts.fails("the kernel does not end within %d seconds" % arguments.timeout)
-        os.chdir("/")
-    return counts.close()
-
-
 if __name__ == "__main__":
-    sys.exit(main())
+    sys.exit(main("Ask Linux itself what `romtool linux` says that it misreads.", tries))

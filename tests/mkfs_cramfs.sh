@@ -1,11 +1,11 @@
 #!/bin/sh
 # Builds cramfs images by util-linux's mkfs.cramfs (Debian package util-linux-extra) from folders that
 # it makes, in either byte order, and compares what `romtool list` prints of each with what the folder
-# holds. mkfs.cramfs compresses all contents, so the files are empty and no link is there, but where a fault is expected.
+# holds. mkfs.cramfs compresses all contents, so the files are empty and there are no links, except if a fault is expected.
 #
 #     tests/mkfs_cramfs.sh [BINARY]
 #
-# The last line is `N passed, M failed`, with `, K skipped` where mkfs.cramfs or the rights of root are
+# The last line is `N passed, M failed`, with `, K skipped` if mkfs.cramfs or the rights of root are
 # missing.
 set -u
 here=$(cd "$(dirname "$0")" && pwd)

@@ -6,7 +6,7 @@
 In the one the image's bytes are the caller's, and it is proved. In the other they are gone when it
 returns, so that the part would outlive them: the borrow checker refuses it. (A must-fail edit cannot say
 so, for those reach the prover, and the borrow checker comes before it.)
-The last line is `N passed, M failed`, with `, K skipped` where `rt` is missing.
+The last line is `N passed, M failed`, with `, K skipped` if `rt` is missing.
 """
 
 import os
@@ -54,14 +54,14 @@ pub fn lent<'a>(alloc: Global%s) -> Option<Piece<'a>> {
 
 
 def crates_and_uses():
-    """The crates of the repository, each with the libraries that it uses."""
+    """Returns the crates of the repository, each with the libraries that it uses."""
     with open(os.path.join(TOP, "crates.txt"), encoding="utf-8") as file:
         lines = [line.split(":") for line in file if ":" in line and not line.startswith("#")]
     return {name.strip(): uses.split() for name, uses in lines}
 
 
 def all_used(crates):
-    """The crates that these stand on, with all below them."""
+    """Returns the crates that these depend on, with all below them."""
     out, left = [], list(USED)
     while left:
         name = left.pop()

@@ -5,7 +5,7 @@
 
 A good image of each format is given to the page: its verdict, facts, tree, picture and contents are those of romtool.
 Then images with a fault, a directory of many names, which may not stop the page, large images, and one that is dropped.
-The page is used by keys only; what a screen reader is told has names; its colours have contrast in light and in dark;
+The page is used by keys only; what a screen reader reads has names; its colours have contrast in light and in dark;
 nothing is asked from outside, and nothing fails unseen. The last line is `N passed, M failed`, with `, K skipped` if there is no Chromium.
 """
 
@@ -18,7 +18,9 @@ import tempfile
 import time
 
 import c
+from files import bytes_in, put, wait_until
 from harness import Counts, parser, program_of
+from romtool import entries
 
 BROWSERS = ("chromium", "chromium-browser", "google-chrome")
 # for how many seconds the page may work on an image
@@ -34,7 +36,7 @@ CELLS = ("data", "name", "link", "fault")
 
 
 class Browser:
-    """A browser that is told what to do by a pipe, with one page open."""
+    """A browser that is controlled by a pipe, with one page open."""
 
     def __init__(self, program, room):
         to_read, self.to = os.pipe()
@@ -52,7 +54,7 @@ class Browser:
             self.call(part + ".enable")
 
     def message(self):
-        """The next message."""
+        """Returns the next message."""
         while b"\0" not in self.rest:
             more = os.read(self.fro, 1 << 16)
             if not more:
@@ -62,7 +64,7 @@ class Browser:
         return json.loads(one)
 
     def call(self, method, **words):
-        """What a call answers; events that come before it are kept."""
+        """Returns what a call answers; events that come before it are kept."""
         self.number += 1
         asked = {"id": self.number, "method": method, "params": words}
         if self.session:
@@ -77,20 +79,16 @@ class Browser:
             self.events.append(told)
 
     def value(self, text):
-        """The value of an expression of the page."""
+        """Returns the value of an expression of the page."""
         told = self.call("Runtime.evaluate", expression=text, returnByValue=True, awaitPromise=True)
         if "exceptionDetails" in told:
             raise RuntimeError("%s: %s" % (text, told["exceptionDetails"]))
         return told["result"].get("value")
 
     def until(self, text, seconds=PATIENCE):
-        """Waits until an expression holds, and tells how long that took, or None."""
+        """Waits until an expression holds, and returns how long that took, or None."""
         began = time.monotonic()
-        while time.monotonic() - began < seconds:
-            if self.value(text):
-                return time.monotonic() - began
-            time.sleep(0.02)
-        return None
+        return time.monotonic() - began if wait_until(lambda: self.value(text), 0.02, seconds) else None
 
     def give(self, path):
         """Gives a file to the page as its user does, and waits until it is looked at."""
@@ -132,16 +130,15 @@ TREE = """[...document.querySelectorAll("#tree li")].map((item) => {
 
 
 def rows_wanted(binary, top, image):
-    """What the tree has to show of an image, by `list`."""
+    """Returns what the tree has to show of an image, by `list`."""
     words = ("directory", "file", "link", "block device", "character device", "socket", "named pipe")
     kinds = dict(zip("dflbcsp", words))
     found = [["/", ""]]
-    for line in c.said([binary, "list", image], cwd=top).stdout.decode().splitlines()[1:]:
-        _, kind, mode, uid, gid, size, major, minor, path, *link = line.split()
-        text = kinds[kind] + (", %s bytes" % format(int(size), ",") if kind == "f" else "")
-        text += ", %s:%s" % (major, minor) if kind in "bc" else ""
-        text += ", mode %s, owner %s:%s" % (mode, uid, gid) + (", leads to %s" % link[0] if link else "")
-        found.append([path.rsplit("/", 1)[1], text])
+    for it in entries(binary, os.path.join(top, image))[1:]:
+        text = kinds[it.kind] + (", %s bytes" % format(it.size, ",") if it.kind == "f" else "")
+        text += ", %d:%d" % (it.major, it.minor) if it.kind in "bc" else ""
+        text += ", mode %04o, owner %d:%d" % (it.mode, it.user, it.group) + (", leads to %s" % it.text if it.text else "")
+        found.append([it.path.rsplit("/", 1)[1], text])
     return found
 
 
@@ -151,43 +148,41 @@ def good_images(browser, binary, top, counts):
         done = browser.give(os.path.join(top, form))
         told = c.said([binary, "check", form], cwd=top).stdout.decode().strip()
         seen = (done is not None, browser.value("at('line').textContent"))
-        c.is_as_wanted("verdict on " + form, seen, (True, told), counts)
+        counts.equal("verdict on " + form, seen, (True, told))
         browser.value(OPEN_ALL)
-        c.is_as_wanted("tree of " + form, browser.value(TREE), rows_wanted(binary, top, form), counts)
+        counts.equal("tree of " + form, browser.value(TREE), rows_wanted(binary, top, form))
         facts = dict(browser.value("[...at('facts').rows].map((row) => [...row.cells].map((it) => it.textContent))"))
         size = "%s bytes" % format(os.path.getsize(os.path.join(top, form)), ",")
         seen = (facts["length of the file"], facts["references to records"], facts["most names on a path"])
-        c.is_as_wanted("facts of " + form, seen, (size, *told.split()[2:]), counts)
+        counts.equal("facts of " + form, seen, (size, *told.split()[2:]))
         held = browser.value("ask('contents', new TextEncoder().encode('/init')).then((it) => it.flatMap((x) => [...x]))")
-        c.is_as_wanted("contents in " + form, bytes(held), c.CONTENT, counts)
+        counts.equal("contents in " + form, bytes(held), c.CONTENT)
         place = int(c.said([binary, "serve", form], cwd=top, input=b"open /init\nmap 0 0 4\n").stdout.split()[3])
         browser.value("choose(Math.floor(%d / picture.cell) + 1)" % place)
         words = browser.value("at('picture').getAttribute('aria-valuetext')")
-        c.is_as_wanted("picture of " + form, "contents of /init" in words, True, counts)
+        counts.equal("picture of " + form, "contents of /init" in words, True)
         walked = "In the tree: 2 directories, 2 files, 1 link, 1 character device; 6,000 bytes in files."
-        c.is_as_wanted("walk through " + form, browser.value("at('walked').textContent"), walked, counts)
+        counts.equal("walk through " + form, browser.value("at('walked').textContent"), walked)
 
 
 def bad_images(browser, binary, top, counts):
     """Images with a fault, and files that are none."""
-    with open(os.path.join(top, "cramfs"), "rb") as file:
-        held = bytearray(file.read())
+    held = bytearray(bytes_in(os.path.join(top, "cramfs")))
     held[200] ^= 1
     damaged = {"changed": bytes(held), "short": bytes(held[:50]), "empty": b"", "cut": bytes(held[:4000])}
     damaged["no-image"] = b"\x7fELF" + bytes(100)
     for name, image in damaged.items():
-        with open(os.path.join(top, name), "wb") as file:
-            file.write(image)
+        put(os.path.join(top, name), image)
         browser.give(os.path.join(top, name))
         told = c.said([binary, "check", name], cwd=top).stdout.decode().strip()
         sentence = c.explain.FAULTS[int(told.split()[1])][1]
         line, words = browser.value("[at('line').textContent, at('sentence').textContent]")
-        c.is_as_wanted("verdict on " + name, (line, words.lower().startswith(sentence.lower())), (told, True), counts)
+        counts.equal("verdict on " + name, (line, words.lower().startswith(sentence.lower())), (told, True))
         place = int(told.split()[-1])
         marked = browser.value("at('around').hidden ? null : at('hex').querySelector('mark').textContent")
         byte = "%02x" % image[place] if place < len(image) else None
-        c.is_as_wanted("bytes around the fault of " + name, marked, byte, counts)
-        c.is_as_wanted("no tree of " + name, browser.value("at('tree-part').hidden"), True, counts)
+        counts.equal("bytes around the fault of " + name, marked, byte)
+        counts.equal("no tree of " + name, browser.value("at('tree-part').hidden"), True)
 
 
 def many_names(browser, binary, top, counts):
@@ -195,19 +190,19 @@ def many_names(browser, binary, top, counts):
     with open(os.path.join(top, "many"), "wb") as file:
         file.write(b"dir / 0755 0 0\n" + b"".join(b"pipe /n%05d 0644 0 0\n" % it for it in range(NAMES)))
     built = c.said([binary, "build", "cramfs", "many", "many.img"], cwd=top)
-    c.is_as_wanted("an image of many names", built.returncode, 0, counts)
+    counts.equal("an image of many names", built.returncode, 0)
     done = browser.give(os.path.join(top, "many.img"))
-    c.is_as_wanted("many names", done is not None and done < 20, True, counts)
+    counts.equal("many names", done is not None and done < 20, True)
     rows = "document.querySelectorAll('#tree ul > li').length === %d"
-    c.is_as_wanted("rows at first", browser.until(rows % 501, 5) is not None, True, counts)
+    counts.equal("rows at first", browser.until(rows % 501, 5) is not None, True)
     browser.value("document.querySelector('#tree ul > li:last-child button').click()")
-    c.is_as_wanted("further rows", browser.until(rows % 1001, 5) is not None, True, counts)
+    counts.equal("further rows", browser.until(rows % 1001, 5) is not None, True)
     last = browser.value("document.querySelectorAll('#tree ul > li')[999].firstChild.textContent")
-    c.is_as_wanted("the thousandth name", last, "n00999", counts)
-    c.is_as_wanted("elements of the page", browser.value("document.querySelectorAll('*').length") < 10000, True, counts)
+    counts.equal("the thousandth name", last, "n00999")
+    counts.equal("elements of the page", browser.value("document.querySelectorAll('*').length") < 10000, True)
     more = browser.value("at('more-walk').hidden")
     print("page: %d names in %.1f s, %s" % (NAMES, done or 0, browser.value("at('walked').textContent")))
-    c.is_as_wanted("more of the tree", more, False, counts)
+    counts.equal("more of the tree", more, False)
 
 
 def big_images(browser, binary, top, counts):
@@ -221,15 +216,15 @@ def big_images(browser, binary, top, counts):
         image = "big." + form
         with open(os.path.join(top, "one"), "w", encoding="utf-8") as file:
             file.write("dir / 0755 0 0\n" + text)
-        c.is_as_wanted("a large image", c.said([binary, "build", form, "one", image], cwd=top).returncode, 0, counts)
+        counts.equal("a large image", c.said([binary, "build", form, "one", image], cwd=top).returncode, 0)
         done = browser.give(os.path.join(top, image))
         told = c.said([binary, "check", image], cwd=top).stdout.decode().strip()
         seen = (done is not None, browser.value("at('line').textContent"))
-        c.is_as_wanted("a large %s" % form, seen, (True, told), counts)
+        counts.equal("a large %s" % form, seen, (True, told))
         print("page: %s of %d bytes in %.1f s" % (form, os.path.getsize(os.path.join(top, image)), done or 0))
         name = "/big" if form == "romfs" else "/big0"
         length = "ask('contents', new TextEncoder().encode('%s')).then((it) => it.reduce((n, x) => n + x.length, 0))" % name
-        c.is_as_wanted("its contents", browser.value(length), BIG if form == "romfs" else BIG // 8, counts)
+        counts.equal("its contents", browser.value(length), BIG if form == "romfs" else BIG // 8)
 
 
 DROP = """(() => {
@@ -247,11 +242,11 @@ def dropped(browser, binary, top, counts):
     done = browser.until("document.documentElement.dataset.done === 'dropped'")
     told = c.said([binary, "check", "romfs"], cwd=top).stdout.decode().strip()
     seen = (done is not None, browser.value("at('line').textContent"))
-    c.is_as_wanted("an image that is dropped", seen, (True, told), counts)
+    counts.equal("an image that is dropped", seen, (True, told))
 
 
 def by_keys(browser, top, counts):
-    """The page by keys alone."""
+    """The page by keys only."""
     browser.give(os.path.join(top, "cramfs"))
     browser.until("document.querySelectorAll('#tree ul > li').length > 1", 5)
     browser.value("document.activeElement.blur()")
@@ -259,7 +254,7 @@ def by_keys(browser, top, counts):
     for _ in range(14):
         browser.press("Tab", 9)
         reached.append(browser.value("document.activeElement.id || document.activeElement.textContent.split(',')[0]"))
-    c.is_as_wanted("what keys reach", [it for it in ("file", "/", "init", "picture") if it not in reached], [], counts)
+    counts.equal("what keys reach", [it for it in ("file", "/", "init", "picture") if it not in reached], [])
     browser.value("at('picture').focus(); choose(0)")
     seen = []
     keys = (("ArrowRight", 39), ("ArrowDown", 40), ("End", 35), ("ArrowRight", 39), ("Home", 36), ("ArrowLeft", 37))
@@ -267,34 +262,34 @@ def by_keys(browser, top, counts):
         browser.press(key, code)
         seen.append(int(browser.value("at('picture').getAttribute('aria-valuenow')")))
     last = browser.value("picture.count - 1")
-    c.is_as_wanted("keys in the picture", seen, [1, 65, last, last, 0, 0], counts)
+    counts.equal("keys in the picture", seen, [1, 65, last, last, 0, 0])
     browser.value("[...document.querySelectorAll('#tree summary')].at(-1).focus()")
     was = browser.value("document.activeElement.parentNode.open")
     browser.press("Enter", 13, "\r")
-    c.is_as_wanted("Enter at a directory", browser.value("document.activeElement.parentNode.open"), not was, counts)
+    counts.equal("Enter at a directory", browser.value("document.activeElement.parentNode.open"), not was)
     browser.value("[...document.querySelectorAll('#tree li > button')].find((it) => it.textContent === 'init').focus()")
     browser.press("Enter", 13, "\r")
     shown = browser.until("document.activeElement.id === 'details-head' && at('runs').rows.length > 0", 5)
-    c.is_as_wanted("Enter at a file", shown is not None, True, counts)
+    counts.equal("Enter at a file", shown is not None, True)
 
 
 def for_readers(browser, counts):
-    """What a screen reader is told: things to use have names, and there are headings and a status."""
+    """What a screen reader reads: things to use have names, and there are headings and a status."""
     nodes = [it for it in browser.call("Accessibility.getFullAXTree")["nodes"] if not it.get("ignored")]
     roles = [(it["role"]["value"], it.get("name", {}).get("value", "")) for it in nodes]
     used = ("button", "slider", "textbox", "DisclosureTriangle", "link", "summary", "combobox")
-    c.is_as_wanted("things without a name", [it for it in roles if it[0] in used and not it[1]], [], counts)
+    counts.equal("things without a name", [it for it in roles if it[0] in used and not it[1]], [])
     heads = [name for role, name in roles if role == "heading"]
     wanted = {"romtool", "Image", "Verdict", "Facts", "Tree", "Picture by offset"}
-    c.is_as_wanted("headings", wanted - set(heads), set(), counts)
-    c.is_as_wanted("a status", [role for role, _ in roles if role == "status"], ["status"], counts)
+    counts.equal("headings", wanted - set(heads), set())
+    counts.equal("a status", [role for role, _ in roles if role == "status"], ["status"])
     told = [it for it in nodes if it["role"]["value"] == "slider" and "value" in it]
-    c.is_as_wanted("pictures with words", len(told), 1, counts)
-    c.is_as_wanted("the language", browser.value("document.documentElement.lang"), "en", counts)
+    counts.equal("pictures with words", len(told), 1)
+    counts.equal("the language", browser.value("document.documentElement.lang"), "en")
 
 
 def luminance(colour):
-    """How light a colour is, from 0 to 1."""
+    """Returns how light a colour is, from 0 to 1."""
     digits = colour.strip()[1:]
     digits = digits if len(digits) == 6 else "".join(it * 2 for it in digits)
     parts = [int(digits[i : i + 2], 16) / 255 for i in (0, 2, 4)]
@@ -303,7 +298,7 @@ def luminance(colour):
 
 
 def contrast(one, other):
-    """The contrast of two colours, from 1 to 21."""
+    """Returns the contrast of two colours, from 1 to 21."""
     light, dark = sorted((luminance(one), luminance(other)), reverse=True)
     return (light + 0.05) / (dark + 0.05)
 
@@ -317,23 +312,23 @@ def colours(browser, counts):
         colour = {it: browser.value(value % it) for it in (*TEXTS, *CELLS, "ground")}
         grounds.append(browser.value("getComputedStyle(document.body).backgroundColor"))
         weak = [it for it in TEXTS if contrast(colour[it], colour["ground"]) < 4.5]
-        c.is_as_wanted("weak text in %s" % scheme, weak, [], counts)
+        counts.equal("weak text in %s" % scheme, weak, [])
         near = [it for it in CELLS if contrast(colour[it], colour["ground"]) < 3]
-        c.is_as_wanted("weak cells in %s" % scheme, near, [], counts)
-    c.is_as_wanted("light and dark", grounds[0] != grounds[1], True, counts)
+        counts.equal("weak cells in %s" % scheme, near, [])
+    counts.equal("light and dark", grounds[0] != grounds[1], True)
     browser.call("Emulation.setDeviceMetricsOverride", width=320, height=600, deviceScaleFactor=1, mobile=True)
-    c.is_as_wanted("a narrow page", browser.value("document.documentElement.scrollWidth") <= 320, True, counts)
+    counts.equal("a narrow page", browser.value("document.documentElement.scrollWidth") <= 320, True)
 
 
 def nothing_outside(browser, counts):
     """What was asked from anywhere, and what failed unseen."""
     asked = [it["params"]["request"]["url"] for it in browser.events if it.get("method") == "Network.requestWillBeSent"]
     outside = [it for it in asked if not it.startswith(("file:", "blob:", "data:"))]
-    c.is_as_wanted("requests", (outside, sum(it.startswith("file:") for it in asked)), ([], 1), counts)
+    counts.equal("requests", (outside, sum(it.startswith("file:") for it in asked)), ([], 1))
     wrong = [it for it in browser.events if it.get("method") == "Runtime.exceptionThrown"]
     said = [it for it in browser.events if it.get("method") == "Log.entryAdded"]
     wrong += [it for it in said if it["params"]["entry"]["level"] == "error"]
-    c.is_as_wanted("errors", [json.dumps(it)[:300] for it in wrong], [], counts)
+    counts.equal("errors", [json.dumps(it)[:300] for it in wrong], [])
 
 
 FETCH = """new Promise((done) => {
@@ -345,11 +340,11 @@ FETCH = """new Promise((done) => {
 
 def forbids(browser, counts):
     """The page forbids its own code to ask for anything."""
-    c.is_as_wanted("what forbids a request", browser.value(FETCH), "connect-src", counts)
+    counts.equal("what forbids a request", browser.value(FETCH), "connect-src")
 
 
 def page(given, top, counts):
-    """The page, which is made if none is given; or nothing."""
+    """Returns the page, which is made if none is given; or nothing."""
     if given:
         return os.path.abspath(given)
     made = top + "/romtool.html"
@@ -379,7 +374,7 @@ def main():
         try:
             browser.call("Page.navigate", url="file://" + made)
             is_there = browser.until("document.title === 'romtool: look into an image'", 20) is not None
-            c.is_as_wanted("the page", is_there, True, counts)
+            counts.equal("the page", is_there, True)
             good_images(browser, binary, top, counts)
             bad_images(browser, binary, top, counts)
             by_keys(browser, top, counts)

@@ -4,7 +4,7 @@
 #
 #     tests/peers.sh [BINARY]
 #
-# The last line is `N passed, M failed`, with `, K skipped` where genromfs is missing.
+# The last line is `N passed, M failed`, with `, K skipped` if genromfs is missing.
 set -u
 here=$(cd "$(dirname "$0")" && pwd)
 part=peers

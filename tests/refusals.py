@@ -1,5 +1,5 @@
 #!/usr/bin/env python3
-"""Runs romtool on the cases of this folder with each of its allocations refused in turn.
+"""Runs romtool on the cases of this directory with each of its allocations refused in turn.
 
     refusals.py [--binary PATH] [--topic NAME]
 
@@ -7,7 +7,7 @@ refuse.c, which the C compiler `cc` builds, refuses the Nth allocation, for N = 
 that a run does not make; and then all from the Nth on. Each run answers as it does with ample memory, or
 prints `memory` on standard error with status 3 and nothing else. A run without words, which prints
 two answers, may have printed the first. Passed over are cases that are large, and runs whose memory the
-case limits. The last line is `N passed, M failed`, with `, K skipped` where nothing was run for want of
+case limits. The last line is `N passed, M failed`, with `, K skipped` if nothing was run for want of
 `cc`.
 """
 
@@ -29,7 +29,7 @@ SECONDS_FOR_ALL = 900
 
 
 def is_well(told, whole, done):
-    """Whether a run that had memory refused answers as the whole one, or `memory` in place of an answer."""
+    """Returns whether a run that had memory refused answers as the whole one, or `memory` in place of an answer."""
     printed, wanted = done.stdout, whole.stdout or b""
     if (done.returncode, printed, done.stderr) == (whole.returncode, wanted, whole.stderr):
         return True
@@ -38,7 +38,7 @@ def is_well(told, whole, done):
 
 
 def runs_told(path):
-    """What refuse.c tells of each run: which allocation was refused, whether all later ones were, and how it ended."""
+    """Yields what refuse.c writes of each run: which allocation was refused, whether all later ones were, and how it ended."""
     with open(path, "rb") as file:
         while head := file.read(TOLD.size):
             number, is_all, status, out, err = TOLD.unpack(head)
@@ -47,7 +47,7 @@ def runs_told(path):
 
 
 def refused(binary, told, top, refuse, aside):
-    """How many runs end well with memory refused, and what is wrong with the others."""
+    """Returns how many runs end well with memory refused, and what is wrong with the others."""
     whole = run.started(binary, told, top)
     to = os.path.join(aside, "told")
     keeps_out = {"REFUSE_KEEPS_OUT": "yes"} if "out_to" in told else {}
@@ -65,7 +65,7 @@ def refused(binary, told, top, refuse, aside):
 
 
 def done_case(binary, topic, case, refuse):
-    """How many runs of a case end well with memory refused, and lines on the others."""
+    """Returns how many runs of a case end well with memory refused, and lines on the others."""
     good, lines = 0, []
     with tempfile.TemporaryDirectory() as top, tempfile.TemporaryDirectory() as aside:
         run.lay_out(case, top)
@@ -80,7 +80,7 @@ def done_case(binary, topic, case, refuse):
 
 
 def chosen(topic):
-    """The cases that are run: those of the topic, or all, but for large ones."""
+    """Yields the cases that are run: those of the topic, or all, except large ones."""
     for name in [topic] if topic else run.topics():
         for case in run.load(name):
             passed_over = case.get("large") or case.get("once")
@@ -100,9 +100,7 @@ def main():
     with tempfile.TemporaryDirectory() as top, pool:
         refuse = os.path.join(top, "refuse.so")
         subprocess.run(["cc", "-shared", "-fPIC", "-o", refuse, os.path.join(HERE, "refuse.c")], check=True)
-        parts = [
-            pool.submit(done_case, binary, topic, case, refuse) for topic, case in chosen(arguments.topic)
-        ]
+        parts = [pool.submit(done_case, binary, topic, case, refuse) for topic, case in chosen(arguments.topic)]
         for part in parts:
             good, failures = part.result()
             counts.passes(good)

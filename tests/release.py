@@ -1,5 +1,5 @@
 #!/usr/bin/env python3
-"""Makes the files of a release, installs them into empty folders, and tests what is there.
+"""Makes the files of a release, installs them into empty directories, and tests what is there.
 
     release.py [--binary PATH] [--object FILE --library FILE]
 
@@ -7,7 +7,7 @@ The release is made twice by tools/release and has the same bytes. Its packages 
 program runs as an ordinary user without any other file, on the first two commands of the README, and are removed again.
 A C program outside of the tree is built over what the archive installs, by pkg-config and by CMake. tools/install and its
 --uninstall leave nothing. Completions offer what help lists. The version is the same in each place. With --object and
---library a trial release is made of these. The last line is `N passed, M failed`, with `, K skipped` where a tool is missing.
+--library a trial release is made of these. The last line is `N passed, M failed`, with `, K skipped` if a tool is missing.
 """
 
 import glob
@@ -21,11 +21,12 @@ import sys
 import tarfile
 import tempfile
 
-from harness import HERE, SECONDS, Counts, parser, program_of
+from files import repository_text as text_of
+from harness import HERE, SECONDS, Counts, missing, parser, program_of
+from rooms import NOBODY, become_nobody
 
 TOP = os.path.dirname(HERE)
 TOOLS = os.path.join(TOP, "tools")
-NOBODY = 65534
 # the words of a section of CHANGELOG.md, by https://keepachangelog.com/en/1.1.0/
 CHANGES = ("Added", "Changed", "Deprecated", "Removed", "Fixed", "Security")
 COMPLETED = """source "$1"
@@ -54,25 +55,11 @@ import completions  # noqa: E402
 import installation  # noqa: E402
 
 
-def text_of(path):
-    """Returns the text of a file of the repository."""
-    with open(os.path.join(TOP, path), encoding="utf-8") as file:
-        return file.read()
-
-
 def ran(words, **more):
     """Runs a command, and returns its status with all that it printed."""
     how = {"stdin": subprocess.DEVNULL, "stdout": subprocess.PIPE, "stderr": subprocess.STDOUT, "timeout": 1800, **more}
     done = subprocess.run(words, **how)
     return done.returncode, done.stdout.decode(errors="replace")
-
-
-def expect(counts, what, got, wanted):
-    """Counts whether something is as it should be."""
-    if got == wanted:
-        counts.passes()
-    else:
-        counts.fails(what, ["%r" % (got,), "expected %r" % (wanted,)])
 
 
 def works(counts, words, **more):
@@ -89,22 +76,22 @@ def versions(binary, counts):
     """The version in the code is that of the man page, of the header if it has one, of the newest release in CHANGELOG.md, and
     what the program says. CHANGELOG.md has what is not released yet on top, and releases from the newest on."""
     version = installation.version()
-    expect(counts, "the man page's version", re.findall(r'^\.TH .*"romtool (\S+)"', text_of("docs/romtool.1"), re.M), [version])
+    counts.equal("the man page's version", re.findall(r'^\.TH .*"romtool (\S+)"', text_of("docs/romtool.1"), re.M), [version])
     in_header = re.findall(r'VERSION\w* "([\d.]+)"', text_of("include/romtool.h"))
-    expect(counts, "the header's version", in_header or [version], [version])
+    counts.equal("the header's version", in_header or [version], [version])
     in_readme = set(re.findall(r"romtool(?:-dev)?[-_](\d+\.\d+\.\d+)", text_of("README.md")))
-    expect(counts, "the version of the files that the README names", in_readme, {version})
+    counts.equal("the version of the files that the README names", in_readme, {version})
     said = subprocess.run([binary, "--explain", "--version"], capture_output=True, text=True, timeout=SECONDS).stderr
-    expect(counts, "what --version says", said.splitlines()[-1:], ["romtool " + version])
+    counts.equal("what --version says", said.splitlines()[-1:], ["romtool " + version])
     heads = re.findall(r"^## (.*)$", text_of("CHANGELOG.md"), re.M)
-    expect(counts, "CHANGELOG.md begins with", heads[:1], ["Unreleased"])
+    counts.equal("CHANGELOG.md begins with", heads[:1], ["Unreleased"])
     dated = [re.fullmatch(r"(\d+)\.(\d+)\.(\d+) - \d{4}-\d\d-\d\d", it) for it in heads[1:]]
-    expect(counts, "the releases of CHANGELOG.md have a date", all(dated), True)
+    counts.equal("the releases of CHANGELOG.md have a date", all(dated), True)
     numbers = [tuple(map(int, it.groups())) for it in dated if it]
-    expect(counts, "the releases of CHANGELOG.md are in order", numbers, sorted(numbers, reverse=True))
-    expect(counts, "the newest release of CHANGELOG.md", numbers[:1], [tuple(map(int, version.split(".")))])
+    counts.equal("the releases of CHANGELOG.md are in order", numbers, sorted(numbers, reverse=True))
+    counts.equal("the newest release of CHANGELOG.md", numbers[:1], [tuple(map(int, version.split(".")))])
     sections = set(re.findall(r"^### (.*)$", text_of("CHANGELOG.md"), re.M))
-    expect(counts, "sections of CHANGELOG.md", sorted(sections - set(CHANGES)), [])
+    counts.equal("sections of CHANGELOG.md", sorted(sections - set(CHANGES)), [])
 
 
 def completed(script, *words):
@@ -122,12 +109,12 @@ def bash(binary, top, counts):
         pass
     options, subcommands = completions.table(binary)
     names = [it.name for it in subcommands]
-    expect(counts, "bash: all subcommands", completed(script, ""), [*names, "help"])
-    expect(counts, "bash: its own options", completed(script, "-"), [*(it.name for it in options), "--help", "--version"])
-    expect(counts, "bash: subcommands behind --explain", completed(script, "--explain", "s"), ["serve", "space", "scan"])
-    expect(counts, "bash: help of one", completed(script, "help", "ex"), ["extract"])
+    counts.equal("bash: all subcommands", completed(script, ""), [*names, "help"])
+    counts.equal("bash: its own options", completed(script, "-"), [*(it.name for it in options), "--help", "--version"])
+    counts.equal("bash: subcommands behind --explain", completed(script, "--explain", "s"), ["serve", "space", "scan"])
+    counts.equal("bash: help of one", completed(script, "help", "ex"), ["extract"])
     for it in subcommands:
-        expect(counts, "bash: options of " + it.name, completed(script, it.name, "--"), [*(o.name for o in it.options), "--help"])
+        counts.equal("bash: options of " + it.name, completed(script, it.name, "--"), [*(o.name for o in it.options), "--help"])
     here = top + "/here/f"
     both, folder = [here + "ile", here + "older"], [here + "older"]
     for words, wanted in (
@@ -137,7 +124,7 @@ def bash(binary, top, counts):
         (["extract", here], both), (["extract", "image", here], folder), (["space", "a", "b", here], both),
         (["cat", here], both), (["cat", "image", "/"], []), (["map", "--base", "0"], []), (["map", "--base", "0", here], both),
     ):  # fmt: skip
-        expect(counts, "bash: " + " ".join(words).replace(top, ""), sorted(completed(script, *words)), wanted)
+        counts.equal("bash: " + " ".join(words).replace(top, ""), sorted(completed(script, *words)), wanted)
 
 
 def shells(binary, top, counts):
@@ -148,20 +135,20 @@ def shells(binary, top, counts):
         dashes = "-l %s" if shell == "fish" else "--%s["
         wanted = [it.name for it in subcommands]
         wanted += [dashes % option.name[2:] for it in [*subcommands] for option in it.options] + [dashes % it.name[2:] for it in options]
-        expect(counts, "%s: what is missing" % shell, [it for it in wanted if it not in told], [])
+        counts.equal("%s: what is missing" % shell, [it for it in wanted if it not in told], [])
         with open(script, "w", encoding="utf-8") as it:
             it.write(told)
         if shutil.which(shell):
-            expect(counts, "%s reads its completion" % shell, ran([shell, "-n", script]), (0, ""))
+            counts.equal("%s reads its completion" % shell, ran([shell, "-n", script]), (0, ""))
         else:
             counts.skips("the completion for %s: there is no %s" % (shell, shell))
     for line, wanted in FISH if shutil.which("fish") else ():
         said = ran(["fish", "--no-config", "-c", "source $argv[1]; complete -C$argv[2]", top + "/fish", line], cwd=top + "/here")
-        expect(counts, "fish: " + line, [it.partition("\t")[0] for it in said[1].splitlines()], wanted)
+        counts.equal("fish: " + line, [it.partition("\t")[0] for it in said[1].splitlines()], wanted)
 
 
 def below(folder):
-    """Returns the paths below a folder, in order; folders with a slash behind."""
+    """Returns the paths below a directory, in order; directories with a slash behind."""
     found = []
     for at, folders, names in os.walk(folder):
         found += [os.path.join(at, it) + "/" for it in folders] + [os.path.join(at, it) for it in names]
@@ -178,30 +165,30 @@ def installs(binary, library, top, counts):
     there = below(root + prefix)
     wanted = ["bin/romtool", "share/man/man1/romtool.1", "share/doc/romtool/README.md", *installation.COMPLETIONS.values()]
     wanted += ["lib/libromtool.a", "include/romtool.h", "include/romtool_heap.h", "lib/pkgconfig/romtool.pc"] if library else []
-    expect(counts, "what tools/install leaves out", [it for it in wanted if it not in there], [])
+    counts.equal("what tools/install leaves out", [it for it in wanted if it not in there], [])
     with open(root + "/opt/own", "w", encoding="utf-8"):
         pass
     works(counts, [TOOLS + "/install", "--uninstall", prefix, root])
-    expect(counts, "what is left behind --uninstall", below(root), ["opt/", "opt/own"])
-    expect(counts, "a second --uninstall", ran([TOOLS + "/install", "--uninstall", prefix, root])[0], 1)
-    expect(counts, "a prefix that is not absolute", ran([*words, "usr", root])[0], 1)
+    counts.equal("what is left behind --uninstall", below(root), ["opt/", "opt/own"])
+    counts.equal("a second --uninstall", ran([TOOLS + "/install", "--uninstall", prefix, root])[0], 1)
+    counts.equal("a prefix that is not absolute", ran([*words, "usr", root])[0], 1)
 
 
 def made_twice(given, top, counts):
-    """Makes the release twice, by users with other habits, and returns its folder; nothing if it cannot be made."""
+    """Makes the release twice, by users with other habits, and returns its directory; nothing if it cannot be made."""
     folders = [top + "/one", top + "/another-one"]
     for it, umask, zone in zip(folders, (0o022, 0o077), ("UTC", "Pacific/Chatham")):
         how = {"umask": umask, "env": {**os.environ, "TZ": zone}}
         if works(counts, [TOOLS + "/release", "--changed", *given, it], **how) is None:
             return None
     names = [sorted(os.listdir(it)) for it in folders]
-    expect(counts, "the files of two runs", names[0], names[1])
+    counts.equal("the files of two runs", names[0], names[1])
     for name in names[0]:
         held = []
         for it in folders:
             with open(os.path.join(it, name), "rb") as file:
                 held.append(hashlib.sha256(file.read()).hexdigest())
-        expect(counts, "%s of two runs" % name, held[0], held[1])
+        counts.equal("%s of two runs" % name, held[0], held[1])
     return folders[0]
 
 
@@ -210,23 +197,25 @@ def contents(folder, counts):
     version = installation.version()
     wanted = ["PROVENANCE.txt", "SHA256SUMS", "romtool-%s-x86_64-linux-objects.tar.gz", "romtool-%s-x86_64-linux.tar.gz"]
     wanted += ["romtool-dev_%s_amd64.deb", "romtool_%s_amd64.deb"]
-    expect(counts, "the files of the release", sorted(os.listdir(folder)), sorted(it.replace("%s", version) for it in wanted))
+    counts.equal("the files of the release", sorted(os.listdir(folder)), sorted(it.replace("%s", version) for it in wanted))
     works(counts, ["sha256sum", "--check", "--quiet", "SHA256SUMS"], cwd=folder)
     with open(folder + "/PROVENANCE.txt", encoding="utf-8") as it:
         told = it.read()
     crates = re.findall(r"^(\w+)(?: staticlib)?:", text_of("crates.txt"), re.M)
-    missing = [it for it in crates if not re.search(r"^%s: (logic=proved functions=\d+ .*sum=\w+ |kept: |nothing is known$)" % it, told, re.M)]
-    expect(counts, "crates that PROVENANCE.txt leaves out", missing, [])
+    missing = [
+        it for it in crates if not re.search(r"^%s: (logic=proved functions=\d+ .*sum=\w+ |kept: |nothing is known$)" % it, told, re.M)
+    ]
+    counts.equal("crates that PROVENANCE.txt leaves out", missing, [])
     if "A TRIAL" not in told:
-        expect(counts, "crates of which the gate said nothing", re.findall(r"^(\w+): nothing is known$", told, re.M), [])
+        counts.equal("crates of which the gate said nothing", re.findall(r"^(\w+): nothing is known$", told, re.M), [])
     for path in glob.glob(folder + "/*.tar.gz"):
         with tarfile.open(path) as archive:
             entries = archive.getmembers()
         names = [it.name for it in entries]
-        expect(counts, "names in an archive are in order", names, sorted(names))
-        expect(counts, "owners in an archive", {(it.uid, it.gid, it.uname) for it in entries}, {(0, 0, "")})
+        counts.equal("names in an archive are in order", names, sorted(names))
+        counts.equal("owners in an archive", {(it.uid, it.gid, it.uname) for it in entries}, {(0, 0, "")})
         top = os.path.basename(path).removesuffix(".tar.gz")
-        expect(counts, "an archive has one folder", {it.partition("/")[0] for it in names}, {top})
+        counts.equal("an archive has one folder", {it.partition("/")[0] for it in names}, {top})
 
 
 def dpkg(root, *words):
@@ -251,7 +240,7 @@ def packages(folder, top, counts):
     works(counts, dpkg(root, "--install", *debs))
     as_a_stranger(root, counts)
     works(counts, dpkg(root, "--purge", "romtool", "romtool-dev"))
-    expect(counts, "what the packages leave", [it for it in below(root) if not it.startswith("var/")], [])
+    counts.equal("what the packages leave", [it for it in below(root) if not it.startswith("var/")], [])
 
 
 def readme_commands():
@@ -261,7 +250,7 @@ def readme_commands():
 
 
 def as_a_stranger(root, counts):
-    """Has an ordinary user run the program of a root on a folder of his own, by the README's first two commands. With root's
+    """Has an ordinary user run the program of a root on a directory of his own, by the README's first two commands. With root's
     rights nothing of this system is there: no other program, no library, no devices."""
     work = root + "/work"
     os.makedirs(work + "/app/bin")
@@ -274,28 +263,25 @@ def as_a_stranger(root, counts):
     if os.geteuid() == 0:
         for at in (work, work + "/app", work + "/app/bin", work + "/app/bin/init"):
             os.chown(at, NOBODY, NOBODY)
-        how, program = {"preexec_fn": lambda: enter(root)}, "/usr/bin/romtool"
+        how, program = {"cwd": work, "preexec_fn": lambda: enter(root)}, "/usr/bin/romtool"
     commands = [*readme_commands(), (["check", "app.cramfs"], None), (["cat", "app.cramfs", "/bin/init"], None)]
-    expect(counts, "the README's first two commands", [it[0][0] for it in commands[:2]], ["scan", "build"])
+    counts.equal("the README's first two commands", [it[0][0] for it in commands[:2]], ["scan", "build"])
     said = []
     for words, to in commands:
         status, out = ran([program, *words], **how)
-        expect(counts, " ".join(words), status, 0)
+        counts.equal(" ".join(words), status, 0)
         if to:
             with open(os.path.join(work, to), "w", encoding="utf-8") as it:
                 it.write(out)
         said.append(out)
-    expect(counts, "what the program says in the empty root", said[1:], ["ok 8192\n", "ok cramfs 3 2\n", "#!/bin/sh\n"])
+    counts.equal("what the program says in the empty root", said[1:], ["ok 8192\n", "ok cramfs 3 2\n", "#!/bin/sh\n"])
     shutil.rmtree(work)
 
 
 def enter(root):
-    """Makes a folder the root, as an ordinary user in /work."""
+    """Makes a directory the root of an ordinary user. The current directory, which is below it, stays the same."""
     os.chroot(root)
-    os.chdir("/work")
-    os.setgroups([])
-    os.setgid(NOBODY)
-    os.setuid(NOBODY)
+    become_nobody()
 
 
 def lint(folder, counts):
@@ -305,7 +291,7 @@ def lint(folder, counts):
         return
     user = [] if os.geteuid() else ["--allow-root"]
     status, said = ran(["lintian", *user, "--fail-on", "error", *sorted(glob.glob(folder + "/*.deb"))])
-    expect(counts, "lintian", [it for it in said.splitlines() if it.startswith("E:")] or status, 0)
+    counts.equal("lintian", [it for it in said.splitlines() if it.startswith("E:")] or status, 0)
 
 
 def answers(program, counts):
@@ -335,7 +321,7 @@ def for_c(prefix, binary, top, counts):
             continue
         program = make(prefix, room, counts)
         if program:
-            expect(counts, "the program by " + by, works(counts, [program, "app.cramfs", "/bin/init"], cwd=room), wanted)
+            counts.equal("the program by " + by, works(counts, [program, "app.cramfs", "/bin/init"], cwd=room), wanted)
 
 
 def with_own_memory(prefix, room, counts):
@@ -347,7 +333,7 @@ def with_own_memory(prefix, room, counts):
 def by_pkg_config(prefix, room, counts):
     """Builds the program by the flags that pkg-config has of the library, and returns its path."""
     place = {**os.environ, "PKG_CONFIG_PATH": prefix + "/lib/pkgconfig"}
-    expect(counts, "pkg-config's version", ran(["pkg-config", "--modversion", "romtool"], env=place), (0, installation.version() + "\n"))
+    counts.equal("pkg-config's version", ran(["pkg-config", "--modversion", "romtool"], env=place), (0, installation.version() + "\n"))
     flags = works(counts, ["pkg-config", "--cflags", "--libs", "romtool"], env=place)
     words = ["cc", "-std=c99", "-Wall", "-Werror", "first.c", *shlex.split(flags or ""), "-o", "by-pkg-config"]
     return room + "/by-pkg-config" if works(counts, words, cwd=room) is not None else None
@@ -360,7 +346,7 @@ def by_cmake(prefix, room, counts):
         with open(room + "/CMakeLists.txt", "w", encoding="utf-8") as it:
             it.write(CMAKE.format(version=version))
         words = ["cmake", "-S", ".", "-B", "made-" + version, "-DCMAKE_PREFIX_PATH=" + prefix]
-        expect(counts, "cmake finds version " + version, ran(words, cwd=room)[0], wanted)
+        counts.equal("cmake finds version " + version, ran(words, cwd=room)[0], wanted)
     made = room + "/made-" + installation.version()
     return made + "/first" if works(counts, ["cmake", "--build", made]) is not None else None
 
@@ -369,9 +355,8 @@ def lacks(library, is_trial):
     """Returns why no release can be made here, or nothing."""
     if not is_trial and not os.path.exists(TOP + "/out/gate.log"):
         return "the gate did not pass here: ./test runs it"
-    for tool in ("cc", "ar", "readelf", "dpkg-deb", "dpkg-query", "git", "rt"):
-        if not shutil.which(tool):
-            return "there is no %s" % tool
+    if tool := missing("cc", "ar", "readelf", "dpkg-deb", "dpkg-query", "git", "rt"):
+        return "there is no %s" % tool
     if ran(["cc", "-print-file-name=libc.a"])[1].strip() == "libc.a":
         return "there is no static C library (libc6-dev)"
     return None if os.path.exists(library) else "there is no %s: `tools/rt lib` in crates/rom_c builds it" % library

@@ -1,38 +1,38 @@
 #!/usr/bin/env python3
-"""Runs romtool on the cases of this folder, and compares what it prints, what it writes and its status.
+"""Runs romtool on the cases of this directory, and compares what it prints, what it writes and its status.
 
     run.py [--binary PATH] [--topic TOPIC] [--name TEXT] [--list] [--keep]
 
 cases/TOPIC.json is a list of cases; the file `topics` names the topics that are run. With `--name`
 only the cases run whose name has the text, `--list` prints the cases and runs none, and `--keep`
-leaves the folders of the failed cases and says where they are. Each case runs in a new folder of its
+leaves the directories of the failed cases and says where they are. Each case runs in a new directory of its
 own, and has
     name     unique in its topic
     about    what it is about, in a few words (may be missing)
     large    true: it takes long, and refusals.py passes it over
     once     true: its runs change what they read, and refusals.py passes it over
-    no_root  true: it is skipped where root runs it
+    no_root  true: it is skipped if root runs it
     folders  names of folders to make, with the folders above them
-    files    name -> bytes; the folders of a name are made
-    modes    name -> the permissions of a file or folder, in octal
+    files    name -> bytes; the directories of a name are made
+    modes    name -> the permissions of a file or directory, in octal
     links    name -> the text of a symbolic link to make
     runs     what is run in turn
 A run has
     words    the words after the program's name
-    in       the bytes of its standard input (nothing where missing)
-    in_from  what its standard input is in place of bytes: `unreadable`, a folder, of which no byte can be read
-    left     how many bytes of its standard input are left unread (not compared where missing)
-    out      the bytes of its standard output (not compared where missing)
-    out_to   where its standard output goes, and `out` is missing: `full`, a device that takes nothing;
+    in       the bytes of its standard input (nothing if missing)
+    in_from  what its standard input is in place of bytes: `unreadable`, a directory, of which no byte can be read
+    left     how many bytes of its standard input are left unread (not compared if missing)
+    out      the bytes of its standard output (not compared if missing)
+    out_to   where its standard output goes, and `out` is missing: `full`, a device that accepts nothing;
              `closed`, nowhere; `no reader`, a pipe that nobody reads
-    err      the bytes of its standard error (nothing where missing)
+    err      the bytes of its standard error (nothing if missing)
     status   its exit status
     memory   the bytes of memory that it may have
     written  name -> the bytes of a file after the run
     absent   names that are not there after the run
 Bytes are a text, or
     {"hex": "00ff"}
-    {"size": N, "at": {"64": BYTES}}    zeros but for what stands at these offsets
+    {"size": N, "at": {"64": BYTES}}    zeros, except for what is at these offsets
     {"repeat": BYTES, "times": N}
     {"count": N, "format": "f%05d "}    the text once for each number below N, joined
     {"join": [BYTES, ..]}
@@ -40,14 +40,14 @@ Bytes are a text, or
                                         words of 32 bits, the highest byte first, N times; each time
                                         each word is by its D more, modulo 2^32
     {"like": "TOPIC/CASE/FILE", "first": N, "at": {"64": BYTES}}
-                                        that file's first N bytes (all, where N is missing), with these
+                                        that file's first N bytes (all if N is missing), with these
                                         bytes at these offsets
-    {"romfs": BYTES, "records": [32]}   that romfs image with its sums mended, of the records at these
+    {"romfs": BYTES, "records": [32]}   that romfs image with its sums corrected, of the records at these
                                         offsets and then of the superblock
-    {"cramfs": BYTES}                   that cramfs image with its CRC-32 mended
-    {"sparse": N, "at": {"0": BYTES}}   zeros but for what stands at these offsets, in a file without
+    {"cramfs": BYTES}                   that cramfs image with its CRC-32 corrected
+    {"sparse": N, "at": {"0": BYTES}}   zeros, except for what is at these offsets, in a file without
                                         blocks where there are zeros
-The last line is `N passed, M failed`, with `, K skipped` where cases were skipped.
+The last line is `N passed, M failed`, with `, K skipped` if cases were skipped.
 """
 
 import array
@@ -65,7 +65,7 @@ from images import with_crc, with_sums
 
 
 def bytes_of(told):
-    """The bytes that a case tells."""
+    """Returns the bytes that a case describes."""
     if isinstance(told, str):
         return told.encode()
     if "hex" in told:
@@ -93,7 +93,7 @@ def bytes_of(told):
 
 
 def rising(words, by, times):
-    """The words, each by its step more each time."""
+    """Returns the words, each by its step more each time."""
     out = array.array("I", bytes(4 * len(words) * times))
     for place, (word, step) in enumerate(zip(words, by)):
         if step:
@@ -107,20 +107,39 @@ def rising(words, by, times):
 
 
 def file_of(place):
-    """The bytes of a file of a case, named as TOPIC/CASE/FILE."""
+    """Returns the bytes of a file of a case, named as TOPIC/CASE/FILE."""
     topic, name, file = place.split("/")
     return bytes_of(next(case for case in load(topic) if case["name"] == name)["files"][file])
 
 
+def files_of_cases(name="", most=2**40):
+    """Yields each different file of the cases whose name has this text, once: its place as in `file_of`, and its bytes.
+
+    Large cases are passed over, and so are sparse files, and files of more bytes than `most`.
+    """
+    seen = set()
+    for topic in topics():
+        for case in load(topic):
+            if name not in case["name"] or case.get("large"):
+                continue
+            for file, told in case.get("files", {}).items():
+                if isinstance(told, dict) and "sparse" in told:
+                    continue
+                content = bytes_of(told)
+                if content not in seen and len(content) <= most:
+                    seen.add(content)
+                    yield "%s/%s/%s" % (topic, case["name"], file), content
+
+
 def topics():
-    """The topics that are run."""
+    """Returns the topics that are run."""
     with open(os.path.join(HERE, "topics"), encoding="utf-8") as file:
         return file.read().split()
 
 
 @functools.lru_cache(maxsize=None)
 def load(topic):
-    """The cases of a topic."""
+    """Returns the cases of a topic."""
     with open(os.path.join(HERE, "cases", topic + ".json"), encoding="utf-8") as file:
         cases = json.load(file)
     names = [case["name"] for case in cases]
@@ -131,7 +150,7 @@ def load(topic):
 
 
 def lay_out(case, top):
-    """Makes a case's folders, files and links."""
+    """Makes a case's directories, files and links."""
     for name in case.get("folders", []):
         os.makedirs(os.path.join(top, name), exist_ok=True)
     for name, told in case.get("files", {}).items():
@@ -151,7 +170,7 @@ def lay_out(case, top):
 
 
 def output_for(out_to):
-    """What `subprocess.run` has as the standard output of a run: a new descriptor, or a pipe."""
+    """Returns what `subprocess.run` has as the standard output of a run: a new descriptor, or a pipe."""
     if out_to == "full":
         return os.open("/dev/full", os.O_WRONLY)
     if out_to == "no reader":
@@ -162,7 +181,7 @@ def output_for(out_to):
 
 
 def input_for(run, top):
-    """What a run has as its standard input: a new descriptor."""
+    """Returns what a run has as its standard input: a new descriptor."""
     if run.get("in_from") == "unreadable":
         return os.open(top, os.O_RDONLY)
     with tempfile.TemporaryFile() as file:
@@ -172,12 +191,12 @@ def input_for(run, top):
 
 
 def left_of(descriptor):
-    """How many bytes of a file stand after its position."""
+    """Returns how many bytes of a file are after its position."""
     return os.fstat(descriptor).st_size - os.lseek(descriptor, 0, os.SEEK_CUR)
 
 
 def started(binary, run, top, environment=None, seconds=SECONDS):
-    """The finished program, with what is `left` of its input; its environment has what is told, too."""
+    """Returns the finished program, with what is `left` of its input; its environment has further variables."""
     words = [os.fsencode(binary)] + [bytes_of(word) for word in run["words"]]
     limit, out_to = run.get("memory"), run.get("out_to")
 
@@ -203,7 +222,7 @@ def started(binary, run, top, environment=None, seconds=SECONDS):
 
 
 def wrong_file(top, name, wanted):
-    """What is wrong in a file after a run."""
+    """Returns what is wrong in a file after a run."""
     try:
         with open(os.path.join(top, name), "rb") as file:
             got = file.read()
@@ -221,7 +240,7 @@ def wrong_file(top, name, wanted):
 
 
 def wrong_in(binary, run, top):
-    """What is wrong in a run, line by line."""
+    """Returns what is wrong in a run, line by line."""
     try:
         done = started(binary, run, top)
     except subprocess.TimeoutExpired:
@@ -242,7 +261,7 @@ def wrong_in(binary, run, top):
 
 
 def wrong_run(binary, case, top):
-    """The first run of a case that does not end as it should, and what is wrong in it; or nothing."""
+    """Returns the first run of a case that does not end as it should, and what is wrong in it; or nothing."""
     for run in case["runs"]:
         wrong = wrong_in(binary, run, top)
         if wrong:

@@ -5,7 +5,7 @@
 
 The crate's own tests and the example of its documentation are run by cargo, without warnings, and its sources have to be
 as rustfmt leaves them. Then its example `answers` answers `check` and `list` on the cases (see run.py), and `cat` of each
-regular file of them and of one folder in each format, as romtool does. The last line is `N passed, M failed`, with
+regular file of them and of one directory in each format, as romtool does. The last line is `N passed, M failed`, with
 `, K skipped` if cargo is not installed.
 """
 
@@ -17,14 +17,15 @@ import sys
 import tempfile
 
 import c
-from harness import Counts, parser, program_of
+from harness import Counts, missing, parser, program_of
+from romtool import entries
 
 CRATE = os.path.join(c.TOP, "bindings", "rust")
 DONE = re.compile(r"test result: ok\. (\d+) passed; 0 failed")
 
 
 def cargo(words, top, archive):
-    """What cargo says with these words, and its status."""
+    """Returns what cargo says with these words, and its status."""
     more = {"ROMTOOL_LIB_DIR": os.path.dirname(archive), "CARGO_TARGET_DIR": top + "/target", "RUSTFLAGS": "-D warnings",
             "RUSTDOCFLAGS": "-D warnings"}  # fmt: skip
     return c.said(["cargo", *words], cwd=CRATE, env={**os.environ, **more})
@@ -40,9 +41,9 @@ def own_tests(top, archive, counts):
     else:
         counts.passes(sum(passed))
     done = cargo(["doc", "--offline"], top, archive)
-    c.is_as_wanted("cargo doc", done.returncode, 0, counts)
+    counts.equal("cargo doc", done.returncode, 0)
     if shutil.which("rustfmt"):
-        c.is_as_wanted("cargo fmt --check", cargo(["fmt", "--check"], top, archive).returncode, 0, counts)
+        counts.equal("cargo fmt --check", cargo(["fmt", "--check"], top, archive).returncode, 0)
     else:
         counts.skips("the form of the sources: there is no rustfmt")
 
@@ -52,13 +53,12 @@ def faults(counts):
     with open(os.path.join(CRATE, "src", "error.rs"), encoding="utf-8") as file:
         names = re.findall(r'"(\w*)"', re.search(r"FAULTS: .*?= \[(.*?)\];", file.read(), re.S)[1])
     wanted = [c.explain.FAULTS.get(it, ("", ""))[0] for it in range(27)]
-    c.is_as_wanted("names of faults", names, wanted, counts)
+    counts.equal("names of faults", names, wanted)
 
 
 def files_of(binary, top, image):
-    """The paths of an image's regular files."""
-    lines = c.said([binary, "list", image], cwd=top).stdout.splitlines()
-    return [line.split()[8] for line in lines if line.split()[1] == b"f" and b"%" not in line]
+    """Returns the paths of an image's regular files."""
+    return [it.path for it in entries(binary, os.path.join(top, image)) if it.kind == "f" and "%" not in it.path]
 
 
 def answered(binary, answers, words, top, place, counts):
@@ -66,7 +66,7 @@ def answered(binary, answers, words, top, place, counts):
     how = {"cwd": top, "stdout": subprocess.PIPE, "stderr": subprocess.PIPE}
     wanted, got = (subprocess.run([it, *words], **how) for it in (binary, answers))
     one, other = ((it.returncode, it.stdout) for it in (wanted, got))
-    c.is_as_wanted("%s, %s" % (place, words), (*other, got.stderr), (*one, b""), counts)
+    counts.equal("%s, %s" % (place, words), (*other, got.stderr), (*one, b""))
 
 
 def images(binary, answers, top, names, counts):
@@ -82,10 +82,9 @@ def main():
     reads = parser("Test the crate for Rust over the library for C.")
     reads.add_argument("--library", help="the archive, if not the one that `rt lib` builds")
     arguments, counts = reads.parse_args(), Counts()
-    for tool in ("cargo", "rt"):
-        if not shutil.which(tool):
-            counts.skips("the crate for Rust: there is no %s" % tool)
-            return counts.close()
+    if tool := missing("cargo", "rt"):
+        counts.skips("the crate for Rust: there is no %s" % tool)
+        return counts.close()
     binary = program_of(arguments)
     archive = c.library(arguments.library, counts)
     if not archive:

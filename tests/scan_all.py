@@ -1,15 +1,15 @@
 #!/usr/bin/env python3
-"""Scans folders with `--all`, builds them in each format, and compares the images with what the system says of the folders.
+"""Scans directories with `--all`, builds them in each format, and compares the images with what the system says of the directories.
 
     scan_all.py [--binary PATH] [--count N] [--first SEED]
 
-One folder has each kind of file that the rights of the test allow (devices where it is root), odd names, links,
-several names of one file across folders, and all modes; further ones are made by chance of a seed, which is named
-where a test fails. Each is scanned plainly with `--all`, whose manifest is compared line by line, and with
+One directory has each kind of file that the rights of the test allow (devices if it is root), odd names, links,
+several names of one file across directories, and all modes; further ones are made of a random seed, which is named
+if a test fails. Each is scanned plainly with `--all`, whose manifest is compared line by line, and with
 `--all --for FORMAT` for each format; what is built of that is accepted by `check`, listed, and compared entry by
-entry with what `lstat` says, brought to what the format takes: kinds, modes, owners, lengths, numbers of devices,
+entry with what `lstat` says, brought to what the format stores: kinds, modes, owners, lengths, numbers of devices,
 texts of links, which names are one file (romfs), and each file's bytes.
-The last line is `N passed, M failed`, with `, K skipped` where the rights are missing.
+The last line is `N passed, M failed`, with `, K skipped` if the rights are missing.
 """
 
 import os
@@ -17,53 +17,42 @@ import random
 import shutil
 import socket
 import stat
-import subprocess
 import sys
 import tempfile
 
-from harness import SECONDS, Counts, parser, program_of
-
-FORMATS = ["romfs", "cramfs", "cramfs-be"]
-ROMFS_MODES = {"l": 0o777, "b": 0o600, "c": 0o600, "p": 0o644, "s": 0o644}
-KINDS = {
-    stat.S_IFDIR: "d", stat.S_IFREG: "f", stat.S_IFLNK: "l", stat.S_IFBLK: "b",
-    stat.S_IFCHR: "c", stat.S_IFSOCK: "s", stat.S_IFIFO: "p",
-}  # fmt: skip
-WORDS = {"d": "dir", "f": "file", "l": "slink", "b": "nod", "c": "nod", "p": "pipe", "s": "sock"}
-IS_ROOT = os.geteuid() == 0
-
-
-def escaped(name):
-    """The bytes as a manifest and a list write them."""
-    return "".join(chr(b) if 0x21 <= b <= 0x7E and b != 0x25 else "%%%02X" % b for b in name)
+from files import bytes_in, put, short_path
+from harness import Counts, add_seeds, parser, program_of
+from romtool import FORMATS, KINDS, ROMFS_MODES, WORDS, entries_of, escaped, run, without_number
+from rooms import IS_ROOT
 
 
 class Told:
-    """What the system says of each name in a folder, in the order of the bytes of paths."""
+    """What the system says of each name in a directory, in the order of the bytes of paths."""
 
-    def __init__(self, top):
-        self.top = top
+    def __init__(self, top, at="."):
+        """Reads the directory `top`, by its name in the directory `at`."""
+        self.top, self.base = top, os.path.join(os.fsencode(at), top)
         self.paths = [b"/"]
-        for folder, folders, files in os.walk(top):
+        for folder, folders, files in os.walk(self.base):
             for name in folders + files:
-                self.paths.append(os.path.join(folder, name)[len(top) :])
+                self.paths.append(os.path.join(folder, name)[len(self.base) :])
         self.paths.sort()
-        self.of = {path: os.lstat(top + path) for path in self.paths}
+        self.of = {path: os.lstat(self.base + path) for path in self.paths}
         self.kind = {path: KINDS[stat.S_IFMT(told.st_mode)] for path, told in self.of.items()}
         self.first = {}  # (device, inode) -> the first path
         for path in self.paths:
             self.first.setdefault(self.inode(path), path)
 
     def inode(self, path):
-        """Which file a path leads to."""
+        """Returns which file a path leads to."""
         return self.of[path].st_dev, self.of[path].st_ino
 
     def is_further(self, path):
-        """Whether an earlier path leads to the same file."""
+        """Returns whether an earlier path leads to the same file."""
         return self.first[self.inode(path)] != path
 
     def attributes(self, path, wanted):
-        """Mode, user and group as a format takes them, or as they are."""
+        """Mode, user and group as a format stores them, or as they are."""
         told, kind = self.of[path], self.kind[path]
         mode, user, group = stat.S_IMODE(told.st_mode), told.st_uid, told.st_gid
         if wanted == "romfs":
@@ -73,13 +62,13 @@ class Told:
         return mode, user, group
 
     def device(self, path):
-        """The numbers of a device."""
+        """Returns the numbers of a device."""
         if self.kind[path] not in "bc":
             return 0, 0
         return os.major(self.of[path].st_rdev), os.minor(self.of[path].st_rdev)
 
     def line(self, path, wanted, align):
-        """The line of a manifest."""
+        """Returns the line of a manifest."""
         kind, shown = self.kind[path], escaped(path)
         owned = "%s %04o %d %d" % (shown, *self.attributes(path, wanted))
         if self.is_further(path) and wanted in (None, "romfs"):
@@ -90,48 +79,48 @@ class Told:
             is_run = stat.S_IMODE(self.of[path].st_mode) & 0o111
             return "file %s %d %s" % (owned, align if is_run else 4, escaped(self.top + path))
         if kind == "l":
-            return "slink %s %s" % (owned, escaped(os.readlink(self.top + path)))
+            return "slink %s %s" % (owned, escaped(os.readlink(self.base + path)))
         if kind in "bc":
             return "nod %s %s %d %d" % (owned, kind, *self.device(path))
         return "%s %s" % (WORDS[kind], owned)
 
     def manifest(self, wanted, align):
-        """The manifest that a scan prints."""
+        """Returns the manifest that a scan prints."""
         return "".join(self.line(path, wanted, align) + "\n" for path in self.paths)
 
     def listed(self, wanted):
-        """The lines of a list without the numbers of nodes, sorted."""
+        """Returns the lines of a list without the numbers of nodes, sorted."""
         return sorted(self.listed_line(path, wanted) for path in self.paths)
 
     def listed_line(self, path, wanted):
-        """The line of a list without the number of the node."""
+        """Returns the line of a list without the number of the node."""
         kind = self.kind[path]
         size = self.of[path].st_size if kind in "fl" else 0
-        text = " " + escaped(os.readlink(self.top + path)) if kind == "l" else ""
+        text = " " + escaped(os.readlink(self.base + path)) if kind == "l" else ""
         numbers = (*self.attributes(path, wanted), size, *self.device(path))
         return "%s %04o %d %d %d %d %d %s%s" % (kind, *numbers, escaped(path), text)
 
     def groups(self):
-        """The sets of paths that lead to one file."""
+        """Returns the sets of paths that lead to one file."""
         found = {}
         for path in self.paths:
             found.setdefault(self.inode(path), set()).add(escaped(path))
         return sorted(map(sorted, found.values()))
 
     def regular(self):
-        """The paths of the regular files."""
+        """Returns the paths of the regular files."""
         return [path for path in self.paths if self.kind[path] == "f"]
 
 
 class Tester:
-    """Runs the program in a folder, and counts."""
+    """Runs the program in a directory, and counts."""
 
     def __init__(self, program, counts, room):
         self.program, self.counts, self.room = program, counts, room
 
     def run(self, words, given=b""):
-        """What the program prints and says, and its status."""
-        ran = subprocess.run([self.program, *words], input=given, cwd=self.room, capture_output=True, timeout=SECONDS)
+        """Returns what the program prints and says, and its status."""
+        ran = run(self.program, *words, input=given, cwd=self.room)
         return ran.stdout.decode(errors="surrogateescape"), ran.stderr.decode(), ran.returncode
 
     def is_same(self, words, got, wanted):
@@ -150,8 +139,8 @@ class Tester:
         return False
 
     def folder(self, name, top, align=4):
-        """Tests one folder in all formats."""
-        told = Told(os.fsencode(top))
+        """Tests one directory in all formats."""
+        told = Told(os.fsencode(top), self.room)
         option = ["--align", str(align)] if align != 4 else []
         words = ["scan", "--all", *option, top]
         self.is_same(f"{name}: scan --all", self.run(words), (told.manifest(None, align), "", 0))
@@ -163,19 +152,17 @@ class Tester:
                 self.aligned(f"{name}, {wanted}", told, align)
 
     def built(self, name, told, wanted, manifest):
-        """Builds a manifest, and compares the image with the folder."""
-        with open(os.path.join(self.room, "manifest"), "w", encoding="utf-8", errors="surrogateescape") as it:
-            it.write(manifest)
+        """Builds a manifest, and compares the image with the directory."""
+        put(os.path.join(self.room, "manifest"), manifest.encode(errors="surrogateescape"))
         out, said, status = self.run(["build", wanted, "manifest", "image"])
         if not self.is_same(f"{name}: build", (out[:3], said, status), ("ok ", "", 0)):
             return
-        lines = self.run(["list", "image"])[0].splitlines()
-        self.is_same(f"{name}: list", sorted(line.split(" ", 1)[1] for line in lines), told.listed(wanted))
+        lines = self.run(["list", "image"])[0]
+        self.is_same(f"{name}: list", sorted(map(without_number, lines.splitlines())), told.listed(wanted))
         if wanted == "romfs":
             found = {}
-            for line in lines:
-                fields = line.split(" ")
-                found.setdefault(fields[0], set()).add(fields[8])
+            for entry in entries_of(lines.encode()):
+                found.setdefault(entry.number, set()).add(entry.path)
             self.is_same(f"{name}: names of one file", sorted(map(sorted, found.values())), told.groups())
         self.contents(name, told)
 
@@ -185,8 +172,7 @@ class Tester:
         for path in told.regular():
             asked.append("open %s" % escaped(path))
             wanted.append("ok 0")
-            with open(told.top + path, "rb") as file:
-                held = file.read()
+            held = bytes_in(told.base + path)
             for at in range(0, len(held) + 1, 4096):
                 part = held[at : at + 4096]
                 asked.append("read 0 4096")
@@ -196,27 +182,17 @@ class Tester:
         given = "".join(line + "\n" for line in asked).encode()
         self.is_same(f"{name}: contents", self.run(["serve", "image"], given)[0].splitlines(), wanted)
 
-
     def aligned(self, name, told, align):
-        """Looks that what someone may execute lies at multiples of the alignment."""
-        told_by = lambda path: os.lstat(told.top + path)
-        paths = [it for it in told.regular() if told_by(it).st_mode & 0o111 and told_by(it).st_size]
+        """Checks that what someone may execute lies at multiples of the alignment."""
+        paths = [it for it in told.regular() if told.of[it].st_mode & 0o111 and told.of[it].st_size]
         given = "".join("open %s\nmap 0 0 1\nclose 0\n" % escaped(path) for path in paths).encode()
         replies = self.run(["serve", "image"], given)[0].splitlines()[1::3]
         rests = [int(reply.split(" ")[1]) % align if reply.startswith("ok ") else reply for reply in replies]
         self.is_same(f"{name}: alignment", rests, [0] * len(paths))
 
 
-def put(path, held=b"", mode=None):
-    """Makes a file."""
-    with open(path, "wb") as file:
-        file.write(held)
-    if mode is not None:
-        os.chmod(path, mode)
-
-
 def make_all_kinds(top):
-    """Makes a folder with each kind of file that the rights allow."""
+    """Makes a directory with each kind of file that the rights allow."""
     os.makedirs(f"{top}/bin")
     os.makedirs(f"{top}/lib/a b/c%d")
     os.makedirs(f"{top}/empty")
@@ -233,11 +209,9 @@ def make_all_kinds(top):
     os.link(f"{top}/odd", f"{top}/lib/odd again", follow_symlinks=False)
     os.mkfifo(f"{top}/queue")
     os.link(f"{top}/queue", f"{top}/lib/queue again")
-    with socket.socket(socket.AF_UNIX) as it:
-        at = os.getcwd()
-        os.chdir(top)
-        it.bind("log")
-        os.chdir(at)
+    # the name of a socket has at most 107 bytes
+    with socket.socket(socket.AF_UNIX) as it, short_path(top) as short:
+        it.bind(f"{short}/log")
     if IS_ROOT:
         os.mknod(f"{top}/disk", 0o600 | stat.S_IFBLK, os.makedev(8, 17))
         os.mknod(f"{top}/tty", 0o620 | stat.S_IFCHR, os.makedev(255, 255))
@@ -250,7 +224,7 @@ def make_all_kinds(top):
 
 
 def make_modes(top):
-    """Makes a folder with each mode."""
+    """Makes a directory with each mode."""
     os.makedirs(top)
     for mode in range(0o10000):
         if IS_ROOT or mode & 0o400:
@@ -258,7 +232,7 @@ def make_modes(top):
 
 
 def make_by_chance(top, chance):
-    """Makes a small folder by chance."""
+    """Makes a small random directory."""
     folders, files = [top], []
     os.makedirs(top)
     for number in range(chance.choice([0, 1, 4, 10, 20])):
@@ -303,14 +277,12 @@ def refusals(tester, top):
 
 def main():
     given = parser(__doc__)
-    given.add_argument("--count", type=int, default=300)
-    given.add_argument("--first", type=int, default=0)
+    add_seeds(given, 300, 0)
     arguments = given.parse_args()
     counts = Counts()
     os.umask(0o022)
     tester = Tester(program_of(arguments), counts, tempfile.mkdtemp(prefix="romtool-"))
     room = tester.room
-    os.chdir(room)
     try:
         refusals(tester, f"{room}/refused")
         make_all_kinds(f"{room}/kinds")
@@ -323,7 +295,7 @@ def main():
         aligns = {}
         for seed in range(arguments.first, arguments.first + arguments.count):
             chance = random.Random(seed)
-            make_by_chance(f"seed {seed}", chance)
+            make_by_chance(f"{room}/seed {seed}", chance)
             aligns[f"seed {seed}"] = chance.choice([4, 4, 16, 4096])
         for name, align in aligns.items():
             tester.folder(name, name, align)

@@ -3,7 +3,7 @@
 
     size.py [--binary PATH] [--name TEXT]
 
-What is expected is worked out from the layout of each image, which its function tells. The last line
+What is expected is worked out from the layout of each image, which its function describes. The last line
 is `N passed, M failed`.
 """
 
@@ -12,23 +12,26 @@ import subprocess
 import sys
 import tempfile
 
+from files import put
 from harness import SECONDS, Counts, parser, program_of
+
 from images import (
     BLOCK, CRAMFS_DIRECTORY, CRAMFS_REGULAR, DIRECT_POINTERS, REGULAR, SORTED, WITH_SUM, cramfs, cramfs_list,
     inode, pointers, romfs_list,
 )  # fmt: skip
+from romtool import run
 
 MIB = 2**20
 MANY = 20_000
 
 
 def text_of(lines):
-    """The lines as they are printed."""
+    """Returns the lines as they are printed."""
     return "".join("%s\n" % line for line in lines)
 
 
 def contents(size):
-    """Bytes that repeat with no power of two."""
+    """Returns bytes that repeat with no power of two."""
     return (bytes(range(251)) * (size // 251 + 1))[:size]
 
 
@@ -75,7 +78,7 @@ def seventeen_files(shift):
 
 
 def many_extents():
-    """Blocks that begin at the same place and have the same length are shared, and sound."""
+    """Blocks that begin at the same place and have the same length are shared, which is valid."""
     files = ["%d f 0644 0 0 16773120 0 0 /%02d" % (76 + 16 * n, n) for n in range(17)]
     return seventeen_files(0), "ok cramfs 18 1", ["64 d 0755 0 0 0 0 0 /"] + files
 
@@ -117,8 +120,8 @@ IMAGES = [
 
 
 def wrong_run(binary, word, path, wanted, status):
-    """What is wrong in a run on an image; the first line that differs is told."""
-    done = subprocess.run([binary, word, path], capture_output=True, timeout=SECONDS)
+    """Returns what is wrong in a run on an image; the first line that differs is reported."""
+    done = run(binary, word, path)
     if done.stderr or done.returncode != status:
         return ["%s ends with status %d and %r" % (word, done.returncode, done.stderr)]
     got = done.stdout.decode("ascii", "replace")
@@ -130,7 +133,7 @@ def wrong_run(binary, word, path, wanted, status):
 
 
 def wrong_first_line(binary, path, wanted):
-    """What is wrong where a reader takes the first line of a list, and closes its pipe."""
+    """Returns what is wrong if a reader takes the first line of a list, and closes its pipe."""
     with subprocess.Popen([binary, "list", path], stdout=subprocess.PIPE, stderr=subprocess.PIPE) as running:
         line = running.stdout.readline().decode()
         running.stdout.close()
@@ -142,7 +145,7 @@ def wrong_first_line(binary, path, wanted):
 
 
 def wrong_image(binary, path, told, listed):
-    """What is wrong in the runs on an image; `listed` has the lines of its list, where it is sound."""
+    """Returns what is wrong in the runs on an image; `listed` has the lines of its list, if it is valid."""
     status = 0 if listed else 1
     wrong = wrong_run(binary, "check", path, told + "\n", status)
     wrong += wrong_run(binary, "list", path, text_of(listed or [told]), status)
@@ -161,16 +164,12 @@ def main():
         path = os.path.join(top, "image")
         for make in (make for make in IMAGES if arguments.name in make.__name__):
             image, told, listed = make()
-            with open(path, "wb") as file:
-                file.write(image)
+            put(path, image)
             try:
                 wrong = wrong_image(binary, path, told, listed)
             except subprocess.TimeoutExpired:
                 wrong = ["did not end within %d seconds" % SECONDS]
-            if wrong:
-                counts.fails("size: %s" % make.__name__, wrong)
-            else:
-                counts.passes()
+            counts.result("size: %s" % make.__name__, wrong)
     return counts.close()
 
 

@@ -1,12 +1,12 @@
 #!/usr/bin/env python3
-"""Builds the library for machines of 32 bits and for WebAssembly, and looks that it answers as romtool does.
+"""Builds the library for machines of 32 bits and for WebAssembly, and checks that it answers as romtool does.
 
     targets.py [--binary PATH] [--module PATH]
 
 tools/rom32 makes the archives, all of one module, which it keeps of the proved build unless one is given; its own test
 is run first. Then
     armv7a   answers.c (see c.py) on all cases and in each format, closed.c and areas.c, by qemu-arm, also with --small
-    thumbv7m the same on a board with a Cortex-M3, by qemu-system-arm, but for images that its memory does not hold; and
+    thumbv7m the same on a board with a Cortex-M3, by qemu-system-arm, except for images that its memory does not hold; and
              firmware with the image in flash and a heap of its own, with and without the check
     thumbv6m firmware, on the same board, which has all its instructions; the sizes of both are printed
     riscv32  `check` and `list` of answers.c on all cases, by qemu-system-riscv32
@@ -17,13 +17,12 @@ A target whose compiler or emulator is not installed is skipped. The last line i
 
 import os
 import shutil
-import subprocess
 import sys
 import tempfile
 
 import c
 import run
-from harness import SECONDS, Counts, parser, program_of
+from harness import SECONDS, Counts, missing, parser, program_of
 
 TOOLS = os.path.join(c.TOP, "tools")
 BOARD = os.path.join(c.SOURCES, "board")
@@ -59,7 +58,7 @@ class Archives:
         self.top, self.module = top, module
 
     def of(self, target, counts, small=False):
-        """The archive for a target, or nothing."""
+        """Returns the archive for a target, or nothing."""
         name = "%s/lib%s%s.a" % (self.top, target, "-small" if small else "")
         if not os.path.exists(name):
             words = [os.path.join(TOOLS, "rom32"), target, "--module", self.module, "-o", name]
@@ -72,7 +71,7 @@ class Archives:
 
 
 def kept_module(top, given, counts):
-    """The module, which is kept of the proved build if none is given; or nothing."""
+    """Returns the module, which is kept of the proved build if none is given; or nothing."""
     if given:
         return os.path.abspath(given)
     module = top + "/rom_c.ll"
@@ -144,19 +143,19 @@ def headers(top, counts):
         for standard in ("c++11", "c++14", "c++17", "c++20"):
             c.compiled(["clang++", "--target=" + triple, "-std=" + standard, *words, top + "/header.cc"], counts)
     done = c.said(["clang", "--target=i386-linux-gnu", *words, top + "/header.c"])
-    c.is_as_wanted("i386", (done.returncode, b"romtool_layout_is_right" in done.stdout), (1, True), counts)
+    counts.equal("i386", (done.returncode, b"romtool_layout_is_right" in done.stdout), (1, True))
 
 
 def closed_and_areas(closed, areas, top, name, counts):
     """What closed.c and areas.c say; the areas of a machine of 32 bits have their own sizes."""
     if closed:
         done = c.said([closed, "tree"], cwd=top)
-        c.is_as_wanted("closed handles on " + name, (done.returncode, done.stdout), (0, b"closed 107\n"), counts)
+        counts.equal("closed handles on " + name, (done.returncode, done.stdout), (0, b"closed 107\n"))
     if areas:
         done = c.said([areas, "tree", "cramfs"], cwd=top)
         lines = done.stdout.splitlines()
         seen = (done.returncode, [it.split()[1] for it in lines[:2]], lines[-1:] and lines[-1][-6:])
-        c.is_as_wanted("areas on " + name, seen, (0, [b"0", b"0"], b" steps"), counts)
+        counts.equal("areas on " + name, seen, (0, [b"0", b"0"], b" steps"))
         print("heap of a check on %s: %s" % (name, b", ".join(lines[:2]).decode(errors="replace")))
 
 
@@ -205,13 +204,13 @@ def on_board(binary, top, archives, counts):
 
 
 def size_of(path):
-    """The bytes of code and constants of a program."""
+    """Returns the bytes of code and constants of a program."""
     said = c.said(["arm-none-eabi-size", path]).stdout.decode().splitlines()
     return int(said[1].split()[0]) if len(said) > 1 else 0
 
 
 def firmware(top, archive, name, machine, words, counts):
-    """Links firmware over the image of image.h, or gives nothing."""
+    """Links firmware over the image of image.h, or returns nothing."""
     made = "%s/%s" % (top, name)
     sources = [BOARD + "/flash.c", c.HEAPS + "/bytes.c", *[c.HEAPS + "/area.c"] * ("-DCHECK" in words)]
     how = ["-std=c99", "-Os", "-ffreestanding", "-fno-builtin", "-ffunction-sections", "-nostdlib", "-Wl,--gc-sections"]
@@ -246,9 +245,9 @@ def runs_in_flash(top, made, what, words, counts):
     wanted = ["open 0 ", "fstat 0 ", "map 0 ", "read 0 ", "readdir 0 ", "stat 0 ", "sum %d %d in flash 1\n" % (total, total)]
     wanted += ["check 0 ", " left 0 ", " same 1\n"] * bool(words)
     missing = [it for it in wanted if it not in text]
-    c.is_as_wanted("firmware of " + what, (done.returncode, missing), (0, []), counts)
+    counts.equal("firmware of " + what, (done.returncode, missing), (0, []))
     stacks = {line.split()[0]: int(line.split()[3]) for line in text.splitlines() if " stack " in line}
-    c.is_as_wanted("stack of firmware of " + what, bool(stacks) and max(stacks.values()) <= 16384, True, counts)
+    counts.equal("stack of firmware of " + what, bool(stacks) and max(stacks.values()) <= 16384, True)
     print("stack of firmware of %s: %s" % (what, ", ".join("%s %d" % it for it in stacks.items())))
 
 
@@ -328,13 +327,12 @@ def main():
     reads.add_argument("--module", help="the module, if not the one of the proved build")
     reads.add_argument("--only", help="one target")
     arguments, counts = reads.parse_args(), Counts()
-    for tool in ("cc", "rt"):
-        if not shutil.which(tool):
-            counts.skips("the library for other machines: there is no %s" % tool)
-            return counts.close()
+    if tool := missing("cc", "rt"):
+        counts.skips("the library for other machines: there is no %s" % tool)
+        return counts.close()
     binary = program_of(arguments)
     done = c.said([os.path.join(TOOLS, "rom32"), "--self-test"])
-    c.is_as_wanted("tools/rom32 --self-test", (done.returncode, done.stdout[-300:] * bool(done.returncode)), (0, b""), counts)
+    counts.equal("tools/rom32 --self-test", (done.returncode, done.stdout[-300:] * bool(done.returncode)), (0, b""))
     with tempfile.TemporaryDirectory(prefix="romtool-") as top:
         module = kept_module(top, arguments.module, counts)
         if not module:

@@ -1,5 +1,5 @@
 #!/usr/bin/env python3
-"""Tests the tools of tools/: that the gate tells a wrong edit from a right one, and what they do under another kit.
+"""Tests the tools of tools/: that the gate distinguishes a wrong edit from a right one, and what they do under another kit.
 
 A small repository is made with edits of each kind, and the gate is run on it. It has to report each edit rightly: one that
 changes a meaning is refused, one that changes nothing is not refused, and one that cannot be made is bad. A contract that no
@@ -7,15 +7,16 @@ call can meet fails its crate. Tests that are proved, and tests that are not, be
 are reported rightly too. The last line is `N passed, M failed`.
 """
 
+import collections
 import glob
 import os
-import shutil
 import subprocess
 import sys
 import tempfile
 import uuid
 
-from harness import HERE, Counts
+from files import write_below
+from harness import HERE, Counts, missing
 
 TOOLS = os.path.realpath(os.path.join(HERE, "..", "tools"))
 sys.path.insert(0, TOOLS)
@@ -228,20 +229,31 @@ def try_gate(counts):
         ran = subprocess.run(gate, cwd=top, stdout=subprocess.PIPE, stderr=subprocess.STDOUT, text=True)
         stamped = sorted(glob.glob("crates/*/out/rlib/stamp", root_dir=top))
     said = ran.stdout.splitlines()
-    expect(counts, "libraries that other commands take as built", stamped, [f"crates/{it}/out/rlib/stamp" for it in ("bare", "odd", "small")], ran.stdout)
+    counts.equal(
+        "libraries that other commands take as built",
+        stamped,
+        [f"crates/{it}/out/rlib/stamp" for it in ("bare", "odd", "small")],
+        ran.stdout,
+    )
     for name, (_, _, _, wanted) in EDITS.items():
         told = [it for it in said if it.startswith(f"rt: must-fail small/{name}.edit: {wanted}")]
-        expect(counts, f"the gate on the edit {name}", len(told), 1, ran.stdout)
-    for wanted in ("small: its tests are proved", "bare: its tests are proved", "odd proved", "odd: its tests are NOT PROVED", "empty NOT PROVED"):
-        expect(counts, f"the gate says: {wanted}", said.count(f"rt: {wanted}"), 1, ran.stdout)
+        counts.equal(f"the gate on the edit {name}", len(told), 1, ran.stdout)
+    for wanted in (
+        "small: its tests are proved",
+        "bare: its tests are proved",
+        "odd proved",
+        "odd: its tests are NOT PROVED",
+        "empty NOT PROVED",
+    ):
+        counts.equal(f"the gate says: {wanted}", said.count(f"rt: {wanted}"), 1, ran.stdout)
     begun = [it for it in said if it.startswith("logic=proved tests=1 ") and it.endswith(" incremental=trusted")]
-    expect(counts, "how many tests begin from what was proved of their crate", len(begun), 2, ran.stdout)
+    counts.equal("how many tests begin from what was proved of their crate", len(begun), 2, ran.stdout)
     anew = [it for it in said if it.startswith("logic=proved tests=1 ") and not it.endswith(" incremental=trusted")]
-    expect(counts, "how many tests begin from nothing, their crate having no function", len(anew), 1, ran.stdout)
-    of = lambda verdict: sum(it[3].startswith(verdict) for it in EDITS.values())
-    last = f"{2 + of(REFUSED)} passed, {2 + of('NOT REFUSED')} failed"
-    expect(counts, "the gate's last line", said[-1:], [last], ran.stdout)
-    expect(counts, "the gate's status", ran.returncode, 1, ran.stdout)
+    counts.equal("how many tests begin from nothing, their crate having no function", len(anew), 1, ran.stdout)
+    of = collections.Counter(verdict for *_, verdict in EDITS.values())
+    last = f"{2 + of[REFUSED]} passed, {2 + of['NOT REFUSED']} failed"
+    counts.equal("the gate's last line", said[-1:], [last], ran.stdout)
+    counts.equal("the gate's status", ran.returncode, 1, ran.stdout)
 
 
 def try_further_edits(counts):
@@ -250,23 +262,7 @@ def try_further_edits(counts):
     for path in sorted(glob.glob(os.path.join(HERE, "edits", "*", "*.edit"))):
         crate = os.path.basename(os.path.dirname(path))
         why = rt.read_edit(path, os.path.join(TOOLS, "..", "crates", crate))[1]
-        expect(counts, f"{crate}/{os.path.basename(path)} can be applied", why, None)
-
-
-def expect(counts, what, got, wanted, said=""):
-    """Counts whether something is as it should be."""
-    if got == wanted:
-        counts.passes()
-    else:
-        counts.fails(what, [f"{got!r}", f"expected {wanted!r}", *said.splitlines()[-40:]])
-
-
-def write_below(top, texts):
-    """Writes texts to files below a folder, by their paths."""
-    for path, text in texts.items():
-        os.makedirs(os.path.dirname(os.path.join(top, path)), exist_ok=True)
-        with open(os.path.join(top, path), "w", encoding="utf-8") as it:
-            it.write(text)
+        counts.equal(f"{crate}/{os.path.basename(path)} can be applied", why, None)
 
 
 OTHER_KIT = """#!/usr/bin/env python3
@@ -290,9 +286,9 @@ def try_other_kit(counts):
         for words, wanted in ((["gate"], "plain rt ci\n"), (["rt", "check", "--jobs", "1"], "plain rt check --jobs 1\n")):
             command = [os.path.join(TOOLS, words[0]), *words[1:]]
             ran = subprocess.run(command, capture_output=True, text=True, env=environment)
-            expect(counts, f"{words[0]} under another kit", (ran.stdout, ran.returncode), (wanted, 0))
+            counts.equal(f"{words[0]} under another kit", (ran.stdout, ran.returncode), (wanted, 0))
             is_told = "and this is rattle-kit-of-tomorrow" in ran.stderr
-            expect(counts, f"{words[0]} says that it is another kit", is_told, True, ran.stderr)
+            counts.equal(f"{words[0]} says that it is another kit", is_told, True, ran.stderr)
 
 
 def try_words(counts):
@@ -304,13 +300,13 @@ def try_words(counts):
                           (["tools/rom32", "--help"], 0), (["tools/rom32"], 2), (["tools/rom32", "i386"], 2),
                           (["tools/page", "--help"], 0)):  # fmt: skip
         ran = subprocess.run([os.path.join(top, words[0]), *words[1:]], capture_output=True, text=True)
-        expect(counts, " ".join(words), ran.returncode, status)
-        expect(counts, " ".join(words) + " says its words", words[0] in ran.stdout + ran.stderr, True)
+        counts.equal(" ".join(words), ran.returncode, status)
+        counts.equal(" ".join(words) + " says its words", words[0] in ran.stdout + ran.stderr, True)
 
 
 def main():
     counts = Counts()
-    if shutil.which("rt"):
+    if not missing("rt"):
         try_further_edits(counts)
         try_words(counts)
         try_other_kit(counts)

@@ -2,14 +2,19 @@
 
 import os
 import re
+import select
 import shutil
+import signal
 import subprocess
 import tempfile
 import threading
+import time
 
 from harness import SECONDS
+from rooms import needs
 
 CALL = re.compile(r"(\w+)\((.*)")
+STOPPED = re.compile(rb"(\d+) +--- stopped by SIGSTOP ---")
 FIRST = 'openat(AT_FDCWD, "/", '  # the program's first call; those before it are the loader's
 
 
@@ -21,7 +26,7 @@ class Call:
 
 
 def is_there():
-    """Whether calls can be traced here, and made to fail."""
+    """Returns whether calls can be traced here, and made to fail."""
     if not shutil.which("strace"):
         return False
     words = ["strace", "-o", os.devnull, "-e", "inject=close:error=EIO:when=1", "true"]
@@ -29,13 +34,18 @@ def is_there():
     return done.returncode in (0, 1) and not done.stderr
 
 
+def needs_strace(test):
+    """Skips a test if calls cannot be traced."""
+    return needs(test, is_there)
+
+
 def words_of(told, binary, words):
-    """The words of a run under strace, with what is told of it."""
+    """Returns the words of a run under strace, with options of strace."""
     return ["strace", *told, os.fspath(binary), *words]
 
 
 def run(binary, *words, told=(), **more):
-    """The finished program, with calls failed or delayed as strace is told."""
+    """Returns the finished program, with calls failed or delayed as options of strace say."""
     with tempfile.NamedTemporaryFile() as log:
         told = ["-o", log.name, *told]
         streams = {"stdout": subprocess.PIPE, "stderr": subprocess.PIPE, **more}
@@ -43,13 +53,13 @@ def run(binary, *words, told=(), **more):
 
 
 def inject(name, what, when=None):
-    """What strace is told to do at each call of a name, or at one of them."""
+    """Returns the options by which strace does something at each call of a name, or at one of them."""
     place = "" if when is None else ":when=%s" % when
     return ["-e", "trace=%s" % name, "-e", "inject=%s:%s%s" % (name, what, place)]
 
 
 def calls(binary, *words, **more):
-    """The calls that the program makes itself, and the finished program."""
+    """Returns the calls that the program makes itself, and the finished program."""
     with tempfile.NamedTemporaryFile("r", errors="surrogateescape") as log:
         streams = {"stdout": subprocess.PIPE, "stderr": subprocess.PIPE, **more}
         told = ["-o", log.name, "-s", "65536"]
@@ -58,7 +68,7 @@ def calls(binary, *words, **more):
 
 
 def calls_in(log):
-    """The calls of a log from the program's first one on."""
+    """Yields the calls of a log from the program's first one on."""
     counts, begun = {}, False
     for line in log:
         found = CALL.match(line)
@@ -71,23 +81,57 @@ def calls_in(log):
             yield Call(name, counts[name], line.rstrip("\n"))
 
 
-class Slowed:
-    """A run that goes on in the background, with calls delayed, and is waited for at the end of the block."""
+class Held:
+    """A run that is held at one of its calls of the system while the block is executed; then it goes on to its end.
 
-    def __init__(self, binary, *words, told=()):
-        self.words, self.done = (binary, *words), None
-        self.thread = threading.Thread(target=self.go, args=(told,))
+    With a delay it is held for so many seconds before the call, otherwise it is stopped after the call, until the block ends.
+    strace writes its log into a pipe: it says when the call is reached.
+    """
 
-    def go(self, told):
-        """Runs the program."""
-        try:
-            self.done = run(*self.words, told=told)
-        except subprocess.TimeoutExpired:
-            self.done = None
+    def __init__(self, binary, words, name, number, delay=None):
+        self.begun, self.number, self.is_stopped = b" %s(" % name.encode(), number, delay is None
+        self.log, theirs = os.pipe()
+        what = "signal=STOP" if delay is None else "delay_enter=%d" % (delay * 1e6)
+        told = ["-f", "-o", "/proc/self/fd/%d" % theirs, *inject(name, what, number)]
+        streams = {"stdout": subprocess.PIPE, "stderr": subprocess.PIPE}
+        self.run = subprocess.Popen(words_of(told, binary, words), pass_fds=[theirs], **streams)
+        os.close(theirs)
+        self.is_held, self.process, self.answer = False, None, None
 
     def __enter__(self):
-        self.thread.start()
+        end, seen = time.monotonic() + SECONDS, b""
+        while not self.is_held and select.select([self.log], [], [], max(0, end - time.monotonic()))[0]:
+            more = os.read(self.log, 65536)
+            if not more:
+                break
+            seen += more
+            self.is_held = self.is_reached(seen)
         return self
 
+    def is_reached(self, seen):
+        """Returns whether the log says that the call is reached."""
+        if not self.is_stopped:
+            return seen.count(self.begun) >= self.number
+        found = STOPPED.search(seen)
+        self.process = int(found.group(1)) if found else None
+        return bool(found)
+
     def __exit__(self, *_):
-        self.thread.join()
+        if self.process:
+            os.kill(self.process, signal.SIGCONT)
+        # what strace writes is read to its end, so that it never waits for its reader
+        rest = threading.Thread(target=self.read_rest)
+        rest.start()
+        try:
+            out, said = self.run.communicate(timeout=SECONDS)
+            self.answer = out, said, self.run.returncode
+        except subprocess.TimeoutExpired:
+            self.run.kill()
+            self.run.communicate()
+        rest.join()
+        os.close(self.log)
+
+    def read_rest(self):
+        """Reads the log to its end."""
+        while os.read(self.log, 65536):
+            pass

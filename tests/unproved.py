@@ -1,8 +1,8 @@
 #!/usr/bin/env python3
-"""Builds the unproved program by tools/unproved, and compares it with the proved one on each case of this folder.
+"""Builds the unproved program by tools/unproved, and compares it with the proved one on each case of this directory.
 
-Each run of a case is made by both programs, in a folder of each one's own, and has to give the same output, messages,
-status, rest of input and files. The last line is `N passed, M failed`, with `, K skipped` where cases were skipped.
+Each run of a case is made by both programs, in a directory of each one's own, and has to give the same output, messages,
+status, rest of input and files. The last line is `N passed, M failed`, with `, K skipped` if cases were skipped.
 """
 
 import os
@@ -18,7 +18,7 @@ TOOL = os.path.join(HERE, "..", "tools", "unproved")
 
 
 def built(folder, counts):
-    """Builds the unproved program in a folder, and counts what it tells of itself and prints on the example image."""
+    """Builds the unproved program in a directory, and counts what it says of itself and prints on the example image."""
     program = os.path.join(folder, "romtool-unproved")
     ran = subprocess.run([TOOL, program], stdout=subprocess.PIPE, stderr=subprocess.STDOUT, cwd=folder)
     with open(os.path.join(HERE, "..", "crates", "romtool", "stdout"), "rb") as it:
@@ -31,7 +31,7 @@ def built(folder, counts):
 
 
 def files_below(top):
-    """The files, links and folders below a folder, with their bytes, texts and modes."""
+    """Returns the files, links and directories below a directory, with their bytes, texts and modes."""
     found = {}
     for at, folders, names in os.walk(top):
         for name in folders + names:
@@ -46,7 +46,7 @@ def files_below(top):
 
 
 def answers(program, case):
-    """What a program gives in the runs of a case: of each the output, the messages, the status and the input left; and the
+    """Returns what a program gives in the runs of a case: of each the output, the messages, the status and the input left; and the
     files after them all."""
     top = tempfile.mkdtemp(prefix="romtool-")
     try:

@@ -2,7 +2,7 @@
 """tools/completions.py bash|zsh|fish [PROGRAM]: prints the completion of romtool for a shell.
 
 The subcommands, their words and their options are those that the program's own help shows, so they come from the one table
-in crates/command_line/src/commands.rt. The formats and alignments are those that crates/command_line/src/words.rt accepts.
+in crates/command_line/src/table.rt. The formats and alignments are those that crates/command_line/src/numbers.rt accepts.
 """
 
 import os
@@ -13,11 +13,12 @@ from dataclasses import dataclass
 
 TOP = os.path.dirname(os.path.dirname(os.path.realpath(__file__)))
 PROGRAM = f"{TOP}/crates/romtool/out/romtool"
-WORDS = f"{TOP}/crates/command_line/src/words.rt"
-# what a word of each name that help shows is completed with: files, folders, nothing, or the words of a function of words.rt
+WORDS = f"{TOP}/crates/command_line/src/numbers.rt"
+# what a word of each name that help shows is completed with: files, directories, nothing, or the words of a function of numbers.rt
 KINDS = {
-    "IMAGE": "files", "MANIFEST": "files", "OUT": "files", "DIR": "folders", "PATH": "nothing", "HEX": "nothing",
-    "FORMAT": "format_named", "N": "align_named",
+    "IMAGE": "files", "MANIFEST": "files", "OUT": "files", "DUMP": "files", "FILE": "files", "A": "files", "B": "files",
+    "DIR": "folders", "PATH": "nothing", "HEX": "nothing", "ADDRESS": "nothing", "N": "nothing", "NAME": "nothing",
+    "GLOB": "nothing", "UID:GID": "nothing", "FORMAT": "format_named", "[GLOB=]N": "align_named",
 }  # fmt: skip
 
 
@@ -51,7 +52,7 @@ def help_of(program, *words):
 
 def options_in(text):
     """Returns the options that a text of help lists, without those for help and for the version."""
-    found = re.findall(r"^ +(?:-\w, )?(--[\w-]+)(?: <(\w+)>)?  +(.*)$", text.partition("\nOptions:\n")[2], re.M)
+    found = re.findall(r"^ +(?:-\w, )?(--[\w-]+)(?: <([^>]+)>)?  +(.*)$", text.partition("\nOptions:\n")[2], re.M)
     return [Option(name, value or None, about) for name, value, about in found if name not in ("--help", "--version")]
 
 
@@ -59,7 +60,7 @@ def subcommand(program, name, about):
     """Returns a subcommand with what the program's help of it lists."""
     text = help_of(program, name)
     usage = re.search(r"^Usage: .*$", text, re.M)[0]
-    return Subcommand(name, about, re.findall(r"<(\w+)>", usage), usage.endswith("..."), options_in(text))
+    return Subcommand(name, about, re.findall(r"<([^>]+)>", usage), usage.endswith("..."), options_in(text))
 
 
 def table(program):
@@ -71,10 +72,10 @@ def table(program):
 
 
 def words_of(function):
-    """Returns the words that a function of words.rt accepts."""
+    """Returns the words that a function of numbers.rt accepts."""
     with open(WORDS, encoding="utf-8") as it:
-        body = re.search(rf"^fn {function}\(.*?^}}", it.read(), re.M | re.S)[0]
-    return re.findall(r'^ +"([^"]+)" => Some\(', body, re.M)
+        body = re.search(rf"^pub fn {function}\(.*?^}}", it.read(), re.M | re.S)[0]
+    return re.findall(r'^ +b?"([^"]+)" => Some\(', body, re.M)
 
 
 def kind_of(value):

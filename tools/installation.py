@@ -78,11 +78,11 @@ def run(*words, **more):
 def version():
     """Returns the version, which crates/command_line/src/commands.rt has."""
     source = content("crates/command_line/src/commands.rt").decode()
-    return re.search(r'^const VERSION: &str = "(\d+\.\d+\.\d+)";$', source, re.M)[1]
+    return re.search(r'^pub const VERSION: &str = "(\d+\.\d+\.\d+)";$', source, re.M)[1]
 
 
 def kit_folder():
-    """Returns the folder of the toolchain's kit."""
+    """Returns the directory of the toolchain's kit."""
     return os.path.dirname(os.path.dirname(kit.program()))
 
 

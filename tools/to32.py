@@ -35,8 +35,10 @@ INTRINSICS = (
     "lifetime.end", "assume", "expect", "trap", "vector.reduce", "bitreverse", "abs",
 )  # fmt: skip
 # operations that hold no pointer, or only pass one on
-PLAIN = set("""add sub mul and or xor shl lshr ashr udiv sdiv urem srem zext sext trunc freeze br switch unreachable
-extractelement insertelement shufflevector bitcast""".split())
+PLAIN = set(
+    """add sub mul and or xor shl lshr ashr udiv sdiv urem srem zext sext trunc freeze br switch unreachable
+extractelement insertelement shufflevector bitcast""".split()
+)
 PASSING = {"icmp", "select", "phi", "ret", "extractvalue", "insertvalue", "freeze", "call"}
 # what no line may have
 NEVER = (
@@ -61,7 +63,7 @@ def refuse(why, line):
 
 
 def without_texts(line):
-    """A line without the texts of its constants and the quoted names, in which anything may be written."""
+    """Returns a line without the texts of its constants and the quoted names, in which anything may be written."""
     return re.sub(r'c"[^"]*"', 'c""', re.sub(r'([@%])"[^"]*"', r"\1_", line))
 
 
@@ -233,7 +235,7 @@ class Pass:
         passed = ", ".join(given)
         self.text = self.text.replace(f"@romtool_{name}(", f"@rom32.{name}(")
         self.text = self.text.replace(f"define {found[1]}@rom32.{name}(", f"define internal {found[1]}@rom32.{name}(")
-        if kind == "ptr" and name in THROUGH:       # C for x86-64 gives the answer's place as the first argument
+        if kind == "ptr" and name in THROUGH:  # C for x86-64 gives the answer's place as the first argument
             self.text += f"\ndefine void @rom32_{name}({passed}) nounwind {{\n"
             self.text += f"  %got = call ptr @rom32.{name}({passed})\n  ret void\n}}\n"
             return
@@ -273,7 +275,7 @@ class Pass:
 
 
 def split(words):
-    """The parameters of a function, one by one."""
+    """Returns the parameters of a function, one by one."""
     found, depth = [""], 0
     for it in words:
         depth += (it in "({") - (it in ")}")
@@ -333,7 +335,7 @@ define internal {{ i64, i64 }} @rom32.{name}({words}) nounwind {{
 
 
 def to32(text, small=False):
-    """The module for 32 bits, and how many of each change were made."""
+    """Returns the module for 32 bits, and how many of each change were made."""
     it = Pass(text)
     for name in re.findall(rf"^define (?!internal )[^@\n]*({NAME})\(", text, re.M):
         if name not in [f"@romtool_{export}" for export in EXPORTS]:

@@ -170,7 +170,7 @@ WITHOUT = (
 
 
 def is_refused(text, small=False):
-    """Whether the pass refuses a module."""
+    """Returns whether the pass refuses a module."""
     try:
         to32.to32(text, small)
     except to32.Refused:
