@@ -253,15 +253,18 @@ def as_a_stranger(root, counts):
     """Has an ordinary user run the program of a root on a directory of his own, by the README's first two commands. With root's
     rights nothing of this system is there: no other program, no library, no devices."""
     work = root + "/work"
-    os.makedirs(work + "/app/bin")
-    with open(work + "/app/bin/init", "w", encoding="utf-8") as it:
-        it.write("#!/bin/sh\n")
+    places = [work, work + "/app", work + "/app/bin", work + "/app/dev"]
+    for at in places[2:]:
+        os.makedirs(at)
+    for name, text in (("app/bin/init", "#!/bin/sh\n"), ("devices", "nod /dev/console 0600 0 0 c 5 1\n")):
+        with open(os.path.join(work, name), "w", encoding="utf-8") as it:
+            it.write(text)
     os.chmod(work + "/app/bin/init", 0o755)
-    for at in (root, work, work + "/app", work + "/app/bin"):
+    for at in (root, *places):
         os.chmod(at, 0o755)
     how, program = {"cwd": work}, root + "/usr/bin/romtool"
     if os.geteuid() == 0:
-        for at in (work, work + "/app", work + "/app/bin", work + "/app/bin/init"):
+        for at in (*places, work + "/app/bin/init"):
             os.chown(at, NOBODY, NOBODY)
         how, program = {"cwd": work, "preexec_fn": lambda: enter(root)}, "/usr/bin/romtool"
     commands = [*readme_commands(), (["check", "app.cramfs"], None), (["cat", "app.cramfs", "/bin/init"], None)]
@@ -274,7 +277,7 @@ def as_a_stranger(root, counts):
             with open(os.path.join(work, to), "w", encoding="utf-8") as it:
                 it.write(out)
         said.append(out)
-    counts.equal("what the program says in the empty root", said[1:], ["ok 8192\n", "ok cramfs 3 2\n", "#!/bin/sh\n"])
+    counts.equal("what the program says in the empty root", said[1:], ["ok 8192\n", "ok cramfs 5 2\n", "#!/bin/sh\n"])
     shutil.rmtree(work)
 
 

@@ -18,7 +18,7 @@ import tempfile
 
 import c
 from harness import Counts, missing, parser, program_of
-from romtool import entries
+from romtool import entries_of, run
 
 CRATE = os.path.join(c.TOP, "bindings", "rust")
 DONE = re.compile(r"test result: ok\. (\d+) passed; 0 failed")
@@ -58,7 +58,9 @@ def faults(counts):
 
 def files_of(binary, top, image):
     """Returns the paths of an image's regular files."""
-    return [it.path for it in entries(binary, os.path.join(top, image)) if it.kind == "f" and "%" not in it.path]
+    listed = run(binary, "list", os.path.join(top, image))
+    names = [] if listed.returncode else entries_of(listed.stdout)
+    return [it.path for it in names if it.kind == "f" and "%" not in it.path]
 
 
 def answered(binary, answers, words, top, place, counts):
