@@ -36,8 +36,9 @@ pub struct Parts {
 }
 
 impl Viewed for Cramfs<'_> {
-    ghost image = { λ s. cramfs_view s.accessible.order s.all.now s.accessible.bytes.now
-        s.references s.sound s.within };
+    ghost use Rattle.cramfs_image.specs.Reported.{image_of};
+
+    ghost image = { λ s. image_of s };
 }
 
 impl<'a> TreeImage<'a> for Cramfs<'a> {

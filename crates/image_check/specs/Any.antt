@@ -4,18 +4,16 @@ use Rattle.std.specs.Prelude.{ℕ, List, Option}
 use Rattle.rom_tree.specs.declared.types.Run.{Run}
 use Rattle.rom_tree.specs.Image.{Image}
 use Rattle.rom_tree.specs.declared.types.Report.{Report}
-use Rattle.romfs_image.specs.Romfs.{romfs_view, GivesRest}
-use Rattle.romfs_image.specs.Reported.{report_of as romfs_report}
-use Rattle.cramfs_image.specs.Cramfs.{cramfs_view, GivesBlock}
-use Rattle.cramfs_image.specs.Reported.{report_of as cramfs_report}
+use Rattle.romfs_image.specs.Romfs.{GivesRest}
+use Rattle.romfs_image.specs.Reported.{image_of as romfs_image_of, report_of as romfs_report}
+use Rattle.cramfs_image.specs.Cramfs.{GivesBlock}
+use Rattle.cramfs_image.specs.Reported.{image_of as cramfs_image_of, report_of as cramfs_report}
 use Rattle.image_check.specs.declared.any.AnyImage.{AnyImage}
 use Rattle.image_check.specs.declared.any.AnyImage.TheVariants.{Romfs, Cramfs}
 
 abbrev pub any_view : AnyImage → Image
-any_view (Romfs s) =
-    romfs_view s.all.now s.accessible.bytes.now s.accessible.root s.references s.sound s.within
-any_view (Cramfs s) =
-    cramfs_view s.accessible.order s.all.now s.accessible.bytes.now s.references s.sound s.within
+any_view (Romfs s) = romfs_image_of s
+any_view (Cramfs s) = cramfs_image_of s
 
 -- the number of its references, and its depth
 abbrev pub report_of : AnyImage → Report

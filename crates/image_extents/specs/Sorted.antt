@@ -6,7 +6,8 @@ use Rattle.romfs_format.specs.Superblock.{accessible as romfs_accessible}
 use Rattle.romfs_format.specs.Tree.{root_of}
 use Rattle.cramfs_format.specs.declared.order.Order.{Order}
 use Rattle.cramfs_format.specs.Superblock.{accessible as cramfs_accessible}
-use Rattle.cramfs_image.specs.Reported.{order_in}
+use Rattle.romfs_image.specs.Reported.{image_of as romfs_image_of}
+use Rattle.cramfs_image.specs.Reported.{image_of as cramfs_image_of, order_in}
 use Rattle.image_check.specs.declared.any.AnyImage.{AnyImage}
 use Rattle.image_check.specs.declared.any.AnyImage.TheVariants.{Romfs, Cramfs}
 use Rattle.image_extents.specs.declared.extent.Extent.{Extent}
@@ -48,5 +49,7 @@ pub record AreCramfs (o : Order) (b : List ℕ) (e : Extents) : Type 0 where
 
 -- by the image's format
 abbrev pub AreOf : AnyImage → Extents → Type 0
-AreOf (Romfs s) e = AreRomfs (romfs_accessible s.all.now) (root_of (romfs_accessible s.all.now)) e
-AreOf (Cramfs s) e = AreCramfs (order_in s) (cramfs_accessible (order_in s) s.all.now) e
+AreOf (Romfs s) e = AreRomfs (romfs_accessible (romfs_image_of s).bytes)
+    (root_of (romfs_accessible (romfs_image_of s).bytes)) e
+AreOf (Cramfs s) e =
+    AreCramfs (order_in s) (cramfs_accessible (order_in s) (cramfs_image_of s).bytes) e

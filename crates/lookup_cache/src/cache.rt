@@ -32,6 +32,8 @@ pub struct NoCache<T> {
 }
 
 impl<'a, T: TreeImage<'a>> Cached<'a, T> {
+    ghost use Rattle.lookup_cache.specs.Cache.{inner, entries, room};
+
     /// Makes an image with room for the answers about `names` names, of which none is kept yet. All
     /// of the room is allocated at once.
     ///
@@ -41,9 +43,9 @@ impl<'a, T: TreeImage<'a>> Cached<'a, T> {
     pub fn new(alloc: Global, image: T, names: usize) -> Result<Cached<'a, T>, NoCache<T>>
         requires some { 1 ≤ names }
         requires few { names ≤ 65536 }
-        ensures image { IfOk result (λ c. c.image ≡ image) }
-        ensures empty { IfOk result (λ c. c.kept.entries ≡ []) }
-        ensures room { IfOk result (λ c. c.kept.cap ≡ names) }
+        ensures image { IfOk result (λ c. inner c ≡ image) }
+        ensures empty { IfOk result (λ c. entries c ≡ []) }
+        ensures room { IfOk result (λ c. room c ≡ names) }
         ensures back { IfErr result (λ e. e.image ≡ image) }
     {
         match LruCache::new(alloc, NonZeroUsize::new(names).unwrap()) {
@@ -58,8 +60,8 @@ impl<'a, T: TreeImage<'a>> Cached<'a, T> {
 
     /// Returns the number of names that are kept: at most the number that `new` was asked for.
     pub fn held(&self) -> usize
-        ensures kept { result ≡ length self.now.kept.entries }
-        ensures most { result ≤ self.now.kept.cap }
+        ensures kept { result ≡ length (entries self.now) }
+        ensures most { result ≤ room self.now }
         ensures few { result ≤ 65536 }
     {
         self.kept.len()
@@ -67,10 +69,14 @@ impl<'a, T: TreeImage<'a>> Cached<'a, T> {
 }
 
 impl<'a, T: TreeImage<'a>> Viewed for Cached<'a, T> {
-    ghost image = { λ s. T.image s.image };
+    ghost use Rattle.lookup_cache.specs.Cache.{inner};
+
+    ghost image = { λ s. T.image (inner s) };
 }
 
 impl<'a, T: TreeImage<'a>> TreeImage<'a> for Cached<'a, T> {
+    ghost use Rattle.lookup_cache.specs.Cache.{inner, room};
+
     fn bytes(&self) -> &'a [u8] {
         self.image.bytes()
     }
@@ -92,12 +98,12 @@ impl<'a, T: TreeImage<'a>> TreeImage<'a> for Cached<'a, T> {
     }
 
     fn lookup(&mut self, d: NodeId, name: &[u8]) -> Option<NodeId>
-        requires { HasDirectory (T.image self.old.image) d.0 }
-        ensures stays { T.image self.new.image ≡ T.image self.old.image }
-        ensures found { (x : Node) → image_node (T.image self.old.image) d.0 ≡ Some x
+        requires { HasDirectory (T.image (inner self.old)) d.0 }
+        ensures stays { T.image (inner self.new) ≡ T.image (inner self.old) }
+        ensures found { (x : Node) → image_node (T.image (inner self.old)) d.0 ≡ Some x
             → MatchOption result (find_entry (entries_of x) name.now ≡ None)
             (λ n. (y : Node) × (find_entry (entries_of x) name.now ≡ Some y) × (ino_of y ≡ n.0)) }
-        ensures room { self.new.kept.cap ≡ self.old.kept.cap }
+        ensures room { room self.new ≡ room self.old }
     {
         let Some(key) = short_name(d.0, name) else {
             return self.image.lookup(d, name);

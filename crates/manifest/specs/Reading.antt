@@ -1,13 +1,15 @@
--- `Gives`: an answer is the grammar's, if memory was not refused. `IsKept`, `Adds`, `Reads`: the
--- values that the reader keeps between two lines, in the words of the grammar. (This project's
--- own.)
+-- `Gives`: an answer is the grammar's, if memory was not refused. `seen`, `seed_in`, `IsKept`,
+-- `Adds`, `Reads`: the values that the reader keeps between two lines, in the words of the grammar.
+-- (This project's own.)
 use Rattle.std.specs.Prelude.{◌≡◌, ℕ, ◌||◌, Bool, true, false, if◌then◌else◌, List, ◌∷◌, reverse}
 use Rattle.std.specs.Prelude.{Option, Some, None, Result, Ok, Err, Vec}
 use Rattle.std.specs.Option.{is_some, option_map}
-use Rattle.std.specs.HashMap.{get_by, HashMap}
+use Rattle.std.specs.HashMap.{get_by, hasher_of, HashMap}
+use Rattle.std.specs.declared.hash.DefaultHasher.{DefaultHasher}
 use Rattle.std.specs.Str.{bytes_eq}
 use Rattle.manifest.specs.Lines.{is_dir, is_file, is_hard, is_same, line_at, led, filed, sources_of}
 use Rattle.manifest.specs.Grammar.{Fault, Seen, is_target}
+use Rattle.manifest.specs.Seeds.{seed_of}
 use Rattle.manifest.specs.declared.line.Line.{Line}
 use Rattle.manifest.specs.declared.error.ManifestError.{ManifestError}
 use Rattle.manifest.specs.declared.error.ManifestError.TheVariants as error
@@ -27,6 +29,10 @@ Gives (Err e) read = Fails e read
 -- what was read
 abbrev pub seen : Reader → Seen
 seen r = record { latest = reverse r.lines.items; volume = r.volume; volume_line = r.volume_line }
+
+-- the state with which the hashes of its paths begin
+abbrev pub seed_in : Reader → DefaultHasher
+seed_in r = seed_of (hasher_of r.paths)
 
 -- the value of the map at a path
 abbrev pub found : {A S : Type 0} → HashMap (Vec ℕ A) Reached S → List ℕ → Option Reached

@@ -1,11 +1,10 @@
 //! The part of a manifest that was read, and the reading of one more line.
 ghost use Rattle.std.specs.Prelude.{◌≡◌, ◌++◌, ◌∷◌, [], true, is_some, reverse, None, OnOk};
 ghost use Rattle.std.specs.Hash.DefaultHasher.{initial, write};
-ghost use Rattle.std.specs.HashMap.{hasher_of};
 ghost use Rattle.manifest.specs.Grammar as grammar;
 ghost use Rattle.manifest.specs.Paths.{names_of, parent_of};
-ghost use Rattle.manifest.specs.Reading.{Adds, HasMore, IsKept, Reads, seen, reached, has_contents};
-ghost use Rattle.manifest.specs.Reading.{reached_by};
+ghost use Rattle.manifest.specs.Reading.{Adds, HasMore, IsKept, Reads, seen, seed_in};
+ghost use Rattle.manifest.specs.Reading.{reached, reached_by, has_contents};
 ghost use Rattle.manifest.specs.Reading.{to_directory, to_regular_file, to_no_directory};
 ghost use Rattle.manifest.specs.Lines.{sources_of};
 ghost use Rattle.manifest.specs.Views.{fields_view};
@@ -126,7 +125,7 @@ impl Reader {
     pub fn new(alloc: Global, text: &[u8]) -> Reader
         ensures seen { seen result ≡ grammar.nothing_read }
         ensures kept { IsKept result }
-        ensures seeded { (hasher_of result.paths).begun ≡ write initial text.now }
+        ensures seeded { seed_in result ≡ write initial text.now }
     {
         let mut seeded = Seeded::new();
         seeded.add(text);

@@ -4,7 +4,7 @@
 //! so a change of one path changes all hashes.
 ghost use Rattle.std.specs.Prelude.{◌≡◌};
 ghost use Rattle.std.specs.Hash.DefaultHasher.{initial, write};
-ghost use Rattle.manifest.specs.Seeds.{behind};
+ghost use Rattle.manifest.specs.Seeds.{behind, seed_of};
 
 use crate::line::Line;
 use std::hash::{BuildHasher, DefaultHasher, Hasher};
@@ -18,7 +18,7 @@ pub struct Seeded {
 impl Seeded {
     /// Returns the state after no text.
     pub fn new() -> Seeded
-        ensures { result.begun ≡ initial }
+        ensures { seed_of result ≡ initial }
     {
         Seeded {
             begun: DefaultHasher::new(),
@@ -27,7 +27,7 @@ impl Seeded {
 
     /// Adds one more text.
     pub fn add(&mut self, text: &[u8])
-        ensures { self.new.begun ≡ write self.old.begun text.now }
+        ensures { seed_of self.new ≡ write (seed_of self.old) text.now }
     {
         self.begun.write(text);
     }
@@ -35,7 +35,7 @@ impl Seeded {
 
 /// Returns the state after the paths of these lines.
 pub fn seeded_by(lines: &[Line]) -> Seeded
-    ensures { result.begun ≡ behind lines.now }
+    ensures { seed_of result ≡ behind lines.now }
 {
     let mut seeded = Seeded::new();
     for line in lines {
@@ -47,7 +47,7 @@ pub fn seeded_by(lines: &[Line]) -> Seeded
 impl BuildHasher for Seeded {
     type Hasher = DefaultHasher;
 
-    ghost build_hasher = { λ s. s.begun };
+    ghost build_hasher = { λ s. seed_of s };
 
     fn build_hasher(&self) -> DefaultHasher {
         self.begun

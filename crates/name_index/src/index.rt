@@ -27,9 +27,11 @@ pub struct Indexed<'a, T: Viewed> {
 }
 
 impl<'a, T: TreeImage<'a>> Indexed<'a, T> {
+    ghost use Rattle.name_index.specs.Inner.{inner};
+
     /// Makes an image without an index. Allocates no memory.
     pub fn new(alloc: Global, image: T) -> Indexed<'a, T>
-        ensures { result.image ≡ image }
+        ensures { inner result ≡ image }
     {
         Indexed {
             image,
@@ -43,7 +45,9 @@ impl<'a, T: TreeImage<'a>> Indexed<'a, T> {
 // The image has only the bound that the members above need: with `TreeImage<'a>` here, an `Indexed`
 // in a `Cached` is not known to be a `TreeImage`.
 impl<T: Viewed> Viewed for Indexed<'_, T> {
-    ghost image = { λ s. T.image s.image };
+    ghost use Rattle.name_index.specs.Inner.{inner};
+
+    ghost image = { λ s. T.image (inner s) };
 }
 
 impl<'a, T: TreeImage<'a>> TreeImage<'a> for Indexed<'a, T> {

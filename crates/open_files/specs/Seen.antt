@@ -1,4 +1,5 @@
--- `Files` as a value: its image (`image_in`), what is open (`table`), and its calls (`calls`).
+-- `Files` as a value: its image (`held`, `image_in`), what is open (`table`), and its calls
+-- (`calls`).
 -- `EntryLeadsOn`: an entry's cursor is the position that the descriptor now has. (This project's
 -- own.)
 use Rattle.std.specs.Prelude.{ℕ, List}
@@ -11,6 +12,10 @@ use Rattle.open_files.specs.Machine.{Table, image_calls}
 use Rattle.open_files.specs.Slots.{table_in, LeadsIn, IsPartIn}
 
 module _ {T : Type 0} {n : ℕ} {viewed : Ghosts T} where
+  -- the image that it was made of
+  abbrev pub held : Files T n viewed → T
+  held s = s.image
+
   abbrev pub image_in : Files T n viewed → Image
   image_in s = viewed.image s.image
 

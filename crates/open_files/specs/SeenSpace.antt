@@ -1,7 +1,8 @@
--- `Space` as a value: its images (`images_in`), what is mounted and open (`state`), and its calls
--- (`calls`). `EntryLeadsOn`: an entry's cursor is the position that the descriptor now has. (This
+-- `Space` as a value: its images (`held`, `images_in`), what is mounted and open (`state`), and its
+-- calls (`calls`). `EntryLeadsOn`: an entry's cursor is the position that the descriptor now has. (This
 -- project's own.)
-use Rattle.std.specs.Prelude.{ℕ, List, map}
+use Rattle.std.specs.Prelude.{ℕ, List, Vec, map}
+use Rattle.std.specs.declared.alloc.Global.{Global}
 use Rattle.rom_tree.specs.declared.image.Viewed.{Ghosts}
 use Rattle.rom_tree.specs.Image.{Image}
 use Rattle.path_walk.specs.declared.mount.Mount.{Mount}
@@ -14,6 +15,10 @@ use Rattle.open_files.specs.Slots.{graft_view, LeadsOn, IsPartThere}
 use Rattle.open_files.specs.Space.{space_state}
 
 module _ {T : Type 0} {n : ℕ} {viewed : Ghosts T} where
+  -- the images that it was made of
+  abbrev pub held : Space T n viewed → Vec T Global
+  held s = s.images
+
   abbrev pub images_in : Space T n viewed → List Image
   images_in s = map viewed.image s.images.items
 

@@ -5,7 +5,7 @@ ghost use Rattle.rom_tree.specs.Tree.{levels};
 ghost use Rattle.open_files.specs.Calls.{Of, Named, answer, viewed};
 ghost use Rattle.open_files.specs.Machine.{no_files};
 ghost use Rattle.open_files.specs.Slots.{unlabelled, lent_by, named_by};
-ghost use Rattle.open_files.specs.Seen.{image_in, table, calls, EntryLeadsOn, IsNamePart};
+ghost use Rattle.open_files.specs.Seen.{held, image_in, table, calls, EntryLeadsOn, IsNamePart};
 
 use crate::error::CallError;
 use crate::files::Files;
@@ -20,7 +20,7 @@ impl<'a, T: TreeImage<'a>, const N: usize> Files<'a, T, N> {
     pub fn new(image: T) -> Self
         requires narrow { N ≤ 65536 }
         requires deep { levels (T.image image).tree ≤ 65 }
-        ensures image { result.image ≡ image }
+        ensures image { held result ≡ image }
         ensures empty { table result ≡ no_files N }
     {
         Files {

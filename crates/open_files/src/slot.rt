@@ -3,7 +3,7 @@ ghost use Rattle.std.specs.Prelude.{◌≡◌, ◌<◌, ℕ, MatchOption, MatchR
 ghost use Rattle.std.specs.Prelude.{true, slice_index_or, slice_set, position, is_none, replicate};
 ghost use Rattle.rom_tree.specs.Image.{Image};
 ghost use Rattle.open_files.specs.Machine.{no_files};
-ghost use Rattle.open_files.specs.Slots.{table_in, AreSound};
+ghost use Rattle.open_files.specs.Slots.{table_in, open_nodes, AreSound};
 ghost use Rattle.open_files.specs.declared.error.CallError.TheVariants.{Ebadf};
 
 use crate::error::CallError;
@@ -31,7 +31,7 @@ pub struct Slots<const N: usize> {
 impl<const N: usize> Slots<N> {
     /// Makes slots with nothing open.
     pub fn new() -> Self
-        ensures blank { result.slots ≡ replicate N None }
+        ensures blank { open_nodes result ≡ replicate N None }
         ensures empty { (m : Image) → table_in m result ≡ no_files N }
         ensures sound { (m : Image) → AreSound m result }
     {

@@ -8,7 +8,8 @@ ghost use Rattle.open_files.specs.Errors.{error_of};
 ghost use Rattle.open_files.specs.Calls.{Of, Named, answer, give, viewed};
 ghost use Rattle.open_files.specs.Sessions.{no_sessions};
 ghost use Rattle.open_files.specs.Slots.{graft_view, labelled, lent_by, named_by};
-ghost use Rattle.open_files.specs.SeenSpace.{images_in, state, calls, EntryLeadsOn, IsNamePart};
+ghost use Rattle.open_files.specs.SeenSpace.{held, images_in, state, calls, EntryLeadsOn};
+ghost use Rattle.open_files.specs.SeenSpace.{IsNamePart};
 
 use crate::calls;
 use crate::error::CallError;
@@ -29,7 +30,7 @@ impl<'a, T: TreeImage<'a>, const N: usize> Space<'a, T, N> {
         requires some { 0 < length images.items }
         requires few { length images.items ≤ 8 }
         requires shallow { AreShallow (map T.image images.items) }
-        ensures images { result.images ≡ images }
+        ensures images { held result ≡ images }
         ensures empty { state result ≡ no_sessions N }
     {
         let slots = Slots::new();

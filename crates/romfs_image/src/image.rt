@@ -37,8 +37,9 @@ pub struct Parts {
 }
 
 impl Viewed for Romfs<'_> {
-    ghost image = { λ s. romfs_view s.all.now s.accessible.bytes.now s.accessible.root s.references
-        s.sound s.within };
+    ghost use Rattle.romfs_image.specs.Reported.{image_of};
+
+    ghost image = { λ s. image_of s };
 }
 
 impl<'a> TreeImage<'a> for Romfs<'a> {
