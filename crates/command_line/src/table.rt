@@ -1,19 +1,19 @@
-//! The program's subcommands: for each, its sentence, its words and its options.
+//! The program's subcommands: the sentence, the arguments and the options of each.
 
-/// How the words of a command line give an argument.
+/// How words give a value to an argument.
 #[derive(Clone, Copy)]
 pub enum Kind {
-    /// A value, which has to be given.
+    /// A required value.
     Value,
     /// One to eight values.
     Few,
-    /// One value or more.
+    /// At least one value.
     Several,
     /// `--NAME VALUE`, at most once.
     Option,
     /// `--NAME VALUE` or `-LETTER VALUE`, at most once.
     Lettered(char),
-    /// `--NAME VALUE`, as often as is wished.
+    /// `--NAME VALUE`, any number of times.
     Repeated,
     /// `--NAME`, at most once.
     Flag,
@@ -24,7 +24,7 @@ pub enum Kind {
 pub struct Word<'a> {
     pub kind: Kind,
     pub name: &'a str,
-    /// What help shows for the value.
+    /// The name of the value in help.
     pub shown: &'a str,
     pub help: &'a str,
 }

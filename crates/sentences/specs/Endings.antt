@@ -1,4 +1,4 @@
--- Why a command ended early, by what standard error says. (This project's own.)
+-- Why a command ended early, by the text on standard error. (This project's own.)
 use Rattle.std.specs.Prelude.{ℕ, List, Option, Some, None, if◌then◌else◌, codes}
 use Rattle.std.specs.Str.{bytes_eq}
 

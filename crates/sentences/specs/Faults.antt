@@ -1,4 +1,4 @@
--- The faults of an image in words, by their numbers. (This project's own.)
+-- The faults of an image in words, by number. (This project's own.)
 use Rattle.std.specs.Prelude.{ℕ, List, ◌==◌, if◌then◌else◌, codes}
 use Rattle.rom_faults.specs.FaultNumbers.{TOO_MANY, SHORT, MAGIC, SIZE, SUM, FLAGS, CRC, SIGNATURE}
 use Rattle.rom_faults.specs.FaultNumbers.{ROOT, BOUNDS, HEADER_SUM, BAD_NAME, KIND, LINK_SIZE}

@@ -1,4 +1,4 @@
--- The faults of a manifest in words, by their numbers. (This project's own.)
+-- The faults of a manifest in words, by number. (This project's own.)
 use Rattle.std.specs.Prelude.{ℕ, List, ◌==◌, if◌then◌else◌, codes}
 use Rattle.manifest.specs.FaultNumbers.{BAD_WORD, BAD_NUMBER, BAD_PATH, NO_PARENT, EXISTS}
 use Rattle.manifest.specs.FaultNumbers.{BAD_ALIGN, BAD_TARGET}

@@ -1,4 +1,4 @@
--- What does not fit a format in words, by its number. (This project's own.)
+-- The misfits in words, by number. (This project's own.)
 use Rattle.std.specs.Prelude.{ℕ, List, ◌==◌, if◌then◌else◌, codes}
 use Rattle.plan_misfits.specs.declared.misfit.TheConstants.{ATTRIBUTE, TOO_LARGE, NAME_TOO_LONG}
 use Rattle.plan_misfits.specs.declared.misfit.TheConstants.{HARD_LINK}

@@ -1,4 +1,4 @@
--- Why a line is not answered, by what the reply says. (This project's own.)
+-- Why a line is refused, by the text of the reply. (This project's own.)
 use Rattle.std.specs.Prelude.{ℕ, List, Option, Some, None, if◌then◌else◌, codes}
 use Rattle.std.specs.Str.{bytes_eq}
 
@@ -31,7 +31,7 @@ call_sentence text =
     Some (codes "the image or the directory is in use by a mount")
     else None)))))))))))
 
--- the sentence of a line that asks for nothing
+-- the sentence of a line that is not a request
 abbrev pub line_sentence : List ℕ → Option (List ℕ)
 line_sentence text =
     if bytes_eq text (codes "bad command") then

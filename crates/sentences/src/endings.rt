@@ -1,8 +1,8 @@
-//! Why a command ended early, in a sentence each.
+//! The reason why a command ended early, in one sentence each.
 ghost use Rattle.std.specs.Prelude.{◌≡◌, option_map};
 ghost use Rattle.sentences.specs.Endings.{ending_sentence};
 
-/// Why a command ended that said this on standard error.
+/// Returns the reason why a command ended, if standard error has this text.
 pub fn ending_sentence(text: &[u8]) -> Option<&'static str>
     ensures { option_map (λ s. s.now) result ≡ ending_sentence text.now }
 {

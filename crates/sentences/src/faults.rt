@@ -1,4 +1,4 @@
-//! What the faults of an image are, in a sentence each.
+//! The faults of an image, in one sentence each.
 ghost use Rattle.std.specs.Prelude.{◌≡◌};
 ghost use Rattle.sentences.specs.Faults.{fault_sentence};
 
@@ -8,7 +8,7 @@ use rom_faults::fault::{
     TWICE, UNSORTED,
 };
 
-/// The fault of this number, as docs/FAULTS.md has it in words.
+/// Returns the sentence of the fault of this number. docs/FAULTS.md says more.
 pub fn fault_sentence(number: u32) -> &'static str
     ensures { result.now ≡ fault_sentence number }
 {

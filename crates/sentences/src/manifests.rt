@@ -1,10 +1,10 @@
-//! What the faults of a manifest are, in a sentence each.
+//! The faults of a manifest, in one sentence each.
 ghost use Rattle.std.specs.Prelude.{◌≡◌};
 ghost use Rattle.sentences.specs.Manifests.{manifest_sentence};
 
 use manifest::error::{BAD_ALIGN, BAD_NUMBER, BAD_PATH, BAD_TARGET, BAD_WORD, EXISTS, NO_PARENT};
 
-/// The fault of this number, as docs/MANIFEST.md has it in words.
+/// Returns the sentence of the fault of this number. docs/MANIFEST.md says more.
 pub fn manifest_sentence(number: u32) -> &'static str
     ensures { result.now ≡ manifest_sentence number }
 {

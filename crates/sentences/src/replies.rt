@@ -1,8 +1,8 @@
-//! Why a line is not answered, in a sentence each.
+//! The reason why a line is refused, in one sentence each.
 ghost use Rattle.std.specs.Prelude.{◌≡◌, option_map};
 ghost use Rattle.sentences.specs.Replies.{call_sentence, line_sentence};
 
-/// Why a call is refused with this name.
+/// Returns the reason why a call is refused with this error's name.
 pub fn call_sentence(text: &[u8]) -> Option<&'static str>
     ensures { option_map (λ s. s.now) result ≡ call_sentence text.now }
 {
@@ -47,7 +47,7 @@ pub fn call_sentence(text: &[u8]) -> Option<&'static str>
     None
 }
 
-/// Why a line asks for nothing, which this is said of.
+/// Returns the reason why a line is not a request, if the reply has this text.
 pub fn line_sentence(text: &[u8]) -> Option<&'static str>
     ensures { option_map (λ s. s.now) result ≡ line_sentence text.now }
 {

@@ -1,10 +1,10 @@
-//! What does not fit a format, in a sentence each.
+//! The misfits, in one sentence each.
 ghost use Rattle.std.specs.Prelude.{◌≡◌};
 ghost use Rattle.sentences.specs.Misfits.{misfit_sentence};
 
 use plan_misfits::misfit::{ATTRIBUTE, HARD_LINK, NAME_TOO_LONG, TOO_LARGE};
 
-/// The misfit of this number, as docs/internals/LAYOUTS.md has it in words.
+/// Returns the sentence of the misfit of this number. docs/internals/LAYOUTS.md says more.
 pub fn misfit_sentence(number: u32) -> &'static str
     ensures { result.now ≡ misfit_sentence number }
 {
