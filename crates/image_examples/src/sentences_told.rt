@@ -1,4 +1,4 @@
-//! What the program says to people.
+//! The texts that the program prints for people.
 use sentences::{
     call_sentence, ending_sentence, fault_sentence, image, line_sentence, manifest_line,
     manifest_sentence, misfit_sentence,
