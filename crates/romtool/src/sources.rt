@@ -128,7 +128,8 @@ fn say_missing(teller: &Teller<'_>, origin: Origin<'_>, number: usize, why: &Mis
     status
 }
 
-/// Reports the source of this number, whose name is no UTF-8, or an earlier one that cannot be read.
+/// Reports the source of this number, whose name is no UTF-8, or an earlier one that cannot be
+/// read.
 fn say_no_text(teller: &Teller<'_>, origin: Origin<'_>, number: usize) -> Status {
     for before in 0..number {
         if let Some(why) = why_missing(teller, origin, before) {
