@@ -356,8 +356,8 @@ def all_missing_sources(binary):
     put("m", "".join("file /%d 0644 0 0 4 %s\n" % (at, it) for at, it in enumerate(names)).encode())
     told = run(binary, "--explain", "build", "romfs", "m", "out")
     want = [
-        "gone: No such file or directory (m:2)", "dir: it is no regular file (m:4)",
-        "%FF: a name that is no UTF-8 cannot be opened (m:5)", "gone2: No such file or directory (m:7)",
+        "gone: No such file or directory (m:2)", "dir: it is not a regular file (m:4)",
+        "%FF: a name that is not UTF-8 cannot be opened (m:5)", "gone2: No such file or directory (m:7)",
     ]  # fmt: skip
     if told.stdout != b"" or not told.stderr.startswith(b"file gone\n") or words(told) != want:
         yield "%r" % (answer(told),)
@@ -437,7 +437,7 @@ def without_a_reader(binary):
             yield "%r: %r" % (asked, lines)
     with open("/dev/full", "wb") as full:
         told = subprocess.run([binary, "--explain", "list", "image"], stdout=full, stderr=subprocess.PIPE, timeout=SECONDS)
-    if words(told) != ["stdout: standard output did not take everything"]:
+    if words(told) != ["stdout: not everything could be written to standard output"]:
         yield "a full device: %r" % words(told)
 
 

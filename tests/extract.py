@@ -536,7 +536,7 @@ def further_names_are_told(binary):
     build_image(binary, ["file /a 0644 0 0 4 s", "hard /b /a", "hard /c /a", "file /d 0644 0 0 4 s"], "romfs", [("s", b"s")])
     done = run(binary, "--explain", "extract", "image", "out")
     told = b"romtool: out: further names of files, which share the file only until an editor replaces it; "
-    if done.returncode or done.stderr != told + b"a build reads the first name alone: 2\n":
+    if done.returncode or done.stderr != told + b"a build reads only the first name: 2\n":
         yield "%s" % shortly(done)
     if os.stat("out/c").st_nlink != 3 or os.stat("out/d").st_nlink != 1:
         yield "links: %d" % os.stat("out/c").st_nlink
@@ -601,7 +601,7 @@ def failure_is_told(binary):
     for call in ("write", "fsync"):
         remove("out")
         done = traced.run(binary, "--explain", "extract", "image", "out", told=traced.inject(call, "error=ENOSPC", 1))
-        words = b"romtool: out: it is incomplete: what was made in it is left there\n"
+        words = b"romtool: out: it is incomplete; the files that were made in it are still there\n"
         if done.returncode != 3 or done.stdout or not done.stderr.startswith(b"file out/") or words not in done.stderr:
             yield "%s: %s" % (call, shortly(done))
         if not os.path.isdir("out/d/e") or stat.S_IMODE(os.stat("out").st_mode) != 0o700:

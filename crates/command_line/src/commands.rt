@@ -18,10 +18,10 @@ const ABOUT: &str =
 
 /// The text of help after the subcommands.
 const AFTER: &str = "\
-Without a subcommand the small image that the program carries is checked and listed.
+Without a subcommand, the program checks and lists its built-in example image.
 
-Status: 0 done, 1 refused (standard output has the line), 2 usage, 3 a file, memory or a stream.
-The man page romtool(1) says all of it.";
+Exit status: 0 done, 1 refused (see standard output), 2 usage, 3 a file, memory or a stream failed.
+The man page romtool(1) has the details.";
 
 /// Returns the argument for a row of the table.
 fn argument<'a>(alloc: Global, word: Word<'a>) -> Arg<'a>

@@ -46,7 +46,7 @@ pub enum WordsError<'a> {
 impl Display for Wrong<'_> {
     fn fmt<W: fmt::Write>(&self, f: &mut Formatter<W>) -> fmt::Result {
         match self {
-            Wrong::NoSubcommand => write!(f, "a subcommand is wanted behind the options"),
+            Wrong::NoSubcommand => write!(f, "a subcommand is missing after the options"),
             Wrong::Missing => write!(f, "a value is missing"),
             Wrong::Format(word) => {
                 write!(f, "FORMAT is romfs, cramfs or cramfs-be, and not {word:?}")

@@ -92,7 +92,7 @@ fn try_returns(teller: &Teller<'_>, manifest: &str, text: &[u8]) -> Result<(), A
         return Ok(());
     };
     let what = format!(in teller.rt.alloc();
-        "warning: lines that end in a carriage return, a part of their last word: {count}"
+        "warning: lines that end in a carriage return, which is part of their last word: {count}"
     )?;
     of_line(teller, manifest, first, &what)
 }
@@ -111,11 +111,11 @@ fn try_parts(teller: &Teller<'_>, target: &Target) -> Result<(), AllocError> {
     let alloc = teller.rt.alloc();
     let place = format!(in alloc; "{whole}.0.part")?;
     if removed > 0 {
-        let what = format!(in alloc; "removed what interrupted builds had left; parts: {removed}")?;
+        let what = format!(in alloc; "removed parts of interrupted builds: {removed}")?;
         teller.explain(place.as_bytes(), &what);
     }
     if kept > 0 {
-        let what = format!(in alloc; "warning: other builds are at it, or left it; parts: {kept}")?;
+        let what = format!(in alloc; "warning: parts of running or interrupted builds: {kept}")?;
         teller.explain(place.as_bytes(), &what);
     }
     Ok(())

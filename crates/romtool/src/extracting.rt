@@ -45,14 +45,14 @@ const USUAL: Rights = Rights {
 };
 
 /// The words for names of nodes that are not made.
-const SPECIALS: &str = "devices, pipes and sockets that stand in the manifest alone";
+const SPECIALS: &str = "devices, pipes and sockets, which only the manifest has";
 
 /// The words for names whose modes differ from those of the image.
 const LENDERS: &str = "names without their set-user and set-group bits, which --owners sets";
 
 /// The words for further names of files.
 const FURTHER: &str = "further names of files, which share the file only until an editor replaces \
-    it; a build reads the first name alone";
+    it; a build reads only the first name";
 
 /// The words for further names that are files of their own.
 const COPIES: &str = "further names that are copies here, since this file system makes no further \

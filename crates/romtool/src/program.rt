@@ -28,7 +28,7 @@ use std::io::{self, BufWriter};
 
 /// The text after the list of the example image.
 const EXAMPLE: &str =
-    "no subcommand is given: this is the image that the program carries; romtool --help says more";
+    "no subcommand was given: this is the built-in example image; romtool --help says more";
 
 /// Does what the words of the command line ask for, and returns the exit status.
 pub fn run(rt: &HostRuntime) -> u8

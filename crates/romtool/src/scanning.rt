@@ -55,7 +55,7 @@ impl PassedOver {
         }
         if !kinds.is_empty() {
             let more = "modes and owners are not kept: scan --all keeps them";
-            let what = format!(in alloc; "passed over {kinds}; {more}")?;
+            let what = format!(in alloc; "skipped {kinds}; {more}")?;
             teller.explain(folder.as_bytes(), &what);
         }
         Ok(())

@@ -96,7 +96,7 @@ fn explain(
         }
     };
     let words = format!(in alloc;
-        "byte {place} is another, or missing: it is byte {at} of the \
+        "byte {place} differs or is missing; it is byte {at} of the \
         image, in {what}"
     )?;
     teller.explain(asked.dump.as_bytes(), &words);

@@ -19,7 +19,7 @@ fn sentence(number: usize) -> &'static str {
               write file with the source in place of same",
         3 => "Linux lists only 127 bytes of a name that has 128; shorten it",
         4 => "Linux finds no name of more than 128 bytes in romfs; shorten it",
-        5 => "Linux finds no root behind a volume name of more than 143 bytes; shorten it",
+        5 => "Linux finds no root after a volume name of more than 143 bytes; shorten it",
         6 => "Linux keeps no major number above 4095 in romfs; use cramfs, or a lower number",
         9 => "Linux adds 0555 to the mode of the root in cramfs; give it these bits",
         10 => "Linux reads a further name's bytes from another offset if the file's own name has \

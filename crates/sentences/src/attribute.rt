@@ -28,9 +28,14 @@ fn romfs_modes(line: &Line) -> &'static str {
 pub fn seen(alloc: Global, format: Format, line: &Line) -> Result<String, AllocError> {
     let is_romfs = format == Format::Romfs;
     let (owners, groups, devices, fitted) = if is_romfs {
-        (0, 0, MOST_OF_TWO_BYTES, " (scan --all --for romfs fits it)")
+        (
+            0,
+            0,
+            MOST_OF_TWO_BYTES,
+            " (scan --all --for romfs makes it fit)",
+        )
     } else {
-        let fitted = " (scan --all --for cramfs fits it)";
+        let fitted = " (scan --all --for cramfs makes it fit)";
         (MOST_OF_TWO_BYTES, MOST_OF_A_BYTE, MOST_OF_A_BYTE, fitted)
     };
     for (name, value, most, fitted) in [

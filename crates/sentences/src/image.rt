@@ -206,7 +206,7 @@ pub fn seen(alloc: Global, bytes: &[u8], number: u32, at: u32) -> Result<String,
         BLOCK_KIND => one_word(alloc, bytes, at),
         BOUNDS if beginning(bytes) != Begins::Romfs => words(alloc, bytes, at),
         ROOT if beginning(bytes) == Begins::Romfs && at == 16 => {
-            String::from_str(alloc, "no header fits behind the volume's name")
+            String::from_str(alloc, "no header fits after the volume's name")
         }
         _ => record(alloc, bytes, at),
     }

@@ -21,7 +21,7 @@ fn wrong_word(alloc: Global, line: &[u8]) -> Result<String, AllocError> {
     for number in 0..count {
         if field_of(line, number).is_empty() {
             return format!(in alloc;
-                "word {} is empty, behind two spaces or at the end",
+                "word {} is empty, after two spaces or at the end",
                 number + 1
             );
         }

@@ -11,11 +11,11 @@ pub fn manifest_sentence(number: u32) -> &'static str
     match number {
         BAD_WORD => "an unknown word, a wrong number of fields, an empty one, or no b or c",
         BAD_NUMBER => "a mode is not four octal digits, or a number not decimal below 2^32",
-        BAD_PATH => "a path, a link's text or a volume's name is not lawful",
-        NO_PARENT => "no earlier line makes the folder that the path stands in",
+        BAD_PATH => "a path, a link's text or a volume's name is not valid",
+        NO_PARENT => "no earlier line makes the directory that the path is in",
         EXISTS => "an earlier line has the path, or names the volume",
-        BAD_ALIGN => "the alignment is no power of two from 4 to 65536",
-        BAD_TARGET => "what hard or same names is no earlier file that it can lead to",
+        BAD_ALIGN => "the alignment is not a power of two from 4 to 65536",
+        BAD_TARGET => "hard or same names a path that is not an earlier file of the right kind",
         _ => "no rule has this number",
     }
 }

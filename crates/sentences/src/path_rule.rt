@@ -40,7 +40,7 @@ fn rule_of_names(names: &[u8]) -> Option<&'static str> {
 fn rule_of_path(path: &[u8], meant: Meant) -> Option<&'static str> {
     match path {
         [b'/'] if meant == Meant::Folder => None,
-        [b'/'] => Some("is the root, which may not stand here"),
+        [b'/'] => Some("is the root, which is not allowed here"),
         [b'/', names @ ..] => rule_of_names(names),
         _ => Some("does not begin with a slash"),
     }

@@ -2,20 +2,20 @@
 //! error of std keeps.
 
 /// A source is a directory, a device, a FIFO or a socket.
-pub const NO_REGULAR_FILE: &str = "it is no regular file";
+pub const NO_REGULAR_FILE: &str = "it is not a regular file";
 
 /// A manifest is longer than it may be.
 pub const MANIFEST_TOO_LONG: &str = "a manifest has at most 2^30 bytes";
 
 /// The file that is to be scanned is no directory.
-pub const NO_FOLDER: &str = "it is no folder";
+pub const NO_FOLDER: &str = "it is not a directory";
 
 /// Symbolic links lead to one another.
 pub const TOO_MANY_LINKS: &str = "more than 40 symbolic links follow one another";
 
 /// No name is left for the part of a build.
 pub const HUNDRED_PARTS: &str =
-    "a hundred parts of builds, .0.part to .99.part, are left beside it";
+    "a hundred parts of builds, .0.part to .99.part, are beside it; remove them";
 
 /// A directory holds a file of a kind that no manifest has.
 pub const NO_KIND: &str = "it is of a kind that no manifest has";
@@ -27,7 +27,8 @@ pub const REPLACED: &str = "another file took its name meanwhile";
 pub const SOURCE_CHANGED: &str = "it changed while it was read";
 
 /// A read of a source failed, or returned fewer or more bytes than the system reported.
-pub const SOURCE_UNREAD: &str = "it could not be read, or has another length than the system told";
+pub const SOURCE_UNREAD: &str =
+    "it could not be read, or its length is not the one that the system reported";
 
 /// A directory changed.
 pub const FOLDER_CHANGED: &str = "it changed while it was scanned";
@@ -40,39 +41,38 @@ pub const OWN_OUTPUT: &str =
     "it is standard output, and the line ok LENGTH would get into the image";
 
 /// The rule has the name of the image.
-pub const OWN_RULE: &str = "it is the file of the image as well";
+pub const OWN_RULE: &str = "it is also the file of the image";
 
 /// A rule has a name that make cannot read.
-pub const RULE_UNFIT: &str = "a name in it is one that make cannot read; PROTOCOL.md says which";
+pub const RULE_UNFIT: &str = "make cannot read a name in it; PROTOCOL.md says which names";
 
 /// A source is a symbolic link, and none is followed.
 pub const SOURCE_LINK: &str = "it is a symbolic link, and --no-follow refuses these";
 
 /// The system refused a part of the image.
-pub const NOT_TAKEN: &str = "it did not take the whole image";
+pub const NOT_TAKEN: &str = "not all of the image could be written to it";
 
 /// A name of a source cannot be passed to the system.
-pub const NO_TEXT: &str = "a name that is no UTF-8 cannot be opened";
+pub const NO_TEXT: &str = "a name that is not UTF-8 cannot be opened";
 
 /// A word of the command line is no UTF-8.
-pub const NO_WORD: &str = "it is no UTF-8, and words have to be";
+pub const NO_WORD: &str = "it is not UTF-8, as every word has to be";
 
 /// The name of the part leads to another file.
-pub const PART_REPLACED: &str =
-    "another file took the name of its part, or nothing has it any more";
+pub const PART_REPLACED: &str = "its part was renamed, replaced or removed meanwhile";
 
 /// The bytes that were written are not those of the checksum.
-pub const SUM_DIFFERS: &str = "a source changed while it was read: the stored sum is another";
+pub const SUM_DIFFERS: &str = "a source changed while it was read, so the stored checksum is wrong";
 
 /// The last byte of an image would have no address.
-pub const NO_ADDRESS: &str = "with this base it has addresses of more than 64 bits";
+pub const NO_ADDRESS: &str = "with this --base it has addresses of more than 64 bits";
 
 /// The prefix of names for C is not valid.
 pub const NO_PREFIX: &str =
-    "the names of a header begin with a letter, and have letters, digits and _";
+    "--prefix has to begin with a letter, and to have only letters, digits and _";
 
 /// Linux misreads something in a valid image.
-pub const MISREAD: &str = "it is sound, and Linux gets wrong what the lines say: docs/LINUX.md";
+pub const MISREAD: &str = "it is valid, but Linux misreads what the lines say; see docs/LINUX.md";
 
 /// A directory that is to be filled is not empty.
 pub const NOT_EMPTY: &str = "it is not empty";
@@ -82,43 +82,44 @@ pub const OF_ANOTHER_USER: &str =
     "it is owned by another user, who could change what is made in it";
 
 /// The directory that was being filled is incomplete.
-pub const INCOMPLETE: &str = "it is incomplete: what was made in it is left there";
+pub const INCOMPLETE: &str = "it is incomplete; the files that were made in it are still there";
 
 /// A name of an image is longer than the system allows.
 pub const NAME_UNFIT: &str = "a name has at most 255 bytes here, and a whole path 4095";
 
 /// The system does not allow the text of a link.
-pub const LINK_UNFIT: &str = "its text is empty, no UTF-8, has a zero, or more than 4095 bytes";
+pub const LINK_UNFIT: &str =
+    "its text is empty, not UTF-8, has a zero byte, or has over 4095 bytes";
 
 /// The system refused a part of a file.
-pub const FILE_NOT_TAKEN: &str = "it did not take the whole file";
+pub const FILE_NOT_TAKEN: &str = "not all of the file could be written";
 
 /// No manifest can describe the image, since a path in it is too long.
-pub const LONG_PATH: &str = "a path in it has more than 4095 bytes, which no manifest takes";
+pub const LONG_PATH: &str = "a path in it has more than 4095 bytes, the most in a manifest";
 
 /// No manifest can describe the image, since its volume's name is too long.
-pub const LONG_VOLUME: &str = "its volume's name has more than 255 bytes, which no manifest takes";
+pub const LONG_VOLUME: &str = "its volume's name has more than 255 bytes, the most in a manifest";
 
 /// A directory that is scanned holds a name that is no UTF-8. Only the directory can be named.
-pub const FOREIGN_NAME: &str = "a name in it is no UTF-8; ls -b shows it";
+pub const FOREIGN_NAME: &str = "a name in it is not UTF-8; ls -b shows it";
 
 /// The text of a scanned link is no UTF-8.
-pub const FOREIGN_LINK: &str = "the text of the link is no UTF-8; readlink shows it";
+pub const FOREIGN_LINK: &str = "the text of the link is not UTF-8; readlink shows it";
 
 /// A pattern ends within brackets or after a backslash.
 pub const PATTERN_UNFINISHED: &str = "no ] closes its [, or it ends with a backslash";
 
 /// A pattern has a class of characters.
-pub const PATTERN_CLASS: &str = "it has a class, as [:alpha:], and patterns have none";
+pub const PATTERN_CLASS: &str = "it has a class such as [:alpha:], which a pattern cannot have";
 
 /// At one path, a later directory has a directory and an earlier one has not, or the reverse.
-pub const KINDS_DIFFER: &str = "only one of it and what it would replace is a directory";
+pub const KINDS_DIFFER: &str = "a directory and another kind of file cannot replace each other";
 
 /// The manifest would replace a file that it lists.
 pub const OWN_FILE: &str = "the manifest would replace a file that it lists";
 
 /// The system refused a part of a manifest.
-pub const MANIFEST_NOT_TAKEN: &str = "it did not take the whole manifest";
+pub const MANIFEST_NOT_TAKEN: &str = "not all of the manifest could be written to it";
 
 /// The name of a volume is too long.
 pub const LONG_NAME: &str = "the name of a volume has at most 255 bytes";
@@ -128,10 +129,11 @@ pub const DEVICE_WORD: &str = "a file of devices has only dir, slink, nod, pipe 
 
 /// The path of a line in a file of devices exists already.
 pub const DEVICE_EXISTS: &str =
-    "an earlier line has the path, or only one of it and what is there is a directory";
+    "an earlier line has the path, or it is the path of a file and of a directory";
 
 /// The path of a line in a file of devices is in no directory.
-pub const DEVICE_NO_PARENT: &str = "no DIR and no dir line has the directory that the path is in";
+pub const DEVICE_NO_PARENT: &str =
+    "neither a DIR nor a dir line has the directory that the path is in";
 
 /// A path or a text in a file of devices is no UTF-8.
 pub const DEVICE_NO_TEXT: &str = "a path or the text of a link has to be UTF-8 here";

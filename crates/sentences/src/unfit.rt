@@ -9,11 +9,11 @@ pub fn misfit_sentence(number: u32) -> &'static str
     ensures { result.now ≡ misfit_sentence number }
 {
     match number {
-        ATTRIBUTE => "the format cannot say an owner, a group, a mode or a device's number",
-        TOO_LARGE => "a file, a list or the whole is too large",
-        NAME_TOO_LONG => "a name is longer than those of the format",
+        ATTRIBUTE => "the format cannot hold an owner, a group, a mode or a device's number",
+        TOO_LARGE => "a file, a list or the whole image is too large",
+        NAME_TOO_LONG => "a name is longer than the format allows",
         HARD_LINK =>
-            "cramfs has no further names of a file: write same PATH MODE UID GID OLD in place of hard",
+            "cramfs has no further names of a file: write same PATH MODE UID GID OLD instead of hard",
         _ => "no rule has this number",
     }
 }
