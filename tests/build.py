@@ -230,7 +230,7 @@ def out_is_a_pipe(binary):
 
 
 def permissions_are_kept(binary):
-    """An image that takes the place of a file has its permissions."""
+    """An image that replaces a file has its permissions."""
     put("manifest", b"")
     for mode in (0o600, 0o755):
         put("out", b"")

@@ -5,7 +5,7 @@
 
 The sizes of images, `--strict`, sources in a directory, rules for make (which make itself reads), manifests on standard
 input, all errors of a manifest, and what a build foresees that Linux misreads: in random manifests it is what `romtool
-linux` says of the image. The last line is `N passed, M failed`, with `, K skipped` where tests were skipped.
+linux` says of the image. The last line is `N passed, M failed`, with `, K skipped` if tests were skipped.
 """
 
 import os
@@ -27,7 +27,7 @@ NAMES = {
 
 
 def state():
-    """The files of the current folder, with their bytes."""
+    """The files of the current directory, with their bytes."""
     return {name: bytes_in(name) for name in sorted(os.listdir(".")) if os.path.isfile(name)}
 
 
@@ -67,7 +67,7 @@ def sizes(binary):
 
 
 def room(binary):
-    """`info --size` prints what is free, whether the image fits and what is left, behind the lines of `info`."""
+    """`info --size` prints what is free, whether the image fits and what is left, after the lines of `info`."""
     put("m", b"file /a 0644 0 0 4 a\nfile /b 0644 0 0 4096 a\n")
     put("a", b"x" * 100)
     for format in ("romfs", "cramfs", "cramfs-be"):
@@ -185,7 +185,7 @@ def foreseen(binary):
 
 
 def sources_in_a_folder(binary):
-    """With -C, sources are relative to a folder; MANIFEST and OUT are not."""
+    """With -C, sources are relative to a directory; MANIFEST and OUT are not."""
     os.makedirs("in/sub")
     put("in/a", b"in the folder")
     put("a", b"not this one")
@@ -265,7 +265,7 @@ def considered(goal):
 
 @needs_make
 def rules(binary):
-    """make reads each name of a rule, and the image is up to date behind the build."""
+    """make reads each name of a rule, and the image is up to date after the build."""
     for name in ODD:
         put(name, b"x")
     put("m", "".join("file /%d 0644 0 0 4 %s\n" % (at, escaped(it)) for at, it in enumerate(ODD)).encode())
@@ -304,7 +304,7 @@ def unsayable_rules(binary):
 
 
 def rules_that_fail(binary):
-    """A rule that cannot be written leaves OUT; one that takes the place of OUT, MANIFEST or a source is refused."""
+    """A rule that cannot be written leaves OUT; one that replaces OUT, MANIFEST or a source is refused."""
     put("m", b"file /a 0644 0 0 4 a\n")
     put("a", b"x")
     os.symlink("out", "link")

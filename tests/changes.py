@@ -1,5 +1,5 @@
 #!/usr/bin/env python3
-"""Runs romtool on small images that are cut or changed everywhere, and looks at how it ends.
+"""Runs romtool on small images that are cut or changed everywhere, and checks how it ends.
 
     changes.py [--binary PATH]
 

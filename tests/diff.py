@@ -3,7 +3,7 @@
 
     diff.py [--binary PATH] [--count N] [--first SEED]
 
-Two images are built of a manifest that is made by chance (see manifests.py) and of the same one with lines that were
+Two images are built of a random manifest (see manifests.py) and of the same one with lines that were
 removed, added or changed, in any two formats: the lines of `diff` are those that are worked out here of the two lists,
 the two maps and the bytes, with and without `--tree`, in both directions, and the status is 1 exactly if there are any.
 An image does not differ from itself. The small images of the cases (see run.py) are compared pair by pair, too. The

@@ -3,7 +3,7 @@
 
     digest.py [--binary PATH] [--count N] [--first SEED]
 
-Of each small image of the cases (see run.py) that the program lists, and of images of manifests made by chance (see
+Of each small image of the cases (see run.py) that the program lists, and of images of random manifests (see
 manifests.py): the lines of `digest` are those that are worked out here of the list and of the files' bytes at the
 addresses of `map`; `digest --image` is the digest of the bytes that the image has; `sha256sum -c` accepts the lines in a
 directory in which the files were laid, if Linux can have their names; and `verify` finds the image in dumps that have
@@ -139,7 +139,7 @@ def refused(binary, path):
 
 
 def of_manifest(binary, seed):
-    """All tests of the image of a manifest made by chance, with bytes behind it."""
+    """All tests of the image of a random manifest, with bytes after it."""
     made = Made(seed)
     with tempfile.TemporaryDirectory() as folder:
         for number, source in enumerate(made.sources):

@@ -48,7 +48,7 @@ def on_part(made):
 
 @needs_strace
 def one_descriptor(binary):
-    """The part is written, handed to the disk, closed and renamed, in this order, through one descriptor."""
+    """The part is written, synchronized to the disk, closed and renamed, in this order, through one descriptor."""
     hello()
     for format in FORMATS:
         for old in (None, b"old"):
@@ -239,7 +239,7 @@ def file_system_that_loses(binary, *more):
 
 
 def file_system_that_loses_when_synced(binary):
-    """The same of one that reports it when a file is handed to the disk, too."""
+    """The same for one that also reports it when a file is synchronized to the disk."""
     yield from file_system_that_loses(binary, "synced")
 
 

@@ -250,12 +250,12 @@ def output_into_the_folder(binary):
 
 
 def held_at(binary, words, call):
-    """Returns a scan that is stopped behind one of its calls until a block has ended."""
+    """Returns a scan that is stopped after one of its calls until a block has ended."""
     return traced.Held(binary, words, call.name, call.number)
 
 
 def lay_folder():
-    """Makes the directory `in` anew, with a directory `d` that is to change, and lets its times lie back."""
+    """Makes the directory `in` again, with a directory `d` that is to change, and sets its times back."""
     for name in ("in", "aside"):
         remove(name)
     os.makedirs("in/d")
@@ -496,7 +496,7 @@ def longest_names(binary):
                 else:
                     os.mkdir(inner + "/" + last)
             whole = place + b"/" + last.encode()
-            # a directory is opened with a slash behind its name
+            # a directory is opened with a slash after its name
             is_taken = len(whole) <= LONGEST - (end == "folder")
             for words in SCANS:
                 out, said, status = answer(run(binary, *words, "in"))

@@ -357,7 +357,7 @@ def with_volume(name):
 
 def deep_folders(depth, length):
     """Returns the parts of a romfs image of directories in each other, each with a name of so many bytes, and the offset
-    behind them."""
+    after them."""
     size = 16 + (length + 16) // 16 * 16
     parts = [images.header(64, images.DIRECTORY, 32, 0, b"."), images.header(96, images.HARD_LINK, 32, 0, b"..")]
     above, here = 32, 96
@@ -506,7 +506,7 @@ def memory_refused(binary):
 
 
 def many_files(binary):
-    """20,000 files are extracted. Each is handed to the disk, which may take milliseconds for each."""
+    """20,000 files are extracted. Each is synchronized to the disk, which may take milliseconds for each."""
     put("a", b"a")
     folders = ["dir /%d 0755 0 0" % k for k in range(20)]
     files = ["file /%d/%05d 0644 0 0 4 a" % (k % 20, k) for k in range(20000)]

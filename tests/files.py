@@ -42,7 +42,7 @@ def write_below(top, texts):
 
 
 def remove(path):
-    """Removes a file or a directory with everything in it, whatever its modes are; one that is missing is passed over."""
+    """Removes a file or a directory with everything in it, whatever its modes are; one that is missing is skipped."""
     if os.path.isdir(path) and not os.path.islink(path):
         subprocess.run(["chmod", "-R", "u+rwx", path], check=True)
         shutil.rmtree(path)

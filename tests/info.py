@@ -4,7 +4,7 @@
     info.py [--binary PATH] [--count N] [--first SEED]
 
 Of each small image of the cases (see run.py), and of images of random manifests (see manifests.py), with bytes
-behind some: each line is worked out here, of the superblock's words, of the records, of the list and of the check's
+after some: each line is worked out here, of the superblock's words, of the records, of the list and of the check's
 line. If `check` refuses an image, the line of that is on standard error, and there is no other. The last line is `N passed, M failed`.
 """
 

@@ -112,7 +112,7 @@ class Made:
                 yield from self.in_order(path)
 
     def listed(self):
-        """Yields the lines of the image's list behind the root's, without their numbers."""
+        """Yields the lines of the image's list after the root's, without their numbers."""
         for path in self.in_order():
             fields, contents = self.told[path]
             text = " " + escaped(contents) if fields[0] == "l" else ""

@@ -7,7 +7,7 @@ Of each small image of the cases (see run.py) that the program lists, and of ima
 chance (see manifests.py): `map --base` has the runs of each regular file in the list's order, with offsets that go on
 from 0, and no two runs of a file adjoin; the bytes of the image at these addresses, joined, are what `cat` writes, and
 what a server reads (cases) or the manifest's sources have (manifests). `linux` has exactly the lines that docs/PROTOCOL.md
-says, as the bytes, the list and the format of an image give them here once more. Paths that are no UTF-8 cannot
+says, as the bytes, the list and the format of an image give them here once more. Paths that are not UTF-8 cannot
 be given to `cat`, and are only mapped. The last line is `N passed, M failed`.
 """
 

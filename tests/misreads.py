@@ -124,7 +124,7 @@ def romfs_nodes():
         places[name] = place
         place += 16 + (len(name) + 16) // 16 * 16 + (len(data) + 15) // 16 * 16
     links = [(images.HARD_LINK, places[named(length).encode()], 0, b"h%d" % length, b"") for length in LONG]
-    # behind them a file whose data keep the last record away from the end of the image
+    # after them a file whose data keep the last record away from the end of the image
     return images.romfs_list((), first=[*rows, *links, (images.REGULAR, 0, 256, b"z", bytes(256))])
 
 

@@ -377,7 +377,7 @@ def killed(tester):
 
 
 def names(tester):
-    """All directories with names that are no UTF-8 are named in one run."""
+    """All directories with names that are not UTF-8 are named in one run."""
     top = os.fsencode(f"{tester.room}/foreign")
     for folder in [b"/b", b"/a/c", b"/d"]:
         os.makedirs(top + folder)

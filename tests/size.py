@@ -68,7 +68,7 @@ def seventeen_files(shift):
     """17 files of 4,095 blocks each: 69,615 blocks, of which 512 are at different places.
 
     The list is at 76, 17 entries of 16 bytes; the tables begin at 348, each of 16,380 bytes; the blocks
-    begin at 348 + 17 * 16,380 = 278,808. The last pointer leads to the first block, or behind its start.
+    begin at 348 + 17 * 16,380 = 278,808. The last pointer leads to the first block, or after its start.
     """
     text = b"".join(inode(CRAMFS_REGULAR, 4095 * BLOCK, 348 + 16380 * n, b"%02d" % n) for n in range(17))
     places = [278_808 + BLOCK * (n * 211 % 512) for n in range(17 * 4095 - 1)] + [278_808 + shift]
@@ -100,14 +100,14 @@ def one_table_of_many_sizes():
 
 
 def many_files_cramfs():
-    """The inode of each file is 20 bytes behind the one before it, the first at 76."""
+    """The inode of each file is 20 bytes after the one before it, the first at 76."""
     image = cramfs_list(b"%08d" % n for n in range(MANY))
     files = ["%d f 0644 0 0 0 0 0 /%08d" % (76 + 20 * n, n) for n in range(MANY)]
     return image, "ok cramfs 20001 1", ["64 d 0755 0 0 0 0 0 /"] + files
 
 
 def many_files_romfs():
-    """The header of each file is 32 bytes behind the one before it, the first at 96; `..` counts, too."""
+    """The header of each file is 32 bytes after the one before it, the first at 96; `..` counts, too."""
     image = romfs_list(b"%08d" % n for n in range(MANY))
     files = ["%d f 0644 0 0 0 0 0 /%08d" % (96 + 32 * n, n) for n in range(MANY)]
     return image, "ok romfs 20002 1", ["32 d 0755 0 0 0 0 0 /"] + files
