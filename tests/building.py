@@ -1,11 +1,12 @@
 #!/usr/bin/env python3
-"""Builds with the options that keep a packing from surprises, and looks at what each refusal leaves.
+"""Builds with the options that prevent surprises, and checks what each refusal leaves.
 
     building.py [--binary PATH] [--name TEXT]
 
-The sizes of images, `--strict`, sources in a directory, rules for make (which make itself reads), manifests on standard
-input, all errors of a manifest, and what a build foresees that Linux misreads: in random manifests it is what `romtool
-linux` says of the image. The last line is `N passed, M failed`, with `, K skipped` if tests were skipped.
+Tested are: the sizes of images, `--strict`, sources in a directory, rules for make (which make itself reads), manifests
+on standard input, all faults of a manifest, and what a build foresees that Linux misreads. In random manifests, this
+has to be what `romtool linux` says of the image. The last line is `N passed, M failed`, with `, K skipped` if tests
+were skipped.
 """
 
 import os

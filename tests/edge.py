@@ -3,9 +3,9 @@
 
     edge.py [--binary PATH] [--name TEXT]
 
-OUT in odd places, the file beside it, sources that change, images with more after them, signals, closed
-streams; and each call of the system failed in turn, by `strace`. A test that needs `strace`, or root, is
-skipped if it is missing. The last line is `N passed, M failed`, with `, K skipped`.
+Tested are: OUT in odd directories, the file beside it, sources that change, images with bytes after them, signals,
+closed streams, and each call of the system failed in turn, by `strace`. A test that needs `strace`, or root, is skipped
+if it is missing. The last line is `N passed, M failed`, with `, K skipped`.
 """
 
 import collections

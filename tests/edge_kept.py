@@ -3,10 +3,11 @@
 
     edge_kept.py [--binary PATH] [--name TEXT]
 
-The one descriptor of a part, whose closing fails; standard output whose closing fails, in each subcommand; a file system
-that reports only then what it lost (lossy.c, by FUSE) and a file server that is full (sshfs); OUT that is standard output;
-the group of OUT; sources that are links; and the reason of a source that cannot be read. A test that needs `strace`,
-FUSE, `sshfs` or root is skipped if it is missing. The last line is `N passed, M failed`, with `, K skipped`.
+Tested are: the one descriptor of a part, if its closing fails; standard output, if its closing fails, in each
+subcommand; a file system that reports only at the closing what it lost (lossy.c, by FUSE), and a file server that is
+full (sshfs); OUT that is standard output; the group of OUT; sources that are links; and the reason why a source cannot
+be read. A test that needs `strace`, FUSE, `sshfs` or root is skipped if it is missing. The last line is `N passed, M
+failed`, with `, K skipped`.
 """
 
 import contextlib

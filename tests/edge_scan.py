@@ -3,10 +3,10 @@
 
     edge_scan.py [--binary PATH] [--name TEXT]
 
-Each call of the system failed in turn; directories that change while they are looked into, between any two calls; output
-that is not accepted; odd names of directories, of what is in them, and of what cannot be looked at; every kind of file.
-A manifest is right or is not printed: what is reported instead is compared, too. A test that needs `strace`, or root, is
-skipped if it is missing. The last line is `N passed, M failed`, with `, K skipped`.
+Tested are: each call of the system failed in turn; directories that change between any two calls of their scan; output
+that is not accepted; odd names of directories and of their entries; entries that cannot be read; and every kind of
+file. A manifest has to be right, or it is not printed; what is reported instead is compared, too. A test that needs
+`strace`, or root, is skipped if it is missing. The last line is `N passed, M failed`, with `, K skipped`.
 """
 
 import collections

@@ -3,15 +3,15 @@
 
     extract.py [--binary PATH] [--count N] [--first SEED] [--name TEXT]
 
-Of each small image of the cases (see run.py), of images of random manifests (see manifests.py), and of images
-that genromfs builds if it is installed: the manifest that is printed is the one that the image's list says; the
-directory has exactly its directories, files and links, with their modes; and what is built of the two has the same list again,
-but for places and numbers. If each alignment is 4 and nothing is shared it has the same bytes. Images with names that
-no file can have here make nothing.
+The images are the small ones of the cases (see run.py), those of random manifests (see manifests.py), and those that
+genromfs builds, if it is installed. The printed manifest has to be the one that the image's list says. The directory
+has to have exactly its directories, files and links, with their modes. The image that is built of the two has to have
+the same list, except for offsets and numbers. If each alignment is 4 and nothing is shared, it has to have the same
+bytes. Of an image with names that no file can have here, nothing is made.
 
-Then the edge: directories that are there, links that lead elsewhere, modes that refuse, names that are too long, owners, a
-full disk, each call of the system failed. Tests that need `strace`, or root, or another user, are skipped if these
-are missing. The last line is `N passed, M failed`, with `, K skipped`.
+Then the edge is tested: existing directories, links that lead elsewhere, modes that refuse, names that are too long,
+owners, a full disk, and each call of the system failed. Tests that need `strace`, root or another user are skipped if
+these are missing. The last line is `N passed, M failed`, with `, K skipped`.
 """
 
 import collections

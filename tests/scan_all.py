@@ -3,13 +3,13 @@
 
     scan_all.py [--binary PATH] [--count N] [--first SEED]
 
-One directory has each kind of file that the rights of the test allow (devices if it is root), odd names, links,
-several names of one file across directories, and all modes; further ones are made of a random seed, which is named
-if a test fails. Each is scanned plainly with `--all`, whose manifest is compared line by line, and with
-`--all --for FORMAT` for each format; what is built of that is accepted by `check`, listed, and compared entry by
-entry with what `lstat` says, brought to what the format stores: kinds, modes, owners, lengths, numbers of devices,
-texts of links, which names are one file (romfs), and each file's bytes.
-The last line is `N passed, M failed`, with `, K skipped` if the rights are missing.
+One directory has each kind of file that the rights of the test allow (devices if it is root), odd names, links, several
+names of one file across directories, and all modes. Further directories are made from a random seed, which is named if
+a test fails. Each is scanned with `--all`, and the manifest is compared line by line. Each is also scanned with `--all
+--for FORMAT`, for each format, and built. `check` has to accept the image. It is listed, and compared entry by entry
+with what `lstat` says and the format can store: kinds, modes, owners, lengths, device numbers, texts of links, names of
+one file (romfs), and each file's bytes. The last line is `N passed, M failed`, with `, K skipped` if the rights are
+missing.
 """
 
 import os

@@ -1,10 +1,10 @@
 #!/usr/bin/env python3
-"""Runs romtool on images of size, which this script lays out and never stores.
+"""Runs romtool on large images, which this script lays out and never stores.
 
     size.py [--binary PATH] [--name TEXT]
 
-What is expected is worked out from the layout of each image, which its function describes. The last line
-is `N passed, M failed`.
+The expected values are computed from the layout of each image, which its function describes. The last line is `N
+passed, M failed`.
 """
 
 import os
