@@ -1,4 +1,4 @@
-/* A boot loader's way from an image in flash to the entry of a program that is run in place.
+/* How a boot loader gets from an image in flash to the entry of a program that is executed in place.
  *
  *     first IMAGE PATH: prints where the program of that path is, and its first bytes */
 #include <inttypes.h>
@@ -21,10 +21,10 @@ static const uint8_t *entry_of(const struct romtool_image *image, const char *pa
     return image->data + place.at;
 }
 
-/* The most that an image of romtool has. */
+/* The most bytes of an image that romtool builds. */
 #define MOST (1 << 28)
 
-/* The bytes of a file, in the place of flash. */
+/* The bytes of a file, instead of flash. */
 static uint8_t *flash_of(const char *name, size_t *len) {
     FILE *file = fopen(name, "rb");
     uint8_t *data = malloc(MOST);
