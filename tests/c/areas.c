@@ -3,9 +3,9 @@
  *     areas IMAGE..
  *
  * First, random blocks are allocated, resized and freed, in areas of many sizes and alignments. Each block keeps its
- * bytes, is in the area at its alignment, and overlaps no other. When all are freed, the area is one block again. Then
- * each image is checked with an area of the size that romtool_area_most returned: the verdict is the same. With 16 bytes
- * less, memory is refused. Prints for each image the bytes that a check needs. */
+ * bytes, is in the area at its alignment, and overlaps no other. When all are freed, the area is one block again.
+ * Then each image is checked with an area of the size that romtool_area_most returned: the verdict is the same. With 16
+ * bytes less, memory is refused. Prints for each image the bytes that a check needs. */
 #include <inttypes.h>
 #include <stdio.h>
 #include <stdlib.h>

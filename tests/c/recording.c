@@ -1,7 +1,7 @@
 /* The three functions of memory, as a heap that records sizes and refuses each call in turn.
  *
- * A block has exactly the requested alignment. The bytes before and after it are checked when it is freed. New bytes are
- * 0xa5. Each change of a size moves the block, with exactly the bytes that are to be kept. */
+ * A block has exactly the requested alignment. The bytes before and after it are checked when it is freed. New bytes
+ * are 0xa5. Each change of a size moves the block, with exactly the bytes that are to be kept. */
 #include "recording.h"
 
 #include <stdint.h>
