@@ -3,8 +3,8 @@
  *     refused IMAGE..
  *
  * Prints for each image what `romtool check` prints of it. The status is 0 if every block was freed, and each check
- * that was refused memory either reported that, with a closed image, or returned the right verdict without it. The last line
- * has the numbers that were seen. */
+ * that was refused memory either reported that, with a closed image, or returned the right verdict without it. The
+ * last line has the numbers that were seen. */
 #include <inttypes.h>
 #include <stdio.h>
 #include <stdlib.h>
