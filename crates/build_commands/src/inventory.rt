@@ -46,7 +46,7 @@ pub struct Inode {
     pub number: u64,
 }
 
-/// A name of a file, with what the system reports of the file.
+/// A name of a file, `place`, with what the system reports of the file.
 #[derive(Drop)]
 pub struct NamedFile {
     pub place: String,

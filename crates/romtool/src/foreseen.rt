@@ -147,7 +147,7 @@ fn is_other_device(line: &Line) -> bool {
 }
 
 /// Whether romfs in Linux finds a path, but reads the bytes of its file from another offset, since
-/// the first name of the file is too long. This line makes the file.
+/// the file's own name is too long. This line makes the file.
 fn is_elsewhere(files: &Option<PathTargets>, path: &[u8], own: &Line) -> bool {
     let is_long = last_name(own.path.as_bytes()).len() > PLACED;
     is_long && last_name(path).len() <= FOUND && size_of(files, path, own) > 0

@@ -250,13 +250,13 @@ impl<'a> Teller<'a> {
         }
     }
 
-    /// Explains which fault the image in a file has, if it has one. If words are asked for, returns
-    /// whether the image has no fault.
+    /// Explains which fault the image in a file has, if it has one. Returns whether words are asked
+    /// for and the image has no fault.
     pub fn explain_image(&self, name: &[u8], bytes: &[u8]) -> bool {
         self.is_explained && !self.try_explain_image(name, bytes).unwrap_or(true)
     }
 
-    /// Explains the fault if there is one, and returns whether there is none.
+    /// Explains the fault if there is one, and returns whether there is one.
     fn try_explain_image(&self, name: &[u8], bytes: &[u8]) -> Result<bool, AllocError> {
         match check(self.rt.alloc(), bytes, Limits::usual()) {
             Err(CheckError::Fault { number, at }) => {
