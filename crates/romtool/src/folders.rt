@@ -34,12 +34,12 @@ pub struct Reach {
 }
 
 impl Reach {
-    /// Returns that of a scan that enters mounted file systems.
+    /// Returns the reach of a scan that enters mounted file systems.
     pub fn all() -> Reach {
         Reach { device: None }
     }
 
-    /// Returns that of a scan of the directory with these attributes.
+    /// Returns the reach of a scan of the directory with these attributes.
     pub fn of(top: &Metadata, one_file_system: bool) -> Reach {
         Reach {
             device: if one_file_system {

@@ -16,7 +16,7 @@ pub struct Identity {
 }
 
 impl Identity {
-    /// Returns that of the file with these attributes.
+    /// Returns the identity of the file with these attributes.
     pub fn of(found: &Metadata) -> Identity {
         Identity {
             device: found.dev(),
@@ -43,7 +43,7 @@ pub struct Stamp {
 }
 
 impl Stamp {
-    /// Returns that of the file with these attributes.
+    /// Returns the state of the file with these attributes.
     pub fn of(found: &Metadata) -> Stamp {
         Stamp {
             identity: Identity::of(found),

@@ -95,7 +95,7 @@ pub struct Teller<'a> {
 }
 
 impl<'a> Teller<'a> {
-    /// Returns that of the words, the environment and standard error.
+    /// Returns the teller for the words, the environment and standard error.
     pub fn new(rt: &'a HostRuntime) -> Teller<'a> {
         Teller {
             rt,

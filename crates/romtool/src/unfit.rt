@@ -90,7 +90,7 @@ impl Unfit {
         Ok(())
     }
 
-    /// Returns those of the lines of the scanned files, in the same order.
+    /// Returns what changes in the lines of the scanned files, which are in the same order.
     pub fn of(
         alloc: Global,
         lines: &[Entry<'_>],
