@@ -8,7 +8,7 @@
 # `rt try --fail-alloc N` (half a minute each), up to the third whole run in a row or to LAST, 60 where
 # it is left out; 0 is none. Then the built binary checks and lists an image of 1,500 files of each
 # format under `ulimit -v`, one page of 4 KiB more each time, up to the first run that is whole; limits
-# under which no program starts at all are passed over. The last line is `N passed, M failed`.
+# under which no program starts at all are skipped. The last line is `N passed, M failed`.
 #
 # Run with rattle-kit-13b up to the 17th allocation: the stored run has 14. Each that is refused ends it
 # with `memory`, but the 4th, without which it is whole all the same.

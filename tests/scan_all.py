@@ -265,10 +265,10 @@ def refusals(tester, top):
     """What cannot be looked at is named, and nothing is printed."""
     os.makedirs(f"{top}/a")
     put(os.fsencode(top) + b"/a/\xff")
-    tester.is_same("a name that is no UTF-8", tester.run(["scan", "--all", "refused"]), ("", "file refused/a\n", 3))
+    tester.is_same("a name that is not UTF-8", tester.run(["scan", "--all", "refused"]), ("", "file refused/a\n", 3))
     os.remove(os.fsencode(top) + b"/a/\xff")
     os.symlink(b"\xff", os.fsencode(top) + b"/a/link b")
-    tester.is_same("a text that is no UTF-8", tester.run(["scan", "--all", "refused"]), ("", "file refused/a/link%20b\n", 3))
+    tester.is_same("a text that is not UTF-8", tester.run(["scan", "--all", "refused"]), ("", "file refused/a/link%20b\n", 3))
     os.remove(f"{top}/a/link b")
     tester.is_same("a folder in another word", tester.run(["scan", "--all", "refused//"])[::2], ("dir / 0755 0 0\ndir /a 0755 0 0\n", 0))
     os.symlink("refused", f"{tester.room}/led")

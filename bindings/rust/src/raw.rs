@@ -132,7 +132,7 @@ extern "C" fn rattle_alloc(size: usize, align: usize) -> Memory {
 ///
 /// # Safety
 ///
-/// `at` is a block that was given and not taken back.
+/// `at` is a block that was returned and not freed.
 #[no_mangle]
 unsafe extern "C" fn rattle_realloc(at: *mut c_void, _kept: usize, size: usize, _align: usize) -> Memory {
     answer(unsafe { realloc(at, size.max(1)) })
@@ -142,7 +142,7 @@ unsafe extern "C" fn rattle_realloc(at: *mut c_void, _kept: usize, size: usize, 
 ///
 /// # Safety
 ///
-/// `at` is a block that was given and not taken back.
+/// `at` is a block that was returned and not freed.
 #[no_mangle]
 unsafe extern "C" fn rattle_dealloc(at: *mut c_void) {
     unsafe { free(at) };

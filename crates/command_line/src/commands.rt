@@ -20,7 +20,7 @@ const ABOUT: &str =
 const AFTER: &str = "\
 Without a subcommand, the program checks and lists its built-in example image.
 
-Exit status: 0 done, 1 refused (see standard output), 2 usage, 3 a file, memory or a stream failed.
+Exit status: 0 done, 1 refused (a line says why), 2 usage, 3 a file, memory or a stream failed.
 The man page romtool(1) has the details.";
 
 /// Returns the argument for a row of the table.

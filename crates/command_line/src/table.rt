@@ -238,14 +238,14 @@ const ALL: Word<'static> = Word {
     kind: Kind::Flag,
     name: "all",
     shown: "",
-    help: "Files of all kinds, with their modes, owners and further names",
+    help: "Prints files of all kinds, with their modes, owners and further names",
 };
 
 const FOR: Word<'static> = Word {
     kind: Kind::Option,
     name: "for",
     shown: "FORMAT",
-    help: "With --all: changes attributes that romfs, cramfs or cramfs-be cannot hold to the nearest",
+    help: "With --all: changes attributes to the nearest that romfs, cramfs or cramfs-be can hold",
 };
 
 const ALIGN: Word<'static> = Word {
