@@ -32,8 +32,8 @@ pub record AreRomfs (b : List ℕ) (r : ℕ) (e : Extents) : Type 0 where
   pub extents : IsInOrder (romfs_all_found b r) e.extents.items
   pub apart : AreApart e.extents.items
 
--- the records and the extents of the cramfs image with the accessible bytes b; either each block
--- that goes on where the one before it ends is joined to it, or none is
+-- the records and the extents of the cramfs image with the accessible bytes b; either blocks of a
+-- file that follow one another are joined, or none are
 pub record AreBlocks (joined : Bool) (o : Order) (b : List ℕ) (e : Extents) : Type 0 where
   pub bytes : e.bytes.now ≡ b
   pub records : e.records.items ≡ cramfs_listed o b

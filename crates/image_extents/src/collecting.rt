@@ -65,8 +65,8 @@ fn cramfs_extents<'a>(
     })
 }
 
-/// The extents of a cramfs image. Blocks that go on where the one before them ends are joined. They
-/// are not joined if files share blocks so that joined extents would overlap.
+/// The extents of a cramfs image. Blocks of a file that follow one another are joined, unless files
+/// share blocks so that joined extents would overlap.
 fn joined_extents<'a>(
     alloc: Global,
     order: Order,

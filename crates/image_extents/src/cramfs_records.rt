@@ -176,8 +176,8 @@ fn add_record(
 }
 
 /// Adds the records of a cramfs image in the order of a list, and their extents in the same order.
-/// `b` has its accessible bytes. If blocks are joined, the blocks of a file of which each goes on
-/// where the one before it ends are one extent.
+/// `b` has its accessible bytes. If blocks are joined, blocks of a file that follow one another are
+/// one extent.
 ///
 /// # Errors
 ///
