@@ -63,10 +63,12 @@ impl Display for Wrong<'_> {
             Wrong::Size(word) => {
                 write!(
                     f,
-                    "N is a number of bytes, as 4096, 64K, 2M or 0x10000, and not {word:?}"
+                    "N is a number of bytes, such as 4096, 64K, 2M or 0x10000, and not {word:?}"
                 )
             }
-            Wrong::Owner(word) => { write!(f, "UID:GID are two numbers, as 0:0, and not {word:?}") }
+            Wrong::Owner(word) => {
+                write!(f, "UID:GID are two numbers, such as 0:0, and not {word:?}")
+            }
             Wrong::Forms => {
                 write!(
                     f,

@@ -15,7 +15,7 @@ pub const TOO_MANY_LINKS: &str = "more than 40 symbolic links follow one another
 
 /// No name is left for the part of a build.
 pub const HUNDRED_PARTS: &str =
-    "a hundred parts of builds, .0.part to .99.part, are beside it; remove them";
+    "a hundred parts of builds, .0.part to .99.part, are beside it; remove old ones";
 
 /// A directory holds a file of a kind that no manifest has.
 pub const NO_KIND: &str = "it is of a kind that no manifest has";
