@@ -143,7 +143,7 @@ struct romtool_file {
     uint64_t position;   /* of a file, the number of a byte; of a directory, a number for the library only */
 };
 
-/* An entry of a directory: its name, which is in the image and does NOT end with a zero, and the number of its node.
+/* An entry of a directory: its name, which lies in the image and is NOT ended by a zero, and the number of its node.
  * `some` is 0 at the end. */
 struct romtool_entry {
     const uint8_t *name;
@@ -268,8 +268,8 @@ uint32_t romtool_read(struct romtool_file *file, uint8_t *buffer, romtool_size l
 /* Sets the position of an open file, also past its end. Returns 0 or the error: ROMTOOL_EBADF, _EISDIR. */
 uint32_t romtool_seek(struct romtool_file *file, uint64_t position);
 
-/* Reads the next entry of an open directory, without `.` and `..`. Returns 0 or the error: ROMTOOL_EBADF, _ENOTDIR.
- * To begin again, open the directory again. */
+/* The next entry of an open directory, without `.` and `..`. Gives 0 or the error: ROMTOOL_EBADF, _ENOTDIR. To begin
+ * again, open it again. */
 uint32_t romtool_readdir(struct romtool_file *file, struct romtool_entry *entry);
 
 /* Returns the version of this header as text. */

@@ -12,8 +12,8 @@ fn put_name<W: ByteWrite>(w: &mut W, failed: &mut bool, prefix: &[u8], path: &[u
     put(w, failed, what);
 }
 
-/// Puts the macros of a file of this number of bytes: its address, if it is in one piece, its
-/// length and its path.
+/// Puts the macros of a file of so many bytes: its address, if it is in one piece, its length and
+/// its path.
 pub(crate) fn put_macros<W: ByteWrite>(
     w: &mut W,
     failed: &mut bool,

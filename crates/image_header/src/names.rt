@@ -20,8 +20,8 @@ fn is_digit(byte: u8) -> bool
     48 <= byte && byte <= 57
 }
 
-/// Returns whether the names of a header may begin with these bytes: a letter, and then only
-/// letters, digits and underscores.
+/// Whether the names of a header may begin with these bytes: a letter, and letters, digits and
+/// underscores after it.
 pub fn is_prefix(bytes: &[u8]) -> bool {
     if bytes.is_empty() || !is_letter(bytes[0]) {
         return false;

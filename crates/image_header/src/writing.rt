@@ -13,7 +13,7 @@ use rom_tree::{NodeId, TreeImage, Walk, is_regular_at, longest_run};
 /// The most bytes of a path: 65 names of 255 bytes, each with a slash.
 const LONGEST_PATH: usize = 16_640;
 
-/// Puts a macro whose name is not that of a file.
+/// Puts a macro with a name that is no file's.
 fn put_front<W: ByteWrite>(w: &mut W, failed: &mut bool, prefix: &[u8], text: &[u8]) {
     put(w, failed, prefix);
     put(w, failed, text);
@@ -36,8 +36,7 @@ fn put_head<W: ByteWrite>(w: &mut W, failed: &mut bool, prefix: &[u8], base: u64
     put(w, failed, b"\n");
 }
 
-/// The address of a regular file of this number of bytes, if it has any and they follow one
-/// another.
+/// The address of a regular file with so many bytes, if it has some and they follow one another.
 fn address_of<'a, T: TreeImage<'a>>(image: &T, base: u64, node: NodeId, size: u32) -> Option<u64>
     requires { HasNode (T.image image.now) node.0 }
 {
@@ -49,7 +48,7 @@ fn address_of<'a, T: TreeImage<'a>>(image: &T, base: u64, node: NodeId, size: u3
     }
 }
 
-/// Puts the macros of the name that a walk returned last, if it is that of a regular file.
+/// Puts the macros of the name that a walk gave last, if it is that of a regular file.
 fn put_file<'a, T: TreeImage<'a>, W: ByteWrite>(
     image: &T,
     w: &mut W,
@@ -83,8 +82,8 @@ fn put_file<'a, T: TreeImage<'a>, W: ByteWrite>(
 ///
 /// # Errors
 ///
-/// `WriteFault` if a write failed, `LongPath` if a path has more than 16,640 bytes. In both cases a
-/// prefix of the header was written.
+/// `WriteFault` if a write failed, `LongPath` if a path has more than 16,640 bytes. Then a prefix
+/// of the header was written.
 pub fn write_header<'a, T: TreeImage<'a>, W: ByteWrite>(
     image: &T,
     base: u64,

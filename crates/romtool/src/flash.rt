@@ -83,7 +83,7 @@ impl From<HeaderError> for Stopped {
     }
 }
 
-/// Prints a map of the image in a file, in another form than the lines of files.
+/// Prints a map of the image in a file, in a form other than the lines of files.
 pub fn map(teller: &Teller<'_>, map: Map<'_>) -> Status {
     match map.form {
         MapForm::Files | MapForm::All => run(teller, map.image, map.base, Asked::All),
@@ -136,7 +136,7 @@ fn run(teller: &Teller<'_>, name: &str, base: u64, asked: Asked<'_>) -> Status {
     }
 }
 
-/// Writes what is at some addresses. The status is `Refused` if one of them is outside the file.
+/// Writes what is at some addresses. The status is `Refused` if one of them is outside.
 fn write_all<W: ByteWrite>(
     alloc: Global,
     image: &AnyImage<'_>,
