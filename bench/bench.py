@@ -153,7 +153,7 @@ def large_romfs(count):
 
 
 def large_cramfs(count):
-    """Files of 8 MiB, of so many MiB in all, with the image's check sum."""
+    """Files of 8 MiB, of so many MiB in all, with the image's checksum."""
     files, blocks = count // 8, 8 * MIB // BLOCK
     table = 76 + 16 * files
     first = table + 4 * blocks * files
@@ -279,7 +279,7 @@ def compare(path, out, check, image):
 
 def main():
     reader = parser("Measure romtool.")
-    reader.add_argument("--name", default="", help="the kinds alone whose name has this text")
+    reader.add_argument("--name", default="", help="only the kinds whose name has this text")
     reader.add_argument("--largest", type=int, default=10**9, help="the largest count of records")
     arguments = reader.parse_args()
     binary = program_of(arguments)

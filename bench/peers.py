@@ -145,8 +145,8 @@ def table(binary, title, times, top):
 
 def main():
     reader = parser("Builds the same inputs by romtool and by other programs.")
-    reader.add_argument("--name", default="", help="the inputs alone whose name has this text")
-    reader.add_argument("--folder", help="where the temporary folder is made")
+    reader.add_argument("--name", default="", help="only the inputs whose name has this text")
+    reader.add_argument("--folder", help="where the temporary directory is made")
     reader.add_argument("--times", type=int, default=5, help="how often each is run")
     arguments = reader.parse_args()
     binary = program_of(arguments)

@@ -375,7 +375,7 @@ def all_missing_sources(binary):
 
 
 def shared_pages(binary):
-    """`linux --advice` lists each file at a page whose last page is not its own, and what is said separates them."""
+    """`linux --advice` lists each file at a page whose last page is not its own, and what it reports separates them."""
     sizes_of = {"a": 10, "b": 4095, "c": 5000, "d": 4092, "e": 100, "f": 4096, "g": 3000}
     for name, size in sizes_of.items():
         put(name, b"x" * size)

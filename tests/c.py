@@ -167,7 +167,7 @@ def header(binary, top, program, counts):
 
 
 def needs(archive, counts):
-    """What the library takes from its surroundings."""
+    """The functions that the library needs from outside."""
     if not shutil.which("nm"):
         counts.skips("what the library needs: there is no nm")
         return
@@ -333,7 +333,7 @@ def images(top):
 
 
 def heaps(binary, top, refused, areas, counts):
-    """Checks over a heap that refuses, and over areas that are just large enough."""
+    """Checks over a heap that refuses, and over areas that are exactly large enough."""
     os.mkdir(top + "/images")
     names = images(top + "/images")
     names += ["../" + form for form in FORMATS]

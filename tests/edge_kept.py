@@ -225,7 +225,7 @@ def wrong_on(binary, folder, image):
 
 
 def file_system_that_loses(binary, *more):
-    """An image, and what is printed, is never lost without a word on a file system that reports it at the closing."""
+    """An image, and what is printed, is never lost without a message on a file system that reports a loss at the closing."""
     if not has_fuse():
         yield None
         return

@@ -434,7 +434,7 @@ def output_that_is_not_taken(binary):
 
 @needs_strace
 def each_call_failed(binary):
-    """Whichever call is failed: the status says it, nothing is outside, and what is there is a part of the image."""
+    """Whichever call is failed, the status says so, nothing is made outside DIR, and DIR has a part of the image."""
     small(binary)
     names = entries(binary, "image")
     wanted = manifest_of(bytes_in("image"), names, "out")

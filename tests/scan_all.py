@@ -183,7 +183,7 @@ class Tester:
         self.is_same(f"{name}: contents", self.run(["serve", "image"], given)[0].splitlines(), wanted)
 
     def aligned(self, name, told, align):
-        """Checks that what someone may execute lies at multiples of the alignment."""
+        """Checks that executable files are at multiples of the alignment."""
         paths = [it for it in told.regular() if told.of[it].st_mode & 0o111 and told.of[it].st_size]
         given = "".join("open %s\nmap 0 0 1\nclose 0\n" % escaped(path) for path in paths).encode()
         replies = self.run(["serve", "image"], given)[0].splitlines()[1::3]

@@ -133,7 +133,7 @@ def wrong_run(binary, word, path, wanted, status):
 
 
 def wrong_first_line(binary, path, wanted):
-    """Returns what is wrong if a reader takes the first line of a list, and closes its pipe."""
+    """Returns what is wrong if a reader reads the first line of a list, and closes its pipe."""
     with subprocess.Popen([binary, "list", path], stdout=subprocess.PIPE, stderr=subprocess.PIPE) as running:
         line = running.stdout.readline().decode()
         running.stdout.close()
