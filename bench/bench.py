@@ -99,7 +99,7 @@ def cramfs_folders(count):
 
 
 def cramfs_files(inodes, tables, rest):
-    """Returns a cramfs image of files: the root's list, then what is behind it."""
+    """Returns a cramfs image of files: the root's list, then what is after it."""
     text = b"".join(inodes)
     return cramfs(SORTED | DIRECT_POINTERS, inode(CRAMFS_DIRECTORY, len(text), 76), text + tables + rest)
 
@@ -141,7 +141,7 @@ def two_far_tables(count):
 
 
 def shifted_tables(count):
-    """Hostile: the table of each file of 4,095 blocks begins a word behind the one before it."""
+    """Hostile: the table of each file of 4,095 blocks begins a word after the one before it."""
     table = 76 + 16 * count
     inodes = (inode(CRAMFS_REGULAR, 4095 * BLOCK, table + 4 * n, name_of(n)) for n in range(count))
     return cramfs_files(inodes, pointers(table + 4 * (4095 + count), 4095 + count, 0), bytes(BLOCK))
@@ -153,7 +153,7 @@ def large_romfs(count):
 
 
 def large_cramfs(count):
-    """Files of 8 MiB, of so many MiB in all, with the image's check sum."""
+    """Files of 8 MiB, of so many MiB in all, with the image's checksum."""
     files, blocks = count // 8, 8 * MIB // BLOCK
     table = 76 + 16 * files
     first = table + 4 * blocks * files
@@ -279,7 +279,7 @@ def compare(path, out, check, image):
 
 def main():
     reader = parser("Measure romtool.")
-    reader.add_argument("--name", default="", help="the kinds alone whose name has this text")
+    reader.add_argument("--name", default="", help="only the kinds whose name has this text")
     reader.add_argument("--largest", type=int, default=10**9, help="the largest count of records")
     arguments = reader.parse_args()
     binary = program_of(arguments)

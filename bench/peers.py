@@ -7,7 +7,7 @@ Inputs, made in a temporary directory in DIR: one file of 200 MiB, a dozen of 16
 ones, and a tree like that of /usr/bin (2,000 random programs, links). Programs: `romtool build` of a manifest that
 `romtool scan --all` printed, in romfs and in cramfs; genromfs, mkfs.erofs and mksquashfs without compression, tar and
 `cp -a`, if they are installed. Each is run N times (5), and of the least the seconds by the clock are printed, their
-ratio to `cp`, and the peak of memory; once as it is and once with what it wrote handed to the disk at the end, which
+ratio to `cp`, and the peak of memory; once as it is and once with what it wrote synchronized to the disk at the end, which
 `romtool` does of itself. Then checks and lists of what was written. It needs /usr/bin/time (Debian package `time`).
 Nothing of it is a test.
 """
@@ -145,8 +145,8 @@ def table(binary, title, times, top):
 
 def main():
     reader = parser("Builds the same inputs by romtool and by other programs.")
-    reader.add_argument("--name", default="", help="the inputs alone whose name has this text")
-    reader.add_argument("--folder", help="where the temporary folder is made")
+    reader.add_argument("--name", default="", help="only the inputs whose name has this text")
+    reader.add_argument("--folder", help="where the temporary directory is made")
     reader.add_argument("--times", type=int, default=5, help="how often each is run")
     arguments = reader.parse_args()
     binary = program_of(arguments)

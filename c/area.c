@@ -1,20 +1,20 @@
 /* SPDX-License-Identifier: MIT
  *
  * The memory of romtool_check over an array of the caller's: no malloc, no C library.
- * include/romtool_heap.h says what each function owes, and of these what they give.
+ * include/romtool_heap.h says what each function has to do.
  *
- * The area is a row of blocks, each behind a header of 16 bytes; no two free blocks are neighbours. A request gets the
- * first free block that is large enough. So where a block is does not depend on how much free room is at the end, and
- * the farthest end that was reached is what an area has to have. */
+ * The area is a row of blocks, each after a header of 16 bytes. No two free blocks are neighbours. A request gets the
+ * first free block that is large enough. So the address of a block does not depend on the free room at the end, and the
+ * farthest end that was reached is the size that an area needs. */
 #include <stdint.h>
 
 #include "romtool_heap.h"
 
 #define UNIT 16u
-/* Sizes by units, for the places where a search begins; the last one is for all that are larger. */
+/* The number of sizes, in units, for which the start of a search is kept. The last one is for all larger sizes. */
 #define KINDS 33u
 
-/* A block begins UNIT bytes behind its header. */
+/* A block begins UNIT bytes after its header. */
 union header {
     struct {
         size_t size;   /* the bytes of the block, a multiple of UNIT, and 1 more if it is used */
@@ -25,7 +25,7 @@ union header {
 
 static uint8_t *first, *end; /* the area, at multiples of UNIT */
 static size_t most, blocks;
-/* No free block of so many units or more begins before this. These places do not fall. */
+/* For each size: no free block of this size or more begins before this. These addresses do not fall. */
 static uint8_t *lowest[KINDS];
 
 static union header *header_at(uint8_t *at) {
@@ -55,7 +55,7 @@ static void set(union header *it, size_t size, size_t used) {
     }
 }
 
-/* Lets no search begin within a block, nor behind a free one that it may find. */
+/* Makes sure that no search begins within a block, or after a free block that it may find. */
 static void settle(union header *it) {
     uint8_t *at = (uint8_t *)it;
     for (size_t kind = 0; kind < KINDS; kind++) {
@@ -66,7 +66,7 @@ static void settle(union header *it) {
     }
 }
 
-/* Makes a block that is used larger by the free one behind it. */
+/* Joins a used block with the free block after it. */
 static void join(union header *it) {
     if (end_of(it) < end && !is_used(header_at(end_of(it)))) {
         set(it, size_of(it) + UNIT + size_of(header_at(end_of(it))), 1);
@@ -74,7 +74,7 @@ static void join(union header *it) {
     }
 }
 
-/* Makes a block free, and joins it with its neighbours that are. */
+/* Frees a block, and joins it with its free neighbours. */
 static void release(union header *it) {
     join(it);
     if ((uint8_t *)it > first) {
@@ -88,7 +88,7 @@ static void release(union header *it) {
     settle(it);
 }
 
-/* Cuts a block that is used to `size` bytes; what is left becomes free. */
+/* Cuts a used block to `size` bytes. The rest becomes free. */
 static void cut(union header *it, size_t size) {
     const size_t left = size_of(it) - size;
     if (left >= UNIT) {
@@ -117,13 +117,13 @@ static struct romtool_memory given(union header *it) {
     return memory;
 }
 
-/* The size in whole units, or more than the area has. */
+/* Returns the size in whole units, or more than the area has. */
 static size_t whole(romtool_size size) {
     const size_t all = (size_t)(end - first);
     return size > all ? all + UNIT : ((size_t)size + UNIT - 1) / UNIT * UNIT;
 }
 
-/* The first free block of at least `size` bytes, or NULL. */
+/* Returns the first free block of at least `size` bytes, or NULL. */
 static union header *found(size_t size) {
     const size_t kind = kind_of(size);
     int is_first = 1; /* no free block of this kind was passed */

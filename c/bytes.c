@@ -1,7 +1,7 @@
 /* SPDX-License-Identifier: MIT
  *
- * The functions of bytes that compilers call, for programs without a C library: firmware, and WebAssembly. Compile it by
- * -O2 -ffreestanding -fno-builtin, so that no function becomes a call of itself. */
+ * The functions on bytes that compilers call, for programs without a C library: firmware, and WebAssembly. Compile it
+ * with -O2 -ffreestanding -fno-builtin, so that no function becomes a call of itself. */
 #include <stddef.h>
 #include <stdint.h>
 
@@ -39,7 +39,7 @@ void *memset(void *to, int byte, size_t len) {
 }
 
 #ifdef __ARM_EABI__
-/* The same by the names that compilers for Arm call; the arguments of a set are in another order. */
+/* The same with the names that compilers for Arm call. The arguments of memset are in another order. */
 #define COPY(name, as) \
     void name(void *to, const void *from, size_t len); \
     void name(void *to, const void *from, size_t len) { as(to, from, len); }

@@ -1,12 +1,13 @@
 /* SPDX-License-Identifier: MIT
  *
- * The memory of romtool_check over malloc, realloc and free. include/romtool_heap.h says what each function owes. */
+ * The memory of romtool_check over malloc, realloc and free. include/romtool_heap.h says what each function
+ * has to do. */
 #include <stdint.h>
 #include <stdlib.h>
 
 #include "romtool_heap.h"
 
-/* What malloc gives is aligned to this at least: to 16 on machines of 64 bits, to 8 on most of 32. */
+/* The least alignment of malloc: 16 on 64-bit machines, 8 on most 32-bit ones. */
 #define ALIGNED (2 * sizeof(void *))
 
 static struct romtool_memory memory_at(void *at) {
@@ -17,7 +18,7 @@ static struct romtool_memory memory_at(void *at) {
     return memory;
 }
 
-/* Whether malloc can be asked for it. */
+/* Returns whether malloc can serve the request. */
 static int is_asked(romtool_size size, romtool_size align) {
     return size <= PTRDIFF_MAX && align <= ALIGNED;
 }

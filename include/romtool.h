@@ -2,33 +2,33 @@
  *
  * romtool.h: a proved reader of romfs and cramfs images that are used in place.
  *
- * The library is libromtool.a of a release, or crates/rom_c/out/librom_c.a; docs/C.md says how it is built and linked,
- * and what of it is proved. For machines of 32 bits and WebAssembly tools/rom32 makes it.
+ * The library is libromtool.a of a release, or crates/rom_c/out/librom_c.a. docs/C.md says how it is built and linked,
+ * and what is proved of it. tools/rom32 makes the library for 32-bit machines and for WebAssembly.
  *
- * An image is checked once, or its numbers are put down by a check on another machine. Then paths are looked up,
- * files are opened, and their bytes are lent where they lie in the image. What is known of an image stands in a struct
- * that the caller owns, beside the image's bytes: plain numbers, which may be copied. There is nothing to close.
+ * An image is checked once, or a check on another machine provides its numbers. Then paths are looked up, files are
+ * opened, and their bytes are lent: they are used in the image, without a copy. What is known of an image is in a
+ * struct of plain numbers that the caller owns, beside the image's bytes. It may be copied. There is nothing to close.
  *
- * What the caller owes, since no call can look for it:
- *   1. A struct romtool_image or romtool_file is all zeros, as ROMTOOL_INIT leaves it, or was written by this library
- *      alone; its fields may be read. (Numbers that romtool_check gave for the very same bytes may be put back.)
- *   2. A node's number that is given to romtool_stat_node or romtool_open_node was answered by a call on the same image.
- *   3. The bytes that an image was checked with stay where they are and as they are, for as long as a struct of them,
- *      or a pointer to them, is used.
- * And, as for any C function: a pointer points to as many bytes as are said to be there (NULL with 0 is fine), and what
- * a call writes overlaps nothing else that the call is given.
+ * The caller has to keep these rules, which no call can check:
+ *   1. A struct romtool_image or romtool_file is all zeros, as ROMTOOL_INIT leaves it, or only this library has written
+ *      it. Its fields may be read. (Numbers that romtool_check returned for exactly the same bytes may be put back.)
+ *   2. A call on the same image returned each node number that is passed to romtool_stat_node or romtool_open_node.
+ *   3. The bytes with which an image was checked stay unchanged and at their address as long as a struct of the image,
+ *      or a pointer to the bytes, is used.
+ * As for any C function, a pointer has to point to as many bytes as its length says (NULL with 0 is allowed), and what
+ * a call writes must not overlap any other argument.
  *
- * Memory: romtool_check takes some by the functions of romtool_heap.h, and gives all of it back before it returns. No
- * other call takes any.
+ * Memory: romtool_check allocates by the functions of romtool_heap.h, and frees everything before it returns. No other
+ * call allocates memory.
  * Stack: 16 KiB is enough for each call. Files, streams, locks and globals: none.
- * Threads: calls share nothing but the image's bytes, which they only read. Two calls at one time are safe unless one
- * of them writes a struct that the other uses.
+ * Threads: calls share only the image's bytes, which they only read. Two calls may run at the same time, unless one of
+ * them writes a struct that the other uses.
  *
- * A path begins with a slash and needs no zero at its end. Symbolic links in it are followed, at most 40 of them. The
- * functions whose names end in _str take a path that ends with a zero.
+ * A path begins with a slash and needs no zero at its end. At most 40 symbolic links in it are followed. The functions
+ * whose names end in _str accept a path that ends with a zero.
  *
- * NO text of an image ends with a zero: neither the name of an entry nor the text of a link. What is behind its last
- * byte is the rest of the image. Use the length.
+ * NO text of an image ends with a zero: neither the name of an entry nor the text of a link. After its last byte comes
+ * the rest of the image. Use the length.
  */
 #ifndef ROMTOOL_H
 #define ROMTOOL_H
@@ -39,19 +39,19 @@
 #include <stddef.h>
 #include <stdint.h>
 
-/* The version of the library and of this header: as a number that grows, and as text. */
+/* The version of the library and of this header: as a number that grows with each version, and as text. */
 #define ROMTOOL_VERSION 10000 /* 10000 * major + 100 * minor + patch */
 #define ROMTOOL_VERSION_TEXT "1.0.0"
 
-/* Whether pointers have 32 bits. Six functions then give their answers through a pointer, behind wrappers. */
+/* Whether pointers have 32 bits. Six functions then return their results through a pointer, behind wrappers. */
 #if UINTPTR_MAX <= 0xffffffffu
 #define ROMTOOL_32 1
 #else
 #define ROMTOOL_32 0
 #endif
 
-/* A size or a number of bytes. The library counts in 64 bits on every machine. In a struct on a machine of 32 bits a
- * pointer has the first half of 8 bytes, since the size behind it is aligned to 8; the other half is never used. */
+/* A size or a number of bytes. The library counts in 64 bits on every machine. In a struct on a 32-bit machine, a
+ * pointer has the first half of 8 bytes, since the size after it is aligned to 8. The other half is never used. */
 typedef uint64_t romtool_size;
 
 /* The value of a struct that is closed: `struct romtool_image image = ROMTOOL_INIT;` */
@@ -64,15 +64,15 @@ extern "C" {
 #define ROMTOOL_TEXT(text) ((const uint8_t *)(text))
 #endif
 
-/* Errors. In the struct of an answer that has one, all else is 0. romtool_strerror has them in words. */
+/* Errors. If the struct of a result has an error, all its other fields are 0. romtool_strerror returns words. */
 #define ROMTOOL_OK 0u
-#define ROMTOOL_ENOENT 1u        /* a name is not there, or the path is empty */
-#define ROMTOOL_ENOTDIR 2u       /* a name stands behind what is no directory; what is open is none */
+#define ROMTOOL_ENOENT 1u        /* a name does not exist, or the path is empty */
+#define ROMTOOL_ENOTDIR 2u       /* a name follows a node that is not a directory, or the open node is not one */
 #define ROMTOOL_ELOOP 3u         /* more than 40 symbolic links */
 #define ROMTOOL_ENAMETOOLONG 4u  /* a path of more than 4095 bytes, or a name of more than 255 */
-#define ROMTOOL_EINVAL 5u        /* a path without a slash in front; no symbolic link; an empty or too long range */
-#define ROMTOOL_EBADF 6u         /* nothing is open at the file */
-#define ROMTOOL_EISDIR 7u        /* what is open is a directory */
+#define ROMTOOL_EINVAL 5u        /* no slash in front of a path; no symbolic link; an empty or too long range */
+#define ROMTOOL_EBADF 6u         /* the file is not open */
+#define ROMTOOL_EISDIR 7u        /* the open node is a directory */
 #define ROMTOOL_ENXIO 8u         /* neither a directory nor a regular file */
 #define ROMTOOL_ERANGE 10u       /* the bytes do not follow one another in the image */
 #define ROMTOOL_CLOSED 13u       /* no image is open */
@@ -93,9 +93,9 @@ extern "C" {
 #define ROMTOOL_SOCKET 6u
 #define ROMTOOL_FIFO 7u
 
-/* An image. It is open where `status` is 1. After a check that found a fault, `fault` is its number and `at` its offset
- * (docs/FAULTS.md). `at` MAY LIE OUTSIDE of the image: in romfs the record of fault 11 (Bounds) may be beyond the last
- * byte, and of no bytes fault 2 (Short) is at 0. Compare `at` with `len` before you read there. */
+/* An image. It is open if `status` is 1. After a check that found a fault, `fault` is its number and `at` its offset
+ * (docs/FAULTS.md). `at` MAY BE OUTSIDE the image: in romfs the record of fault 11 (Bounds) may be after the last byte,
+ * and the fault 2 (Short) of no bytes is at 0. Compare `at` with `len` before you read there. */
 struct romtool_image {
     const uint8_t *data;
     romtool_size len;
@@ -103,13 +103,13 @@ struct romtool_image {
     uint32_t format;
     uint32_t fault;
     uint32_t at;
-    uint32_t accessible; /* how many of the bytes belong to the image */
-    uint32_t root;       /* where the root's record is */
-    uint32_t references; /* how many references to records the image has, that of the superblock among them */
+    uint32_t accessible; /* the number of bytes that belong to the image */
+    uint32_t root;       /* the offset of the root's record */
+    uint32_t references; /* the number of references to records, including that of the superblock */
     uint32_t depth;      /* the greatest number of names on a path */
 };
 
-/* The number of a node: where its record is in the image. */
+/* The number of a node: the offset of its record in the image. */
 struct romtool_node {
     uint32_t error;
     uint32_t node;
@@ -122,25 +122,25 @@ struct romtool_stat {
     uint32_t mode;       /* the permissions, 0 to 07777 */
     uint32_t uid;
     uint32_t gid;
-    uint32_t size;       /* the bytes of a file or of a link's text; else 0 */
-    uint32_t major;      /* of a device; else 0 */
+    uint32_t size;       /* the bytes of a file or of a link's text; otherwise 0 */
+    uint32_t major;      /* of a device; otherwise 0 */
     uint32_t minor;
 };
 
-/* Bytes of the image: `len` of them, from `data + at` on. They lie in the image, and no zero ends them. */
+/* Bytes of the image: `len` of them, from `data + at` on. No zero ends them. */
 struct romtool_place {
     uint32_t error;
     uint32_t at;
     uint64_t len;
 };
 
-/* An open directory or regular file: it is open where `image.status` is 1 and `error` is 0. A copy is a second file
- * with a position of its own. */
+/* An open directory or regular file: it is open if `image.status` is 1 and `error` is 0. A copy is a second file with
+ * its own position. */
 struct romtool_file {
     struct romtool_image image;
     uint32_t error;
     uint32_t node;
-    uint64_t position;   /* of a file the number of a byte; of a directory, a number that only the library reads */
+    uint64_t position;   /* of a file, the number of a byte; of a directory, a number for the library only */
 };
 
 /* An entry of a directory: its name, which lies in the image and is NOT ended by a zero, and the number of its node.
@@ -152,13 +152,13 @@ struct romtool_entry {
     uint32_t some;
 };
 
-/* Checks `len` bytes as a romfs or cramfs image, and opens it. Gives 0; or ROMTOOL_FAULT or ROMTOOL_MEMORY, and then
- * `image` is closed. The time is as n log n and the memory some 100 bytes for each of the n references; an image has at
+/* Checks `len` bytes as a romfs or cramfs image, and opens it. Returns 0; or ROMTOOL_FAULT or ROMTOOL_MEMORY, and then
+ * `image` is closed. For n references, the time is n log n, and the memory about 100 bytes for each. An image has at
  * most 1,048,576 references and 64 names on a path. */
 uint32_t romtool_check(struct romtool_image *image, const uint8_t *data, romtool_size len);
 
-/* What a path leads to. `follow` says whether a symbolic link in the last place is followed. Errors: ROMTOOL_CLOSED,
- * ROMTOOL_ENOENT, _ENOTDIR, _ELOOP, _ENAMETOOLONG, _EINVAL. */
+/* Returns the node to which a path leads, or its kind and numbers. `follow` says whether a symbolic link as the last
+ * component is followed. Errors: ROMTOOL_CLOSED, ROMTOOL_ENOENT, _ENOTDIR, _ELOOP, _ENAMETOOLONG, _EINVAL. */
 #if ROMTOOL_32
 void rom32_lookup(struct romtool_node *answer, const struct romtool_image *image, const uint8_t *path,
     romtool_size len, bool follow);
@@ -185,9 +185,9 @@ static inline struct romtool_stat romtool_stat(const struct romtool_image *image
 struct romtool_stat romtool_stat(const struct romtool_image *image, const uint8_t *path, romtool_size len, bool follow);
 #endif
 
-/* The kind and numbers of the node with this number. The number has to be one that a call on this image answered, as
- * that of an entry: no call can look for it. It takes no time to look it up, so a directory's entries and their
- * kinds are listed in linear time. Error: ROMTOOL_CLOSED. */
+/* Returns the kind and numbers of the node with this number, which a call on this image has to have returned (rule 2).
+ * Such a number is that of an entry, for example. There is no look-up, so a directory's entries and their kinds are
+ * listed in linear time. Error: ROMTOOL_CLOSED. */
 #if ROMTOOL_32
 void rom32_stat_node(struct romtool_stat *answer, const struct romtool_image *image, uint32_t node);
 static inline struct romtool_stat romtool_stat_node(const struct romtool_image *image, uint32_t node) {
@@ -199,8 +199,8 @@ static inline struct romtool_stat romtool_stat_node(const struct romtool_image *
 struct romtool_stat romtool_stat_node(const struct romtool_image *image, uint32_t node);
 #endif
 
-/* Where the text of the symbolic link lies that a path leads to. Errors: those of romtool_lookup, and ROMTOOL_EINVAL
- * where it is no link. */
+/* Returns where the text of the symbolic link is to which a path leads. Errors: those of romtool_lookup, and
+ * ROMTOOL_EINVAL if it is not a link. */
 #if ROMTOOL_32
 void rom32_readlink(struct romtool_place *answer, const struct romtool_image *image, const uint8_t *path,
     romtool_size len);
@@ -214,16 +214,16 @@ static inline struct romtool_place romtool_readlink(const struct romtool_image *
 struct romtool_place romtool_readlink(const struct romtool_image *image, const uint8_t *path, romtool_size len);
 #endif
 
-/* Opens the directory or regular file that a path leads to, at its start; a link in the last place is followed. Gives 0
- * or the error, which also stands in `file`: those of romtool_lookup, and ROMTOOL_ENXIO. */
+/* Opens the directory or regular file to which a path leads, at its start. A symbolic link as the last component is
+ * followed. Returns 0 or the error, which is also in `file`: those of romtool_lookup, and ROMTOOL_ENXIO. */
 uint32_t romtool_open(struct romtool_file *file, const struct romtool_image *image, const uint8_t *path,
     romtool_size len);
 
-/* Opens the directory or regular file with this node number, which has to be one that a call on this image answered, at
- * its start. Gives 0 or the error, which also stands in `file`: ROMTOOL_CLOSED, and ROMTOOL_ENXIO. */
+/* Opens the directory or regular file with this node number, which a call on this image has to have returned (rule 2),
+ * at its start. Returns 0 or the error, which is also in `file`: ROMTOOL_CLOSED, and ROMTOOL_ENXIO. */
 uint32_t romtool_open_node(struct romtool_file *file, const struct romtool_image *image, uint32_t node);
 
-/* The kind and numbers of what is open. Error: ROMTOOL_EBADF. */
+/* Returns the kind and numbers of an open file or directory. Error: ROMTOOL_EBADF. */
 #if ROMTOOL_32
 void rom32_fstat(struct romtool_stat *answer, const struct romtool_file *file);
 static inline struct romtool_stat romtool_fstat(const struct romtool_file *file) {
@@ -235,8 +235,8 @@ static inline struct romtool_stat romtool_fstat(const struct romtool_file *file)
 struct romtool_stat romtool_fstat(const struct romtool_file *file);
 #endif
 
-/* Where exactly `len` bytes of an open file lie, from its byte `off` on, whatever its position is. Errors, in this
- * order: ROMTOOL_EBADF, _EISDIR, _EINVAL (`len` is 0, or the range does not end within the file), _ERANGE. */
+/* Returns where exactly the `len` bytes of an open file from its byte `off` on are, whatever its position is. Errors,
+ * in this order: ROMTOOL_EBADF, _EISDIR, _EINVAL (`len` is 0, or the range does not end within the file), _ERANGE. */
 #if ROMTOOL_32
 void rom32_map(struct romtool_place *answer, const struct romtool_file *file, uint64_t off, uint64_t len);
 static inline struct romtool_place romtool_map(const struct romtool_file *file, uint64_t off, uint64_t len) {
@@ -248,8 +248,8 @@ static inline struct romtool_place romtool_map(const struct romtool_file *file, 
 struct romtool_place romtool_map(const struct romtool_file *file, uint64_t off, uint64_t len);
 #endif
 
-/* Where the next bytes of an open file lie: as many of at most `max` as follow one another in the image. Of a romfs
- * file that is the rest. The position moves by `len`, which is 0 at the end. Errors: ROMTOOL_EBADF, _EISDIR. */
+/* Returns where the next bytes of an open file are: as many of at most `max` as follow one another in the image. All
+ * bytes of a romfs file do. The position moves by `len`, which is 0 at the end. Errors: ROMTOOL_EBADF, _EISDIR. */
 #if ROMTOOL_32
 void rom32_lend(struct romtool_place *answer, struct romtool_file *file, uint64_t max);
 static inline struct romtool_place romtool_lend(struct romtool_file *file, uint64_t max) {
@@ -261,23 +261,23 @@ static inline struct romtool_place romtool_lend(struct romtool_file *file, uint6
 struct romtool_place romtool_lend(struct romtool_file *file, uint64_t max);
 #endif
 
-/* Copies the next bytes of an open file to `buffer`, as many as fit in `len`, and puts their number into `count`; it is
- * 0 at the end and at an error. Gives 0 or the error: ROMTOOL_EBADF, _EISDIR. */
+/* Copies the next bytes of an open file to `buffer`, at most `len`, and sets `count` to their number, which is 0 at the
+ * end and after an error. Returns 0 or the error: ROMTOOL_EBADF, _EISDIR. */
 uint32_t romtool_read(struct romtool_file *file, uint8_t *buffer, romtool_size len, romtool_size *count);
 
-/* Sets the position of an open file, also behind its end. Gives 0 or the error: ROMTOOL_EBADF, _EISDIR. */
+/* Sets the position of an open file, also past its end. Returns 0 or the error: ROMTOOL_EBADF, _EISDIR. */
 uint32_t romtool_seek(struct romtool_file *file, uint64_t position);
 
 /* The next entry of an open directory, without `.` and `..`. Gives 0 or the error: ROMTOOL_EBADF, _ENOTDIR. To begin
  * again, open it again. */
 uint32_t romtool_readdir(struct romtool_file *file, struct romtool_entry *entry);
 
-/* The version of this header as text. */
+/* Returns the version of this header as text. */
 static inline const char *romtool_version(void) {
     return ROMTOOL_VERSION_TEXT;
 }
 
-/* What an error of this library says, in words. */
+/* Returns an error of this library in words. */
 static inline const char *romtool_strerror(uint32_t error) {
     switch (error) {
     case ROMTOOL_OK: return "no error";
@@ -297,7 +297,7 @@ static inline const char *romtool_strerror(uint32_t error) {
     }
 }
 
-/* The name of a fault by its number, as `romtool check` prints it, and "Unknown" for a number that no fault has. */
+/* Returns the name of the fault of this number, as `romtool check` prints it, or "Unknown" if no fault has it. */
 static inline const char *romtool_fault_name(uint32_t fault) {
     switch (fault) {
     case 1u: return "TooMany";
@@ -327,7 +327,7 @@ static inline const char *romtool_fault_name(uint32_t fault) {
     }
 }
 
-/* The length of a path that ends with a zero, up to 4096, which is more than any path has. NULL is the empty path. */
+/* Returns the length of a path that ends with a zero, up to 4096, one more than a path may have. NULL is empty. */
 static inline romtool_size romtool_path_len(const char *path) {
     romtool_size len = 0;
     while (path && len < 4096 && path[len]) {
@@ -354,7 +354,7 @@ static inline uint32_t romtool_open_str(struct romtool_file *file, const struct 
     return romtool_open(file, image, ROMTOOL_TEXT(path), romtool_path_len(path));
 }
 
-/* The layout of the library: a compiler that lays the structs out otherwise stops here. */
+/* The layout of the library. A compiler that lays out the structs in another way stops here. */
 typedef char romtool_layout_is_right[offsetof(struct romtool_image, len) == 8 && sizeof(struct romtool_image) == 48
         && sizeof(struct romtool_node) == 8 && sizeof(struct romtool_stat) == 36 && sizeof(struct romtool_place) == 16
         && offsetof(struct romtool_file, position) == 56 && sizeof(struct romtool_file) == 64

@@ -1,22 +1,22 @@
 /* SPDX-License-Identifier: MIT
  *
- * romtool_heap.h: the memory of romtool_check, for programs that bring a heap of their own.
+ * romtool_heap.h: the memory of romtool_check, for programs with their own heap.
  *
- * The library takes memory by three functions, and has none of them itself. Link one of these with it:
+ * The library allocates memory by three functions, which it does not contain. Link one of these with it:
  *   - c/heap.c, over malloc, realloc and free;
- *   - c/area.c, over an array that the caller gives: firmware without malloc;
+ *   - c/area.c, over an array of the caller's, for firmware without malloc;
  *   - the kit's liblibc_c.a, which is c/heap.c for x86-64 Linux;
- *   - your own three functions. They owe what is said below.
+ *   - your own three functions, which have to do what is said below.
  *
- * A heap that breaks its word is not noticed: the check may then refuse a good image, or accept a bad one, and no
- * contract of the library says anything. tests/c/recording.c is a heap that records each block: run your images over
- * it first if you change anything here.
+ * A heap that does not do this is not noticed: the check may then refuse a valid image, or accept an invalid one, and
+ * no contract of the library holds. tests/c/recording.c is a heap that checks each call: if you write a heap, run your
+ * images with it first.
  *
- * A block belongs to the library from the call that gives it until rattle_dealloc takes it back. Meanwhile
+ * A block belongs to the library from the call that returns it until rattle_dealloc frees it. Meanwhile
  *   - no other block has any of its bytes, and nobody else writes to them;
  *   - it stays where it is. Only rattle_realloc may move it.
- * A block need not be zeroed. The library calls from inside of romtool_check only, on that call's thread; it gives back
- * each block before the check returns, if memory was refused too. Each of the three functions has to return.
+ * A block need not be zeroed. The library calls these functions only within romtool_check, on that call's thread. It
+ * frees each block before the check returns, also if memory was refused. Each of the three functions has to return.
  */
 #ifndef ROMTOOL_HEAP_H
 #define ROMTOOL_HEAP_H
@@ -27,36 +27,36 @@
 extern "C" {
 #endif
 
-/* An answer. `given` is 1 if there is memory, and `at` is its first byte. If memory is refused, `given` is 0, and `at`
+/* A result. `given` is 1 if there is memory, and `at` is its first byte. If memory is refused, `given` is 0, and `at`
  * is any address except NULL. */
 struct romtool_memory {
     romtool_size given;
     void *at;
 };
 
-/* A new block of `size` bytes at a multiple of `align`. `align` is 1, 2, 4, 8 or 16. `size` is below 2^63 and may be 0;
- * the block is then one like any other, to be given back. */
+/* Returns a new block of `size` bytes at a multiple of `align`. `align` is 1, 2, 4, 8 or 16. `size` is below 2^63 and
+ * may be 0; this block is also freed later. */
 struct romtool_memory rattle_alloc(romtool_size size, romtool_size align);
 
-/* Makes the block at `at` one of `size` bytes, greater or smaller than it was. It may move, to a multiple of `align`,
- * which is that of its rattle_alloc; the old place is then given back. Its first `kept` bytes stay as they are: `kept`
- * is at most `size` and at most the old size, and is NOT the old size, which only the heap knows. If memory is refused
- * the block is as it was, with all of its bytes, and still belongs to the library. */
+/* Changes the size of the block at `at` to `size` bytes, more or fewer than before. The block may move, to a multiple
+ * of `align`, which is that of its rattle_alloc; the old block is then free. Its first `kept` bytes stay: `kept` is at
+ * most `size` and at most the old size, and is NOT the old size, which only the heap knows. If memory is refused, the
+ * block is unchanged, with all of its bytes, and still belongs to the library. */
 struct romtool_memory rattle_realloc(void *at, romtool_size kept, romtool_size size, romtool_size align);
 
-/* Takes back the block at `at`, which is never NULL. This is the only argument: neither size nor alignment is given. */
+/* Frees the block at `at`, which is never NULL. This is the only argument; the heap has to know the size. */
 void rattle_dealloc(void *at);
 
-/* Of c/area.c only: a heap over the `len` bytes at `bytes`. The first call of all comes before the first check. A later
- * call begins anew, also over other bytes, and is allowed while no check runs. One area serves one check at a time: two
- * threads that check at one time need a lock around both checks. */
+/* Only in c/area.c: makes a heap of the `len` bytes at `bytes`. Call it before the first check. A later call begins
+ * again, also with other bytes, and is allowed while no check runs. One area serves one check at a time: two threads
+ * that check at the same time need a lock around both checks. */
 void romtool_area(void *bytes, romtool_size len);
 
-/* How many bytes an area needs for all that was asked since romtool_area was called, if none of it was refused. For the
- * checks of the same images an area of so many bytes at a multiple of 16 is enough. In a smaller one a call is refused. */
+/* Returns how many bytes an area needs for all requests since romtool_area was called, if none was refused. For checks
+ * of the same images, an area of this size at a multiple of 16 is enough. In a smaller one, a request is refused. */
 romtool_size romtool_area_most(void);
 
-/* How many blocks are not given back: 0 while no check runs. */
+/* Returns the number of blocks that are not freed, which is 0 while no check runs. */
 romtool_size romtool_area_blocks(void);
 
 #ifdef __cplusplus

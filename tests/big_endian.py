@@ -5,8 +5,8 @@
 
 Each little-endian image of a case (see run.py) is turned into a big-endian one: all words of the
 superblock, of the inodes and of the block pointers with the same fields, packed and stored in the
-other order. What is printed has to be the same, but that FORMAT is `cramfs-be`. If the image has the
-CRC-32 of its bytes, the turned one has too. Cases without such an image are passed over, and so are the
+other order. The output has to be the same, except that FORMAT is `cramfs-be`. If the image has the
+CRC-32 of its bytes, the turned one has too. Cases without such an image are skipped, and so are the
 runs on an image in which one word is read in two ways, as a pointer and as part of a name: that has no
 like in the other order.
 The last line is `N passed, M failed`, with `, K skipped` if cases were skipped.

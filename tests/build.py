@@ -1,12 +1,12 @@
 #!/usr/bin/env python3
-"""Builds images from directories and manifests, and looks at them as who uses them does.
+"""Builds images from directories and manifests, and reads them as a user does.
 
     build.py [--binary PATH] [--name TEXT]
 
-A directory is scanned, built in each format, checked, listed, and served to a client that reads each file
-byte by byte. Then building is made to fail: sources that are not as long as the system says, that
-change while they are read, a file system that accepts no more. The last line is `N passed, M failed`, with
-`, K skipped` if something is missing.
+A directory is scanned, built in each format, checked, listed, and served to a client that reads each file byte by byte.
+Then building is made to fail: by sources that are not as long as the system says or that change while they are read,
+and by a file system that accepts no more. The last line is `N passed, M failed`, with `, K skipped` if something is
+missing.
 """
 
 import contextlib
@@ -230,7 +230,7 @@ def out_is_a_pipe(binary):
 
 
 def permissions_are_kept(binary):
-    """An image that takes the place of a file has its permissions."""
+    """An image that replaces a file has its permissions."""
     put("manifest", b"")
     for mode in (0o600, 0o755):
         put("out", b"")

@@ -1,11 +1,12 @@
 #!/usr/bin/env python3
-"""Builds with the options that keep a packing from surprises, and looks at what each refusal leaves.
+"""Builds with the options that prevent surprises, and checks what each refusal leaves.
 
     building.py [--binary PATH] [--name TEXT]
 
-The sizes of images, `--strict`, sources in a directory, rules for make (which make itself reads), manifests on standard
-input, all errors of a manifest, and what a build foresees that Linux misreads: in random manifests it is what `romtool
-linux` says of the image. The last line is `N passed, M failed`, with `, K skipped` where tests were skipped.
+Tested are: the sizes of images, `--strict`, sources in a directory, rules for make (which make itself reads), manifests
+on standard input, all faults of a manifest, and what a build foresees that Linux misreads. In random manifests, this
+has to be what `romtool linux` says of the image. The last line is `N passed, M failed`, with `, K skipped` if tests
+were skipped.
 """
 
 import os
@@ -27,7 +28,7 @@ NAMES = {
 
 
 def state():
-    """The files of the current folder, with their bytes."""
+    """The files of the current directory, with their bytes."""
     return {name: bytes_in(name) for name in sorted(os.listdir(".")) if os.path.isfile(name)}
 
 
@@ -67,7 +68,7 @@ def sizes(binary):
 
 
 def room(binary):
-    """`info --size` prints what is free, whether the image fits and what is left, behind the lines of `info`."""
+    """`info --size` prints what is free, whether the image fits and what is left, after the lines of `info`."""
     put("m", b"file /a 0644 0 0 4 a\nfile /b 0644 0 0 4096 a\n")
     put("a", b"x" * 100)
     for format in ("romfs", "cramfs", "cramfs-be"):
@@ -185,7 +186,7 @@ def foreseen(binary):
 
 
 def sources_in_a_folder(binary):
-    """With -C, sources are relative to a folder; MANIFEST and OUT are not."""
+    """With -C, sources are relative to a directory; MANIFEST and OUT are not."""
     os.makedirs("in/sub")
     put("in/a", b"in the folder")
     put("a", b"not this one")
@@ -265,7 +266,7 @@ def considered(goal):
 
 @needs_make
 def rules(binary):
-    """make reads each name of a rule, and the image is up to date behind the build."""
+    """make reads each name of a rule, and the image is up to date after the build."""
     for name in ODD:
         put(name, b"x")
     put("m", "".join("file /%d 0644 0 0 4 %s\n" % (at, escaped(it)) for at, it in enumerate(ODD)).encode())
@@ -304,7 +305,7 @@ def unsayable_rules(binary):
 
 
 def rules_that_fail(binary):
-    """A rule that cannot be written leaves OUT; one that takes the place of OUT, MANIFEST or a source is refused."""
+    """A rule that cannot be written leaves OUT; one that replaces OUT, MANIFEST or a source is refused."""
     put("m", b"file /a 0644 0 0 4 a\n")
     put("a", b"x")
     os.symlink("out", "link")
@@ -356,8 +357,8 @@ def all_missing_sources(binary):
     put("m", "".join("file /%d 0644 0 0 4 %s\n" % (at, it) for at, it in enumerate(names)).encode())
     told = run(binary, "--explain", "build", "romfs", "m", "out")
     want = [
-        "gone: No such file or directory (m:2)", "dir: it is no regular file (m:4)",
-        "%FF: a name that is no UTF-8 cannot be opened (m:5)", "gone2: No such file or directory (m:7)",
+        "gone: No such file or directory (m:2)", "dir: it is not a regular file (m:4)",
+        "%FF: a name that is not UTF-8 cannot be opened (m:5)", "gone2: No such file or directory (m:7)",
     ]  # fmt: skip
     if told.stdout != b"" or not told.stderr.startswith(b"file gone\n") or words(told) != want:
         yield "%r" % (answer(told),)
@@ -374,7 +375,7 @@ def all_missing_sources(binary):
 
 
 def shared_pages(binary):
-    """`linux --advice` lists each file at a page whose last page is not its own, and what is said separates them."""
+    """`linux --advice` lists each file at a page whose last page is not its own, and what it reports separates them."""
     sizes_of = {"a": 10, "b": 4095, "c": 5000, "d": 4092, "e": 100, "f": 4096, "g": 3000}
     for name, size in sizes_of.items():
         put(name, b"x" * size)
@@ -437,7 +438,7 @@ def without_a_reader(binary):
             yield "%r: %r" % (asked, lines)
     with open("/dev/full", "wb") as full:
         told = subprocess.run([binary, "--explain", "list", "image"], stdout=full, stderr=subprocess.PIPE, timeout=SECONDS)
-    if words(told) != ["stdout: standard output did not take everything"]:
+    if words(told) != ["stdout: not everything could be written to standard output"]:
         yield "a full device: %r" % words(told)
 
 

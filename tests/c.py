@@ -10,7 +10,7 @@ compiler has them.
                nothing, and on one directory that is built in each format
     closed.c   each call on handles that are zeroed or refused, and with NULL for no bytes
     first.c    where the entry of a program is that is run in place, as docs/C.md shows it
-    nodes.c    a directory of 50,000 files, listed and opened by its entries' nodes: a walk that looked names up would take
+    nodes.c    a directory of 50,000 files, listed and opened by its entries' nodes: a walk with look-ups of names would take
                longer than the check
     numbers.c, reader.c
                a reader without check, heap and C library, of numbers that a check gave before
@@ -22,7 +22,7 @@ The header is compiled as C99, C11 and C++11 to C++20 by each compiler that is i
 surroundings is six functions. If aarch64-linux-gnu-gcc and qemu-aarch64 are installed, the library is built for
 aarch64, too, and answers.c, closed.c and reader.c are run over it; with qemu-x86_64 answers.c is also run as on an old
 processor, over a library that is built for these. The last line is `N passed, M failed`, with `, K skipped` if
-nothing was run for want of `cc` or `rt`.
+`cc` or `rt` is missing, so that nothing was run.
 """
 
 import os
@@ -167,7 +167,7 @@ def header(binary, top, program, counts):
 
 
 def needs(archive, counts):
-    """What the library takes from its surroundings."""
+    """The functions that the library needs from outside."""
     if not shutil.which("nm"):
         counts.skips("what the library needs: there is no nm")
         return
@@ -333,7 +333,7 @@ def images(top):
 
 
 def heaps(binary, top, refused, areas, counts):
-    """Checks over a heap that refuses, and over areas that are just large enough."""
+    """Checks over a heap that refuses, and over areas that are exactly large enough."""
     os.mkdir(top + "/images")
     names = images(top + "/images")
     names += ["../" + form for form in FORMATS]

@@ -1,13 +1,12 @@
 #!/usr/bin/env python3
-"""Runs romtool on small images that are cut or changed everywhere, and looks at how it ends.
+"""Runs romtool on small images that are cut or changed everywhere, and checks how it ends.
 
     changes.py [--binary PATH]
 
-The images are those of cases (see run.py). Each is cut to every length from 0 on, and what `check`
-prints of that is compared with the image's row of CUTS. Each byte of those of CHANGED is set to 0, set
-to 255, and has each of its bits inverted. In a romfs image each such change breaks a sum, so the
-image is run once more with the superblock's sum corrected, and once with the sums of the records too. Of
-each image that comes of this
+The images are those of cases (see run.py). Each is cut to every length from 0 on, and the line of
+`check` is compared with the image's row of CUTS. In those of CHANGED, each byte is set to 0, set to 255, and
+each of its bits is inverted. In a romfs image each such change breaks a checksum. So the image is run once
+more with the superblock's checksum corrected, and once with those of the records as well. For each image
     check    prints one line, an `ok` with status 0 or a fault of its format with status 1
     list     prints the same fault line, or with status 0 at most as many lines (in cramfs as many) as
              `check` says that there are references, and as many names on a path

@@ -3,11 +3,10 @@
 
     client.py [--binary PATH] [--name TEXT]
 
-Each small image of the cases (see run.py) that the program lists is served to a client that sends one line
-and waits for its reply. It walks the tree from `/`: `lstat`, `open` and `readdir` return the lines of
-`list`, in their order; `readlink`, `lend` and `map` return the bytes that the image has at the places that
-they name, `read` and `seek` the same bytes once more.
-The last line is `N passed, M failed`.
+Each small image of the cases (see run.py) that the program lists is served to a client that sends one line and waits
+for its reply. It walks the tree from `/`. `lstat`, `open` and `readdir` have to return the lines of `list`, in their
+order. `readlink`, `lend` and `map` have to return the bytes that the image has at the reported offsets, and `read` and
+`seek` the same bytes. The last line is `N passed, M failed`.
 """
 
 import subprocess

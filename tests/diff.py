@@ -1,13 +1,13 @@
 #!/usr/bin/env python3
-"""Compares `romtool diff` with what two lists, two maps and the files' bytes say.
+"""Compares `romtool diff` with two lists, two maps and the files' bytes.
 
     diff.py [--binary PATH] [--count N] [--first SEED]
 
-Two images are built of a manifest that is made by chance (see manifests.py) and of the same one with lines that were
-removed, added or changed, in any two formats: the lines of `diff` are those that are worked out here of the two lists,
-the two maps and the bytes, with and without `--tree`, in both directions, and the status is 1 exactly if there are any.
-An image does not differ from itself. The small images of the cases (see run.py) are compared pair by pair, too. The
-last line is `N passed, M failed`.
+Two images are built, in any two formats: one of a random manifest (see manifests.py), and one of the same manifest with
+lines that were removed, added or changed. The lines of `diff` have to be those that are computed here from the two
+lists, the two maps and the bytes, with and without `--tree`, in both directions. The status has to be 1 exactly if
+there are any. An image does not differ from itself. The small images of the cases (see run.py) are compared pair by
+pair, too. The last line is `N passed, M failed`.
 """
 
 import os

@@ -3,12 +3,12 @@
 
     digest.py [--binary PATH] [--count N] [--first SEED]
 
-Of each small image of the cases (see run.py) that the program lists, and of images of manifests made by chance (see
-manifests.py): the lines of `digest` are those that are worked out here of the list and of the files' bytes at the
-addresses of `map`; `digest --image` is the digest of the bytes that the image has; `sha256sum -c` accepts the lines in a
-directory in which the files were laid, if Linux can have their names; and `verify` finds the image in dumps that have
-it from an offset on, and the first byte at which dumps differ that are changed, cut or longer. The last line is
-`N passed, M failed`.
+The images are the small ones of the cases (see run.py) that the program lists, and those of random manifests (see
+manifests.py). The lines of `digest` have to be those that are computed here, from the list and from the files' bytes at
+the addresses of `map`. `digest --image` has to be the digest of the image's bytes. `sha256sum -c` has to accept the
+lines in a directory with these files, if Linux can have their names. `verify` has to find the image in dumps that have
+it at an offset, and the first byte that differs in dumps that are changed, cut or longer. The last line is `N passed, M
+failed`.
 """
 
 import hashlib
@@ -139,7 +139,7 @@ def refused(binary, path):
 
 
 def of_manifest(binary, seed):
-    """All tests of the image of a manifest made by chance, with bytes behind it."""
+    """All tests of the image of a random manifest, with bytes after it."""
     made = Made(seed)
     with tempfile.TemporaryDirectory() as folder:
         for number, source in enumerate(made.sources):

@@ -141,7 +141,7 @@ def has_member(kind, name, crates):
 
 
 def is_open(crate, name):
-    """Returns whether a crate has a name for others: its root declares it, as a module too, or hands it on."""
+    """Returns whether a crate has a name for others: its root declares it, as a module too, or re-exports it."""
     roots = [text_of("crates/%s/src/%s.rt" % (crate, it)) for it in ("lib", "main") if crate_has(crate, it)]
     handed = re.findall(r"^pub (?:use [^;]+;|(?:const )?(?:mod|fn|struct|enum|trait|const|type) \w+)", "\n".join(roots), re.M)
     return any(re.search(r"\b%s\b" % name, re.sub(r"\w+::", "", it)) for it in handed)

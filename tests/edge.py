@@ -3,9 +3,9 @@
 
     edge.py [--binary PATH] [--name TEXT]
 
-OUT in odd places, the file beside it, sources that change, images with more behind them, signals, closed
-streams; and each call of the system failed in turn, by `strace`. A test that needs `strace`, or root, is
-skipped if it is missing. The last line is `N passed, M failed`, with `, K skipped`.
+Tested are: OUT in odd directories, the file beside it, sources that change, images with bytes after them, signals,
+closed streams, and each call of the system failed in turn, by `strace`. A test that needs `strace`, or root, is skipped
+if it is missing. The last line is `N passed, M failed`, with `, K skipped`.
 """
 
 import collections
@@ -123,7 +123,7 @@ def private_while_written(binary):
 
 @needs_root
 def owner_is_kept(binary):
-    """An image that takes the place of a file has its owner, its group and all of its mode."""
+    """An image that replaces a file has its owner, its group and all of its mode."""
     hello()
     for mode in (0o600, 0o4755, 0o2711):
         put("out", b"old")
@@ -152,7 +152,7 @@ def owner_that_cannot_be_set(binary):
 
 @needs_strace
 def handed_to_the_disk(binary):
-    """The part is handed to the disk before it is renamed, and its directory after."""
+    """The part is synchronized to the disk before it is renamed, and its directory after."""
     hello()
     made, done = traced.calls(binary, "build", "romfs", "m", "out")
     order = [call.name for call in made if call.name in ("fsync", "rename")]
@@ -162,7 +162,7 @@ def handed_to_the_disk(binary):
 
 @needs_strace
 def kinds_that_are_not_handed_on(binary):
-    """OUT that is no regular file is handed to the disk, and that its kind cannot be is passed over."""
+    """OUT that is not a regular file is synchronized to the disk. It is no error if its kind cannot be."""
     hello()
     made, done = traced.calls(binary, "build", "romfs", "m", "/dev/null")
     if answer(done) != (b"ok 1024\n", b"", 0) or [call.name for call in made].count("fsync") != 1:
@@ -176,7 +176,7 @@ def kinds_that_are_not_handed_on(binary):
 
 @needs_strace
 def folder_that_is_not_handed_on(binary):
-    """That a directory cannot be handed to the disk is passed over; that the disk did not accept it is reported."""
+    """It is no error if a directory cannot be synchronized. If the disk refuses it, that is reported."""
     hello()
     image = wanted(binary)
     for fault, out, line, status in (("EINVAL", b"ok 1024\n", b"", 0), ("EIO", b"", b"file out\n", 3)):
@@ -225,7 +225,7 @@ def part_of_another_file(binary):
 
 
 def parts_that_are_held(binary):
-    """A part that a process has locked is passed over; a hundred of them end a build, and stay."""
+    """A part that a process has locked is skipped; a hundred of them end a build, and stay."""
     hello()
     image = wanted(binary)
     with contextlib.ExitStack() as held:
@@ -298,7 +298,7 @@ HEAD = 4096  # more than what a romfs sum covers
 
 @contextlib.contextmanager
 def rewriting(names, length):
-    """Provides files that are rewritten again and again behind their heads, each time with one byte throughout."""
+    """Provides files that are rewritten repeatedly, except their heads, each time with one byte throughout."""
     ended = threading.Event()
 
     def rewrite():
@@ -414,7 +414,7 @@ def after_change(binary, format, call, when, what):
 
 @needs_strace
 def no_further_than_stated(binary):
-    """Of an image with more behind it no byte behind its stated size is read."""
+    """If bytes follow an image, no byte after its stated size is read."""
     hello()
     for format in FORMATS:
         image = wanted(binary, format)

@@ -3,10 +3,11 @@
 
     edge_kept.py [--binary PATH] [--name TEXT]
 
-The one descriptor of a part, whose closing fails; standard output whose closing fails, in each subcommand; a file system
-that reports only then what it lost (lossy.c, by FUSE) and a file server that is full (sshfs); OUT that is standard output;
-the group of OUT; sources that are links; and the reason of a source that cannot be read. A test that needs `strace`,
-FUSE, `sshfs` or root is skipped if it is missing. The last line is `N passed, M failed`, with `, K skipped`.
+Tested are: the one descriptor of a part, if its closing fails; standard output, if its closing fails, in each
+subcommand; a file system that reports only at the closing what it lost (lossy.c, by FUSE), and a file server that is
+full (sshfs); OUT that is standard output; the group of OUT; sources that are links; and the reason why a source cannot
+be read. A test that needs `strace`, FUSE, `sshfs` or root is skipped if it is missing. The last line is `N passed, M
+failed`, with `, K skipped`.
 """
 
 import contextlib
@@ -48,7 +49,7 @@ def on_part(made):
 
 @needs_strace
 def one_descriptor(binary):
-    """The part is written, handed to the disk, closed and renamed, in this order, through one descriptor."""
+    """The part is written, synchronized to the disk, closed and renamed, in this order, through one descriptor."""
     hello()
     for format in FORMATS:
         for old in (None, b"old"):
@@ -224,7 +225,7 @@ def wrong_on(binary, folder, image):
 
 
 def file_system_that_loses(binary, *more):
-    """An image, and what is printed, is never lost without a word on a file system that reports it at the closing."""
+    """An image, and what is printed, is never lost without a message on a file system that reports a loss at the closing."""
     if not has_fuse():
         yield None
         return
@@ -239,7 +240,7 @@ def file_system_that_loses(binary, *more):
 
 
 def file_system_that_loses_when_synced(binary):
-    """The same of one that reports it when a file is handed to the disk, too."""
+    """The same for one that also reports it when a file is synchronized to the disk."""
     yield from file_system_that_loses(binary, "synced")
 
 

@@ -3,10 +3,10 @@
 
     edge_scan.py [--binary PATH] [--name TEXT]
 
-Each call of the system failed in turn; directories that change while they are looked into, between any two calls; output
-that is not accepted; odd names of directories, of what is in them, and of what cannot be looked at; every kind of file.
-A manifest is right or is not printed: what is reported instead is compared, too. A test that needs `strace`, or root, is
-skipped if it is missing. The last line is `N passed, M failed`, with `, K skipped`.
+Tested are: each call of the system failed in turn; directories that change between any two calls of their scan; output
+that is not accepted; odd names of directories and of their entries; entries that cannot be read; and every kind of
+file. A manifest has to be right, or it is not printed; what is reported instead is compared, too. A test that needs
+`strace`, or root, is skipped if it is missing. The last line is `N passed, M failed`, with `, K skipped`.
 """
 
 import collections
@@ -250,12 +250,12 @@ def output_into_the_folder(binary):
 
 
 def held_at(binary, words, call):
-    """Returns a scan that is stopped behind one of its calls until a block has ended."""
+    """Returns a scan that is stopped after one of its calls until a block has ended."""
     return traced.Held(binary, words, call.name, call.number)
 
 
 def lay_folder():
-    """Makes the directory `in` anew, with a directory `d` that is to change, and lets its times lie back."""
+    """Makes the directory `in` again, with a directory `d` that is to change, and sets its times back."""
     for name in ("in", "aside"):
         remove(name)
     os.makedirs("in/d")
@@ -496,7 +496,7 @@ def longest_names(binary):
                 else:
                     os.mkdir(inner + "/" + last)
             whole = place + b"/" + last.encode()
-            # a directory is opened with a slash behind its name
+            # a directory is opened with a slash after its name
             is_taken = len(whole) <= LONGEST - (end == "folder")
             for words in SCANS:
                 out, said, status = answer(run(binary, *words, "in"))

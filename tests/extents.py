@@ -3,12 +3,12 @@
 
     extents.py [--binary PATH] [--count N] [--first SEED]
 
-Of each small image of the cases (see run.py) that the program accepts, of images that are built of random manifests (see
-manifests.py), and of cramfs images that share blocks one by one, a reader of both formats that is written here finds each
-record with its extents. `map --all` has just these, and what is between and after them; `which` has the lines that contain
-an address; a C program and a C++ program that include the header see each regular file's address, length and path; the
-picture is well-formed, and its bars have each byte of the file once. The last line is `N passed, M failed`, with
-`, K skipped` where a compiler is missing.
+The images are the small ones of the cases (see run.py) that the program accepts, those of random manifests (see
+manifests.py), and cramfs images that share single blocks. This script has its own reader of both formats, which finds
+each record with its extents. `map --all` has to have exactly these, and what is between and after them. `which` has to
+have the lines that contain an address. A C program and a C++ program that include the header have to see each regular
+file's address, length and path. The picture has to be well-formed, and its bars have to have each byte of the file
+once. The last line is `N passed, M failed`, with `, K skipped` if a compiler is missing.
 """
 
 import os

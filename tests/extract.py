@@ -3,15 +3,15 @@
 
     extract.py [--binary PATH] [--count N] [--first SEED] [--name TEXT]
 
-Of each small image of the cases (see run.py), of images of random manifests (see manifests.py), and of images
-that genromfs builds if it is installed: the manifest that is printed is the one that the image's list says; the
-directory has exactly its directories, files and links, with their modes; and what is built of the two has the same list again,
-but for places and numbers. If each alignment is 4 and nothing is shared it has the same bytes. Images with names that
-no file can have here make nothing.
+The images are the small ones of the cases (see run.py), those of random manifests (see manifests.py), and those that
+genromfs builds, if it is installed. The printed manifest has to be the one that the image's list says. The directory
+has to have exactly its directories, files and links, with their modes. The image that is built of the two has to have
+the same list, except for offsets and numbers. If each alignment is 4 and nothing is shared, it has to have the same
+bytes. Of an image with names that no file can have here, nothing is made.
 
-Then the edge: directories that are there, links that lead elsewhere, modes that refuse, names that are too long, owners, a
-full disk, each call of the system failed. Tests that need `strace`, or root, or another user, are skipped if these
-are missing. The last line is `N passed, M failed`, with `, K skipped`.
+Then the edge is tested: existing directories, links that lead elsewhere, modes that refuse, names that are too long,
+owners, a full disk, and each call of the system failed. Tests that need `strace`, root or another user are skipped if
+these are missing. The last line is `N passed, M failed`, with `, K skipped`.
 """
 
 import collections
@@ -357,7 +357,7 @@ def with_volume(name):
 
 def deep_folders(depth, length):
     """Returns the parts of a romfs image of directories in each other, each with a name of so many bytes, and the offset
-    behind them."""
+    after them."""
     size = 16 + (length + 16) // 16 * 16
     parts = [images.header(64, images.DIRECTORY, 32, 0, b"."), images.header(96, images.HARD_LINK, 32, 0, b"..")]
     above, here = 32, 96
@@ -434,7 +434,7 @@ def output_that_is_not_taken(binary):
 
 @needs_strace
 def each_call_failed(binary):
-    """Whichever call is failed: the status says it, nothing is outside, and what is there is a part of the image."""
+    """Whichever call is failed, the status says so, nothing is made outside DIR, and DIR has a part of the image."""
     small(binary)
     names = entries(binary, "image")
     wanted = manifest_of(bytes_in("image"), names, "out")
@@ -506,7 +506,7 @@ def memory_refused(binary):
 
 
 def many_files(binary):
-    """20,000 files are extracted. Each is handed to the disk, which may take milliseconds for each."""
+    """20,000 files are extracted. Each is synchronized to the disk, which may take milliseconds for each."""
     put("a", b"a")
     folders = ["dir /%d 0755 0 0" % k for k in range(20)]
     files = ["file /%d/%05d 0644 0 0 4 a" % (k % 20, k) for k in range(20000)]
@@ -536,7 +536,7 @@ def further_names_are_told(binary):
     build_image(binary, ["file /a 0644 0 0 4 s", "hard /b /a", "hard /c /a", "file /d 0644 0 0 4 s"], "romfs", [("s", b"s")])
     done = run(binary, "--explain", "extract", "image", "out")
     told = b"romtool: out: further names of files, which share the file only until an editor replaces it; "
-    if done.returncode or done.stderr != told + b"a build reads the first name alone: 2\n":
+    if done.returncode or done.stderr != told + b"a build reads only the first name: 2\n":
         yield "%s" % shortly(done)
     if os.stat("out/c").st_nlink != 3 or os.stat("out/d").st_nlink != 1:
         yield "links: %d" % os.stat("out/c").st_nlink
@@ -601,7 +601,7 @@ def failure_is_told(binary):
     for call in ("write", "fsync"):
         remove("out")
         done = traced.run(binary, "--explain", "extract", "image", "out", told=traced.inject(call, "error=ENOSPC", 1))
-        words = b"romtool: out: it is incomplete: what was made in it is left there\n"
+        words = b"romtool: out: it is incomplete; the files that were made in it are still there\n"
         if done.returncode != 3 or done.stdout or not done.stderr.startswith(b"file out/") or words not in done.stderr:
             yield "%s: %s" % (call, shortly(done))
         if not os.path.isdir("out/d/e") or stat.S_IMODE(os.stat("out").st_mode) != 0o700:

@@ -1,7 +1,7 @@
 #!/usr/bin/env python3
 """Prints what an image of a directory lists, sorted, without the numbers of nodes.
 
-    folder.py FORMAT FOLDER
+    folder.py FORMAT DIR
 
 FORMAT is `romfs` or `cramfs`. A line is KIND MODE UID GID SIZE MAJOR MINOR PATH, and a link's text.
 romfs has no modes and no owners; cramfs keeps 16 bits of the user's number and 8 of the group's.

@@ -1,6 +1,6 @@
 #!/bin/sh
-# Builds romfs images by genromfs (Debian package genromfs) from folders that it makes, and compares
-# what `romtool list` prints of each with what the folder holds. A folder's order is genromfs's own,
+# Builds romfs images by genromfs (Debian package genromfs) from directories that it makes, and compares
+# what `romtool list` prints of each with what the directory holds. A directory's order is genromfs's own,
 # so the lines are compared sorted.
 #
 #     tests/genromfs.sh [BINARY]
@@ -22,7 +22,7 @@ listed() {
     "$binary" list "$1" | sed 's/^[0-9]* //' | LC_ALL=C sort
 }
 
-# same NAME FOLDER OPTION..: builds an image of the folder and compares its list.
+# same NAME DIR OPTION..: builds an image of the directory and compares its list.
 same() {
     name=$1
     folder=$2
@@ -45,7 +45,7 @@ answers() {
     note "$1" $?
 }
 
-# one_node NAME PATH PATH: both names stand for one node.
+# one_node NAME PATH PATH: both names lead to one node.
 one_node() {
     one=$("$binary" list image | grep " $2\$" | cut -d ' ' -f 1)
     other=$("$binary" list image | grep " $3\$" | cut -d ' ' -f 1)
@@ -54,8 +54,8 @@ one_node() {
 }
 
 mkdir empty
-same "an empty folder" empty
-answers "an empty folder has the root and its dots" "ok romfs 2 0"
+same "an empty directory" empty
+answers "an empty directory has the root and its dots" "ok romfs 2 0"
 same "a volume name" empty -V name
 same "a volume name of 40 bytes" empty -V a_volume_name_of_forty_bytes_and_no_less
 
@@ -65,7 +65,7 @@ echo one >nested/a/one
 echo two >nested/a/b/c/d/two
 chmod 0700 nested/a/one nested/f
 chmod 0600 nested/a/b/empty
-same "nested folders and files" nested
+same "nested directories and files" nested
 
 deep=deep
 for level in 1 2 3 4 5 6 7 8 9 10 11 12 13 14 15 16 17 18 19 20 21 22 23 24 25 26 27 28 29 30 31 32; do
@@ -88,8 +88,8 @@ echo shared >hard/first
 ln hard/first hard/second
 ln hard/first hard/sub/third
 same "hard-linked files" hard
-one_node "two names of one folder are one node" /first /second
-one_node "names of two folders are one node" /first /sub/third
+one_node "two names of one directory are one node" /first /second
+one_node "names of two directories are one node" /first /sub/third
 
 mkdir names
 : >"names/$(printf 'n%.0s' $(seq 1 255))"
@@ -118,18 +118,18 @@ printf 'defg' >aligned/sub/l
 : >aligned/empty
 same "all files aligned" aligned -a 512
 same "one file aligned" aligned -A 4096,/k
-same "a folder's files aligned" aligned -A '1024,/sub/*'
+same "a directory's files aligned" aligned -A '1024,/sub/*'
 
 mkdir many
 for n in $(seq 1 300); do echo "$n" >"many/file$n"; done
-same "300 files in one folder" many
+same "300 files in one directory" many
 answers "300 files are 302 references" "ok romfs 302 1"
 
 mkdir -p hidden/sub
 genromfs -f image -d hidden -x '.*'
-# without its dots the list of the empty folder is its own header, so two references lead there
-answers "an empty folder without its dots" "fault 20 Twice at 96"
+# without its dots the list of the empty directory is its own header, so two references lead there
+answers "an empty directory without its dots" "fault 20 Twice at 96"
 echo text >hidden/sub/file
-same "a folder without its dots" hidden -x '.*'
+same "a directory without its dots" hidden -x '.*'
 
 finish

@@ -1,11 +1,12 @@
 #!/usr/bin/env python3
-"""Compares `romtool info` with what an image's bytes, its list and its check say.
+"""Compares `romtool info` with an image's bytes, its list and its check.
 
     info.py [--binary PATH] [--count N] [--first SEED]
 
-Of each small image of the cases (see run.py), and of images of random manifests (see manifests.py), with bytes
-behind some: each line is worked out here, of the superblock's words, of the records, of the list and of the check's
-line. If `check` refuses an image, the line of that is on standard error, and there is no other. The last line is `N passed, M failed`.
+The images are the small ones of the cases (see run.py), and those of random manifests (see manifests.py), some of them
+with bytes after the image. Each line is computed here, from the superblock's words, the records, the list and the line
+of `check`. If `check` refuses an image, its line has to be on standard error, and no other. The last line is `N passed,
+M failed`.
 """
 
 import os

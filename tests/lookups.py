@@ -1,15 +1,15 @@
 #!/usr/bin/env python3
-"""Looks names up in lists of each length, through `romtool serve` and `romtool space`.
+"""Looks up names in lists of each length, through `romtool serve` and `romtool space`.
 
     lookups.py [--binary PATH] [--name TEXT]
 
-Lists of 1, 2, 16, 17, 18 and 400 names, in romfs and in cramfs of either byte order, whose names rise, fall or are
-random: names of one byte and of the longest, names with equal fronts, names of which one begins with the
-other, and bytes of each value. Each name is looked up, and so are names that are absent: before the first, between
-two, behind the last, each name cut by a byte and with one more. The lines go in a random order, twice over. A
-romfs list begins with `..` and has hard links; `.` and `..` are in paths. What is expected comes from the places at
-which the lists are laid out. In `space` the same lines go to a list that is mounted in another one, of as many names.
-The last line is `N passed, M failed`.
+The lists have 1, 2, 16, 17, 18 and 400 names, in romfs and in cramfs of either byte order. The names rise, fall or are
+random. There are names of one byte and of the greatest length, names with equal fronts, names of which one begins with
+the other, and bytes of each value. Each name is looked up, and so are absent names: before the first, between two,
+after the last, each name cut by a byte, and with one more byte. The lines go in a random order, twice. A romfs list
+begins with `..` and has hard links; `.` and `..` are in paths. The expected values come from the offsets at which the
+lists are laid out. In `space` the same lines go to a list that is mounted in another one with as many names. The last
+line is `N passed, M failed`.
 """
 
 import os
@@ -29,7 +29,7 @@ from romtool import run
 COUNTS = (1, 2, 16, 17, 18, 400)
 ORDERS = ("rising", "falling", "by chance")
 LONGEST = {"romfs": 255, "cramfs": 252, "cramfs-be": 252}
-NOWHERE = (b"\x01", b"\xff" * 9)  # before and behind all names that are made here
+NOWHERE = (b"\x01", b"\xff" * 9)  # before and after all names that are made here
 
 
 def names_made(count, longest, chance):
@@ -86,7 +86,7 @@ def image_of(form, names, order):
 
 
 def absent_beside(names):
-    """Returns names that are not among these: beside each, before all and behind all."""
+    """Returns names that are not among these: beside each, before all and after all."""
     beside = [*NOWHERE]
     for name in names:
         last = name[-1]

@@ -3,12 +3,12 @@
 
     map.py [--binary PATH] [--count N] [--first SEED]
 
-Of each small image of the cases (see run.py) that the program lists, and of images that are built of manifests made by
-chance (see manifests.py): `map --base` has the runs of each regular file in the list's order, with offsets that go on
-from 0, and no two runs of a file adjoin; the bytes of the image at these addresses, joined, are what `cat` writes, and
-what a server reads (cases) or the manifest's sources have (manifests). `linux` has exactly the lines that docs/PROTOCOL.md
-says, as the bytes, the list and the format of an image give them here once more. Paths that are no UTF-8 cannot
-be given to `cat`, and are only mapped. The last line is `N passed, M failed`.
+The images are the small ones of the cases (see run.py) that the program lists, and those of random manifests (see
+manifests.py). `map --base` has to have the runs of each regular file in the list's order: their offsets go on from 0,
+and no two runs of a file adjoin. The image's bytes at these addresses, joined, have to be those that `cat` writes, and
+that a server reads (cases) or the manifest's sources have (manifests). `linux` has to have exactly the lines of
+docs/PROTOCOL.md, which are computed here from the bytes, the list and the format of an image. Paths that are not UTF-8
+cannot be given to `cat`, and are only mapped. The last line is `N passed, M failed`.
 """
 
 import os

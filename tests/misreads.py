@@ -6,11 +6,11 @@
 Debian's user-mode Linux mounts these images, lists their names, looks each of them up, and reads files, links, modes, owners and
 the numbers of devices:
     romfs, cramfs   built of manifests: names of some lengths; files of some sizes, and files that share a table
-    of143, of144    built: a volume's name of so many bytes
+    of143, of144    built: volume names of 143 and 144 bytes
     nodes           laid out here, one of each format: devices, links, names, and hard links to records with long names
-In each image exactly those names of which Linux shows something else than was laid out have a line of `romtool linux`, by
-the number that says what. What is missing on a machine skips all, as in linux.py. The last line is `N passed, M failed`,
-with `, K skipped`.
+In each image, exactly those names that Linux shows otherwise than they were laid out have a line of `romtool linux`, with
+the number of that difference. If something is missing on a machine, all is skipped, as in linux.py. The last line is
+`N passed, M failed`, with `, K skipped`.
 """
 
 import hashlib
@@ -124,7 +124,7 @@ def romfs_nodes():
         places[name] = place
         place += 16 + (len(name) + 16) // 16 * 16 + (len(data) + 15) // 16 * 16
     links = [(images.HARD_LINK, places[named(length).encode()], 0, b"h%d" % length, b"") for length in LONG]
-    # behind them a file whose data keep the last record away from the end of the image
+    # after them a file whose data keep the last record away from the end of the image
     return images.romfs_list((), first=[*rows, *links, (images.REGULAR, 0, 256, b"z", bytes(256))])
 
 

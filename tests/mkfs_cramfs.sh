@@ -1,6 +1,6 @@
 #!/bin/sh
-# Builds cramfs images by util-linux's mkfs.cramfs (Debian package util-linux-extra) from folders that
-# it makes, in either byte order, and compares what `romtool list` prints of each with what the folder
+# Builds cramfs images by util-linux's mkfs.cramfs (Debian package util-linux-extra) from directories that
+# it makes, in either byte order, and compares what `romtool list` prints of each with what the directory
 # holds. mkfs.cramfs compresses all contents, so the files are empty and there are no links, except if a fault is expected.
 #
 #     tests/mkfs_cramfs.sh [BINARY]
@@ -19,7 +19,7 @@ trap 'rm -rf "$top"' EXIT
 cd "$top" || exit 1
 order=little
 
-# build NAME FOLDER OPTION..: builds an image of the folder, which may warn.
+# build NAME DIR OPTION..: builds an image of the directory, which may warn.
 build() {
     name=$1
     folder=$2
@@ -30,7 +30,7 @@ build() {
     false
 }
 
-# same NAME FOLDER OPTION..: builds an image of the folder in each byte order and compares its list.
+# same NAME DIR OPTION..: builds an image of the directory in each byte order and compares its list.
 same() {
     order=little
     same_as cramfs "$@"
@@ -39,7 +39,7 @@ same() {
     order=little
 }
 
-# same_as FORMAT NAME FOLDER OPTION..: the same in the byte order of the format.
+# same_as FORMAT NAME DIR OPTION..: the same in the byte order of the format.
 same_as() {
     format=$1
     shift
@@ -55,7 +55,7 @@ same_as() {
     fi
 }
 
-# answers NAME TEXT FOLDER OPTION..: builds an image of the folder; what `check` prints of it.
+# answers NAME TEXT DIR OPTION..: builds an image of the directory; what `check` prints of it.
 answers() {
     told=$2
     whole=$1
@@ -66,15 +66,15 @@ answers() {
 }
 
 mkdir empty
-same "an empty folder" empty
-answers "an empty folder is the root alone" "ok cramfs 1 0" empty
+same "an empty directory" empty
+answers "an empty directory is only the root" "ok cramfs 1 0" empty
 same "a volume name and an edition" empty -n name -e 7
 
 mkdir -p nested/a/b/c/d nested/a/e nested/f
 : >nested/a/one
 : >nested/a/b/empty
 : >nested/a/b/c/d/two
-same "nested folders and empty files" nested
+same "nested directories and empty files" nested
 same "explicit holes of nothing" nested -z
 answers "the deepest file is 5 deep" "ok cramfs 10 5" nested
 
@@ -87,7 +87,7 @@ mkdir -p $deep
 same "a file 64 deep" deep
 mkdir $deep/folder
 : >$deep/folder/file
-# Each list is right behind the one that leads to it: from 76 on 63 entries of 16 bytes (names of one or
+# Each list is right after the one that leads to it: from 76 on 63 entries of 16 bytes (names of one or
 # two digits), a list of `file` and `folder`, 16 and 20 bytes, and the list of `folder`.
 answers "a file 65 deep" "fault 21 TooDeep at $((76 + 63 * 16 + 16 + 20))" deep
 
@@ -160,7 +160,7 @@ fi
 
 mkdir many
 for n in $(seq 1 300); do : >"many/file$n"; done
-same "300 files in one folder" many
+same "300 files in one directory" many
 answers "300 files are 301 references" "ok cramfs 301 1" many
 
 # The list of the root is at 76 and has one entry of 16 bytes, so the first block pointer is at 92.

@@ -1,12 +1,12 @@
 #!/usr/bin/env python3
-"""Checks two small crates beside those of the repository, which lend a part of a file.
+"""Checks two small crates outside the repository, which lend a part of a file.
 
     outlives.py
 
-In the one the image's bytes are the caller's, and it is proved. In the other they are gone when it
-returns, so that the part would outlive them: the borrow checker refuses it. (A must-fail edit cannot say
-so, for those reach the prover, and the borrow checker comes before it.)
-The last line is `N passed, M failed`, with `, K skipped` if `rt` is missing.
+In the first one, the image's bytes belong to the caller, and it is proved. In the second one, the bytes are gone when
+it returns, so the part would outlive them: the borrow checker refuses it. (A must-fail edit cannot test this, because
+edits reach the prover, and the borrow checker comes before it.) The last line is `N passed, M failed`, with `, K
+skipped` if `rt` is missing.
 """
 
 import os

@@ -377,7 +377,7 @@ def killed(tester):
 
 
 def names(tester):
-    """All directories with names that are no UTF-8 are named in one run."""
+    """All directories with names that are not UTF-8 are named in one run."""
     top = os.fsencode(f"{tester.room}/foreign")
     for folder in [b"/b", b"/a/c", b"/d"]:
         os.makedirs(top + folder)
@@ -385,7 +385,7 @@ def names(tester):
         put(top + name)
     os.symlink(b"\xff", top + b"/a/link")
     wanted = ("", "file foreign/a/c\nfile foreign/a/link\nfile foreign/b\n", 3)
-    tester.is_same("names that are no UTF-8", tester.run(["scan", "--all", "foreign"]), wanted)
+    tester.is_same("names that are not UTF-8", tester.run(["scan", "--all", "foreign"]), wanted)
     wanted = "dir / 0755 0 0\ndir /a 0755 0 0\ndir /d 0755 0 0\n"
     ran = tester.run(["scan", "--all", "--all-root", "--exclude=b", "--exclude=a/*", "foreign"])
     tester.is_same("names in what is left out", ran, (wanted, "", 0))

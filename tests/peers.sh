@@ -1,6 +1,6 @@
 #!/bin/sh
-# Compares what `romtool build` makes of a folder's `scan --all` with what others make of the folder: the list of
-# genromfs's image (Debian package genromfs), and the folder itself in cramfs. Numbers of nodes are not compared.
+# Compares what `romtool build` makes of a directory's `scan --all` with what others make of the directory: the list of
+# genromfs's image (Debian package genromfs), and the directory itself in cramfs. Numbers of nodes are not compared.
 #
 #     tests/peers.sh [BINARY]
 #
@@ -29,14 +29,14 @@ is() {
     fi
 }
 
-# same FOLDER: builds its scan in all formats, and compares.
+# same DIR: builds its scan in all formats, and compares.
 same() {
     for format in romfs cramfs cramfs-be; do
         "$binary" scan --all --for "$format" "$1" >manifest || { note "$1: scan for $format" 1; return; }
         "$binary" build "$format" manifest image >said || { note "$1: build $format" 1; return; }
         listed image >ours
         python3 "$here/folder.py" "${format%-be}" "$1" | LC_ALL=C sort >wanted
-        is "$1: the list in $format is the folder" wanted ours
+        is "$1: the list in $format is the directory" wanted ours
     done
     if command -v genromfs >/dev/null; then
         "$binary" scan --all --for romfs "$1" >manifest

@@ -6,9 +6,9 @@
 refuse.c, which the C compiler `cc` builds, refuses the Nth allocation, for N = 1, 2, .. up to the first
 that a run does not make; and then all from the Nth on. Each run answers as it does with ample memory, or
 prints `memory` on standard error with status 3 and nothing else. A run without words, which prints
-two answers, may have printed the first. Passed over are cases that are large, and runs whose memory the
-case limits. The last line is `N passed, M failed`, with `, K skipped` if nothing was run for want of
-`cc`.
+two answers, may have printed the first. Skipped are cases that are large, and runs whose memory the
+case limits. The last line is `N passed, M failed`, with `, K skipped` if `cc` is missing, so that
+nothing was run.
 """
 
 import concurrent.futures

@@ -1,17 +1,17 @@
 #!/bin/sh
-# Lets memory be refused, and sees that the answer stays, or is `memory` with status 3. By hand, from
-# anywhere; `rt ci` does not run it. What needs no toolchain and is quick is in refusals.py.
+# Refuses memory, and checks that the answer stays the same, or is `memory` with status 3. Run it manually,
+# from any directory; `rt ci` does not run it. The quick tests that need no toolchain are in refusals.py.
 #
 #     tests/refusals.sh [LAST]
 #
 # First the stored run of romtool has each of its allocations refused in turn, the Nth by
-# `rt try --fail-alloc N` (half a minute each), up to the third whole run in a row or to LAST, 60 where
-# it is left out; 0 is none. Then the built binary checks and lists an image of 1,500 files of each
+# `rt try --fail-alloc N` (half a minute each), up to the third whole run in a row or to LAST, which is 60
+# by default; 0 is none. Then the built binary checks and lists an image of 1,500 files of each
 # format under `ulimit -v`, one page of 4 KiB more each time, up to the first run that is whole; limits
-# under which no program starts at all are passed over. The last line is `N passed, M failed`.
+# under which no program starts at all are skipped. The last line is `N passed, M failed`.
 #
 # Run with rattle-kit-13b up to the 17th allocation: the stored run has 14. Each that is refused ends it
-# with `memory`, but the 4th, without which it is whole all the same.
+# with `memory`, except the 4th, without which the run is whole.
 set -u
 here=$(cd "$(dirname "$0")" && pwd)
 crate=$here/../crates/romtool

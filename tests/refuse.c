@@ -1,9 +1,8 @@
-/* Runs a program once for each of its allocations, which is refused memory then: first that allocation
- * alone, and after the first run that does not come to it, the same with all later ones. A growth or a
- * move counts as an allocation. The program is started with this as LD_PRELOAD; with the file REFUSE_TO
- * it runs in copies of the process, made before `main`, of which each reads the standard input from
- * where it stood. What each run printed, which is taken from it unless REFUSE_KEEPS_OUT is set, and how
- * it ended go to that file. */
+/* Runs a program once for each of its allocations, and refuses it: first only that allocation, and after
+ * the first run that does not reach it, that one and all later ones. A growth or a move counts as an
+ * allocation. The program is started with this as LD_PRELOAD. With the file REFUSE_TO it runs in copies
+ * of the process, made before `main`; each reads the standard input from where it was. The file gets what
+ * each run printed, which is removed from its outputs unless REFUSE_KEEPS_OUT is set, and how it ended. */
 #define _GNU_SOURCE
 #include <dlfcn.h>
 #include <errno.h>
@@ -13,8 +12,8 @@
 #include <sys/wait.h>
 #include <unistd.h>
 
-/* What is told of a run, before what it printed: which allocation was refused, whether the later ones
- * were too, how the run ended, as `wait` tells it, and the bytes of its two outputs. */
+/* What the file has of a run, before its outputs: which allocation was refused, whether the later ones
+ * were refused too, how the run ended, as `wait` reports it, and the bytes of its two outputs. */
 struct told {
     unsigned at, all, status, out, err;
 };
@@ -26,7 +25,7 @@ static void *(*plain_realloc)(void *, size_t);
 /* which allocation is refused, or none; whether the later ones are; and those that were made */
 static unsigned long refused_at, made;
 static unsigned refuses_later;
-/* whether this run came to it, for the process that it was copied from */
+/* whether this run reached it, for the process from which it was copied */
 static volatile unsigned *came_to_it;
 
 static int refused(void)
@@ -59,7 +58,7 @@ void *realloc(void *old, size_t size)
     return refused() ? NULL : plain_realloc(old, size);
 }
 
-/* A descriptor that is none of the three that a program starts with, though these may be closed. */
+/* A descriptor other than the three with which a program starts, even if these are closed. */
 static int moved(int it)
 {
     int higher = fcntl(it, F_DUPFD_CLOEXEC, ABOVE_THE_STANDARD_ONES);
@@ -94,7 +93,7 @@ static void hand_on(int from, int to)
             _exit(127);
 }
 
-/* The standard outputs of the copies, and where it is told what they held. */
+/* The standard outputs of the copies, and the file that gets what they held. */
 struct files {
     int out, err, to;
 };

@@ -5,7 +5,7 @@
 
 The release is made twice by tools/release and has the same bytes. Its packages are installed into an empty root, where the
 program runs as an ordinary user without any other file, on the first two commands of the README, and are removed again.
-A C program outside of the tree is built over what the archive installs, by pkg-config and by CMake. tools/install and its
+A C program outside the tree is built over what the archive installs, by pkg-config and by CMake. tools/install and its
 --uninstall leave nothing. Completions offer what help lists. The version is the same in each place. With --object and
 --library a trial release is made of these. The last line is `N passed, M failed`, with `, K skipped` if a tool is missing.
 """
@@ -35,7 +35,7 @@ COMP_WORDS=("$@") COMP_CWORD=$(($# - 1))
 _romtool
 printf '%s\\n' "${COMPREPLY[@]}"
 """
-# what fish offers behind a line
+# what fish offers after a line
 FISH = (
     ("romtool s", ["scan", "serve", "space"]), ("romtool --explain ex", ["extract"]), ("romtool help bu", ["build"]),
     ("romtool --e", ["--explain"]), ("romtool build cr", ["cramfs", "cramfs-be"]), ("romtool build romfs f", ["file", "folder/"]),
@@ -148,7 +148,7 @@ def shells(binary, top, counts):
 
 
 def below(folder):
-    """Returns the paths below a directory, in order; directories with a slash behind."""
+    """Returns the paths below a directory, in order; directories with a slash at the end."""
     found = []
     for at, folders, names in os.walk(folder):
         found += [os.path.join(at, it) + "/" for it in folders] + [os.path.join(at, it) for it in names]
@@ -308,7 +308,7 @@ def answers(program, counts):
 
 
 def for_c(prefix, binary, top, counts):
-    """A C program outside of the tree is built over an installation that was moved, by pkg-config and by CMake, and runs."""
+    """A C program outside the tree is built over an installation that was moved, by pkg-config and by CMake, and runs."""
     room = top + "/outside"
     os.makedirs(room + "/app/bin")
     shutil.copy(TOP + "/tests/c/first.c", room)

@@ -3,13 +3,13 @@
 
     scan_all.py [--binary PATH] [--count N] [--first SEED]
 
-One directory has each kind of file that the rights of the test allow (devices if it is root), odd names, links,
-several names of one file across directories, and all modes; further ones are made of a random seed, which is named
-if a test fails. Each is scanned plainly with `--all`, whose manifest is compared line by line, and with
-`--all --for FORMAT` for each format; what is built of that is accepted by `check`, listed, and compared entry by
-entry with what `lstat` says, brought to what the format stores: kinds, modes, owners, lengths, numbers of devices,
-texts of links, which names are one file (romfs), and each file's bytes.
-The last line is `N passed, M failed`, with `, K skipped` if the rights are missing.
+One directory has each kind of file that the rights of the test allow (devices if it is root), odd names, links, several
+names of one file across directories, and all modes. Further directories are made from a random seed, which is named if
+a test fails. Each is scanned with `--all`, and the manifest is compared line by line. Each is also scanned with `--all
+--for FORMAT`, for each format, and built. `check` has to accept the image. It is listed, and compared entry by entry
+with what `lstat` says and the format can store: kinds, modes, owners, lengths, device numbers, texts of links, names of
+one file (romfs), and each file's bytes. The last line is `N passed, M failed`, with `, K skipped` if the rights are
+missing.
 """
 
 import os
@@ -183,7 +183,7 @@ class Tester:
         self.is_same(f"{name}: contents", self.run(["serve", "image"], given)[0].splitlines(), wanted)
 
     def aligned(self, name, told, align):
-        """Checks that what someone may execute lies at multiples of the alignment."""
+        """Checks that executable files are at multiples of the alignment."""
         paths = [it for it in told.regular() if told.of[it].st_mode & 0o111 and told.of[it].st_size]
         given = "".join("open %s\nmap 0 0 1\nclose 0\n" % escaped(path) for path in paths).encode()
         replies = self.run(["serve", "image"], given)[0].splitlines()[1::3]
@@ -265,10 +265,10 @@ def refusals(tester, top):
     """What cannot be looked at is named, and nothing is printed."""
     os.makedirs(f"{top}/a")
     put(os.fsencode(top) + b"/a/\xff")
-    tester.is_same("a name that is no UTF-8", tester.run(["scan", "--all", "refused"]), ("", "file refused/a\n", 3))
+    tester.is_same("a name that is not UTF-8", tester.run(["scan", "--all", "refused"]), ("", "file refused/a\n", 3))
     os.remove(os.fsencode(top) + b"/a/\xff")
     os.symlink(b"\xff", os.fsencode(top) + b"/a/link b")
-    tester.is_same("a text that is no UTF-8", tester.run(["scan", "--all", "refused"]), ("", "file refused/a/link%20b\n", 3))
+    tester.is_same("a text that is not UTF-8", tester.run(["scan", "--all", "refused"]), ("", "file refused/a/link%20b\n", 3))
     os.remove(f"{top}/a/link b")
     tester.is_same("a folder in another word", tester.run(["scan", "--all", "refused//"])[::2], ("dir / 0755 0 0\ndir /a 0755 0 0\n", 0))
     os.symlink("refused", f"{tester.room}/led")

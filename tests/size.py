@@ -1,10 +1,10 @@
 #!/usr/bin/env python3
-"""Runs romtool on images of size, which this script lays out and never stores.
+"""Runs romtool on large images, which this script lays out and never stores.
 
     size.py [--binary PATH] [--name TEXT]
 
-What is expected is worked out from the layout of each image, which its function describes. The last line
-is `N passed, M failed`.
+The expected values are computed from the layout of each image, which its function describes. The last line is `N
+passed, M failed`.
 """
 
 import os
@@ -68,7 +68,7 @@ def seventeen_files(shift):
     """17 files of 4,095 blocks each: 69,615 blocks, of which 512 are at different places.
 
     The list is at 76, 17 entries of 16 bytes; the tables begin at 348, each of 16,380 bytes; the blocks
-    begin at 348 + 17 * 16,380 = 278,808. The last pointer leads to the first block, or behind its start.
+    begin at 348 + 17 * 16,380 = 278,808. The last pointer leads to the first block, or after its start.
     """
     text = b"".join(inode(CRAMFS_REGULAR, 4095 * BLOCK, 348 + 16380 * n, b"%02d" % n) for n in range(17))
     places = [278_808 + BLOCK * (n * 211 % 512) for n in range(17 * 4095 - 1)] + [278_808 + shift]
@@ -100,14 +100,14 @@ def one_table_of_many_sizes():
 
 
 def many_files_cramfs():
-    """The inode of each file is 20 bytes behind the one before it, the first at 76."""
+    """The inode of each file is 20 bytes after the one before it, the first at 76."""
     image = cramfs_list(b"%08d" % n for n in range(MANY))
     files = ["%d f 0644 0 0 0 0 0 /%08d" % (76 + 20 * n, n) for n in range(MANY)]
     return image, "ok cramfs 20001 1", ["64 d 0755 0 0 0 0 0 /"] + files
 
 
 def many_files_romfs():
-    """The header of each file is 32 bytes behind the one before it, the first at 96; `..` counts, too."""
+    """The header of each file is 32 bytes after the one before it, the first at 96; `..` counts, too."""
     image = romfs_list(b"%08d" % n for n in range(MANY))
     files = ["%d f 0644 0 0 0 0 0 /%08d" % (96 + 32 * n, n) for n in range(MANY)]
     return image, "ok romfs 20002 1", ["32 d 0755 0 0 0 0 0 /"] + files
@@ -133,7 +133,7 @@ def wrong_run(binary, word, path, wanted, status):
 
 
 def wrong_first_line(binary, path, wanted):
-    """Returns what is wrong if a reader takes the first line of a list, and closes its pipe."""
+    """Returns what is wrong if a reader reads the first line of a list, and closes its pipe."""
     with subprocess.Popen([binary, "list", path], stdout=subprocess.PIPE, stderr=subprocess.PIPE) as running:
         line = running.stdout.readline().decode()
         running.stdout.close()

@@ -1,10 +1,10 @@
 #!/usr/bin/env python3
-"""Builds the library for machines of 32 bits and for WebAssembly, and checks that it answers as romtool does.
+"""Builds the library for 32-bit machines and for WebAssembly, and checks that it answers as romtool does.
 
     targets.py [--binary PATH] [--module PATH]
 
-tools/rom32 makes the archives, all of one module, which it keeps of the proved build unless one is given; its own test
-is run first. Then
+tools/rom32 makes the archives, all from one module. It is the module of the proved build, unless another one is given. The
+tool's own test is run first. Then
     armv7a   answers.c (see c.py) on all cases and in each format, closed.c and areas.c, by qemu-arm, also with --small
     thumbv7m the same on a board with a Cortex-M3, by qemu-system-arm, except for images that its memory does not hold; and
              firmware with the image in flash and a heap of its own, with and without the check

@@ -1,10 +1,10 @@
 #!/usr/bin/env python3
-"""Tests the tools of tools/: that the gate distinguishes a wrong edit from a right one, and what they do under another kit.
+"""Tests the tools of tools/: that the gate distinguishes a wrong edit from a right one, and what they do with another kit.
 
-A small repository is made with edits of each kind, and the gate is run on it. It has to report each edit rightly: one that
-changes a meaning is refused, one that changes nothing is not refused, and one that cannot be made is bad. A contract that no
-call can meet fails its crate. Tests that are proved, and tests that are not, begin from what was proved of their crate and
-are reported rightly too. The last line is `N passed, M failed`.
+A small repository is made with edits of each kind, and the gate is run on it. It has to report each edit correctly: one
+that changes a meaning is refused, one that changes nothing is not refused, and one that cannot be made is bad. A
+contract that no call can meet fails its crate. Tests that are proved, and tests that are not, begin from what was
+proved of their crate, and have to be reported correctly, too. The last line is `N passed, M failed`.
 """
 
 import collections

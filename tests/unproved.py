@@ -1,8 +1,8 @@
 #!/usr/bin/env python3
 """Builds the unproved program by tools/unproved, and compares it with the proved one on each case of this directory.
 
-Each run of a case is made by both programs, in a directory of each one's own, and has to give the same output, messages,
-status, rest of input and files. The last line is `N passed, M failed`, with `, K skipped` if cases were skipped.
+Both programs make each run of a case, each in its own directory. The output, messages, status, rest of input and files
+have to be the same. The last line is `N passed, M failed`, with `, K skipped` if cases were skipped.
 """
 
 import os

@@ -98,7 +98,7 @@ class Looks:
             refuse("a function from outside that is not known", name)
 
     def top(self, line, bare):
-        """A line outside of the functions, or one that begins or ends a function or a block."""
+        """A line outside the functions, or one that begins or ends a function or a block."""
         if re.match(r"(declare|define|attributes|source_filename|;|![\w.]+ = |\}|$)", line) or re.match(r'["\w.$-]+:', line):
             if re.search(r"sret\([^)]*ptr", bare):
                 refuse("an answer in memory with a pointer", line)

@@ -141,7 +141,7 @@ LINES = (
     "%x = va_arg ptr %p, i64",
     "%x = insertelement <2 x ptr> poison, ptr %p, i32 0",
 )
-# lines outside of functions that the pass refuses
+# lines outside functions that the pass refuses
 TOPS = (
     "@table = private constant [2 x ptr] [ptr @numbers, ptr @numbers], align 8",
     "@place = private constant i64 ptrtoint (ptr @numbers to i64), align 8",

@@ -1,4 +1,4 @@
-// The page: it asks the worker, and shows what it answers. FAULTS and SENTENCES are the tables of the code, by number;
+// The page asks the worker, and shows its answers. FAULTS and SENTENCES are the tables of the code, by number;
 // WORKER is the text of the worker. tools/page puts them before this text.
 
 const ROWS = 500;            // how many rows of a directory or a table are shown at first, and then with each button
@@ -81,9 +81,9 @@ function verdict(told) {
   at("line").className = isGood ? "good" : "bad";
   at("line").textContent = isGood ? `ok ${told.format} ${told.references} ${told.depth}`
     : isFault ? `fault ${told.fault} ${FAULTS[told.fault] ?? "Unknown"} at ${told.at}` : "out of memory";
-  at("sentence").textContent = isGood ? "The image is good: its bytes hold one tree of files."
+  at("sentence").textContent = isGood ? "The image is valid: its bytes hold one tree of files."
     : isFault ? first(`${SENTENCES[told.fault] ?? "an unknown fault"}.`)
-    : "The browser gave too little memory for this image, so nothing is known of it.";
+    : "The browser refused memory for this image, so nothing is known of it.";
   at("around").hidden = !isFault || told.at >= told.length;
   if (isFault && told.at < told.length) dump(at("hex"), told.around.from, told.around.bytes, told.at);
   else if (isFault) at("sentence").textContent += " The offset is behind the last byte.";

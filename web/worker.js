@@ -11,7 +11,7 @@ const text = new TextDecoder("utf-8", { fatal: true });
 const rows = new Map();      // of each directory that was asked for, the entries that are still to come
 let reader, walk;
 
-// A name or a text as it is shown: what is no UTF-8 or cannot be seen is escaped.
+// A name or a text as it is shown: bytes that are not UTF-8 or not visible are escaped.
 function shown(bytes) {
   try {
     const whole = text.decode(bytes);

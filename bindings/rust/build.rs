@@ -1,4 +1,4 @@
-//! Says where the archive of the library is: in the folder `ROMTOOL_LIB_DIR`, or where `rt lib` leaves it.
+//! Says where the archive of the library is: in the directory `ROMTOOL_LIB_DIR`, or where `rt lib` leaves it.
 
 use std::env;
 use std::path::PathBuf;

@@ -1,9 +1,9 @@
-/* The words `check`, `list` and `serve` over the library for C: answers as romtool does.
+/* The subcommands `check`, `list` and `serve` over the library for C, which answer as those of romtool do.
  *
  *     answers check IMAGE | answers list IMAGE | answers serve IMAGE <LINES
  *
- * Of `serve` it knows lines that ask for something (docs/LINES.md). The status is that of romtool, and 4 where the
- * library answers what it cannot. */
+ * `serve` answers only valid requests (docs/LINES.md). The status is that of romtool, or 4 if the library returns
+ * something that it never should. */
 #include <inttypes.h>
 #include <stdio.h>
 #include <stdlib.h>
@@ -12,7 +12,7 @@
 #include "romtool.h"
 
 #define FILES 64
-/* No file of a case has more bytes: a read of more is one of so many. */
+/* No file of a case has more bytes. A read of more reads this number. */
 #define MOST ((size_t)1 << 22)
 
 static const char *const error_names[11] = {
@@ -32,7 +32,7 @@ static struct slot slots[FILES];
 static uint8_t path[1 << 17];
 static uint8_t line_path[1 << 14];
 
-/* Ends the program where the library breaks its word. */
+/* Ends the program if the library breaks its contract. */
 static void wants(int holds, const char *what) {
     if (!holds) {
         fprintf(stderr, "the library: %s\n", what);
@@ -55,7 +55,7 @@ static void put_stat(const struct romtool_stat *stat) {
         kinds[stat->kind], stat->mode, stat->uid, stat->gid, stat->size, stat->major, stat->minor);
 }
 
-/* Bytes that are lent lie in the image. */
+/* Checks that lent bytes are in the image. */
 static const uint8_t *bytes_of(const struct romtool_image *image, struct romtool_place place) {
     wants(place.at <= image->len && place.len <= image->len - place.at, "a place outside of the image");
     return image->data + place.at;
@@ -66,7 +66,7 @@ static int is_in_image(const struct romtool_image *image, const struct romtool_e
     return name >= first && name - first <= image->len && entry->name_len <= image->len - (name - first);
 }
 
-/* Prints the line of what the first `len` bytes of `path` name, the node of this number, and those below it. */
+/* Prints the line of the node of this number, whose path is the first `len` bytes of `path`, and those below it. */
 static void list(const struct romtool_image *image, size_t len, uint32_t node) {
     const size_t whole = len ? len : 1;
     struct romtool_file dir = {0}, by_path = {0};
@@ -152,7 +152,7 @@ static int digit_of(int c) {
     return found ? (int)(found - digits) : -1;
 }
 
-/* The path of a line, percent-decoded into `line_path`. A zero stands behind the words of a line. */
+/* Decodes the path of a line into `line_path`. A zero follows the words of a line. */
 static size_t decoded(const char *word, size_t count) {
     size_t len = 0;
     if (count == 1 && word[0] == '-') {
@@ -190,7 +190,7 @@ static void open_one(const struct romtool_image *image, size_t len) {
     printf("err EMFILE\n");
 }
 
-/* Answers a line that asks by a path, and tells whether it is one. */
+/* Answers a request with a path. Returns whether the line is one. */
 static int by_path(const struct romtool_image *image, const char *word, const char *text, size_t count) {
     const size_t len = decoded(text, count);
     if (strcmp(word, "lookup") == 0) {
@@ -255,7 +255,7 @@ static void rewind_one(const struct romtool_image *image, struct slot *slot) {
     }
 }
 
-/* Answers a line that asks by a descriptor. A slot that is not used is all zeros: a closed file. */
+/* Answers a request with a descriptor. A free slot is all zeros: a closed file. */
 static void by_file(const struct romtool_image *image, const char *word, uint64_t fd, uint64_t one, uint64_t two) {
     static struct slot none;
     struct slot *slot = fd < FILES ? &slots[fd] : &none;
@@ -282,7 +282,7 @@ static void by_file(const struct romtool_image *image, const char *word, uint64_
     }
 }
 
-/* Reads a line without its end, and gives its length, or -1 at the end of the input. */
+/* Reads a line without its end, and returns its length, or -1 at the end of the input. */
 static long next_line(char *line, size_t most) {
     size_t len = 0;
     int c = getchar();
@@ -317,7 +317,7 @@ static void serve(const struct romtool_image *image) {
     }
 }
 
-/* The bytes of a file, in just as much memory, so that no byte behind them may be read. */
+/* The bytes of a file, in exactly as much memory, so that no byte after them may be read. */
 static uint8_t *read_all(const char *name, size_t *len) {
     FILE *file = fopen(name, "rb");
     uint8_t *data = NULL;

@@ -1,11 +1,11 @@
-/* The heap over an array: c/area.c by itself, and checks over areas that are just large enough.
+/* The heap over an array: c/area.c by itself, and checks with areas that are exactly large enough.
  *
  *     areas IMAGE..
  *
- * First blocks are asked for, changed and given back by chance, in areas of many sizes and alignments. Each block has
- * its bytes, lies in the area at its alignment and apart from the others. Once all are back the area is one block again.
- * Then each image is checked: over an area of what romtool_area_most said, with the same verdict, and over one of 16
- * bytes less, where memory is refused. Prints for each image the bytes that a check takes. */
+ * First, random blocks are allocated, resized and freed, in areas of many sizes and alignments. Each block keeps its
+ * bytes, is in the area at its alignment, and overlaps no other. When all are freed, the area is one block again.
+ * Then each image is checked with an area of the size that romtool_area_most returned: the verdict is the same. With 16
+ * bytes less, memory is refused. Prints for each image the bytes that a check needs. */
 #include <inttypes.h>
 #include <stdio.h>
 #include <stdlib.h>
@@ -19,7 +19,7 @@
 #endif
 
 static uint64_t room[ROOM / 8 + 4];
-static uint8_t *area; /* that, from a multiple of 16 on */
+static uint8_t *area; /* the same, from a multiple of 16 on */
 static unsigned long steps, wrong;
 
 static void wants(int holds, const char *what) {
@@ -50,7 +50,7 @@ static int is_filled(const struct block *it, size_t size) {
     return 1;
 }
 
-/* A block that was given: it lies in the area and beside all others. Fills it. */
+/* Checks that a new block is in the area and overlaps no other, and fills it. */
 static void took(struct block *all, int which, uint8_t *from, size_t len) {
     struct block *it = &all[which];
     wants(it->at >= from && it->size <= len && (size_t)(it->at - from) <= len - it->size, "a block out of the area");
@@ -101,7 +101,7 @@ static void step(struct block *all, uint8_t *from, size_t len) {
     }
 }
 
-/* Steps by chance over an area of `len` bytes. */
+/* Makes random calls on an area of `len` bytes. */
 static void by_chance(size_t skipped, size_t len) {
     static struct block all[MOST];
     uint8_t *from = area + skipped;

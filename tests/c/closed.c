@@ -1,8 +1,8 @@
 /* Each call on a handle that is all zeros, on one that a check refused, and with NULL for no bytes.
  *
- *     closed IMAGE: an image with a directory / and nothing that is wrong
+ *     closed IMAGE: a valid image
  *
- * Prints `closed N`, N being how many things were looked at, or what is wrong, with status 1. */
+ * Prints `closed N`, where N is the number of tests; or what is wrong, with status 1. */
 #include <stdio.h>
 #include <stdlib.h>
 #include <string.h>
@@ -88,7 +88,7 @@ static void refused(void) {
     no_file(&file);
 }
 
-/* An open image with paths that are no path, and an open directory. */
+/* An open image with invalid paths, and an open directory. */
 static void open_image(const uint8_t *data, size_t len) {
     struct romtool_image image = {0};
     struct romtool_file file = {0}, copy;

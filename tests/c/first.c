@@ -1,4 +1,4 @@
-/* A boot loader's way from an image in flash to the entry of a program that is run in place.
+/* How a boot loader gets from an image in flash to the entry of a program that is executed in place.
  *
  *     first IMAGE PATH: prints where the program of that path is, and its first bytes */
 #include <inttypes.h>
@@ -7,7 +7,7 @@
 
 #include "romtool.h"
 
-/* The first byte of the file of a path, which lies in the image in one piece; or NULL. */
+/* The first byte of the file of a path, if the file is in one piece in the image; otherwise NULL. */
 static const uint8_t *entry_of(const struct romtool_image *image, const char *path) {
     struct romtool_file file = ROMTOOL_INIT;
     if (romtool_open_str(&file, image, path)) {
@@ -21,10 +21,10 @@ static const uint8_t *entry_of(const struct romtool_image *image, const char *pa
     return image->data + place.at;
 }
 
-/* The most that an image of romtool has. */
+/* The most bytes of an image that romtool builds. */
 #define MOST (1 << 28)
 
-/* The bytes of a file, in the place of flash. */
+/* The bytes of a file, instead of flash. */
 static uint8_t *flash_of(const char *name, size_t *len) {
     FILE *file = fopen(name, "rb");
     uint8_t *data = malloc(MOST);

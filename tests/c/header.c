@@ -1,5 +1,5 @@
-/* What romtool.h has by itself: prints the version, the faults and the errors, and compares the calls by a path that
- * ends with a zero with those by a length.
+/* The functions of romtool.h itself: prints the version, the faults and the errors, and compares the calls with a path
+ * that ends with a zero with those with a length.
  *
  *     header IMAGE: an image with a directory /d, a file /init and a link /d/link */
 #include <inttypes.h>

@@ -9,7 +9,7 @@
 
 #include "romtool.h"
 
-/* The most that an image of romtool has. */
+/* The most bytes of an image that romtool builds. */
 #define MOST (1 << 28)
 
 int main(int argc, char **argv) {

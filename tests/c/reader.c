@@ -1,4 +1,4 @@
-/* A boot loader's reader: no check, no heap, no C library. What it knows of the image stands in image.h, which
+/* A boot loader's reader: no check, no heap, no C library. What it knows of the image is in image.h, which
  * numbers.c printed on the build host. It ends with the sum of the bytes of the file PATH, modulo 64, or with 64 and an
  * error. */
 #include "romtool.h"
@@ -56,7 +56,7 @@ static int sum_of_file(void) {
     return (int)(sum % 64);
 }
 
-/* Linux in the place of a board: the status of the process is the answer. */
+/* Linux instead of a board: the status of the process is the result. */
 #if defined __x86_64__
 __attribute__((force_align_arg_pointer)) void _start(void) {
     const long status = sum_of_file();

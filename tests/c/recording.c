@@ -1,7 +1,7 @@
-/* The three functions of memory as a heap that records sizes and refuses in turn.
+/* The three functions of memory, as a heap that records sizes and refuses each call in turn.
  *
- * A block is aligned as it was asked for and no more. What is in front of it and behind it is looked at when it comes
- * back. New bytes are 0xa5. Each change of a size moves the block, with exactly the bytes that are to be kept. */
+ * A block has exactly the requested alignment. The bytes before and after it are checked when it is freed. New bytes
+ * are 0xa5. Each change of a size moves the block, with exactly the bytes that are to be kept. */
 #include "recording.h"
 
 #include <stdint.h>
@@ -22,7 +22,7 @@ struct header {
     uint32_t pad;
 };
 
-/* What is in front of a block: bytes that are looked at, and the header. */
+/* What is before a block: bytes that are checked, and the header. */
 #define FRONT 64
 
 struct recording recorded;
@@ -73,7 +73,7 @@ static void *new_block(romtool_size size, romtool_size align) {
     return room + front;
 }
 
-/* Whether a block is one, and nothing beside it was written. */
+/* Returns whether this is a block, and nothing beside it was written. */
 static int is_whole(const void *at) {
     const struct header it = header_of(at);
     const uint8_t *bytes = at;

@@ -2,9 +2,9 @@
  *
  *     refused IMAGE..
  *
- * Prints of each image what `romtool check` prints of it. The status is 0 if each check that was refused memory said
- * so, with a closed image, or gave the right verdict without it, and every block came back. The last line has the
- * numbers that were seen. */
+ * Prints for each image what `romtool check` prints of it. The status is 0 if every block was freed, and each check
+ * that was refused memory either reported that, with a closed image, or returned the right verdict without it. The
+ * last line has the numbers that were seen. */
 #include <inttypes.h>
 #include <stdio.h>
 #include <stdlib.h>
@@ -13,7 +13,7 @@
 #include "recording.h"
 #include "romtool.h"
 
-/* So many calls are refused one by one; of an image that asks for more, some of the others. */
+/* This number of calls is refused one by one. If an image makes more calls, only some of the others are refused. */
 #define EACH 200
 
 static unsigned long refusals, without, wrong;
@@ -60,7 +60,7 @@ static void image(const char *name, const uint8_t *data, size_t len) {
     wants(error == ROMTOOL_OK || error == ROMTOOL_FAULT, name, "memory was refused by nobody");
     print(&first, error);
     for (unsigned long refuse = 1; refuse <= calls; refuse += refuse < EACH ? 1 : calls / EACH + 1) {
-        /* A check may do without what was refused, and then says what it says of the image otherwise. */
+        /* A check may do without the refused memory. Then it returns the same verdict as otherwise. */
         if (checked(name, &other, data, len, refuse) == ROMTOOL_MEMORY) {
             wants(is_closed(&other), name, "an image that is open without memory");
         } else {

@@ -3,13 +3,13 @@
 use std::fmt::{self, Display, Formatter};
 use std::io;
 
-/// Why a path or an open file gave no answer.
+/// The reason why a call on a path or an open file failed.
 #[derive(Clone, Copy, Debug, PartialEq, Eq)]
 #[non_exhaustive]
 pub enum Error {
-    /// A name is not there, or the path is empty.
+    /// A name does not exist, or the path is empty.
     NotFound,
-    /// A name is behind something that is no directory.
+    /// A name follows a node that is not a directory.
     NotADirectory,
     /// More than 40 symbolic links.
     TooManyLinks,
@@ -92,7 +92,7 @@ impl From<Error> for io::Error {
 pub struct Fault {
     /// Its number, which docs/FAULTS.md explains.
     pub number: u32,
-    /// Its offset, in bytes from the front of the image. It may lie outside of the image.
+    /// Its offset, in bytes from the front of the image. It may be outside the image.
     pub at: u32,
 }
 
@@ -144,7 +144,7 @@ impl Display for Fault {
     }
 }
 
-/// Why a check did not accept bytes as an image.
+/// The reason why a check refused bytes as an image.
 #[derive(Clone, Copy, Debug, PartialEq, Eq)]
 pub enum CheckError {
     /// The bytes hold no image, and this is their least fault.

@@ -5,7 +5,7 @@ use crate::image::{Image, Metadata};
 use crate::raw;
 use std::io::{self, BufRead, Read, Seek, SeekFrom};
 
-/// What is open: a node of an image, and a position.
+/// An open node of an image, with a position.
 #[derive(Clone, Debug)]
 struct Open<'a> {
     image: Image<'a>,
@@ -20,7 +20,7 @@ impl<'a> Open<'a> {
         Open::of(image, error, &file)
     }
 
-    /// The node of an entry, whose number the library answered for this image.
+    /// The node of an entry, whose number the library returned for this image.
     fn at_entry(entry: &Entry<'a>) -> Result<Open<'a>, Error> {
         let image = entry.image;
         let mut file = raw::File { image: image.raw(), error: 0, node: 0, position: 0 };
@@ -35,7 +35,7 @@ impl<'a> Open<'a> {
         }
     }
 
-    /// The struct that the library is given: it wrote each of its numbers.
+    /// The struct for the library, which has written each of its numbers.
     fn raw(&self) -> raw::File {
         raw::File { image: self.image.raw(), error: 0, node: self.node, position: self.position }
     }
@@ -47,8 +47,8 @@ impl<'a> Open<'a> {
 
 /// An open regular file with a position. A clone has a position of its own.
 ///
-/// It is read by [`Read`], [`BufRead`] and [`Seek`]. Reading never fails. [`as_bytes`](File::as_bytes) has the bytes where
-/// they lie in the image, without a copy.
+/// It is read by [`Read`], [`BufRead`] and [`Seek`]. Reading never fails. [`as_bytes`](File::as_bytes) returns
+/// the bytes in the image, without a copy.
 #[derive(Clone, Debug)]
 pub struct File<'a> {
     open: Open<'a>,
@@ -78,20 +78,20 @@ impl<'a> File<'a> {
         u64::from(self.metadata.size)
     }
 
-    /// Returns all bytes of the file where they lie in the image, whatever the position is.
+    /// Returns all bytes of the file, as a part of the image, whatever the position is.
     ///
     /// # Errors
     ///
-    /// They lie in several pieces ([`Error::InPieces`]).
+    /// They are in several pieces ([`Error::InPieces`]).
     pub fn as_bytes(&self) -> Result<&'a [u8], Error> {
         self.range(0, self.size())
     }
 
-    /// Returns the `len` bytes from byte `from` on where they lie in the image, whatever the position is.
+    /// Returns the `len` bytes from byte `from` on, as a part of the image, whatever the position is.
     ///
     /// # Errors
     ///
-    /// They do not lie within the file ([`Error::Invalid`]), or lie in several pieces ([`Error::InPieces`]).
+    /// They are not within the file ([`Error::Invalid`]), or are in several pieces ([`Error::InPieces`]).
     pub fn range(&self, from: u64, len: u64) -> Result<&'a [u8], Error> {
         if len == 0 && from <= self.size() {
             return Ok(&[]);
@@ -99,8 +99,8 @@ impl<'a> File<'a> {
         self.open.image.place(&unsafe { raw::romtool_map(&self.open.raw(), from, len) })
     }
 
-    /// Returns the next bytes where they lie in the image: at most `most`, as many as follow one another. The position
-    /// moves behind them. They are empty at the end, or if `most` is 0.
+    /// Returns the next bytes, as a part of the image: at most `most`, as many as follow one another. The position
+    /// moves by their number. They are empty at the end, or if `most` is 0.
     pub fn next_bytes(&mut self, most: u64) -> &'a [u8] {
         let mut file = self.open.raw();
         let place = unsafe { raw::romtool_lend(&mut file, most) };
@@ -160,12 +160,12 @@ pub struct Entry<'a> {
 }
 
 impl<'a> Entry<'a> {
-    /// Returns the name, where it lies in the image. It need not be UTF-8.
+    /// Returns the name, as a part of the image. It need not be UTF-8.
     pub fn name(&self) -> &'a [u8] {
         self.name
     }
 
-    /// Returns the number of the node, as [`Image::lookup`] has it.
+    /// Returns the number of the node, as [`Image::lookup`] returns it.
     pub fn node(&self) -> u32 {
         self.node
     }
@@ -179,7 +179,7 @@ impl<'a> Entry<'a> {
         Metadata::of(&unsafe { raw::romtool_stat_node(&self.image.raw(), self.node) }).expect("the image is open")
     }
 
-    /// Opens the regular file that the entry is, without a look-up.
+    /// Opens the entry as a regular file, without a look-up.
     ///
     /// # Errors
     ///
@@ -188,17 +188,17 @@ impl<'a> Entry<'a> {
         File::of(Open::at_entry(self)?)
     }
 
-    /// Opens the directory that the entry is, without a look-up.
+    /// Opens the entry as a directory, without a look-up.
     ///
     /// # Errors
     ///
-    /// It is no directory ([`Error::NotADirectory`]), or neither that nor a regular file.
+    /// It is not a directory ([`Error::NotADirectory`]), or neither that nor a regular file.
     pub fn read_dir(&self) -> Result<Dir<'a>, Error> {
         Dir::of(Open::at_entry(self)?)
     }
 }
 
-/// An open directory: an iterator over its entries, without `.` and `..`. A clone goes on by itself.
+/// An open directory: an iterator over its entries, without `.` and `..`. A clone has its own position.
 #[derive(Clone, Debug)]
 pub struct Dir<'a> {
     open: Open<'a>,
@@ -238,7 +238,7 @@ impl<'a> Iterator for Dir<'a> {
         if error != 0 || entry.some == 0 {
             return None;
         }
-        // The name lies in the image, and is taken from there.
+        // The name is in the image, and is returned from there.
         let bytes = self.open.image.as_bytes();
         let from = (entry.name as usize).wrapping_sub(bytes.as_ptr() as usize);
         let name = bytes.get(from..)?.get(..entry.name_len as usize)?;

@@ -1,4 +1,4 @@
-//! Images that were checked, and what their paths lead to.
+//! Checked images, and the nodes to which their paths lead.
 
 use crate::error::{CheckError, Error, Fault};
 use crate::file::{Dir, File};
@@ -103,11 +103,11 @@ impl std::fmt::Debug for Image<'_> {
 }
 
 impl<'a> Image<'a> {
-    /// Checks bytes as an image of romfs or cramfs. Bytes behind the image's stated size are allowed.
+    /// Checks bytes as an image of romfs or cramfs. Bytes after the image's stated size are allowed.
     ///
     /// # Errors
     ///
-    /// The bytes hold no image; the fault is then the same each time. Or memory was refused.
+    /// The bytes hold no image, with the same fault each time; or memory was refused.
     pub fn check(bytes: &'a [u8]) -> Result<Image<'a>, CheckError> {
         let mut made = raw::Image { data: std::ptr::null(), len: 0, numbers: raw::Numbers::default() };
         let error = unsafe { raw::romtool_check(&mut made, bytes.as_ptr(), bytes.len() as u64) };
@@ -118,7 +118,7 @@ impl<'a> Image<'a> {
         }
     }
 
-    /// The struct that the library is given: the numbers are its own, of the very same bytes.
+    /// The struct for the library. The library has computed its numbers, for exactly the same bytes.
     pub(crate) fn raw(&self) -> raw::Image {
         raw::Image { data: self.bytes.as_ptr(), len: self.bytes.len() as u64, numbers: self.numbers }
     }
@@ -146,12 +146,12 @@ impl<'a> Image<'a> {
         }
     }
 
-    /// Returns how many of the bytes belong to the image.
+    /// Returns the number of bytes that belong to the image.
     pub fn size(&self) -> u32 {
         self.numbers.accessible
     }
 
-    /// Returns how many references to records the image has, with that of the superblock.
+    /// Returns the number of references to records, including that of the superblock.
     pub fn references(&self) -> u32 {
         self.numbers.references
     }
@@ -161,7 +161,7 @@ impl<'a> Image<'a> {
         self.numbers.depth
     }
 
-    /// Returns the number of the node that a path leads to; a symbolic link in the last place is followed.
+    /// Returns the number of the node to which a path leads. A symbolic link as the last component is followed.
     ///
     /// # Errors
     ///
@@ -176,7 +176,8 @@ impl<'a> Image<'a> {
         }
     }
 
-    /// Returns the kind and numbers of what a path leads to; a symbolic link in the last place is followed.
+    /// Returns the kind and numbers of the node to which a path leads. A symbolic link as the last component is
+    /// followed.
     ///
     /// # Errors
     ///
@@ -185,7 +186,7 @@ impl<'a> Image<'a> {
         self.stat(path.as_ref(), true)
     }
 
-    /// Returns the same as [`metadata`](Image::metadata), but a symbolic link in the last place is not followed.
+    /// Returns the same as [`metadata`](Image::metadata), but a symbolic link as the last component is not followed.
     ///
     /// # Errors
     ///
@@ -198,7 +199,7 @@ impl<'a> Image<'a> {
         Metadata::of(&unsafe { raw::romtool_stat(&self.raw(), path.as_ptr(), path.len() as u64, follow) })
     }
 
-    /// Returns the text of the symbolic link that a path leads to, where it lies in the image.
+    /// Returns the text of the symbolic link to which a path leads, as a part of the image.
     ///
     /// # Errors
     ///
@@ -208,7 +209,7 @@ impl<'a> Image<'a> {
         self.place(&unsafe { raw::romtool_readlink(&self.raw(), path.as_ptr(), path.len() as u64) })
     }
 
-    /// Opens the regular file that a path leads to, at its start.
+    /// Opens the regular file to which a path leads, at its start.
     ///
     /// # Errors
     ///
@@ -217,7 +218,7 @@ impl<'a> Image<'a> {
         File::open(*self, path.as_ref())
     }
 
-    /// Opens the directory that a path leads to; the entries `.` and `..` are left out.
+    /// Opens the directory to which a path leads. The entries `.` and `..` are left out.
     ///
     /// # Errors
     ///

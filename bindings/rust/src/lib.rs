@@ -1,8 +1,8 @@
-//! Reads romfs and cramfs images where they lie: checked once, then used in place.
+//! Reads romfs and cramfs images in place: an image is checked once, and then used without a copy.
 //!
-//! The calls are those of the proved library `librom_c.a`, whose contracts docs/C.md tells. This crate adds what C owes
-//! it: an [`Image`] borrows its bytes, so they stay as they are, and only a check makes one. The crate itself is tested,
-//! not proved. It has no dependencies, and needs x86-64 or aarch64 Linux.
+//! The calls are those of the proved library `librom_c.a`, whose contracts are in docs/C.md. This crate keeps the rules
+//! that a C caller has to keep: an [`Image`] borrows its bytes, so they stay unchanged, and only a check makes one. The
+//! crate itself is tested, not proved. It has no dependencies, and needs x86-64 or aarch64 Linux.
 //!
 //! ```
 //! use romtool::{CheckError, Image};

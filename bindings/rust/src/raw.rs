@@ -1,7 +1,7 @@
-//! The calls of `romtool.h` as C has them, and what they owe and are owed.
+//! The calls of `romtool.h`, and the rules that their caller has to keep.
 //!
-//! The structs that the library reads are made anew for each call, of numbers that the library gave for the same bytes.
-//! So nothing outside of this module can hand it any others.
+//! The structs that the library reads are made for each call, from numbers that it returned for the same bytes. So no
+//! code outside this module can pass any others to it.
 
 use std::ffi::c_void;
 
@@ -14,7 +14,7 @@ pub(crate) struct Image {
     pub numbers: Numbers,
 }
 
-/// What `struct romtool_image` has beside the bytes.
+/// The fields of `struct romtool_image` except the bytes.
 #[repr(C)]
 #[derive(Clone, Copy, Debug, Default, PartialEq, Eq)]
 pub(crate) struct Numbers {
@@ -121,10 +121,10 @@ fn answer(at: *mut c_void) -> Memory {
     }
 }
 
-/// Gives a block, for the library only.
+/// Returns a block, for the library only.
 #[no_mangle]
 extern "C" fn rattle_alloc(size: usize, align: usize) -> Memory {
-    // malloc aligns to 16 on machines of 64 bits
+    // malloc aligns to 16 on 64-bit machines
     answer(if align <= 16 { unsafe { malloc(size.max(1)) } } else { std::ptr::null_mut() })
 }
 
@@ -132,17 +132,17 @@ extern "C" fn rattle_alloc(size: usize, align: usize) -> Memory {
 ///
 /// # Safety
 ///
-/// `at` is a block that was given and not taken back.
+/// `at` is a block that was returned and not freed.
 #[no_mangle]
 unsafe extern "C" fn rattle_realloc(at: *mut c_void, _kept: usize, size: usize, _align: usize) -> Memory {
     answer(unsafe { realloc(at, size.max(1)) })
 }
 
-/// Takes a block back, for the library only.
+/// Frees a block, for the library only.
 ///
 /// # Safety
 ///
-/// `at` is a block that was given and not taken back.
+/// `at` is a block that was returned and not freed.
 #[no_mangle]
 unsafe extern "C" fn rattle_dealloc(at: *mut c_void) {
     unsafe { free(at) };

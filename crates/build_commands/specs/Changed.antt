@@ -1,4 +1,4 @@
--- What a line has otherwise than the file that was found. (This project's own.)
+-- The differences of a line from the file that was found. (This project's own.)
 use Rattle.std.specs.Prelude.{ℕ, ◌/◌, ◌%◌, ◌==◌, ◌&&◌, not, Bool, true, false}
 use Rattle.manifest.specs.declared.line.Line.{Line}
 use Rattle.manifest.specs.declared.line.Word.{Word}
@@ -10,7 +10,7 @@ abbrev pub has_attributes : Word → Bool
 has_attributes Hard = false
 has_attributes _ = true
 
--- a directory or a regular file, which someone reads by its mode
+-- a directory or a regular file, which users read as its mode permits
 abbrev pub has_readers : Word → Bool
 has_readers Dir = true
 has_readers File = true
@@ -25,6 +25,6 @@ all_may_read mode = (mode / 256 % 2 == 1) && ((mode / 32 % 2 == 1) && (mode / 4 
 abbrev pub is_changed : Word → ℕ → ℕ → Bool
 is_changed w old new = has_attributes w && not (old == new)
 
--- all may read what is made by the line, and not all might read the file
+-- all may read what the line makes, but not all may read the file
 abbrev pub is_opened : Line → NamedFile → Bool
 is_opened l f = has_readers l.word && (all_may_read l.mode && not (all_may_read f.mode))

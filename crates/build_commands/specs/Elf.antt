@@ -1,4 +1,4 @@
--- Executables and shared objects by the first bytes of a file. (ELF: System V gABI, "ELF Header":
+-- ELF executables and shared objects, by the first bytes of a file. (System V gABI, "ELF Header":
 -- e_ident and e_type.)
 use Rattle.std.specs.Prelude.{ℕ, ◌+◌, ◌*◌, ◌==◌, ◌&&◌, ◌||◌, Bool, false, List, [], ◌∷◌, drop}
 use Rattle.std.specs.Prelude.{slice_index}
@@ -13,13 +13,13 @@ has_magic b =
 abbrev pub is_executed : ℕ → Bool
 is_executed t = (t == 2) || (t == 3)
 
--- EI_DATA is at 5, and e_type at 16: ELFDATA2LSB has its least byte first, ELFDATA2MSB last
+-- EI_DATA is at 5, and e_type at 16: the low byte is first with ELFDATA2LSB, and last with
+-- ELFDATA2MSB
 abbrev pub is_program_type : List ℕ → Bool
 is_program_type b =
     ((slice_index b 5 == 1) && is_executed (slice_index b 16 + 256 * slice_index b 17))
     || ((slice_index b 5 == 2) && is_executed (256 * slice_index b 16 + slice_index b 17))
 
--- a file that begins with these bytes, of which there are 18 or more, is an executable or a shared
--- object
+-- a file that begins with these bytes, at least 18, is an executable or a shared object
 abbrev pub is_program : List ℕ → Bool
 is_program b = has_magic b && is_program_type b

@@ -1,4 +1,4 @@
--- The lines of a manifest of a folder as it is. (This project's own.)
+-- The lines of a manifest of a directory as it is. (This project's own.)
 use Rattle.std.specs.Prelude.{ℕ, ◌==◌, ◌&&◌, ◌||◌, Bool, true, false, if◌then◌else◌}
 use Rattle.std.specs.Prelude.{List, [], ◌∷◌, ◌++◌}
 use Rattle.std.specs.Prelude.{drop, find, Option, Some, None, string_bytes}
@@ -13,18 +13,18 @@ use Rattle.build_commands.specs.declared.inventory.FileKind.{FileKind}
 use Rattle.build_commands.specs.declared.inventory.FileKind.TheVariants as kind
 use Rattle.build_commands.specs.declared.inventory.NamedFile.{NamedFile}
 
--- the root, where nothing is left of a place
+-- the root, if nothing is left of a name
 abbrev pub or_root : List ℕ → List ℕ
 or_root [] = 47 ∷ []
 or_root (b ∷ bs) = b ∷ bs
 
--- The path of what is at a place: what is behind its first bytes, as many as the scanned
--- directory's name has; and if nothing is, the root.
+-- The path of a file that was found by a name: the name without its first bytes, as many as the
+-- scanned directory's name has; or the root, if nothing is left.
 abbrev pub path_behind : ℕ → List ℕ → List ℕ
 path_behind front place = or_root (drop front place)
 
--- the alignment of a regular file: the one that was asked for if someone may execute it or if it is
--- a program, otherwise the usual one
+-- the alignment of a regular file: the one that was asked for, if the owner, the group or others
+-- may execute it or it is a program; otherwise the usual one
 abbrev pub aligned : ℕ → Bool → ℕ → ℕ
 aligned align is_program mode = if is_runnable mode || is_program then align else 4
 
@@ -43,7 +43,7 @@ plain_line f = record {
   text = [];
 }
 
--- the line of a file of some kind; a regular file's source is its place
+-- the line of a file of some kind; a regular file's source is the name by which it was found
 abbrev pub line_by : FileKind → NamedFile → Line → Line
 line_by kind.Directory f l = l
 line_by kind.Regular f l =
@@ -54,11 +54,11 @@ line_by (kind.Character d) f l = record l { word = Character; major = d.major; m
 line_by kind.Fifo f l = record l { word = Fifo }
 line_by kind.Socket f l = record l { word = Socket }
 
--- the line of a file as the system tells it
+-- the line of a file as the system reports it
 abbrev pub found_line : NamedFile → Line
 found_line f = line_by f.kind f (plain_line f)
 
--- cramfs has no further names
+-- cramfs has no further names of a file
 abbrev pub has_hard_links : Option Format → Bool
 has_hard_links (Some Cramfs) = false
 has_hard_links (Some CramfsBig) = false
@@ -85,16 +85,16 @@ abbrev pub same_line : Word → Line → List ℕ → Line
 same_line File l old = record l { word = Same; align = 0; text = old }
 same_line _ l old = l
 
--- the line of a further name, where that of a first one would be l
+-- the line of a further name, if that of a first one is l
 abbrev pub further_line : Option Format → Line → List ℕ → Line
 further_line o l old = if has_hard_links o then hard_line l.word l old else same_line l.word l old
 
--- the line with what its format takes, where it is to fit one
+-- the line with attributes that the format can hold, if a format was chosen
 abbrev pub fitted : Option Format → Line → Line
 fitted None l = l
 fitted (Some f) l = nearest_in f l
 
--- the line of a name, by the first name of the same file among those before it
+-- the line of a name, given the first of the earlier names of the same file
 abbrev pub line_behind : Option Format → Option NamedFile → Line → Line
 line_behind o None l = l
 line_behind o (Some first) l =
@@ -103,11 +103,11 @@ line_behind o (Some first) l =
 abbrev pub name_line : Option Format → Option NamedFile → NamedFile → Line
 name_line o first f = fitted o (line_behind o first (found_line f))
 
--- the first of some files of an inode, which a device has at this number
+-- the first of some files that has this inode, by its device and number
 abbrev pub first_of : ℕ → ℕ → List NamedFile → Option NamedFile
 first_of device number fs = find (λ f. (f.inode.device == device) && (f.inode.number == number)) fs
 
--- the lines of some files, behind those before them
+-- the lines of some files, which follow others
 abbrev pub lines_behind : Option Format → List NamedFile → List NamedFile → List Line
 lines_behind o before [] = []
 lines_behind o before (f ∷ fs) =

@@ -1,6 +1,5 @@
--- Lines with the attributes that a format takes which are nearest to their own. (This project's
--- own. What a format takes is in Linux Documentation/filesystems/romfs.rst and
--- include/uapi/linux/cramfs_fs.h.)
+-- Lines with the nearest attributes that a format can hold. (This project's own. What a format can
+-- hold is in Linux Documentation/filesystems/romfs.rst and include/uapi/linux/cramfs_fs.h.)
 use Rattle.std.specs.Prelude.{ℕ, ◌/◌, ◌%◌, ◌≤◌, ◌==◌, ◌||◌, Bool, min, if◌then◌else◌}
 use Rattle.manifest.specs.declared.line.Line.{Line}
 use Rattle.manifest.specs.declared.line.Word.{Word}
@@ -13,12 +12,12 @@ use Rattle.plan_types.specs.declared.format.Format.TheVariants.{Romfs, Cramfs, C
 abbrev pub is_runnable : ℕ → Bool
 is_runnable mode = (mode / 64 % 2 == 1) || ((mode / 8 % 2 == 1) || (mode % 2 == 1))
 
--- 0755 where someone may execute it, else 0644
+-- 0755 if the owner, the group or others may execute it, otherwise 0644
 abbrev pub runnable_mode : ℕ → ℕ
 runnable_mode mode = if is_runnable mode then 493 else 420
 
--- The mode that romfs has for a line's kind: it keeps whether someone may execute a directory or a
--- regular file.
+-- The mode that romfs has for a line's kind. Of a directory or a regular file, it keeps whether the
+-- owner, the group or others may execute it.
 abbrev pub romfs_mode : Word → ℕ → ℕ
 romfs_mode Dir mode = runnable_mode mode
 romfs_mode File mode = runnable_mode mode
@@ -34,7 +33,7 @@ romfs_mode Hard mode = mode
 abbrev pub in_romfs : Line → Line
 in_romfs l = record l { mode = romfs_mode l.word l.mode; uid = 0; gid = 0 }
 
--- cramfs has 16 bits for the user and 8 for the group
+-- cramfs has 16 bits for the owner and 8 for the group
 abbrev pub in_cramfs : Line → Line
 in_cramfs l = record l { uid = min l.uid 65535; gid = min l.gid 255 }
 
@@ -43,7 +42,7 @@ nearest_in Romfs l = in_romfs l
 nearest_in Cramfs l = in_cramfs l
 nearest_in CramfsBig l = in_cramfs l
 
--- the format takes the numbers of the line's device
+-- the format can hold the numbers of the line's device
 abbrev pub HasSmallNumbers : Format → Line → Type 0
 HasSmallNumbers Romfs l = (l.major ≤ 65535) × (l.minor ≤ 65535)
 HasSmallNumbers Cramfs l = (l.major ≤ 255) × (l.minor ≤ 255)

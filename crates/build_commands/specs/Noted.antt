@@ -11,7 +11,7 @@ noted m device number =
     option_map (λ g. g.now) (get (λ x y. ordering_then (nat_cmp x.0 y.0) (nat_cmp x.1 y.1)) m
     (device, number))
 
--- what stands there once a file is noted, where this stood there
+-- the entry of a map after a file is noted, if it was this before
 abbrev pub noted_with : NamedFile → Option NamedFile → ℕ → ℕ → Option NamedFile
 noted_with f (Some g) device number = Some g
 noted_with f None device number =

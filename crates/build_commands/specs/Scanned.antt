@@ -1,4 +1,4 @@
--- The lines of a manifest that a scan of a folder prints. (This project's own.)
+-- The lines of a manifest that a scan of a directory prints. (This project's own.)
 use Rattle.std.specs.Prelude.{◌≡◌, ℕ, ◌+◌, ◌<◌, List, [], ◌∷◌, ◌++◌, codes, None}
 use Rattle.std.specs.List.{All}
 use Rattle.manifest.specs.Grammar.{fault_of}
@@ -14,14 +14,14 @@ directory_text path = codes "dir " ++ (escaped path ++ codes " 0755 0 0")
 unfoldable pub file_text : List ℕ → List ℕ → List ℕ
 file_text path source = codes "file " ++ (escaped path ++ (codes " 0644 0 0 4 " ++ escaped source))
 
--- each as a line
+-- the same as lines
 abbrev pub directory_line : List ℕ → List ℕ
 directory_line path = directory_text path ++ codes "\n"
 
 abbrev pub file_line : List ℕ → List ℕ → List ℕ
 file_line path source = file_text path source ++ codes "\n"
 
--- the directory of a path, of a mode
+-- the directory of a path, with a mode
 abbrev pub plain_of : List ℕ → ℕ → Line
 plain_of path mode = record {
   number = 0;
@@ -45,7 +45,7 @@ abbrev pub file_of : ℕ → List ℕ → List ℕ → Line
 file_of n path source =
     record (plain_of path 420) { number = n; word = File; align = 4; text = source }
 
--- a byte, or more
+-- at least one byte
 pub record IsName (bytes : List ℕ) : Type 0 where
   pub some : bytes ≡ [] → ⊥
   pub small : All (λ b. b < 256) bytes
@@ -68,18 +68,18 @@ abbrev pub line_as : ℕ → Entry → Line
 line_as n (directory path) = directory_of n path
 line_as n (file path source) = file_of n path source
 
--- the lines that entries are, from line n on
+-- the lines that entries have, from line n on
 abbrev pub lines_as : ℕ → List Entry → List Line
 lines_as n [] = []
 lines_as n (e ∷ es) = line_as n e ∷ lines_as (n + 1) es
 
--- its names are some bytes each
+-- its names have at least one byte each
 abbrev pub IsNamed : Entry → Type 0
 IsNamed (directory path) = IsName path
 IsNamed (file path source) = IsName path × IsName source
 
--- each entry is one that the grammar takes behind the lines before it, which are given from the
--- last to the first
+-- the grammar accepts each entry after the lines before it, which are given from the last to the
+-- first
 abbrev pub AreTaken : List Line → ℕ → List Entry → Type 0
 AreTaken latest n [] = Unit {0}
 AreTaken latest n (e ∷ es) =

@@ -14,19 +14,20 @@ refusal_line who line number name =
     who ++ (codes " " ++ (decimal line
     ++ (codes " " ++ (decimal number ++ (codes " " ++ (name ++ codes "\n"))))))
 
--- of a text that is no manifest: its first faulty line, and there the least fault
+-- for an invalid manifest: its first faulty line, and the least fault of that line
 abbrev pub manifest_line : ℕ → ℕ → List ℕ
 manifest_line line number = refusal_line (codes "manifest") line number (name_of_fault number)
 
--- of a manifest that does not fit: the line of its least misfit, 0 for the whole, and the misfit
+-- for a manifest that does not fit: the line of its least misfit, or 0 for the whole, and the
+-- misfit
 abbrev pub misfit_line : ℕ → ℕ → List ℕ
 misfit_line line number = refusal_line (codes "plan") line number (name_of_refusal number)
 
--- of an image that would be longer than it may be: size LENGTH MOST, and a line feed
+-- for an image that would be too long: size LENGTH MOST, and a line feed
 unfoldable pub size_line : ℕ → ℕ → List ℕ
 size_line len most = codes "size " ++ (decimal len ++ (codes " " ++ (decimal most ++ codes "\n")))
 
--- of a build that refuses what it would else warn of: the line of the least warning, 0 for the
--- whole, and the warning
+-- for a build that refuses what it would otherwise only warn of: the line of the least warning, or
+-- 0 for the whole, and the warning
 abbrev pub strict_line : ℕ → ℕ → List ℕ
 strict_line line number = refusal_line (codes "strict") line number (name_of_warning number)

@@ -1,5 +1,5 @@
--- What a build warns of, by numbers and names: an empty manifest, and what Linux misreads, as
--- `linux_misreads` has it. (This project's own.)
+-- The warnings of a build, by number and name: an empty manifest, and what Linux misreads, as in
+-- `linux_misreads`. (This project's own.)
 use Rattle.std.specs.Prelude.{ℕ, List, ◌==◌, if◌then◌else◌, codes}
 
 abbrev pub name_of_warning : ℕ → List ℕ

@@ -1,4 +1,4 @@
-//! What is printed of a build: its line, flushed.
+//! Prints the line of a build, and flushes it.
 ghost use Rattle.std.specs.Prelude.{◌≡◌, OnOk, decimal};
 ghost use Rattle.build_commands.specs.Told.{built_line, manifest_line, misfit_line, refusal_line};
 ghost use Rattle.build_commands.specs.Told.{size_line, strict_line};
@@ -64,11 +64,11 @@ fn tell_refusal<W: ByteWrite>(
     w.flush()
 }
 
-/// Writes `ok LENGTH`: the image of so many bytes was built. Flushes it.
+/// Writes `ok LENGTH` for an image of this number of bytes, and flushes it.
 ///
 /// # Errors
 ///
-/// A write or the flush failed; a prefix of the line was written.
+/// `Failed` if a write or the flush failed. Then a prefix of the line was written.
 pub fn tell_built<W: ByteWrite>(w: &mut W, len: u64) -> Result<(), Failed>
     ensures text { WritesText (W.output w.old).contents (W.output w.new).contents result
         (built_line len) }
@@ -79,12 +79,12 @@ pub fn tell_built<W: ByteWrite>(w: &mut W, len: u64) -> Result<(), Failed>
     w.flush()
 }
 
-/// Writes `manifest LINE NUMBER NAME`: the text is no manifest, and this is its first faulty line,
-/// and there the least fault, as `ManifestError` says. Flushes it.
+/// Writes `manifest LINE NUMBER NAME` for an invalid manifest, and flushes it: its first faulty
+/// line, and the least fault of that line, as in `ManifestError`.
 ///
 /// # Errors
 ///
-/// A write or the flush failed; a prefix of the line was written.
+/// `Failed` if a write or the flush failed. Then a prefix of the line was written.
 pub fn tell_bad_manifest<W: ByteWrite>(w: &mut W, line: u64, number: u32) -> Result<(), Failed>
     ensures text { WritesText (W.output w.old).contents (W.output w.new).contents result
         (manifest_line line number) }
@@ -95,12 +95,12 @@ pub fn tell_bad_manifest<W: ByteWrite>(w: &mut W, line: u64, number: u32) -> Res
     tell_refusal(w, b"manifest", line, number, name.as_bytes())
 }
 
-/// Writes `plan LINE NUMBER NAME`: the manifest does not fit the format, and this is the line of
-/// its least misfit, 0 for the whole, and the misfit, as `PlanError` says. Flushes it.
+/// Writes `plan LINE NUMBER NAME` for a manifest that does not fit the format, and flushes it: the
+/// line of its least misfit, or 0 for the whole, and the misfit, as in `PlanError`.
 ///
 /// # Errors
 ///
-/// A write or the flush failed; a prefix of the line was written.
+/// `Failed` if a write or the flush failed. Then a prefix of the line was written.
 pub fn tell_misfit<W: ByteWrite>(w: &mut W, line: u64, number: u32) -> Result<(), Failed>
     ensures text { WritesText (W.output w.old).contents (W.output w.new).contents result
         (misfit_line line number) }
@@ -127,11 +127,12 @@ fn write_size_line<W: ByteWrite>(w: &mut W, len: u64, most: u64) -> Result<(), F
     if failed { Err(Failed) } else { Ok(()) }
 }
 
-/// Writes `size LENGTH MOST`: the image would have LENGTH bytes, and may have MOST. Flushes it.
+/// Writes `size LENGTH MOST` for an image that would have LENGTH bytes and may have MOST, and
+/// flushes it.
 ///
 /// # Errors
 ///
-/// A write or the flush failed; a prefix of the line was written.
+/// `Failed` if a write or the flush failed. Then a prefix of the line was written.
 pub fn tell_size<W: ByteWrite>(w: &mut W, len: u64, most: u64) -> Result<(), Failed>
     ensures text { WritesText (W.output w.old).contents (W.output w.new).contents result
         (size_line len most) }
@@ -142,12 +143,12 @@ pub fn tell_size<W: ByteWrite>(w: &mut W, len: u64, most: u64) -> Result<(), Fai
     w.flush()
 }
 
-/// Writes `strict LINE NUMBER NAME`: the build refuses what it would else warn of, and this is the
-/// line of the least warning, 0 for the whole, and the warning. Flushes it.
+/// Writes `strict LINE NUMBER NAME` for a build that refuses what it would otherwise only warn of,
+/// and flushes it: the line of the least warning, or 0 for the whole, and the warning.
 ///
 /// # Errors
 ///
-/// A write or the flush failed; a prefix of the line was written.
+/// `Failed` if a write or the flush failed. Then a prefix of the line was written.
 pub fn tell_strict<W: ByteWrite>(w: &mut W, line: u64, number: u32) -> Result<(), Failed>
     ensures text { WritesText (W.output w.old).contents (W.output w.new).contents result
         (strict_line line number) }

@@ -1,4 +1,4 @@
-//! What of a file that was found its line says otherwise.
+//! The differences of a line from the file that was found.
 ghost use Rattle.std.specs.Prelude.{◌≡◌};
 ghost use Rattle.build_commands.specs.Changed.{all_may_read, has_attributes, has_readers};
 ghost use Rattle.build_commands.specs.Changed.{is_changed, is_opened};
@@ -8,13 +8,13 @@ use crate::inventory::NamedFile;
 use manifest::Word;
 use manifest_text::Entry;
 
-/// What a line has otherwise than the file that was found.
+/// The attributes of a line that differ from those of the file that was found.
 #[derive(Clone, Copy, Debug, PartialEq, Eq)]
 pub struct Changes {
     pub owner: bool,
     pub group: bool,
     pub mode: bool,
-    /// Whether all may read it by the line, and not all might read the file.
+    /// Whether all may read what the line makes, but not all may read the file.
     pub is_opened: bool,
 }
 
@@ -25,7 +25,7 @@ fn has_attributes(word: Word) -> bool
     !matches!(word, Word::Hard)
 }
 
-/// Whether what a line of this word makes is read by its mode.
+/// Whether users read what a line of this word makes as its mode permits.
 fn has_readers(word: Word) -> bool
     ensures { result ≡ has_readers word }
 {
@@ -39,21 +39,21 @@ fn all_may_read(mode: u32) -> bool
     mode / 256 % 2 == 1 && mode / 32 % 2 == 1 && mode / 4 % 2 == 1
 }
 
-/// Whether a number of a line of this word is another one.
+/// Whether a number of a line of this word differs.
 fn is_changed(word: Word, old: u32, new: u32) -> bool
     ensures { result ≡ is_changed word old new }
 {
     has_attributes(word) && old != new
 }
 
-/// Whether all may read it by the line, and not all might read the file.
+/// Whether all may read what the line makes, but not all may read the file.
 fn is_opened(line: &Entry<'_>, file: &NamedFile) -> bool
     ensures { result ≡ is_opened (line_of line.now) file.now }
 {
     has_readers(line.word) && all_may_read(line.mode) && !all_may_read(file.mode)
 }
 
-/// Returns what the line of a file has otherwise than the file.
+/// Returns the differences of the line of a file from the file.
 pub fn changes_of(line: &Entry<'_>, file: &NamedFile) -> Changes
     ensures owner { result.owner
         ≡ is_changed (line_of line.now).word file.now.uid (line_of line.now).uid }

@@ -1,4 +1,4 @@
-//! The manifest of a folder as it is: each file below it, of whatever kind.
+//! The manifest of a directory as it is: each file below it, of whatever kind.
 ghost use Rattle.std.specs.Prelude.{◌≡◌, ℕ, IfOk, OnOk, map, option_map, string_bytes};
 ghost use Rattle.build_commands.specs.Inventory.{aligned, fitted, found_line, further_line};
 ghost use Rattle.build_commands.specs.Inventory.{hard_line, has_hard_links, lines_found, name_line};
@@ -17,7 +17,7 @@ use rom_fields::{ByteWrite, Failed, OutOfMemory};
 use std::alloc::Global;
 use std::collections::BTreeMap;
 
-/// What kind of file it is, with what this kind alone has.
+/// The kind of a file, with the values that only this kind has.
 #[derive(Drop)]
 pub enum FileKind {
     Directory,
@@ -39,18 +39,18 @@ pub struct Device {
     pub minor: u32,
 }
 
-/// What tells a file from all others: the device that it stands on, and its number there.
+/// What identifies a file: its device, and its number on that device.
 #[derive(Clone, Copy)]
 pub struct Inode {
     pub device: u64,
     pub number: u64,
 }
 
-/// A name of a file, by its place on the disk, with what the system tells of the file.
+/// A name of a file, `place`, with what the system reports of the file.
 #[derive(Drop)]
 pub struct NamedFile {
     pub place: String,
-    /// How many bytes of the place are in front of the path.
+    /// The number of bytes of the name that are in front of the path.
     pub front: usize,
     pub kind: FileKind,
     /// The last twelve bits of a POSIX mode.
@@ -74,8 +74,8 @@ impl NamedFile {
 /// The alignment of other regular files, in bytes.
 const USUAL_ALIGN: u32 = 4;
 
-/// The path of what stands at a place: what is behind the first `front` bytes, and where nothing
-/// is, the root.
+/// The path of a file that was found by a name: the name without the first `front` bytes, or the
+/// root if nothing is left.
 fn path_of(front: usize, place: &str) -> &[u8]
     ensures { result.now ≡ path_behind front place.now }
 {
@@ -87,8 +87,8 @@ fn path_of(front: usize, place: &str) -> &[u8]
     path
 }
 
-/// Returns the alignment of a regular file of this mode: the one that was asked for if someone may
-/// execute it or if it is a program, otherwise the usual one.
+/// Returns the alignment of a regular file of this mode, in bytes: the one that was asked for if
+/// the owner, the group or others may execute it or it is a program; otherwise the usual one.
 pub fn align_of(mode: u32, is_program: bool, align: u32) -> u32
     ensures { result ≡ aligned align is_program mode }
 {
@@ -99,7 +99,7 @@ pub fn align_of(mode: u32, is_program: bool, align: u32) -> u32
     }
 }
 
-/// The line of a file as the system tells it.
+/// The line of a file as the system reports it.
 fn found_line<'a>(file: &'a NamedFile) -> Entry<'a>
     ensures { line_of result ≡ found_line file.now }
 {
@@ -157,8 +157,8 @@ fn has_hard_links(format: Option<Format>) -> bool
     !matches!(format, Some(Format::Cramfs | Format::CramfsBig))
 }
 
-/// The line of one more name of the file at the path `old`, where the line of the first would be
-/// `own`; that of a directory stays.
+/// The line of one more name of the file at the path `old`, if the line of the first would be
+/// `own`. The line of a directory stays.
 fn hard_line<'a>(own: Entry<'a>, old: &'a [u8]) -> Entry<'a>
     ensures { line_of result ≡ hard_line own.entry.word (line_of own.entry) old.entry.now }
 {
@@ -178,8 +178,8 @@ fn hard_line<'a>(own: Entry<'a>, old: &'a [u8]) -> Entry<'a>
     }
 }
 
-/// The line of a regular file with the contents of the one at the path `old`, where its line with
-/// contents of its own would be `own`; that of another file stays.
+/// The line of a regular file with the contents of the one at the path `old`, if its line with
+/// contents of its own would be `own`. The line of another kind of file stays.
 fn same_line<'a>(own: Entry<'a>, old: &'a [u8]) -> Entry<'a>
     ensures { line_of result ≡ same_line own.entry.word (line_of own.entry) old.entry.now }
 {
@@ -194,7 +194,8 @@ fn same_line<'a>(own: Entry<'a>, old: &'a [u8]) -> Entry<'a>
     }
 }
 
-/// The line of a further name, where the line of the first would be `own`, and its path is `old`.
+/// The line of a further name of the file at the path `old`, if the line of the first would be
+/// `own`.
 fn further_line<'a>(format: Option<Format>, own: Entry<'a>, old: &'a [u8]) -> Entry<'a>
     ensures { line_of result ≡ further_line format (line_of own.entry) old.entry.now }
 {
@@ -205,7 +206,7 @@ fn further_line<'a>(format: Option<Format>, own: Entry<'a>, old: &'a [u8]) -> En
     }
 }
 
-/// The line with what its format takes, where it is to fit one.
+/// The line with attributes that the format can hold, if a format was chosen.
 fn fitted<'a>(format: Option<Format>, line: Entry<'a>) -> Entry<'a>
     ensures { line_of result ≡ fitted format (line_of line.entry) }
 {
@@ -215,7 +216,7 @@ fn fitted<'a>(format: Option<Format>, line: Entry<'a>) -> Entry<'a>
     }
 }
 
-/// The line of a name, where `first` is the first name of the same file among those before it.
+/// The line of a name. `first` is the first of the earlier names of the same file.
 fn name_line<'a>(
     format: Option<Format>,
     first: Option<&'a NamedFile>,
@@ -232,7 +233,7 @@ fn name_line<'a>(
     fitted(format, line)
 }
 
-/// Notes a file, where none of the same inode is noted.
+/// Notes a file if none of the same inode is noted.
 fn note_first<'a>(
     firsts: &mut BTreeMap<(u64, u64), &'a NamedFile>,
     file: &'a NamedFile,
@@ -257,9 +258,9 @@ fn first_noted<'a>(
     firsts.get(&(inode.device, inode.number)).copied()
 }
 
-/// Returns a line for each file that was found, in their order: of what has several names, those
-/// behind the first are further names. If a format is named, each line has what it takes. It takes
-/// time in n log n.
+/// Returns a line for each file that was found, in their order. If a file has several names, those
+/// after the first are further names of it. If a format is chosen, each line has attributes that it
+/// can hold. The time is n log n.
 ///
 /// # Errors
 ///
@@ -302,11 +303,11 @@ fn write_lines<W: ByteWrite>(w: &mut W, volume: &[u8], lines: &[Entry<'_>]) -> R
     if failed { Err(Failed) } else { Ok(()) }
 }
 
-/// Writes a manifest, with the name of the volume in front if that is not empty, and flushes it.
+/// Writes a manifest, after the name of the volume if that is not empty, and flushes it.
 ///
 /// # Errors
 ///
-/// A write or the flush failed; a prefix of the manifest was written.
+/// `Failed` if a write or the flush failed. Then a prefix of the manifest was written.
 pub fn put_found<W: ByteWrite>(w: &mut W, volume: &[u8], lines: &[Entry<'_>]) -> Result<(), Failed>
     ensures text { WritesText (W.output w.old).contents (W.output w.new).contents result
         (manifest_text volume.now (map line_of lines.now)) }

@@ -14,9 +14,9 @@ ghost use Rattle.manifest_tree.specs.Tree.{inode_of};
 ghost use Rattle.plan_types.specs.Formats.{format_of};
 ghost use Rattle.plan_types.specs.declared.format.Format as code;
 
-/// What a scan prints is a manifest, with a line for each entry, of just its names, where the
-/// grammar takes each entry behind the ones before it. The same of a directory as it is: its
-/// manifest has exactly the lines of the files that were found, and the volume's name.
+/// States that a scan prints a manifest that has exactly one line for each entry, if the grammar
+/// accepts each entry after those before it. States the same for a directory as it is: its manifest
+/// has exactly the lines of the files that were found, and the volume's name.
 pub fn scans_are_manifests()
     ensures plain { (es : List Entry) → AreTaken [] 1 es → manifest_of (scan_text es)
         ≡ Ok (record { lines = lines_as 1 es; volume = []; volume_line = 0 }) }
@@ -29,9 +29,8 @@ pub fn scans_are_manifests()
     manifest_text::laws::reads_back();
 }
 
-/// A line of attributes that were brought to the nearest which a format takes has no misfit of
-/// attributes in it, whatever the other lines are, where the format takes the numbers of its
-/// device.
+/// States that a line with the nearest attributes that a format can hold has no misfit of
+/// attributes, whatever the other lines are, if the format can hold the numbers of its device.
 pub fn nearest_fits()
     ensures { (f : code.Format) (lines : List Line) (sizes : List ℕ) (l : Line)
         → is_hard l.word ≡ false → HasSmallNumbers f l

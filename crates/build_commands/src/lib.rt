@@ -1,5 +1,7 @@
-//! What the program prints of building images and of scanning folders, and laws of what a scan
-//! prints.
+//! What the program prints when it builds images and scans directories.
+//!
+//! Proved: each function writes exactly its line or its manifest, or a prefix of it if a write
+//! failed; and a scan prints a manifest of exactly the names that it found (`laws`).
 #![tactic(auto)]
 
 mod building;

@@ -1,4 +1,4 @@
-//! Attributes that a format takes, in place of those that it does not.
+//! The nearest attributes that a format can hold.
 ghost use Rattle.std.specs.Prelude.{◌≡◌};
 ghost use Rattle.build_commands.specs.Nearest.{is_runnable, nearest_in, romfs_mode};
 ghost use Rattle.manifest_text.specs.Views.{line_of};
@@ -7,21 +7,21 @@ use manifest::Word;
 use manifest_text::Entry;
 use plan_types::Format;
 
-/// The highest user of cramfs, which keeps 16 bits of it.
+/// The highest owner of cramfs, which keeps 16 bits.
 const MOST_UID: u32 = 65_535;
 
-/// The highest group of cramfs, which keeps 8 bits of it.
+/// The highest group of cramfs, which keeps 8 bits.
 const MOST_GID: u32 = 255;
 
-/// Whether the owner, the group or others may execute a file of this mode.
+/// Returns whether the owner, the group or others may execute a file of this mode.
 pub fn is_executable(mode: u32) -> bool
     ensures { result ≡ is_runnable mode }
 {
     mode / 64 % 2 == 1 || mode / 8 % 2 == 1 || mode % 2 == 1
 }
 
-/// The mode that romfs has for a file of a line's kind: it keeps of a directory and of a regular
-/// file whether someone may execute it, and no more of any.
+/// The mode that romfs has for a file of a line's kind. Of a directory or a regular file, it keeps
+/// whether the owner, the group or others may execute it; otherwise it keeps nothing.
 fn mode_in_romfs(word: Word, mode: u32) -> u32
     ensures { result ≡ romfs_mode word mode }
 {
@@ -34,9 +34,8 @@ fn mode_in_romfs(word: Word, mode: u32) -> u32
     }
 }
 
-/// The line with the mode, the owner and the group that the format takes which are nearest to its
-/// own. A `hard` line has none, and stays. Numbers of devices stay, also where the format does not
-/// take them.
+/// Returns the line with the nearest mode, owner and group that the format can hold. A `hard` line
+/// has none, and stays. Numbers of devices stay, also if the format cannot hold them.
 pub fn nearest(format: Format, line: Entry<'_>) -> Entry<'_>
     ensures { line_of result ≡ nearest_in format (line_of line.entry) }
 {

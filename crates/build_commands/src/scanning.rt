@@ -1,4 +1,4 @@
-//! The manifest that a scan of a folder prints.
+//! The manifest that a scan of a directory prints.
 ghost use Rattle.std.specs.Prelude.{◌≡◌, OnOk, map};
 ghost use Rattle.build_commands.specs.Scanned.{directory_line, entry_line, file_line, plain_of};
 ghost use Rattle.build_commands.specs.Scanned.{scan_text};
@@ -11,14 +11,14 @@ use manifest::Word;
 use manifest_text::{Entry, put_line};
 use rom_fields::{ByteWrite, Failed};
 
-/// What a scan finds: a folder, or a regular file, by its place on the disk.
+/// What a scan finds: a directory or a regular file, and the name by which it was found.
 #[derive(PartialEq, Eq, PartialOrd, Ord, Drop)]
 pub struct Found {
     pub place: String,
     pub is_folder: bool,
 }
 
-/// What a line of this path and mode says, where it has nothing else.
+/// A line with this path and mode, and with no other values.
 fn plain_entry(path: &[u8], mode: u32) -> Entry<'_>
     ensures { line_of result ≡ plain_of path.now mode }
 {
@@ -43,7 +43,7 @@ fn put_directory<W: ByteWrite>(w: &mut W, failed: &mut bool, path: &[u8])
     put_line(w, failed, &plain_entry(path, 0o755));
 }
 
-/// Puts the line of a file and of its source, `file PATH 0644 0 0 4 SOURCE`, with both escaped.
+/// Puts the line of a file and its source, `file PATH 0644 0 0 4 SOURCE`, with both escaped.
 fn put_file<W: ByteWrite>(w: &mut W, failed: &mut bool, path: &[u8], source: &[u8])
     ensures { Puts (sink (W.output w.old) failed.old) (sink (W.output w.new) failed.new)
         (file_line path.now source.now) }
@@ -57,8 +57,8 @@ fn put_file<W: ByteWrite>(w: &mut W, failed: &mut bool, path: &[u8], source: &[u
     put_line(w, failed, &file);
 }
 
-/// Puts the line of what was found. Its path is what stands behind the first `front` bytes of its
-/// place.
+/// Puts the line of a file or directory that was found. Its path is its name without the first
+/// `front` bytes.
 fn put_found<W: ByteWrite>(w: &mut W, failed: &mut bool, front: usize, found: &Found)
     ensures { Puts (sink (W.output w.old) failed.old) (sink (W.output w.new) failed.new)
         (entry_line (entry_of front found.now)) }
@@ -72,7 +72,7 @@ fn put_found<W: ByteWrite>(w: &mut W, failed: &mut bool, front: usize, found: &F
     }
 }
 
-/// Puts the lines of all that was found.
+/// Puts the lines of all files and directories that were found.
 fn put_all<W: ByteWrite>(w: &mut W, failed: &mut bool, front: usize, found: &[Found])
     ensures { Puts (sink (W.output w.old) failed.old) (sink (W.output w.new) failed.new)
         (scan_text (map (entry_of front) found.now)) }
@@ -82,7 +82,7 @@ fn put_all<W: ByteWrite>(w: &mut W, failed: &mut bool, front: usize, found: &[Fo
     }
 }
 
-/// Writes the lines of all that was found.
+/// Writes the lines of all files and directories that were found.
 fn write_all<W: ByteWrite>(w: &mut W, front: usize, found: &[Found]) -> Result<(), Failed>
     ensures text { WritesText (W.output w.old).contents (W.output w.new).contents result
         (scan_text (map (entry_of front) found.now)) }
@@ -94,13 +94,13 @@ fn write_all<W: ByteWrite>(w: &mut W, front: usize, found: &[Found]) -> Result<(
     if failed { Err(Failed) } else { Ok(()) }
 }
 
-/// Writes a line for each folder and each file that was found, in a manifest's words, and flushes
-/// them. What is found at a place has the path that stands behind the place's first `front` bytes:
-/// behind the name of the folder that was scanned.
+/// Writes the line of a manifest for each directory and each file that was found, and flushes them.
+/// The path of each is its name without the first `front` bytes, which are the name of the scanned
+/// directory.
 ///
 /// # Errors
 ///
-/// A write or the flush failed; a prefix of the lines was written.
+/// `Failed` if a write or the flush failed. Then a prefix of the lines was written.
 pub fn put_scan<W: ByteWrite>(w: &mut W, front: usize, found: &[Found]) -> Result<(), Failed>
     ensures text { WritesText (W.output w.old).contents (W.output w.new).contents result
         (scan_text (map (entry_of front) found.now)) }

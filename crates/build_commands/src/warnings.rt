@@ -1,8 +1,8 @@
-//! What a build warns of, by numbers. Those from 1 on are the numbers of `romtool linux`.
+//! The warnings of a build, by number. Those from 1 on are the numbers of `romtool linux`.
 ghost use Rattle.std.specs.Prelude.{◌≡◌};
 ghost use Rattle.build_commands.specs.Warnings.{name_of_warning};
 
-/// Returns the name of the warning of this number, and `Unknown` for a number that none has.
+/// Returns the name of the warning of this number, or `Unknown` if no warning has it.
 pub fn warning_name(number: u32) -> &'static str
     ensures { result.now ≡ name_of_warning number }
 {

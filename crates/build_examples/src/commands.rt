@@ -1,4 +1,4 @@
-//! What is told of a build and of a scan, and a built image that is served.
+//! The lines of a build and of a scan, and a built image that is served.
 use crate::made::{FORMATS, built, contents_of, read};
 use build_commands::elf::is_program;
 use build_commands::inventory::align_of;
@@ -10,7 +10,7 @@ use rom_fields::{Failed, Faulty, Plain};
 use std::alloc::{AllocError, Global};
 use std::test::Fail;
 
-/// A folder and a file of five bytes in it.
+/// A directory and a file of five bytes in it.
 const TEXT: &[u8] = b"dir /d 0755 0 0\nfile /d/a 0644 0 0 4 s\n";
 
 const LINES: &[u8] = b"open /d/a\nread 0 9\nopen /e\n";
@@ -41,7 +41,7 @@ fn a_built_image_is_served(rt: HostRuntime) -> Result<(), Fail> {
     Ok(())
 }
 
-/// The lines of three builds, if all are told.
+/// The lines of three builds, if all are written.
 fn told_of_builds(alloc: Global) -> Result<Vec<u8>, Failed> {
     let mut w = Plain::new(Vec::new(alloc));
     tell_built(&mut w, 4096)?;
@@ -60,7 +60,8 @@ fn lines_of_a_build(rt: HostRuntime) -> Result<(), Fail> {
     Ok(())
 }
 
-/// How the line of a build ends, by one byte a call for so many calls, and what the writer holds.
+/// How the line of a build ends with a writer that accepts one byte in each of this number of
+/// calls, and what the writer holds.
 fn built_in(alloc: Global, calls: u64) -> (Result<(), Failed>, Vec<u8>) {
     let mut w = Faulty::new(Plain::new(Vec::new(alloc)), calls, 1);
     let told = tell_built(&mut w, 7);
@@ -70,7 +71,7 @@ fn built_in(alloc: Global, calls: u64) -> (Result<(), Failed>, Vec<u8>) {
 #[test]
 fn a_failed_write_ends_a_line(rt: HostRuntime) -> Result<(), Fail> {
     let front: &[u8] = b"ok 7\n";
-    // `ok 7` and a line feed by one byte a call, and the flush
+    // `ok 7` and a line feed, one byte in each call, and the flush
     for calls in 0..7u64 {
         let (told, held) = built_in(rt.alloc(), calls);
         assert_eq!(rt; told, if calls < 6 { Err(Failed) } else { Ok(()) });
@@ -79,7 +80,7 @@ fn a_failed_write_ends_a_line(rt: HostRuntime) -> Result<(), Fail> {
     Ok(())
 }
 
-/// A folder with a file in it, in the folder `x`.
+/// A directory with a file in it, in the directory `x`.
 fn found_in_x(alloc: Global) -> Result<Vec<Found>, AllocError> {
     let mut found = Vec::new(alloc);
     for (place, is_folder) in [("x/a b", true), ("x/a b/é%\n", false)] {
@@ -89,7 +90,7 @@ fn found_in_x(alloc: Global) -> Result<Vec<Found>, AllocError> {
     Ok(found)
 }
 
-/// The lines of its scan, if all are told.
+/// The lines of its scan, if all are written.
 fn scanned(alloc: Global) -> Result<Vec<u8>, Fail> {
     let found = found_in_x(alloc)?;
     let mut w = Plain::new(Vec::new(alloc));
@@ -107,7 +108,7 @@ fn lines_of_a_scan(rt: HostRuntime) -> Result<(), Fail> {
     Ok(())
 }
 
-/// The manifest that its scan is.
+/// The manifest that its scan prints.
 fn scanned_manifest(alloc: Global) -> Result<Manifest, Fail> {
     let held = scanned(alloc)?;
     read(alloc, &held)
@@ -127,8 +128,8 @@ fn a_scan_is_a_manifest(rt: HostRuntime) -> Result<(), Fail> {
     Ok(())
 }
 
-/// Whether the scan fails to a writer that takes three bytes a call for so many calls, which then
-/// holds a front of this text.
+/// Whether the scan fails with a writer that accepts three bytes in each of this number of calls,
+/// and the writer then holds a front of this text.
 fn is_scan_ended(alloc: Global, calls: u64, text: &[u8]) -> Result<bool, Fail> {
     let found = found_in_x(alloc)?;
     let mut w = Faulty::new(Plain::new(Vec::new(alloc)), calls, 3);

@@ -14,8 +14,8 @@ use std::test::Fail;
 /// A volume with a file of five bytes.
 const TEXT: &[u8] = b"volume vol\nfile /a 0644 0 0 4 s";
 
-/// The front of its image, worked by hand: the superblock with the root's inode, which stands at
-/// 64; the inode of `a` at 76, its table at 92, and its bytes at 96.
+/// The front of its image, laid out manually: the superblock with the root's inode, which is at 64;
+/// the inode of `a` at 76, its block pointer at 92, and its bytes at 96.
 const LITTLE: [&[u8]; 9] = [
     b"E=\xcd(\x00\x10\x00\x00\x03\x08\x00\x00\x00\x00\x00\x00",
     b"Compressed ROMFS",
@@ -28,7 +28,7 @@ const LITTLE: [&[u8]; 9] = [
     b"hello",
 ];
 
-/// The same with the highest byte and the first field of each word first.
+/// The same in big-endian order, where also the bit-fields of each word are in the other order.
 const BIG: [&[u8]; 9] = [
     b"(\xcd=E\x00\x00\x10\x00\x00\x00\x08\x03\x00\x00\x00\x00",
     b"Compressed ROMFS",
@@ -41,7 +41,7 @@ const BIG: [&[u8]; 9] = [
     b"hello",
 ];
 
-/// Whether the image is written into a buffer, whatever that held.
+/// Whether the image is written into a buffer, whatever the buffer held.
 fn is_written(plan: &Plan, contents: &Contents<'_>, front: &[&[u8]]) -> bool
     requires { (o : Order) × (plan.now.format ≡ cramfs o) }
 {
@@ -63,14 +63,14 @@ fn is_streamed(alloc: Global, plan: &Plan, contents: &Contents<'_>, front: &[&[u
     is_whole && has_front(held.as_slice(), front, 4096 - 101)
 }
 
-/// Whether the image with the lowest byte first is written.
+/// Whether the little-endian image is written.
 fn is_little_written(alloc: Global) -> Result<bool, Fail> {
     let contents = contents_of(alloc, &[b"hello"])?;
     let plan = planned(alloc, TEXT, &[5], Format::Cramfs)?;
     Ok(is_written(&plan, &contents, &LITTLE))
 }
 
-/// Whether the image with the highest byte first is written.
+/// Whether the big-endian image is written.
 fn is_big_written(alloc: Global) -> Result<bool, Fail> {
     let contents = contents_of(alloc, &[b"hello"])?;
     let plan = planned(alloc, TEXT, &[5], Format::CramfsBig)?;
@@ -84,7 +84,7 @@ fn in_both_orders(rt: HostRuntime) -> Result<(), Fail> {
     Ok(())
 }
 
-/// Whether the image with the highest byte first is streamed.
+/// Whether the big-endian image is streamed.
 fn is_big_streamed(alloc: Global) -> Result<bool, Fail> {
     let contents = contents_of(alloc, &[b"hello"])?;
     let plan = planned(alloc, TEXT, &[5], Format::CramfsBig)?;

@@ -1,4 +1,4 @@
-//! The image of one file, `hello`: written over a buffer that is full, and refused to be streamed.
+//! The image of one file, `hello`: written over the bytes of a buffer, and refused as a stream.
 ghost use Rattle.std.specs.Prelude.{◌≡◌};
 ghost use Rattle.manifest_layout.specs.Format.{romfs};
 
@@ -9,10 +9,10 @@ use rom_fields::{Contents, Plain};
 use romfs_write::{StreamError, stream, write};
 use std::test::Fail;
 
-/// A file, and neither a volume's name nor a link.
+/// A file, without a volume's name or a link.
 const TEXT: &[u8] = b"file /a 0644 0 0 4 a\n";
 
-/// The front of its image, as Python's struct packs it by romfs.rst: the superblock, the root, its
+/// The front of its image, packed by Python's struct as in romfs.rst: the superblock, the root, its
 /// `..`, and the file with its bytes at 128.
 const FRONT: [&[u8]; 9] = [
     b"-rom1fs-\x00\x00\x00\x90\xc9\xc1\xb0\x6a",

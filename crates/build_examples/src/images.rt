@@ -1,4 +1,4 @@
-//! Images that are built in memory: the bytes of one in each format, and what is refused.
+//! Images that are built in memory: the bytes of one in each format, and refusals.
 use crate::made::{built, contents_of, has_front};
 use image_build::BuildError;
 use plan_types::Format;
@@ -7,8 +7,8 @@ use std::test::Fail;
 /// One file of five bytes.
 const TEXT: &[u8] = b"file /a 0644 0 0 4 hello.txt\n";
 
-/// The front of its romfs image, worked by hand: the superblock, the root, its `..`, the file, and
-/// the bytes.
+/// The front of its romfs image, laid out manually: the superblock, the root, its `..`, the file,
+/// and the bytes.
 const ROMFS: [&[u8]; 9] = [
     b"-rom1fs-\x00\x00\x00\x90\xc9\xc1\xb0\x6a",
     b"\x00\x00\x00\x00\x00\x00\x00\x00\x00\x00\x00\x00\x00\x00\x00\x00",
@@ -21,8 +21,8 @@ const ROMFS: [&[u8]; 9] = [
     b"hello",
 ];
 
-/// That of its cramfs image: the superblock with the root's inode, the inode of the file, its
-/// table, and the bytes. The crc is that of another program.
+/// The front of its cramfs image: the superblock with the root's inode, the inode of the file, its
+/// block pointer, and the bytes. The CRC was computed by another program.
 const LITTLE: [&[u8]; 9] = [
     b"E=\xcd(\x00\x10\x00\x00\x03\x08\x00\x00\x00\x00\x00\x00",
     b"Compressed ROMFS",
@@ -35,7 +35,7 @@ const LITTLE: [&[u8]; 9] = [
     b"hello",
 ];
 
-/// The same with the highest byte and the first field of each word first.
+/// The same in big-endian order, where also the bit-fields of each word are in the other order.
 const BIG: [&[u8]; 9] = [
     b"(\xcd=E\x00\x00\x10\x00\x00\x00\x08\x03\x00\x00\x00\x00",
     b"Compressed ROMFS",
@@ -48,7 +48,8 @@ const BIG: [&[u8]; 9] = [
     b"hello",
 ];
 
-/// Texts with the contents of their sources, and why they are refused: of two reasons the first.
+/// Texts with the contents of their sources, and why they are refused. Of two reasons, the first
+/// one counts.
 const REFUSED: [(&[u8], &[&[u8]], Format, BuildError); 11] = [
     (
         b"fly /a\n",

@@ -1,16 +1,16 @@
-//! Plans of manifests: the least refusal, where items and sections of an image stand, and how many
-//! names there may be.
+//! Plans of manifests: the least refusal, the offsets of items and sections of an image, and the
+//! greatest number of names.
 use crate::made::planned;
 use layout_plan::{Body, Format, PlanError, Section, plan};
 use manifest::parse;
 use std::alloc::{AllocError, Global};
 use std::test::Fail;
 
-/// The answer to a manifest: nothing where it has a plan, and else its refusal, as line and number.
+/// The answer to a manifest: nothing if it has a plan, otherwise its refusal, as line and number.
 type Answer = Option<(u64, u32)>;
 
-/// Manifests with the sizes of their sources, and what each format answers: romfs, and cramfs in
-/// both orders.
+/// Manifests with the sizes of their sources, and the answer in each format: in romfs, and in
+/// cramfs of both byte orders.
 const ANSWERS: [(&[u8], &[u64], Answer, Answer); 20] = [
     (b"", &[], None, None),
     (b"file /a 0644 0 0 16 s", &[1 << 24], None, Some((1, 2))),
@@ -123,15 +123,17 @@ fn least_misfits(rt: HostRuntime) -> Result<(), Fail> {
     Ok(())
 }
 
-/// What an item of an image is to be: its place, its words, its table, and its bytes.
+/// The expected values of an item of an image: its offset, its words, its block pointers, and its
+/// bytes.
 type Wanted = (u32, [u32; 3], u32, u32, u32);
 
-/// A file, the same contents once more, and a link in a directory.
+/// A file, a second one with the same contents, and a link in a directory.
 const SHARED: &[u8] =
     b"dir /d 0755 0 0\nfile /d/f 0644 0 0 16 s\nsame /c 0644 0 0 /d/f\nslink /e 0777 0 0 to";
 
-/// Its items in cramfs, worked by hand: the root's list at 76 has `c`, `d` and `e`, 16 bytes each;
-/// the table and the bytes of `c` come first, then the list of `d`, and the bytes of `e`.
+/// Its items in cramfs, laid out manually. The root's list at 76 has `c`, `d` and `e`, 16 bytes
+/// each. The block pointer and the bytes of `c` come first, then the list of `d`, and the bytes of
+/// `e`.
 const SHARED_ITEMS: [Wanted; 5] = [
     (64, [16_877, 48, 76 / 4 * 64], 0, 0, 0),
     (76, [33_188, 5, 1 + 124 / 4 * 64], 124, 128, 5),
@@ -140,7 +142,7 @@ const SHARED_ITEMS: [Wanted; 5] = [
     (136, [33_188, 5, 1 + 124 / 4 * 64], 124, 128, 5),
 ];
 
-/// Where its sections stand, how long they are, and what they hold.
+/// The offsets, lengths and contents of its sections.
 const SHARED_SECTIONS: [(u32, u32, Body); 9] = [
     (0, 76, Body::Super),
     (76, 16, Body::Record { item: 1 }),
@@ -153,10 +155,10 @@ const SHARED_SECTIONS: [(u32, u32, Body); 9] = [
     (156, 2, Body::Text { item: 3 }),
 ];
 
-/// The volume `vol` with the file `a`, and the directory `d` with `c`, a further name of it.
+/// The volume `vol` with the file `a`, and the directory `d` with `c`, a further name of `a`.
 const LINKED: &[u8] = b"volume vol\nfile /a 0644 0 0 4 s\ndir /d 0755 0 0\nhard /d/c /a";
 
-/// Its headers in romfs, worked by hand.
+/// Its headers in romfs, laid out manually.
 const LINKED_ITEMS: [Wanted; 7] = [
     (32, [73, 32, 0], 0, 0, 0),
     (64, [96, 32, 0], 0, 0, 0),
@@ -167,7 +169,7 @@ const LINKED_ITEMS: [Wanted; 7] = [
     (240, [0, 96, 0], 0, 0, 0),
 ];
 
-/// Where its sections stand, how long they are, and what they hold.
+/// The offsets, lengths and contents of its sections.
 const LINKED_SECTIONS: [(u32, u32, Body); 9] = [
     (0, 32, Body::Super),
     (32, 32, Body::Record { item: 0 }),
@@ -270,7 +272,7 @@ fn depth_of_64(rt: HostRuntime) -> Result<(), Fail> {
     Ok(())
 }
 
-/// How many items the plan of a text has, which names no sources.
+/// The number of items in the plan of a text that names no sources.
 fn item_count(alloc: Global, text: &[u8], format: Format) -> Result<usize, Fail> {
     let manifest = parse(alloc, text)?;
     if manifest.sources().len() != 0 {
@@ -282,7 +284,7 @@ fn item_count(alloc: Global, text: &[u8], format: Format) -> Result<usize, Fail>
     }
 }
 
-/// 100,000 names in one list: the root, in romfs with `..`, and each of them.
+/// 100,000 names in one list: the root, each of them, and in romfs also `..`.
 #[test]
 fn many_names_in_a_list(rt: HostRuntime) -> Result<(), Fail> {
     let mut text = String::new(rt.alloc());

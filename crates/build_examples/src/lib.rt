@@ -1,7 +1,7 @@
-//! Tests of building that go through several crates: the lines, rows and plans of manifests, the
-//! bytes of one image in each format, images that are built in memory, written into a buffer and
-//! streamed, with readers and writers that fail, and manifests that are written. Nothing stands on
-//! this crate.
+//! Tests of building that use several crates: the lines, rows and plans of manifests; the bytes of
+//! one image in each format; images that are built in memory, written into a buffer and streamed,
+//! with readers and writers that fail; and manifests that are written. No crate depends on this
+//! one.
 #![tactic(auto)]
 
 #[cfg(test)]

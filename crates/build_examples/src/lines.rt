@@ -1,5 +1,5 @@
-//! The calls of `manifest`, each once. Texts that are refused, lengths and long texts are cases of
-//! the program, in `tests/cases/build.json`.
+//! The calls of `manifest`, each once. Refused texts, lengths and long texts are cases of the
+//! program, in `tests/cases/build.json`.
 use crate::made::read;
 use manifest::{ManifestError, Name, Word, name};
 use rom_fields::OutOfMemory;

@@ -21,8 +21,7 @@ pub fn contents_of<'c>(alloc: Global, all: &[&'c [u8]]) -> Result<Contents<'c>, 
     Ok(contents)
 }
 
-/// The manifest that a text is. Nothing is promised of it, so that what is proved over it is proved
-/// sooner.
+/// The manifest of a text. It promises nothing, so that proofs about it are faster.
 pub fn read(alloc: Global, text: &[u8]) -> Result<Manifest, Fail> {
     Ok(parse(alloc, text)?)
 }
@@ -55,7 +54,7 @@ pub fn built(
     }
 }
 
-/// Whether an image has this front, and so many zeros behind it.
+/// Whether an image has this front, and then this number of zeros.
 pub fn has_front(image: &[u8], front: &[&[u8]], zeros: usize) -> bool {
     let mut rest = image;
     for piece in front {

@@ -13,7 +13,7 @@ use std::test::Fail;
 /// A volume with a file of five bytes and a link.
 const TEXT: &[u8] = b"volume vol\nfile /a 0644 0 0 4 s\nslink /l 0777 0 0 a";
 
-/// The front of its image, as Python's struct packs it by romfs.rst: the superblock, the root, its
+/// The front of its image, packed by Python's struct as in romfs.rst: the superblock, the root, its
 /// `..`, the file with its bytes at 128, and the link at 144.
 const FRONT: [&[u8]; 12] = [
     b"-rom1fs-\x00\x00\x00\xc0\xf2RD:",
@@ -30,8 +30,8 @@ const FRONT: [&[u8]; 12] = [
     b"a\x00\x00\x00\x00\x00\x00\x00\x00\x00\x00\x00\x00\x00\x00\x00",
 ];
 
-/// Whether contents of another size are refused by the number of their file, and the buffer is as
-/// it was.
+/// Whether contents of another size are refused with the number of their file, and the buffer
+/// stays.
 fn is_refused(plan: &Plan, contents: &Contents<'_>) -> bool
     requires { plan.now.format ≡ romfs }
 {
@@ -42,7 +42,7 @@ fn is_refused(plan: &Plan, contents: &Contents<'_>) -> bool
         && space.iter().all(|byte| *byte == 255)
 }
 
-/// Whether the image is written into a buffer, whatever that held.
+/// Whether the image is written into a buffer, whatever the buffer held.
 fn is_written(plan: &Plan, contents: &Contents<'_>) -> bool
     requires { plan.now.format ≡ romfs }
 {

@@ -4,8 +4,8 @@ use manifest_rows::{Bytes, Inode, PathTargets, Row, What, root, rows};
 use rom_tree::Kind;
 use std::test::Fail;
 
-/// Lines that are not in the order of their names. As bytes `/a-b` stands before `/a/c`, and in the
-/// tree behind it.
+/// Lines that are not in the order of their names. Compared as bytes, `/a-b` comes before `/a/c`;
+/// in the tree it comes after it.
 const TEXT: &[u8] = b"\
         file /b 0644 1 2 64 one\n\
         dir /a 0755 0 0\n\
@@ -20,7 +20,7 @@ const TEXT: &[u8] = b"\
 /// The sizes of the two sources.
 const SIZES: [u64; 2] = [10, 20];
 
-/// A file of an owner's, with this alignment and these bytes.
+/// A file with this owner, this alignment and these bytes.
 fn file(line: u64, mode: u32, owner: (u32, u32), align: u32, source: usize) -> Inode<'static> {
     Inode {
         line,
@@ -36,7 +36,7 @@ fn file(line: u64, mode: u32, owner: (u32, u32), align: u32, source: usize) -> I
     }
 }
 
-/// What has neither bytes nor an alignment of its own.
+/// A node without bytes and without an alignment of its own.
 fn other(line: u64, kind: Kind, mode: u32, owner: (u32, u32)) -> Inode<'static> {
     Inode {
         line,
@@ -52,7 +52,7 @@ fn other(line: u64, kind: Kind, mode: u32, owner: (u32, u32)) -> Inode<'static> 
     }
 }
 
-/// The rows of the text, worked by hand.
+/// The rows of the text, worked out manually.
 fn expected() -> [Row<'static>; 7] {
     let shared = file(1, 0o644, (1, 2), 64, 0);
     let link = Inode {

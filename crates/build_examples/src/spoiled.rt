@@ -1,19 +1,20 @@
-//! Sources that are not as they were.
+//! Sources that change or fail.
 ghost use Rattle.std.specs.Prelude.{◌≡◌, ◌≤◌, length};
 
 use layout_plan::{SourceFailed, Sources};
 use rom_fields::Contents;
 
-/// What is wrong with sources from some read on.
+/// What is wrong with sources after some reads.
 #[derive(Debug, Clone, Copy, PartialEq, Eq)]
 pub enum Fault {
     /// Each read fails.
     Unreadable,
-    /// The first byte of each file is another one.
+    /// The first byte of each file differs.
     Changed,
 }
 
-/// Files in memory, of which nothing is told, and which have a fault after so many reads.
+/// Files in memory that report nothing of their contents and have a fault after this number of
+/// reads.
 #[derive(Drop)]
 pub struct Spoiled<'c> {
     contents: &'c Contents<'c>,
@@ -24,7 +25,7 @@ pub struct Spoiled<'c> {
 }
 
 impl<'c> Spoiled<'c> {
-    /// These files, which can be read soundly so many times.
+    /// These files, which can be read correctly this number of times.
     pub fn new(contents: &'c Contents<'c>, fault: Fault, sound: u64) -> Spoiled<'c>
         ensures { result.contents.now ≡ contents.now }
     {
@@ -38,7 +39,7 @@ impl<'c> Spoiled<'c> {
     }
 }
 
-/// The bytes of a file from `at` on, as many as there is room for.
+/// The bytes of a file from `at` on, as many as fit.
 fn copied(content: &[u8], at: u64, buf: &mut [u8]) -> usize
     ensures { result ≤ length buf.new }
 {

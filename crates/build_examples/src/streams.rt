@@ -1,4 +1,4 @@
-//! Images that are built in memory, and streamed from and to what fails.
+//! Images that are built in memory, and streams from sources and to writers that fail.
 use crate::made::{FORMATS, built, contents_of, planned};
 use crate::spoiled::{Fault, Spoiled};
 use image_build::{Contents, Format, Plan, Slices, Sources, StreamError, stream};
@@ -10,7 +10,7 @@ use std::test::Fail;
 /// Bytes of more than two blocks.
 const LARGE: &[u8; 9001] = &[b'q'; 9001];
 
-/// One fewer.
+/// One byte fewer.
 const SHORTER: &[u8; 9000] = &[b'q'; 9000];
 
 /// A manifest with the contents of its sources, and their sizes.
@@ -49,7 +49,7 @@ const FITTING: [Fitting; 9] = [
     ),
 ];
 
-/// How a stream ended; nothing where there are more or fewer sources than the plan has.
+/// How a stream ended, or nothing if the number of sources is not the plan's.
 type Ended = Option<Result<(), StreamError>>;
 
 /// Streams a plan from sources, one for each of its own.
@@ -66,7 +66,7 @@ fn from_memory<W: ByteWrite>(plan: &Plan, contents: &Contents<'_>, w: &mut W) ->
     streamed(plan, &mut Slices::new(contents), w)
 }
 
-/// Streams a plan from sources with a fault after so many reads.
+/// Streams a plan from sources with a fault after this number of reads.
 fn from_spoiled<W: ByteWrite>(
     plan: &Plan,
     contents: &Contents<'_>,
@@ -77,8 +77,8 @@ fn from_spoiled<W: ByteWrite>(
     streamed(plan, &mut Spoiled::new(contents, fault, sound), w)
 }
 
-/// Streams a plan from memory to a writer that takes so many calls, each of so many bytes at most:
-/// what the writer then holds, and how it ended.
+/// Streams a plan from memory to a writer that accepts this number of calls, each with at most
+/// `most` bytes: what the writer then holds, and how it ended.
 fn sent(
     alloc: Global,
     plan: &Plan,
@@ -92,7 +92,8 @@ fn sent(
     Ok((w.into_inner().into_inner(), ended))
 }
 
-/// The same from sources with a fault after so many reads, to a writer that takes all.
+/// The same from sources with a fault after this number of reads, to a writer that accepts
+/// everything.
 fn spoiled(
     alloc: Global,
     plan: &Plan,
@@ -120,8 +121,8 @@ fn image_of(alloc: Global, text: &[u8], all: &[&[u8]], format: Format) -> Result
     }
 }
 
-/// Whether the plan of a manifest is streamed as this image, to a writer that takes so many bytes a
-/// call.
+/// Whether the plan of a manifest is streamed as this image, to a writer that accepts this number
+/// of bytes in each call.
 fn is_streamed(
     alloc: Global,
     fitting: Fitting,
@@ -135,7 +136,7 @@ fn is_streamed(
     Ok(ended == Some(Ok(())) && held.as_slice() == image)
 }
 
-/// Whether the image of a manifest is accepted, and streamed in pieces of so many bytes.
+/// Whether the image of a manifest is accepted, and streamed in pieces of this number of bytes.
 fn is_image(alloc: Global, fitting: Fitting, format: Format, most: usize) -> Result<bool, Fail> {
     let (text, all, _) = fitting;
     let image = image_of(alloc, text, all, format)?;
@@ -158,8 +159,8 @@ fn images_are_accepted_and_streamed(rt: HostRuntime) -> Result<(), Fail> {
     Ok(())
 }
 
-/// Whether a stream to a writer that takes so many calls is whole; if it is not, it ends with a
-/// failed write, and the writer holds a front of the image.
+/// Whether a stream to a writer that accepts this number of calls is whole. If it is not, it ends
+/// with a failed write, and the writer holds a front of the image.
 fn is_whole_in(
     alloc: Global,
     plan: &Plan,
@@ -175,7 +176,7 @@ fn is_whole_in(
     }
 }
 
-/// Whether the streams to writers that take 0 to 399 calls are whole from one of them on.
+/// Whether the streams to writers that accept 0 to 399 calls are whole from one of them on.
 fn writes_fail_in_turn(alloc: Global, format: Format) -> Result<bool, Fail> {
     let (text, all, sizes) = FITTING[5];
     let image = image_of(alloc, text, all, format)?;
@@ -199,8 +200,8 @@ fn each_write_fails_in_turn(rt: HostRuntime) -> Result<(), Fail> {
     Ok(())
 }
 
-/// Whether a stream from sources that fail after so many reads is whole; if it is not, it ends with
-/// a fault of a source, and the writer holds a front of the image.
+/// Whether a stream from sources that fail after this number of reads is whole. If it is not, it
+/// ends with a fault of a source, and the writer holds a front of the image.
 fn is_whole_after(
     alloc: Global,
     plan: &Plan,
@@ -242,7 +243,7 @@ fn each_read_fails_in_turn(rt: HostRuntime) -> Result<(), Fail> {
     Ok(())
 }
 
-/// How a stream of a manifest's plan ends, from sources with a fault after so many reads.
+/// How a stream of a manifest's plan ends, from sources with a fault after this number of reads.
 fn ended_after(
     alloc: Global,
     fitting: Fitting,
@@ -258,8 +259,8 @@ fn ended_after(
 
 #[test]
 fn contents_are_read_as_far_as_they_count(rt: HostRuntime) -> Result<(), Fail> {
-    // for the sizes 2, 2 and 1 reads, and to be written 1, 3 and none; for the sum of romfs, which
-    // ends in the first part of /b, 1 read, and for that of cramfs 1, 3 and none
+    // for the sizes 2, 2 and 1 reads, and for the bytes 1, 3 and none; for the checksum of romfs,
+    // which ends in the first part of /b, 1 read, and for that of cramfs 1, 3 and none
     for (format, reads) in [
         (Format::Romfs, 10),
         (Format::Cramfs, 13),
@@ -279,7 +280,7 @@ fn contents_are_read_as_far_as_they_count(rt: HostRuntime) -> Result<(), Fail> {
 fn contents_that_change_are_told(rt: HostRuntime) -> Result<(), Fail> {
     let (whole, changed) = (Some(Ok(())), Some(Err(StreamError::Changed)));
     for format in FORMATS {
-        // two reads for the size, one for the sum, and one to be written
+        // two reads for the size, one for the checksum, and one for the bytes
         for (sound, want) in [(0, whole), (1, whole), (2, whole), (3, changed), (4, whole)] {
             let ended = ended_after(rt.alloc(), FITTING[1], format, Fault::Changed, sound)?;
             assert_eq!(rt; ended, want, "after {sound}");
@@ -288,7 +289,7 @@ fn contents_that_change_are_told(rt: HostRuntime) -> Result<(), Fail> {
     Ok(())
 }
 
-/// Whether a stream of these contents in place of the manifest's ends before the first byte, since
+/// Whether a stream of these contents instead of the manifest's ends before the first byte, since
 /// that source has another size.
 fn is_refused(alloc: Global, format: Format, other: &[&[u8]], file: usize) -> Result<bool, Fail> {
     let (text, _, sizes) = FITTING[5];

@@ -1,7 +1,7 @@
-//! The expected sums are those of Python's `zlib.crc32`.
+//! CRC-32. The expected values are those of Python's `zlib.crc32`.
 use crc::{crc32, crc32_more};
 
-/// Fills the bytes with the highest ones of a linear congruence.
+/// Fills the bytes with the high bytes of a linear congruential generator.
 fn fill(bytes: &mut [u8]) {
     let mut state: u32 = 1;
     for x in bytes.iter_mut() {
@@ -23,8 +23,8 @@ fn two_parts(rt: HostRuntime) {
     assert_eq!(rt; crc32_more(0xcbf4_3926, b""), 0xcbf4_3926);
 }
 
-/// Lengths about 300, where a history is whole; 512, from which on one is kept; and 4,096 and
-/// 4,396, which are taken in at a time.
+/// Lengths near 300, where all bytes are kept; near 512, from which on a piece is reduced to its
+/// last 300 bytes; and near 4,096 and 4,396, the end of a block.
 #[test]
 fn lengths(rt: HostRuntime) {
     let mut space: [u8; 10_000] = [0; 10_000];

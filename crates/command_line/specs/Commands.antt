@@ -7,7 +7,7 @@ use Rattle.clap.specs.Simple.{new_shape}
 use Rattle.clap.specs.declared.builder.action.ArgAction.TheVariants.{Append, SetTrue}
 use Rattle.clap.specs.declared.builder.command.Command.{Command}
 
--- a value that has to be given
+-- a required value
 abbrev pub value_rule : Text → Rule
 value_rule name = record (new_rule name) { required = true; value_names = 1 }
 
@@ -16,7 +16,7 @@ abbrev pub few_rule : Text → Rule
 few_rule name = record (value_rule name)
     { range = Some (record { start_inclusive = 1; end_inclusive = 8 }) }
 
--- one value or more, up to 65,535
+-- one to 65,535 values
 abbrev pub several_rule : Text → Rule
 several_rule name = record (value_rule name)
     { range = Some (record { start_inclusive = 1; end_inclusive = 65535 }) }
@@ -25,11 +25,11 @@ several_rule name = record (value_rule name)
 abbrev pub option_rule : Text → Rule
 option_rule name = record (new_rule name) { long = Some name; value_names = 1 }
 
--- --NAME VALUE, or with a letter behind a single -
+-- --NAME VALUE, or a letter after a single - and VALUE
 abbrev pub lettered_rule : ℕ → Text → Rule
 lettered_rule letter name = record (option_rule name) { short = Some letter }
 
--- --NAME VALUE, as often as is wished
+-- --NAME VALUE, any number of times
 abbrev pub repeated_rule : Text → Rule
 repeated_rule name = record (option_rule name) { action = Some Append }
 

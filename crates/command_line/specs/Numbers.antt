@@ -1,5 +1,5 @@
--- What single words name: formats, alignments, addresses, numbers of bytes, owners. (This project's
--- own.)
+-- The values of single words: formats, alignments, addresses, numbers of bytes, owners. (This
+-- project's own.)
 use Rattle.std.specs.Prelude.{◌≡◌, ◌*◌, ℕ, List, [], ◌∷◌, ◌++◌, codes, find, drop, true}
 use Rattle.std.specs.Prelude.{Option, Some, None, option_map, ◌==◌, if◌then◌else◌}
 use Rattle.std.specs.List.{starts_with}
@@ -16,7 +16,7 @@ format_word Romfs = codes "romfs"
 format_word Cramfs = codes "cramfs"
 format_word CramfsBig = codes "cramfs-be"
 
--- the words of the alignments that a manifest takes
+-- the words of the alignments that a manifest may have
 abbrev pub align_words : List (List ℕ × ℕ)
 align_words =
     (codes "4", 4) ∷ (codes "8", 8) ∷ (codes "16", 16) ∷ (codes "32", 32) ∷ (codes "64", 64)
@@ -30,11 +30,11 @@ align_words =
 abbrev pub align_named : List ℕ → Option ℕ
 align_named word = option_map (λ p. p.1) (find (λ p. bytes_eq p.0 word) align_words)
 
--- bytes are this number in digits of this radix
+-- the bytes are this number in digits of this radix
 abbrev pub IsNumber : ℕ → List ℕ → ℕ → Type 0
 IsNumber radix digits n = IsNumeral radix digits × (digits_value radix digits ≡ n)
 
--- the digits of an address, behind `0x` or not
+-- the digits of an address, without `0x` in front
 abbrev pub address_digits : List ℕ → List ℕ
 address_digits word = if starts_with (λ a b. a == b) word (codes "0x") then drop 2 word else word
 
@@ -42,19 +42,19 @@ address_digits word = if starts_with (λ a b. a == b) word (codes "0x") then dro
 abbrev pub IsAddress : List ℕ → ℕ → Type 0
 IsAddress word n = IsNumber 16 (address_digits word) n
 
--- the address that is asked for, 0 if none is
+-- the address that the option names, or 0 without it
 abbrev pub IsBaseOf : Option (List ℕ) → ℕ → Type 0
 IsBaseOf None n = n ≡ 0
 IsBaseOf (Some word) n = IsAddress word n
 
--- each word is the address of its number
+-- each word is the address at the same index
 pub data AreAddresses : List (List ℕ) → List ℕ → Type 0 where
   no_address : AreAddresses [] []
   next_address : (ws : List (List ℕ)) (ns : List ℕ) (w : List ℕ) (n : ℕ) → AreAddresses ws ns
       → IsAddress w n → AreAddresses (ws ++ w ∷ []) (ns ++ n ∷ [])
 
--- a word is this number of bytes: hexadecimal digits behind `0x`, or decimal digits, behind which
--- may stand K or M, for units of 1,024 and 1,048,576
+-- a word is this number of bytes: hexadecimal digits after `0x`; or decimal digits, after which K
+-- or M may be, for units of 1,024 and 1,048,576
 pub data IsSize (word : List ℕ) (n : ℕ) : Type 0 where
   in_hexadecimal : starts_with (λ a b. a == b) word (codes "0x") ≡ true
       → IsNumber 16 (drop 2 word) n → IsSize word n
@@ -64,7 +64,8 @@ pub data IsSize (word : List ℕ) (n : ℕ) : Type 0 where
   in_megabytes : (digits : List ℕ) (k : ℕ) → word ≡ digits ++ codes "M" → IsNumber 10 digits k
       → n ≡ k * 1048576 → IsSize word n
 
--- a word is this owner: a user and a group in decimal digits, with a colon between them
+-- a word is this owner: the numbers of a user and a group in decimal digits, with a colon between
+-- them
 pub data IsOwner (word : List ℕ) (o : Owner) : Type 0 where
   user_and_group : (user group : List ℕ) → word ≡ user ++ (codes ":" ++ group)
       → IsNumber 10 user o.uid
@@ -75,20 +76,20 @@ pub data IsAlignRule (word : List ℕ) (r : AlignRule) : Type 0 where
   pattern_and_align : (number : List ℕ) → word ≡ r.pattern.now ++ (codes "=" ++ number)
       → align_named number ≡ Some r.align → IsAlignRule word r
 
--- A word changes the alignment of what matches no pattern, or adds a rule.
+-- A word changes the alignment of files that match no pattern, or adds a rule.
 pub data NotesAlign (word : List ℕ) (old new : ℕ × List AlignRule) : Type 0 where
   usual_align : align_named word ≡ Some new.0 → new.1 ≡ old.1 → NotesAlign word old new
   another_rule : (r : AlignRule) → IsAlignRule word r → new.0 ≡ old.0 → new.1 ≡ old.1 ++ r ∷ []
       → NotesAlign word old new
 
--- Words give the alignment of what matches no pattern, 4 if none does, and the rules in their
--- order.
+-- The words say the alignment of files that match no pattern, which is otherwise 4, and the rules
+-- in their order.
 pub data AreAligns : List (List ℕ) → ℕ × List AlignRule → Type 0 where
   no_align : AreAligns [] (4, [])
   next_align : (ws : List (List ℕ)) (w : List ℕ) (old new : ℕ × List AlignRule) → AreAligns ws old
       → NotesAlign w old new → AreAligns (ws ++ w ∷ []) new
 
--- a value is what its word says, and there is none if there is no word
+-- a value is the one that the word names; without the word there is none
 abbrev pub IsOptional : {X : Type 0} → (List ℕ → X → Type 0) → Option (List ℕ) → Option X → Type 0
 IsOptional P None None = Unit {0}
 IsOptional P None (Some x) = ⊥

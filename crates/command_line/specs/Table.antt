@@ -1,5 +1,4 @@
--- What the rows of the table of subcommands say, as clap reads words for them. (This project's
--- own.)
+-- The rows of the table of subcommands, as clap reads words for them. (This project's own.)
 use Rattle.std.specs.Prelude.{List, [], ◌∷◌, ◌++◌, map}
 use Rattle.clap.specs.Words.{Rule, Shape}
 use Rattle.command_line.specs.Commands.{few_rule, flag_rule, lettered_rule, option_rule}
@@ -26,6 +25,6 @@ rule_of_kind Flag name = flag_rule name
 abbrev pub rule_named : Word → Rule
 rule_named w = rule_of_kind w.kind w.name.now
 
--- a subcommand, which has the option to explain in addition
+-- a subcommand, with the option to explain in addition
 abbrev pub shape_named : Subcommand → Shape
 shape_named s = shape_with s.name.now (map rule_named s.words.now ++ explain_rule ∷ [])

@@ -1,4 +1,4 @@
-//! What each subcommand asks for, by the values that clap has of its arguments.
+//! What each subcommand asks for, by the values that clap returns for its arguments.
 ghost use Rattle.std.specs.Prelude.{◌≡◌, ◌≢◌, IfNone, IfOk, IfSome, Some, codes, map, option_map};
 ghost use Rattle.clap.specs.Words.{all_of, first_of, found_of, rows_of};
 ghost use Rattle.command_line.specs.Numbers.{AreAddresses, AreAligns, IsAddress, IsBaseOf};
@@ -21,7 +21,7 @@ use clap::ArgMatches;
 use plan_types::Format;
 use std::alloc::{AllocError, Global};
 
-/// The alignment of regular files for which none is asked, in bytes.
+/// The alignment of regular files without an option, in bytes.
 const USUAL_ALIGN: u32 = 4;
 
 /// Returns the value of a name, if it has one.
@@ -31,7 +31,7 @@ fn value_of<'a>(values: &ArgMatches<'a>, name: &str) -> Option<&'a str>
     values.get_str(name)
 }
 
-/// Returns the values of a name, if it has some.
+/// Returns the values of a name, if it has any.
 fn values_of<'m, 'a>(values: &'m ArgMatches<'a>, name: &str) -> Option<&'m [&'a str]>
     ensures { option_map (λ s. map (λ v. v.now) s.now) result
         ≡ all_of name.now (rows_of (found_of values.now)) }
@@ -39,7 +39,7 @@ fn values_of<'m, 'a>(values: &'m ArgMatches<'a>, name: &str) -> Option<&'m [&'a 
     values.get_strs(name)
 }
 
-/// Returns the value of a name that has to be given.
+/// Returns the value of a required name.
 fn wanted<'a>(values: &ArgMatches<'a>, name: &str) -> Result<&'a str, WordsError<'a>>
     ensures { IfOk result (λ v. first_of name.now (rows_of (found_of values.now)) ≡ Some v.now) }
 {
@@ -59,7 +59,7 @@ fn is_given(values: &ArgMatches<'_>, name: &str) -> bool
     }
 }
 
-/// Returns the number of bytes that a name's value says, if it has one.
+/// Returns the number of bytes that the value of a name says, if it has one.
 fn size_of<'a>(values: &ArgMatches<'a>, name: &str) -> Result<Option<u64>, WordsError<'a>>
     ensures { IfOk result (IsOptional IsSize (first_of name.now (rows_of (found_of values.now)))) }
 {
@@ -82,7 +82,7 @@ fn address<'a>(word: &'a str) -> Result<u64, WordsError<'a>>
     }
 }
 
-/// Returns the address of an image's first byte, 0 if none is given.
+/// Returns the address of an image's first byte, or 0 if none is given.
 fn base_of<'a>(values: &ArgMatches<'a>) -> Result<u64, WordsError<'a>>
     ensures { IfOk result (IsBaseOf (first_of (codes "base") (rows_of (found_of values.now)))) }
 {
@@ -92,7 +92,7 @@ fn base_of<'a>(values: &ArgMatches<'a>) -> Result<u64, WordsError<'a>>
     }
 }
 
-/// Returns the values of a name, none if it has none.
+/// Returns the values of a name, or an empty list if it has none.
 fn texts_of<'a>(
     alloc: Global,
     values: &ArgMatches<'a>,
@@ -116,7 +116,7 @@ fn info_of<'a>(values: &ArgMatches<'a>) -> Result<Info<'a>, WordsError<'a>>
     Ok(Info { image, size })
 }
 
-/// Returns what a map is to show.
+/// Returns the form of a map.
 fn form_of<'a>(values: &ArgMatches<'a>) -> Result<MapForm<'a>, WordsError<'a>>
     ensures { IfOk result (IsForm (rows_of (found_of values.now))) }
 {
@@ -182,7 +182,7 @@ fn diff_of<'a>(values: &ArgMatches<'a>) -> Result<Diff<'a>, WordsError<'a>>
     Ok(Diff { old, new, tree })
 }
 
-/// Returns the check sums that are asked for.
+/// Returns the digests that are asked for.
 fn digest_of<'a>(values: &ArgMatches<'a>) -> Result<Digest<'a>, WordsError<'a>>
     ensures { IfOk result (λ d. IsAskedBy (rows_of (found_of values.now)) (request.Digest d)) }
 {
@@ -191,7 +191,7 @@ fn digest_of<'a>(values: &ArgMatches<'a>) -> Result<Digest<'a>, WordsError<'a>>
     Ok(Digest { image, whole })
 }
 
-/// Returns the offset in a dump that is given, 0 if none is.
+/// Returns the offset in a dump that is given, or 0 if none is.
 fn offset_of<'a>(values: &ArgMatches<'a>) -> Result<u64, WordsError<'a>>
     ensures { IfOk result (IsOffsetOf (first_of (codes "offset") (rows_of (found_of values.now)))) }
 {
@@ -221,7 +221,7 @@ fn cat_of<'a>(values: &ArgMatches<'a>) -> Result<Cat<'a>, WordsError<'a>>
     Ok(Cat { image, path })
 }
 
-/// Returns the image of which it is asked what Linux gets wrong.
+/// Returns the image of which is asked what Linux misreads in it.
 fn linux_of<'a>(values: &ArgMatches<'a>) -> Result<Linux<'a>, WordsError<'a>>
     ensures { IfOk result (λ l. IsAskedBy (rows_of (found_of values.now)) (request.Linux l)) }
 {
@@ -260,7 +260,7 @@ fn build_of<'a>(values: &ArgMatches<'a>) -> Result<Build<'a>, WordsError<'a>>
     })
 }
 
-/// Returns the format that a manifest is to fit, if one is named.
+/// Returns the format that a manifest has to fit, if one is named.
 fn wished_format<'a>(values: &ArgMatches<'a>) -> Result<Option<Format>, WordsError<'a>>
     ensures { IfOk result (λ f. first_of (codes "for") (rows_of (found_of values.now))
         ≡ option_map format_word f) }
@@ -274,12 +274,12 @@ fn wished_format<'a>(values: &ArgMatches<'a>) -> Result<Option<Format>, WordsErr
 /// The alignments of regular files.
 #[derive(Drop)]
 struct Aligns<'a> {
-    /// That of files that may be executed and match no pattern.
+    /// The alignment of files that may be executed and match no pattern.
     usual: u32,
     rules: Vec<AlignRule<'a>>,
 }
 
-/// Notes what a word says of alignments: a rule, or the alignment of what matches none.
+/// Notes what a word says of alignments: a rule, or the alignment of files that match none.
 fn note_align<'a>(word: &'a str, aligns: &mut Aligns<'a>) -> Result<(), WordsError<'a>>
     ensures { IfOk result (λ _. NotesAlign word.now
         (aligns.old.usual, aligns.old.rules.items) (aligns.new.usual, aligns.new.rules.items)) }
@@ -314,7 +314,7 @@ fn aligns_of<'a>(alloc: Global, values: &ArgMatches<'a>) -> Result<Aligns<'a>, W
     Ok(aligns)
 }
 
-/// Returns the owner of everything, if one is given.
+/// Returns the owner of all files, if one is given.
 fn wished_owner<'a>(values: &ArgMatches<'a>) -> Result<Option<Owner>, WordsError<'a>>
     ensures { IfOk result (IsOwnerOf (rows_of (found_of values.now))) }
 {
@@ -330,7 +330,7 @@ fn wished_owner<'a>(values: &ArgMatches<'a>) -> Result<Option<Owner>, WordsError
     }
 }
 
-/// Returns the manifest of directories as they are that is asked for by `--all`.
+/// Returns the manifest of directories as they are, which `--all` asks for.
 fn scan_all_of<'a>(alloc: Global, values: &ArgMatches<'a>) -> Result<ScanAll<'a>, WordsError<'a>>
     requires { first_of (codes "all") (rows_of (found_of values.now)) ≡ Some (codes "true") }
     ensures { IfOk result (λ s. IsAskedBy (rows_of (found_of values.now)) (request.ScanAll s)) }
@@ -355,7 +355,7 @@ fn scan_all_of<'a>(alloc: Global, values: &ArgMatches<'a>) -> Result<ScanAll<'a>
     })
 }
 
-/// Returns the name of an option with a value that is given and goes with `--all` only.
+/// Returns the name of an option with a value that is given and is only allowed with `--all`.
 fn value_with_all(values: &ArgMatches<'_>) -> Option<&'static str>
     ensures { IfNone result (HasNoValueForAll (rows_of (found_of values.now))) }
 {
@@ -378,7 +378,7 @@ fn value_with_all(values: &ArgMatches<'_>) -> Option<&'static str>
     }
 }
 
-/// Returns the name of an option that is given and goes with `--all` only.
+/// Returns the name of an option that is given and is only allowed with `--all`.
 fn option_with_all(values: &ArgMatches<'_>) -> Option<&'static str>
     ensures { IfNone result (IsPlainScan (rows_of (found_of values.now))) }
 {
@@ -420,7 +420,7 @@ fn either_scan<'a>(alloc: Global, values: &ArgMatches<'a>) -> Result<Request<'a>
     }
 }
 
-/// Returns the image that is to be taken apart.
+/// Returns the image that is to be taken apart, and the directory.
 fn extract_of<'a>(values: &ArgMatches<'a>) -> Result<Extract<'a>, WordsError<'a>>
     ensures { IfOk result (λ x. IsAskedBy (rows_of (found_of values.now)) (request.Extract x)) }
 {
@@ -434,7 +434,7 @@ fn extract_of<'a>(values: &ArgMatches<'a>) -> Result<Extract<'a>, WordsError<'a>
     })
 }
 
-/// Returns the images that are to be served together, up to eight.
+/// Returns the images that are to be served together, at most eight.
 fn images_of<'a>(values: &ArgMatches<'a>) -> Result<ArrayVec<&'a str, 8>, WordsError<'a>>
     ensures { IfOk result (λ v. all_of (codes "image") (rows_of (found_of values.now))
         ≡ Some (map (λ i. i.now) v.items)) }
@@ -449,8 +449,7 @@ fn images_of<'a>(values: &ArgMatches<'a>) -> Result<ArrayVec<&'a str, 8>, WordsE
     }
 }
 
-/// Returns what a subcommand that reads one image, or two, asks for with these values, if this is
-/// its name.
+/// Returns what a subcommand of this name asks for with these values, if it reads one image or two.
 fn reading<'a>(
     alloc: Global,
     name: &str,
@@ -478,7 +477,7 @@ fn reading<'a>(
 ///
 /// # Errors
 ///
-/// `Taken` with what is wrong in the values, and `OutOfMemory`.
+/// `Taken` with the reason why the values are wrong, and `OutOfMemory`.
 pub fn asked<'a>(
     alloc: Global,
     name: &str,

@@ -1,4 +1,4 @@
-//! The program's subcommands as clap reads them and as help shows them, made from their table.
+//! The program's subcommands for clap and its help, made from the table.
 ghost use Rattle.std.specs.Prelude.{◌≡◌, IfOk, false, map};
 ghost use Rattle.clap.specs.Words.{app_of, rule_of, shape_of};
 ghost use Rattle.command_line.specs.Commands.{IsShaped, flag_rule, romtool_app, romtool_top};
@@ -12,18 +12,18 @@ use std::alloc::{AllocError, Global};
 /// The program's version.
 pub const VERSION: &str = "1.0.0";
 
-/// What the program is.
+/// What the program does, for help.
 const ABOUT: &str =
     "Builds, checks, lists and serves read-only images that are used in place: romfs and cramfs";
 
-/// What help says behind the subcommands.
+/// The text of help after the subcommands.
 const AFTER: &str = "\
-Without a subcommand the small image that the program carries is checked and listed.
+Without a subcommand, the program checks and lists its built-in example image.
 
-Status: 0 done, 1 refused (standard output has the line), 2 usage, 3 a file, memory or a stream.
-The man page romtool(1) says all of it.";
+Exit status: 0 done, 1 refused (a line says why), 2 usage, 3 a file, memory or a stream failed.
+The man page romtool(1) has the details.";
 
-/// Returns the argument that a row of the table says.
+/// Returns the argument for a row of the table.
 fn argument<'a>(alloc: Global, word: Word<'a>) -> Arg<'a>
     ensures rule { rule_of result ≡ rule_named word.entry }
     ensures local { result.global ≡ false }

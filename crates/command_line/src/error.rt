@@ -5,7 +5,7 @@ use clap::Error;
 use std::alloc::AllocError;
 use std::fmt::{self, Display, Formatter};
 
-/// What is wrong in words that clap took.
+/// Why words that clap accepts ask for nothing.
 #[derive(Debug, Clone, Copy, PartialEq, Eq)]
 pub enum Wrong<'a> {
     /// They have no subcommand.
@@ -14,17 +14,17 @@ pub enum Wrong<'a> {
     Missing,
     /// No format has this name.
     Format(&'a str),
-    /// No alignment is this word.
+    /// The word is no alignment.
     Align(&'a str),
-    /// No address is this word.
+    /// The word is no address.
     Address(&'a str),
-    /// No number of bytes is this word.
+    /// The word is no number of bytes.
     Size(&'a str),
-    /// No owner and group are this word.
+    /// The word is no owner and group.
     Owner(&'a str),
     /// The map was asked for in several forms, or a prefix was given without `--c`.
     Forms,
-    /// Of a scan without `--all` the option of this name was given.
+    /// The option of this name was given to a scan without `--all`.
     WithoutAll(&'static str),
     /// A scan without `--all` has several directories.
     Folders,
@@ -32,21 +32,21 @@ pub enum Wrong<'a> {
     Owners,
 }
 
-/// Why words ask for nothing. It is shown in words for people, by clap where it refused them.
+/// Why words ask for nothing. It is shown to people; if clap refused the words, in clap's text.
 #[derive(Debug, Drop)]
 pub enum WordsError<'a> {
     /// Memory was refused.
     OutOfMemory,
-    /// They ask for help or for the version, or are none that clap takes.
+    /// The words ask for help or for the version, or clap refuses them.
     Refused(Error),
-    /// They are none that the program takes.
+    /// The program refuses the words.
     Taken(Wrong<'a>),
 }
 
 impl Display for Wrong<'_> {
     fn fmt<W: fmt::Write>(&self, f: &mut Formatter<W>) -> fmt::Result {
         match self {
-            Wrong::NoSubcommand => write!(f, "a subcommand is wanted behind the options"),
+            Wrong::NoSubcommand => write!(f, "a subcommand is missing after the options"),
             Wrong::Missing => write!(f, "a value is missing"),
             Wrong::Format(word) => {
                 write!(f, "FORMAT is romfs, cramfs or cramfs-be, and not {word:?}")
@@ -63,10 +63,12 @@ impl Display for Wrong<'_> {
             Wrong::Size(word) => {
                 write!(
                     f,
-                    "N is a number of bytes, as 4096, 64K, 2M or 0x10000, and not {word:?}"
+                    "N is a number of bytes, such as 4096, 64K, 2M or 0x10000, and not {word:?}"
                 )
             }
-            Wrong::Owner(word) => { write!(f, "UID:GID are two numbers, as 0:0, and not {word:?}") }
+            Wrong::Owner(word) => {
+                write!(f, "UID:GID are two numbers, such as 0:0, and not {word:?}")
+            }
             Wrong::Forms => {
                 write!(
                     f,

@@ -1,8 +1,8 @@
 //! The words of a command line.
 //!
-//! Proved: which words name which format, alignment, address, number of bytes and owner, and that a
-//! request has the values that the subcommand's arguments have in clap's walk over the words. How
-//! that walk tells words apart from flags is clap's, and is tested.
+//! Proved: which words name which format, alignment, address, number of bytes and owner; and that a
+//! request has the values that clap returns for the subcommand's arguments. How clap distinguishes
+//! values from options is its own rule, and is tested.
 #![tactic(auto)]
 
 mod asking;

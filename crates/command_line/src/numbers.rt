@@ -21,7 +21,7 @@ pub fn format_named(word: &str) -> Option<Format>
     }
 }
 
-/// Returns the alignment that bytes name: a power of two that a manifest takes.
+/// Returns the alignment that bytes name: a power of two that a manifest may have.
 pub fn align_named(word: &[u8]) -> Option<u32>
     ensures { result ≡ align_named word.now }
 {
@@ -45,7 +45,7 @@ pub fn align_named(word: &[u8]) -> Option<u32>
     }
 }
 
-/// Returns the number that bytes are in digits of this radix.
+/// Returns the number that the bytes are, in digits of this radix.
 fn number(radix: u32, digits: &[u8]) -> Option<u64>
     requires { (2 ≤ radix) × (radix ≤ 36) }
     ensures { IfSome result (IsNumber radix digits.now) }
@@ -62,7 +62,7 @@ fn number(radix: u32, digits: &[u8]) -> Option<u64>
     }
 }
 
-/// Returns the address that bytes name: hexadecimal digits, behind `0x` or not.
+/// Returns the address that bytes name: hexadecimal digits, with or without `0x`.
 fn address_in(word: &[u8]) -> Option<u64>
     ensures { IfSome result (IsAddress word.now) }
 {
@@ -80,7 +80,7 @@ pub fn address_named(word: &str) -> Option<u64>
     address_in(word.as_bytes())
 }
 
-/// Returns the number of bytes that a word of decimal digits names, if its last byte is a unit.
+/// Returns the number of bytes that decimal digits and a unit as the last byte name.
 fn scaled(word: &[u8]) -> Option<u64>
     ensures { IfSome result (IsSize word.now) }
 {
@@ -91,8 +91,8 @@ fn scaled(word: &[u8]) -> Option<u64>
     }
 }
 
-/// Returns the number of bytes that a word names: decimal digits, with K or M behind them for
-/// units of 1,024 and 1,048,576, or hexadecimal digits behind `0x`.
+/// Returns the number of bytes that a word names: decimal digits, with K or M after them for units
+/// of 1,024 and 1,048,576, or hexadecimal digits after `0x`.
 pub fn size_named(word: &str) -> Option<u64>
     ensures { IfSome result (IsSize word.now) }
 {
@@ -128,7 +128,8 @@ pub fn owner_named(word: &str) -> Option<Owner>
     Some(Owner { uid, gid })
 }
 
-/// Returns the rule that a word is: a pattern and an alignment, with an equals sign between them.
+/// Returns the rule that a word names: a pattern and an alignment, with an equals sign between
+/// them.
 pub fn align_rule_named<'a>(word: &'a str) -> Option<AlignRule<'a>>
     ensures { IfSome result (IsAlignRule word.now) }
 {

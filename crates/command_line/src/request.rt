@@ -15,19 +15,19 @@ pub enum Request<'a> {
     List(&'a str),
     /// To print the facts of an image.
     Info(Info<'a>),
-    /// To print where the bytes of an image lie.
+    /// To print where the bytes of an image are.
     Map(Map<'a>),
-    /// To print what lies at addresses.
+    /// To print what is at addresses.
     Which(Which<'a>),
-    /// To print how two images differ.
+    /// To print the differences of two images.
     Diff(Diff<'a>),
-    /// To print check sums of an image.
+    /// To print digests of an image.
     Digest(Digest<'a>),
     /// To compare a dump of a flash with an image.
     Verify(Verify<'a>),
     /// To print the bytes of a file in an image.
     Cat(Cat<'a>),
-    /// To print what Linux gets wrong of an image.
+    /// To print what Linux misreads in an image.
     Linux(Linux<'a>),
     /// To serve the image in this file.
     Serve(&'a str),
@@ -47,11 +47,11 @@ pub enum Request<'a> {
 #[derive(Clone, Copy)]
 pub struct Info<'a> {
     pub image: &'a str,
-    /// How many bytes there are for the image, if that was said.
+    /// The number of bytes that there are for the image, if it is given.
     pub size: Option<u64>,
 }
 
-/// A map of an image, whose first byte has this address.
+/// A map of an image whose first byte has this address.
 #[derive(Clone, Copy)]
 pub struct Map<'a> {
     pub image: &'a str,
@@ -59,20 +59,20 @@ pub struct Map<'a> {
     pub form: MapForm<'a>,
 }
 
-/// What a map shows, and in which form.
+/// The form of a map.
 #[derive(Clone, Copy)]
 pub enum MapForm<'a> {
     /// A line for each run of each regular file.
     Files,
     /// A line for each extent.
     All,
-    /// A header for C, whose names begin so, if that was said.
+    /// A header for C. Its names begin with this prefix, if one is given.
     C(Option<&'a str>),
     /// A picture.
     Svg,
 }
 
-/// What lies at these addresses in an image, whose first byte has the address `base`.
+/// What is at these addresses in an image whose first byte has the address `base`.
 #[derive(Drop)]
 pub struct Which<'a> {
     pub image: &'a str,
@@ -80,20 +80,20 @@ pub struct Which<'a> {
     pub addresses: Vec<u64>,
 }
 
-/// How two images differ.
+/// The differences of two images.
 #[derive(Clone, Copy)]
 pub struct Diff<'a> {
     pub old: &'a str,
     pub new: &'a str,
-    /// Whether only the trees are compared, and not where contents lie.
+    /// Whether only the trees are compared, and not the offsets of contents.
     pub tree: bool,
 }
 
-/// Check sums of the files of an image, or of its bytes.
+/// Digests of the files of an image, or of its bytes.
 #[derive(Clone, Copy)]
 pub struct Digest<'a> {
     pub image: &'a str,
-    /// Whether the sum is that of the image's accessible bytes.
+    /// Whether the digest is that of the image's accessible bytes.
     pub whole: bool,
 }
 
@@ -105,22 +105,22 @@ pub struct Verify<'a> {
     pub offset: u64,
 }
 
-/// The bytes of the file to which a path leads in the image in a file.
+/// The bytes of the file to which a path leads, in the image in a file.
 #[derive(Clone, Copy)]
 pub struct Cat<'a> {
     pub image: &'a str,
     pub path: &'a str,
 }
 
-/// What Linux gets wrong of an image.
+/// What Linux misreads in an image.
 #[derive(Clone, Copy)]
 pub struct Linux<'a> {
     pub image: &'a str,
-    /// Whether it is advised how files are mapped in place up to their last page.
+    /// Whether the files of which Linux does not map the last page are printed as well.
     pub advice: bool,
 }
 
-/// A build: of the manifest in one file into another one, in this format.
+/// A build: from the manifest in one file into another file, in this format.
 #[derive(Clone, Copy)]
 pub struct Build<'a> {
     pub format: Format,
@@ -128,13 +128,14 @@ pub struct Build<'a> {
     pub out: &'a str,
     /// Whether a source that is a symbolic link is refused.
     pub no_follow: bool,
-    /// Whether what Linux would misread, and a manifest without lines, is refused.
+    /// Whether the build is refused if Linux would misread the image, or if the manifest has no
+    /// lines.
     pub strict: bool,
-    /// How many bytes the image may have, if that was said.
+    /// The most bytes that the image may have, if it is given.
     pub max_size: Option<u64>,
-    /// The directory from which the sources' names start, if one was said.
+    /// The directory from which the sources' names start, if one is given.
     pub sources: Option<&'a str>,
-    /// The file that gets the names of what the image was made of, for `make`.
+    /// The file for the names of the files that the image is made of, for `make`.
     pub depfile: Option<&'a str>,
 }
 
@@ -142,34 +143,34 @@ pub struct Build<'a> {
 #[derive(Clone, Copy)]
 pub struct Scan<'a> {
     pub folder: &'a str,
-    /// Whether directories that other file systems are mounted on are not looked into.
+    /// Whether directories on which other file systems are mounted are not scanned.
     pub one_file_system: bool,
 }
 
 /// A manifest of directories as they are: all kinds of files, with their modes and owners.
 #[derive(Drop)]
 pub struct ScanAll<'a> {
-    /// The directories: what a later one holds replaces what an earlier one has at that path.
+    /// The directories. A file of a later one replaces that of an earlier one at the same path.
     pub folders: Vec<&'a str>,
-    /// The format that the manifest is to fit, as far as attributes and further names go.
+    /// The format whose attributes and further names the manifest has to fit.
     pub format: Option<Format>,
     /// The alignment of regular files that may be executed and match no pattern.
     pub align: u32,
-    /// The alignments of regular files by their paths; the last that matches counts.
+    /// The alignments of regular files by their paths. The last rule that matches applies.
     pub aligns: Vec<AlignRule<'a>>,
-    /// The owner of everything, if one was said.
+    /// The owner of all files, if one is given.
     pub owner: Option<Owner>,
-    /// The patterns of the paths that are left out.
+    /// The patterns of the paths that are excluded.
     pub excludes: Vec<&'a str>,
-    /// The volume's name, if one was said.
+    /// The volume's name, if one is given.
     pub volume: Option<&'a str>,
-    /// The file of a manifest whose devices, pipes, sockets, directories and links are added.
+    /// The file of a manifest whose devices, FIFOs, sockets, directories and links are added.
     pub devices: Option<&'a str>,
-    /// The file that gets the manifest, instead of standard output.
+    /// The file for the manifest, instead of standard output.
     pub output: Option<&'a str>,
-    /// Whether directories that other file systems are mounted on are not looked into.
+    /// Whether directories on which other file systems are mounted are not scanned.
     pub one_file_system: bool,
-    /// Whether it is refused that attributes are changed to fit the format.
+    /// Whether the scan is refused if attributes have to be changed to fit the format.
     pub strict: bool,
 }
 
@@ -192,6 +193,6 @@ pub struct Owner {
 pub struct Extract<'a> {
     pub image: &'a str,
     pub folder: &'a str,
-    /// Whether what is made gets the owners and all bits of the modes that the image has.
+    /// Whether the files get the owners and all bits of the modes that the image has.
     pub owners: bool,
 }

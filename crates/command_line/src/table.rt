@@ -1,19 +1,19 @@
-//! The program's subcommands: for each, its sentence, its words and its options.
+//! The program's subcommands: the sentence, the arguments and the options of each.
 
-/// How the words of a command line give an argument.
+/// How words give a value to an argument.
 #[derive(Clone, Copy)]
 pub enum Kind {
-    /// A value, which has to be given.
+    /// A required value.
     Value,
     /// One to eight values.
     Few,
-    /// One value or more.
+    /// At least one value.
     Several,
     /// `--NAME VALUE`, at most once.
     Option,
     /// `--NAME VALUE` or `-LETTER VALUE`, at most once.
     Lettered(char),
-    /// `--NAME VALUE`, as often as is wished.
+    /// `--NAME VALUE`, any number of times.
     Repeated,
     /// `--NAME`, at most once.
     Flag,
@@ -24,7 +24,7 @@ pub enum Kind {
 pub struct Word<'a> {
     pub kind: Kind,
     pub name: &'a str,
-    /// What help shows for the value.
+    /// The name of the value in help.
     pub shown: &'a str,
     pub help: &'a str,
 }
@@ -42,7 +42,7 @@ pub const EXPLAIN: Word<'static> = Word {
     kind: Kind::Flag,
     name: "explain",
     shown: "",
-    help: "Says in words, on standard error, why something was refused or failed",
+    help: "Explains on standard error why something was refused or failed",
 };
 
 const IMAGE: Word<'static> = Word {
@@ -56,14 +56,14 @@ const SIZE: Word<'static> = Word {
     kind: Kind::Option,
     name: "size",
     shown: "N",
-    help: "Says whether the image fits into N bytes, as 64K, 2M or 0x10000, and what is left",
+    help: "Reports whether the image fits into N bytes, such as 64K, 2M or 0x10000, and how many are left",
 };
 
 const BASE: Word<'static> = Word {
     kind: Kind::Option,
     name: "base",
     shown: "HEX",
-    help: "The address of the image's first byte, in hexadecimal digits with or without 0x; else 0",
+    help: "The address of the image's first byte, in hexadecimal digits with or without 0x; 0 without it",
 };
 
 const ALL_EXTENTS: Word<'static> = Word {
@@ -84,7 +84,7 @@ const PREFIX: Word<'static> = Word {
     kind: Kind::Option,
     name: "prefix",
     shown: "NAME",
-    help: "With --c: how the names in the header begin",
+    help: "With --c: the prefix of the names in the header",
 };
 
 const SVG: Word<'static> = Word {
@@ -105,21 +105,21 @@ const OLD: Word<'static> = Word {
     kind: Kind::Value,
     name: "old",
     shown: "A",
-    help: "The file of the one image",
+    help: "The file of the old image",
 };
 
 const NEW: Word<'static> = Word {
     kind: Kind::Value,
     name: "new",
     shown: "B",
-    help: "The file of the other image",
+    help: "The file of the new image",
 };
 
 const TREE: Word<'static> = Word {
     kind: Kind::Flag,
     name: "tree",
     shown: "",
-    help: "Compares only the trees, and not where contents lie",
+    help: "Compares only the trees, and not the offsets of contents",
 };
 
 const DIGESTED: Word<'static> = Word {
@@ -147,7 +147,7 @@ const OFFSET: Word<'static> = Word {
     kind: Kind::Option,
     name: "offset",
     shown: "N",
-    help: "The offset of the image in the dump, in bytes, as 4096, 64K or 0x10000; else 0",
+    help: "The offset of the image in the dump, in bytes, such as 4096, 64K or 0x10000; 0 without it",
 };
 
 const PATH: Word<'static> = Word {
@@ -161,7 +161,7 @@ const ADVICE: Word<'static> = Word {
     kind: Kind::Flag,
     name: "advice",
     shown: "",
-    help: "Prints also which files of cramfs share their last page with something else",
+    help: "Also prints which files of cramfs share their last page with something else",
 };
 
 const IMAGES: Word<'static> = Word {
@@ -210,7 +210,7 @@ const MAX_SIZE: Word<'static> = Word {
     kind: Kind::Option,
     name: "max-size",
     shown: "N",
-    help: "Refuses an image of more than N bytes, as 64K, 2M or 0x10000",
+    help: "Refuses an image of more than N bytes, such as 64K, 2M or 0x10000",
 };
 
 const DIRECTORY: Word<'static> = Word {
@@ -224,42 +224,42 @@ const DEPFILE: Word<'static> = Word {
     kind: Kind::Option,
     name: "depfile",
     shown: "FILE",
-    help: "Writes to FILE what OUT was made of, as a rule for make",
+    help: "Writes to FILE a rule for make: the files that OUT was made of",
 };
 
 const DIRECTORIES: Word<'static> = Word {
     kind: Kind::Several,
     name: "folder",
     shown: "DIR",
-    help: "The directory; with --all several, of which a later one replaces files of earlier ones",
+    help: "The directory; with --all also several, and files of a later one replace those of earlier ones",
 };
 
 const ALL: Word<'static> = Word {
     kind: Kind::Flag,
     name: "all",
     shown: "",
-    help: "Files of all kinds, with their modes, owners and further names",
+    help: "Prints files of all kinds, with their modes, owners and further names",
 };
 
 const FOR: Word<'static> = Word {
     kind: Kind::Option,
     name: "for",
     shown: "FORMAT",
-    help: "With --all: what romfs, cramfs or cramfs-be does not take is brought to the nearest",
+    help: "With --all: changes attributes to the nearest that romfs, cramfs or cramfs-be can hold",
 };
 
 const ALIGN: Word<'static> = Word {
     kind: Kind::Repeated,
     name: "align",
     shown: "[GLOB=]N",
-    help: "With --all: the alignment of files that match, or of programs and libraries; 4 to 65536",
+    help: "With --all: the alignment, 4 to 65536, of files that match, or of programs and libraries",
 };
 
 const OWNER: Word<'static> = Word {
     kind: Kind::Option,
     name: "owner",
     shown: "UID:GID",
-    help: "With --all: the owner and the group of everything",
+    help: "With --all: the owner and the group of all files",
 };
 
 const ALL_ROOT: Word<'static> = Word {
@@ -273,7 +273,7 @@ const EXCLUDE: Word<'static> = Word {
     kind: Kind::Repeated,
     name: "exclude",
     shown: "GLOB",
-    help: "With --all: leaves out the paths below DIR that match",
+    help: "With --all: excludes the paths below DIR that match",
 };
 
 const VOLUME: Word<'static> = Word {
@@ -301,7 +301,7 @@ const ONE_FILE_SYSTEM: Word<'static> = Word {
     kind: Kind::Flag,
     name: "one-file-system",
     shown: "",
-    help: "Does not look into directories that other file systems are mounted on",
+    help: "Does not enter directories on which other file systems are mounted",
 };
 
 const STRICT_SCAN: Word<'static> = Word {
@@ -315,21 +315,21 @@ const INTO: Word<'static> = Word {
     kind: Kind::Value,
     name: "folder",
     shown: "DIR",
-    help: "The directory, which is made, or is there and empty",
+    help: "The directory, which is made, or exists and is empty",
 };
 
 const OWNERS: Word<'static> = Word {
     kind: Kind::Flag,
     name: "owners",
     shown: "",
-    help: "Sets owners, and all bits of modes; else set-user and set-group are left out",
+    help: "Sets owners and all bits of modes; without it, no set-user or set-group bits",
 };
 
 /// The subcommands, in the order in which help shows them.
 pub const SUBCOMMANDS: [Subcommand<'static>; 16] = [
     Subcommand {
         name: "check",
-        about: "Says whether a file holds a sound image, or which fault it has",
+        about: "Reports whether a file holds a valid image, or which fault it has",
         words: &[IMAGE],
     },
     Subcommand {
@@ -344,17 +344,17 @@ pub const SUBCOMMANDS: [Subcommand<'static>; 16] = [
     },
     Subcommand {
         name: "map",
-        about: "Prints where each file of an image lies, with its address in the flash",
+        about: "Prints the address in the flash of each file of an image",
         words: &[IMAGE, BASE, ALL_EXTENTS, C_HEADER, PREFIX, SVG],
     },
     Subcommand {
         name: "which",
-        about: "Prints what lies at addresses of the flash",
+        about: "Prints what is at addresses of the flash",
         words: &[IMAGE, BASE, ADDRESSES],
     },
     Subcommand {
         name: "diff",
-        about: "Prints how two images differ",
+        about: "Prints the differences of two images",
         words: &[OLD, NEW, TREE],
     },
     Subcommand {
@@ -364,7 +364,7 @@ pub const SUBCOMMANDS: [Subcommand<'static>; 16] = [
     },
     Subcommand {
         name: "verify",
-        about: "Says whether a dump of the flash holds exactly an image",
+        about: "Reports whether a dump of the flash holds exactly an image",
         words: &[IMAGE, DUMP, OFFSET],
     },
     Subcommand {
@@ -374,7 +374,7 @@ pub const SUBCOMMANDS: [Subcommand<'static>; 16] = [
     },
     Subcommand {
         name: "linux",
-        about: "Prints what Linux gets wrong of a sound image",
+        about: "Prints what Linux misreads in a valid image",
         words: &[IMAGE, ADVICE],
     },
     Subcommand {
@@ -421,7 +421,7 @@ pub const SUBCOMMANDS: [Subcommand<'static>; 16] = [
     },
     Subcommand {
         name: "extract",
-        about: "Takes an image apart: its files into a directory, and prints its manifest",
+        about: "Writes the files of an image into a directory, and prints its manifest",
         words: &[IMAGE, INTO, OWNERS],
     },
     Subcommand {

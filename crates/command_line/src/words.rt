@@ -16,7 +16,7 @@ use clap::{ArgMatches, Error};
 use percent_encoding::{AsciiSet, CONTROLS, ascii_set, percent_encode};
 use std::alloc::{AllocError, Global};
 
-/// What of a word is escaped where clap shows it.
+/// The bytes of a word that are escaped when clap shows it.
 const ESCAPED: AsciiSet = ascii_set!(CONTROLS.add(b' ').add(b'%'));
 
 /// Returns the subcommand that was given, with its values.
@@ -27,7 +27,7 @@ fn entered<'m, 'a>(matches: &'m ArgMatches<'a>) -> Option<(&'a str, &'m ArgMatch
     matches.subcommand()
 }
 
-/// Returns what was asked for with a subcommand.
+/// Returns what the words with a subcommand ask for.
 fn chosen<'a>(alloc: Global, matches: &ArgMatches<'a>) -> Result<Request<'a>, WordsError<'a>>
     ensures { IfOk result (IsAskedOf (subcommand_rows_of matches.now)) }
 {
@@ -37,15 +37,14 @@ fn chosen<'a>(alloc: Global, matches: &ArgMatches<'a>) -> Result<Request<'a>, Wo
     }
 }
 
-/// Returns whether a word asks that the program explains itself.
+/// Returns whether a word is the option to explain.
 pub fn is_explain(word: &[u8]) -> bool
     ensures { result ≡ bytes_eq word.now (codes "--explain") }
 {
     word == b"--explain".as_slice()
 }
 
-/// Returns whether there is no word behind the program's name, or only the one that asks to
-/// explain.
+/// Returns whether there is no word after the program's name, or only the option to explain.
 fn is_bare(words: &[String]) -> bool
     ensures { result ≡ is_bare (map string_bytes words.now) }
 {
@@ -66,9 +65,8 @@ fn escaped(alloc: Global, words: &[String]) -> Result<Vec<String>, AllocError> {
     Ok(line)
 }
 
-/// Returns what clap says of words that it refuses, with their bytes escaped as all names are. The
-/// escaped words are refused for the same reason, since no word that clap knows has a byte of
-/// these.
+/// Returns clap's text for words that it refuses, with their bytes escaped as in all names. Clap
+/// refuses the escaped words for the same reason, since no word that it knows has such a byte.
 fn refused<'a>(alloc: Global, words: &[String], error: Error) -> WordsError<'a> {
     let Ok(words) = escaped(alloc, words) else {
         return WordsError::OutOfMemory;
@@ -83,13 +81,13 @@ fn refused<'a>(alloc: Global, words: &[String], error: Error) -> WordsError<'a> 
     }
 }
 
-/// Reads the words of a command line, the program's name first. Requests for help are no words of
-/// this program.
+/// Reads the words of a command line, the program's name first. A request for help is not a request
+/// of this program.
 ///
 /// # Errors
 ///
-/// `OutOfMemory`; `Refused` with what clap says of words that it does not take; `Taken` with what
-/// is wrong in words that clap takes and that ask for nothing.
+/// `OutOfMemory`; `Refused` with clap's text if clap refuses the words; `Taken` with the reason if
+/// clap accepts the words and they ask for nothing.
 pub fn read<'a>(alloc: Global, words: &'a [String]) -> Result<Request<'a>, WordsError<'a>>
     ensures example { (result ≡ Ok Example) ↔ (is_bare (map string_bytes words.now) ≡ true) }
     ensures asked { is_bare (map string_bytes words.now) ≡ false → IfOk result (IsAskedOf

@@ -1,4 +1,4 @@
--- How the serving of one image's bytes goes, and of an image that was built. (This project's own.)
+-- How an image's bytes are served, and how an image that was built is. (This project's own.)
 use Rattle.std.specs.Prelude.{◌≡◌, ℕ, List, map, length, Ok}
 use Rattle.rom_fields.specs.Written.{Output}
 use Rattle.rom_tree.specs.Tree.{Node}
@@ -17,8 +17,8 @@ use Rattle.rom_commands.specs.Serving.{Input, EndsServed}
 use Rattle.rom_commands.specs.declared.serving.Serving.{Serving}
 use Rattle.rom_commands.specs.declared.serving.Serving.TheVariants.{Memory}
 
--- The format gives these bytes the tree t under these limits, and lines were answered from it,
--- nothing of it open at first. A reader was r₀ and is r, a writer was w₀ and is w.
+-- The format gives these bytes the tree t under these limits, and lines were answered from it.
+-- Nothing was open at first. The reader was r₀ and is r; the writer was w₀ and is w.
 pub record IsServedUnder (limits : Limits) (bytes : List ℕ) (t : Node) (r₀ r : Input)
     (w₀ w : Output)
     (o : Serving) : Type 0 where
@@ -33,7 +33,7 @@ abbrev pub IsServedAs : (bytes : List ℕ) (t : Node) (r₀ r : Input) (w₀ w :
     → Type 0
 IsServedAs bytes t r₀ r w₀ w o = IsServedUnder usual_limits bytes t r₀ r w₀ w o
 
--- the tree is what the manifest that the text is means, with these contents of its sources
+-- the text is a manifest that means this tree, if its sources have these contents
 pub record IsMeantUnder (limits : Limits) (text : List ℕ) (contents : List (List ℕ))
     (bytes : List ℕ)
     (r₀ r : Input) (w₀ w : Output) (o : Serving) : Type 0 where
@@ -50,8 +50,8 @@ abbrev pub IsServedAsMeant : (text : List ℕ) (contents : List (List ℕ)) (byt
 IsServedAsMeant text contents bytes r₀ r w₀ w o =
     IsMeantUnder usual_limits text contents bytes r₀ r w₀ w o
 
--- The tree is what the manifest means, where each of its regular files has contents of its own, of
--- these sizes: what the reads of its source answered.
+-- The tree is what the manifest means. Each of its regular files has its own contents, of these
+-- sizes: the bytes that the reads of its source returned.
 pub record IsServedAsGiven (answers : List Answer) (lines : ManifestLines) (sizes : List ℕ)
     (bytes : List ℕ) (r₀ r : Input) (w₀ w : Output)
     (o : Serving) : Type 0 where

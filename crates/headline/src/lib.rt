@@ -1,11 +1,16 @@
 //! What romtool promises, on one page.
 //!
-//! For every image that the check accepts, whatever lines come, the server writes the replies of a
-//! plain tree of files with a table of open descriptors, the tree being the one that the format
-//! gives those bytes; and an image that was built from a manifest is accepted, and is served as the
-//! tree that the manifest means; so is one that was streamed from files. `specs/Headline.antt` says
-//! each of these words. What is lent is a slice of the image, as `specs/Lent.antt` says. And an
-//! image that is taken apart and built again has a tree like its own.
+//! Proved:
+//!
+//! - For every image that the check accepts, and for all lines, the server writes the replies of a
+//!   plain tree of files with a table of open descriptors. The tree is the one that the format
+//!   gives those bytes.
+//! - An image that was built from a manifest is accepted, and is served as the tree that the
+//!   manifest means. The same holds for an image that was streamed from files.
+//! - Lent bytes are a slice of the image, at the reported offset.
+//! - An image that is taken apart and built again has a tree like its own.
+//!
+//! `specs/Headline.antt` defines these words, and `specs/Lent.antt` defines what is lent.
 #![tactic(auto)]
 
 pub mod naming;
@@ -43,18 +48,19 @@ ghost use Rattle.rom_tree.specs.Tree.{Node, places_of};
 ghost use Rattle.rom_tree.specs.declared.types.Limits.{Limits};
 
 /// States what follows from the clause of `rom_commands::serve_under`, for all bytes and all
-/// limits: lines are answered from the one tree that the format gives the bytes, or the bytes are
-/// refused with their least fault, and no line is read. `serve_image` is the same under the usual
-/// limits.
+/// limits. Either lines are answered from the one tree that the format gives the bytes, or the
+/// bytes are refused with their least fault, and no line is read. `serve_image` is the same under
+/// the usual limits.
 ///
-/// An image that was built from a manifest, in each format, is refused under the usual limits only
-/// if memory is refused; otherwise it is served as the tree that the manifest means. Under other
-/// limits it is served as that tree if it is served at all. In that image each file with the
-/// contents of a `file` line has its bytes in one run, from a multiple of that line's ALIGN on, and
-/// the volume has the manifest's name. In cramfs all files with the contents of one `file` line
-/// have their bytes at the same places; in romfs the files of different lines have no place in
-/// common. So `open` of the line's path and then one `map` of the whole file give all its bytes,
-/// and their first place is a multiple of that ALIGN.
+/// Under the usual limits, an image that was built from a manifest is refused only if memory is
+/// refused. Otherwise it is served as the tree that the manifest means. Under other limits it is
+/// served as that tree if it is served at all. This holds in each format.
+///
+/// In that image, each file with the contents of a `file` line has its bytes in one run, which
+/// begins at a multiple of that line's ALIGN. The volume has the manifest's name. In cramfs, all
+/// files with the contents of one `file` line have their bytes at the same offsets. In romfs, the
+/// files of different lines have no offset in common. So `open` of the line's path and then one
+/// `map` of the whole file return all its bytes. Their first offset is a multiple of that ALIGN.
 pub fn headline()
     ensures accepted { (limits : Limits) (bytes : List ℕ) (r₀ r : Input) (w₀ w : Output)
         (o : Serving) → ServingEndsUnder limits bytes r₀ r w₀ w o
@@ -86,10 +92,11 @@ pub fn headline()
     image_check::laws::exact();
 }
 
-/// What follows of an image that is taken apart and built again, in any format: what is built of a
-/// manifest that tells the image whole, and of what its files hold, has no fault and a tree like
-/// the image's, the same at each path, and the same paths share a file. Which accepted images are
-/// told whole, `image_told::laws::extracted_is_told` says.
+/// States what follows for an image that is taken apart and built again, in any format. Take a
+/// manifest that describes the whole image, and the contents of its files. The image that is built
+/// from them has no fault. Its tree is like the first image's: it is the same at each path, and the
+/// same paths share a file. `image_told::laws::extracted_is_told` says which accepted images a
+/// manifest describes whole.
 pub fn built_again()
     ensures { (m : Image) (volume folder : List ℕ) (f : Format) (bytes : List ℕ)
         → IsToldWhole m volume folder
@@ -101,13 +108,13 @@ pub fn built_again()
     image_told::laws::built_again_is_alike();
 }
 
-/// What follows of an image that was streamed, whatever the sources of the files tell: so of files,
-/// too, which tell nothing. What `image_build::stream` wrote at `Ok` is refused for memory alone:
-/// else it is served as the tree that the manifest means, where each `file` and each `same` line
-/// has contents of its own, of the planned size: the bytes that the reads of its source answered,
-/// one after the other, in the pass that wrote the image. Where no source has a copy in the image,
-/// it is served as what the manifest means with some contents of the sources. Its files, their
-/// copies and its volume's name stand as in one that was built.
+/// States what follows for an image that was streamed, whatever the sources report; a file reports
+/// nothing of its contents. An image that `image_build::stream` wrote with `Ok` is refused only if
+/// memory is refused. Otherwise it is served as the tree that the manifest means. In it, each
+/// `file` and each `same` line has its own contents, of the planned size: the bytes that the reads
+/// of its source returned, one after the other, in the pass that wrote the image. If no source has
+/// a copy in the image, it is served as the tree that the manifest means with some contents of the
+/// sources. Its files, their copies and its volume's name are as in an image that was built.
 pub fn streamed()
     ensures each { (text : List ℕ) (p : Planned) (told : Option (List (List ℕ)))
         (old new : Option (List ℕ)) (r₀ r : Input) (w₀ w : Output) (o : Serving)
@@ -140,12 +147,12 @@ pub fn streamed()
     image_build::laws::built_is_accepted();
 }
 
-/// What is lent, whatever lines came before: a reply to `lend` or `map` has a slice of the image's
-/// own bytes, from the place on that it tells, and these are just the bytes of the open file, from
-/// its position or from the offset on. So is a link's text that `readlink` tells, whole, where the
-/// tree of the image is the one that a format gives some bytes. And an open file with bytes that
-/// lies in one run is lent whole by `map` from 0 on. The reply has all its bytes and their first
-/// place, which is a multiple of its alignment.
+/// States what is lent, whatever lines came before. A reply to `lend` or `map` has a slice of the
+/// image's own bytes, from the reported offset on. They are exactly the bytes of the open file,
+/// from its position or from the requested offset on. The same holds for the whole text of a link
+/// that `readlink` reports, if the tree of the image is the one that a format gives some bytes. If
+/// an open file with bytes is in one run, `map` from 0 on lends all of it. The reply has all its
+/// bytes and their first offset, which is a multiple of its alignment.
 pub fn lent()
     ensures lend { (m : Image) (lines : List (List ℕ)) (fd most : ℕ) (l : Of Lent)
         → ((image_calls 64 m).lend_piece (open_after m lines) fd most).reply ≡ Ok l

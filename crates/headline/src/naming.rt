@@ -13,8 +13,8 @@ ghost use Rattle.manifest_layout.specs.Format.{Format};
 ghost use Rattle.plan_types.specs.Plans.{Planned};
 ghost use Rattle.rom_tree.specs.declared.types.Limits.{Limits};
 
-/// States that the name of a volume which `image_info::volume` returns, of what a check under any
-/// limits accepts of a built image, is the manifest's.
+/// States that `image_info::volume` returns the manifest's name for the volume of a built image
+/// that a check accepts, under any limits.
 pub fn built_is_named()
     ensures { (limits : Limits) (f : Format) (text : List ℕ) (contents : List (List ℕ))
         (bytes : List ℕ) (m : ManifestLines) (v : AnyImage) → Builds f text contents (Ok bytes)
@@ -24,7 +24,8 @@ pub fn built_is_named()
     image_build::laws::built_is_placed();
 }
 
-/// States the same of what `image_build::stream` wrote at `Ok`, whatever the sources tell.
+/// States the same for an image that `image_build::stream` wrote with `Ok`, whatever the sources
+/// report.
 pub fn streamed_is_named()
     ensures { (limits : Limits) (text : List ℕ) (p : Planned) (told : Option (List (List ℕ)))
         (old new : Option (List ℕ)) (v : AnyImage) → (is : IsPlanOfText text p)

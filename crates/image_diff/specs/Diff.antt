@@ -1,4 +1,4 @@
--- In what two images differ, line by line. (This project's own.)
+-- The differences of two images, line by line. (This project's own.)
 use Rattle.std.specs.Prelude.{ℕ, ◌==◌, ◌&&◌, Bool, true, false, List, [], ◌∷◌, ◌++◌, length}
 use Rattle.std.specs.Prelude.{decimal}
 use Rattle.std.specs.Prelude.{Option, Some, None, if◌then◌else◌}
@@ -20,7 +20,7 @@ removed_line path = 45 ∷ 32 ∷ [] ++ (escaped path ++ 10 ∷ [])
 unfoldable pub added_line : List ℕ → List ℕ
 added_line path = 43 ∷ 32 ∷ [] ++ (escaped path ++ 10 ∷ [])
 
--- KIND/MODE/UID/GID/MAJOR/MINOR, each as a list has it
+-- KIND/MODE/UID/GID/MAJOR/MINOR, each as in a list
 unfoldable pub attributes_text : Stat → List ℕ
 attributes_text s =
     kind_letter s.kind ∷ 47 ∷ [] ++ (octal s.mode ++ (47 ∷ [] ++ (decimal s.uid
@@ -53,7 +53,7 @@ body_start _ = None
 abbrev pub start_of : Node → Option ℕ
 start_of x = body_start (body_of x)
 
--- `@ PATH OLD NEW`, of two offsets of a file that has bytes in both images, if these differ
+-- `@ PATH OLD NEW`, for the offsets of a file that has bytes in both images, if they differ
 unfoldable pub moved_line : List ℕ → ℕ → ℕ → List ℕ
 moved_line path p q =
     if p == q then [] else 64 ∷ 32 ∷ [] ++ (escaped path ++ (32 ∷ 48 ∷ 120 ∷ []
@@ -70,15 +70,15 @@ alike_lines places a b path x y =
     ++ (contents_line path (contents_of a x) (contents_of b y)
     ++ (if places then start_line path (start_of x) (start_of y) else []))
 
--- and of one at which they have any nodes: if these have not one kind, the one was removed and the
--- other added
+-- the lines of a path at which both images have a node; if the kinds differ, the old node was
+-- removed and the new one added
 unfoldable pub node_lines : Bool → List ℕ → List ℕ → List ℕ → Node → Node → List ℕ
 node_lines places a b path x y =
     if kind_letter (kind_of x) == kind_letter (kind_of y) then alike_lines places a b path x y
     else removed_line path ++ added_line path
 
--- The lines of two lists of names that rise by their paths, as bytes compare: those of the image a
--- and those of the image b.
+-- The lines of two lists of names, of the image a and of the image b. Both are sorted by path,
+-- compared as bytes.
 unfoldable pub names_lines : Bool → List ℕ → List ℕ → List Name → List Name → List ℕ
 names_lines places a b [] [] = []
 names_lines places a b (x ∷ xs) [] = removed_line x.path ++ names_lines places a b xs []

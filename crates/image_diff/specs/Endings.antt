@@ -1,4 +1,4 @@
--- What is written of two images, by how it ended. (This project's own.)
+-- What is written of two images in each ending. (This project's own.)
 use Rattle.std.specs.Prelude.{◌≡◌, ◌⊎◌, Bool, List, ℕ, Result, Ok, Err, MatchResult}
 use Rattle.std.specs.Io.KnownBytes.{Appends}
 use Rattle.rom_fields.specs.Failures.{Rose}
@@ -11,7 +11,7 @@ use Rattle.image_diff.specs.declared.difference.DiffError.TheVariants.{WriteFaul
 use Rattle.image_diff.specs.Diff.{names_lines, is_told}
 use Rattle.image_diff.specs.Rows.{AreSorted, HasLongPath}
 
--- all of a text was written, and it is said whether it is not empty; or a prefix of it
+-- all of a text was written, and the result says whether it is not empty; or a prefix was written
 abbrev pub WritesLines : {E : Type 0} → Output → Output → List ℕ → Result Bool E → Type 0
 WritesLines old new text r =
     MatchResult r
@@ -19,7 +19,7 @@ WritesLines old new text r =
     × (told ≡ is_told text))
     (λ _. AppendsPrefix old.contents new.contents text × Rose old.failures new.failures)
 
--- the same of the lines of two images, whose names were sorted
+-- the same for the lines of two images, whose names were sorted
 pub record WritesDiff {E : Type 0} (places : Bool) (a b : Image) (old new : Output)
     (r : Result Bool E) : Type 0 where
   pub old_names : List Name
@@ -28,7 +28,7 @@ pub record WritesDiff {E : Type 0} (places : Bool) (a b : Image) (old new : Outp
   pub new_sorted : AreSorted b.tree new_names
   pub lines : WritesLines old new (names_lines places a.bytes b.bytes old_names new_names) r
 
--- how it ends
+-- what was written in each ending
 abbrev pub DiffEnds : Bool → Image → Image → Output → Output → Result Bool DiffError → Type 0
 DiffEnds places a b old new (Ok told) = WritesDiff {E = DiffError} places a b old new (Ok told)
 DiffEnds places a b old new (Err OutOfMemory) = new ≡ old

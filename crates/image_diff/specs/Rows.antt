@@ -1,4 +1,4 @@
--- The names of an image by their paths, and what is written of two images. (This project's own.)
+-- The names of an image, by path, and what is written of two images. (This project's own.)
 use Rattle.std.specs.Prelude.{◌≡◌, ℕ, ◌<◌, Bool, List, ◌∷◌, ◌++◌, length, drop, map}
 use Rattle.std.specs.Prelude.{Option, Some}
 use Rattle.std.specs.Cmp.Lexicographic.{slice_cmp}
@@ -12,12 +12,12 @@ use Rattle.image_diff.specs.declared.rows.Row.{Row}
 use Rattle.image_diff.specs.declared.steps.Step.{Step}
 use Rattle.image_diff.specs.Diff.{names_lines, is_told}
 
--- the names of a tree, sorted by their paths as bytes compare
+-- the names of a tree, sorted by path, compared as bytes
 pub record AreSorted (t : Node) (ns : List Name) : Type 0 where
   pub all : IsPermutation (names t) ns
   pub sorted : IsSortedByKey (λ (n : Name). n.path) (slice_cmp nat_cmp) ns
 
--- a row and a name have one path and one node
+-- a row and a name have the same path and node
 abbrev pub row_key : Image → Row → List ℕ × Option Node
 row_key m r = (r.path.items, image_node m r.node.0)
 
@@ -46,8 +46,8 @@ pub record HasLongPath (t : Node) : Type 0 where
 abbrev pub AreKnown : Image → List Row → Type 0
 AreKnown m rows = (ns : List Name) × AreRows m rows ns
 
--- A step put the lines of the first names of two lists, of which it took as many as it says: what
--- is left of both completes the lines of all.
+-- A step put the lines of the first names of two lists, and reports how many names of each. The
+-- lines of the other names complete the lines of all.
 pub record StepPuts (s t : Sink) (places : Bool) (a b : List ℕ) (xs ys : List Name)
     (r : Step) : Type 0 where
   pub text : List ℕ

@@ -1,4 +1,4 @@
-//! The contents of two files side by side.
+//! Compares the contents of two files.
 ghost use Rattle.std.specs.Prelude.{◌≡◌, ◌+◌, ◌≤◌, Some, length, take, drop};
 ghost use Rattle.std.specs.Str.{bytes_eq};
 ghost use Rattle.rom_tree.specs.Tree.{Node};
@@ -13,7 +13,7 @@ fn is_same(one: &[u8], other: &[u8]) -> bool
     one == other
 }
 
-/// Whether `len` bytes of one image from a run's place on are those of the other.
+/// Whether `len` bytes of one image from a run's offset on are those of the other.
 fn is_same_part(one: &[u8], other: &[u8], r: Run, s: Run, len: u32) -> bool
     requires one { r.place + len ≤ length one.now }
     requires other { s.place + len ≤ length other.now }
@@ -26,7 +26,8 @@ fn is_same_part(one: &[u8], other: &[u8], r: Run, s: Run, len: u32) -> bool
     )
 }
 
-/// Whether the files or links of two images have the same bytes. They are compared where they lie.
+/// Whether the files or links of two images have the same bytes. They are compared in the images,
+/// without a copy.
 pub(crate) fn have_same_bytes<'a, T: TreeImage<'a>>(old: &T, new: &T, x: NodeId, y: NodeId) -> bool
     requires old { HasNode (T.image old.now) x.0 }
     requires new { HasNode (T.image new.now) y.0 }

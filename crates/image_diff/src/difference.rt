@@ -1,4 +1,4 @@
-//! In what two images differ.
+//! The differences of two images.
 ghost use Rattle.std.specs.Prelude.{◌≡◌, ◌+◌, ◌<◌, ◌≤◌, ◌||◌, List, length};
 ghost use Rattle.std.specs.Bool.{OnTrue, OnFalse};
 ghost use Rattle.rom_tree.specs.Tree.{levels};
@@ -14,7 +14,7 @@ use rom_tree::TreeImage;
 use std::alloc::Global;
 use thiserror::Error;
 
-/// Why the lines of two images were not written whole.
+/// Why not all lines of two images were written.
 #[derive(Clone, Copy, Debug, PartialEq, Eq, Error)]
 pub enum DiffError {
     /// Memory was refused. Nothing was written.
@@ -28,7 +28,7 @@ pub enum DiffError {
     WriteFault,
 }
 
-/// Whether no row is left of both lists.
+/// Whether no row of either list is left.
 fn are_over(xs: &[Row], ys: &[Row]) -> bool
     ensures over { OnTrue result (length xs.now + length ys.now ≡ 0) }
     ensures left { OnFalse result (0 < length xs.now + length ys.now) }
@@ -36,14 +36,14 @@ fn are_over(xs: &[Row], ys: &[Row]) -> bool
     xs.is_empty() && ys.is_empty()
 }
 
-/// Whether one of two is so.
+/// Whether at least one of two is true.
 fn either(one: bool, other: bool) -> bool
     ensures { result ≡ (one || other) }
 {
     one || other
 }
 
-/// Writes the lines of two lists of rows, and says whether there are any.
+/// Writes the lines of two lists of rows, and returns whether there are any.
 fn write_lines<'a, T: TreeImage<'a>, W: ByteWrite>(
     old: &T,
     new: &T,
@@ -75,19 +75,23 @@ fn write_lines<'a, T: TreeImage<'a>, W: ByteWrite>(
     Err(Failed)
 }
 
-/// Writes in what two images differ: for each path, as bytes compare and from the least on, the
-/// lines `- PATH` if only the old image has it, `+ PATH` if only the new one has it, both if its
-/// nodes have not one kind, and otherwise `m PATH OLD NEW` if attributes differ, `c PATH OLDLEN
-/// NEWLEN` if the bytes of a file or the text of a link differ, and `@ PATH OLD NEW` if places are
-/// asked for and a file's first byte lies at another offset. OLD and NEW of `m` are
-/// KIND/MODE/UID/GID/MAJOR/MINOR, each as a list has it, and those of `@` are `0x` and eight
-/// hexadecimal digits. PATH is that of a list. Returns whether there is a line. Directories may lie
-/// 64 deep.
+/// Writes the differences of two images, sorted by path, compared as bytes. Returns whether there
+/// is a line. Directories may be 64 deep. The lines of a path are:
+///
+/// - `- PATH` if only the old image has it, `+ PATH` if only the new one has it, and both if its
+///   two nodes have different kinds;
+/// - otherwise `m PATH OLD NEW` if attributes differ, where OLD and NEW are
+///   KIND/MODE/UID/GID/MAJOR/MINOR, each as in a list;
+/// - `c PATH OLDLEN NEWLEN` if the bytes of a file or the text of a link differ;
+/// - `@ PATH OLD NEW` if `places` is true and a file's first byte is at another offset, where OLD
+///   and NEW are `0x` and eight hexadecimal digits.
+///
+/// PATH is escaped as in a list.
 ///
 /// # Errors
 ///
-/// `OutOfMemory` if memory was refused, and `LongPath` if a path has more than 16,384 bytes: then
-/// nothing was written. `WriteFault` if a write failed: then a prefix of the lines was written.
+/// `OutOfMemory` if memory was refused, and `LongPath` if a path has more than 16,384 bytes. Then
+/// nothing was written. `WriteFault` if a write failed. Then a prefix of the lines was written.
 pub fn write_diff<'a, T: TreeImage<'a>, W: ByteWrite>(
     alloc: Global,
     old: &T,

@@ -1,8 +1,8 @@
-//! In what two images differ.
+//! Writes the differences of two images.
 //!
-//! `specs/Diff.antt` says what the lines of two sorted lists of names are. Proved: `write_diff`
-//! writes exactly the lines of the names of both images, sorted by path, or a prefix of them if the
-//! writer failed, and says whether there are any. Contents are compared where they lie.
+//! `specs/Diff.antt` defines the lines of two sorted lists of names. Proved: `write_diff` writes
+//! exactly the lines of the names of both images, sorted by path, or a prefix of them if the writer
+//! failed. It returns whether there are any. Contents are compared in the images, without a copy.
 #![tactic(auto)]
 
 mod contents;

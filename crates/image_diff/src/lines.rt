@@ -15,7 +15,7 @@ use image_map::put_eight_digits;
 use rom_fields::{ByteWrite, put, put_decimal, put_escaped, put_octal};
 use rom_tree::{Kind, NodeId, Stat, TreeImage, is_regular_at};
 
-/// The letter of a kind, as a list has it.
+/// The letter of a kind, as in a list.
 fn letter_of(kind: Kind) -> u8
     ensures { result ≡ kind_letter kind }
 {
@@ -78,7 +78,7 @@ fn have_same_attributes(old: Stat, new: Stat) -> bool
         && old.minor == new.minor
 }
 
-/// Puts the line of attributes that differ, and says whether they do.
+/// Puts the line of attributes that differ, and returns whether they do.
 fn put_changed<W: ByteWrite>(
     w: &mut W,
     failed: &mut bool,
@@ -103,7 +103,7 @@ fn put_changed<W: ByteWrite>(
     true
 }
 
-/// Puts the line of contents that have these lengths and differ.
+/// Puts the line of contents that differ and have these lengths.
 fn put_contents<W: ByteWrite>(w: &mut W, failed: &mut bool, path: &[u8], old: u32, new: u32)
     ensures { Puts (sink (W.output w.old) failed.old) (sink (W.output w.new) failed.new)
         (99 ∷ 32 ∷ [] ++ (escaped path.now ++ (32 ∷ []
@@ -118,7 +118,7 @@ fn put_contents<W: ByteWrite>(w: &mut W, failed: &mut bool, path: &[u8], old: u3
     put(w, failed, b"\n");
 }
 
-/// Puts the line of contents that differ, and says whether they do.
+/// Puts the line of contents that differ, and returns whether they do.
 fn put_compared<'a, T: TreeImage<'a>, W: ByteWrite>(
     old: &T,
     new: &T,
@@ -147,7 +147,8 @@ fn put_compared<'a, T: TreeImage<'a>, W: ByteWrite>(
     true
 }
 
-/// Returns the offset of the first byte of a regular file. `None` if it has none, or is none.
+/// Returns the offset of the first byte of a regular file, or `None` if it has no byte or is of
+/// another kind.
 fn start<'a, T: TreeImage<'a>>(image: &T, n: NodeId) -> Option<u32>
     requires { HasNode (T.image image.now) n.0 }
     ensures { (x : Node) → image_node (T.image image.now) n.0 ≡ Some x → result ≡ start_of x }
@@ -161,7 +162,7 @@ fn start<'a, T: TreeImage<'a>>(image: &T, n: NodeId) -> Option<u32>
     }
 }
 
-/// Puts the line of a file whose first byte moved, and says whether it did.
+/// Puts the line of a file whose first byte moved, and returns whether it did.
 fn put_moved<W: ByteWrite>(
     w: &mut W,
     failed: &mut bool,
@@ -179,7 +180,7 @@ fn put_moved<W: ByteWrite>(
     put_move(w, failed, path, old, new)
 }
 
-/// Puts the line of two offsets that differ, and says whether they do.
+/// Puts the line of two offsets that differ, and returns whether they do.
 fn put_move<W: ByteWrite>(w: &mut W, failed: &mut bool, path: &[u8], old: u32, new: u32) -> bool
     ensures puts { Puts (sink (W.output w.old) failed.old)
         (sink (W.output w.new) failed.new) (moved_line path.now old new) }
@@ -198,7 +199,8 @@ fn put_move<W: ByteWrite>(w: &mut W, failed: &mut bool, path: &[u8], old: u32, n
     true
 }
 
-/// Puts the line of a file whose first byte moved if places are asked for, and says whether it did.
+/// Puts the line of a file whose first byte moved if offsets are asked for, and returns whether it
+/// did.
 fn put_places<'a, T: TreeImage<'a>, W: ByteWrite>(
     old: &T,
     new: &T,
@@ -225,14 +227,14 @@ fn put_places<'a, T: TreeImage<'a>, W: ByteWrite>(
     put_moved(w, failed, path, start(old, x), start(new, y))
 }
 
-/// Whether one of three is so.
+/// Whether at least one of three is true.
 fn any(one: bool, two: bool, three: bool) -> bool
     ensures { result ≡ (one || (two || three)) }
 {
     one || two || three
 }
 
-/// Puts the lines of two nodes of one kind, and says whether there are any.
+/// Puts the lines of two nodes of one kind, and returns whether there are any.
 fn put_alike<'a, T: TreeImage<'a>, W: ByteWrite>(
     old: &T,
     new: &T,
@@ -259,7 +261,7 @@ fn put_alike<'a, T: TreeImage<'a>, W: ByteWrite>(
     any(changed, rewritten, moved)
 }
 
-/// Puts the lines of a path at which both images have a node, and says whether there are any.
+/// Puts the lines of a path at which both images have a node, and returns whether there are any.
 pub(crate) fn put_nodes<'a, T: TreeImage<'a>, W: ByteWrite>(
     old: &T,
     new: &T,

@@ -1,4 +1,4 @@
-//! The names of an image by their paths.
+//! The names of an image, by path.
 ghost use Rattle.std.specs.Prelude.{◌≡◌, ◌<◌, ◌≤◌, length, IfOk, IfErr};
 ghost use Rattle.std.specs.Cmp.Lexicographic.{slice_cmp};
 ghost use Rattle.std.specs.Ordering.{nat_cmp, is_lt};
@@ -11,7 +11,7 @@ use arrayvec::ArrayVec;
 use rom_tree::{NodeId, TreeImage, Walk};
 use std::alloc::Global;
 
-/// The most bytes that a path may have. No path is longer if names have at most 255 bytes and
+/// The most bytes that a path may have. No path is longer if each name has at most 255 bytes and
 /// directories are at most 64 deep.
 const PATH_MAX: usize = 16_384;
 
@@ -31,14 +31,14 @@ pub(crate) enum NoRows {
     LongPath,
 }
 
-/// Whether a path comes before another, in the order of their bytes.
+/// Whether a path comes before another one, compared as bytes.
 pub(crate) fn is_before(one: &[u8], other: &[u8]) -> bool
     ensures { result ≡ is_lt (slice_cmp nat_cmp one.now other.now) }
 {
     one.cmp(other).is_lt()
 }
 
-/// The row of the name that a walk gave last, of this node. `path` is room for its path.
+/// The row of the name that a walk returned last, with this node. `path` has room for its path.
 fn row_of<'a>(
     alloc: Global,
     walk: &Walk<'a>,
@@ -59,7 +59,7 @@ fn row_of<'a>(
     }
 }
 
-/// The names of an image, sorted by their paths.
+/// The names of an image, sorted by path.
 ///
 /// # Errors
 ///

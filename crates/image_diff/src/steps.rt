@@ -1,4 +1,4 @@
-//! The first lines of what is left of two lists of names.
+//! The lines of the next names of two lists.
 ghost use Rattle.std.specs.Prelude.{◌≡◌, ◌+◌, ◌<◌, ◌≤◌, ◌∷◌, List, Some, length};
 ghost use Rattle.rom_fields.specs.Written.{sink};
 ghost use Rattle.rom_tree.specs.Image.{image_node, HasNode};
@@ -10,7 +10,7 @@ use crate::rows::{Row, is_before};
 use rom_fields::ByteWrite;
 use rom_tree::TreeImage;
 
-/// How many names a step took of each list, and whether it put a line.
+/// The number of names that a step used of each list, and whether it put a line.
 #[derive(Clone, Copy)]
 pub(crate) struct Step {
     pub(crate) old: usize,
@@ -18,14 +18,14 @@ pub(crate) struct Step {
     pub(crate) told: bool,
 }
 
-/// The old image has a path that the new one has not.
+/// The old image has a path that the new one lacks.
 const REMOVED: Step = Step {
     old: 1,
     new: 0,
     told: true,
 };
 
-/// The new image has a path that the old one has not.
+/// The new image has a path that the old one lacks.
 const ADDED: Step = Step {
     old: 0,
     new: 1,
@@ -70,7 +70,7 @@ fn put_lesser<'a, T: TreeImage<'a>, W: ByteWrite>(
     }
 }
 
-/// Puts the first lines of what is left of both lists, at least one of which is not empty.
+/// Puts the lines of the next names of both lists, at least one of which is not empty.
 pub(crate) fn put_step<'a, T: TreeImage<'a>, W: ByteWrite>(
     old: &T,
     new: &T,

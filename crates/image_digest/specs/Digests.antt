@@ -11,11 +11,11 @@ use Rattle.rom_tree.specs.Tree.{Node, is_regular}
 use Rattle.rom_tree.specs.Image.{contents_of}
 use Rattle.rom_tree.specs.Names.{Name, names}
 
--- a line feed, a carriage return, and a backslash are escaped
+-- a line feed, a carriage return and a backslash are escaped
 abbrev pub is_special : ℕ → Bool
 is_special b = b == 10 || (b == 13 || b == 92)
 
--- a byte of a name as the line has it
+-- a byte of a name, as the line has it
 abbrev pub shown_byte : ℕ → List ℕ
 shown_byte b =
     if b == 10 then 92 ∷ 110 ∷ []
@@ -30,7 +30,7 @@ shown_bytes name = flat_map shown_byte name
 abbrev pub mark : List ℕ → List ℕ
 mark name = if list_any is_special name then 92 ∷ [] else []
 
--- the file `-` is `./-` in a line, since `-` is the standard input there
+-- the file `-` is written as `./-`, since `-` means the standard input
 abbrev pub beside : List ℕ → List ℕ
 beside name = if bytes_eq name (45 ∷ []) then 46 ∷ 47 ∷ [] else []
 
@@ -40,15 +40,15 @@ sum_line bytes name =
     mark name ++ (encode_lower (sha256 bytes) ++ (32 ∷ 32 ∷ [] ++ (beside name
     ++ (shown_bytes name ++ 10 ∷ []))))
 
--- HEX, two spaces, a minus sign: the line of what the standard input has
+-- HEX, two spaces, a minus sign: the line of the standard input
 unfoldable pub input_line : List ℕ → List ℕ
 input_line bytes = encode_lower (sha256 bytes) ++ codes "  -\n"
 
--- a path from the image's root on, without the slash that it begins with
+-- a path from the image's root on, without its first slash
 abbrev pub relative : List ℕ → List ℕ
 relative path = drop 1 path
 
--- the line of a node with this path: only a regular file has one
+-- the line of a node with this path; only a regular file has one
 abbrev pub node_line : List ℕ → List ℕ → Node → List ℕ
 node_line b path x = if is_regular x then sum_line (contents_of b x) (relative path) else []
 

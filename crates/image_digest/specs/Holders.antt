@@ -5,20 +5,20 @@ use Rattle.rom_tree.specs.Names.{Name, names}
 use Rattle.rom_tree.specs.Walks.{given_path}
 use Rattle.rom_tree.specs.declared.frame.Walk.{Walk}
 
--- one of the places is this
+-- this offset is one of the list
 abbrev pub HasPlace : List ℕ → ℕ → Type 0
 HasPlace ps place = (k : ℕ) × (k < length ps) × (slice_index ps k ≡ place)
 
--- a regular file has the byte at this place
+-- a regular file has the byte at this offset
 abbrev pub Holds : Node → ℕ → Type 0
 Holds x place = (is_regular x ≡ true) × HasPlace (places_of x) place
 
--- none of the names is that of such a file
+-- no name is that of such a file
 abbrev pub NoneHolds : List Name → ℕ → Type 0
 NoneHolds [] place = Unit {0}
 NoneHolds (n ∷ ns) place = (Holds n.node place → ⊥) × NoneHolds ns place
 
--- the walk gave the first name of the tree whose file has the byte
+-- the walk returned the first name of the tree whose file has the byte
 pub record IsHolder (t : Node) (w : Walk) (place : ℕ) : Type 0 where
   pub before : List Name
   pub name : Name

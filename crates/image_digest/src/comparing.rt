@@ -1,8 +1,8 @@
 //! The first difference of two slices.
 ghost use Rattle.image_digest.specs.Differences.{IsFirstDifference};
 
-/// Returns the first index at which two slices have not the same byte, or at which one of them has
-/// ended and the other has not. `None` if they are equal.
+/// Returns the first index at which the bytes of two slices differ, or at which exactly one of them
+/// has ended. Returns `None` if they are equal.
 pub fn first_difference(a: &[u8], b: &[u8]) -> Option<usize>
     ensures { IsFirstDifference a.now b.now result }
 {

@@ -16,7 +16,7 @@ use rom_fields::ByteWrite;
 use rom_tree::{NoRoom, NodeId, TreeImage, Walk, is_regular_at};
 use thiserror::Error;
 
-/// The most bytes that a path may have. No path is longer if names have at most 255 bytes and
+/// The most bytes that a path may have. No path is longer if each name has at most 255 bytes and
 /// directories are at most 64 deep.
 const PATH_MAX: usize = 16_384;
 
@@ -31,7 +31,7 @@ pub enum DigestError {
     LongPath,
 }
 
-/// A path without the slash that it begins with.
+/// A path without its first slash.
 fn without_slash(path: &[u8]) -> &[u8]
     ensures { result.now ≡ relative path.now }
 {
@@ -41,7 +41,7 @@ fn without_slash(path: &[u8]) -> &[u8]
     }
 }
 
-/// Puts the line of a node, the one that a walk gave last. `path` is room for its path.
+/// Puts the line of the node that a walk returned last. `path` has room for its path.
 fn put_line<'a, T: TreeImage<'a>, W: ByteWrite>(
     image: &T,
     w: &mut W,
@@ -70,17 +70,17 @@ fn put_line<'a, T: TreeImage<'a>, W: ByteWrite>(
     Ok(())
 }
 
-/// Writes the digests of an image: for each name of a regular file, in the list's order, the
-/// SHA-256 of its bytes in 64 hexadecimal digits, two spaces, and its path without the first slash.
-/// That is the line that `sha256sum` has for the file in a directory into which the image was
-/// extracted: if the path has a backslash, a line feed or a carriage return, the line begins with a
-/// backslash, and these are `\\`, `\n` and `\r` in it. The path of a file `-` is `./-`. Each line
-/// ends with a line feed. Directories may lie 64 deep.
+/// Writes the digests of an image. For each name of a regular file, in the list's order, a line has
+/// the SHA-256 of its bytes in 64 hexadecimal digits, two spaces, and its path without the first
+/// slash. This is the line that `sha256sum` has for the file in a directory into which the image
+/// was extracted. If the path has a backslash, a line feed or a carriage return, the line begins
+/// with a backslash, and they are written as `\\`, `\n` and `\r`. The path of a file `-` is `./-`.
+/// Each line ends with a line feed. Directories may be 64 deep.
 ///
 /// # Errors
 ///
 /// `WriteFault` if a write failed, and `LongPath` if the path of a regular file has more than
-/// 16,384 bytes. Then a prefix of the text was written.
+/// 16,384 bytes. In both cases a prefix of the text was written.
 pub fn write_digests<'a, T: TreeImage<'a>, W: ByteWrite>(
     image: &T,
     w: &mut W,

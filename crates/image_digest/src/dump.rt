@@ -1,4 +1,4 @@
-//! An image beside the bytes of a dump, which are read piece by piece.
+//! Compares an image with the bytes of a dump, which are read piece by piece.
 ghost use Rattle.std.specs.Prelude.{◌≡◌, ◌<◌, ◌≤◌, ◌++◌, length, codes, decimal};
 ghost use Rattle.std.specs.Prelude.{IfOk, IfSome, OnOk};
 ghost use Rattle.rom_fields.specs.Failures.{Counts};
@@ -9,12 +9,12 @@ use crate::comparing::first_difference;
 use rom_fields::{ByteWrite, Failed, put, put_long_decimal};
 use std::io::{self, Read};
 
-/// How many bytes are read at once.
+/// The number of bytes that are read at once.
 const PART: usize = 16_384;
 
-/// What one read tells of the rest of an image.
+/// What one read reports about the rest of an image.
 enum Step {
-    /// So many of its next bytes are those of the dump.
+    /// This number of its next bytes are those of the dump.
     Same(usize),
     /// The dump differs here for the first time, or has ended.
     Differs(usize),
@@ -36,9 +36,10 @@ fn compare_part<R: Read>(rest: &[u8], dump: &mut R, part: &mut [u8]) -> io::Resu
     }
 }
 
-/// Compares an image with what a reader has, whose further bytes are not read. Returns the offset
-/// of the first byte of the image that the reader has not at the same place: where they differ, or
-/// where the reader ends. `None` if the reader begins with the image.
+/// Compares an image with the bytes of a reader, which is not read further than the image's length.
+/// Returns the offset of the first byte of the image that the reader does not have at the same
+/// offset: they differ there, or the reader has ended. Returns `None` if the reader's bytes begin
+/// with the image.
 ///
 /// # Errors
 ///
@@ -59,7 +60,7 @@ pub fn compare<R: Read>(image: &[u8], dump: &mut R) -> io::Result<Option<usize>>
     Ok(None)
 }
 
-/// Passes over so many bytes of a reader, or over all if it has fewer.
+/// Passes over this number of bytes of a reader, or over all if it has fewer.
 ///
 /// # Errors
 ///
@@ -90,7 +91,7 @@ fn put_number<W: ByteWrite>(w: &mut W, failed: &mut bool, word: &[u8], number: u
     put(w, failed, b"\n");
 }
 
-/// Puts the line of a comparison.
+/// Puts the line with the result of a comparison.
 fn put_verdict<W: ByteWrite>(w: &mut W, failed: &mut bool, size: usize, difference: Option<usize>)
     ensures { Puts (sink (W.output w.old) failed.old) (sink (W.output w.new) failed.new)
         (verdict_text size difference) }
@@ -101,7 +102,7 @@ fn put_verdict<W: ByteWrite>(w: &mut W, failed: &mut bool, size: usize, differen
     }
 }
 
-/// Writes the line of a comparison with an image of `size` bytes: `ok SIZE` or `differ OFFSET`.
+/// Writes the result of a comparison with an image of `size` bytes: `ok SIZE` or `differ OFFSET`.
 ///
 /// # Errors
 ///

@@ -7,8 +7,8 @@ ghost use Rattle.rom_tree.specs.Image.{image_node, HasNode, contents_of};
 use rom_tree::{NodeId, TreeImage, bytes_from};
 use sha2::{Digest, Sha256};
 
-/// Computes the SHA-256 of the bytes of a regular file, or of a link's text, run by run where they
-/// lie in the image. Other nodes have no bytes.
+/// Computes the SHA-256 of the bytes of a regular file, or of a link's text. It hashes each run
+/// where it is in the image. Other nodes have no bytes.
 pub fn file_digest<'a, T: TreeImage<'a>>(image: &T, node: NodeId) -> [u8; 32]
     requires { HasNode (T.image image.now) node.0 }
     ensures { (x : Node) → image_node (T.image image.now) node.0 ≡ Some x

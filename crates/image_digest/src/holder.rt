@@ -15,7 +15,7 @@ fn covers(run: Run, place: u32) -> bool
     run.place <= place && place - run.place < run.len
 }
 
-/// Whether a byte of a file or a link lies at this offset of the image.
+/// Whether a byte of a file or a link is at this offset of the image.
 fn has_place<'a, T: TreeImage<'a>>(image: &T, node: NodeId, place: u32) -> bool
     requires { HasNode (T.image image.now) node.0 }
     ensures found { OnTrue result ((x : Node) → image_node (T.image image.now) node.0 ≡ Some x
@@ -48,9 +48,9 @@ fn is_holder<'a, T: TreeImage<'a>>(image: &T, node: NodeId, place: u32) -> bool
     is_regular_at(image, node) && has_place(image, node, place)
 }
 
-/// Finds the first name, in the list's order, of a regular file that has the byte at this offset of
-/// the image. The walk's path is then that name's. `None` if no file has it: then it is a byte of a
-/// header, of a list or of no extent. Directories may lie 64 deep.
+/// Returns a walk at the first name, in the list's order, of a regular file that has the byte at
+/// this offset of the image. The walk's path is that name's path. Returns `None` if no file has the
+/// byte: it belongs to a header, to a list or to no extent. Directories may be 64 deep.
 pub fn find_holder<'a, T: TreeImage<'a>>(image: &T, place: u32) -> Option<Walk<'a>>
     requires { levels (T.image image.now).tree ≤ 65 }
     ensures found { IfSome result (λ w. IsHolder (T.image image.now).tree w place) }

@@ -35,7 +35,7 @@ pub(crate) fn put_sum<W: ByteWrite>(w: &mut W, failed: &mut bool, digest: &[u8; 
 }
 
 /// Writes the digest of an image: the SHA-256 of its bytes in 64 hexadecimal digits, two spaces, a
-/// minus sign and a line feed. That is the line that `sha256sum` has if the bytes are its standard
+/// minus sign and a line feed. This is the line that `sha256sum` has if the bytes are its standard
 /// input.
 ///
 /// # Errors

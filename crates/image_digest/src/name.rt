@@ -1,4 +1,4 @@
-//! Names as a line of sha256sum has them.
+//! Names in the form that a line of sha256sum has.
 ghost use Rattle.std.specs.Prelude.{◌≡◌};
 ghost use Rattle.std.specs.List.{list_any};
 ghost use Rattle.rom_fields.specs.Written.{Puts, sink};

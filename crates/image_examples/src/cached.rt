@@ -1,4 +1,4 @@
-//! Where paths lead, and what lines are answered, through a cache of look-ups and through indices.
+//! Path look-ups and replies through a cache of look-ups and through indices.
 ghost use Rattle.std.specs.Prelude.{◌≤◌};
 ghost use Rattle.rom_tree.specs.Tree.{levels};
 
@@ -24,7 +24,7 @@ fn walked_in_a_long_list(
     Some(walk(&mut image, path, follow_last))
 }
 
-/// A name behind the first 17, one among them, two that are absent, and one that leads over 40
+/// A name after the first 17, one among them, two that are absent, and one that leads over 40
 /// links.
 #[test]
 fn names_of_a_long_list(rt: HostRuntime) -> Result<(), Fail> {
@@ -40,8 +40,8 @@ fn names_of_a_long_list(rt: HostRuntime) -> Result<(), Fail> {
     Ok(())
 }
 
-/// Lines that walk the same paths again and again, in turn, with names that are long, absent,
-/// links, or no directories, and lines that open what was found.
+/// Lines that walk the same paths several times, in turn. Some names are long, absent, links, or no
+/// directories. Other lines open what was found.
 const LINES: &[u8] = b"\
     lookup /a/x\nlookup /b/x\nlookup /a/x\nlookup /b/y\nlookup /b/y\nstat /a\nlstat /a\n\
     stat /b/x\nopen /a/x\nopen /a\nopen /b\nopen /\nfstat 0\nreaddir 0\nreaddir 1\nread 0 5\n\
@@ -50,7 +50,7 @@ const LINES: &[u8] = b"\
     stat /n\nclose 0\nlookup /b/x\nlookup /a/x\nlookup /b\nlookup /a\nfly\nread 9 9\nlookup /\n\
     lstat /l00\nlstat /l17\nlstat /l41\nlookup /l40\nlookup /l4\nlookup /l411\nlstat /l18\n";
 
-/// What the lines are answered from an image.
+/// The replies to the lines, from an image.
 fn served<'a, T: TreeImage<'a>>(alloc: Global, image: T) -> Option<Vec<u8>>
     requires { levels (T.image image).tree ≤ 65 }
 {
@@ -60,12 +60,12 @@ fn served<'a, T: TreeImage<'a>>(alloc: Global, image: T) -> Option<Vec<u8>>
     Some(w.into_inner())
 }
 
-/// What they are answered from the image of these bytes.
+/// The replies to the lines, from the image of these bytes.
 fn replies(alloc: Global, bytes: &[u8]) -> Option<Vec<u8>> {
     served(alloc, sound(alloc, bytes).ok()?)
 }
 
-/// The same through a cache of so many names.
+/// The same through a cache of this number of names.
 fn cached_replies(alloc: Global, bytes: &[u8], names: usize) -> Option<Vec<u8>>
     requires some { 1 ≤ names }
     requires few { names ≤ 65536 }
@@ -74,7 +74,7 @@ fn cached_replies(alloc: Global, bytes: &[u8], names: usize) -> Option<Vec<u8>>
     served(alloc, Cached::new(alloc, image, names).ok()?)
 }
 
-/// The same as the program answers them: through a cache of 256 names, and indices behind it.
+/// The same as in the program: through a cache of 256 names, and indices behind it.
 fn replies_of_the_program(alloc: Global, bytes: &[u8]) -> Option<Vec<u8>> {
     let mut r = Plain::new(LINES);
     let mut w = Plain::new(Vec::new(alloc));

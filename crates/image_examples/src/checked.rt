@@ -1,4 +1,4 @@
-//! What an image says of itself once it is checked.
+//! The results of checks.
 ghost use Rattle.std.specs.Prelude.{◌≤◌, IfOk};
 ghost use Rattle.image_check.specs.Any.{any_view};
 ghost use Rattle.rom_tree.specs.Tree.{levels};
@@ -11,20 +11,20 @@ use rom_tree::{CheckError, Limits, NodeId, Report, TreeImage};
 use std::alloc::Global;
 use std::test::Fail;
 
-/// The image of these bytes, under the usual limits. It promises less than `check`, so that what is
-/// proved over it is proved sooner.
+/// Checks these bytes under the usual limits. It promises less than `check`, so that proofs about
+/// it are faster.
 pub fn sound(alloc: Global, bytes: &[u8]) -> Result<AnyImage<'_>, CheckError>
     ensures { IfOk result (λ v. levels (any_view v).tree ≤ 65) }
 {
     check(alloc, bytes, Limits::usual())
 }
 
-/// What is answered of an image with so many references, and names on a path.
+/// The result for an image with these numbers of references and of names on a path.
 pub fn counts(references: u32, depth: u32) -> Result<Report, CheckError> {
     Ok(Report { references, depth })
 }
 
-/// What is answered of an image with this fault.
+/// The result for an image with this fault.
 pub fn fault(number: u32, at: u32) -> Result<Report, CheckError> {
     Err(CheckError::Fault { number, at })
 }

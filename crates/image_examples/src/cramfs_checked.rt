@@ -1,4 +1,4 @@
-//! Images of cramfs that are accepted, and faults that are found in others.
+//! Images of cramfs that are accepted, and others with faults.
 use crate::checked::{counts, fault};
 use cramfs_image::{Cramfs, crc32};
 use rom_faults::CheckError;
@@ -39,7 +39,7 @@ fn superblock(b: &mut [u8], flags: u32, size: u32) {
     );
 }
 
-/// A file `a` that holds `hello`, in as few bytes as can be.
+/// A file `a` that holds `hello`, in as few bytes as possible.
 fn hello_cramfs_tight() -> [u8; 101] {
     let mut b = [0; 101];
     superblock(&mut b, 0x802, 16);
@@ -49,7 +49,7 @@ fn hello_cramfs_tight() -> [u8; 101] {
     b
 }
 
-/// Two files of these names with one block pointer, the second of this size.
+/// Two files with these names and one block pointer. The second has this size.
 fn shared_table(one: &[u8], other: &[u8], size: u32) -> [u8; 117] {
     let mut b = [0; 117];
     superblock(&mut b, 0x802, 32);
@@ -60,13 +60,13 @@ fn shared_table(one: &[u8], other: &[u8], size: u32) -> [u8; 117] {
     b
 }
 
-/// The answer of a check: the report, or the fault's number and place.
+/// The result of a check: the report, or the fault's number and offset.
 fn answer(alloc: Global, b: &[u8], limits: Limits) -> Result<Report, CheckError> {
     let image = Cramfs::check(alloc, b, limits)?;
     Ok(image.report())
 }
 
-/// The file with another word at a place.
+/// The file with another word at an offset.
 fn hello_with(at: usize, word: u32) -> [u8; 101] {
     let mut b = hello_cramfs_tight();
     let _ = put_le32(&mut b, at, word);
@@ -127,7 +127,7 @@ fn two_files(rt: HostRuntime) -> Result<(), Fail> {
     Ok(())
 }
 
-/// The file with three bytes more and its CRC, of a byte of its contents another one.
+/// The file with three more bytes and its CRC; then with another byte in its contents.
 #[test]
 fn a_crc(rt: HostRuntime) -> Result<(), Fail> {
     let mut b: [u8; 104] = [0; 104];

@@ -1,4 +1,4 @@
-//! The facts of small images, as they are told.
+//! The facts of small images.
 use crate::checked::sound;
 use crate::images::HELLO;
 use image_check::check;
@@ -8,7 +8,7 @@ use rom_tree::Limits;
 use std::alloc::Global;
 use std::test::Fail;
 
-/// A cramfs image without a CRC, whose root holds nothing and whose volume is `a boot volume`.
+/// A cramfs image without a CRC. Its root is empty, and its volume is `a boot volume`.
 const EMPTY: &[u8; 76] = b"\
     \x45\x3d\xcd\x28\0\0\0\0\x02\x08\0\0\0\0\0\0\
     Compressed ROMFS\
@@ -16,7 +16,7 @@ const EMPTY: &[u8; 76] = b"\
     a boot volume\0\0\0\
     \xed\x41\0\0\0\0\0\0\0\0\0\0";
 
-/// What is told of an image.
+/// The facts that are written of an image.
 fn told(alloc: Global, bytes: &[u8], file: u64) -> Option<Vec<u8>> {
     let Ok(image) = check(alloc, bytes, Limits::usual()) else {
         return None;
@@ -28,7 +28,7 @@ fn told(alloc: Global, bytes: &[u8], file: u64) -> Option<Vec<u8>> {
     Some(w.into_inner())
 }
 
-/// Whether this is told of an image.
+/// Whether these facts are written of an image.
 fn is_told(alloc: Global, bytes: &[u8], file: u64, text: &[u8]) -> bool {
     match told(alloc, bytes, file) {
         Some(found) => found.as_slice() == text,

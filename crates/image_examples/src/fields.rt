@@ -8,7 +8,7 @@ use std::alloc::Global;
 use std::io::{self, ErrorKind, Write};
 use std::test::Fail;
 
-/// Takes all bytes, and fails each flush.
+/// A writer that accepts all bytes, and fails each flush.
 #[derive(Drop)]
 pub struct Unflushed;
 
@@ -139,7 +139,7 @@ fn reads_until_one_fails(rt: HostRuntime) -> Result<(), Fail> {
     Ok(())
 }
 
-/// The first overlap of extents, each of a kind, a place and a length.
+/// The first overlap of extents, each with a kind, an offset and a length.
 fn overlap(alloc: Global, extents: &[(Extent, u8, u8)]) -> Result<Option<u32>, Fail> {
     let mut all = Extents::new(alloc);
     for (kind, at, len) in extents {

@@ -10,15 +10,15 @@ use rom_faults::{CheckError, Fault};
 use std::alloc::Global;
 use std::test::Fail;
 
-/// Records in two tables, the root at 1: where the own list of each begins, and what comes after
-/// it.
+/// Records in two tables, with the root at 1: where the own list of each begins, and which record
+/// follows it.
 #[derive(Drop)]
 struct Table {
     own: [u32; 8],
     after: [u32; 8],
 }
 
-/// An offset, where it is one.
+/// An offset, if the number is one.
 fn offset_of(n: u32) -> Option<u32>
     ensures { result ≡ offset n }
 {

@@ -1,5 +1,5 @@
-//! Two look-ups on the image `hello` with readers and writers that fail, and how many names a cache
-//! holds after walks.
+//! Two look-ups on the image `hello` with readers and writers that fail, and the number of names in
+//! a cache after walks.
 ghost use Rattle.std.specs.Prelude.{◌≤◌};
 ghost use Rattle.rom_tree.specs.Tree.{levels};
 
@@ -20,7 +20,8 @@ const SESSION_LINES: &[u8] = b"0 lookup /\n0 lookup /\n";
 /// How serving ended, what was written, and how many bytes were left unread.
 type Ended = (Result<(), ServeError>, Vec<u8>, usize);
 
-/// The lines read from a reader that fails after so many calls. What it leaves is not counted.
+/// Reads the lines from a reader that fails after this number of calls. Unread bytes are not
+/// counted.
 fn read_up_to(alloc: Global, calls: u64) -> Option<Ended> {
     let image = sound(alloc, HELLO).ok()?;
     let mut r = Faulty::new(Plain::new(LINES), calls, 1);
@@ -29,8 +30,8 @@ fn read_up_to(alloc: Global, calls: u64) -> Option<Ended> {
     Some((ended, w.into_inner(), 0))
 }
 
-/// The lines answered on a writer that accepts so many bytes at a time, and fails after so many
-/// calls.
+/// Answers the lines to a writer that accepts `most` bytes at a time, and fails after this number
+/// of calls.
 fn written_up_to(alloc: Global, calls: u64, most: usize) -> Option<Ended> {
     let image = sound(alloc, HELLO).ok()?;
     let mut r = Plain::new(LINES);
@@ -39,7 +40,7 @@ fn written_up_to(alloc: Global, calls: u64, most: usize) -> Option<Ended> {
     Some((ended, w.into_inner().into_inner(), r.into_inner().len()))
 }
 
-/// The same of the lines of a session.
+/// The same with the lines of a session.
 fn session_up_to(alloc: Global, calls: u64) -> Option<Ended> {
     let mut images = Vec::new(alloc);
     images.push(sound(alloc, HELLO).ok()?).ok()?;
@@ -49,7 +50,7 @@ fn session_up_to(alloc: Global, calls: u64) -> Option<Ended> {
     Some((ended, w.into_inner().into_inner(), r.into_inner().len()))
 }
 
-/// Whether serving ended so.
+/// Whether serving ended in this way.
 fn is_ended(
     found: Option<Ended>,
     ending: Result<(), ServeError>,
@@ -85,7 +86,8 @@ fn a_writer_of_a_session_that_fails(rt: HostRuntime) {
     assert!(rt; is_ended(found, Err(ServeError::WriteFault), b"0 ok 0:32\n", 11));
 }
 
-/// Where a path leads in an image whose directories are 64 deep at most, as it stays.
+/// The node to which a path leads in an image whose directories are at most 64 deep. The image
+/// stays.
 fn led<'a, T: TreeImage<'a>>(image: &mut T, path: &[u8]) -> Result<NodeId, WalkError>
     requires { levels (T.image image.old).tree ≤ 65 }
     ensures { levels (T.image image.new).tree ≤ 65 }
@@ -93,8 +95,8 @@ fn led<'a, T: TreeImage<'a>>(image: &mut T, path: &[u8]) -> Result<NodeId, WalkE
     walk(image, path, true)
 }
 
-/// How many names a cache of so many holds after five walks over four names and an absent one, if
-/// each walk leads where it should.
+/// The number of names in a cache for `names` of them, after five walks over four names and an
+/// absent one, if each walk leads to the right node.
 fn held_after_walks(alloc: Global, names: usize) -> Option<usize>
     requires some { 1 ≤ names }
     requires few { names ≤ 65536 }

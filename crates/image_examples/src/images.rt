@@ -1,4 +1,4 @@
-//! The bytes of small images, which each reader of the formats can lay out by hand.
+//! The bytes of small images, which readers of the format descriptions can lay out manually.
 
 /// A romfs image: the file `a` at 96, which holds `hello`.
 pub const HELLO: &[u8; 144] = b"\
@@ -95,8 +95,8 @@ pub const LINKS_AND_DOTS: &[u8; 896] = b"\
     odd\0\0\0\0\0\0\0\0\0\0\0\0\0\
     a b\xff%\0\0\0\0\0\0\0\0\0\0\0";
 
-/// A cramfs image of 42 names: the file `l00` at 76, and from `l01` on each name a link to the one
-/// before. `l40` lies at 716 and `l41` at 732.
+/// A cramfs image of 42 names: the file `l00` at 76, and from `l01` on each name is a link to the
+/// one before. `l40` is at 716 and `l41` at 732.
 pub const LINK_CHAIN: &[u8; 1076] = b"\
     \x45\x3d\xcd\x28\0\0\0\0\x02\x08\0\0\0\0\0\0\
     Compressed ROMFS\
@@ -167,8 +167,8 @@ pub const LINK_CHAIN: &[u8; 1076] = b"\
     \x08\x01\0\xc0l38\0\x0a\x01\0\xc0l39\0\
     \x0c\x01\0\xc0l40\0";
 
-/// A cramfs image of two directories with an entry of one name: `a` at 76 with the file `x` at 108,
-/// and `b` at 92 with the file `x` at 124. The files are empty.
+/// A cramfs image of two directories whose entries have the same name: `a` at 76 with the file `x`
+/// at 108, and `b` at 92 with the file `x` at 124. The files are empty.
 pub const SAME_NAMES: &[u8; 140] = b"\
     \x45\x3d\xcd\x28\0\0\0\0\x02\x08\0\0\0\0\0\0\
     Compressed ROMFS\

@@ -1,11 +1,10 @@
-//! Small images, byte by byte, and what the crates that check them, tell of them, walk in them,
-//! open their files and print them answer.
+//! Tests with small images, byte by byte, of the crates that check them, report on them, walk in
+//! them, open their files and print them.
 //!
-//! The bytes are those that the documents of the formats give (Linux
-//! Documentation/filesystems/romfs.rst and cramfs.rst), laid out by hand. The tests stand here and
-//! not in the crates below, since they go through several of them, and since a crate with tests is
-//! proved a second time for them. The modules `sample_..` are over the image in memory of
-//! `sample_image`.
+//! The bytes follow the descriptions of the formats (Linux Documentation/filesystems/romfs.rst and
+//! cramfs.rst), and were laid out manually. The tests are here and not in the crates below, since
+//! they use several of them, and since a crate with tests is proved a second time for them. The
+//! modules `sample_..` use the image in memory of `sample_image`.
 #![tactic(auto)]
 
 #[cfg(test)]

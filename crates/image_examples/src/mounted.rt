@@ -13,7 +13,7 @@ use rom_tree::{CheckError, NodeId, TreeImage, is_directory_at};
 use std::alloc::Global;
 use std::test::Fail;
 
-/// Whether an image has this directory, and it is not its root.
+/// Whether an image has this directory below its root.
 fn is_below_root(image: &AnyImage<'_>, dir: NodeId) -> bool
     ensures { IsTrue result → (x : Node) × (image_node (any_view image.now) dir.0 ≡ Some x)
         × (is_directory x ≡ true) × (dir.0 ≢ ino_of (any_view image.now).tree) }
@@ -74,8 +74,8 @@ fn can_mount(images: &[AnyImage<'_>], mounts: &[Mount]) -> bool
     }
 }
 
-/// The number of the image and that of the node that a path leads to in images of these bytes.
-/// `None` where they cannot be mounted so.
+/// The number of the image and that of the node to which a path leads, in images of these bytes.
+/// `None` if they cannot be mounted so.
 fn walked(
     alloc: Global,
     bytes: [&[u8]; 3],
@@ -96,7 +96,7 @@ fn walked(
     }
 }
 
-/// The image of a number covers a directory of another.
+/// A mount that covers a directory of one image with another image.
 fn mount(image: u32, on: u32, dir: u32) -> Mount {
     Mount {
         image,
@@ -168,7 +168,7 @@ fn mount_in_a_mounted_image(rt: HostRuntime) -> Result<(), Fail> {
     Ok(())
 }
 
-/// A mount in a directory that is not met has no effect.
+/// A mount at a directory that is not on the path has no effect.
 #[test]
 fn mount_that_is_not_met(rt: HostRuntime) -> Result<(), Fail> {
     let images = [LINK_AND_DEVICE.as_slice(), LINK_AND_DEVICE, HELLO];

@@ -7,7 +7,7 @@ use rom_tree::Cursor;
 use std::alloc::Global;
 use std::test::Fail;
 
-/// A piece's place and bytes.
+/// A piece's offset and bytes.
 fn lent<'a>(piece: Result<Piece<'a>, CallError>) -> Result<(u32, &'a [u8]), CallError> {
     match piece {
         Ok(piece) => Ok((piece.place, piece.bytes)),
@@ -26,7 +26,7 @@ fn listed<'a>(
     }
 }
 
-/// Open files of the image that holds the file `a`, with that open.
+/// The open files of the image that holds the file `a`, with `a` open.
 fn with_a_open(alloc: Global) -> Result<Files<'static, AnyImage<'static>, 64>, Fail> {
     let mut files = Files::new(sound(alloc, HELLO)?);
     match files.open(b"/a") {
@@ -35,7 +35,7 @@ fn with_a_open(alloc: Global) -> Result<Files<'static, AnyImage<'static>, 64>, F
     }
 }
 
-/// Whether the file is found and opened by its path, and told of as this.
+/// Whether the file is found and opened by its path, and has these attributes.
 fn is_found(alloc: Global, stat: Stat) -> Result<bool, Fail> {
     let image = check(alloc, HELLO, Limits::usual())?;
     let mut files: Files<_, 64> = Files::new(image);
@@ -89,7 +89,7 @@ fn pieces_of_a_file(rt: HostRuntime) -> Result<(), Fail> {
     Ok(())
 }
 
-/// Whether two bytes of the file are lent, then the others read, and then none are left.
+/// Whether two bytes of the file are lent, then the others are read, and then none are left.
 fn is_read_on(alloc: Global) -> Result<bool, Fail> {
     let mut files = with_a_open(alloc)?;
     let mut room = *b".........";
@@ -107,7 +107,7 @@ fn a_file_is_read_from_its_position(rt: HostRuntime) -> Result<(), Fail> {
     Ok(())
 }
 
-/// Whether so many bytes are read from a position on, and the room then holds these.
+/// Whether this number of bytes is read from a position on, and the buffer then holds these.
 fn is_read_at(alloc: Global, at: u64, count: usize, held: &[u8; 9]) -> Result<bool, Fail> {
     let mut files = with_a_open(alloc)?;
     let mut room = *b".........";
@@ -143,7 +143,7 @@ fn a_file_is_no_directory(rt: HostRuntime) -> Result<(), Fail> {
     Ok(())
 }
 
-/// Two open files at most of the image with a directory, and that or the root open.
+/// The image with a directory, for at most two open files, with the directory or the root open.
 fn with_open(alloc: Global, path: &[u8]) -> Result<Files<'static, AnyImage<'static>, 2>, Fail> {
     let mut files = Files::new(sound(alloc, LINK_AND_DEVICE)?);
     match files.open(path) {
@@ -152,8 +152,8 @@ fn with_open(alloc: Global, path: &[u8]) -> Result<Files<'static, AnyImage<'stat
     }
 }
 
-/// Whether the root's two entries are listed, then the end twice, and after `rewind` the first
-/// again.
+/// Whether the root's two entries are listed, then its end twice, and after `rewind` the first
+/// entry again.
 fn is_listed(alloc: Global) -> Result<bool, Fail> {
     let mut files = with_open(alloc, b"/")?;
     let first = Ok(Some((b"d".as_slice(), 96)));
@@ -201,7 +201,7 @@ fn is_link(alloc: Global) -> Result<bool, Fail> {
     )
 }
 
-/// Whether the device is not opened, and the directory once, as there is room for one more.
+/// Whether the device is not opened, and the directory is opened once, as one more may be open.
 fn is_full_after_one(alloc: Global) -> Result<bool, Fail> {
     let mut files = with_open(alloc, b"/")?;
     Ok(
@@ -219,7 +219,7 @@ fn links_and_what_is_not_opened(rt: HostRuntime) -> Result<(), Fail> {
     Ok(())
 }
 
-/// The first bytes of a file, lent and then closed, with all that was open.
+/// The first bytes of a file. They are lent, and then the file and all others are closed.
 fn kept<'a>(alloc: Global, bytes: &'a [u8]) -> Option<Piece<'a>> {
     let Ok(image) = sound(alloc, bytes) else {
         return None;

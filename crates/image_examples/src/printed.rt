@@ -1,5 +1,5 @@
-//! What the program's commands print of an image to writers that take little, or fail. What they
-//! print to others, and how the program then ends, is in tests/cases.
+//! The program's commands, printing of an image to writers that accept little, or fail. Other
+//! endings are in tests/cases.
 use crate::fields::Unflushed;
 use rom_commands::{Asked, Outcome, Status, hello, print, show};
 use rom_fields::{Faulty, Plain};
@@ -8,8 +8,8 @@ use std::test::Fail;
 
 const LISTED: &[u8] = b"32 d 0755 0 0 0 0 0 /\n96 f 0644 0 0 5 0 0 /a\n";
 
-/// Whether it ends so that an image is listed to a writer that takes so many calls, each of one
-/// byte, and the writer then holds this text.
+/// Whether an image is listed in this ending to a writer that accepts this number of calls, each
+/// with one byte, and the writer then holds this text.
 fn is_listed(alloc: Global, calls: u64, end: Outcome, text: &[u8]) -> bool {
     let mut w = Faulty::new(Plain::new(Vec::new(alloc)), calls, 1);
     let outcome = show(alloc, &hello(), Asked::List, &mut w);
@@ -35,8 +35,8 @@ fn a_failed_write_ends_it(rt: HostRuntime) -> Result<(), Fail> {
     Ok(())
 }
 
-/// How it ends that the fault of an image's front is shown to a writer that takes two calls of four
-/// bytes, and what that holds.
+/// How it ends if the fault of an image's front is written to a writer that accepts two calls with
+/// four bytes each, and what this writer holds.
 fn front_shown(alloc: Global) -> (Outcome, Vec<u8>) {
     let mut w = Faulty::new(Plain::new(Vec::new(alloc)), 2, 4);
     let outcome = show(alloc, &hello()[..8], Asked::Report, &mut w);
@@ -50,7 +50,7 @@ fn a_failed_write_ends_a_fault(rt: HostRuntime) -> Result<(), Fail> {
     Ok(())
 }
 
-/// The status of a report to a writer whose flush fails, and what is said of it.
+/// The status of a report to a writer whose flush fails, and the text on standard error.
 fn unflushed(alloc: Global) -> (Status, Vec<u8>) {
     let mut out = Plain::new(Unflushed);
     let mut err = Plain::new(Vec::new(alloc));

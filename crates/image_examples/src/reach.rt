@@ -1,9 +1,9 @@
-//! How many bytes of a file an image may need, by its front.
+//! The number of bytes that a check may read of an image, by its first bytes.
 use image_reach::reach_of;
 use rom_fields::{put_be32, put_le32};
 use std::test::Fail;
 
-/// A front that begins with two words of a romfs image and has a size.
+/// The first bytes of a romfs image: its first two words and a size.
 fn romfs<const N: usize>(size: u32) -> [u8; N] {
     let mut head = [0; N];
     let _ = put_be32(&mut head, 0, 0x2d72_6f6d);
@@ -12,7 +12,7 @@ fn romfs<const N: usize>(size: u32) -> [u8; N] {
     head
 }
 
-/// A front of a little-endian cramfs image of a size and with these flags.
+/// The first bytes of a little-endian cramfs image with a size and flags.
 fn cramfs(size: u32, flags: u32) -> [u8; 76] {
     let mut head = [0; 76];
     let _ = put_le32(&mut head, 0, 0x28cd_3d45);

@@ -1,4 +1,4 @@
-//! Images of romfs that are accepted, and faults that are found in others.
+//! Images of romfs that are accepted, and others with faults.
 use crate::checked::{counts, fault};
 use rom_faults::CheckError;
 use rom_fields::{part, put_be32};
@@ -27,7 +27,7 @@ fn put_bytes(b: &mut [u8; 288], at: usize, bytes: &[u8]) {
     }
 }
 
-/// An image of an empty volume name, with its root's header and `..`.
+/// An image with an empty volume name, the root's header and `..`.
 fn image(size: u32, sum: u32, dots: [u32; 4]) -> [u8; 288] {
     let mut b = [0; 288];
     put_bytes(&mut b, 0, b"-rom1fs-");
@@ -46,7 +46,7 @@ fn hello() -> [u8; 288] {
     b
 }
 
-/// The same with a sum of the header that is one too great, and the superblock's mended.
+/// The same with the header's checksum one too great, and the right checksum of the superblock.
 fn hello_of_another_sum() -> [u8; 288] {
     let mut b = image(0x90, 0xc9c1_b069, [0x60, 0x20, 0, 0xd1d1_ff80]);
     header(&mut b, 96, [2, 0, 5, 0x9eff_fffa], b"a");
@@ -70,7 +70,7 @@ fn hard_link(spec: u32, sum: u32) -> [u8; 288] {
     b
 }
 
-/// The answer of a check: the report, or the fault's number and place.
+/// The result of a check: the report, or the fault's number and offset.
 fn answer(alloc: Global, b: &[u8], limits: Limits) -> Result<Report, CheckError> {
     let image = Romfs::check(alloc, b, limits)?;
     Ok(image.report())

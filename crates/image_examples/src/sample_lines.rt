@@ -1,5 +1,5 @@
-//! Lines that are answered from the sample: texts from outside, and what a writer that fails has by
-//! then.
+//! Lines that are answered from the sample: the expected replies, and the bytes that a failing
+//! writer has then.
 use rom_fields::Faulty;
 use rom_serve::{Plain, ServeError, serve, serve_bounded, serve_space};
 use sample_image::Sample;
@@ -122,7 +122,7 @@ fn each_failing_write(rt: HostRuntime) -> Result<(), Fail> {
 #[test]
 fn the_first_failures(rt: HostRuntime) -> Result<(), Fail> {
     let input: &[u8] = b"lookup /\nlookup /..\n";
-    // All pass; the first flush fails; so does the second write; each write takes no byte.
+    // All pass; the first flush fails; the second write fails; each write accepts no byte.
     for (calls, most, left, text) in [
         (u64::MAX, 1, 0, b"ok 1\nok 1\n".as_slice()),
         (1, 100, 11, b"ok 1\n"),

@@ -1,4 +1,4 @@
-//! Look-ups in the sample through a cache, and how many names it holds.
+//! Look-ups in the sample through a cache, and the number of names that it holds.
 ghost use Rattle.std.specs.Prelude.{◌≤◌, IfSome};
 
 use lookup_cache::Cached;
@@ -18,7 +18,7 @@ fn in_bin<'a>(image: &mut Cached<'a, Sample>, name: &[u8]) -> Option<NodeId> {
     image.lookup(NodeId(2), name)
 }
 
-/// A name in the one or the other, and how many names are held then.
+/// A name in the root or in `bin`, and the number of names in the cache then.
 fn found<'a>(image: &mut Cached<'a, Sample>, bin: bool, name: &[u8]) -> (Option<u32>, usize) {
     let node = if bin {
         in_bin(image, name)
@@ -28,7 +28,7 @@ fn found<'a>(image: &mut Cached<'a, Sample>, bin: bool, name: &[u8]) -> (Option<
     (node.map(|node| node.0), image.held())
 }
 
-/// A cache of so many names over the sample.
+/// A cache for this number of names over the sample.
 fn cached(alloc: Global, names: usize) -> Result<Cached<'static, Sample>, Fail>
     requires some { 1 ≤ names }
     requires few { names ≤ 65536 }
@@ -39,7 +39,7 @@ fn cached(alloc: Global, names: usize) -> Result<Cached<'static, Sample>, Fail>
     }
 }
 
-/// How many names are kept after three look-ups.
+/// The number of names in the cache after three look-ups.
 fn held_after_three(alloc: Global, names: usize) -> Option<usize>
     requires some { 1 ≤ names }
     requires few { names ≤ 65536 }

@@ -1,4 +1,4 @@
-//! What the program says to people.
+//! The texts that the program prints for people.
 use sentences::{
     call_sentence, ending_sentence, fault_sentence, image, line_sentence, manifest_line,
     manifest_sentence, misfit_sentence,
@@ -13,15 +13,15 @@ fn sentences(rt: HostRuntime) -> Result<(), Fail> {
     assert!(rt; misfit_sentence(2).ends_with("too large"));
     assert_eq!(rt;
         call_sentence(b"EBADF"),
-        Some("no open file has this number")
+        Some("this descriptor is not open")
     );
     assert_eq!(rt;
         line_sentence(b"bad command"),
-        Some("the first word is no command")
+        Some("the first word is not a command")
     );
     assert_eq!(rt;
         ending_sentence(b"memory"),
-        Some("the system gave no more memory")
+        Some("the system refused more memory")
     );
     assert_eq!(rt; ending_sentence(b"ok"), None);
     Ok(())

@@ -7,7 +7,7 @@ use rom_tree::{NodeId, Piece};
 use std::alloc::Global;
 use std::test::Fail;
 
-/// A piece's image, place and bytes.
+/// A piece's image, offset and bytes.
 fn lent<'a>(piece: Result<(u32, Piece<'a>), CallError>) -> Result<(u32, u32, &'a [u8]), CallError> {
     match piece {
         Ok((image, piece)) => Ok((image, piece.place, piece.bytes)),
@@ -72,7 +72,7 @@ fn paths_through_a_mount(rt: HostRuntime) -> Result<(), Fail> {
     Ok(())
 }
 
-/// Whether the file that is open is lent after its image is unmounted, and its path leads nowhere.
+/// Whether the open file is lent after its image is unmounted, and its path leads nowhere.
 fn is_kept(alloc: Global) -> Result<bool, Fail> {
     let mut space = mounted(alloc)?;
     Ok(

@@ -6,7 +6,7 @@ use path_walk::{WalkError, walk};
 use std::alloc::Global;
 use std::test::Fail;
 
-/// The number of the node that a path leads to in an image of these bytes.
+/// The number of the node to which a path leads in an image of these bytes.
 fn walked(
     alloc: Global,
     bytes: &[u8],

@@ -20,7 +20,7 @@ found kind start zero offset i = []
 found kind start (suc n) offset i =
     record { kind = kind; start = start; len = suc n; offset = offset; owner = i } ∷ []
 
--- of romfs: the header of the record at p with its name, and the data, if it has some
+-- of a romfs record at p: its header with its name, and its data, if it has any
 abbrev pub romfs_found : List ℕ → ℕ → ℕ → List Extent
 romfs_found b p i =
     found Header p (end_of b p - p) 0 i
@@ -57,14 +57,15 @@ longer x y = record {
   owner = x.owner;
 }
 
--- a block more: if blocks are joined and it goes on where the last extent ends, that is longer
+-- one more block: if blocks are joined and it goes on where the last extent ends, this extent
+-- becomes longer
 abbrev pub with_block : Bool → List Extent → Extent → List Extent
 with_block j [] y = y ∷ []
 with_block j (x ∷ []) y = if (if j then goes_on x y else false) then longer x y ∷ [] else x ∷ y ∷ []
 with_block j (x ∷ z ∷ zs) y = x ∷ with_block j (z ∷ zs) y
 
--- the k blocks of `size` bytes more, which begin at the byte `offset` of the contents of the i-th
--- record, and whose pointers begin at q
+-- the extents after k more blocks of `size` bytes. They begin at the byte `offset` of the contents
+-- of the i-th record, and their block pointers begin at q.
 abbrev pub with_blocks : Bool → Order → List ℕ → ℕ → List Extent → ℕ → ℕ → ℕ → ℕ → List Extent
 with_blocks j o b i xs zero q size offset = xs
 with_blocks j o b i xs (suc k) q size offset =
@@ -77,7 +78,7 @@ with_blocks j o b i xs (suc k) q size offset =
       owner = i;
     })) k (q + 4) (size - 4096) (offset + 4096)
 
--- of cramfs: the list of a directory
+-- one more list of a cramfs directory
 abbrev pub with_list : Order → List ℕ → ℕ → ℕ → List Extent → List Extent
 with_list o b p i xs =
     if cramfs_type_of o b p == 4

@@ -19,29 +19,28 @@ use Rattle.image_extents.specs.Found.{romfs_all_found, cramfs_all_found}
 abbrev pub start_of : Extent → ℕ
 start_of x = x.start
 
--- ys are the extents xs in the order of offset, those of one offset in the order in which xs has
--- them
+-- ys are the extents xs in the order of offset; those of one offset are in the order of xs
 pub record IsInOrder (xs ys : List Extent) : Type 0 where
   pub same : IsPermutation xs ys
   pub sorted : IsNonDecreasingBy start_of ys
   pub stable : IsStableByKey start_of nat_cmp xs ys
 
--- the records and the extents of the romfs image with the accessible bytes b and the root at r, no
--- two of different ranges with a byte in common
+-- the records and the extents of the romfs image with the accessible bytes b and the root at r; if
+-- two extents have a byte in common, they have the same range
 pub record AreRomfs (b : List ℕ) (r : ℕ) (e : Extents) : Type 0 where
   pub bytes : e.bytes.now ≡ b
   pub records : e.records.items ≡ romfs_listed b r
   pub extents : IsInOrder (romfs_all_found b r) e.extents.items
   pub apart : AreApart e.extents.items
 
--- the records and the extents of the cramfs image with the accessible bytes b: either blocks that
--- go on where the one before ends are joined, or none are
+-- the records and the extents of the cramfs image with the accessible bytes b; either blocks of a
+-- file that follow one another are joined, or none are
 pub record AreBlocks (joined : Bool) (o : Order) (b : List ℕ) (e : Extents) : Type 0 where
   pub bytes : e.bytes.now ≡ b
   pub records : e.records.items ≡ cramfs_listed o b
   pub extents : IsInOrder (cramfs_all_found joined o b) e.extents.items
 
--- the same, and no two of different ranges have a byte in common
+-- the same, and if two extents have a byte in common, they have the same range
 pub record AreCramfs (o : Order) (b : List ℕ) (e : Extents) : Type 0 where
   pub joined : Bool
   pub blocks : AreBlocks joined o b e

@@ -65,8 +65,8 @@ fn cramfs_extents<'a>(
     })
 }
 
-/// The extents of a cramfs image. Blocks that go on where the one before ends are joined, except if
-/// the image shares blocks of files in such a way that joined ones would overlap.
+/// The extents of a cramfs image. Blocks of a file that follow one another are joined, unless files
+/// share blocks so that joined extents would overlap.
 fn joined_extents<'a>(
     alloc: Global,
     order: Order,
@@ -84,8 +84,8 @@ fn joined_extents<'a>(
     Ok(single)
 }
 
-/// Collects the records of a checked image with their extents. It takes time as n log n and memory
-/// for some 100 bytes of each, n being how many records and extents there are.
+/// Collects the records of a checked image with their extents. For n records and extents, the time
+/// is n log n, and the memory about 100 bytes for each.
 ///
 /// # Errors
 ///

@@ -96,8 +96,8 @@ fn is_joined(joined: bool, x: Extent, block: Extent) -> bool
     joined && goes_on(x, block)
 }
 
-/// Adds a block. If blocks are joined and it goes on where the last extent ends, that becomes
-/// longer.
+/// Adds a block. If blocks are joined and it goes on where the last extent ends, that extent
+/// becomes longer.
 fn add_block(extents: &mut Vec<Extent>, block: Extent, joined: bool) -> Result<(), OutOfMemory>
     ensures { OnOk result (extents.new.items ≡ with_block joined extents.old.items block) }
 {
@@ -117,7 +117,7 @@ fn add_block(extents: &mut Vec<Extent>, block: Extent, joined: bool) -> Result<(
     Ok(())
 }
 
-/// Adds the blocks of `size` bytes, whose pointers begin at `table`.
+/// Adds the blocks of `size` bytes, whose block pointers begin at `table`.
 fn add_blocks(
     extents: &mut Vec<Extent>,
     order: Order,
@@ -175,9 +175,9 @@ fn add_record(
     Ok(())
 }
 
-/// Adds the records of a cramfs image in the order of a list, and their extents in the same order,
-/// `b` being its accessible bytes. If blocks are joined, those of a file that go on where the one
-/// before ends are one extent.
+/// Adds the records of a cramfs image in the order of a list, and their extents in the same order.
+/// `b` has its accessible bytes. If blocks are joined, blocks of a file that follow one another are
+/// one extent.
 ///
 /// # Errors
 ///

@@ -1,4 +1,4 @@
-//! What the extents of an image are.
+//! Records and extents of an image.
 ghost use Rattle.std.specs.Prelude.{◌≡◌, ◌+◌};
 
 /// What an extent holds.
@@ -12,35 +12,35 @@ pub enum Kind {
     List,
     /// The block pointers of a cramfs file or link.
     Table,
-    /// Contents of a file, or the text of a link.
+    /// The contents of a file, or the text of a link.
     Data,
 }
 
-/// A record of an image, as a list has it. The first one is the root, and has no name.
+/// A record of an image, in the order of a list. The first one is the root, and has no name.
 #[derive(Clone, Copy, PartialEq, Eq)]
 pub struct Record {
     /// The offset of the record.
     pub offset: u32,
     /// The offset of its name.
     pub name: u32,
-    /// How many bytes its name has.
+    /// The number of bytes of its name.
     pub length: u32,
-    /// The number of the directory that lists it, counted from 0 on.
+    /// The number of the directory that lists it, counted from 0.
     pub directory: usize,
 }
 
 /// Bytes that belong to one record.
 #[derive(Clone, Copy, PartialEq, Eq)]
 pub struct Extent {
-    /// What they hold.
+    /// What the bytes hold.
     pub kind: Kind,
-    /// The offset of the first one in the image.
+    /// The offset of the first byte in the image.
     pub start: u32,
-    /// How many they are.
+    /// The number of bytes.
     pub len: u32,
-    /// Of data: which byte of the contents is the first one.
+    /// For data: the offset of the first byte in the contents.
     pub offset: u32,
-    /// The number of the record.
+    /// The number of the record that has the bytes.
     pub owner: usize,
 }
 

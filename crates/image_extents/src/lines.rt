@@ -146,8 +146,8 @@ pub(crate) fn put_beyond<W: ByteWrite>(
 }
 
 /// Writes the lines of the extents of an image whose first byte has the address `base`, in the
-/// order of offset: `ADDRESS LENGTH KIND PATH`, and `-` in place of a path for the superblock and
-/// for bytes of no record. Bytes between two extents, and from the last one up to the end of the
+/// order of offset: `ADDRESS LENGTH KIND PATH`. The superblock and bytes of no record have `-`
+/// instead of a path. Bytes between two extents, and from the last one up to the end of the
 /// accessible bytes, have a line `pad` if all of them are zero, and otherwise a line `gap`. If the
 /// file has more than the accessible bytes, the last line is `beyond`. Addresses are modulo 2^64.
 ///

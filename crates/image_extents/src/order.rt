@@ -29,7 +29,7 @@ pub(crate) fn add(
     Ok(())
 }
 
-/// Whether an extent has the range of the one before it, or begins where that ends or after it.
+/// Whether an extent has the range of the one before it, or begins at its end or later.
 fn follows(x: Extent, y: Extent) -> bool
     ensures { OnTrue result (Follows x y) }
 {

@@ -50,8 +50,8 @@ fn add_record(
     Ok(())
 }
 
-/// Adds the records of a romfs image in the order of a list, and their extents in the same order,
-/// `b` being its accessible bytes.
+/// Adds the records of a romfs image in the order of a list, and their extents in the same order.
+/// `b` has its accessible bytes.
 ///
 /// # Errors
 ///

@@ -14,9 +14,9 @@ is_digit b = nat_le 48 b && nat_le b 57
 abbrev pub hex_digit : ℕ → ℕ
 hex_digit n = if nat_lt n 10 then 48 + n else (if nat_lt n 16 then 87 + n else 102)
 
--- What an identifier has for a byte of a path: `_` for a slash, a letter other than Z or a digit as
--- it is, and otherwise Z with a code. No code is the front of another one, so paths that differ
--- have identifiers that differ.
+-- What an identifier has for a byte of a path: `_` for a slash; a letter other than Z or a digit as
+-- it is; otherwise Z with a code. No code is the front of another one, so different paths have
+-- different identifiers.
 unfoldable pub code_of : ℕ → List ℕ
 code_of b =
     if b == 47 then 95 ∷ [] else (if b == 90 then 90 ∷ 90 ∷ []
@@ -37,6 +37,6 @@ text_byte b =
     if is_letter b || (is_digit b || (b == 47 || (b == 46 || (b == 45 || b == 95))))
     then b ∷ [] else octal_byte b
 
--- a string of C with these bytes
+-- a C string with these bytes
 unfoldable pub text_of : List ℕ → List ℕ
 text_of bytes = 34 ∷ [] ++ (flat_map text_byte bytes ++ 34 ∷ [])

@@ -1,7 +1,7 @@
-//! Why a header was not written.
+//! The reason why a header was not written.
 use thiserror::Error;
 
-/// Why not all of a header was written.
+/// The reason why not all of a header was written.
 #[derive(Clone, Copy, Debug, PartialEq, Eq, Error)]
 pub enum HeaderError {
     /// A path has more than 16,640 bytes.

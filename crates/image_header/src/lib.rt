@@ -1,7 +1,7 @@
 //! A header for C and C++ with the address, the length and the path of each regular file of an
 //! image.
 //!
-//! `specs/Names.antt` says which identifier a path has, and `specs/Header.antt` what the text is.
+//! `specs/Names.antt` defines the identifier of a path and the string of a text.
 #![tactic(auto)]
 
 mod error;

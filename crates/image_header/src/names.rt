@@ -1,4 +1,4 @@
-//! Identifiers and texts of C for paths.
+//! C identifiers and C strings for paths.
 ghost use Rattle.std.specs.Prelude.{◌≡◌};
 ghost use Rattle.rom_fields.specs.Written.{Puts, sink};
 ghost use Rattle.image_header.specs.Names.{hex_digit, code_of, identifier, text_byte};
@@ -6,7 +6,7 @@ ghost use Rattle.image_header.specs.Names.{text_of, is_letter, is_digit};
 
 use rom_fields::{ByteWrite, put};
 
-/// Whether a byte is a letter of ASCII.
+/// Whether a byte is an ASCII letter.
 fn is_letter(byte: u8) -> bool
     ensures { result ≡ is_letter byte }
 {
@@ -74,7 +74,7 @@ fn put_code<W: ByteWrite>(w: &mut W, failed: &mut bool, byte: u8)
     }
 }
 
-/// Puts the identifier of a path behind its prefix.
+/// Puts the identifier of a path after its prefix.
 pub(crate) fn put_identifier<W: ByteWrite>(w: &mut W, failed: &mut bool, path: &[u8])
     ensures { Puts (sink (W.output w.old) failed.old) (sink (W.output w.new) failed.new)
         (identifier path.now) }
@@ -84,7 +84,7 @@ pub(crate) fn put_identifier<W: ByteWrite>(w: &mut W, failed: &mut bool, path: &
     }
 }
 
-/// Puts what a string of C has for a byte.
+/// Puts what a C string has for a byte.
 #[tactic(auto, unfolding(crate::specs::Names::text_byte))]
 fn put_text_byte<W: ByteWrite>(w: &mut W, failed: &mut bool, byte: u8)
     ensures { Puts (sink (W.output w.old) failed.old) (sink (W.output w.new) failed.new)
@@ -107,7 +107,7 @@ fn put_text_byte<W: ByteWrite>(w: &mut W, failed: &mut bool, byte: u8)
     }
 }
 
-/// Puts the string of C that has these bytes.
+/// Puts the C string that has these bytes.
 pub(crate) fn put_text<W: ByteWrite>(w: &mut W, failed: &mut bool, bytes: &[u8])
     ensures { Puts (sink (W.output w.old) failed.old) (sink (W.output w.new) failed.new)
         (text_of bytes.now) }

@@ -10,7 +10,7 @@ use arrayvec::ArrayVec;
 use rom_fields::{ByteWrite, put};
 use rom_tree::{NodeId, TreeImage, Walk, is_regular_at, longest_run};
 
-/// The greatest number of bytes of a path: 65 names of 255 bytes, each with a slash.
+/// The most bytes of a path: 65 names of 255 bytes, each with a slash.
 const LONGEST_PATH: usize = 16_640;
 
 /// Puts a macro with a name that is no file's.
@@ -76,8 +76,9 @@ fn put_file<'a, T: TreeImage<'a>, W: ByteWrite>(
 }
 
 /// Writes a header for C and C++ of an image whose first byte has the address `base`. Each name of
-/// a regular file has a macro for its length and one for its path, and one for its address if the
-/// file has some bytes and they follow one another. The names of macros begin with the prefix.
+/// a regular file has a macro for its length and one for its path. It has one for its address if
+/// the file has at least one byte and its bytes follow one another. The names of macros begin with
+/// the prefix.
 ///
 /// # Errors
 ///

@@ -8,7 +8,7 @@ use rom_faults::{Fault, fault};
 use std::alloc::Global;
 use std::io::{self, Read};
 
-/// The fault of a romfs image whose first bytes have a wrong sum.
+/// The fault of a romfs image whose first bytes have a wrong checksum.
 const WRONG_SUM: Fault = Fault {
     number: fault::SUM,
     at: 12,
@@ -23,8 +23,8 @@ pub struct Loaded {
     pub file: u64,
 }
 
-/// The first bytes of a file that refuse it, the fault that it has by them, and the number of bytes
-/// that a check of the whole would read.
+/// The first bytes of a file that these bytes refuse, their fault, and the number of bytes that a
+/// check of the whole file would read.
 #[derive(Drop)]
 pub struct Front {
     pub bytes: Vec<u8>,
@@ -37,15 +37,17 @@ pub struct Front {
 pub enum Found {
     /// The bytes of an image that a check reads.
     Image(Loaded),
-    /// An image that its first bytes refuse.
+    /// An image that is refused by its first bytes.
     Refused(Front),
 }
 
-/// Reads the image in a file, up to the length that a check reads. A check of these bytes answers
+/// Reads the image in a file, up to the length that a check reads. A check of these bytes returns
 /// the same as one of the whole file (`image_reach::laws::no_further`). `length` is the reported
-/// length of the file, which is 0 for a device or a pipe. If the first 512 bytes of a romfs image
-/// have a wrong sum and the file has the size that the image states, only these bytes are read. The
-/// sum is then the image's fault (`image_reach::laws::refused`).
+/// length of the file, which is 0 for a device or a pipe.
+///
+/// Only the first 512 bytes are read if the image is romfs, their checksum is wrong, and the file
+/// has the size that the image states. The checksum is then the image's fault
+/// (`image_reach::laws::refused`).
 ///
 /// # Errors
 ///

@@ -1,9 +1,9 @@
--- Texts of XML: between tags, and in attributes. (This project's own.)
+-- Texts of XML, between tags and in attributes. (This project's own.)
 use Rattle.std.specs.Prelude.{ℕ, ◌≢◌, ◌≤◌, ◌==◌, if◌then◌else◌, nat_lt, List, [], ◌∷◌, codes}
 use Rattle.std.specs.List.{flat_map}
 
--- `<`, `>`, `&` and quotes as references, any other visible character of ASCII and a space as it
--- is, and other bytes as `?`
+-- `<`, `>`, `&` and quotes as references; any other visible ASCII character and a space as it is;
+-- other bytes as `?`
 unfoldable pub xml_byte : ℕ → List ℕ
 xml_byte b =
     if b == 60 then codes "&lt;" else (if b == 62 then codes "&gt;"
@@ -14,7 +14,7 @@ xml_byte b =
 unfoldable pub xml_text : List ℕ → List ℕ
 xml_text text = flat_map xml_byte text
 
--- a byte that neither begins a tag nor ends an attribute, and that each XML text may have
+-- a byte that neither begins a tag nor ends an attribute, and that every XML text may have
 pub record IsPlainByte (b : ℕ) : Type 0 where
   pub low : 32 ≤ b
   pub high : b ≤ 126

@@ -31,7 +31,7 @@ pub(crate) struct Bars<'a> {
     pub small: Option<Bar>,
 }
 
-/// Puts a number and the text behind it.
+/// Puts a number and the text after it.
 fn put_with<W: ByteWrite>(w: &mut W, failed: &mut bool, number: u64, text: &[u8]) {
     put_long_decimal(w, failed, number);
     put(w, failed, text);
@@ -124,7 +124,7 @@ impl<'a> Bars<'a> {
         Ok(())
     }
 
-    /// Draws the bytes between two extents, if there are some.
+    /// Draws the bytes between two extents, if there are any.
     pub fn between<W: ByteWrite>(
         &mut self,
         w: &mut W,
@@ -153,7 +153,7 @@ impl<'a> Bars<'a> {
         )
     }
 
-    /// Draws all extents, and what is between and after them.
+    /// Draws all extents, and the bytes between and after them.
     pub fn all<W: ByteWrite>(
         &mut self,
         w: &mut W,

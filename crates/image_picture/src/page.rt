@@ -8,7 +8,7 @@ use rom_fields::{ByteWrite, OutOfMemory, put, put_long_decimal};
 use std::alloc::Global;
 use thiserror::Error;
 
-/// Why not all of a picture was written.
+/// The reason why not all of a picture was written.
 #[derive(Clone, Copy, Debug, PartialEq, Eq, Error)]
 pub enum PictureError {
     /// Memory was refused.
@@ -30,7 +30,7 @@ const KINDS: [&[u8]; 9] = [
     b"super", b"header", b"list", b"table", b"data", b"small", b"pad", b"gap", b"beyond",
 ];
 
-/// The colours, in light and dark and in print.
+/// The colours in light, in dark and in print.
 const STYLE: &[u8] = b"<style>
 svg{background:#fff;color:#111}
 text{font:110px monospace;fill:currentColor}
@@ -56,7 +56,7 @@ g>rect{stroke:#16181c}.mark{stroke:#fff}}
 </defs>
 ";
 
-/// Puts a number and the text behind it.
+/// Puts a number and the text after it.
 fn put_with<W: ByteWrite>(w: &mut W, failed: &mut bool, number: u64, text: &[u8]) {
     put_long_decimal(w, failed, number);
     put(w, failed, text);
@@ -146,12 +146,12 @@ fn put_marks<W: ByteWrite>(w: &mut W, failed: &mut bool, scale: Scale) {
 }
 
 /// Writes a picture of the extents of an image whose first byte has the address `base`, in a file
-/// of so many bytes: SVG, by itself, with at most some 6,000 bars.
+/// of this number of bytes. It is SVG that needs no other file, with at most about 6,000 bars.
 ///
 /// # Errors
 ///
-/// `WriteFault` if a write failed, `OutOfMemory` if memory was refused. Then a prefix of the
-/// picture was written.
+/// `WriteFault` if a write failed, `OutOfMemory` if memory was refused. In both cases a prefix of
+/// the picture was written.
 pub fn write_picture<W: ByteWrite>(
     alloc: Global,
     found: &Extents<'_>,

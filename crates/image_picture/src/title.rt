@@ -6,17 +6,17 @@ use image_map::put_eight_digits;
 use rom_fields::{ByteWrite, OutOfMemory, Plain, put, put_long_decimal};
 use std::alloc::Global;
 
-/// The most bytes of a path that are shown.
+/// The most bytes that are shown of a path.
 const MOST_SHOWN: usize = 120;
 
-/// What a bar is of.
+/// What a bar shows.
 #[derive(Clone, Copy)]
 pub(crate) struct Bar {
     /// The class of its colour.
     pub class: &'static [u8],
-    /// The number of the record of which the path is shown, if there is one.
+    /// The number of the record whose path is shown, if there is one.
     pub owner: Option<usize>,
-    /// How many extents and ranges it has.
+    /// The number of its extents and ranges.
     pub count: u32,
     pub start: u64,
     pub end: u64,

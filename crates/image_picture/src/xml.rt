@@ -5,8 +5,8 @@ ghost use Rattle.image_picture.specs.Xml.{xml_byte, xml_text};
 
 use rom_fields::{ByteWrite, put};
 
-/// Puts a byte of a text: a visible character of ASCII or a space as it is, except `<`, `>`, `&`
-/// and quotes, which become references, and any other byte as `?`.
+/// Puts a byte of a text. `<`, `>`, `&` and quotes become references, any other visible ASCII
+/// character and a space stay, and any other byte becomes `?`.
 #[tactic(auto, unfolding(crate::specs::Xml::xml_byte))]
 fn put_xml_byte<W: ByteWrite>(w: &mut W, failed: &mut bool, byte: u8)
     ensures { Puts (sink (W.output w.old) failed.old) (sink (W.output w.new) failed.new)

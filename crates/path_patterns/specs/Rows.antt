@@ -1,7 +1,7 @@
--- What is so of each end of a path. (This project's own.)
+-- A predicate at each end of a path. (This project's own.)
 use Rattle.std.specs.Prelude.{ℕ, Bool, List, [], ◌∷◌, ◌++◌}
 
--- whether it is so of the empty end, and so on up to the whole path
+-- whether the predicate holds for the empty end, and so on up to the whole path
 abbrev pub row_of : (List ℕ → Bool) → List ℕ → List Bool
 row_of f [] = f [] ∷ []
 row_of f (c ∷ cs) = row_of f cs ++ f (c ∷ cs) ∷ []

@@ -1,8 +1,8 @@
-//! Patterns of paths, as GNU tar has them for `--exclude` with `--anchored`.
+//! Patterns of paths, as in GNU tar's `--exclude` with `--anchored`.
 //!
-//! Proved: `pieces_of` reads a pattern's text as `specs/Reading.antt` defines it, and `matches`
-//! returns whether a pattern's pieces match a path, as `specs/Patterns.antt` defines it, for each
-//! pattern and each path. The time is that of the path's length times the pattern's.
+//! Proved: `pieces_of` reads a pattern's text as `specs/Reading.antt` defines, and `matches`
+//! returns whether a pattern's pieces match a path, as `specs/Patterns.antt` defines, for each
+//! pattern and each path. The time is at most the path's length times the pattern's.
 #![tactic(auto)]
 
 mod matching;

@@ -69,21 +69,22 @@ fn row_of_none(alloc: Global, path: &[char]) -> Result<Vec<bool>, AllocError>
     Ok(row)
 }
 
-/// Whether one of two things is so.
+/// Whether at least one of two is true.
 fn either(first: bool, second: bool) -> bool
     ensures { result ≡ (first || second) }
 {
     first || second
 }
 
-/// Whether two things are so.
+/// Whether both of two are true.
 fn both(first: bool, second: bool) -> bool
     ensures { result ≡ (first && second) }
 {
     first && second
 }
 
-/// What is so of an end of a path or of a shorter one, if `behind` says what is so of each end.
+/// Whether the predicate holds for an end of a path or for a shorter one. `behind` says whether it
+/// holds for each end.
 fn row_of_star(alloc: Global, path: &[char], behind: &[bool]) -> Result<Vec<bool>, AllocError>
     requires { length behind.now ≡ length path.now + 1 }
     ensures { (f : List ℕ → Bool) → behind.now ≡ row_of f path.now
@@ -99,8 +100,8 @@ fn row_of_star(alloc: Global, path: &[char], behind: &[bool]) -> Result<Vec<bool
     Ok(row)
 }
 
-/// What is so of each end of a path behind a character of the set, if `behind` says what is so of
-/// each end.
+/// Whether an end of a path begins with a character of the set and the predicate holds for the
+/// rest, for each end. `behind` says whether it holds for each end.
 fn row_of_one(
     alloc: Global,
     set: &Set,
@@ -120,7 +121,7 @@ fn row_of_one(
     Ok(row)
 }
 
-/// Whether a piece and those behind it match each end of a path.
+/// Whether a piece and those after it match each end of a path.
 fn row_before(
     alloc: Global,
     piece: &Piece,

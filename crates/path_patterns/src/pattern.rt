@@ -1,13 +1,13 @@
-//! What a pattern consists of.
+//! The parts of a pattern.
 
-/// Characters from the first to the last, both among them.
+/// The characters from the first to the last, including both.
 #[derive(Clone, Copy, Debug, PartialEq, Eq)]
 pub struct Range {
     pub first: char,
     pub last: char,
 }
 
-/// The characters of some ranges, or all others if it is negated.
+/// The characters of some ranges; if negated, all other characters.
 #[derive(Debug, Drop)]
 pub struct Set {
     pub is_negated: bool,

@@ -1,4 +1,4 @@
-//! The pieces of a pattern's text.
+//! Reads the pieces of a pattern's text.
 ghost use Rattle.std.specs.Prelude.{◌≡◌, ◌≢◌, ◌&&◌, ◌∷◌, [], not, false};
 ghost use Rattle.std.specs.Prelude.{length, IfErr, IfOk, Ok, Err, Some, drop, map};
 ghost use Rattle.path_patterns.specs.Reading.{begins, character, character_part, escaped, is_class};
@@ -10,13 +10,13 @@ ghost use Rattle.path_patterns.specs.declared.reading.PatternError.TheVariants.{
 use crate::pattern::{Piece, Range, Set};
 use std::alloc::{AllocError, AllocFailed, Global};
 
-/// Why a text is no pattern.
+/// Why a text is not a pattern.
 #[derive(Clone, Copy, Debug, PartialEq, Eq)]
 pub enum PatternError {
     OutOfMemory,
     /// A bracket is not closed, or a backslash is the last character.
     Unfinished,
-    /// A class, as `[:alpha:]`, which no pattern has.
+    /// A class, such as `[:alpha:]`, which no pattern may have.
     Class,
 }
 
@@ -52,7 +52,7 @@ fn begins(text: &[char], c: char) -> bool
     }
 }
 
-/// What is behind the first character of a text.
+/// The text after its first character.
 fn behind(text: &[char]) -> &[char]
     ensures { result.now ≡ drop 1 text.now }
 {
@@ -62,7 +62,7 @@ fn behind(text: &[char]) -> &[char]
     }
 }
 
-/// The character behind a backslash, and what is behind it.
+/// The character after a backslash, and the text after it.
 fn escaped(text: &[char]) -> Result<(char, &[char]), PatternError>
     ensures ok { IfOk result (λ p. escaped text.now ≡ Ok (p.0, p.1.now)) }
     ensures err { IfErr result (λ e. escaped text.now ≡ Err e) }
@@ -73,7 +73,7 @@ fn escaped(text: &[char]) -> Result<(char, &[char]), PatternError>
     }
 }
 
-/// A character of a text, which may be behind a backslash, and what is behind it.
+/// A character of a text, which may have a backslash before it, and the text after it.
 fn character(text: &[char]) -> Result<(char, &[char]), PatternError>
     ensures ok { IfOk result (λ p. character text.now ≡ Ok (p.0, p.1.now)) }
     ensures err { IfErr result (λ e. character text.now ≡ Err e) }
@@ -105,8 +105,8 @@ fn is_hyphen(text: &[char]) -> bool
     begins(text, '-') && !begins(behind(text), ']')
 }
 
-/// The range at the front of the inside of brackets, and what is behind it: a character, or two
-/// with a hyphen between them.
+/// The first range inside brackets, and the text after it. A range is a character, or two with a
+/// hyphen between them.
 fn range_of(inside: &[char]) -> Result<(Range, &[char]), PatternError>
     ensures ok { IfOk result (λ p. range_at inside.now ≡ Ok (p.0, p.1.now)) }
     ensures err { IfErr result (λ e. range_at inside.now ≡ Err e) }
@@ -123,7 +123,7 @@ fn range_of(inside: &[char]) -> Result<(Range, &[char]), PatternError>
     }
 }
 
-/// Whether the closing bracket of a set is here, behind these ranges of it.
+/// Whether the closing bracket of a set is here, after these ranges of it.
 fn is_end(ranges: &[Range], rest: &[char]) -> bool
     ensures { result ≡ (begins 93 rest.now && not (is_nothing ranges.now)) }
 {
@@ -133,7 +133,7 @@ fn is_end(ranges: &[Range], rest: &[char]) -> bool
     }
 }
 
-/// The ranges up to the closing bracket, and what is behind it. A closing bracket in front is one
+/// The ranges up to the closing bracket, and the text after it. A closing bracket in front is one
 /// of the characters.
 fn ranges_of(alloc: Global, inside: &[char]) -> Result<(Vec<Range>, &[char]), PatternError>
     ensures ok { IfOk result (λ p. ranges_from (length inside.now) [] inside.now
@@ -164,7 +164,7 @@ fn is_negation(inside: &[char]) -> bool
     begins(inside, '!') || begins(inside, '^')
 }
 
-/// The piece of a set, negated or not, whose bracket is open, and what is behind it.
+/// The piece of a set, negated or not, whose bracket is open, and the text after it.
 fn set_in(
     alloc: Global,
     is_negated: bool,
@@ -177,7 +177,7 @@ fn set_in(
     Ok((Piece::One(Set { is_negated, ranges }), rest))
 }
 
-/// The piece of a set whose bracket is open, and what is behind it.
+/// The piece of a set whose bracket is open, and the text after it.
 fn set_of(alloc: Global, inside: &[char]) -> Result<(Piece, &[char]), PatternError>
     ensures ok { IfOk result (λ p. set_at inside.now ≡ Ok (part_of p.0, p.1.now)) }
     ensures err { IfErr result (λ e. e ≢ OutOfMemory → set_at inside.now ≡ Err e) }
@@ -199,7 +199,7 @@ fn exactly(alloc: Global, c: char) -> Result<Piece, AllocError>
     Ok(Piece::One(Set { is_negated, ranges }))
 }
 
-/// The piece of a character at the front of a text, and what is behind it.
+/// The piece of a character at the front of a text, and the text after it.
 fn character_piece(alloc: Global, text: &[char]) -> Result<(Piece, &[char]), PatternError>
     ensures ok { IfOk result (λ p. character_part text.now ≡ Ok (part_of p.0, p.1.now)) }
     ensures err { IfErr result (λ e. e ≢ OutOfMemory → character_part text.now ≡ Err e) }
@@ -208,7 +208,7 @@ fn character_piece(alloc: Global, text: &[char]) -> Result<(Piece, &[char]), Pat
     Ok((exactly(alloc, c)?, rest))
 }
 
-/// The first piece of a text, and what is behind it.
+/// The first piece of a text, and the text after it.
 fn piece_of(alloc: Global, text: &[char]) -> Result<(Piece, &[char]), PatternError>
     ensures ok { IfOk result (λ p. part_at text.now ≡ Ok (part_of p.0, p.1.now)) }
     ensures err { IfErr result (λ e. e ≢ OutOfMemory → part_at text.now ≡ Err e) }
@@ -235,9 +235,9 @@ fn is_nothing(text: &[char]) -> bool
     }
 }
 
-/// Reads a pattern: `*` is any number of characters, `?` one, `[..]` one of a set or with `!` or
-/// `^` in front one that is not in it, a backslash and a character that character, and another
-/// character itself.
+/// Reads a pattern. `*` matches any number of characters, `?` one character, `[..]` one character
+/// of a set, and `[!..]` or `[^..]` one that is not in the set. A backslash and a character match
+/// that character. Any other character matches itself.
 ///
 /// # Errors
 ///

@@ -3,7 +3,7 @@ use crate::{PatternError, matches, pieces_of};
 use std::alloc::Global;
 use std::test::Fail;
 
-/// Patterns, each with a path and whether `tar --anchored --exclude` leaves it out.
+/// Patterns, each with a path and whether `tar --anchored --exclude` excludes it.
 const MATCHED: [(&str, &str, bool); 14] = [
     ("*.o", "a.o", true),
     ("*.o", "lib/b.o", true),
@@ -52,7 +52,7 @@ fn paths_are_matched(rt: HostRuntime) -> Result<(), Fail> {
     Ok(())
 }
 
-/// Why a text is no pattern.
+/// Why a text is not a pattern.
 fn fault_of(alloc: Global, text: &str) -> Result<Option<PatternError>, Fail> {
     match pieces_of(alloc, &characters(alloc, text)?) {
         Ok(_) => Ok(None),

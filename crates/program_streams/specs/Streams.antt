@@ -1,7 +1,7 @@
 -- `again_inner` and similar definitions: the stream behind one that is in front of it.
--- `ahead_remaining`: the rest of a reader that is not read on behind its end. `held_back`,
+-- `ahead_remaining`: the rest of a reader, if nothing after its end is read. `held_back`,
 -- `held_contents`: the bytes that a writer holds back, and the bytes of the writer behind it
--- followed by these. `first_error`, `Remembers`: the first error; each call keeps or notes it.
+-- followed by these. `first_error`, `Remembers`: the first error, which each call keeps or notes.
 -- `ReadsFrom`: a buffer has the bytes from a position on. (This project's own.)
 use Rattle.std.specs.Prelude.{◌≡◌, ℕ, ◌<◌, ◌≤◌, if◌then◌else◌, List, [], length, take, drop, Option}
 use Rattle.std.specs.Prelude.{None, Some, IfSome, IfOk, Result, MatchResult}
@@ -26,7 +26,7 @@ held_inner s = s.inner
 abbrev pub remembering_inner : {X : Type 0} → Remembering X → X
 remembering_inner s = s.inner
 
--- the rest of the reader behind it, if that is known, and nothing after its end was read
+-- the rest of the reader behind it, if it is known and nothing after its end was read
 abbrev pub ahead_remaining : {X : Type 0} → (X → Option (List ℕ)) → Ahead X → Option (List ℕ)
 ahead_remaining remaining s = if s.has_ended then Some [] else remaining s.inner
 
@@ -42,7 +42,7 @@ held_contents contents s = append_known (contents s.inner) s.held.items
 abbrev pub first_error : {X : Type 0} → Remembering X → Option Error
 first_error s = s.error
 
--- The first error stays. If there was none, the first one is now of the kind of this one.
+-- The first error stays. If there was none, the first error now has the kind of this one.
 abbrev pub Notes : Option Error → Option Error → Error → Type 0
 Notes (Some first) new e = new ≡ Some first
 Notes None None e = ⊥
@@ -52,8 +52,8 @@ Notes None (Some first) e = error_kind first ≡ error_kind e
 abbrev pub Remembers : {T : Type 0} → Option Error → Option Error → Result T Error → Type 0
 Remembers old new r = MatchResult r (λ _. new ≡ old) (λ e. Notes old new e)
 
--- At `Ok(n)` the first n bytes of the buffer are the known ones from `at` on. There are none only
--- at their end, or if the buffer has no room.
+-- For `Ok(n)`, the first n bytes of the buffer are the known bytes from `at` on. n is 0 only at
+-- their end, or if the buffer has no room.
 abbrev pub ReadsFrom : {E : Type 0} → Option (List ℕ) → ℕ → Result ℕ E → List ℕ → Type 0
 ReadsFrom known at r buf = IfSome known (λ xs. IfOk r (λ n.
     (take n buf ≡ take n (drop at xs)) × (n ≡ 0 → 0 < length buf → length xs ≤ at)))

@@ -10,9 +10,9 @@ use crate::signals::{gave_up, is_interrupted};
 use std::io::{self, BufRead, ErrorKind, Read};
 
 /// A reader of the bytes that another reader holds. If the other reader is standard input and has a
-/// position, it reads ahead in blocks, and when it is dropped, the unused bytes are unread again.
-/// It reads a pipe or a terminal byte by byte. Interrupted calls are repeated. After the end was
-/// read, nothing more is read.
+/// position, it reads ahead in blocks. When it is dropped, it moves the position back to the first
+/// unused byte. It reads a pipe or a terminal byte by byte. Interrupted calls are repeated. After
+/// the end was read, nothing more is read.
 #[derive(Drop)]
 pub struct Ahead<X> {
     inner: X,
@@ -77,7 +77,7 @@ fn read_held<X: BufRead>(reader: &mut X, buf: &mut [u8]) -> io::Result<usize>
     Ok(count)
 }
 
-/// Does the same, and repeats the call if a signal interrupted it.
+/// Reads the bytes that the reader holds, and repeats the call if a signal interrupted it.
 fn read_held_again<X: BufRead>(reader: &mut X, buf: &mut [u8]) -> io::Result<usize>
     ensures bound { ReadsAtMost result buf.new }
     ensures ok { IfOk result (λ n. Consumes (X.remaining reader.old) (X.remaining reader.new)

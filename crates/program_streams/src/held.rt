@@ -53,7 +53,7 @@ fn remove_front(held: &mut Vec<u8>, count: usize)
 }
 
 impl<X> Held<X> {
-    /// Returns a writer in front of this one. It takes no memory.
+    /// Returns a writer in front of this one. It allocates no memory.
     pub fn new(alloc: Global, inner: X) -> Held<X>
         ensures inner { held_inner result ≡ inner }
         ensures empty { held_back result ≡ [] }

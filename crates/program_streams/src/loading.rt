@@ -101,9 +101,9 @@ fn read_on<R: Read>(
     Ok(())
 }
 
-/// Reads on until there are `until` bytes, or the reader ends. It asks for memory once, if there
-/// are at most `expected` bytes in all. However it ends, the bytes that were read are behind the
-/// earlier ones, and the reader goes on behind them.
+/// Reads on until there are `until` bytes, or the reader ends. It allocates memory only once if
+/// there are at most `expected` bytes in all. In each ending, the bytes that were read are after
+/// the earlier ones, and the reader continues after them.
 ///
 /// # Errors
 ///

@@ -23,8 +23,8 @@ use Rattle.rom_commands.specs.declared.shown.Outcome.TheVariants.{Memory, WriteF
 abbrev pub usual_limits : Limits
 usual_limits = record { references = 1048576; depth = 64 }
 
--- m is the image that these bytes hold under these limits: its tree is the one that their format
--- gives them, and they have no fault
+-- m is the image that these bytes hold under these limits: its tree is the one that the format
+-- gives the bytes, and they have no fault
 pub record HoldsUnder (limits : Limits) (bytes : List ℕ) (m : Image) : Type 0 where
   pub report : Report
   pub shows : Shows bytes limits m report
@@ -34,7 +34,8 @@ pub record HoldsUnder (limits : Limits) (bytes : List ℕ) (m : Image) : Type 0 
 abbrev pub Holds : List ℕ → Image → Type 0
 Holds bytes m = HoldsUnder usual_limits bytes m
 
--- the text is what is written of the sound image that these bytes hold, and whether it warns
+-- the text is what is written of the valid image that these bytes hold, and it is or is not a
+-- warning
 pub record IsSoundText (asked : Asked) (bytes text : List ℕ) (warned : Bool) : Type 0 where
   pub image : AnyImage
   pub shows : Shows bytes usual_limits (any_view image) (report_of image)
@@ -43,11 +44,11 @@ pub record IsSoundText (asked : Asked) (bytes text : List ℕ) (warned : Bool) :
   pub same : text ≡ sound_text asked image
   pub warning : warned ≡ warns asked image
 
--- the text is what is written of it
+-- the text is what is written of this image
 abbrev pub IsTextOf : List ℕ → Asked → List ℕ → Type 0
 IsTextOf bytes asked text = (warned : Bool) × IsSoundText asked bytes text warned
 
--- this is the least fault of these bytes under these limits, which hold no tree
+-- these bytes hold no tree under these limits, and this is their least fault
 pub record HasFaultUnder (limits : Limits) (bytes : List ℕ) (number at : ℕ) : Type 0 where
   pub refused : IsRefused bytes limits (Fault number at)
   pub least : IsLeastFaultUnder bytes limits (Fault number at)
@@ -67,7 +68,7 @@ pub record IsFaultTextUnder (limits : Limits) (bytes text : List ℕ) : Type 0 w
 abbrev pub IsFaultText : (bytes text : List ℕ) → Type 0
 IsFaultText bytes text = IsFaultTextUnder usual_limits bytes text
 
--- what was written of the image that has these bytes, by how it ended
+-- what was written of the image with these bytes, in each ending
 abbrev pub Ends : List ℕ → Asked → Output → Output → Outcome → Type 0
 Ends bytes asked old new Done =
     (text : List ℕ) × IsSoundText asked bytes text false
@@ -95,12 +96,12 @@ status_of (Faulty number at) = status.Refused
 status_of Memory = status.Failed
 status_of WriteFault = status.Failed
 
--- the text was put into a writer, or a prefix of it where a write failed
+-- the text was put into a writer, or a prefix of it if a write failed
 abbrev pub Prints : Output → Output → List ℕ → Type 0
 Prints old new text = (failed : Bool) × Puts (sink old false) (sink new failed) text
 
--- what was held back was handed on by one flush, and the status stays; or a write failed, which is
--- told
+-- one flush passed on what was held back, and the status stays; or a write failed, which is
+-- reported
 abbrev pub Flushes : Output → Output → Output → Output → Status → Status → Type 0
 Flushes old new err err' given result =
     ((0 < new.failures) × (result ≡ status.Failed) × Prints err err' (codes "write fault\n"))
@@ -116,7 +117,7 @@ IsHandedOn new (Faulty number at) = Unit {0}
 IsHandedOn new Memory = Unit {0}
 IsHandedOn new WriteFault = Unit {0}
 
--- what standard error says of how the printing ended
+-- what standard error has in each ending
 abbrev pub complaint_of : Outcome → List ℕ
 complaint_of Done = []
 complaint_of Warned = []
@@ -125,8 +126,8 @@ complaint_of (Faulty number at) = fault_line number at
 complaint_of Memory = codes "memory\n"
 complaint_of WriteFault = codes "write fault\n"
 
--- The line of this fault was written where it stands in the place of what was asked, or nothing was
--- written, and it is left to standard error.
+-- The line of this fault was written in place of what was asked, if it belongs there. Otherwise
+-- nothing was written, and standard error has the line.
 abbrev pub FaultEnds : ℕ → ℕ → Asked → Output → Output → Outcome → Type 0
 FaultEnds n at asked old new Done = ⊥
 FaultEnds n at asked old new Warned = ⊥

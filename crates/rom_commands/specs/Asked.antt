@@ -1,4 +1,4 @@
--- What is written of a sound image, by what was asked. (This project's own.)
+-- What is written of a valid image, for each request. (This project's own.)
 use Rattle.std.specs.Prelude.{ℕ, ◌+◌, ◌^◌, ◌≤◌, ◌++◌, Bool, true, false, not, List}
 use Rattle.rom_tree.specs.Listing.{list_text}
 use Rattle.image_check.specs.declared.any.AnyImage.{AnyImage}
@@ -13,8 +13,8 @@ use Rattle.rom_commands.specs.declared.asked.Asked.{Asked}
 use Rattle.rom_commands.specs.declared.asked.Asked.TheVariants.{Report, List as Listed, Map}
 use Rattle.rom_commands.specs.declared.asked.Asked.TheVariants.{Misreads, Facts, Fit}
 
--- the text of an image: its format, references and depth; its list; its map; what Linux gets wrong
--- of it; its facts; and behind these, whether it fits
+-- the text of an image: its format, references and depth; its list; its map; what Linux misreads in
+-- it; its facts; or its facts and whether it fits
 abbrev pub sound_text : Asked → AnyImage → List ℕ
 sound_text Report a = ok_line (format_of a) (report_of a).references (report_of a).depth
 sound_text Listed a = list_text (any_view a).bytes (any_view a).tree
@@ -23,14 +23,14 @@ sound_text Misreads a = misreads_text a
 sound_text (Facts file) a = info_text file a
 sound_text (Fit file limit) a = info_text file a ++ room_text limit a
 
--- whether it tells of something that Linux gets wrong, or that the image does not fit
+-- whether it reports something that Linux misreads, or that the image does not fit
 abbrev pub warns : Asked → AnyImage → Bool
 warns Misreads a = is_told (misreads_text a)
 warns (Fit file limit) a = not (fits limit a)
 warns _ a = false
 
--- whether the line of a fault stands in its place: of a report and of a list. In the place of all
--- else nothing is written, so that no fault stands among data; standard error has the line.
+-- whether the line of a fault is written in place of what was asked. This holds for a report and a
+-- list. Otherwise nothing is written, so that no fault is among data; standard error has the line.
 abbrev pub takes_fault : Asked → Bool
 takes_fault Report = true
 takes_fault Listed = true

@@ -1,5 +1,4 @@
--- The bytes of one file of an image, written out: what is written, and how it ends. (This project's
--- own.)
+-- The bytes of one file of an image: what is written, and how it ends. (This project's own.)
 use Rattle.std.specs.Prelude.{◌≡◌, ◌<◌, ℕ, true, false, List, [], ◌++◌, Ok, Err, codes}
 use Rattle.std.specs.Io.KnownBytes.{Appends}
 use Rattle.rom_fields.specs.Failures.{Rose}
@@ -18,7 +17,7 @@ use Rattle.rom_commands.specs.declared.copying.Copied.{Copied}
 use Rattle.rom_commands.specs.declared.copying.Copied.TheVariants.{Done, NoFile as Fileless}
 use Rattle.rom_commands.specs.declared.copying.Copied.TheVariants.{Refused, Memory, WriteFault}
 
--- the path leads to this node, links followed
+-- the path leads to this node; symbolic links are followed
 abbrev pub Leads : Image → List ℕ → Node → Type 0
 Leads m path x = resolution (tree_namespace m.bytes m.tree) path true ≡ Ok x
 
@@ -33,7 +32,7 @@ IsNoFile m path Directory = (x : Node) × Leads m path x × (is_directory x ≡ 
 IsNoFile m path Special =
     (x : Node) × Leads m path x × (is_directory x ≡ false) × (is_regular x ≡ false)
 
--- what was written of a sound image
+-- what was written of a valid image
 abbrev pub Copies : Image → List ℕ → Output → Output → Copied → Type 0
 Copies m path old new Done =
     (x : Node) × IsFile m path x × Appends old.contents new.contents (contents_of m.bytes x)
@@ -45,11 +44,11 @@ Copies m path old new WriteFault =
     (x : Node) × IsFile m path x × AppendsPrefix old.contents new.contents (contents_of m.bytes x)
     × Rose old.failures new.failures
 
--- and of the image that these bytes hold
+-- what was written of the image that these bytes hold
 abbrev pub CopiesOf : List ℕ → List ℕ → Output → Output → Copied → Type 0
 CopiesOf bytes path old new o = (m : Image) × Holds bytes m × Copies m path old new o
 
--- what was written of the image that has these bytes, by how it ended
+-- what was written of the image with these bytes, in each ending
 abbrev pub CopyEnds : List ℕ → List ℕ → Output → Output → Copied → Type 0
 CopyEnds bytes path old new Done = CopiesOf bytes path old new Done
 CopyEnds bytes path old new (Fileless e) = CopiesOf bytes path old new (Fileless e)
@@ -73,13 +72,13 @@ copied_status (Refused number at) = status.Refused
 copied_status Memory = status.Failed
 copied_status WriteFault = status.Failed
 
--- `err `, and the name of an error of POSIX
+-- `err ` and the name of a POSIX error
 abbrev pub no_file_text : NoFile → List ℕ
 no_file_text (Nowhere e) = codes "err " ++ error_name e
 no_file_text Directory = codes "err EISDIR"
 no_file_text Special = codes "err ENXIO"
 
--- what standard error says of how it ended
+-- what standard error has in each ending
 abbrev pub copied_complaint : Copied → List ℕ
 copied_complaint Done = []
 copied_complaint (Fileless e) = no_file_text e ++ codes "\n"

@@ -6,12 +6,12 @@ use Rattle.cramfs_image.specs.Reported.{order_in}
 use Rattle.image_check.specs.declared.any.AnyImage.{AnyImage}
 use Rattle.image_check.specs.declared.any.AnyImage.TheVariants.{Romfs, Cramfs}
 
--- cramfs, by its byte order
+-- the name of cramfs, by its byte order
 abbrev pub cramfs_name : Order → List ℕ
 cramfs_name Little = codes "cramfs"
 cramfs_name Big = codes "cramfs-be"
 
--- the name of its format
+-- the name of the image's format
 abbrev pub format_of : AnyImage → List ℕ
 format_of (Romfs s) = codes "romfs"
 format_of (Cramfs s) = cramfs_name (order_in s)

@@ -1,15 +1,14 @@
--- The example image `hello`, laid out by the description of romfs in Linux
--- Documentation/filesystems/romfs.rst.
+-- The example image `hello`. Its layout follows Linux Documentation/filesystems/romfs.rst.
 use Rattle.std.specs.Prelude.{ℕ, ◌+◌, ◌/◌, ◌%◌, ◌^◌, List, [], ◌∷◌, ◌++◌, codes, replicate}
 use Rattle.std.specs.List.{flat_map}
 use Rattle.rom_fields.specs.Words.{with_word_be}
 
--- the bytes with words put one after the other from p on
+-- the bytes, with words put one after the other from offset p on
 abbrev pub with_words : List ℕ → ℕ → List ℕ → List ℕ
 with_words b p [] = b
 with_words b p (w ∷ ws) = with_words (with_word_be b p w) (p + 4) ws
 
--- the bytes of a word, the highest one first
+-- the bytes of a word, the most significant one first
 abbrev pub word_bytes : ℕ → List ℕ
 word_bytes w = w / 2 ^ 24 ∷ w / 2 ^ 16 % 256 ∷ w / 2 ^ 8 % 256 ∷ w % 256 ∷ []
 

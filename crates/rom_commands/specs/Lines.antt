@@ -1,4 +1,4 @@
--- The lines of a sound image and of a fault. (This project's own.)
+-- The lines of a valid image and of a fault. (This project's own.)
 use Rattle.std.specs.Prelude.{ℕ, List, ◌++◌, codes, decimal}
 use Rattle.rom_faults.specs.Faults.{name_of_fault}
 
@@ -8,7 +8,7 @@ fault_text n at =
     codes "fault " ++ (decimal n
     ++ (codes " " ++ (name_of_fault n ++ (codes " at " ++ decimal at))))
 
--- and a line feed
+-- the same and a line feed
 unfoldable pub fault_line : ℕ → ℕ → List ℕ
 fault_line n at = fault_text n at ++ codes "\n"
 

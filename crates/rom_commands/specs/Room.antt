@@ -1,4 +1,4 @@
--- Whether an image fits into a number of bytes: lines behind its facts. (This project's own.)
+-- Whether an image fits into a number of bytes: the lines after its facts. (This project's own.)
 use Rattle.std.specs.Prelude.{ℕ, ◌-◌, Bool, true, false, not, nat_lt, List, ◌++◌, codes}
 use Rattle.romfs_format.specs.Tree.{full_size}
 use Rattle.cramfs_format.specs.Superblock.{accessible_size}
@@ -8,7 +8,7 @@ use Rattle.image_check.specs.declared.any.AnyImage.TheVariants.{Romfs, Cramfs}
 use Rattle.image_gaps.specs.Gaps.{gaps_of}
 use Rattle.image_info.specs.Info.{number_line, plain_line}
 
--- how many bytes an image has: those that its superblock states
+-- the number of bytes of an image, as its superblock states it
 abbrev pub size_of : AnyImage → ℕ
 size_of (Romfs s) = full_size s.all.now
 size_of (Cramfs s) = accessible_size (order_in s) s.all.now
@@ -21,14 +21,14 @@ abbrev pub fits_word : Bool → List ℕ
 fits_word true = codes "yes"
 fits_word false = codes "no"
 
--- what a number of bytes leaves of a limit: how many nothing uses, whether they fit, and how many
--- are left, 0 if they do not fit
+-- the lines for a size and a limit: how many bytes are unused, whether the image fits, and how many
+-- bytes are left, 0 if it does not fit
 unfoldable pub room_lines : ℕ → ℕ → ℕ → List ℕ
 room_lines free size limit =
     number_line (codes "free ") free
     ++ (plain_line (codes "fits ") (fits_word (not (nat_lt limit size)))
     ++ number_line (codes "left ") (limit - size))
 
--- of an image
+-- the lines of an image
 abbrev pub room_text : ℕ → AnyImage → List ℕ
 room_text limit a = room_lines (gaps_of a) (size_of a) limit

@@ -1,5 +1,5 @@
--- What serving images does with their bytes and with the streams, and how it ends: the lines of a
--- reader are answered from the trees that the bytes hold. (This project's own.)
+-- What serving images reads and writes, and how it ends: the lines of a reader are answered from
+-- the trees that the bytes hold. (This project's own.)
 use Rattle.std.specs.Prelude.{◌≡◌, ℕ, ◌^◌, ◌⊎◌, List, [], ◌∷◌, ◌++◌, length, codes, decimal, Option}
 use Rattle.std.specs.Prelude.{Result, Ok, Err}
 use Rattle.std.specs.Io.KnownBytes.{Appends}
@@ -28,8 +28,8 @@ use Rattle.rom_commands.specs.declared.serving.Serving.TheVariants.{Served, Refu
 use Rattle.rom_commands.specs.declared.serving.Serving.TheVariants.{ReadFault, WriteFault}
 use Rattle.rom_commands.specs.declared.serving.Serving.TheVariants.{TooManyReads}
 
--- a reader: the bytes that its reads will give, where it tells them, and how many of its reads
--- failed
+-- a reader: the bytes that its reads will return, if they are known, and the number of its reads
+-- that failed
 pub record Input : Type 0 where
   pub remaining : Option (List ℕ)
   pub failures : ℕ
@@ -37,7 +37,7 @@ pub record Input : Type 0 where
 abbrev pub input_of : Option (List ℕ) → ℕ → Input
 input_of remaining failures = record { remaining = remaining; failures = failures }
 
--- how the answering of lines ended, and how the writing of a fault's line
+-- how the answering of lines ended, and how the writing of a fault's line ended
 abbrev pub serving_of : Result (Unit {0}) ServeError → Serving
 serving_of (Ok _) = Served
 serving_of (Err serve.ReadFault) = ReadFault
@@ -48,8 +48,8 @@ abbrev pub refusal_of : Result (Unit {0}) Failed → Serving
 refusal_of (Ok _) = Refused
 refusal_of (Err _) = WriteFault
 
--- Lines were answered by the machine m from its state s on: what was read and written, by how it
--- ended. A reader was r₀ and is r, a writer was w₀ and is w.
+-- The machine m answered lines from its state s on: what was read and written in each ending. The
+-- reader was r₀ and is r; the writer was w₀ and is w.
 abbrev pub EndsServed : {S : Type 0} → Machine S → S → Input → Input → Output → Output → Serving
     → Type 0
 EndsServed m s r₀ r w₀ w Served =
@@ -65,7 +65,7 @@ EndsServed m s r₀ r w₀ w TooManyReads =
 EndsServed m s r₀ r w₀ w Refused = ⊥
 EndsServed m s r₀ r w₀ w Memory = ⊥
 
--- No line was answered, and nothing was read: a text of a fault was written and flushed once, or
+-- No line was answered, and nothing was read. The text of a fault was written and flushed once, or
 -- memory was refused.
 abbrev pub EndsRefused : (List ℕ → Type 0) → Input → Input → Output → Output → Serving → Type 0
 EndsRefused IsText r₀ r w₀ w Refused =
@@ -79,7 +79,7 @@ EndsRefused IsText r₀ r w₀ w Served = ⊥
 EndsRefused IsText r₀ r w₀ w ReadFault = ⊥
 EndsRefused IsText r₀ r w₀ w TooManyReads = ⊥
 
--- No line was answered, and nothing was read: this text was written and flushed once, or that
+-- No line was answered, and nothing was read. This text was written and flushed once, or that
 -- failed.
 abbrev pub Tells : List ℕ → Input → Input → Output → Output → Serving → Type 0
 Tells text r₀ r w₀ w Refused =
@@ -92,14 +92,14 @@ Tells text r₀ r w₀ w Served = ⊥
 Tells text r₀ r w₀ w ReadFault = ⊥
 Tells text r₀ r w₀ w TooManyReads = ⊥
 
--- The writing of a fault's line ended so, the status says it, and so does standard error if it
--- failed.
+-- The writing of a fault's line ended in this way, and the status says so. If it failed, standard
+-- error says so as well.
 abbrev pub Says : Result (Unit {0}) Failed → Output → Output → Status → Type 0
 Says (Ok _) err err' result = (result ≡ status.Refused) × Prints err err' []
 Says (Err _) err err' result = (result ≡ status.Failed) × Prints err err' (codes "write fault\n")
 
 -- The line of a fault was written and flushed once, and the status says so; or a write failed,
--- which is told.
+-- which is reported.
 abbrev pub TellsFault : List ℕ → Output → Output → Output → Output → Status → Type 0
 TellsFault text w₀ w err err' result =
     ((result ≡ status.Refused) × Appends w₀.contents w.contents text × (w.failures ≡ w₀.failures)
@@ -108,17 +108,17 @@ TellsFault text w₀ w err err' result =
     × Rose w₀.failures w.failures
     × Prints err err' (codes "write fault\n"))
 
--- What serving does, by what the check of the image answered: lines are answered from the image,
--- nothing of it open at first; or the line of its fault is written; or nothing is done, if memory
--- was refused to the check.
+-- What serving does after the check of the image. If the image is accepted, lines are answered from
+-- it, with nothing open at first. If it has a fault, the fault's line is written. If memory was
+-- refused to the check, nothing is done.
 abbrev pub CheckedEnds : Result AnyImage CheckError → Input → Input → Output → Output → Serving
     → Type 0
 CheckedEnds (Ok v) r₀ r w₀ w o = EndsServed (image_machine (any_view v)) (no_files 64) r₀ r w₀ w o
 CheckedEnds (Err (check.Fault number at)) r₀ r w₀ w o = Tells (fault_line number at) r₀ r w₀ w o
 CheckedEnds (Err check.OutOfMemory) r₀ r w₀ w o = (o ≡ Memory) × (r ≡ r₀) × (w ≡ w₀)
 
--- The bytes hold an image under these limits, and lines were answered from its tree, nothing of it
--- open at first; or they were refused.
+-- The bytes hold an image under these limits, and lines were answered from its tree, with nothing
+-- open at first; or the bytes were refused.
 abbrev pub ServingEndsUnder : Limits → List ℕ → Input → Input → Output → Output → Serving → Type 0
 ServingEndsUnder limits bytes r₀ r w₀ w o =
     ((m : Image) × HoldsUnder limits bytes m
@@ -131,7 +131,7 @@ ServingEnds bytes r₀ r w₀ w o = ServingEndsUnder usual_limits bytes r₀ r w
 
 -- Several images.
 
--- each of the bytes hold the image at their number
+-- each of the bytes holds the image at its number
 abbrev pub HoldAll : List (List ℕ) → List Image → Type 0
 HoldAll [] [] = Unit {0}
 HoldAll (b ∷ bs) (m ∷ ms) = Holds b m × HoldAll bs ms
@@ -142,7 +142,7 @@ HoldAll (b ∷ bs) [] = ⊥
 unfoldable pub fault_in_line : ℕ → ℕ → ℕ → List ℕ
 fault_in_line n at image = fault_text n at ++ (codes " in " ++ (decimal image ++ codes "\n"))
 
--- this is the fault of the first of the bytes that hold no image; they have this number
+-- this is the fault of the first of the bytes that hold no image, and they have this number
 pub record HasFirstFault (all : List (List ℕ)) (number at image : ℕ) : Type 0 where
   pub before : List (List ℕ)
   pub bytes : List ℕ
@@ -161,8 +161,8 @@ pub record IsFirstFaultText (all : List (List ℕ)) (text : List ℕ) : Type 0 w
   pub first : HasFirstFault all number at image
   pub same : text ≡ fault_in_line number at image
 
--- All of the bytes hold images, and lines were answered from their trees with sessions, nothing
--- mounted or open at first; or they were refused.
+-- All of the bytes hold images, and lines were answered from their trees with sessions, with
+-- nothing mounted or open at first; or they were refused.
 abbrev pub SpaceEnds : List (List ℕ) → Input → Input → Output → Output → Serving → Type 0
 SpaceEnds all r₀ r w₀ w o =
     ((ms : List Image) × HoldAll all ms
@@ -178,7 +178,7 @@ serving_status ReadFault = status.Failed
 serving_status WriteFault = status.Failed
 serving_status TooManyReads = status.Failed
 
--- what standard error says of how the serving ended
+-- what standard error has in each ending
 abbrev pub serving_complaint : Serving → List ℕ
 serving_complaint Served = []
 serving_complaint Refused = []

@@ -1,23 +1,23 @@
 //! What is asked of an image.
 
-/// What is written of a sound image.
+/// What is written of a valid image.
 #[derive(Clone, Copy, PartialEq, Eq)]
 pub enum Asked {
     /// A line with its format, references and depth.
     Report,
     /// The list of its tree.
     List,
-    /// Where each of its files lies, where its first byte has this address.
+    /// Where each of its files is, if its first byte has this address.
     Map(u64),
-    /// What Linux gets wrong of it.
+    /// What Linux misreads in it.
     Misreads,
-    /// Its facts, where the file that it is in has so many bytes.
+    /// Its facts, if its file has this number of bytes.
     Facts(u64),
-    /// Its facts, and whether it fits into so many bytes.
+    /// Its facts, and whether it fits into a number of bytes.
     Fit {
-        /// How many bytes the file has that it is in.
+        /// The number of bytes of its file.
         file: u64,
-        /// How many bytes it may have.
+        /// The most bytes that it may have.
         limit: u64,
     },
 }

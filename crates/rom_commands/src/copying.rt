@@ -1,4 +1,4 @@
-//! The bytes of one file of an image, written out.
+//! Writes the bytes of one file of an image.
 ghost use Rattle.std.specs.Prelude.{◌≡◌, ◌≤◌};
 ghost use Rattle.rom_tree.specs.Tree.{levels};
 ghost use Rattle.image_check.specs.Any.{any_view};
@@ -18,14 +18,14 @@ use rom_tree::{Limits, is_directory_at, is_regular_at};
 use std::alloc::Global;
 use std::io::Write;
 
-/// Why a path gives no bytes of a file.
+/// Why no bytes of a file are at a path.
 #[derive(Clone, Copy, PartialEq, Eq)]
 pub enum NoFile {
-    /// It leads nowhere.
+    /// The path leads nowhere.
     Nowhere(WalkError),
-    /// It leads to a directory.
+    /// The path leads to a directory.
     Directory,
-    /// It leads to a device, a pipe or a socket.
+    /// The path leads to a device, a FIFO or a socket.
     Special,
 }
 
@@ -49,7 +49,7 @@ pub enum Copied {
     WriteFault,
 }
 
-/// Writes the bytes of the regular file to which a path leads, where links are followed.
+/// Writes the bytes of the regular file to which a path leads. Symbolic links are followed.
 fn copy_file<W: ByteWrite>(image: &mut AnyImage, path: &[u8], w: &mut W) -> Copied
     requires { levels (any_view image.old).tree ≤ 65 }
     ensures { Copies (any_view image.old) path.now (W.output w.old) (W.output w.new) result }
@@ -82,7 +82,7 @@ pub fn copy<W: ByteWrite>(alloc: Global, bytes: &[u8], path: &[u8], w: &mut W) -
     }
 }
 
-/// The name of an error of a path, after `err `.
+/// The line's text for an error of a path: `err ` and its name.
 fn no_file_name(error: NoFile) -> &'static [u8]
     ensures { result.now ≡ no_file_text error }
 {
@@ -97,10 +97,10 @@ fn no_file_name(error: NoFile) -> &'static [u8]
     }
 }
 
-/// Prints the bytes of the regular file to which a path leads in an image to `out`, and to `err`
-/// why there are none, which fault the image has, that memory was refused or that a write failed.
-/// What `out` holds back is handed on. The status is `Done`, `Refused` where the image has a fault
-/// or the path leads to no regular file, `Failed` where memory was refused or a write failed.
+/// Prints to `out` the bytes of the regular file to which a path leads in an image, and flushes
+/// `out`. If there are none, prints the reason to `err`: the path's error, the image's fault,
+/// refused memory or a failed write. Returns `Done`; `Refused` if the image has a fault or the path
+/// leads to no regular file; `Failed` if memory was refused or a write failed.
 pub fn print_file<X: Write, E: ByteWrite>(
     alloc: Global,
     bytes: &[u8],

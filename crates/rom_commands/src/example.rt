@@ -4,7 +4,7 @@ ghost use Rattle.rom_commands.specs.Hello.{with_words, hello_image};
 
 use rom_fields::put_be32;
 
-/// Puts words one after the other from `at` on.
+/// Puts words one after the other from offset `at` on.
 fn put_words(image: &mut [u8], at: usize, words: &[u32])
     requires { at + 4 * length words.now ≤ length image.old }
     ensures { image.new ≡ with_words image.old at words.now }
@@ -18,7 +18,7 @@ fn put_words(image: &mut [u8], at: usize, words: &[u32])
     }
 }
 
-/// The image: its root holds one file, `a`, with the bytes `hello`. Its size is 144.
+/// Returns the image. Its root holds one file, `a`, with the bytes `hello`. Its size is 144.
 pub fn hello() -> [u8; 144]
     ensures { result ≡ hello_image }
 {

@@ -1,7 +1,7 @@
-//! What the program's commands do with an image's bytes and with streams.
+//! The program's commands, as functions over an image's bytes and streams.
 //!
 //! Proved: what is printed of an image is the list of the tree that its bytes give, or a line with
-//! its references and depth; or the line of its least fault where they give none
+//! its references and depth. If they give none, it is the line of its least fault
 //! (`specs/Answers.antt`).
 #![tactic(auto)]
 

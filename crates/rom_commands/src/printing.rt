@@ -1,4 +1,4 @@
-//! What is printed on standard output and on standard error.
+//! Prints to standard output and to standard error.
 ghost use Rattle.std.specs.Prelude.{◌≡◌, ◌++◌, codes, length};
 ghost use Rattle.std.specs.Io.KnownBytes.{Keeps};
 ghost use Rattle.rom_fields.specs.Texts.{escaped};
@@ -16,7 +16,7 @@ use rom_fields::{ByteWrite, Plain, put, put_escaped};
 use std::alloc::Global;
 use std::io::Write;
 
-/// Prints a line: a text, and a name after it, escaped.
+/// Prints a line: a text and an escaped name.
 pub fn complain<W: ByteWrite>(w: &mut W, text: &[u8], name: &[u8])
     ensures { Prints (W.output w.old) (W.output w.new)
         (text.now ++ (escaped name.now ++ codes "\n")) }
@@ -27,8 +27,8 @@ pub fn complain<W: ByteWrite>(w: &mut W, text: &[u8], name: &[u8])
     put(w, &mut failed, b"\n");
 }
 
-/// Hands on what `out` holds back. The status is `Failed`, and `err` says so, where that or a write
-/// before failed, and else the one that is given.
+/// Flushes `out`. Returns the given status, or `Failed` if the flush or a write before it failed;
+/// `err` then says so.
 pub(crate) fn flushed<X: Write, E: ByteWrite>(
     out: &mut Plain<X>,
     err: &mut E,
@@ -48,11 +48,11 @@ pub(crate) fn flushed<X: Write, E: ByteWrite>(
     status
 }
 
-/// Prints what `check`, `list`, `map`, `linux` or `info` says of an image to `out`, and to `err`
-/// that memory was refused or a write failed. The line of a fault goes to `out` if `takes_fault`
-/// says so, and to `err` if not. What `out` holds back is handed on. The status is `Done` where the
-/// image is sound, `Refused` where it has a fault, does not fit, or Linux gets something of it
-/// wrong that was asked for, `Failed` where memory was refused or a write failed.
+/// Prints to `out` what `check`, `list`, `map`, `linux` or `info` says of an image, and flushes
+/// `out`. Prints to `err` if memory was refused or a write failed. The line of a fault goes to
+/// `out` if `takes_fault` says so, and to `err` otherwise. Returns `Done` if the image is valid;
+/// `Refused` if it has a fault, does not fit, or has something that Linux misreads and that was
+/// asked for; `Failed` if memory was refused or a write failed.
 pub fn print<X: Write, E: ByteWrite>(
     alloc: Global,
     bytes: &[u8],

@@ -16,7 +16,7 @@ use rom_tree::TreeImage;
 use romfs_format::superblock::stated_size;
 use std::alloc::Global;
 
-/// Returns how many bytes an image has: as many as its superblock states.
+/// Returns the number of bytes of an image, as its superblock states it.
 pub fn image_size(image: &AnyImage<'_>) -> u64
     ensures { result ≡ size_of image.now }
 {
@@ -26,7 +26,7 @@ pub fn image_size(image: &AnyImage<'_>) -> u64
     }
 }
 
-/// How many of these nothing uses.
+/// How many of these bytes are unused.
 pub(crate) fn free_bytes(alloc: Global, image: &AnyImage<'_>) -> Result<u64, InfoError>
     requires { IsChecked image.now }
     ensures ok { IfOk result (λ n. n ≡ gaps_of image.now) }
@@ -38,7 +38,7 @@ pub(crate) fn free_bytes(alloc: Global, image: &AnyImage<'_>) -> Result<u64, Inf
     }
 }
 
-/// The word that says whether so many bytes fit.
+/// The word that says whether a size is within a limit.
 fn fits_word(size: u64, limit: u64) -> &'static [u8]
     ensures { result.now ≡ fits_word (not (nat_lt limit size)) }
 {
@@ -55,7 +55,7 @@ fn put_number<W: ByteWrite>(w: &mut W, failed: &mut bool, key: &[u8], n: u64)
     put(w, failed, b"\n");
 }
 
-/// Writes how many bytes are free, whether so many bytes fit, and how many are left.
+/// Writes how many bytes are free, whether the image fits, and how many bytes are left.
 pub(crate) fn write_room<W: ByteWrite>(
     w: &mut W,
     free: u64,

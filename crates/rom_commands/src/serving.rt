@@ -1,4 +1,4 @@
-//! Serving images to lines, and how it ends.
+//! Serves images to lines, and reports how it ended.
 ghost use Rattle.std.specs.Prelude.{◌≡◌, ◌≤◌, ℕ, List, length, map, false, true, IfOk, OnOk};
 ghost use Rattle.rom_fields.specs.Failures.{Counts, one_more};
 ghost use Rattle.rom_fields.specs.Written.{WritesText};
@@ -29,7 +29,7 @@ use rom_serve::{Cached, NoCache, ServeError, serve};
 use rom_tree::Limits;
 use std::alloc::Global;
 
-/// How many names the server's cache of look-ups holds.
+/// The number of names in the server's cache of look-ups.
 const NAMES: usize = 256;
 
 /// How the serving of images ended.
@@ -62,7 +62,7 @@ fn status(serving: Serving) -> Status
     }
 }
 
-/// What standard error says of it.
+/// What standard error says of an ending.
 fn complaint(serving: Serving) -> &'static [u8]
     ensures { result.now ≡ serving_complaint serving }
 {
@@ -108,7 +108,7 @@ fn tell_fault<W: ByteWrite>(w: &mut W, number: u32, at: u32) -> Result<(), Faile
     w.flush()
 }
 
-/// Ends the telling of a fault. That a write failed is said on `err`.
+/// Ends the report of a fault. If a write failed, `err` says so.
 pub(crate) fn told<E: ByteWrite>(written: Result<(), Failed>, err: &mut E) -> Status
     ensures { Says written (E.output err.old) (E.output err.new) result }
 {
@@ -121,7 +121,7 @@ pub(crate) fn told<E: ByteWrite>(written: Result<(), Failed>, err: &mut E) -> St
     }
 }
 
-/// Says on `err` which fault an image has, and returns the status of a refusal.
+/// Prints to `err` which fault an image has, and returns the status of a refusal.
 pub fn complain_of_fault<E: ByteWrite>(fault: Fault, err: &mut E) -> Status
     ensures said { Prints (E.output err.old) (E.output err.new)
         (fault_line fault.number fault.at) }
@@ -133,9 +133,10 @@ pub fn complain_of_fault<E: ByteWrite>(fault: Fault, err: &mut E) -> Status
     Status::Refused
 }
 
-/// Writes the line of a file's fault, and returns the status, as `print` does of bytes that have
-/// this fault, and `serve_on` where a report is asked for: to `w` if `takes_fault` says so, and to
-/// `err` if not. So a fault that is known by the front of a file needs no more of it.
+/// Writes the line of a file's fault, and returns the status. The line goes to `w` if `takes_fault`
+/// says so, and to `err` otherwise. `print` does the same with bytes that have this fault, and so
+/// does `serve_on` if a report is asked for. So nothing more has to be read of a file if its first
+/// bytes show the fault.
 pub fn refuse<W: ByteWrite, E: ByteWrite>(
     fault: Fault,
     asked: Asked,
@@ -158,8 +159,8 @@ pub fn refuse<W: ByteWrite, E: ByteWrite>(
     }
 }
 
-/// Answers the lines of `r` from an image on `w`, through indices of its lists, and before them a
-/// cache of look-ups where there is memory for one. Directories of the image may lie 64 deep.
+/// Answers the lines of `r` on `w` from an image with indices of its lists. If there is memory for
+/// it, a cache of look-ups is in front of these. Directories of the image may be 64 deep.
 fn answer_lines<'a, R: ByteRead, W: ByteWrite>(
     alloc: Global,
     image: AnyImage<'a>,
@@ -178,9 +179,9 @@ fn answer_lines<'a, R: ByteRead, W: ByteWrite>(
     }
 }
 
-/// Serves what a check answered, whatever its limits: answers the lines of `r` on `w` from the
-/// image that it accepted, as `rom_serve::serve` does, or writes the line of the fault that it
-/// found, and flushes it. It ends with `Memory` only if memory was refused to the check.
+/// Serves an image that a check with any limits accepted: answers the lines of `r` on `w`, as
+/// `rom_serve::serve` does. If the check found a fault, writes its line and flushes it. Ends with
+/// `Memory` only if memory was refused to the check.
 pub fn serve_checked<'a, R: ByteRead, W: ByteWrite>(
     alloc: Global,
     checked: Result<AnyImage<'a>, CheckError>,
@@ -200,7 +201,7 @@ pub fn serve_checked<'a, R: ByteRead, W: ByteWrite>(
     }
 }
 
-/// Checks an image under some limits, and serves it as `serve_checked` does. Directories may lie 64
+/// Checks an image under some limits, and serves it as `serve_checked` does. Directories may be 64
 /// deep, also if the limits allow more.
 pub fn serve_under<R: ByteRead, W: ByteWrite>(
     alloc: Global,
@@ -219,10 +220,11 @@ pub fn serve_under<R: ByteRead, W: ByteWrite>(
 }
 
 /// Checks an image under the usual limits, and answers the lines of `r` from its tree on `w`, as
-/// `rom_serve::serve` does. Of an image with a fault the line of the fault is written.
+/// `rom_serve::serve` does. If the image has a fault, writes the line of the fault.
 ///
-/// What look-ups answered about 256 names is kept, and the names of directories with more than 16
-/// entries are sorted when they are first asked for, 24 bytes each, where there is memory for it.
+/// If there is memory for it, the results of the last look-ups of about 256 names are kept, and the
+/// names of each directory with more than 16 entries are sorted at its first use. This takes 24
+/// bytes for each name.
 pub fn serve_image<R: ByteRead, W: ByteWrite>(
     alloc: Global,
     bytes: &[u8],
@@ -237,7 +239,7 @@ pub fn serve_image<R: ByteRead, W: ByteWrite>(
     serve_under(alloc, bytes, Limits::usual(), r, w)
 }
 
-/// Says on `err` how serving ended, where it did not end well, and gives the status.
+/// Prints to `err` how serving ended, if it failed, and returns the status.
 pub(crate) fn conclude<E: ByteWrite>(serving: Serving, err: &mut E) -> Status
     ensures value { result ≡ serving_status serving }
     ensures said { Prints (E.output err.old) (E.output err.new) (serving_complaint serving) }
@@ -247,9 +249,9 @@ pub(crate) fn conclude<E: ByteWrite>(serving: Serving, err: &mut E) -> Status
     status(serving)
 }
 
-/// Serves an image as `serve_image` does, says on `err` what went wrong, and gives the status:
-/// `Done` where all replies were written, `Refused` where the image has a fault, `Failed` where
-/// memory was refused or a stream failed.
+/// Serves an image as `serve_image` does, prints to `err` what went wrong, and returns the status:
+/// `Done` if all replies were written, `Refused` if the image has a fault, `Failed` if memory was
+/// refused or a stream failed.
 pub fn serve_on<R: ByteRead, W: ByteWrite, E: ByteWrite>(
     alloc: Global,
     bytes: &[u8],

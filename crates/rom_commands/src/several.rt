@@ -1,4 +1,4 @@
-//! Serving several images to the lines of sessions.
+//! Serves several images to the lines of sessions.
 ghost use Rattle.std.specs.Prelude.{◌≡◌, ◌≤◌, ◌<◌, ℕ, List, length, map, IfOk, IfErr, OnOk};
 ghost use Rattle.rom_fields.specs.Failures.{Counts, one_more};
 ghost use Rattle.rom_fields.specs.Written.{WritesText};
@@ -25,12 +25,12 @@ use rom_serve::serve_space;
 use rom_tree::Limits;
 use std::alloc::Global;
 
-/// Why some bytes are not all images.
+/// Why not all of some bytes are images.
 #[derive(Clone, Copy, PartialEq, Eq)]
 enum NoImage {
     /// Memory was refused.
     OutOfMemory,
-    /// The first of them that are none, and their fault.
+    /// The first of the bytes that are no image, and their fault.
     Fault {
         /// The fault's number.
         number: u32,
@@ -54,7 +54,7 @@ fn checked<'a>(alloc: Global, bytes: &'a [u8], image: u32) -> Result<AnyImage<'a
     }
 }
 
-/// The images that some files hold, each with indices of its lists, of which there is none yet.
+/// The images that some files hold, each with an empty set of indices of its lists.
 fn check_all<'a>(
     alloc: Global,
     files: &'a [Vec<u8>],
@@ -101,7 +101,7 @@ fn write_fault_in_line<W: ByteWrite>(
     if failed { Err(Failed) } else { Ok(()) }
 }
 
-/// Writes the line, and flushes it.
+/// Writes the line of the fault of one of several images, and flushes it.
 fn tell_fault_in<W: ByteWrite>(w: &mut W, number: u32, at: u32, image: u32) -> Result<(), Failed>
     ensures text { WritesText (W.output w.old).contents (W.output w.new).contents result
         (fault_in_line number at image) }
@@ -112,8 +112,8 @@ fn tell_fault_in<W: ByteWrite>(w: &mut W, number: u32, at: u32, image: u32) -> R
     w.flush()
 }
 
-/// Writes the line of the fault of the first of several files that has one to `w`, and returns the
-/// status, as `serve_several_on` does of bytes whose first fault is this.
+/// Writes to `w` the line of the fault of the first of several files that has one, and returns the
+/// status. `serve_several_on` does the same with bytes whose first fault is this.
 pub fn refuse_in<W: ByteWrite, E: ByteWrite>(
     fault: Fault,
     image: u32,
@@ -132,9 +132,9 @@ pub fn refuse_in<W: ByteWrite, E: ByteWrite>(
     told(written, err)
 }
 
-/// Serves what the checks of several images answered: answers the lines of `r` from their trees on
-/// `w`, as `rom_serve::serve_space` does, or writes the line of the first fault, and flushes it. It
-/// ends with `Memory` only if memory was refused to the checks.
+/// Serves several images after their checks. If all were accepted, answers the lines of `r` from
+/// their trees on `w`, as `rom_serve::serve_space` does. Otherwise writes the line of the first
+/// fault, and flushes it. Ends with `Memory` only if memory was refused to the checks.
 fn serve_all_checked<'a, R: ByteRead, W: ByteWrite>(
     checked: Result<Vec<Indexed<'a, AnyImage<'a>>>, NoImage>,
     r: &mut R,
@@ -161,9 +161,9 @@ fn serve_all_checked<'a, R: ByteRead, W: ByteWrite>(
 }
 
 /// Checks 1 to 8 images under the usual limits, and answers the lines of `r` from their trees on
-/// `w`, as `rom_serve::serve_space` does. Of the first image with a fault the line of the fault is
-/// written, with the image's number. Names are sorted as `serving::serve_image` does; no answers
-/// are kept.
+/// `w`, as `rom_serve::serve_space` does. If an image has a fault, writes the line of the first
+/// such image's fault, with the image's number. Names are sorted as in `serving::serve_image`;
+/// there is no cache of look-ups.
 pub fn serve_images<R: ByteRead, W: ByteWrite>(
     alloc: Global,
     files: &[Vec<u8>],
@@ -181,7 +181,7 @@ pub fn serve_images<R: ByteRead, W: ByteWrite>(
     serve_all_checked(checked, r, w)
 }
 
-/// Serves several images as `serve_images` does, says on `err` what went wrong, and gives the
+/// Serves several images as `serve_images` does, prints to `err` what went wrong, and returns the
 /// status, as `serving::serve_on` does.
 pub fn serve_several_on<R: ByteRead, W: ByteWrite, E: ByteWrite>(
     alloc: Global,

@@ -26,17 +26,17 @@ use rom_fields::{ByteWrite, Failed, put, put_decimal};
 use rom_tree::{Limits, Report, list};
 use std::alloc::Global;
 
-/// How the showing of an image ended.
+/// How the printing of an image ended.
 #[derive(Clone, Copy, PartialEq, Eq)]
 pub enum Outcome {
-    /// The image is sound, and all of its text was written.
+    /// The image is valid, and all of its text was written.
     Done,
-    /// The image is sound, and all of its text was written: Linux gets something of it wrong that
-    /// was asked for, or it does not fit.
+    /// The image is valid, and all of its text was written. It has something that Linux misreads
+    /// and that was asked for, or it does not fit.
     Warned,
     /// The image has a fault, whose line was written.
     Refused,
-    /// The image has a fault, whose line is one for standard error. Nothing was written.
+    /// The image has a fault, whose line belongs on standard error. Nothing was written.
     Faulty {
         /// The fault's number.
         number: u32,
@@ -49,7 +49,7 @@ pub enum Outcome {
     WriteFault,
 }
 
-/// Whether each byte of an image of this length has an address of 64 bits, where addresses are
+/// Returns whether each byte of an image of this length has an address of 64 bits, if addresses are
 /// asked for.
 pub fn has_addresses(asked: Asked, len: usize) -> bool
     ensures { IsTrue result ↔ Fits asked len }
@@ -60,8 +60,8 @@ pub fn has_addresses(asked: Asked, len: usize) -> bool
     }
 }
 
-/// Whether the line of a fault stands in the place of what is asked, as it does of a report and of
-/// a list. Of all else standard error has the line, so that no fault stands among data.
+/// Returns whether the line of a fault is written in place of what is asked. This holds for a
+/// report and a list. Otherwise standard error has the line, so that no fault is among data.
 pub fn takes_fault(asked: Asked) -> bool
     ensures { result ≡ takes_fault asked }
 {
@@ -94,7 +94,7 @@ fn format_name(image: &AnyImage) -> &'static [u8]
     }
 }
 
-/// Writes the line of a sound image.
+/// Writes the line of a valid image.
 fn write_ok_line<W: ByteWrite>(w: &mut W, format: &[u8], report: Report) -> Result<(), Failed>
     ensures text { WritesText (W.output w.old).contents (W.output w.new).contents result
         (ok_line format.now report.references report.depth) }
@@ -111,7 +111,7 @@ fn write_ok_line<W: ByteWrite>(w: &mut W, format: &[u8], report: Report) -> Resu
     if failed { Err(Failed) } else { Ok(()) }
 }
 
-/// Writes the facts of a sound image, which are no warning.
+/// Writes the facts of a valid image, which are no warning.
 fn write_facts<W: ByteWrite>(
     alloc: Global,
     image: &AnyImage,
@@ -129,7 +129,7 @@ fn write_facts<W: ByteWrite>(
     }
 }
 
-/// Writes the facts of a sound image and whether it fits, and says whether it does not.
+/// Writes the facts of a valid image and whether it fits, and returns whether it does not.
 fn write_fit<W: ByteWrite>(
     alloc: Global,
     image: &AnyImage,
@@ -153,7 +153,7 @@ fn write_fit<W: ByteWrite>(
     }
 }
 
-/// Writes what is asked of a sound image, and says whether it is a warning.
+/// Writes what is asked of a valid image, and returns whether it is a warning.
 fn write_sound<W: ByteWrite>(
     alloc: Global,
     image: &AnyImage,
@@ -185,7 +185,7 @@ fn write_sound<W: ByteWrite>(
     }
 }
 
-/// Writes the line of a fault if it stands in the place of what is asked.
+/// Writes the line of a fault if it belongs in place of what is asked.
 fn show_fault<W: ByteWrite>(asked: Asked, number: u32, at: u32, w: &mut W) -> Outcome
     ensures { FaultEnds number at asked (W.output w.old) (W.output w.new) result }
 {
@@ -198,8 +198,8 @@ fn show_fault<W: ByteWrite>(asked: Asked, number: u32, at: u32, w: &mut W) -> Ou
     }
 }
 
-/// Checks an image under the usual limits, and writes what is asked of it; or of an image with a
-/// fault the line of the fault, or nothing, as `takes_fault` says.
+/// Checks an image under the usual limits, and writes what is asked of it. If the image has a
+/// fault, writes the line of the fault, or nothing, as `takes_fault` says.
 pub fn show<W: ByteWrite>(alloc: Global, bytes: &[u8], asked: Asked, w: &mut W) -> Outcome
     requires { Fits asked (length bytes.now) }
     ensures { Ends bytes.now asked (W.output w.old) (W.output w.new) result }

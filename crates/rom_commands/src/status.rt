@@ -6,21 +6,21 @@ ghost use Rattle.rom_commands.specs.Endings.{code_of, failure_line, failure_stat
 use crate::printing::complain;
 use rom_fields::{ByteWrite, put};
 
-/// How a command ended. What standard error has to say was said.
+/// How a command ended. Standard error already has what there is to say.
 #[derive(Debug, Clone, Copy, PartialEq, Eq)]
 pub enum Status {
     /// What was asked for was done.
     Done,
     /// It was refused, and standard output says why.
     Refused,
-    /// The words ask for nothing.
+    /// The words of the command line ask for nothing.
     Usage,
     /// A file, memory or a stream failed.
     Failed,
 }
 
 impl Status {
-    /// The number with which the program ends.
+    /// Returns the exit status of the program.
     pub fn code(self) -> u8
         ensures value { result ≡ code_of self }
         ensures small { result ≤ 3 }
@@ -39,21 +39,21 @@ impl Status {
 pub enum Failure<'a> {
     /// Memory was refused.
     Memory,
-    /// The words ask for nothing.
+    /// The words of the command line ask for nothing.
     Usage,
-    /// The file or folder of this name could not be read, listed or written.
+    /// The file or directory of this name could not be read, listed or written.
     File(&'a [u8]),
     /// Sources changed while they were read.
     Changed,
-    /// A path in an image is longer than a manifest takes.
+    /// A path in an image is longer than a manifest allows.
     LongPath,
-    /// The name of an image's volume is longer than a manifest takes.
+    /// The name of an image's volume is longer than a manifest allows.
     LongVolume,
     /// Standard output failed.
     WriteFault,
 }
 
-/// Says on `err` why a command did not do what was asked for.
+/// Prints to `err` why a command did not do what was asked for.
 fn complain_of<E: ByteWrite>(failure: Failure<'_>, err: &mut E)
     ensures { Prints (E.output err.old) (E.output err.new) (failure_line failure.entry) }
 {
@@ -69,7 +69,7 @@ fn complain_of<E: ByteWrite>(failure: Failure<'_>, err: &mut E)
     }
 }
 
-/// How a command ends that did not do what was asked for.
+/// The status of a command that did not do what was asked for.
 fn status_of(failure: Failure<'_>) -> Status
     ensures { result ≡ failure_status failure.entry }
 {
@@ -79,8 +79,8 @@ fn status_of(failure: Failure<'_>) -> Status
     }
 }
 
-/// Says on `err`, the standard error, why a command did not do what was asked for: one line. A name
-/// stands in it escaped.
+/// Prints to `err`, the standard error, why a command did not do what was asked for: one line, in
+/// which a name is escaped. Returns the status.
 pub fn tell<E: ByteWrite>(failure: Failure<'_>, err: &mut E) -> Status
     ensures said { Prints (E.output err.old) (E.output err.new) (failure_line failure.entry) }
     ensures status { result ≡ failure_status failure.entry }

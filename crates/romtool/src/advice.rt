@@ -1,8 +1,8 @@
-//! Which files of cramfs have a last page that Linux does not map, since something else is in it.
+//! Files of cramfs whose last page Linux does not map in place, since something else is in it.
 //!
-//! Linux maps the last page of a file in place only if the bytes behind the file's end are zeros,
-//! up to the page's end (`cramfs_last_page_is_shared`). This says it of each file whose bytes are
-//! in one piece and begin at a page.
+//! Linux maps the last page of a file in place only if the bytes between the file's end and the
+//! page's end are zeros (`cramfs_last_page_is_shared`). A line is printed for each file whose bytes
+//! are in one piece, begin at a page, and have others after them in the last page.
 ghost use Rattle.std.specs.Prelude.{◌≤◌};
 ghost use Rattle.rom_tree.specs.Tree.{levels};
 ghost use Rattle.image_check.specs.Any.{any_view};
@@ -18,13 +18,13 @@ use std::alloc::{AllocError, Global};
 use std::collections::BTreeMap;
 use std::io::{self, BufWriter};
 
-/// How many bytes a page of memory has.
+/// The number of bytes of a page of memory.
 const PAGE: u32 = 4096;
 
-/// How many bytes an inode has without its name.
+/// The number of bytes of an inode without its name.
 const INODE: usize = 12;
 
-/// What lies somewhere in an image.
+/// What is at an offset of an image.
 #[derive(Clone, Copy)]
 enum What {
     /// The bytes of a file, or the text of a link.
@@ -35,14 +35,14 @@ enum What {
     List,
 }
 
-/// What lies at an offset, and whose it is: the number of the first name, from 0 on.
+/// What is at an offset, and the number of the first name that has it, counted from 0.
 #[derive(Clone, Copy)]
 struct Piece {
     what: What,
     name: usize,
 }
 
-/// The bytes of a file that begin at a page, are in one piece, and end within a page.
+/// A file whose bytes begin at a page, are in one piece, and end within a page.
 #[derive(Clone, Copy)]
 struct Mapped {
     name: usize,
@@ -50,14 +50,14 @@ struct Mapped {
     end: u32,
 }
 
-/// A file, and what is first behind its end in its last page, if that is known.
+/// A file, and the first piece after its end in its last page, if it is known.
 #[derive(Clone, Copy)]
 struct Shared {
     mapped: Mapped,
     behind: Option<Piece>,
 }
 
-/// What is found of the names of an image.
+/// What is found through the names of an image.
 #[derive(Drop)]
 struct Layout {
     pieces: BTreeMap<u32, Piece>,
@@ -65,7 +65,7 @@ struct Layout {
 }
 
 impl Layout {
-    /// Notes what lies at an offset. 0 is no offset.
+    /// Notes what is at an offset, except at 0, which means that there is none.
     fn note(&mut self, at: u32, what: What, name: usize) -> Result<(), AllocError> {
         if at > 0 && !self.pieces.contains_key(&at) {
             self.pieces.insert(at, Piece { what, name })?;
@@ -73,7 +73,7 @@ impl Layout {
         Ok(())
     }
 
-    /// Notes the bytes of a node from `start` on, as many as are in one piece.
+    /// Notes the bytes of a node from `start` on that are in one piece.
     fn note_data(
         &mut self,
         (start, len): (u32, u64),
@@ -90,7 +90,7 @@ impl Layout {
     }
 }
 
-/// Where the list or the block pointers of a node of cramfs are.
+/// The offset of the list or the block pointers of a cramfs node.
 fn offset_of(order: Order, bytes: &[u8], node: NodeId) -> u32 {
     let at = node.0 as usize;
     if at > bytes.len() || bytes.len() - at < INODE {
@@ -99,7 +99,7 @@ fn offset_of(order: Order, bytes: &[u8], node: NodeId) -> u32 {
     inode::offset_at(order, bytes, at)
 }
 
-/// What lies where in a cramfs image, by the first names.
+/// What is at which offset of a cramfs image, by the first names.
 fn layout_of<'a, T: TreeImage<'a>>(
     alloc: Global,
     image: &T,
@@ -131,7 +131,7 @@ fn layout_of<'a, T: TreeImage<'a>>(
     Ok(layout)
 }
 
-/// The files whose last page has a byte behind their end that is not zero.
+/// The files whose last page has a byte after their end that is not zero.
 fn shared_of(alloc: Global, bytes: &[u8], layout: &Layout) -> Result<Vec<Shared>, AllocError> {
     let mut all = Vec::new(alloc);
     for mapped in &layout.mapped {
@@ -177,7 +177,7 @@ fn add_paths<'a, T: TreeImage<'a>>(
     Ok(())
 }
 
-/// The names that are to be told of these files, without their paths.
+/// The names whose paths are printed for these files. Their paths are not yet known.
 fn names_of(alloc: Global, all: &[Shared]) -> Result<BTreeMap<usize, Vec<u8>>, AllocError> {
     let mut paths = BTreeMap::new(alloc);
     for shared in all {
@@ -189,7 +189,7 @@ fn names_of(alloc: Global, all: &[Shared]) -> Result<BTreeMap<usize, Vec<u8>>, A
     Ok(paths)
 }
 
-/// The word for what is behind a file.
+/// The word for what is after a file.
 fn word_of(behind: Option<Piece>) -> &'static [u8] {
     match behind {
         Some(
@@ -222,7 +222,7 @@ fn path_of<'p>(paths: &'p BTreeMap<usize, Vec<u8>>, name: usize) -> &'p [u8] {
     }
 }
 
-/// The ALIGN that separates a file from what is behind it, 0 if none does.
+/// The ALIGN that separates a file from what is after it, or 0 if none does.
 fn align_of(behind: Option<Piece>) -> u32 {
     match behind {
         Some(
@@ -275,7 +275,7 @@ fn print(
     Ok(())
 }
 
-/// The files of an image that share their last page, and the paths that are to be told of them.
+/// The files of an image that share their last page, and the paths that are printed for them.
 fn found(
     alloc: Global,
     image: &AnyImage<'_>,
@@ -290,8 +290,8 @@ fn found(
     Ok((all, paths))
 }
 
-/// Prints a line for each file of a sound image of cramfs that shares its last page, and gives this
-/// status if it could.
+/// Prints a line for each file of a valid cramfs image that shares its last page. Returns this
+/// status if that succeeds.
 pub fn run(teller: &Teller<'_>, bytes: &[u8], status: Status) -> Status {
     let alloc = teller.rt.alloc();
     let Ok(image) = check(alloc, bytes, Limits::usual()) else {

@@ -1,4 +1,4 @@
-//! The alignments of the files that were found.
+//! The alignments of the scanned files.
 use crate::patterns::Patterns;
 use crate::teller::Teller;
 use build_commands::elf::{HEAD_LEN, is_program};
@@ -8,10 +8,10 @@ use rom_commands::Status;
 use std::fs::{File, OpenFile};
 use std::io;
 
-/// The bits of a mode that let someone execute a file.
+/// The execute bits of a mode.
 const EXECUTE: u32 = 0o111;
 
-/// Whether the file of this name is an executable or a shared object by its first bytes.
+/// Whether the file of this name is an executable or a shared object, by its first bytes.
 fn is_program_at(rt: &HostRuntime, name: &str) -> io::Result<bool> {
     let mut file = File::open(rt, name)?;
     let mut bytes = Vec::new(rt.alloc());
@@ -27,7 +27,7 @@ fn is_program_at(rt: &HostRuntime, name: &str) -> io::Result<bool> {
     Ok(is_program(&head))
 }
 
-/// The alignment of a regular file. It is opened only if its mode does not tell.
+/// The alignment of a regular file. The file is opened only if its mode does not decide.
 fn align_at(
     rt: &HostRuntime,
     patterns: &Patterns,
@@ -43,8 +43,9 @@ fn align_at(
     Ok(align_of(file.mode, is_program, align))
 }
 
-/// Gives each regular file its alignment: that of the last pattern which matches its path, or else
-/// this one if it is executed, or says which one cannot be read.
+/// Sets the alignment of each regular file: that of the last pattern that matches its path;
+/// otherwise this one if the file is a program, a library or executable. Reports a file that cannot
+/// be read.
 pub fn align_all(
     teller: &Teller<'_>,
     patterns: &Patterns,

@@ -2,13 +2,13 @@
 use std::alloc::AllocError;
 use std::env::{Env, FillError};
 
-/// How many bytes of a word are asked for at first.
+/// The number of bytes that are first requested for a word.
 const SHORT: usize = 256;
 
-/// The program's own name, where the system gives it one that is no text.
+/// The program's own name, if the one that the system has is no UTF-8.
 const PROGRAM: &str = "romtool";
 
-/// The bytes of the word of this number, from 0 on, where there is one.
+/// The bytes of the word of this number, from 0 on, if there is one.
 fn word(rt: &HostRuntime, number: usize) -> Result<Option<Vec<u8>>, AllocError> {
     let mut room = SHORT;
     for _ in 0..usize::BITS {
@@ -30,11 +30,12 @@ fn word(rt: &HostRuntime, number: usize) -> Result<Option<Vec<u8>>, AllocError> 
 pub enum NoWords {
     /// Memory was refused.
     OutOfMemory,
-    /// The word of this number is no UTF-8; the first behind the program's name has the number 1.
+    /// The word of this number is no UTF-8. The first one after the program's name has the number
+    /// 1.
     NoText(usize),
 }
 
-/// A word as a text. The first one may be none, since nothing is asked for by it.
+/// A word as a text. The first one may be no UTF-8, since it asks for nothing.
 fn text(rt: &HostRuntime, number: usize, bytes: Vec<u8>) -> Result<String, NoWords> {
     match String::from_utf8(bytes) {
         Ok(text) => Ok(text),
@@ -46,11 +47,11 @@ fn text(rt: &HostRuntime, number: usize, bytes: Vec<u8>) -> Result<String, NoWor
     }
 }
 
-/// The words of the command line, the program's name first.
+/// Returns the words of the command line, the program's name first.
 ///
 /// # Errors
 ///
-/// `OutOfMemory`, and `NoText` where another word than the first is no UTF-8.
+/// `OutOfMemory`, and `NoText` if a word other than the first is no UTF-8.
 pub fn words(rt: &HostRuntime) -> Result<Vec<String>, NoWords> {
     let mut words = Vec::new(rt.alloc());
     for number in 0..usize::MAX {

@@ -1,8 +1,8 @@
-//! The bad lines of a manifest behind its first one, said in words.
+//! Further bad lines of a manifest, after its first one, in words for people.
 //!
-//! Each line is parsed behind the few lines that it depends on: its path's ancestors, the path that
-//! it names, and an earlier line with its own path. A bad line counts as one that makes its path,
-//! so that what is below a bad directory is not bad for that.
+//! Each line is parsed after the few lines on which it depends: those of its path's ancestors, of
+//! the path that it names, and an earlier one with its own path. A bad line counts as one that
+//! makes its path, so that lines below a bad directory are not reported for that reason.
 use crate::explained;
 use crate::teller::Teller;
 use manifest::{ManifestError, parse};
@@ -10,7 +10,7 @@ use sentences::words::escaped;
 use std::alloc::{AllocError, Global};
 use std::collections::BTreeMap;
 
-/// How many bad lines are said one by one.
+/// The most bad lines that are reported one by one.
 const MOST_SAID: u64 = 20;
 
 /// What an earlier line makes.
@@ -21,7 +21,7 @@ enum Made {
     Other,
 }
 
-/// Paths of earlier lines, and what these make.
+/// The paths of earlier lines, and what these make.
 type Paths = BTreeMap<Vec<u8>, Made>;
 
 /// The value of a hexadecimal digit.
@@ -34,7 +34,7 @@ fn digit(byte: u8) -> Option<u8> {
     }
 }
 
-/// The byte that is encoded at the front of a field, behind its `%`.
+/// The byte that is encoded at the front of a field, after its `%`.
 fn encoded(field: &[u8]) -> Option<u8> {
     let (high, low) = (digit(*field.first()?)?, digit(*field.get(1)?)?);
     Some(high.wrapping_mul(16).wrapping_add(low))
@@ -74,7 +74,7 @@ fn field(line: &[u8], number: usize) -> &[u8] {
     line.split(|byte| *byte == b' ').nth(number).unwrap_or(&[])
 }
 
-/// Adds the directories above a path, if the nearest of them is made.
+/// Adds the directories above a path, if the nearest of them exists.
 fn add_ancestors(
     alloc: Global,
     known: &Paths,
@@ -95,7 +95,7 @@ fn add_ancestors(
     Ok(())
 }
 
-/// Adds a path, if an earlier line makes it, with the directories above it.
+/// Adds a path and the directories above it, if an earlier line makes it.
 fn add_known(
     alloc: Global,
     known: &Paths,
@@ -124,14 +124,14 @@ fn lines_of(alloc: Global, context: &Paths) -> Result<String, AllocError> {
     Ok(text)
 }
 
-/// What earlier lines of a text make.
+/// What the earlier lines of a text make.
 #[derive(Drop)]
 struct Earlier {
     paths: Paths,
     has_volume: bool,
 }
 
-/// What a line of this first word makes, which may name this path.
+/// What a line with this first word makes. It may name this path.
 fn made_by(word: &[u8], known: &Paths, old: &Vec<u8>) -> Made {
     match word {
         b"dir" => Made::Directory,
@@ -142,7 +142,7 @@ fn made_by(word: &[u8], known: &Paths, old: &Vec<u8>) -> Made {
 }
 
 impl Earlier {
-    /// The number of the fault of a line behind these, if it has one. The line is noted.
+    /// The number of the fault of a line after these, if it has one. The line is noted.
     fn fault_of(&mut self, alloc: Global, line: &[u8]) -> Result<Option<u32>, AllocError> {
         let word = field(line, 0);
         let path = decoded(alloc, field(line, 1))?;
@@ -173,7 +173,7 @@ impl Earlier {
     }
 }
 
-/// Says which lines behind the bad one of this number are bad as well.
+/// Reports which lines after the bad one of this number are bad as well.
 fn try_others(teller: &Teller<'_>, name: &str, text: &[u8], first: u64) -> Result<(), AllocError> {
     let alloc = teller.rt.alloc();
     let mut earlier = Earlier {
@@ -203,8 +203,8 @@ fn try_others(teller: &Teller<'_>, name: &str, text: &[u8], first: u64) -> Resul
     Ok(())
 }
 
-/// Says in words which lines of a text are bad behind its first bad one: some of them one by one,
-/// and then how many more.
+/// Explains which lines of a text are bad, after its first bad one: some of them one by one, and
+/// then how many more.
 pub fn explain_others(teller: &Teller<'_>, name: &str, text: &[u8], first: u64) {
     if teller.is_explained() {
         let _ = try_others(teller, name, text, first);

@@ -1,4 +1,4 @@
-//! Building an image from a manifest and files.
+//! Builds an image from a manifest and files.
 ghost use Rattle.std.specs.Prelude.{◌≡◌, length, IfOk, IfSome};
 ghost use Rattle.manifest.specs.Lines.{sources_of};
 ghost use Rattle.plan_types.specs.Formats.{format_of};
@@ -33,16 +33,16 @@ use std::{fs, io};
 /// The word for a manifest on standard input.
 const INPUT: &str = "-";
 
-/// How many bytes of a source are read at once, where there is memory for them.
+/// The number of bytes of a source that are read at once, if there is memory for them.
 const LARGE: usize = 256 << 10;
 
-/// The name by which the system tells of standard output.
+/// The name by which the system opens standard output.
 const OUTPUT: &str = "/proc/self/fd/1";
 
-/// The numbers of the device that keeps nothing, 1 and 3, as Linux packs them.
+/// The device number of `/dev/null`, 1 and 3, as Linux packs it.
 const NULL_DEVICE: u64 = 0x103;
 
-/// How a refusal ends, whose line was written.
+/// The ending of a refusal whose line was written.
 fn told(teller: &Teller<'_>, written: Result<(), Failed>) -> Status {
     match written {
         Ok(()) => Status::Refused,
@@ -66,7 +66,7 @@ fn text_of(teller: &Teller<'_>, name: &str) -> Result<reading::Text, Status> {
     }
 }
 
-/// The manifest that a text is, which stands in the file of this name.
+/// The manifest of a text, which is in the file of this name.
 fn manifest_of(teller: &Teller<'_>, name: &str, text: &[u8]) -> Result<Manifest, Status> {
     let rt = teller.rt;
     match parse(rt.alloc(), text) {
@@ -115,15 +115,15 @@ struct Files<'a> {
 }
 
 impl Files<'_> {
-    /// Says that a source changed.
+    /// Reports that a source changed.
     fn say_changed(&self, teller: &Teller<'_>, file: usize) -> Status {
         let status = teller.say(Failure::Changed);
         teller.explain_source(self.origin, file, &SOURCE_CHANGED);
         status
     }
 
-    /// Says that a source could not be read as it was: it changed, or it is at fault, for the
-    /// reason that the system gave, if it gave one.
+    /// Reports that a source could not be read as it was: it changed, or the system refused it, for
+    /// this reason if there is one.
     fn say_fault(&self, teller: &Teller<'_>, file: usize, reason: Option<io::Error>) -> Status {
         let (Some(name), Some(stamp)) = (self.names.get(file), self.stamps.get(file)) else {
             return teller.say(Failure::Changed);
@@ -141,8 +141,8 @@ impl Files<'_> {
         status
     }
 
-    /// Says why an image was not written whole: where OUT or a source refused, by what the system
-    /// said.
+    /// Reports why not all of an image was written: OUT or a source failed, for the system's
+    /// reason.
     fn say_unwritten(
         &self,
         teller: &Teller<'_>,
@@ -166,8 +166,8 @@ impl Files<'_> {
     }
 }
 
-/// Whether a file is the program's own standard output, and keeps what is written to it: then the
-/// line `ok LENGTH` would be mixed into the image, or go where no name leads.
+/// Whether a file is the program's own standard output and keeps what is written to it. Then the
+/// line `ok LENGTH` would get into the image, or into a file without a name.
 fn is_own_output(rt: &HostRuntime, found: &Metadata) -> bool {
     let is_null = found.file_type().is_char_device() && found.rdev() == NULL_DEVICE;
     match fs::metadata(rt, OUTPUT) {
@@ -191,8 +191,7 @@ impl Inputs<'_> {
     }
 }
 
-/// Refuses a file that is not to be written, since the image is made of it, or since it is standard
-/// output.
+/// Refuses a file that must not be written, since the image is made of it or it is standard output.
 fn check_output(teller: &Teller<'_>, name: &str, inputs: Inputs<'_>) -> Result<(), Status> {
     if let Ok(found) = fs::metadata(teller.rt, name) {
         if inputs.has(Identity::of(&found)) {
@@ -205,8 +204,7 @@ fn check_output(teller: &Teller<'_>, name: &str, inputs: Inputs<'_>) -> Result<(
     Ok(())
 }
 
-/// Opens what an image is written to. That is neither the manifest nor a source, nor standard
-/// output.
+/// Opens the target of an image. It is neither the manifest nor a source, nor standard output.
 fn target_of(teller: &Teller<'_>, out: &str, inputs: Inputs<'_>) -> Result<Target, Status> {
     check_output(teller, out, inputs)?;
     match Target::open(teller.rt, out) {
@@ -218,8 +216,7 @@ fn target_of(teller: &Teller<'_>, out: &str, inputs: Inputs<'_>) -> Result<Targe
     }
 }
 
-/// What the rule of a build is written to, if one is asked for. It is written, and has not its name
-/// yet.
+/// Writes the rule of a build, if one is asked for. The written part does not have its name yet.
 fn rule_of(
     teller: &Teller<'_>,
     asked: Build<'_>,
@@ -247,7 +244,7 @@ fn rule<'a>(asked: Build<'a>, names: &'a [&'a str]) -> Rule<'a> {
     }
 }
 
-/// A buffer of so many bytes, where there is memory for it.
+/// A buffer of this number of bytes, if there is memory for it.
 fn buffer_of(rt: &HostRuntime, len: usize) -> Option<Vec<u8>>
     ensures { IfSome result (λ buffer. length buffer.items ≡ len) }
 {
@@ -258,7 +255,7 @@ fn buffer_of(rt: &HostRuntime, len: usize) -> Option<Vec<u8>>
     }
 }
 
-/// Writes the image of a plan, through a large buffer where there is memory for it.
+/// Writes the image of a plan, through a large buffer if there is memory for it.
 fn streamed(
     rt: &HostRuntime,
     plan: &Plan,
@@ -273,7 +270,8 @@ fn streamed(
     }
 }
 
-/// How often the sources are read whole: to be written, and before that for a sum over all bytes.
+/// How often each source is read whole: once to be written, and once before for a checksum of all
+/// bytes.
 fn passes(format: Format) -> u64 {
     match format {
         Format::Romfs => 1,
@@ -281,7 +279,7 @@ fn passes(format: Format) -> u64 {
     }
 }
 
-/// Writes the image of a plan, made of these files, to what it is written to.
+/// Writes the image of a plan, made of these files, to its target.
 fn write_to(
     teller: &Teller<'_>,
     plan: &Plan,
@@ -310,7 +308,7 @@ fn write_to(
     }
 }
 
-/// Gives what was written its name.
+/// Gives its name to a target that was written.
 fn keep(teller: &Teller<'_>, target: Target, name: &str) -> Result<(), Status> {
     match target.keep(teller.rt) {
         Ok(()) => Ok(()),
@@ -336,7 +334,7 @@ fn write_image(
     keep(teller, target, out)
 }
 
-/// Removes what was written, if something was.
+/// Removes a target that was written, if there is one.
 fn abandon(teller: &Teller<'_>, target: Option<Target>) {
     if let Some(target) = target {
         target.abandon(teller.rt);
@@ -357,7 +355,7 @@ fn check_size(teller: &Teller<'_>, asked: Build<'_>, plan: &Plan) -> Result<(), 
     }
 }
 
-/// What is to be warned of in the image that is planned. A strict build refuses it.
+/// Returns the warnings for the planned image. A strict build refuses it if there are any.
 fn warnings_of<'m>(
     teller: &Teller<'_>,
     asked: Build<'_>,
@@ -446,7 +444,7 @@ fn build_from(
     Ok(status)
 }
 
-/// Says that an image of so many bytes was built.
+/// Reports that an image of this number of bytes was built.
 fn say_built(teller: &Teller<'_>, len: u64) -> Status {
     let line = &mut Plain::new(Held::new(teller.rt.alloc(), io::writer(teller.rt)));
     match tell_built(line, len) {
@@ -505,7 +503,7 @@ fn build_in(
     build_joined(teller, asked, &joined, manifest, identity)
 }
 
-/// Builds what is asked for, and says what came of it.
+/// Builds what is asked for, and reports the result.
 fn build(teller: &Teller<'_>, asked: Build<'_>) -> Result<Status, Status> {
     let text = text_of(teller, asked.manifest)?;
     let manifest = manifest_of(teller, asked.manifest, &text.bytes)?;
@@ -515,7 +513,7 @@ fn build(teller: &Teller<'_>, asked: Build<'_>) -> Result<Status, Status> {
     }
 }
 
-/// Builds what is asked for, says what came of it, and gives how the command ended.
+/// Builds what is asked for, reports the result, and returns the status.
 pub fn run(teller: &Teller<'_>, asked: Build<'_>) -> Status {
     match build(teller, asked) {
         Ok(status) => status,

@@ -1,25 +1,25 @@
-//! Descriptors whose closing is looked at: some file systems tell only then that they lost what
-//! was written.
+//! Closes descriptors and reports errors of that. Some file systems report only then that they lost
+//! what was written.
 use std::os::fd::AsFd;
 use std::{fs, io, str};
 use std_io::io::last_error;
 
-/// How many bytes a name has that no system takes.
+/// A number of bytes of a name that no system accepts.
 const LONG: usize = 4096;
 
-/// Makes the number of the last error one that no closing gives, and gives that.
+/// Sets the number of the last error to one that no call of close() returns, and returns it.
 fn marked(rt: &HostRuntime) -> Option<i32> {
     let name = [b'x'; LONG];
     let _ = fs::metadata(rt, str::from_utf8(&name).unwrap_or(""));
     last_error().raw_os_error()
 }
 
-/// Closes what is open. The number of the last error tells whether the system refused it, since std
-/// drops the answer.
+/// Closes what is open. Whether the system refused it is seen in the number of the last error,
+/// since std drops the result.
 ///
 /// # Errors
 ///
-/// That of the system.
+/// The operating system's error.
 pub fn close<F: Drop>(rt: &HostRuntime, open: F) -> io::Result<()> {
     let mark = marked(rt);
     drop(open);
@@ -31,13 +31,13 @@ pub fn close<F: Drop>(rt: &HostRuntime, open: F) -> io::Result<()> {
     }
 }
 
-/// Looks whether standard output keeps what was written to it: closes a further descriptor of it,
-/// at which its file system tells what it lost. It stays open. Of a pipe or a terminal nothing
-/// comes of it.
+/// Checks that standard output keeps what was written to it. It closes a further descriptor of it,
+/// for then its file system reports what it lost; standard output stays open. For a pipe or a
+/// terminal this has no effect.
 ///
 /// # Errors
 ///
-/// That of the system.
+/// The operating system's error.
 pub fn settle_output(rt: &HostRuntime) -> io::Result<()> {
     let further = rt.stdout().as_fd().try_clone_to_owned()?;
     close(rt, further)

@@ -1,7 +1,7 @@
-//! The rule for make that a build writes: on which files an image depends.
+//! The rule for make that a build writes: the files on which an image depends.
 //!
-//! GNU make reads a backslash in front of some bytes as part of their spelling, and has no spelling
-//! of others. What it cannot read is refused before anything is written.
+//! GNU make reads a backslash before some bytes as part of a name's spelling, and has no spelling
+//! of some other bytes. A name that it cannot read is refused before anything is written.
 use crate::target::Target;
 use crate::teller::Teller;
 use rom_commands::{Failure, Status};
@@ -9,21 +9,21 @@ use rom_fields::{ByteWrite, put};
 use sentences::reasons::{NOT_TAKEN, OWN_RULE, RULE_UNFIT};
 use std::alloc::AllocError;
 
-/// What is in front of each name behind the first.
+/// The text before each name after the first.
 const BETWEEN: &[u8] = b" \\\n  ";
 
 /// Where a name is in a rule.
 #[derive(Clone, Copy, PartialEq, Eq)]
 enum Place {
-    /// In front of the colon.
+    /// Before the colon.
     Target,
-    /// Behind the colon.
+    /// First after the colon.
     First,
-    /// Behind that.
+    /// Later.
     Other,
 }
 
-/// Whether make reads a byte as one of a name only behind a backslash.
+/// Whether make reads a byte as part of a name only after a backslash.
 fn is_special(byte: u8, place: Place) -> bool {
     match byte {
         b' ' | b'#' | b':' | b'*' | b'?' | b'[' => true,
@@ -53,7 +53,7 @@ fn is_name_sayable(name: &str, place: Place) -> bool {
     ends && !is_group && !is_member && !name.iter().any(|byte| is_unsayable(*byte, place))
 }
 
-/// Adds so many backslashes.
+/// Adds this number of backslashes.
 fn add_backslashes(text: &mut Vec<u8>, count: usize) -> Result<(), AllocError> {
     for _ in 0..count {
         text.push(b'\\')?;
@@ -61,7 +61,7 @@ fn add_backslashes(text: &mut Vec<u8>, count: usize) -> Result<(), AllocError> {
     Ok(())
 }
 
-/// Adds a name as make reads it: backslashes in front of what is special are doubled.
+/// Adds a name as make reads it. Backslashes before a special byte are doubled.
 fn add_name(text: &mut Vec<u8>, name: &str, place: Place) -> Result<(), AllocError> {
     let mut backslashes = 0usize;
     for byte in name.as_bytes() {
@@ -91,7 +91,7 @@ pub struct Rule<'a> {
 }
 
 impl Rule<'_> {
-    /// Whether make has a spelling of each name.
+    /// Returns whether make has a spelling of each name.
     pub fn is_sayable(&self) -> bool {
         let mut place = Place::First;
         for name in self.manifest.iter().chain(self.sources) {
@@ -119,7 +119,7 @@ impl Rule<'_> {
     }
 }
 
-/// Writes a rule to what is to get the name of a file.
+/// Writes a rule to the part that is to get the name of the file.
 fn write(teller: &Teller<'_>, name: &str, rule: Rule<'_>, target: &Target) -> Result<(), Status> {
     let rt = teller.rt;
     let Ok(text) = rule.text(rt) else {
@@ -146,8 +146,8 @@ pub fn check(teller: &Teller<'_>, name: &str, rule: Rule<'_>) -> Result<(), Stat
     }
 }
 
-/// Writes a rule beside the file of this name, which is not the one that an image is written to. It
-/// gets its name once the image has its own.
+/// Writes a rule to a part beside the file of this name, which is not the image's file. The part
+/// gets its name after the image has got its own.
 pub fn written(
     teller: &Teller<'_>,
     name: &str,

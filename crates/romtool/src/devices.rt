@@ -1,4 +1,4 @@
-//! A file of devices, and of directories and links that are made beside what is found.
+//! A file of devices, directories and links that are added to the scanned files.
 use crate::overlay::{file_at, is_directory, sort};
 use crate::teller::Teller;
 use crate::{explained, reading};
@@ -15,10 +15,10 @@ use sentences::reasons::{DEVICE_EXISTS, DEVICE_NO_PARENT, DEVICE_NO_TEXT, DEVICE
 use std::alloc::{AllocError, AllocFailed, Global};
 use std::str;
 
-/// The device of the files that are on no disk: no file system has it.
+/// The device number of files that were not scanned. No file system has it.
 const NOWHERE: u64 = u64::MAX;
 
-/// The alignment of what has no bytes.
+/// The alignment of a file without bytes.
 const NO_ALIGN: u32 = 4;
 
 /// The most bytes of a path.
@@ -31,9 +31,9 @@ const WORDS: [&[u8]; 5] = [b"dir", b"slink", b"nod", b"pipe", b"sock"];
 #[derive(Drop)]
 enum LineError {
     OutOfMemory,
-    /// By the grammar of manifests.
+    /// The fault of this number in the grammar of manifests.
     Bad(u32),
-    /// By this number of it, and for this reason.
+    /// The fault of this number, for this reason.
     Other(u32, &'static str),
 }
 
@@ -63,7 +63,7 @@ fn field(line: &[u8], number: usize) -> &[u8] {
     line.split(|b| *b == b' ').nth(number).unwrap_or(b"")
 }
 
-/// Puts a line of a manifest behind others: a directory of this path.
+/// Puts the line of a directory after other lines.
 fn put_directory(text: &mut Vec<u8>, path: &[u8]) -> Result<(), LineError> {
     let entry = Entry {
         word: Word::Dir,
@@ -82,7 +82,7 @@ fn put_directory(text: &mut Vec<u8>, path: &[u8]) -> Result<(), LineError> {
     }
 }
 
-/// The path of a line, or as much of it as a path may have.
+/// The path of a line, cut to the most bytes that a path may have.
 fn path_of(alloc: Global, line: &[u8]) -> Result<Vec<u8>, LineError> {
     let mut path = Vec::new(alloc);
     for b in percent_decode(field(line, 1)).take(MOST_OF_PATH) {
@@ -91,7 +91,7 @@ fn path_of(alloc: Global, line: &[u8]) -> Result<Vec<u8>, LineError> {
     Ok(path)
 }
 
-/// A manifest of a line behind those of the directories that it is in.
+/// A manifest with this line, after lines of the directories that it is in.
 fn with_parents(alloc: Global, line: &[u8]) -> Result<Vec<u8>, LineError> {
     let path = path_of(alloc, line)?;
     let mut text = Vec::new(alloc);
@@ -104,7 +104,7 @@ fn with_parents(alloc: Global, line: &[u8]) -> Result<Vec<u8>, LineError> {
     Ok(text)
 }
 
-/// A text that has to be UTF-8.
+/// Returns a text, which has to be UTF-8.
 fn text_of(alloc: Global, bytes: &[u8]) -> Result<String, LineError> {
     match str::from_utf8(bytes) {
         Ok(text) => Ok(String::from_str(alloc, text)?),
@@ -126,7 +126,7 @@ fn kind_of(alloc: Global, line: &Line) -> Result<FileKind, LineError> {
     })
 }
 
-/// The file that a line makes, as one that was found. Its inode has the number of the line.
+/// The file that a line makes, in the form of a scanned file. Its inode has the number of the line.
 fn file_of(alloc: Global, number: u64, line: &[u8]) -> Result<NamedFile, LineError> {
     let word = field(line, 0);
     if !WORDS.iter().any(|known| *known == word) {
@@ -153,7 +153,7 @@ fn file_of(alloc: Global, number: u64, line: &[u8]) -> Result<NamedFile, LineErr
     })
 }
 
-/// What a path is wrong in: behind those of the same list, and among those that were found.
+/// What is wrong with a path, compared with earlier lines of the list and with the scanned files.
 fn wrong_in(
     listed: &[NamedFile],
     found: &[NamedFile],
@@ -184,7 +184,7 @@ fn wrong_in(
     }
 }
 
-/// Says on standard error which line of the file is refused, and why.
+/// Reports on standard error which line of the file is refused, and why.
 fn refuse(teller: &Teller<'_>, name: &str, text: &[u8], line: u64, why: LineError) -> Status {
     let (number, reason) = match why {
         LineError::OutOfMemory => return teller.say(Failure::Memory),
@@ -204,7 +204,7 @@ fn refuse(teller: &Teller<'_>, name: &str, text: &[u8], line: u64, why: LineErro
     Status::Refused
 }
 
-/// The lines of a text as files, or the line that is refused, and why.
+/// The lines of a text as files; or the line that is refused, and why.
 fn files_of(alloc: Global, text: &[u8]) -> Result<Vec<NamedFile>, (u64, LineError)> {
     let mut files = Vec::new(alloc);
     let mut number = 0u64;
@@ -223,7 +223,8 @@ fn files_of(alloc: Global, text: &[u8]) -> Result<Vec<NamedFile>, (u64, LineErro
     Ok(files)
 }
 
-/// The first line that does not fit the others or what was found. All are in the order of `sort`.
+/// The first line that does not fit the others or the scanned files. All are in the order of
+/// `sort`.
 fn first_wrong(listed: &[NamedFile], found: &[NamedFile]) -> Option<(u64, u32, &'static str)> {
     let mut first: Option<(u64, u32, &'static str)> = None;
     for number in 0..listed.len() {
@@ -237,8 +238,8 @@ fn first_wrong(listed: &[NamedFile], found: &[NamedFile]) -> Option<(u64, u32, &
     first
 }
 
-/// The files that the lines of the file of this name make, in the order of `sort`: beside those
-/// that were found, which are in that order too; or it is said why there are none.
+/// Returns the files that the lines of the file of this name make, in the order of `sort`. The
+/// scanned files are in that order, too. If there are none, reports why.
 pub fn listed(
     teller: &Teller<'_>,
     name: &str,

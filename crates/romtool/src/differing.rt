@@ -1,4 +1,4 @@
-//! In what two images differ.
+//! Prints the differences of two images.
 ghost use Rattle.std.specs.Prelude.{◌≤◌};
 ghost use Rattle.rom_tree.specs.Tree.{levels};
 ghost use Rattle.image_check.specs.Any.{any_view};
@@ -13,7 +13,7 @@ use rom_commands::{Failure, Status};
 use rom_fields::{ByteWrite, Plain};
 use std::io::{self, BufWriter};
 
-/// Compares the images in two files, and prints in what they differ.
+/// Compares the images in two files, and prints their differences.
 pub fn run(teller: &Teller<'_>, asked: Diff<'_>) -> Status {
     let old_bytes = match read(teller, asked.old) {
         Ok(bytes) => bytes,
@@ -33,7 +33,7 @@ pub fn run(teller: &Teller<'_>, asked: Diff<'_>) -> Status {
     }
 }
 
-/// Prints in what two valid images differ. The status is `Refused` if there is a line.
+/// Prints the differences of two valid images. The status is `Refused` if there is a line.
 fn print<'a>(teller: &Teller<'_>, old: &AnyImage<'a>, new: &AnyImage<'a>, places: bool) -> Status
     requires old { levels (any_view old.now).tree ≤ 65 }
     requires new { levels (any_view new.now).tree ≤ 65 }

@@ -1,4 +1,4 @@
-//! The digests of the files of an image, or that of the image.
+//! Prints the digests of an image's files, or that of the image.
 ghost use Rattle.std.specs.Prelude.{◌≤◌};
 ghost use Rattle.rom_tree.specs.Tree.{levels};
 ghost use Rattle.image_check.specs.Any.{any_view};

@@ -24,9 +24,8 @@ impl ReadAt for Opened {
     }
 }
 
-/// Files, one of which is open at a time. A file's bytes are those that it has at each read, so
-/// nothing is told of them beforehand. A file that has not the state any more that it had is not
-/// opened again.
+/// Files, of which one is open at a time. A file's bytes are those that each read returns, so
+/// nothing is reported of them beforehand. A file that changed is not opened again.
 #[derive(Drop)]
 pub struct Disk<'a> {
     rt: &'a HostRuntime,
@@ -40,7 +39,7 @@ pub struct Disk<'a> {
 }
 
 impl<'a> Disk<'a> {
-    /// The files of these names with the states that they have, and how far the reading of them is.
+    /// Returns the files of these names with their states, and the progress of reading them.
     pub fn new(
         rt: &'a HostRuntime,
         names: &'a [&'a str],
@@ -63,24 +62,24 @@ impl<'a> Disk<'a> {
 }
 
 impl<'a> Disk<'a> {
-    /// Shows no more of how far the reading is.
+    /// Shows no more progress.
     pub fn end(&mut self)
         ensures { self.new.names ≡ self.old.names }
     {
         self.progress.end();
     }
 
-    /// Why the reading failed last, if the system refused it.
+    /// Returns the reason why the last read failed, if the system refused it.
     pub fn reason(self) -> Option<io::Error> {
         self.reason
     }
 }
 
-/// The state of a source, which is refused if its own name is that of a symbolic link.
+/// Returns the state of a source, which is refused if its own name is that of a symbolic link.
 ///
 /// # Errors
 ///
-/// That of the system; `InvalidInput` for a link and for what is no regular file.
+/// The operating system's error; `InvalidInput` for a link and for a file that is not regular.
 pub fn stamp_unlinked(rt: &HostRuntime, name: &str) -> io::Result<Stamp> {
     let told = fs::symlink_metadata(rt, name)?;
     if told.is_symlink() {
@@ -93,14 +92,14 @@ pub fn stamp_unlinked(rt: &HostRuntime, name: &str) -> io::Result<Stamp> {
     Ok(stamp)
 }
 
-/// The first of the files of these names, by its number, that cannot be found any more or has
-/// another state by now.
+/// Returns the first of the files of these names, by its number, that does not exist any more or
+/// has another state now.
 pub fn first_changed(rt: &HostRuntime, names: &[&str], stamps: &[Stamp]) -> Option<usize> {
     let mut pairs = names.iter().zip(stamps);
     pairs.position(|(name, stamp)| has_changed(rt, name, stamp).unwrap_or(true))
 }
 
-/// Reads a part of the file of this number, which is opened where another one was.
+/// Reads a part of the file of this number, which is opened if another one was open.
 fn read_part(
     rt: &HostRuntime,
     source: (&str, &Stamp),

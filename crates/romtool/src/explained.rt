@@ -1,4 +1,4 @@
-//! What of a build is said in words alone: why a manifest is refused, and warnings.
+//! What a build explains in words for people: why a manifest is refused, and warnings.
 use crate::origin::Origin;
 use crate::target::{Others, Target};
 use crate::teller::Teller;
@@ -7,7 +7,7 @@ use sentences::{manifest_line, manifest_sentence, misfit_sentence, plan_line};
 use std::alloc::AllocError;
 use std::fmt::Display;
 
-/// Says in words what is so of a line of a manifest; line 0 is the whole.
+/// Explains a line of a manifest. Line 0 is the whole.
 fn of_line<W: Display>(
     teller: &Teller<'_>,
     manifest: &str,
@@ -24,7 +24,7 @@ fn of_line<W: Display>(
     Ok(())
 }
 
-/// Says in words which fault a line of a text has, so that it is no manifest.
+/// Explains which fault a line of a text has, for which the text is no manifest.
 pub fn bad_manifest(teller: &Teller<'_>, manifest: &str, text: &[u8], line: u64, number: u32) {
     if teller.is_explained() {
         let _ = try_bad_manifest(teller, manifest, text, line, number);
@@ -45,14 +45,14 @@ fn try_bad_manifest(
     of_line(teller, manifest, line, &what)
 }
 
-/// Says in words for which reason a line of a text is refused.
+/// Explains why a line of a text is refused.
 pub fn bad_line(teller: &Teller<'_>, manifest: &str, line: u64, reason: &'static str) {
     if teller.is_explained() {
         let _ = of_line(teller, manifest, line, &reason);
     }
 }
 
-/// Says in words what of a manifest does not fit a format.
+/// Explains what does not fit a format in a manifest.
 pub fn misfit(
     teller: &Teller<'_>,
     format: Format,
@@ -80,7 +80,7 @@ fn try_misfit(
     of_line(teller, origin.name, line, &what)
 }
 
-/// Warns of lines that end in a carriage return, which is a part of their last field.
+/// Warns of lines that end in a carriage return, which is part of their last field.
 pub fn returns(teller: &Teller<'_>, manifest: &str, text: &[u8]) {
     if teller.is_explained() {
         let _ = try_returns(teller, manifest, text);
@@ -92,12 +92,12 @@ fn try_returns(teller: &Teller<'_>, manifest: &str, text: &[u8]) -> Result<(), A
         return Ok(());
     };
     let what = format!(in teller.rt.alloc();
-        "warning: lines that end in a carriage return, a part of their last word: {count}"
+        "warning: lines that end in a carriage return, which is part of their last word: {count}"
     )?;
     of_line(teller, manifest, first, &what)
 }
 
-/// Says which parts of other builds are beside the image, and which were removed.
+/// Explains which parts of other builds are beside the image, and which were removed.
 pub fn parts(teller: &Teller<'_>, target: &Target) {
     if teller.is_explained() {
         let _ = try_parts(teller, target);
@@ -111,11 +111,11 @@ fn try_parts(teller: &Teller<'_>, target: &Target) -> Result<(), AllocError> {
     let alloc = teller.rt.alloc();
     let place = format!(in alloc; "{whole}.0.part")?;
     if removed > 0 {
-        let what = format!(in alloc; "removed what interrupted builds had left; parts: {removed}")?;
+        let what = format!(in alloc; "removed parts of interrupted builds: {removed}")?;
         teller.explain(place.as_bytes(), &what);
     }
     if kept > 0 {
-        let what = format!(in alloc; "warning: other builds are at it, or left it; parts: {kept}")?;
+        let what = format!(in alloc; "warning: parts of running or interrupted builds: {kept}")?;
         teller.explain(place.as_bytes(), &what);
     }
     Ok(())

@@ -1,4 +1,5 @@
-//! An image taken apart: its folders, files and links in a folder, and its manifest.
+//! Takes an image apart: its directories, files and links into a directory, and its manifest to
+//! standard output.
 ghost use Rattle.std.specs.Prelude.{◌<◌, ◌≤◌, length};
 ghost use Rattle.rom_tree.specs.Image.{HasNode};
 ghost use Rattle.rom_tree.specs.Tree.{levels};
@@ -28,67 +29,67 @@ use std::alloc::AllocError;
 use std::io::{self, BufWriter};
 use std::{fs, str};
 
-/// The greatest number of bytes of a name that Linux takes.
+/// The most bytes of a name in Linux.
 const LONGEST_NAME: usize = 255;
 
-/// The greatest number of bytes of a path, or of a link's text, that Linux takes.
+/// The most bytes of a path, or of a link's text, in Linux.
 const LONGEST_PATH: usize = 4095;
 
-/// The greatest number of bytes of a volume's name that a manifest takes.
+/// The most bytes of a volume's name in a manifest.
 const LONGEST_VOLUME: usize = 255;
 
-/// The rights of a folder of which nothing is known.
+/// The mode and owner of a directory if nothing is known of it.
 const USUAL: Rights = Rights {
     mode: 0o755,
     owner: None,
 };
 
-/// What is said of names of nodes of which nothing is made.
-const SPECIALS: &str = "devices, pipes and sockets that stand in the manifest alone";
+/// The words for names of nodes that are not made.
+const SPECIALS: &str = "devices, pipes and sockets, which only the manifest has";
 
-/// What is said of names whose modes are not those of the image.
+/// The words for names whose modes differ from those of the image.
 const LENDERS: &str = "names without their set-user and set-group bits, which --owners sets";
 
-/// What is said of further names of files.
+/// The words for further names of files.
 const FURTHER: &str = "further names of files, which share the file only until an editor replaces \
-    it; a build reads the first name alone";
+    it; a build reads only the first name";
 
-/// What is said of further names that are files of their own.
+/// The words for further names that are files of their own.
 const COPIES: &str = "further names that are copies here, since this file system makes no further \
     names; a build does not see what is changed in them";
 
-/// The bits of a mode that lend the rights of an owner or of a group.
+/// The set-user and set-group bits of a mode.
 const LENDING: u32 = 0o6000;
 
-/// What is made of names at a time: links come last, so that nothing is made through one.
+/// The work of one pass over all names. Links are made last, so that nothing is made through one.
 #[derive(Clone, Copy)]
 enum Phase {
-    /// Nothing; it is seen whether the system takes the names.
+    /// Nothing is made; the names are checked against the system's limits.
     Names,
     Folders,
     Files,
     Links,
-    /// The rights of folders, once they are filled.
+    /// Modes and owners of directories, after these are filled.
     Rights,
 }
 
-/// What is to be said in words of what was made.
+/// The numbers that are reported in words.
 #[derive(Clone, Copy, Default)]
 struct Counts {
-    /// Names of nodes that stand in the manifest alone.
+    /// Names of nodes that only the manifest has.
     specials: u64,
-    /// Names that lend rights in the image.
+    /// Names with set-user or set-group bits in the image.
     lending: u64,
-    /// Further names of files that were made.
+    /// Further names that were made as links to one file.
     further: u64,
     /// Further names that were made as files of their own.
     copies: u64,
-    /// The bytes of all files, of those that share bytes, too.
+    /// The bytes of all files. Shared bytes count once for each file.
     bytes: u64,
 }
 
 impl Counts {
-    /// Counts a name of a node, and the bytes of a file by its first name.
+    /// Counts a name of a node. A file's bytes count at its first name.
     fn count(&mut self, stat: Stat, is_first: bool) {
         if is_first && stat.kind == Kind::Regular {
             self.bytes = self.bytes.saturating_add(u64::from(stat.size));
@@ -101,15 +102,16 @@ impl Counts {
     }
 }
 
-/// What is noted while names are gone through.
+/// The notes of a pass over the names.
 #[derive(Clone, Copy)]
 struct Notes {
-    /// The rights of the image's root.
+    /// The mode and owner of the image's root.
     root: Rights,
     counts: Counts,
 }
 
-/// An image and its names, and the folder that it is taken apart into, without slashes at its end.
+/// An image and its names, and the directory that it is taken apart into, without slashes at its
+/// end.
 #[derive(Clone, Copy)]
 struct Extraction<'a> {
     teller: &'a Teller<'a>,
@@ -117,12 +119,12 @@ struct Extraction<'a> {
     members: &'a [Member<'a>],
     folder: &'a str,
     owners: bool,
-    /// The bits of a mode that the process takes from what it makes.
+    /// The bits of a mode that the process's mask removes from new files.
     masked: u32,
 }
 
 impl<'a> Extraction<'a> {
-    /// The rights of what is made of a node.
+    /// The mode and owner of what is made of a node.
     fn rights(&self, stat: Stat) -> Rights {
         if self.owners {
             let (uid, gid) = (stat.uid, stat.gid);
@@ -138,7 +140,7 @@ impl<'a> Extraction<'a> {
         }
     }
 
-    /// The path of the name at an index, behind the folder's.
+    /// The path of the name at an index, after the directory's.
     fn named(&self, index: usize) -> Result<Vec<u8>, AllocError>
         requires names { AreMembers (any_view self.now.image.now) self.now.members.now }
         requires within { index < length self.now.members.now }
@@ -151,7 +153,7 @@ impl<'a> Extraction<'a> {
         Ok(name)
     }
 
-    /// Where what has the name at an index is made.
+    /// The path at which the file with the name at an index is made.
     fn place(&self, index: usize) -> io::Result<String>
         requires names { AreMembers (any_view self.now.image.now) self.now.members.now }
         requires within { index < length self.now.members.now }
@@ -162,7 +164,7 @@ impl<'a> Extraction<'a> {
         }
     }
 
-    /// Says why nothing can be, or could be, made of the name at an index.
+    /// Reports why no file can be made, or could be made, at the name at an index.
     fn refused(&self, index: usize, e: &io::Error) -> Status
         requires names { AreMembers (any_view self.now.image.now) self.now.members.now }
         requires within { index < length self.now.members.now }
@@ -190,7 +192,7 @@ impl<'a> Extraction<'a> {
         Ok(text)
     }
 
-    /// Whether the system takes the name at an index, and a link's text.
+    /// Checks that the system accepts the name at an index, and a link's text.
     fn try_name(&self, index: usize, node: NodeId, stat: Stat) -> io::Result<()>
         requires node { HasNode (any_view self.now.image.now) node.0 }
         requires names { AreMembers (any_view self.now.image.now) self.now.members.now }
@@ -210,7 +212,7 @@ impl<'a> Extraction<'a> {
         Ok(())
     }
 
-    /// Makes a folder into which nobody else may look; the root's is there.
+    /// Makes a directory that only this user may read. The root's exists already.
     fn make_folder(&self, index: usize, stat: Stat, notes: &mut Notes) -> io::Result<()>
         requires names { AreMembers (any_view self.now.image.now) self.now.members.now }
         requires within { index < length self.now.members.now }
@@ -222,7 +224,7 @@ impl<'a> Extraction<'a> {
         new_folder(self.teller.rt, &self.place(index)?)
     }
 
-    /// Gives a folder that is filled its rights; the root's gets them last.
+    /// Sets the mode and owner of a filled directory. Those of the root are set last.
     fn finish_folder(&self, index: usize, stat: Stat) -> io::Result<()>
         requires names { AreMembers (any_view self.now.image.now) self.now.members.now }
         requires within { index < length self.now.members.now }
@@ -233,8 +235,8 @@ impl<'a> Extraction<'a> {
         set_folder(self.teller.rt, &self.place(index)?, self.rights(stat))
     }
 
-    /// Makes a file of a node's bytes. What is written goes through one descriptor, which is closed
-    /// once the disk has taken all.
+    /// Makes a file with a node's bytes. It is written through one descriptor, which is closed
+    /// after the data is on the disk.
     fn write_file(&self, place: &str, stat: Stat, node: NodeId) -> io::Result<()>
         requires { HasNode (any_view self.now.image.now) node.0 }
     {
@@ -250,8 +252,8 @@ impl<'a> Extraction<'a> {
         finish_file(self.teller.rt, file, self.rights(stat))
     }
 
-    /// Makes a further name of a file that was made, where the system lets it, and says whether it
-    /// did.
+    /// Makes a further name of a file that was made, if the system allows it, and returns whether
+    /// it does.
     fn make_again(&self, first: usize, place: &str) -> io::Result<bool>
         requires names { AreMembers (any_view self.now.image.now) self.now.members.now }
     {
@@ -261,8 +263,8 @@ impl<'a> Extraction<'a> {
         new_name(self.teller.rt, &self.place(first)?, place)
     }
 
-    /// Makes a file. A further name of a file that was made leads to the same file; where the
-    /// system makes no such names, to a file of its own.
+    /// Makes a file. A further name becomes a link to the same file; or a file of its own, if the
+    /// system refuses links.
     fn make_file(
         &self,
         index: usize,
@@ -296,7 +298,7 @@ impl<'a> Extraction<'a> {
         new_link(self.teller.rt, &text, &self.place(index)?, owner)
     }
 
-    /// Does for the name at an index what comes at this time.
+    /// Does the work of this pass for the name at an index.
     fn make(
         &self,
         phase: Phase,
@@ -322,7 +324,7 @@ impl<'a> Extraction<'a> {
         }
     }
 
-    /// Does for all names what comes at this time.
+    /// Does the work of this pass for all names.
     fn make_all(&self, phase: Phase, notes: &mut Notes) -> Result<(), Status>
         requires { AreMembers (any_view self.now.image.now) self.now.members.now }
     {
@@ -334,7 +336,7 @@ impl<'a> Extraction<'a> {
         Ok(())
     }
 
-    /// Gives the folders their rights, what a folder holds before it.
+    /// Sets the modes and owners of the directories, those of inner ones first.
     fn finish_all(&self, notes: &mut Notes) -> Result<(), Status>
         requires { AreMembers (any_view self.now.image.now) self.now.members.now }
     {
@@ -346,7 +348,7 @@ impl<'a> Extraction<'a> {
         Ok(())
     }
 
-    /// Fills the folder.
+    /// Fills the directory.
     fn fill(&self, notes: &mut Notes) -> Result<(), Status>
         requires { AreMembers (any_view self.now.image.now) self.now.members.now }
     {
@@ -356,7 +358,7 @@ impl<'a> Extraction<'a> {
         self.finish_all(notes)
     }
 
-    /// Fills the folder of this name, which is open, and hands it to the disk.
+    /// Fills the open directory of this name, and syncs it to the disk.
     fn complete(&self, folder: &str, top: Top, notes: &mut Notes) -> Result<(), Status>
         requires { AreMembers (any_view self.now.image.now) self.now.members.now }
     {
@@ -367,8 +369,8 @@ impl<'a> Extraction<'a> {
         }
     }
 
-    /// Makes everything in the folder of this name. Nothing is made where the system does not take
-    /// a name of the image.
+    /// Makes all files in the directory of this name. Nothing is made if the system refuses a name
+    /// of the image.
     fn run(&self, folder: &str) -> Result<Counts, Status>
         requires { AreMembers (any_view self.now.image.now) self.now.members.now }
     {
@@ -396,7 +398,7 @@ impl<'a> Extraction<'a> {
         }
     }
 
-    /// Says in words what the folder has not as the image has it.
+    /// Explains how the directory differs from the image.
     fn explain(&self, counts: Counts) {
         if self.teller.is_explained() {
             self.explain_one(counts.specials, SPECIALS);
@@ -406,7 +408,7 @@ impl<'a> Extraction<'a> {
         }
     }
 
-    /// Says in words how many bytes will be written, if they are many times those of the image.
+    /// Explains how many bytes will be written, if they are many times those of the image.
     fn explain_bytes(&self, bytes: u64) {
         let len = self.image.bytes().len();
         if self.teller.is_explained()
@@ -419,7 +421,7 @@ impl<'a> Extraction<'a> {
         }
     }
 
-    /// Says in words of how many names this is so, if there are some.
+    /// Explains for how many names something holds, if for any.
     fn explain_one(&self, count: u64, what: &str) {
         if count > 0
             && let Ok(what) = format!(in self.teller.rt.alloc(); "{what}: {count}")
@@ -429,17 +431,17 @@ impl<'a> Extraction<'a> {
     }
 }
 
-/// Whether something is made of a node of this kind.
+/// Whether something is made for a node of this kind.
 fn is_made(kind: Kind) -> bool {
     matches!(kind, Kind::Directory | Kind::Regular | Kind::Symlink)
 }
 
-/// Whether the system takes a text as that of a link.
+/// Whether the system accepts a text as that of a link.
 fn is_link_text(text: &str) -> bool {
     !text.is_empty() && text.len() <= LONGEST_PATH && !text.as_bytes().contains(&0)
 }
 
-/// Prints the manifest of an image, whose files are in this folder.
+/// Prints the manifest of an image whose files are in this directory.
 fn print(teller: &Teller<'_>, image: &AnyImage<'_>, members: &[Member<'_>], folder: &str) -> Status
     requires { AreMembers (any_view image.now) members.now }
 {
@@ -454,7 +456,7 @@ fn print(teller: &Teller<'_>, image: &AnyImage<'_>, members: &[Member<'_>], fold
     Status::Done
 }
 
-/// Makes what these members of an image have in a folder, and prints the manifest of the image.
+/// Makes the files of an image in a directory, and prints the manifest of the image.
 fn take_apart<'a>(
     teller: &'a Teller<'a>,
     image: &'a AnyImage<'a>,
@@ -481,7 +483,7 @@ fn take_apart<'a>(
     }
 }
 
-/// Takes a checked image apart, prints its manifest, and says how the command ended.
+/// Takes a checked image apart, prints its manifest, and returns the status.
 pub fn run<'a>(teller: &'a Teller<'a>, image: &'a AnyImage<'a>, asked: Extract<'a>) -> Status
     requires { levels (any_view image.now).tree ≤ 65 }
 {

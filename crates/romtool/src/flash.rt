@@ -1,5 +1,4 @@
-//! Where the bytes of an image lie in the flash: its extents as lines, as a header for C, and as a
-//! picture.
+//! The bytes of an image in the flash: its extents as lines, as a header for C, and as a picture.
 ghost use Rattle.std.specs.Prelude.{◌≤◌};
 ghost use Rattle.rom_tree.specs.Tree.{levels};
 ghost use Rattle.image_check.specs.Any.{any_view};
@@ -20,7 +19,7 @@ use sentences::reasons::{NO_ADDRESS, NO_PREFIX};
 use std::alloc::Global;
 use std::io::{self, BufWriter};
 
-/// The front of the names in a header if none is asked for.
+/// The prefix of the names in a header, if none is given.
 const PREFIX: &str = "ROM";
 
 /// What is asked of an image.
@@ -30,13 +29,13 @@ enum Asked<'a> {
     All,
     /// What is at these addresses.
     At(&'a [u64]),
-    /// A header for C, whose names begin so.
+    /// A header for C with this prefix of names.
     Header(&'a str),
     /// A picture.
     Picture,
 }
 
-/// The address of an image's first byte, and how many bytes its file has.
+/// The address of an image's first byte, and the number of bytes of its file.
 #[derive(Clone, Copy)]
 struct Flash {
     base: u64,

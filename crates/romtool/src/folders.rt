@@ -1,4 +1,4 @@
-//! Folders that a scan looks into, and whether they stay as they were found.
+//! Scanned directories, and whether they changed.
 use crate::stamp::{Stamp, let_rest};
 use crate::teller::Teller;
 use rom_commands::Status;
@@ -7,18 +7,18 @@ use std::fs::{self, Metadata};
 use std::io;
 use std::os::unix::fs::MetadataExt;
 
-/// A folder without the slashes at its end, before which the names of what it holds are put.
+/// Returns a directory without the slashes at its end. A name in it is put after this.
 pub fn base(folder: &str) -> &str {
     folder.trim_end_matches('/')
 }
 
-/// Whether it is said of a name or a text that it is no UTF-8.
+/// Returns whether the error is that a name or a text is no UTF-8.
 pub fn is_foreign(e: &io::Error) -> bool {
     e.kind() == io::ErrorKind::InvalidFilename && e.raw_os_error().is_none()
 }
 
-/// Says why an entry of the folder of this name cannot be read: which one it is, the system does
-/// not tell.
+/// Reports that an entry of the directory of this name cannot be read. The system does not say
+/// which one.
 pub fn refused_entry(teller: &Teller<'_>, folder: &str, e: &io::Error) -> Status {
     if e.kind() == io::ErrorKind::InvalidFilename {
         teller.failed(folder.as_bytes(), &FOREIGN_NAME)
@@ -27,19 +27,19 @@ pub fn refused_entry(teller: &Teller<'_>, folder: &str, e: &io::Error) -> Status
     }
 }
 
-/// The folders that a scan looks into: all, or those of one file system.
+/// Which directories a scan enters: all, or those of one file system.
 #[derive(Clone, Copy)]
 pub struct Reach {
     device: Option<u64>,
 }
 
 impl Reach {
-    /// Of a scan that crosses mounts.
+    /// Returns the reach of a scan that enters mounted file systems.
     pub fn all() -> Reach {
         Reach { device: None }
     }
 
-    /// Of a scan of the folder of which the system says this.
+    /// Returns the reach of a scan of the directory with these attributes.
     pub fn of(top: &Metadata, one_file_system: bool) -> Reach {
         Reach {
             device: if one_file_system {
@@ -50,14 +50,13 @@ impl Reach {
         }
     }
 
-    /// Whether the folder of which the system says this is looked into.
+    /// Returns whether the scan enters the directory with these attributes.
     pub fn has(&self, folder: &Metadata) -> bool {
         self.device.is_none_or(|device| device == folder.dev())
     }
 }
 
-/// A folder that a scan found, by the place that it has in the manifest's names, with the state in
-/// which it was.
+/// A directory that a scan found: its name in the manifest, and its state then.
 #[derive(Drop)]
 pub struct Folder {
     pub place: String,
@@ -65,11 +64,11 @@ pub struct Folder {
 }
 
 impl Folder {
-    /// A folder of which the system says this.
+    /// Returns the directory with these attributes.
     ///
     /// # Errors
     ///
-    /// Memory was refused.
+    /// `OutOfMemory`.
     pub fn new(rt: &HostRuntime, place: &str, told: &Metadata) -> io::Result<Folder> {
         Ok(Folder {
             place: String::from_str(rt.alloc(), place)?,
@@ -77,24 +76,24 @@ impl Folder {
         })
     }
 
-    /// Whether it is the folder that is scanned, `top`.
+    /// Whether it is `top`, the directory that is scanned.
     fn is_top(&self, top: &str) -> bool {
         self.place.len() == base(top).len()
     }
 
-    /// The name by which it is reached: that of the folder that is scanned is the one that was
-    /// asked for.
+    /// Returns the name by which it is opened. For the scanned directory, this is the name that was
+    /// given.
     pub fn name<'a>(&'a self, top: &'a str) -> &'a str {
         if self.is_top(top) { top } else { &self.place }
     }
 
-    /// Waits until each later change of it is one that its state tells.
+    /// Waits until each later change of it also changes its state.
     pub fn rest(&self, rt: &HostRuntime) {
         let_rest(rt, &[self.stamp]);
     }
 
-    /// Says that it did not stay as it was found, where it did not. No link is followed to it, but
-    /// for the folder that is scanned.
+    /// Reports that it changed, if it did. No link to it is followed, except for the scanned
+    /// directory.
     fn stayed(&self, teller: &Teller<'_>, top: &str) -> Result<(), Status> {
         let (rt, name) = (teller.rt, self.name(top));
         let told = if self.is_top(top) {
@@ -110,11 +109,11 @@ impl Folder {
     }
 }
 
-/// The folder that is scanned.
+/// Returns the directory that is scanned.
 ///
 /// # Errors
 ///
-/// That of the system; `NotADirectory` for what is no folder.
+/// The operating system's error; `NotADirectory` for another file.
 pub fn top(rt: &HostRuntime, name: &str) -> io::Result<Metadata> {
     let told = fs::metadata(rt, name)?;
     if !told.is_dir() {
@@ -123,8 +122,8 @@ pub fn top(rt: &HostRuntime, name: &str) -> io::Result<Metadata> {
     Ok(told)
 }
 
-/// Says which of the folders below `top` did not stay as it was found, where one did not: then what
-/// was found is not what was there at one time.
+/// Reports which of the directories below `top` changed, if one did. Then the names that were found
+/// did not all exist at one time.
 pub fn all_stayed(teller: &Teller<'_>, top: &str, folders: &[Folder]) -> Result<(), Status> {
     for folder in folders {
         folder.stayed(teller, top)?;

@@ -1,5 +1,5 @@
-//! What Linux would misread in an image that is planned, by the lines of its manifest. The numbers
-//! are those of `romtool linux`, which says the same of the image that is built.
+//! What Linux would misread in a planned image, by the lines of its manifest. The numbers are those
+//! of `romtool linux`, which reports the same for the built image.
 ghost use Rattle.std.specs.Prelude.{◌≡◌, length};
 ghost use Rattle.manifest.specs.Lines.{sources_of};
 
@@ -10,13 +10,13 @@ use rom_fields::OutOfMemory;
 use std::alloc::Global;
 use std::collections::BTreeMap;
 
-/// How many numbers of warnings there are.
+/// The number of warnings that exist.
 const NUMBERS: usize = 11;
 
 /// A manifest without a line that makes a file.
 pub const EMPTY: usize = 0;
 
-/// The numbers of `romtool linux` that an image may have which is built.
+/// The numbers of `romtool linux` that a built image may have.
 const LAST_BLOCK: usize = 1;
 
 const SHARED_TABLE: usize = 2;
@@ -33,33 +33,33 @@ const ROOT_MODE: usize = 9;
 
 const OTHER_PLACE: usize = 10;
 
-/// How many bytes a block and a page of memory have.
+/// The number of bytes of a block and of a page of memory.
 const BLOCK: u64 = 4096;
 
-/// How many bytes of a name romfs in Linux finds at most.
+/// The most bytes of a name that romfs in Linux finds.
 const FOUND: usize = 128;
 
-/// How many bytes a name has at most behind which Linux takes the right place, in romfs.
+/// The most bytes of a name after which romfs in Linux reads the right offset.
 const PLACED: usize = 143;
 
-/// The least major number that Linux's romfs does not keep.
+/// The least major number that romfs in Linux does not keep.
 const MAJOR: u32 = 4096;
 
-/// The permissions that Linux's cramfs adds to the root's.
+/// The permissions that cramfs in Linux adds to those of the root.
 const ROOT_BITS: u32 = 0o555;
 
-/// What is warned of by one number: how often it occurs, and where first.
+/// A warning: its count, and where it first occurs.
 #[derive(Clone, Copy)]
 pub struct Warning<'a> {
-    /// How many lines of the manifest it occurs in.
+    /// The number of lines of the manifest to which it applies.
     pub count: u64,
-    /// The first of these lines; 0 is the whole.
+    /// The first of these lines; 0 is the whole image.
     pub line: u64,
     /// The path of that line.
     pub path: &'a [u8],
 }
 
-/// What is warned of, by number.
+/// The warnings, by number.
 #[derive(Drop)]
 pub struct Warnings<'a> {
     found: [Warning<'a>; NUMBERS],
@@ -77,7 +77,7 @@ impl<'a> Warnings<'a> {
         }
     }
 
-    /// Counts one more thing of this number.
+    /// Adds one to the count of this number.
     fn add(&mut self, number: usize, line: u64, path: &'a [u8]) {
         if let Some(warning) = self.found.get_mut(number) {
             if warning.count == 0 {
@@ -88,12 +88,12 @@ impl<'a> Warnings<'a> {
         }
     }
 
-    /// The warnings, each at its number; those that do not occur have the count 0.
+    /// Returns the warnings, each at its number. One that does not occur has the count 0.
     pub fn all(&self) -> &[Warning<'a>] {
         &self.found
     }
 
-    /// The line and the number of the least warning, by its line and then by its number.
+    /// Returns the line and the number of the least warning, compared by line and then by number.
     pub fn least(&self) -> Option<(u64, usize)> {
         let mut least = None;
         for (number, warning) in self.found.iter().enumerate() {
@@ -117,7 +117,8 @@ fn last_name(path: &[u8]) -> &[u8] {
     }
 }
 
-/// How many bytes the file of this path has that is no device: of a link, its text.
+/// The number of bytes of the file of this path, unless it is a device. For a link, that of its
+/// text.
 fn size_of(files: &Option<PathTargets>, path: &[u8], own: &Line) -> u64 {
     if let Word::Slink = own.word {
         return own.text.as_bytes().len() as u64;
@@ -128,7 +129,7 @@ fn size_of(files: &Option<PathTargets>, path: &[u8], own: &Line) -> u64 {
     }
 }
 
-/// The line that makes the file that a line names: behind `hard` lines, another one.
+/// The line that makes the file of a line. For a `hard` line, that is another one.
 fn own_line<'m>(manifest: &'m Manifest, files: &Option<PathTargets>, line: &'m Line) -> &'m Line {
     if let (Some(files), Word::Hard) = (files, line.word)
         && let Some(index) = files.line(line.path.as_bytes())
@@ -140,19 +141,19 @@ fn own_line<'m>(manifest: &'m Manifest, files: &Option<PathTargets>, line: &'m L
     }
 }
 
-/// Whether a line is one of a device with a number that romfs in Linux does not keep.
+/// Whether a line is that of a device whose number romfs in Linux does not keep.
 fn is_other_device(line: &Line) -> bool {
     matches!(line.word, Word::Block | Word::Character) && line.major >= MAJOR
 }
 
-/// Whether a path, whose file this line makes, is found by romfs in Linux, and the name of the file
-/// itself is so long that its bytes are read from another place.
+/// Whether romfs in Linux finds a path, but reads the bytes of its file from another offset, since
+/// the file's own name is too long. This line makes the file.
 fn is_elsewhere(files: &Option<PathTargets>, path: &[u8], own: &Line) -> bool {
     let is_long = last_name(own.path.as_bytes()).len() > PLACED;
     is_long && last_name(path).len() <= FOUND && size_of(files, path, own) > 0
 }
 
-/// Notes what Linux's romfs misreads of each line.
+/// Notes what romfs in Linux misreads of each line.
 fn note_romfs<'m>(
     manifest: &'m Manifest,
     files: &Option<PathTargets>,
@@ -180,7 +181,8 @@ fn note_romfs<'m>(
     }
 }
 
-/// Notes which files of cramfs end with a whole block, and whether the root has another mode.
+/// Notes the cramfs files that end with a whole block, and whether the root has another mode in
+/// Linux.
 fn note_cramfs<'m>(
     manifest: &'m Manifest,
     files: &Option<PathTargets>,
@@ -204,7 +206,7 @@ fn note_cramfs<'m>(
     }
 }
 
-/// Where a byte of a path stands in the order of a tree's names.
+/// The rank of a byte of a path in the order of a tree's names.
 fn rank(byte: u8) -> u8 {
     if byte == b'/' { 0 } else { byte }
 }
@@ -219,7 +221,7 @@ fn comes_before(one: &[u8], other: &[u8]) -> bool {
     one.len() < other.len()
 }
 
-/// The first line, in the order of the tree, of each source that has more than one file.
+/// The first line of each source that has more than one file, in the order of the tree.
 fn first_files<'m>(
     alloc: Global,
     manifest: &'m Manifest,
@@ -250,7 +252,7 @@ fn are_alike(one: &Line, other: &Line) -> bool {
     one.mode == other.mode && one.uid == other.uid && one.gid == other.gid
 }
 
-/// Notes which files of cramfs have the table of another one with other attributes.
+/// Notes the cramfs files that share the block pointers of a file with other attributes.
 fn note_tables<'m>(
     alloc: Global,
     manifest: &'m Manifest,
@@ -273,12 +275,11 @@ fn note_tables<'m>(
     Ok(())
 }
 
-/// Returns what is to be warned of in the image of a manifest in a format, where its sources have
-/// these sizes.
+/// Returns the warnings for the image of a manifest in a format, if its sources have these sizes.
 ///
 /// # Errors
 ///
-/// `OutOfMemory` where memory was refused.
+/// `OutOfMemory` if memory was refused.
 pub fn foreseen<'m>(
     alloc: Global,
     format: Format,

@@ -1,4 +1,4 @@
-//! All that is below directories, as it is.
+//! Scans directories as they are, with all that is below them.
 use crate::folders::{self, Folder, Reach, all_stayed, base, is_foreign};
 use crate::patterns::Patterns;
 use crate::teller::Teller;
@@ -11,13 +11,13 @@ use std::fs::{self, DirEntry, Metadata};
 use std::os::unix::fs::{FileTypeExt, MetadataExt};
 use std::{io, mem};
 
-/// The bits of a mode that do not tell the kind of a file.
+/// The bits of a mode without the kind of a file.
 const MODE_BITS: u32 = 0o7777;
 
-/// The alignment of a file before another one is asked for.
+/// The alignment of a file for which no other one is chosen.
 const USUAL_ALIGN: u32 = 4;
 
-/// The numbers of a device, of which Linux makes one.
+/// The two numbers of a device, which Linux packs into one.
 fn device_of(numbers: u64) -> Device {
     let major = ((numbers >> 32) & 0xffff_f000) | ((numbers >> 8) & 0xfff);
     let minor = ((numbers >> 12) & 0xffff_ff00) | (numbers & 0xff);
@@ -27,7 +27,7 @@ fn device_of(numbers: u64) -> Device {
     }
 }
 
-/// The kind of the file at a place, of which the system says this.
+/// The kind of the file with this name and these attributes.
 fn kind_of(rt: &HostRuntime, place: &str, told: &Metadata) -> io::Result<FileKind> {
     let kind = told.file_type();
     Ok(if kind.is_dir() {
@@ -49,22 +49,22 @@ fn kind_of(rt: &HostRuntime, place: &str, told: &Metadata) -> io::Result<FileKin
     })
 }
 
-/// What cannot be read as text: the name of something in a directory, or the text of a link.
+/// A name in a directory, or the text of a link, that is no UTF-8.
 #[derive(Drop)]
 struct Foreign {
     place: String,
     why: &'static str,
 }
 
-/// A directory that was walked, with the directories below it that were looked into.
+/// A directory that was scanned, with the directories below it that were entered.
 #[derive(Drop)]
 struct Walked<'a> {
     top: &'a str,
     seen: Vec<Folder>,
 }
 
-/// What is found below a directory, and the directories of it that are still to be looked into, or
-/// were.
+/// The files that are found below a directory, and its directories that are still to be entered or
+/// were entered.
 #[derive(Drop)]
 struct Below<'a> {
     patterns: &'a Patterns,
@@ -77,7 +77,7 @@ struct Below<'a> {
 }
 
 impl<'a> Below<'a> {
-    /// Adds the file at a place, of which the system says this.
+    /// Adds the file of this name, with these attributes.
     fn add(&mut self, rt: &HostRuntime, place: String, told: &Metadata) -> io::Result<()> {
         let kind = kind_of(rt, &place, told)?;
         if matches!(kind, FileKind::Directory) && self.reach.has(told) {
@@ -99,14 +99,14 @@ impl<'a> Below<'a> {
         Ok(())
     }
 
-    /// Whether what is at a place is left out.
+    /// Whether the file of this name is excluded.
     fn excludes(&self, rt: &HostRuntime, place: &str) -> Result<bool, AllocError> {
         let path = place.get(base(self.top).len()..).unwrap_or("");
         self.patterns
             .exclude(rt.alloc(), path.trim_start_matches('/'))
     }
 
-    /// Notes that something at a place, or in the directory there, is no text.
+    /// Notes that a name, or a name in the directory of this name, is no UTF-8.
     fn note(&mut self, teller: &Teller<'_>, place: &str, why: &'static str) -> Result<(), Status> {
         let Ok(place) = String::from_str(teller.rt.alloc(), place) else {
             return Err(teller.say(Failure::Memory));
@@ -117,8 +117,8 @@ impl<'a> Below<'a> {
         }
     }
 
-    /// Adds an entry of a directory that has this place, if it is not left out, or says that it is
-    /// the entry which cannot be looked at.
+    /// Adds an entry of a directory with this name, if it is not excluded. Reports it if it cannot
+    /// be read.
     fn add_entry(
         &mut self,
         teller: &Teller<'_>,
@@ -141,7 +141,7 @@ impl<'a> Below<'a> {
         }
     }
 
-    /// Adds what a directory holds. It is looked into by the name `named`.
+    /// Adds the entries of a directory, which is opened by the name `named`.
     fn look_into(
         &mut self,
         teller: &Teller<'_>,
@@ -174,7 +174,7 @@ impl<'a> Below<'a> {
         }
     }
 
-    /// Starts with the directory of this name, which is the first that is found.
+    /// Starts with the directory of this name, as the first file that is found.
     fn start(&mut self, rt: &HostRuntime, top: &'a str, one_file_system: bool) -> io::Result<()> {
         let told = folders::top(rt, top)?;
         self.top = top;
@@ -182,7 +182,7 @@ impl<'a> Below<'a> {
         self.add(rt, String::from_str(rt.alloc(), base(top))?, &told)
     }
 
-    /// Adds all that is below the directory that was started with.
+    /// Adds all files below the first directory.
     fn walk(&mut self, teller: &Teller<'_>) -> Result<(), Status> {
         for _ in 0..u64::MAX {
             let Some(waiting) = self.waiting.pop() else {
@@ -196,7 +196,7 @@ impl<'a> Below<'a> {
         Ok(())
     }
 
-    /// Adds the directory of this name and all that is below it.
+    /// Adds the directory of this name and all files below it.
     fn add_top(
         &mut self,
         teller: &Teller<'_>,
@@ -211,7 +211,7 @@ impl<'a> Below<'a> {
         Ok(Walked { top, seen })
     }
 
-    /// Says all that is no text, in the order of the bytes of names, if something is.
+    /// Reports all names and texts that are no UTF-8, in the order of the bytes of names.
     fn all_texts(&mut self, teller: &Teller<'_>) -> Result<(), Status> {
         if self.foreign.sort_by(|a, b| a.place.cmp(&b.place)).is_err() {
             return Err(teller.say(Failure::Memory));
@@ -224,9 +224,9 @@ impl<'a> Below<'a> {
     }
 }
 
-/// The directories of a scan and all that is below them, those of each directory one after the
-/// other, but for what is left out. What cannot be looked at is named, and so is a directory that
-/// changed before all were looked into.
+/// Returns the directories of a scan and all files below them, except excluded ones. The files of
+/// each directory are together. Reports each file that cannot be read, and a directory that changed
+/// during the scan.
 pub fn all_below<'a>(
     teller: &Teller<'_>,
     scan: &'a ScanAll<'a>,
@@ -254,7 +254,7 @@ pub fn all_below<'a>(
     Ok(below.found)
 }
 
-/// Says which of the directories that were walked did not stay as it was found, if one did not.
+/// Reports which of the scanned directories changed, if one did.
 fn stayed(teller: &Teller<'_>, walked: &[Walked<'_>]) -> Result<(), Status> {
     for one in walked {
         all_stayed(teller, one.top, &one.seen)?;

@@ -1,15 +1,16 @@
 //! `romtool` builds, checks, lists and serves images of read-only file systems.
 //!
-//! `romtool build FORMAT MANIFEST OUT` builds an image from a manifest and the files that it names,
-//! `romtool scan DIR` prints a manifest of the names and contents of a folder, and `romtool scan
-//! --all DIR` of the folder as it is. `romtool check IMAGE` says whether a file holds a sound
-//! image, `romtool list IMAGE` lists its tree, and `info`, `map`, `cat` and `linux` tell more of
-//! it. `romtool extract IMAGE DIR` takes it apart. `romtool serve IMAGE` answers lines from its
-//! tree, and `romtool space IMAGE..` from the trees of several images, with sessions. Without words
-//! the example image `hello` is checked and listed. What is printed, answered and written is proved
-//! in `rom_commands`, `build_commands`, `image_manifest` and `image_build`, and what standard error
-//! says in `rom_commands` too; what stands in front of the streams, and what is read into memory,
-//! in `program_streams` and `image_load`. The work with files and folders is only tested.
+//! `romtool build FORMAT MANIFEST OUT` builds an image from a manifest and the files that it names.
+//! `romtool scan DIR` prints a manifest of the names and contents of a directory, and `romtool scan
+//! --all DIR` of the directory as it is. `romtool check IMAGE` reports whether a file holds a valid
+//! image. `romtool list IMAGE` lists its tree; `info`, `map`, `which`, `diff`, `digest`, `verify`,
+//! `cat` and `linux` report more of it. `romtool extract IMAGE DIR` takes it apart. `romtool serve
+//! IMAGE` answers lines from its tree, and `romtool space IMAGE..` from the trees of several
+//! images, with sessions. Without a subcommand, the example image `hello` is checked and listed.
+//!
+//! What is printed, answered and written is proved in `rom_commands`, `build_commands`,
+//! `image_manifest` and `image_build`; what is read into memory and how streams are used, in
+//! `program_streams` and `image_load`. The work with files and directories is only tested.
 #![tactic(auto)]
 
 mod advice;

@@ -1,4 +1,4 @@
-//! Folders, files and links that are made where nothing was, and handed to the disk.
+//! Makes directories, files and links where nothing exists, and syncs them to the disk.
 use crate::closing::close;
 use crate::place::folder_of;
 use crate::stamp::Identity;
@@ -9,19 +9,19 @@ use std::os::unix::fs::{
     DirBuilderExt, MetadataExt, OpenOptionsExt, PermissionsExt, fchown, lchown, symlink,
 };
 
-/// The permissions of a folder that nobody else is to look into while it is filled.
+/// The permissions of a directory while it is filled. Nobody else may read it.
 const PRIVATE_FOLDER: u32 = 0o700;
 
-/// The permissions of a file that nobody else is to read while it is written.
+/// The permissions of a file while it is written. Nobody else may read it.
 const PRIVATE_FILE: u32 = 0o600;
 
-/// The permissions that a file is asked for which tells those that are not given.
+/// All permissions. A file that is made with them shows which of them the process's mask removes.
 const ALL_PERMISSIONS: u32 = 0o777;
 
 /// The name of that file.
 const PROBE: &str = ".romtool-probe";
 
-/// Linux's numbers of the errors that tell that no further name of a file can be made: `EPERM`,
+/// Linux's numbers of the errors that mean that a further name of a file cannot be made: `EPERM`,
 /// `EXDEV`, `EMLINK` and `EOPNOTSUPP`.
 const NOT_PERMITTED: i32 = 1;
 
@@ -31,15 +31,14 @@ const TOO_MANY_NAMES: i32 = 31;
 
 const NOT_SUPPORTED: i32 = 95;
 
-/// The numbers of a user and a group.
+/// The numbers of an owner and a group.
 #[derive(Clone, Copy)]
 pub struct Owner {
     pub uid: u32,
     pub gid: u32,
 }
 
-/// Who may use what is made, and whom it is given to; where to nobody, it stays with whom the
-/// process works for.
+/// The mode and the owner of a new file. Without an owner, it stays with the user of the process.
 #[derive(Clone, Copy)]
 pub struct Rights {
     pub mode: u32,
@@ -47,8 +46,8 @@ pub struct Rights {
 }
 
 impl Rights {
-    /// Gives a file or a folder these rights. The owner comes first, since a change of it takes
-    /// bits of the mode away.
+    /// Gives a file or a directory this mode and owner. The owner comes first, since a change of
+    /// owner clears bits of the mode.
     pub fn give(&self, file: &File) -> io::Result<()> {
         if let Some(owner) = self.owner {
             fchown(file, Some(owner.uid), Some(owner.gid))?;
@@ -57,13 +56,12 @@ impl Rights {
     }
 }
 
-/// Makes a folder that nobody else may look into.
+/// Makes a directory that nobody else may read.
 pub fn new_folder(rt: &HostRuntime, place: &str) -> io::Result<()> {
     DirBuilder::new().mode(PRIVATE_FOLDER).create(rt, place)
 }
 
-/// Makes an empty file that nobody else may read. No link is followed to it, and nothing is
-/// replaced.
+/// Makes an empty file that nobody else may read. No link is followed, and nothing is replaced.
 pub fn new_file(rt: &HostRuntime, place: &str) -> io::Result<File> {
     OpenOptions::new()
         .write(true)
@@ -81,7 +79,7 @@ pub fn new_link(rt: &HostRuntime, text: &str, place: &str, owner: Option<Owner>)
     }
 }
 
-/// A folder that is there, opened; no link is followed to it.
+/// Opens an existing directory. No link is followed.
 fn opened(rt: &HostRuntime, place: &str) -> io::Result<File> {
     let folder = File::open(rt, place)?;
     let found = fs::symlink_metadata(rt, place)?;
@@ -91,7 +89,7 @@ fn opened(rt: &HostRuntime, place: &str) -> io::Result<File> {
     Ok(folder)
 }
 
-/// Hands what a folder has to the disk, where its file system can do that for folders.
+/// Syncs a directory to the disk, if its file system can do that.
 fn sync_folder(folder: &File) -> io::Result<()> {
     match folder.sync_all() {
         Err(e)
@@ -103,23 +101,23 @@ fn sync_folder(folder: &File) -> io::Result<()> {
     }
 }
 
-/// Gives a folder that was made its rights, and hands it to the disk.
+/// Sets the mode and owner of a directory that was made, and syncs it to the disk.
 pub fn set_folder(rt: &HostRuntime, place: &str, rights: Rights) -> io::Result<()> {
     let folder = opened(rt, place)?;
     rights.give(&folder)?;
     sync_folder(&folder)
 }
 
-/// Gives a file that was written its rights, hands it to the disk, and closes it. Some file systems
-/// tell only then that they lost what was written.
+/// Sets the mode and owner of a file that was written, syncs it to the disk, and closes it. Some
+/// file systems report only then that they lost what was written.
 pub fn finish_file(rt: &HostRuntime, file: File, rights: Rights) -> io::Result<()> {
     rights.give(&file)?;
     file.sync_all()?;
     close(rt, file)
 }
 
-/// Makes a further name of a file, where the file system can, and says whether it did. Only what
-/// tells that it cannot is no error.
+/// Makes a further name of a file, if the file system can, and returns whether it can. Other errors
+/// are returned.
 pub fn new_name(rt: &HostRuntime, file: &str, place: &str) -> io::Result<bool> {
     match fs::hard_link(rt, file, place) {
         Ok(()) => Ok(true),
@@ -130,25 +128,25 @@ pub fn new_name(rt: &HostRuntime, file: &str, place: &str) -> io::Result<bool> {
     }
 }
 
-/// The folder that an image is taken apart into.
+/// The directory that an image is taken apart into.
 #[derive(Drop)]
 pub struct Top {
     folder: File,
-    /// Whether it was made; else it was there.
+    /// Whether it was made; otherwise it existed.
     is_made: bool,
-    /// The bits of a mode that the process takes from what it makes.
+    /// The bits of a mode that the process's mask removes from new files.
     masked: u32,
 }
 
 impl Top {
-    /// Makes the folder of this name, into which nobody else may look, or takes the one that is
-    /// there, if it is empty. It has to belong to the user that the process works for: the owner of
-    /// a folder may put a link in the place of what is made in it.
+    /// Makes the directory of this name, which nobody else may read; or opens the existing one, if
+    /// it is empty. An existing one has to belong to the user of the process, because its owner
+    /// could replace a new file in it with a link.
     ///
     /// # Errors
     ///
-    /// That of the system; `DirectoryNotEmpty`, and `PermissionDenied` for another user's. What was
-    /// there was not changed then.
+    /// The operating system's error; `DirectoryNotEmpty`; `PermissionDenied` for another user's
+    /// directory. Then an existing directory is unchanged.
     pub fn open(rt: &HostRuntime, name: &str) -> io::Result<Top> {
         let is_made = match new_folder(rt, name) {
             Ok(()) => true,
@@ -168,13 +166,13 @@ impl Top {
         })
     }
 
-    /// The bits of a mode that the process takes from what it makes.
+    /// Returns the bits of a mode that the process's mask removes from new files.
     pub fn masked(&self) -> u32 {
         self.masked
     }
 
-    /// Gives the folder that was made these rights once it is filled, and hands it to the disk,
-    /// with its own name. One that was there keeps its rights.
+    /// Sets the mode and owner of the directory after it is filled, and syncs it and its name to
+    /// the disk. A directory that existed keeps its mode and owner.
     pub fn end(self, rt: &HostRuntime, name: &str, rights: Rights) -> io::Result<()> {
         if Identity::of(&fs::metadata(rt, name)?) != Identity::of(&self.folder.metadata()?) {
             return Err(io::Error::new(io::ErrorKind::NotFound, REPLACED));
@@ -186,15 +184,16 @@ impl Top {
         sync_folder(&self.folder)?;
         match File::open(rt, folder_of(name.trim_end_matches('/'))) {
             Ok(above) => sync_folder(&above),
-            // who may not read the folder above cannot hand it to the disk
+            // without the right to read the directory above, that one cannot be synced
             Err(e) if e.kind() == io::ErrorKind::PermissionDenied => Ok(()),
             Err(e) => Err(e),
         }
     }
 }
 
-/// The bits of a mode that the process takes from what it makes in an open folder of this name,
-/// which has to belong to its user. Both are told by an empty file, which is removed again.
+/// The bits of a mode that the process's mask removes from new files in an open directory of this
+/// name, which has to belong to the user of the process. An empty file shows both, and is removed
+/// again.
 fn masked_in(rt: &HostRuntime, name: &str, folder: &File) -> io::Result<u32> {
     let place = format!(in rt.alloc(); "{}/{PROBE}", name.trim_end_matches('/'))?;
     let probe = OpenOptions::new()

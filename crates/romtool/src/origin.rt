@@ -2,24 +2,24 @@
 use manifest::Manifest;
 use sentences::plan_line::line_of_source;
 
-/// A manifest, and the name of the file that it stands in.
+/// A manifest, and the name of its file.
 #[derive(Clone, Copy)]
 pub struct Origin<'a> {
     pub name: &'a str,
     pub manifest: &'a Manifest,
-    /// The names of the sources, if they are not those of the manifest.
+    /// The names of the sources, if they differ from those in the manifest.
     pub joined: Option<&'a [Vec<u8>]>,
-    /// Whether a source is refused whose own name is that of a symbolic link.
+    /// Whether a source is refused if its own name is that of a symbolic link.
     pub no_follow: bool,
 }
 
 impl<'a> Origin<'a> {
-    /// How many sources there are.
+    /// Returns the number of sources.
     pub fn count(&self) -> usize {
         self.manifest.sources().len()
     }
 
-    /// The name of the source of this number, from 0 on.
+    /// Returns the name of the source of this number, from 0 on.
     pub fn source(&self, number: usize) -> &'a [u8] {
         match self.joined {
             Some(joined) => match joined.get(number) {
@@ -33,7 +33,7 @@ impl<'a> Origin<'a> {
         }
     }
 
-    /// The line that names it.
+    /// Returns the line that names it.
     pub fn line(&self, number: usize) -> u64 {
         line_of_source(self.manifest, number).unwrap_or(0)
     }

@@ -1,4 +1,4 @@
-//! Files of several directories, one laid over the other.
+//! Lays the files of several directories over one another.
 use build_commands::inventory::{FileKind, NamedFile};
 use std::alloc::{AllocError, AllocFailed, Global};
 
@@ -6,7 +6,7 @@ use std::alloc::{AllocError, AllocFailed, Global};
 #[derive(Drop)]
 pub enum OverlayError {
     OutOfMemory,
-    /// This one is a directory and what it would replace is none, or the other way round.
+    /// This file or the one that it would replace is a directory, and the other one is not.
     Kinds(NamedFile),
 }
 
@@ -27,8 +27,8 @@ pub fn is_directory(file: &NamedFile) -> bool {
     matches!(file.kind, FileKind::Directory)
 }
 
-/// Puts files into the order of the bytes of their paths, so that a directory comes before what it
-/// holds. Those of one path stay in their order.
+/// Sorts files by the bytes of their paths, so that a directory comes before the files in it. Files
+/// of one path stay in their order.
 pub fn sort(found: &mut Vec<NamedFile>) -> Result<(), AllocError> {
     found.sort_by(|a, b| a.path().cmp(b.path()))
 }
@@ -37,7 +37,7 @@ pub fn sort(found: &mut Vec<NamedFile>) -> Result<(), AllocError> {
 ///
 /// # Errors
 ///
-/// `Kinds` if a directory would replace what is none, or the other way round.
+/// `Kinds` if a directory would replace a file that is none, or the reverse.
 pub fn laid_over(alloc: Global, found: Vec<NamedFile>) -> Result<Vec<NamedFile>, OverlayError> {
     let mut laid: Vec<NamedFile> = Vec::new(alloc);
     for file in found {

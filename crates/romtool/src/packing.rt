@@ -1,4 +1,4 @@
-//! Directories as they are, as a manifest.
+//! Prints the manifest of directories as they are.
 use crate::aligning::align_all;
 use crate::devices;
 use crate::inventory::all_below;
@@ -21,7 +21,7 @@ use std::os::unix::fs::MetadataExt;
 /// The most bytes of a volume's name.
 const MOST_VOLUME: usize = 255;
 
-/// Lays files over one another, or says which one cannot replace another.
+/// Lays files over one another. Reports a file that cannot replace another one.
 fn laid(teller: &Teller<'_>, mut found: Vec<NamedFile>) -> Result<Vec<NamedFile>, Status> {
     if sort(&mut found).is_err() {
         return Err(teller.say(Failure::Memory));
@@ -35,7 +35,7 @@ fn laid(teller: &Teller<'_>, mut found: Vec<NamedFile>) -> Result<Vec<NamedFile>
     }
 }
 
-/// Gives all files an owner, if one is asked for.
+/// Sets the owner of all files, if one is given.
 fn own_all(found: &mut [NamedFile], owner: Option<Owner>) {
     if let Some(owner) = owner {
         for file in found {
@@ -62,7 +62,7 @@ fn with_devices(
     laid(teller, found)
 }
 
-/// All that the manifest is to have, in the order of its lines.
+/// All files of the manifest, in the order of its lines.
 fn all_found(teller: &Teller<'_>, scan: &ScanAll<'_>) -> Result<Vec<NamedFile>, Status> {
     let patterns = Patterns::of(teller, scan)?;
     let mut found = laid(teller, all_below(teller, scan, &patterns)?)?;
@@ -71,7 +71,7 @@ fn all_found(teller: &Teller<'_>, scan: &ScanAll<'_>) -> Result<Vec<NamedFile>, 
     with_devices(teller, scan.devices, found)
 }
 
-/// Opens what the manifest is written to, which is none of the files that it names.
+/// Opens the target for the manifest, which must not be a file that the manifest names.
 fn target_of(teller: &Teller<'_>, name: &str, found: &[NamedFile]) -> Result<Target, Status> {
     if let Ok(there) = fs::metadata(teller.rt, name) {
         let mine = (there.dev(), there.ino());
@@ -86,7 +86,7 @@ fn target_of(teller: &Teller<'_>, name: &str, found: &[NamedFile]) -> Result<Tar
     }
 }
 
-/// Writes a manifest to what is open for it, and says if that does not take all of it.
+/// Writes a manifest to its target. Reports a failure.
 fn write_to(
     teller: &Teller<'_>,
     target: &Target,
@@ -104,7 +104,7 @@ fn write_to(
     })
 }
 
-/// Writes a manifest into a file, which has it whole or stays as it was.
+/// Writes a manifest into a file, which then has all of it, or stays as it was.
 fn write_file(
     teller: &Teller<'_>,
     name: &str,
@@ -124,7 +124,7 @@ fn write_file(
     }
 }
 
-/// Writes a manifest on standard output.
+/// Prints a manifest on standard output.
 fn print(teller: &Teller<'_>, volume: &[u8], lines: &[Entry<'_>]) -> Result<(), Status> {
     let Ok(out) = BufWriter::new(teller.rt.alloc(), Again::new(io::writer(teller.rt))) else {
         return Err(teller.say(Failure::Memory));
@@ -135,7 +135,7 @@ fn print(teller: &Teller<'_>, volume: &[u8], lines: &[Entry<'_>]) -> Result<(), 
     }
 }
 
-/// Scans, and writes the manifest. Nothing is written if something cannot be looked at.
+/// Scans, and writes the manifest. Nothing is written if a file cannot be read.
 fn pack(teller: &Teller<'_>, scan: &ScanAll<'_>) -> Result<(), Status> {
     let volume = scan.volume.unwrap_or("").as_bytes();
     if volume.len() > MOST_VOLUME {
@@ -161,8 +161,7 @@ fn pack(teller: &Teller<'_>, scan: &ScanAll<'_>) -> Result<(), Status> {
     Ok(())
 }
 
-/// Prints a manifest of directories as they are, or writes it into a file, and says how the command
-/// ended.
+/// Prints a manifest of directories as they are, or writes it into a file. Returns the status.
 pub fn run(teller: &Teller<'_>, scan: &ScanAll<'_>) -> Status {
     match pack(teller, scan) {
         Ok(()) => Status::Done,

@@ -1,5 +1,5 @@
-//! Parts of builds. A build locks its part, so that a part without a lock is one that an
-//! interrupted build left.
+//! Parts of builds. A build locks its part, so a part without a lock was left by an interrupted
+//! build.
 use crate::stamp::Identity;
 use std::fs::{File, OpenFile, TryLockError};
 use std::os::unix::fs::MetadataExt;
@@ -8,11 +8,11 @@ use std::{fs, io};
 /// Whether a part is this build's.
 #[derive(Drop)]
 pub enum Lock {
-    /// It is, and this holds its lock.
+    /// It is, and this descriptor has its lock.
     Held(File),
-    /// It is, and its file system has no locks, or refuses this one.
+    /// It is, but its file system has no locks, or refuses this one.
     Refused,
-    /// Another build took it for one that was left.
+    /// Another build has removed it as one that was left.
     Lost,
 }
 
@@ -58,8 +58,8 @@ pub fn lock_part(rt: &HostRuntime, name: &str, made: &File) -> Lock {
     }
 }
 
-/// Removes a part if no build holds its lock, and says whether it did. What is no regular file, or
-/// has further names, is none.
+/// Removes a part if no build has its lock, and returns whether it did. A file that is not regular,
+/// or that has further names, is no part.
 pub fn remove_left(rt: &HostRuntime, name: &str) -> bool {
     let Ok(found) = fs::symlink_metadata(rt, name) else {
         return false;

@@ -1,4 +1,4 @@
-//! The patterns of the words: what is left out of a scan, and alignments.
+//! The patterns of a scan: for excluded paths and for alignments.
 use crate::teller::Teller;
 use command_line::ScanAll;
 use path_patterns::{PatternError, Piece, matches, pieces_of};
@@ -29,13 +29,13 @@ fn characters(alloc: Global, text: &str) -> Result<Vec<char>, AllocError> {
     Ok(characters)
 }
 
-/// The pieces of a pattern, without the slashes at its ends, which no path has.
+/// The pieces of a pattern. Slashes at its ends are removed, since no path has them.
 fn read(alloc: Global, pattern: &str) -> Result<Vec<Piece>, PatternError> {
     let text = characters(alloc, pattern.trim_matches('/'))?;
     pieces_of(alloc, &text)
 }
 
-/// The pieces of a pattern, or it is said why it is none.
+/// The pieces of a pattern. Reports why a text is not a pattern.
 fn pieces(teller: &Teller<'_>, pattern: &str) -> Result<Vec<Piece>, Status> {
     let why = match read(teller.rt.alloc(), pattern) {
         Ok(pieces) => return Ok(pieces),
@@ -48,7 +48,7 @@ fn pieces(teller: &Teller<'_>, pattern: &str) -> Result<Vec<Piece>, Status> {
     Err(status)
 }
 
-/// The patterns of what is left out.
+/// The patterns of excluded paths.
 fn excludes_of(teller: &Teller<'_>, scan: &ScanAll<'_>) -> Result<Vec<Vec<Piece>>, Status> {
     let mut excludes = Vec::new(teller.rt.alloc());
     for pattern in &scan.excludes {
@@ -60,7 +60,7 @@ fn excludes_of(teller: &Teller<'_>, scan: &ScanAll<'_>) -> Result<Vec<Vec<Piece>
 }
 
 impl Patterns {
-    /// Those of a scan, or it is said why one of them is none.
+    /// Returns the patterns of a scan. Reports why a text is not a pattern.
     pub fn of(teller: &Teller<'_>, scan: &ScanAll<'_>) -> Result<Patterns, Status> {
         let excludes = excludes_of(teller, scan)?;
         let mut aligns = Vec::new(teller.rt.alloc());
@@ -73,7 +73,7 @@ impl Patterns {
         Ok(Patterns { excludes, aligns })
     }
 
-    /// Whether what has this path below a scanned directory is left out.
+    /// Returns whether a path below a scanned directory is excluded.
     pub fn exclude(&self, alloc: Global, path: &str) -> Result<bool, AllocError> {
         if self.excludes.is_empty() {
             return Ok(false);
@@ -87,7 +87,7 @@ impl Patterns {
         Ok(false)
     }
 
-    /// The alignment that the last pattern has which matches this path, if one does.
+    /// Returns the alignment of the last pattern that matches this path, if one does.
     pub fn align(&self, alloc: Global, path: &str) -> Result<Option<u32>, AllocError> {
         if self.aligns.is_empty() {
             return Ok(None);

@@ -1,11 +1,11 @@
-//! Names of files: what links lead to, and the folders that names stand in.
+//! Names of files: where links lead, and the directories that names are in.
 use sentences::reasons::TOO_MANY_LINKS;
 use std::{fs, io};
 
-/// How many links are followed, as many as Linux follows.
+/// The most links that are followed, as in Linux.
 const MOST_LINKS: u32 = 40;
 
-/// The folder that a name stands in.
+/// Returns the directory that a name is in.
 pub fn folder_of(name: &str) -> &str {
     match name.rsplit_once('/') {
         Some(("", _)) => "/",
@@ -14,7 +14,7 @@ pub fn folder_of(name: &str) -> &str {
     }
 }
 
-/// The last name of a path, which a file has in its folder.
+/// Returns the last name of a path, which the file has in its directory.
 pub fn name_in_folder(name: &str) -> &str {
     match name.rsplit_once('/') {
         Some((_, last)) => last,
@@ -22,7 +22,7 @@ pub fn name_in_folder(name: &str) -> &str {
     }
 }
 
-/// The name that a link's text is, where the link has this name.
+/// The name to which the text of a link leads, if the link has this name.
 fn led_to(rt: &HostRuntime, link: &str, text: &str) -> io::Result<String> {
     match link.rsplit_once('/') {
         Some((folder, _)) if !text.starts_with('/') => {
@@ -32,12 +32,12 @@ fn led_to(rt: &HostRuntime, link: &str, text: &str) -> io::Result<String> {
     }
 }
 
-/// The name of a file itself, where this one is that of a link to it. It begins as this one does,
-/// and is not made absolute, since a whole path may be too long, or no text.
+/// Returns the name of a file, after all links that lead to it from this name. It begins as this
+/// name does. It is not made absolute, since an absolute path may be too long, or no UTF-8.
 ///
 /// # Errors
 ///
-/// That of the system; `FilesystemLoop` where too many links follow one another.
+/// The operating system's error; `FilesystemLoop` if too many links follow one another.
 pub fn behind_links(rt: &HostRuntime, name: &str) -> io::Result<String> {
     let mut whole = String::from_str(rt.alloc(), name)?;
     for _ in 0..MOST_LINKS {

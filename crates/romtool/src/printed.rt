@@ -5,7 +5,7 @@ ghost use Rattle.romtool.specs.Printed.{asked_by as by_request, in_file as by_fi
 use command_line::Request;
 use rom_commands::Asked;
 
-/// What a request asks of an image, whose file is not read yet: the report if nothing else.
+/// Returns what a request asks of an image before its file is read: the report, if nothing else.
 pub fn asked_by(request: &Request<'_>) -> Asked
     ensures { result ≡ by_request request.now }
 {
@@ -21,7 +21,7 @@ pub fn asked_by(request: &Request<'_>) -> Asked
     }
 }
 
-/// The same once the file is read, which has so many bytes.
+/// Returns the same after the file is read, which has this number of bytes.
 pub fn in_file(len: u64, asked: Asked) -> Asked
     ensures { result ≡ by_file len asked }
 {

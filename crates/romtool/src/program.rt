@@ -1,4 +1,4 @@
-//! The program: what each command does with its words and with the standard streams.
+//! The program: each command, with its words and the standard streams.
 ghost use Rattle.std.specs.Prelude.{◌≤◌, length};
 ghost use Rattle.rom_commands.specs.Asked.{Fits};
 
@@ -26,11 +26,11 @@ use rom_tree::Limits;
 use sentences::reasons::{MISREAD, NO_ADDRESS};
 use std::io::{self, BufWriter};
 
-/// What is said behind the list of the example image.
+/// The text after the list of the example image.
 const EXAMPLE: &str =
-    "no subcommand is given: this is the image that the program carries; romtool --help says more";
+    "no subcommand was given: this is the built-in example image; romtool --help says more";
 
-/// Does what the words of the command line ask for, and gives the status to end with.
+/// Does what the words of the command line ask for, and returns the exit status.
 pub fn run(rt: &HostRuntime) -> u8
     ensures { result ≤ 3 }
 {
@@ -49,8 +49,7 @@ pub fn run(rt: &HostRuntime) -> u8
     }
 }
 
-/// How a command ends that ended so, once its standard output has told whether it keeps what was
-/// written to it.
+/// The final status of a command, after a check that standard output keeps what was written to it.
 fn settled(teller: &Teller<'_>, status: Status) -> Status {
     match status {
         Status::Done | Status::Refused if settle_output(teller.rt).is_err() => {
@@ -102,7 +101,7 @@ fn example(teller: &Teller<'_>) -> Status {
     }
 }
 
-/// The image in a file, of which this is asked; or else it is said why there is none.
+/// The image in a file, of which this is asked. Reports why there is none.
 fn image_in(teller: &Teller<'_>, name: &str, asked: Asked) -> Result<Loaded, Status> {
     match reading::image(teller.rt, name) {
         Ok(Found::Image(image)) => Ok(image),
@@ -127,13 +126,14 @@ fn refuse_front(teller: &Teller<'_>, name: &str, front: &Front, asked: Asked) ->
     status
 }
 
-/// The bytes of the image in a file, of which a report is asked for, if it has a fault.
+/// The bytes of the image in a file. If it has a fault, the fault's line is printed as for a
+/// report.
 fn bytes_of(teller: &Teller<'_>, name: &str) -> Result<Vec<u8>, Status> {
     Ok(image_in(teller, name, Asked::Report)?.bytes)
 }
 
-/// The bytes of the image in a file that is to be copied, so that standard error has the line of
-/// its fault.
+/// The bytes of the image in a file that is to be copied. If it has a fault, the fault's line goes
+/// to standard error.
 fn bytes_to_copy(teller: &Teller<'_>, name: &str) -> Result<Vec<u8>, Status> {
     match reading::image(teller.rt, name) {
         Ok(Found::Image(image)) => Ok(image.bytes),
@@ -142,7 +142,7 @@ fn bytes_to_copy(teller: &Teller<'_>, name: &str) -> Result<Vec<u8>, Status> {
     }
 }
 
-/// Says on standard error which fault a file has, by its bytes or its first ones.
+/// Reports on standard error which fault a file has, by all its bytes or by its first ones.
 fn complain(teller: &Teller<'_>, name: &str, bytes: &[u8], fault: Fault) -> Status {
     let rt = teller.rt;
     let mut err = Plain::new(Held::new(rt.alloc(), rt.stderr()));
@@ -152,7 +152,7 @@ fn complain(teller: &Teller<'_>, name: &str, bytes: &[u8], fault: Fault) -> Stat
     status
 }
 
-/// Says that an image has bytes without an address.
+/// Reports that some bytes of an image have no address.
 fn no_address(teller: &Teller<'_>, name: &str) -> Status {
     let status = teller.say(Failure::Usage);
     teller.explain(name.as_bytes(), &NO_ADDRESS);
@@ -167,8 +167,8 @@ fn file(teller: &Teller<'_>, name: &str, asked: Asked) -> Status {
     }
 }
 
-/// Prints what Linux misreads in the image in a file, and with `--advice` which files share their
-/// last pages.
+/// Prints what Linux misreads in the image in a file, and with `--advice` the files that share
+/// their last pages.
 fn misread(teller: &Teller<'_>, linux: Linux<'_>, asked: Asked) -> Status {
     match image_in(teller, linux.image, asked) {
         Ok(image) => match shown(teller, linux.image, &image.bytes, asked) {
@@ -180,7 +180,7 @@ fn misread(teller: &Teller<'_>, linux: Linux<'_>, asked: Asked) -> Status {
     }
 }
 
-/// Prints what is asked of an image, where its bytes have addresses.
+/// Prints what is asked of an image, if all its bytes have addresses.
 fn shown(teller: &Teller<'_>, name: &str, bytes: &[u8], asked: Asked) -> Status {
     if !has_addresses(asked, bytes.len()) {
         return no_address(teller, name);
@@ -246,16 +246,16 @@ fn serve(teller: &Teller<'_>, name: &str) -> Status {
     status
 }
 
-/// Why a file is not among several that are served.
+/// Why a file cannot be served together with others.
 #[derive(Drop)]
 enum Missing {
     /// It cannot be read.
     Unread(io::Error),
-    /// Its first bytes refuse it.
+    /// It is refused by its first bytes.
     Refused(Front),
 }
 
-/// Reads a file behind those that are there.
+/// Reads a file after those that were read.
 fn read_one(rt: &HostRuntime, name: &str, files: &mut Vec<Vec<u8>>) -> Result<(), Missing> {
     let bytes = match reading::image(rt, name) {
         Ok(Found::Image(image)) => image.bytes,
@@ -268,8 +268,8 @@ fn read_one(rt: &HostRuntime, name: &str, files: &mut Vec<Vec<u8>>) -> Result<()
     }
 }
 
-/// Reads files behind those that are there, in their order, up to the first that is missing. Of
-/// that one it gives the name, and why.
+/// Reads files after those that were read, in their order, up to the first that fails. Of this
+/// file, returns the name and the reason.
 fn read_all<'a>(
     rt: &HostRuntime,
     names: &[&'a str],
@@ -283,7 +283,7 @@ fn read_all<'a>(
     Ok(())
 }
 
-/// Says that the file of this number is missing, and why.
+/// Reports that the file of this number cannot be served, and why.
 fn say_missing(teller: &Teller<'_>, name: &str, image: u32, missing: &Missing) -> Status {
     let front = match missing {
         Missing::Unread(e) => return teller.refused(name.as_bytes(), e),
@@ -300,8 +300,8 @@ fn say_missing(teller: &Teller<'_>, name: &str, image: u32, missing: &Missing) -
     status
 }
 
-/// Answers lines from the images in one to eight files of these names, or tells the first fault of
-/// these.
+/// Answers lines from the images in one to eight files of these names, or reports their first
+/// fault.
 fn serve_files<R: ByteRead>(
     teller: &Teller<'_>,
     names: &[&str],
@@ -322,8 +322,8 @@ fn serve_files<R: ByteRead>(
     status
 }
 
-/// Serves the images in one to eight files. Where one of these is missing, a fault of an image
-/// before it comes first: these are served no lines, to see whether they have one.
+/// Serves the images in one to eight files. If one cannot be read, a fault of an image before it is
+/// reported first. To find it, the images before it are served with no lines.
 fn space(teller: &Teller<'_>, names: &[&str]) -> Status {
     let rt = teller.rt;
     let mut files = Vec::new(rt.alloc());
@@ -351,7 +351,7 @@ fn space(teller: &Teller<'_>, names: &[&str]) -> Status {
     }
 }
 
-/// Says in words how many bytes an image has too many.
+/// Explains by how many bytes an image is too large.
 fn explain_size(teller: &Teller<'_>, name: &[u8], bytes: &[u8], limit: u64) {
     let alloc = teller.rt.alloc();
     let Ok(image) = check(alloc, bytes, Limits::usual()) else {
@@ -364,7 +364,7 @@ fn explain_size(teller: &Teller<'_>, name: &[u8], bytes: &[u8], limit: u64) {
     }
 }
 
-/// Says in words why a sound image was refused: Linux misreads it, or it does not fit.
+/// Explains why a valid image was refused: Linux misreads it, or it does not fit.
 fn explain_warning(teller: &Teller<'_>, name: &[u8], bytes: &[u8], asked: Asked) {
     match asked {
         Asked::Misreads => teller.explain(name, &MISREAD),
@@ -373,7 +373,7 @@ fn explain_warning(teller: &Teller<'_>, name: &[u8], bytes: &[u8], asked: Asked)
     }
 }
 
-/// Prints what is shown of an image on the standard streams. The image has this name.
+/// Prints on the standard streams what is shown of an image. The image has this name.
 fn print_out(teller: &Teller<'_>, name: &[u8], bytes: &[u8], asked: Asked) -> Status
     requires { Fits asked (length bytes.now) }
 {

@@ -1,11 +1,11 @@
-//! How far a long build is, for someone who waits.
+//! The progress of a long build.
 use std::fmt::Write;
 use std::io::IsTerminal;
 
-/// How many bytes to be read make a build long.
+/// The number of bytes to read from which on a build is long.
 const LONG: u64 = 64 << 20;
 
-/// The part of a long build that is done, on standard error where that is a terminal.
+/// Shows the done part of a long build on standard error, if this is a terminal.
 #[derive(Drop)]
 pub struct Progress<'a> {
     rt: &'a HostRuntime,
@@ -16,7 +16,8 @@ pub struct Progress<'a> {
 }
 
 impl<'a> Progress<'a> {
-    /// Of a build that reads so many bytes in all, before anything is read.
+    /// Returns the progress of a build that reads this number of bytes in all, before the first
+    /// read.
     pub fn new(rt: &'a HostRuntime, bytes: u64) -> Progress<'a> {
         Progress {
             rt,
@@ -27,7 +28,7 @@ impl<'a> Progress<'a> {
         }
     }
 
-    /// So many more bytes were read.
+    /// Adds a number of bytes that were read.
     pub fn add(&mut self, bytes: usize) {
         self.done = self.done.saturating_add(bytes as u64);
         let percent = self
@@ -41,7 +42,7 @@ impl<'a> Progress<'a> {
         }
     }
 
-    /// Nothing more is shown, and what was shown is wiped out.
+    /// Shows nothing more, and erases what was shown.
     pub fn end(&mut self) {
         if self.is_shown && self.percent > 0 {
             let _ = eprint!(self.rt; "\r      \r");

@@ -1,4 +1,4 @@
-//! Files that are read into memory: images as far as they say that they go, and manifests.
+//! Reads files into memory: images up to the size that they state, and manifests.
 use crate::stamp::Identity;
 use image_load::{Found, load};
 use program_streams::read_until;
@@ -6,38 +6,38 @@ use sentences::reasons::MANIFEST_TOO_LONG;
 use std::fs::{File, OpenFile};
 use std::{fs, io};
 
-/// The name by which the system tells of standard input.
+/// The name by which the system opens standard input.
 const INPUT: &str = "/proc/self/fd/0";
 
-/// The greatest number of bytes of a manifest.
+/// The most bytes of a manifest.
 const MOST_OF_MANIFEST: u64 = 1 << 30;
 
-/// The image in a file, with as many bytes as a check looks at: up to the size that it states. Of
-/// these it answers as of the whole file (`image_reach::laws::no_further`). A romfs image in a
-/// regular file is read no further than its first 512 bytes if these have a wrong sum, which is
-/// then its fault (`image_reach::laws::refused`).
+/// Returns the image in a file, with the bytes that a check reads: up to the size that it states. A
+/// check of these bytes returns the same as one of the whole file
+/// (`image_reach::laws::no_further`). If the first 512 bytes of a romfs image in a regular file
+/// have a wrong checksum, no more is read: this is its fault (`image_reach::laws::refused`).
 ///
 /// # Errors
 ///
-/// That of the system.
+/// The operating system's error.
 pub fn image(rt: &HostRuntime, name: &str) -> io::Result<Found> {
     let mut file = File::open(rt, name)?;
     let length = file.metadata()?.len();
     load(rt.alloc(), &mut file, length)
 }
 
-/// The text of a manifest, and which file it is in, if the system tells that.
+/// The text of a manifest, and the identity of its file, if the system reports it.
 #[derive(Drop)]
 pub struct Text {
     pub bytes: Vec<u8>,
     pub identity: Option<Identity>,
 }
 
-/// The text of the manifest on standard input.
+/// Returns the text of the manifest on standard input.
 ///
 /// # Errors
 ///
-/// That of the system; `FileTooLarge` where there are more than 2^30 bytes.
+/// The operating system's error; `FileTooLarge` if there are more than 2^30 bytes.
 pub fn manifest_of_input(rt: &HostRuntime) -> io::Result<Text> {
     let mut bytes = Vec::new(rt.alloc());
     read_until(&mut rt.reader(), &mut bytes, MOST_OF_MANIFEST + 1, 0)?;
@@ -51,11 +51,11 @@ pub fn manifest_of_input(rt: &HostRuntime) -> io::Result<Text> {
     Ok(Text { bytes, identity })
 }
 
-/// The text of the manifest in a file.
+/// Returns the text of the manifest in a file.
 ///
 /// # Errors
 ///
-/// That of the system; `FileTooLarge` where the file has more than 2^30 bytes.
+/// The operating system's error; `FileTooLarge` if the file has more than 2^30 bytes.
 pub fn manifest(rt: &HostRuntime, name: &str) -> io::Result<Text> {
     let mut file = File::open(rt, name)?;
     let found = file.metadata()?;

@@ -1,4 +1,4 @@
-//! Replies to lines, and in words why a line was refused.
+//! Writes replies to lines, and explains why a line was refused.
 ghost use Rattle.std.specs.Prelude.{◌≡◌, [], OnOk};
 ghost use Rattle.std.specs.Io.KnownBytes.{Keeps};
 ghost use Rattle.program_streams.specs.Streams.{held_back, held_contents};
@@ -8,11 +8,12 @@ use program_streams::Held;
 use sentences::{call_sentence, line_sentence};
 use std::io::{self, Write};
 
-/// How many bytes of a reply tell why it refuses: `0 err ENAMETOOLONG` has eighteen.
+/// The number of bytes of a reply that are kept. The longest name of an error, in `0 err
+/// ENAMETOOLONG`, needs eighteen.
 const FRONT: usize = 32;
 
-/// A writer of replies, each of which is flushed. Behind one that refuses a line it is said in
-/// words why, where that is asked for.
+/// A writer of replies, each of which is flushed. If words for people are asked for, a reply that
+/// refuses a line is followed by the reason.
 #[derive(Drop)]
 pub struct Replies<'a, X> {
     inner: Held<X>,
@@ -21,7 +22,8 @@ pub struct Replies<'a, X> {
     lines: u64,
 }
 
-/// Why a reply refuses its line, where it does: `err NAME` a call, and another one the line itself.
+/// Why a reply refuses its line, if it does. `err NAME` refuses a call; any other text refuses the
+/// line itself.
 fn refusal(reply: &[u8]) -> Option<&'static str> {
     let reply = match reply {
         [b'0'..=b'7', b' ', rest @ ..] => rest,
@@ -35,7 +37,7 @@ fn refusal(reply: &[u8]) -> Option<&'static str> {
 }
 
 impl<'a, X: Write> Replies<'a, X> {
-    /// In front of this writer.
+    /// Returns a writer in front of this one.
     pub fn new(teller: Teller<'a>, inner: X) -> Replies<'a, X> {
         Replies {
             inner: Held::new(teller.rt.alloc(), inner),
@@ -54,7 +56,7 @@ impl<'a, X: Write> Replies<'a, X> {
         let _ = self.front.extend_from_slice(part);
     }
 
-    /// Says in words why the reply refuses its line.
+    /// Explains why the reply refuses its line.
     fn explain(&mut self)
         ensures { self.new.inner ≡ self.old.inner }
     {

@@ -1,4 +1,4 @@
-//! A folder as a manifest.
+//! Prints the manifest of a directory.
 use crate::folders::{self, Folder, Reach, all_stayed, base, refused_entry};
 use crate::teller::Teller;
 use build_commands::{Found, put_scan};
@@ -11,7 +11,7 @@ use std::fs::{self, DirEntry, FileType};
 use std::io::{self, BufWriter};
 use std::os::unix::fs::FileTypeExt;
 
-/// How many files of each kind were passed over.
+/// The numbers of files of other kinds, which were ignored.
 #[derive(Clone, Copy, Default)]
 struct PassedOver {
     links: u64,
@@ -32,7 +32,7 @@ impl PassedOver {
         *count = count.saturating_add(1);
     }
 
-    /// Says what was passed over, where something was.
+    /// Explains what was ignored, if something was.
     fn explain(&self, teller: &Teller<'_>, folder: &str) {
         if teller.is_explained() {
             let _ = self.try_explain(teller, folder);
@@ -55,15 +55,15 @@ impl PassedOver {
         }
         if !kinds.is_empty() {
             let more = "modes and owners are not kept: scan --all keeps them";
-            let what = format!(in alloc; "passed over {kinds}; {more}")?;
+            let what = format!(in alloc; "skipped {kinds}; {more}")?;
             teller.explain(folder.as_bytes(), &what);
         }
         Ok(())
     }
 }
 
-/// What is found below a folder, and the folders of it: those that are still to be looked into, and
-/// those that were.
+/// The files that are found below a directory, and its directories: those that are still to be
+/// entered, and those that were.
 #[derive(Drop)]
 struct Below {
     found: Vec<Found>,
@@ -74,7 +74,7 @@ struct Below {
 }
 
 impl Below {
-    /// Adds an entry of this place, where it is a regular file or a folder.
+    /// Adds an entry of this name, if it is a regular file or a directory.
     fn add(&mut self, rt: &HostRuntime, entry: &DirEntry, place: String) -> io::Result<()> {
         let told = entry.metadata()?;
         let is_folder = told.is_dir();
@@ -89,7 +89,8 @@ impl Below {
         Ok(())
     }
 
-    /// Adds the regular files of a folder, and its folders. It is looked into by the name `named`.
+    /// Adds the regular files and the directories of a directory, which is opened by the name
+    /// `named`.
     fn look_into(
         &mut self,
         teller: &Teller<'_>,
@@ -110,7 +111,7 @@ impl Below {
         Ok(())
     }
 
-    /// Adds an entry of a folder, or says that it is the entry which cannot be looked at.
+    /// Adds an entry of a directory. Reports it if it cannot be read.
     fn add_named(
         &mut self,
         teller: &Teller<'_>,
@@ -127,7 +128,7 @@ impl Below {
     }
 }
 
-/// The folder that is scanned, as the first that is to be looked into.
+/// The directory that is scanned, as the first one to enter.
 fn top(rt: &HostRuntime, scan: Scan<'_>) -> io::Result<Below> {
     let told = folders::top(rt, scan.folder)?;
     let mut waiting = Vec::new(rt.alloc());
@@ -141,9 +142,9 @@ fn top(rt: &HostRuntime, scan: Scan<'_>) -> io::Result<Below> {
     })
 }
 
-/// All that is below a folder, a folder before what it holds, in the order of the bytes of paths.
-/// What cannot be looked at is named, and so is a folder that changed before all were looked into;
-/// what has no text as its name is the fault of its folder.
+/// All files below a directory, each directory before its entries, in the order of the bytes of
+/// paths. Reports a file that cannot be read, and a directory that changed during the scan. A name
+/// that is no UTF-8 is reported for its directory.
 fn all_below(teller: &Teller<'_>, scan: Scan<'_>) -> Result<Below, Status> {
     let folder = scan.folder;
     let mut below = match top(teller.rt, scan) {
@@ -166,8 +167,8 @@ fn all_below(teller: &Teller<'_>, scan: Scan<'_>) -> Result<Below, Status> {
     }
 }
 
-/// Prints a manifest of the regular files and the folders below a folder, and says how the command
-/// ended. Nothing is printed where one of the folders cannot be listed.
+/// Prints a manifest of the regular files and the directories below a directory, and returns the
+/// status. Nothing is printed if one of the directories cannot be listed.
 pub fn run(teller: &Teller<'_>, scan: Scan<'_>) -> Status {
     let folder = scan.folder;
     let below = match all_below(teller, scan) {

@@ -1,5 +1,5 @@
-//! Images that are read for a command whose standard output has no fault in it: the fault of an
-//! image is told on standard error.
+//! Reads images for commands that print no fault on standard output. A fault is reported on
+//! standard error.
 ghost use Rattle.std.specs.Prelude.{◌≤◌, IfOk};
 ghost use Rattle.rom_tree.specs.Tree.{levels};
 ghost use Rattle.image_check.specs.Any.{any_view};
@@ -15,7 +15,7 @@ use rom_faults::{CheckError, Fault};
 use rom_fields::Plain;
 use rom_tree::Limits;
 
-/// Says on standard error which fault a file has by its bytes.
+/// Reports on standard error which fault a file has, by its bytes.
 fn say_fault(teller: &Teller<'_>, name: &str, bytes: &[u8], fault: Fault) -> Status {
     let rt = teller.rt;
     let mut err = Plain::new(Held::new(rt.alloc(), rt.stderr()));
@@ -25,16 +25,16 @@ fn say_fault(teller: &Teller<'_>, name: &str, bytes: &[u8], fault: Fault) -> Sta
     status
 }
 
-/// The bytes of the image in a file, as far as a check looks.
+/// Returns the bytes of the image in a file that a check reads.
 ///
 /// # Errors
 ///
-/// The status if there is no image, once standard error says why.
+/// The status if there is no image, after the reason was reported on standard error.
 pub fn read(teller: &Teller<'_>, name: &str) -> Result<Vec<u8>, Status> {
     Ok(loaded(teller, name)?.bytes)
 }
 
-/// The same, with the length of the file.
+/// Returns the same, with the length of the file.
 ///
 /// # Errors
 ///
@@ -47,11 +47,11 @@ pub fn loaded(teller: &Teller<'_>, name: &str) -> Result<Loaded, Status> {
     }
 }
 
-/// The image that a file of this name has in these bytes.
+/// Returns the image in these bytes of the file of this name.
 ///
 /// # Errors
 ///
-/// The status if it has a fault or memory was refused, once standard error says so.
+/// The status if it has a fault or memory was refused, after that was reported on standard error.
 pub fn checked<'a>(teller: &Teller<'_>, name: &str, bytes: &'a [u8]) -> Result<AnyImage<'a>, Status>
     ensures shallow { IfOk result (λ v. levels (any_view v).tree ≤ 65) }
     ensures checked { IfOk result IsChecked }

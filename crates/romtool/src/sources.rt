@@ -1,4 +1,4 @@
-//! The sources of an image: their names, and the states that they have.
+//! The sources of an image: their names and states.
 ghost use Rattle.std.specs.Prelude.{◌≡◌, length, IfOk};
 
 use crate::disk::stamp_unlinked;
@@ -11,19 +11,19 @@ use sentences::reasons::NO_TEXT;
 use std::alloc::AllocError;
 use std::{io, str};
 
-/// How many sources are said in words to be missing, one by one.
+/// The most missing sources that are reported one by one.
 const MOST_SAID: u64 = 20;
 
 /// Why a source cannot be read.
 #[derive(Drop)]
 enum Missing {
-    /// Its name is no text, and a file has no other name here.
+    /// Its name is no UTF-8, so that it cannot be opened.
     NoText,
     /// The system refused it.
     Refused(io::Error),
 }
 
-/// The name of a source in a folder: as it is, if it begins with a slash.
+/// The name of a source in a directory. A name that begins with a slash stays.
 fn joined(rt: &HostRuntime, folder: &str, source: &[u8]) -> Result<Vec<u8>, AllocError> {
     let mut name = Vec::new(rt.alloc());
     if source.first() != Some(&b'/') {
@@ -36,7 +36,7 @@ fn joined(rt: &HostRuntime, folder: &str, source: &[u8]) -> Result<Vec<u8>, Allo
     Ok(name)
 }
 
-/// The names of the sources in a folder.
+/// Returns the names of the sources in a directory.
 pub fn joined_names(
     teller: &Teller<'_>,
     folder: &str,
@@ -76,7 +76,7 @@ fn why_missing(teller: &Teller<'_>, origin: Origin<'_>, number: usize) -> Option
     }
 }
 
-/// Says in words why a source cannot be read.
+/// Explains why a source cannot be read.
 fn explain(teller: &Teller<'_>, origin: Origin<'_>, number: usize, why: &Missing) {
     match why {
         Missing::NoText => teller.explain_source(origin, number, &NO_TEXT),
@@ -84,7 +84,7 @@ fn explain(teller: &Teller<'_>, origin: Origin<'_>, number: usize, why: &Missing
     }
 }
 
-/// Says that a source cannot be read, and why.
+/// Reports that a source cannot be read, and why.
 fn refused(teller: &Teller<'_>, origin: Origin<'_>, number: usize, why: &Missing) -> Status {
     match why {
         Missing::NoText => {
@@ -96,8 +96,8 @@ fn refused(teller: &Teller<'_>, origin: Origin<'_>, number: usize, why: &Missing
     }
 }
 
-/// Says in words which sources behind this one cannot be read either: some of them one by one, and
-/// then how many more.
+/// Explains which later sources cannot be read either: some of them one by one, and then how many
+/// more.
 fn explain_others(teller: &Teller<'_>, origin: Origin<'_>, first: usize) {
     if !teller.is_explained() {
         return;
@@ -120,15 +120,16 @@ fn explain_others(teller: &Teller<'_>, origin: Origin<'_>, first: usize) {
     }
 }
 
-/// Says what is wrong with the first source that cannot be read, by the protocol's line, and in
-/// words with all of them. Those before this one can be.
+/// Reports the first source that cannot be read by a line of the protocol, and explains all of them
+/// in words. Those before this one can be read.
 fn say_missing(teller: &Teller<'_>, origin: Origin<'_>, number: usize, why: &Missing) -> Status {
     let status = refused(teller, origin, number, why);
     explain_others(teller, origin, number);
     status
 }
 
-/// Says it of the sources before this one, or of this one, whose name is no text.
+/// Reports the source of this number, whose name is no UTF-8, or an earlier one that cannot be
+/// read.
 fn say_no_text(teller: &Teller<'_>, origin: Origin<'_>, number: usize) -> Status {
     for before in 0..number {
         if let Some(why) = why_missing(teller, origin, before) {
@@ -138,7 +139,7 @@ fn say_no_text(teller: &Teller<'_>, origin: Origin<'_>, number: usize) -> Status
     say_missing(teller, origin, number, &Missing::NoText)
 }
 
-/// The names of the sources as texts, since a file has no other name here.
+/// Returns the names of the sources as texts, since only a UTF-8 name can be opened.
 pub fn names_of<'m>(
     teller: &Teller<'_>,
     origin: Origin<'_>,
@@ -158,7 +159,7 @@ pub fn names_of<'m>(
     Ok(names)
 }
 
-/// The same of names that were put together.
+/// Returns the same for names that were joined with a directory.
 pub fn texts_of<'m>(
     teller: &Teller<'_>,
     origin: Origin<'_>,
@@ -178,7 +179,7 @@ pub fn texts_of<'m>(
     Ok(names)
 }
 
-/// The state of each source.
+/// Returns the state of each source.
 pub fn stamps_of(
     teller: &Teller<'_>,
     origin: Origin<'_>,
@@ -201,7 +202,7 @@ pub fn stamps_of(
     Ok(stamps)
 }
 
-/// How many bytes each source has.
+/// Returns the number of bytes of each source.
 pub fn sizes_of(teller: &Teller<'_>, stamps: &[Stamp]) -> Result<Vec<u64>, Status>
     ensures { IfOk result (λ sizes. length sizes.items ≡ length stamps.now) }
 {

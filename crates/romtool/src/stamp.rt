@@ -1,15 +1,14 @@
-//! What tells one state of a file from another.
+//! States of files. A changed file has another state.
 use sentences::reasons::NO_REGULAR_FILE;
 use std::fs::{self, File, Metadata, OpenFile};
 use std::os::unix::fs::MetadataExt;
 use std::time::{Clock, Duration};
 use std::{io, thread};
 
-/// How far a file system's clock may lag behind, in milliseconds: two of the longest ticks of
-/// Linux.
+/// The most milliseconds by which a file system's clock is late: two of the longest ticks of Linux.
 const LAG: u64 = 20;
 
-/// A file, whatever its names are.
+/// A file, independent of its names.
 #[derive(Clone, Copy, PartialEq, Eq)]
 pub struct Identity {
     device: u64,
@@ -17,7 +16,7 @@ pub struct Identity {
 }
 
 impl Identity {
-    /// Of the file that this was said of.
+    /// Returns the identity of the file with these attributes.
     pub fn of(found: &Metadata) -> Identity {
         Identity {
             device: found.dev(),
@@ -33,8 +32,8 @@ struct Time {
     nanoseconds: i64,
 }
 
-/// A state of a file: which file it is, how many bytes it has, and when its bytes and what is said
-/// of them were changed last.
+/// A state of a file: which file it is, the number of its bytes, and the times at which its bytes
+/// and its attributes were last changed.
 #[derive(Clone, Copy, PartialEq, Eq)]
 pub struct Stamp {
     identity: Identity,
@@ -44,7 +43,7 @@ pub struct Stamp {
 }
 
 impl Stamp {
-    /// Of the file that this was said of.
+    /// Returns the state of the file with these attributes.
     pub fn of(found: &Metadata) -> Stamp {
         Stamp {
             identity: Identity::of(found),
@@ -60,26 +59,25 @@ impl Stamp {
         }
     }
 
-    /// Which file it is.
+    /// Returns which file it is.
     pub fn identity(&self) -> Identity {
         self.identity
     }
 
-    /// How many bytes it has.
+    /// Returns the number of its bytes.
     pub fn len(&self) -> u64 {
         self.len
     }
 
-    /// When its last change was, as a time since 1970.
+    /// The time of its last change, since 1970.
     fn changed(&self) -> Option<Duration> {
         let seconds = u64::try_from(self.changed.seconds).ok()?;
         let nanoseconds = u64::try_from(self.changed.nanoseconds).unwrap_or(0);
         Some(Duration::from_secs(seconds).saturating_add(Duration::from_nanos(nanoseconds)))
     }
 
-    /// How long it is to rest from `now`, a time since 1970, on, until no later change has the time
-    /// of its last one: nothing where that one lies further off than a clock may lag, on either
-    /// side.
+    /// How long to wait from `now`, a time since 1970, until no later change can have the time of
+    /// the last one. None if `now` differs from that time by more than a clock can be late.
     fn rest(&self, now: Duration) -> Option<Duration> {
         let changed = self.changed()?;
         let lag = Duration::from_millis(LAG);
@@ -94,18 +92,18 @@ impl Stamp {
     }
 }
 
-/// The state of a regular file that can be read.
+/// Returns the state of a regular file that can be read.
 ///
 /// # Errors
 ///
-/// That of the system; `InvalidInput` for what is no regular file.
+/// The operating system's error; `InvalidInput` if the file is not regular.
 pub fn stamp_of(rt: &HostRuntime, name: &str) -> io::Result<Stamp> {
     Ok(open_stamped(rt, name)?.1)
 }
 
-/// A regular file that is open to be read, and its state.
+/// Opens a regular file for reading, and returns its state.
 fn open_stamped(rt: &HostRuntime, name: &str) -> io::Result<(File, Stamp)> {
-    // what is no file is not opened, since to open a pipe is to wait for its writer
+    // another kind is not opened, since opening a FIFO waits for its writer
     if !fs::metadata(rt, name)?.is_file() {
         return Err(io::Error::new(io::ErrorKind::InvalidInput, NO_REGULAR_FILE));
     }
@@ -117,11 +115,11 @@ fn open_stamped(rt: &HostRuntime, name: &str) -> io::Result<(File, Stamp)> {
     Ok((file, Stamp::of(&found)))
 }
 
-/// A file that is open to be read, where it still has this state.
+/// Opens a file for reading, if it still has this state.
 ///
 /// # Errors
 ///
-/// That of the system.
+/// The operating system's error.
 pub fn open_unchanged(rt: &HostRuntime, name: &str, stamp: &Stamp) -> io::Result<Option<File>> {
     if has_changed(rt, name, stamp)? {
         return Ok(None);
@@ -131,17 +129,17 @@ pub fn open_unchanged(rt: &HostRuntime, name: &str, stamp: &Stamp) -> io::Result
     Ok(if now == *stamp { Some(file) } else { None })
 }
 
-/// Whether a file has another state by now.
+/// Returns whether a file has another state now.
 ///
 /// # Errors
 ///
-/// That of the system.
+/// The operating system's error.
 pub fn has_changed(rt: &HostRuntime, name: &str, stamp: &Stamp) -> io::Result<bool> {
     Ok(Stamp::of(&fs::metadata(rt, name)?) != *stamp)
 }
 
-/// Waits until each later change of these files is one that their states tell: where one was
-/// changed just now, until the file system's clock has gone on.
+/// Waits until each later change of these files also changes their states: if one was changed a
+/// moment ago, until the file system's clock has advanced.
 pub fn let_rest(rt: &HostRuntime, stamps: &[Stamp]) {
     let Ok(now) = rt.since_1970() else {
         return;

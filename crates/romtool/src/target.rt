@@ -1,4 +1,4 @@
-//! Where an image is written: under its name only once it is whole.
+//! The target of an image. It gets its name only after all of it is written.
 use crate::closing::close;
 use crate::parts::{Lock, lock_part, remove_left};
 use crate::place::{behind_links, folder_of, name_in_folder};
@@ -10,25 +10,25 @@ use std::fs::{File, Metadata, OpenFile, OpenOptions};
 use std::os::unix::fs::{MetadataExt, OpenOptionsExt, PermissionsExt, fchown};
 use std::{fs, io};
 
-/// How many names are tried for a file beside another one.
+/// The number of names that are tried for a file beside another one.
 const TRIES: u32 = 100;
 
 /// The permissions of a file that nobody else is to read while it is written.
 const PRIVATE: u32 = 0o600;
 
-/// The permissions of a new file, before the process's mask is taken off.
+/// The permissions of a new file, before the process's mask is applied.
 const USUAL: u32 = 0o666;
 
 /// The permissions that lend no rights of the owner or the group.
 const LENDING_NOTHING: u32 = 0o777;
 
-/// A file that takes another name once it is whole, and the folder of both, where it can be opened.
+/// A file that gets another name when it is whole, and their directory, if it can be opened.
 #[derive(Drop)]
 struct Beside {
     name: String,
     whole: String,
     folder: Option<File>,
-    // the lock that says that a build is at the part, where its file system has locks
+    // the lock that shows that a build uses the part, if its file system has locks
     lock: Option<File>,
     // what was found of other builds
     others: Others,
@@ -37,29 +37,30 @@ struct Beside {
 /// Parts of other builds of the same name.
 #[derive(Clone, Copy, Default)]
 pub struct Others {
-    /// How many were left by interrupted builds, and were removed.
+    /// The number of parts that interrupted builds left and that were removed.
     pub removed: u32,
-    /// How many stay, since builds are at them or cannot be asked.
+    /// The number of parts that stay, since builds use them or it cannot be found out.
     pub kept: u32,
 }
 
-/// A writer of an image, which holds back what is short and remembers why the system took no more.
+/// A writer of an image, which holds back short pieces and remembers why the system refused a
+/// write.
 pub type Writer<'a> = Plain<Remembering<Held<&'a File>>>;
 
-/// What an image is written to: a new file beside the one of its name, or what has its name, where
-/// that is no regular file.
+/// The target of an image: a new file beside the one of its name; or the file with its name, if
+/// that is not regular.
 #[derive(Drop)]
 pub struct Target {
     file: File,
     beside: Option<Beside>,
 }
 
-/// Why what was written did not get its name.
+/// The reason why a target did not get its name.
 #[derive(Drop)]
 pub enum KeepError {
     /// The system refused something.
     Refused(io::Error),
-    /// Another file has the name by now under which it was written.
+    /// Another file has the name of the part now.
     Changed,
 }
 
@@ -67,7 +68,7 @@ fn to_write(rt: &HostRuntime, name: &str) -> io::Result<File> {
     OpenOptions::new().write(true).open(rt, name)
 }
 
-/// The folder of a file, where this process may list it.
+/// The directory of a file, if this process may list it.
 fn opened_folder(rt: &HostRuntime, name: &str) -> io::Result<Option<File>> {
     match File::open(rt, folder_of(name)) {
         Ok(folder) => Ok(Some(folder)),
@@ -81,7 +82,7 @@ fn part_of(rt: &HostRuntime, whole: &str, number: u32) -> io::Result<String> {
     Ok(format!(in rt.alloc(); "{whole}.{number}.part")?)
 }
 
-/// Makes a new file of this name with these permissions, where nothing has it.
+/// Makes a new file of this name with these permissions, if the name is free.
 fn made(rt: &HostRuntime, name: &str, mode: u32) -> io::Result<Option<File>> {
     let mut options = OpenOptions::new();
     match options
@@ -96,7 +97,7 @@ fn made(rt: &HostRuntime, name: &str, mode: u32) -> io::Result<Option<File>> {
     }
 }
 
-/// Makes a part of this name, also where an interrupted build left one, and counts what was found.
+/// Makes a part of this name, also if an interrupted build left one, and counts what was found.
 fn made_part(
     rt: &HostRuntime,
     name: &str,
@@ -119,8 +120,8 @@ fn made_part(
     Ok(None)
 }
 
-/// Removes the parts behind the one of this number that interrupted builds left, up to the first
-/// number of which there is none, and counts them.
+/// Removes and counts the parts after the one of this number that interrupted builds left, up to
+/// the first number without a part.
 fn remove_following(
     rt: &HostRuntime,
     whole: &str,
@@ -141,7 +142,8 @@ fn remove_following(
     Ok(())
 }
 
-/// A new file beside the one of this name, with these permissions where the mask leaves them.
+/// A new file beside the one of this name, with these permissions except those that the mask
+/// removes.
 fn new_beside(rt: &HostRuntime, whole: &str, mode: u32) -> io::Result<Target> {
     let folder = opened_folder(rt, whole)?;
     let whole = String::from_str(rt.alloc(), whole)?;
@@ -163,15 +165,15 @@ fn new_beside(rt: &HostRuntime, whole: &str, mode: u32) -> io::Result<Target> {
     Err(io::Error::new(io::ErrorKind::AlreadyExists, HUNDRED_PARTS))
 }
 
-/// A mode of which a group and others have the rights alone that both of them have.
+/// A mode in which the group and others have only the permissions that both of them had.
 fn without_group(mode: u32) -> u32 {
     let both = (mode >> 3) & mode & 0o7;
     (mode & 0o700) | (both << 3) | both
 }
 
-/// Gives a new file the owner and the group of another one, as far as the system lets it, and gives
-/// the mode that it has then: without the owner, none of the bits that lend rights; without the
-/// group, no rights of the group that others have not.
+/// Gives a new file the owner and the group of another one, if the system allows it. Returns its
+/// mode: without the owner, it has no set-user, set-group or sticky bit; without the group, it is
+/// that of `without_group`.
 fn take_owner(file: &File, found: &Metadata) -> u32 {
     let (uid, gid) = (found.uid(), found.gid());
     if fchown(file, Some(uid), Some(gid)).is_ok() {
@@ -216,7 +218,7 @@ fn in_a_new_place(rt: &HostRuntime, name: &str, missing: io::Error) -> io::Resul
     }
 }
 
-/// Whether a refusal is that of a kind of file which is not handed to the disk.
+/// Whether an error means that this kind of file cannot be synchronized.
 fn is_of_its_kind(e: &io::Error) -> bool {
     let kind = e.kind();
     kind == io::ErrorKind::InvalidInput
@@ -224,7 +226,7 @@ fn is_of_its_kind(e: &io::Error) -> bool {
         || kind == io::ErrorKind::ReadOnlyFilesystem
 }
 
-/// Hands what a folder or a file that is not regular has to the disk, where that can be done.
+/// Synchronizes a directory, or a file that is not regular, to the disk, if that is possible.
 fn sync_any(file: &File) -> Result<(), KeepError> {
     match file.sync_all() {
         Err(e) if !is_of_its_kind(&e) => Err(KeepError::Refused(e)),
@@ -233,7 +235,7 @@ fn sync_any(file: &File) -> Result<(), KeepError> {
 }
 
 impl Beside {
-    /// Whether both are to get one name in one folder.
+    /// Whether both are to get the same name in the same directory.
     fn is_for_name_of(&self, rt: &HostRuntime, other: &Beside) -> bool {
         let folders = (
             fs::metadata(rt, folder_of(&self.whole)),
@@ -260,8 +262,8 @@ impl Beside {
         }
     }
 
-    /// Hands this file, which was written, to the disk, sees that the part's name still leads to
-    /// it, and gives its identity.
+    /// Synchronizes this written file to the disk, checks that the part's name still leads to it,
+    /// and returns its identity.
     fn settled(&self, rt: &HostRuntime, file: &File) -> Result<Identity, KeepError> {
         let mine = match file.sync_all().and_then(|()| file.metadata()) {
             Ok(found) => Identity::of(&found),
@@ -275,15 +277,15 @@ impl Beside {
         }
     }
 
-    /// Closes this file, which is whole, and gives it the name that it is to have. A system that
-    /// tells only at the closing what it lost is heard.
+    /// Closes this file, which is whole, and renames it to its final name. An error that the system
+    /// reports only at the closing is returned.
     fn rename(&self, rt: &HostRuntime, file: File) -> io::Result<()> {
         close(rt, file)?;
         fs::rename(rt, &self.name, &self.whole)
     }
 }
 
-/// Hands what is no regular file to the disk, where that can be done, and closes it.
+/// Synchronizes a file that is not regular to the disk, if that is possible, and closes it.
 fn keep_straight(rt: &HostRuntime, file: File) -> Result<(), KeepError> {
     sync_any(&file)?;
     match close(rt, file) {
@@ -293,12 +295,12 @@ fn keep_straight(rt: &HostRuntime, file: File) -> Result<(), KeepError> {
 }
 
 impl Target {
-    /// Opens what an image of this name is written to. A file that has the name stays as it is.
+    /// Opens the target of an image of this name. A file that has the name stays unchanged.
     ///
     /// # Errors
     ///
-    /// That of the system: of a folder, of a file that cannot be written, of a link that leads
-    /// nowhere, or where no file can be made beside it.
+    /// The operating system's error: of the directory, of a file that cannot be written, of a link
+    /// that leads nowhere, or if no file can be made beside it.
     pub fn open(rt: &HostRuntime, name: &str) -> io::Result<Target> {
         match fs::metadata(rt, name) {
             Ok(found) if found.is_file() => in_place_of(rt, name),
@@ -311,7 +313,7 @@ impl Target {
         }
     }
 
-    /// The name that it is to have, and what was found of other builds beside it.
+    /// Returns its final name, and what was found of other builds beside it.
     pub fn others(&self) -> Option<(&str, Others)> {
         match &self.beside {
             Some(beside) => Some((&beside.whole, beside.others)),
@@ -319,7 +321,8 @@ impl Target {
         }
     }
 
-    /// Whether both are written to one file, or are to get one name in one folder.
+    /// Returns whether both are written to one file, or are to get the same name in the same
+    /// directory.
     pub fn has_place_of(&self, rt: &HostRuntime, other: &Target) -> bool {
         match (&self.beside, &other.beside) {
             (Some(one), Some(another)) => one.is_for_name_of(rt, another),
@@ -331,19 +334,19 @@ impl Target {
         }
     }
 
-    /// A writer to it, through its one descriptor: another one would tell at its own closing what
-    /// the file system lost, and this one would tell it no more.
+    /// Returns a writer to it, through its one descriptor. If there were another one, the file
+    /// system would report a loss at its closing, and not at the closing of this one.
     pub fn writer(&self, rt: &HostRuntime) -> Writer<'_> {
         Plain::new(Remembering::new(Held::new(rt.alloc(), &self.file)))
     }
 
-    /// Gives what was written its name, once the system has taken all of it, and hands the folder
-    /// to the disk after it. The order is: the file is handed to the disk, closed and renamed.
+    /// Gives the target its name, after the system has accepted all of it. The order is: the file
+    /// is synchronized to the disk, closed and renamed, and its directory is synchronized.
     ///
     /// # Errors
     ///
-    /// `Changed`, or that of the system. The name then leads to what it led to before, but where
-    /// the disk did not take the folder: then it leads to what was written.
+    /// `Changed`, or the operating system's error. The name then leads to the old file; but if only
+    /// the directory could not be synchronized, it leads to the new one.
     pub fn keep(self, rt: &HostRuntime) -> Result<(), KeepError> {
         let Target { file, beside } = self;
         let Some(beside) = beside else {
@@ -367,7 +370,7 @@ impl Target {
         }
     }
 
-    /// Removes what was written, where it is not what had the name before.
+    /// Removes the part, unless the target was written directly.
     pub fn abandon(self, rt: &HostRuntime) {
         if let Some(beside) = &self.beside
             && let Ok(found) = self.file.metadata()

@@ -1,5 +1,5 @@
-//! What standard error says: a line of the protocol, and where it is asked for or a person reads
-//! it, a line in words behind it.
+//! Writes to standard error: a line of the protocol, and a line in words for people, if it is asked
+//! for or standard error is a terminal.
 ghost use Rattle.std.specs.Prelude.{◌≡◌};
 ghost use Rattle.rom_commands.specs.Endings.{failure_status};
 
@@ -21,10 +21,10 @@ use std::fmt::Display;
 use std::io::{self, IsTerminal, Write};
 use std_io::io::last_error;
 
-/// How many bytes the word has that asks to explain.
+/// The number of bytes of the word that asks to explain.
 const EXPLAIN_LEN: usize = 9;
 
-/// The variable of the environment that asks to explain, if it is `1`.
+/// The environment variable that asks to explain, if it is `1`.
 const VARIABLE: &str = "ROMTOOL_EXPLAIN";
 
 /// Linux's number of the error that a pipe has no reader any more.
@@ -57,13 +57,13 @@ fn is_set(rt: &HostRuntime) -> bool {
     }
 }
 
-/// Whether a line of standard error says that standard output failed since nobody reads it any
-/// more, as the number of the last error has it: then there is nothing to explain.
+/// Whether a line of standard error reports that standard output failed since nobody reads it any
+/// more, by the number of the last error. Then nothing is explained.
 fn is_left(said: &[u8]) -> bool {
     said == b"write fault\n".as_slice() && last_error().raw_os_error() == Some(NO_READER)
 }
 
-/// What is to be said in words of a line of standard error.
+/// The explanation of a line of standard error.
 fn ending_of(said: &[u8]) -> Option<&'static str> {
     let line = said.strip_suffix(b"\n")?;
     match line.strip_prefix(b"err ") {
@@ -72,7 +72,8 @@ fn ending_of(said: &[u8]) -> Option<&'static str> {
     }
 }
 
-/// What a line of standard error is about: memory, a standard stream, or else what is at this path.
+/// What a line of standard error is about: memory, a standard stream, or otherwise the file of this
+/// path.
 fn place_of<'a>(said: &[u8], path: &'a [u8]) -> &'a [u8] {
     if said == b"memory\n".as_slice() {
         b"memory"
@@ -85,8 +86,8 @@ fn place_of<'a>(said: &[u8], path: &'a [u8]) -> &'a [u8] {
     }
 }
 
-/// Says how a command ends, and explains it in words where standard error is a terminal or the
-/// words ask for it. What it fails to say in words changes nothing.
+/// Reports how a command ends, and explains it in words if standard error is a terminal or words
+/// are asked for. A failure to explain changes nothing.
 #[derive(Clone, Copy)]
 pub struct Teller<'a> {
     pub rt: &'a HostRuntime,
@@ -94,7 +95,7 @@ pub struct Teller<'a> {
 }
 
 impl<'a> Teller<'a> {
-    /// As the words, the environment and standard error have it.
+    /// Returns the teller for the words, the environment and standard error.
     pub fn new(rt: &'a HostRuntime) -> Teller<'a> {
         Teller {
             rt,
@@ -102,7 +103,7 @@ impl<'a> Teller<'a> {
         }
     }
 
-    /// Whether words are said besides.
+    /// Returns whether words for people are written as well.
     pub fn is_explained(&self) -> bool {
         self.is_explained
     }
@@ -114,7 +115,7 @@ impl<'a> Teller<'a> {
         let _ = err.flush();
     }
 
-    /// Says in words, where they are asked for, what is so of a file or of a place.
+    /// Explains something about a file or a stream, if words are asked for.
     pub fn explain<W: Display>(&self, place: &[u8], what: &W) {
         if self.is_explained {
             let _ = self.try_explain(place, what);
@@ -128,7 +129,7 @@ impl<'a> Teller<'a> {
         Ok(())
     }
 
-    /// Says why a command did not do what was asked for, by one write.
+    /// Reports why a command did not do what was asked for, by one write.
     pub fn say(&self, failure: Failure<'_>) -> Status
         ensures { result ≡ failure_status failure.entry }
     {
@@ -138,12 +139,12 @@ impl<'a> Teller<'a> {
         status
     }
 
-    /// Hands on what a command held back for standard error, and says it in words.
+    /// Writes what a command held back for standard error, and explains it.
     pub fn hand_on<X: Write + Drop>(&self, err: Plain<Held<X>>) {
         self.hand_on_about(err, b"stdout");
     }
 
-    /// The same of a command that is about the file of this path in an image.
+    /// Does the same for a command that is about the file of this path in an image.
     pub fn hand_on_about<X: Write + Drop>(&self, err: Plain<Held<X>>, path: &[u8]) {
         let mut held = err.into_inner();
         let (ending, place) = (ending_of(held.held()), place_of(held.held(), path));
@@ -156,7 +157,7 @@ impl<'a> Teller<'a> {
         }
     }
 
-    /// Says that a file could not be read, listed or written, and why.
+    /// Reports that a file could not be read, listed or written, and why.
     pub fn failed<W: Display>(&self, name: &[u8], why: &W) -> Status
         ensures { result ≡ Status.Failed }
     {
@@ -165,7 +166,7 @@ impl<'a> Teller<'a> {
         status
     }
 
-    /// Says that a file changed while it was read, and how that was seen.
+    /// Reports that a file changed while it was read, and how that was noticed.
     pub fn changed<W: Display>(&self, name: &[u8], why: &W) -> Status
         ensures { result ≡ Status.Failed }
     {
@@ -174,7 +175,7 @@ impl<'a> Teller<'a> {
         status
     }
 
-    /// Says why the system refused what was asked of a file: memory, or the file.
+    /// Reports why the system refused an operation on a file: memory, or the file.
     pub fn refused(&self, name: &[u8], e: &io::Error) -> Status
         ensures { result ≡ Status.Failed }
     {
@@ -184,7 +185,7 @@ impl<'a> Teller<'a> {
         self.failed_by(name, e)
     }
 
-    /// Says that a file could not be written, and the system's reason.
+    /// Reports that a file could not be written, and the operating system's reason.
     pub fn failed_by(&self, name: &[u8], e: &io::Error) -> Status
         ensures { result ≡ Status.Failed }
     {
@@ -197,7 +198,7 @@ impl<'a> Teller<'a> {
         status
     }
 
-    /// The same of a source, whose line of the manifest is told, too.
+    /// Does the same for a source, and reports its line of the manifest as well.
     pub fn refused_source(&self, origin: Origin<'_>, number: usize, e: &io::Error) -> Status
         ensures { result ≡ Status.Failed }
     {
@@ -210,7 +211,7 @@ impl<'a> Teller<'a> {
         status
     }
 
-    /// Says in words why the system refused a source.
+    /// Explains why the system refused a source.
     pub fn explain_error(&self, origin: Origin<'_>, number: usize, e: &io::Error) {
         if self.is_explained
             && let Ok(words) = self.words_of(e)
@@ -219,7 +220,7 @@ impl<'a> Teller<'a> {
         }
     }
 
-    /// Says in words what is so of a source, and where the manifest names it.
+    /// Explains something about a source, and where the manifest names it.
     pub fn explain_source<W: Display>(&self, origin: Origin<'_>, number: usize, what: &W) {
         if self.is_explained {
             let _ = self.try_explain_source(origin, number, what);
@@ -239,7 +240,7 @@ impl<'a> Teller<'a> {
         self.try_explain(origin.source(number), &what)
     }
 
-    /// The system's words for a refusal, without its number.
+    /// The operating system's words for an error, without its number.
     fn words_of(&self, e: &io::Error) -> Result<String, AllocError> {
         let alloc = self.rt.alloc();
         let words = format!(in alloc; "{e}")?;
@@ -249,13 +250,13 @@ impl<'a> Teller<'a> {
         }
     }
 
-    /// Says in words which fault the image in a file has, where it has one. Where words are wanted,
-    /// it gives whether the image has none.
+    /// Explains which fault the image in a file has, if it has one. Returns whether words are asked
+    /// for and the image has no fault.
     pub fn explain_image(&self, name: &[u8], bytes: &[u8]) -> bool {
         self.is_explained && !self.try_explain_image(name, bytes).unwrap_or(true)
     }
 
-    /// Says it where there is one, and whether there is one.
+    /// Explains the fault if there is one, and returns whether there is one.
     fn try_explain_image(&self, name: &[u8], bytes: &[u8]) -> Result<bool, AllocError> {
         match check(self.rt.alloc(), bytes, Limits::usual()) {
             Err(CheckError::Fault { number, at }) => {
@@ -266,7 +267,7 @@ impl<'a> Teller<'a> {
         }
     }
 
-    /// Says in words which fault a file has, by its bytes or its first ones.
+    /// Explains which fault a file has, by all its bytes or by its first ones.
     pub fn explain_fault(&self, name: &[u8], bytes: &[u8], fault: Fault) {
         if self.is_explained {
             let _ = self.try_explain_fault(name, bytes, fault);
@@ -283,7 +284,7 @@ impl<'a> Teller<'a> {
         self.try_explain(name, &what)
     }
 
-    /// Says in words which fault the first of some images has that has one.
+    /// Explains the fault of the first of some images that has one.
     pub fn explain_images(&self, names: &[&str], files: &[Vec<u8>]) {
         if !self.is_explained {
             return;
@@ -298,7 +299,7 @@ impl<'a> Teller<'a> {
         }
     }
 
-    /// Says that a word of the command line cannot be read.
+    /// Reports that a word of the command line cannot be read.
     pub fn refused_word(&self, wrong: NoWords) -> Status {
         match wrong {
             NoWords::OutOfMemory => self.say(Failure::Memory),
@@ -314,7 +315,7 @@ impl<'a> Teller<'a> {
         }
     }
 
-    /// Says that the words ask for nothing, and why, by clap's own text where it refused them.
+    /// Reports that the words ask for nothing, and why; if clap refused the words, in clap's text.
     pub fn refused_words(&self, error: WordsError<'_>) -> Status {
         if matches!(error, WordsError::OutOfMemory) {
             return self.say(Failure::Memory);

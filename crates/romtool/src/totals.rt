@@ -1,4 +1,4 @@
-//! How much the files of an image come to, said in words before it is printed.
+//! The size of all files of an image, explained before it is printed.
 ghost use Rattle.std.specs.Prelude.{◌≤◌};
 ghost use Rattle.rom_tree.specs.Tree.{levels};
 
@@ -9,7 +9,7 @@ use rom_fields::Plain;
 use rom_tree::{Kind, Limits, TreeImage, Walk};
 use std::io::{self, Write};
 
-/// How many times longer than an image its files may be without a word.
+/// How many times larger than an image its files may be without an explanation.
 const MANY_TIMES: u64 = 16;
 
 /// The most bytes of a file in one block of an image.
@@ -19,7 +19,7 @@ const BLOCK: u64 = 4096;
 /// 2^32, three spaces and a line feed.
 const LINE: u64 = 18 + 10 + 10 + 4;
 
-/// A writer that only counts the bytes.
+/// A writer that only counts bytes.
 #[derive(Drop)]
 struct Counting {
     count: u64,
@@ -36,21 +36,21 @@ impl Write for Counting {
     }
 }
 
-/// The length of the path of the name that a walk gave last, escaped as in a map.
+/// The length of the path of the name that a walk returned last, escaped as in a map.
 fn path_len(walk: &Walk<'_>) -> u64 {
     let mut out = Plain::new(Counting { count: 0 });
     walk.put_path(&mut out, &mut false);
     out.into_inner().count
 }
 
-/// What the names of regular files come to.
+/// The sums over the names of regular files.
 #[derive(Clone, Copy, Default)]
 struct Totals {
-    /// The bytes of the files, those of a further name once more.
+    /// The bytes of the files. They count once for each name.
     contents: u64,
-    /// How many lines the map has at most: one for each block.
+    /// The most lines of the map: one for each block.
     lines: u64,
-    /// How many bytes the map has at most.
+    /// The most bytes of the map.
     bytes: u64,
 }
 
@@ -65,7 +65,7 @@ impl Totals {
     }
 }
 
-/// What all names of regular files of an image come to.
+/// The sums over all names of regular files of an image.
 fn totals_of<'a, T: TreeImage<'a>>(image: &T) -> Totals
     requires depth { levels (T.image image.now).tree ≤ 65 }
 {
@@ -80,13 +80,13 @@ fn totals_of<'a, T: TreeImage<'a>>(image: &T) -> Totals
     totals
 }
 
-/// Whether this many bytes are to be told of an image of this length.
+/// Returns whether this number of bytes is many times the length of an image.
 pub fn is_many_times(bytes: u64, len: usize) -> bool {
     bytes / MANY_TIMES > len as u64
 }
 
-/// Says in words how long what is printed of an image gets, if its files are many times longer than
-/// the image, as those of cramfs that share blocks and names of one file of romfs can be.
+/// Explains how long the output for an image will be, if its files are many times larger than the
+/// image. This can be so if cramfs files share blocks, or a romfs file has many names.
 pub fn explain(teller: &Teller<'_>, name: &[u8], bytes: &[u8], asked: Asked) {
     let alloc = teller.rt.alloc();
     if !teller.is_explained() || !matches!(asked, Asked::Map(_) | Asked::Facts(_)) {

@@ -1,4 +1,4 @@
-//! What a format does not keep of the files that were found.
+//! The attributes of the scanned files that a format does not keep.
 use crate::teller::Teller;
 use build_commands::changes::{Changes, changes_of};
 use build_commands::inventory::NamedFile;
@@ -9,10 +9,10 @@ use rom_commands::{Failure, Status};
 use sentences::words::escaped;
 use std::alloc::{AllocError, Global};
 
-/// How many paths are named.
+/// The most paths that are named.
 const NAMED: u64 = 3;
 
-/// The first paths of some, and how many there are.
+/// The first of some paths, and the number of all.
 #[derive(Drop)]
 struct Paths {
     first: String,
@@ -27,7 +27,7 @@ impl Paths {
         }
     }
 
-    /// Counts a path, and names it if it is one of the first.
+    /// Counts a path. Keeps it if it is one of the first.
     fn add(&mut self, alloc: Global, path: &[u8]) -> Result<(), AllocError> {
         if self.count < NAMED {
             let comma = if self.count == 0 { "" } else { ", " };
@@ -49,7 +49,8 @@ impl Paths {
     }
 }
 
-/// How many owners, groups and modes are changed, where, and what becomes readable by all.
+/// The numbers of owners, groups and modes that are changed, their first paths, and the files that
+/// become readable by all.
 #[derive(Drop)]
 pub struct Unfit {
     owners: u64,
@@ -75,7 +76,7 @@ fn word_of(format: Format) -> &'static str {
 }
 
 impl Unfit {
-    /// Counts what is changed of the file of a path.
+    /// Counts the changes of the file of a path.
     fn add(&mut self, alloc: Global, path: &[u8], changes: Changes) -> Result<(), AllocError> {
         self.owners = self.owners.saturating_add(u64::from(changes.owner));
         self.groups = self.groups.saturating_add(u64::from(changes.group));
@@ -89,7 +90,7 @@ impl Unfit {
         Ok(())
     }
 
-    /// Of the lines of the files that were found, in the same order.
+    /// Returns what changes in the lines of the scanned files, which are in the same order.
     pub fn of(
         alloc: Global,
         lines: &[Entry<'_>],
@@ -108,12 +109,12 @@ impl Unfit {
         Ok(unfit)
     }
 
-    /// Whether nothing is changed.
+    /// Returns whether nothing is changed.
     pub fn is_none(&self) -> bool {
         self.changed.count == 0
     }
 
-    /// Says in words what is changed, if something is.
+    /// Explains what is changed, if something is.
     pub fn explain(&self, teller: &Teller<'_>, scan: &ScanAll<'_>) {
         if teller.is_explained() && !self.is_none() {
             let _ = self.try_explain(teller, scan);
@@ -129,7 +130,7 @@ impl Unfit {
         Ok(())
     }
 
-    /// Says in words how much is changed, or would be if that is refused.
+    /// Explains what is changed, or would be changed if that is refused.
     fn explain_changed(
         &self,
         teller: &Teller<'_>,
@@ -154,7 +155,7 @@ impl Unfit {
         Ok(())
     }
 
-    /// Says in words what becomes readable by all, if something does.
+    /// Explains which files become readable by all, if any do.
     fn explain_opened(
         &self,
         teller: &Teller<'_>,
@@ -173,7 +174,7 @@ impl Unfit {
         Ok(())
     }
 
-    /// Refuses what is changed by the line `unfit OWNERS GROUPS MODES` on standard error.
+    /// Reports a refusal by the line `unfit OWNERS GROUPS MODES` on standard error.
     pub fn refuse(&self, teller: &Teller<'_>, scan: &ScanAll<'_>) -> Status {
         let (owners, groups, modes) = (self.owners, self.groups, self.modes);
         let Ok(line) = format!(in teller.rt.alloc(); "unfit {owners} {groups} {modes}\n") else {

@@ -1,4 +1,4 @@
-//! An image beside the bytes of a dump.
+//! Compares an image with the bytes of a dump.
 ghost use Rattle.std.specs.Prelude.{◌≤◌};
 ghost use Rattle.rom_tree.specs.Tree.{levels};
 ghost use Rattle.image_check.specs.Any.{any_view};
@@ -17,7 +17,7 @@ use std::fs::{File, OpenFile};
 use std::io::{self, BufReader, BufWriter, Seek, SeekFrom};
 use std::str;
 
-/// Compares the image in a file with a dump, and prints what comes of it.
+/// Compares the image in a file with a dump, and prints the result.
 pub fn run(teller: &Teller<'_>, asked: Verify<'_>) -> Status {
     let bytes = match read(teller, asked.image) {
         Ok(bytes) => bytes,
@@ -32,7 +32,7 @@ pub fn run(teller: &Teller<'_>, asked: Verify<'_>) -> Status {
     }
 }
 
-/// The offset of the first byte of an image that a dump has not.
+/// The offset of the first byte of an image that a dump does not have.
 fn difference(rt: &HostRuntime, image: &[u8], asked: Verify<'_>) -> io::Result<Option<usize>> {
     let mut file = File::open(rt, asked.dump)?;
     let left = match file.seek(SeekFrom::Start(asked.offset)) {
@@ -44,7 +44,7 @@ fn difference(rt: &HostRuntime, image: &[u8], asked: Verify<'_>) -> io::Result<O
     compare(image, &mut dump)
 }
 
-/// Prints the line of a comparison, and says in words where the dump differs.
+/// Prints the result of a comparison, and explains where the dump differs.
 fn tell(
     teller: &Teller<'_>,
     image: &AnyImage<'_>,
@@ -71,7 +71,7 @@ fn tell(
     Status::Refused
 }
 
-/// Says in words where the dump differs.
+/// Explains where the dump differs.
 fn explain(
     teller: &Teller<'_>,
     image: &AnyImage<'_>,
@@ -96,7 +96,7 @@ fn explain(
         }
     };
     let words = format!(in alloc;
-        "byte {place} is another, or missing: it is byte {at} of the \
+        "byte {place} differs or is missing; it is byte {at} of the \
         image, in {what}"
     )?;
     teller.explain(asked.dump.as_bytes(), &words);

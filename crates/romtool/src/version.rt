@@ -1,4 +1,4 @@
-//! The program's version, for scripts.
+//! Prints the program's version, for scripts.
 use crate::teller::Teller;
 use command_line::VERSION;
 use program_streams::Held;

@@ -1,4 +1,4 @@
-//! What a build warns of, in words, and what it refuses in its place if it is strict.
+//! The warnings of a build in words, and its refusal if it is strict.
 use crate::foreseen::{Warning, Warnings};
 use crate::origin::Origin;
 use crate::teller::Teller;
@@ -6,7 +6,7 @@ use plan_types::{Body, Format, Plan};
 use sentences::words::shown;
 use std::alloc::AllocError;
 
-/// How many bytes a page of memory has.
+/// The number of bytes of a page of memory.
 const PAGE: u32 = 4096;
 
 /// Why Linux misreads what has this number, and what helps.
@@ -19,7 +19,7 @@ fn sentence(number: usize) -> &'static str {
               write file with the source in place of same",
         3 => "Linux lists only 127 bytes of a name that has 128; shorten it",
         4 => "Linux finds no name of more than 128 bytes in romfs; shorten it",
-        5 => "Linux finds no root behind a volume name of more than 143 bytes; shorten it",
+        5 => "Linux finds no root after a volume name of more than 143 bytes; shorten it",
         6 => "Linux keeps no major number above 4095 in romfs; use cramfs, or a lower number",
         9 => "Linux adds 0555 to the mode of the root in cramfs; give it these bits",
         10 => "Linux reads a further name's bytes from another offset if the file's own name has \
@@ -28,7 +28,7 @@ fn sentence(number: usize) -> &'static str {
     }
 }
 
-/// Says in words what is warned of by one number.
+/// Explains the warning of one number.
 fn explain_one(
     teller: &Teller<'_>,
     origin: Origin<'_>,
@@ -57,7 +57,7 @@ fn explain_one(
     Ok(())
 }
 
-/// Says in words what is warned of, behind a word.
+/// Explains the warnings, each after a word.
 pub fn explain(teller: &Teller<'_>, origin: Origin<'_>, warnings: &Warnings<'_>, word: &str) {
     if !teller.is_explained() {
         return;
@@ -69,8 +69,8 @@ pub fn explain(teller: &Teller<'_>, origin: Origin<'_>, warnings: &Warnings<'_>,
     }
 }
 
-/// How many contents of a planned image begin at a page, and end in one that holds something else
-/// behind them.
+/// The number of contents of a planned image that begin at a page and end in a page with other
+/// bytes after them.
 fn shared_pages(plan: &Plan) -> u64 {
     let mut count = 0u64;
     for i in 0..plan.sections() {
@@ -93,7 +93,7 @@ fn shared_pages(plan: &Plan) -> u64 {
     count
 }
 
-/// Says in words how many files of cramfs have a last page that Linux does not map.
+/// Explains for how many files of cramfs Linux does not map the last page.
 pub fn explain_pages(teller: &Teller<'_>, plan: &Plan, out: &str) {
     if !teller.is_explained() || matches!(plan.format(), Format::Romfs) {
         return;
@@ -108,7 +108,7 @@ pub fn explain_pages(teller: &Teller<'_>, plan: &Plan, out: &str) {
     }
 }
 
-/// Says in words how many bytes an image would have too many.
+/// Explains by how many bytes an image would be too large.
 pub fn explain_size(teller: &Teller<'_>, out: &str, len: u64, most: u64) {
     let more = len.saturating_sub(most);
     if let Ok(what) = format!(in teller.rt.alloc();

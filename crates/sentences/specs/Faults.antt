@@ -1,4 +1,4 @@
--- The faults of an image in words, by their numbers. (This project's own.)
+-- The faults of an image in words, by number. (This project's own.)
 use Rattle.std.specs.Prelude.{ℕ, List, ◌==◌, if◌then◌else◌, codes}
 use Rattle.rom_faults.specs.FaultNumbers.{TOO_MANY, SHORT, MAGIC, SIZE, SUM, FLAGS, CRC, SIGNATURE}
 use Rattle.rom_faults.specs.FaultNumbers.{ROOT, BOUNDS, HEADER_SUM, BAD_NAME, KIND, LINK_SIZE}
@@ -25,33 +25,33 @@ fault_sentence n =
     else (if n == SIGNATURE then
     codes "the text Compressed ROMFS is not there"
     else (if n == ROOT then
-    codes "the root is not where the format says, or is no directory"
+    codes "the root is not where the format says, or is not a directory"
     else (if n == BOUNDS then
-    codes "a record, or a part that it names, lies outside of the image"
+    codes "a record, or a part that it names, is outside the image"
     else (if n == HEADER_SUM then
     codes "the words of a file header and its name do not sum to 0"
     else (if n == BAD_NAME then
-    codes "a name is empty, does not end, or has a slash or a zero in its midst"
+    codes "a name is empty, has no end, or contains a slash or a zero byte"
     else (if n == KIND then
     codes "the upper four bits of a mode name no kind of file"
     else (if n == LINK_SIZE then
     codes "the text of a symbolic link is empty or longer than 4,095 bytes"
     else (if n == BLOCK_KIND then
-    codes "a block is not stored as it is, uncompressed behind a direct pointer"
+    codes "a block is compressed, or its block pointer is not direct; romtool reads neither"
     else (if n == LIST_END then
     codes "an entry, or its name, goes past the end of its list"
     else (if n == TWICE then
-    codes "two references lead to one record, or a loop does"
+    codes "two references lead to one record, or references form a loop"
     else (if n == TOO_DEEP then
     codes "more than 64 names lead to an entry"
     else (if n == OVERLAP then
     codes "two parts of the image share bytes"
     else (if n == DUPLICATE_NAME then
-    codes "a name stands twice in one directory"
+    codes "two entries of one directory have the same name"
     else (if n == DOT then
-    codes ". or .. stands where it may not, or leads to another directory"
+    codes ". or .. is where it may not be, or leads to another directory"
     else (if n == HARD_LINK then
     codes "a hard link leads to nothing, to a directory, or over more than 8 links"
     else (if n == UNSORTED then
-    codes "a name comes before the one in front of it, in a sorted list"
+    codes "a list that has to be sorted has a name that is less than the one before it"
     else codes "no rule has this number"))))))))))))))))))))))

@@ -1,4 +1,4 @@
--- The faults of a manifest in words, by their numbers. (This project's own.)
+-- The faults of a manifest in words, by number. (This project's own.)
 use Rattle.std.specs.Prelude.{ℕ, List, ◌==◌, if◌then◌else◌, codes}
 use Rattle.manifest.specs.FaultNumbers.{BAD_WORD, BAD_NUMBER, BAD_PATH, NO_PARENT, EXISTS}
 use Rattle.manifest.specs.FaultNumbers.{BAD_ALIGN, BAD_TARGET}
@@ -11,13 +11,13 @@ manifest_sentence n =
     else (if n == BAD_NUMBER then
     codes "a mode is not four octal digits, or a number not decimal below 2^32"
     else (if n == BAD_PATH then
-    codes "a path, a link's text or a volume's name is not lawful"
+    codes "a path, a link's text or a volume's name is not valid"
     else (if n == NO_PARENT then
-    codes "no earlier line makes the folder that the path stands in"
+    codes "no earlier line makes the directory that the path is in"
     else (if n == EXISTS then
     codes "an earlier line has the path, or names the volume"
     else (if n == BAD_ALIGN then
-    codes "the alignment is no power of two from 4 to 65536"
+    codes "the alignment is not a power of two from 4 to 65536"
     else (if n == BAD_TARGET then
-    codes "what hard or same names is no earlier file that it can lead to"
+    codes "hard or same names a path that is not an earlier file of the right kind"
     else codes "no rule has this number"))))))

@@ -1,4 +1,4 @@
--- Why a line is not answered, by what the reply says. (This project's own.)
+-- Why a line is refused, by the text of the reply. (This project's own.)
 use Rattle.std.specs.Prelude.{ℕ, List, Option, Some, None, if◌then◌else◌, codes}
 use Rattle.std.specs.Str.{bytes_eq}
 
@@ -8,7 +8,7 @@ call_sentence text =
     if bytes_eq text (codes "ENOENT") then
     Some (codes "no file has this path")
     else (if bytes_eq text (codes "ENOTDIR") then
-    Some (codes "a directory is wanted here, and there is none")
+    Some (codes "a directory is needed here, and this is another kind of file")
     else (if bytes_eq text (codes "ELOOP") then
     Some (codes "more than 40 symbolic links are on the way")
     else (if bytes_eq text (codes "ENAMETOOLONG") then
@@ -16,11 +16,11 @@ call_sentence text =
     else (if bytes_eq text (codes "EINVAL") then
     Some (codes "no slash in front, a file of another kind, or a range that is empty or past the end")
     else (if bytes_eq text (codes "EBADF") then
-    Some (codes "no open file has this number")
+    Some (codes "this descriptor is not open")
     else (if bytes_eq text (codes "EISDIR") then
     Some (codes "it is a directory, which has no bytes")
     else (if bytes_eq text (codes "ENXIO") then
-    Some (codes "only directories and regular files are opened")
+    Some (codes "only directories and regular files can be opened")
     else (if bytes_eq text (codes "EMFILE") then
     Some (codes "64 files are open, and no more can be")
     else (if bytes_eq text (codes "ERANGE") then
@@ -31,11 +31,11 @@ call_sentence text =
     Some (codes "the image or the directory is in use by a mount")
     else None)))))))))))
 
--- the sentence of a line that asks for nothing
+-- the sentence of a line that is not a request
 abbrev pub line_sentence : List ℕ → Option (List ℕ)
 line_sentence text =
     if bytes_eq text (codes "bad command") then
-    Some (codes "the first word is no command")
+    Some (codes "the first word is not a command")
     else (if bytes_eq text (codes "bad line") then
     Some (codes "a word is missing, empty or too many, or the line has over 8,191 bytes")
     else (if bytes_eq text (codes "bad number") then

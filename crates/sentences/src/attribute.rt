@@ -1,12 +1,12 @@
-//! Which attribute of a line a format cannot say.
+//! The attribute of a line that a format cannot hold.
 use manifest::{Line, Word};
 use plan_types::Format;
 use std::alloc::{AllocError, Global};
 
-/// The greatest number of an owner in cramfs, and of a device in romfs.
+/// The highest owner in cramfs, and the highest device number in romfs.
 const MOST_OF_TWO_BYTES: u32 = 65_535;
 
-/// The greatest number of a group and of a device in cramfs.
+/// The highest group and the highest device number in cramfs.
 const MOST_OF_A_BYTE: u32 = 255;
 
 /// The modes that romfs has for what a line makes.
@@ -19,18 +19,23 @@ fn romfs_modes(line: &Line) -> &'static str {
     }
 }
 
-/// The first attribute of a line that the format cannot say, its value, what is lawful, and how a
-/// folder is scanned so that it fits.
+/// Returns the first attribute of a line that the format cannot hold: its value, the valid values,
+/// and the option of `scan` with which the manifest of a directory fits.
 ///
 /// # Errors
 ///
-/// Memory was refused.
+/// `OutOfMemory`.
 pub fn seen(alloc: Global, format: Format, line: &Line) -> Result<String, AllocError> {
     let is_romfs = format == Format::Romfs;
     let (owners, groups, devices, fitted) = if is_romfs {
-        (0, 0, MOST_OF_TWO_BYTES, " (scan --all --for romfs fits it)")
+        (
+            0,
+            0,
+            MOST_OF_TWO_BYTES,
+            " (scan --all --for romfs makes it fit)",
+        )
     } else {
-        let fitted = " (scan --all --for cramfs fits it)";
+        let fitted = " (scan --all --for cramfs makes it fit)";
         (MOST_OF_TWO_BYTES, MOST_OF_A_BYTE, MOST_OF_A_BYTE, fitted)
     };
     for (name, value, most, fitted) in [

@@ -1,16 +1,16 @@
-//! Why a command ended early, in a sentence each.
+//! The reason why a command ended early, in one sentence each.
 ghost use Rattle.std.specs.Prelude.{◌≡◌, option_map};
 ghost use Rattle.sentences.specs.Endings.{ending_sentence};
 
-/// Why a command ended that said this on standard error.
+/// Returns the reason why a command ended, if standard error has this text.
 pub fn ending_sentence(text: &[u8]) -> Option<&'static str>
     ensures { option_map (λ s. s.now) result ≡ ending_sentence text.now }
 {
     if text == b"memory".as_slice() {
-        return Some("the system gave no more memory");
+        return Some("the system refused more memory");
     }
     if text == b"write fault".as_slice() {
-        return Some("standard output did not take everything");
+        return Some("not everything could be written to standard output");
     }
     if text == b"read fault".as_slice() {
         return Some("standard input could not be read");

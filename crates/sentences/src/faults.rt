@@ -1,4 +1,4 @@
-//! What the faults of an image are, in a sentence each.
+//! The faults of an image, in one sentence each.
 ghost use Rattle.std.specs.Prelude.{◌≡◌};
 ghost use Rattle.sentences.specs.Faults.{fault_sentence};
 
@@ -8,7 +8,7 @@ use rom_faults::fault::{
     TWICE, UNSORTED,
 };
 
-/// The fault of this number, as docs/FAULTS.md has it in words.
+/// Returns the sentence of the fault of this number. docs/FAULTS.md says more.
 pub fn fault_sentence(number: u32) -> &'static str
     ensures { result.now ≡ fault_sentence number }
 {
@@ -21,21 +21,22 @@ pub fn fault_sentence(number: u32) -> &'static str
         FLAGS => "a flag above 800 (hexadecimal) is set",
         CRC => "the stored CRC-32 is not that of the bytes",
         SIGNATURE => "the text Compressed ROMFS is not there",
-        ROOT => "the root is not where the format says, or is no directory",
-        BOUNDS => "a record, or a part that it names, lies outside of the image",
+        ROOT => "the root is not where the format says, or is not a directory",
+        BOUNDS => "a record, or a part that it names, is outside the image",
         HEADER_SUM => "the words of a file header and its name do not sum to 0",
-        BAD_NAME => "a name is empty, does not end, or has a slash or a zero in its midst",
+        BAD_NAME => "a name is empty, has no end, or contains a slash or a zero byte",
         KIND => "the upper four bits of a mode name no kind of file",
         LINK_SIZE => "the text of a symbolic link is empty or longer than 4,095 bytes",
-        BLOCK_KIND => "a block is not stored as it is, uncompressed behind a direct pointer",
+        BLOCK_KIND =>
+            "a block is compressed, or its block pointer is not direct; romtool reads neither",
         LIST_END => "an entry, or its name, goes past the end of its list",
-        TWICE => "two references lead to one record, or a loop does",
+        TWICE => "two references lead to one record, or references form a loop",
         TOO_DEEP => "more than 64 names lead to an entry",
         OVERLAP => "two parts of the image share bytes",
-        DUPLICATE_NAME => "a name stands twice in one directory",
-        DOT => ". or .. stands where it may not, or leads to another directory",
+        DUPLICATE_NAME => "two entries of one directory have the same name",
+        DOT => ". or .. is where it may not be, or leads to another directory",
         HARD_LINK => "a hard link leads to nothing, to a directory, or over more than 8 links",
-        UNSORTED => "a name comes before the one in front of it, in a sorted list",
+        UNSORTED => "a list that has to be sorted has a name that is less than the one before it",
         _ => "no rule has this number",
     }
 }

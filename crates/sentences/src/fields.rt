@@ -1,6 +1,6 @@
 //! The fields of a manifest's lines.
 
-/// A line of a text, by its number from 1 on, without the line feed at its end.
+/// Returns a line of a text, by its number from 1 on, without the line feed at its end.
 pub fn line_of(text: &[u8], line: u64) -> &[u8] {
     let Ok(number) = usize::try_from(line) else {
         return &[];
@@ -14,12 +14,12 @@ pub fn line_of(text: &[u8], line: u64) -> &[u8] {
     }
 }
 
-/// A field of a line, by its number from 0 on; empty where there is none.
+/// Returns a field of a line, by its number from 0 on. It is empty if there is none.
 pub fn field_of(line: &[u8], number: usize) -> &[u8] {
     line.split(|byte| *byte == b' ').nth(number).unwrap_or(&[])
 }
 
-/// How many fields a line has.
+/// Returns the number of fields of a line.
 pub fn count_of(line: &[u8]) -> usize {
     let mut count = 0usize;
     for _ in line.split(|byte| *byte == b' ') {
@@ -28,7 +28,7 @@ pub fn count_of(line: &[u8]) -> usize {
     count
 }
 
-/// How many fields a line has that begins with this word, with itself.
+/// Returns the number of fields of a line that begins with this word. The word counts.
 pub fn wanted_count(word: &[u8]) -> Option<usize> {
     match word {
         b"dir" | b"pipe" | b"sock" => Some(5),
@@ -41,8 +41,8 @@ pub fn wanted_count(word: &[u8]) -> Option<usize> {
     }
 }
 
-/// The numbers of a line that begins with this word, each by its place, and by its name in
-/// docs/MANIFEST.md.
+/// Returns the fields of a line with this first word that are numbers: the index of each, and its
+/// name in docs/MANIFEST.md.
 pub fn numbers_of(word: &[u8]) -> &'static [(usize, &'static str)] {
     match word {
         b"hard" | b"volume" => &[],
@@ -58,7 +58,7 @@ pub fn numbers_of(word: &[u8]) -> &'static [(usize, &'static str)] {
     }
 }
 
-/// Whether a text is a number of decimal digits below 2^32 without leading zeros.
+/// Returns whether a text is a number of decimal digits below 2^32 without leading zeros.
 pub fn is_decimal(text: &[u8]) -> bool {
     let mut number = 0u64;
     for byte in text {
@@ -74,12 +74,12 @@ pub fn is_decimal(text: &[u8]) -> bool {
     }
 }
 
-/// Whether a text is a mode of four octal digits.
+/// Returns whether a text is a mode of four octal digits.
 pub fn is_mode(text: &[u8]) -> bool {
     text.len() == 4 && text.iter().all(|byte| *byte >= b'0' && *byte < b'8')
 }
 
-/// The folder that a path stands in.
+/// Returns the directory that a path is in.
 pub fn folder_of(path: &[u8]) -> &[u8] {
     match path.iter().rposition(|byte| *byte == b'/') {
         Some(end) => path.get(..end).unwrap_or(path),

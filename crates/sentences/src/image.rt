@@ -1,4 +1,4 @@
-//! What stands in an image where it has a fault.
+//! The values of an image at a fault.
 ghost use Rattle.std.specs.Prelude.{◌+◌, ◌≤◌, length};
 ghost use Rattle.std.specs.Bool.{OnTrue};
 
@@ -12,18 +12,18 @@ use rom_fields::{be32, word_sum};
 use romfs_format::{header, superblock as romfs};
 use std::alloc::{AllocError, Global};
 
-/// How many bytes romfs sums at most.
+/// The most bytes over which romfs has a checksum.
 const SUMMED: usize = 512;
 
-/// Where cramfs has its stored sum, and what stands behind it.
+/// The offset of the checksum in cramfs, and that of the next field.
 const CRC_AT: usize = 32;
 
 const CRC_END: usize = 36;
 
-/// How many bytes a name in romfs has at most, with the zero that ends it.
+/// The most bytes of a name in romfs, with the zero that ends it.
 const ROMFS_NAME: usize = 256;
 
-/// What an image begins as.
+/// The format by the first bytes of an image.
 #[derive(Clone, Copy, PartialEq, Eq)]
 enum Begins {
     Romfs,
@@ -41,14 +41,14 @@ fn beginning(bytes: &[u8]) -> Begins {
     }
 }
 
-/// Whether there are so many bytes from an offset on.
+/// Whether the image has this number of bytes from an offset on.
 fn has(bytes: &[u8], at: usize, len: usize) -> bool
     ensures { OnTrue result (at + len ≤ length bytes.now) }
 {
     len <= bytes.len() && at <= bytes.len() - len
 }
 
-/// The word at an offset, in the order of the image.
+/// The word at an offset, in the byte order of the image.
 fn word(bytes: &[u8], at: usize) -> Option<u32> {
     match beginning(bytes) {
         Begins::Cramfs(order) if has(bytes, at, 4) => Some(order.word(bytes, at)),
@@ -67,7 +67,7 @@ fn stated(bytes: &[u8]) -> Option<u32> {
     word(bytes, at)
 }
 
-/// The bytes of an image that a sum is over: as many as it states, where they are there.
+/// The bytes of an image that its checksum covers: as many as it states, or those that exist.
 fn summed(bytes: &[u8]) -> &[u8] {
     let size = match stated(bytes) {
         Some(size) => size as usize,
@@ -85,7 +85,7 @@ fn sum_of(bytes: &[u8]) -> u32 {
     word_sum(summed.get(..SUMMED).unwrap_or(summed))
 }
 
-/// The CRC-32 of a cramfs image, its stored sum taken as zero.
+/// The CRC-32 of a cramfs image. Its stored checksum counts as zero.
 fn crc_of(bytes: &[u8]) -> Option<u32> {
     let summed = summed(bytes);
     let front = crc32(summed.get(..CRC_AT)?);
@@ -93,7 +93,7 @@ fn crc_of(bytes: &[u8]) -> Option<u32> {
     Some(crc32_more(zeros, summed.get(CRC_END..)?))
 }
 
-/// The bytes between two offsets, or those that are there.
+/// The bytes between two offsets, or those that exist.
 fn part(bytes: &[u8], from: usize, len: usize) -> &[u8] {
     let behind = bytes.get(from..).unwrap_or(&[]);
     behind.get(..len).unwrap_or(behind)
@@ -134,7 +134,7 @@ fn cramfs_inode(
     format!(in alloc; "mode {mode:o}, size {size}, offset {offset}, name {name}")
 }
 
-/// What stands at the offset of a record.
+/// The values of the record at an offset.
 fn record(alloc: Global, bytes: &[u8], at: usize) -> Result<String, AllocError> {
     match beginning(bytes) {
         Begins::Romfs => romfs_header(alloc, bytes, at),
@@ -151,7 +151,7 @@ fn one_word(alloc: Global, bytes: &[u8], at: usize) -> Result<String, AllocError
     }
 }
 
-/// The three words at an offset, of what may be an inode or a pointer.
+/// The three words at an offset, where an inode or a block pointer may be.
 fn words(alloc: Global, bytes: &[u8], at: usize) -> Result<String, AllocError> {
     match (
         word(bytes, at),
@@ -165,7 +165,7 @@ fn words(alloc: Global, bytes: &[u8], at: usize) -> Result<String, AllocError> {
     }
 }
 
-/// The first bytes of what is no image.
+/// The first bytes of a file that holds no image.
 fn first_bytes(alloc: Global, bytes: &[u8]) -> Result<String, AllocError> {
     let mut text = String::from_str(alloc, "its first bytes are")?;
     for byte in part(bytes, 0, 8) {
@@ -174,7 +174,7 @@ fn first_bytes(alloc: Global, bytes: &[u8]) -> Result<String, AllocError> {
     Ok(text)
 }
 
-/// What the stored sum of a cramfs image is, and what it would be.
+/// The stored checksum of a cramfs image, and the right one.
 fn crcs(alloc: Global, bytes: &[u8]) -> Result<String, AllocError> {
     let (Some(stored), Some(made)) = (word(bytes, CRC_AT), crc_of(bytes)) else {
         return Ok(String::new(alloc));
@@ -182,12 +182,12 @@ fn crcs(alloc: Global, bytes: &[u8]) -> Result<String, AllocError> {
     format!(in alloc; "{stored:08x} is stored, the bytes have {made:08x}")
 }
 
-/// What stands in an image where it has the fault of this number, at this offset: the values that
-/// were read, in words. It is empty where the sentence says all.
+/// Returns the values that were read at a fault, by its number and offset, in words. The text is
+/// empty if the sentence of the fault says everything.
 ///
 /// # Errors
 ///
-/// Memory was refused.
+/// `OutOfMemory`.
 pub fn seen(alloc: Global, bytes: &[u8], number: u32, at: u32) -> Result<String, AllocError> {
     let at = at as usize;
     match number {
@@ -206,7 +206,7 @@ pub fn seen(alloc: Global, bytes: &[u8], number: u32, at: u32) -> Result<String,
         BLOCK_KIND => one_word(alloc, bytes, at),
         BOUNDS if beginning(bytes) != Begins::Romfs => words(alloc, bytes, at),
         ROOT if beginning(bytes) == Begins::Romfs && at == 16 => {
-            String::from_str(alloc, "no header fits behind the volume's name")
+            String::from_str(alloc, "no header fits after the volume's name")
         }
         _ => record(alloc, bytes, at),
     }

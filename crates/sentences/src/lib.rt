@@ -1,8 +1,8 @@
-//! What the program says to people: a sentence for each fault, misfit, refused call and ending, and
-//! what stands where it is wrong.
+//! The texts that the program prints for people: a sentence for each fault, misfit, refused call
+//! and ending, and the values that were read there.
 //!
-//! Proved: which sentence each number and each name has (`specs/`). What `seen` adds to it, the
-//! values that were read, is text for people and is tested.
+//! Proved: which sentence each number and each name has (`specs/`). The values, which `seen` adds,
+//! are text for people and are tested.
 #![tactic(auto)]
 
 mod attribute;

@@ -1,4 +1,4 @@
-//! What stands in a line of a manifest that has a fault.
+//! The fields of a manifest's line at a fault.
 use crate::fields::{
     count_of, field_of, folder_of, is_decimal, is_mode, line_of, numbers_of, wanted_count,
 };
@@ -7,10 +7,10 @@ use crate::words::field_shown;
 use manifest::error::{BAD_ALIGN, BAD_NUMBER, BAD_TARGET, BAD_WORD, EXISTS, NO_PARENT};
 use std::alloc::{AllocError, Global};
 
-/// The place of the alignment of a `file` line.
+/// The index of the alignment in a `file` line.
 const ALIGN_PLACE: usize = 5;
 
-/// Of a line with a wrong first word, a wrong number of fields or a wrong kind of a device.
+/// Says what is wrong with the first word, the number of fields, or the kind of a device.
 fn wrong_word(alloc: Global, line: &[u8]) -> Result<String, AllocError> {
     let word = field_of(line, 0);
     let text = field_shown(alloc, word)?;
@@ -21,7 +21,7 @@ fn wrong_word(alloc: Global, line: &[u8]) -> Result<String, AllocError> {
     for number in 0..count {
         if field_of(line, number).is_empty() {
             return format!(in alloc;
-                "word {} is empty, behind two spaces or at the end",
+                "word {} is empty, after two spaces or at the end",
                 number + 1
             );
         }
@@ -35,7 +35,7 @@ fn wrong_word(alloc: Global, line: &[u8]) -> Result<String, AllocError> {
     )
 }
 
-/// Of a line with a wrong number: the first one.
+/// Says which number of a line is wrong: the first one.
 fn wrong_number(alloc: Global, line: &[u8]) -> Result<String, AllocError> {
     for (place, name) in numbers_of(field_of(line, 0)) {
         let field = field_of(line, *place);
@@ -51,7 +51,7 @@ fn wrong_number(alloc: Global, line: &[u8]) -> Result<String, AllocError> {
     Ok(String::new(alloc))
 }
 
-/// What the fields of a line are that are paths or texts: their places, and what they are to be.
+/// The fields of a line that are paths or texts: their indices, and what they have to be.
 fn texts_of(line: &[u8]) -> [(usize, Meant); 2] {
     let last = count_of(line).saturating_sub(1);
     match field_of(line, 0) {
@@ -63,7 +63,7 @@ fn texts_of(line: &[u8]) -> [(usize, Meant); 2] {
     }
 }
 
-/// Of a line with a wrong path, text or name: it, and which rule it breaks.
+/// Says which path, text or name of a line is wrong, and which rule it breaks.
 fn wrong_path(alloc: Global, line: &[u8]) -> Result<String, AllocError> {
     for (place, meant) in texts_of(line) {
         let field = field_of(line, place);
@@ -74,11 +74,11 @@ fn wrong_path(alloc: Global, line: &[u8]) -> Result<String, AllocError> {
     field_shown(alloc, field_of(line, 1))
 }
 
-/// What stands in the line of this number of a text, where it has the fault of this number.
+/// Returns what is wrong in the line of this number of a text, if it has the fault of this number.
 ///
 /// # Errors
 ///
-/// Memory was refused.
+/// `OutOfMemory`.
 pub fn seen(alloc: Global, text: &[u8], line: u64, number: u32) -> Result<String, AllocError> {
     let line = line_of(text, line);
     match number {
@@ -92,7 +92,7 @@ pub fn seen(alloc: Global, text: &[u8], line: u64, number: u32) -> Result<String
     }
 }
 
-/// How many lines of a text end in a carriage return, and the first of them.
+/// Returns the number of lines that end in a carriage return, and the number of the first one.
 pub fn returns_of(text: &[u8]) -> Option<(u64, u64)> {
     let (mut first, mut count, mut number) = (0u64, 0u64, 0u64);
     for line in text.split(|byte| *byte == b'\n') {

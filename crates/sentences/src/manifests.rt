@@ -1,21 +1,21 @@
-//! What the faults of a manifest are, in a sentence each.
+//! The faults of a manifest, in one sentence each.
 ghost use Rattle.std.specs.Prelude.{◌≡◌};
 ghost use Rattle.sentences.specs.Manifests.{manifest_sentence};
 
 use manifest::error::{BAD_ALIGN, BAD_NUMBER, BAD_PATH, BAD_TARGET, BAD_WORD, EXISTS, NO_PARENT};
 
-/// The fault of this number, as docs/MANIFEST.md has it in words.
+/// Returns the sentence of the fault of this number. docs/MANIFEST.md says more.
 pub fn manifest_sentence(number: u32) -> &'static str
     ensures { result.now ≡ manifest_sentence number }
 {
     match number {
         BAD_WORD => "an unknown word, a wrong number of fields, an empty one, or no b or c",
         BAD_NUMBER => "a mode is not four octal digits, or a number not decimal below 2^32",
-        BAD_PATH => "a path, a link's text or a volume's name is not lawful",
-        NO_PARENT => "no earlier line makes the folder that the path stands in",
+        BAD_PATH => "a path, a link's text or a volume's name is not valid",
+        NO_PARENT => "no earlier line makes the directory that the path is in",
         EXISTS => "an earlier line has the path, or names the volume",
-        BAD_ALIGN => "the alignment is no power of two from 4 to 65536",
-        BAD_TARGET => "what hard or same names is no earlier file that it can lead to",
+        BAD_ALIGN => "the alignment is not a power of two from 4 to 65536",
+        BAD_TARGET => "hard or same names a path that is not an earlier file of the right kind",
         _ => "no rule has this number",
     }
 }

@@ -1,4 +1,4 @@
-//! Which rule a path, a link's text or a volume's name of a manifest breaks, by docs/MANIFEST.md.
+//! The rule of docs/MANIFEST.md that a path, a link's text or a volume's name breaks.
 use percent_encoding::percent_decode;
 use std::alloc::{AllocError, Global};
 
@@ -8,12 +8,12 @@ const PATH_MOST: usize = 4095;
 /// The most bytes of a name.
 const NAME_MOST: usize = 255;
 
-/// What a field of a manifest is to be.
+/// What a field of a manifest has to be.
 #[derive(Clone, Copy, PartialEq, Eq)]
 pub enum Meant {
-    /// A path, of which the root's is one.
+    /// A path, which may be that of the root.
     Folder,
-    /// A path, but not the root's.
+    /// A path that is not that of the root.
     Path,
     /// The text of a symbolic link.
     Target,
@@ -21,7 +21,7 @@ pub enum Meant {
     Volume,
 }
 
-/// The rule that a name on a path breaks, where it does.
+/// The rule that a name on a path breaks, if it breaks one.
 fn rule_of_name(name: &[u8]) -> Option<&'static str> {
     match name {
         [] => Some("has an empty name, between two slashes or at its end"),
@@ -31,22 +31,22 @@ fn rule_of_name(name: &[u8]) -> Option<&'static str> {
     }
 }
 
-/// The rule that names behind a path's first slash break, where one does.
+/// The rule that the names after a path's first slash break, if they break one.
 fn rule_of_names(names: &[u8]) -> Option<&'static str> {
     names.split(|byte| *byte == b'/').find_map(rule_of_name)
 }
 
-/// The rule of paths that a text breaks, where it does.
+/// The rule of paths that a text breaks, if it breaks one.
 fn rule_of_path(path: &[u8], meant: Meant) -> Option<&'static str> {
     match path {
         [b'/'] if meant == Meant::Folder => None,
-        [b'/'] => Some("is the root, which may not stand here"),
+        [b'/'] => Some("is the root, which is not allowed here"),
         [b'/', names @ ..] => rule_of_names(names),
         _ => Some("does not begin with a slash"),
     }
 }
 
-/// The rule that a text, decoded, breaks, where it does.
+/// The rule that a decoded text breaks, if it breaks one.
 fn rule_of(text: &[u8], meant: Meant) -> Option<&'static str> {
     if text.contains(&0) {
         return Some("has a zero byte");
@@ -60,11 +60,11 @@ fn rule_of(text: &[u8], meant: Meant) -> Option<&'static str> {
     }
 }
 
-/// The rule that a field, escaped as it stands in a manifest, breaks, where it does.
+/// Returns the rule that an escaped field of a manifest breaks, if it breaks one.
 ///
 /// # Errors
 ///
-/// Memory was refused.
+/// `OutOfMemory`.
 pub fn broken(
     alloc: Global,
     field: &[u8],

@@ -1,4 +1,4 @@
-//! What of a manifest does not fit a format: the field, its value, and what is lawful.
+//! The field of a manifest that does not fit a format, its value, and the valid values.
 use crate::attribute;
 use crate::words::shown;
 use manifest::{Line, Manifest, Word};
@@ -9,7 +9,7 @@ use std::alloc::{AllocError, Global};
 /// The most bytes of an image, and of a file in romfs.
 const IMAGE_MOST: u64 = 1 << 28;
 
-/// What the size of a file and of a list in cramfs is below.
+/// The limit of the size of a file and of a list in cramfs, which are below it.
 const CRAMFS_LIMIT: u64 = 1 << 24;
 
 /// The most names on a path.
@@ -23,7 +23,7 @@ fn line_of(manifest: &Manifest, number: u64) -> Option<&Line> {
     manifest.lines().iter().find(|line| line.number == number)
 }
 
-/// The line of the source of this number, from 0 on.
+/// Returns the line of the source of this number, from 0 on.
 pub fn line_of_source(manifest: &Manifest, source: usize) -> Option<u64> {
     let mut count = 0usize;
     for line in manifest.lines() {
@@ -37,7 +37,7 @@ pub fn line_of_source(manifest: &Manifest, source: usize) -> Option<u64> {
     None
 }
 
-/// How many bytes the source of a `file` line has.
+/// The number of bytes of the source of a `file` line.
 fn size_of(manifest: &Manifest, sizes: &[u64], number: u64) -> u64 {
     let mut count = 0usize;
     for line in manifest.lines() {
@@ -51,7 +51,7 @@ fn size_of(manifest: &Manifest, sizes: &[u64], number: u64) -> u64 {
     0
 }
 
-/// How many names a path has.
+/// The number of names on a path.
 fn names_on(path: &[u8]) -> usize {
     path.iter().filter(|byte| **byte == b'/').count()
 }
@@ -64,7 +64,7 @@ fn last_name(path: &[u8]) -> &[u8] {
     }
 }
 
-/// What of the whole is too large.
+/// What is too large in the whole.
 fn whole(alloc: Global, manifest: &Manifest, sizes: &[u64]) -> Result<String, AllocError> {
     let deep = manifest
         .lines()
@@ -88,7 +88,7 @@ fn whole(alloc: Global, manifest: &Manifest, sizes: &[u64]) -> Result<String, Al
     format!(in alloc; "{bytes} bytes of sources, an image has at most {IMAGE_MOST} in all")
 }
 
-/// The size of a file that is too large, and what is lawful.
+/// The size of a file that is too large, and the most that is valid.
 fn size(
     alloc: Global,
     format: Format,
@@ -106,12 +106,12 @@ fn size(
     format!(in alloc; "{source} has {size} bytes, at most {most}")
 }
 
-/// What of the line of this number does not fit the format, with the misfit of this number; 0 is
-/// the whole.
+/// Returns what does not fit the format in the line of this number, with the misfit of this number.
+/// Line 0 is the whole.
 ///
 /// # Errors
 ///
-/// Memory was refused.
+/// `OutOfMemory`.
 pub fn seen(
     alloc: Global,
     format: Format,

@@ -1,137 +1,139 @@
-//! What the program itself says of a file that the system would lend: at most 80 bytes each, as
-//! many as an error of std keeps.
+//! The program's own reasons why it cannot use a file. Each has at most 80 bytes, as many as an
+//! error of std keeps.
 
-/// A source is a folder, a device, a pipe or a socket.
-pub const NO_REGULAR_FILE: &str = "it is no regular file";
+/// A source is a directory, a device, a FIFO or a socket.
+pub const NO_REGULAR_FILE: &str = "it is not a regular file";
 
 /// A manifest is longer than it may be.
 pub const MANIFEST_TOO_LONG: &str = "a manifest has at most 2^30 bytes";
 
-/// What is to be scanned is no folder.
-pub const NO_FOLDER: &str = "it is no folder";
+/// The file that is to be scanned is no directory.
+pub const NO_FOLDER: &str = "it is not a directory";
 
-/// Links lead on and on.
+/// Symbolic links lead to one another.
 pub const TOO_MANY_LINKS: &str = "more than 40 symbolic links follow one another";
 
 /// No name is left for the part of a build.
 pub const HUNDRED_PARTS: &str =
-    "a hundred parts of builds, .0.part to .99.part, are left beside it";
+    "a hundred parts of builds, .0.part to .99.part, are beside it; remove old ones";
 
-/// A folder holds what no manifest can say.
+/// A directory holds a file of a kind that no manifest has.
 pub const NO_KIND: &str = "it is of a kind that no manifest has";
 
-/// What is to be replaced was taken away while it was looked at.
+/// The file that is to be replaced was renamed or removed meanwhile.
 pub const REPLACED: &str = "another file took its name meanwhile";
 
-/// A source has another state than it had.
+/// A source changed.
 pub const SOURCE_CHANGED: &str = "it changed while it was read";
 
-/// A source gave fewer or more bytes than the system said.
-pub const SOURCE_UNREAD: &str = "it could not be read, or has another length than the system told";
+/// A read of a source failed, or returned fewer or more bytes than the system reported.
+pub const SOURCE_UNREAD: &str =
+    "it could not be read, or its length is not the one that the system reported";
 
-/// A folder has another state than it had.
+/// A directory changed.
 pub const FOLDER_CHANGED: &str = "it changed while it was scanned";
 
-/// The image's name is that of what it is made of.
+/// The image has the name of a file that it is made of.
 pub const OWN_INPUT: &str = "the image would replace its own manifest or source";
 
-/// The image's name is that of standard output.
+/// The image has the name of standard output.
 pub const OWN_OUTPUT: &str =
     "it is standard output, and the line ok LENGTH would get into the image";
 
-/// The rule's name is that of the image.
-pub const OWN_RULE: &str = "it is the file of the image as well";
+/// The rule has the name of the image.
+pub const OWN_RULE: &str = "it is also the file of the image";
 
 /// A rule has a name that make cannot read.
-pub const RULE_UNFIT: &str = "a name in it is one that make cannot read; PROTOCOL.md says which";
+pub const RULE_UNFIT: &str = "make cannot read a name in it; PROTOCOL.md says which names";
 
 /// A source is a symbolic link, and none is followed.
 pub const SOURCE_LINK: &str = "it is a symbolic link, and --no-follow refuses these";
 
-/// The system refused to take a part of the image.
-pub const NOT_TAKEN: &str = "it did not take the whole image";
+/// The system refused a part of the image.
+pub const NOT_TAKEN: &str = "not all of the image could be written to it";
 
-/// A name of a source cannot be given to the system.
-pub const NO_TEXT: &str = "a name that is no UTF-8 cannot be opened";
+/// A name of a source cannot be passed to the system.
+pub const NO_TEXT: &str = "a name that is not UTF-8 cannot be opened";
 
-/// A word of the command line is no text.
-pub const NO_WORD: &str = "it is no UTF-8, and words have to be";
+/// A word of the command line is no UTF-8.
+pub const NO_WORD: &str = "it is not UTF-8, as every word has to be";
 
-/// The part's name leads elsewhere.
-pub const PART_REPLACED: &str =
-    "another file took the name of its part, or nothing has it any more";
+/// The name of the part leads to another file.
+pub const PART_REPLACED: &str = "its part was renamed, replaced or removed meanwhile";
 
-/// The bytes that were written are not those that were summed.
-pub const SUM_DIFFERS: &str = "a source changed while it was read: the stored sum is another";
+/// The bytes that were written are not those of the checksum.
+pub const SUM_DIFFERS: &str = "a source changed while it was read, so the stored checksum is wrong";
 
-/// An image would end above the last address.
-pub const NO_ADDRESS: &str = "with this base it has addresses of more than 64 bits";
+/// The last byte of an image would have no address.
+pub const NO_ADDRESS: &str = "with this --base it has addresses of more than 64 bits";
 
-/// The front of names for C is none.
+/// The prefix of names for C is not valid.
 pub const NO_PREFIX: &str =
-    "the names of a header begin with a letter, and have letters, digits and _";
+    "--prefix has to begin with a letter, and to have only letters, digits and _";
 
-/// Linux gets something of a sound image wrong.
-pub const MISREAD: &str = "it is sound, and Linux gets wrong what the lines say: docs/LINUX.md";
+/// Linux misreads something in a valid image.
+pub const MISREAD: &str = "it is valid, but Linux misreads what the lines say; see docs/LINUX.md";
 
-/// A folder that is to be filled holds something.
+/// A directory that is to be filled is not empty.
 pub const NOT_EMPTY: &str = "it is not empty";
 
-/// A folder that is to be filled is one that its owner could change meanwhile.
+/// A directory that is to be filled belongs to another user, who could change it meanwhile.
 pub const OF_ANOTHER_USER: &str =
     "it is owned by another user, who could change what is made in it";
 
-/// What was being filled has only a part.
-pub const INCOMPLETE: &str = "it is incomplete: what was made in it is left there";
+/// The directory that was being filled is incomplete.
+pub const INCOMPLETE: &str = "it is incomplete; the files that were made in it are still there";
 
-/// A name of an image is longer than the system takes.
+/// A name of an image is longer than the system allows.
 pub const NAME_UNFIT: &str = "a name has at most 255 bytes here, and a whole path 4095";
 
-/// The text of a link is none that the system takes.
-pub const LINK_UNFIT: &str = "its text is empty, no UTF-8, has a zero, or more than 4095 bytes";
+/// The system does not allow the text of a link.
+pub const LINK_UNFIT: &str =
+    "its text is empty, not UTF-8, has a zero byte, or has over 4095 bytes";
 
-/// The system took only a part of a file.
-pub const FILE_NOT_TAKEN: &str = "it did not take the whole file";
+/// The system refused a part of a file.
+pub const FILE_NOT_TAKEN: &str = "not all of the file could be written";
 
-/// No manifest tells the image, since a path in it is too long.
-pub const LONG_PATH: &str = "a path in it has more than 4095 bytes, which no manifest takes";
+/// No manifest can describe the image, since a path in it is too long.
+pub const LONG_PATH: &str = "a path in it has more than 4095 bytes, the most in a manifest";
 
-/// No manifest tells the image, since its volume's name is too long.
-pub const LONG_VOLUME: &str = "its volume's name has more than 255 bytes, which no manifest takes";
+/// No manifest can describe the image, since its volume's name is too long.
+pub const LONG_VOLUME: &str = "its volume's name has more than 255 bytes, the most in a manifest";
 
-/// A folder that is scanned has a name that cannot be read, which only the folder is told of.
-pub const FOREIGN_NAME: &str = "a name in it is no UTF-8; ls -b shows it";
+/// A directory that is scanned holds a name that is no UTF-8. Only the directory can be named.
+pub const FOREIGN_NAME: &str = "a name in it is not UTF-8; ls -b shows it";
 
-/// A link that is scanned has a text that cannot be read.
-pub const FOREIGN_LINK: &str = "the text of the link is no UTF-8; readlink shows it";
+/// The text of a scanned link is no UTF-8.
+pub const FOREIGN_LINK: &str = "the text of the link is not UTF-8; readlink shows it";
 
-/// A pattern ends within brackets or behind a backslash.
+/// A pattern ends within brackets or after a backslash.
 pub const PATTERN_UNFINISHED: &str = "no ] closes its [, or it ends with a backslash";
 
 /// A pattern has a class of characters.
-pub const PATTERN_CLASS: &str = "it has a class, as [:alpha:], and patterns have none";
+pub const PATTERN_CLASS: &str = "it has a class such as [:alpha:], which a pattern cannot have";
 
-/// A later directory has another kind of file than an earlier one.
-pub const KINDS_DIFFER: &str = "only one of it and what it would replace is a directory";
+/// At one path, a later directory has a directory and an earlier one has not, or the reverse.
+pub const KINDS_DIFFER: &str = "a directory and another kind of file cannot replace each other";
 
-/// A manifest would be written over what it lists.
+/// The manifest would replace a file that it lists.
 pub const OWN_FILE: &str = "the manifest would replace a file that it lists";
 
-/// The system refused to take a part of a manifest.
-pub const MANIFEST_NOT_TAKEN: &str = "it did not take the whole manifest";
+/// The system refused a part of a manifest.
+pub const MANIFEST_NOT_TAKEN: &str = "not all of the manifest could be written to it";
 
 /// The name of a volume is too long.
 pub const LONG_NAME: &str = "the name of a volume has at most 255 bytes";
 
-/// A file of devices has another line.
+/// A file of devices has a line of another kind.
 pub const DEVICE_WORD: &str = "a file of devices has only dir, slink, nod, pipe and sock";
 
-/// A path in a file of devices is there already.
+/// The path of a line in a file of devices exists already.
 pub const DEVICE_EXISTS: &str =
-    "an earlier line has the path, or only one of it and what is there is a directory";
+    "an earlier line has the path, or it is the path of a file and of a directory";
 
-/// A path in a file of devices is in no directory.
-pub const DEVICE_NO_PARENT: &str = "no DIR and no dir line has the directory that the path is in";
+/// The path of a line in a file of devices is in no directory.
+pub const DEVICE_NO_PARENT: &str =
+    "neither a DIR nor a dir line has the directory that the path is in";
 
-/// A path or a text in a file of devices cannot be read.
+/// A path or a text in a file of devices is no UTF-8.
 pub const DEVICE_NO_TEXT: &str = "a path or the text of a link has to be UTF-8 here";

@@ -1,8 +1,8 @@
-//! Why a line is not answered, in a sentence each.
+//! The reason why a line is refused, in one sentence each.
 ghost use Rattle.std.specs.Prelude.{◌≡◌, option_map};
 ghost use Rattle.sentences.specs.Replies.{call_sentence, line_sentence};
 
-/// Why a call is refused with this name.
+/// Returns the reason why a call is refused with this error's name.
 pub fn call_sentence(text: &[u8]) -> Option<&'static str>
     ensures { option_map (λ s. s.now) result ≡ call_sentence text.now }
 {
@@ -10,7 +10,7 @@ pub fn call_sentence(text: &[u8]) -> Option<&'static str>
         return Some("no file has this path");
     }
     if text == b"ENOTDIR".as_slice() {
-        return Some("a directory is wanted here, and there is none");
+        return Some("a directory is needed here, and this is another kind of file");
     }
     if text == b"ELOOP".as_slice() {
         return Some("more than 40 symbolic links are on the way");
@@ -24,13 +24,13 @@ pub fn call_sentence(text: &[u8]) -> Option<&'static str>
         );
     }
     if text == b"EBADF".as_slice() {
-        return Some("no open file has this number");
+        return Some("this descriptor is not open");
     }
     if text == b"EISDIR".as_slice() {
         return Some("it is a directory, which has no bytes");
     }
     if text == b"ENXIO".as_slice() {
-        return Some("only directories and regular files are opened");
+        return Some("only directories and regular files can be opened");
     }
     if text == b"EMFILE".as_slice() {
         return Some("64 files are open, and no more can be");
@@ -47,12 +47,12 @@ pub fn call_sentence(text: &[u8]) -> Option<&'static str>
     None
 }
 
-/// Why a line asks for nothing, which this is said of.
+/// Returns the reason why a line is not a request, if the reply has this text.
 pub fn line_sentence(text: &[u8]) -> Option<&'static str>
     ensures { option_map (λ s. s.now) result ≡ line_sentence text.now }
 {
     if text == b"bad command".as_slice() {
-        return Some("the first word is no command");
+        return Some("the first word is not a command");
     }
     if text == b"bad line".as_slice() {
         return Some("a word is missing, empty or too many, or the line has over 8,191 bytes");

@@ -2,13 +2,13 @@
 use percent_encoding::{AsciiSet, CONTROLS, ascii_set, percent_encode};
 use std::alloc::{AllocError, Global};
 
-/// What stands escaped in a name, as in the lines that the program prints.
+/// The bytes that are escaped in a name, as in the lines that the program prints.
 const ESCAPED: AsciiSet = ascii_set!(CONTROLS.add(b' ').add(b'%'));
 
-/// How many bytes of a name are shown at most.
+/// The most bytes of a name that are shown.
 const MOST: usize = 200;
 
-/// The first bytes of a text, as many as are shown.
+/// The first bytes of a text: as many as are shown.
 fn front(text: &[u8]) -> &[u8] {
     match text.get(..MOST) {
         Some(front) => front,
@@ -16,29 +16,29 @@ fn front(text: &[u8]) -> &[u8] {
     }
 }
 
-/// A name with each byte that is no visible ASCII character, and each `%`, escaped.
+/// Returns a name in which each byte that is no visible ASCII character, and each `%`, is escaped.
 ///
 /// # Errors
 ///
-/// Memory was refused.
+/// `OutOfMemory`.
 pub fn escaped(alloc: Global, name: &[u8]) -> Result<String, AllocError> {
     format!(in alloc; "{}", percent_encode(name, ESCAPED))
 }
 
-/// The front of a name, escaped.
+/// Returns the front of a name, escaped.
 ///
 /// # Errors
 ///
-/// Memory was refused.
+/// `OutOfMemory`.
 pub fn shown(alloc: Global, name: &[u8]) -> Result<String, AllocError> {
     escaped(alloc, front(name))
 }
 
-/// The front of a field of a manifest, which is escaped as it stands there.
+/// Returns the front of a field of a manifest, which is already escaped.
 ///
 /// # Errors
 ///
-/// Memory was refused.
+/// `OutOfMemory`.
 pub fn field_shown(alloc: Global, field: &[u8]) -> Result<String, AllocError> {
     format!(in alloc; "{}", percent_encode(front(field), CONTROLS))
 }
