@@ -6,3 +6,4 @@ pub mod Commands
 pub mod Reading
 pub mod Texts
 pub mod Replies
+pub mod PathTexts

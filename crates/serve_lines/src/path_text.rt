@@ -16,10 +16,12 @@ pub struct PathText<'l> {
 }
 
 impl<'l> PathText<'l> {
+    ghost use Rattle.serve_lines.specs.PathTexts.{text_of};
+
     /// Returns the path of a field, as it is in its line.
     pub fn new(text: &'l [u8]) -> PathText<'l>
         requires { length text.now ≤ 8191 }
-        ensures { result.text ≡ text.entry }
+        ensures { text_of result ≡ text.entry.now }
     {
         PathText { text }
     }
@@ -27,7 +29,7 @@ impl<'l> PathText<'l> {
     /// Returns the decoded path. Each `%` with two hexadecimal digits behind it is one byte, and
     /// the field `-` is the empty path.
     pub fn decoded(self) -> Path
-        ensures { result.items ≡ path_of self.entry.text.now }
+        ensures { result.items ≡ path_of (text_of self.entry) }
     {
         let mut path: Path = ArrayVec::new();
         if self.text == b"-".as_slice() {
