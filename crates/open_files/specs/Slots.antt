@@ -137,12 +137,12 @@ module _ {F : Type 0} where
   IsPartThere v t fd name =
       (o : Open F) → open_at t fd ≡ Some o → LieIn (v.names.bytes o.place) name
 
--- the same for one image: the table that its slots mean, and that each slot that is taken has a
--- meaning
 -- the open nodes of the descriptors from 0 on
 abbrev pub open_nodes : {n : ℕ} → Slots n → List (Option OpenNode)
 open_nodes s = s.slots
 
+-- the same for one image: the table that its slots mean, and that each slot that is taken has a
+-- meaning
 abbrev pub table_in : {n : ℕ} → Image → Slots n → Table Node
 table_in m s = table_of (image_view m) s.slots
 

@@ -1,10 +1,9 @@
 //! The open files of one image.
-ghost use Rattle.std.specs.Prelude.{◌≡◌, ◌≤◌, true, option_map};
+ghost use Rattle.std.specs.Prelude.{◌≡◌, ◌≤◌, option_map};
 ghost use Rattle.rom_tree.specs.Tree.{Node, levels};
 ghost use Rattle.open_files.specs.Calls.{Of, Named, viewed};
 ghost use Rattle.open_files.specs.Machine.{Table, image_calls};
-ghost use Rattle.open_files.specs.Slots.{image_view, are_sound, table_of, unlabelled, lent_by};
-ghost use Rattle.open_files.specs.Slots.{named_by};
+ghost use Rattle.open_files.specs.Slots.{AreSound, table_in, unlabelled, lent_by, named_by};
 ghost use Rattle.serve_lines.specs.Replies.{reply_text};
 ghost use Rattle.rom_serve.specs.Obeyed.{result_text, of_node, of_stat, of_piece, of_entry};
 
@@ -63,14 +62,14 @@ fn entry_reply<'a>(r: Result<Option<Entry<'a>>, CallError>) -> Reply<'a>
 pub(crate) struct One<'s, T: Viewed> {
     pub(crate) image: &'s mut T,
     pub(crate) slots: Slots<64>,
-    ghost sound: { are_sound (image_view (T.image image.now)) slots.slots ≡ true },
+    ghost sound: { AreSound (T.image image.now) slots },
     ghost deep: { levels (T.image image.now).tree ≤ 65 },
 }
 
 impl<'s, 'a, T: TreeImage<'a>> OpenCalls<'a> for One<'s, T> {
     ghost State = { Table Node };
 
-    ghost state = { λ s. table_of (image_view (T.image s.image.now)) s.slots.slots };
+    ghost state = { λ s. table_in (T.image s.image.now) s.slots };
 
     ghost calls = { λ s k. image_calls 64 (T.image s.image.now) };
 

@@ -1,12 +1,12 @@
 //! The open files of several images.
-ghost use Rattle.std.specs.Prelude.{◌≡◌, List, map, Some, option_map};
+ghost use Rattle.std.specs.Prelude.{◌≡◌, List, Some, option_map};
 ghost use Rattle.path_walk.specs.declared.mount.Mount.{Mount};
 ghost use Rattle.path_walk.specs.Graft.{MountedNode};
 ghost use Rattle.open_files.specs.Calls.{Of, Named, viewed};
 ghost use Rattle.open_files.specs.Machine.{Table};
-ghost use Rattle.open_files.specs.Sessions.{Sessions, space_calls};
+ghost use Rattle.open_files.specs.Sessions.{Sessions};
 ghost use Rattle.open_files.specs.Slots.{labelled, lent_by, named_by};
-ghost use Rattle.open_files.specs.Space.{space_state};
+ghost use Rattle.open_files.specs.SeenSpace.{state as state_of, calls as calls_of};
 ghost use Rattle.serve_lines.specs.Replies.{reply_text};
 ghost use Rattle.rom_serve.specs.Obeyed.{result_text, of_node, of_stat, of_piece, of_entry};
 
@@ -68,10 +68,9 @@ fn entry_reply<'a>(r: Result<Option<(u32, Entry<'a>)>, CallError>) -> Reply<'a>
 impl<'a, T: TreeImage<'a>> OpenCalls<'a> for Space<'a, T, 64> {
     ghost State = { Sessions (List Mount) (Table MountedNode) };
 
-    ghost state = { λ s. space_state 64 (map T.image s.images.items) s.mounts.items
-        (map (λ t. t.slots) s.tables) };
+    ghost state = { λ s. state_of s };
 
-    ghost calls = { λ s k. space_calls 64 (map T.image s.images.items) k };
+    ghost calls = { λ s k. calls_of s k };
 
     fn path_reply(&mut self, session: u32, call: PathCall, path: &[u8]) -> Reply<'a> {
         match call {
