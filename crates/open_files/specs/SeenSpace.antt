@@ -1,6 +1,6 @@
 -- `Space` as a value: its images (`held`, `images_in`), what is mounted and open (`state`), and its
--- calls (`calls`). `EntryLeadsOn`: an entry's cursor is the position that the descriptor now has. (This
--- project's own.)
+-- calls (`calls`). `EntryLeadsOn`: an entry's cursor is the position that the descriptor now has.
+-- (This project's own.)
 use Rattle.std.specs.Prelude.{ℕ, List, Vec, map}
 use Rattle.std.specs.declared.alloc.Global.{Global}
 use Rattle.rom_tree.specs.declared.image.Viewed.{Ghosts}
