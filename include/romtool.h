@@ -143,13 +143,14 @@ struct romtool_file {
     uint64_t position;   /* of a file the number of a byte; of a directory, a number that only the library reads */
 };
 
-/* An entry of a directory: its name, which lies in the image and is NOT ended by a zero, and the number of its node.
- * `some` is 0 at the end. */
+/* An entry of a directory: its name, which lies in the image and is NOT ended by a zero, and the number and the kind of
+ * its node. `some` is 0 at the end. */
 struct romtool_entry {
     const uint8_t *name;
     romtool_size name_len;
     uint32_t node;
     uint32_t some;
+    uint32_t kind;
 };
 
 /* Checks `len` bytes as a romfs or cramfs image, and opens it. Gives 0; or ROMTOOL_FAULT or ROMTOOL_MEMORY, and then
@@ -268,8 +269,8 @@ uint32_t romtool_read(struct romtool_file *file, uint8_t *buffer, romtool_size l
 /* Sets the position of an open file, also behind its end. Gives 0 or the error: ROMTOOL_EBADF, _EISDIR. */
 uint32_t romtool_seek(struct romtool_file *file, uint64_t position);
 
-/* The next entry of an open directory, without `.` and `..`. Gives 0 or the error: ROMTOOL_EBADF, _ENOTDIR. To begin
- * again, open it again. */
+/* The next entry of an open directory, without `.` and `..`, with its kind. Gives 0 or the error: ROMTOOL_EBADF,
+ * _ENOTDIR. To begin again, open it again. */
 uint32_t romtool_readdir(struct romtool_file *file, struct romtool_entry *entry);
 
 /* The version of this header as text. */
@@ -358,7 +359,7 @@ static inline uint32_t romtool_open_str(struct romtool_file *file, const struct 
 typedef char romtool_layout_is_right[offsetof(struct romtool_image, len) == 8 && sizeof(struct romtool_image) == 48
         && sizeof(struct romtool_node) == 8 && sizeof(struct romtool_stat) == 36 && sizeof(struct romtool_place) == 16
         && offsetof(struct romtool_file, position) == 56 && sizeof(struct romtool_file) == 64
-        && offsetof(struct romtool_entry, name_len) == 8 && sizeof(struct romtool_entry) == 24 ? 1 : -1];
+        && offsetof(struct romtool_entry, name_len) == 8 && sizeof(struct romtool_entry) == 32 ? 1 : -1];
 
 #ifdef __cplusplus
 }

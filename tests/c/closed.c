@@ -46,7 +46,7 @@ static void no_image(const struct romtool_image *image, const uint8_t *path, siz
 /* A file that is not open. */
 static void no_file(const struct romtool_file *given) {
     struct romtool_file file = *given;
-    struct romtool_entry entry = {(const uint8_t *)"x", 1, 7, 1};
+    struct romtool_entry entry = {(const uint8_t *)"x", 1, 7, 1, 2};
     uint8_t buffer[4] = {1, 2, 3, 4};
     romtool_size count = 9;
     wants(is_no_stat(romtool_fstat(&file), ROMTOOL_EBADF), "fstat without a file");
@@ -59,7 +59,7 @@ static void no_file(const struct romtool_file *given) {
     wants(romtool_read(&file, NULL, 0, &count) == ROMTOOL_EBADF && count == 0, "read of nothing without a file");
     wants(romtool_seek(&file, 3) == ROMTOOL_EBADF, "seek without a file");
     wants(romtool_readdir(&file, &entry) == ROMTOOL_EBADF, "readdir without a file");
-    wants(entry.some == 0 && entry.node == 0 && entry.name_len == 0, "an entry without a file");
+    wants(entry.some == 0 && entry.node == 0 && entry.kind == 0 && entry.name_len == 0, "an entry without a file");
     wants(memcmp(&file, given, sizeof file) == 0, "a call that changed what is not open");
 }
 

@@ -34,6 +34,20 @@ pub enum Kind {
     Fifo,
 }
 
+impl Kind {
+    pub(crate) fn of(number: u32) -> Kind {
+        match number {
+            1 => Kind::Directory,
+            2 => Kind::Regular,
+            3 => Kind::Symlink,
+            4 => Kind::Block,
+            5 => Kind::Character,
+            6 => Kind::Socket,
+            _ => Kind::Fifo,
+        }
+    }
+}
+
 /// The kind and numbers of a file.
 #[derive(Clone, Copy, Debug, PartialEq, Eq)]
 pub struct Metadata {
@@ -60,15 +74,7 @@ impl Metadata {
         if stat.error != 0 {
             return Err(Error::of(stat.error));
         }
-        let kind = match stat.kind {
-            1 => Kind::Directory,
-            2 => Kind::Regular,
-            3 => Kind::Symlink,
-            4 => Kind::Block,
-            5 => Kind::Character,
-            6 => Kind::Socket,
-            _ => Kind::Fifo,
-        };
+        let kind = Kind::of(stat.kind);
         let (ino, mode, uid, gid) = (stat.ino, stat.mode, stat.uid, stat.gid);
         Ok(Metadata { ino, kind, mode, uid, gid, size: stat.size, major: stat.major, minor: stat.minor })
     }

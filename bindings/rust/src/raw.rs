@@ -74,13 +74,14 @@ pub(crate) struct Entry {
     pub name_len: u64,
     pub node: u32,
     pub some: u32,
+    pub kind: u32,
 }
 
 // The layout of the library, whose structs the header states.
 const _: () = {
     assert!(std::mem::size_of::<Image>() == 48 && std::mem::size_of::<File>() == 64);
     assert!(std::mem::size_of::<Stat>() == 36 && std::mem::size_of::<Place>() == 16);
-    assert!(std::mem::size_of::<Entry>() == 24 && std::mem::size_of::<usize>() == 8);
+    assert!(std::mem::size_of::<Entry>() == 32 && std::mem::size_of::<usize>() == 8);
 };
 
 extern "C" {

@@ -88,6 +88,8 @@ fn entries() {
     let image = image();
     let names: Vec<_> = image.read_dir("/").unwrap().map(|it| it.name()).collect();
     assert_eq!(names, [b"etc".as_slice(), b"message", b"null"]);
+    let kinds: Vec<_> = image.read_dir("/").unwrap().map(|it| it.kind()).collect();
+    assert_eq!(kinds, [Kind::Directory, Kind::Symlink, Kind::Character]);
     let mut dir = image.read_dir("/etc").unwrap();
     let first = dir.next().unwrap();
     assert_eq!((first.name(), Ok(first.node())), (b"motd".as_slice(), image.lookup("/etc/motd")));

@@ -2,3 +2,4 @@ mod Shown
 mod Alone
 mod Standing
 mod Moving
+mod Listed
