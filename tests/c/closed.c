@@ -33,6 +33,10 @@ static void no_image(const struct romtool_image *image, const uint8_t *path, siz
     struct romtool_file file = {0};
     const struct romtool_node node = romtool_lookup(image, path, len, true);
     wants(node.error == ROMTOOL_CLOSED && node.node == 0, "lookup without an image");
+    uint64_t budget = 7;
+    const struct romtool_node within = romtool_lookup_within(image, path, len, true, &budget);
+    wants(within.error == ROMTOOL_CLOSED && within.node == 0, "lookup with a budget without an image");
+    wants(budget == 7, "a budget that was used without an image");
     wants(is_no_stat(romtool_stat(image, path, len, true), ROMTOOL_CLOSED), "stat without an image");
     wants(is_no_stat(romtool_stat(image, path, len, false), ROMTOOL_CLOSED), "lstat without an image");
     wants(is_no_place(romtool_readlink(image, path, len), ROMTOOL_CLOSED), "readlink without an image");

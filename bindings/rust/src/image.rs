@@ -174,12 +174,19 @@ impl<'a> Image<'a> {
     /// The path leads nowhere.
     pub fn lookup(&self, path: impl AsRef<[u8]>) -> Result<u32, Error> {
         let path = path.as_ref();
-        let found = unsafe { raw::romtool_lookup(&self.raw(), path.as_ptr(), path.len() as u64, true) };
-        if found.error == 0 {
-            Ok(found.node)
-        } else {
-            Err(Error::of(found.error))
-        }
+        found(&unsafe { raw::romtool_lookup(&self.raw(), path.as_ptr(), path.len() as u64, true) })
+    }
+
+    /// Returns the same as [`lookup`](Image::lookup) if the look-up compares no more names than the budget, from which those
+    /// that it compares are taken. The path is compared with the names of each directory on it, one after the other.
+    ///
+    /// # Errors
+    ///
+    /// More names are compared than the budget has ([`Error::OverBudget`]), of which nothing is left then; or the path leads
+    /// nowhere.
+    pub fn lookup_within(&self, path: impl AsRef<[u8]>, budget: &mut u64) -> Result<u32, Error> {
+        let (path, image) = (path.as_ref(), self.raw());
+        found(&unsafe { raw::romtool_lookup_within(&image, path.as_ptr(), path.len() as u64, true, budget) })
     }
 
     /// Returns the kind and numbers of what a path leads to; a symbolic link in the last place is followed.
@@ -230,5 +237,13 @@ impl<'a> Image<'a> {
     /// The path leads nowhere, or to no directory ([`Error::NotADirectory`]).
     pub fn read_dir(&self, path: impl AsRef<[u8]>) -> Result<Dir<'a>, Error> {
         Dir::open(*self, path.as_ref())
+    }
+}
+
+/// The node of an answer, or its error.
+fn found(answer: &raw::Node) -> Result<u32, Error> {
+    match answer.error {
+        0 => Ok(answer.node),
+        error => Err(Error::of(error)),
     }
 }

@@ -87,6 +87,13 @@ const _: () = {
 extern "C" {
     pub(crate) fn romtool_check(image: *mut Image, data: *const u8, len: u64) -> u32;
     pub(crate) fn romtool_lookup(image: *const Image, path: *const u8, len: u64, follow: bool) -> Node;
+    pub(crate) fn romtool_lookup_within(
+        image: *const Image,
+        path: *const u8,
+        len: u64,
+        follow: bool,
+        budget: *mut u64,
+    ) -> Node;
     pub(crate) fn romtool_stat(image: *const Image, path: *const u8, len: u64, follow: bool) -> Stat;
     pub(crate) fn romtool_stat_node(image: *const Image, node: u32) -> Stat;
     pub(crate) fn romtool_readlink(image: *const Image, path: *const u8, len: u64) -> Place;

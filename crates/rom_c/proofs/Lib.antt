@@ -3,3 +3,4 @@ mod Alone
 mod Standing
 mod Moving
 mod Listed
+mod Within
