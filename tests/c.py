@@ -298,7 +298,8 @@ def lists_of(form, image):
         paths = sorted(line.split()[1] for line in BUDGETS.decode().splitlines()[1:])
     for path in paths:
         directory, name = path.rsplit("/", 1)
-        lists.setdefault(directory or "/", []).append(name)
+        if name not in (".", ".."):  # records of romfs, which are no names of the tree
+            lists.setdefault(directory or "/", []).append(name)
     return lists
 
 
