@@ -28,8 +28,8 @@ returns-in-Ok-clause-left c =
     left_of c.args.budget.now c.walk_within.new.budget
     (names_compared (tree_namespace m.bytes m.tree) c.args.path.now c.args.follow) c.in-Ok.ensures.left
 
-pub returns-in-Err-in-Path-clause-leads : goal.returns-in-Err-in-Path-clause-leads
-returns-in-Err-in-Path-clause-leads c =
+pub returns-in-Path-clause-leads : goal.returns-in-Path-clause-leads
+returns-in-Path-clause-leads c =
     let m = any_view c.args.image.now in
     let g = tree_namespace m.bytes m.tree in
     let all : Result Node WalkError = resolution g c.args.path.now c.args.follow in
@@ -41,15 +41,15 @@ returns-in-Err-in-Path-clause-leads c =
     (c.no_node.ensures ∙ (ap no_node c.number.ensures ∙ sym (ap led_told e)))
     ∙ told_left c.args.budget.now c.walk_within.new.budget n (led_told all) l
 
-pub returns-in-Err-in-Path-clause-left : goal.returns-in-Err-in-Path-clause-left
-returns-in-Err-in-Path-clause-left c =
+pub returns-in-Path-clause-left : goal.returns-in-Path-clause-left
+returns-in-Path-clause-left c =
     let m = any_view c.args.image.now in
     let n : ℕ = names_compared (tree_namespace m.bytes m.tree) c.args.path.now c.args.follow in
     let L : WithinError → Type 0 = λ v. Leaves c.args.budget.now c.walk_within.new.budget n v in
     left_of c.args.budget.now c.walk_within.new.budget n (subst L c.in-Path.is c.in-Err.ensures.left)
 
-pub returns-in-Err-in-TooManyNames-clause-leads : goal.returns-in-Err-in-TooManyNames-clause-leads
-returns-in-Err-in-TooManyNames-clause-leads c =
+pub returns-in-TooManyNames-clause-leads : goal.returns-in-TooManyNames-clause-leads
+returns-in-TooManyNames-clause-leads c =
     let m = any_view c.args.image.now in
     let g = tree_namespace m.bytes m.tree in
     let n : ℕ = names_compared g c.args.path.now c.args.follow in
@@ -58,8 +58,8 @@ returns-in-Err-in-TooManyNames-clause-leads c =
     c.no_node-in-TooManyNames.ensures
     ∙ told_none c.args.budget.now n (led_told (resolution g c.args.path.now c.args.follow)) l.1
 
-pub returns-in-Err-in-TooManyNames-clause-left : goal.returns-in-Err-in-TooManyNames-clause-left
-returns-in-Err-in-TooManyNames-clause-left c =
+pub returns-in-TooManyNames-clause-left : goal.returns-in-TooManyNames-clause-left
+returns-in-TooManyNames-clause-left c =
     let m = any_view c.args.image.now in
     let n : ℕ = names_compared (tree_namespace m.bytes m.tree) c.args.path.now c.args.follow in
     let L : WithinError → Type 0 = λ v. Leaves c.args.budget.now c.walk_within.new.budget n v in
