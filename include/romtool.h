@@ -43,7 +43,7 @@
 #define ROMTOOL_VERSION 10000 /* 10000 * major + 100 * minor + patch */
 #define ROMTOOL_VERSION_TEXT "1.0.0"
 
-/* Whether pointers have 32 bits. Six functions then return their results through a pointer, behind wrappers. */
+/* Whether pointers have 32 bits. Seven functions then return their results through a pointer, behind wrappers. */
 #if UINTPTR_MAX <= 0xffffffffu
 #define ROMTOOL_32 1
 #else
@@ -78,6 +78,7 @@ extern "C" {
 #define ROMTOOL_CLOSED 13u       /* no image is open */
 #define ROMTOOL_FAULT 14u        /* the image has a fault */
 #define ROMTOOL_MEMORY 15u       /* memory was refused */
+#define ROMTOOL_BUDGET 16u       /* more names would be compared than the budget has */
 
 /* Formats. */
 #define ROMTOOL_ROMFS 1u
@@ -143,13 +144,14 @@ struct romtool_file {
     uint64_t position;   /* of a file, the number of a byte; of a directory, a number for the library only */
 };
 
-/* An entry of a directory: its name, which lies in the image and is NOT ended by a zero, and the number of its node.
- * `some` is 0 at the end. */
+/* An entry of a directory: its name, which lies in the image and is NOT ended by a zero, and the number and the kind of
+ * its node. `some` is 0 at the end. */
 struct romtool_entry {
     const uint8_t *name;
     romtool_size name_len;
     uint32_t node;
     uint32_t some;
+    uint32_t kind;
 };
 
 /* Checks `len` bytes as a romfs or cramfs image, and opens it. Returns 0; or ROMTOOL_FAULT or ROMTOOL_MEMORY, and then
@@ -172,6 +174,29 @@ static inline struct romtool_node romtool_lookup(const struct romtool_image *ima
 struct romtool_node romtool_lookup(const struct romtool_image *image, const uint8_t *path, romtool_size len,
     bool follow);
 #endif
+
+/* The same, if the look-up compares no more names than `*budget`. The names that it compares are taken from the budget,
+ * so one budget serves several look-ups. Otherwise the error is ROMTOOL_BUDGET and nothing is left of the budget. The
+ * other errors are those of romtool_lookup. If no image is open, the budget stays as it is.
+ *
+ * A component of the path, or of the text of a link, is compared with the names of its directory in their order, up to
+ * the one that is equal. `.` and `..` are compared with none. Each name is read at most twice. What else is done is
+ * bounded by the bytes of the path and of at most 40 links, each of which has at most 4095. */
+#if ROMTOOL_32
+void rom32_lookup_within(struct romtool_node *answer, const struct romtool_image *image, const uint8_t *path,
+    romtool_size len, bool follow, uint64_t *budget);
+static inline struct romtool_node romtool_lookup_within(const struct romtool_image *image, const uint8_t *path,
+    romtool_size len, bool follow, uint64_t *budget) {
+    struct romtool_node answer;
+    rom32_lookup_within(&answer, image, path, len, follow, budget);
+    return answer;
+}
+#else
+struct romtool_node romtool_lookup_within(const struct romtool_image *image, const uint8_t *path, romtool_size len,
+    bool follow, uint64_t *budget);
+#endif
+
+/* The kind and numbers of what a path leads to. Errors: those of romtool_lookup. */
 #if ROMTOOL_32
 void rom32_stat(struct romtool_stat *answer, const struct romtool_image *image, const uint8_t *path,
     romtool_size len, bool follow);
@@ -268,8 +293,8 @@ uint32_t romtool_read(struct romtool_file *file, uint8_t *buffer, romtool_size l
 /* Sets the position of an open file, also past its end. Returns 0 or the error: ROMTOOL_EBADF, _EISDIR. */
 uint32_t romtool_seek(struct romtool_file *file, uint64_t position);
 
-/* The next entry of an open directory, without `.` and `..`. Gives 0 or the error: ROMTOOL_EBADF, _ENOTDIR. To begin
- * again, open it again. */
+/* The next entry of an open directory, without `.` and `..`, with its kind. Gives 0 or the error: ROMTOOL_EBADF,
+ * _ENOTDIR. To begin again, open it again. */
 uint32_t romtool_readdir(struct romtool_file *file, struct romtool_entry *entry);
 
 /* Returns the version of this header as text. */
@@ -293,6 +318,7 @@ static inline const char *romtool_strerror(uint32_t error) {
     case ROMTOOL_CLOSED: return "no open image";
     case ROMTOOL_FAULT: return "the image has a fault";
     case ROMTOOL_MEMORY: return "out of memory";
+    case ROMTOOL_BUDGET: return "too many names compared";
     default: return "unknown error";
     }
 }
@@ -341,6 +367,11 @@ static inline struct romtool_node romtool_lookup_str(const struct romtool_image 
     return romtool_lookup(image, ROMTOOL_TEXT(path), romtool_path_len(path), follow);
 }
 
+static inline struct romtool_node romtool_lookup_within_str(const struct romtool_image *image, const char *path,
+    bool follow, uint64_t *budget) {
+    return romtool_lookup_within(image, ROMTOOL_TEXT(path), romtool_path_len(path), follow, budget);
+}
+
 static inline struct romtool_stat romtool_stat_str(const struct romtool_image *image, const char *path, bool follow) {
     return romtool_stat(image, ROMTOOL_TEXT(path), romtool_path_len(path), follow);
 }
@@ -358,7 +389,7 @@ static inline uint32_t romtool_open_str(struct romtool_file *file, const struct 
 typedef char romtool_layout_is_right[offsetof(struct romtool_image, len) == 8 && sizeof(struct romtool_image) == 48
         && sizeof(struct romtool_node) == 8 && sizeof(struct romtool_stat) == 36 && sizeof(struct romtool_place) == 16
         && offsetof(struct romtool_file, position) == 56 && sizeof(struct romtool_file) == 64
-        && offsetof(struct romtool_entry, name_len) == 8 && sizeof(struct romtool_entry) == 24 ? 1 : -1];
+        && offsetof(struct romtool_entry, name_len) == 8 && sizeof(struct romtool_entry) == 32 ? 1 : -1];
 
 #ifdef __cplusplus
 }

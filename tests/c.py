@@ -12,6 +12,8 @@ compiler has them.
     first.c    where the entry of a program is that is run in place, as docs/C.md shows it
     nodes.c    a directory of 50,000 files, listed and opened by its entries' nodes: a walk with look-ups of names would take
                longer than the check
+    within.c   look-ups with a budget of names, one less and one more than the names that this script counts in the lists
+               of directories; and an image whose links multiply, which ends at its budget
     numbers.c, reader.c
                a reader without check, heap and C library, of numbers that a check gave before
     header.c   what the header has by itself: its version is that of romtool, its names of faults are those of the code
@@ -33,6 +35,7 @@ import sys
 import tempfile
 
 import explain
+import extents
 import run
 from harness import HERE, SECONDS, Counts, missing, parser, program_of
 
@@ -162,7 +165,7 @@ def header(binary, top, program, counts):
     names = {number: name for number, (name, _) in explain.FAULTS.items()}
     counts.equal("names of faults", lines[1:41], [names.get(it, "Unknown") for it in range(40)])
     words = [it for it, line in enumerate(lines[41:]) if line != "unknown error"]
-    counts.equal("errors in words", words, [0, 1, 2, 3, 4, 5, 6, 7, 8, 10, 13, 14, 15])
+    counts.equal("errors in words", words, [0, 1, 2, 3, 4, 5, 6, 7, 8, 10, 13, 14, 15, 16])
     counts.equal("errors in words of their own", len(set(lines[41:])), len(words) + 1)
 
 
@@ -263,6 +266,86 @@ def by_nodes(binary, top, nodes, counts):
         counts.equal("time for files by their nodes in %s: %.2f s" % (form, spent), spent < 1, True)
 
 
+# directories, links and files; the names of a directory are in no order
+BUDGETS = b"""dir / 0755 0 0
+file /m 0644 0 0 4 empty
+dir /d 0755 0 0
+file /d/z 0644 0 0 4 empty
+file /d/a 0644 0 0 4 empty
+dir /d/e 0755 0 0
+file /d/e/x 0644 0 0 4 empty
+slink /far 0777 0 0 /d/e/../e/x
+slink /d/near 0777 0 0 e/x
+slink /loop 0777 0 0 d/../loop
+file /a 0644 0 0 4 empty
+"""
+# a path, and each component that is looked up with its directory, in the order of pathname resolution
+WALKS = (
+    (b"/", ()), (b"/.", ()), (b"/..", ()), (b"", ()), (b"m", ()), (b"/m", ("/ m",)), (b"/nothing", ("/ nothing",)),
+    (b"/d", ("/ d",)), (b"/d/", ("/ d",)), (b"/d/./../d/z", ("/ d", "/ d", "/d z")), (b"/d/e/x", ("/ d", "/d e", "/d/e x")),
+    (b"/d/e/y", ("/ d", "/d e", "/d/e y")), (b"/m/x", ("/ m",)), (b"/d/" + b"n" * 256, ("/ d",)),
+    (b"/far", ("/ far", "/ d", "/d e", "/d e", "/d/e x")), (b"/d/near", ("/ d", "/d near", "/d e", "/d/e x")),
+    (b"/loop", ("/ loop",) + ("/ d", "/ loop") * 40),
+)  # fmt: skip
+
+
+def lists_of(form, image):
+    """Returns the names of each directory of BUDGETS in the order of the image's lists, as another reader has them."""
+    lists = {}
+    if form == "romfs":
+        paths = [it[3].decode() for it in extents.romfs(image)[1] if it[2] == "header" and it[3] != b"/"]
+    else:  # a cramfs list rises by the bytes of its names
+        paths = sorted(line.split()[1] for line in BUDGETS.decode().splitlines()[1:])
+    for path in paths:
+        directory, name = path.rsplit("/", 1)
+        if name not in (".", ".."):  # records of romfs, which are no names of the tree
+            lists.setdefault(directory or "/", []).append(name)
+    return lists
+
+
+def names_compared(lists, walk):
+    """Returns how many names a walk compares."""
+    count = 0
+    for directory, name in (it.split(" ") for it in walk):
+        names = lists[directory]
+        count += names.index(name) + 1 if name in names else len(names)
+    return count
+
+
+def multiplying():
+    """Returns a manifest with 20,000 names in the root, and a link that goes over the last of them 800 times to itself."""
+    names = "".join("file /n%05d 0644 0 0 4 empty\n" % it for it in range(20000))
+    return names + "dir /z 0755 0 0\nslink /zz 0777 0 0 %szz\n" % ("z/../" * 800)
+
+
+def with_budgets(binary, top, within, counts):
+    """Look-ups with a budget of names: just enough, one less, one more; and one of links that multiply."""
+    for name, held in (("budgets", BUDGETS), ("multiplying", multiplying().encode())):
+        with open(os.path.join(top, name), "wb") as file:
+            file.write(held)
+    for form in FORMATS:
+        counts.equal("build for budgets", said([binary, "build", form, "budgets", "small.image"], cwd=top).returncode, 0)
+        with open(os.path.join(top, "small.image"), "rb") as file:
+            lists = lists_of(form, file.read())
+        asked, wanted = [], []
+        for path, walk in WALKS:
+            names = names_compared(lists, walk)
+            asked += [b"%d %s\n" % (it, path) for it in (names, names + 1, 2**64 - 1, *([names - 1, 0] if names else []))]
+            wanted += [(False, 0), (False, 1), (False, 2**64 - 1 - names), *([(True, 0), (True, 0)] if names else [])]
+        done = said([within, "small.image"], cwd=top, input=b"".join(asked))
+        lines = [it.split() for it in done.stdout.splitlines()]
+        got = [(it[0] == b"16", int(it[2])) for it in lines]
+        for line, one, other in zip(asked, got, wanted):
+            counts.equal("a budget of %s in %s" % (line, form), one, other)
+        counts.equal("look-ups with budgets in " + form, (done.returncode, len(lines)), (0, len(asked)))
+        said([binary, "build", form, "multiplying", "large.image"], cwd=top)
+        before = os.times().children_user
+        done = said([within, "large.image"], cwd=top, input=b"1000000 /zz\n")
+        spent = os.times().children_user - before
+        counts.equal("links that multiply in " + form, (done.returncode, done.stdout), (0, b"16 0 0\n"))
+        counts.equal("time for links that multiply in %s: %.2f s" % (form, spent), spent < 1, True)
+
+
 def reader(top, archive, numbers, counts, compiler="cc", emulator=()):
     """A reader without check, heap and C library, as a process of Linux."""
     for form in FORMATS:
@@ -310,7 +393,7 @@ def on_aarch64(binary, top, numbers, counts):
         cases(binary, answers, counts)
         each_format(binary, top, answers, counts)
     if closed:
-        counts.equal("closed handles on aarch64", said([closed, top + "/tree"]).stdout, b"closed 107\n")
+        counts.equal("closed handles on aarch64", said([closed, top + "/tree"]).stdout, b"closed 117\n")
     if numbers:
         reader(top, archive, numbers, counts, "aarch64-linux-gnu-gcc", ["qemu-aarch64"])
 
@@ -393,6 +476,7 @@ def main():
         answers, closed, numbers, facts = (program(it, top, archive, words, counts) for it in names)
         first = program("first", top, archive, words, counts, os.path.join(HEAPS, "heap.c"))
         nodes = program("nodes", top, archive, ["-O2"], counts, os.path.join(HEAPS, "heap.c"))
+        within = program("within", top, archive, words, counts, os.path.join(HEAPS, "heap.c"))
         refused = program("refused", top, archive, words, counts, os.path.join(SOURCES, "recording.c"))
         areas = program("areas", top, archive, words, counts, os.path.join(HEAPS, "area.c"))
         build_all(binary, top, counts)
@@ -406,11 +490,13 @@ def main():
             entries(binary, top, first, counts)
         if nodes:
             by_nodes(binary, top, nodes, counts)
+        if within:
+            with_budgets(binary, top, within, counts)
         if closed:
             with open(top + "/tree", "wb") as file:
                 file.write(run.file_of("romfs/tree/image"))
             done = said([closed, top + "/tree"])
-            counts.equal("closed handles", (done.returncode, done.stdout), (0, b"closed 107\n"))
+            counts.equal("closed handles", (done.returncode, done.stdout), (0, b"closed 117\n"))
         if numbers and os.uname().machine == "x86_64":
             reader(top, archive, numbers, counts)
         elif numbers:

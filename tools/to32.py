@@ -5,7 +5,7 @@ What is changed, and nothing else:
   2. A cell of a pointer stays 8 bytes wide: `alloca ptr` becomes `alloca i64`. What is stored there may have 8 bytes.
   3. A load of a pair that has a pointer becomes two loads at the offsets of 64 bits: the pairs were stored by offsets.
   4. An address becomes a number over i32: `ptrtoaddr .. to i64`.
-  5. Six exports answer through a pointer, as romtool.h has them, and the heap is called as C for the machine has it.
+  5. Seven exports answer through a pointer, as romtool.h has them, and the heap is called as C for the machine has it.
 
 Why that is right: each access is proved to be inside of a slice or a local, and each of these fits into 32 bits, so each
 offset does. All layouts stay those of 64 bits: nothing but the width of a pointer in its own cell differs, and a pointer
@@ -21,7 +21,7 @@ import re
 # the bytes of what a pair may have, as 64 bits have them
 SIZES = {"i1": 1, "i8": 1, "i16": 2, "i32": 4, "i64": 8, "ptr": 8}
 EXPORTS = (
-    "check", "lookup", "stat", "stat_node", "readlink", "open", "open_node", "fstat", "map", "lend", "read", "seek",
+    "check", "lookup", "lookup_within", "stat", "stat_node", "readlink", "open", "open_node", "fstat", "map", "lend", "read", "seek",
     "readdir",
 )  # fmt: skip
 # those that answer by a struct of more than 16 bytes

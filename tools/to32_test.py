@@ -58,6 +58,7 @@ define i32 @romtool_check(ptr noundef %0, ptr %1, i64 %2) #0 {
         f"define {kind} @romtool_{name}({given}) #0 {{\n  {end}\n}}\n\n"
         for name, kind, given, end in (
             ("lookup", "i64", "ptr noundef %0, ptr %1, i64 %2, i1 noundef %3", "ret i64 0"),
+            ("lookup_within", "i64", "ptr %0, ptr %1, i64 %2, i1 %3, ptr %4", "ret i64 0"),
             ("stat", "ptr", "ptr %0, ptr %1, ptr %2, i64 %3, i1 %4", "ret ptr %0"),
             ("stat_node", "ptr", "ptr %0, ptr %1, i32 %2", "ret ptr %0"),
             ("readlink", "{ i64, i64 }", "ptr %0, ptr %1, i64 %2", "ret { i64, i64 } poison"),

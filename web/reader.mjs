@@ -142,13 +142,13 @@ export class Reader {
     return { error, bytes: this.bytes.slice(buffer, buffer + this.long(0)) };
   }
 
-  // The next entry: its name, which is a copy, and where it lies; null at the end.
+  // The next entry: its name, which is a copy, where it lies, and its node with its kind; null at the end.
   readdir(file) {
     const error = this.on(file, (at, to) => this.calls.romtool_readdir(at, to));
     if (error || !this.word(20)) return { error, entry: null };
-    const name = this.word(0), len = this.long(8), node = this.word(16);
+    const name = this.word(0), len = this.long(8), node = this.word(16), kind = this.word(24);
     if (name < this.data || name + len > this.data + this.size) throw new Error("a name outside of the image");
-    return { error, entry: { name: this.bytes.slice(name, name + len), at: name - this.data, node } };
+    return { error, entry: { name: this.bytes.slice(name, name + len), at: name - this.data, node, kind } };
   }
 
   // The entries of a directory, one after the other.

@@ -98,6 +98,7 @@ static void list(const struct romtool_image *image, size_t len, uint32_t node) {
             return;
         }
         wants(is_in_image(image, &entry), "a name outside of the image");
+        wants(romtool_stat_node(image, entry.node).kind == entry.kind, "an entry of another kind");
         path[len] = '/';
         memcpy(path + len + 1, entry.name, (size_t)entry.name_len);
         list(image, len + 1 + (size_t)entry.name_len, entry.node);
@@ -234,12 +235,13 @@ static void readdir_one(const struct romtool_image *image, struct romtool_file *
     struct romtool_entry entry = {0};
     const uint32_t error = romtool_readdir(file, &entry);
     if (error) {
-        wants(entry.some == 0 && entry.name_len == 0 && entry.node == 0, "an entry beside an error");
+        wants(entry.some == 0 && entry.name_len == 0 && entry.node == 0 && entry.kind == 0, "an entry beside an error");
         put_error(error);
     } else if (!entry.some) {
         puts("ok end");
     } else {
         wants(is_in_image(image, &entry), "a name outside of the image");
+        wants(romtool_stat_node(image, entry.node).kind == entry.kind, "an entry of another kind");
         printf("ok ");
         escaped(entry.name, (size_t)entry.name_len);
         printf(" %" PRIu32 "\n", entry.node);

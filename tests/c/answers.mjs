@@ -22,7 +22,13 @@ function list(path) {
   const stat = reader.stat(path, false);
   if (stat.error) throw new Error("a listed name leads nowhere");
   out.push(`${statLine(stat)} ${escaped(path)}${stat.kind === 3 ? " " + escaped(reader.readlink(path).bytes) : ""}`);
-  if (stat.kind === 1) for (const entry of reader.entries(path)) list(joined(path, entry.name));
+  if (stat.kind === 1) {
+    for (const entry of reader.entries(path)) {
+      const whole = joined(path, entry.name);
+      if (reader.stat(whole, false).kind !== entry.kind) throw new Error("an entry of another kind");
+      list(whole);
+    }
+  }
 }
 
 const hex = (bytes) => bytes.length ? Buffer.from(bytes).toString("hex") : "-";

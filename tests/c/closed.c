@@ -33,6 +33,10 @@ static void no_image(const struct romtool_image *image, const uint8_t *path, siz
     struct romtool_file file = {0};
     const struct romtool_node node = romtool_lookup(image, path, len, true);
     wants(node.error == ROMTOOL_CLOSED && node.node == 0, "lookup without an image");
+    uint64_t budget = 7;
+    const struct romtool_node within = romtool_lookup_within(image, path, len, true, &budget);
+    wants(within.error == ROMTOOL_CLOSED && within.node == 0, "lookup with a budget without an image");
+    wants(budget == 7, "a budget that was used without an image");
     wants(is_no_stat(romtool_stat(image, path, len, true), ROMTOOL_CLOSED), "stat without an image");
     wants(is_no_stat(romtool_stat(image, path, len, false), ROMTOOL_CLOSED), "lstat without an image");
     wants(is_no_place(romtool_readlink(image, path, len), ROMTOOL_CLOSED), "readlink without an image");
@@ -46,7 +50,7 @@ static void no_image(const struct romtool_image *image, const uint8_t *path, siz
 /* A file that is not open. */
 static void no_file(const struct romtool_file *given) {
     struct romtool_file file = *given;
-    struct romtool_entry entry = {(const uint8_t *)"x", 1, 7, 1};
+    struct romtool_entry entry = {(const uint8_t *)"x", 1, 7, 1, 2};
     uint8_t buffer[4] = {1, 2, 3, 4};
     romtool_size count = 9;
     wants(is_no_stat(romtool_fstat(&file), ROMTOOL_EBADF), "fstat without a file");
@@ -59,7 +63,7 @@ static void no_file(const struct romtool_file *given) {
     wants(romtool_read(&file, NULL, 0, &count) == ROMTOOL_EBADF && count == 0, "read of nothing without a file");
     wants(romtool_seek(&file, 3) == ROMTOOL_EBADF, "seek without a file");
     wants(romtool_readdir(&file, &entry) == ROMTOOL_EBADF, "readdir without a file");
-    wants(entry.some == 0 && entry.node == 0 && entry.name_len == 0, "an entry without a file");
+    wants(entry.some == 0 && entry.node == 0 && entry.kind == 0 && entry.name_len == 0, "an entry without a file");
     wants(memcmp(&file, given, sizeof file) == 0, "a call that changed what is not open");
 }
 

@@ -25,7 +25,7 @@ int main(int argc, char **argv) {
     fclose(given);
     while (romtool_readdir(&root, &entry) == 0 && entry.some) {
         const struct romtool_stat stat = romtool_stat_node(&image, entry.node);
-        if (stat.kind == ROMTOOL_REGULAR && romtool_open_node(&file, &image, entry.node) == 0) {
+        if (stat.kind == entry.kind && entry.kind == ROMTOOL_REGULAR && romtool_open_node(&file, &image, entry.node) == 0) {
             files++;
             bytes += romtool_fstat(&file).size;
         }

@@ -41,7 +41,8 @@ fn list(image: &Image<'_>, path: &[u8], out: &mut dyn Write) -> Result<(), Box<d
     if it.is_dir() {
         for entry in image.read_dir(whole)? {
             let below = [path, b"/", entry.name()].concat();
-            if entry.metadata() != image.symlink_metadata(&below)? {
+            let metadata = entry.metadata();
+            if metadata != image.symlink_metadata(&below)? || metadata.kind != entry.kind() {
                 return Err("an entry is not what its path leads to".into());
             }
             if entry.metadata().is_dir() && entry.read_dir()?.count() != image.read_dir(&below)?.count() {

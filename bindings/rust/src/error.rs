@@ -23,6 +23,8 @@ pub enum Error {
     IsASpecialFile,
     /// The bytes do not follow one another in the image.
     InPieces,
+    /// A look-up compares more names than its budget has.
+    OverBudget,
     /// A number that this crate does not know.
     Other(u32),
 }
@@ -38,6 +40,7 @@ impl Error {
             7 => Error::IsADirectory,
             8 => Error::IsASpecialFile,
             10 => Error::InPieces,
+            16 => Error::OverBudget,
             other => Error::Other(other),
         }
     }
@@ -53,6 +56,7 @@ impl Error {
             Error::IsADirectory => 7,
             Error::IsASpecialFile => 8,
             Error::InPieces => 10,
+            Error::OverBudget => 16,
             Error::Other(number) => number,
         }
     }
@@ -69,6 +73,7 @@ impl Display for Error {
             Error::IsADirectory => "is a directory",
             Error::IsASpecialFile => "neither a directory nor a regular file",
             Error::InPieces => "bytes in several pieces",
+            Error::OverBudget => "too many names compared",
             Error::Other(number) => return write!(f, "error {number}"),
         })
     }

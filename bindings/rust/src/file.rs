@@ -1,7 +1,7 @@
 //! Open files and directories.
 
 use crate::error::Error;
-use crate::image::{Image, Metadata};
+use crate::image::{Image, Kind, Metadata};
 use crate::raw;
 use std::io::{self, BufRead, Read, Seek, SeekFrom};
 
@@ -157,6 +157,7 @@ pub struct Entry<'a> {
     image: Image<'a>,
     name: &'a [u8],
     node: u32,
+    kind: Kind,
 }
 
 impl<'a> Entry<'a> {
@@ -168,6 +169,11 @@ impl<'a> Entry<'a> {
     /// Returns the number of the node, as [`Image::lookup`] returns it.
     pub fn node(&self) -> u32 {
         self.node
+    }
+
+    /// Returns the kind of the node. A symbolic link is not followed.
+    pub fn kind(&self) -> Kind {
+        self.kind
     }
 
     /// Returns the kind and numbers of the node, without a look-up. A symbolic link is not followed.
@@ -232,7 +238,7 @@ impl<'a> Iterator for Dir<'a> {
 
     fn next(&mut self) -> Option<Entry<'a>> {
         let mut file = self.open.raw();
-        let mut entry = raw::Entry { name: std::ptr::null(), name_len: 0, node: 0, some: 0 };
+        let mut entry = raw::Entry { name: std::ptr::null(), name_len: 0, node: 0, some: 0, kind: 0 };
         let error = unsafe { raw::romtool_readdir(&mut file, &mut entry) };
         self.open.position = file.position;
         if error != 0 || entry.some == 0 {
@@ -242,7 +248,7 @@ impl<'a> Iterator for Dir<'a> {
         let bytes = self.open.image.as_bytes();
         let from = (entry.name as usize).wrapping_sub(bytes.as_ptr() as usize);
         let name = bytes.get(from..)?.get(..entry.name_len as usize)?;
-        Some(Entry { image: self.open.image, name, node: entry.node })
+        Some(Entry { image: self.open.image, name, node: entry.node, kind: Kind::of(entry.kind) })
     }
 }
 

@@ -34,6 +34,20 @@ pub enum Kind {
     Fifo,
 }
 
+impl Kind {
+    pub(crate) fn of(number: u32) -> Kind {
+        match number {
+            1 => Kind::Directory,
+            2 => Kind::Regular,
+            3 => Kind::Symlink,
+            4 => Kind::Block,
+            5 => Kind::Character,
+            6 => Kind::Socket,
+            _ => Kind::Fifo,
+        }
+    }
+}
+
 /// The kind and numbers of a file.
 #[derive(Clone, Copy, Debug, PartialEq, Eq)]
 pub struct Metadata {
@@ -60,15 +74,7 @@ impl Metadata {
         if stat.error != 0 {
             return Err(Error::of(stat.error));
         }
-        let kind = match stat.kind {
-            1 => Kind::Directory,
-            2 => Kind::Regular,
-            3 => Kind::Symlink,
-            4 => Kind::Block,
-            5 => Kind::Character,
-            6 => Kind::Socket,
-            _ => Kind::Fifo,
-        };
+        let kind = Kind::of(stat.kind);
         let (ino, mode, uid, gid) = (stat.ino, stat.mode, stat.uid, stat.gid);
         Ok(Metadata { ino, kind, mode, uid, gid, size: stat.size, major: stat.major, minor: stat.minor })
     }
@@ -168,12 +174,19 @@ impl<'a> Image<'a> {
     /// The path leads nowhere.
     pub fn lookup(&self, path: impl AsRef<[u8]>) -> Result<u32, Error> {
         let path = path.as_ref();
-        let found = unsafe { raw::romtool_lookup(&self.raw(), path.as_ptr(), path.len() as u64, true) };
-        if found.error == 0 {
-            Ok(found.node)
-        } else {
-            Err(Error::of(found.error))
-        }
+        found(&unsafe { raw::romtool_lookup(&self.raw(), path.as_ptr(), path.len() as u64, true) })
+    }
+
+    /// Returns the same as [`lookup`](Image::lookup) if the look-up compares no more names than the budget, from which those
+    /// that it compares are taken. The path is compared with the names of each directory on it, one after the other.
+    ///
+    /// # Errors
+    ///
+    /// More names are compared than the budget has ([`Error::OverBudget`]), of which nothing is left then; or the path leads
+    /// nowhere.
+    pub fn lookup_within(&self, path: impl AsRef<[u8]>, budget: &mut u64) -> Result<u32, Error> {
+        let (path, image) = (path.as_ref(), self.raw());
+        found(&unsafe { raw::romtool_lookup_within(&image, path.as_ptr(), path.len() as u64, true, budget) })
     }
 
     /// Returns the kind and numbers of the node to which a path leads. A symbolic link as the last component is
@@ -225,5 +238,13 @@ impl<'a> Image<'a> {
     /// The path leads nowhere, or to no directory ([`Error::NotADirectory`]).
     pub fn read_dir(&self, path: impl AsRef<[u8]>) -> Result<Dir<'a>, Error> {
         Dir::open(*self, path.as_ref())
+    }
+}
+
+/// The node of an answer, or its error.
+fn found(answer: &raw::Node) -> Result<u32, Error> {
+    match answer.error {
+        0 => Ok(answer.node),
+        error => Err(Error::of(error)),
     }
 }

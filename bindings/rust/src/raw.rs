@@ -74,18 +74,26 @@ pub(crate) struct Entry {
     pub name_len: u64,
     pub node: u32,
     pub some: u32,
+    pub kind: u32,
 }
 
 // The layout of the library, whose structs the header states.
 const _: () = {
     assert!(std::mem::size_of::<Image>() == 48 && std::mem::size_of::<File>() == 64);
     assert!(std::mem::size_of::<Stat>() == 36 && std::mem::size_of::<Place>() == 16);
-    assert!(std::mem::size_of::<Entry>() == 24 && std::mem::size_of::<usize>() == 8);
+    assert!(std::mem::size_of::<Entry>() == 32 && std::mem::size_of::<usize>() == 8);
 };
 
 extern "C" {
     pub(crate) fn romtool_check(image: *mut Image, data: *const u8, len: u64) -> u32;
     pub(crate) fn romtool_lookup(image: *const Image, path: *const u8, len: u64, follow: bool) -> Node;
+    pub(crate) fn romtool_lookup_within(
+        image: *const Image,
+        path: *const u8,
+        len: u64,
+        follow: bool,
+        budget: *mut u64,
+    ) -> Node;
     pub(crate) fn romtool_stat(image: *const Image, path: *const u8, len: u64, follow: bool) -> Stat;
     pub(crate) fn romtool_stat_node(image: *const Image, node: u32) -> Stat;
     pub(crate) fn romtool_readlink(image: *const Image, path: *const u8, len: u64) -> Place;

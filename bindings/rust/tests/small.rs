@@ -41,6 +41,14 @@ fn errors_of_paths() {
     assert_eq!(image.lookup("/etc/motd/x"), Err(Error::NotADirectory));
     assert_eq!(image.lookup([b"/".as_slice(), &[b'x'; 256]].concat()), Err(Error::NameTooLong));
     assert_eq!(image.lookup([b'/'; 4096]), Err(Error::NameTooLong));
+    // `/etc` is the first of three names, `motd` the first of its directory; a name that is missing is compared with all
+    let mut budget = 2;
+    assert_eq!(image.lookup_within("/etc/motd", &mut budget), image.lookup("/etc/motd"));
+    assert_eq!(budget, 0);
+    assert_eq!(image.lookup_within("/", &mut budget), image.lookup("/"));
+    assert_eq!(image.lookup_within("/etc", &mut budget), Err(Error::OverBudget));
+    budget = 7;
+    assert_eq!((image.lookup_within("/none", &mut budget), budget), (Err(Error::NotFound), 4));
     assert_eq!(image.read_link("/etc"), Err(Error::Invalid));
     assert_eq!(image.open("/etc").unwrap_err(), Error::IsADirectory);
     assert_eq!(image.open("/null").unwrap_err(), Error::IsASpecialFile);
@@ -88,6 +96,8 @@ fn entries() {
     let image = image();
     let names: Vec<_> = image.read_dir("/").unwrap().map(|it| it.name()).collect();
     assert_eq!(names, [b"etc".as_slice(), b"message", b"null"]);
+    let kinds: Vec<_> = image.read_dir("/").unwrap().map(|it| it.kind()).collect();
+    assert_eq!(kinds, [Kind::Directory, Kind::Symlink, Kind::Character]);
     let mut dir = image.read_dir("/etc").unwrap();
     let first = dir.next().unwrap();
     assert_eq!((first.name(), Ok(first.node())), (b"motd".as_slice(), image.lookup("/etc/motd")));
@@ -134,9 +144,9 @@ fn threads_share_an_image() {
 
 #[test]
 fn errors_have_numbers_and_words() {
-    for number in [1, 2, 3, 4, 5, 7, 8, 10] {
+    for number in [1, 2, 3, 4, 5, 7, 8, 10, 16] {
         let errors = [Error::NotFound, Error::NotADirectory, Error::TooManyLinks, Error::NameTooLong, Error::Invalid];
-        let more = [Error::IsADirectory, Error::IsASpecialFile, Error::InPieces];
+        let more = [Error::IsADirectory, Error::IsASpecialFile, Error::InPieces, Error::OverBudget];
         let found: Vec<_> = errors.iter().chain(&more).filter(|it| it.number() == number).collect();
         assert!(found.len() == 1 && !found[0].to_string().is_empty());
     }

@@ -1,6 +1,6 @@
 -- Paths lead alike in two namespaces if the places of the one are seen among those of the other.
-use Rattle.std.proofs.Common.{◌≡◌, ℕ, zero, suc, ◌≤◌, Bool, true, false, List, [], ◌∷◌, ◌++◌, length, map, Option, Some}
-use Rattle.std.proofs.Common.{None, Result, Ok, Err, refl, sym, ap, ◌∙◌, nat_lt, arith}
+use Rattle.std.proofs.Common.{◌≡◌, ℕ, zero, suc, ◌+◌, ◌≤◌, Bool, true, false, List, [], ◌∷◌, ◌++◌, length, map, Option}
+use Rattle.std.proofs.Common.{Some, None, Result, Ok, Err, refl, sym, ap, ◌∙◌, nat_lt, arith}
 use Rattle.std.specs.Prelude.{option_map, not, ◌&&◌, if◌then◌else◌}
 use Rattle.std.specs.Str.{bytes_eq}
 use Rattle.rom_tree.specs.Dots.{dot, dot_dot}
@@ -15,6 +15,9 @@ use Rattle.path_walk.specs.Resolution.{root_of, to_root, enter, found, step, lin
 use Rattle.path_walk.specs.Resolution.{resolution}
 use Rattle.path_walk.specs.Graft.{MountedNode, graft, shown, are_mounts, AreShallow}
 use Rattle.path_walk.specs.Trails.{NamesAt}
+use Rattle.path_walk.specs.declared.error.WithinError.{WithinError}
+use Rattle.path_walk.specs.declared.error.WithinError.TheVariants.{Path, TooManyNames}
+use Rattle.path_walk.specs.Compared.{onward_compared, compared_at, compared_by, names_compared, IsRefusedBy}
 use Rattle.path_walk.proofs.GraftNodes.{one_node}
 
 module _ {F G : Type 0} (a : Namespace F) (b : Namespace G) (h : F → G) where
@@ -124,6 +127,53 @@ module _ {F G : Type 0} (a : Namespace F) (b : Namespace G) (h : F → G) where
         (ap (λ (v : G). resolve b follow 40 (record { current = v; ancestors = [] }) (components path)) r
         ∙ resolve_lift 40 follow (record { current = a.root; ancestors = [] }) (components path))))
 
+    onward_compared_lift : (go : Trail F → ℕ) (go' : Trail G → ℕ) (to : F → ℕ) (to' : G → ℕ) (e : Step F)
+        → ((s : Trail F) → go' (lift s) ≡ go s) → ((x : F) → to' (h x) ≡ to x)
+        → onward_compared go' to' (lift_step e) ≡ onward_compared go to e
+    onward_compared_lift go go' to to' (fails e) f k = refl
+    onward_compared_lift go go' to to' (goes t) f k = f t
+    onward_compared_lift go go' to to' (follows x) f k = k x
+
+    -- the names with which a component is compared, and those after it
+    sum_lift : (s : Trail F) (p : List ℕ) (u v : ℕ) → u ≡ v
+        → compared_at (b.node (h s.current)) p + u ≡ compared_at (a.node s.current) p + v
+    sum_lift s p u v e = ap (λ (x : Node). compared_at x p + u) (node s.current)
+        ∙ ap (λ (n : ℕ). compared_at (a.node s.current) p + n) e
+
+    compared_lift : (n : ℕ) (follow : Bool) (s : Trail F) (ps : List (List ℕ))
+        → compared_by b follow n (lift s) ps ≡ compared_by a follow n s ps
+    unfolding compared_by
+    compared_lift zero follow s [] = refl
+    compared_lift (suc n) follow s [] = refl
+    compared_lift zero follow s (p ∷ rest) = sum_lift s p _ _
+        (ap (onward_compared (λ t. compared_by b follow zero t rest) (λ x. 0))
+        (step_lift s p (is_empty rest && not follow))
+        ∙ onward_compared_lift (λ t. compared_by a follow zero t rest) (λ t. compared_by b follow zero t rest) (λ x. 0)
+        (λ x. 0) (step a s p (is_empty rest && not follow))
+        (λ t. compared_lift zero follow t rest) (λ x. refl))
+    compared_lift (suc n) follow s (p ∷ rest) = sum_lift s p _ _
+        (ap (onward_compared (λ t. compared_by b follow (suc n) t rest)
+        (λ x. compared_by b follow n (after_link b (lift s) x) (components (link_text_at b x) ++ rest)))
+        (step_lift s p (is_empty rest && not follow))
+        ∙ onward_compared_lift (λ t. compared_by a follow (suc n) t rest) (λ t. compared_by b follow (suc n) t rest)
+        (λ x. compared_by a follow n (after_link a s x) (components (link_text_at a x) ++ rest))
+        (λ x. compared_by b follow n (after_link b (lift s) x) (components (link_text_at b x) ++ rest))
+        (step a s p (is_empty rest && not follow))
+        (λ t. compared_lift (suc n) follow t rest)
+        (λ x. ap (λ (v : Trail G). compared_by b follow n v (components (link_text_at b (h x)) ++ rest))
+        (after_lift s x)
+        ∙ (ap (λ (v : List ℕ). compared_by b follow n (lift (after_link a s x)) (components v ++ rest)) (link_lift x)
+        ∙ compared_lift n follow (after_link a s x) (components (link_text_at a x) ++ rest))))
+
+    pub names_lift : b.root ≡ h a.root → (path : List ℕ) (follow : Bool)
+        → names_compared b path follow ≡ names_compared a path follow
+    unfolding names_compared
+    names_lift r path follow =
+        ap (λ (v : ℕ). if nat_lt 4095 (length path) then 0 else if is_empty path then 0
+        else if not (begins_with_slash path) then 0 else v)
+        (ap (λ (v : G). compared_by b follow 40 (record { current = v; ancestors = [] }) (components path)) r
+        ∙ compared_lift 40 follow (record { current = a.root; ancestors = [] }) (components path))
+
   pub ok_by : (r : Result F WalkError) (y : G) → lift_result r ≡ Ok y → (x : F) × (r ≡ Ok x) × (h x ≡ y)
   ok_by (Ok x) y e = (x, refl, cc)
   ok_by (Err e') y e = absurd (cc)
@@ -170,3 +220,15 @@ pub one_err : (m : Image) (e : WalkError) (path : List ℕ) (follow : Bool)
     → resolution (tree_namespace m.bytes m.tree) path follow ≡ Err e
 one_err m e path follow k = err_by (tree_namespace m.bytes m.tree) (graft (m ∷ []) []) alone
     (resolution (tree_namespace m.bytes m.tree) path follow) e (sym (walk_alone m path follow) ∙ k)
+
+-- the same for a walk with a budget
+pub refused_alone : (m : Image) (e : WithinError) (path : List ℕ) (follow : Bool)
+    → IsRefusedBy (resolution (graft (m ∷ []) []) path follow) e
+    → IsRefusedBy (resolution (tree_namespace m.bytes m.tree) path follow) e
+refused_alone m (Path e) path follow k = one_err m e path follow k
+refused_alone m TooManyNames path follow k = tt
+
+pub names_alone : (m : Image) (path : List ℕ) (follow : Bool)
+    → names_compared (graft (m ∷ []) []) path follow ≡ names_compared (tree_namespace m.bytes m.tree) path follow
+names_alone m path follow = names_lift (tree_namespace m.bytes m.tree) (graft (m ∷ []) []) alone (λ x. refl) (λ x. refl)
+    (λ x n. shown_alone m (find_entry (entries_of x) n)) refl path follow

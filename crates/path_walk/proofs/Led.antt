@@ -1,6 +1,6 @@
 -- The answer of a step for the images as they are, as one for the images as they were.
-use Rattle.std.proofs.Common.{◌≡◌, ℕ, ◌<◌, ◌≤◌, Bool, true, List, length, Option, Some, None, Result, Ok, ap, subst}
-use Rattle.std.proofs.Common.{arith}
+use Rattle.std.proofs.Common.{◌≡◌, ℕ, ◌<◌, ◌≤◌, Bool, true, List, length, Option, Some, None, Result, Ok, ap, sym}
+use Rattle.std.proofs.Common.{subst, arith}
 use Rattle.rom_tree.specs.Tree.{is_link}
 use Rattle.rom_tree.specs.Image.{contents_of}
 use Rattle.path_walk.specs.declared.error.WalkError.{WalkError}
@@ -29,6 +29,10 @@ module _ (k h : Held) (e : k ≡ h) (us : List Mount) (current : Location) (ance
   pub led_link : (o : Option Location) (x : Location) → o ≡ Some x → IsTrail h.images us current ancestors s
       → Told k (Ok o) → Leads h.images us s (step (graft h.images us) s p stays) current' ancestors' (Ok (Some x))
   led_link o x q i f = let told : Option Location → Type 0 = λ v. Told k (Ok v) in led (Ok (Some x)) i (subst told q f)
+
+-- what a place names in the images as they were, it names in them as they are
+pub named_there : (k h : Held) → k ≡ h → (p : Location) (s : MountedNode) → NamesAt h.images p s → NamesAt k.images p s
+named_there k h e p s n = let named : Held → Type 0 = λ v. NamesAt v.images p s in subst named (sym e) n
 
 -- the text that was read at a link
 pub link_read : (k h : Held) → k ≡ h → (p : Location) (x : MountedNode) (text : List ℕ) → NamesAt h.images p x

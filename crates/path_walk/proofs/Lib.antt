@@ -8,3 +8,4 @@ pub mod Alike
 pub mod Answered
 pub mod Kept
 pub mod Led
+pub mod Counted

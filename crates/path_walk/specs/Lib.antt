@@ -2,4 +2,5 @@ pub mod Errors
 pub mod Components
 pub mod Resolution
 pub mod Graft
+pub mod Compared
 pub mod Trails

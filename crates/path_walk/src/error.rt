@@ -1,6 +1,7 @@
 //! The errors of paths.
 ghost use Rattle.std.specs.Prelude.{◌≡◌};
 ghost use Rattle.path_walk.specs.Errors.{error_name, error_number};
+ghost use Rattle.path_walk.specs.declared.error.WithinError.TheVariants.{Path};
 
 use thiserror::Error;
 
@@ -50,5 +51,25 @@ impl WalkError {
             WalkError::Enametoolong => "ENAMETOOLONG",
             WalkError::Einval => "EINVAL",
         }
+    }
+}
+
+/// The reason why a walk that compares no more names than a budget ends without a node.
+#[derive(Clone, Copy, Debug, PartialEq, Eq, Error)]
+pub enum WithinError {
+    /// The path leads nowhere.
+    #[error("{0}")]
+    Path(WalkError),
+    /// The walk compares more names than the budget.
+    #[error("too many names compared")]
+    TooManyNames,
+}
+
+/// The refusal of a walk along a path.
+impl From<WalkError> for WithinError {
+    ghost from_gives = { λ error answer. answer ≡ Path error };
+
+    fn from(error: WalkError) -> WithinError {
+        WithinError::Path(error)
     }
 }

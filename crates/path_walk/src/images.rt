@@ -1,11 +1,14 @@
 //! One image or several, by their numbers.
 ghost use Rattle.std.specs.Prelude.{◌≡◌, ◌∷◌, [], ◌<◌, ℕ, true, length, map, Some, None};
 ghost use Rattle.std.specs.Prelude.{MatchOption};
+ghost use Rattle.std.specs.Bool.{OnTrue, OnFalse};
 ghost use Rattle.rom_tree.specs.Tree.{Node, ino_of, is_directory, is_link, entries_of};
 ghost use Rattle.rom_tree.specs.Image.{find_entry, contents_of};
 ghost use Rattle.path_walk.specs.Graft.{MountedNode, tree_in, bytes_in};
 ghost use Rattle.path_walk.specs.Trails.{Held, NamesAt, HasNodeAt};
+ghost use Rattle.path_walk.specs.Compared.{compared_at, AreTaken, AreTooMany};
 
+use crate::budget::take_names;
 use crate::mount::Location;
 use rom_tree::{NodeId, TreeImage, Viewed, is_directory_at, is_link_at, link_text};
 
@@ -49,6 +52,17 @@ pub(crate) trait Images<'a>: Gathered {
             → MatchOption result (find_entry (entries_of s.node) name.now ≡ None)
             (λ n. (y : Node) × (find_entry (entries_of s.node) name.now ≡ Some y)
             × (ino_of y ≡ n.0)) };
+
+    /// Takes from a budget the names with which a component is compared at a place, and returns
+    /// whether there were as many. If not, nothing is left.
+    fn take_names_in(&self, place: Location, component: &[u8], budget: &mut u64) -> bool
+        requires { HasNodeAt (Self.held self.now).images place (λ x. Unit {0}) }
+        ensures taken { OnTrue result ((s : MountedNode)
+            → NamesAt (Self.held self.now).images place s
+            → AreTaken budget.old budget.new (compared_at s.node component.now)) }
+        ensures too_many { OnFalse result ((s : MountedNode)
+            → NamesAt (Self.held self.now).images place s
+            → AreTooMany budget.old budget.new (compared_at s.node component.now)) };
 }
 
 /// One image, of number 0.
@@ -80,6 +94,10 @@ impl<'s, 'a, T: TreeImage<'a>> Images<'a> for One<'s, T> {
 
     fn find_in(&mut self, place: Location, name: &[u8]) -> Option<NodeId> {
         self.image.lookup(place.node, name)
+    }
+
+    fn take_names_in(&self, place: Location, component: &[u8], budget: &mut u64) -> bool {
+        take_names(&*self.image, place.node, component, budget)
     }
 }
 
@@ -116,5 +134,10 @@ impl<'s, 'a, T: TreeImage<'a>> Images<'a> for Several<'s, T> {
 
     fn find_in(&mut self, place: Location, name: &[u8]) -> Option<NodeId> {
         self.images[place.image as usize].lookup(place.node, name)
+    }
+
+    fn take_names_in(&self, place: Location, component: &[u8], budget: &mut u64) -> bool {
+        let images = &*self.images;
+        take_names(&images[place.image as usize], place.node, component, budget)
     }
 }

@@ -1,20 +1,26 @@
 //! `walk` and `walk_mounts`: the node to which a path leads, or its error; in one image, or in
-//! several that are mounted in one another. No call allocates memory.
+//! several that are mounted in one another. `walk_within` does it in one image, and compares no
+//! more names than a budget. No call allocates memory.
 //!
 //! Proved, for each `rom_tree::TreeImage` and for up to eight of them: the result is the node to
-//! which the path leads, or the error that it has, and the images do not change.
+//! which the path leads, or the error that it has, and the images do not change. A walk with a
+//! budget refuses exactly the paths whose look-up compares more names than the budget.
 //! `specs/Resolution.antt` defines where a path leads, after POSIX.1-2017, 4.13 "Pathname
-//! Resolution", and `specs/Graft.antt` defines mounts.
+//! Resolution", `specs/Graft.antt` defines mounts, and `specs/Compared.antt` the names that a
+//! look-up compares.
 #![tactic(auto)]
 
+mod budget;
 mod component;
 mod error;
 mod images;
 mod mount;
 mod paths;
 mod step;
+mod within;
 
-pub use error::WalkError;
+pub use error::{WalkError, WithinError};
 pub use mount::Mount;
 pub use paths::{walk, walk_mounts};
 pub use rom_tree::NodeId;
+pub use within::walk_within;

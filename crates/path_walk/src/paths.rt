@@ -9,6 +9,7 @@ ghost use Rattle.path_walk.specs.Resolution.{tree_namespace};
 ghost use Rattle.path_walk.specs.Graft.{MountedNode, Names, graft, are_mounts, AreShallow};
 ghost use Rattle.path_walk.specs.Graft.{IsUncovered};
 ghost use Rattle.path_walk.specs.Trails.{IsFound};
+ghost use Rattle.path_walk.specs.Compared.{compared_by, names_compared};
 
 use crate::component::take_component;
 use crate::error::WalkError;
@@ -20,13 +21,17 @@ use rom_tree::{NodeId, TreeImage};
 
 const PATH_MAX: usize = 4095;
 
-const LINKS_MAX: u32 = 40;
+pub(crate) const LINKS_MAX: u32 = 40;
 
 /// Refuses a path as a whole: if it is too long, is empty, or does not begin with a slash.
-fn check_path(path: &[u8]) -> Result<(), WalkError>
+pub(crate) fn check_path(path: &[u8]) -> Result<(), WalkError>
     ensures leads { (g : Namespace MountedNode) (follow : Bool) → MatchResult result
         (λ _. resolution g path.now follow ≡ resolve g follow 40 (at_root g) (components path.now))
         (λ e. resolution g path.now follow ≡ Err e) }
+    ensures compared { (g : Namespace MountedNode) (follow : Bool) → MatchResult result
+        (λ _. names_compared g path.now follow
+        ≡ compared_by g follow 40 (at_root g) (components path.now))
+        (λ e. names_compared g path.now follow ≡ 0) }
     ensures some { IfOk result (λ _. 0 < length path.now) }
 {
     if path.len() > PATH_MAX {

@@ -15,7 +15,7 @@ use crate::mount::{Location, Mount};
 use arrayvec::ArrayVec;
 use rom_tree::{NodeId, is_dot, is_dot_dot};
 
-const COMPONENT_MAX: usize = 255;
+pub(crate) const COMPONENT_MAX: usize = 255;
 
 /// Whether a text begins with a slash.
 pub(crate) fn is_absolute(text: &[u8]) -> bool

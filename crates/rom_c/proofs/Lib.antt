@@ -2,3 +2,5 @@ mod Shown
 mod Alone
 mod Standing
 mod Moving
+mod Listed
+mod Within

@@ -1,8 +1,9 @@
 -- An outcome of the machine of open files as it is reported to C: `error_told`, `place_told`,
--- `file_stat_told`, `IsCopied`, `IsListed`. (This project's own.)
+-- `file_stat_told`, `IsCopied`, `IsListed`, `HasKindIn`. (This project's own.)
 use Rattle.std.specs.Prelude.{◌≡◌, ℕ, List, [], ◌++◌, length, drop, Option, Some, None, Ok, Err}
+use Rattle.std.specs.Prelude.{IsSomeAnd}
 use Rattle.rom_tree.specs.declared.types.Stat.{Stat}
-use Rattle.rom_tree.specs.Tree.{Node}
+use Rattle.rom_tree.specs.Tree.{Node, node_at, kind_of}
 use Rattle.open_files.specs.declared.slot.OpenNode.{OpenNode}
 use Rattle.open_files.specs.Calls.{Of, Lent, Named}
 use Rattle.open_files.specs.Machine.{Open, Outcome}
@@ -11,7 +12,7 @@ use Rattle.open_files.specs.Errors.{error_number}
 use Rattle.rom_c.specs.declared.answers.RomtoolPlace.{RomtoolPlace}
 use Rattle.rom_c.specs.declared.answers.RomtoolStat.{RomtoolStat}
 use Rattle.rom_c.specs.declared.file.RomtoolEntry.{RomtoolEntry}
-use Rattle.rom_c.specs.Told.{no_place, no_stat, stat_told}
+use Rattle.rom_c.specs.Told.{kind_number, no_place, no_stat, stat_told}
 
 abbrev pub error_told : {R : Type 0} → Outcome R → ℕ
 error_told (Ok a) = 0
@@ -34,7 +35,7 @@ IsCopied (Ok a) error n new old = (error ≡ 0) × (n ≡ length a.0) × (new �
 IsCopied (Err e) error n new old = (error ≡ error_number e) × (n ≡ 0) × (new ≡ old)
 
 abbrev pub IsNoEntry : RomtoolEntry → Type 0
-IsNoEntry r = (r.name.now ≡ []) × (r.node ≡ 0) × (r.some ≡ 0)
+IsNoEntry r = (r.name.now ≡ []) × (r.node ≡ 0) × (r.some ≡ 0) × (r.kind ≡ 0)
 
 abbrev pub IsEntryOf : Option (Of Named) → RomtoolEntry → Type 0
 IsEntryOf None r = IsNoEntry r
@@ -44,6 +45,11 @@ IsEntryOf (Some a) r = (r.name.now ≡ a.1.name) × (r.node ≡ a.1.node) × (r.
 abbrev pub IsListed : Outcome (Option (Of Named)) → ℕ → RomtoolEntry → Type 0
 IsListed (Ok a) error r = (error ≡ 0) × IsEntryOf a.0 r
 IsListed (Err e) error r = (error ≡ error_number e) × IsNoEntry r
+
+-- The number of an entry is that of a node of the tree, and the entry has the kind of that node.
+abbrev pub HasKindIn : Node → RomtoolEntry → Type 0
+HasKindIn t r =
+    r.some ≡ 1 → IsSomeAnd (node_at t r.node) (λ x. r.kind ≡ kind_number (kind_of x))
 
 -- the open file o moved to the outcome's position; after an error it did not move
 abbrev pub Follows : {R : Type 0} → View Node → Open Node → OpenNode → OpenNode → Outcome R → Type 0

@@ -1,7 +1,7 @@
--- The reports to C about a path: `led_told`, `shown_told`, `IsText`. `no_node`, `no_stat`,
--- `no_place`: all except the error is 0. (This project's own.)
-use Rattle.std.specs.Prelude.{◌≡◌, ℕ, ◌+◌, ◌<◌, Bool, true, false, length, slice_index, Result, Ok}
-use Rattle.std.specs.Prelude.{Err}
+-- The reports to C about a path: `led_told`, `within_told`, `shown_told`, `IsText`. `no_node`,
+-- `no_stat`, `no_place`: all except the error is 0. (This project's own.)
+use Rattle.std.specs.Prelude.{◌≡◌, ℕ, ◌+◌, ◌<◌, nat_lt, Bool, true, false, length, slice_index}
+use Rattle.std.specs.Prelude.{Result, Ok, Err, if◌then◌else◌}
 use Rattle.rom_tree.specs.declared.types.Kind.{Kind}
 use Rattle.rom_tree.specs.declared.types.Kind.TheVariants.{Directory, Regular, Symlink, Block}
 use Rattle.rom_tree.specs.declared.types.Kind.TheVariants.{Character, Socket, Fifo}
@@ -61,6 +61,10 @@ stat_told s = record {
 abbrev pub led_told : Result Node WalkError → RomtoolNode
 led_told (Ok x) = record { error = 0; node = ino_of x }
 led_told (Err e) = no_node (error_number e)
+
+-- the same, if a look-up compares no more names than a budget; otherwise the error is 16
+abbrev pub within_told : ℕ → ℕ → RomtoolNode → RomtoolNode
+within_told budget names r = if nat_lt budget names then no_node 16 else r
 
 -- the kind and numbers of that node, or the error
 abbrev pub shown_told : Result Node WalkError → RomtoolStat

@@ -42,7 +42,7 @@ pub struct RomtoolPlace {
 }
 
 /// Returns the number of a kind, from 1 to 7.
-fn number_of(kind: Kind) -> u32
+pub(crate) fn number_of(kind: Kind) -> u32
     ensures { result ≡ kind_number kind }
 {
     match kind {

@@ -1,18 +1,22 @@
 //! Calls by paths, on an image that is open.
-ghost use Rattle.std.specs.Prelude.{◌≡◌, ◌≤◌, false, Some};
+ghost use Rattle.std.specs.Prelude.{◌≡◌, ◌≤◌, ◌-◌, false, Some};
 ghost use Rattle.rom_tree.specs.Tree.{Node, levels};
 ghost use Rattle.rom_tree.specs.Image.{HasNode, image_node, stat_of};
 ghost use Rattle.path_walk.specs.Resolution.{resolution, tree_namespace};
+ghost use Rattle.path_walk.specs.Compared.{names_compared};
 ghost use Rattle.image_check.specs.Any.{any_view};
-ghost use Rattle.rom_c.specs.Told.{IsText, led_told, shown_told, stat_told};
+ghost use Rattle.rom_c.specs.Told.{IsText, led_told, within_told, shown_told, stat_told};
 
 use crate::answers::{RomtoolNode, RomtoolPlace, RomtoolStat, no_node, no_place, no_stat, shown};
 use image_check::AnyImage;
-use path_walk::walk;
+use path_walk::{WithinError, walk, walk_within};
 use rom_tree::{NodeId, TreeImage, is_link_at};
 
 /// The error: the path does not lead to a symbolic link.
 const NO_LINK: u32 = 5;
+
+/// The error: more names would be compared than the budget.
+const TOO_MANY_NAMES: u32 = 16;
 
 /// Returns the node to which a path leads in an image.
 pub(crate) fn lookup_in(image: &mut AnyImage<'_>, path: &[u8], follow: bool) -> RomtoolNode
@@ -26,6 +30,36 @@ pub(crate) fn lookup_in(image: &mut AnyImage<'_>, path: &[u8], follow: bool) -> 
             node: node.0,
         },
         Err(error) => no_node(error.number()),
+    }
+}
+
+/// Returns the node to which a path leads in an image, if the look-up compares no more names than
+/// the budget, from which they are taken.
+pub(crate) fn lookup_within_in(
+    image: &mut AnyImage<'_>,
+    path: &[u8],
+    follow: bool,
+    budget: &mut u64,
+) -> RomtoolNode
+    requires { levels (any_view image.old).tree ≤ 65 }
+    ensures leads { result ≡ within_told budget.old
+        (names_compared (tree_namespace (any_view image.old).bytes (any_view image.old).tree)
+        path.now follow)
+        (led_told (resolution
+        (tree_namespace (any_view image.old).bytes (any_view image.old).tree) path.now follow)) }
+    ensures left { budget.new ≡ budget.old
+        - names_compared (tree_namespace (any_view image.old).bytes (any_view image.old).tree)
+        path.now follow }
+{
+    match walk_within(image, path, follow, budget) {
+        Ok(node) => RomtoolNode {
+            error: 0,
+            node: node.0,
+        },
+        Err(refusal) => match refusal {
+            WithinError::Path(error) => no_node(error.number()),
+            WithinError::TooManyNames => no_node(TOO_MANY_NAMES),
+        },
     }
 }
 

@@ -21,13 +21,15 @@ pub struct RomtoolFile<'a> {
         node position) ≡ true },
 }
 
-/// An entry of a directory: `some` is 1, or 0 at the directory's end.
+/// An entry of a directory: its name, and the number and the kind of its node. `some` is 1, or 0 at
+/// the directory's end.
 #[repr(C)]
 #[derive(Clone, Copy)]
 pub struct RomtoolEntry<'a> {
     pub name: &'a [u8],
     pub node: u32,
     pub some: u32,
+    pub kind: u32,
 }
 
 /// Returns no file, with an error.
@@ -48,12 +50,13 @@ pub(crate) fn no_file<'a>(image: &RomtoolImage<'a>, error: u32) -> RomtoolFile<'
 /// Returns no entry.
 pub(crate) fn no_entry<'a>() -> RomtoolEntry<'a>
     ensures name { result.name.now ≡ [] }
-    ensures numbers { (result.node ≡ 0) × (result.some ≡ 0) }
+    ensures numbers { (result.node ≡ 0) × (result.some ≡ 0) × (result.kind ≡ 0) }
 {
     RomtoolEntry {
         name: &[],
         node: 0,
         some: 0,
+        kind: 0,
     }
 }
 

@@ -9,7 +9,7 @@ ghost use Rattle.image_check.specs.Checked.{HasTree};
 ghost use Rattle.rom_c.specs.Held.{usual};
 ghost use Rattle.rom_c.specs.Told.{no_stat as no_stat_told, no_place as no_place_told};
 ghost use Rattle.rom_c.specs.Outcomes.{error_told, place_told, file_stat_told, IsCopied, IsListed};
-ghost use Rattle.rom_c.specs.Outcomes.{IsNoEntry};
+ghost use Rattle.rom_c.specs.Outcomes.{IsNoEntry, HasKindIn};
 ghost use Rattle.rom_c.specs.Files.{IsNoFile, IsOpen, IsOpenAt, IsOpenedBy, MovesTo, file_in};
 
 use crate::answers::{CLOSED, RomtoolPlace, RomtoolStat, no_place, no_stat};
@@ -201,9 +201,9 @@ pub extern "C" fn romtool_seek(file: &mut RomtoolFile<'_>, position: u64) -> u32
     error
 }
 
-/// Reads the next entry of an open directory, without `.` and `..`; at the end, `some` of the entry
-/// is 0. Returns 0, or an error: 6 if the file is not open, 2 if it is not a directory. Then the
-/// position stays as it is, and there is no entry.
+/// Reads the next entry of an open directory, without `.` and `..`, with the kind of its node; at
+/// the end, `some` of the entry is 0. Returns 0, or an error: 6 if the file is not open, 2 if it is
+/// not a directory. Then the position stays as it is, and there is no entry.
 #[unsafe(no_mangle)]
 pub extern "C" fn romtool_readdir<'a>(
     file: &mut RomtoolFile<'a>,
@@ -219,6 +219,8 @@ pub extern "C" fn romtool_readdir<'a>(
         → IsSomeAnd (file_in t file.old)
         (λ o. IsListed (readdir_on None o.place o.position) result entry.new
         × MovesTo t file.old file.new.position (readdir_on None o.place o.position)) }
+    ensures kind { IsOpen file.old → (t : Node) → HasTree file.old.image.bytes.now usual t
+        → HasKindIn t entry.new }
 {
     one_tree();
     if !is_open(file) {

@@ -7,13 +7,13 @@ ghost use Rattle.open_files.specs.Machine.{readdir_on};
 ghost use Rattle.open_files.specs.Slots.{stands, image_view};
 ghost use Rattle.image_check.specs.Any.{any_view};
 ghost use Rattle.rom_c.specs.Outcomes.{error_told, place_told, file_stat_told, IsCopied, IsListed};
-ghost use Rattle.rom_c.specs.Outcomes.{Follows};
+ghost use Rattle.rom_c.specs.Outcomes.{Follows, HasKindIn};
 
-use crate::answers::{RomtoolPlace, RomtoolStat, no_place, shown};
+use crate::answers::{RomtoolPlace, RomtoolStat, no_place, number_of, shown};
 use crate::file::{RomtoolEntry, no_entry};
 use image_check::AnyImage;
 use open_files::{CallError, OpenNode, opened};
-use rom_tree::{NodeId, Piece, is_directory_at, is_regular_at};
+use rom_tree::{NodeId, Piece, TreeImage, is_directory_at, is_regular_at};
 
 /// Returns whether a node can be opened.
 pub(crate) fn can_open(image: &AnyImage<'_>, node: NodeId) -> bool
@@ -129,6 +129,7 @@ pub(crate) fn readdir_in<'a>(
     ensures stands { is_some (stands (image_view (any_view image.now)) opened.new) ≡ true }
     ensures node { opened.new.node.0 ≡ opened.old.node.0 }
     ensures lies { LieIn (any_view image.now).bytes entry.new.name.now }
+    ensures kind { HasKindIn (any_view image.now).tree entry.new }
 {
     match opened::readdir(image, opened) {
         Ok(Some(found)) => {
@@ -136,6 +137,7 @@ pub(crate) fn readdir_in<'a>(
                 name: found.name,
                 node: found.node.0,
                 some: 1,
+                kind: number_of(image.stat(found.node).kind),
             };
             0
         }

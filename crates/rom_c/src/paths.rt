@@ -1,17 +1,18 @@
 //! The calls of C on an image.
-ghost use Rattle.std.specs.Prelude.{◌≡◌, ◌≢◌, ◌⊎◌, false, true, IsSome, IfSome};
+ghost use Rattle.std.specs.Prelude.{◌≡◌, ◌≢◌, ◌⊎◌, ◌-◌, false, true, IsSome, IfSome};
 ghost use Rattle.rom_tree.specs.Tree.{Node, node_at};
 ghost use Rattle.rom_tree.specs.Image.{stat_of};
 ghost use Rattle.path_walk.specs.Resolution.{resolution, tree_namespace};
+ghost use Rattle.path_walk.specs.Compared.{names_compared};
 ghost use Rattle.rom_faults.specs.declared.error.CheckError.TheVariants.{Fault, OutOfMemory};
 ghost use Rattle.image_check.specs.Checked.{HasTree, IsLeastFaultUnder};
 ghost use Rattle.rom_c.specs.Held.{usual, IsFormat, IsReported};
-ghost use Rattle.rom_c.specs.Told.{IsText, led_told, shown_told, stat_told};
+ghost use Rattle.rom_c.specs.Told.{IsText, led_told, within_told, shown_told, stat_told};
 ghost use Rattle.rom_c.specs.Told.{no_node as no_node_told, no_stat as no_stat_told};
 ghost use Rattle.rom_c.specs.Told.{no_place as no_place_told};
 
 use crate::answers::{CLOSED, RomtoolNode, RomtoolPlace, RomtoolStat, no_node, no_place, no_stat};
-use crate::calls::{lookup_in, readlink_in, stat_at, stat_in};
+use crate::calls::{lookup_in, lookup_within_in, readlink_in, stat_at, stat_in};
 use crate::image::{OPEN, RomtoolImage, check_into, image_of};
 use image_check::laws::one_tree;
 use rom_tree::NodeId;
@@ -61,6 +62,34 @@ pub extern "C" fn romtool_lookup(image: &RomtoolImage<'_>, path: &[u8], follow: 
         return no_node(CLOSED);
     }
     lookup_in(&mut image_of(image), path, follow)
+}
+
+/// Returns the node to which a path leads, as `romtool_lookup` does, if the look-up compares no
+/// more names than `budget`; the names that it compares are taken from the budget. The errors are
+/// those of `romtool_lookup`, and 16 if more names are compared than the budget; then nothing is
+/// left of it. If no image is open, the budget stays as it is.
+#[unsafe(no_mangle)]
+pub extern "C" fn romtool_lookup_within(
+    image: &RomtoolImage<'_>,
+    path: &[u8],
+    follow: bool,
+    budget: &mut u64,
+) -> RomtoolNode
+    ensures closed { image.now.status ≢ 1
+        → (result ≡ no_node_told 13) × (budget.new ≡ budget.old) }
+    ensures leads { image.now.status ≡ 1 → (t : Node) → HasTree image.now.bytes.now usual t
+        → result ≡ within_told budget.old
+        (names_compared (tree_namespace image.now.bytes.now t) path.now follow)
+        (led_told (resolution (tree_namespace image.now.bytes.now t) path.now follow)) }
+    ensures left { image.now.status ≡ 1 → (t : Node) → HasTree image.now.bytes.now usual t
+        → budget.new
+        ≡ budget.old - names_compared (tree_namespace image.now.bytes.now t) path.now follow }
+{
+    one_tree();
+    if image.status != OPEN {
+        return no_node(CLOSED);
+    }
+    lookup_within_in(&mut image_of(image), path, follow, budget)
 }
 
 /// Returns the kind and numbers of the node to which a path leads; `follow` and the errors are

@@ -2,9 +2,13 @@ use Rattle.std.proofs.Common.{None, refl, ap, ◌∙◌}
 use Rattle.std.specs.Prelude.{is_some}
 use Rattle.open_files.specs.declared.slot.OpenNode.{OpenNode}
 use Rattle.open_files.specs.Slots.{stands, image_view}
+use Rattle.rom_tree.specs.declared.types.Stat.{Stat}
 use Rattle.rom_tree.specs.Image.{LieIn}
+use Rattle.rom_tree.proofs.Named.{has_node}
 use Rattle.image_check.specs.Any.{any_view}
+use Rattle.rom_c.specs.Told.{kind_number}
 use Rattle.rom_c.proofs.Standing.{nothing_lies}
+use Rattle.rom_c.proofs.Listed.{entry_there, kind_there, no_kind}
 use Rattle.rom_c.proofs.lending.readdir_in.Goals as goal
 
 pub returns-in-Ok-Some-clause-read : goal.returns-in-Ok-Some-clause-read
@@ -24,7 +28,7 @@ pub returns-in-Ok-None-clause-read : goal.returns-in-Ok-None-clause-read
 returns-in-Ok-None-clause-read c = λ o h.
     let m = c.in-Ok-None.ensures.moves o None h in
     let e = c.no_entry.ensures in
-    rw m.1 ((refl, rw c.in-Ok-None.field-0-is (e.name, e.numbers.0, e.numbers.1)), m.2)
+    rw m.1 ((refl, rw c.in-Ok-None.field-0-is (e.name, e.numbers.0, e.numbers.1, e.numbers.2)), m.2)
 
 pub returns-in-Ok-None-clause-stands : goal.returns-in-Ok-None-clause-stands
 returns-in-Ok-None-clause-stands c =
@@ -54,3 +58,30 @@ returns-in-Ok-None-clause-lies c = nothing_lies _ _ c.no_entry.ensures.name
 
 pub returns-in-Err-clause-lies : goal.returns-in-Err-clause-lies
 returns-in-Err-clause-lies c = nothing_lies _ _ c.no_entry-in-Err.ensures.name
+
+pub stat-requires : goal.stat-requires
+stat-requires c =
+    let m = any_view c.args.image.now in
+    let o = c.requires.0 in
+    let w = c.in-Ok-Some.ensures.moves o None c.requires.1 in
+    let y = entry_there m c.args.opened.now o c.in-Ok-Some.field-0 c.in-Ok-Some.found c.requires.1 w.0 w.1
+    c.in-Ok-Some.field-0-is in
+    has_node m c.in-Ok-Some.found.node.0 y.0 y.1
+
+pub returns-in-Ok-Some-clause-kind : goal.returns-in-Ok-Some-clause-kind
+returns-in-Ok-Some-clause-kind c =
+    let m = any_view c.args.image.now in
+    let o = c.requires.0 in
+    let w = c.in-Ok-Some.ensures.moves o None c.requires.1 in
+    let y = entry_there m c.args.opened.now o c.in-Ok-Some.field-0 c.in-Ok-Some.found c.requires.1 w.0 w.1
+    c.in-Ok-Some.field-0-is in
+    λ s. kind_there m c.in-Ok-Some.found.node.0 y.0 c.number_of.result y.1
+    (c.number_of.ensures ∙ ap (λ (v : Stat). kind_number v.kind) (c.stat.ensures y.0 y.1))
+
+pub returns-in-Ok-None-clause-kind : goal.returns-in-Ok-None-clause-kind
+returns-in-Ok-None-clause-kind c =
+    no_kind (any_view c.args.image.now).tree c.no_entry.result c.no_entry.ensures.numbers.1
+
+pub returns-in-Err-clause-kind : goal.returns-in-Err-clause-kind
+returns-in-Err-clause-kind c =
+    no_kind (any_view c.args.image.now).tree c.no_entry-in-Err.result c.no_entry-in-Err.ensures.numbers.1
