@@ -31,6 +31,8 @@ from romtool import run as ran
 CODES = {ord("/"): "_", ord("Z"): "ZZ", ord("."): "Zd", ord("-"): "Zh", ord("_"): "Zu"}
 COMPILERS = {"cc": ["-std=c99", "-x", "c"], "c++": ["-std=c++17", "-x", "c++"]}
 MOST_OF_PICTURE = 2 * 2**20
+# where the first row of a picture is, below its legend
+FIRST_ROW = 900
 NOTE = "{http://www.w3.org/2000/svg}"
 
 
@@ -256,6 +258,19 @@ int main(void) { %s return Flash_SIZE == 0; }
             raise Wrong("%s: %r" % (compiler, [it for it in zip(shown, wanted) if it[0] != it[1]][:1]))
 
 
+def compare_marks(root):
+    """Checks that no mark of a picture is after the end of the last bar of its row."""
+    ends = {}
+    for bar in root.iter(NOTE + "rect"):
+        if int(bar.get("y", 0)) >= FIRST_ROW:
+            end = int(bar.get("x")) + int(bar.get("width"))
+            ends[bar.get("y")] = max(end, ends.get(bar.get("y"), 0))
+    for path in root.iter(NOTE + "path"):
+        for x, y in re.findall(r"M(\d+) (\d+)v", path.get("d")) if path.get("class") == "mark" else []:
+            if y in ends and int(x) > ends[y]:
+                raise Wrong("map --svg: a mark at %s, after the last bar at %d" % (x, ends[y]))
+
+
 def compare_picture(binary, image, data, base, lines):
     """Compares the bars of the picture with the ranges."""
     done = ran(binary, "map", "--svg", "--base", "%x" % base, image)
@@ -272,6 +287,7 @@ def compare_picture(binary, image, data, base, lines):
             paths.add(front.rsplit(" ", 1)[0])
     if reach != max(len(data), 1):
         raise Wrong("map --svg: bars up to %d of %d" % (reach, len(data)))
+    compare_marks(root)
     known = {escaped(it[3]) for it in lines if it[3] is not None}
     shown = {it if not it.startswith("...") else None for it in paths} - {None}
     if not shown <= known:

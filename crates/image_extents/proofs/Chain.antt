@@ -15,7 +15,7 @@ join x y z (inl s) (inr f) = let a = s.0 in let b = s.1 in inr (omega (arith, a,
 join x y z (inr s) (inl f) = let a = f.0 in inr (omega (arith, s, a))
 join x y z (inr s) (inr f) = inr (omega (arith, s, f))
 
-any_of : (ys : List Extent) (j : ℕ) (a b : Extent) → j < length ys → get_or ys j a ≡ get_or ys j b
+pub any_of : (ys : List Extent) (j : ℕ) (a b : Extent) → j < length ys → get_or ys j a ≡ get_or ys j b
 any_of [] j a b m = absurd (omega (arith, m))
 any_of (y ∷ ys) zero a b m = refl
 any_of (y ∷ ys) (suc j) a b m = any_of ys j a b (omega (arith, m))

@@ -6,3 +6,4 @@ pub mod Chain
 pub mod Apart
 pub mod CramfsApart
 pub mod Texts
+pub mod Owners

@@ -3,3 +3,4 @@ pub mod Found
 pub mod Lines
 pub mod Sorted
 pub mod Apart
+pub mod Which

@@ -1,11 +1,70 @@
 //! What is at an address.
+ghost use Rattle.std.specs.Prelude.{◌≡◌, ◌<◌, ◌≤◌, ◌^◌, length, max, nat_lt, slice_index_or, IfOk};
+ghost use Rattle.std.specs.List.Sorted.{IsNonDecreasingBy, IsPartitionPoint};
+ghost use Rattle.rom_fields.specs.Failures.{Counts};
+ghost use Rattle.rom_fields.specs.Written.{Puts, WritesText, sink};
+ghost use Rattle.image_extents.specs.Apart.{AreApart};
+ghost use Rattle.image_extents.specs.Found.{is_data};
+ghost use Rattle.image_extents.specs.Sorted.{start_of};
+ghost use Rattle.image_extents.specs.Which.{at_text, byte_text, covers, inside_text, is_inside};
+ghost use Rattle.image_extents.specs.Which.{owner_line, owners_text, which_text};
+ghost use Rattle.image_extents.specs.declared.extent.Extent.{Extent};
 
 use crate::extent::{Extent, Extents, Kind, end};
 use crate::lines::{put_between, put_beyond, put_extent};
 use rom_fields::{ByteWrite, Failed, put, put_long_decimal};
 
-/// Puts the lines of the extents that contain the byte at `at`, each with the offset of the byte
-/// in its contents if it is data.
+/// Whether an extent has bytes of contents.
+fn is_contents(kind: Kind) -> bool
+    ensures { result ≡ is_data kind }
+{
+    match kind {
+        Kind::Data => true,
+        Kind::Super | Kind::Header | Kind::List | Kind::Table => false,
+    }
+}
+
+/// Whether an extent has the byte at `at`.
+fn covers(x: Extent, at: u64) -> bool
+    ensures { result ≡ covers at x }
+{
+    u64::from(x.start) <= at && at < end(x)
+}
+
+/// Puts which byte of the contents an extent has at `at`, if it is data.
+fn put_byte<W: ByteWrite>(w: &mut W, failed: &mut bool, x: Extent, at: u64)
+    requires covered { x.start ≤ at }
+    requires small { at < 2 ^ 63 }
+    ensures { Puts (sink (W.output w.old) failed.old) (sink (W.output w.new) failed.new)
+        (byte_text at x) }
+{
+    if is_contents(x.kind) {
+        put(w, failed, b" ");
+        put_long_decimal(w, failed, u64::from(x.offset) + (at - u64::from(x.start)));
+    }
+}
+
+/// Puts the line of an extent if it has the byte at `at`.
+fn put_one<W: ByteWrite>(
+    w: &mut W,
+    failed: &mut bool,
+    base: u64,
+    found: &Extents<'_>,
+    x: Extent,
+    at: u64,
+)
+    requires { at < 2 ^ 63 }
+    ensures { Puts (sink (W.output w.old) failed.old) (sink (W.output w.new) failed.new)
+        (owner_line base found.now at x) }
+{
+    if covers(x, at) {
+        put_extent(w, failed, base, found, x);
+        put_byte(w, failed, x, at);
+        put(w, failed, b"\n");
+    }
+}
+
+/// Puts the lines of the extents that have the byte at `at`.
 fn put_owners<W: ByteWrite>(
     w: &mut W,
     failed: &mut bool,
@@ -13,43 +72,129 @@ fn put_owners<W: ByteWrite>(
     found: &Extents<'_>,
     owners: &[Extent],
     at: u64,
-) {
+)
+    requires { at < 2 ^ 63 }
+    ensures { Puts (sink (W.output w.old) failed.old) (sink (W.output w.new) failed.new)
+        (owners_text base found.now at owners.now) }
+{
     for x in owners {
-        put_extent(w, failed, base, found, *x);
-        if x.kind == Kind::Data {
-            put(w, failed, b" ");
-            let offset = u64::from(x.offset).saturating_add(at.saturating_sub(u64::from(x.start)));
-            put_long_decimal(w, failed, offset);
-        }
-        put(w, failed, b"\n");
+        put_one(w, failed, base, found, *x, at);
     }
 }
 
-/// How many of the extents begin at the offset `at` or before it.
-fn begun(extents: &[Extent], at: u64) -> usize {
-    extents.partition_point(|x| u64::from(x.start) <= at)
+/// The number of extents that begin before the offset `limit`, found by halving.
+fn begun(extents: &[Extent], limit: u64) -> usize
+    requires { IsNonDecreasingBy start_of extents.now }
+    ensures within { result ≤ length extents.now }
+    ensures parts { IsPartitionPoint (λ x. x.start < limit) (λ x. limit ≤ x.start) extents.now
+        result }
+{
+    let mut low = 0;
+    let mut high = extents.len();
+    while low < high {
+        let middle = low + (high - low) / 2;
+        if u64::from(extents[middle].start) < limit {
+            low = middle + 1;
+        } else {
+            high = middle;
+        }
+    }
+    low
+}
+
+/// Where the extent of this number begins, or `size` if there is none.
+fn start_at(extents: &[Extent], number: usize, size: u64) -> u64
+    ensures there { (d : Extent) → number < length extents.now
+        → result ≡ (slice_index_or extents.now number d).start }
+    ensures none { length extents.now ≤ number → result ≡ size }
+{
+    if number < extents.len() {
+        u64::from(extents[number].start)
+    } else {
+        size
+    }
 }
 
 /// Puts the lines of the byte at the offset `at` of the accessible bytes.
-fn put_at<W: ByteWrite>(w: &mut W, failed: &mut bool, base: u64, found: &Extents<'_>, at: u64) {
-    let size = found.bytes.len() as u64;
-    let next = begun(&found.extents, at);
-    let to = match found.extents.get(next) {
-        Some(x) => u64::from(x.start),
-        None => size,
-    };
-    if next == 0 || next > found.extents.len() {
+fn put_among<W: ByteWrite>(
+    w: &mut W,
+    failed: &mut bool,
+    base: u64,
+    found: &Extents<'_>,
+    extents: &[Extent],
+    at: u64,
+)
+    requires sorted { IsNonDecreasingBy start_of extents.now }
+    requires apart { AreApart extents.now }
+    requires small { at < 2 ^ 63 }
+    ensures { Puts (sink (W.output w.old) failed.old) (sink (W.output w.new) failed.new)
+        (at_text base found.now at extents.now) }
+{
+    let next = begun(extents, at + 1);
+    let to = start_at(extents, next, found.bytes.len() as u64);
+    if next == 0 {
         return put_between(w, failed, base, found.bytes, 0, to);
     }
-    let last = found.extents[next - 1];
+    let last = extents[next - 1];
     if end(last) <= at {
         return put_between(w, failed, base, found.bytes, end(last), to);
     }
-    let first = match last.start.checked_sub(1) {
-        Some(before) => begun(&found.extents, u64::from(before)).min(next),
-        None => 0,
-    };
-    put_owners(w, failed, base, found, &found.extents[first..next], at);
+    let first = begun(extents, u64::from(last.start));
+    put_owners(w, failed, base, found, &extents[first..next], at);
+}
+
+/// Puts what is at the offset `at` of a file of so many bytes, if it has a byte there.
+fn put_inside<W: ByteWrite>(
+    w: &mut W,
+    failed: &mut bool,
+    base: u64,
+    file: u64,
+    found: &Extents<'_>,
+    at: u64,
+)
+    requires sorted { IsNonDecreasingBy start_of found.now.extents.items }
+    requires apart { AreApart found.now.extents.items }
+    ensures { Puts (sink (W.output w.old) failed.old) (sink (W.output w.new) failed.new)
+        (inside_text base file found.now at) }
+{
+    let size = found.bytes.len() as u64;
+    if at < size {
+        put_among(w, failed, base, found, found.extents.as_slice(), at);
+    } else {
+        put_beyond(w, failed, base, size, file);
+    }
+}
+
+/// Whether a file of so many bytes has a byte at the offset `at`.
+fn has_byte(found: &Extents<'_>, file: u64, at: u64) -> bool
+    ensures { result ≡ nat_lt at (max (length found.now.bytes.now) file) }
+{
+    at < (found.bytes.len() as u64).max(file)
+}
+
+/// Puts what is at an address, and returns whether the file has a byte there.
+fn put_which<W: ByteWrite>(
+    w: &mut W,
+    failed: &mut bool,
+    base: u64,
+    file: u64,
+    found: &Extents<'_>,
+    address: u64,
+) -> bool
+    requires sorted { IsNonDecreasingBy start_of found.now.extents.items }
+    requires apart { AreApart found.now.extents.items }
+    ensures text { Puts (sink (W.output w.old) failed.old) (sink (W.output w.new) failed.new)
+        (which_text base file found.now address) }
+    ensures inside { result ≡ is_inside base file found.now address }
+{
+    let at = address.wrapping_sub(base);
+    let inside = has_byte(found, file, at);
+    if inside {
+        put_inside(w, failed, base, file, found, at);
+    } else {
+        put(w, failed, b"err ERANGE\n");
+    }
+    inside
 }
 
 /// Writes the lines of the extents that contain the byte of an address, in the image whose first
@@ -67,17 +212,15 @@ pub fn write_which<W: ByteWrite>(
     file: u64,
     address: u64,
     w: &mut W,
-) -> Result<bool, Failed> {
+) -> Result<bool, Failed>
+    requires sorted { IsNonDecreasingBy start_of found.now.extents.items }
+    requires apart { AreApart found.now.extents.items }
+    ensures text { WritesText (W.output w.old).contents (W.output w.new).contents result
+        (which_text base file found.now address) }
+    ensures count { Counts (W.output w.old).failures (W.output w.new).failures result }
+    ensures inside { IfOk result (λ b. b ≡ is_inside base file found.now address) }
+{
     let mut failed = false;
-    let size = found.bytes.len() as u64;
-    let at = address.wrapping_sub(base);
-    let inside = at < size.max(file);
-    if !inside {
-        put(w, &mut failed, b"err ERANGE\n");
-    } else if at < size {
-        put_at(w, &mut failed, base, found, at);
-    } else {
-        put_beyond(w, &mut failed, base, size, file);
-    }
+    let inside = put_which(w, &mut failed, base, file, found, address);
     if failed { Err(Failed) } else { Ok(inside) }
 }

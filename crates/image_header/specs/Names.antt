@@ -1,5 +1,5 @@
 -- The identifier of a path, and a string of C. (This project's own.)
-use Rattle.std.specs.Prelude.{ℕ, ◌+◌, ◌/◌, ◌%◌, ◌==◌, ◌&&◌, ◌||◌, Bool, if◌then◌else◌, nat_lt}
+use Rattle.std.specs.Prelude.{ℕ, ◌+◌, ◌/◌, ◌%◌, ◌==◌, ◌&&◌, ◌||◌, Bool, true, false, if◌then◌else◌, nat_lt}
 use Rattle.std.specs.Prelude.{nat_le}
 use Rattle.std.specs.Prelude.{List, [], ◌∷◌, ◌++◌}
 use Rattle.std.specs.List.{flat_map}
@@ -9,6 +9,19 @@ is_letter b = (nat_le 65 b && nat_le b 90) || (nat_le 97 b && nat_le b 122)
 
 abbrev pub is_digit : ℕ → Bool
 is_digit b = nat_le 48 b && nat_le b 57
+
+-- a letter, a digit or an underscore
+abbrev pub is_word : ℕ → Bool
+is_word b = is_letter b || (is_digit b || b == 95)
+
+abbrev pub are_words : List ℕ → Bool
+are_words [] = true
+are_words (b ∷ bs) = if is_word b then are_words bs else false
+
+-- what the names of a header may begin with: a letter, and letters, digits and underscores
+abbrev pub is_prefix : List ℕ → Bool
+is_prefix [] = false
+is_prefix (b ∷ bs) = is_letter b && are_words bs
 
 -- the lower-case hexadecimal digit of a number below 16
 abbrev pub hex_digit : ℕ → ℕ

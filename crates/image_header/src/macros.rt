@@ -1,15 +1,38 @@
 //! The macros of one file.
+ghost use Rattle.rom_fields.specs.Written.{Puts, sink};
+ghost use Rattle.image_header.specs.Header.{macro_front, address_macro, macros};
 
 use crate::names::{put_identifier, put_text};
 use crate::numbers::{put_address, put_length};
 use rom_fields::{ByteWrite, put};
 
 /// Puts the front of a macro: its name.
-fn put_name<W: ByteWrite>(w: &mut W, failed: &mut bool, prefix: &[u8], path: &[u8], what: &[u8]) {
+fn put_name<W: ByteWrite>(w: &mut W, failed: &mut bool, prefix: &[u8], path: &[u8], what: &[u8])
+    ensures { Puts (sink (W.output w.old) failed.old) (sink (W.output w.new) failed.new)
+        (macro_front prefix.now path.now what.now) }
+{
     put(w, failed, b"#define ");
     put(w, failed, prefix);
     put_identifier(w, failed, path);
     put(w, failed, what);
+}
+
+/// Puts the macro of the address that a file may have.
+fn put_place<W: ByteWrite>(
+    w: &mut W,
+    failed: &mut bool,
+    prefix: &[u8],
+    path: &[u8],
+    address: Option<u64>,
+)
+    ensures { Puts (sink (W.output w.old) failed.old) (sink (W.output w.new) failed.new)
+        (address_macro prefix.now path.now address) }
+{
+    if let Some(address) = address {
+        put_name(w, failed, prefix, path, b"_ADDRESS ");
+        put_address(w, failed, address);
+        put(w, failed, b"\n");
+    }
 }
 
 /// Puts the macros of a file of so many bytes: its address, if it is in one piece, its length and
@@ -21,12 +44,11 @@ pub(crate) fn put_macros<W: ByteWrite>(
     path: &[u8],
     address: Option<u64>,
     length: u32,
-) {
-    if let Some(address) = address {
-        put_name(w, failed, prefix, path, b"_ADDRESS ");
-        put_address(w, failed, address);
-        put(w, failed, b"\n");
-    }
+)
+    ensures { Puts (sink (W.output w.old) failed.old) (sink (W.output w.new) failed.new)
+        (macros prefix.now path.now address length) }
+{
+    put_place(w, failed, prefix, path, address);
     put_name(w, failed, prefix, path, b"_LENGTH ");
     put_length(w, failed, u64::from(length));
     put(w, failed, b"\n");

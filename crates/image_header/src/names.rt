@@ -2,7 +2,8 @@
 ghost use Rattle.std.specs.Prelude.{◌≡◌};
 ghost use Rattle.rom_fields.specs.Written.{Puts, sink};
 ghost use Rattle.image_header.specs.Names.{hex_digit, code_of, identifier, text_byte};
-ghost use Rattle.image_header.specs.Names.{text_of, is_letter, is_digit};
+ghost use Rattle.image_header.specs.Names.{text_of, is_letter, is_digit, is_word, are_words};
+ghost use Rattle.image_header.specs.Names.{is_prefix};
 
 use rom_fields::{ByteWrite, put};
 
@@ -20,18 +21,35 @@ fn is_digit(byte: u8) -> bool
     48 <= byte && byte <= 57
 }
 
-/// Whether the names of a header may begin with these bytes: a letter, and letters, digits and
-/// underscores after it.
-pub fn is_prefix(bytes: &[u8]) -> bool {
-    if bytes.is_empty() || !is_letter(bytes[0]) {
-        return false;
-    }
+/// Whether a byte is a letter, a digit or an underscore.
+fn is_word(byte: u8) -> bool
+    ensures { result ≡ is_word byte }
+{
+    is_letter(byte) || is_digit(byte) || byte == b'_'
+}
+
+/// Whether all of the bytes are letters, digits and underscores.
+fn are_words(bytes: &[u8]) -> bool
+    ensures { result ≡ are_words bytes.now }
+{
     for byte in bytes {
-        if !is_letter(*byte) && !is_digit(*byte) && *byte != b'_' {
+        let is_good = is_word(*byte);
+        if !is_good {
             return false;
         }
     }
     true
+}
+
+/// Returns whether the names of a header may begin with these bytes: a letter, and letters, digits
+/// and underscores after it.
+pub fn is_prefix(bytes: &[u8]) -> bool
+    ensures { result ≡ is_prefix bytes.now }
+{
+    match bytes {
+        [] => false,
+        [first, rest @ ..] => is_letter(*first) && are_words(rest),
+    }
 }
 
 /// The lower-case hexadecimal digit of a number below 16.

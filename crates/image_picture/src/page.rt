@@ -125,10 +125,12 @@ fn put_addresses<W: ByteWrite>(w: &mut W, failed: &mut bool, base: u64, scale: S
     }
 }
 
-/// Puts the marks of one row.
-fn put_marks_of<W: ByteWrite>(w: &mut W, failed: &mut bool, scale: Scale, number: u64) {
+/// Puts the marks of one row, up to the end of the last bar.
+fn put_marks_of<W: ByteWrite>(w: &mut W, failed: &mut bool, scale: Scale, number: u64, size: u64) {
     let mark = scale.mark().max(1);
-    for k in 0..(scale.row / mark).saturating_add(1) {
+    let begin = number.saturating_mul(scale.row);
+    let within = size.saturating_sub(begin).min(scale.row);
+    for k in 0..(within / mark).saturating_add(1) {
         put(w, failed, b"M");
         put_with(w, failed, scale.x(k.saturating_mul(mark)), b" ");
         put_with(w, failed, scale.y(number), b"v");
@@ -136,11 +138,11 @@ fn put_marks_of<W: ByteWrite>(w: &mut W, failed: &mut bool, scale: Scale, number
     }
 }
 
-/// Puts the marks at multiples of 4,096 bytes.
-fn put_marks<W: ByteWrite>(w: &mut W, failed: &mut bool, scale: Scale) {
+/// Puts the marks at multiples of 4,096 bytes of a file of so many bytes.
+fn put_marks<W: ByteWrite>(w: &mut W, failed: &mut bool, scale: Scale, size: u64) {
     put(w, failed, b"<path class=\"mark\" d=\"");
     for number in 0..scale.rows {
-        put_marks_of(w, failed, scale, number);
+        put_marks_of(w, failed, scale, number, size);
     }
     put(w, failed, b"\"/>\n</svg>\n");
 }
@@ -160,7 +162,8 @@ pub fn write_picture<W: ByteWrite>(
     w: &mut W,
 ) -> Result<(), PictureError> {
     let mut failed = false;
-    let scale = Scale::of(file.max(found.bytes.len() as u64).saturating_sub(1));
+    let size = file.max(found.bytes.len() as u64);
+    let scale = Scale::of(size.saturating_sub(1));
     put_front(w, &mut failed, scale);
     put_legend(w, &mut failed, scale);
     put_addresses(w, &mut failed, base, scale);
@@ -172,7 +175,7 @@ pub fn write_picture<W: ByteWrite>(
         small: None,
     };
     bars.all(w, &mut failed, file)?;
-    put_marks(w, &mut failed, scale);
+    put_marks(w, &mut failed, scale, size);
     if failed {
         Err(PictureError::WriteFault)
     } else {

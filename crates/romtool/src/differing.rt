@@ -7,10 +7,10 @@ use crate::sound::{checked, read};
 use crate::teller::Teller;
 use command_line::Diff;
 use image_check::AnyImage;
-use image_diff::{DiffError, write_diff};
-use program_streams::Again;
+use inspect_commands::print_diff;
+use program_streams::{Again, Held};
 use rom_commands::{Failure, Status};
-use rom_fields::{ByteWrite, Plain};
+use rom_fields::Plain;
 use std::io::{self, BufWriter};
 
 /// Compares the images in two files, and prints their differences.
@@ -43,12 +43,8 @@ fn print<'a>(teller: &Teller<'_>, old: &AnyImage<'a>, new: &AnyImage<'a>, places
         return teller.say(Failure::Memory);
     };
     let mut out = Plain::new(out);
-    let written = write_diff(rt.alloc(), old, new, places, &mut out);
-    let flushed = out.flush();
-    match written {
-        Ok(told) if flushed.is_ok() => if told { Status::Refused } else { Status::Done },
-        Err(DiffError::OutOfMemory) => teller.say(Failure::Memory),
-        Err(DiffError::LongPath) => teller.say(Failure::LongPath),
-        _ => teller.say(Failure::WriteFault),
-    }
+    let mut err = Plain::new(Held::new(rt.alloc(), rt.stderr()));
+    let status = print_diff(rt.alloc(), old, new, places, &mut out, &mut err);
+    teller.hand_on(err);
+    status
 }

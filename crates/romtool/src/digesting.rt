@@ -7,10 +7,10 @@ use crate::sound::{checked, read};
 use crate::teller::Teller;
 use command_line::Digest;
 use image_check::AnyImage;
-use image_digest::{DigestError, write_digests, write_image_digest};
-use program_streams::Again;
+use inspect_commands::{print_digests, print_image_digest};
+use program_streams::{Again, Held};
 use rom_commands::{Failure, Status};
-use rom_fields::{ByteWrite, Plain};
+use rom_fields::Plain;
 use rom_tree::TreeImage;
 use std::io::{self, BufWriter};
 
@@ -26,23 +26,6 @@ pub fn run(teller: &Teller<'_>, asked: Digest<'_>) -> Status {
     }
 }
 
-/// Writes what is asked of a valid image.
-fn write<W: ByteWrite>(
-    image: &AnyImage<'_>,
-    asked: Digest<'_>,
-    w: &mut W,
-) -> Result<(), DigestError>
-    requires { levels (any_view image.now).tree ≤ 65 }
-{
-    if !asked.whole {
-        return write_digests(image, w);
-    }
-    match write_image_digest(image.bytes(), w) {
-        Ok(()) => Ok(()),
-        Err(_) => Err(DigestError::WriteFault),
-    }
-}
-
 /// Prints what is asked of a valid image.
 fn print(teller: &Teller<'_>, image: &AnyImage<'_>, asked: Digest<'_>) -> Status
     requires { levels (any_view image.now).tree ≤ 65 }
@@ -52,11 +35,12 @@ fn print(teller: &Teller<'_>, image: &AnyImage<'_>, asked: Digest<'_>) -> Status
         return teller.say(Failure::Memory);
     };
     let mut out = Plain::new(out);
-    let written = write(image, asked, &mut out);
-    let flushed = out.flush();
-    match written {
-        Ok(()) if flushed.is_ok() => Status::Done,
-        Err(DigestError::LongPath) if flushed.is_ok() => teller.say(Failure::LongPath),
-        _ => teller.say(Failure::WriteFault),
-    }
+    let mut err = Plain::new(Held::new(rt.alloc(), rt.stderr()));
+    let status = if asked.whole {
+        print_image_digest(image.bytes(), &mut out, &mut err)
+    } else {
+        print_digests(image, &mut out, &mut err)
+    };
+    teller.hand_on(err);
+    status
 }

@@ -8,13 +8,11 @@ use crate::sound::{checked, loaded};
 use crate::teller::Teller;
 use command_line::{Map, MapForm, Which};
 use image_check::AnyImage;
-use image_extents::{extents, write_extents, write_which};
-use image_header::{HeaderError, is_prefix, write_header};
-use image_picture::{PictureError, write_picture};
-use program_streams::Again;
+use image_header::is_prefix;
+use inspect_commands::{print_extents, print_header, print_picture, print_places};
+use program_streams::{Again, Held};
 use rom_commands::{Failure, Status};
-use rom_fields::{ByteWrite, Failed, OutOfMemory, Plain};
-use rom_tree::TreeImage;
+use rom_fields::{ByteWrite, Plain};
 use sentences::reasons::{NO_ADDRESS, NO_PREFIX};
 use std::alloc::Global;
 use std::io::{self, BufWriter};
@@ -40,47 +38,6 @@ enum Asked<'a> {
 struct Flash {
     base: u64,
     file: u64,
-}
-
-/// Why not everything was written.
-#[derive(Clone, Copy, PartialEq, Eq)]
-enum Stopped {
-    /// Memory was refused.
-    Memory,
-    /// A path is too long for a header.
-    LongPath,
-    /// A write failed.
-    WriteFault,
-}
-
-impl From<OutOfMemory> for Stopped {
-    fn from(_error: OutOfMemory) -> Self {
-        Stopped::Memory
-    }
-}
-
-impl From<Failed> for Stopped {
-    fn from(_error: Failed) -> Self {
-        Stopped::WriteFault
-    }
-}
-
-impl From<PictureError> for Stopped {
-    fn from(error: PictureError) -> Self {
-        match error {
-            PictureError::OutOfMemory => Stopped::Memory,
-            PictureError::WriteFault => Stopped::WriteFault,
-        }
-    }
-}
-
-impl From<HeaderError> for Stopped {
-    fn from(error: HeaderError) -> Self {
-        match error {
-            HeaderError::LongPath => Stopped::LongPath,
-            HeaderError::WriteFault => Stopped::WriteFault,
-        }
-    }
 }
 
 /// Prints a map of the image in a file, in a form other than the lines of files.
@@ -136,49 +93,28 @@ fn run(teller: &Teller<'_>, name: &str, base: u64, asked: Asked<'_>) -> Status {
     }
 }
 
-/// Writes what is at some addresses. The status is `Refused` if one of them is outside.
-fn write_all<W: ByteWrite>(
-    alloc: Global,
-    image: &AnyImage<'_>,
-    flash: Flash,
-    addresses: &[u64],
-    w: &mut W,
-) -> Result<Status, Stopped>
-    requires { IsChecked image.now }
-{
-    let found = extents(alloc, image)?;
-    let mut status = Status::Done;
-    for address in addresses {
-        if !write_which(&found, flash.base, flash.file, *address, w)? {
-            status = Status::Refused;
-        }
-    }
-    Ok(status)
-}
-
-/// Writes what is asked of a valid image.
-fn write<W: ByteWrite>(
+/// Prints what is asked of a valid image to `out`, or to `err` why not.
+fn print_to<W: ByteWrite, E: ByteWrite>(
     alloc: Global,
     image: &AnyImage<'_>,
     flash: Flash,
     asked: Asked<'_>,
-    w: &mut W,
-) -> Result<Status, Stopped>
+    out: &mut W,
+    err: &mut E,
+) -> Status
     requires shallow { levels (any_view image.now).tree ≤ 65 }
     requires checked { IsChecked image.now }
 {
+    let Flash { base, file } = flash;
     match asked {
-        Asked::All => write_extents(&extents(alloc, image)?, flash.base, flash.file, w)?,
-        Asked::At(addresses) => return write_all(alloc, image, flash, addresses, w),
-        Asked::Header(prefix) => write_header(image, flash.base, prefix.as_bytes(), w)?,
-        Asked::Picture => {
-            write_picture(alloc, &extents(alloc, image)?, flash.base, flash.file, w)?;
-        }
+        Asked::All => print_extents(alloc, image, base, file, out, err),
+        Asked::At(addresses) => print_places(alloc, image, base, file, addresses, out, err),
+        Asked::Header(prefix) => print_header(image, base, prefix.as_bytes(), out, err),
+        Asked::Picture => print_picture(alloc, image, base, file, out, err),
     }
-    Ok(Status::Done)
 }
 
-/// Prints what is asked of a valid image.
+/// Prints what is asked of a valid image on the standard streams.
 fn print(teller: &Teller<'_>, image: &AnyImage<'_>, flash: Flash, asked: Asked<'_>) -> Status
     requires shallow { levels (any_view image.now).tree ≤ 65 }
     requires checked { IsChecked image.now }
@@ -188,12 +124,8 @@ fn print(teller: &Teller<'_>, image: &AnyImage<'_>, flash: Flash, asked: Asked<'
         return teller.say(Failure::Memory);
     };
     let mut out = Plain::new(out);
-    let written = write(rt.alloc(), image, flash, asked, &mut out);
-    let flushed = out.flush();
-    match written {
-        Ok(status) if flushed.is_ok() => status,
-        Err(Stopped::Memory) if flushed.is_ok() => teller.say(Failure::Memory),
-        Err(Stopped::LongPath) if flushed.is_ok() => teller.say(Failure::LongPath),
-        _ => teller.say(Failure::WriteFault),
-    }
+    let mut err = Plain::new(Held::new(rt.alloc(), rt.stderr()));
+    let status = print_to(rt.alloc(), image, flash, asked, &mut out, &mut err);
+    teller.hand_on(err);
+    status
 }

@@ -7,10 +7,11 @@ use crate::sound::{checked, read};
 use crate::teller::Teller;
 use command_line::Verify;
 use image_check::AnyImage;
-use image_digest::{compare, find_holder, pass_over, write_verdict};
-use program_streams::{Again, Ahead};
+use image_digest::{compare, find_holder, pass_over};
+use inspect_commands::print_verdict;
+use program_streams::{Again, Ahead, Held};
 use rom_commands::{Failure, Status};
-use rom_fields::{ByteWrite, Plain};
+use rom_fields::Plain;
 use rom_tree::TreeImage;
 use std::alloc::AllocError;
 use std::fs::{File, OpenFile};
@@ -58,17 +59,16 @@ fn tell(
         return teller.say(Failure::Memory);
     };
     let mut out = Plain::new(out);
-    let written = write_verdict(image.bytes().len(), found, &mut out);
-    if out.flush().is_err() || written.is_err() {
-        return teller.say(Failure::WriteFault);
-    }
-    let Some(at) = found else {
-        return Status::Done;
-    };
-    if teller.is_explained() {
+    let mut err = Plain::new(Held::new(rt.alloc(), rt.stderr()));
+    let status = print_verdict(image.bytes().len(), found, &mut out, &mut err);
+    teller.hand_on(err);
+    if status == Status::Refused
+        && teller.is_explained()
+        && let Some(at) = found
+    {
         let _ = explain(teller, image, asked, at);
     }
-    Status::Refused
+    status
 }
 
 /// Explains where the dump differs.

@@ -1,0 +1,19 @@
+use Rattle.std.proofs.Common.{ℕ, Option, subst, sym}
+use Rattle.rom_fields.specs.Written.{Puts, sink}
+use Rattle.rom_fields.proofs.Joins.{chain, puts_nothing}
+use Rattle.image_header.specs.Header.{address_macro}
+use Rattle.image_header.proofs.macros.put_place.Goals as goal
+
+pub returns-in-Some : goal.returns-in-Some
+unfolding address_macro
+returns-in-Some g c =
+    let P : Option ℕ → Type 0 = λ a. Puts (sink (g.W.ByteWrite.output c.args.w.now) c.args.failed.now)
+    (sink (g.W.ByteWrite.output c.put.new.w) c.put.new.failed) (address_macro c.args.prefix.now c.args.path.now a) in
+    subst P (sym c.in-Some.is) (chain c.put_name.ensures (chain c.put_address.ensures c.put.ensures))
+
+pub returns-in_default : goal.returns-in_default
+unfolding address_macro
+returns-in_default g c =
+    let P : Option ℕ → Type 0 = λ a. Puts (sink (g.W.ByteWrite.output c.args.w.now) c.args.failed.now)
+    (sink (g.W.ByteWrite.output c.args.w.now) c.args.failed.now) (address_macro c.args.prefix.now c.args.path.now a) in
+    subst P (sym c.in_default.is) (puts_nothing (sink (g.W.ByteWrite.output c.args.w.now) c.args.failed.now))

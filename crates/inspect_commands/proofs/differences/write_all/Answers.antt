@@ -1,0 +1,58 @@
+use Rattle.std.proofs.Common.{[], ap, inl, inr, refl, ◌∙◌, List, ℕ}
+use Rattle.rom_tree.specs.Image.{Image}
+use Rattle.image_diff.specs.Diff.{is_told, names_lines}
+use Rattle.inspect_commands.specs.Texts.{told_status}
+use Rattle.inspect_commands.proofs.Closed.{nothing}
+use Rattle.inspect_commands.proofs.differences.write_all.Goals as goal
+
+pub returns-in-Ok : goal.returns-in-Ok
+returns-in-Ok g c =
+    let a : Image = g.T.Viewed.image c.args.old.now in
+    let b : Image = g.T.Viewed.image c.args.new.now in
+    let d = c.in-Ok.ensures in (
+      names_lines c.args.places a.bytes b.bytes d.old_names d.new_names,
+      record {
+        old_names = d.old_names;
+        new_names = d.new_names;
+        old_sorted = d.old_sorted;
+        new_sorted = d.new_sorted;
+        same = refl;
+        status = c.told_status.ensures ∙ ap told_status d.lines.2;
+      },
+      d.lines.0,
+      d.lines.1,
+    )
+
+pub returns-in-Err-OutOfMemory : goal.returns-in-Err-OutOfMemory
+returns-in-Err-OutOfMemory g c =
+    let n = nothing (g.W.ByteWrite.output c.args.w.now) (g.W.ByteWrite.output c.write_diff.new.w)
+    (rw c.in-Err-OutOfMemory.field-0-is at c.in-Err-OutOfMemory.ensures) in
+    ([], (refl, inl refl), n.0, n.1)
+
+pub returns-in-Err-LongPath : goal.returns-in-Err-LongPath
+returns-in-Err-LongPath g c =
+    let h = rw c.in-Err-LongPath.field-0-is at c.in-Err-LongPath.ensures in
+    let n = nothing (g.W.ByteWrite.output c.args.w.now) (g.W.ByteWrite.output c.write_diff.new.w) h.0 in
+    ([], (refl, inr (refl, h.1)), n.0, n.1)
+
+pub returns-in-Err-WriteFault : goal.returns-in-Err-WriteFault
+returns-in-Err-WriteFault g c =
+    let a : Image = g.T.Viewed.image c.args.old.now in
+    let b : Image = g.T.Viewed.image c.args.new.now in
+    let d = rw c.in-Err-WriteFault.field-0-is at c.in-Err-WriteFault.ensures in
+    let text : List ℕ = names_lines c.args.places a.bytes b.bytes d.old_names d.new_names in (
+      text,
+      (
+        told_status (is_told text),
+        record {
+          old_names = d.old_names;
+          new_names = d.new_names;
+          old_sorted = d.old_sorted;
+          new_sorted = d.new_sorted;
+          same = refl;
+          status = refl;
+        },
+      ),
+      d.lines.0,
+      d.lines.1,
+    )

@@ -1,0 +1,109 @@
+-- What the commands that inspect an image have to print, with which status, and why they may stop.
+-- (This project's own.)
+use Rattle.std.specs.Prelude.{◌≡◌, ℕ, ◌⊎◌, Bool, true, false, List, [], length, Option, Some, None}
+use Rattle.std.specs.Prelude.{◌∷◌, ◌&&◌}
+use Rattle.std.specs.List.{flat_map}
+use Rattle.rom_tree.specs.Image.{Image}
+use Rattle.rom_tree.specs.Names.{Name}
+use Rattle.image_check.specs.declared.any.AnyImage.{AnyImage}
+use Rattle.image_digest.specs.Digests.{digest_text, input_line}
+use Rattle.image_digest.specs.Digests.{HasLongPath as DigestHasLongPath}
+use Rattle.image_digest.specs.Differences.{verdict_text}
+use Rattle.image_diff.specs.Diff.{is_told, names_lines}
+use Rattle.image_diff.specs.Rows.{AreSorted}
+use Rattle.image_diff.specs.Rows.{HasLongPath as DiffHasLongPath}
+use Rattle.image_extents.specs.declared.extent.Extents.{Extents}
+use Rattle.image_extents.specs.Sorted.{AreOf}
+use Rattle.image_extents.specs.Lines.{extents_text}
+use Rattle.image_extents.specs.Which.{is_inside, which_text}
+use Rattle.image_header.specs.Header.{header_text}
+use Rattle.image_header.specs.Header.{HasLongPath as HeaderHasLongPath}
+use Rattle.rom_commands.specs.declared.status.Status.{Status}
+use Rattle.rom_commands.specs.declared.status.Status.TheVariants.{Done, Refused}
+use Rattle.inspect_commands.specs.declared.ending.Stopped.TheVariants.{Memory, LongPath}
+use Rattle.inspect_commands.specs.Ends.{HasText, MayStop}
+
+-- no reason
+abbrev pub NeverStops : MayStop
+NeverStops why text = ⊥
+
+-- memory was refused, and nothing was printed
+abbrev pub StopsOfMemory : MayStop
+StopsOfMemory why text = (why ≡ Memory) × (text ≡ [])
+
+-- the digests of the files of an image
+abbrev pub IsDigests : Image → HasText
+IsDigests m text s = (text ≡ digest_text m.bytes m.tree) × (s ≡ Done)
+
+abbrev pub StopsDigests : Image → MayStop
+StopsDigests m why text =
+    (why ≡ LongPath) × DigestHasLongPath m.tree × (text ≡ digest_text m.bytes m.tree)
+
+-- the digest of the image itself
+abbrev pub IsDigest : List ℕ → HasText
+IsDigest bytes text s = (text ≡ input_line bytes) × (s ≡ Done)
+
+-- whether a dump has an image of so many bytes: if it differs, the status is `Refused`
+abbrev pub verdict_status : Option ℕ → Status
+verdict_status None = Done
+verdict_status (Some at) = Refused
+
+abbrev pub IsVerdict : ℕ → Option ℕ → HasText
+IsVerdict size found text s = (text ≡ verdict_text size found) × (s ≡ verdict_status found)
+
+-- in what two images differ: if there is a line, the status is `Refused`
+abbrev pub told_status : Bool → Status
+told_status true = Refused
+told_status false = Done
+
+pub record IsDiff (places : Bool) (a b : Image) (text : List ℕ) (s : Status) : Type 0 where
+  pub old_names : List Name
+  pub new_names : List Name
+  pub old_sorted : AreSorted a.tree old_names
+  pub new_sorted : AreSorted b.tree new_names
+  pub same : text ≡ names_lines places a.bytes b.bytes old_names new_names
+  pub status : s ≡ told_status (is_told text)
+
+-- memory was refused or a path is too long, and nothing was printed
+abbrev pub StopsDiff : Image → Image → MayStop
+StopsDiff a b why text =
+    (text ≡ []) × ((why ≡ Memory)
+    ⊎ ((why ≡ LongPath) × (DiffHasLongPath a.tree ⊎ DiffHasLongPath b.tree)))
+
+-- the lines of the extents of an image that is in a file of so many bytes
+pub record IsExtents (a : AnyImage) (base file : ℕ) (text : List ℕ) (s : Status) : Type 0 where
+  pub found : Extents
+  pub are : AreOf a found
+  pub same : text ≡ extents_text base file found
+  pub status : s ≡ Done
+
+-- the header of an image
+abbrev pub IsHeader : List ℕ → ℕ → Image → HasText
+IsHeader prefix base m text s =
+    (text ≡ header_text prefix base (length m.bytes) m.tree) × (s ≡ Done)
+
+abbrev pub StopsHeader : List ℕ → ℕ → Image → MayStop
+StopsHeader prefix base m why text =
+    (why ≡ LongPath) × HeaderHasLongPath m.tree
+    × (text ≡ header_text prefix base (length m.bytes) m.tree)
+
+-- what is at each of some addresses
+unfoldable pub places_text : ℕ → ℕ → Extents → List ℕ → List ℕ
+places_text base file e addresses = flat_map (λ a. which_text base file e a) addresses
+
+-- whether the file has a byte at each of them
+abbrev pub are_inside : ℕ → ℕ → Extents → List ℕ → Bool
+are_inside base file e [] = true
+are_inside base file e (a ∷ rest) = is_inside base file e a && are_inside base file e rest
+
+-- if it has none at one of them, the status is `Refused`
+abbrev pub places_status : Bool → Status
+places_status true = Done
+places_status false = Refused
+
+pub record IsPlaces (image : AnyImage) (base file : ℕ) (addresses text : List ℕ)
+    (s : Status) : Type 0 where
+  pub found : Extents
+  pub are : AreOf image found
+  pub same : text ≡ places_text base file found addresses
+  pub status : s ≡ places_status (are_inside base file found addresses)

@@ -1,0 +1,104 @@
+//! What is at some addresses of an image.
+ghost use Rattle.std.specs.Prelude.{◌≡◌, ◌&&◌, IfOk};
+ghost use Rattle.std.specs.List.Sorted.{IsNonDecreasingBy};
+ghost use Rattle.rom_fields.specs.Failures.{Counts};
+ghost use Rattle.rom_fields.specs.Written.{WritesText};
+ghost use Rattle.image_gaps.specs.Gaps.{IsChecked};
+ghost use Rattle.image_extents.specs.Apart.{AreApart};
+ghost use Rattle.image_extents.specs.Sorted.{start_of};
+ghost use Rattle.inspect_commands.specs.Ends.{Ends, Writes};
+ghost use Rattle.inspect_commands.specs.Texts.{IsPlaces, StopsOfMemory, are_inside, places_status};
+ghost use Rattle.inspect_commands.specs.Texts.{places_text};
+
+use crate::ending::{Stopped, end};
+use image_check::AnyImage;
+use image_extents::{Extents, extents, write_which};
+use rom_commands::Status;
+use rom_fields::{ByteWrite, Failed};
+use std::alloc::Global;
+
+/// Whether both are so.
+fn both(one: bool, other: bool) -> bool
+    ensures { result ≡ (one && other) }
+{
+    one && other
+}
+
+/// Writes what is at some addresses, and returns whether the file has a byte at each of them.
+fn write_lines<W: ByteWrite>(
+    found: &Extents<'_>,
+    base: u64,
+    file: u64,
+    addresses: &[u64],
+    w: &mut W,
+) -> Result<bool, Failed>
+    requires sorted { IsNonDecreasingBy start_of found.now.extents.items }
+    requires apart { AreApart found.now.extents.items }
+    ensures text { WritesText (W.output w.old).contents (W.output w.new).contents result
+        (places_text base file found.now addresses.now) }
+    ensures count { Counts (W.output w.old).failures (W.output w.new).failures result }
+    ensures inside { IfOk result (λ b. b ≡ are_inside base file found.now addresses.now) }
+{
+    let mut inside = true;
+    for address in addresses {
+        match write_which(found, base, file, *address, w) {
+            Ok(here) => inside = both(inside, here),
+            Err(_) => return Err(Failed),
+        }
+    }
+    Ok(inside)
+}
+
+/// The status, by whether the file has a byte at each address.
+fn places_status(inside: bool) -> Status
+    ensures { result ≡ places_status inside }
+{
+    if inside {
+        Status::Done
+    } else {
+        Status::Refused
+    }
+}
+
+/// Writes what is at some addresses of an image.
+fn write_all<W: ByteWrite>(
+    alloc: Global,
+    image: &AnyImage<'_>,
+    base: u64,
+    file: u64,
+    addresses: &[u64],
+    w: &mut W,
+) -> Result<Status, Stopped>
+    requires { IsChecked image.now }
+    ensures { Writes (IsPlaces image.now base file addresses.now) StopsOfMemory (W.output w.old)
+        (W.output w.new) result }
+{
+    let Ok(found) = extents(alloc, image) else {
+        return Err(Stopped::Memory);
+    };
+    match write_lines(&found, base, file, addresses, w) {
+        Ok(inside) => Ok(places_status(inside)),
+        Err(_) => Err(Stopped::WriteFault),
+    }
+}
+
+/// Prints to `out` what is at some addresses of a checked image, whose first byte has the address
+/// `base`, in a file of so many bytes, and flushes it. The status is `Done`, or `Refused` if the
+/// file has no byte at one of the addresses. It is `Failed`, and `err` says why, if memory was
+/// refused, of which nothing is printed, or if a write or the flush failed.
+pub fn print_places<W: ByteWrite, E: ByteWrite>(
+    alloc: Global,
+    image: &AnyImage<'_>,
+    base: u64,
+    file: u64,
+    addresses: &[u64],
+    out: &mut W,
+    err: &mut E,
+) -> Status
+    requires { IsChecked image.now }
+    ensures { Ends (IsPlaces image.now base file addresses.now) StopsOfMemory (W.output out.old)
+        (W.output out.new) (E.output err.old) (E.output err.new) result }
+{
+    let told = write_all(alloc, image, base, file, addresses, out);
+    end(out, err, told)
+}
