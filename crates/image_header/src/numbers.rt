@@ -1,4 +1,4 @@
-//! Numbers of C.
+//! Numbers in C.
 ghost use Rattle.std.specs.Prelude.{◌≡◌};
 ghost use Rattle.rom_fields.specs.Written.{Puts, sink};
 ghost use Rattle.image_header.specs.Header.{address_number, length_number};

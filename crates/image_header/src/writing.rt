@@ -46,7 +46,7 @@ fn put_head<W: ByteWrite>(w: &mut W, failed: &mut bool, prefix: &[u8], base: u64
     put(w, failed, b"\n");
 }
 
-/// Whether so many bytes are all of a file that has some.
+/// Returns whether this number of bytes is all of a file that is not empty.
 fn is_whole(size: u32, len: u64) -> bool
     ensures yes { OnTrue result ((0 < size) × (len ≡ size)) }
     ensures no { OnFalse result (0 < size → len ≡ size → ⊥) }
@@ -68,7 +68,7 @@ fn address_of<'a, T: TreeImage<'a>>(image: &T, base: u64, node: NodeId, size: u3
     }
 }
 
-/// Puts the macros of the name that a walk gave last, if it is that of a regular file. `path` is
+/// Puts the macros of the name that a walk returned last, if it is that of a regular file. `path` is
 /// room for its path.
 fn put_file<'a, T: TreeImage<'a>, W: ByteWrite>(
     image: &T,
