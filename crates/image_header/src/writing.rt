@@ -69,8 +69,8 @@ fn address_of<'a, T: TreeImage<'a>>(image: &T, base: u64, node: NodeId, size: u3
     }
 }
 
-/// Puts the macros of the name that a walk returned last, if it is that of a regular file. `path` is
-/// room for its path.
+/// Puts the macros of the name that a walk returned last, if it is that of a regular file. `path`
+/// is room for its path.
 fn put_file<'a, T: TreeImage<'a>, W: ByteWrite>(
     image: &T,
     w: &mut W,
