@@ -1,6 +1,7 @@
 -- The extents that have a byte, in a list that rises by their starts.
 use Rattle.std.proofs.Common.{◌≡◌, ◌<◌, ◌≤◌, ℕ, zero, suc, ◌+◌, ◌-◌, List, [], ◌∷◌, ◌++◌, length, get_or, take, drop}
-use Rattle.std.proofs.Common.{refl, sym, ap, ◌∙◌, subst, arith, rules, tests, true, false, nat_lt, inl, inr, append-nil, length-drop}
+use Rattle.std.proofs.Common.{refl, sym, ap, ◌∙◌, subst, arith, rules}
+use Rattle.std.proofs.Common.{tests, true, false, nat_lt, inl, inr, append-nil, length-drop}
 use Rattle.std.proofs.lemmas.Bool.{cases_lt}
 use Rattle.std.proofs.lemmas.Grind.{flat_map-append}
 use Rattle.std.proofs.lemmas.List.{get_or-drop, take_more, take_all}
@@ -33,8 +34,10 @@ abbrev pub Parts : List Extent → ℕ → ℕ → Type 0
 Parts xs limit n = IsPartitionPoint (λ (x : Extent). x.start < limit) (λ (x : Extent). limit ≤ x.start) xs n
 
 tail : (x : Extent) (xs : List Extent) (limit n : ℕ) → Parts (x ∷ xs) limit (suc n) → Parts xs limit n
-tail x xs limit n p =
-    (λ k d z l. p.0 (suc k) d (omega arith) (omega (arith, l)), λ k d l m. p.1 (suc k) d (omega (arith, l)) (omega (arith, m)))
+tail x xs limit n p = (
+  λ k d z l. p.0 (suc k) d (omega arith) (omega (arith, l)),
+  λ k d l m. p.1 (suc k) d (omega (arith, l)) (omega (arith, m)),
+)
 
 tail_none : (x : Extent) (xs : List Extent) (limit : ℕ) → Parts (x ∷ xs) limit 0 → Parts xs limit 0
 tail_none x xs limit p =
@@ -202,7 +205,8 @@ module _ (base : ℕ) (e : Extents) (at : ℕ) (xs : List Extent) (apart : AreAp
 
 -- one line more
 pub owners_more : (base : ℕ) (e : Extents) (at : ℕ) (xs : List Extent) (i : ℕ) (d : Extent) → i < length xs
-    → owners_text base e at (take (i + 1) xs) ≡ owners_text base e at (take i xs) ++ owner_line base e at (get_or xs i d)
+    → owners_text base e at (take (i + 1) xs)
+    ≡ owners_text base e at (take i xs) ++ owner_line base e at (get_or xs i d)
 unfolding owners_text
 owners_more base e at xs i d h =
     let f : Extent → List ℕ = λ x. owner_line base e at x in
@@ -214,14 +218,16 @@ pub owners_end : (base : ℕ) (e : Extents) (at : ℕ) (xs : List Extent) (i : �
 owners_end base e at xs i h = ap (owners_text base e at) (take_all i xs h)
 
 -- the halves of a search
-pub before_middle : (xs : List Extent) (limit middle : ℕ) (d : Extent) → IsNonDecreasingBy start_of xs → middle < length xs
+pub before_middle : (xs : List Extent) (limit middle : ℕ) (d : Extent) → IsNonDecreasingBy start_of xs
+    → middle < length xs
     → (get_or xs middle d).start < limit → (k : ℕ) (v : Extent) → k < middle + 1 → (get_or xs k v).start < limit
 before_middle xs limit middle d up m h k v l =
     let s = up k middle d (omega (arith, l)) m in
     let e : (get_or xs k d).start ≡ (get_or xs k v).start = ap start_of (any_of xs k d v (omega (arith, l, m))) in
     omega (arith, s, e, h)
 
-pub from_middle : (xs : List Extent) (limit middle : ℕ) (d : Extent) → IsNonDecreasingBy start_of xs → middle < length xs
+pub from_middle : (xs : List Extent) (limit middle : ℕ) (d : Extent) → IsNonDecreasingBy start_of xs
+    → middle < length xs
     → limit ≤ (get_or xs middle d).start → (k : ℕ) (v : Extent) → middle ≤ k → k < length xs
     → limit ≤ (get_or xs k v).start
 from_middle xs limit middle d up m h k v l w =

@@ -46,4 +46,5 @@ no_address base (p ∷ ps) place len h n =
     let left : runs_from len (drop len all) ≡ [] → ⊥ = λ e.
     let t : drop len all ≡ [] = sym (runs_joined len (drop len all)) ∙ ap joined e in
     let l = ap length t in omega (arith, d, l, less) in
-    sym (ap (only_address base) (front all place len h some) ∙ two base (piece place len 0) (runs_from len (drop len all)) left)
+    sym (ap (only_address base) (front all place len h some)
+    ∙ two base (piece place len 0) (runs_from len (drop len all)) left)

@@ -1,5 +1,6 @@
 -- The C identifier of a path, and C strings. (This project's own.)
-use Rattle.std.specs.Prelude.{ℕ, ◌+◌, ◌/◌, ◌%◌, ◌==◌, ◌&&◌, ◌||◌, Bool, true, false, if◌then◌else◌, nat_lt}
+use Rattle.std.specs.Prelude.{ℕ, ◌+◌, ◌/◌, ◌%◌, ◌==◌, ◌&&◌}
+use Rattle.std.specs.Prelude.{◌||◌, Bool, true, false, if◌then◌else◌, nat_lt}
 use Rattle.std.specs.Prelude.{nat_le}
 use Rattle.std.specs.Prelude.{List, [], ◌∷◌, ◌++◌}
 use Rattle.std.specs.List.{flat_map}

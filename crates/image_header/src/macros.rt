@@ -35,8 +35,8 @@ fn put_place<W: ByteWrite>(
     }
 }
 
-/// Puts the macros of a file of this number of bytes: its address, if it is in one piece, its length and
-/// its path.
+/// Puts the macros of a file of this number of bytes: its address, if it is in one piece, its
+/// length and its path.
 pub(crate) fn put_macros<W: ByteWrite>(
     w: &mut W,
     failed: &mut bool,

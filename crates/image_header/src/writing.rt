@@ -1,5 +1,6 @@
 //! The header of an image.
-ghost use Rattle.std.specs.Prelude.{◌≡◌, ◌<◌, ◌≤◌, true, false, Some, length, OnOk, OnErr, IfErr, codes};
+ghost use Rattle.std.specs.Prelude.{◌≡◌, ◌<◌, ◌≤◌, true, false};
+ghost use Rattle.std.specs.Prelude.{Some, length, OnOk, OnErr, IfErr, codes};
 ghost use Rattle.std.specs.Bool.{OnTrue, OnFalse};
 ghost use Rattle.std.specs.Io.KnownBytes.{Appends};
 ghost use Rattle.rom_fields.specs.Failures.{Rose};
@@ -68,8 +69,8 @@ fn address_of<'a, T: TreeImage<'a>>(image: &T, base: u64, node: NodeId, size: u3
     }
 }
 
-/// Puts the macros of the name that a walk returned last, if it is that of a regular file. `path` is
-/// room for its path.
+/// Puts the macros of the name that a walk returned last, if it is that of a regular file. `path`
+/// is room for its path.
 fn put_file<'a, T: TreeImage<'a>, W: ByteWrite>(
     image: &T,
     w: &mut W,

@@ -35,8 +35,8 @@ pub(crate) fn end<W: ByteWrite, E: ByteWrite>(
     told: Result<Status, Stopped>,
 ) -> Status
     ensures kept { Keeps (W.output out.old).contents (W.output out.new).contents }
-    ensures ends { Closes (W.output out.old) (W.output out.new) (E.output err.old) (E.output err.new)
-        told result }
+    ensures ends { Closes (W.output out.old) (W.output out.new)
+        (E.output err.old) (E.output err.new) told result }
 {
     if out.flush().is_err() {
         return fail(Stopped::WriteFault, err);

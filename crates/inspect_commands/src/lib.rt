@@ -1,5 +1,5 @@
-//! What the commands that inspect a valid image print, and how they end: `digest`, `verify`, `diff`,
-//! `which`, and `map` with `--all`, `--c` and `--svg`.
+//! The endings of the commands that inspect a valid image: `digest`, `verify`, `diff`, `which`, and
+//! `map` with `--all`, `--c` and `--svg`.
 //!
 //! Proved: each call prints exactly the text that the specification of its crate gives, and the
 //! status says that everything was printed only after a flush succeeded. If a write or the flush

@@ -5,7 +5,8 @@ use Rattle.rom_commands.specs.declared.status.Status.TheVariants.{Done}
 use Rattle.inspect_commands.proofs.flash.write_all.Goals as goal
 
 pub returns-in_default : goal.returns-in_default
-returns-in_default g c = ([], (refl, refl), ([], [], appends_none (g.W.ByteWrite.output c.args.w.now).contents, refl), refl)
+returns-in_default g c =
+    ([], (refl, refl), ([], [], appends_none (g.W.ByteWrite.output c.args.w.now).contents, refl), refl)
 
 pub returns-in-Ok-write_extents : goal.returns-in-Ok-write_extents
 returns-in-Ok-write_extents g c = (

@@ -15,7 +15,8 @@ returns-in-Err-LongPath g c =
     let m : Image = g.T.Viewed.image c.args.image.now in
     let text : List ℕ = header_text c.args.prefix.now c.args.base (length m.bytes) m.tree in
     let e = c.in-Err-LongPath.field-0-is in
-    (text, (refl, c.in-Err-LongPath.ensures.long e, refl), c.in-Err-LongPath.ensures.err, c.in-Err-LongPath.ensures.still e)
+    let long = c.in-Err-LongPath.ensures.long e in
+    (text, (refl, long, refl), c.in-Err-LongPath.ensures.err, c.in-Err-LongPath.ensures.still e)
 
 pub returns-in-Err-WriteFault : goal.returns-in-Err-WriteFault
 returns-in-Err-WriteFault g c =

@@ -5,7 +5,8 @@ use Rattle.inspect_commands.proofs.Lines.{are_apart, in_order}
 use Rattle.inspect_commands.proofs.places.write_all.Goals as goal
 
 pub returns-in_default : goal.returns-in_default
-returns-in_default g c = ([], (refl, refl), ([], [], appends_none (g.W.ByteWrite.output c.args.w.now).contents, refl), refl)
+returns-in_default g c =
+    ([], (refl, refl), ([], [], appends_none (g.W.ByteWrite.output c.args.w.now).contents, refl), refl)
 
 pub write_lines-requires : goal.write_lines-requires
 write_lines-requires g c = record {
