@@ -1,6 +1,6 @@
 -- Different macros have different names.
 use Rattle.std.proofs.Common.{◌≡◌, ◌∙◌, ◌+◌, ◌-◌, ◌*◌, ◌/◌, ◌%◌, ◌<◌, ◌||◌, ℕ, List, [], ◌∷◌, ◌++◌, Bool, true, false}
-use Rattle.std.proofs.Common.{refl, sym, ap, subst, arith, rules, tests, get_or, if◌then◌else◌, append_assoc}
+use Rattle.std.proofs.Common.{refl, sym, ap, arith, rules, tests, get_or, if◌then◌else◌, append_assoc}
 use Rattle.std.proofs.Common.{eqb, nat_lt, reverse}
 use Rattle.std.specs.Prelude.{codes}
 use Rattle.std.specs.List.{flat_map, AllByRecursion as Every}
