@@ -29,6 +29,38 @@ from romtool import escaped, raw
 from romtool import run as ran
 
 CODES = {ord("/"): "_", ord("Z"): "ZZ", ord("."): "Zd", ord("-"): "Zh", ord("_"): "Zu"}
+# paths whose macros could have the name of another macro if the names were formed in a simpler way, and what
+# docs/PROTOCOL.md says of them, written manually
+TRICKY_NAMES = {
+    "/a": "ROM_a",
+    "/a.b": "ROM_aZdb",
+    "/aZdb": "ROM_aZZdb",
+    "/a-b": "ROM_aZhb",
+    "/a_b": "ROM_aZub",
+    "/a%2Fb": "ROM_aZx252Fb",
+    "/aZx252Fb": "ROM_aZZx252Fb",
+    "/a_ADDRESS": "ROM_aZuADDRESS",
+    "/a_LENGTH": "ROM_aZuLENGTH",
+    "/a_PATH": "ROM_aZuPATH",
+    "/b/ADDRESS": "ROM_b_ADDRESS",
+    "/b/LENGTH": "ROM_b_LENGTH",
+    "/b/PATH": "ROM_b_PATH",
+    "/b/_": "ROM_b_Zu",
+    "/b_": "ROM_bZu",
+    "/BASE": "ROM_BASE",
+    "/SIZE": "ROM_SIZZE",
+    "/MAP/H": "ROM_MAP_H",
+    "/MAP_H": "ROM_MAPZuH",
+    "/ADDRESS": "ROM_ADDRESS",
+    "/LENGTH": "ROM_LENGTH",
+    "/PATH": "ROM_PATH",
+    "/Z": "ROM_ZZ",
+    "/ZZ": "ROM_ZZZZ",
+    "/z": "ROM_z",
+    "/Zu": "ROM_ZZu",
+    "/_": "ROM_Zu",
+    "/__": "ROM_ZuZu",
+}
 COMPILERS = {"cc": ["-std=c99", "-x", "c"], "c++": ["-std=c++17", "-x", "c++"]}
 MOST_OF_PICTURE = 2 * 2**20
 # where the first row of a picture is, below its legend
@@ -388,6 +420,27 @@ def odd_names(binary, folder):
     return os.path.join(folder, "image"), random.Random(1)
 
 
+def tricky_names(binary, folder):
+    """An image with the paths of TRICKY_NAMES, whose header has exactly their names."""
+    with open(os.path.join(folder, "source"), "wb") as file:
+        file.write(b"x")
+    lines = ["dir %s 0755 0 0" % path for path in ("/", "/b", "/MAP")]
+    lines += ["file %s 0644 0 0 4 source" % path.replace("%", "%25") for path in TRICKY_NAMES]
+    with open(os.path.join(folder, "manifest"), "w", encoding="ascii") as file:
+        file.write("\n".join(lines) + "\n")
+    done = ran(binary, "build", "romfs", "manifest", "image", cwd=folder)
+    if done.returncode:
+        raise Wrong("build: %r" % (done.stdout + done.stderr))
+    image = os.path.join(folder, "image")
+    header = ran(binary, "map", "--c", image).stdout.decode("ascii")
+    found = re.findall(r"^#define (\w+)", header, re.M)
+    wanted = ["ROM_MAP_H", "ROM_BASE", "ROM_SIZE"]
+    wanted += [name + what for name in TRICKY_NAMES.values() for what in ("_ADDRESS", "_LENGTH", "_PATH")]
+    if sorted(found) != sorted(wanted) or len(set(found)) != len(found):
+        raise Wrong("map --c: %r" % sorted(set(found) ^ set(wanted)))
+    return image, random.Random(1)
+
+
 def many(binary, folder):
     """An image of 20,000 files."""
     with open(os.path.join(folder, "source"), "wb") as file:
@@ -432,12 +485,13 @@ def main():
     tries = [("seed", seed) for seed in range(arguments.first, arguments.first + arguments.count)]
     tries += [("shared", seed) for seed in range(arguments.first, arguments.first + arguments.count)]
     sorts["odd names"] = lambda seed, folder: odd_names(binary, folder)
+    sorts["tricky names"] = lambda seed, folder: tricky_names(binary, folder)
     sorts["many"] = lambda seed, folder: many(binary, folder)
-    for sort, seed in tries + [("odd names", 1), ("many", 1)]:
+    for sort, seed in tries + [("odd names", 1), ("tricky names", 1), ("many", 1)]:
         with tempfile.TemporaryDirectory() as folder:
             try:
                 image, chance = sorts[sort](seed, folder)
-                some = compiles and sort != "many" and (seed % 4 == 0 or sort == "odd names")
+                some = compiles and sort != "many" and (seed % 4 == 0 or sort.endswith(" names"))
                 compare(binary, image, chance.choice(BASES), folder, chance, some)
                 counts.passes()
             except Wrong as wrong:

@@ -6,7 +6,8 @@ use Rattle.rom_tree.specs.Tree.{Node, is_regular, places_of}
 use Rattle.rom_tree.specs.Names.{Name, names}
 use Rattle.image_map.specs.Map.{address_text}
 use Rattle.image_map.specs.Runs.{Piece, runs}
-use Rattle.image_header.specs.Names.{identifier, text_of}
+use Rattle.image_header.specs.Names.{Macro, Guard, Base, Size, Address, Length, Path, macro_name}
+use Rattle.image_header.specs.Names.{text_of}
 
 -- an address with the type that it has in C: `u` below 2^32, and otherwise `ull`
 unfoldable pub address_number : ℕ → List ℕ
@@ -15,31 +16,31 @@ address_number a = address_text a ++ (if nat_lt a 4294967296 then codes "u" else
 unfoldable pub length_number : ℕ → List ℕ
 length_number n = decimal n ++ codes "u"
 
+-- the front of a macro's definition, and its whole line
+unfoldable pub macro_front : List ℕ → Macro → List ℕ
+macro_front prefix m = codes "#define " ++ (macro_name prefix m ++ codes " ")
+
+unfoldable pub definition : List ℕ → Macro → List ℕ → List ℕ
+definition prefix m value = macro_front prefix m ++ (value ++ codes "\n")
+
 -- the guard, the address of the image's first byte, and how many bytes the image has
 unfoldable pub head_text : List ℕ → ℕ → ℕ → List ℕ
 head_text prefix base size =
     codes "/* The files of an image, made by romtool map --c. */\n#ifndef "
-    ++ (prefix ++ (codes "_MAP_H\n#define " ++ (prefix ++ (codes "_MAP_H\n\n#define "
-    ++ (prefix ++ (codes "_BASE " ++ (address_number base ++ (codes "\n#define "
-    ++ (prefix ++ (codes "_SIZE " ++ (length_number size ++ codes "\n")))))))))))
-
--- `#define`, and the name of a macro of the file with this path
-unfoldable pub macro_front : List ℕ → List ℕ → List ℕ → List ℕ
-macro_front prefix path what =
-    codes "#define " ++ (prefix ++ (identifier path ++ what))
+    ++ (macro_name prefix Guard ++ (codes "\n#define " ++ (macro_name prefix Guard
+    ++ (codes "\n\n" ++ (definition prefix Base (address_number base)
+    ++ definition prefix Size (length_number size))))))
 
 -- the macro of the address that a file may have
 unfoldable pub address_macro : List ℕ → List ℕ → Option ℕ → List ℕ
 address_macro prefix path None = []
-address_macro prefix path (Some a) =
-    macro_front prefix path (codes "_ADDRESS ") ++ (address_number a ++ codes "\n")
+address_macro prefix path (Some a) = definition prefix (Address path) (address_number a)
 
 -- the macros of a file: its address, its length and its path
 unfoldable pub macros : List ℕ → List ℕ → Option ℕ → ℕ → List ℕ
 macros prefix path address size =
-    address_macro prefix path address
-    ++ (macro_front prefix path (codes "_LENGTH ") ++ (length_number size ++ (codes "\n"
-    ++ (macro_front prefix path (codes "_PATH ") ++ (text_of path ++ codes "\n")))))
+    address_macro prefix path address ++ (definition prefix (Length path) (length_number size)
+    ++ definition prefix (Path path) (text_of path))
 
 -- the address of a file whose bytes follow one another in the image
 abbrev pub only_address : ℕ → List Piece → Option ℕ

@@ -1,10 +1,12 @@
 //! A header for C and C++ with the address, the length and the path of each regular file of an
 //! image.
 //!
-//! `specs/Names.antt` defines the identifier of a path and the string of a text.
+//! `specs/Names.antt` defines the identifier of a path, the names of macros and the string of a
+//! text.
 #![tactic(auto)]
 
 mod error;
+pub mod laws;
 mod macros;
 mod names;
 mod numbers;

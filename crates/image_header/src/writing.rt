@@ -14,7 +14,7 @@ ghost use Rattle.image_header.specs.Header.{HasLongPath};
 ghost use Rattle.image_header.specs.declared.error.HeaderError.TheVariants.{LongPath, WriteFault};
 
 use crate::error::HeaderError;
-use crate::macros::put_macros;
+use crate::macros::{put_front, put_macros, put_name};
 use crate::numbers::{put_address, put_length};
 use arrayvec::ArrayVec;
 use rom_fields::{ByteWrite, put};
@@ -33,16 +33,14 @@ fn put_head<W: ByteWrite>(w: &mut W, failed: &mut bool, prefix: &[u8], base: u64
         failed,
         b"/* The files of an image, made by romtool map --c. */\n#ifndef ",
     );
-    put(w, failed, prefix);
-    put(w, failed, b"_MAP_H\n#define ");
-    put(w, failed, prefix);
-    put(w, failed, b"_MAP_H\n\n#define ");
-    put(w, failed, prefix);
-    put(w, failed, b"_BASE ");
-    put_address(w, failed, base);
+    put_name(w, failed, prefix, b"", b"_MAP_H");
     put(w, failed, b"\n#define ");
-    put(w, failed, prefix);
-    put(w, failed, b"_SIZE ");
+    put_name(w, failed, prefix, b"", b"_MAP_H");
+    put(w, failed, b"\n\n");
+    put_front(w, failed, prefix, b"", b"_BASE");
+    put_address(w, failed, base);
+    put(w, failed, b"\n");
+    put_front(w, failed, prefix, b"", b"_SIZE");
     put_length(w, failed, size);
     put(w, failed, b"\n");
 }

@@ -1,7 +1,5 @@
 use Rattle.rom_fields.proofs.Joins.{chain}
-use Rattle.image_header.specs.Header.{macro_front}
 use Rattle.image_header.proofs.macros.put_name.Goals as goal
 
 pub returns : goal.returns
-unfolding macro_front
-returns g c = chain c.put.ensures (chain c.put-2.ensures (chain c.put_identifier.ensures c.put-3.ensures))
+returns g c = chain c.put.ensures (chain c.put_identifier.ensures c.put-2.ensures)

@@ -1,15 +1,16 @@
 use Rattle.std.proofs.Common.{ℕ, Option, subst, sym}
 use Rattle.rom_fields.specs.Written.{Puts, sink}
 use Rattle.rom_fields.proofs.Joins.{chain, puts_nothing}
-use Rattle.image_header.specs.Header.{address_macro}
+use Rattle.image_header.specs.Names.{macro_name}
+use Rattle.image_header.specs.Header.{address_macro, definition, macro_front}
 use Rattle.image_header.proofs.macros.put_place.Goals as goal
 
 pub returns-in-Some : goal.returns-in-Some
-unfolding address_macro
+unfolding address_macro definition macro_front macro_name
 returns-in-Some g c =
     let P : Option ℕ → Type 0 = λ a. Puts (sink (g.W.ByteWrite.output c.args.w.now) c.args.failed.now)
     (sink (g.W.ByteWrite.output c.put.new.w) c.put.new.failed) (address_macro c.args.prefix.now c.args.path.now a) in
-    subst P (sym c.in-Some.is) (chain c.put_name.ensures (chain c.put_address.ensures c.put.ensures))
+    subst P (sym c.in-Some.is) (chain c.put_front.ensures (chain c.put_address.ensures c.put.ensures))
 
 pub returns-in_default : goal.returns-in_default
 unfolding address_macro
