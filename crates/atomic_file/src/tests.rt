@@ -116,7 +116,7 @@ impl Fill for Cut {
 
     type Error = Failed;
 
-    ghost writes = { λ _ _ _. ⊤ };
+    ghost writes = { λ _ _ _ _. ⊤ };
 
     ghost fails = { λ _ _ _ _ _. ⊤ };
 

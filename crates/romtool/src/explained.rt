@@ -1,6 +1,7 @@
 //! What of a build is said in words alone: why a manifest is refused, and warnings.
+use crate::beside::Others;
 use crate::origin::Origin;
-use crate::target::{Others, Target};
+use crate::target::Target;
 use crate::teller::Teller;
 use plan_types::Format;
 use sentences::{manifest_line, manifest_sentence, misfit_sentence, plan_line};

@@ -1,17 +1,20 @@
 //! Where an image is written: under its name only once it is whole.
+ghost use Rattle.std.specs.Prelude.{◌≡◌, ◌≤◌, ◌%◌, [], length};
+ghost use Rattle.atomic_file.specs.Accounts.{log_of, room_of};
+
+use crate::beside::{Beside, KeepError, NAMES, Others, System, Writer, is_of_its_kind};
 use crate::closing::close;
-use crate::parts::{Lock, lock_part, remove_left};
 use crate::place::{behind_links, folder_of, name_in_folder};
 use crate::stamp::Identity;
+use atomic_file::{Begun, Fill, Unbegun, Unfinished, abandon, begin, keep};
+use image_file::{LastCheck, PlanImage, Unwritten, put};
+use image_stream::Sources;
 use program_streams::{Held, Remembering};
-use rom_fields::Plain;
+use rom_fields::{ByteWrite, Failed, Plain};
 use sentences::reasons::{HUNDRED_PARTS, REPLACED};
-use std::fs::{File, Metadata, OpenFile, OpenOptions};
-use std::os::unix::fs::{MetadataExt, OpenOptionsExt, PermissionsExt, fchown};
+use std::fs::{File, OpenFile, OpenOptions};
+use std::marker::Model;
 use std::{fs, io};
-
-/// How many names are tried for a file beside another one.
-const TRIES: u32 = 100;
 
 /// The permissions of a file that nobody else is to read while it is written.
 const PRIVATE: u32 = 0o600;
@@ -19,48 +22,44 @@ const PRIVATE: u32 = 0o600;
 /// The permissions of a new file, before the process's mask is taken off.
 const USUAL: u32 = 0o666;
 
-/// The permissions that lend no rights of the owner or the group.
-const LENDING_NOTHING: u32 = 0o777;
-
-/// A file that takes another name once it is whole, and the folder of both, where it can be opened.
+/// A part that was made for a name, under its own name.
 #[derive(Drop)]
-struct Beside {
-    name: String,
-    whole: String,
-    folder: Option<File>,
-    // the lock that says that a build is at the part, where its file system has locks
-    lock: Option<File>,
-    // what was found of other builds
-    others: Others,
+struct Ready {
+    beside: Beside,
+    name: u32,
 }
 
-/// Parts of other builds of the same name.
-#[derive(Clone, Copy, Default)]
-pub struct Others {
-    /// How many were left by interrupted builds, and were removed.
-    pub removed: u32,
-    /// How many stay, since builds are at them or cannot be asked.
-    pub kept: u32,
-}
+impl Model for Ready {
+    ghost use Rattle.std.specs.Prelude.{◌≤◌, []};
+    ghost use Rattle.atomic_file.specs.Accounts.{log_of, room_of};
+    ghost use Rattle.atomic_file.specs.Moments.{IsBegun};
+    ghost use Rattle.romtool.specs.Parts.{part_names};
 
-/// A writer of an image, which holds back what is short and remembers why the system took no more.
-pub type Writer<'a> = Plain<Remembering<Held<&'a File>>>;
+    ghost Value = { Unit {0} };
+
+    ghost view = { λ _. tt };
+
+    ghost invariant = { λ r. IsBegun part_names r.name [] (log_of r.beside.account)
+        × (4 ≤ room_of r.beside.account) };
+}
 
 /// What an image is written to: a new file beside the one of its name, or what has its name, where
 /// that is no regular file.
 #[derive(Drop)]
 pub struct Target {
-    file: File,
-    beside: Option<Beside>,
+    writer: Option<Writer>,
+    // which file that is, where it is no part
+    straight: Option<Identity>,
+    ready: Option<Ready>,
 }
 
-/// Why what was written did not get its name.
+/// Why a target was not filled and kept.
 #[derive(Drop)]
-pub enum KeepError {
-    /// The system refused something.
-    Refused(io::Error),
-    /// Another file has the name by now under which it was written.
-    Changed,
+pub enum FillError<E: Drop> {
+    /// The source or the writer failed; and what the system said to the writer.
+    NotWritten(E, Option<io::Error>),
+    /// It did not get its name.
+    NotKept(KeepError),
 }
 
 fn to_write(rt: &HostRuntime, name: &str) -> io::Result<File> {
@@ -76,118 +75,38 @@ fn opened_folder(rt: &HostRuntime, name: &str) -> io::Result<Option<File>> {
     }
 }
 
-/// The name of the part of this number.
-fn part_of(rt: &HostRuntime, whole: &str, number: u32) -> io::Result<String> {
-    Ok(format!(in rt.alloc(); "{whole}.{number}.part")?)
-}
-
-/// Makes a new file of this name with these permissions, where nothing has it.
-fn made(rt: &HostRuntime, name: &str, mode: u32) -> io::Result<Option<File>> {
-    let mut options = OpenOptions::new();
-    match options
-        .write(true)
-        .create_new(true)
-        .mode(mode)
-        .open(rt, name)
-    {
-        Ok(file) => Ok(Some(file)),
-        Err(e) if e.kind() == io::ErrorKind::AlreadyExists => Ok(None),
-        Err(e) => Err(e),
+/// Why the system refused a part.
+fn refusal(beside: Beside, e: Unbegun) -> io::Error {
+    match (e, beside.error()) {
+        (Unbegun::Refused, Some(KeepError::Refused(e))) => e,
+        _ => io::Error::new(io::ErrorKind::AlreadyExists, HUNDRED_PARTS),
     }
 }
 
-/// Makes a part of this name, also where an interrupted build left one, and counts what was found.
-fn made_part(
-    rt: &HostRuntime,
-    name: &str,
-    mode: u32,
-    others: &mut Others,
-) -> io::Result<Option<(File, Option<File>)>> {
-    let mut file = made(rt, name, mode)?;
-    if file.is_none() && remove_left(rt, name) {
-        others.removed = others.removed.saturating_add(1);
-        file = made(rt, name, mode)?;
+/// Makes a part.
+fn target_beside(rt: &HostRuntime, beside: Beside) -> io::Result<Target>
+    requires log { log_of beside.account ≡ [] }
+    requires room { 304 ≤ room_of beside.account }
+{
+    let mut system = System { rt, beside };
+    let begun = match begin(&mut system, NAMES) {
+        Ok(begun) => begun,
+        Err(e) => return Err(refusal(system.beside, e)),
+    };
+    let Begun { name, part } = begun;
+    if system.beside.is_refused() {
+        abandon(&mut system, name);
+        return Err(refusal(system.beside, Unbegun::Refused));
     }
-    match file {
-        Some(file) => match lock_part(rt, name, &file) {
-            Lock::Held(lock) => return Ok(Some((file, Some(lock)))),
-            Lock::Refused => return Ok(Some((file, None))),
-            Lock::Lost => {}
-        },
-        None => others.kept = others.kept.saturating_add(1),
-    }
-    Ok(None)
-}
-
-/// Removes the parts behind the one of this number that interrupted builds left, up to the first
-/// number of which there is none, and counts them.
-fn remove_following(
-    rt: &HostRuntime,
-    whole: &str,
-    number: u32,
-    others: &mut Others,
-) -> io::Result<()> {
-    for k in number.saturating_add(1)..TRIES {
-        let name = part_of(rt, whole, k)?;
-        if fs::symlink_metadata(rt, &name).is_err() {
-            break;
-        }
-        if remove_left(rt, &name) {
-            others.removed = others.removed.saturating_add(1);
-        } else {
-            others.kept = others.kept.saturating_add(1);
-        }
-    }
-    Ok(())
-}
-
-/// A new file beside the one of this name, with these permissions where the mask leaves them.
-fn new_beside(rt: &HostRuntime, whole: &str, mode: u32) -> io::Result<Target> {
-    let folder = opened_folder(rt, whole)?;
-    let whole = String::from_str(rt.alloc(), whole)?;
-    let mut others = Others::default();
-    for k in 0..TRIES {
-        let name = part_of(rt, &whole, k)?;
-        if let Some((file, lock)) = made_part(rt, &name, mode, &mut others)? {
-            let _ = remove_following(rt, &whole, k, &mut others);
-            let beside = Some(Beside {
-                name,
-                whole,
-                folder,
-                lock,
-                others,
-            });
-            return Ok(Target { file, beside });
-        }
-    }
-    Err(io::Error::new(io::ErrorKind::AlreadyExists, HUNDRED_PARTS))
-}
-
-/// A mode of which a group and others have the rights alone that both of them have.
-fn without_group(mode: u32) -> u32 {
-    let both = (mode >> 3) & mode & 0o7;
-    (mode & 0o700) | (both << 3) | both
-}
-
-/// Gives a new file the owner and the group of another one, as far as the system lets it, and gives
-/// the mode that it has then: without the owner, none of the bits that lend rights; without the
-/// group, no rights of the group that others have not.
-fn take_owner(file: &File, found: &Metadata) -> u32 {
-    let (uid, gid) = (found.uid(), found.gid());
-    if fchown(file, Some(uid), Some(gid)).is_ok() {
-        found.mode()
-    } else if fchown(file, None, Some(gid)).is_ok() {
-        found.mode() & LENDING_NOTHING
-    } else {
-        without_group(found.mode())
-    }
-}
-
-/// Gives a new file the owner, the group and the permissions of another one.
-fn take_after(file: &File, found: &Metadata) -> io::Result<()> {
-    let mut permissions = found.permissions();
-    permissions.set_mode(take_owner(file, found));
-    file.set_permissions(permissions)
+    let ready = Ready {
+        beside: system.beside,
+        name,
+    };
+    Ok(Target {
+        writer: Some(part),
+        straight: None,
+        ready: Some(ready),
+    })
 }
 
 /// A new file beside a regular file that can be written, with its owner and permissions.
@@ -197,98 +116,111 @@ fn in_place_of(rt: &HostRuntime, name: &str) -> io::Result<Target> {
     if Identity::of(&fs::symlink_metadata(rt, &whole)?) != Identity::of(&found) {
         return Err(io::Error::new(io::ErrorKind::NotFound, REPLACED));
     }
-    let target = new_beside(rt, whole.as_str(), PRIVATE)?;
-    match take_after(&target.file, &found) {
-        Ok(()) => Ok(target),
-        Err(e) => {
-            target.abandon(rt);
-            Err(e)
-        }
-    }
+    let folder = opened_folder(rt, &whole)?;
+    target_beside(rt, Beside::new(rt, &whole, folder, PRIVATE, Some(found))?)
 }
 
 /// A new file beside a name that nothing has, not even a link that leads nowhere.
 fn in_a_new_place(rt: &HostRuntime, name: &str, missing: io::Error) -> io::Result<Target> {
     match fs::symlink_metadata(rt, name) {
         Ok(_) => Err(missing),
-        Err(e) if e.kind() == io::ErrorKind::NotFound => new_beside(rt, name, USUAL),
+        Err(e) if e.kind() == io::ErrorKind::NotFound => {
+            let folder = opened_folder(rt, name)?;
+            target_beside(rt, Beside::new(rt, name, folder, USUAL, None)?)
+        }
         Err(e) => Err(e),
     }
 }
 
-/// Whether a refusal is that of a kind of file which is not handed to the disk.
-fn is_of_its_kind(e: &io::Error) -> bool {
-    let kind = e.kind();
-    kind == io::ErrorKind::InvalidInput
-        || kind == io::ErrorKind::Unsupported
-        || kind == io::ErrorKind::ReadOnlyFilesystem
+/// What has this name, and is no regular file.
+fn straight(rt: &HostRuntime, name: &str) -> io::Result<Target> {
+    let file = to_write(rt, name)?;
+    let straight = match file.metadata() {
+        Ok(found) => Some(Identity::of(&found)),
+        Err(_) => None,
+    };
+    Ok(Target {
+        writer: Some(Plain::new(Remembering::new(Held::new(rt.alloc(), file)))),
+        straight,
+        ready: None,
+    })
 }
 
-/// Hands what a folder or a file that is not regular has to the disk, where that can be done.
-fn sync_any(file: &File) -> Result<(), KeepError> {
-    match file.sync_all() {
-        Err(e) if !is_of_its_kind(&e) => Err(KeepError::Refused(e)),
-        _ => Ok(()),
-    }
-}
-
-impl Beside {
-    /// Whether both are to get one name in one folder.
-    fn is_for_name_of(&self, rt: &HostRuntime, other: &Beside) -> bool {
-        let folders = (
-            fs::metadata(rt, folder_of(&self.whole)),
-            fs::metadata(rt, folder_of(&other.whole)),
-        );
-        match folders {
-            (Ok(one), Ok(another)) => {
-                Identity::of(&one) == Identity::of(&another)
-                    && name_in_folder(&self.whole) == name_in_folder(&other.whole)
-            }
-            _ => self.whole.as_str() == other.whole.as_str(),
+/// Whether both are to get one name in one folder.
+fn are_for_one_name(rt: &HostRuntime, one: &str, another: &str) -> bool {
+    let folders = (
+        fs::metadata(rt, folder_of(one)),
+        fs::metadata(rt, folder_of(another)),
+    );
+    match folders {
+        (Ok(first), Ok(second)) => {
+            Identity::of(&first) == Identity::of(&second)
+                && name_in_folder(one) == name_in_folder(another)
         }
-    }
-
-    /// Whether its name still leads to the file of this identity.
-    fn leads_to(&self, rt: &HostRuntime, mine: Identity) -> io::Result<bool> {
-        Ok(Identity::of(&fs::symlink_metadata(rt, &self.name)?) == mine)
-    }
-
-    /// Removes what has its name, if that is the file of this identity.
-    fn remove(&self, rt: &HostRuntime, mine: Identity) {
-        if let Ok(true) = self.leads_to(rt, mine) {
-            let _ = fs::remove_file(rt, &self.name);
-        }
-    }
-
-    /// Hands this file, which was written, to the disk, sees that the part's name still leads to
-    /// it, and gives its identity.
-    fn settled(&self, rt: &HostRuntime, file: &File) -> Result<Identity, KeepError> {
-        let mine = match file.sync_all().and_then(|()| file.metadata()) {
-            Ok(found) => Identity::of(&found),
-            Err(e) => return Err(KeepError::Refused(e)),
-        };
-        match self.leads_to(rt, mine) {
-            Ok(true) => Ok(mine),
-            Ok(false) => Err(KeepError::Changed),
-            Err(e) if e.kind() == io::ErrorKind::NotFound => Err(KeepError::Changed),
-            Err(e) => Err(KeepError::Refused(e)),
-        }
-    }
-
-    /// Closes this file, which is whole, and gives it the name that it is to have. A system that
-    /// tells only at the closing what it lost is heard.
-    fn rename(&self, rt: &HostRuntime, file: File) -> io::Result<()> {
-        close(rt, file)?;
-        fs::rename(rt, &self.name, &self.whole)
+        _ => one == another,
     }
 }
 
 /// Hands what is no regular file to the disk, where that can be done, and closes it.
-fn keep_straight(rt: &HostRuntime, file: File) -> Result<(), KeepError> {
-    sync_any(&file)?;
+fn keep_straight(rt: &HostRuntime, writer: Writer) -> Result<(), KeepError> {
+    let (held, _) = writer.into_inner().into_parts();
+    let (file, _) = held.into_parts();
+    match file.sync_all() {
+        Err(e) if !is_of_its_kind(&e) => return Err(KeepError::Refused(e)),
+        _ => {}
+    }
     match close(rt, file) {
         Ok(()) => Ok(()),
         Err(e) => Err(KeepError::Refused(e)),
+    }
+}
+
+/// Why a directory refused to keep a part.
+fn reason(beside: Beside) -> KeepError {
+    match beside.error() {
+        Some(e) => e,
+        None => KeepError::Changed,
+    }
+}
+
+impl Ready {
+    /// Gives the part its name.
+    fn keep(self, rt: &HostRuntime, part: Writer) -> Result<(), KeepError> {
+        let Ready { beside, name } = self;
+        let mut system = System { rt, beside };
+        match keep(&mut system, NAMES, Begun { name, part }) {
+            Ok(_) => Ok(()),
+            Err(Failed) => Err(reason(system.beside)),
+        }
+    }
+
+    /// Fills the part with an image, and gives it its name.
+    fn put<S: Sources, K: LastCheck>(
+        self,
+        rt: &HostRuntime,
+        part: Writer,
+        image: &mut PlanImage<'_, S, K>,
+    ) -> Result<(), FillError<Unwritten<K::Error>>>
+        requires files { S.files image.old.sources ≡ length image.old.plan.now.sizes }
+        requires buffer { 4096 ≤ length image.old.buffer.now }
+        requires words { length image.old.buffer.now % 4 ≡ 0 }
+    {
+        let Ready { beside, name } = self;
+        let mut system = System { rt, beside };
+        match put(&mut system, NAMES, Begun { name, part }, image) {
+            Ok(_) => Ok(()),
+            Err(Unfinished::NotWritten(e, part)) => {
+                Err(FillError::NotWritten(e, part.into_inner().error()))
+            }
+            Err(Unfinished::NotKept) => Err(FillError::NotKept(reason(system.beside))),
+        }
+    }
+
+    /// Removes the part.
+    fn abandon(self, rt: &HostRuntime) {
+        let Ready { beside, name } = self;
+        let mut system = System { rt, beside };
+        abandon(&mut system, name);
     }
 }
 
@@ -302,10 +234,7 @@ impl Target {
     pub fn open(rt: &HostRuntime, name: &str) -> io::Result<Target> {
         match fs::metadata(rt, name) {
             Ok(found) if found.is_file() => in_place_of(rt, name),
-            Ok(_) => {
-                let file = to_write(rt, name)?;
-                Ok(Target { file, beside: None })
-            }
+            Ok(_) => straight(rt, name),
             Err(e) if e.kind() == io::ErrorKind::NotFound => in_a_new_place(rt, name, e),
             Err(e) => Err(e),
         }
@@ -313,28 +242,32 @@ impl Target {
 
     /// The name that it is to have, and what was found of other builds beside it.
     pub fn others(&self) -> Option<(&str, Others)> {
-        match &self.beside {
-            Some(beside) => Some((&beside.whole, beside.others)),
+        match &self.ready {
+            Some(ready) => Some((ready.beside.whole(), ready.beside.others())),
             None => None,
         }
     }
 
     /// Whether both are written to one file, or are to get one name in one folder.
     pub fn has_place_of(&self, rt: &HostRuntime, other: &Target) -> bool {
-        match (&self.beside, &other.beside) {
-            (Some(one), Some(another)) => one.is_for_name_of(rt, another),
-            (None, None) => match (self.file.metadata(), other.file.metadata()) {
-                (Ok(one), Ok(another)) => Identity::of(&one) == Identity::of(&another),
-                _ => false,
-            },
+        match (&self.ready, &other.ready) {
+            (Some(one), Some(another)) => {
+                are_for_one_name(rt, one.beside.whole(), another.beside.whole())
+            }
+            (None, None) => self.straight.is_some() && self.straight == other.straight,
             _ => false,
         }
     }
 
-    /// A writer to it, through its one descriptor: another one would tell at its own closing what
-    /// the file system lost, and this one would tell it no more.
-    pub fn writer(&self, rt: &HostRuntime) -> Writer<'_> {
-        Plain::new(Remembering::new(Held::new(rt.alloc(), &self.file)))
+    /// Takes out the writer to it, which has its one descriptor: another one would tell at its own
+    /// closing what the file system lost, and this one would tell it no more.
+    pub fn take_writer(&mut self) -> Option<Writer> {
+        self.writer.take()
+    }
+
+    /// Puts the writer back, once all is written and flushed.
+    pub fn put_back(&mut self, writer: Writer) {
+        self.writer = Some(writer);
     }
 
     /// Gives what was written its name, once the system has taken all of it, and hands the folder
@@ -345,34 +278,62 @@ impl Target {
     /// `Changed`, or that of the system. The name then leads to what it led to before, but where
     /// the disk did not take the folder: then it leads to what was written.
     pub fn keep(self, rt: &HostRuntime) -> Result<(), KeepError> {
-        let Target { file, beside } = self;
-        let Some(beside) = beside else {
-            return keep_straight(rt, file);
-        };
-        let mine = match beside.settled(rt, &file) {
-            Ok(mine) => mine,
-            Err(e) => {
-                let beside = Some(beside);
-                Target { file, beside }.abandon(rt);
-                return Err(e);
-            }
-        };
-        if let Err(e) = beside.rename(rt, file) {
-            beside.remove(rt, mine);
-            return Err(KeepError::Refused(e));
+        let Target { writer, ready, .. } = self;
+        match (writer, ready) {
+            (Some(writer), Some(ready)) => ready.keep(rt, writer),
+            (Some(writer), None) => keep_straight(rt, writer),
+            (None, _) => Err(KeepError::Changed),
         }
-        match &beside.folder {
-            Some(folder) => sync_any(folder),
-            None => Ok(()),
+    }
+
+    /// Fills it with an image, and gives it its name as `keep` does.
+    ///
+    /// # Errors
+    ///
+    /// Those of the image and of `keep`. The name then leads to what it led to before, but where
+    /// the disk did not take the folder. What is no regular file has what was written.
+    pub fn fill<S: Sources, K: LastCheck>(
+        self,
+        rt: &HostRuntime,
+        image: &mut PlanImage<'_, S, K>,
+    ) -> Result<(), FillError<Unwritten<K::Error>>>
+        requires files { S.files image.old.sources ≡ length image.old.plan.now.sizes }
+        requires buffer { 4096 ≤ length image.old.buffer.now }
+        requires words { length image.old.buffer.now % 4 ≡ 0 }
+    {
+        let Target { writer, ready, .. } = self;
+        match (writer, ready) {
+            (Some(writer), Some(ready)) => ready.put(rt, writer, image),
+            (Some(writer), None) => fill_straight(rt, writer, image),
+            (None, _) => Err(FillError::NotKept(KeepError::Changed)),
         }
     }
 
     /// Removes what was written, where it is not what had the name before.
     pub fn abandon(self, rt: &HostRuntime) {
-        if let Some(beside) = &self.beside
-            && let Ok(found) = self.file.metadata()
-        {
-            beside.remove(rt, Identity::of(&found));
+        let Target { ready, .. } = self;
+        if let Some(ready) = ready {
+            ready.abandon(rt);
         }
+    }
+}
+
+/// Fills what is no regular file with an image, hands it to the disk, where that can be done, and
+/// closes it.
+fn fill_straight<S: Sources, K: LastCheck>(
+    rt: &HostRuntime,
+    mut writer: Writer,
+    image: &mut PlanImage<'_, S, K>,
+) -> Result<(), FillError<Unwritten<K::Error>>>
+    requires files { S.files image.old.sources ≡ length image.old.plan.now.sizes }
+    requires buffer { 4096 ≤ length image.old.buffer.now }
+    requires words { length image.old.buffer.now % 4 ≡ 0 }
+{
+    if let Err(e) = image.fill(&mut writer) {
+        return Err(FillError::NotWritten(e, writer.into_inner().error()));
+    }
+    match keep_straight(rt, writer) {
+        Ok(()) => Ok(()),
+        Err(e) => Err(FillError::NotKept(e)),
     }
 }
