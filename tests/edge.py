@@ -13,6 +13,7 @@ import contextlib
 import fcntl
 import itertools
 import os
+import re
 import stat
 import subprocess
 import sys
@@ -158,6 +159,55 @@ def handed_to_the_disk(binary):
     order = [call.name for call in made if call.name in ("fsync", "rename")]
     if done.returncode or order != ["fsync", "rename", "fsync"]:
         yield "%r" % order
+
+
+OPENED = re.compile(r'openat\(AT_FDCWD, "([^"]*)", ([^,)]*).* = (\d+)$')
+CHANGED = re.compile(r"(write|pwrite64|fsync|fdatasync|close|ftruncate)\((\d+)")
+NAMED = re.compile(r"(rename\w*|unlink\w*|link|linkat|truncate)\(([^)]*)\)")
+
+
+def steps_of(made):
+    """Yields what a build does with its part, its directory, OUT and other names, in order. Writes to one file are one step."""
+    files, last = {}, None
+    for call in made:
+        opened, changed, named = OPENED.match(call.text), CHANGED.match(call.text), NAMED.match(call.text)
+        step = None
+        if opened:
+            name, flags, number = opened.groups()
+            is_part = name == "out.0.part" and {"O_WRONLY", "O_CREAT", "O_EXCL"} <= set(flags.split("|"))
+            files[number] = "part" if is_part else "directory" if name == "." else None
+            step = "create part" if is_part else "create " + name if "O_CREAT" in flags else None
+        elif changed:
+            file = files.get(changed.group(2))
+            step = "%s %s" % (changed.group(1), file) if file else None
+            if changed.group(1) == "close":
+                files[changed.group(2)] = None
+        elif named:
+            step = "%s %s" % named.groups()
+        if step and step not in (last, "close directory"):
+            yield step
+            last = step
+
+
+@needs_strace
+def calls_of_a_replacement(binary):
+    """A build makes the calls of which the replacement is proved, in this order, and no other on these files."""
+    hello()
+    begun = ["create part", "write part", "fsync part", "close part"]
+    renamed, removed, synced = 'rename "out.0.part", "out"', 'unlink "out.0.part"', "fsync directory"
+    for old in (None, b"old"):
+        for fault, when, steps in (
+            (None, 0, [renamed, synced]),
+            ("fsync", 1, [removed]),
+            ("rename", 1, [renamed, removed]),
+            ("fsync", 2, [renamed, synced]),
+        ):
+            lay_old(old)
+            told = traced.inject(fault, "error=EIO", when)[2:] if fault else []
+            made, done = traced.calls(binary, "build", "romfs", "m", "out", told=told)
+            found = list(steps_of(made))
+            if found != begun + steps or done.returncode != (3 if fault else 0):
+                yield "%r, %r: %r" % (old, fault, found)
 
 
 @needs_strace
@@ -668,7 +718,8 @@ def lay_old(old):
 TESTS = [
     folder_that_is_no_text, folder_that_is_too_long, link_to_a_closed_stream, out_that_is_read,
     private_while_written, owner_is_kept, owner_that_cannot_be_set, handed_to_the_disk,
-    kinds_that_are_not_handed_on, folder_that_is_not_handed_on, part_of_another_file, parts_that_are_held, parts_that_are_left,
+    calls_of_a_replacement, kinds_that_are_not_handed_on,
+    folder_that_is_not_handed_on, part_of_another_file, parts_that_are_held, parts_that_are_left,
     part_of_a_killed_build,
     rewritten_while_read, changed_while_read, no_further_than_stated, image_from_a_pipe, device_without_end,
     what_follows_the_last_line, lines_of_a_file_are_read_in_blocks,

@@ -58,11 +58,11 @@ def inject(name, what, when=None):
     return ["-e", "trace=%s" % name, "-e", "inject=%s:%s%s" % (name, what, place)]
 
 
-def calls(binary, *words, **more):
-    """Returns the calls that the program makes itself, and the finished program."""
+def calls(binary, *words, told=(), **more):
+    """Returns the calls that the program makes itself, and the finished program, with options of strace."""
     with tempfile.NamedTemporaryFile("r", errors="surrogateescape") as log:
         streams = {"stdout": subprocess.PIPE, "stderr": subprocess.PIPE, **more}
-        told = ["-o", log.name, "-s", "65536"]
+        told = ["-o", log.name, "-s", "65536", *told]
         done = subprocess.run(words_of(told, binary, words), timeout=SECONDS, **streams)
         return list(calls_in(log)), done
 

@@ -39,7 +39,7 @@ pub struct Account {
 impl Account {
     ghost use Rattle.atomic_file.specs.Accounts.{log_of, room_of, event};
 
-    /// Returns an empty account with memory for so many calls.
+    /// Returns an empty account with memory for this number of calls.
     ///
     /// # Errors
     ///

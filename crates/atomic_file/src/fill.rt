@@ -11,8 +11,9 @@ pub trait Fill {
     /// The reason why they were not written.
     type Error: Drop;
 
-    // The bytes are between what the file holds before and after, if that is known.
-    ghost writes: { Self → Option (List ℕ) → Option (List ℕ) → Type 0 };
+    // The bytes, of the source before and after, are between what the file holds before and after,
+    // if that is known.
+    ghost writes: { Self → Self → Option (List ℕ) → Option (List ℕ) → Type 0 };
 
     // What an error means, by the source and the file before and after.
     ghost fails: { Self → Self → Output → Output → Self.Error → Type 0 };
@@ -23,7 +24,7 @@ pub trait Fill {
     /// Writes all of the bytes.
     fn fill<W: ByteWrite>(&mut self, w: &mut W) -> Result<(), Self::Error>
         requires { ready self.old }
-        ensures ok { OnOk result (writes self.old (W.output w.old).contents
+        ensures ok { OnOk result (writes self.old self.new (W.output w.old).contents
             (W.output w.new).contents) }
         ensures err { IfErr result (λ e. fails self.old self.new (W.output w.old)
             (W.output w.new) e) };
@@ -36,7 +37,7 @@ pub struct Bytes<'a>(pub &'a [u8]);
 impl<'a> Fill for Bytes<'a> {
     type Error = Failed;
 
-    ghost writes = { λ s old new. Appends old new s.0.now };
+    ghost writes = { λ s _ old new. Appends old new s.0.now };
 
     ghost fails = { λ _ _ old new _. Rose old.failures new.failures };
 

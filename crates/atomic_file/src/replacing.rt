@@ -46,16 +46,17 @@ pub fn finish<D: Directory, S: Fill>(
     requires empty { (D.Part.output begun.part).contents ≡ D.fresh }
     requires ready { S.ready source.old }
     ensures any_moment { (old : List Event) → IsBegun names begun.name old (D.log directory.old)
-        → Throughout (IsOldOrNew names (S.writes source.old D.fresh) old)
+        → Throughout (IsOldOrNew names (S.writes source.old source.new D.fresh) old)
         (D.log directory.old) (D.log directory.new) }
     ensures ok { IfOk result (λ d. (old : List Event)
         → IsBegun names begun.name old (D.log directory.old)
-        → IsReplaced names (S.writes source.old D.fresh) old (D.log directory.new)) }
+        → IsReplaced names (S.writes source.old source.new D.fresh) old (D.log directory.new)) }
     ensures durable { IfOk result (λ d. IsDurable d (D.log directory.new)) }
     ensures err { OnErr result ((old : List Event)
         → IsBegun names begun.name old (D.log directory.old)
-        → IsKept names (S.writes source.old D.fresh) old (D.log directory.new)) }
-    ensures cause { IfErr result (λ e. IsStop names begun.name (S.writes source.old D.fresh)
+        → IsKept names (S.writes source.old source.new D.fresh) old (D.log directory.new)) }
+    ensures cause { IfErr result (λ e. IsStop names begun.name
+        (S.writes source.old source.new D.fresh)
         (IsUnwritten (S.fails source.old source.new) D.fresh)
         (D.log directory.old) (D.log directory.new) e) }
 {
@@ -92,14 +93,14 @@ pub fn replace<D: Directory, S: Fill>(
     requires room { 3 * (names.end - names.first) + 4 ≤ D.room directory.old }
     requires ready { S.ready source.old }
     ensures any_moment { Throughout
-        (IsOldOrNew names (S.writes source.old D.fresh) (D.log directory.old))
+        (IsOldOrNew names (S.writes source.old source.new D.fresh) (D.log directory.old))
         (D.log directory.old) (D.log directory.new) }
-    ensures ok { IfOk result (λ d. IsReplaced names (S.writes source.old D.fresh)
+    ensures ok { IfOk result (λ d. IsReplaced names (S.writes source.old source.new D.fresh)
         (D.log directory.old) (D.log directory.new)) }
     ensures durable { IfOk result (λ d. IsDurable d (D.log directory.new)) }
-    ensures err { OnErr result (IsKept names (S.writes source.old D.fresh)
+    ensures err { OnErr result (IsKept names (S.writes source.old source.new D.fresh)
         (D.log directory.old) (D.log directory.new)) }
-    ensures cause { IfErr result (λ e. IsCause names (S.writes source.old D.fresh)
+    ensures cause { IfErr result (λ e. IsCause names (S.writes source.old source.new D.fresh)
         (IsUnwritten (S.fails source.old source.new) D.fresh)
         (D.log directory.old) (D.log directory.new) e) }
 {

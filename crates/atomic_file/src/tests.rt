@@ -60,7 +60,7 @@ fn is_error_allowed(directory: &Simulated) -> bool {
         || directory.shows(OUT, b"old", b"old") && is_removal_refused(directory)
 }
 
-/// Whether a replacement that is stopped after so many calls left what it may.
+/// Returns whether a replacement that is stopped after this number of calls left what it may.
 fn is_kept(alloc: Global, stop: Stop, calls: u64) -> Result<bool, Fail> {
     let mut directory = Simulated::new(alloc, stop, calls)?;
     let is_ended_well = match replace(&mut directory, NAMES, &mut Bytes(b"new")) {
@@ -116,7 +116,7 @@ impl Fill for Cut {
 
     type Error = Failed;
 
-    ghost writes = { λ _ _ _. ⊤ };
+    ghost writes = { λ _ _ _ _. ⊤ };
 
     ghost fails = { λ _ _ _ _ _. ⊤ };
 

@@ -32,6 +32,15 @@ impl<X> Remembering<X> {
         Remembering { inner, error: None }
     }
 
+    /// Returns the writer behind it, and the first error, if a call failed.
+    pub fn into_parts(self) -> (X, Option<io::Error>)
+        ensures inner { result.0 ≡ remembering_inner self }
+        ensures error { result.1 ≡ first_error self }
+    {
+        let Remembering { inner, error } = self;
+        (inner, error)
+    }
+
     /// Remembers an error if it is the first, and returns one of its kind.
     fn note(&mut self, e: io::Error) -> io::Error
         ensures inner { remembering_inner self.new ≡ remembering_inner self.old }

@@ -1,22 +1,25 @@
 //! Builds an image from a manifest and files.
-ghost use Rattle.std.specs.Prelude.{◌≡◌, length, IfOk, IfSome};
+ghost use Rattle.std.specs.Prelude.{◌≡◌, ◌≤◌, ◌%◌, length, IfOk, IfSome};
 ghost use Rattle.manifest.specs.Lines.{sources_of};
 ghost use Rattle.plan_types.specs.Formats.{format_of};
 ghost use Rattle.plan_types.specs.Plans.{IsPlanOf};
 
+use crate::beside::KeepError;
 use crate::depfile::Rule;
 use crate::disk::{Disk, first_changed};
 use crate::foreseen::{Warnings, foreseen};
+use crate::imaging::Unchanged;
 use crate::origin::Origin;
 use crate::progress::Progress;
 use crate::sources::{joined_names, names_of, sizes_of, stamps_of, texts_of};
 use crate::stamp::{Identity, Stamp, has_changed, let_rest};
-use crate::target::{KeepError, Target, Writer};
+use crate::target::{FillError, Target};
 use crate::teller::Teller;
 use crate::{bad_lines, depfile, explained, reading, warned};
 use build_commands::{tell_bad_manifest, tell_built, tell_misfit, tell_size, tell_strict};
 use command_line::Build;
-use image_build::{StreamError, stream, stream_through};
+use image_build::StreamError;
+use image_file::{PlanImage, Unwritten};
 use layout_plan::{PlanError, plan};
 use manifest::{Manifest, ManifestError, parse};
 use plan_types::{Format, Plan};
@@ -147,14 +150,14 @@ impl Files<'_> {
         &self,
         teller: &Teller<'_>,
         e: StreamError,
-        ends: (Disk<'_>, Writer<'_>),
+        reasons: (Option<io::Error>, Option<io::Error>),
         out: &str,
     ) -> Status {
-        let (disk, writer) = ends;
+        let (of_source, of_out) = reasons;
         match e {
             StreamError::SizeDiffers { file } => self.say_fault(teller, file, None),
-            StreamError::SourceFault { file } => self.say_fault(teller, file, disk.reason()),
-            StreamError::WriteFault => match writer.into_inner().error() {
+            StreamError::SourceFault { file } => self.say_fault(teller, file, of_source),
+            StreamError::WriteFault => match of_out {
                 Some(e) => teller.failed_by(out.as_bytes(), &e),
                 None => teller.failed(out.as_bytes(), &NOT_TAKEN),
             },
@@ -244,6 +247,15 @@ fn rule<'a>(asked: Build<'a>, names: &'a [&'a str]) -> Rule<'a> {
     }
 }
 
+/// How often each source is read whole: once to be written, and once before for a checksum of all
+/// bytes.
+fn passes(format: Format) -> u64 {
+    match format {
+        Format::Romfs => 1,
+        Format::Cramfs | Format::CramfsBig => 2,
+    }
+}
+
 /// A buffer of this number of bytes, if there is memory for it.
 fn buffer_of(rt: &HostRuntime, len: usize) -> Option<Vec<u8>>
     ensures { IfSome result (λ buffer. length buffer.items ≡ len) }
@@ -255,56 +267,23 @@ fn buffer_of(rt: &HostRuntime, len: usize) -> Option<Vec<u8>>
     }
 }
 
-/// Writes the image of a plan, through a large buffer if there is memory for it.
-fn streamed(
-    rt: &HostRuntime,
-    plan: &Plan,
-    disk: &mut Disk<'_>,
-    writer: &mut Writer<'_>,
-) -> Result<(), StreamError>
-    requires { length plan.now.sizes ≡ length disk.old.names.now }
+/// Returns the files as the sources of an image. Their reading is shown as progress.
+fn disk_of<'a>(rt: &'a HostRuntime, plan: &Plan, files: Files<'a>) -> Disk<'a>
+    ensures { result.names.now ≡ files.entry.names.now }
 {
-    match buffer_of(rt, LARGE) {
-        Some(mut buffer) => stream_through(plan, disk, writer, buffer.as_mut_slice()),
-        None => stream(plan, disk, writer),
-    }
-}
-
-/// How often each source is read whole: once to be written, and once before for a checksum of all
-/// bytes.
-fn passes(format: Format) -> u64 {
-    match format {
-        Format::Romfs => 1,
-        Format::Cramfs | Format::CramfsBig => 2,
-    }
-}
-
-/// Writes the image of a plan, made of these files, to its target.
-fn write_to(
-    teller: &Teller<'_>,
-    plan: &Plan,
-    files: Files<'_>,
-    target: &Target,
-    out: &str,
-) -> Result<(), Status>
-    requires { length plan.now.sizes ≡ length files.names.now }
-{
-    let rt = teller.rt;
-    let mut writer = target.writer(rt);
     let bytes = plan
         .sizes()
         .iter()
         .fold(0, |sum: u64, size| sum.saturating_add(*size));
     let progress = Progress::new(rt, bytes.saturating_mul(passes(plan.format())));
-    let mut disk = Disk::new(rt, files.names, files.stamps, progress);
-    let written = streamed(rt, plan, &mut disk, &mut writer);
-    disk.end();
-    if let Err(e) = written {
-        return Err(files.say_unwritten(teller, e, (disk, writer), out));
-    }
-    match first_changed(rt, files.names, files.stamps) {
-        Some(file) => Err(files.say_changed(teller, file)),
-        None => Ok(()),
+    Disk::new(rt, files.names, files.stamps, progress)
+}
+
+/// Prints why a target did not get its name.
+fn say_unkept(teller: &Teller<'_>, e: KeepError, name: &str) -> Status {
+    match e {
+        KeepError::Refused(e) => teller.refused(name.as_bytes(), &e),
+        KeepError::Changed => teller.changed(name.as_bytes(), &PART_REPLACED),
     }
 }
 
@@ -312,12 +291,55 @@ fn write_to(
 fn keep(teller: &Teller<'_>, target: Target, name: &str) -> Result<(), Status> {
     match target.keep(teller.rt) {
         Ok(()) => Ok(()),
-        Err(KeepError::Refused(e)) => Err(teller.refused(name.as_bytes(), &e)),
-        Err(KeepError::Changed) => Err(teller.changed(name.as_bytes(), &PART_REPLACED)),
+        Err(e) => Err(say_unkept(teller, e, name)),
     }
 }
 
-/// Writes the image of a plan, made of these files, and gives it its name.
+/// Writes the image of a plan, made of these files, through a buffer, and gives it its name.
+fn put_image(
+    teller: &Teller<'_>,
+    plan: &Plan,
+    files: Files<'_>,
+    place: (Target, &str),
+    buffer: &mut [u8],
+) -> Result<(), Status>
+    requires sizes { length plan.now.sizes ≡ length files.names.now }
+    requires buffer { 4096 ≤ length buffer.old }
+    requires words { length buffer.old % 4 ≡ 0 }
+{
+    let rt = teller.rt;
+    let (target, out) = place;
+    let sources = disk_of(rt, plan, files);
+    let (names, stamps) = (files.names, files.stamps);
+    let last = Unchanged { rt, names, stamps };
+    let mut image = PlanImage {
+        plan,
+        sources,
+        last,
+        buffer,
+    };
+    let filled = target.fill(rt, &mut image);
+    let PlanImage {
+        plan: _,
+        sources: mut disk,
+        last: _,
+        buffer: _,
+    } = image;
+    disk.end();
+    match filled {
+        Ok(()) => Ok(()),
+        Err(FillError::NotKept(e)) => Err(say_unkept(teller, e, out)),
+        Err(FillError::NotWritten(Unwritten::Late(file), _)) => Err(files.say_changed(
+            teller, file,
+        )),
+        Err(FillError::NotWritten(Unwritten::Stream(e), reason)) => {
+            Err(files.say_unwritten(teller, e, (disk.reason(), reason), out))
+        }
+    }
+}
+
+/// Writes the image of a plan, made of these files, through a large buffer if there is memory for
+/// it, and gives it its name.
 fn write_image(
     teller: &Teller<'_>,
     plan: &Plan,
@@ -327,11 +349,13 @@ fn write_image(
 ) -> Result<(), Status>
     requires { length plan.now.sizes ≡ length files.names.now }
 {
-    if let Err(status) = write_to(teller, plan, files, &target, out) {
-        target.abandon(teller.rt);
-        return Err(status);
+    match buffer_of(teller.rt, LARGE) {
+        Some(mut buffer) => put_image(teller, plan, files, (target, out), buffer.as_mut_slice()),
+        None => {
+            let mut buffer: [u8; 4096] = [0; 4096];
+            put_image(teller, plan, files, (target, out), buffer.as_mut_slice())
+        }
     }
-    keep(teller, target, out)
 }
 
 /// Removes a target that was written, if there is one.

@@ -120,15 +120,23 @@ impl Rule<'_> {
 }
 
 /// Writes a rule to the part that is to get the name of the file.
-fn write(teller: &Teller<'_>, name: &str, rule: Rule<'_>, target: &Target) -> Result<(), Status> {
+fn write(
+    teller: &Teller<'_>,
+    name: &str,
+    rule: Rule<'_>,
+    target: &mut Target,
+) -> Result<(), Status> {
     let rt = teller.rt;
     let Ok(text) = rule.text(rt) else {
         return Err(teller.say(Failure::Memory));
     };
-    let mut writer = target.writer(rt);
+    let Some(mut writer) = target.take_writer() else {
+        return Err(teller.failed(name.as_bytes(), &NOT_TAKEN));
+    };
     let mut failed = false;
     put(&mut writer, &mut failed, &text);
     if writer.flush().is_ok() && !failed {
+        target.put_back(writer);
         return Ok(());
     }
     Err(match writer.into_inner().error() {
@@ -155,14 +163,14 @@ pub fn written(
     image: &Target,
 ) -> Result<Target, Status> {
     let rt = teller.rt;
-    let target = match Target::open(rt, name) {
+    let mut target = match Target::open(rt, name) {
         Ok(target) => target,
         Err(e) => return Err(teller.refused(name.as_bytes(), &e)),
     };
     let result = if target.has_place_of(rt, image) {
         Err(teller.failed(name.as_bytes(), &OWN_RULE))
     } else {
-        write(teller, name, rule, &target)
+        write(teller, name, rule, &mut target)
     };
     match result {
         Ok(()) => Ok(target),

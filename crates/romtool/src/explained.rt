@@ -1,6 +1,7 @@
 //! What a build explains in words for people: why a manifest is refused, and warnings.
+use crate::beside::Others;
 use crate::origin::Origin;
-use crate::target::{Others, Target};
+use crate::target::Target;
 use crate::teller::Teller;
 use plan_types::Format;
 use sentences::{manifest_line, manifest_sentence, misfit_sentence, plan_line};

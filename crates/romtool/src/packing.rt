@@ -1,10 +1,11 @@
 //! Prints the manifest of directories as they are.
 use crate::aligning::align_all;
+use crate::beside::KeepError;
 use crate::devices;
 use crate::inventory::all_below;
 use crate::overlay::{OverlayError, laid_over, sort};
 use crate::patterns::Patterns;
-use crate::target::{KeepError, Target};
+use crate::target::Target;
 use crate::teller::Teller;
 use crate::unfit::Unfit;
 use build_commands::inventory::{NamedFile, lines, put_found};
@@ -89,13 +90,16 @@ fn target_of(teller: &Teller<'_>, name: &str, found: &[NamedFile]) -> Result<Tar
 /// Writes a manifest to its target. Reports a failure.
 fn write_to(
     teller: &Teller<'_>,
-    target: &Target,
+    target: &mut Target,
     name: &str,
     volume: &[u8],
     lines: &[Entry<'_>],
 ) -> Result<(), Status> {
-    let mut writer = target.writer(teller.rt);
+    let Some(mut writer) = target.take_writer() else {
+        return Err(teller.failed(name.as_bytes(), &MANIFEST_NOT_TAKEN));
+    };
     if put_found(&mut writer, volume, lines).is_ok() {
+        target.put_back(writer);
         return Ok(());
     }
     Err(match writer.into_inner().error() {
@@ -112,8 +116,8 @@ fn write_file(
     lines: &[Entry<'_>],
     found: &[NamedFile],
 ) -> Result<(), Status> {
-    let target = target_of(teller, name, found)?;
-    if let Err(status) = write_to(teller, &target, name, volume, lines) {
+    let mut target = target_of(teller, name, found)?;
+    if let Err(status) = write_to(teller, &mut target, name, volume, lines) {
         target.abandon(teller.rt);
         return Err(status);
     }

@@ -1,0 +1,60 @@
+//! The image of a plan as what fills a file.
+ghost use Rattle.std.specs.Prelude.{◌≡◌, ◌≤◌, ◌%◌, length};
+ghost use Rattle.image_file.specs.Images.{IsImageWritten, IsImageFault};
+
+use atomic_file::Fill;
+use image_build::{StreamError, stream_through};
+use image_stream::Sources;
+use plan_types::Plan;
+use rom_fields::ByteWrite;
+
+/// A check that is made after all is written, for example that no source changed.
+pub trait LastCheck {
+    /// The reason why it failed.
+    type Error: Drop;
+
+    /// Makes the check.
+    fn check(&mut self) -> Result<(), Self::Error>;
+}
+
+/// The reason why an image was not written.
+#[derive(Drop)]
+pub enum Unwritten<E: Drop> {
+    /// The stream failed.
+    Stream(StreamError),
+    /// The last check failed.
+    Late(E),
+}
+
+/// The image of a plan, with these sources, a check that is made after all is written, and a buffer
+/// of at least 4,096 bytes, whose length is a multiple of 4.
+pub struct PlanImage<'a, S: Sources, K: LastCheck> {
+    pub plan: &'a Plan,
+    pub sources: S,
+    pub last: K,
+    pub buffer: &'a mut [u8],
+}
+
+impl<'a, S: Sources, K: LastCheck> Fill for PlanImage<'a, S, K> {
+    type Error = Unwritten<K::Error>;
+
+    ghost writes = { λ s t old new. IsImageWritten (S.told s.sources) (S.IsLog s.sources)
+        (S.IsLog t.sources) s.plan.now old new };
+
+    ghost fails = { λ s t old new e. IsImageFault (S.told s.sources) s.plan.now
+        (S.reads s.sources) (S.reads t.sources) old new e };
+
+    ghost ready = { λ s. (S.files s.sources ≡ length s.plan.now.sizes)
+        × (4096 ≤ length s.buffer.now) × (length s.buffer.now % 4 ≡ 0) };
+
+    fn fill<W: ByteWrite>(&mut self, w: &mut W) -> Result<(), Unwritten<K::Error>> {
+        match stream_through(self.plan, &mut self.sources, w, self.buffer) {
+            Ok(()) => {}
+            Err(e) => return Err(Unwritten::Stream(e)),
+        }
+        match self.last.check() {
+            Ok(()) => Ok(()),
+            Err(e) => Err(Unwritten::Late(e)),
+        }
+    }
+}

@@ -1,0 +1,13 @@
+//! The image of a plan, which replaces a file whole or not at all. `put` fills a part with the
+//! image and gives it the name of the file.
+//!
+//! Proved: at each moment the file is what it was or the image of the plan, whole, with the
+//! contents that the sources answered, and a crash at each moment leaves it so. At `Ok` it is the
+//! image, and durable if the directory can be synchronized.
+#![tactic(auto)]
+
+mod image;
+mod putting;
+
+pub use image::{LastCheck, PlanImage, Unwritten};
+pub use putting::put;

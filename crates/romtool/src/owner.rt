@@ -1,0 +1,38 @@
+//! The owner and the permissions that a new file takes over from the one that it replaces.
+use std::fs::{File, Metadata};
+use std::io;
+use std::os::unix::fs::{MetadataExt, PermissionsExt, fchown};
+
+/// The permissions that lend no rights of the owner or the group.
+const LENDING_NOTHING: u32 = 0o777;
+
+/// Returns a mode in which the group and others have only the rights that both of them have.
+fn without_group(mode: u32) -> u32 {
+    let both = (mode >> 3) & mode & 0o7;
+    (mode & 0o700) | (both << 3) | both
+}
+
+/// Gives a new file the owner and the group of another one, as far as the system permits, and
+/// returns the mode for it: if the owner was refused, without the bits that lend rights; if the
+/// group was refused, without the rights of the group that others do not have.
+fn take_owner(file: &File, found: &Metadata) -> u32 {
+    let (uid, gid) = (found.uid(), found.gid());
+    if fchown(file, Some(uid), Some(gid)).is_ok() {
+        found.mode()
+    } else if fchown(file, None, Some(gid)).is_ok() {
+        found.mode() & LENDING_NOTHING
+    } else {
+        without_group(found.mode())
+    }
+}
+
+/// Gives a new file the owner, the group and the permissions of another one.
+///
+/// # Errors
+///
+/// That of the system.
+pub fn take_after(file: &File, found: &Metadata) -> io::Result<()> {
+    let mut permissions = found.permissions();
+    permissions.set_mode(take_owner(file, found));
+    file.set_permissions(permissions)
+}
