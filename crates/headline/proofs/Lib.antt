@@ -8,3 +8,4 @@ pub mod Whole
 mod Paths
 mod OpenedWhole
 mod Volumes
+mod BuiltFiles

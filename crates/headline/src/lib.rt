@@ -9,10 +9,13 @@
 //!   manifest means. The same holds for an image that was streamed from files.
 //! - Lent bytes are a slice of the image, at the reported offset.
 //! - An image that is taken apart and built again has a tree like its own.
+//! - A file that is replaced by an image leads, at each moment and after a crash, to what it led to
+//!   before, or to a whole image of the manifest in which a check finds no fault.
 //!
 //! `specs/Headline.antt` defines these words, and `specs/Lent.antt` defines what is lent.
 #![tactic(auto)]
 
+pub mod durable;
 pub mod naming;
 
 ghost use Rattle.std.specs.Prelude.{◌≡◌, ◌⊎◌, ◌*◌, ◌<◌, ◌≤◌, ℕ, List, Option, Some, Ok, false};
