@@ -12,7 +12,7 @@ use Rattle.atomic_file.proofs.Numbers.{at_other}
 pub seen_may : (log : List Event) (n : ℕ) → MayLead log n (entry log n)
 seen_may [] n = refl
 seen_may (Did (Create name) ∷ log) n = inl refl
-seen_may (Did (Sync told) ∷ log) n = inl refl
+seen_may (Did (Sync known) ∷ log) n = inl refl
 seen_may (Did Close ∷ log) n = inl refl
 seen_may (Did (Rename from to) ∷ log) n = inl refl
 seen_may (Did (Remove name) ∷ log) n = inl refl
@@ -73,12 +73,12 @@ pub removal_made : (name : ℕ) (e : Event) (log : List Event) → IsRemoval nam
 removal_made name _ log removed = refl
 removal_made name _ log stays = refl
 
-pub beside_sync : (name : ℕ) (told : Option (List ℕ)) (log : List Event) → IsBeside name log (Did (Sync told) ∷ log)
-beside_sync name told log = record { seen = λ n other. refl; crashed = λ n p other may. may }
+pub beside_sync : (name : ℕ) (known : Option (List ℕ)) (log : List Event) → IsBeside name log (Did (Sync known) ∷ log)
+beside_sync name known log = record { seen = λ n other. refl; crashed = λ n p other may. may }
 
-pub beside_no_sync : (name : ℕ) (told : Option (List ℕ)) (log : List Event)
-    → IsBeside name log (Refused (Sync told) ∷ log)
-beside_no_sync name told log = record { seen = λ n other. refl; crashed = λ n p other may. may }
+pub beside_no_sync : (name : ℕ) (known : Option (List ℕ)) (log : List Event)
+    → IsBeside name log (Refused (Sync known) ∷ log)
+beside_no_sync name known log = record { seen = λ n other. refl; crashed = λ n p other may. may }
 
 pub beside_close : (name : ℕ) (log : List Event) → IsBeside name log (Did Close ∷ log)
 beside_close name log = record { seen = λ n other. refl; crashed = λ n p other may. may }

@@ -45,30 +45,31 @@ module _ (names : Names) (name : ℕ) (old log : List Event) (begun : IsBegun na
 
 -- ---- the part gets the name
 
-module _ (names : Names) (name : ℕ) (told : Option (List ℕ)) (old mid : List Event) (distinct : IsNoPart names
+module _ (names : Names) (name : ℕ) (known : Option (List ℕ)) (old mid : List Event) (distinct : IsNoPart names
     names.out)
     (begun : IsBegun names name old mid) where
   abbrev pub Image : Option (List ℕ) → Type 0
-  Image t = t ≡ told
+  Image t = t ≡ known
 
   out_other : names.out ≢ name
   out_other = no_part_other names old names.out name distinct begun.is_part
 
   abbrev after_sync : List Event
-  after_sync = Did (Sync told) ∷ mid
+  after_sync = Did (Sync known) ∷ mid
 
   abbrev after_close : List Event
   after_close = Did Close ∷ after_sync
 
   abbrev after_rename : List Event
-  after_rename = renamed_run names name told mid
+  after_rename = renamed_run names name known mid
 
   apart_sync : IsApart names old after_sync
-  apart_sync = apart_step names old name mid after_sync begun.is_part (beside_sync name told mid) (λ k less. refl)
+  apart_sync = apart_step names old name mid after_sync begun.is_part (beside_sync name known mid) (λ k less. refl)
       (same_number (made mid) (made mid) refl) begun.apart
 
-  apart_no_sync : IsApart names old (Refused (Sync told) ∷ mid)
-  apart_no_sync = apart_step names old name mid (Refused (Sync told) ∷ mid) begun.is_part (beside_no_sync name told mid)
+  apart_no_sync : IsApart names old (Refused (Sync known) ∷ mid)
+  apart_no_sync = apart_step names old name mid (Refused (Sync known) ∷ mid) begun.is_part
+      (beside_no_sync name known mid)
       (λ k less. refl) (same_number (made mid) (made mid) refl) begun.apart
 
   earlier : (k : ℕ) → k < made old → suc k ≢ made mid
@@ -79,7 +80,7 @@ module _ (names : Names) (name : ℕ) (told : Option (List ℕ)) (old mid : List
 
   apart_close : IsApart names old after_close
   apart_close = apart_step names old name after_sync after_close begun.is_part (beside_close name after_sync)
-      (λ k less. at_other (suc k) (made mid) (Whole told) (content mid k) (earlier k less))
+      (λ k less. at_other (suc k) (made mid) (Whole known) (content mid k) (earlier k less))
       (same_number (made mid) (made mid) refl) apart_sync
 
   apart_no_close : IsApart names old (Refused Close ∷ after_sync)
@@ -87,8 +88,8 @@ module _ (names : Names) (name : ℕ) (told : Option (List ℕ)) (old mid : List
       (beside_no_close name after_sync) (λ k less. refl) (same_number (made mid) (made mid) refl) apart_sync
 
   -- the part is whole from then on
-  whole : content after_close begun.number ≡ Whole told
-  whole = at_same (suc begun.number) (made mid) (Whole told) (content mid begun.number) (sym begun.last)
+  whole : content after_close begun.number ≡ Whole known
+  whole = at_same (suc begun.number) (made mid) (Whole known) (content mid begun.number) (sym begun.last)
 
   is_new : (log : List Event) (p : Place) → content log begun.number ≡ content after_close begun.number
       → p ≡ Made begun.number → IsNew Image old log p
@@ -184,11 +185,11 @@ module _ (names : Names) (name : ℕ) (told : Option (List ℕ)) (old mid : List
 
   -- ---- the run that ends well
 
-  pub throughout_done : (d : Durability) (new : List Event) → IsDone names name told d mid new
+  pub throughout_done : (d : Durability) (new : List Event) → IsDone names name known d mid new
       → Throughout (IsOldOrNew names Image old) mid new
   throughout_done d new is =
       subst (Throughout (IsOldOrNew names Image old) mid) (sym is) (
-        last_event d ∷ Did (Rename name names.out) ∷ Did Close ∷ Did (Sync told) ∷ [],
+        last_event d ∷ Did (Rename name names.out) ∷ Did Close ∷ Did (Sync known) ∷ [],
         refl,
         (
           step after_rename (last_event d ∷ after_rename) (beside_last d after_rename) (content_last d after_rename)
@@ -218,7 +219,8 @@ module _ (names : Names) (name : ℕ) (told : Option (List ℕ)) (old mid : List
       no_out : n ≢ names.out
       no_out same = distinct (subst (IsPart names) same part)
 
-  pub replaced : (d : Durability) (new : List Event) → IsDone names name told d mid new → IsReplaced names Image old new
+  pub replaced : (d : Durability) (new : List Event) → IsDone names name known d mid new
+      → IsReplaced names Image old new
   replaced d new is =
       subst (IsReplaced names Image old) (sym is) (record {
         seen = is_new (last_event d ∷ after_rename) (entry (last_event d ∷ after_rename) names.out)
@@ -237,18 +239,18 @@ module _ (names : Names) (name : ℕ) (told : Option (List ℕ)) (old mid : List
       log end)))
       apart
 
-  pub throughout_unkept : (new : List Event) → IsUnkept names name told mid new
+  pub throughout_unkept : (new : List Event) → IsUnkept names name known mid new
       → Throughout (IsOldOrNew names Image old) mid new
   throughout_unkept _ (not_synced e end) = (
-    e ∷ Refused (Sync told) ∷ [],
+    e ∷ Refused (Sync known) ∷ [],
     refl,
     (
-      from_apart names old Image _ distinct (after_removal e (Refused (Sync told) ∷ mid) end apart_no_sync),
+      from_apart names old Image _ distinct (after_removal e (Refused (Sync known) ∷ mid) end apart_no_sync),
       (from_apart names old Image _ distinct apart_no_sync, from_apart names old Image _ distinct begun.apart),
     ),
   )
   throughout_unkept _ (not_closed e end) = (
-    e ∷ Refused Close ∷ Did (Sync told) ∷ [],
+    e ∷ Refused Close ∷ Did (Sync known) ∷ [],
     refl,
     (
       from_apart names old Image _ distinct (after_removal e (Refused Close ∷ after_sync) end apart_no_close),
@@ -259,7 +261,7 @@ module _ (names : Names) (name : ℕ) (told : Option (List ℕ)) (old mid : List
     ),
   )
   throughout_unkept _ (not_renamed e end) = (
-    e ∷ Refused (Rename name names.out) ∷ Did Close ∷ Did (Sync told) ∷ [],
+    e ∷ Refused (Rename name names.out) ∷ Did Close ∷ Did (Sync known) ∷ [],
     refl,
     (
       step no_rename (e ∷ no_rename) (beside_removal name e no_rename end) (λ k. removal_content name e no_rename k
@@ -274,7 +276,7 @@ module _ (names : Names) (name : ℕ) (told : Option (List ℕ)) (old mid : List
     ),
   )
   throughout_unkept _ not_durable = (
-    Refused SyncDirectory ∷ Did (Rename name names.out) ∷ Did Close ∷ Did (Sync told) ∷ [],
+    Refused SyncDirectory ∷ Did (Rename name names.out) ∷ Did Close ∷ Did (Sync known) ∷ [],
     refl,
     (
       step after_rename (Refused SyncDirectory ∷ after_rename) (beside_no_directory name after_rename) (λ k. refl)
@@ -289,10 +291,10 @@ module _ (names : Names) (name : ℕ) (told : Option (List ℕ)) (old mid : List
     ),
   )
 
-  pub kept : (new : List Event) → IsUnkept names name told mid new → IsKept names Image old new
+  pub kept : (new : List Event) → IsUnkept names name known mid new → IsKept names Image old new
   kept _ (not_synced e end) = record {
-    seen = inl ((after_removal e (Refused (Sync told) ∷ mid) end apart_no_sync).seen names.out distinct);
-    no_part = removal_part names name old mid begun e (Refused (Sync told) ∷ mid) end (λ n. refl);
+    seen = inl ((after_removal e (Refused (Sync known) ∷ mid) end apart_no_sync).seen names.out distinct);
+    no_part = removal_part names name old mid begun e (Refused (Sync known) ∷ mid) end (λ n. refl);
   }
   kept _ (not_closed e end) = record {
     seen = inl ((after_removal e (Refused Close ∷ after_sync) end apart_no_close).seen names.out distinct);
@@ -311,8 +313,8 @@ module _ (names : Names) (name : ℕ) (told : Option (List ℕ)) (old mid : List
     no_part = λ n part. inl (part_gone n part);
   }
 
-pub durable : (names : Names) (name : ℕ) (told : Option (List ℕ)) (d : Durability) (mid new : List Event)
-    → IsDone names name told d mid new → IsDurable d new
-durable names name told Durable mid new is =
+pub durable : (names : Names) (name : ℕ) (known : Option (List ℕ)) (d : Durability) (mid new : List Event)
+    → IsDone names name known d mid new → IsDurable d new
+durable names name known Durable mid new is =
     subst (IsDurable Durable) (sym is) (λ n p may. may)
-durable names name told Unknown mid new is = (renamed_run names name told mid, is)
+durable names name known Unknown mid new is = (renamed_run names name known mid, is)

@@ -20,38 +20,38 @@ Removes name mid new = (e : Event) × IsRemoval name e × (new ≡ e ∷ mid)
 
 -- ---- which calls
 
-module _ (names : Names) (name : ℕ) (told : Option (List ℕ)) (old : List Event) where
-  pub unsynced : (a new : List Event) → a ≡ Refused (Sync told) ∷ old → Removes name a new
-      → IsUnkept names name told old new
+module _ (names : Names) (name : ℕ) (known : Option (List ℕ)) (old : List Event) where
+  pub unsynced : (a new : List Event) → a ≡ Refused (Sync known) ∷ old → Removes name a new
+      → IsUnkept names name known old new
   unsynced a new is end =
-      subst (IsUnkept names name told old) (sym (end.2 ∙ ap (λ (l : List Event). end.0 ∷ l) is)) (not_synced end.0
+      subst (IsUnkept names name known old) (sym (end.2 ∙ ap (λ (l : List Event). end.0 ∷ l) is)) (not_synced end.0
       end.1)
 
-  pub unclosed : (a b new : List Event) → a ≡ Did (Sync told) ∷ old → b ≡ Refused Close ∷ a → Removes name b new
-      → IsUnkept names name told old new
+  pub unclosed : (a b new : List Event) → a ≡ Did (Sync known) ∷ old → b ≡ Refused Close ∷ a → Removes name b new
+      → IsUnkept names name known old new
   unclosed a b new is is2 end =
-      let whole : new ≡ end.0 ∷ Refused Close ∷ Did (Sync told) ∷ old =
+      let whole : new ≡ end.0 ∷ Refused Close ∷ Did (Sync known) ∷ old =
       end.2 ∙ ap (λ (l : List Event). end.0 ∷ l) (is2 ∙ ap (λ (l : List Event). Refused Close ∷ l) is) in
-      subst (IsUnkept names name told old) (sym whole) (not_closed end.0 end.1)
+      subst (IsUnkept names name known old) (sym whole) (not_closed end.0 end.1)
 
-  closed : (a b : List Event) → a ≡ Did (Sync told) ∷ old → b ≡ Did Close ∷ a → b ≡ Did Close ∷ Did (Sync told) ∷ old
+  closed : (a b : List Event) → a ≡ Did (Sync known) ∷ old → b ≡ Did Close ∷ a → b ≡ Did Close ∷ Did (Sync known) ∷ old
   closed a b is is2 = is2 ∙ ap (λ (l : List Event). Did Close ∷ l) is
 
-  pub unrenamed : (a b c new : List Event) → a ≡ Did (Sync told) ∷ old → b ≡ Did Close ∷ a
-      → c ≡ Refused (Rename name names.out) ∷ b → Removes name c new → IsUnkept names name told old new
+  pub unrenamed : (a b c new : List Event) → a ≡ Did (Sync known) ∷ old → b ≡ Did Close ∷ a
+      → c ≡ Refused (Rename name names.out) ∷ b → Removes name c new → IsUnkept names name known old new
   unrenamed a b c new is is2 is3 end =
-      let whole : new ≡ end.0 ∷ Refused (Rename name names.out) ∷ Did Close ∷ Did (Sync told) ∷ old =
+      let whole : new ≡ end.0 ∷ Refused (Rename name names.out) ∷ Did Close ∷ Did (Sync known) ∷ old =
       end.2 ∙ ap (λ (l : List Event). end.0 ∷ l)
       (is3 ∙ ap (λ (l : List Event). Refused (Rename name names.out) ∷ l) (closed a b is is2)) in
-      subst (IsUnkept names name told old) (sym whole) (not_renamed end.0 end.1)
+      subst (IsUnkept names name known old) (sym whole) (not_renamed end.0 end.1)
 
-  pub undurable : (a b c new : List Event) → a ≡ Did (Sync told) ∷ old → b ≡ Did Close ∷ a
-      → c ≡ Did (Rename name names.out) ∷ b → new ≡ Refused SyncDirectory ∷ c → IsUnkept names name told old new
+  pub undurable : (a b c new : List Event) → a ≡ Did (Sync known) ∷ old → b ≡ Did Close ∷ a
+      → c ≡ Did (Rename name names.out) ∷ b → new ≡ Refused SyncDirectory ∷ c → IsUnkept names name known old new
   undurable a b c new is is2 is3 is4 =
-      let whole : new ≡ Refused SyncDirectory ∷ Did (Rename name names.out) ∷ Did Close ∷ Did (Sync told) ∷ old =
+      let whole : new ≡ Refused SyncDirectory ∷ Did (Rename name names.out) ∷ Did Close ∷ Did (Sync known) ∷ old =
       is4 ∙ ap (λ (l : List Event). Refused SyncDirectory ∷ l)
       (is3 ∙ ap (λ (l : List Event). Did (Rename name names.out) ∷ l) (closed a b is is2)) in
-      subst (IsUnkept names name told old) (sym whole) not_durable
+      subst (IsUnkept names name known old) (sym whole) not_durable
 
 -- ---- a part that is given up
 
@@ -67,28 +67,28 @@ module _ (names : Names) (name : ℕ) (old log new : List Event) (begun : IsBegu
 
 -- ---- a part that is kept
 
-module _ (names : Names) (name : ℕ) (told : Option (List ℕ)) (mid new : List Event) (distinct : IsNoPart names
+module _ (names : Names) (name : ℕ) (known : Option (List ℕ)) (mid new : List Event) (distinct : IsNoPart names
     names.out) where
-  pub keep_moments : {E : Type 0} (r : Result Durability E) → IfOk r (λ d. IsDone names name told d mid new)
-      → OnErr r (IsUnkept names name told mid new) → (old : List Event) → IsBegun names name old mid
-      → Throughout (IsOldOrNew names (λ t. t ≡ told) old) mid new
-  keep_moments (Ok d) ended stopped old begun = throughout_done names name told old mid distinct begun d new ended
-  keep_moments (Err e) ended stopped old begun = throughout_unkept names name told old mid distinct begun new stopped
+  pub keep_moments : {E : Type 0} (r : Result Durability E) → IfOk r (λ d. IsDone names name known d mid new)
+      → OnErr r (IsUnkept names name known mid new) → (old : List Event) → IsBegun names name old mid
+      → Throughout (IsOldOrNew names (λ t. t ≡ known) old) mid new
+  keep_moments (Ok d) ended stopped old begun = throughout_done names name known old mid distinct begun d new ended
+  keep_moments (Err e) ended stopped old begun = throughout_unkept names name known old mid distinct begun new stopped
 
-  pub keep_ok : {E : Type 0} (r : Result Durability E) → IfOk r (λ d. IsDone names name told d mid new)
-      → IfOk r (λ d. (old : List Event) → IsBegun names name old mid → IsReplaced names (λ t. t ≡ told) old new)
-  keep_ok (Ok d) ended = λ old begun. replaced names name told old mid distinct begun d new ended
+  pub keep_ok : {E : Type 0} (r : Result Durability E) → IfOk r (λ d. IsDone names name known d mid new)
+      → IfOk r (λ d. (old : List Event) → IsBegun names name old mid → IsReplaced names (λ t. t ≡ known) old new)
+  keep_ok (Ok d) ended = λ old begun. replaced names name known old mid distinct begun d new ended
   keep_ok (Err e) ended = tt
 
-  pub keep_durable : {E : Type 0} (r : Result Durability E) → IfOk r (λ d. IsDone names name told d mid new)
+  pub keep_durable : {E : Type 0} (r : Result Durability E) → IfOk r (λ d. IsDone names name known d mid new)
       → IfOk r (λ d. IsDurable d new)
-  keep_durable (Ok d) ended = durable names name told d mid new ended
+  keep_durable (Ok d) ended = durable names name known d mid new ended
   keep_durable (Err e) ended = tt
 
-  pub keep_err : {E : Type 0} (r : Result Durability E) → OnErr r (IsUnkept names name told mid new)
-      → OnErr r ((old : List Event) → IsBegun names name old mid → IsKept names (λ t. t ≡ told) old new)
+  pub keep_err : {E : Type 0} (r : Result Durability E) → OnErr r (IsUnkept names name known mid new)
+      → OnErr r ((old : List Event) → IsBegun names name old mid → IsKept names (λ t. t ≡ known) old new)
   keep_err (Ok d) stopped = tt
-  keep_err (Err e) stopped = λ old begun. kept names name told old mid distinct begun new stopped
+  keep_err (Err e) stopped = λ old begun. kept names name known old mid distinct begun new stopped
 
 -- ---- of the bytes that were written, to the bytes that were to be written
 
@@ -102,7 +102,7 @@ module _ (names : Names) (Small Image : Option (List ℕ) → Type 0) (more : (t
     → Image t) where
   holds : (c : Content) → HoldsImage Small c → HoldsImage Image c
   holds Anything is = is
-  holds (Whole told) is = more told is
+  holds (Whole known) is = more known is
 
   new_of : (old log : List Event) (p : Place) → IsNew Small old log p → IsNew Image old log p
   new_of old log p (k, since, is, whole) = (k, since, is, holds (content log k) whole)

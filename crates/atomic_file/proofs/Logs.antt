@@ -1,6 +1,6 @@
 -- Logs that grow, and what holds at each moment.
 use Rattle.std.proofs.Common.{◌≡◌, List, [], ◌∷◌, ◌++◌, Option, Some, None, IfSome, IfNone, refl, sym, ◌∙◌, ap, subst}
-use Rattle.atomic_file.specs.Log.{Event, Tells, EachMoment, Throughout}
+use Rattle.atomic_file.specs.Log.{Event, Knows, EachMoment, Throughout}
 use Rattle.atomic_file.specs.Runs.{AreAll, Adds}
 
 pub assoc : (xs ys zs : List Event) → (xs ++ ys) ++ zs ≡ xs ++ (ys ++ zs)
@@ -26,15 +26,15 @@ adds_both P a b c (first, is, all) (second, is2, all2) = (
   all_both P second first all2 all,
 )
 
-pub tells_more : (P : Event → Type 0) (e : Event) (a b c : List Event) → Tells e a b → Adds P b c → Tells e a c
-tells_more P e a b c (newer, older, is) (later, is2, all) = (
+pub knows_more : (P : Event → Type 0) (e : Event) (a b c : List Event) → Knows e a b → Adds P b c → Knows e a c
+knows_more P e a b c (newer, older, is) (later, is2, all) = (
   later ++ newer,
   older,
   is2 ∙ ap (λ (l : List Event). later ++ l) is ∙ sym (assoc later newer (e ∷ (older ++ a))),
 )
 
-pub tells_after : (P : Event → Type 0) (e : Event) (a b c : List Event) → Adds P a b → Tells e b c → Tells e a c
-tells_after P e a b c (later, is, all) (newer, older, is2) = (
+pub knows_after : (P : Event → Type 0) (e : Event) (a b c : List Event) → Adds P a b → Knows e b c → Knows e a c
+knows_after P e a b c (later, is, all) (newer, older, is2) = (
   newer,
   older ++ later,
   is2 ∙ ap (λ (l : List Event). newer ++ (e ∷ l)) (ap (λ (l : List Event). older ++ l) is ∙ sym (assoc older later a)),

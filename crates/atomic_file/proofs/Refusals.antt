@@ -21,11 +21,11 @@ made_nothing : (k : ℕ) → Made k ≡ Nothing → ⊥
 made_nothing k is = cc
 
 -- without a synchronization of the directory, a crash may leave OUT as it was
-pub undurable : (told : Option (List ℕ)) → RefusesEnd (not_durable told)
-undurable told part out ended =
-    let leads : entry (not_durable told part out) out ≡ Made 0 =
-    at_name out (entry (Did Close ∷ Did (Sync told) ∷ Did (Create part) ∷ []) part)
-    (cond (nat_eq out part) Nothing (entry (Did Close ∷ Did (Sync told) ∷ Did (Create part) ∷ []) out))
+pub undurable : (known : Option (List ℕ)) → RefusesEnd (not_durable known)
+undurable known part out ended =
+    let leads : entry (not_durable known part out) out ≡ Made 0 =
+    at_name out (entry (Did Close ∷ Did (Sync known) ∷ Did (Create part) ∷ []) part)
+    (cond (nat_eq out part) Nothing (entry (Did Close ∷ Did (Sync known) ∷ Did (Create part) ∷ []) out))
     ∙ at_name part (Made 0) (AsBefore part) in
     made_before out 0 (sym leads ∙ sym (ended out (AsBefore out) (inr (inr (inr (inr refl))))))
 

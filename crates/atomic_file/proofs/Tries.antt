@@ -3,14 +3,14 @@ use Rattle.std.proofs.Common.{◌≡◌, ◌≢◌, ◌⊎◌, inl, inr, ⊎_eli
 use Rattle.std.proofs.Common.{[], ◌∷◌}
 use Rattle.std.proofs.Common.{◌++◌, refl, sym, ◌∙◌, ap, subst, arith}
 use Rattle.std.specs.Prelude.{nat_eq}
-use Rattle.atomic_file.specs.Log.{Create, Remove, Event, Did, Refused, Tells, EachMoment, Throughout}
+use Rattle.atomic_file.specs.Log.{Create, Remove, Event, Did, Refused, Knows, EachMoment, Throughout}
 use Rattle.atomic_file.specs.Crashes.{Place, Nothing, Made, made, entry}
 use Rattle.atomic_file.specs.Moments.{IsPart, IsApart, IsTried, IsBegun}
 use Rattle.atomic_file.specs.Runs.{AreAll, Adds, IsTry, taken, cleared, in_use, IsOther, other_cleared, other_in_use}
 use Rattle.atomic_file.specs.Runs.{IsMade}
 use Rattle.atomic_file.specs.declared.names.Names.{Names}
 use Rattle.atomic_file.proofs.Numbers.{at_name, at_other, same_or_other}
-use Rattle.atomic_file.proofs.Logs.{adds_none, adds_one, adds_both, tells_more, tells_after, throughout_both}
+use Rattle.atomic_file.proofs.Logs.{adds_none, adds_one, adds_both, knows_more, knows_after, throughout_both}
 use Rattle.atomic_file.proofs.Besides.{beside_create, beside_no_create, beside_remove, beside_no_remove}
 use Rattle.atomic_file.proofs.Besides.{apart_start, apart_step, left_same}
 
@@ -148,17 +148,17 @@ module _ (names : Names) (n : ℕ) (part : IsPart names n) (old : List Event) wh
   after_again a b c is is2 is3 =
       adds_one (IsTry names) (Refused (Create n)) old b c (taken n part) is3 (after_cleared a b is is2)
 
-  pub tells_taken : (a : List Event) → a ≡ Refused (Create n) ∷ old → Tells (Refused (Create n)) old a
-  tells_taken a is = ([], [], is)
+  pub knows_taken : (a : List Event) → a ≡ Refused (Create n) ∷ old → Knows (Refused (Create n)) old a
+  knows_taken a is = ([], [], is)
 
-  pub tells_in_use : (a b : List Event) → a ≡ Refused (Create n) ∷ old → b ≡ Refused (Remove n) ∷ a
-      → Tells (Refused (Create n)) old b
-  tells_in_use a b is is2 =
+  pub knows_in_use : (a b : List Event) → a ≡ Refused (Create n) ∷ old → b ≡ Refused (Remove n) ∷ a
+      → Knows (Refused (Create n)) old b
+  knows_in_use a b is is2 =
       (Refused (Remove n) ∷ [], [], is2 ∙ ap (λ (l : List Event). Refused (Remove n) ∷ l) is)
 
-  pub tells_again : (a b c : List Event) → a ≡ Refused (Create n) ∷ old → b ≡ Did (Remove n) ∷ a
-      → c ≡ Refused (Create n) ∷ b → Tells (Refused (Create n)) old c
-  tells_again a b c is is2 is3 = (
+  pub knows_again : (a b c : List Event) → a ≡ Refused (Create n) ∷ old → b ≡ Did (Remove n) ∷ a
+      → c ≡ Refused (Create n) ∷ b → Knows (Refused (Create n)) old c
+  knows_again a b c is is2 is3 = (
     [],
     Did (Remove n) ∷ Refused (Create n) ∷ [],
     is3 ∙ ap (λ (l : List Event). Refused (Create n) ∷ l) (is2 ∙ ap (λ (l : List Event). Did (Remove n) ∷ l) is),
@@ -181,13 +181,13 @@ module _ (names : Names) (a b c : List Event) where
   later_made name before (mid, tries, is) = (mid, adds_both (IsTry names) a b mid before tries, is)
 
   -- a name that was tried earlier, or is the one that was tried last
-  pub tells_all : (name : ℕ) → Adds (IsTry names) a b → Adds (IsTry names) b c → Tells (Refused (Create name)) b c
-      → ((n : ℕ) → names.first ≤ n → n < name → Tells (Refused (Create n)) a b)
-      → (n : ℕ) → names.first ≤ n → n < name + 1 → Tells (Refused (Create n)) a c
-  tells_all name before now told so_far n first less = ⊎_elim
-      (λ is. subst (λ (m : ℕ). Tells (Refused (Create m)) a c) (sym is)
-      (tells_after (IsTry names) (Refused (Create name)) a b c before told))
-      (λ other. tells_more (IsTry names) (Refused (Create n)) a b c (so_far n first (earlier other)) now)
+  pub knows_all : (name : ℕ) → Adds (IsTry names) a b → Adds (IsTry names) b c → Knows (Refused (Create name)) b c
+      → ((n : ℕ) → names.first ≤ n → n < name → Knows (Refused (Create n)) a b)
+      → (n : ℕ) → names.first ≤ n → n < name + 1 → Knows (Refused (Create n)) a c
+  knows_all name before now known so_far n first less = ⊎_elim
+      (λ is. subst (λ (m : ℕ). Knows (Refused (Create m)) a c) (sym is)
+      (knows_after (IsTry names) (Refused (Create name)) a b c before known))
+      (λ other. knows_more (IsTry names) (Refused (Create n)) a b c (so_far n first (earlier other)) now)
       (same_or_other n name)
     where
       earlier : n ≢ name → n < name

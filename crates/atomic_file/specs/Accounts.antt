@@ -14,13 +14,13 @@ use Rattle.atomic_file.specs.declared.account.Answer.TheVariants.{Done, Refused,
 use Rattle.atomic_file.specs.declared.account.Answered.{Answered}
 use Rattle.atomic_file.specs.declared.account.Account.{Account}
 
-abbrev pub told_by : Option (Vec ℕ Global) → Option (List ℕ)
-told_by None = None
-told_by (Some v) = Some v.items
+abbrev pub known_by : Option (Vec ℕ Global) → Option (List ℕ)
+known_by None = None
+known_by (Some v) = Some v.items
 
 abbrev pub call_of : Asked → Call
 call_of (Create name) = Creates name
-call_of (Sync told) = Syncs (told_by told)
+call_of (Sync known) = Syncs (known_by known)
 call_of Close = Closes
 call_of (Rename from to) = Renames from to
 call_of (Remove name) = Removes name

@@ -15,7 +15,7 @@ pub data Place : Type 0 where
 
 abbrev pub made_by : Call → ℕ → ℕ
 made_by (Create name) k = suc k
-made_by (Sync told) k = k
+made_by (Sync known) k = k
 made_by Close k = k
 made_by (Rename from to) k = k
 made_by (Remove name) k = k
@@ -30,7 +30,7 @@ made (Skipped ∷ log) = made log
 
 abbrev pub led_by : Call → ℕ → (ℕ → Place) → ℕ → Place
 led_by (Create name) k old n = cond (nat_eq n name) (Made k) (old n)
-led_by (Sync told) k old n = old n
+led_by (Sync known) k old n = old n
 led_by Close k old n = old n
 led_by (Rename from to) k old n =
     cond (nat_eq n to) (old from) (cond (nat_eq n from) Nothing (old n))
@@ -61,7 +61,7 @@ pub data Content : Type 0 where
 -- the file that was made last, if its synchronization is the newest event
 abbrev pub synced : List Event → Content
 synced [] = Anything
-synced (Did (Sync told) ∷ log) = Whole told
+synced (Did (Sync known) ∷ log) = Whole known
 synced (Did call ∷ log) = Anything
 synced (Refused call ∷ log) = Anything
 synced (Skipped ∷ log) = Anything

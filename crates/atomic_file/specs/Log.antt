@@ -52,8 +52,8 @@ abbrev pub EndsBy : Event → List Event → Type 0
 EndsBy e log = (rest : List Event) × (log ≡ e ∷ rest)
 
 -- the event is one of those since
-abbrev pub Tells : Event → List Event → List Event → Type 0
-Tells e old new =
+abbrev pub Knows : Event → List Event → List Event → Type 0
+Knows e old new =
     (newer : List Event) × (older : List Event) × (new ≡ newer ++ (e ∷ (older ++ old)))
 
 abbrev pub EachMoment : (List Event → Type 0) → List Event → List Event → Type 0

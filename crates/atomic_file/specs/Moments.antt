@@ -18,7 +18,7 @@ IsNoPart names n = IsPart names n → ⊥
 -- a crash leaves exactly the new bytes
 abbrev pub HoldsImage : (Option (List ℕ) → Type 0) → Content → Type 0
 HoldsImage Image Anything = ⊥
-HoldsImage Image (Whole told) = Image told
+HoldsImage Image (Whole known) = Image known
 
 -- a file that was made since, with exactly the new bytes on the disk
 abbrev pub IsNew : (Option (List ℕ) → Type 0) → List Event → List Event → Place → Type 0

@@ -3,7 +3,7 @@
 use Rattle.std.specs.Prelude.{◌≡◌, ◌≢◌, ◌++◌, ⊤, ℕ, List, [], ◌∷◌, Option}
 use Rattle.rom_fields.specs.Written.{Output}
 use Rattle.atomic_file.specs.Log.{Create, Sync, Close, Rename, Remove, SyncDirectory}
-use Rattle.atomic_file.specs.Log.{Event, Did, Refused, EndsBy, Tells, last_event}
+use Rattle.atomic_file.specs.Log.{Event, Did, Refused, EndsBy, Knows, last_event}
 use Rattle.atomic_file.specs.Moments.{IsPart, IsBegun}
 use Rattle.atomic_file.specs.declared.directory.Durability.{Durability}
 use Rattle.atomic_file.specs.declared.names.Names.{Names}
@@ -39,7 +39,7 @@ IsMade names name old new =
 -- why no part was made: the last creation was refused, or all names are taken
 pub data IsUnbegun (names : Names) (old log : List Event) : Type 0 where
   refused : (n : ℕ) → IsPart names n → EndsBy (Refused (Create n)) log → IsUnbegun names old log
-  none_free : ((n : ℕ) → IsPart names n → Tells (Refused (Create n)) old log)
+  none_free : ((n : ℕ) → IsPart names n → Knows (Refused (Create n)) old log)
       → IsUnbegun names old log
 
 -- a removal of the part, done or refused
@@ -49,24 +49,24 @@ pub data IsRemoval (name : ℕ) : Event → Type 0 where
 
 -- the calls after which the part has its name
 abbrev pub renamed_run : Names → ℕ → Option (List ℕ) → List Event → List Event
-renamed_run names name told old =
-    Did (Rename name names.out) ∷ Did Close ∷ Did (Sync told) ∷ old
+renamed_run names name known old =
+    Did (Rename name names.out) ∷ Did Close ∷ Did (Sync known) ∷ old
 
 abbrev pub IsDone : Names → ℕ → Option (List ℕ) → Durability → List Event → List Event → Type 0
-IsDone names name told d old log = log ≡ last_event d ∷ renamed_run names name told old
+IsDone names name known d old log = log ≡ last_event d ∷ renamed_run names name known old
 
 -- the runs in which the part did not get its name for good
-pub data IsUnkept (names : Names) (name : ℕ) (told : Option (List ℕ)) (old : List Event)
+pub data IsUnkept (names : Names) (name : ℕ) (known : Option (List ℕ)) (old : List Event)
     : List Event → Type 0 where
   not_synced : (e : Event) → IsRemoval name e
-      → IsUnkept names name told old (e ∷ Refused (Sync told) ∷ old)
+      → IsUnkept names name known old (e ∷ Refused (Sync known) ∷ old)
   not_closed : (e : Event) → IsRemoval name e
-      → IsUnkept names name told old (e ∷ Refused Close ∷ Did (Sync told) ∷ old)
+      → IsUnkept names name known old (e ∷ Refused Close ∷ Did (Sync known) ∷ old)
   not_renamed : (e : Event) → IsRemoval name e
-      → IsUnkept names name told old
-      (e ∷ Refused (Rename name names.out) ∷ Did Close ∷ Did (Sync told) ∷ old)
-  not_durable : IsUnkept names name told old
-      (Refused SyncDirectory ∷ renamed_run names name told old)
+      → IsUnkept names name known old
+      (e ∷ Refused (Rename name names.out) ∷ Did Close ∷ Did (Sync known) ∷ old)
+  not_durable : IsUnkept names name known old
+      (Refused SyncDirectory ∷ renamed_run names name known old)
 
 -- the source or the part says why the bytes were not written
 abbrev pub IsUnwritten : {E : Type 0} → (Output → Output → E → Type 0) → Option (List ℕ) → E
@@ -80,7 +80,7 @@ abbrev pub IsStop : {E P : Type 0} → Names → ℕ → (Option (List ℕ) → 
 IsStop names name Image Unwritten old log (NotWritten e part) =
     Unwritten e × ((removal : Event) × IsRemoval name removal × (log ≡ removal ∷ old))
 IsStop names name Image Unwritten old log NotKept =
-    (told : Option (List ℕ)) × Image told × IsUnkept names name told old log
+    (known : Option (List ℕ)) × Image known × IsUnkept names name known old log
 
 -- the cause of each end of a whole run
 abbrev pub IsCause : {E P : Type 0} → Names → (Option (List ℕ) → Type 0)

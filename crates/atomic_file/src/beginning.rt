@@ -1,7 +1,7 @@
 //! The part of a file: its beginning, and its end if it is given up.
 ghost use Rattle.std.specs.Prelude.{◌≡◌, ◌≢◌, ◌+◌, ◌-◌, ◌*◌, ◌<◌, ◌≤◌, ◌∷◌, ◌⊎◌, List};
 ghost use Rattle.std.specs.Prelude.{ℕ, IfOk, OnErr, IfSome, IfNone, ⊤};
-ghost use Rattle.atomic_file.specs.Log.{Event, Create, Remove, Refused, EndsBy, Tells};
+ghost use Rattle.atomic_file.specs.Log.{Event, Create, Remove, Refused, EndsBy, Knows};
 ghost use Rattle.atomic_file.specs.Log.{Throughout};
 ghost use Rattle.atomic_file.specs.Moments.{IsPart, IsApart, IsTried, IsBegun, IsLeft};
 ghost use Rattle.atomic_file.specs.Runs.{Adds, IsTry, IsOther, IsMade, IsUnbegun, IsRemoval};
@@ -40,7 +40,7 @@ fn try_name<D: Directory>(
         × ((D.Part.output part).contents ≡ D.fresh))) }
     ensures none { IfOk result (λ made. IfNone made (
         Adds (IsTry names) (D.log directory.old) (D.log directory.new)
-        × Tells (Refused (Create name)) (D.log directory.old) (D.log directory.new))) }
+        × Knows (Refused (Create name)) (D.log directory.old) (D.log directory.new))) }
     ensures err { OnErr result (
         Adds (IsTry names) (D.log directory.old) (D.log directory.new)
         × EndsBy (Refused (Create name)) (D.log directory.new)) }

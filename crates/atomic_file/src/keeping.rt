@@ -68,16 +68,16 @@ pub fn keep<D: Directory>(
     requires distinct { IsNoPart names names.out }
     requires room { 4 ≤ D.room directory.old }
     ensures any_moment { (old : List Event) → IsBegun names begun.name old (D.log directory.old)
-        → Throughout (IsOldOrNew names (λ told. told ≡ (D.Part.output begun.part).contents) old)
+        → Throughout (IsOldOrNew names (λ known. known ≡ (D.Part.output begun.part).contents) old)
         (D.log directory.old) (D.log directory.new) }
     ensures ok { IfOk result (λ d. (old : List Event)
         → IsBegun names begun.name old (D.log directory.old)
-        → IsReplaced names (λ told. told ≡ (D.Part.output begun.part).contents) old
+        → IsReplaced names (λ known. known ≡ (D.Part.output begun.part).contents) old
         (D.log directory.new)) }
     ensures durable { IfOk result (λ d. IsDurable d (D.log directory.new)) }
     ensures err { OnErr result ((old : List Event)
         → IsBegun names begun.name old (D.log directory.old)
-        → IsKept names (λ told. told ≡ (D.Part.output begun.part).contents) old
+        → IsKept names (λ known. known ≡ (D.Part.output begun.part).contents) old
         (D.log directory.new)) }
     ensures cause { OnErr result (IsUnkept names begun.name (D.Part.output begun.part).contents
         (D.log directory.old) (D.log directory.new)) }

@@ -12,11 +12,11 @@ ghost use Rattle.atomic_file.specs.WrongRuns.{part_left};
 /// synchronized. An error that leaves the part is refused, too.
 pub fn refused_runs()
     ensures before_sync { RefusesMoment renamed_before_sync }
-    ensures before_close { (told : Option (List ℕ)) → RefusesMoment (renamed_before_close told) }
-    ensures sync_error { (told : Option (List ℕ)) → RefusesMoment (sync_error_dropped told) }
-    ensures close_error { (told : Option (List ℕ)) → RefusesMoment (close_error_dropped told) }
+    ensures before_close { (known : Option (List ℕ)) → RefusesMoment (renamed_before_close known) }
+    ensures sync_error { (known : Option (List ℕ)) → RefusesMoment (sync_error_dropped known) }
+    ensures close_error { (known : Option (List ℕ)) → RefusesMoment (close_error_dropped known) }
     ensures in_place { RefusesMoment written_in_place }
-    ensures removal { (told : Option (List ℕ)) → RefusesMoment (removed_first told) }
-    ensures directory { (told : Option (List ℕ)) → RefusesEnd (not_durable told) }
+    ensures removal { (known : Option (List ℕ)) → RefusesMoment (removed_first known) }
+    ensures directory { (known : Option (List ℕ)) → RefusesEnd (not_durable known) }
     ensures part { RefusesError part_left }
 {}

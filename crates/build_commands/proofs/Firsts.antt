@@ -12,8 +12,8 @@ use mathlib.Core.Logic.{⊎_elim}
 use Rattle.std.proofs.lemmas.List.{take_more, map-append}
 use Rattle.manifest.specs.declared.line.Line.{Line}
 use Rattle.build_commands.specs.Inventory.{first_of, lines_behind, lines_found, name_line}
-use Rattle.manifest_text.specs.Views.{line_of}
-use Rattle.manifest_text.specs.declared.entry.Entry.{Entry}
+use Rattle.manifest.specs.Entries.{line_of}
+use Rattle.manifest.specs.declared.entry.Entry.{Entry}
 use Rattle.build_commands.specs.Noted.{noted, noted_with}
 use Rattle.build_commands.specs.declared.inventory.NamedFile.{NamedFile}
 use Rattle.plan_types.specs.declared.format.Format.{Format}

@@ -6,9 +6,9 @@ use Rattle.rom_fields.specs.Texts.{octal}
 use Rattle.rom_fields.specs.Written.{Puts, Sink}
 use Rattle.manifest.specs.Grammar.{manifest_of}
 use Rattle.manifest.specs.declared.line.Line.{Line}
-use Rattle.manifest_text.specs.Printed as printed
-use Rattle.manifest_text.specs.Printed.{IsSpelled, IsVolume, as_read, first_number, line_text, lines_text}
-use Rattle.manifest_text.specs.Printed.{manifest_text, numbered_from}
+use Rattle.manifest.specs.Printed as printed
+use Rattle.manifest.specs.Printed.{IsSpelled, IsVolume, as_read, first_number, line_text, lines_text}
+use Rattle.manifest.specs.Printed.{manifest_text, numbered_from}
 use Rattle.build_commands.specs.Scanned.{Entry, directory, file, IsNamed, AreTaken, directory_text, file_text}
 use Rattle.build_commands.specs.Scanned.{directory_line, file_line, directory_of, file_of, line_as, lines_as, scan_text}
 

@@ -3,7 +3,7 @@ pub mod Nearest
 pub mod Noted
 pub mod Scanned
 pub mod Seen
-pub mod Told
+pub mod Printed
 pub mod Changed
 pub mod Elf
 pub mod Warnings

@@ -1,7 +1,8 @@
 //! Prints the line of a build, and flushes it.
 ghost use Rattle.std.specs.Prelude.{◌≡◌, OnOk, decimal};
-ghost use Rattle.build_commands.specs.Told.{built_line, manifest_line, misfit_line, refusal_line};
-ghost use Rattle.build_commands.specs.Told.{size_line, strict_line};
+ghost use Rattle.build_commands.specs.Printed.{built_line, manifest_line, misfit_line};
+ghost use Rattle.build_commands.specs.Printed.{refusal_line};
+ghost use Rattle.build_commands.specs.Printed.{size_line, strict_line};
 ghost use Rattle.rom_fields.specs.Failures.{Counts, one_more};
 ghost use Rattle.rom_fields.specs.Written.{Puts, WritesText, sink};
 
@@ -48,7 +49,7 @@ fn write_refusal_line<W: ByteWrite>(
 }
 
 /// Writes the line of a refusal, and flushes it.
-fn tell_refusal<W: ByteWrite>(
+fn print_refusal<W: ByteWrite>(
     w: &mut W,
     who: &[u8],
     line: u64,
@@ -69,7 +70,7 @@ fn tell_refusal<W: ByteWrite>(
 /// # Errors
 ///
 /// `Failed` if a write or the flush failed. Then a prefix of the line was written.
-pub fn tell_built<W: ByteWrite>(w: &mut W, len: u64) -> Result<(), Failed>
+pub fn print_built<W: ByteWrite>(w: &mut W, len: u64) -> Result<(), Failed>
     ensures text { WritesText (W.output w.old).contents (W.output w.new).contents result
         (built_line len) }
     ensures count { Counts (W.output w.old).failures (W.output w.new).failures result }
@@ -85,14 +86,14 @@ pub fn tell_built<W: ByteWrite>(w: &mut W, len: u64) -> Result<(), Failed>
 /// # Errors
 ///
 /// `Failed` if a write or the flush failed. Then a prefix of the line was written.
-pub fn tell_bad_manifest<W: ByteWrite>(w: &mut W, line: u64, number: u32) -> Result<(), Failed>
+pub fn print_bad_manifest<W: ByteWrite>(w: &mut W, line: u64, number: u32) -> Result<(), Failed>
     ensures text { WritesText (W.output w.old).contents (W.output w.new).contents result
         (manifest_line line number) }
     ensures count { Counts (W.output w.old).failures (W.output w.new).failures result }
     ensures flushed { OnOk result ((W.output w.new).flushes ≡ one_more (W.output w.old).flushes) }
 {
     let name = manifest::name(number);
-    tell_refusal(w, b"manifest", line, number, name.as_bytes())
+    print_refusal(w, b"manifest", line, number, name.as_bytes())
 }
 
 /// Writes `plan LINE NUMBER NAME` for a manifest that does not fit the format, and flushes it: the
@@ -101,14 +102,14 @@ pub fn tell_bad_manifest<W: ByteWrite>(w: &mut W, line: u64, number: u32) -> Res
 /// # Errors
 ///
 /// `Failed` if a write or the flush failed. Then a prefix of the line was written.
-pub fn tell_misfit<W: ByteWrite>(w: &mut W, line: u64, number: u32) -> Result<(), Failed>
+pub fn print_misfit<W: ByteWrite>(w: &mut W, line: u64, number: u32) -> Result<(), Failed>
     ensures text { WritesText (W.output w.old).contents (W.output w.new).contents result
         (misfit_line line number) }
     ensures count { Counts (W.output w.old).failures (W.output w.new).failures result }
     ensures flushed { OnOk result ((W.output w.new).flushes ≡ one_more (W.output w.old).flushes) }
 {
     let name = layout_plan::name(number);
-    tell_refusal(w, b"plan", line, number, name.as_bytes())
+    print_refusal(w, b"plan", line, number, name.as_bytes())
 }
 
 /// Writes the line of an image that would be too long.
@@ -133,7 +134,7 @@ fn write_size_line<W: ByteWrite>(w: &mut W, len: u64, most: u64) -> Result<(), F
 /// # Errors
 ///
 /// `Failed` if a write or the flush failed. Then a prefix of the line was written.
-pub fn tell_size<W: ByteWrite>(w: &mut W, len: u64, most: u64) -> Result<(), Failed>
+pub fn print_size<W: ByteWrite>(w: &mut W, len: u64, most: u64) -> Result<(), Failed>
     ensures text { WritesText (W.output w.old).contents (W.output w.new).contents result
         (size_line len most) }
     ensures count { Counts (W.output w.old).failures (W.output w.new).failures result }
@@ -149,12 +150,12 @@ pub fn tell_size<W: ByteWrite>(w: &mut W, len: u64, most: u64) -> Result<(), Fai
 /// # Errors
 ///
 /// `Failed` if a write or the flush failed. Then a prefix of the line was written.
-pub fn tell_strict<W: ByteWrite>(w: &mut W, line: u64, number: u32) -> Result<(), Failed>
+pub fn print_strict<W: ByteWrite>(w: &mut W, line: u64, number: u32) -> Result<(), Failed>
     ensures text { WritesText (W.output w.old).contents (W.output w.new).contents result
         (strict_line line number) }
     ensures count { Counts (W.output w.old).failures (W.output w.new).failures result }
     ensures flushed { OnOk result ((W.output w.new).flushes ≡ one_more (W.output w.old).flushes) }
 {
     let name = warning_name(number);
-    tell_refusal(w, b"strict", line, number, name.as_bytes())
+    print_refusal(w, b"strict", line, number, name.as_bytes())
 }

@@ -2,11 +2,10 @@
 ghost use Rattle.std.specs.Prelude.{◌≡◌};
 ghost use Rattle.build_commands.specs.Changed.{all_may_read, has_attributes, has_readers};
 ghost use Rattle.build_commands.specs.Changed.{is_changed, is_opened};
-ghost use Rattle.manifest_text.specs.Views.{line_of};
+ghost use Rattle.manifest.specs.Entries.{line_of};
 
 use crate::inventory::NamedFile;
-use manifest::Word;
-use manifest_text::Entry;
+use manifest::{Entry, Word};
 
 /// The attributes of a line that differ from those of the file that was found.
 #[derive(Clone, Copy, Debug, PartialEq, Eq)]

@@ -4,14 +4,13 @@ ghost use Rattle.build_commands.specs.Inventory.{aligned, fitted, found_line, fu
 ghost use Rattle.build_commands.specs.Inventory.{hard_line, has_hard_links, lines_found, name_line};
 ghost use Rattle.build_commands.specs.Inventory.{path_behind, same_line};
 ghost use Rattle.build_commands.specs.Noted.{noted, noted_with};
-ghost use Rattle.manifest_text.specs.Printed.{manifest_text};
-ghost use Rattle.manifest_text.specs.Views.{line_of};
+ghost use Rattle.manifest.specs.Printed.{manifest_text};
+ghost use Rattle.manifest.specs.Entries.{line_of};
 ghost use Rattle.rom_fields.specs.Failures.{Counts, one_more};
 ghost use Rattle.rom_fields.specs.Written.{Puts, WritesText, sink};
 
 use crate::nearest::{is_executable, nearest};
-use manifest::Word;
-use manifest_text::{Entry, put_lines, put_volume};
+use manifest::{Entry, Word, put_lines, put_volume};
 use plan_types::Format;
 use rom_fields::{ByteWrite, Failed, OutOfMemory};
 use std::alloc::Global;

@@ -7,8 +7,8 @@ ghost use Rattle.build_commands.specs.declared.inventory.NamedFile.{NamedFile};
 ghost use Rattle.manifest.specs.Grammar.{manifest_of};
 ghost use Rattle.manifest.specs.Lines.{is_hard};
 ghost use Rattle.manifest.specs.declared.line.Line.{Line};
-ghost use Rattle.manifest_text.specs.Printed as printed;
-ghost use Rattle.manifest_text.specs.Printed.{IsVolume, as_read, first_number, manifest_text};
+ghost use Rattle.manifest.specs.Printed as printed;
+ghost use Rattle.manifest.specs.Printed.{IsVolume, as_read, first_number, manifest_text};
 ghost use Rattle.manifest_layout.specs.Misfit.{HasBadAttribute};
 ghost use Rattle.manifest_tree.specs.Tree.{inode_of};
 ghost use Rattle.plan_types.specs.Formats.{format_of};
@@ -26,7 +26,7 @@ pub fn scans_are_manifests()
         → manifest_of (manifest_text volume (lines_found format found))
         ≡ Ok (as_read volume (lines_found format found)) }
 {
-    manifest_text::laws::reads_back();
+    manifest::laws::reads_back();
 }
 
 /// States that a line with the nearest attributes that a format can hold has no misfit of

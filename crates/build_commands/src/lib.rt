@@ -13,6 +13,6 @@ mod nearest;
 mod scanning;
 mod warnings;
 
-pub use building::{tell_bad_manifest, tell_built, tell_misfit, tell_size, tell_strict};
+pub use building::{print_bad_manifest, print_built, print_misfit, print_size, print_strict};
 pub use scanning::{Found, put_scan};
 pub use warnings::warning_name;

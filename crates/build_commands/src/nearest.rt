@@ -1,10 +1,9 @@
 //! The nearest attributes that a format can hold.
 ghost use Rattle.std.specs.Prelude.{◌≡◌};
 ghost use Rattle.build_commands.specs.Nearest.{is_runnable, nearest_in, romfs_mode};
-ghost use Rattle.manifest_text.specs.Views.{line_of};
+ghost use Rattle.manifest.specs.Entries.{line_of};
 
-use manifest::Word;
-use manifest_text::Entry;
+use manifest::{Entry, Word};
 use plan_types::Format;
 
 /// The highest owner of cramfs, which keeps 16 bits.

@@ -3,19 +3,18 @@ ghost use Rattle.std.specs.Prelude.{◌≡◌, OnOk, map};
 ghost use Rattle.build_commands.specs.Scanned.{directory_line, entry_line, file_line, plain_of};
 ghost use Rattle.build_commands.specs.Scanned.{scan_text};
 ghost use Rattle.build_commands.specs.Seen.{entry_of};
-ghost use Rattle.manifest_text.specs.Views.{line_of};
+ghost use Rattle.manifest.specs.Entries.{line_of};
 ghost use Rattle.rom_fields.specs.Failures.{Counts, one_more};
 ghost use Rattle.rom_fields.specs.Written.{Puts, WritesText, sink};
 
-use manifest::Word;
-use manifest_text::{Entry, put_line};
+use manifest::{Entry, Word, put_line};
 use rom_fields::{ByteWrite, Failed};
 
 /// What a scan finds: a directory or a regular file, and the name by which it was found.
 #[derive(PartialEq, Eq, PartialOrd, Ord, Drop)]
 pub struct Found {
     pub place: String,
-    pub is_folder: bool,
+    pub is_directory: bool,
 }
 
 /// A line with this path and mode, and with no other values.
@@ -65,7 +64,7 @@ fn put_found<W: ByteWrite>(w: &mut W, failed: &mut bool, front: usize, found: &F
 {
     let place = found.place.as_bytes();
     let path = &place[front.min(place.len())..];
-    if found.is_folder {
+    if found.is_directory {
         put_directory(w, failed, path);
     } else {
         put_file(w, failed, path, place);

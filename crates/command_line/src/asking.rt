@@ -335,13 +335,13 @@ fn scan_all_of<'a>(alloc: Global, values: &ArgMatches<'a>) -> Result<ScanAll<'a>
     requires { first_of (codes "all") (rows_of (found_of values.now)) ≡ Some (codes "true") }
     ensures { IfOk result (λ s. IsAskedBy (rows_of (found_of values.now)) (request.ScanAll s)) }
 {
-    let folders = texts_of(alloc, values, "folder")?;
+    let directories = texts_of(alloc, values, "folder")?;
     let excludes = texts_of(alloc, values, "exclude")?;
     let format = wished_format(values)?;
     let aligns = aligns_of(alloc, values)?;
     let owner = wished_owner(values)?;
     Ok(ScanAll {
-        folders,
+        directories,
         format,
         align: aligns.usual,
         aligns: aligns.rules,
@@ -400,11 +400,11 @@ fn scan_of<'a>(values: &ArgMatches<'a>) -> Result<Scan<'a>, WordsError<'a>>
         return Err(Wrong::WithoutAll(name).into());
     }
     match values_of(values, "folder") {
-        Some([folder]) => Ok(Scan {
-            folder: *folder,
+        Some([directory]) => Ok(Scan {
+            directory: *directory,
             one_file_system: is_given(values, "one-file-system"),
         }),
-        _ => Err(Wrong::Folders.into()),
+        _ => Err(Wrong::Directories.into()),
     }
 }
 
@@ -425,11 +425,11 @@ fn extract_of<'a>(values: &ArgMatches<'a>) -> Result<Extract<'a>, WordsError<'a>
     ensures { IfOk result (λ x. IsAskedBy (rows_of (found_of values.now)) (request.Extract x)) }
 {
     let image = wanted(values, "image")?;
-    let folder = wanted(values, "folder")?;
+    let directory = wanted(values, "folder")?;
     let owners = is_given(values, "owners");
     Ok(Extract {
         image,
-        folder,
+        directory,
         owners,
     })
 }

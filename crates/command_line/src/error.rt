@@ -27,7 +27,7 @@ pub enum Wrong<'a> {
     /// The option of this name was given to a scan without `--all`.
     WithoutAll(&'static str),
     /// A scan without `--all` has several directories.
-    Folders,
+    Directories,
     /// Both an owner and `--all-root` were given.
     Owners,
 }
@@ -76,7 +76,7 @@ impl Display for Wrong<'_> {
                 )
             }
             Wrong::WithoutAll(name) => write!(f, "the option '--{name}' goes with '--all' only"),
-            Wrong::Folders => write!(f, "several directories are scanned with '--all' only"),
+            Wrong::Directories => write!(f, "several directories are scanned with '--all' only"),
             Wrong::Owners => write!(f, "'--owner' and '--all-root' do not go together"),
         }
     }

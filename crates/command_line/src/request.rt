@@ -142,7 +142,7 @@ pub struct Build<'a> {
 /// A manifest of the names and the contents below a directory.
 #[derive(Clone, Copy)]
 pub struct Scan<'a> {
-    pub folder: &'a str,
+    pub directory: &'a str,
     /// Whether directories on which other file systems are mounted are not scanned.
     pub one_file_system: bool,
 }
@@ -151,7 +151,7 @@ pub struct Scan<'a> {
 #[derive(Drop)]
 pub struct ScanAll<'a> {
     /// The directories. A file of a later one replaces that of an earlier one at the same path.
-    pub folders: Vec<&'a str>,
+    pub directories: Vec<&'a str>,
     /// The format whose attributes and further names the manifest has to fit.
     pub format: Option<Format>,
     /// The alignment of regular files that may be executed and match no pattern.
@@ -192,7 +192,7 @@ pub struct Owner {
 #[derive(Clone, Copy)]
 pub struct Extract<'a> {
     pub image: &'a str,
-    pub folder: &'a str,
+    pub directory: &'a str,
     /// Whether the files get the owners and all bits of the modes that the image has.
     pub owners: bool,
 }

@@ -18,7 +18,7 @@ use Rattle.cramfs_format.specs.Inode.{type_of, has_data, end_of, list_start, lis
 use Rattle.cramfs_format.specs.Refers.{references, reference_target, root_place, LeadsToSound}
 use Rattle.cramfs_format.specs.Tree.{node_of, tree_of, entries_at, below_root, IsTree, CramfsTree}
 use Rattle.cramfs_format.specs.Made.{StandsAt, grow, list_at, made, ends_within, IsGood, IsCramfs}
-use Rattle.cramfs_format.proofs.Lists.{lt_tells}
+use Rattle.cramfs_format.proofs.Lists.{lt_decides}
 use Rattle.cramfs_format.proofs.Lawful.{IsPlaced, at_top, in_chain, reached_placed, target_placed, references_lawful}
 use Rattle.cramfs_format.proofs.Lawful.{top_target}
 use Rattle.cramfs_format.proofs.Same.{grown}
@@ -27,7 +27,7 @@ use Rattle.cramfs_format.proofs.Same.{grown}
 pub target_none : (o : Order) (b : List ℕ) (x : Reference) → x.source ≢ 0 → reference_target o b x ≡ None
     → list_end o b x.source ≤ x.which
 unfolding reference_target
-target_none o b x n h = elim (lt_tells x.which (list_end o b x.source)) [
+target_none o b x n h = elim (lt_decides x.which (list_end o b x.source)) [
   | inl k ↦ let z : Some x.which ≡ None = (rw (ne_eqb x.source 0 n, k.0) at h) in absurd (cc)
   | inr k ↦ k.1
 ]
@@ -35,7 +35,7 @@ target_none o b x n h = elim (lt_tells x.which (list_end o b x.source)) [
 pub target_some : (o : Order) (b : List ℕ) (x : Reference) (p : ℕ) → x.source ≢ 0 → reference_target o b x ≡ Some p
     → (x.which < list_end o b x.source) × (p ≡ x.which)
 unfolding reference_target
-target_some o b x p n h = elim (lt_tells x.which (list_end o b x.source)) [
+target_some o b x p n h = elim (lt_decides x.which (list_end o b x.source)) [
   | inl k ↦ let z : Some x.which ≡ Some p = (rw (ne_eqb x.source 0 n, k.0) at h) in (k.1, let y : p ≡ x.which = cc in y)
   | inr k ↦ let z : None ≡ Some p = (rw (ne_eqb x.source 0 n, k.0) at h) in absurd (cc)
 ]

@@ -9,7 +9,7 @@ use Rattle.cramfs_format.specs.declared.order.Order.{Order}
 use Rattle.cramfs_format.specs.Inode.{end_of, list_start, list_end}
 use Rattle.cramfs_format.specs.Tree.{entries_at}
 use Rattle.cramfs_format.specs.Made.{grow, StandsAt, IsGood, one_more, index_at}
-use Rattle.cramfs_format.proofs.Lists.{lt_tells, end_after}
+use Rattle.cramfs_format.proofs.Lists.{lt_decides, end_after}
 use Rattle.cramfs_format.proofs.Same.{same_forest, grown}
 use Rattle.cramfs_format.proofs.Trees.{IsList, list_is}
 
@@ -71,7 +71,7 @@ more_cases (Some m) i e = (m, refl, let z : Some (suc m) ≡ Some i = e in let y
 
 -- past the last record is the end
 index_end : (e q i : ℕ) → index_at e none q ≡ Some i → (e ≤ q) × (i ≡ 0)
-index_end e q i h = elim (lt_tells q e) [
+index_end e q i h = elim (lt_decides q e) [
   | inl k ↦ let z : None ≡ Some i = (rw k.0 at h) in absurd (cc)
   | inr k ↦ (k.1, let z : Some 0 ≡ Some i = (rw k.0 at h) in let y : i ≡ 0 = cc in y)
 ]

@@ -8,7 +8,7 @@ use Rattle.record_forest.specs.References.{Reached, top, more, AreLawful, edge, 
 use Rattle.cramfs_format.specs.declared.order.Order.{Order}
 use Rattle.cramfs_format.specs.Inode.{end_of, list_start, list_end, ListLies}
 use Rattle.cramfs_format.specs.Refers.{references, reference_target, root_place, LeadsToSound}
-use Rattle.cramfs_format.proofs.Lists.{lt_tells, end_after, in_list, start_is}
+use Rattle.cramfs_format.proofs.Lists.{lt_decides, end_after, in_list, start_is}
 
 -- the n-th record of the list of the directory at d
 abbrev pub nth : Order → List ℕ → ℕ → ℕ → ℕ
@@ -45,7 +45,7 @@ sound_list o b x s = elim (eqb_tells x.source 0) [ inl h ↦ s.root h.1 | inr h 
 pub live_entry : (o : Order) (b : List ℕ) (x : Reference) → x.source ≢ 0 → IsSome (reference_target o b x)
     → x.which < list_end o b x.source
 unfolding reference_target
-live_entry o b x n h = elim (lt_tells x.which (list_end o b x.source)) [
+live_entry o b x n h = elim (lt_decides x.which (list_end o b x.source)) [
   | inl k ↦ k.1
   | inr k ↦ let z : IsSome {T = ℕ} None = (rw (ne_eqb x.source 0 n, k.0) at h) in absurd (false≢true z)
 ]
@@ -61,7 +61,7 @@ live_root o b x e h = elim (eqb_tells x.which 64) [
 pub target_entry : (o : Order) (b : List ℕ) (x : Reference) → x.source ≢ 0 → x.which < list_end o b x.source
     → reference_target o b x ≡ Some x.which
 unfolding reference_target
-target_entry o b x n h = elim (lt_tells x.which (list_end o b x.source)) [
+target_entry o b x n h = elim (lt_decides x.which (list_end o b x.source)) [
   | inl k ↦ rw (ne_eqb x.source 0 n, k.0) refl
   | inr k ↦ let l = k.1 in absurd (omega arith)
 ]

@@ -3,12 +3,12 @@ use Rattle.std.proofs.Common.{◌≡◌, ◌≢◌, ℕ, ◌<◌, true, false, L
 use Rattle.std.proofs.lemmas.Bool.{false≢true, lt-ltb, le-ltb, eq-eqb}
 use Rattle.std.proofs.lemmas.Bool.Decides.{eqb_tells}
 use Rattle.cramfs_format.specs.Tree.{precedes}
-use Rattle.cramfs_format.proofs.Lists.{lt_tells}
+use Rattle.cramfs_format.proofs.Lists.{lt_decides}
 
 -- what it says of the first bytes
 pub first_cases : (x y : ℕ) (xs ys : List ℕ) → precedes (x ∷ xs) (y ∷ ys) ≡ true
     → (x < y) ⊎ ((x ≡ y) × (precedes xs ys ≡ true))
-first_cases x y xs ys h = elim (lt_tells x y) [
+first_cases x y xs ys h = elim (lt_decides x y) [
   | inl k ↦ inl k.1
   | inr k ↦ elim (eqb_tells x y) [
     | inl l ↦ inr (l.1, (rw (k.0, l.0) at h))
@@ -44,7 +44,7 @@ pub one_first : (xs ys : List ℕ) → xs ≢ ys → (precedes xs ys ≡ true) �
 one_first [] [] n = absurd (n refl)
 one_first [] (y ∷ ys) n = inl refl
 one_first (x ∷ xs) [] n = inr refl
-one_first (x ∷ xs) (y ∷ ys) n = elim (lt_tells x y) [
+one_first (x ∷ xs) (y ∷ ys) n = elim (lt_decides x y) [
   | inl k ↦ inl (before_less x y xs ys k.1)
   | inr k ↦ elim (eqb_tells x y) [
     | inl l ↦ let e = l.1 in elim (one_first xs ys (λ i. n (let z : x ∷ xs ≡ y ∷ ys = cc in z)))

@@ -14,7 +14,7 @@ use Rattle.cramfs_format.specs.Tree.{kind_numbers, node_of, entries_at, attribut
 use Rattle.cramfs_format.specs.Made.{grow, StandsAt, list_at, made, ends_within, IsGood, IsCramfs}
 use Rattle.cramfs_format.proofs.Same.{grown}
 use Rattle.rom_tree.proofs.ByKind.{below_body, only_directory, body_directory_is}
-use Rattle.cramfs_format.proofs.Lists.{lt_tells}
+use Rattle.cramfs_format.proofs.Lists.{lt_decides}
 
 both_true : (x y : Bool) → (if x then y else false) ≡ true → (x ≡ true) × (y ≡ true)
 both_true true y e = (refl, e)
@@ -24,9 +24,9 @@ both_true false y e = absurd (false≢true e)
 pub stands_within : (k : ℕ) (o : Order) (b : List ℕ) (e q : ℕ) → ends_within k o b e q ≡ true
     → StandsAt o b e q (grow k o b e q)
 stands_within zero o b e q i =
-    elim (lt_tells q e) [ inl h ↦ let z : false ≡ true = (rw h.0 at i) in absurd (false≢true z) | inr h ↦ h.1 ]
+    elim (lt_decides q e) [ inl h ↦ let z : false ≡ true = (rw h.0 at i) in absurd (false≢true z) | inr h ↦ h.1 ]
 stands_within (suc k) o b e q i =
-    elim (lt_tells q e) [
+    elim (lt_decides q e) [
       | inl h ↦
           let i' : (if ends_within k o b (list_end o b q) (list_start o b q) then ends_within k o b e (end_of o b q)
           else false) ≡ true = (rw h.0 at i) in

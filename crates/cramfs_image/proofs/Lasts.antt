@@ -17,13 +17,13 @@ use Rattle.cramfs_image.proofs.Naming.{last_push}
 
 -- the map has the last name of each list among the rows
 pub record HaveLast (o : Order) (b : List ℕ) (m : BTreeMap ℕ (Bor (List ℕ))) (rows : List Row) : Type 0 where
-  pub tells : (d : ℕ) → name_seen (get nat_cmp m d) ≡ last_name o b d None rows
+  pub finds : (d : ℕ) → name_seen (get nat_cmp m d) ≡ last_name o b d None rows
 
 pub last_start : (o : Order) (b : List ℕ) (m : BTreeMap ℕ (Bor (List ℕ))) → m.entries ≡ [] → HaveLast o b m []
-last_start o b m e = record { tells = λ d. ap name_seen (ap (lookup (is_at (nat_cmp d))) e) }
+last_start o b m e = record { finds = λ d. ap name_seen (ap (lookup (is_at (nat_cmp d))) e) }
 
-at_tells : (p q : ℕ) → ((is_at (nat_cmp p) q ≡ true) × (p ≡ q)) ⊎ ((is_at (nat_cmp p) q ≡ false) × (p ≢ q))
-at_tells p q =
+at_decides : (p q : ℕ) → ((is_at (nat_cmp p) q ≡ true) × (p ≡ q)) ⊎ ((is_at (nat_cmp p) q ≡ false) × (p ≢ q))
+at_decides p q =
     elim (eqb_tells p q) [
       | inl e ↦ inl (rw (le-ltb p q (omega arith), e.0) refl, e.1)
       | inr n ↦ elim (cases_lt p q) [
@@ -39,23 +39,23 @@ pub last_more : (o : Order) (b : List ℕ) (m n : BTreeMap ℕ (Bor (List ℕ)))
     → Updates nat_cmp m n (get_or rows i blank).directory (Some v)
     → v.now ≡ name_of o b (get_or rows i blank).offset → HaveLast o b n (take (i + 1) rows)
 last_more o b m n v rows i blank l h u e = record {
-  tells = λ d.
+  finds = λ d.
       let x : Row = get_or rows i blank in
       let push : last_name o b d None (take (i + 1) rows)
       ≡ (if eqb x.directory d then Some (name_of o b x.offset) else last_name o b d None (take i rows)) =
       ap (last_name o b d None) (take_more rows i blank l) ∙ last_push o b d None (take i rows) x in
       elim (eqb_tells x.directory d) [
-        | inl t ↦ elim (at_tells x.directory d) [
+        | inl t ↦ elim (at_decides x.directory d) [
           | inl w ↦ (let got : get nat_cmp n d
               ≡ Some v = u.0 d ∙ rw w.0 refl in let last : last_name o b d None (take (i + 1) rows)
               ≡ Some (name_of o b x.offset) = push ∙ rw t.0 refl in ap name_seen got ∙ ap Some e ∙ sym last)
           | inr w ↦ absurd (w.1 t.1)
         ]
-        | inr t ↦ elim (at_tells x.directory d) [
+        | inr t ↦ elim (at_decides x.directory d) [
           | inl w ↦ absurd (t.1 w.1)
           | inr w ↦ (let got : get nat_cmp n d
               ≡ get nat_cmp m d = u.0 d ∙ rw w.0 refl in let last : last_name o b d None (take (i + 1) rows)
-              ≡ last_name o b d None (take i rows) = push ∙ rw t.0 refl in ap name_seen got ∙ h.tells d ∙ sym last)
+              ≡ last_name o b d None (take i rows) = push ∙ rw t.0 refl in ap name_seen got ∙ h.finds d ∙ sym last)
         ]
       ];
 }

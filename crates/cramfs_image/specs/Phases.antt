@@ -82,7 +82,7 @@ IsUnsorted o b before x = (is_sorted o b ≡ true) × IsSomeAnd (last_name o b x
     (λ name. precedes (name_of o b x.offset) name ≡ true)
 
 -- the facts about the rows before x: whether one of its list has its name, and the last name there
-pub record TellsEarlier (o : Order) (b : List ℕ) (before : List Row) (x : Row) (repeated : Bool)
+pub record FindsEarlier (o : Order) (b : List ℕ) (before : List Row) (x : Row) (repeated : Bool)
     (last : Option (Bor (List ℕ))) : Type 0 where
   pub old : repeated ≡ true → Repeats o b before x
   pub new : repeated ≡ false → Repeats o b before x → ⊥

@@ -13,7 +13,7 @@ impl<'a> Cramfs<'a> {
     ghost use Rattle.cramfs_format.specs.Superblock.{order_of};
     ghost use Rattle.cramfs_format.specs.Faults.{HasNoFault};
     ghost use Rattle.cramfs_image.specs.Checked.{Shows, IsRefused, IsLeastAnswer};
-    ghost use Rattle.rom_tree.specs.Tree.{levels};
+    ghost use Rattle.rom_tree.specs.Tree.{IsShallow};
     ghost use Rattle.cramfs_image.specs.Reported.{order_in, report_of};
 
     /// Checks these bytes, and returns their image if they hold the tree of a cramfs image within
@@ -29,7 +29,7 @@ impl<'a> Cramfs<'a> {
         ensures ok { IfOk result (λ v. Shows (order_of bytes.now) bytes.now limits
             (⟦<Cramfs<'a> as Viewed>⟧.image v) (report_of v)) }
         ensures order { IfOk result (λ v. order_in v ≡ order_of bytes.now) }
-        ensures shallow { IfOk result (λ v. levels (⟦<Cramfs<'a> as Viewed>⟧.image v).tree ≤ 65) }
+        ensures shallow { IfOk result (λ v. IsShallow (⟦<Cramfs<'a> as Viewed>⟧.image v).tree) }
         ensures clean { IfOk result (λ v. HasNoFault
             (order_of bytes.now) bytes.now limits.references limits.depth) }
         ensures fault { IfErr result (IsRefused bytes.now limits) }

@@ -10,7 +10,7 @@ ghost use Rattle.cramfs_format.specs.Made.{IsGood};
 ghost use Rattle.cramfs_format.specs.Tree.{precedes, is_sorted, IsNoDot};
 ghost use Rattle.record_forest.specs.Listed.{AreNames};
 ghost use Rattle.record_forest.specs.Sweep.{IsLeastRowFault};
-ghost use Rattle.cramfs_image.specs.Phases.{TellsEarlier, last_name, name_seen, IsUnsorted};
+ghost use Rattle.cramfs_image.specs.Phases.{FindsEarlier, last_name, name_seen, IsUnsorted};
 ghost use Rattle.cramfs_image.specs.Phases.{IsNameFault, IsWellNamed};
 
 use crate::accessible::Accessible;
@@ -78,9 +78,9 @@ fn is_unsorted(b: &Accessible<'_>, last: Option<&[u8]>, row: Row) -> bool
 /// the name in its list, and `last` is the name directly before it there.
 fn name_fault(b: &Accessible<'_>, row: Row, repeated: bool, last: Option<&[u8]>) -> Option<u32>
     requires row { IsGood b.now.order b.now.bytes.now row.offset }
-    ensures well { (before : List Row) → TellsEarlier b.now.order b.now.bytes.now before row
+    ensures well { (before : List Row) → FindsEarlier b.now.order b.now.bytes.now before row
         repeated last.entry → IfNone result (IsWellNamed b.now.order b.now.bytes.now before row) }
-    ensures fault { (before : List Row) → TellsEarlier b.now.order b.now.bytes.now before row
+    ensures fault { (before : List Row) → FindsEarlier b.now.order b.now.bytes.now before row
         repeated last.entry
         → IfSome result (λ n. IsLeast (IsNameFault b.now.order b.now.bytes.now before row) n) }
 {

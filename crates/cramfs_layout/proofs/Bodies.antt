@@ -16,14 +16,14 @@ use Rattle.cramfs_format.specs.Inode.{type_of, size_of, offset_of, end_of, name_
 use Rattle.cramfs_format.specs.Inode.{has_data, block_start, is_direct, pointer_place, has_kinds, HasBody, IsName}
 use Rattle.cramfs_format.specs.Inode.{IsSound}
 use Rattle.cramfs_format.specs.Refers.{references, LeadsToSound}
-use Rattle.manifest_tree.specs.Names.{Inode, Names, nothing, leaf, link, folder, bytes_of}
+use Rattle.manifest_tree.specs.Names.{Inode, Names, nothing, leaf, link, subdirectory, bytes_of}
 use Rattle.layout_terms.specs.Lists.{IsName as IsWritten}
 use Rattle.cramfs_layout.specs.Layout.{pad4, type_bits, size_by, entry_len, list_len, list_offset, State, kept}
 use Rattle.cramfs_layout.specs.Layout.{table_by, after_file, after_list, after_names}
 use Rattle.cramfs_layout.specs.Wells.{FitsKind, AreWell, AllRead}
 use Rattle.cramfs_layout.specs.Forest.{spots}
 use Rattle.cramfs_layout.proofs.Stored.{file_onward, names_onward}
-use Rattle.cramfs_layout.proofs.Stands.{empty, at_place, is_placed, folder_list}
+use Rattle.cramfs_layout.proofs.Stands.{empty, at_place, is_placed, directory_list}
 use Rattle.cramfs_layout.proofs.Sound.{IsTable, table_is}
 
 -- a file with data, or a link
@@ -79,9 +79,9 @@ body_by Socket o b p t i h ty s e table flag =
 body_by Fifo o b p t i h ty s e table flag =
     bare_body o b p (rw ty refl) (λ z. absurd (omega (arith, ty, z))) (λ z. absurd (omega (arith, ty, z))) (rw ty refl)
 
-folder_body : (o : Order) (b : List ℕ) (p offset size : ℕ) → type_of o b p ≡ 4 → offset_of o b p ≡ offset
+directory_body : (o : Order) (b : List ℕ) (p offset size : ℕ) → type_of o b p ≡ 4 → offset_of o b p ≡ offset
     → size_of o b p ≡ size → (0 < size → (76 ≤ offset) × (offset + size ≤ length b)) → HasBody o b p
-folder_body o b p offset size ty e s lies = record {
+directory_body o b p offset size ty e s lies = record {
   kind = rw ty refl;
   link_size = λ z. absurd (omega (arith, ty, z));
   list = λ _ k. let l =
@@ -139,7 +139,7 @@ all_sound o b cs high x d up depth l s (leaf name i rest) h r flag within top fi
           (omega (arith, a)) xs next_which live (omega arith) (omega (arith, e)),
     )
 all_sound o b cs high x d up depth l s (link name i rest) h r flag within top fits low xs xw live pos e = absurd h
-all_sound o b cs high x d up depth l s (folder name i own rest) h r flag within top fits low xs xw live pos e =
+all_sound o b cs high x d up depth l s (subdirectory name i own rest) h r flag within top fits low xs xw live pos e =
     let g = references o b in
     let l' = l + entry_len name in
     let q = pad4 s.at in
@@ -149,7 +149,7 @@ all_sound o b cs high x d up depth l s (folder name i own rest) h r flag within 
     let c = names_onward cs s' rest h.3 in
     let end = r.0.end in
     let type = r.0.type ∙ ap type_bits h.1.kind in
-    let list = folder_list o b l (list_offset s.at own) (list_len own) type r.0.offset_is r.0.size_is in
+    let list = directory_list o b l (list_offset s.at own) (list_len own) type r.0.offset_is r.0.size_is in
     let lies : 0 < list_len own → (76 ≤ list_offset s.at own) × (list_offset s.at own + list_len own ≤ length b) =
     λ k. elim (is_placed s.at own) [
       | empty z ↦ let y : list_len own ≡ 0 = ap list_len z in absurd (omega (arith, k, y))
@@ -159,7 +159,7 @@ all_sound o b cs high x d up depth l s (folder name i own rest) h r flag within 
     record {
       fits = (omega (arith, e), omega (arith, e, end));
       name = is_name o b l name r.0.name_is h.0.0.written;
-      body = folder_body o b l (list_offset s.at own) (list_len own) type r.0.offset_is r.0.size_is lies;
+      body = directory_body o b l (list_offset s.at own) (list_len own) type r.0.offset_is r.0.size_is lies;
     } in
     let next_which : (g.after x).which ≡ l' = ap (end_of o b) xw ∙ end in
     let own_which : (g.own x).which ≡ list_offset s.at own = ap (offset_of o b) xw ∙ r.0.offset_is in

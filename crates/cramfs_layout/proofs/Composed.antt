@@ -3,9 +3,9 @@ use Rattle.std.proofs.Common.{ℕ, ◌+◌, List, ◌++◌, length, ap}
 use Rattle.std.specs.List.{AllByRecursion as Every}
 use Rattle.record_forest.proofs.Lists.{every_join}
 use Rattle.cramfs_format.specs.declared.order.Order.{Order}
-use Rattle.image_parts.specs.Parts.{HasAt, HasParts}
-use Rattle.image_parts.proofs.Parts.{HasAt-before, HasAt-after, HasAt-moved}
-use Rattle.manifest_tree.specs.Names.{Inode, Names, nothing, leaf, link, folder}
+use Rattle.rom_fields.specs.Parts.{HasAt, HasParts}
+use Rattle.rom_fields.proofs.Parts.{HasAt-before, HasAt-after, HasAt-moved}
+use Rattle.manifest_tree.specs.Names.{Inode, Names, nothing, leaf, link, subdirectory}
 use Rattle.layout_terms.specs.Items.{Item}
 use Rattle.cramfs_layout.specs.Layout.{size_by, entry_len, entry_bytes, list_bytes, list_len, list_offset, State, kept}
 use Rattle.cramfs_layout.specs.Layout.{table_by, pad4, file_parts, parts, after_file, after_list, after_names}
@@ -44,7 +44,7 @@ entries_stand o b l s (link name i rest) h =
       HasAt-before b l (entry_bytes o name i size offset) (list_bytes o s' rest) h,
       entries_stand o b (l + entry_len name) s' rest (list_later o b l name i size offset (list_bytes o s' rest) h),
     )
-entries_stand o b l s (folder name i own rest) h =
+entries_stand o b l s (subdirectory name i own rest) h =
     let size = list_len own in
     let offset = list_offset s.at own in
     let s' = after_names (after_list s own) own in (
@@ -61,7 +61,7 @@ below_stand o b cs s (leaf name i rest) h =
 below_stand o b cs s (link name i rest) h =
     below_stand o b cs (after_file s i) rest
     (parts_both b (file_parts o cs (kept s.tables i) s i) (parts o cs (after_file s i) rest) h).1
-below_stand o b cs s (folder name i own rest) h =
+below_stand o b cs s (subdirectory name i own rest) h =
     let s1 = after_list s own in
     let s2 = after_names s1 own in
     let mine = parts o cs s1 own in

@@ -6,8 +6,8 @@ use Rattle.std.specs.List.{AllByRecursion as Every}
 use Rattle.record_forest.proofs.Lists.{every_join, every_left, every_right}
 use Rattle.cramfs_format.specs.declared.order.Order.{Order}
 use Rattle.cramfs_format.specs.Inode.{block_count}
-use Rattle.image_parts.specs.Parts.{IsOutside}
-use Rattle.manifest_tree.specs.Names.{Inode, Names, nothing, leaf, link, folder}
+use Rattle.rom_fields.specs.Parts.{IsOutside}
+use Rattle.manifest_tree.specs.Names.{Inode, Names, nothing, leaf, link, subdirectory}
 use Rattle.cramfs_layout.specs.Layout.{pad4, entry_len, list_len, list_bytes, State, Kept, nowhere, shared, fresh, kept}
 use Rattle.cramfs_layout.specs.Layout.{data_of, file_parts, parts, after_file, after_list, after_names}
 use Rattle.cramfs_layout.specs.Items.{kept_item, entries, below}
@@ -28,7 +28,7 @@ list_out o p l s (leaf name i rest) h =
     both_out p l (entry_len name) (list_len rest) h.0.0 (list_out o p (l + entry_len name) (after_file s i) rest h.1)
 list_out o p l s (link name i rest) h =
     both_out p l (entry_len name) (list_len rest) h.0.0 (list_out o p (l + entry_len name) (after_file s i) rest h.1)
-list_out o p l s (folder name i own rest) h =
+list_out o p l s (subdirectory name i own rest) h =
     both_out p l (entry_len name) (list_len rest) h.0.0
     (list_out o p (l + entry_len name) (after_names (after_list s own) own) rest h.1)
 
@@ -58,7 +58,7 @@ covered o cs p l s (leaf name i rest) w h u =
     every_join (IsOutside p) (file_parts o cs k s i) (parts o cs s' rest)
     (file_covered o cs p l name s i k w.1 refl h.0) (covered o cs p (l + entry_len name) s' rest w.2 h.1 u)
 covered o cs p l s (link name i rest) w h u = absurd w
-covered o cs p l s (folder name i own rest) w h u =
+covered o cs p l s (subdirectory name i own rest) w h u =
     let s1 = after_list s own in
     let s2 = after_names s1 own in
     let q = pad4 s.at in

@@ -14,9 +14,9 @@ use Rattle.cramfs_format.specs.declared.order.Order.{Order}
 use Rattle.cramfs_format.specs.declared.order.Order.TheVariants.{Little, Big}
 use Rattle.cramfs_format.specs.Inode.{mode_of, uid_of, size_of, gid_of, offset_of, type_of, name_of, name_room, end_of}
 use Rattle.cramfs_format.specs.Inode.{without_zeros}
-use Rattle.image_parts.specs.Parts.{HasAt}
+use Rattle.rom_fields.specs.Parts.{HasAt}
 use Rattle.manifest_tree.specs.Names.{Inode}
-use Rattle.image_parts.proofs.Parts.{HasAt-after, HasAt-moved}
+use Rattle.rom_fields.proofs.Parts.{HasAt-after, HasAt-moved}
 use Rattle.cramfs_layout.specs.Layout.{word_bytes, pad4, type_bits, entry_len, entry_bytes}
 use Rattle.cramfs_layout.specs.Reads.{IsEntry, ReadsEntry}
 

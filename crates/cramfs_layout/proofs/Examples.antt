@@ -1,12 +1,12 @@
 -- Worked images in both byte orders, by computing.
 use Rattle.std.proofs.Common.{◌≡◌, ℕ, List, [], ◌∷◌, ◌++◌, replicate, refl, codes}
 use Rattle.byteorder.specs.Endian.{big_bytes, little_bytes}
-use Rattle.image_parts.specs.Parts.{with_part}
+use Rattle.rom_fields.specs.Parts.{with_part}
 use Rattle.rom_tree.specs.declared.types.Kind.{Kind}
 use Rattle.rom_tree.specs.declared.types.Kind.TheVariants.{Directory, Regular, Symlink, Character}
 use Rattle.cramfs_format.specs.declared.order.Order.TheVariants.{Little, Big}
 use Rattle.crc.specs.Crc.{crc_of, after_bit}
-use Rattle.manifest_tree.specs.Names.{Fill, no_bytes, text, source, Inode, Names, nothing, leaf, folder}
+use Rattle.manifest_tree.specs.Names.{Fill, no_bytes, text, source, Inode, Names, nothing, leaf, subdirectory}
 use Rattle.layout_terms.specs.Items.{Item, section, super, record_of, table_of, text_of, contents_of}
 use Rattle.cramfs_layout.specs.Items.{items_of, sections_of}
 use Rattle.cramfs_layout.specs.Layout.{entry_bytes, kept, data_of, superblock, size_of, with_crc, layout}
@@ -155,7 +155,7 @@ shared_table_big = refl
 device_names : Names
 unfolding inode
 device_names =
-    folder (codes "d") (inode 1 Directory 493 4 0 no_bytes)
+    subdirectory (codes "d") (inode 1 Directory 493 4 0 no_bytes)
     (leaf (codes "l") (inode 2 Symlink 511 4 2 (text (codes "/x"))) nothing)
     (leaf (codes "n") (record {
       line = 3;
@@ -247,7 +247,7 @@ aligned = refl
 same_names : Names
 unfolding inode
 same_names =
-    folder (codes "d") (inode 2 Directory 493 4 0 no_bytes)
+    subdirectory (codes "d") (inode 2 Directory 493 4 0 no_bytes)
     (leaf (codes "x") (inode 3 Regular 384 256 5 (source 0)) nothing)
     (leaf (codes "e") (inode 1 Regular 420 256 5 (source 0)) nothing)
 

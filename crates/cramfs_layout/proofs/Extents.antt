@@ -14,8 +14,8 @@ use Rattle.cramfs_format.specs.declared.order.Order.{Order}
 use Rattle.cramfs_format.specs.Inode.{block_count}
 use Rattle.cramfs_format.specs.Tree.{extents_of}
 use Rattle.cramfs_format.proofs.Spans.{ListsApart, extents_pairs}
-use Rattle.manifest_tree.specs.Names.{Inode, Names, nothing, leaf, link, folder}
-use Rattle.image_parts.proofs.Climbs.{Climbs, climbs_later, climbs_added}
+use Rattle.manifest_tree.specs.Names.{Inode, Names, nothing, leaf, link, subdirectory}
+use Rattle.rom_fields.proofs.Climbs.{Climbs, climbs_later, climbs_added}
 use Rattle.cramfs_layout.specs.Layout.{pad4, list_len, State, Kept, nowhere, shared, fresh, kept, data_of, after_by}
 use Rattle.cramfs_layout.specs.Layout.{after_file, after_list, after_names}
 use Rattle.cramfs_layout.specs.Wells.{IsFile, AreWell}
@@ -64,7 +64,7 @@ abbrev pub spans : State → Names → List Span
 spans s nothing = []
 spans s (leaf name i rest) = file_spans (kept s.tables i) s i ++ spans (after_file s i) rest
 spans s (link name i rest) = file_spans (kept s.tables i) s i ++ spans (after_file s i) rest
-spans s (folder name i own rest) = added ListOf (pad4 s.at) (list_len own)
+spans s (subdirectory name i own rest) = added ListOf (pad4 s.at) (list_len own)
     ++ (spans (after_list s own) own ++ spans (after_names (after_list s own) own) rest)
 
 file_climbs : (cs : List (List ℕ)) (s : State) (i : Inode) (k : Kept) (to : ℕ) (more : List Span) → IsFile cs i
@@ -93,7 +93,7 @@ spans_climb cs s (leaf name i rest) h =
     file_climbs cs s i (kept s.tables i) (after_names (after_file s i) rest).at (spans (after_file s i) rest) h.1
     (spans_climb cs (after_file s i) rest h.2)
 spans_climb cs s (link name i rest) h = absurd h
-spans_climb cs s (folder name i own rest) h =
+spans_climb cs s (subdirectory name i own rest) h =
     let s1 = after_list s own in
     let s' = after_names s1 own in
     let t = (after_names s' rest).at in

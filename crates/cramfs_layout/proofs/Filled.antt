@@ -5,9 +5,10 @@ use Rattle.std.specs.List.{AllByRecursion as Every}
 use Rattle.record_forest.proofs.Lists.{every_join}
 use Rattle.cramfs_format.specs.declared.order.Order.{Order}
 use Rattle.cramfs_format.specs.Inode.{block_count}
-use Rattle.image_parts.specs.Padding.{pad}
-use Rattle.image_parts.specs.Parts.{HasAt, HasParts}
-use Rattle.manifest_tree.specs.Names.{Fill, no_bytes, text, source, Inode, Names, nothing, leaf, link, folder, bytes_of}
+use Rattle.rom_fields.specs.Padding.{pad}
+use Rattle.rom_fields.specs.Parts.{HasAt, HasParts}
+use Rattle.manifest_tree.specs.Names.{Fill, no_bytes, text, source, Inode, Names, nothing, leaf, link, subdirectory}
+use Rattle.manifest_tree.specs.Names.{bytes_of}
 use Rattle.layout_terms.specs.Items.{Item}
 use Rattle.cramfs_layout.specs.Layout.{entry_len, pointers, pad4, State, Table, Kept, nowhere, shared, fresh, kept}
 use Rattle.cramfs_layout.specs.Layout.{kept_by, data_of, with_table, file_parts, parts, after_by, after_file}
@@ -117,7 +118,7 @@ all_filled o cs A b l s (leaf name i rest) h a has ts =
     all_filled o cs A b (l + entry_len name) (after_file s i) rest h.2 a.1 (parts_both b ps qs has).1 one.1 in
     record { here = (one.0, more.here); under = more.under; tables = more.tables }
 all_filled o cs A b l s (link name i rest) h a has ts = absurd h
-all_filled o cs A b l s (folder name i own rest) h a has ts =
+all_filled o cs A b l s (subdirectory name i own rest) h a has ts =
     let s1 = after_list s own in
     let s2 = after_names s1 own in
     let ps = parts o cs s1 own in

@@ -7,7 +7,7 @@ use Rattle.std.specs.List.{AllByRecursion as Every}
 use Rattle.record_forest.proofs.Lists.{every_join}
 use Rattle.cramfs_format.specs.declared.order.Order.{Order}
 use Rattle.cramfs_format.specs.Inode.{block_count}
-use Rattle.image_parts.specs.Parts.{HasAt}
+use Rattle.rom_fields.specs.Parts.{HasAt}
 use Rattle.manifest_tree.specs.Names.{Fill, no_bytes, text, source, bytes_of}
 use Rattle.layout_terms.specs.Items.{Item, Section, section, table_of, fill_section}
 use Rattle.layout_terms.specs.Bodies.{item_at, body_bytes}

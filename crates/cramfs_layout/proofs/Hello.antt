@@ -3,11 +3,11 @@ use Rattle.std.proofs.Common.{◌≡◌, ◌≢◌, ℕ, zero, suc, ◌^◌, ◌
 use Rattle.std.proofs.Common.{refl, arith, inl, inr}
 use Rattle.std.specs.List.{Contains}
 use Rattle.rom_tree.specs.declared.types.Kind.TheVariants.{Directory, Regular}
-use Rattle.manifest_tree.specs.Names.{Inode, Names, nothing, leaf, folder, source, no_bytes}
+use Rattle.manifest_tree.specs.Names.{Inode, Names, nothing, leaf, subdirectory, source, no_bytes}
 use Rattle.layout_terms.specs.Lists.{IsName}
 use Rattle.cramfs_format.specs.Tree.{precedes}
 use Rattle.cramfs_layout.specs.Layout.{size_of, kept, data_of, list_len}
-use Rattle.cramfs_layout.specs.Wells.{IsFile, IsFolder}
+use Rattle.cramfs_layout.specs.Wells.{IsFile, IsDirectory}
 use Rattle.cramfs_layout.specs.Planned.{IsPlanned}
 
 directory : ℕ → Inode
@@ -45,9 +45,9 @@ no_slash x n (suc i, k, e) = absurd (omega arith)
 is_name : (x : ℕ) → x ≢ 0 → x ≢ 47 → IsName (x ∷ [])
 is_name x z n = record { named = omega arith; short = omega arith; no_zero = (z, tt); no_slash = no_slash x n }
 
-is_folder : (line : ℕ) (own : Names) → list_len own < 2 ^ 24 → IsFolder (directory line) own
+is_directory : (line : ℕ) (own : Names) → list_len own < 2 ^ 24 → IsDirectory (directory line) own
 unfolding directory
-is_folder line own small = record {
+is_directory line own small = record {
   kind = refl;
   mode = omega arith;
   owner = (omega arith, omega arith);
@@ -97,13 +97,13 @@ is_same = record {
 }
 
 planned : IsPlanned (codes "vol") (directory 0)
-    (leaf (codes "a") file (folder (codes "d") (directory 2) (leaf (codes "c") same nothing) nothing))
+    (leaf (codes "a") file (subdirectory (codes "d") (directory 2) (leaf (codes "c") same nothing) nothing))
     (codes "hello" ∷ [])
 unfolding directory file same size_of kept data_of
 planned = record {
   short = omega arith;
-  folder = is_folder 0 (leaf (codes "a") file
-      (folder (codes "d") (directory 2) (leaf (codes "c") same nothing) nothing)) (omega arith);
+  subdirectory = is_directory 0 (leaf (codes "a") file
+      (subdirectory (codes "d") (directory 2) (leaf (codes "c") same nothing) nothing)) (omega arith);
   well = (
     (
       record {
@@ -129,7 +129,7 @@ planned = record {
         omega arith,
         λ m z. absurd z,
       ),
-      is_folder 2 (leaf (codes "c") same nothing) (omega arith),
+      is_directory 2 (leaf (codes "c") same nothing) (omega arith),
       (
         (
           record {

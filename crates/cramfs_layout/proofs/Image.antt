@@ -12,12 +12,12 @@ use Rattle.cramfs_format.specs.Inode.{type_of, has_kinds}
 use Rattle.cramfs_format.specs.Superblock.{magic, signature, without_crc, HasCrc, accessible_size, IsSuperblock}
 use Rattle.crc.specs.Crc.{crc_of, after_bit, after_bits, after_bytes, polynomial}
 use Rattle.cramfs_format.specs.Tree.{CramfsTree, tree_of}
-use Rattle.image_parts.specs.Parts.{Part, end_of_part, with_part, laid, Rises, end_of_parts, HasAt, HasParts}
-use Rattle.manifest_tree.specs.Names.{Inode, Names, nothing, leaf, link, folder}
-use Rattle.image_parts.specs.Parts.{part}
-use Rattle.image_parts.proofs.Padding.{pad-after}
-use Rattle.image_parts.proofs.Parts.{HasParts-laid, length-laid, laid_keeps}
-use Rattle.image_parts.proofs.Parts.{HasAt-before, HasAt-after, HasAt-moved}
+use Rattle.rom_fields.specs.Parts.{Part, end_of_part, with_part, laid, Rises, end_of_parts, HasAt, HasParts}
+use Rattle.manifest_tree.specs.Names.{Inode, Names, nothing, leaf, link, subdirectory}
+use Rattle.rom_fields.specs.Parts.{part}
+use Rattle.rom_fields.proofs.Padding.{pad-after}
+use Rattle.rom_fields.proofs.Parts.{HasParts-laid, length-laid, laid_keeps}
+use Rattle.rom_fields.proofs.Parts.{HasAt-before, HasAt-after, HasAt-moved}
 use Rattle.cramfs_layout.specs.Layout.{word_bytes, entry_bytes, list_len, list_bytes, root_offset, count, first_state}
 use Rattle.cramfs_layout.specs.Layout.{after_names, parts, flags, size_of, superblock, with_crc, layout, type_bits}
 use Rattle.cramfs_layout.specs.Reads.{IsEntry, ReadsEntry}
@@ -116,13 +116,13 @@ root_begins : (n : Names) → (root_offset n ≡ 0) ⊎ (root_offset n ≡ 76)
 root_begins nothing = inl refl
 root_begins (leaf name i after) = inr refl
 root_begins (link name i after) = inr refl
-root_begins (folder name i own after) = inr refl
+root_begins (subdirectory name i own after) = inr refl
 
 root_small : (n : Names) (high : ℕ) → 76 ≤ high → high ≤ 2 ^ 28 → (root_offset n < 2 ^ 28) × (root_offset n % 4 ≡ 0)
 root_small nothing high l m = (omega arith, refl)
 root_small (leaf name i after) high l m = (omega arith, refl)
 root_small (link name i after) high l m = (omega arith, refl)
-root_small (folder name i own after) high l m = (omega arith, refl)
+root_small (subdirectory name i own after) high l m = (omega arith, refl)
 
 length_super : (o : Order) (volume : List ℕ) (root : Inode) (n : Names) → length volume ≤ 16
     → length (superblock o volume root n) ≡ 76
@@ -287,17 +287,17 @@ is_image o volume root n cs h =
     let has64 = root_at o b volume root n keeps.0 short has36 in
     let small = root_small n high (omega (arith, low)) (omega (arith, up, room)) in
     let entry_ok : IsEntry [] root (list_len n) (root_offset n) = record {
-      mode = h.folder.mode;
-      uid = h.folder.owner.0;
-      size_small = h.folder.small;
-      gid = h.folder.owner.1;
+      mode = h.subdirectory.mode;
+      uid = h.subdirectory.owner.0;
+      size_small = h.subdirectory.small;
+      gid = h.subdirectory.owner.1;
       short = omega arith;
       offset_small = small.0;
       offset_even = small.1;
       no_zero = tt;
     } in
     let read = entry_reads o b 64 [] root (list_len n) (root_offset n) entry_ok has64 in
-    let kind : type_of o b 64 ≡ 4 = read.type ∙ ap type_bits h.folder.kind in
+    let kind : type_of o b 64 ≡ 4 = read.type ∙ ap type_bits h.subdirectory.kind in
     let holds : Holds o b cs root n = record {
       flag = ap has_kinds says.flags_are;
       kind = kind;

@@ -12,8 +12,8 @@ use Rattle.cramfs_format.specs.Order.{word}
 use Rattle.cramfs_format.specs.declared.order.Order.{Order}
 use Rattle.cramfs_format.specs.Inode.{type_of, size_of, offset_of, block_count}
 use Rattle.cramfs_format.specs.Tree.{node_of, places_at, blocks_from, by_type, kind_numbers}
-use Rattle.image_parts.specs.Parts.{HasAt}
-use Rattle.manifest_tree.specs.Names.{Inode, Names, nothing, leaf, link, folder, bytes_of}
+use Rattle.rom_fields.specs.Parts.{HasAt}
+use Rattle.manifest_tree.specs.Names.{Inode, Names, nothing, leaf, link, subdirectory, bytes_of}
 use Rattle.layout_terms.specs.Files.{Placed, at_place}
 use Rattle.layout_terms.specs.Items.{Item}
 use Rattle.layout_terms.specs.Placement.{IsRun}
@@ -25,7 +25,7 @@ use Rattle.cramfs_layout.specs.Wells.{IsFile, AreWell, AllRead}
 use Rattle.cramfs_layout.proofs.Filled.{FilledAt, IsFilled}
 use Rattle.cramfs_layout.proofs.Sound.{pointer_at, pointer_says}
 use Rattle.cramfs_layout.proofs.Values.{IsAt, one_run}
-use Rattle.cramfs_layout.proofs.Paths.{placed, IsGood, a_file, a_folder}
+use Rattle.cramfs_layout.proofs.Paths.{placed, IsGood, a_file, a_directory}
 
 -- the table of a file with bytes points to blocks that begin at a multiple of its alignment
 abbrev pub IsAligned : Order → List ℕ → List (List ℕ) → Placed → Type 0
@@ -53,7 +53,7 @@ files_aligned o b cs high l s (leaf name i rest) h r e u =
       files_aligned o b cs high (l + entry_len name) (after_file s i) rest h.2 r.2 e.1 u,
     )
 files_aligned o b cs high l s (link name i rest) h r e u = absurd h
-files_aligned o b cs high l s (folder name i own rest) h r e u =
+files_aligned o b cs high l s (subdirectory name i own rest) h r e u =
     let s1 = after_list s own in
     let s2 = after_names s1 own in
     let F : Item → Type 0 = IsFilled o cs b in
@@ -126,4 +126,4 @@ node_run o b cs high i p es top g a d =
     by : IsGood cs i → i.kind ≢ Directory → size_of o b p ≡ i.size
         → IsRun i.align (blocks_from o b (block_count (size_of o b p)) (offset_of o b p) (size_of o b p))
     by (a_file f) z s = file_run o b cs i (offset_of o b p) (size_of o b p) top f s (λ n. d z (λ e. n (s ∙ e)))
-    by (a_folder f) z s = absurd (z f.kind)
+    by (a_directory f) z s = absurd (z f.kind)

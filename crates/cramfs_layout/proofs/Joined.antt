@@ -4,9 +4,9 @@ use Rattle.std.proofs.Common.{arith}
 use Rattle.std.specs.List.{AllByRecursion as Every}
 use Rattle.record_forest.proofs.Lists.{every_join, every_left, every_right, every_weaker, every_of}
 use Rattle.cramfs_format.specs.declared.order.Order.{Order}
-use Rattle.image_parts.specs.Parts.{Part, part, laid, HasParts, IsOutside}
-use Rattle.image_parts.proofs.Parts.{HasParts-laid, zero_outside}
-use Rattle.image_parts.proofs.Determined.{determined}
+use Rattle.rom_fields.specs.Parts.{Part, part, laid, HasParts, IsOutside}
+use Rattle.rom_fields.proofs.Parts.{HasParts-laid, zero_outside}
+use Rattle.rom_fields.proofs.Determined.{determined}
 use Rattle.manifest_tree.specs.Names.{Inode, Names, bytes_of}
 use Rattle.layout_terms.specs.Items.{Item, Section}
 use Rattle.layout_terms.specs.Bodies.{body_bytes}

@@ -20,8 +20,9 @@ use Rattle.cramfs_format.specs.Inode.{type_of, size_of, offset_of, has_data, blo
 use Rattle.cramfs_format.specs.Refers.{references}
 use Rattle.cramfs_format.specs.Tree.{data_from, file_extents, row_extents}
 use Rattle.cramfs_format.proofs.Spans.{ListsApart, row_every}
-use Rattle.image_parts.specs.Parts.{HasParts}
-use Rattle.manifest_tree.specs.Names.{Fill, no_bytes, text, source, Inode, Names, nothing, leaf, link, folder, bytes_of}
+use Rattle.rom_fields.specs.Parts.{HasParts}
+use Rattle.manifest_tree.specs.Names.{Fill, no_bytes, text, source, Inode, Names, nothing, leaf, link, subdirectory}
+use Rattle.manifest_tree.specs.Names.{bytes_of}
 use Rattle.cramfs_layout.specs.Layout.{pad4, type_bits, size_by, entry_len, list_len, list_offset, State, Table, Kept}
 use Rattle.cramfs_layout.specs.Layout.{nowhere, shared, fresh, kept, kept_by, data_of, with_table, table_by, after_by}
 use Rattle.cramfs_layout.specs.Layout.{after_file, after_list, after_names, file_parts, parts}
@@ -66,7 +67,7 @@ lists_in o b cs high x d up depth l s (leaf name i rest) h r =
           (lists_in o b cs high (g.after x) d up depth (l + entry_len name) s' rest h.2 r.2),
     )
 lists_in o b cs high x d up depth l s (link name i rest) h r = absurd h
-lists_in o b cs high x d up depth l s (folder name i own rest) h r =
+lists_in o b cs high x d up depth l s (subdirectory name i own rest) h r =
     let g = references o b in
     let s1 = after_list s own in
     let s' = after_names s1 own in
@@ -100,7 +101,7 @@ lists_apart o b cs high x d up depth l s (leaf name i rest) h r =
       lists_apart o b cs high (g.after x) d up depth (l + entry_len name) s' rest h.2 r.2,
     )
 lists_apart o b cs high x d up depth l s (link name i rest) h r = absurd h
-lists_apart o b cs high x d up depth l s (folder name i own rest) h r =
+lists_apart o b cs high x d up depth l s (subdirectory name i own rest) h r =
     let g = references o b in
     let s1 = after_list s own in
     let s' = after_names s1 own in
@@ -257,7 +258,7 @@ known o b cs Q high x d up depth l s (leaf name i rest) h r fits has q st =
       tables = later.tables;
     }
 known o b cs Q high x d up depth l s (link name i rest) h r fits has q st = absurd h
-known o b cs Q high x d up depth l s (folder name i own rest) h r fits has q st =
+known o b cs Q high x d up depth l s (subdirectory name i own rest) h r fits has q st =
     let g = references o b in
     let s1 = after_list s own in
     let s' = after_names s1 own in

@@ -10,7 +10,7 @@ use Rattle.cramfs_format.specs.declared.order.Order.{Order}
 use Rattle.cramfs_format.specs.Inode.{name_of}
 use Rattle.cramfs_format.specs.Refers.{references}
 use Rattle.cramfs_format.specs.Tree.{precedes, NamesRise}
-use Rattle.manifest_tree.specs.Names.{Names, nothing, leaf, link, folder}
+use Rattle.manifest_tree.specs.Names.{Names, nothing, leaf, link, subdirectory}
 use Rattle.layout_terms.specs.Lists.{StandsIn}
 use Rattle.cramfs_layout.specs.Layout.{pad4, entry_len, list_len, State, after_file, after_list, after_names}
 use Rattle.cramfs_layout.specs.Wells.{AreWell, AllRead}
@@ -78,13 +78,13 @@ located o b cs high x d up depth l s (leaf name i rest) h r m =
           (λ _ z. inr z) (omega arith) (omega (arith, a)) k) (rows g (g.after x) d up depth (spots l' s' rest)) ih,
     )
 located o b cs high x d up depth l s (link name i rest) h r m = absurd h
-located o b cs high x d up depth l s (folder name i own rest) h r m =
+located o b cs high x d up depth l s (subdirectory name i own rest) h r m =
     let g = references o b in
     let l' = l + entry_len name in
     let q = pad4 s.at in
     let s1 = after_list s own in
     let s' = after_names s1 own in
-    let n = folder name i own rest in
+    let n = subdirectory name i own rest in
     let a = names_onward cs s1 own h.2 in
     let c = names_onward cs s' rest h.3 in
     let e : l + list_len n ≡ l' + list_len rest = omega arith in
@@ -179,7 +179,7 @@ all_apart o b cs high x d up depth l s (leaf name i rest) h r m low =
       all_apart o b cs high (g.after x) d up depth l' s' rest h.2 r.2 c (omega arith),
     )
 all_apart o b cs high x d up depth l s (link name i rest) h r m low = absurd h
-all_apart o b cs high x d up depth l s (folder name i own rest) h r m low =
+all_apart o b cs high x d up depth l s (subdirectory name i own rest) h r m low =
     let g = references o b in
     let l' = l + entry_len name in
     let q = pad4 s.at in

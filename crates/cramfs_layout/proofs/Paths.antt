@@ -17,13 +17,13 @@ use Rattle.cramfs_format.specs.Inode.{type_of}
 use Rattle.cramfs_format.specs.Refers.{references}
 use Rattle.cramfs_format.specs.Tree.{node_of, places_at, kind_numbers, entries_at}
 use Rattle.rom_tree.proofs.ByKind.{by_kind_map, by_kind_directory, by_kind_rest}
-use Rattle.manifest_tree.specs.Names.{Inode, Names, nothing, leaf, link, folder, bytes_of}
+use Rattle.manifest_tree.specs.Names.{Inode, Names, nothing, leaf, link, subdirectory, bytes_of}
 use Rattle.layout_terms.specs.Files.{Placed}
 use Rattle.layout_terms.specs.Files.{files}
 use Rattle.manifest_tree.specs.Shape.{Named, find_name, node_under, file_under}
 use Rattle.layout_terms.proofs.Alike.{Alike, then_alike}
 use Rattle.cramfs_layout.specs.Layout.{pad4, type_bits, entry_len, State, after_file, after_list, after_names}
-use Rattle.cramfs_layout.specs.Wells.{IsFile, IsFolder, AreWell, IsStored, AllRead}
+use Rattle.cramfs_layout.specs.Wells.{IsFile, IsDirectory, AreWell, IsStored, AllRead}
 use Rattle.cramfs_layout.specs.Forest.{spots}
 use Rattle.cramfs_layout.proofs.Values.{IsAt}
 
@@ -55,7 +55,7 @@ abbrev pub placed : ℕ → State → Names → List Placed
 placed l s nothing = []
 placed l s (leaf name i rest) = record { inode = i; place = l } ∷ placed (l + entry_len name) (after_file s i) rest
 placed l s (link name i rest) = placed (l + entry_len name) (after_file s i) rest
-placed l s (folder name i own rest) =
+placed l s (subdirectory name i own rest) =
     record { inode = i; place = l } ∷ placed (pad4 s.at) (after_list s own) own
     ++ placed (l + entry_len name) (after_names (after_list s own) own) rest
 
@@ -64,7 +64,7 @@ placed_files l s nothing = refl
 placed_files l s (leaf name i rest) =
     ap (λ (is : List Inode). i ∷ is) (placed_files (l + entry_len name) (after_file s i) rest)
 placed_files l s (link name i rest) = placed_files (l + entry_len name) (after_file s i) rest
-placed_files l s (folder name i own rest) =
+placed_files l s (subdirectory name i own rest) =
     let s1 = after_list s own in
     let s' = after_names s1 own in
     ap (λ (is : List Inode). i ∷ is) (map-append (λ (x : Placed). x.inode) (placed (pad4 s.at) s1 own)
@@ -83,7 +83,7 @@ placed_rows o b cs x d up depth l s (leaf name i rest) h =
     ap (λ (ys : List ℕ). l ∷ ys) (placed_rows o b cs ((references o b).after x) d up depth (l + entry_len name)
     (after_file s i) rest h.2)
 placed_rows o b cs x d up depth l s (link name i rest) h = absurd h
-placed_rows o b cs x d up depth l s (folder name i own rest) h =
+placed_rows o b cs x d up depth l s (subdirectory name i own rest) h =
     let g = references o b in
     let s1 = after_list s own in
     let s' = after_names s1 own in
@@ -100,7 +100,7 @@ placed_rows o b cs x d up depth l s (folder name i own rest) h =
 -- a file that is one, or a directory
 pub data IsGood (cs : List (List ℕ)) (i : Inode) : Type 0 where
   a_file : IsFile cs i → IsGood cs i
-  a_folder : {own : Names} → IsFolder i own → IsGood cs i
+  a_directory : {own : Names} → IsDirectory i own → IsGood cs i
 
 -- the node x shows the file of m and its names
 pub record IsShown (o : Order) (b : List ℕ) (cs : List (List ℕ)) (high : ℕ) (Q : Placed → Type 0) (x : Node)
@@ -165,7 +165,7 @@ find_alike o b cs high Q m l s (leaf name i rest) h r q =
     subst (λ (k : List ℕ). Alike (IsShown o b cs high Q) (if bytes_eq k m then Some x else find_entry es m)
     (if bytes_eq name m then Some (record { inode = i; own = nothing }) else find_name rest m)) (sym r.0.name_is) go
 find_alike o b cs high Q m l s (link name i rest) h r q = absurd h
-find_alike o b cs high Q m l s (folder name i own rest) h r q =
+find_alike o b cs high Q m l s (subdirectory name i own rest) h r q =
     let s1 = after_list s own in
     let s' = after_names s1 own in
     let mine = entries_at o b (spots (pad4 s.at) s1 own) in
@@ -182,7 +182,7 @@ find_alike o b cs high Q m l s (folder name i own rest) h r q =
         entries = mine;
         is = refl;
         list = entries_one o b l mine (r.0.type ∙ ap type_bits h.1.kind);
-        good = a_folder h.1;
+        good = a_directory h.1;
         here = record {
           type = r.0.type;
           mode = r.0.mode;

@@ -9,8 +9,8 @@ use Rattle.record_forest.specs.Members.{Has}
 use Rattle.record_forest.proofs.Lists.{every_join, every_left, every_right}
 use Rattle.cramfs_format.specs.declared.order.Order.{Order}
 use Rattle.cramfs_format.specs.Inode.{block_count}
-use Rattle.image_parts.proofs.Climbs.{Climbs, climbs_added}
-use Rattle.manifest_tree.specs.Names.{Inode, Names, nothing, leaf, link, folder}
+use Rattle.rom_fields.proofs.Climbs.{Climbs, climbs_added}
+use Rattle.manifest_tree.specs.Names.{Inode, Names, nothing, leaf, link, subdirectory}
 use Rattle.layout_terms.specs.Items.{Item}
 use Rattle.cramfs_layout.specs.Layout.{pad4, entry_len, list_len, State, Kept, nowhere, shared, fresh, kept, data_of}
 use Rattle.cramfs_layout.specs.Layout.{after_by, after_file, after_list, after_names}
@@ -30,7 +30,7 @@ abbrev pub regions : State → Names → List Span
 regions s nothing = []
 regions s (leaf name i rest) = file_region (kept s.tables i) s i ++ regions (after_file s i) rest
 regions s (link name i rest) = file_region (kept s.tables i) s i ++ regions (after_file s i) rest
-regions s (folder name i own rest) =
+regions s (subdirectory name i own rest) =
     added ListOf (pad4 s.at) (list_len own)
     ++ (regions (after_list s own) own ++ regions (after_names (after_list s own) own) rest)
 
@@ -51,7 +51,7 @@ regions_climb cs s (leaf name i rest) h =
     file_climbs cs s i (kept s.tables i) (after_names (after_file s i) rest).at (regions (after_file s i) rest) h.1
     (regions_climb cs (after_file s i) rest h.2)
 regions_climb cs s (link name i rest) h = absurd h
-regions_climb cs s (folder name i own rest) h =
+regions_climb cs s (subdirectory name i own rest) h =
     let s1 = after_list s own in
     let s2 = after_names s1 own in
     let t = (after_names s2 rest).at in
@@ -91,7 +91,7 @@ entries_place o l s (link name i rest) = (
       (l + (entry_len name + list_len rest)) (entries o (l + entry_len name) (after_file s i) rest) (omega arith)
       (entries_place o (l + entry_len name) (after_file s i) rest),
 )
-entries_place o l s (folder name i own rest) =
+entries_place o l s (subdirectory name i own rest) =
     let s2 = after_names (after_list s own) own in (
       omega arith,
       places_end (l + entry_len name) (l + entry_len name + list_len rest)
@@ -106,7 +106,7 @@ below_place o cs s (leaf name i rest) h =
     places_later s.at (after_file s i).at (after_names (after_file s i) rest).at (below o (after_file s i) rest)
     (file_onward cs s i h.1) (below_place o cs (after_file s i) rest h.2)
 below_place o cs s (link name i rest) h = absurd h
-below_place o cs s (folder name i own rest) h =
+below_place o cs s (subdirectory name i own rest) h =
     let s1 = after_list s own in
     let s2 = after_names s1 own in
     let t = (after_names s2 rest).at in
@@ -144,7 +144,7 @@ entries_listed o V b l s (link name i rest) a k low high = (
   entries_listed o V b (l + entry_len name) (after_file s i) rest a k (omega arith)
       (omega arith),
 )
-entries_listed o V b l s (folder name i own rest) a k low high = (
+entries_listed o V b l s (subdirectory name i own rest) a k low high = (
   has_as (λ (c : Span). (c.kind ≡ ListOf) × (c.start ≤ l) × (l + entry_len name ≤ c.start + c.len)) V b a
       (k, low, omega arith),
   entries_listed o V b (l + entry_len name) (after_names (after_list s own) own) rest a k
@@ -157,15 +157,15 @@ pub own_listed : (o : Order) (V : List Span) (q len : ℕ) (s : State) (own : Na
 own_listed o V q len s nothing e h = tt
 own_listed o V q zero s (leaf name i rest) e h = absurd (omega (arith, e))
 own_listed o V q zero s (link name i rest) e h = absurd (omega (arith, e))
-own_listed o V q zero s (folder name i own rest) e h = absurd (omega (arith, e))
+own_listed o V q zero s (subdirectory name i own rest) e h = absurd (omega (arith, e))
 own_listed o V q (suc k) s (leaf name i rest) e h =
     entries_listed o V (record { kind = ListOf; start = q; len = suc k }) q s (leaf name i rest) h.0 refl (omega arith)
     (omega (arith, e))
 own_listed o V q (suc k) s (link name i rest) e h =
     entries_listed o V (record { kind = ListOf; start = q; len = suc k }) q s (link name i rest) h.0 refl (omega arith)
     (omega (arith, e))
-own_listed o V q (suc k) s (folder name i own rest) e h =
-    entries_listed o V (record { kind = ListOf; start = q; len = suc k }) q s (folder name i own rest) h.0 refl
+own_listed o V q (suc k) s (subdirectory name i own rest) e h =
+    entries_listed o V (record { kind = ListOf; start = q; len = suc k }) q s (subdirectory name i own rest) h.0 refl
     (omega arith) (omega (arith, e))
 
 pub below_listed : (o : Order) (V : List Span) (s : State) (n : Names) → Every (IsAmong V) (regions s n)
@@ -177,7 +177,7 @@ below_listed o V s (leaf name i rest) h =
 below_listed o V s (link name i rest) h =
     below_listed o V (after_file s i) rest
     (every_right (IsAmong V) (file_region (kept s.tables i) s i) (regions (after_file s i) rest) h)
-below_listed o V s (folder name i own rest) h =
+below_listed o V s (subdirectory name i own rest) h =
     let s1 = after_list s own in
     let s2 = after_names s1 own in
     let front = added ListOf (pad4 s.at) (list_len own) in
@@ -222,7 +222,7 @@ regions_fresh cs V s (leaf name i rest) h r =
       regions_fresh cs V (after_file s i) rest h.2 (every_right (IsAmong V) region more r),
     )
 regions_fresh cs V s (link name i rest) h r = absurd h
-regions_fresh cs V s (folder name i own rest) h r =
+regions_fresh cs V s (subdirectory name i own rest) h r =
     let s1 = after_list s own in
     let s2 = after_names s1 own in
     let both =

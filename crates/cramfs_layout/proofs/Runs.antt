@@ -5,7 +5,7 @@ use Rattle.std.specs.List.{AllByRecursion as Every}
 use Rattle.record_forest.specs.Members.{Has, Pairs}
 use Rattle.record_forest.proofs.Lists.{every_join, every_left, every_right, every_weaker, has_every, pairs_join}
 use Rattle.record_forest.proofs.Lists.{pairs_pick}
-use Rattle.manifest_tree.specs.Names.{Inode, Names, nothing, leaf, link, folder}
+use Rattle.manifest_tree.specs.Names.{Inode, Names, nothing, leaf, link, subdirectory}
 use Rattle.cramfs_layout.specs.Layout.{pad4, State, Kept, nowhere, shared, fresh, kept, data_of, after_by, after_file}
 use Rattle.cramfs_layout.specs.Layout.{after_list, after_names}
 use Rattle.cramfs_layout.specs.Wells.{IsFile, AreWell}
@@ -31,7 +31,7 @@ abbrev pub runs : State → Names → List Run
 runs s nothing = []
 runs s (leaf name i rest) = file_run (kept s.tables i) s i ++ runs (after_file s i) rest
 runs s (link name i rest) = runs (after_file s i) rest
-runs s (folder name i own rest) = runs (after_list s own) own ++ runs (after_names (after_list s own) own) rest
+runs s (subdirectory name i own rest) = runs (after_list s own) own ++ runs (after_names (after_list s own) own) rest
 
 -- one of these
 abbrev pub IsRun : List Run → ℕ → ℕ → ℕ → Type 0
@@ -56,7 +56,7 @@ runs_fresh cs R s (leaf name i rest) w h =
       runs_fresh cs R (after_file s i) rest w.2 (every_right (IsIn R) (file_run k s i) more h),
     )
 runs_fresh cs R s (link name i rest) w h = absurd w
-runs_fresh cs R s (folder name i own rest) w h =
+runs_fresh cs R s (subdirectory name i own rest) w h =
     let s1 = after_list s own in
     let s2 = after_names s1 own in (
       runs_fresh cs R s1 own w.2 (every_left (IsIn R) (runs s1 own) (runs s2 rest) h),
@@ -112,7 +112,7 @@ are_runs cs s (leaf name i rest) h =
     (file_onward cs s i h.1) (names_onward cs s' rest h.2) (file_runs cs s i (kept s.tables i) h.1 refl)
     (are_runs cs s' rest h.2)
 are_runs cs s (link name i rest) h = absurd h
-are_runs cs s (folder name i own rest) h =
+are_runs cs s (subdirectory name i own rest) h =
     let s1 = after_list s own in
     let s2 = after_names s1 own in
     let t = (after_names s2 rest).at in

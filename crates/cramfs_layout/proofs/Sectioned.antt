@@ -11,7 +11,7 @@ use Rattle.record_forest.proofs.Lists.{every_weaker, every_join, every_left, eve
 use Rattle.record_forest.proofs.Lists.{has_every, has_weaker, pairs_pick, pairs_join}
 use Rattle.cramfs_format.specs.declared.order.Order.{Order}
 use Rattle.cramfs_format.specs.Inode.{block_count}
-use Rattle.image_parts.proofs.Climbs.{Climbs, climbs_added}
+use Rattle.rom_fields.proofs.Climbs.{Climbs, climbs_added}
 use Rattle.manifest_tree.specs.Names.{Fill, no_bytes, text, source, Inode, Names}
 use Rattle.layout_terms.specs.Items.{Item, Section, SectionsRise, record_of, table_of, section, fill_section}
 use Rattle.layout_terms.proofs.Sections.{AreApart, LiesIn, order_rises}
@@ -19,7 +19,7 @@ use Rattle.cramfs_layout.specs.Layout.{entry_len, list_len, size_of, after_names
 use Rattle.cramfs_layout.specs.Items.{AreAlignedBy, entries, below, items_of, has_table, table_sections, sections_from}
 use Rattle.cramfs_layout.specs.Items.{sections_of}
 use Rattle.cramfs_layout.specs.Planned.{IsPlanned}
-use Rattle.image_parts.proofs.Padding.{pad-after}
+use Rattle.rom_fields.proofs.Padding.{pad-after}
 use Rattle.cramfs_layout.proofs.Extents.{climbs_from}
 use Rattle.cramfs_layout.proofs.Stored.{names_onward}
 use Rattle.cramfs_layout.proofs.Regions.{regions, regions_climb, Places, places_join, entries_place, below_place}

@@ -26,8 +26,8 @@ use Rattle.cramfs_layout.proofs.Image.{is_image}
 use Rattle.cramfs_layout.specs.Items.{AreAlignedBy}
 use Rattle.cramfs_layout.proofs.Filled.{are_filled}
 use Rattle.cramfs_layout.proofs.InRuns.{IsAligned, files_aligned, node_run}
-use Rattle.cramfs_layout.proofs.Values.{IsAt, file_is, folder_is}
-use Rattle.cramfs_layout.proofs.Paths.{placed, placed_files, placed_rows, IsGood, a_file, a_folder, IsShown, IsEnd}
+use Rattle.cramfs_layout.proofs.Values.{IsAt, file_is, directory_is}
+use Rattle.cramfs_layout.proofs.Paths.{placed, placed_files, placed_rows, IsGood, a_file, a_directory, IsShown, IsEnd}
 use Rattle.cramfs_layout.proofs.Paths.{path_alike, entries_one}
 
 ino_at : (o : Order) (b : List ℕ) (p : ℕ) (es : Entries) → ino_of (node_of o b p es) ≡ p
@@ -45,7 +45,7 @@ same_nodes o b x y p q es fs A e f both =
 good_value : (o : Order) (b : List ℕ) (cs : List (List ℕ)) (high : ℕ) (i : Inode) (p : ℕ) (es : Entries)
     → high ≤ 2 ^ 28 → IsGood cs i → IsAt o b cs high i p → node_value b (node_of o b p es) ≡ file_value cs i
 good_value o b cs high i p es top (a_file f) a = file_is o b cs high i p es top f a
-good_value o b cs high i p es top (a_folder f) a = folder_is o b cs high i p es f.kind f.numbers f.bytes a
+good_value o b cs high i p es top (a_directory f) a = directory_is o b cs high i p es f.kind f.numbers f.bytes a
 
 -- all files, the root first
 abbrev pub all_placed : Inode → Names → List Placed
@@ -81,14 +81,14 @@ ends_alike o volume root n cs h P first every q =
       entries = es;
       is = refl;
       list = entries_one o b 64 es held.kind;
-      good = a_folder h.folder;
+      good = a_directory h.directory;
       here = record {
         type = i.read.type;
         mode = i.read.mode;
         uid = i.read.uid;
         gid = i.read.gid;
-        size_is = λ z. absurd (z h.folder.kind);
-        content = λ z. absurd (z h.folder.kind);
+        size_is = λ z. absurd (z h.directory.kind);
+        content = λ z. absurd (z h.directory.kind);
       };
       known = (inl refl, first);
       reads = held.reads;
@@ -171,7 +171,7 @@ has_runs o volume root n cs A h al q x i a f =
     let t = tree_of o b (all_spots n) in
     let filled = are_filled o cs A b 76 s n refl h.well al image.holds.has in
     let aligned = files_aligned o b cs high 76 s n h.well image.holds.reads filled.0 filled.1 in
-    let first : P (at_place root 64) = λ z. absurd (z h.folder.kind) in
+    let first : P (at_place root 64) = λ z. absurd (z h.directory.kind) in
     let e = alike_some (IsEnd o b cs high Q) (node_under q t) (file_under q (with_names root n)) x i
     (ends_alike o volume root n cs h P first aligned q) a f in
     let long = image.long in

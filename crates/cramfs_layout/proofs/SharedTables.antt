@@ -12,7 +12,8 @@ use Rattle.rom_tree.proofs.ByKind.{body_places_is}
 use Rattle.cramfs_format.specs.declared.order.Order.{Order}
 use Rattle.cramfs_format.specs.Inode.{type_of, size_of, offset_of, block_count}
 use Rattle.cramfs_format.specs.Tree.{node_of, places_at, blocks_from, by_type, kind_numbers, tree_of}
-use Rattle.manifest_tree.specs.Names.{Fill, no_bytes, text, source, Inode, Names, nothing, leaf, link, folder, bytes_of}
+use Rattle.manifest_tree.specs.Names.{Fill, no_bytes, text, source, Inode, Names, nothing, leaf, link, subdirectory}
+use Rattle.manifest_tree.specs.Names.{bytes_of}
 use Rattle.manifest_tree.specs.Shape.{node_under, file_under, with_names}
 use Rattle.layout_terms.specs.Files.{Placed, at_place}
 use Rattle.layout_terms.proofs.Alike.{alike_some}
@@ -23,7 +24,7 @@ use Rattle.cramfs_layout.specs.Planned.{IsPlanned}
 use Rattle.cramfs_layout.specs.Sharing.{SourcesAreShared}
 use Rattle.cramfs_layout.specs.Wells.{FitsKind, IsFile, AreWell, AllRead}
 use Rattle.cramfs_layout.proofs.Image.{is_image}
-use Rattle.cramfs_layout.proofs.Paths.{placed, IsGood, a_file, a_folder, IsEnd}
+use Rattle.cramfs_layout.proofs.Paths.{placed, IsGood, a_file, a_directory, IsEnd}
 use Rattle.cramfs_layout.proofs.Shaped.{IsOne, ends_alike}
 use Rattle.cramfs_layout.proofs.Stored.{shared_by, none_by}
 use Rattle.cramfs_layout.proofs.Values.{IsAt}
@@ -61,7 +62,7 @@ names_keep s (leaf name i rest) k t h =
     names_keep (after_file s i) rest k t (file_keeps s i (kept s.tables i) refl k t h)
 names_keep s (link name i rest) k t h =
     names_keep (after_file s i) rest k t (file_keeps s i (kept s.tables i) refl k t h)
-names_keep s (folder name i own rest) k t h =
+names_keep s (subdirectory name i own rest) k t h =
     let s1 = after_list s own in
     names_keep (after_names s1 own) rest k t (names_keep s1 own k t h)
 
@@ -111,7 +112,7 @@ files_refer o b cs high l s (leaf name i rest) all h r keep =
       files_refer o b cs high (l + entry_len name) s' rest all h.2 r.2 keep,
     )
 files_refer o b cs high l s (link name i rest) all h r keep = absurd h
-files_refer o b cs high l s (folder name i own rest) all h r keep =
+files_refer o b cs high l s (subdirectory name i own rest) all h r keep =
     let s1 = after_list s own in
     let s2 = after_names s1 own in (
       (λ z. absurd (z h.1.kind)),
@@ -139,7 +140,7 @@ has_places Fifo i j ps h f = let z : no_bytes ≡ source j = sym h.2 ∙ f in ab
 
 source_file : (cs : List (List ℕ)) (i : Inode) (k : ℕ) → IsGood cs i → i.fill ≡ source k → IsFile cs i
 source_file cs i k (a_file f) e = f
-source_file cs i k (a_folder f) e = let z : no_bytes ≡ source k = sym f.bytes ∙ e in absurd (cc)
+source_file cs i k (a_directory f) e = let z : no_bytes ≡ source k = sym f.bytes ∙ e in absurd (cc)
 
 -- its offsets are those of the blocks in its table
 node_places : (o : Order) (b : List ℕ) (cs : List (List ℕ)) (high : ℕ) (i : Inode) (p : ℕ) (es : Entries) (j : ℕ)
@@ -194,7 +195,7 @@ has_shares o volume root n cs h q r x y i j k a c e f g u =
     let t = tree_of o b (all_spots n) in
     let m = with_names root n in
     let refer = files_refer o b cs high 76 s n all h.well image.holds.reads (λ k t z. z) in
-    let first : P (at_place root 64) = λ z. absurd (z h.folder.kind) in
+    let first : P (at_place root 64) = λ z. absurd (z h.subdirectory.kind) in
     let alike = ends_alike o volume root n cs h P first refer in
     ends_share o b cs high all root n x y i j k
     (alike_some (IsEnd o b cs high Q) (node_under q t) (file_under q m) x i (alike q) a e)

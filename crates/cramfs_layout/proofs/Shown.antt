@@ -68,13 +68,13 @@ module _ (cs : List (List ℕ)) (low high : ℕ) (R : List Run) (are : AreRuns l
     by false e h = inr (record { item = i; table_is = refl; is = g.1 n; out = (h.0, bytes_out i.fill (g.0 n) h.1) })
 
   -- the table of an item is with the item, or with one before it
-  abbrev IsTold : List Item → Item → Type 0
-  IsTold earlier j = j.len ≢ 0 → (has_table earlier j.table ≡ true) ⊎ Shown j.table
+  abbrev IsKnown : List Item → Item → Type 0
+  IsKnown earlier j = j.len ≢ 0 → (has_table earlier j.table ≡ true) ⊎ Shown j.table
 
   -- a table that the item before has
-  told_before : (earlier : List Item) (i j : Item) → IsBare i → IsTabled (IsRun R) j → IsTold earlier i
-      → IsTold (i ∷ earlier) j → IsTold earlier j
-  told_before earlier i j bare tabled mine h n = elim (h n) [
+  known_before : (earlier : List Item) (i j : Item) → IsBare i → IsTabled (IsRun R) j → IsKnown earlier i
+      → IsKnown (i ∷ earlier) j → IsKnown earlier j
+  known_before earlier i j bare tabled mine h n = elim (h n) [
     | inr s ↦ inr s
     | inl e ↦ elim (or_cases (i.table == j.table) (has_table earlier j.table) e) [
       | inr y ↦ inl y
@@ -89,19 +89,19 @@ module _ (cs : List (List ℕ)) (low high : ℕ) (R : List Run) (are : AreRuns l
     ]
   ]
 
-  told : (earlier : List Item) (index : ℕ) (is : List Item) → Every (IsGood cs R) is
+  known : (earlier : List Item) (index : ℕ) (is : List Item) → Every (IsGood cs R) is
       → Every (OutOf p) (sections_from earlier index is)
-      → Every (IsTold earlier) is
-  told earlier index [] g o = tt
-  told earlier index (i ∷ is) g o =
+      → Every (IsKnown earlier) is
+  known earlier index [] g o = tt
+  known earlier index (i ∷ is) g o =
       let own = table_sections earlier index i in
       let rest = sections_from (i ∷ earlier) (index + 1) is in
-      let mine : IsTold earlier i = λ n. shown_by earlier index i g.0 n (every_left (OutOf p) own rest o.1) in
-      let more = told (i ∷ earlier) (index + 1) is g.1 (every_right (OutOf p) own rest o.1) in (
+      let mine : IsKnown earlier i = λ n. shown_by earlier index i g.0 n (every_left (OutOf p) own rest o.1) in
+      let more = known (i ∷ earlier) (index + 1) is g.1 (every_right (OutOf p) own rest o.1) in (
         mine,
-        every_weaker (λ j. IsGood cs R j × IsTold (i ∷ earlier) j) (IsTold earlier)
-            (λ j k. told_before earlier i j g.0.2 k.0.1 mine k.1) is
-            (every_both (IsGood cs R) (IsTold (i ∷ earlier)) is g.1 more),
+        every_weaker (λ j. IsGood cs R j × IsKnown (i ∷ earlier) j) (IsKnown earlier)
+            (λ j k. known_before earlier i j g.0.2 k.0.1 mine k.1) is
+            (every_both (IsGood cs R) (IsKnown (i ∷ earlier)) is g.1 more),
       )
 
   records_out : (earlier : List Item) (index : ℕ) (is : List Item) → Every (OutOf p) (sections_from earlier index is)
@@ -113,8 +113,8 @@ module _ (cs : List (List ℕ)) (low high : ℕ) (R : List Run) (are : AreRuns l
         (every_right (OutOf p) (table_sections earlier index i) (sections_from (i ∷ earlier) (index + 1) is) o.1),
   )
 
-  told_out : (j : Item) → IsTabled (IsRun R) j → IsTold [] j → j.len ≢ 0 → OutOfTable p j
-  told_out j tabled h n = elim (h n) [
+  known_out : (j : Item) → IsTabled (IsRun R) j → IsKnown [] j → j.len ≢ 0 → OutOfTable p j
+  known_out j tabled h n = elim (h n) [
     | inl e ↦ absurd (cc)
     | inr s ↦
         let there : IsRun R j.table s.item.start s.item.len =
@@ -137,7 +137,7 @@ module _ (cs : List (List ℕ)) (low high : ℕ) (R : List Run) (are : AreRuns l
       (IsGood cs R) (λ i k. (k.0, k.1.0, k.1.1)) is
       (every_both (λ i. i.len ≢ 0 → length (bytes_of cs i.fill) ≡ i.len) (λ i. IsTabled (IsRun R) i × IsBare i) is l
       (every_both (IsTabled (IsRun R)) IsBare is t b)) in
-      let tables = every_weaker (λ j. IsTabled (IsRun R) j × IsTold [] j) (λ j. j.len ≢ 0 → OutOfTable p j)
-      (λ j k. told_out j k.0 k.1) is (every_both (IsTabled (IsRun R)) (IsTold []) is t (told [] index is good o)) in
+      let tables = every_weaker (λ j. IsTabled (IsRun R) j × IsKnown [] j) (λ j. j.len ≢ 0 → OutOfTable p j)
+      (λ j k. known_out j k.0 k.1) is (every_both (IsTabled (IsRun R)) (IsKnown []) is t (known [] index is good o)) in
       every_both (λ i. Out p i.place (entry_len i.name)) (λ j. j.len ≢ 0 → OutOfTable p j) is
       (records_out [] index is o) tables

@@ -3,8 +3,8 @@ use Rattle.std.proofs.Common.{◌≡◌, ℕ, zero, suc, ◌+◌, ◌*◌, ◌/�
 use Rattle.cramfs_format.specs.Order.{word}
 use Rattle.cramfs_format.specs.declared.order.Order.{Order}
 use Rattle.cramfs_format.specs.Inode.{block_count, block_start, is_direct}
-use Rattle.image_parts.specs.Parts.{HasAt}
-use Rattle.image_parts.proofs.Parts.{HasAt-after, HasAt-moved}
+use Rattle.rom_fields.specs.Parts.{HasAt}
+use Rattle.rom_fields.proofs.Parts.{HasAt-after, HasAt-moved}
 use Rattle.cramfs_layout.specs.Layout.{word_bytes, pointers}
 use Rattle.cramfs_layout.specs.Wells.{IsStored}
 use Rattle.cramfs_layout.proofs.Entries.{word_has, length-word}

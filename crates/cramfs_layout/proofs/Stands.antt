@@ -7,7 +7,7 @@ use Rattle.record_forest.specs.Forest.{Stands}
 use Rattle.cramfs_format.specs.declared.order.Order.{Order}
 use Rattle.cramfs_format.specs.Inode.{type_of, size_of, offset_of, list_start, list_end}
 use Rattle.cramfs_format.specs.Refers.{reference_target, references}
-use Rattle.manifest_tree.specs.Names.{Inode, Names, nothing, leaf, link, folder}
+use Rattle.manifest_tree.specs.Names.{Inode, Names, nothing, leaf, link, subdirectory}
 use Rattle.cramfs_layout.specs.Layout.{pad4, type_bits, entry_len, list_len, list_offset, State, after_file, after_list}
 use Rattle.cramfs_layout.specs.Layout.{after_names}
 use Rattle.cramfs_layout.specs.Wells.{FitsKind, IsFile, AreWell, AllRead}
@@ -29,10 +29,10 @@ pub file_list : (o : Order) (b : List ℕ) (cs : List (List ℕ)) (p : ℕ) (i :
 unfolding list_end
 file_list o b cs p i h t = rw (ne_eqb (type_of o b p) 4 (λ z. type_by i.kind i h.kind (sym t ∙ z))) refl
 
-pub folder_list : (o : Order) (b : List ℕ) (p offset size : ℕ) → type_of o b p ≡ 4 → offset_of o b p ≡ offset
+pub directory_list : (o : Order) (b : List ℕ) (p offset size : ℕ) → type_of o b p ≡ 4 → offset_of o b p ≡ offset
     → size_of o b p ≡ size → list_end o b p ≡ offset + size
 unfolding list_end
-folder_list o b p offset size t e f = rw (eq-eqb (type_of o b p) 4 t, e, f) refl
+directory_list o b p offset size t e f = rw (eq-eqb (type_of o b p) 4 t, e, f) refl
 
 pub target_none : (o : Order) (b : List ℕ) (d l : ℕ) → d ≢ 0 → list_end o b d ≤ l
     → reference_target o b (record { source = d; which = l }) ≡ None
@@ -53,7 +53,7 @@ pub is_placed : (from : ℕ) (own : Names) → IsPlaced from own
 is_placed from nothing = empty refl
 is_placed from (leaf name i after) = at_place refl
 is_placed from (link name i after) = at_place refl
-is_placed from (folder name i own after) = at_place refl
+is_placed from (subdirectory name i own after) = at_place refl
 
 pub stands : (o : Order) (b : List ℕ) (cs : List (List ℕ)) (high d l : ℕ) (s : State) (n : Names) → AreWell cs n
     → AllRead o b cs high l s n → d ≢ 0 → 0 < l → 0 < s.at → list_end o b d ≡ l + list_len n
@@ -71,14 +71,14 @@ stands o b cs high d l s (leaf name i rest) h r live pos up e =
           (sym r.0.end) later,
     )
 stands o b cs high d l s (link name i rest) h r live pos up e = absurd h
-stands o b cs high d l s (folder name i own rest) h r live pos up e =
+stands o b cs high d l s (subdirectory name i own rest) h r live pos up e =
     let l' = l + entry_len name in
     let s1 = after_list s own in
     let s' = after_names s1 own in
     let later = stands o b cs high d l' s' rest h.3 r.2 live (omega arith)
     (let a = names_onward cs s1 own h.2 in omega (arith, a)) (omega (arith, e)) in
     let alive : l ≢ 0 = λ z. absurd (omega (arith, z, pos)) in
-    let list = folder_list o b l (list_offset s.at own) (list_len own)
+    let list = directory_list o b l (list_offset s.at own) (list_len own)
     (r.0.type ∙ ap type_bits h.1.kind) r.0.offset_is r.0.size_is in
     let mine : Stands (references o b) (record { source = l; which = offset_of o b l }) (spots (pad4 s.at) s1 own) =
     elim (is_placed s.at own) [

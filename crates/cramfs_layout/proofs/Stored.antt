@@ -8,11 +8,12 @@ use Rattle.rom_tree.specs.declared.types.Kind.{Kind}
 use Rattle.rom_tree.specs.declared.types.Kind.TheVariants.{Directory, Regular, Symlink, Block, Character, Socket, Fifo}
 use Rattle.cramfs_format.specs.declared.order.Order.{Order}
 use Rattle.cramfs_format.specs.Inode.{block_count}
-use Rattle.image_parts.specs.Parts.{Part, HasAt, HasParts}
-use Rattle.manifest_tree.specs.Names.{Fill, no_bytes, text, source, Inode, Names, nothing, leaf, link, folder, bytes_of}
-use Rattle.image_parts.specs.Padding.{pad}
-use Rattle.image_parts.proofs.Padding.{pad-after}
-use Rattle.image_parts.proofs.Parts.{HasAt-before, HasAt-after, HasAt-moved}
+use Rattle.rom_fields.specs.Parts.{Part, HasAt, HasParts}
+use Rattle.manifest_tree.specs.Names.{Fill, no_bytes, text, source, Inode, Names, nothing, leaf, link, subdirectory}
+use Rattle.manifest_tree.specs.Names.{bytes_of}
+use Rattle.rom_fields.specs.Padding.{pad}
+use Rattle.rom_fields.proofs.Padding.{pad-after}
+use Rattle.rom_fields.proofs.Parts.{HasAt-before, HasAt-after, HasAt-moved}
 use Rattle.cramfs_layout.specs.Layout.{pad4, size_by, entry_len, entry_bytes, list_len, State, Table, table_with, Kept}
 use Rattle.cramfs_layout.specs.Layout.{nowhere, shared, fresh, kept, kept_by, kept_with, data_of, with_table, table_by}
 use Rattle.cramfs_layout.specs.Layout.{after_by, after_file, after_list, after_names, list_offset, list_bytes, pointers}
@@ -141,7 +142,7 @@ names_onward cs s (leaf name i rest) h =
     let e = names_onward cs (after_file s i) rest h.2 in
     omega (arith, a, e)
 names_onward cs s (link name i rest) h = absurd h
-names_onward cs s (folder name i own rest) h =
+names_onward cs s (subdirectory name i own rest) h =
     let a = names_onward cs (after_list s own) own h.2 in
     let e = names_onward cs (after_names (after_list s own) own) rest h.3 in
     omega (arith, a, e)
@@ -188,7 +189,7 @@ list_small : (from high : ℕ) (own : Names) → pad4 from + list_len own ≤ hi
 list_small from high nothing h l = (omega arith, refl)
 list_small from high (leaf name i after) h l = (omega arith, omega arith)
 list_small from high (link name i after) h l = (omega arith, omega arith)
-list_small from high (folder name i own after) h l = (omega arith, omega arith)
+list_small from high (subdirectory name i own after) h l = (omega arith, omega arith)
 
 pub record Read (o : Order) (b : List ℕ) (cs : List (List ℕ)) (high l : ℕ) (s : State) (n : Names) : Type 0 where
   pub all : AllRead o b cs high l s n
@@ -232,7 +233,7 @@ all_read o b cs high l s (leaf name i rest) h low fits top st list has =
       tables = later.tables;
     }
 all_read o b cs high l s (link name i rest) h low fits top st list has = absurd h
-all_read o b cs high l s (folder name i own rest) h low fits top st list has =
+all_read o b cs high l s (subdirectory name i own rest) h low fits top st list has =
     let s1 = after_list s own in
     let s' = after_names s1 own in
     let ps = parts_both b (parts o cs s1 own) (parts o cs s' rest) has.1 in

@@ -6,9 +6,9 @@ use Rattle.cramfs_format.specs.declared.order.Order.TheVariants.{Little, Big}
 use Rattle.cramfs_format.specs.Inode.{block_count}
 use Rattle.cramfs_format.specs.Superblock.{magic, signature, without_crc}
 use Rattle.crc.specs.Crc.{crc_of}
-use Rattle.image_parts.specs.Parts.{Part, end_of_part, Rises, end_of_parts}
-use Rattle.manifest_tree.specs.Names.{Inode, Names, nothing, leaf, link, folder}
-use Rattle.image_parts.specs.Parts.{part}
+use Rattle.rom_fields.specs.Parts.{Part, end_of_part, Rises, end_of_parts}
+use Rattle.manifest_tree.specs.Names.{Inode, Names, nothing, leaf, link, subdirectory}
+use Rattle.rom_fields.specs.Parts.{part}
 use Rattle.cramfs_layout.specs.Layout.{word_bytes, pad4, entry_bytes, list_len, list_bytes, size_by, table_by}
 use Rattle.cramfs_layout.specs.Layout.{root_offset, count, State, Kept, nowhere, shared, fresh, kept, data_of, after_by}
 use Rattle.cramfs_layout.specs.Layout.{after_file, after_list, after_names, list_offset, pointers, file_parts, parts}
@@ -84,7 +84,7 @@ length-list o s (link name i rest) =
       length-entry o name i (size_by i.kind i) (table_by (kept s.tables i) s.at),
       length-list o (after_file s i) rest,
     )
-length-list o s (folder name i own rest) =
+length-list o s (subdirectory name i own rest) =
     let e = entry_bytes o name i (list_len own) (list_offset s.at own) in
     let s' = after_names (after_list s own) own in
     omega (
@@ -124,7 +124,7 @@ parts_are o cs s (leaf name i rest) h =
     parts_join s.at s'.at (after_names s' rest).at (file_parts o cs (kept s.tables i) s i) (parts o cs s' rest)
     (file_parts_are o cs s i (kept s.tables i) h.1) (parts_are o cs s' rest h.2)
 parts_are o cs s (link name i rest) h = absurd h
-parts_are o cs s (folder name i own rest) h =
+parts_are o cs s (subdirectory name i own rest) h =
     let s1 = after_list s own in
     let s' = after_names s1 own in
     let t = (after_names s' rest).at in

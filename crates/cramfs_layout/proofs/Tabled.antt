@@ -5,8 +5,9 @@ use Rattle.std.specs.List.{AllByRecursion as Every}
 use Rattle.record_forest.proofs.Lists.{every_join}
 use Rattle.cramfs_format.specs.declared.order.Order.{Order}
 use Rattle.cramfs_format.specs.Inode.{block_count}
-use Rattle.image_parts.specs.Padding.{pad}
-use Rattle.manifest_tree.specs.Names.{Fill, no_bytes, text, source, Inode, Names, nothing, leaf, link, folder, bytes_of}
+use Rattle.rom_fields.specs.Padding.{pad}
+use Rattle.manifest_tree.specs.Names.{Fill, no_bytes, text, source, Inode, Names, nothing, leaf, link, subdirectory}
+use Rattle.manifest_tree.specs.Names.{bytes_of}
 use Rattle.layout_terms.specs.Items.{Item}
 use Rattle.cramfs_layout.specs.Layout.{pad4, entry_len, State, Table, Kept, nowhere, shared, fresh, kept, kept_by}
 use Rattle.cramfs_layout.specs.Layout.{data_of, with_table, after_by, after_file, after_list, after_names}
@@ -24,7 +25,7 @@ abbrev pub AllFresh : (ℕ → ℕ → ℕ → Type 0) → State → Names → T
 AllFresh F s nothing = Unit {0}
 AllFresh F s (leaf name i rest) = FileFresh F s i (kept s.tables i) × AllFresh F (after_file s i) rest
 AllFresh F s (link name i rest) = ⊥
-AllFresh F s (folder name i own rest) =
+AllFresh F s (subdirectory name i own rest) =
     AllFresh F (after_list s own) own × AllFresh F (after_names (after_list s own) own) rest
 
 abbrev pub IsTabled : (ℕ → ℕ → ℕ → Type 0) → Item → Type 0
@@ -112,7 +113,7 @@ all_tabled o cs A F l s (leaf name i rest) h a r ts =
     let more = all_tabled o cs A F (l + entry_len name) (after_file s i) rest h.2 a.1 r.1 one.1 in
     record { here = (one.0, more.here); under = more.under; tables = more.tables }
 all_tabled o cs A F l s (link name i rest) h a r ts = absurd h
-all_tabled o cs A F l s (folder name i own rest) h a r ts =
+all_tabled o cs A F l s (subdirectory name i own rest) h a r ts =
     let s1 = after_list s own in
     let s2 = after_names s1 own in
     let mine = all_tabled o cs A F (pad4 s.at) s1 own h.2 a.0 r.0 ts in
@@ -139,14 +140,14 @@ entries_bare o l s (leaf name i rest) =
     (bare_item o l name s i, entries_bare o (l + entry_len name) (after_file s i) rest)
 entries_bare o l s (link name i rest) =
     (bare_item o l name s i, entries_bare o (l + entry_len name) (after_file s i) rest)
-entries_bare o l s (folder name i own rest) =
+entries_bare o l s (subdirectory name i own rest) =
     ((λ z. refl), entries_bare o (l + entry_len name) (after_names (after_list s own) own) rest)
 
 pub below_bare : (o : Order) (s : State) (n : Names) → Every IsBare (below o s n)
 below_bare o s nothing = tt
 below_bare o s (leaf name i rest) = below_bare o (after_file s i) rest
 below_bare o s (link name i rest) = below_bare o (after_file s i) rest
-below_bare o s (folder name i own rest) =
+below_bare o s (subdirectory name i own rest) =
     let s1 = after_list s own in
     let s2 = after_names s1 own in
     every_join IsBare (entries o (pad4 s.at) s1 own) (below o s1 own ++ below o s2 rest)

@@ -12,7 +12,7 @@ use Rattle.cramfs_format.specs.Inode.{type_of, size_of, offset_of, mode_of, uid_
 use Rattle.cramfs_format.specs.Tree.{node_of, attributes_at, places_at, blocks_from, by_type, kind_numbers, kind_named}
 use Rattle.rom_tree.specs.Tree.{row_from}
 use Rattle.rom_tree.proofs.ByKind.{body_kind_is, body_places_is}
-use Rattle.image_parts.specs.Parts.{HasAt}
+use Rattle.rom_fields.specs.Parts.{HasAt}
 use Rattle.manifest_tree.specs.Names.{no_bytes, Inode, bytes_of}
 use Rattle.manifest_tree.specs.Shape.{Value, node_value, file_value}
 use Rattle.cramfs_layout.specs.Layout.{type_bits, size_by}
@@ -159,11 +159,11 @@ file_is o b cs high i p es top h a =
     ≡ bytes_of cs i.fill) (sym (s ∙ e))
     (stored_bytes o b (bytes_of cs i.fill) high (offset_of o b p) i.size top h.bytes (a.content other))))
 
-pub folder_is : (o : Order) (b : List ℕ) (cs : List (List ℕ)) (high : ℕ) (i : Inode) (p : ℕ) (es : Entries)
+pub directory_is : (o : Order) (b : List ℕ) (cs : List (List ℕ)) (high : ℕ) (i : Inode) (p : ℕ) (es : Entries)
     → i.kind ≡ Directory → (i.major ≡ 0) × (i.minor ≡ 0) → i.fill ≡ no_bytes → IsAt o b cs high i p
     → node_value b (node_of o b p es) ≡ file_value cs i
 unfolding node_value file_value node_of attributes_at places_at
-folder_is o b cs high i p es kind numbers none a =
+directory_is o b cs high i p es kind numbers none a =
     let t : type_of o b p ≡ 4 = a.type ∙ ap type_bits kind in
     let ps = blocks_from o b (block_count (size_of o b p)) (offset_of o b p) (size_of o b p) in
     same_value (node_value b (node_of o b p es)) (file_value cs i)

@@ -28,16 +28,16 @@ use Rattle.record_forest.specs.Forest.{NamesDiffer}
 use Rattle.rom_tree.proofs.ByKind.{by_kind_map, by_kind_directory, by_kind_rest}
 use Rattle.cramfs_format.proofs.Spans.{ListsApart, row_every}
 use Rattle.rom_tree.specs.Dots.{is_dots}
-use Rattle.image_parts.specs.Parts.{HasParts}
-use Rattle.manifest_tree.specs.Names.{Inode, Names, nothing, leaf, link, folder}
+use Rattle.rom_fields.specs.Parts.{HasParts}
+use Rattle.manifest_tree.specs.Names.{Inode, Names, nothing, leaf, link, subdirectory}
 use Rattle.layout_terms.specs.Files.{height}
-use Rattle.image_parts.proofs.Climbs.{Climbs, climbs_later, climbs_added}
+use Rattle.rom_fields.proofs.Climbs.{Climbs, climbs_later, climbs_added}
 use Rattle.cramfs_layout.specs.Layout.{pad4, entry_len, list_len, root_offset, count, first_state, State, after_file}
 use Rattle.cramfs_layout.specs.Layout.{after_list, after_names, parts}
 use Rattle.cramfs_layout.specs.Wells.{AreWell, AllRead}
 use Rattle.cramfs_layout.specs.Forest.{spots}
 use Rattle.cramfs_layout.proofs.Stored.{names_onward}
-use Rattle.cramfs_layout.proofs.Stands.{stands, folder_list, target_none}
+use Rattle.cramfs_layout.proofs.Stands.{stands, directory_list, target_none}
 use Rattle.cramfs_layout.proofs.Named.{Located, located, Apart, all_apart}
 use Rattle.cramfs_layout.proofs.Bodies.{all_sound}
 use Rattle.cramfs_layout.proofs.Extents.{spans, spans_climb, climbs_disjoint, no_overlap}
@@ -75,7 +75,7 @@ no_dots o b cs high x d up deep l s (leaf name i rest) h r =
       no_dots o b cs high (g.after x) d up deep (l + entry_len name) (after_file s i) rest h.2 r.2,
     )
 no_dots o b cs high x d up deep l s (link name i rest) h r = absurd h
-no_dots o b cs high x d up deep l s (folder name i own rest) h r =
+no_dots o b cs high x d up deep l s (subdirectory name i own rest) h r =
     let g = references o b in
     let s1 = after_list s own in (
       no_dot_by o b (record {
@@ -98,7 +98,7 @@ row_count o b x d up deep l s (leaf name i rest) =
     ap suc (row_count o b ((references o b).after x) d up deep (l + entry_len name) (after_file s i) rest)
 row_count o b x d up deep l s (link name i rest) =
     ap suc (row_count o b ((references o b).after x) d up deep (l + entry_len name) (after_file s i) rest)
-row_count o b x d up deep l s (folder name i own rest) =
+row_count o b x d up deep l s (subdirectory name i own rest) =
     let g = references o b in
     let s1 = after_list s own in
     let mine = rows g (g.own x) l d (deep + 1) (spots (pad4 s.at) s1 own) in
@@ -130,7 +130,7 @@ spots_depth o b l s (link name i rest) =
     let d = node_depth o b l (entries_at o b none) in
     let e = spots_depth o b (l + entry_len name) (after_file s i) rest in
     omega (arith, d, e)
-spots_depth o b l s (folder name i own rest) =
+spots_depth o b l s (subdirectory name i own rest) =
     let s1 = after_list s own in
     let d = node_depth o b l (entries_at o b (spots (pad4 s.at) s1 own)) in
     let c = spots_depth o b (pad4 s.at) s1 own in
@@ -153,7 +153,7 @@ pub root_placed : (n : Names) → (n ≡ nothing) ⊎ (root_offset n ≡ 76)
 root_placed nothing = inl refl
 root_placed (leaf name i after) = inr refl
 root_placed (link name i after) = inr refl
-root_placed (folder name i own after) = inr refl
+root_placed (subdirectory name i own after) = inr refl
 
 -- nothing is behind the root
 none_after : (o : Order) (b : List ℕ) (k : ℕ) → reference_target o b (record { source = 0; which = 64 + 12 + k }) ≡ None
@@ -195,7 +195,7 @@ is_tree o b cs root n most deepest h few shallow =
     let room = h.room in
     let live = root_alive in
     let f = at 64 (spots 76 s n) none in
-    let list = folder_list o b 64 (root_offset n) (list_len n) h.kind h.offset_is h.size_is in
+    let list = directory_list o b 64 (root_offset n) (list_len n) h.kind h.offset_is h.size_is in
     let mine : Stands g (record { source = 64; which = offset_of o b 64 }) (spots 76 s n) = elim (root_placed n) [
       | inl z ↦ subst (λ (m : Names). Stands g (record { source = 64; which = offset_of o b 64 })
           (spots 76 (first_state m) m)) (sym z)

@@ -2,7 +2,7 @@
 use Rattle.std.specs.Prelude.{ℕ, ◌-◌, List, [], ◌∷◌, ◌++◌, map, length, replicate}
 use Rattle.cramfs_format.specs.declared.order.Order.{Order}
 use Rattle.cramfs_format.specs.Inode.{block_count}
-use Rattle.image_parts.specs.Parts.{Part, part, laid}
+use Rattle.rom_fields.specs.Parts.{Part, part, laid}
 use Rattle.layout_terms.specs.Items.{Item, Section}
 use Rattle.layout_terms.specs.Bodies.{section_part}
 use Rattle.cramfs_layout.specs.Layout.{word_bytes, pad4, pointers, with_crc}

@@ -8,7 +8,7 @@ use Rattle.cramfs_format.specs.declared.order.Order.{Order}
 use Rattle.cramfs_format.specs.Inode.{block_count}
 use Rattle.cramfs_format.specs.Refers.{root_place}
 use Rattle.manifest_tree.specs.Names.{Fill, no_bytes, source, Inode, Names, nothing, leaf, link}
-use Rattle.manifest_tree.specs.Names.{folder}
+use Rattle.manifest_tree.specs.Names.{subdirectory}
 use Rattle.layout_terms.specs.Items.{Item, Section, section, super, record_of, table_of}
 use Rattle.layout_terms.specs.Items.{bytes_section, in_order}
 use Rattle.cramfs_layout.specs.Layout.{first_word, second_word, third_word, pad4, size_by}
@@ -52,7 +52,7 @@ entries o l s (leaf name i rest) =
     file_item o l s name i ∷ entries o (l + entry_len name) (after_file s i) rest
 entries o l s (link name i rest) =
     file_item o l s name i ∷ entries o (l + entry_len name) (after_file s i) rest
-entries o l s (folder name i own rest) =
+entries o l s (subdirectory name i own rest) =
     item_of o l name i (list_len own) (list_offset s.at own) 0 0 0 no_bytes
     ∷ entries o (l + entry_len name) (after_names (after_list s own) own) rest
 
@@ -61,7 +61,7 @@ abbrev pub below : Order → State → Names → List Item
 below o s nothing = []
 below o s (leaf name i rest) = below o (after_file s i) rest
 below o s (link name i rest) = below o (after_file s i) rest
-below o s (folder name i own rest) =
+below o s (subdirectory name i own rest) =
     entries o (pad4 s.at) (after_list s own) own
     ++ (below o (after_list s own) own ++ below o (after_names (after_list s own) own) rest)
 
@@ -100,4 +100,4 @@ AreAlignedBy A nothing = Unit {0}
 AreAlignedBy A (leaf name i after) =
     ((k : ℕ) → i.fill ≡ source k → i.align ≡ A k) × AreAlignedBy A after
 AreAlignedBy A (link name i after) = AreAlignedBy A after
-AreAlignedBy A (folder name i own after) = AreAlignedBy A own × AreAlignedBy A after
+AreAlignedBy A (subdirectory name i own after) = AreAlignedBy A own × AreAlignedBy A after

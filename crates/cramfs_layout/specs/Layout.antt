@@ -20,11 +20,11 @@ use Rattle.cramfs_format.specs.declared.order.Order.TheVariants.{Little, Big}
 use Rattle.cramfs_format.specs.Inode.{block_count}
 use Rattle.cramfs_format.specs.Superblock.{magic, signature}
 use Rattle.crc.specs.Crc.{crc_of}
-use Rattle.image_parts.specs.Parts.{Part, laid}
+use Rattle.rom_fields.specs.Parts.{Part, laid}
 use Rattle.manifest_tree.specs.Names.{Fill, no_bytes, text, source, Inode, Names, nothing, leaf}
-use Rattle.manifest_tree.specs.Names.{link, folder, bytes_of}
-use Rattle.image_parts.specs.Parts.{part}
-use Rattle.image_parts.specs.Padding.{pad}
+use Rattle.manifest_tree.specs.Names.{link, subdirectory, bytes_of}
+use Rattle.rom_fields.specs.Parts.{part}
+use Rattle.rom_fields.specs.Padding.{pad}
 
 -- a word in a byte order
 abbrev pub word_bytes : Order → ℕ → List ℕ
@@ -78,7 +78,7 @@ abbrev pub list_len : Names → ℕ
 list_len nothing = 0
 list_len (leaf name i after) = entry_len name + list_len after
 list_len (link name i after) = entry_len name + list_len after
-list_len (folder name i own after) = entry_len name + list_len after
+list_len (subdirectory name i own after) = entry_len name + list_len after
 
 -- a source and the offset of its table
 pub record Table : Type 0 where
@@ -149,14 +149,14 @@ abbrev pub after_names : State → Names → State
 after_names s nothing = s
 after_names s (leaf name i rest) = after_names (after_file s i) rest
 after_names s (link name i rest) = after_names (after_file s i) rest
-after_names s (folder name i own rest) = after_names (after_names (after_list s own) own) rest
+after_names s (subdirectory name i own rest) = after_names (after_names (after_list s own) own) rest
 
 -- the offset field of a directory: the offset of its list, or 0 if it is empty
 abbrev pub list_offset : ℕ → Names → ℕ
 list_offset from nothing = 0
 list_offset from (leaf name i after) = pad4 from
 list_offset from (link name i after) = pad4 from
-list_offset from (folder name i own after) = pad4 from
+list_offset from (subdirectory name i own after) = pad4 from
 
 -- the bytes of a list; what its entries have is placed after s
 abbrev pub list_bytes : Order → State → Names → List ℕ
@@ -167,7 +167,7 @@ list_bytes o s (leaf name i rest) =
 list_bytes o s (link name i rest) =
     entry_bytes o name i (size_by i.kind i) (table_by (kept s.tables i) s.at)
     ++ list_bytes o (after_file s i) rest
-list_bytes o s (folder name i own rest) =
+list_bytes o s (subdirectory name i own rest) =
     entry_bytes o name i (list_len own) (list_offset s.at own)
     ++ list_bytes o (after_names (after_list s own) own) rest
 
@@ -192,7 +192,7 @@ parts o contents s (leaf name i rest) =
     file_parts o contents (kept s.tables i) s i ++ parts o contents (after_file s i) rest
 parts o contents s (link name i rest) =
     file_parts o contents (kept s.tables i) s i ++ parts o contents (after_file s i) rest
-parts o contents s (folder name i own rest) =
+parts o contents s (subdirectory name i own rest) =
     part (pad4 s.at) (list_bytes o (after_list s own) own)
     ∷ (parts o contents (after_list s own) own
     ++ parts o contents (after_names (after_list s own) own) rest)
@@ -202,7 +202,7 @@ abbrev pub count : Names → ℕ
 count nothing = 0
 count (leaf name i after) = suc (count after)
 count (link name i after) = suc (count after)
-count (folder name i own after) = suc (count own + count after)
+count (subdirectory name i own after) = suc (count own + count after)
 
 -- the state behind the superblock and the root's list
 abbrev pub first_state : Names → State
@@ -217,7 +217,7 @@ abbrev pub root_offset : Names → ℕ
 root_offset nothing = 0
 root_offset (leaf name i after) = 76
 root_offset (link name i after) = 76
-root_offset (folder name i own after) = 76
+root_offset (subdirectory name i own after) = 76
 
 -- 803 (hexadecimal): size and crc are stored, lists are sorted, and pointers have bits for the kind
 -- of their blocks

@@ -5,13 +5,13 @@ use Rattle.record_forest.specs.Members.{Pairs}
 use Rattle.manifest_tree.specs.Names.{Inode, Names}
 use Rattle.layout_terms.specs.Files.{height, files}
 use Rattle.cramfs_layout.specs.Layout.{size_of, count}
-use Rattle.cramfs_layout.specs.Wells.{IsFolder, AreWell}
+use Rattle.cramfs_layout.specs.Wells.{IsDirectory, AreWell}
 
 pub record IsPlanned (volume : List ℕ) (root : Inode) (n : Names)
     (contents : List (List ℕ)) : Type 0 where
   -- the volume's name
   pub short : length volume ≤ 16
-  pub folder : IsFolder root n
+  pub directory : IsDirectory root n
   pub well : AreWell contents n
   -- no line makes two files
   pub lines : Pairs (λ i j. i.line ≢ j.line) (root ∷ files n)

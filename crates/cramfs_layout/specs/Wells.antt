@@ -10,8 +10,9 @@ use Rattle.rom_tree.specs.declared.types.Kind.TheVariants.{Character, Socket, Fi
 use Rattle.cramfs_format.specs.declared.order.Order.{Order}
 use Rattle.cramfs_format.specs.Inode.{block_count}
 use Rattle.cramfs_format.specs.Tree.{precedes}
-use Rattle.image_parts.specs.Parts.{HasAt}
-use Rattle.manifest_tree.specs.Names.{no_bytes, Inode, Names, nothing, leaf, link, folder, bytes_of}
+use Rattle.rom_fields.specs.Parts.{HasAt}
+use Rattle.manifest_tree.specs.Names.{no_bytes, Inode, Names, nothing, leaf, link, subdirectory}
+use Rattle.manifest_tree.specs.Names.{bytes_of}
 use Rattle.manifest_tree.specs.Names.{source}
 use Rattle.layout_terms.specs.Lists.{StandsIn, IsFree}
 use Rattle.cramfs_layout.specs.Layout.{size_by, entry_len, list_len, State, Table, kept, table_by}
@@ -42,7 +43,7 @@ pub record IsFile (contents : List (List ℕ)) (i : Inode) : Type 0 where
   pub aligned : i.align ≡ 4 * fours
 
 -- a directory with these names
-pub record IsFolder (i : Inode) (own : Names) : Type 0 where
+pub record IsDirectory (i : Inode) (own : Names) : Type 0 where
   pub kind : i.kind ≡ Directory
   pub mode : i.mode < 4096
   pub owner : (i.uid < 2 ^ 16) × (i.gid < 2 ^ 8)
@@ -61,8 +62,8 @@ AreWell contents nothing = Unit {0}
 AreWell contents (leaf name i after) =
     IsName name after × IsFile contents i × AreWell contents after
 AreWell contents (link name i after) = ⊥
-AreWell contents (folder name i own after) =
-    IsName name after × IsFolder i own × AreWell contents own × AreWell contents after
+AreWell contents (subdirectory name i own after) =
+    IsName name after × IsDirectory i own × AreWell contents own × AreWell contents after
 
 -- at t is a table of blocks that hold these bytes, all of it behind the superblock and before
 -- `high`
@@ -89,7 +90,7 @@ AllRead o b contents high l s (leaf name i rest) =
     × (0 < i.size → IsStored o b (bytes_of contents i.fill) high (table_by (kept s.tables i) s.at))
     × AllRead o b contents high (l + entry_len name) (after_file s i) rest
 AllRead o b contents high l s (link name i rest) = ⊥
-AllRead o b contents high l s (folder name i own rest) =
+AllRead o b contents high l s (subdirectory name i own rest) =
     ReadsEntry o b l name i (list_len own) (list_offset s.at own)
     × AllRead o b contents high (pad4 s.at) (after_list s own) own
     × AllRead o b contents high (l + entry_len name) (after_names (after_list s own) own) rest

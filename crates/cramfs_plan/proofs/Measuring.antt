@@ -7,12 +7,12 @@ use Rattle.std.proofs.lemmas.List.{length-drop}
 use Rattle.std.specs.List.{All, AllByRecursion as Every}
 use Rattle.std.proofs.lemmas.List.Elements.{recursion_from_All}
 use Rattle.record_forest.proofs.Lists.{every_weaker}
-use Rattle.manifest_tree.specs.Names.{Names, nothing, leaf, link, folder}
-use Rattle.manifest_tree.specs.Tree.{a_leaf, a_link, a_folder}
+use Rattle.manifest_tree.specs.Names.{Names, nothing, leaf, link, subdirectory}
+use Rattle.manifest_tree.specs.Tree.{a_leaf, a_link, a_directory}
 use Rattle.layout_terms.specs.Files.{height}
 use Rattle.cramfs_layout.specs.Layout.{entry_len, list_len}
-use Rattle.manifest_rows.specs.declared.row.Row as code
-use Rattle.manifest_rows.specs.Rows.{Row, row, rows, row_view}
+use Rattle.plan_rows.specs.declared.row.Row as code
+use Rattle.plan_rows.specs.Rows.{Row, row, rows, row_view}
 use Rattle.cramfs_plan.specs.Bounds.{IsNarrow}
 use Rattle.cramfs_plan.specs.Passes.{lens_with, lens_of, own_lens, named_lens}
 
@@ -79,8 +79,8 @@ measures d lens (link name i after) room zeros =
     let s = single d lens (row d name (a_link i)) after refl (omega (arith, room)) (zeros (d + 1) (omega arith))
     (measures d lens after (omega (arith, room)) zeros) in
     record { lens_are = s.0; own_are = s.1 }
-measures d lens (folder name i own after) room zeros =
-    let r = row d name (a_folder i) in
+measures d lens (subdirectory name i own after) room zeros =
+    let r = row d name (a_directory i) in
     let later = measures d lens after (omega (arith, room)) zeros in
     let x = get_or lens d 0 + list_len after in
     let y = list_len own in

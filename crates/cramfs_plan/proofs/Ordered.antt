@@ -5,7 +5,7 @@ use Rattle.std.proofs.lemmas.List.{append_assoc}
 use Rattle.std.proofs.lemmas.List.Sorted.{IsPermutation-refl, IsPermutation-cons, IsPermutation-trans}
 use Rattle.std.proofs.lemmas.List.Sorted.{IsPermutation-append, IsPermutation-append_comm}
 use Rattle.cramfs_format.specs.declared.order.Order.{Order}
-use Rattle.manifest_tree.specs.Names.{Inode, Names, nothing, leaf, link, folder}
+use Rattle.manifest_tree.specs.Names.{Inode, Names, nothing, leaf, link, subdirectory}
 use Rattle.layout_terms.specs.Items.{Item}
 use Rattle.cramfs_layout.specs.Layout.{pad4, entry_len, State, first_state, after_file, after_list, after_names}
 use Rattle.cramfs_layout.specs.Items.{entries, below, items_of}
@@ -30,7 +30,7 @@ preorder_permutes o l s (leaf name i rest) =
     IsPermutation-cons _ _ _ (preorder_permutes o (l + entry_len name) (after_file s i) rest)
 preorder_permutes o l s (link name i rest) =
     IsPermutation-cons _ _ _ (preorder_permutes o (l + entry_len name) (after_file s i) rest)
-preorder_permutes o l s (folder name i own rest) =
+preorder_permutes o l s (subdirectory name i own rest) =
     let s1 = after_list s own in
     let s2 = after_names s1 own in
     let both = IsPermutation-append _ _ _ _ (preorder_permutes o (pad4 s.at) s1 own)

@@ -12,11 +12,11 @@ use Rattle.cramfs_layout.specs.Items.{file_item}
 use Rattle.layout_terms.specs.Items.{Item}
 use Rattle.manifest_tree.specs.Tree.{What, a_leaf, a_link}
 use Rattle.rom_tree.specs.declared.types.Kind.TheVariants as kind
-use Rattle.manifest_rows.specs.declared.row.Bytes.TheVariants as bytes
-use Rattle.manifest_rows.specs.declared.row.Row as code
-use Rattle.manifest_rows.specs.declared.row.What as code_what
-use Rattle.manifest_rows.specs.declared.row.What.TheVariants as what
-use Rattle.manifest_rows.specs.Rows.{what_view, row_view}
+use Rattle.plan_rows.specs.declared.row.Bytes.TheVariants as bytes
+use Rattle.plan_rows.specs.declared.row.Row as code
+use Rattle.plan_rows.specs.declared.row.What as code_what
+use Rattle.plan_rows.specs.declared.row.What.TheVariants as what
+use Rattle.plan_rows.specs.Rows.{what_view, row_view}
 use Rattle.cramfs_plan.specs.Passes.{Walk, walked, after_rows, row_item, step}
 use Rattle.cramfs_plan.proofs.Measuring.{every_set, every_at}
 use Rattle.cramfs_plan.specs.Entries.{stored_by, stored_item, tables_after}

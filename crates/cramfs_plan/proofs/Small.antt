@@ -9,8 +9,8 @@ use Rattle.rom_tree.specs.declared.types.Kind.TheVariants.{Directory, Regular, S
 use Rattle.cramfs_format.specs.declared.order.Order.{Order}
 use Rattle.cramfs_format.specs.declared.order.Order.TheVariants.{Little, Big}
 use Rattle.cramfs_format.specs.Inode.{block_count}
-use Rattle.image_parts.specs.Padding.{pad}
-use Rattle.manifest_tree.specs.Names.{Fill, no_bytes, text, source, Inode, Names, nothing, leaf, link, folder}
+use Rattle.rom_fields.specs.Padding.{pad}
+use Rattle.manifest_tree.specs.Names.{Fill, no_bytes, text, source, Inode, Names, nothing, leaf, link, subdirectory}
 use Rattle.manifest_layout.specs.Format.{cramfs}
 use Rattle.cramfs_format.specs.Order.{packed}
 use Rattle.cramfs_layout.specs.Layout.{type_bits, pad4, size_by, entry_len, list_len, State, Table, Kept, nowhere}
@@ -19,8 +19,8 @@ use Rattle.cramfs_layout.specs.Layout.{after_list, after_names, list_offset}
 use Rattle.cramfs_layout.specs.Items.{item_of, start_by}
 use Rattle.cramfs_layout.specs.Wells.{FitsKind, IsFile, AreWell}
 use Rattle.cramfs_layout.proofs.Stored.{data_after, shared_by, stored_with, names_onward}
-use Rattle.manifest_rows.specs.Rows.{rows}
-use Rattle.manifest_rows.specs.Fits.{IsFit}
+use Rattle.plan_rows.specs.Rows.{rows}
+use Rattle.plan_rows.specs.Fits.{IsFit}
 use Rattle.cramfs_plan.specs.Passes.{in_preorder}
 use Rattle.cramfs_plan.specs.Small.{IsSmall}
 
@@ -120,7 +120,7 @@ list_low : (from high : ℕ) (own : Names) → pad4 from + list_len own ≤ high
 list_low from high nothing h l = omega arith
 list_low from high (leaf name i after) h l = omega arith
 list_low from high (link name i after) h l = omega arith
-list_low from high (folder name i own after) h l = omega arith
+list_low from high (subdirectory name i own after) h l = omega arith
 
 pub record AreSmall (o : Order) (l : ℕ) (s : State) (n : Names) : Type 0 where
   pub items : Every IsSmall (in_preorder o l s n)
@@ -150,7 +150,7 @@ are_small o cs d l s (leaf name i rest) h fit t low room =
       tables = more.tables;
     }
 are_small o cs d l s (link name i rest) h fit t low room = absurd h
-are_small o cs d l s (folder name i own rest) h fit t low room =
+are_small o cs d l s (subdirectory name i own rest) h fit t low room =
     let s1 = after_list s own in
     let s2 = after_names s1 own in
     let b = names_onward cs s1 own h.2 in

@@ -5,13 +5,13 @@ use Rattle.std.proofs.Math.ListN.{set}
 use Rattle.std.proofs.lemmas.Bool.{ne_eqb}
 use Rattle.std.proofs.lemmas.List.{get_or-set_same, get_or-set_other, length-set, length-append}
 use Rattle.cramfs_format.specs.declared.order.Order.{Order}
-use Rattle.manifest_tree.specs.Names.{Names, nothing, leaf, link, folder, no_bytes}
-use Rattle.manifest_tree.specs.Tree.{a_leaf, a_link, a_folder}
+use Rattle.manifest_tree.specs.Names.{Names, nothing, leaf, link, subdirectory, no_bytes}
+use Rattle.manifest_tree.specs.Tree.{a_leaf, a_link, a_directory}
 use Rattle.layout_terms.specs.Files.{height}
 use Rattle.layout_terms.specs.Items.{Item}
 use Rattle.cramfs_layout.specs.Layout.{State, entry_len, list_len, list_offset, pad4, after_list, after_names}
 use Rattle.cramfs_layout.specs.Items.{item_of}
-use Rattle.manifest_rows.specs.Rows.{Row, row, rows}
+use Rattle.plan_rows.specs.Rows.{Row, row, rows}
 use Rattle.cramfs_plan.specs.Passes.{named_lens, Walk, offset_by, state_by, lists_with, step, row_item, walked}
 use Rattle.cramfs_plan.specs.Passes.{after_rows, in_preorder}
 
@@ -34,7 +34,7 @@ pub length-lens : (d : ℕ) (n : Names) → length (named_lens n) ≡ length (ro
 length-lens d nothing = refl
 length-lens d (leaf name i after) = ap suc (length-lens d after)
 length-lens d (link name i after) = ap suc (length-lens d after)
-length-lens d (folder name i own after) =
+length-lens d (subdirectory name i own after) =
     ap suc (length-append (named_lens own) (named_lens after)
     ∙ ap (λ (k : ℕ). k + length (named_lens after)) (length-lens (d + 1) own)
     ∙ ap (λ (k : ℕ). length (rows (d + 1) own) + k) (length-lens d after)
@@ -47,7 +47,7 @@ offset_is from (leaf name i after) =
     let e : entry_len name + list_len after ≢ 0 = omega arith in rw (ne_eqb (entry_len name + list_len after) 0 e) refl
 offset_is from (link name i after) =
     let e : entry_len name + list_len after ≢ 0 = omega arith in rw (ne_eqb (entry_len name + list_len after) 0 e) refl
-offset_is from (folder name i own after) =
+offset_is from (subdirectory name i own after) =
     let e : entry_len name + list_len after ≢ 0 = omega arith in rw (ne_eqb (entry_len name + list_len after) 0 e) refl
 
 -- the result of the walk over names at depth d: their items, and the offsets of the lists above are unchanged
@@ -127,8 +127,8 @@ walks o d w (link name i after) room =
     let s = single o d w r 0 after refl (omega (arith, room))
     (walks o d (step w r 0) after (omega (arith, room, up))) in
     record { items = s.0; state = s.1; above = s.2; here = s.3; wide = s.4 }
-walks o d w (folder name i own after) room =
-    let r = row d name (a_folder i) in
+walks o d w (subdirectory name i own after) room =
+    let r = row d name (a_directory i) in
     let len = list_len own in
     let from = pad4 w.state.at in
     let inside = step w r len in

@@ -9,9 +9,9 @@ use Rattle.std.proofs.lemmas.List.Elements.{recursion_from_All, All-from_recursi
 use Rattle.std.proofs.lemmas.List.Sorted.{All-permutation, IsPermutation-sym, length_permutation}
 use Rattle.cramfs_format.specs.declared.order.Order.{Order}
 use Rattle.cramfs_format.specs.Refers.{root_place}
-use Rattle.image_parts.specs.Padding.{pad}
-use Rattle.image_parts.proofs.Padding.{pad-after}
-use Rattle.manifest_tree.specs.Names.{Inode, Names, nothing, leaf, link, folder, no_bytes}
+use Rattle.rom_fields.specs.Padding.{pad}
+use Rattle.rom_fields.proofs.Padding.{pad-after}
+use Rattle.manifest_tree.specs.Names.{Inode, Names, nothing, leaf, link, subdirectory, no_bytes}
 use Rattle.layout_terms.specs.Files.{height}
 use Rattle.layout_terms.specs.Items.{Item}
 use Rattle.manifest_layout.specs.Format.{cramfs}
@@ -21,14 +21,14 @@ use Rattle.cramfs_layout.specs.Items.{item_of, items_of}
 use Rattle.cramfs_layout.specs.Planned.{IsPlanned}
 use Rattle.cramfs_layout.specs.Wells.{AreWell}
 use Rattle.record_forest.proofs.Lists.{every_join}
-use Rattle.manifest_rows.specs.declared.row.Row as code
-use Rattle.manifest_rows.specs.declared.row.Inode as code_inode
-use Rattle.manifest_rows.specs.declared.row.What as code_what
-use Rattle.manifest_rows.specs.declared.row.What.TheVariants as what
-use Rattle.manifest_rows.specs.Rows.{Row, rows, row_view, inode_view, deepest}
-use Rattle.manifest_rows.specs.Fits.{IsFit, FitsAs}
-use Rattle.manifest_rows.specs.Rows.{what_view}
-use Rattle.manifest_rows.proofs.Depths.{deepest_is}
+use Rattle.plan_rows.specs.declared.row.Row as code
+use Rattle.plan_rows.specs.declared.row.Inode as code_inode
+use Rattle.plan_rows.specs.declared.row.What as code_what
+use Rattle.plan_rows.specs.declared.row.What.TheVariants as what
+use Rattle.plan_rows.specs.Rows.{Row, rows, row_view, inode_view, deepest}
+use Rattle.plan_rows.specs.Fits.{IsFit, FitsAs}
+use Rattle.plan_rows.specs.Rows.{what_view}
+use Rattle.plan_rows.proofs.Depths.{deepest_is}
 use Rattle.cramfs_plan.specs.Bounds.{IsNarrow, IsPlaceableAs, IsRow}
 use Rattle.cramfs_plan.specs.Passes.{lens_of, own_lens, named_lens, first_walk, walked, after_rows, in_preorder}
 use Rattle.cramfs_plan.specs.Small.{IsSmall}
@@ -43,7 +43,7 @@ preorder_counted : (o : Order) (d l : ℕ) (s : State) (n : Names) → length (i
 preorder_counted o d l s nothing = refl
 preorder_counted o d l s (leaf name i rest) = ap suc (preorder_counted o d (l + entry_len name) (after_file s i) rest)
 preorder_counted o d l s (link name i rest) = ap suc (preorder_counted o d (l + entry_len name) (after_file s i) rest)
-preorder_counted o d l s (folder name i own rest) =
+preorder_counted o d l s (subdirectory name i own rest) =
     let s1 = after_list s own in
     let a = preorder_counted o (d + 1) (pad4 s.at) s1 own in
     let b = preorder_counted o d (l + entry_len name) (after_names s1 own) rest in
@@ -125,21 +125,21 @@ pub any_long : (n : Names) → list_any is_long_list (named_lens n) ≡ has_long
 any_long nothing = refl
 any_long (leaf name i after) = any_long after
 any_long (link name i after) = any_long after
-any_long (folder name i own after) =
+any_long (subdirectory name i own after) =
     ap (λ (b : Bool). is_long_list (list_len own) || b)
     (any-append is_long_list (named_lens own) (named_lens after)
     ∙ ap (λ (b : Bool). b || list_any is_long_list (named_lens after)) (any_long own)
     ∙ ap (λ (b : Bool). has_long_list own || b) (any_long after))
 
 -- the results of the passes for the rows of a whole tree
-pub record Told (o : Order) (rs : List Row) (n : Names) : Type 0 where
+pub record Known (o : Order) (rs : List Row) (n : Names) : Type 0 where
   pub root : get_or (lens_of (replicate {A = ℕ} 66 0) rs) 1 0 ≡ list_len n
   pub own : own_lens (replicate {A = ℕ} 66 0) rs ≡ named_lens n
   pub items : walked o (first_walk (list_len n)) rs (named_lens n) ≡ in_preorder o 76 (first_state n) n
   pub end : (after_rows (first_walk (list_len n)) rs (named_lens n)).state.at ≡ (after_names (first_state n) n).at
 
-pub told : (o : Order) (rs : List Row) (n : Names) → rs ≡ rows 1 n → deepest rs ≤ 64 → Told o rs n
-told o rs n e low = subst (λ qs. Told o qs n) (sym e) whole
+pub known : (o : Order) (rs : List Row) (n : Names) → rs ≡ rows 1 n → deepest rs ≤ 64 → Known o rs n
+known o rs n e low = subst (λ qs. Known o qs n) (sym e) whole
   where
     zeros : (j : ℕ) → 1 < j → get_or (replicate {A = ℕ} 66 0) j 0 ≡ 0
     zeros j h = by 66 j
@@ -152,7 +152,7 @@ told o rs n e low = subst (λ qs. Told o qs n) (sym e) whole
     alone : (k : ℕ) → 0 + k ≡ k
     alone k = omega arith
 
-    whole : Told o (rows 1 n) n
+    whole : Known o (rows 1 n) n
     whole =
         let h = deepest_is n in
         let d = ap deepest e in
@@ -183,7 +183,7 @@ each_row o (r ∷ rs) h k =
         → IsPlaceableAs w i
     placeable what.Leaf i f = let large : (2 ^ 24 ≤ i.size → ⊥) = f.0 in (omega (arith, large), f.1, f.2)
     placeable what.Link i f = f tt
-    placeable what.Folder i f = tt
+    placeable what.Directory i f = tt
 
 pub all_rows : (o : Order) (rs : List code.Row) → Every (IsFit (cramfs o)) (map row_view rs)
     → deepest (map row_view rs) ≤ 64 → All IsRow rs
@@ -200,7 +200,7 @@ offset_is (leaf name i after) =
     let e : entry_len name + list_len after ≢ 0 = omega arith in rw (ne_eqb (entry_len name + list_len after) 0 e) refl
 offset_is (link name i after) =
     let e : entry_len name + list_len after ≢ 0 = omega arith in rw (ne_eqb (entry_len name + list_len after) 0 e) refl
-offset_is (folder name i own after) =
+offset_is (subdirectory name i own after) =
     let e : entry_len name + list_len after ≢ 0 = omega arith in rw (ne_eqb (entry_len name + list_len after) 0 e) refl
 
 room : (n : Names) → size_of n ≤ 2 ^ 28 → (after_names (first_state n) n).at ≤ 2 ^ 28
@@ -213,7 +213,7 @@ pub all_small : (o : Order) (volume : List ℕ) (root : Inode) (n : Names) (cs :
 all_small o volume root n cs p fit =
     let s = first_state n in
     let r = item_of o root_place [] root (list_len n) (root_offset n) 0 0 0 no_bytes in
-    let f = p.folder in
+    let f = p.subdirectory in
     let low = f.small in
     let end = room n p.room in
     let own = are_small o cs 1 76 s n p.well fit tt (omega (arith, low)) end in
@@ -227,7 +227,7 @@ all_small o volume root n cs p fit =
     near nothing = omega arith
     near (leaf name i after) = omega arith
     near (link name i after) = omega arith
-    near (folder name i own after) = omega arith
+    near (subdirectory name i own after) = omega arith
 
 pub all_are : (o : Order) (root : Inode) (n : Names) (len : ℕ) (found : List Item) → len ≡ list_len n
     → found ≡ in_preorder o 76 (first_state n) n
@@ -246,7 +246,7 @@ all_are o root n len found e f =
     subst (λ l. IsPermutation (items_of o root n) l) same (IsPermutation-sym _ _ (all_permute o i n))
 
 -- the code's results are those of the passes
-pub size_is : (o : Order) (rs : List Row) (n : Names) (root end : ℕ) (lens : List ℕ) → Told o rs n → root ≡ list_len n
+pub size_is : (o : Order) (rs : List Row) (n : Names) (root end : ℕ) (lens : List ℕ) → Known o rs n → root ≡ list_len n
     → lens ≡ named_lens n
     → end ≡ (after_rows (first_walk root) rs lens).state.at → pad end 4096 ≡ size_of n
 unfolding size_of
@@ -254,7 +254,7 @@ size_is o rs n root end lens t r l e =
     ap (λ (k : ℕ). pad k 4096) (e ∙ ap (λ (k : ℕ). (after_rows (first_walk k) rs lens).state.at) r
     ∙ ap (λ (ls : List ℕ). (after_rows (first_walk (list_len n)) rs ls).state.at) l ∙ t.end)
 
-pub found_is : (o : Order) (rs : List Row) (n : Names) (root : ℕ) (lens : List ℕ) (found : List Item) → Told o rs n
+pub found_is : (o : Order) (rs : List Row) (n : Names) (root : ℕ) (lens : List ℕ) (found : List Item) → Known o rs n
     → root ≡ list_len n → lens ≡ named_lens n
     → found ≡ walked o (first_walk root) rs lens → found ≡ in_preorder o 76 (first_state n) n
 found_is o rs n root lens found t r l e =
@@ -268,7 +268,7 @@ short_preorder o cs l s nothing h = tt
 short_preorder o cs l s (leaf name i rest) h =
     let k = h.0.1 in (omega (arith, k), short_preorder o cs (l + entry_len name) (after_file s i) rest h.2)
 short_preorder o cs l s (link name i rest) h = absurd h
-short_preorder o cs l s (folder name i own rest) h =
+short_preorder o cs l s (subdirectory name i own rest) h =
     let s1 = after_list s own in
     let k = h.0.1 in (
       omega (arith, k),

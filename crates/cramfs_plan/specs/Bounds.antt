@@ -1,9 +1,9 @@
 -- `IsRow`: a row that can be measured and placed. (This project's own.)
 use Rattle.std.specs.Prelude.{◌^◌, ◌<◌, ◌≤◌, length}
-use Rattle.manifest_rows.specs.declared.row.Inode as code_inode
-use Rattle.manifest_rows.specs.declared.row.Row as code_row
-use Rattle.manifest_rows.specs.declared.row.What as code_what
-use Rattle.manifest_rows.specs.declared.row.What.TheVariants as what
+use Rattle.plan_rows.specs.declared.row.Inode as code_inode
+use Rattle.plan_rows.specs.declared.row.Row as code_row
+use Rattle.plan_rows.specs.declared.row.What as code_what
+use Rattle.plan_rows.specs.declared.row.What.TheVariants as what
 
 -- the name and the way to it are not too long
 abbrev pub IsNarrow : code_row.Row → Type 0
@@ -16,7 +16,7 @@ IsPlaceable i = (i.size < 2 ^ 24) × (0 < i.align) × (i.align ≤ 65536)
 abbrev pub IsPlaceableAs : code_what.What → code_inode.Inode → Type 0
 IsPlaceableAs what.Leaf i = IsPlaceable i
 IsPlaceableAs what.Link i = ⊥
-IsPlaceableAs what.Folder i = Unit {0}
+IsPlaceableAs what.Directory i = Unit {0}
 
 abbrev pub IsRow : code_row.Row → Type 0
 IsRow r = IsNarrow r × IsPlaceableAs r.what r.inode

@@ -10,7 +10,7 @@ use Rattle.layout_terms.specs.Items.{Item}
 use Rattle.cramfs_layout.specs.Layout.{Table, Kept, nowhere, shared, fresh, pad4, with_table}
 use Rattle.cramfs_layout.specs.Layout.{table_with, table_by, size_by, after_by}
 use Rattle.cramfs_layout.specs.Items.{item_of, start_by}
-use Rattle.manifest_rows.specs.Rows.{bytes_view}
+use Rattle.plan_rows.specs.Rows.{bytes_view}
 use Rattle.cramfs_plan.specs.declared.wide_inode.WideInode as code_wide_inode
 use Rattle.cramfs_plan.specs.declared.kept.Kept as code_kept
 use Rattle.cramfs_plan.specs.declared.kept.Kept.TheVariants as kept

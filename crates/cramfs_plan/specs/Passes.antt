@@ -4,13 +4,13 @@
 use Rattle.std.specs.Prelude.{ℕ, ◌+◌, ◌==◌, if◌then◌else◌, List, [], ◌∷◌, ◌++◌, slice_index}
 use Rattle.std.specs.Prelude.{slice_set, replicate}
 use Rattle.cramfs_format.specs.declared.order.Order.{Order}
-use Rattle.manifest_tree.specs.Names.{Names, nothing, leaf, link, folder, no_bytes}
-use Rattle.manifest_tree.specs.Tree.{What, a_leaf, a_link, a_folder}
+use Rattle.manifest_tree.specs.Names.{Names, nothing, leaf, link, subdirectory, no_bytes}
+use Rattle.manifest_tree.specs.Tree.{What, a_leaf, a_link, a_directory}
 use Rattle.layout_terms.specs.Items.{Item}
 use Rattle.cramfs_layout.specs.Layout.{State, entry_len, list_len, list_offset, pad4, after_file}
 use Rattle.cramfs_layout.specs.Layout.{after_list, after_names}
 use Rattle.cramfs_layout.specs.Items.{item_of, file_item}
-use Rattle.manifest_rows.specs.Rows.{Row}
+use Rattle.plan_rows.specs.Rows.{Row}
 
 -- The lengths at each depth of the lists that the rows behind are in, with one more row in front.
 -- The list of the directory that this row names is then complete.
@@ -32,7 +32,7 @@ abbrev pub named_lens : Names → List ℕ
 named_lens nothing = []
 named_lens (leaf name i after) = 0 ∷ named_lens after
 named_lens (link name i after) = 0 ∷ named_lens after
-named_lens (folder name i own after) = list_len own ∷ (named_lens own ++ named_lens after)
+named_lens (subdirectory name i own after) = list_len own ∷ (named_lens own ++ named_lens after)
 
 -- forwards: what was placed so far, and the offset of the next entry of a list, at each depth
 pub record Walk : Type 0 where
@@ -47,12 +47,12 @@ offset_by len from = if len == 0 then 0 else pad4 from
 abbrev pub item_by : Order → State → ℕ → List ℕ → ℕ → What → Item
 item_by o s l name len (a_leaf i) = file_item o l s name i
 item_by o s l name len (a_link i) = file_item o l s name i
-item_by o s l name len (a_folder i) = item_of o l name i len (offset_by len s.at) 0 0 0 no_bytes
+item_by o s l name len (a_directory i) = item_of o l name i len (offset_by len s.at) 0 0 0 no_bytes
 
 abbrev pub state_by : State → ℕ → What → State
 state_by s len (a_leaf i) = after_file s i
 state_by s len (a_link i) = after_file s i
-state_by s len (a_folder i) = record { at = pad4 s.at + len; tables = s.tables }
+state_by s len (a_directory i) = record { at = pad4 s.at + len; tables = s.tables }
 
 -- the offsets of the next entries after one more entry, and after the start of its own list
 abbrev pub lists_with : List ℕ → Row → ℕ → List ℕ
@@ -89,7 +89,7 @@ in_preorder o l s (leaf name i rest) =
     file_item o l s name i ∷ in_preorder o (l + entry_len name) (after_file s i) rest
 in_preorder o l s (link name i rest) =
     file_item o l s name i ∷ in_preorder o (l + entry_len name) (after_file s i) rest
-in_preorder o l s (folder name i own rest) =
+in_preorder o l s (subdirectory name i own rest) =
     item_of o l name i (list_len own) (list_offset s.at own) 0 0 0 no_bytes
     ∷ (in_preorder o (pad4 s.at) (after_list s own) own
     ++ in_preorder o (l + entry_len name) (after_names (after_list s own) own) rest)

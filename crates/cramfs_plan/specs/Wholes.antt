@@ -1,7 +1,7 @@
 -- `too_large`: the whole of a tree does not fit cramfs. (This project's own.)
 use Rattle.std.specs.Prelude.{ℕ, ◌^◌, ◌||◌, nat_lt, not, Bool, false, length}
 use Rattle.cramfs_format.specs.declared.order.Order.{Order}
-use Rattle.manifest_tree.specs.Names.{Inode, Names, nothing, leaf, link, folder}
+use Rattle.manifest_tree.specs.Names.{Inode, Names, nothing, leaf, link, subdirectory}
 use Rattle.layout_terms.specs.Files.{height}
 use Rattle.cramfs_layout.specs.Layout.{list_len, size_of}
 use Rattle.cramfs_layout.specs.Items.{items_of}
@@ -15,7 +15,7 @@ abbrev pub has_long_list : Names → Bool
 has_long_list nothing = false
 has_long_list (leaf name i after) = has_long_list after
 has_long_list (link name i after) = has_long_list after
-has_long_list (folder name i own after) =
+has_long_list (subdirectory name i own after) =
     is_long_list (list_len own) || (has_long_list own || has_long_list after)
 
 -- the image, a list, the way to a name or the number of items is beyond its limit

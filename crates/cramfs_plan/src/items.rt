@@ -8,12 +8,12 @@ ghost use Rattle.cramfs_plan.specs.Orders.{Rises};
 ghost use Rattle.cramfs_plan.specs.Small.{IsSmall, cut};
 ghost use Rattle.layout_terms.specs.Items as terms;
 ghost use Rattle.manifest_tree.specs.Names.{no_bytes};
-ghost use Rattle.manifest_rows.specs.Rows.{bytes_view, inode_view};
+ghost use Rattle.plan_rows.specs.Rows.{bytes_view, inode_view};
 ghost use Rattle.plan_types.specs.Views.{fill_view, item_view};
 
 use crate::wide_inode::WideInode;
 use manifest::Name;
-use manifest_rows::Bytes;
+use plan_rows::Bytes;
 use plan_types::{Fill, Item};
 use rom_fields::OutOfMemory;
 use std::alloc::Global;

@@ -8,10 +8,10 @@ ghost use Rattle.cramfs_layout.specs.Layout.{State, Table};
 ghost use Rattle.cramfs_plan.specs.Bounds.{IsPlaceable};
 ghost use Rattle.cramfs_plan.specs.Entries.{kept_view, stored_by, stored_item, listed_by};
 ghost use Rattle.cramfs_plan.specs.Entries.{tables_after, IsBelow, Knows, AreNear};
-ghost use Rattle.manifest_rows.specs.Rows.{bytes_view, inode_view};
+ghost use Rattle.plan_rows.specs.Rows.{bytes_view, inode_view};
 
 use crate::words::size_by;
-use manifest_rows::{Bytes, Inode};
+use plan_rows::{Bytes, Inode};
 use rom_fields::{OutOfMemory, pad};
 use std::collections::BTreeMap;
 

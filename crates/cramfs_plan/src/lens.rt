@@ -4,10 +4,10 @@ ghost use Rattle.std.specs.Prelude.{◌≡◌, ◌+◌, ◌<◌, ◌≤◌, ◌^
 ghost use Rattle.std.specs.Prelude.{slice_index, IfOk};
 ghost use Rattle.cramfs_plan.specs.Bounds.{IsNarrow};
 ghost use Rattle.cramfs_plan.specs.Passes.{lens_of, own_lens};
-ghost use Rattle.manifest_rows.specs.Rows.{row_view};
+ghost use Rattle.plan_rows.specs.Rows.{row_view};
 
 use crate::words::entry_len;
-use manifest_rows::Row;
+use plan_rows::Row;
 use rom_fields::OutOfMemory;
 use std::alloc::Global;
 

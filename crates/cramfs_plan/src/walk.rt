@@ -7,7 +7,7 @@ ghost use Rattle.cramfs_plan.specs.Entries.{entry_view, stored_item, Knows, AreN
 ghost use Rattle.cramfs_plan.specs.Passes.{Walk, first_walk, item_by, state_by, walked, after_rows};
 ghost use Rattle.cramfs_plan.specs.Passes.{row_item, step};
 ghost use Rattle.cramfs_plan.specs.Placers.{StandsAt, IsNear};
-ghost use Rattle.manifest_rows.specs.Rows.{bytes_view, inode_view, row_view};
+ghost use Rattle.plan_rows.specs.Rows.{bytes_view, inode_view, row_view};
 
 use crate::kept::{Stored, stored_file, stored_list};
 use crate::lens::DEPTHS;
@@ -15,7 +15,7 @@ use crate::wide_inode::WideInode;
 use crate::words::{entry_len, first_word, second_word, third_word};
 use cramfs_format::Order;
 use cramfs_format::disk::HEAD;
-use manifest_rows::{Bytes, Row, What};
+use plan_rows::{Bytes, Row, What};
 use rom_fields::{OutOfMemory, pad};
 use std::alloc::Global;
 use std::collections::BTreeMap;
@@ -105,7 +105,7 @@ impl Placer {
             (λ r. (r.0.end ≤ self.old.at + 2 ^ 25) × (r.0.size < 2 ^ 41) × (r.0.offset < 2 ^ 52)) }
     {
         match row.what {
-            What::Folder => Ok((stored_list(self.at, len), Bytes::Nothing)),
+            What::Directory => Ok((stored_list(self.at, len), Bytes::Nothing)),
             What::Leaf | What::Link => {
                 let stored = stored_file(&mut self.tables, self.at, &row.inode)?;
                 Ok((stored, row.inode.bytes))

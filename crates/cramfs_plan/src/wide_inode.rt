@@ -1,6 +1,6 @@
 //! An inode with its name, and the offsets of its bytes.
 
-use manifest_rows::Bytes;
+use plan_rows::Bytes;
 
 /// An inode with its name and its offset. Its numbers are those of the format, in 64 bits.
 #[derive(Clone, Copy, PartialEq, Eq)]

@@ -2,10 +2,10 @@
 //! They are computed in 64 bits; those of a layout that fits have 32.
 ghost use Rattle.std.specs.Prelude.{◌≡◌, ◌+◌, ◌-◌, ◌*◌, ◌^◌, ◌<◌, ℕ, length};
 ghost use Rattle.cramfs_layout.specs.Layout as layout;
-ghost use Rattle.manifest_rows.specs.Rows.{inode_view};
+ghost use Rattle.plan_rows.specs.Rows.{inode_view};
 
 use cramfs_format::Order;
-use manifest_rows::Inode;
+use plan_rows::Inode;
 use rom_fields::pad;
 use rom_tree::Kind;
 

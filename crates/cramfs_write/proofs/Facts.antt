@@ -1,4 +1,4 @@
--- The known facts of the plan of a manifest.
+-- The facts facts of the plan of a manifest.
 use Rattle.std.proofs.Common.{◌≡◌, ℕ, ◌^◌, ◌<◌, List, [], ◌++◌, map, length, get_or, refl, sym, subst, arith}
 use Rattle.cramfs_format.specs.declared.order.Order.{Order}
 use Rattle.manifest.specs.Grammar.{IsManifest}
@@ -44,10 +44,10 @@ of_contents o m cs A h al sized =
       sized = sized;
     }
 
-known : Fitting → (o : Order) (m : ManifestLines) (sizes : List ℕ) → IsManifest m
+facts : Fitting → (o : Order) (m : ManifestLines) (sizes : List ℕ) → IsManifest m
     → length sizes ≡ length (sources_of m.lines)
     → HasNoMisfit (cramfs o) m sizes → IsCramfsPlan (planned o m sizes)
-known fitting o m sizes h l n =
+facts fitting o m sizes h l n =
     let e = lengths sizes in
     let cs = zeros sizes in
     let fits = subst (HasNoMisfit (cramfs o) m) (sym e) n in
@@ -62,4 +62,4 @@ plan_known fitting o p h e =
     let m = h.0 in
     let sizes = h.1 in
     let is : IsPlanOf (cramfs o) m sizes p = subst (λ (f : Format). IsPlanOf f m sizes p) e h.4 in
-    subst IsCramfsPlan (sym (planned_is o m sizes p is)) (known fitting o m sizes h.2 h.3 is.fits)
+    subst IsCramfsPlan (sym (planned_is o m sizes p is)) (facts fitting o m sizes h.2 h.3 is.fits)

@@ -3,8 +3,8 @@ use Rattle.std.proofs.Common.{◌≡◌, ◌≢◌, ℕ, ◌+◌, ◌^◌, ◌�
 use Rattle.std.specs.List.{AllByRecursion as Every}
 use Rattle.record_forest.proofs.Lists.{every_join, every_weaker, every_both}
 use Rattle.cramfs_format.specs.declared.order.Order.{Order}
-use Rattle.image_parts.proofs.Padding.{pad-after}
-use Rattle.manifest_tree.specs.Names.{Inode, Names, nothing, leaf, link, folder, bytes_of}
+use Rattle.rom_fields.proofs.Padding.{pad-after}
+use Rattle.manifest_tree.specs.Names.{Inode, Names, nothing, leaf, link, subdirectory, bytes_of}
 use Rattle.layout_terms.specs.Items.{Item}
 use Rattle.cramfs_layout.specs.Layout.{pad4, entry_len, State, Kept, nowhere, shared, fresh, kept, after_by, after_file}
 use Rattle.cramfs_layout.specs.Layout.{after_list, after_names, first_state, size_of}
@@ -25,7 +25,7 @@ entries_named o cs l s nothing h = tt
 entries_named o cs l s (leaf name i rest) h =
     ((h.0.1, λ u. h.1.bytes), entries_named o cs (l + entry_len name) (after_file s i) rest h.2)
 entries_named o cs l s (link name i rest) h = absurd h
-entries_named o cs l s (folder name i own rest) h = (
+entries_named o cs l s (subdirectory name i own rest) h = (
   (h.0.1, λ u. absurd (u refl)),
   entries_named o cs (l + entry_len name)
       (after_names (after_list s own) own) rest h.3,
@@ -35,7 +35,7 @@ below_named : (o : Order) (cs : List (List ℕ)) (s : State) (n : Names) → Are
 below_named o cs s nothing h = tt
 below_named o cs s (leaf name i rest) h = below_named o cs (after_file s i) rest h.2
 below_named o cs s (link name i rest) h = absurd h
-below_named o cs s (folder name i own rest) h =
+below_named o cs s (subdirectory name i own rest) h =
     let s1 = after_list s own in
     let s2 = after_names s1 own in
     every_join (IsNamed cs) (entries o (pad4 s.at) s1 own) (below o s1 own ++ below o s2 rest)
@@ -58,7 +58,7 @@ all_low cs s (leaf name i rest) h l =
     let on = names_onward cs (after_file s i) rest h.2 in
     (file_low s i (kept s.tables i) (omega (arith, on, l)), all_low cs (after_file s i) rest h.2 l)
 all_low cs s (link name i rest) h l = absurd h
-all_low cs s (folder name i own rest) h l =
+all_low cs s (subdirectory name i own rest) h l =
     let s1 = after_list s own in
     let s2 = after_names s1 own in
     let on = names_onward cs s2 rest h.3 in

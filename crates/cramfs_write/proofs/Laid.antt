@@ -6,7 +6,7 @@ use Rattle.std.specs.List.{AllByRecursion as Every}
 use Rattle.cramfs_format.specs.declared.order.Order.{Order}
 use Rattle.cramfs_format.specs.declared.order.Order.TheVariants.{Little, Big}
 use Rattle.crc.specs.Crc.{crc_of}
-use Rattle.image_parts.specs.Parts.{Part, part}
+use Rattle.rom_fields.specs.Parts.{Part, part}
 use Rattle.image_stream.specs.Sources.{content_of}
 use Rattle.image_stream.specs.Segments.{place, len, segment_at, segment_part, SegmentsRise, HasSource, IsLaidOut}
 use Rattle.image_stream.specs.Outcomes.{AreSized}

@@ -4,11 +4,11 @@ use Rattle.std.proofs.Common.{arith, length-append}
 use Rattle.cramfs_format.specs.declared.order.Order.{Order}
 use Rattle.cramfs_format.specs.declared.order.Order.TheVariants.{Little, Big}
 use Rattle.crc.specs.Crc.{crc_of}
-use Rattle.image_parts.specs.Parts.{Part, part, laid}
+use Rattle.rom_fields.specs.Parts.{Part, part, laid}
 use Rattle.image_stream.specs.Segments.{segment_part, image_from, image_of}
 use Rattle.image_stream.specs.Outcomes.{AreSized}
 use Rattle.image_stream.proofs.Laid.{image_laid}
-use Rattle.manifest_tree.specs.Names.{Inode, Names, nothing, leaf, link, folder}
+use Rattle.manifest_tree.specs.Names.{Inode, Names, nothing, leaf, link, subdirectory}
 use Rattle.plan_types.specs.Plans.{Planned, IsPlanOf}
 use Rattle.layout_terms.specs.Items.{Section, section, super}
 use Rattle.layout_terms.specs.Bodies.{item_at}
@@ -60,7 +60,7 @@ count_is : (o : Order) (l : ℕ) (s : State) (n : Names) → length (entries o l
 count_is o l s nothing = refl
 count_is o l s (leaf name i rest) = let c = count_is o (l + entry_len name) (after_file s i) rest in omega (arith, c)
 count_is o l s (link name i rest) = let c = count_is o (l + entry_len name) (after_file s i) rest in omega (arith, c)
-count_is o l s (folder name i own rest) =
+count_is o l s (subdirectory name i own rest) =
     let s1 = after_list s own in
     let s2 = after_names s1 own in
     let es = entries o (pad4 s.at) s1 own in
@@ -137,10 +137,10 @@ is_layout o m cs p A al h is k z =
 -- so is that of any plan of a manifest that fits
 pub means : Fitting → (o : Order) (p : Planned) (m : ManifestLines) (cs : List (List ℕ)) → IsManifest m → IsCramfsPlan p
     → IsPlanOf (cramfs o) m (map length cs) p → image_of (form_of o p) crc_of cs ≡ layout_of (cramfs o) m cs
-means fitting o p m cs hm known is =
+means fitting o p m cs hm facts is =
     let sizes = map length cs in
     is_layout o m cs p (align_of m.lines) (sourced (cramfs o) m sizes hm is.fits)
-    (fitting (cramfs o) m cs hm is.fits) is known
+    (fitting (cramfs o) m cs hm is.fits) is facts
     (λ k l. size_is cs k ∙ ap (λ (xs : List ℕ). get_or xs k 0) (sym is.of_sources))
 
 -- contents of the planned sizes
@@ -148,9 +148,9 @@ pub sized_means : Fitting → (o : Order) (p : Planned) (m : ManifestLines) (siz
     → IsManifest m
     → IsCramfsPlan p → IsPlanOf (cramfs o) m sizes p → length cs ≡ length p.sizes → AreSized p.sizes cs
     → (map length cs ≡ sizes) × (image_of (form_of o p) crc_of cs ≡ layout_of (cramfs o) m cs)
-sized_means fitting o p m sizes cs hm known is n sized =
+sized_means fitting o p m sizes cs hm facts is n sized =
     let e : map length cs ≡ sizes = sizes_are p.sizes cs n sized ∙ is.of_sources in
-    (e, means fitting o p m cs hm known (subst (λ (xs : List ℕ). IsPlanOf (cramfs o) m xs p) (sym e) is))
+    (e, means fitting o p m cs hm facts (subst (λ (xs : List ℕ). IsPlanOf (cramfs o) m xs p) (sym e) is))
 
 -- one byte order
 pub one_order : {o q : Order} → cramfs o ≡ cramfs q → o ≡ q

@@ -26,8 +26,8 @@ pub struct CramfsForm<'p> {
     ghost cramfs: { plan.now.format ≡ cramfs order },
 }
 
-/// Shows the known facts of the plan of a cramfs image.
-pub fn known(order: Order, plan: &Plan)
+/// Shows the facts facts of the plan of a cramfs image.
+pub fn facts(order: Order, plan: &Plan)
     requires { plan.now.format ≡ cramfs order }
     ensures plan { IsCramfsPlan plan.now }
     ensures count { length plan.now.sections < 2 ^ 64 }
@@ -100,7 +100,7 @@ impl<'p> CramfsForm<'p> {
         requires { length out.old ≡ 76 }
         ensures { out.new ≡ (form_of self.now.order self.now.plan.now).head stored }
     {
-        known(self.order, self.plan);
+        facts(self.order, self.plan);
         let items = self.plan.items();
         put_superblock(
             self.order,
@@ -121,7 +121,7 @@ impl<'p> CramfsForm<'p> {
         ensures body { IsBody self.now.plan.now.items self.now.plan.now.sizes result.len
             (section_view result).body }
     {
-        known(self.order, self.plan);
+        facts(self.order, self.plan);
         match self.plan.section(i + 1) {
             Some(section) => section,
             None => Section {

@@ -3,7 +3,7 @@ ghost use Rattle.std.specs.Prelude.{◌≡◌, ◌%◌, ◌≤◌, ℕ, List, ma
 ghost use Rattle.cramfs_format.specs.declared.order.Order.{Order};
 ghost use Rattle.crc.specs.Crc.{crc_of};
 ghost use Rattle.image_stream.specs.Outcomes.{AreSized, IsLeastWrong, IsStreamFault, IsStreamed};
-ghost use Rattle.image_stream.specs.Sources.{Told};
+ghost use Rattle.image_stream.specs.Sources.{IfKnown};
 ghost use Rattle.manifest.specs.Grammar.{IsManifest};
 ghost use Rattle.manifest.specs.Lines.{ManifestLines};
 ghost use Rattle.manifest_layout.specs.Format.{cramfs, layout_of};
@@ -12,7 +12,7 @@ ghost use Rattle.rom_fields.specs.Written.{AppendsPrefix};
 ghost use Rattle.std.specs.Io.KnownBytes.{Appends};
 ghost use Rattle.cramfs_write.specs.Form.{form_of};
 
-use crate::form::{CramfsForm, known, order_of};
+use crate::form::{CramfsForm, facts, order_of};
 use image_stream::{Crc32, SizeDiffers, Sources, StreamError};
 use plan_types::Plan;
 use rom_fields::{ByteWrite, Contents};
@@ -36,7 +36,7 @@ pub fn write(plan: &Plan, contents: &Contents<'_>, out: &mut [u8]) -> Result<(),
         × (out.new ≡ out.old)) }
 {
     let order = order_of(plan);
-    known(order, plan);
+    facts(order, plan);
     manifest_layout::laws::fitting_is_planned();
     let form = CramfsForm::new(plan, order);
     image_stream::write::<CramfsForm<'_>, Crc32>(&form, contents, out)
@@ -45,13 +45,13 @@ pub fn write(plan: &Plan, contents: &Contents<'_>, out: &mut [u8]) -> Result<(),
 /// Writes the image of a plan through a buffer of the caller's, without taking memory, and flushes
 /// the writer. `image_stream::stream_through` describes how the sources are read.
 ///
-/// At `Ok`, exactly the layout was written, if the contents of the sources are known. Otherwise a
+/// At `Ok`, exactly the layout was written, if the contents of the sources are facts. Otherwise a
 /// whole image was written, with some contents of the planned sizes and the crc of exactly these
 /// bytes.
 ///
 /// # Errors
 ///
-/// `StreamError` has the reasons. If the contents of the sources are known and have the planned
+/// `StreamError` has the reasons. If the contents of the sources are facts and have the planned
 /// sizes, a prefix of the layout was written.
 pub fn stream_through<S: Sources, W: ByteWrite>(
     plan: &Plan,
@@ -63,29 +63,29 @@ pub fn stream_through<S: Sources, W: ByteWrite>(
     requires files { S.files sources.old ≡ length plan.now.sizes }
     requires room { 4096 ≤ length buffer.old }
     requires words { length buffer.old % 4 ≡ 0 }
-    ensures told { S.told sources.new ≡ S.told sources.old }
+    ensures known { S.known sources.new ≡ S.known sources.old }
     ensures files { S.files sources.new ≡ S.files sources.old }
     ensures some { (o : Order) → plan.now.format ≡ cramfs o
-        → OnOk result (IsStreamed (S.told sources.old) (S.IsLog sources.old)
+        → OnOk result (IsStreamed (S.known sources.old) (S.IsLog sources.old)
         (S.IsLog sources.new) (form_of o plan.now) crc_of
         (W.output w.old).contents (W.output w.new).contents) }
-    ensures sized { OnOk result (Told (S.told sources.old) (AreSized plan.now.sizes)) }
+    ensures sized { OnOk result (IfKnown (S.known sources.old) (AreSized plan.now.sizes)) }
     ensures whole { (o : Order) (m : ManifestLines) (sizes : List ℕ) → IsManifest m
         → IsPlanOf (cramfs o) m sizes plan.now
-        → OnOk result (Told (S.told sources.old) (λ cs. (map length cs ≡ sizes) × Appends
+        → OnOk result (IfKnown (S.known sources.old) (λ cs. (map length cs ≡ sizes) × Appends
         (W.output w.old).contents (W.output w.new).contents (layout_of (cramfs o) m cs))) }
     ensures quiet { OnOk result ((S.reads sources.new ≡ S.reads sources.old)
         × ((W.output w.new).failures ≡ (W.output w.old).failures)) }
     ensures front { (o : Order) (m : ManifestLines) (sizes : List ℕ) → IsManifest m
         → IsPlanOf (cramfs o) m sizes plan.now
-        → OnErr result (Told (S.told sources.old) (λ cs. map length cs ≡ sizes → AppendsPrefix
+        → OnErr result (IfKnown (S.known sources.old) (λ cs. map length cs ≡ sizes → AppendsPrefix
         (W.output w.old).contents (W.output w.new).contents (layout_of (cramfs o) m cs))) }
     ensures fault { (o : Order) → plan.now.format ≡ cramfs o
-        → IfErr result (IsStreamFault (S.told sources.old) (form_of o plan.now) crc_of
+        → IfErr result (IsStreamFault (S.known sources.old) (form_of o plan.now) crc_of
         (S.reads sources.old) (S.reads sources.new) (W.output w.old) (W.output w.new)) }
 {
     let order = order_of(plan);
-    known(order, plan);
+    facts(order, plan);
     manifest_layout::laws::fitting_is_planned();
     let _ = sources.count();
     let form = CramfsForm::new(plan, order);
@@ -100,25 +100,25 @@ pub fn stream<S: Sources, W: ByteWrite>(
 ) -> Result<(), StreamError>
     requires format { (o : Order) × (plan.now.format ≡ cramfs o) }
     requires files { S.files sources.old ≡ length plan.now.sizes }
-    ensures told { S.told sources.new ≡ S.told sources.old }
+    ensures known { S.known sources.new ≡ S.known sources.old }
     ensures files { S.files sources.new ≡ S.files sources.old }
     ensures some { (o : Order) → plan.now.format ≡ cramfs o
-        → OnOk result (IsStreamed (S.told sources.old) (S.IsLog sources.old)
+        → OnOk result (IsStreamed (S.known sources.old) (S.IsLog sources.old)
         (S.IsLog sources.new) (form_of o plan.now) crc_of
         (W.output w.old).contents (W.output w.new).contents) }
-    ensures sized { OnOk result (Told (S.told sources.old) (AreSized plan.now.sizes)) }
+    ensures sized { OnOk result (IfKnown (S.known sources.old) (AreSized plan.now.sizes)) }
     ensures whole { (o : Order) (m : ManifestLines) (sizes : List ℕ) → IsManifest m
         → IsPlanOf (cramfs o) m sizes plan.now
-        → OnOk result (Told (S.told sources.old) (λ cs. (map length cs ≡ sizes) × Appends
+        → OnOk result (IfKnown (S.known sources.old) (λ cs. (map length cs ≡ sizes) × Appends
         (W.output w.old).contents (W.output w.new).contents (layout_of (cramfs o) m cs))) }
     ensures quiet { OnOk result ((S.reads sources.new ≡ S.reads sources.old)
         × ((W.output w.new).failures ≡ (W.output w.old).failures)) }
     ensures front { (o : Order) (m : ManifestLines) (sizes : List ℕ) → IsManifest m
         → IsPlanOf (cramfs o) m sizes plan.now
-        → OnErr result (Told (S.told sources.old) (λ cs. map length cs ≡ sizes → AppendsPrefix
+        → OnErr result (IfKnown (S.known sources.old) (λ cs. map length cs ≡ sizes → AppendsPrefix
         (W.output w.old).contents (W.output w.new).contents (layout_of (cramfs o) m cs))) }
     ensures fault { (o : Order) → plan.now.format ≡ cramfs o
-        → IfErr result (IsStreamFault (S.told sources.old) (form_of o plan.now) crc_of
+        → IfErr result (IsStreamFault (S.known sources.old) (form_of o plan.now) crc_of
         (S.reads sources.old) (S.reads sources.new) (W.output w.old) (W.output w.new)) }
 {
     let mut space: [u8; 4096] = [0; 4096];

@@ -13,13 +13,13 @@ use Rattle.rom_commands.specs.Answers.{usual_limits}
 
 -- what a law says of each image that is streamed into an empty file
 abbrev pub AreFaultless : Option (List (List ℕ)) → Planned → Type 0
-AreFaultless told p = (is : Option (List ℕ))
-    → (w : IsWritten told (form_in p.format p) (stored_in p.format) (Some []) is)
+AreFaultless known p = (is : Option (List ℕ))
+    → (w : IsWritten known (form_in p.format p) (stored_in p.format) (Some []) is)
     → IsFaultless (image_with p w.rest) usual_limits
 
-module _ (told : Option (List (List ℕ))) (p : Planned) (old log : List Event) (faultless : AreFaultless told p) where
+module _ (known : Option (List (List ℕ))) (p : Planned) (old log : List Event) (faultless : AreFaultless known p) where
   of_content : (place : Place) (k : ℕ) → made old ≤ k → place ≡ Made k → (c : Content) → content log k ≡ c
-      → HoldsImage (IsImageOf told p) c → IsBuiltFile p old log place
+      → HoldsImage (IsImageOf known p) c → IsBuiltFile p old log place
   of_content place k since leads Anything is holds = absurd holds
   of_content place k since leads (Whole None) is holds = absurd (holds.streamed.0.written)
   of_content place k since leads (Whole (Some bytes)) is holds = record {
@@ -31,13 +31,13 @@ module _ (told : Option (List (List ℕ))) (p : Planned) (old log : List Event) 
     faultless = faultless (Some bytes) holds.streamed.0;
   }
 
-  of_new : (place : Place) → IsNew (IsImageOf told p) old log place → IsBuiltFile p old log place
+  of_new : (place : Place) → IsNew (IsImageOf known p) old log place → IsBuiltFile p old log place
   of_new place (k, since, leads, holds) = of_content place k since leads (content log k) refl holds
 
-  pub seen : (names : Names) → IsOldOrNew names (IsImageOf told p) old log
+  pub seen : (names : Names) → IsOldOrNew names (IsImageOf known p) old log
       → (entry log names.out ≡ entry old names.out) ⊎ IsBuiltFile p old log (entry log names.out)
   seen names m = ⊎_elim (λ same. inl same) (λ new. inr (of_new (entry log names.out) new)) m.seen
 
-  pub crashed : (names : Names) (place : Place) → IsOldOrNew names (IsImageOf told p) old log
+  pub crashed : (names : Names) (place : Place) → IsOldOrNew names (IsImageOf known p) old log
       → MayLead log names.out place → MayLead old names.out place ⊎ IsBuiltFile p old log place
   crashed names place m may = ⊎_elim (λ was. inl was) (λ new. inr (of_new place new)) (m.crashed place may)

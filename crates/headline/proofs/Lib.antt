@@ -1,3 +1,9 @@
+pub mod Accepted
+pub mod Again
+pub mod LawfulNodes
+pub mod OfCramfs
+pub mod OfRomfs
+pub mod Singles
 mod Served
 mod Pieces
 mod Opened

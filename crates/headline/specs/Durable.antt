@@ -12,7 +12,7 @@ use Rattle.rom_commands.specs.Answers.{usual_limits}
 -- The image of the plan, in a file that reports its bytes. The sources report their contents or
 -- nothing, and keep no log of their answers.
 abbrev pub IsImageOf : Option (List (List ℕ)) → Planned → Option (List ℕ) → Type 0
-IsImageOf told p = IsImageWritten told (λ _. ⊤) (λ _. ⊤) p (Some [])
+IsImageOf known p = IsImageWritten known (λ _. ⊤) (λ _. ⊤) p (Some [])
 
 -- The name leads to a file that was made since. On the disk it holds a whole image of the plan, in
 -- which a check under the usual limits finds no fault.

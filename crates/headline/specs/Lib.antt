@@ -1,3 +1,4 @@
+pub mod Alike
 pub mod Headline
 pub mod Lent
 pub mod Durable

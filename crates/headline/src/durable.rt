@@ -13,14 +13,14 @@ ghost use Rattle.plan_types.specs.Plans.{Planned};
 /// manifest's plan, in which a check finds no fault. A crash leaves what it might have left before,
 /// or such an image.
 pub fn replaced_by_an_image()
-    ensures seen { (names : Names) (text : List ℕ) (p : Planned) (told : Option (List (List ℕ)))
+    ensures seen { (names : Names) (text : List ℕ) (p : Planned) (known : Option (List (List ℕ)))
         (old log : List Event) → IsPlanOfText text p
-        → IsOldOrNew names (IsImageOf told p) old log
+        → IsOldOrNew names (IsImageOf known p) old log
         → (entry log names.out ≡ entry old names.out)
         ⊎ IsBuiltFile p old log (entry log names.out) }
     ensures crashed { (names : Names) (text : List ℕ) (p : Planned)
-        (told : Option (List (List ℕ))) (old log : List Event) (place : Place)
-        → IsPlanOfText text p → IsOldOrNew names (IsImageOf told p) old log
+        (known : Option (List (List ℕ))) (old log : List Event) (place : Place)
+        → IsPlanOfText text p → IsOldOrNew names (IsImageOf known p) old log
         → MayLead log names.out place
         → MayLead old names.out place ⊎ IsBuiltFile p old log place }
 {

@@ -16,6 +16,7 @@
 #![tactic(auto)]
 
 pub mod durable;
+pub mod laws;
 pub mod naming;
 
 ghost use Rattle.std.specs.Prelude.{◌≡◌, ◌⊎◌, ◌*◌, ◌<◌, ◌≤◌, ℕ, List, Option, Some, Ok, false};
@@ -29,10 +30,10 @@ ghost use Rattle.image_build.specs.Streamed.{stored_in};
 ghost use Rattle.image_check.specs.Checked.{HasTree, IsFaultless};
 ghost use Rattle.image_manifest.specs.Lines.{member_lines};
 ghost use Rattle.image_manifest.specs.Sources.{file_contents};
-ghost use Rattle.image_manifest.specs.Tellable.{IsToldWhole};
-ghost use Rattle.image_told.specs.Alike.{AreAlike};
+ghost use Rattle.image_manifest.specs.Describable.{IsDescribedWhole};
+ghost use Rattle.headline.specs.Alike.{AreAlike};
 ghost use Rattle.image_stream.specs.Outcomes.{IsWritten};
-ghost use Rattle.manifest_text.specs.Printed.{manifest_text};
+ghost use Rattle.manifest.specs.Printed.{manifest_text};
 ghost use Rattle.layout_terms.specs.Placement.{IsRun};
 ghost use Rattle.manifest.specs.Grammar.{manifest_of};
 ghost use Rattle.manifest.specs.Lines.{ManifestLines};
@@ -98,17 +99,17 @@ pub fn headline()
 /// States what follows for an image that is taken apart and built again, in any format. Take a
 /// manifest that describes the whole image, and the contents of its files. The image that is built
 /// from them has no fault. Its tree is like the first image's: it is the same at each path, and the
-/// same paths share a file. `image_told::laws::extracted_is_told` says which accepted images a
+/// same paths share a file. `crate::laws::extracted_is_described` says which accepted images a
 /// manifest describes whole.
 pub fn built_again()
-    ensures { (m : Image) (volume folder : List ℕ) (f : Format) (bytes : List ℕ)
-        → IsToldWhole m volume folder
-        → Builds f (manifest_text volume (member_lines m folder)) (file_contents m) (Ok bytes)
+    ensures { (m : Image) (volume prefix : List ℕ) (f : Format) (bytes : List ℕ)
+        → IsDescribedWhole m volume prefix
+        → Builds f (manifest_text volume (member_lines m prefix)) (file_contents m) (Ok bytes)
         → IsFaultless bytes usual_limits
         × ((t : Node) → HasTree bytes usual_limits t → AreAlike m.bytes m.tree bytes t) }
 {
     image_build::laws::built_is_accepted();
-    image_told::laws::built_again_is_alike();
+    crate::laws::built_again_is_alike();
 }
 
 /// States what follows for an image that was streamed, whatever the sources report; a file reports
@@ -119,30 +120,30 @@ pub fn built_again()
 /// a copy in the image, it is served as the tree that the manifest means with some contents of the
 /// sources. Its files, their copies and its volume's name are as in an image that was built.
 pub fn streamed()
-    ensures each { (text : List ℕ) (p : Planned) (told : Option (List (List ℕ)))
+    ensures each { (text : List ℕ) (p : Planned) (known : Option (List (List ℕ)))
         (old new : Option (List ℕ)) (r₀ r : Input) (w₀ w : Output) (o : Serving)
         → (is : IsPlanOfText text p)
-        → (s : IsWritten told (form_in p.format p) (stored_in p.format) old new)
+        → (s : IsWritten known (form_in p.format p) (stored_in p.format) old new)
         → ServingEnds (image_with p s.rest) r₀ r w₀ w o
         → IsServedAsGiven s.answers is.lines p.sizes (image_with p s.rest) r₀ r w₀ w o
         ⊎ IsUnserved r₀ r w₀ w o }
-    ensures built { (text : List ℕ) (p : Planned) (told : Option (List (List ℕ)))
+    ensures built { (text : List ℕ) (p : Planned) (known : Option (List (List ℕ)))
         (old new : Option (List ℕ)) (r₀ r : Input) (w₀ w : Output) (o : Serving)
         → (is : IsPlanOfText text p) → HasNoCopies p.format is.lines
-        → (s : IsWritten told (form_in p.format p) (stored_in p.format) old new)
+        → (s : IsWritten known (form_in p.format p) (stored_in p.format) old new)
         → ServingEnds (image_with p s.rest) r₀ r w₀ w o
         → ((contents : List (List ℕ)) × (map length contents ≡ p.sizes)
         × IsServedAsMeant text contents (image_with p s.rest) r₀ r w₀ w o)
         ⊎ IsUnserved r₀ r w₀ w o }
-    ensures placed { (text : List ℕ) (p : Planned) (told : Option (List (List ℕ)))
+    ensures placed { (text : List ℕ) (p : Planned) (known : Option (List (List ℕ)))
         (old new : Option (List ℕ)) → (is : IsPlanOfText text p)
-        → (s : IsWritten told (form_in p.format p) (stored_in p.format) old new)
+        → (s : IsWritten known (form_in p.format p) (stored_in p.format) old new)
         → HasVolume p.format (image_with p s.rest) is.lines.volume
         × ((t : Node) → HasTree (image_with p s.rest) usual_limits t
         → IsPlaced t is.lines × CopiesStand p.format t is.lines) }
-    ensures mapped { (text : List ℕ) (p : Planned) (told : Option (List (List ℕ)))
+    ensures mapped { (text : List ℕ) (p : Planned) (known : Option (List (List ℕ)))
         (old new : Option (List ℕ)) (image : Image) → (is : IsPlanOfText text p)
-        → (s : IsWritten told (form_in p.format p) (stored_in p.format) old new)
+        → (s : IsWritten known (form_in p.format p) (stored_in p.format) old new)
         → HasTree (image_with p s.rest) usual_limits image.tree → AreOpenedWhole image is.lines }
 {
     image_build::laws::streamed_is_accepted();

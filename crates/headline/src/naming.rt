@@ -27,9 +27,9 @@ pub fn built_is_named()
 /// States the same for an image that `image_build::stream` wrote with `Ok`, whatever the sources
 /// report.
 pub fn streamed_is_named()
-    ensures { (limits : Limits) (text : List ℕ) (p : Planned) (told : Option (List (List ℕ)))
+    ensures { (limits : Limits) (text : List ℕ) (p : Planned) (known : Option (List (List ℕ)))
         (old new : Option (List ℕ)) (v : AnyImage) → (is : IsPlanOfText text p)
-        → (w : IsWritten told (form_in p.format p) (stored_in p.format) old new)
+        → (w : IsWritten known (form_in p.format p) (stored_in p.format) old new)
         → Shows (image_with p w.rest) limits (any_view v) (report_of v)
         → HasFormat (image_with p w.rest) v → volume_of v ≡ is.lines.volume }
 {

@@ -26,7 +26,7 @@ use Rattle.image_build.specs.Streamed.{IsPlanOfText, form_in, stored_in, image_w
 use Rattle.image_build.proofs.Bodies.{IsOf}
 use Rattle.image_build.proofs.Given.{given_or_lacks, lacking}
 use Rattle.image_build.proofs.Streams.{HoldsAll, planned_in}
-use Rattle.image_build.proofs.Untold.{IsBuiltOf, in_format}
+use Rattle.image_build.proofs.Unknown.{IsBuiltOf, in_format}
 use Rattle.image_build.proofs.Owned.{own_file, own_names}
 use Rattle.image_build.proofs.Each.{IsOfFiles, each_of_plan}
 use Rattle.image_build.proofs.Meaning.{Leads, IsGivenEach, bytes_at, meant_of_own, meant_of_sources, given_of_own}

@@ -5,7 +5,8 @@ use Rattle.std.specs.List.{AllByRecursion as Every}
 use Rattle.record_forest.proofs.Lists.{every_left, every_right}
 use Rattle.romfs_format.specs.Record.{pad16}
 use Rattle.rom_tree.specs.Dots.{dot, dot_dot}
-use Rattle.manifest_tree.specs.Names.{Fill, no_bytes, text, source, Inode, Names, nothing, leaf, link, folder, bytes_of}
+use Rattle.manifest_tree.specs.Names.{Fill, no_bytes, text, source, Inode, Names, nothing, leaf, link, subdirectory}
+use Rattle.manifest_tree.specs.Names.{bytes_of}
 use Rattle.layout_terms.specs.Files.{files, Placed, at_place}
 use Rattle.layout_terms.specs.Items.{Item, Section, Body, super, record_of, table_of, text_of, contents_of}
 use Rattle.layout_terms.specs.Items.{fill_section, bytes_section}
@@ -82,12 +83,12 @@ headers_alike S at to same dir from (link name i after) y = (
       (at i.line) (to i.line) name (first_same (header_end from name) after) (same i.line),
   headers_alike S at to same dir (header_end from name) after y,
 )
-headers_alike S at to same dir from (folder name i own after) y =
+headers_alike S at to same dir from (subdirectory name i own after) y =
     let says : Inode → Type 0 = λ j. (k : ℕ) → j.fill ≡ source k → k ≡ S j.line in
     let h = header_end from name in
     let q = ends (h + 64) own in
     let mine = headers to (pad16 from) (h + 64) (own_names own) in
-    let G : ℕ → Type 0 = λ e. AreAlike S (headers at dir from (folder name i own after))
+    let G : ℕ → Type 0 = λ e. AreAlike S (headers at dir from (subdirectory name i own after))
     (header_alone (pad16 from) (first_place e (own_names after) + code_of i) h name
     ∷ header_alone h (h + 32) (pad16 from) dot
     ∷ header_alone (h + 32) (first_place (h + 64) (own_names own)) dir dot_dot
@@ -123,7 +124,7 @@ placed_same from (leaf name i after) =
     ap (λ (xs : List Placed). at_place (own_file i) (place_of from name i) ∷ xs)
     (placed_same (leaf_end from name i) after)
 placed_same from (link name i after) = placed_same (header_end from name) after
-placed_same from (folder name i own after) =
+placed_same from (subdirectory name i own after) =
     let h = header_end from name in
     let first = at_place (own_file i) (pad16 from) in
     ap (λ (k : ℕ). first ∷ placed (h + 64) (own_names own) ++ placed k (own_names after)) (ends_same (h + 64) own)

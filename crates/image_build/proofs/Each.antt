@@ -5,10 +5,11 @@ use Rattle.std.specs.List.{AllByRecursion as Every}
 use Rattle.record_forest.specs.Members.{Pairs}
 use Rattle.record_forest.proofs.Lists.{pairs_map, pairs_weaker, every_join}
 use Rattle.romfs_format.specs.Record.{pad16}
-use Rattle.image_parts.specs.Padding.{pad}
+use Rattle.rom_fields.specs.Padding.{pad}
 use Rattle.manifest.specs.Grammar.{IsManifest}
 use Rattle.manifest.specs.Lines.{ManifestLines, sources_of}
-use Rattle.manifest_tree.specs.Names.{Fill, no_bytes, text, source, Inode, Names, nothing, leaf, link, folder, bytes_of}
+use Rattle.manifest_tree.specs.Names.{Fill, no_bytes, text, source, Inode, Names, nothing, leaf, link, subdirectory}
+use Rattle.manifest_tree.specs.Names.{bytes_of}
 use Rattle.manifest_tree.specs.Tree.{tree_of, root_of}
 use Rattle.layout_terms.specs.Files.{files}
 use Rattle.manifest_layout.specs.Format.{romfs}
@@ -31,7 +32,7 @@ use Rattle.image_build.proofs.Bodies.{IsOf}
 use Rattle.image_build.proofs.Found.{source_at, says_source, HasGiven, all_given, have_given, sections_given}
 use Rattle.image_build.proofs.Given.{given}
 use Rattle.image_build.proofs.InRomfs.{Apart, all_apart, sections_differ}
-use Rattle.image_build.proofs.Untold.{once, romfs_of}
+use Rattle.image_build.proofs.Unknown.{once, romfs_of}
 use Rattle.image_build.proofs.Owned.{own_fill, own_file, own_names, ends_same, files_same, HasOwn, planned_owned}
 use Rattle.image_build.proofs.Alike.{all_alike, item_alike, sections_alike}
 use Rattle.image_build.proofs.Moved.{segments_alike, image_moved}
@@ -59,7 +60,7 @@ all_small_files : (zs : List (List ℕ)) (n : Names) → ((file : ℕ) → get_o
 all_small_files zs nothing small w = tt
 all_small_files zs (leaf name i after) small w = (file_small zs i small w.1, all_small_files zs after small w.2)
 all_small_files zs (link name i after) small w = all_small_files zs after small w.2
-all_small_files zs (folder name i own after) small w =
+all_small_files zs (subdirectory name i own after) small w =
     let zero : own_size i ≡ 0 = ap (λ (f : Fill). size_by f i.size) w.1.bytes in (
       omega (arith, zero),
       every_join (λ i. own_size i < 2 ^ 32) (files own) (files after)
@@ -153,7 +154,7 @@ module _ (volume : List ℕ) (root : Inode) (n : Names) (zs : List (List ℕ)) (
             (all_given (λ k. H k (content_of c.0 k)) c.0 r root n own.well
             (sections_given H c.0 new.items (drop 1 new.sections) c.3));
         links = h.links;
-        bare = h.folder.bytes;
+        bare = h.subdirectory.bytes;
         planned = own;
         is = head ∙ ap (checked g.head balance_of) c.2 ∙ sized;
       }

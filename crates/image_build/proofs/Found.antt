@@ -10,7 +10,7 @@ use Rattle.image_stream.specs.Sources.{content_of}
 use Rattle.layout_terms.specs.Files.{files}
 use Rattle.layout_terms.specs.Items.{Item, Section, Body, section, super, record_of, table_of, text_of, contents_of}
 use Rattle.layout_terms.specs.Items.{fill_section, bytes_section}
-use Rattle.manifest_tree.specs.Names.{Fill, no_bytes, text, source, Inode, Names, nothing, leaf, link, folder}
+use Rattle.manifest_tree.specs.Names.{Fill, no_bytes, text, source, Inode, Names, nothing, leaf, link, subdirectory}
 use Rattle.romfs_format.specs.Record.{pad16}
 use Rattle.romfs_layout.specs.Items.{item_of, sections_from}
 use Rattle.romfs_layout.specs.Layout.{Header, headers, all_headers, leaf_end, header_end, ends, place_with, placed}
@@ -73,7 +73,7 @@ module _ (Q : ℕ → Type 0) where
   files_given zs at dir from nothing w h = tt
   files_given zs at dir from (leaf name i after) w h = (h.0, files_given zs at dir (leaf_end from name i) after w.2 h.1)
   files_given zs at dir from (link name i after) w h = files_given zs at dir (header_end from name) after w.2 h.1
-  files_given zs at dir from (folder name i own after) w h =
+  files_given zs at dir from (subdirectory name i own after) w h =
       let q = header_end from name in
       let e = ends (q + 64) own in
       let one = headers at (pad16 from) (q + 64) own in

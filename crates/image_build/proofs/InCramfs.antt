@@ -8,7 +8,7 @@ use Rattle.record_forest.specs.Members.{Pairs}
 use Rattle.record_forest.proofs.Lists.{every_weaker, every_join, every_of, pairs_join}
 use Rattle.cramfs_format.specs.declared.order.Order.{Order}
 use Rattle.cramfs_format.specs.Inode.{block_count}
-use Rattle.manifest_tree.specs.Names.{Fill, no_bytes, text, source, Inode, Names, nothing, leaf, link, folder}
+use Rattle.manifest_tree.specs.Names.{Fill, no_bytes, text, source, Inode, Names, nothing, leaf, link, subdirectory}
 use Rattle.layout_terms.specs.Items.{Item, Section, section, record_of, table_of, contents_of, fill_section}
 use Rattle.cramfs_layout.specs.Layout.{pad4, entry_len, State, Table, table_with, Kept, nowhere, shared, fresh, kept}
 use Rattle.cramfs_layout.specs.Layout.{kept_by, kept_with, with_table, after_by, after_file, after_list, after_names}
@@ -21,8 +21,8 @@ abbrev Stay : List Table → List Table → Type 0
 Stay ts us = (k t : ℕ) → table_with ts k ≡ Some t → table_with us k ≡ Some t
 
 -- an item's table is the one of its source
-abbrev pub IsTold : List Table → Item → Type 0
-IsTold ts i = (k : ℕ) → i.fill ≡ source k → i.len ≢ 0 → table_with ts k ≡ Some i.table
+abbrev pub IsKnown : List Table → Item → Type 0
+IsKnown ts i = (k : ℕ) → i.fill ≡ source k → i.len ≢ 0 → table_with ts k ≡ Some i.table
 
 same_source : {j k : ℕ} → source j ≡ source k → j ≡ k
 same_source e = cc
@@ -57,21 +57,21 @@ kept_stay s i fresh e = elim (eqb_tells i.size 0) [
   | inr y ↦ with_stay i.fill (pad4 s.at) s.tables (λ k g. fresh_by s.tables i.fill k (rw y.0 at e) g)
 ]
 
-kept_told : (o : Order) (l : ℕ) (name : List ℕ) (s : State) (i : Inode) (k : Kept) → kept s.tables i ≡ k
-    → IsTold (after_by k s i).tables (kept_item o l s.at name i k)
+kept_known : (o : Order) (l : ℕ) (name : List ℕ) (s : State) (i : Inode) (k : Kept) → kept s.tables i ≡ k
+    → IsKnown (after_by k s i).tables (kept_item o l s.at name i k)
 unfolding kept
-kept_told o l name s i nowhere e j f n = elim (eqb_tells i.size 0) [
+kept_known o l name s i nowhere e j f n = elim (eqb_tells i.size 0) [
   | inl y ↦ absurd (n y.1)
   | inr y ↦ let z : source j ≡ no_bytes = sym f ∙ none_by s.tables i.fill (rw y.0 at e) in absurd (cc)
 ]
-kept_told o l name s i (shared t) e j f n = elim (eqb_tells i.size 0) [
+kept_known o l name s i (shared t) e j f n = elim (eqb_tells i.size 0) [
   | inl y ↦ absurd (n y.1)
   | inr y ↦
       let r = shared_by s.tables i.fill t (rw y.0 at e) in
       let same : j ≡ r.0 = same_source (sym f ∙ r.1) in
       ap (table_with s.tables) same ∙ r.2
 ]
-kept_told o l name s i fresh e j f n =
+kept_known o l name s i fresh e j f n =
     ap (λ (g : Fill). table_with (with_table g (pad4 s.at) s.tables) j) f
     ∙ ap (λ (b : Bool). if b then Some (pad4 s.at) else table_with s.tables j) (eq-eqb j j refl)
 
@@ -81,30 +81,30 @@ names_stay s (leaf name i rest) k t h =
     names_stay (after_file s i) rest k t (kept_stay s i (kept s.tables i) refl k t h)
 names_stay s (link name i rest) k t h =
     names_stay (after_file s i) rest k t (kept_stay s i (kept s.tables i) refl k t h)
-names_stay s (folder name i own rest) k t h =
+names_stay s (subdirectory name i own rest) k t h =
     names_stay (after_names (after_list s own) own) rest k t (names_stay (after_list s own) own k t h)
 
 -- the tables of all items are those that are in the end
-pub all_told : (ts : List Table) (o : Order) (l : ℕ) (s : State) (n : Names) → Stay (after_names s n).tables ts
-    → Every (IsTold ts) (entries o l s n) × Every (IsTold ts) (below o s n)
-all_told ts o l s nothing h = (tt, tt)
-all_told ts o l s (leaf name i rest) h =
+pub all_known : (ts : List Table) (o : Order) (l : ℕ) (s : State) (n : Names) → Stay (after_names s n).tables ts
+    → Every (IsKnown ts) (entries o l s n) × Every (IsKnown ts) (below o s n)
+all_known ts o l s nothing h = (tt, tt)
+all_known ts o l s (leaf name i rest) h =
     let s1 = after_file s i in
-    let more = all_told ts o (l + entry_len name) s1 rest h in
-    ((λ k f n. h k _ (names_stay s1 rest k _ (kept_told o l name s i (kept s.tables i) refl k f n)), more.0), more.1)
-all_told ts o l s (link name i rest) h =
+    let more = all_known ts o (l + entry_len name) s1 rest h in
+    ((λ k f n. h k _ (names_stay s1 rest k _ (kept_known o l name s i (kept s.tables i) refl k f n)), more.0), more.1)
+all_known ts o l s (link name i rest) h =
     let s1 = after_file s i in
-    let more = all_told ts o (l + entry_len name) s1 rest h in
-    ((λ k f n. h k _ (names_stay s1 rest k _ (kept_told o l name s i (kept s.tables i) refl k f n)), more.0), more.1)
-all_told ts o l s (folder name i own rest) h =
+    let more = all_known ts o (l + entry_len name) s1 rest h in
+    ((λ k f n. h k _ (names_stay s1 rest k _ (kept_known o l name s i (kept s.tables i) refl k f n)), more.0), more.1)
+all_known ts o l s (subdirectory name i own rest) h =
     let s1 = after_list s own in
     let s2 = after_names s1 own in
-    let mine = all_told ts o (pad4 s.at) s1 own (λ k t e. h k t (names_stay s2 rest k t e)) in
-    let more = all_told ts o (l + entry_len name) s2 rest h in
+    let mine = all_known ts o (pad4 s.at) s1 own (λ k t e. h k t (names_stay s2 rest k t e)) in
+    let more = all_known ts o (l + entry_len name) s2 rest h in
     let bare : (k : ℕ) → no_bytes ≡ source k → ⊥ = λ k z. cc in (
       (λ k f n. absurd (bare k f), more.0),
-      every_join (IsTold ts) (entries o (pad4 s.at) s1 own) (below o s1 own ++ below o s2 rest) mine.0
-          (every_join (IsTold ts) (below o s1 own) (below o s2 rest) mine.1 more.1),
+      every_join (IsKnown ts) (entries o (pad4 s.at) s1 own) (below o s1 own ++ below o s2 rest) mine.0
+          (every_join (IsKnown ts) (below o s1 own) (below o s2 rest) mine.1 more.1),
     )
 
 -- a section of the contents of an item with a table that no earlier item has
@@ -149,7 +149,7 @@ or_false : (a b : Bool) → (a || b) ≡ false → (a ≡ false) × (b ≡ false
 or_false true b h = absurd (cc)
 or_false false b h = (refl, h)
 
-pub all_differ : (ts : List Table) (earlier : List Item) (index : ℕ) (is : List Item) → Every (IsTold ts) is
+pub all_differ : (ts : List Table) (earlier : List Item) (index : ℕ) (is : List Item) → Every (IsKnown ts) is
     → Every (IsNew ts earlier) (sections_from earlier index is) × Pairs Differ (sections_from earlier index is)
 all_differ ts earlier index [] h = (tt, tt)
 all_differ ts earlier index (i ∷ is) h =

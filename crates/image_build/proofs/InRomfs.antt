@@ -5,7 +5,7 @@ use Rattle.record_forest.specs.Members.{Pairs}
 use Rattle.record_forest.proofs.Lists.{every_weaker, every_join, every_left, every_right, every_all, pairs_join}
 use Rattle.record_forest.proofs.Lists.{pairs_left, pairs_right, pairs_cross}
 use Rattle.romfs_format.specs.Record.{pad16}
-use Rattle.manifest_tree.specs.Names.{Fill, no_bytes, text, source, Inode, Names, nothing, leaf, link, folder}
+use Rattle.manifest_tree.specs.Names.{Fill, no_bytes, text, source, Inode, Names, nothing, leaf, link, subdirectory}
 use Rattle.layout_terms.specs.Files.{files}
 use Rattle.layout_terms.specs.Items.{Section, section, record_of, contents_of, fill_section, bytes_section}
 use Rattle.romfs_layout.specs.Layout.{Header, headers, all_headers, leaf_end, header_end, ends, place_with, placed}
@@ -23,7 +23,7 @@ headers_every : (P : Fill → Type 0) → P no_bytes → (at : ℕ → ℕ) (dir
 headers_every P p at dir from nothing h = tt
 headers_every P p at dir from (leaf name i after) h = (h.0, headers_every P p at dir (leaf_end from name i) after h.1)
 headers_every P p at dir from (link name i after) h = (p, headers_every P p at dir (header_end from name) after h)
-headers_every P p at dir from (folder name i own after) h =
+headers_every P p at dir from (subdirectory name i own after) h =
     let q = header_end from name in
     let e = ends (q + 64) own in
     let left = every_left (λ i. P i.fill) (files own) (files after) h.1 in
@@ -52,7 +52,7 @@ headers_apart at dir from (leaf name i after) p = (
 headers_apart at dir from (link name i after) p =
     let hs = headers at dir (header_end from name) after in
     (every_all (λ h. Apart no_bytes h.fill) (λ h. bare h.fill) hs, headers_apart at dir (header_end from name) after p)
-headers_apart at dir from (folder name i own after) p =
+headers_apart at dir from (subdirectory name i own after) p =
     let q = header_end from name in
     let e = ends (q + 64) own in
     let mine = headers at (pad16 from) (q + 64) own in

@@ -8,7 +8,7 @@ mod Differ
 mod InCramfs
 mod InRomfs
 mod OwnSources
-mod Untold
+mod Unknown
 mod Owned
 mod Alike
 mod Moved

@@ -11,7 +11,8 @@ use Rattle.rom_tree.specs.Tree.{Node}
 use Rattle.manifest.specs.Grammar.{IsManifest}
 use Rattle.manifest.specs.Lines.{ManifestLines}
 use Rattle.manifest_tree.specs.Meant.{IsMeant}
-use Rattle.manifest_tree.specs.Names.{Fill, no_bytes, text, source, Inode, Names, nothing, leaf, link, folder, bytes_of}
+use Rattle.manifest_tree.specs.Names.{Fill, no_bytes, text, source, Inode, Names, nothing, leaf, link, subdirectory}
+use Rattle.manifest_tree.specs.Names.{bytes_of}
 use Rattle.manifest_tree.specs.Shape.{Value, Named, with_names, find_name, file_under, file_value, HasShape}
 use Rattle.manifest_tree.specs.Tree.{tree_of, root_of, file_named}
 use Rattle.layout_terms.specs.Files.{files}
@@ -36,7 +37,7 @@ abbrev pub HoldsOf : (Inode → Type 0) → Names → Type 0
 HoldsOf P nothing = Unit {0}
 HoldsOf P (leaf name i after) = P i × HoldsOf P after
 HoldsOf P (link name i after) = P i × HoldsOf P after
-HoldsOf P (folder name i own after) = P i × HoldsOf P own × HoldsOf P after
+HoldsOf P (subdirectory name i own after) = P i × HoldsOf P own × HoldsOf P after
 
 module _ (P : Inode → Type 0) where
   abbrev Held : Option Named → Type 0
@@ -55,7 +56,7 @@ module _ (P : Inode → Type 0) where
         | true ↦ (h.0, tt)
         | false ↦ found_held after m h.1
       ]
-  found_held (folder name i own after) m h =
+  found_held (subdirectory name i own after) m h =
       elim (bytes_eq name m) as (λ t. Held (if t then Some (with_names i own) else find_name after m)) [
         | true ↦ (h.0, h.1)
         | false ↦ found_held after m h.2
@@ -81,7 +82,7 @@ module _ (P : Inode → Type 0) where
   links_held all nothing a h l = tt
   links_held all (leaf name i after) a h l = (h.0, links_held all after a h.1 l)
   links_held all (link name i after) a h l = (found_has P all i.line i a l.0, links_held all after a h l.1)
-  links_held all (folder name i own after) a h l = (
+  links_held all (subdirectory name i own after) a h l = (
     h.0,
     links_held all own a (every_left P (files own) (files after) h.1) l.0,
     links_held all after a (every_right P (files own) (files after) h.1) l.1,
@@ -105,7 +106,7 @@ find_own (link name i after) m = elim (bytes_eq name m) as
       | true ↦ refl
       | false ↦ find_own after m
     ]
-find_own (folder name i own after) m =
+find_own (subdirectory name i own after) m =
     elim (bytes_eq name m) as (λ t. (if t then Some (with_names (own_file i) (own_names own))
     else find_name (own_names after) m)
     ≡ option_map own_named (if t then Some (with_names i own) else find_name after m)) [
@@ -201,7 +202,7 @@ files_found : (cs : List (List ℕ)) (all : List Inode) (n : Names) → AreWell 
 files_found cs all nothing w h = tt
 files_found cs all (leaf name i after) w h = (inl (h.0, w.1.bytes), files_found cs all after w.2 h.1)
 files_found cs all (link name i after) w h = absurd w
-files_found cs all (folder name i own after) w h =
+files_found cs all (subdirectory name i own after) w h =
     let P : Inode → Type 0 = λ i. file_of all i.line ≡ Some i in (
       inr w.1.bytes,
       files_found cs all own w.2 (every_left P (files own) (files after) h.1),
@@ -252,7 +253,7 @@ meant_of_sources leads m sizes bytes t cs hm plan meant =
     let x = with_names (root_of m.lines sizes) n in
     let all = files_found cs (files n) n plan.well (every_found (files n) plan.lines.1) in
     let found : (q : List (List ℕ)) (i : Inode) → file_named m.lines sizes q ≡ Some i → IsFound cs (files n) i =
-    λ q i e. under_held (IsFound cs (files n)) q x i (inr plan.folder.bytes) all (leads m sizes q hm ∙ e) in
+    λ q i e. under_held (IsFound cs (files n)) q x i (inr plan.subdirectory.bytes) all (leads m sizes q hm ∙ e) in
     record {
       values = λ q. meant.values q ∙ values_found cs n (file_named m.lines sizes q) (found q);
       sized = λ q i k e f. long_found cs n i k (found q i e) f;
@@ -282,7 +283,8 @@ pub at_source : Leads → (m : ManifestLines) (sizes : List ℕ) (cs : List (Lis
 at_source leads m sizes cs hm plan q i k e f =
     let n = tree_of m.lines sizes in
     let all = files_found cs (files n) n plan.well (every_found (files n) plan.lines.1) in
-    let found = under_held (IsFound cs (files n)) q (with_names (root_of m.lines sizes) n) i (inr plan.folder.bytes) all
+    let found = under_held (IsFound cs (files n)) q (with_names (root_of m.lines sizes) n) i
+    (inr plan.subdirectory.bytes) all
     (leads m sizes q hm ∙ e) in
     sym (ap (bytes_given (bytes_at cs n i.line)) f) ∙ sym (bytes_found cs n i found) ∙ ap (bytes_of cs) f
 

@@ -11,8 +11,9 @@ use Rattle.manifest.specs.declared.line.Word.{Word}
 use Rattle.manifest.specs.declared.line.Word.TheVariants.{Dir, File, Slink, Block, Character, Fifo, Socket, Hard, Same}
 use Rattle.manifest.specs.Lines.{ManifestLines, is_file, is_hard, is_same, led, filed}
 use Rattle.manifest.specs.Grammar.{IsManifest}
-use Rattle.manifest_tree.specs.Names.{source, Inode, Names, nothing, leaf, link, folder}
-use Rattle.manifest_tree.specs.Tree.{What, a_leaf, a_link, a_folder, what_by, sources_before, with_contents, inode_by}
+use Rattle.manifest_tree.specs.Names.{source, Inode, Names, nothing, leaf, link, subdirectory}
+use Rattle.manifest_tree.specs.Tree.{What, a_leaf, a_link, a_directory, what_by, sources_before, with_contents}
+use Rattle.manifest_tree.specs.Tree.{inode_by}
 use Rattle.manifest_tree.specs.Tree.{inode_of, grown, tree_of}
 use Rattle.manifest_tree.proofs.Law.{grown_by}
 use Rattle.layout_terms.specs.Files.{files}
@@ -130,13 +131,13 @@ IsOfLine all i =
 abbrev Holds : List Line → List ℕ → What → Type 0
 Holds all name (a_leaf i) = IsOfLine all i
 Holds all name (a_link i) = Unit {0}
-Holds all name (a_folder i) = IsOfLine all i
+Holds all name (a_directory i) = IsOfLine all i
 
 files_of_lines : (all : List Line) (n : Names) → HoldAll (Holds all) n → Every (IsOfLine all) (files n)
 files_of_lines all nothing h = tt
 files_of_lines all (leaf name i after) h = (h.0, files_of_lines all after h.1)
 files_of_lines all (link name i after) h = files_of_lines all after h.1
-files_of_lines all (folder name i own after) h = (
+files_of_lines all (subdirectory name i own after) h = (
   h.0,
   every_join (IsOfLine all) (files own) (files after) (files_of_lines all own h.1)
       (files_of_lines all after h.2),

@@ -8,12 +8,13 @@ use Rattle.rom_tree.specs.declared.types.Kind.TheVariants.{Directory, Regular, S
 use Rattle.record_forest.specs.Members.{Pairs}
 use Rattle.record_forest.proofs.Lists.{every_map, pairs_map, every_left, every_right}
 use Rattle.romfs_format.specs.Record.{pad16}
-use Rattle.manifest_tree.specs.Names.{Fill, no_bytes, text, source, Inode, Names, nothing, leaf, link, folder, bytes_of}
+use Rattle.manifest_tree.specs.Names.{Fill, no_bytes, text, source, Inode, Names, nothing, leaf, link, subdirectory}
+use Rattle.manifest_tree.specs.Names.{bytes_of}
 use Rattle.layout_terms.specs.Files.{files, height}
 use Rattle.layout_terms.specs.Lists.{IsFree, StandsIn}
 use Rattle.romfs_layout.specs.Layout.{headers, leaf_end, header_end, ends, first_place, place_with, placed, place_of}
 use Rattle.romfs_layout.specs.Layout.{data_align, root_at}
-use Rattle.romfs_layout.specs.Wells.{FitsKind, IsFile, IsFolder, AreWell, AreLinks, file_of}
+use Rattle.romfs_layout.specs.Wells.{FitsKind, IsFile, IsDirectory, AreWell, AreLinks, file_of}
 use Rattle.romfs_layout.specs.Planned.{IsPlanned}
 
 abbrev pub own_fill : ℕ → Fill → Fill
@@ -39,7 +40,7 @@ abbrev pub own_names : Names → Names
 own_names nothing = nothing
 own_names (leaf name i after) = leaf name (own_file i) (own_names after)
 own_names (link name i after) = link name (own_file i) (own_names after)
-own_names (folder name i own after) = folder name (own_file i) (own_names own) (own_names after)
+own_names (subdirectory name i own after) = subdirectory name (own_file i) (own_names own) (own_names after)
 
 -- They have the same offsets as the others.
 pub ends_same : (from : ℕ) (n : Names) → ends from (own_names n) ≡ ends from n
@@ -47,7 +48,7 @@ unfolding place_of data_align
 ends_same from nothing = refl
 ends_same from (leaf name i after) = ends_same (leaf_end from name i) after
 ends_same from (link name i after) = ends_same (header_end from name) after
-ends_same from (folder name i own after) =
+ends_same from (subdirectory name i own after) =
     ap (λ (k : ℕ). ends k (own_names after)) (ends_same (header_end from name + 64) own)
     ∙ ends_same (ends (header_end from name + 64) own) after
 
@@ -56,13 +57,13 @@ unfolding place_of data_align
 first_same from nothing = refl
 first_same from (leaf name i after) = refl
 first_same from (link name i after) = refl
-first_same from (folder name i own after) = refl
+first_same from (subdirectory name i own after) = refl
 
 pub files_same : (n : Names) → files (own_names n) ≡ map own_file (files n)
 files_same nothing = refl
 files_same (leaf name i after) = ap (λ (is : List Inode). own_file i ∷ is) (files_same after)
 files_same (link name i after) = files_same after
-files_same (folder name i own after) =
+files_same (subdirectory name i own after) =
     ap (λ (is : List Inode). own_file i ∷ is)
     (ap (λ (is : List Inode). is ++ files (own_names after)) (files_same own)
     ∙ ap (λ (is : List Inode). map own_file (files own) ++ is) (files_same after)
@@ -76,7 +77,7 @@ height_same : (n : Names) → height (own_names n) ≡ height n
 height_same nothing = refl
 height_same (leaf name i after) = ap (λ (k : ℕ). max 1 k) (height_same after)
 height_same (link name i after) = ap (λ (k : ℕ). max 1 k) (height_same after)
-height_same (folder name i own after) =
+height_same (subdirectory name i own after) =
     ap (λ (k : ℕ). max (suc k) (height (own_names after))) (height_same own)
     ∙ ap (λ (k : ℕ). max (suc (height own)) k) (height_same after)
 
@@ -86,8 +87,8 @@ stands_same m (leaf name i after) (inl h) = inl h
 stands_same m (leaf name i after) (inr h) = inr (stands_same m after h)
 stands_same m (link name i after) (inl h) = inl h
 stands_same m (link name i after) (inr h) = inr (stands_same m after h)
-stands_same m (folder name i own after) (inl h) = inl h
-stands_same m (folder name i own after) (inr h) = inr (stands_same m after h)
+stands_same m (subdirectory name i own after) (inl h) = inl h
+stands_same m (subdirectory name i own after) (inr h) = inr (stands_same m after h)
 
 -- the contents of a file's own source are as long as the file
 abbrev pub HasOwn : List (List ℕ) → Inode → Type 0
@@ -122,8 +123,8 @@ file_owned zs cs i h o = record {
   of_align = h.of_align;
 }
 
-folder_owned : (i : Inode) → IsFolder i → IsFolder (own_file i)
-folder_owned i h =
+directory_owned : (i : Inode) → IsDirectory i → IsDirectory (own_file i)
+directory_owned i h =
     record { kind = h.kind; mode = h.mode; owner = h.owner; numbers = h.numbers; bytes = ap (own_fill i.line) h.bytes }
 
 free_owned : (name : List ℕ) (n : Names) → IsFree name n → IsFree name (own_names n)
@@ -148,10 +149,10 @@ module _ (zs cs : List (List ℕ)) (all : List Inode) (have : Every (HasOwn cs) 
     file_owned zs cs i w.1 (found_has (HasOwn cs) all i.line i have l.0),
     well_owned after w.2 h l.1,
   )
-  well_owned (folder name i own after) w h l =
+  well_owned (subdirectory name i own after) w h l =
       let left = every_left (HasOwn cs) (files own) (files after) h.1 in
       let right = every_right (HasOwn cs) (files own) (files after) h.1 in
-      (free_owned name after w.0, folder_owned i w.1, well_owned own w.2 left l.0, well_owned after w.3 right l.1)
+      (free_owned name after w.0, directory_owned i w.1, well_owned own w.2 left l.0, well_owned after w.3 right l.1)
 
 found_owned : (all : List Inode) (line : ℕ) → file_of (map own_file all) line ≡ option_map own_file (file_of all line)
 found_owned [] line = refl
@@ -167,7 +168,7 @@ links_owned all nothing l = tt
 links_owned all (leaf name i after) l = links_owned all after l
 links_owned all (link name i after) l =
     (found_owned all i.line ∙ ap (option_map own_file) l.0, links_owned all after l.1)
-links_owned all (folder name i own after) l = (links_owned all own l.0, links_owned all after l.1)
+links_owned all (subdirectory name i own after) l = (links_owned all own l.0, links_owned all after l.1)
 
 count_same : (at to : ℕ → ℕ) (dir root from up : ℕ) (n : Names)
     → length (headers at dir from (own_names n)) ≡ length (headers to root up n)
@@ -176,7 +177,7 @@ count_same at to dir root from up (leaf name i after) =
     let c = count_same at to dir root (leaf_end from name (own_file i)) (leaf_end up name i) after in omega (arith, c)
 count_same at to dir root from up (link name i after) =
     let c = count_same at to dir root (header_end from name) (header_end up name) after in omega (arith, c)
-count_same at to dir root from up (folder name i own after) =
+count_same at to dir root from up (subdirectory name i own after) =
     let h = header_end from name in
     let g = header_end up name in
     let q = ends (h + 64) (own_names own) in
@@ -208,7 +209,7 @@ planned_owned volume root n zs cs h have =
     record {
       short = h.short;
       no_zero = h.no_zero;
-      folder = folder_owned root h.folder;
+      subdirectory = directory_owned root h.subdirectory;
       well = well_owned zs cs (files n) have n h.well have h.links;
       lines = subst (λ (is : List Inode). Pairs R (own_file root ∷ is)) (sym fs)
           (every_map own_file (R (own_file root)) (files n) h.lines.0, pairs_map own_file R (files n) h.lines.1);

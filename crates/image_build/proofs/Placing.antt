@@ -24,7 +24,7 @@ use Rattle.image_build.specs.Builds.{Builds}
 use Rattle.image_build.specs.Streamed.{IsPlanOfText, form_in, stored_in, image_with, IsBuiltOfSome}
 use Rattle.image_build.proofs.Streams.{HoldsAll, planned_in}
 use Rattle.image_build.proofs.Bodies.{IsOf}
-use Rattle.image_build.proofs.Untold.{in_format}
+use Rattle.image_build.proofs.Unknown.{in_format}
 use Rattle.image_build.proofs.Owned.{own_file, own_names}
 use Rattle.image_build.proofs.Each.{IsOfFiles, each_of_plan}
 use Rattle.image_build.proofs.Meaning.{under_own}

@@ -4,7 +4,7 @@ use Rattle.std.proofs.Common.{◌⊎◌, inl, inr}
 use Rattle.std.proofs.lemmas.List.{length-map}
 use Rattle.std.specs.Io.KnownBytes.{Appends}
 use Rattle.rom_fields.specs.Written.{AppendsPrefix}
-use Rattle.image_stream.specs.Sources.{Told}
+use Rattle.image_stream.specs.Sources.{IfKnown}
 use Rattle.cramfs_format.specs.declared.order.Order.{Order}
 use Rattle.cramfs_format.specs.declared.order.Order.TheVariants.{Little, Big}
 use Rattle.plan_types.specs.Plans.{Planned, IsPlanOf}
@@ -48,18 +48,18 @@ built law f p text cs e is s =
     (m, given, fits, image_of p.format m cs (layout_of p.format m cs) refl (law p.format m cs (text, is.manifest) fits))
 
 pub whole : {A E : Type 0} → HoldsAll
-    → (r : Result A E) (told : Option (List (List ℕ))) (f : Format) (p : Planned) (text : List ℕ)
+    → (r : Result A E) (known : Option (List (List ℕ))) (f : Format) (p : Planned) (text : List ℕ)
     (old new : Option (List ℕ)) → p.format ≡ f → (is : IsPlanOfText text p)
-    → OnOk r (Told told (λ cs. (map length cs ≡ p.sizes) × Appends old new (layout_of f is.lines cs)))
-    → OnOk r (Told told (λ cs. (bytes : List ℕ) × Builds p.format text cs (Ok bytes) × Appends old new bytes))
-whole law r told f p text old new e is =
+    → OnOk r (IfKnown known (λ cs. (map length cs ≡ p.sizes) × Appends old new (layout_of f is.lines cs)))
+    → OnOk r (IfKnown known (λ cs. (bytes : List ℕ) × Builds p.format text cs (Ok bytes) × Appends old new bytes))
+whole law r known f p text old new e is =
     ok_weaker r (λ h cs t. (layout_of f is.lines cs, built law f p text cs e is (h cs t).0, (h cs t).1))
 
 pub front : {A E : Type 0} → HoldsAll
-    → (r : Result A E) (told : Option (List (List ℕ))) (f : Format) (p : Planned) (text : List ℕ)
+    → (r : Result A E) (known : Option (List (List ℕ))) (f : Format) (p : Planned) (text : List ℕ)
     (old new : Option (List ℕ)) → p.format ≡ f → (is : IsPlanOfText text p)
-    → OnErr r (Told told (λ cs. map length cs ≡ p.sizes → AppendsPrefix old new (layout_of f is.lines cs)))
-    → OnErr r (Told told (λ cs. map length cs ≡ p.sizes
+    → OnErr r (IfKnown known (λ cs. map length cs ≡ p.sizes → AppendsPrefix old new (layout_of f is.lines cs)))
+    → OnErr r (IfKnown known (λ cs. map length cs ≡ p.sizes
     → (bytes : List ℕ) × Builds p.format text cs (Ok bytes) × AppendsPrefix old new bytes))
-front law r told f p text old new e is =
+front law r known f p text old new e is =
     err_weaker r (λ h cs t s. (layout_of f is.lines cs, built law f p text cs e is s, h cs t s))

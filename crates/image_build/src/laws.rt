@@ -55,23 +55,23 @@ pub fn built_is_accepted()
 /// are what the reads of its source answered last. If no source has a copy, the image is what a
 /// build answers to some contents of the sources. `w` has the bytes that were written.
 pub fn streamed_is_accepted()
-    ensures faultless { (text : List ℕ) (p : Planned) (told : Option (List (List ℕ)))
+    ensures faultless { (text : List ℕ) (p : Planned) (known : Option (List (List ℕ)))
         (old new : Option (List ℕ)) → IsPlanOfText text p
-        → (w : IsWritten told (form_in p.format p) (stored_in p.format) old new)
+        → (w : IsWritten known (form_in p.format p) (stored_in p.format) old new)
         → IsFaultless (image_with p w.rest) usual }
-    ensures refused { (text : List ℕ) (p : Planned) (told : Option (List (List ℕ)))
+    ensures refused { (text : List ℕ) (p : Planned) (known : Option (List (List ℕ)))
         (old new : Option (List ℕ)) (e : CheckError) → IsPlanOfText text p
-        → (w : IsWritten told (form_in p.format p) (stored_in p.format) old new)
+        → (w : IsWritten known (form_in p.format p) (stored_in p.format) old new)
         → IsRefused (image_with p w.rest) usual e → e ≡ CheckError.OutOfMemory }
-    ensures each { (text : List ℕ) (p : Planned) (told : Option (List (List ℕ)))
+    ensures each { (text : List ℕ) (p : Planned) (known : Option (List (List ℕ)))
         (old new : Option (List ℕ)) (t : Node) → (is : IsPlanOfText text p)
-        → (w : IsWritten told (form_in p.format p) (stored_in p.format) old new)
+        → (w : IsWritten known (form_in p.format p) (stored_in p.format) old new)
         → HasTree (image_with p w.rest) usual t
         → (b : ℕ → List ℕ) × IsMeantEach (image_with p w.rest) t b is.lines p.sizes
         × AreRead w.answers b is.lines p.sizes }
-    ensures built { (text : List ℕ) (p : Planned) (told : Option (List (List ℕ)))
+    ensures built { (text : List ℕ) (p : Planned) (known : Option (List (List ℕ)))
         (old new : Option (List ℕ)) → (is : IsPlanOfText text p) → HasNoCopies p.format is.lines
-        → (w : IsWritten told (form_in p.format p) (stored_in p.format) old new)
+        → (w : IsWritten known (form_in p.format p) (stored_in p.format) old new)
         → IsBuiltOfSome text p (image_with p w.rest) }
 {
     manifest_layout::laws::layout_is_meant();
@@ -104,21 +104,21 @@ pub fn built_is_placed()
 /// Shows the same for an image that was streamed, whatever the sources are. It has a tree in the
 /// plan's format.
 pub fn streamed_is_placed()
-    ensures runs { (text : List ℕ) (p : Planned) (told : Option (List (List ℕ)))
+    ensures runs { (text : List ℕ) (p : Planned) (known : Option (List (List ℕ)))
         (old new : Option (List ℕ)) (t : Node) → (is : IsPlanOfText text p)
-        → (w : IsWritten told (form_in p.format p) (stored_in p.format) old new)
+        → (w : IsWritten known (form_in p.format p) (stored_in p.format) old new)
         → HasTree (image_with p w.rest) usual t → IsPlaced t is.lines }
-    ensures copies { (text : List ℕ) (p : Planned) (told : Option (List (List ℕ)))
+    ensures copies { (text : List ℕ) (p : Planned) (known : Option (List (List ℕ)))
         (old new : Option (List ℕ)) (t : Node) → (is : IsPlanOfText text p)
-        → (w : IsWritten told (form_in p.format p) (stored_in p.format) old new)
+        → (w : IsWritten known (form_in p.format p) (stored_in p.format) old new)
         → HasTree (image_with p w.rest) usual t → CopiesStand p.format t is.lines }
-    ensures holds { (text : List ℕ) (p : Planned) (told : Option (List (List ℕ)))
+    ensures holds { (text : List ℕ) (p : Planned) (known : Option (List (List ℕ)))
         (old new : Option (List ℕ)) → IsPlanOfText text p
-        → (w : IsWritten told (form_in p.format p) (stored_in p.format) old new)
+        → (w : IsWritten known (form_in p.format p) (stored_in p.format) old new)
         → (t : Node) × HasUsualTree p.format (image_with p w.rest) t }
-    ensures named { (text : List ℕ) (p : Planned) (told : Option (List (List ℕ)))
+    ensures named { (text : List ℕ) (p : Planned) (known : Option (List (List ℕ)))
         (old new : Option (List ℕ)) → (is : IsPlanOfText text p)
-        → (w : IsWritten told (form_in p.format p) (stored_in p.format) old new)
+        → (w : IsWritten known (form_in p.format p) (stored_in p.format) old new)
         → HasVolume p.format (image_with p w.rest) is.lines.volume }
 {
     manifest_layout::laws::layout_is_meant();

@@ -4,7 +4,7 @@ ghost use Rattle.std.specs.Io.KnownBytes.{Appends};
 ghost use Rattle.image_build.specs.Builds.{Builds};
 ghost use Rattle.image_build.specs.Streamed.{IsPlanOfText, form_in, stored_in};
 ghost use Rattle.image_stream.specs.Outcomes.{AreSized, IsStreamFault, IsStreamed};
-ghost use Rattle.image_stream.specs.Sources.{Told};
+ghost use Rattle.image_stream.specs.Sources.{IfKnown};
 ghost use Rattle.rom_fields.specs.Written.{AppendsPrefix};
 
 use image_stream::{Sources, StreamError};
@@ -33,24 +33,24 @@ pub fn stream_through<S: Sources, W: ByteWrite>(
     requires files { S.files sources.old ≡ length plan.now.sizes }
     requires room { 4096 ≤ length buffer.old }
     requires words { length buffer.old % 4 ≡ 0 }
-    ensures told { S.told sources.new ≡ S.told sources.old }
+    ensures known { S.known sources.new ≡ S.known sources.old }
     ensures files { S.files sources.new ≡ S.files sources.old }
-    ensures some { OnOk result (IsStreamed (S.told sources.old) (S.IsLog sources.old)
+    ensures some { OnOk result (IsStreamed (S.known sources.old) (S.IsLog sources.old)
         (S.IsLog sources.new)
         (form_in plan.now.format plan.now) (stored_in plan.now.format)
         (W.output w.old).contents (W.output w.new).contents) }
-    ensures sized { OnOk result (Told (S.told sources.old) (AreSized plan.now.sizes)) }
+    ensures sized { OnOk result (IfKnown (S.known sources.old) (AreSized plan.now.sizes)) }
     ensures whole { (text : List ℕ) → IsPlanOfText text plan.now
-        → OnOk result (Told (S.told sources.old) (λ cs. (bytes : List ℕ)
+        → OnOk result (IfKnown (S.known sources.old) (λ cs. (bytes : List ℕ)
         × Builds plan.now.format text cs (Ok bytes)
         × Appends (W.output w.old).contents (W.output w.new).contents bytes)) }
     ensures quiet { OnOk result ((S.reads sources.new ≡ S.reads sources.old)
         × ((W.output w.new).failures ≡ (W.output w.old).failures)) }
     ensures front { (text : List ℕ) → IsPlanOfText text plan.now
-        → OnErr result (Told (S.told sources.old) (λ cs. map length cs ≡ plan.now.sizes
+        → OnErr result (IfKnown (S.known sources.old) (λ cs. map length cs ≡ plan.now.sizes
         → (bytes : List ℕ) × Builds plan.now.format text cs (Ok bytes)
         × AppendsPrefix (W.output w.old).contents (W.output w.new).contents bytes)) }
-    ensures fault { IfErr result (IsStreamFault (S.told sources.old)
+    ensures fault { IfErr result (IsStreamFault (S.known sources.old)
         (form_in plan.now.format plan.now) (stored_in plan.now.format) (S.reads sources.old)
         (S.reads sources.new) (W.output w.old) (W.output w.new)) }
 {
@@ -70,24 +70,24 @@ pub fn stream<S: Sources, W: ByteWrite>(
     w: &mut W,
 ) -> Result<(), StreamError>
     requires { S.files sources.old ≡ length plan.now.sizes }
-    ensures told { S.told sources.new ≡ S.told sources.old }
+    ensures known { S.known sources.new ≡ S.known sources.old }
     ensures files { S.files sources.new ≡ S.files sources.old }
-    ensures some { OnOk result (IsStreamed (S.told sources.old) (S.IsLog sources.old)
+    ensures some { OnOk result (IsStreamed (S.known sources.old) (S.IsLog sources.old)
         (S.IsLog sources.new)
         (form_in plan.now.format plan.now) (stored_in plan.now.format)
         (W.output w.old).contents (W.output w.new).contents) }
-    ensures sized { OnOk result (Told (S.told sources.old) (AreSized plan.now.sizes)) }
+    ensures sized { OnOk result (IfKnown (S.known sources.old) (AreSized plan.now.sizes)) }
     ensures whole { (text : List ℕ) → IsPlanOfText text plan.now
-        → OnOk result (Told (S.told sources.old) (λ cs. (bytes : List ℕ)
+        → OnOk result (IfKnown (S.known sources.old) (λ cs. (bytes : List ℕ)
         × Builds plan.now.format text cs (Ok bytes)
         × Appends (W.output w.old).contents (W.output w.new).contents bytes)) }
     ensures quiet { OnOk result ((S.reads sources.new ≡ S.reads sources.old)
         × ((W.output w.new).failures ≡ (W.output w.old).failures)) }
     ensures front { (text : List ℕ) → IsPlanOfText text plan.now
-        → OnErr result (Told (S.told sources.old) (λ cs. map length cs ≡ plan.now.sizes
+        → OnErr result (IfKnown (S.known sources.old) (λ cs. map length cs ≡ plan.now.sizes
         → (bytes : List ℕ) × Builds plan.now.format text cs (Ok bytes)
         × AppendsPrefix (W.output w.old).contents (W.output w.new).contents bytes)) }
-    ensures fault { IfErr result (IsStreamFault (S.told sources.old)
+    ensures fault { IfErr result (IsStreamFault (S.known sources.old)
         (form_in plan.now.format plan.now) (stored_in plan.now.format) (S.reads sources.old)
         (S.reads sources.new) (W.output w.old) (W.output w.new)) }
 {

@@ -1,3 +1,4 @@
 pub mod Any
 pub mod Checked
 pub mod Parts
+pub mod Reach

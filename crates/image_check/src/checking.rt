@@ -1,7 +1,7 @@
 //! The check of an image of romfs, or of cramfs in either byte order.
 ghost use Rattle.std.specs.Prelude.{◌≡◌, ◌≤◌, IfOk, IfErr, Err};
 ghost use Rattle.std.specs.Bool.{OnTrue, OnFalse};
-ghost use Rattle.rom_tree.specs.Tree.{levels};
+ghost use Rattle.rom_tree.specs.Tree.{IsShallow};
 ghost use Rattle.image_check.specs.Any.{any_view, report_of};
 ghost use Rattle.image_check.specs.Checked.{Shows, IsRefused, BeginsRomfs, BeginsCramfs, HasFormat};
 ghost use Rattle.image_check.specs.Checked.{IsFaultless, IsLeastFaultUnder, neither};
@@ -41,7 +41,7 @@ pub fn check<'a>(alloc: Global, bytes: &'a [u8], limits: Limits) -> Result<AnyIm
     ensures ok { IfOk result (λ v. Shows bytes.now limits (any_view v) (report_of v)) }
     ensures fault { IfErr result (IsRefused bytes.now limits) }
     ensures format { IfOk result (HasFormat bytes.now) }
-    ensures shallow { IfOk result (λ v. levels (any_view v).tree ≤ 65) }
+    ensures shallow { IfOk result (λ v. IsShallow (any_view v).tree) }
     ensures clean { IfOk result (λ v. IsFaultless bytes.now limits) }
     ensures least { IfErr result (IsLeastFaultUnder bytes.now limits) }
     ensures neither { (BeginsRomfs bytes.now → ⊥) → (BeginsCramfs bytes.now → ⊥)

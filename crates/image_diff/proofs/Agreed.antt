@@ -20,18 +20,20 @@ use Rattle.rom_tree.specs.Image.{stat_of, contents_of}
 use Rattle.rom_tree.specs.Names.{Name}
 use Rattle.image_diff.specs.Alike.{AreAlike, AreAlikeNodes}
 use Rattle.image_diff.specs.Diff.{removed_line, added_line, attributes_line, same_attributes, contents_line, moved_line}
-use Rattle.image_diff.specs.Diff.{start_line, start_of, alike_lines, node_lines, names_lines, is_told}
+use Rattle.image_diff.specs.Diff.{start_line, start_of, alike_lines, node_lines, names_lines, is_printed}
 use Rattle.image_diff.proofs.Compared.{same_true, same_is}
 use Rattle.image_diff.proofs.Stepped.{removed_is, added_is, both_is, old_is, new_is, none_is}
-use Rattle.image_diff.proofs.Told.{told_both, told_some, removed_told, added_told, attributes_same, attributes_differ}
-use Rattle.image_diff.proofs.Told.{contents_same, contents_differ, moved_same, moved_differ, nodes_alike, nodes_differ}
+use Rattle.image_diff.proofs.Printed.{printed_both, printed_some, removed_printed, added_printed, attributes_same}
+use Rattle.image_diff.proofs.Printed.{attributes_differ}
+use Rattle.image_diff.proofs.Printed.{contents_same, contents_differ, moved_same, moved_differ, nodes_alike}
+use Rattle.image_diff.proofs.Printed.{nodes_differ}
 
 -- a text that begins with one that is told is not empty
-not_none : (a b : List ℕ) → true ≡ is_told a → a ++ b ≡ [] → ⊥
-not_none a b h e = true≢false (ap (λ (v : Bool). v || is_told b) h ∙ (sym (told_both a b) ∙ ap is_told e))
+not_none : (a b : List ℕ) → true ≡ is_printed a → a ++ b ≡ [] → ⊥
+not_none a b h e = true≢false (ap (λ (v : Bool). v || is_printed b) h ∙ (sym (printed_both a b) ∙ ap is_printed e))
 
-told_not_none : (a : List ℕ) → true ≡ is_told a → a ≡ [] → ⊥
-told_not_none a h e = true≢false (h ∙ ap is_told e)
+printed_not_none : (a : List ℕ) → true ≡ is_printed a → a ≡ [] → ⊥
+printed_not_none a h e = true≢false (h ∙ ap is_printed e)
 
 both_none : (a b : List ℕ) → a ++ b ≡ [] → (a ≡ []) × (b ≡ [])
 both_none [] b e = (refl, e)
@@ -69,17 +71,17 @@ module _ (path : List ℕ) where
       → same_attributes s t ≡ true
   attributes_by s t true e h = sym e
   attributes_by s t false e h =
-      absurd (told_not_none (attributes_line path s t) (told_some _ _ _ (attributes_differ path s t e)) h)
+      absurd (printed_not_none (attributes_line path s t) (printed_some _ _ _ (attributes_differ path s t e)) h)
 
   contents_by : (a b : List ℕ) (r : Bool) → r ≡ bytes_eq a b → contents_line path a b ≡ [] → a ≡ b
   contents_by a b true e h = same_is a b e
   contents_by a b false e h =
-      absurd (told_not_none (contents_line path a b) (told_some _ _ _ (contents_differ path a b e)) h)
+      absurd (printed_not_none (contents_line path a b) (printed_some _ _ _ (contents_differ path a b e)) h)
 
   moved_by : (p q : ℕ) → moved_line path p q ≡ [] → p ≡ q
   moved_by p q h = elim (eqb_tells p q) [
     | inl e ↦ e.1
-    | inr e ↦ absurd (told_not_none (moved_line path p q) (told_some _ _ _ (moved_differ path p q e.1)) h)
+    | inr e ↦ absurd (printed_not_none (moved_line path p q) (printed_some _ _ _ (moved_differ path p q e.1)) h)
   ]
 
   start_by : (o u : Option ℕ) → start_line path o u ≡ [] → (p q : ℕ) → o ≡ Some p → u ≡ Some q → p ≡ q
@@ -123,7 +125,7 @@ module _ (path : List ℕ) where
             contents = contents_by (contents_of a x) (contents_of b y) _ refl second.0;
             start = start_at places second.1;
           }
-      | inr k ↦ absurd (not_none (removed_line path) (added_line path) (removed_told path)
+      | inr k ↦ absurd (not_none (removed_line path) (added_line path) (removed_printed path)
           (sym (nodes_differ places a b path x y k.1) ∙ h))
     ]
 
@@ -142,9 +144,9 @@ first_alike : (places : Bool) (a b : List ℕ) (x y : Name) (xs ys : List Name) 
     → names_lines places a b (x ∷ xs) (y ∷ ys) ≡ []
     → (x.path ≡ y.path) × AreAlikeNodes places a b x.node y.node × (names_lines places a b xs ys ≡ [])
 first_alike places a b x y xs ys true s d e h = absurd (not_none (removed_line x.path)
-    (names_lines places a b xs (y ∷ ys)) (removed_told x.path) (sym (removed_is places a b x y xs ys d) ∙ h))
+    (names_lines places a b xs (y ∷ ys)) (removed_printed x.path) (sym (removed_is places a b x y xs ys d) ∙ h))
 first_alike places a b x y xs ys false true d e h = absurd (not_none (added_line y.path)
-    (names_lines places a b (x ∷ xs) ys) (added_told y.path) (sym (added_is places a b x y xs ys d e) ∙ h))
+    (names_lines places a b (x ∷ xs) ys) (added_printed y.path) (sym (added_is places a b x y xs ys d e) ∙ h))
 first_alike places a b x y xs ys false false d e h =
     let both = both_none (node_lines places a b x.path x.node y.node) (names_lines places a b xs ys)
     (sym (both_is places a b x y xs ys d e) ∙ h) in
@@ -154,9 +156,9 @@ pub none_alike : (places : Bool) (a b : List ℕ) (xs ys : List Name) → names_
     → AreAlike places a b xs ys
 none_alike places a b [] [] h = tt
 none_alike places a b (x ∷ xs) [] h = not_none (removed_line x.path) (names_lines places a b xs [])
-    (removed_told x.path)
+    (removed_printed x.path)
     (sym (old_is places a b x x xs []) ∙ h)
-none_alike places a b [] (y ∷ ys) h = not_none (added_line y.path) (names_lines places a b [] ys) (added_told y.path)
+none_alike places a b [] (y ∷ ys) h = not_none (added_line y.path) (names_lines places a b [] ys) (added_printed y.path)
     (sym (new_is places a b y y [] ys) ∙ h)
 none_alike places a b (x ∷ xs) (y ∷ ys) h =
     let f = first_alike places a b x y xs ys (is_lt (slice_cmp nat_cmp x.path y.path))

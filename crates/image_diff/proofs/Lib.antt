@@ -3,4 +3,4 @@ pub mod Agreed
 pub mod Reached
 pub mod Sorting
 pub mod Stepped
-pub mod Told
+pub mod Printed

@@ -11,9 +11,9 @@ use Rattle.rom_tree.specs.Image.{Image, image_node}
 use Rattle.rom_tree.specs.Names.{Name}
 use Rattle.image_diff.specs.declared.rows.Row.{Row}
 use Rattle.image_diff.specs.declared.steps.Step.{Step}
-use Rattle.image_diff.specs.Diff.{removed_line, added_line, node_lines, names_lines, is_told}
+use Rattle.image_diff.specs.Diff.{removed_line, added_line, node_lines, names_lines, is_printed}
 use Rattle.image_diff.specs.Rows.{AreRows, StepPuts, row_key, name_key}
-use Rattle.image_diff.proofs.Told.{removed_told, added_told}
+use Rattle.image_diff.proofs.Printed.{removed_printed, added_printed}
 
 module _ (places : Bool) (a b : List ℕ) (p q : Name) (ps qs : List Name) where
   pub removed_is : true ≡ is_lt (slice_cmp nat_cmp p.path q.path) → names_lines places a b (p ∷ ps) (q ∷ qs)
@@ -45,10 +45,10 @@ unfolding names_lines
 none_is places a b = refl
 
 abbrev removed : Step
-removed = record { old = 1; new = 0; told = true }
+removed = record { old = 1; new = 0; printed = true }
 
 abbrev added : Step
-added = record { old = 0; new = 1; told = true }
+added = record { old = 0; new = 1; printed = true }
 
 module _ (s t : Sink) (places : Bool) (a b : List ℕ) (p q : Name) (ps qs : List Name) where
   as_removed : (z : List ℕ) → z ≡ p.path → Puts s t (removed_line z) → Puts s t (removed_line p.path)
@@ -69,7 +69,7 @@ module _ (s t : Sink) (places : Bool) (a b : List ℕ) (p q : Name) (ps qs : Lis
     text = removed_line p.path;
     puts = as_removed z f k;
     rest = sym (removed_is places a b p q ps qs (compared x y p.path q.path true d e h));
-    told = removed_told p.path;
+    printed = removed_printed p.path;
   }
 
   -- the new one is
@@ -81,21 +81,21 @@ module _ (s t : Sink) (places : Bool) (a b : List ℕ) (p q : Name) (ps qs : Lis
     puts = as_added z f k;
     rest = sym (added_is places a b p q ps qs (compared x y p.path q.path false d e h)
         (compared v w q.path p.path true i j l));
-    told = added_told q.path;
+    printed = added_printed q.path;
   }
 
   -- they are the same
   pub step_both : (x y v w z : List ℕ) (r : Bool) → x ≡ p.path → y ≡ q.path → v ≡ q.path → w ≡ p.path → z ≡ p.path
       → false ≡ is_lt (slice_cmp nat_cmp x y) → false ≡ is_lt (slice_cmp nat_cmp v w)
-      → Puts s t (node_lines places a b z p.node q.node) → r ≡ is_told (node_lines places a b z p.node q.node)
-      → StepPuts s t places a b (p ∷ ps) (q ∷ qs) (record { old = 1; new = 1; told = r })
+      → Puts s t (node_lines places a b z p.node q.node) → r ≡ is_printed (node_lines places a b z p.node q.node)
+      → StepPuts s t places a b (p ∷ ps) (q ∷ qs) (record { old = 1; new = 1; printed = r })
   step_both x y v w z r d e i j f h l k m =
       let P : List ℕ → Type 0 = λ u. Puts s t (node_lines places a b u p.node q.node) in record {
         text = node_lines places a b p.path p.node q.node;
         puts = subst P f k;
         rest = sym (both_is places a b p q ps qs (compared x y p.path q.path false d e h)
             (compared v w q.path p.path false i j l));
-        told = m ∙ ap (λ (u : List ℕ). is_told (node_lines places a b u p.node q.node)) f;
+        printed = m ∙ ap (λ (u : List ℕ). is_printed (node_lines places a b u p.node q.node)) f;
       }
 
   -- only one list is left
@@ -104,7 +104,7 @@ module _ (s t : Sink) (places : Bool) (a b : List ℕ) (p q : Name) (ps qs : Lis
     text = removed_line p.path;
     puts = as_removed z f k;
     rest = sym (old_is places a b p q ps qs);
-    told = removed_told p.path;
+    printed = removed_printed p.path;
   }
 
   pub step_new : (z : List ℕ) → z ≡ q.path → Puts s t (added_line z) → StepPuts s t places a b [] (q ∷ qs) added
@@ -112,7 +112,7 @@ module _ (s t : Sink) (places : Bool) (a b : List ℕ) (p q : Name) (ps qs : Lis
     text = added_line q.path;
     puts = as_added z f k;
     rest = sym (new_is places a b p q ps qs);
-    told = added_told q.path;
+    printed = added_printed q.path;
   }
 
 -- ---- the first of some rows

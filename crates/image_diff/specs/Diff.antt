@@ -11,7 +11,7 @@ use Rattle.rom_tree.specs.Listing.{kind_letter}
 use Rattle.rom_tree.specs.Tree.{Node, Body, body_of, regular, kind_of}
 use Rattle.rom_tree.specs.Image.{stat_of, contents_of}
 use Rattle.rom_tree.specs.Names.{Name}
-use Rattle.image_map.specs.Map.{eight_digits}
+use Rattle.image_info.specs.Map.{eight_digits}
 
 -- `- PATH`, and `+ PATH`
 unfoldable pub removed_line : List ℕ → List ℕ
@@ -91,6 +91,6 @@ names_lines places a b (x ∷ xs) (y ∷ ys) =
     else node_lines places a b x.path x.node y.node ++ names_lines places a b xs ys
 
 -- whether a text is not empty
-abbrev pub is_told : List ℕ → Bool
-is_told [] = false
-is_told (c ∷ cs) = true
+abbrev pub is_printed : List ℕ → Bool
+is_printed [] = false
+is_printed (c ∷ cs) = true

@@ -8,15 +8,15 @@ use Rattle.rom_tree.specs.Names.{Name}
 use Rattle.image_diff.specs.declared.difference.DiffError.{DiffError}
 use Rattle.image_diff.specs.declared.difference.DiffError.TheVariants.{OutOfMemory, LongPath}
 use Rattle.image_diff.specs.declared.difference.DiffError.TheVariants.{WriteFault}
-use Rattle.image_diff.specs.Diff.{names_lines, is_told}
+use Rattle.image_diff.specs.Diff.{names_lines, is_printed}
 use Rattle.image_diff.specs.Rows.{AreSorted, HasLongPath}
 
 -- all of a text was written, and the result says whether it is not empty; or a prefix was written
 abbrev pub WritesLines : {E : Type 0} → Output → Output → List ℕ → Result Bool E → Type 0
 WritesLines old new text r =
     MatchResult r
-    (λ told. Appends old.contents new.contents text × (new.failures ≡ old.failures)
-    × (told ≡ is_told text))
+    (λ printed. Appends old.contents new.contents text × (new.failures ≡ old.failures)
+    × (printed ≡ is_printed text))
     (λ _. AppendsPrefix old.contents new.contents text × Rose old.failures new.failures)
 
 -- the same for the lines of two images, whose names were sorted
@@ -30,7 +30,8 @@ pub record WritesDiff {E : Type 0} (places : Bool) (a b : Image) (old new : Outp
 
 -- what was written in each ending
 abbrev pub DiffEnds : Bool → Image → Image → Output → Output → Result Bool DiffError → Type 0
-DiffEnds places a b old new (Ok told) = WritesDiff {E = DiffError} places a b old new (Ok told)
+DiffEnds places a b old new (Ok printed) =
+    WritesDiff {E = DiffError} places a b old new (Ok printed)
 DiffEnds places a b old new (Err OutOfMemory) = new ≡ old
 DiffEnds places a b old new (Err LongPath) =
     (new ≡ old) × (HasLongPath a.tree ⊎ HasLongPath b.tree)

@@ -10,7 +10,7 @@ use Rattle.rom_tree.specs.Names.{Name, names}
 use Rattle.rom_fields.specs.Written.{Puts, Sink}
 use Rattle.image_diff.specs.declared.rows.Row.{Row}
 use Rattle.image_diff.specs.declared.steps.Step.{Step}
-use Rattle.image_diff.specs.Diff.{names_lines, is_told}
+use Rattle.image_diff.specs.Diff.{names_lines, is_printed}
 
 -- the names of a tree, sorted by path, compared as bytes
 pub record AreSorted (t : Node) (ns : List Name) : Type 0 where
@@ -54,4 +54,4 @@ pub record StepPuts (s t : Sink) (places : Bool) (a b : List ℕ) (xs ys : List 
   pub puts : Puts s t text
   pub rest : text ++ names_lines places a b (drop r.old xs) (drop r.new ys)
       ≡ names_lines places a b xs ys
-  pub told : r.told ≡ is_told text
+  pub printed : r.printed ≡ is_printed text

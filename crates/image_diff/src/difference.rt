@@ -1,7 +1,7 @@
 //! The differences of two images.
 ghost use Rattle.std.specs.Prelude.{◌≡◌, ◌+◌, ◌<◌, ◌≤◌, ◌||◌, List, length};
 ghost use Rattle.std.specs.Bool.{OnTrue, OnFalse};
-ghost use Rattle.rom_tree.specs.Tree.{levels};
+ghost use Rattle.rom_tree.specs.Tree.{IsShallow};
 ghost use Rattle.rom_tree.specs.Names.{Name};
 ghost use Rattle.image_diff.specs.Diff.{names_lines};
 ghost use Rattle.image_diff.specs.Endings.{DiffEnds, WritesLines};
@@ -59,18 +59,18 @@ fn write_lines<'a, T: TreeImage<'a>, W: ByteWrite>(
         → WritesLines (W.output w.old) (W.output w.new)
         (names_lines places (T.image old.now).bytes (T.image new.now).bytes ps qs) result }
 {
-    let mut told = false;
+    let mut printed = false;
     let mut failed = false;
     let mut i = 0;
     let mut j = 0;
     while !failed {
         if are_over(&xs[i..], &ys[j..]) {
-            return Ok(told);
+            return Ok(printed);
         }
         let step = put_step(old, new, places, w, &mut failed, &xs[i..], &ys[j..]);
         i += step.old;
         j += step.new;
-        told = either(told, step.told);
+        printed = either(printed, step.printed);
     }
     Err(Failed)
 }
@@ -99,8 +99,8 @@ pub fn write_diff<'a, T: TreeImage<'a>, W: ByteWrite>(
     places: bool,
     w: &mut W,
 ) -> Result<bool, DiffError>
-    requires old { levels (T.image old.now).tree ≤ 65 }
-    requires new { levels (T.image new.now).tree ≤ 65 }
+    requires old { IsShallow (T.image old.now).tree }
+    requires new { IsShallow (T.image new.now).tree }
     ensures { DiffEnds places (T.image old.now) (T.image new.now) (W.output w.old) (W.output w.new)
         result }
 {
@@ -115,7 +115,7 @@ pub fn write_diff<'a, T: TreeImage<'a>, W: ByteWrite>(
         Err(NoRows::LongPath) => return Err(DiffError::LongPath),
     };
     match write_lines(old, new, places, xs.as_slice(), ys.as_slice(), w) {
-        Ok(told) => Ok(told),
+        Ok(printed) => Ok(printed),
         Err(_) => Err(DiffError::WriteFault),
     }
 }

@@ -7,11 +7,11 @@ ghost use Rattle.rom_tree.specs.Listing.{kind_letter};
 ghost use Rattle.rom_tree.specs.Tree.{Node, kind_of};
 ghost use Rattle.rom_tree.specs.Image.{image_node, HasNode, contents_of};
 ghost use Rattle.image_diff.specs.Diff.{added_line, alike_lines, attributes_line, attributes_text};
-ghost use Rattle.image_diff.specs.Diff.{contents_line, is_told, moved_line, node_lines};
+ghost use Rattle.image_diff.specs.Diff.{contents_line, is_printed, moved_line, node_lines};
 ghost use Rattle.image_diff.specs.Diff.{removed_line, same_attributes, start_line, start_of};
 
 use crate::contents::have_same_bytes;
-use image_map::put_eight_digits;
+use image_info::put_eight_digits;
 use rom_fields::{ByteWrite, put, put_decimal, put_escaped, put_octal};
 use rom_tree::{Kind, NodeId, Stat, TreeImage, is_regular_at};
 
@@ -88,7 +88,7 @@ fn put_changed<W: ByteWrite>(
 ) -> bool
     ensures puts { Puts (sink (W.output w.old) failed.old)
         (sink (W.output w.new) failed.new) (attributes_line path.now old new) }
-    ensures told { result ≡ is_told (attributes_line path.now old new) }
+    ensures printed { result ≡ is_printed (attributes_line path.now old new) }
 {
     if have_same_attributes(old, new) {
         return false;
@@ -134,9 +134,9 @@ fn put_compared<'a, T: TreeImage<'a>, W: ByteWrite>(
         → Puts (sink (W.output w.old) failed.old) (sink (W.output w.new) failed.new)
         (contents_line path.now (contents_of (T.image old.now).bytes p)
         (contents_of (T.image new.now).bytes q)) }
-    ensures told { (p q : Node) → image_node (T.image old.now) nodes.0.0 ≡ Some p
+    ensures printed { (p q : Node) → image_node (T.image old.now) nodes.0.0 ≡ Some p
         → image_node (T.image new.now) nodes.1.0 ≡ Some q
-        → result ≡ is_told (contents_line path.now (contents_of (T.image old.now).bytes p)
+        → result ≡ is_printed (contents_line path.now (contents_of (T.image old.now).bytes p)
         (contents_of (T.image new.now).bytes q)) }
 {
     let (x, y) = nodes;
@@ -172,7 +172,7 @@ fn put_moved<W: ByteWrite>(
 ) -> bool
     ensures puts { Puts (sink (W.output w.old) failed.old)
         (sink (W.output w.new) failed.new) (start_line path.now old new) }
-    ensures told { result ≡ is_told (start_line path.now old new) }
+    ensures printed { result ≡ is_printed (start_line path.now old new) }
 {
     let (Some(old), Some(new)) = (old, new) else {
         return false;
@@ -184,7 +184,7 @@ fn put_moved<W: ByteWrite>(
 fn put_move<W: ByteWrite>(w: &mut W, failed: &mut bool, path: &[u8], old: u32, new: u32) -> bool
     ensures puts { Puts (sink (W.output w.old) failed.old)
         (sink (W.output w.new) failed.new) (moved_line path.now old new) }
-    ensures told { result ≡ is_told (moved_line path.now old new) }
+    ensures printed { result ≡ is_printed (moved_line path.now old new) }
 {
     if old == new {
         return false;
@@ -216,9 +216,9 @@ fn put_places<'a, T: TreeImage<'a>, W: ByteWrite>(
         → image_node (T.image new.now) nodes.1.0 ≡ Some q
         → Puts (sink (W.output w.old) failed.old) (sink (W.output w.new) failed.new)
         (if places then start_line path.now (start_of p) (start_of q) else []) }
-    ensures told { (p q : Node) → image_node (T.image old.now) nodes.0.0 ≡ Some p
+    ensures printed { (p q : Node) → image_node (T.image old.now) nodes.0.0 ≡ Some p
         → image_node (T.image new.now) nodes.1.0 ≡ Some q
-        → result ≡ is_told (if places then start_line path.now (start_of p) (start_of q) else []) }
+        → result ≡ is_printed (if places then start_line path.now (start_of p) (start_of q) else []) }
 {
     if !places {
         return false;
@@ -250,8 +250,8 @@ fn put_alike<'a, T: TreeImage<'a>, W: ByteWrite>(
         → image_node (T.image new.now) nodes.1.0 ≡ Some q
         → Puts (sink (W.output w.old) failed.old) (sink (W.output w.new) failed.new)
         (alike_lines places (T.image old.now).bytes (T.image new.now).bytes path.now p q) }
-    ensures told { (p q : Node) → image_node (T.image old.now) nodes.0.0 ≡ Some p
-        → image_node (T.image new.now) nodes.1.0 ≡ Some q → result ≡ is_told
+    ensures printed { (p q : Node) → image_node (T.image old.now) nodes.0.0 ≡ Some p
+        → image_node (T.image new.now) nodes.1.0 ≡ Some q → result ≡ is_printed
         (alike_lines places (T.image old.now).bytes (T.image new.now).bytes path.now p q) }
 {
     let (x, y) = nodes;
@@ -277,8 +277,8 @@ pub(crate) fn put_nodes<'a, T: TreeImage<'a>, W: ByteWrite>(
         → image_node (T.image new.now) nodes.1.0 ≡ Some q
         → Puts (sink (W.output w.old) failed.old) (sink (W.output w.new) failed.new)
         (node_lines places (T.image old.now).bytes (T.image new.now).bytes path.now p q) }
-    ensures told { (p q : Node) → image_node (T.image old.now) nodes.0.0 ≡ Some p
-        → image_node (T.image new.now) nodes.1.0 ≡ Some q → result ≡ is_told
+    ensures printed { (p q : Node) → image_node (T.image old.now) nodes.0.0 ≡ Some p
+        → image_node (T.image new.now) nodes.1.0 ≡ Some q → result ≡ is_printed
         (node_lines places (T.image old.now).bytes (T.image new.now).bytes path.now p q) }
 {
     let (x, y) = nodes;

@@ -2,7 +2,7 @@
 ghost use Rattle.std.specs.Prelude.{◌≡◌, ◌<◌, ◌≤◌, length, IfOk, IfErr};
 ghost use Rattle.std.specs.Cmp.Lexicographic.{slice_cmp};
 ghost use Rattle.std.specs.Ordering.{nat_cmp, is_lt};
-ghost use Rattle.rom_tree.specs.Tree.{levels};
+ghost use Rattle.rom_tree.specs.Tree.{IsShallow};
 ghost use Rattle.rom_tree.specs.Walks.{given_path};
 ghost use Rattle.image_diff.specs.Rows.{HasLongPath, HoldsSorted};
 ghost use Rattle.image_diff.specs.declared.rows.NoRows.TheVariants.{LongPath};
@@ -65,7 +65,7 @@ fn row_of<'a>(
 ///
 /// `OutOfMemory` if memory was refused, and `LongPath` if a path has more than 16,384 bytes.
 pub(crate) fn rows_of<'a, T: TreeImage<'a>>(alloc: Global, image: &T) -> Result<Vec<Row>, NoRows>
-    requires { levels (T.image image.now).tree ≤ 65 }
+    requires { IsShallow (T.image image.now).tree }
     ensures ok { IfOk result (λ rows. HoldsSorted (T.image image.now) rows.items) }
     ensures long { IfErr result (λ e. e ≡ LongPath → HasLongPath (T.image image.now).tree) }
 {

@@ -15,21 +15,21 @@ use rom_tree::TreeImage;
 pub(crate) struct Step {
     pub(crate) old: usize,
     pub(crate) new: usize,
-    pub(crate) told: bool,
+    pub(crate) printed: bool,
 }
 
 /// The old image has a path that the new one lacks.
 const REMOVED: Step = Step {
     old: 1,
     new: 0,
-    told: true,
+    printed: true,
 };
 
 /// The new image has a path that the old one lacks.
 const ADDED: Step = Step {
     old: 0,
     new: 1,
-    told: true,
+    printed: true,
 };
 
 /// Puts the lines of the lesser of two paths, or of both if they are the same.
@@ -62,11 +62,11 @@ fn put_lesser<'a, T: TreeImage<'a>, W: ByteWrite>(
         return ADDED;
     }
     let nodes = (x.node, y.node);
-    let told = put_nodes(old, new, places, w, failed, x.path.as_slice(), nodes);
+    let printed = put_nodes(old, new, places, w, failed, x.path.as_slice(), nodes);
     Step {
         old: 1,
         new: 1,
-        told,
+        printed,
     }
 }
 

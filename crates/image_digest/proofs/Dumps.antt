@@ -7,29 +7,29 @@ use Rattle.std.proofs.lemmas.Option.{none-some, same_Some}
 use Rattle.std.proofs.lemmas.List.{take_rest, take-append-drop, drop-drop}
 use Rattle.std.specs.Io.KnownBytes.{Consumes}
 use Rattle.std.proofs.KnownBytes.{Consumes-trans}
-use Rattle.image_digest.specs.Differences.{DiffersAt, StepTells, Passes}
+use Rattle.image_digest.specs.Differences.{DiffersAt, StepPrints, Passes}
 use Rattle.image_digest.specs.declared.dump.Step.{Step}
 use Rattle.image_digest.specs.declared.dump.Step.TheVariants.{Same, Differs}
 use Rattle.image_digest.proofs.Compared.{behind_same}
 
 module _ (image : List ℕ) (at : ℕ) (a b c : Option (List ℕ)) (h : at ≤ length image)
     (r : Consumes a b (take at image)) (s : Step)
-    (t : StepTells (take (length image - at) (drop at image)) b c s) where
-  told : StepTells (drop at image) b c s
-  told = let P : List ℕ → Type 0 = λ v. StepTells v b c s in subst P (take_rest image at) t
+    (t : StepPrints (take (length image - at) (drop at image)) b c s) where
+  printed : StepPrints (drop at image) b c s
+  printed = let P : List ℕ → Type 0 = λ v. StepPrints v b c s in subst P (take_rest image at) t
 
   -- the bytes before `at`, and those that one read has more
   pub read_more : (n : ℕ) → s ≡ Same n → Consumes a c (take (at + n) image)
   read_more n e =
-      let P : Step → Type 0 = λ v. StepTells (drop at image) b c v in
-      let q : StepTells (drop at image) b c (Same n) = subst P e told in
+      let P : Step → Type 0 = λ v. StepPrints (drop at image) b c v in
+      let q : StepPrints (drop at image) b c (Same n) = subst P e printed in
       let Q : List ℕ → Type 0 = λ v. Consumes a c v in
       subst Q (sym (take-add at n image)) (Consumes-trans a b c (take at image) (take n (drop at image)) r q.2)
 
   pub more_within : (n : ℕ) → s ≡ Same n → at + n ≤ length image
   more_within n e =
-      let P : Step → Type 0 = λ v. StepTells (take (length image - at) (drop at image)) b c v in
-      let q : StepTells (take (length image - at) (drop at image)) b c (Same n) = subst P e t in
+      let P : Step → Type 0 = λ v. StepPrints (take (length image - at) (drop at image)) b c v in
+      let q : StepPrints (take (length image - at) (drop at image)) b c (Same n) = subst P e t in
       omega (arith, h, q.1, length-take (length image - at) (drop at image))
 
 differs_known : (image : List ℕ) (at i : ℕ) (a b : Option (List ℕ)) → at ≤ length image
@@ -55,12 +55,12 @@ differs_known image at i (Some xs) (Some ys) h r d =
 
 module _ (image : List ℕ) (at : ℕ) (a b c : Option (List ℕ)) (h : at ≤ length image)
     (r : Consumes a b (take at image)) (s : Step)
-    (t : StepTells (take (length image - at) (drop at image)) b c s) where
+    (t : StepPrints (take (length image - at) (drop at image)) b c s) where
   -- where the rest differs, the image does
   pub differs_more : (i : ℕ) → s ≡ Differs i → IfSome a (λ xs. DiffersAt image (take (length image) xs) (at + i))
   differs_more i e =
-      let P : Step → Type 0 = λ v. StepTells (drop at image) b c v in
-      let q : StepTells (drop at image) b c (Differs i) = subst P e (told image at a b c h r s t) in
+      let P : Step → Type 0 = λ v. StepPrints (drop at image) b c v in
+      let q : StepPrints (drop at image) b c (Differs i) = subst P e (printed image at a b c h r s t) in
       differs_known image at i a b h r q.1
 
 -- more bytes are passed

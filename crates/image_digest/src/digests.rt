@@ -3,7 +3,7 @@ ghost use Rattle.std.specs.Prelude.{◌≡◌, ◌<◌, ◌≤◌, true, Some, l
 ghost use Rattle.std.specs.Io.KnownBytes.{Appends};
 ghost use Rattle.rom_fields.specs.Failures.{Rose};
 ghost use Rattle.rom_fields.specs.Written.{AppendsPrefix, Puts, sink};
-ghost use Rattle.rom_tree.specs.Tree.{Node, is_regular, levels};
+ghost use Rattle.rom_tree.specs.Tree.{Node, is_regular, IsShallow};
 ghost use Rattle.rom_tree.specs.Image.{image_node, HasNode};
 ghost use Rattle.rom_tree.specs.Walks.{given_path};
 ghost use Rattle.image_digest.specs.Digests.{digest_text, node_line, relative, HasLongPath};
@@ -85,7 +85,7 @@ pub fn write_digests<'a, T: TreeImage<'a>, W: ByteWrite>(
     image: &T,
     w: &mut W,
 ) -> Result<(), DigestError>
-    requires { levels (T.image image.now).tree ≤ 65 }
+    requires { IsShallow (T.image image.now).tree }
     ensures ok { OnOk result (Appends (W.output w.old).contents (W.output w.new).contents
         (digest_text (T.image image.now).bytes (T.image image.now).tree)) }
     ensures err { OnErr result (AppendsPrefix (W.output w.old).contents (W.output w.new).contents

@@ -3,7 +3,7 @@ ghost use Rattle.std.specs.Prelude.{◌≡◌, ◌<◌, ◌≤◌, ◌++◌, len
 ghost use Rattle.std.specs.Prelude.{IfOk, IfSome, OnOk};
 ghost use Rattle.rom_fields.specs.Failures.{Counts};
 ghost use Rattle.rom_fields.specs.Written.{WritesText, Puts, sink};
-ghost use Rattle.image_digest.specs.Differences.{Compares, Passes, StepTells, verdict_text};
+ghost use Rattle.image_digest.specs.Differences.{Compares, Passes, StepPrints, verdict_text};
 
 use crate::comparing::first_difference;
 use rom_fields::{ByteWrite, Failed, put, put_long_decimal};
@@ -24,7 +24,7 @@ enum Step {
 fn compare_part<R: Read>(rest: &[u8], dump: &mut R, part: &mut [u8]) -> io::Result<Step>
     requires some { 0 < length part.old }
     requires within { length part.old ≤ length rest.now }
-    ensures { IfOk result (StepTells rest.now (R.remaining dump.old) (R.remaining dump.new)) }
+    ensures { IfOk result (StepPrints rest.now (R.remaining dump.old) (R.remaining dump.new)) }
 {
     let count = dump.read(part)?;
     if count == 0 {

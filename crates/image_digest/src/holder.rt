@@ -1,7 +1,7 @@
 //! The file that has a byte of an image.
 ghost use Rattle.std.specs.Prelude.{◌≡◌, ◌+◌, ◌<◌, ◌≤◌, Some, IfSome, IfNone};
 ghost use Rattle.std.specs.Bool.{OnTrue, OnFalse};
-ghost use Rattle.rom_tree.specs.Tree.{Node, levels, places_of};
+ghost use Rattle.rom_tree.specs.Tree.{Node, IsShallow, places_of};
 ghost use Rattle.rom_tree.specs.Image.{image_node, HasNode};
 ghost use Rattle.image_digest.specs.Holders.{HasPlace, Holds, IsHolder, HasNoHolder};
 
@@ -52,7 +52,7 @@ fn is_holder<'a, T: TreeImage<'a>>(image: &T, node: NodeId, place: u32) -> bool
 /// this offset of the image. The walk's path is that name's path. Returns `None` if no file has the
 /// byte: it belongs to a header, to a list or to no extent. Directories may be 64 deep.
 pub fn find_holder<'a, T: TreeImage<'a>>(image: &T, place: u32) -> Option<Walk<'a>>
-    requires { levels (T.image image.now).tree ≤ 65 }
+    requires { IsShallow (T.image image.now).tree }
     ensures found { IfSome result (λ w. IsHolder (T.image image.now).tree w place) }
     ensures none { IfNone result (HasNoHolder (T.image image.now).tree place) }
 {

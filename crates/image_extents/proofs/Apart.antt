@@ -15,10 +15,10 @@ use Rattle.record_forest.specs.Forest.{Forest, none, at, rows, all_rows, count}
 use Rattle.romfs_format.specs.Record.{end_of, size_of, type_of, has_data}
 use Rattle.romfs_format.specs.Refers.{references}
 use Rattle.romfs_format.specs.Tree.{row_extents, IsTree}
-use Rattle.image_gaps.specs.Gaps.{romfs_forest, romfs_extents}
-use Rattle.image_gaps.specs.Records.{romfs_record}
-use Rattle.image_gaps.proofs.RomfsWalk.{taken}
-use Rattle.image_gaps.proofs.Forests.{romfs_is}
+use Rattle.image_info.specs.Gaps.{romfs_forest, romfs_extents}
+use Rattle.image_info.specs.Records.{romfs_record}
+use Rattle.image_info.proofs.RomfsWalk.{taken}
+use Rattle.image_info.proofs.Forests.{romfs_is}
 use Rattle.image_extents.specs.declared.extent.Record.{Record}
 use Rattle.image_extents.specs.declared.extent.Extent.{Extent}
 use Rattle.image_extents.specs.declared.extent.Kind.{Kind}

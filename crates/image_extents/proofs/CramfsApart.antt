@@ -15,10 +15,10 @@ use Rattle.cramfs_format.specs.Order.{word}
 use Rattle.cramfs_format.specs.Inode.{offset_of, block_count, block_start, size_of, type_of, has_data}
 use Rattle.cramfs_format.specs.Refers.{references}
 use Rattle.cramfs_format.specs.Tree.{row_extents, file_extents, data_from, IsTree}
-use Rattle.image_gaps.specs.Gaps.{cramfs_forest, cramfs_extents}
-use Rattle.image_gaps.specs.Records.{cramfs_record, cramfs_list, cramfs_file, cramfs_contents}
-use Rattle.image_gaps.proofs.CramfsWalk.{taken}
-use Rattle.image_gaps.proofs.Forests.{cramfs_is}
+use Rattle.image_info.specs.Gaps.{cramfs_forest, cramfs_extents}
+use Rattle.image_info.specs.Records.{cramfs_record, cramfs_list, cramfs_file, cramfs_contents}
+use Rattle.image_info.proofs.CramfsWalk.{taken}
+use Rattle.image_info.proofs.Forests.{cramfs_is}
 use Rattle.image_extents.specs.declared.extent.Record.{Record}
 use Rattle.image_extents.specs.declared.extent.Extent.{Extent}
 use Rattle.image_extents.specs.declared.extent.Extents.{Extents}

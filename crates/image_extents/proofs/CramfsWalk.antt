@@ -9,7 +9,7 @@ use Rattle.cramfs_format.specs.Refers.{root_place}
 use Rattle.cramfs_format.specs.Made.{grow, IsCramfs}
 use Rattle.cramfs_format.proofs.Trees.{IsList, list_is, root_list}
 use Rattle.cramfs_format.proofs.Chain.{IsStep, step_of, list_done}
-use Rattle.image_gaps.specs.Gaps.{most_records, cramfs_forest}
+use Rattle.image_info.specs.Gaps.{most_records, cramfs_forest}
 use Rattle.image_extents.specs.declared.extent.Record.{Record}
 use Rattle.image_extents.specs.Listed.{listed, cramfs_entry, cramfs_listed, root_entry}
 use Rattle.image_extents.proofs.Walk.{every_push, every_front, come, come_none, come_step, weight, weight_push}

@@ -9,7 +9,7 @@ use Rattle.romfs_format.specs.Refers.{heads_itself, list_of, following}
 use Rattle.romfs_format.specs.Made.{grow, start_of, IsRomfs}
 use Rattle.romfs_format.proofs.Trees.{IsList, list_is, root_list}
 use Rattle.romfs_format.proofs.Chain.{IsStep, step_of}
-use Rattle.image_gaps.specs.Gaps.{most_records, romfs_forest}
+use Rattle.image_info.specs.Gaps.{most_records, romfs_forest}
 use Rattle.image_extents.specs.declared.extent.Record.{Record}
 use Rattle.image_extents.specs.declared.extent.Extent.{Extent}
 use Rattle.image_extents.specs.declared.extent.Kind.TheVariants.{Super}

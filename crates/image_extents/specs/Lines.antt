@@ -2,7 +2,7 @@
 use Rattle.std.specs.Prelude.{ℕ, ◌+◌, ◌-◌, ◌%◌, ◌^◌, ◌==◌, Bool, true, false, if◌then◌else◌, max}
 use Rattle.std.specs.Prelude.{nat_lt, List, [], ◌∷◌, ◌++◌, length, take, drop, codes, decimal}
 use Rattle.rom_fields.specs.Texts.{escaped}
-use Rattle.image_map.specs.Map.{address_text}
+use Rattle.image_info.specs.Map.{address_text}
 use Rattle.image_extents.specs.Listed.{path_of}
 use Rattle.image_extents.specs.declared.extent.Extent.{Extent}
 use Rattle.image_extents.specs.declared.extent.Extents.{Extents}

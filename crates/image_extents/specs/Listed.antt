@@ -5,7 +5,7 @@ use Rattle.record_forest.specs.Forest.{Forest, none, at, count}
 use Rattle.romfs_format.specs.Record.{name_of}
 use Rattle.cramfs_format.specs.declared.order.Order.{Order}
 use Rattle.cramfs_format.specs.Inode.{name_of as cramfs_name_of}
-use Rattle.image_gaps.specs.Gaps.{romfs_forest, cramfs_forest}
+use Rattle.image_info.specs.Gaps.{romfs_forest, cramfs_forest}
 use Rattle.image_extents.specs.declared.extent.Record.{Record}
 
 -- the entry of the record at p in the list of the directory of number d

@@ -1,8 +1,8 @@
 //! The extents of an image.
 ghost use Rattle.std.specs.Prelude.{◌≡◌, ◌≤◌, ◌^◌, ℕ, length, IfOk, OnOk};
-ghost use Rattle.image_gaps.specs.Gaps.{IsChecked};
+ghost use Rattle.image_info.specs.Gaps.{IsChecked};
 ghost use Rattle.cramfs_format.specs.Made.{IsCramfs};
-ghost use Rattle.image_gaps.specs.Held.{HoldsRomfs, HoldsCramfs};
+ghost use Rattle.image_info.specs.Held.{HoldsRomfs, HoldsCramfs};
 ghost use Rattle.romfs_format.specs.Superblock.{accessible as romfs_accessible};
 ghost use Rattle.cramfs_format.specs.Superblock.{accessible as cramfs_accessible};
 ghost use Rattle.image_extents.specs.Sorted.{AreBlocks, AreCramfs, AreOf, AreRomfs, IsInOrder};

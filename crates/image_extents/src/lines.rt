@@ -2,14 +2,14 @@
 ghost use Rattle.std.specs.Prelude.{◌≡◌};
 ghost use Rattle.rom_fields.specs.Failures.{Counts};
 ghost use Rattle.rom_fields.specs.Written.{Puts, sink, WritesText};
-ghost use Rattle.image_map.specs.Map.{address_text};
+ghost use Rattle.image_info.specs.Map.{address_text};
 ghost use Rattle.image_extents.specs.Lines.{range_text, word_of, owner_text, extent_text};
 ghost use Rattle.image_extents.specs.Lines.{all_zero, is_super, rest_word, between, beyond};
 ghost use Rattle.image_extents.specs.Lines.{extents_text};
 
 use crate::extent::{Extent, Extents, Kind, end};
 use crate::path::{bytes_at, put_path};
-use image_map::put_eight_digits;
+use image_info::put_eight_digits;
 use rom_fields::{ByteWrite, Failed, put, put_long_decimal};
 
 /// Puts an address: `0x`, and eight digits, or sixteen from 2^32 on.

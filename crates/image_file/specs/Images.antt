@@ -4,7 +4,7 @@ use Rattle.std.specs.Prelude.{ℕ, List, Option, Ok, ⊤}
 use Rattle.std.specs.Io.KnownBytes.{Appends}
 use Rattle.rom_fields.specs.Written.{Output}
 use Rattle.image_stream.specs.Answers.{Answer}
-use Rattle.image_stream.specs.Sources.{Told, Reads}
+use Rattle.image_stream.specs.Sources.{IfKnown, Reads}
 use Rattle.image_stream.specs.Outcomes.{IsStreamed, IsStreamFault}
 use Rattle.plan_types.specs.Plans.{Planned}
 use Rattle.image_build.specs.Builds.{Builds}
@@ -15,15 +15,15 @@ use Rattle.image_file.specs.declared.image.Unwritten.TheVariants.{Stream, Late}
 -- A whole image of the plan was appended, whose contents are what the last reads answered, of all
 -- answers in the log. If the contents of the sources are known, it is the one that a build of the
 -- manifest answers.
-pub record IsImageWritten (told : Option (List (List ℕ))) (was is : List Answer → Type 0)
+pub record IsImageWritten (known : Option (List (List ℕ))) (was is : List Answer → Type 0)
     (p : Planned) (old new : Option (List ℕ)) : Type 0 where
-  pub streamed : IsStreamed told was is (form_in p.format p) (stored_in p.format) old new
-  pub built : (text : List ℕ) → IsPlanOfText text p → Told told (λ cs. (bytes : List ℕ)
+  pub streamed : IsStreamed known was is (form_in p.format p) (stored_in p.format) old new
+  pub built : (text : List ℕ) → IsPlanOfText text p → IfKnown known (λ cs. (bytes : List ℕ)
       × Builds p.format text cs (Ok bytes) × Appends old new bytes)
 
 -- the stream failed for this reason, or the last check did
 abbrev pub IsImageFault : {E : Type 0} → Option (List (List ℕ)) → Planned → Reads → Reads → Output
     → Output → Unwritten E → Type 0
-IsImageFault told p r r' w w' (Stream e) =
-    IsStreamFault told (form_in p.format p) (stored_in p.format) r r' w w' e
-IsImageFault told p r r' w w' (Late e) = ⊤
+IsImageFault known p r r' w w' (Stream e) =
+    IsStreamFault known (form_in p.format p) (stored_in p.format) r r' w w' e
+IsImageFault known p r r' w w' (Late e) = ⊤

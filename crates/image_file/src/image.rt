@@ -38,10 +38,10 @@ pub struct PlanImage<'a, S: Sources, K: LastCheck> {
 impl<'a, S: Sources, K: LastCheck> Fill for PlanImage<'a, S, K> {
     type Error = Unwritten<K::Error>;
 
-    ghost writes = { λ s t old new. IsImageWritten (S.told s.sources) (S.IsLog s.sources)
+    ghost writes = { λ s t old new. IsImageWritten (S.known s.sources) (S.IsLog s.sources)
         (S.IsLog t.sources) s.plan.now old new };
 
-    ghost fails = { λ s t old new e. IsImageFault (S.told s.sources) s.plan.now
+    ghost fails = { λ s t old new e. IsImageFault (S.known s.sources) s.plan.now
         (S.reads s.sources) (S.reads t.sources) old new e };
 
     ghost ready = { λ s. (S.files s.sources ≡ length s.plan.now.sizes)

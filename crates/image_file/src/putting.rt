@@ -33,24 +33,24 @@ pub fn put<D: Directory, S: Sources, K: LastCheck>(
     requires buffer { 4096 ≤ length image.old.buffer.now }
     requires words { length image.old.buffer.now % 4 ≡ 0 }
     ensures any_moment { (old : List Event) → IsBegun names begun.name old (D.log directory.old)
-        → Throughout (IsOldOrNew names (IsImageWritten (S.told image.old.sources)
+        → Throughout (IsOldOrNew names (IsImageWritten (S.known image.old.sources)
         (S.IsLog image.old.sources) (S.IsLog image.new.sources) image.old.plan.now D.fresh) old)
         (D.log directory.old) (D.log directory.new) }
     ensures ok { IfOk result (λ d. (old : List Event)
         → IsBegun names begun.name old (D.log directory.old)
-        → IsReplaced names (IsImageWritten (S.told image.old.sources)
+        → IsReplaced names (IsImageWritten (S.known image.old.sources)
         (S.IsLog image.old.sources) (S.IsLog image.new.sources) image.old.plan.now D.fresh) old
         (D.log directory.new)) }
     ensures durable { IfOk result (λ d. IsDurable d (D.log directory.new)) }
     ensures err { OnErr result ((old : List Event)
         → IsBegun names begun.name old (D.log directory.old)
-        → IsKept names (IsImageWritten (S.told image.old.sources)
+        → IsKept names (IsImageWritten (S.known image.old.sources)
         (S.IsLog image.old.sources) (S.IsLog image.new.sources) image.old.plan.now D.fresh) old
         (D.log directory.new)) }
     ensures cause { IfErr result (λ e. IsStop names begun.name
-        (IsImageWritten (S.told image.old.sources) (S.IsLog image.old.sources)
+        (IsImageWritten (S.known image.old.sources) (S.IsLog image.old.sources)
         (S.IsLog image.new.sources) image.old.plan.now D.fresh)
-        (IsUnwritten (IsImageFault (S.told image.old.sources) image.old.plan.now
+        (IsUnwritten (IsImageFault (S.known image.old.sources) image.old.plan.now
         (S.reads image.old.sources) (S.reads image.new.sources)) D.fresh)
         (D.log directory.old) (D.log directory.new) e) }
 {

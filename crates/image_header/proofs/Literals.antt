@@ -1,8 +1,8 @@
 -- The text of an address as a number of C.
 use Rattle.std.proofs.Common.{◌≡◌, ℕ, ◌<◌, ◌≤◌, true, false, [], ◌∷◌, ◌++◌, refl, nat_lt, rules, tests, ◌/◌}
 use Rattle.std.specs.Prelude.{codes}
-use Rattle.image_map.specs.Map.{eight_digits}
-use Rattle.image_map.proofs.Lines.{address_low, address_high}
+use Rattle.image_info.specs.Map.{eight_digits}
+use Rattle.image_info.proofs.Lines.{address_low, address_high}
 use Rattle.image_header.specs.Header.{address_number}
 
 lt_is : (a b : ℕ) → a < b → nat_lt a b ≡ true

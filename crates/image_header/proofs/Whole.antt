@@ -4,8 +4,8 @@ use Rattle.std.proofs.Common.{refl, sym, ap, ◌∙◌, subst, arith, length-dro
 use Rattle.std.proofs.lemmas.List.{drop_all}
 use Rattle.std.specs.Prelude.{slice_index}
 use Rattle.rom_tree.specs.Runs.{IsLongest}
-use Rattle.image_map.specs.Runs.{Piece, piece, runs, runs_from, joined}
-use Rattle.image_map.proofs.Pieces.{runs_nil, runs_first, runs_joined}
+use Rattle.image_info.specs.Runs.{Piece, piece, runs, runs_from, joined}
+use Rattle.image_info.proofs.Pieces.{runs_nil, runs_first, runs_joined}
 use Rattle.image_header.specs.Header.{only_address}
 
 none_more : (k : ℕ) → 0 + k ≡ k

@@ -4,8 +4,8 @@ use Rattle.std.specs.Prelude.{nat_lt, if◌then◌else◌, Option, Some, None, c
 use Rattle.std.specs.List.{flat_map}
 use Rattle.rom_tree.specs.Tree.{Node, is_regular, places_of}
 use Rattle.rom_tree.specs.Names.{Name, names}
-use Rattle.image_map.specs.Map.{address_text}
-use Rattle.image_map.specs.Runs.{Piece, runs}
+use Rattle.image_info.specs.Map.{address_text}
+use Rattle.image_info.specs.Runs.{Piece, runs}
 use Rattle.image_header.specs.Names.{Macro, Guard, Base, Size, Address, Length, Path, macro_name}
 use Rattle.image_header.specs.Names.{text_of}
 

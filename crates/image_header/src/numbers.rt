@@ -3,7 +3,7 @@ ghost use Rattle.std.specs.Prelude.{◌≡◌};
 ghost use Rattle.rom_fields.specs.Written.{Puts, sink};
 ghost use Rattle.image_header.specs.Header.{address_number, length_number};
 
-use image_map::put_eight_digits;
+use image_info::put_eight_digits;
 use rom_fields::{ByteWrite, put, put_long_decimal};
 
 /// Puts an address with the type that it has in C: `u` below 2^32, and otherwise `ull`.

@@ -5,10 +5,10 @@ ghost use Rattle.std.specs.Bool.{OnTrue, OnFalse};
 ghost use Rattle.std.specs.Io.KnownBytes.{Appends};
 ghost use Rattle.rom_fields.specs.Failures.{Rose};
 ghost use Rattle.rom_fields.specs.Written.{AppendsPrefix, Puts, sink};
-ghost use Rattle.rom_tree.specs.Tree.{Node, is_regular, levels, places_of};
+ghost use Rattle.rom_tree.specs.Tree.{Node, is_regular, IsShallow, places_of};
 ghost use Rattle.rom_tree.specs.Image.{image_node, HasNode};
 ghost use Rattle.rom_tree.specs.Walks.{given_path};
-ghost use Rattle.image_map.specs.Runs.{runs};
+ghost use Rattle.image_info.specs.Runs.{runs};
 ghost use Rattle.image_header.specs.Header.{head_text, header_text, node_macros, only_address};
 ghost use Rattle.image_header.specs.Header.{HasLongPath};
 ghost use Rattle.image_header.specs.declared.error.HeaderError.TheVariants.{LongPath, WriteFault};
@@ -132,7 +132,7 @@ pub fn write_header<'a, T: TreeImage<'a>, W: ByteWrite>(
     prefix: &[u8],
     w: &mut W,
 ) -> Result<(), HeaderError>
-    requires { levels (T.image image.now).tree ≤ 65 }
+    requires { IsShallow (T.image image.now).tree }
     ensures ok { OnOk result (Appends (W.output w.old).contents (W.output w.new).contents
         (header_text prefix.now base (length (T.image image.now).bytes)
         (T.image image.now).tree)) }

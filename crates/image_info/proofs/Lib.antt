@@ -1,3 +1,15 @@
+pub mod Left
+pub mod RomfsWalk
+pub mod Covered
+pub mod CramfsWalk
+pub mod Forests
+pub mod Given
+pub mod Pieces
+pub mod Known
+pub mod Copied
+pub mod Lines
+pub mod Lying
+pub mod Walked
 pub mod Few
-pub mod Counting
+pub mod Counted
 pub mod Joined

@@ -15,8 +15,8 @@ use Rattle.cramfs_image.specs.Reported.{order_in}
 use Rattle.image_check.specs.declared.any.AnyImage.{AnyImage}
 use Rattle.image_check.specs.declared.any.AnyImage.TheVariants.{Romfs, Cramfs}
 use Rattle.image_check.specs.Any.{any_view, report_of}
-use Rattle.image_gaps.specs.Gaps.{gaps_of}
-use Rattle.image_map.specs.Map.{eight_digits}
+use Rattle.image_info.specs.Gaps.{gaps_of}
+use Rattle.image_info.specs.Map.{eight_digits}
 use Rattle.image_info.specs.declared.tally.Tally.{Tally}
 use Rattle.image_info.specs.Volumes.{romfs_volume, cramfs_volume}
 use Rattle.image_info.specs.Tallies.{tally_of}
@@ -77,7 +77,7 @@ report_text r =
 unfoldable pub tally_text : Tally → List ℕ
 tally_text t =
     number_line (codes "files ") t.files
-    ++ (number_line (codes "folders ") t.folders
+    ++ (number_line (codes "folders ") t.directories
     ++ (number_line (codes "links ") t.links
     ++ (number_line (codes "others ") t.others
     ++ number_line (codes "contents ") t.contents)))

@@ -1,3 +1,9 @@
+pub mod Unused
+pub mod Gaps
+pub mod Records
+pub mod Held
+pub mod Runs
+pub mod Map
 pub mod Volumes
 pub mod Tallies
 pub mod Info

@@ -13,9 +13,9 @@ abbrev pub is_file : Kind → Bool
 is_file Regular = true
 is_file _ = false
 
-abbrev pub is_folder : Kind → Bool
-is_folder Directory = true
-is_folder _ = false
+abbrev pub is_directory : Kind → Bool
+is_directory Directory = true
+is_directory _ = false
 
 abbrev pub is_symlink : Kind → Bool
 is_symlink Symlink = true
@@ -52,7 +52,7 @@ bytes_of_files earlier (n ∷ ns) =
 abbrev pub tally_of : List Name → Tally
 tally_of ns = record {
   files = how_many is_file ns;
-  folders = how_many is_folder ns;
+  directories = how_many is_directory ns;
   links = how_many is_symlink ns;
   others = how_many is_other ns;
   contents = bytes_of_files [] ns;

@@ -1,17 +1,17 @@
 //! The facts of an image, written as lines.
 ghost use Rattle.std.specs.Prelude.{◌≤◌};
 ghost use Rattle.rom_fields.specs.Written.{Puts, sink};
-ghost use Rattle.rom_tree.specs.Tree.{levels};
+ghost use Rattle.rom_tree.specs.Tree.{IsShallow};
 ghost use Rattle.image_check.specs.Any.{any_view};
 ghost use Rattle.image_info.specs.Info.{report_text, tally_text, info_text};
 ghost use Rattle.image_info.specs.Endings.{WritesAll};
-ghost use Rattle.image_gaps.specs.Gaps.{IsChecked};
+ghost use Rattle.image_info.specs.Gaps.{IsChecked};
 
+use crate::count_gaps;
 use crate::line::put_number;
 use crate::superblock::put_superblock;
 use crate::tally::{Tally, count_names};
 use image_check::AnyImage;
-use image_gaps::count_gaps;
 use rom_fields::ByteWrite;
 use rom_tree::Report;
 use std::alloc::Global;
@@ -40,7 +40,7 @@ fn put_tally<W: ByteWrite>(w: &mut W, failed: &mut bool, tally: Tally)
         (tally_text tally) }
 {
     put_number(w, failed, b"files ", tally.files);
-    put_number(w, failed, b"folders ", tally.folders);
+    put_number(w, failed, b"folders ", tally.directories);
     put_number(w, failed, b"links ", tally.links);
     put_number(w, failed, b"others ", tally.others);
     put_number(w, failed, b"contents ", tally.contents);
@@ -75,7 +75,7 @@ pub fn write_info<W: ByteWrite>(
     file: u64,
     w: &mut W,
 ) -> Result<(), InfoError>
-    requires shallow { levels (any_view image.now).tree ≤ 65 }
+    requires shallow { IsShallow (any_view image.now).tree }
     requires checked { IsChecked image.now }
     ensures { WritesAll (W.output w.old) (W.output w.new) (info_text file image.now) result }
 {

@@ -6,10 +6,24 @@
 //! `specs/Volumes.antt`.
 #![tactic(auto)]
 
+mod contents;
+mod counting;
+mod cramfs_records;
+mod digits;
 mod info;
+pub mod laws;
 mod line;
+mod map_line;
+mod mapping;
+mod romfs_records;
+mod runs;
+mod spans;
 mod superblock;
 mod tally;
 
+pub use contents::cat;
+pub use counting::count_gaps;
+pub use digits::put_eight_digits;
 pub use info::{InfoError, write_info};
+pub use mapping::map;
 pub use superblock::volume;

@@ -3,7 +3,7 @@ ghost use Rattle.std.specs.Prelude.{◌≡◌, ◌<◌, decimal};
 ghost use Rattle.rom_fields.specs.Written.{Puts, sink};
 ghost use Rattle.image_info.specs.Info.{plain_line, text_line, number_line, word_line};
 
-use image_map::put_eight_digits;
+use crate::put_eight_digits;
 use rom_fields::{ByteWrite, put, put_escaped, put_long_decimal};
 
 /// Puts a key, a text as it is, and a line feed.

@@ -1,8 +1,8 @@
 //! The names of a tree, counted by the kinds of their nodes.
 ghost use Rattle.std.specs.Prelude.{◌≡◌, ◌+◌, ◌<◌, ◌≤◌, ◌^◌, ◌&&◌, length, IfOk, if◌then◌else◌};
-ghost use Rattle.rom_tree.specs.Tree.{levels};
+ghost use Rattle.rom_tree.specs.Tree.{IsShallow};
 ghost use Rattle.rom_tree.specs.Names.{names};
-ghost use Rattle.image_info.specs.Tallies.{is_file, is_folder, is_symlink, is_other, tally_of};
+ghost use Rattle.image_info.specs.Tallies.{is_file, is_directory, is_symlink, is_other, tally_of};
 
 use rom_fields::OutOfMemory;
 use rom_tree::{Kind, Stat, TreeImage, Walk};
@@ -14,7 +14,7 @@ use std::collections::BTreeSet;
 #[derive(Clone, Copy)]
 pub struct Tally {
     pub files: u64,
-    pub folders: u64,
+    pub directories: u64,
     pub links: u64,
     pub others: u64,
     pub contents: u64,
@@ -23,10 +23,11 @@ pub struct Tally {
 /// The counts with one more name. `fresh` is whether its node is new; only then its bytes are
 /// counted.
 fn counted(tally: Tally, stat: Stat, fresh: bool) -> Tally
-    requires few { tally.files + tally.folders + tally.links + tally.others < 2 ^ 32 }
+    requires few { tally.files + tally.directories + tally.links + tally.others < 2 ^ 32 }
     requires room { tally.contents + stat.size < 2 ^ 64 }
     ensures files { result.files ≡ tally.files + (if is_file stat.kind then 1 else 0) }
-    ensures folders { result.folders ≡ tally.folders + (if is_folder stat.kind then 1 else 0) }
+    ensures directories { result.directories
+        ≡ tally.directories + (if is_directory stat.kind then 1 else 0) }
     ensures links { result.links ≡ tally.links + (if is_symlink stat.kind then 1 else 0) }
     ensures others { result.others ≡ tally.others + (if is_other stat.kind then 1 else 0) }
     ensures contents { result.contents
@@ -40,7 +41,7 @@ fn counted(tally: Tally, stat: Stat, fresh: bool) -> Tally
                 more.contents += stat.size as u64;
             }
         }
-        Kind::Directory => more.folders += 1,
+        Kind::Directory => more.directories += 1,
         Kind::Symlink => more.links += 1,
         Kind::Block | Kind::Character | Kind::Socket | Kind::Fifo => more.others += 1,
     }
@@ -52,13 +53,13 @@ pub(crate) fn count_names<'a, T: TreeImage<'a>>(
     alloc: Global,
     image: &T,
 ) -> Result<Tally, OutOfMemory>
-    requires depth { levels (T.image image.now).tree ≤ 65 }
+    requires depth { IsShallow (T.image image.now).tree }
     requires few { length (names (T.image image.now).tree) ≤ 2 ^ 32 }
     ensures { IfOk result (λ t. t ≡ tally_of (names (T.image image.now).tree)) }
 {
     let mut tally = Tally {
         files: 0,
-        folders: 0,
+        directories: 0,
         links: 0,
         others: 0,
         contents: 0,

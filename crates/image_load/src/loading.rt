@@ -2,7 +2,7 @@
 ghost use Rattle.std.specs.Prelude.{IfOk, IfSome};
 ghost use Rattle.image_load.specs.Loads.{Loads};
 
-use image_reach::{HEAD, SUMMED, is_sum_refused, reach_of};
+use image_check::{HEAD, SUMMED, is_sum_refused, reach_of};
 use program_streams::read_until;
 use rom_faults::{Fault, fault};
 use std::alloc::Global;
@@ -42,12 +42,12 @@ pub enum Found {
 }
 
 /// Reads the image in a file, up to the length that a check reads. A check of these bytes returns
-/// the same as one of the whole file (`image_reach::laws::no_further`). `length` is the reported
+/// the same as one of the whole file (`image_check::laws::no_further`). `length` is the reported
 /// length of the file, which is 0 for a device or a pipe.
 ///
 /// Only the first 512 bytes are read if the image is romfs, their checksum is wrong, and the file
 /// has the size that the image states. The checksum is then the image's fault
-/// (`image_reach::laws::refused`).
+/// (`image_check::laws::refused`).
 ///
 /// # Errors
 ///

@@ -9,7 +9,7 @@ use Rattle.std.proofs.lemmas.Bool.Decides.{nat_tests}
 use Rattle.rom_tree.specs.Tree.{Node, ino_of}
 use Rattle.rom_tree.specs.Names.{Name}
 use Rattle.image_manifest.specs.Firsts.{first_by, noted_with}
-use Rattle.image_manifest.specs.Members.{Told, all_behind, first_behind, is_long, place_of, told_behind, told_of}
+use Rattle.image_manifest.specs.Members.{Known, all_behind, first_behind, is_long, place_of, known_behind, known_of}
 use Rattle.image_manifest.specs.declared.naming.Member.{Member}
 
 by_number : (t : Bool) (index : ℕ) → option_map suc (cond t (Some index) None) ≡ cond t (Some (suc index)) None
@@ -37,32 +37,32 @@ place_more number (b ∷ before) n =
 
 -- what a member has, with one more name
 pub behind_more : (before ns : List Name) (n : Name)
-    → all_behind before (ns ++ n ∷ []) ≡ all_behind before ns ++ told_behind (before ++ ns) n ∷ []
-behind_more before [] n = ap (λ (x : List Name). told_behind x n ∷ []) (sym (append-nil before))
+    → all_behind before (ns ++ n ∷ []) ≡ all_behind before ns ++ known_behind (before ++ ns) n ∷ []
+behind_more before [] n = ap (λ (x : List Name). known_behind x n ∷ []) (sym (append-nil before))
 behind_more before (m ∷ ns) n =
-    ap (λ (x : List Told). told_behind before m ∷ x)
+    ap (λ (x : List Known). known_behind before m ∷ x)
     (behind_more (before ++ m ∷ []) ns n
-    ∙ ap (λ (x : List Name). all_behind (before ++ m ∷ []) ns ++ told_behind x n ∷ [])
+    ∙ ap (λ (x : List Name). all_behind (before ++ m ∷ []) ns ++ known_behind x n ∷ [])
     (append_assoc before (m ∷ []) ns))
 
 -- one member more
 pub pushed : (old new : List Member) (x : Member) (done : List Name) (n : Name) → new ≡ old ++ x ∷ []
-    → map told_of old ≡ all_behind [] done
-    → told_of x ≡ told_behind done n → map told_of new ≡ all_behind [] (done ++ n ∷ [])
+    → map known_of old ≡ all_behind [] done
+    → known_of x ≡ known_behind done n → map known_of new ≡ all_behind [] (done ++ n ∷ [])
 pushed old new x done n e h k =
-    ap (map told_of) e ∙ map-append told_of old (x ∷ []) ∙ ap₂ (λ (a : List Told) (b : Told). a ++ b ∷ []) h k
+    ap (map known_of) e ∙ map-append known_of old (x ∷ []) ∙ ap₂ (λ (a : List Known) (b : Known). a ++ b ∷ []) h k
     ∙ sym (behind_more [] done n)
 
 length-behind : (before ns : List Name) → length (all_behind before ns) ≡ length ns
 length-behind before [] = refl
 length-behind before (n ∷ ns) = ap suc (length-behind (before ++ n ∷ []) ns)
 
-length-map : (xs : List Member) → length (map told_of xs) ≡ length xs
+length-map : (xs : List Member) → length (map known_of xs) ≡ length xs
 length-map [] = refl
 length-map (x ∷ xs) = ap suc (length-map xs)
 
 -- there are as many members as names
-pub as_many : (xs : List Member) (done : List Name) → map told_of xs ≡ all_behind [] done → length xs ≡ length done
+pub as_many : (xs : List Member) (done : List Name) → map known_of xs ≡ all_behind [] done → length xs ≡ length done
 as_many xs done h = sym (length-map xs) ∙ ap length h ∙ length-behind [] done
 
 -- all names have members
@@ -93,9 +93,10 @@ some_long done new all n path e h l =
     ap (list_any is_long) (sym h) ∙ (list_any-append is_long done (n ∷ new) ∙ rw k (or_true (list_any is_long done)))
 
 -- what a member has
-pub told_as : (x : Member) (done : List Name) (n : Name) → x.node.0 ≡ ino_of n.node → x.first ≡ first_behind done n.node
-    → told_of x ≡ told_behind done n
-told_as x done n a b = rw (a, b) refl
+pub known_as : (x : Member) (done : List Name) (n : Name) → x.node.0 ≡ ino_of n.node
+    → x.first ≡ first_behind done n.node
+    → known_of x ≡ known_behind done n
+known_as x done n a b = rw (a, b) refl
 
 -- the first name of a node, as the map has it
 pub first_as : (x : Node) (done : List Name) (number : ℕ) (first o : Option ℕ) → first ≡ first_by x o

@@ -11,7 +11,7 @@ use Rattle.rom_tree.specs.Names.{Name, named, names, node_names}
 use Rattle.rom_tree.specs.Tree.{Node, is_directory}
 use Rattle.image_manifest.specs.Members.{is_long}
 use Rattle.image_manifest.specs.ByPaths.{IsByPaths}
-use Rattle.image_manifest.specs.Tellable.{IsLawfulName, IsTellable}
+use Rattle.image_manifest.specs.Describable.{IsLawfulName, IsDescribable}
 use Rattle.image_manifest.proofs.Lawful.{AreLawful, AreSound, IsSound, differ_node, lawful_names, lawful_push, name_of}
 use Rattle.image_manifest.proofs.Lawful.{path_bytes, plain_names, sound_node, stands}
 use Rattle.image_manifest.proofs.Plain.{PathsDiffer, has_path}
@@ -76,11 +76,11 @@ root_fit t h = record {
 root_name : Node → Name
 root_name t = named (47 ∷ []) [] t
 
-sound_below : (m : Image) → IsTellable m → AreSound (root_name m.tree ∷ []) (node_names [] m.tree)
+sound_below : (m : Image) → IsDescribable m → AreSound (root_name m.tree ∷ []) (node_names [] m.tree)
 unfolding root_name
 sound_below m h = sound_node (named (47 ∷ []) [] m.tree ∷ []) [] m.tree (λ d. refl) tt h.tree.lists
 
-pub names_fit : (m : Image) → IsTellable m → AreFit [] (names m.tree)
+pub names_fit : (m : Image) → IsDescribable m → AreFit [] (names m.tree)
 unfolding names root_name
 names_fit m h = (
   root_fit m.tree h.tree.root,
@@ -98,7 +98,7 @@ unfolding is_bad_name
 empty_path [] ns w e = let g : true ≡ false = w.good in cc
 empty_path (b ∷ bs) ns w e = cc
 
-root_alone : (m : Image) → IsTellable m → has_path (47 ∷ []) (node_names [] m.tree) ≡ false
+root_alone : (m : Image) → IsDescribable m → has_path (47 ∷ []) (node_names [] m.tree) ≡ false
 root_alone m h = by (has_path (47 ∷ []) (node_names [] m.tree)) refl
   where
     empty_way : (way : List (List ℕ)) (n : List ℕ) → AreLawful way → IsLawfulName n
@@ -113,7 +113,7 @@ root_alone m h = by (has_path (47 ∷ []) (node_names [] m.tree)) refl
         let s = sound_among (root_name m.tree ∷ []) (node_names [] m.tree) r.name (sound_below m h) r.among in
         absurd (empty_way s.1.way r.name.last s.1.lawful s.1.last (sym s.1.path ∙ r.path))
 
-pub names_differ : (m : Image) → IsTellable m → PathsDiffer (names m.tree)
+pub names_differ : (m : Image) → IsDescribable m → PathsDiffer (names m.tree)
 unfolding names
 names_differ m h = (
   root_alone m h,
@@ -135,7 +135,7 @@ differ_at (k ∷ b) n a h = neither (bytes_eq k.path n.path) (has_path n.path b)
     apart (x ∷ b) e = apart b (or_false (bytes_eq x.path k.path) _ e).1
 
 -- so paths describe the tree
-pub by_paths : (m : Image) → IsTellable m → IsByPaths m.tree
+pub by_paths : (m : Image) → IsDescribable m → IsByPaths m.tree
 unfolding names
 by_paths m h = record {
   names = plain_names (root_name m.tree ∷ []) (node_names [] m.tree) (sound_below m h);

@@ -19,7 +19,7 @@ use Rattle.rom_tree.specs.Tree.{Node, node, directory, regular, symlink, block, 
 use Rattle.rom_tree.specs.Tree.{no_entries, entry, entries_of, entries_nodes, is_directory, nodes, IsIn, here, there}
 use Rattle.rom_tree.proofs.Nodes.{in-front, in-back}
 use Rattle.image_manifest.specs.ByPaths.{has_slash}
-use Rattle.image_manifest.specs.Tellable.{IsLawfulName, IsLawfulList}
+use Rattle.image_manifest.specs.Describable.{IsLawfulName, IsLawfulList}
 use Rattle.image_manifest.proofs.Paths.{same_names}
 use Rattle.image_manifest.proofs.Plain.{ArePlain, PathsDiffer, has_path, leads, leads_entries, some_by}
 use Rattle.image_manifest.proofs.Ways.{Among, first, later, front_none, neither, or_false}

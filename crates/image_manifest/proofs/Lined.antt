@@ -8,7 +8,7 @@ use Rattle.std.proofs.lemmas.Bool.Decides.{nat_tests}
 use Rattle.std.proofs.lemmas.Fmt.{decimal_digit}
 use Rattle.std.proofs.lemmas.List.{length-take-le, map-append, take_more, take_all}
 use Rattle.manifest.specs.declared.line.Line.{Line}
-use Rattle.manifest_text.specs.Printed.{line_text, lines_text}
+use Rattle.manifest.specs.Printed.{line_text, lines_text}
 use Rattle.rom_fields.specs.Texts.{escaped, octal}
 use Rattle.rom_fields.specs.Written.{Puts, Sink}
 use Rattle.rom_fields.proofs.Joins.{chain}
@@ -23,12 +23,12 @@ use Rattle.rom_tree.proofs.Paths.{escaped_both}
 use Rattle.image_manifest.specs.declared.naming.Member.{Member}
 use Rattle.image_manifest.specs.Lines.{first_name, hard_line, line_behind, line_by, line_with, lines_behind}
 use Rattle.image_manifest.specs.Lines.{member_lines}
-use Rattle.image_manifest.specs.Members.{AreMembers, Told, all_behind, first_behind, is_long, members_of, place_of}
-use Rattle.image_manifest.specs.Members.{told_behind, told_of}
+use Rattle.image_manifest.specs.Members.{AreMembers, Known, all_behind, first_behind, is_long, members_of, place_of}
+use Rattle.image_manifest.specs.Members.{known_behind, known_of}
 use Rattle.image_manifest.proofs.Behind.{as_many}
 use Rattle.image_manifest.proofs.Ways.{or_false}
 use Rattle.image_manifest.specs.Composed.{path_at, path_by, way_at, ways_of}
-use Rattle.image_manifest.specs.Told.{line_from, line_told}
+use Rattle.image_manifest.specs.Known.{line_from, line_described}
 
 -- a path with its attributes, and what is behind them
 apart : (e o u g t rest : List ℕ) → (e ++ 32 ∷ (o ++ 32 ∷ (u ++ 32 ∷ (g ++ t)))) ++ rest
@@ -41,20 +41,20 @@ apart e o u g t rest =
     (append_assoc u (32 ∷ (g ++ t)) rest ∙ ap (λ (v : List ℕ). u ++ 32 ∷ v) (append_assoc g t rest)))
 
 -- the line of a file by its parts
-pub file_text : (path folder : List ℕ) (s : Stat) → s.kind ≡ Regular
-    → line_text (line_with path (folder ++ path) s) ++ 10 ∷ []
+pub file_text : (path prefix : List ℕ) (s : Stat) → s.kind ≡ Regular
+    → line_text (line_with path (prefix ++ path) s) ++ 10 ∷ []
     ≡ codes "file " ++ (escaped path ++ 32
     ∷ (octal s.mode ++ 32 ∷ (decimal s.uid ++ 32
-    ∷ (decimal s.gid ++ (codes " 4 " ++ (escaped folder ++ (escaped path ++ 10 ∷ [])))))))
+    ∷ (decimal s.gid ++ (codes " 4 " ++ (escaped prefix ++ (escaped path ++ 10 ∷ [])))))))
 unfolding line_text
-file_text path folder s h =
-    rw (h, decimal_digit 4 (omega arith), escaped_both folder path)
+file_text path prefix s h =
+    rw (h, decimal_digit 4 (omega arith), escaped_both prefix path)
     (ap (λ (v : List ℕ). codes "file " ++ v)
     (apart (escaped path) (octal s.mode) (decimal s.uid) (decimal s.gid)
-    (codes " 4 " ++ (escaped folder ++ escaped path)) (10 ∷ [])
+    (codes " 4 " ++ (escaped prefix ++ escaped path)) (10 ∷ [])
     ∙ ap (λ (v : List ℕ). escaped path ++ 32
     ∷ (octal s.mode ++ 32 ∷ (decimal s.uid ++ 32 ∷ (decimal s.gid ++ (codes " 4 " ++ v)))))
-    (append_assoc (escaped folder) (escaped path) (10 ∷ []))))
+    (append_assoc (escaped prefix) (escaped path) (10 ∷ []))))
 
 -- The path of the member at an index.
 
@@ -132,29 +132,29 @@ node_of_name m i e h =
 
 -- What a member has of a name, and the name's line, by the names before it.
 
-behind_at : (before ns : List Name) (i : ℕ) (d : Told) (e : Name) → i < length ns
-    → get_or (all_behind before ns) i d ≡ told_behind (before ++ take i ns) (get_or ns i e)
+behind_at : (before ns : List Name) (i : ℕ) (d : Known) (e : Name) → i < length ns
+    → get_or (all_behind before ns) i d ≡ known_behind (before ++ take i ns) (get_or ns i e)
 behind_at before [] i d e h = absurd (omega (arith, h))
-behind_at before (n ∷ ns) zero d e h = ap (λ (v : List Name). told_behind v n) (sym (append-nil before))
+behind_at before (n ∷ ns) zero d e h = ap (λ (v : List Name). known_behind v n) (sym (append-nil before))
 behind_at before (n ∷ ns) (suc i) d e h =
     behind_at (before ++ n ∷ []) ns i d e (omega (arith, h))
-    ∙ ap (λ (v : List Name). told_behind v (get_or ns i e)) (append_assoc before (n ∷ []) (take i ns))
+    ∙ ap (λ (v : List Name). known_behind v (get_or ns i e)) (append_assoc before (n ∷ []) (take i ns))
 
-line_at : (m : Image) (folder : List ℕ) (before ns : List Name) (i : ℕ) (d : Line) (e : Name) → i < length ns
-    → get_or (lines_behind m folder before ns) i d ≡ line_behind m folder (before ++ take i ns) (get_or ns i e)
-line_at m folder before [] i d e h = absurd (omega (arith, h))
-line_at m folder before (n ∷ ns) zero d e h = ap (λ (v : List Name). line_behind m folder v n) (sym (append-nil before))
-line_at m folder before (n ∷ ns) (suc i) d e h =
-    line_at m folder (before ++ n ∷ []) ns i d e (omega (arith, h))
-    ∙ ap (λ (v : List Name). line_behind m folder v (get_or ns i e)) (append_assoc before (n ∷ []) (take i ns))
+line_at : (m : Image) (prefix : List ℕ) (before ns : List Name) (i : ℕ) (d : Line) (e : Name) → i < length ns
+    → get_or (lines_behind m prefix before ns) i d ≡ line_behind m prefix (before ++ take i ns) (get_or ns i e)
+line_at m prefix before [] i d e h = absurd (omega (arith, h))
+line_at m prefix before (n ∷ ns) zero d e h = ap (λ (v : List Name). line_behind m prefix v n) (sym (append-nil before))
+line_at m prefix before (n ∷ ns) (suc i) d e h =
+    line_at m prefix (before ++ n ∷ []) ns i d e (omega (arith, h))
+    ∙ ap (λ (v : List Name). line_behind m prefix v (get_or ns i e)) (append_assoc before (n ∷ []) (take i ns))
 
-pub length-lines : (m : Image) (folder : List ℕ) (before ns : List Name)
-    → length (lines_behind m folder before ns) ≡ length ns
-length-lines m folder before [] = refl
-length-lines m folder before (n ∷ ns) = ap suc (length-lines m folder (before ++ n ∷ []) ns)
+pub length-lines : (m : Image) (prefix : List ℕ) (before ns : List Name)
+    → length (lines_behind m prefix before ns) ≡ length ns
+length-lines m prefix before [] = refl
+length-lines m prefix before (n ∷ ns) = ap suc (length-lines m prefix (before ++ n ∷ []) ns)
 
-map_at : (ms : List Member) (i : ℕ) (d : Member) (t : Told) → i < length ms
-    → get_or (map told_of ms) i t ≡ told_of (get_or ms i d)
+map_at : (ms : List Member) (i : ℕ) (d : Member) (t : Known) → i < length ms
+    → get_or (map known_of ms) i t ≡ known_of (get_or ms i d)
 map_at [] i d t h = absurd (omega (arith, h))
 map_at (x ∷ ms) zero d t h = refl
 map_at (x ∷ ms) (suc i) d t h = map_at ms i d t (omega (arith, h))
@@ -211,77 +211,77 @@ first_within false (Some j) k l h i = omega (arith, h, i)
 
 -- The line of a member.
 
-by_first : (m : Image) (folder : List ℕ) (ms : List Member) (ns : List Name) (n : Name) (o : Option ℕ) (q : Option Name)
+by_first : (m : Image) (prefix : List ℕ) (ms : List Member) (ns : List Name) (n : Name) (o : Option ℕ) (q : Option Name)
     → map path_by (ways_of ms) ≡ map (λ v. v.path) ns
     → IfSome o (λ j. j < length ns) → option_map (name_path ns) o ≡ option_map (λ v. v.path) q
-    → line_from m folder ms n.path n.node o ≡ line_by m folder n q
-by_first m folder ms ns n None None p l h = refl
-by_first m folder ms ns n None (Some v) p l h = absurd cc
-by_first m folder ms ns n (Some i) None p l h = absurd cc
-by_first m folder ms ns n (Some i) (Some v) p l h =
+    → line_from m prefix ms n.path n.node o ≡ line_by m prefix n q
+by_first m prefix ms ns n None None p l h = refl
+by_first m prefix ms ns n None (Some v) p l h = absurd cc
+by_first m prefix ms ns n (Some i) None p l h = absurd cc
+by_first m prefix ms ns n (Some i) (Some v) p l h =
     let e : name_path ns i ≡ v.path = cc in
     ap (hard_line n.path) (path_here ms ns i n p l ∙ path_named ns i n l ∙ e)
 
-by_kind : (m : Image) (folder : List ℕ) (ms : List Member) (ns : List Name) (n : Name) (t : Bool) (o : Option ℕ)
+by_kind : (m : Image) (prefix : List ℕ) (ms : List Member) (ns : List Name) (n : Name) (t : Bool) (o : Option ℕ)
     (q : Option Name) → map path_by (ways_of ms) ≡ map (λ v. v.path) ns
     → IfSome (cond t None o) (λ j. j < length ns) → option_map (name_path ns) o ≡ option_map (λ v. v.path) q
-    → line_from m folder ms n.path n.node (cond t None o) ≡ line_by m folder n (cond t None q)
-by_kind m folder ms ns n true o q p l h = refl
-by_kind m folder ms ns n false o q p l h = by_first m folder ms ns n o q p l h
+    → line_from m prefix ms n.path n.node (cond t None o) ≡ line_by m prefix n (cond t None q)
+by_kind m prefix ms ns n true o q p l h = refl
+by_kind m prefix ms ns n false o q p l h = by_first m prefix ms ns n o q p l h
 
 -- what a member has of a name makes the name's line
-line_as : (m : Image) (folder : List ℕ) (ms : List Member) (before rest : List Name) (n : Name)
+line_as : (m : Image) (prefix : List ℕ) (ms : List Member) (before rest : List Name) (n : Name)
     → map path_by (ways_of ms) ≡ map (λ v. v.path) (before ++ rest)
-    → line_from m folder ms n.path n.node (first_behind before n.node) ≡ line_behind m folder before n
-line_as m folder ms before rest n p =
+    → line_from m prefix ms n.path n.node (first_behind before n.node) ≡ line_behind m prefix before n
+line_as m prefix ms before rest n p =
     let number : ℕ = ino_of n.node in
-    by_kind m folder ms (before ++ rest) n (is_directory n.node) (place_of number before) (first_name number before) p
+    by_kind m prefix ms (before ++ rest) n (is_directory n.node) (place_of number before) (first_name number before) p
     (first_within (is_directory n.node) (place_of number before) (length before) (length (before ++ rest))
     (omega (arith, length-append before rest)) (place_within number before))
     (first_path number before rest)
 
 -- what a member at an index is, and its line
-pub record IsLined (m : Image) (folder : List ℕ) (ms : List Member) (i : ℕ) (x : Member) : Type 0 where
+pub record IsLined (m : Image) (prefix : List ℕ) (ms : List Member) (i : ℕ) (x : Member) : Type 0 where
   pub node : Node
   pub at : image_node m x.node.0 ≡ Some node
   pub first : IfSome x.first (λ j. j < length ms)
-  pub within : i < length (member_lines m folder)
-  pub line : (d : Line) → get_or (member_lines m folder) i d ≡ line_told m folder ms i node x.first
+  pub within : i < length (member_lines m prefix)
+  pub line : (d : Line) → get_or (member_lines m prefix) i d ≡ line_described m prefix ms i node x.first
 
-pub lined : (m : Image) (folder : List ℕ) (ms : List Member) (i : ℕ) (d : Member) → AreMembers m ms → i < length ms
-    → IsLined m folder ms i (get_or ms i d)
+pub lined : (m : Image) (prefix : List ℕ) (ms : List Member) (i : ℕ) (d : Member) → AreMembers m ms → i < length ms
+    → IsLined m prefix ms i (get_or ms i d)
 unfolding members_of member_lines
-lined m folder ms i d h l =
+lined m prefix ms i d h l =
     let ns : List Name = names m.tree in
     let e : Name = named [] [] m.tree in
-    let t : Told = told_behind [] e in
+    let t : Known = known_behind [] e in
     let n : Name = get_or ns i e in
     let before : List Name = take i ns in
     let number : ℕ = ino_of n.node in
-    let many : length ms ≡ length ns = as_many ms ns h.told in
+    let many : length ms ≡ length ns = as_many ms ns h.known in
     let k : i < length ns = omega (arith, many, l) in
     let few : length before ≤ length ms = omega (arith, many, k, length-take-le i ns (omega (arith, k))) in
-    let told : told_of (get_or ms i d) ≡ told_behind before n =
-    sym (map_at ms i d t l) ∙ ap (λ (v : List Told). get_or v i t) h.told ∙ behind_at [] ns i t e k in
+    let known : known_of (get_or ms i d) ≡ known_behind before n =
+    sym (map_at ms i d t l) ∙ ap (λ (v : List Known). get_or v i t) h.known ∙ behind_at [] ns i t e k in
     let paths : map path_by (ways_of ms) ≡ map (λ v. v.path) (before ++ drop i ns) =
     h.paths ∙ ap (map (λ (v : Name). v.path)) (sym (take-append-drop i ns)) in
     record {
       node = n.node;
-      at = ap (λ (v : Told). image_node m v.number) told ∙ node_of_name m i e k;
-      first = subst (λ (o : Option ℕ). IfSome o (λ j. j < length ms)) (sym (ap (λ (v : Told). v.first) told))
+      at = ap (λ (v : Known). image_node m v.number) known ∙ node_of_name m i e k;
+      first = subst (λ (o : Option ℕ). IfSome o (λ j. j < length ms)) (sym (ap (λ (v : Known). v.first) known))
           (first_within (is_directory n.node) (place_of number before) (length before) (length ms) few
           (place_within number before));
-      within = omega (arith, k, length-lines m folder [] ns);
-      line = λ x. line_at m folder [] ns i x e k ∙ sym (line_as m folder ms before (drop i ns) n paths)
-          ∙ ap₂ (λ (p : List ℕ) (o : Option ℕ). line_from m folder ms p n.node o) (sym (path_here ms ns i e h.paths k))
-          (sym (ap (λ (v : Told). v.first) told));
+      within = omega (arith, k, length-lines m prefix [] ns);
+      line = λ x. line_at m prefix [] ns i x e k ∙ sym (line_as m prefix ms before (drop i ns) n paths)
+          ∙ ap₂ (λ (p : List ℕ) (o : Option ℕ). line_from m prefix ms p n.node o) (sym (path_here ms ns i e h.paths k))
+          (sym (ap (λ (v : Known). v.first) known));
     }
 
 -- as many lines as members
-pub as_many_lines : (m : Image) (folder : List ℕ) (ms : List Member) → AreMembers m ms
-    → length (member_lines m folder) ≡ length ms
+pub as_many_lines : (m : Image) (prefix : List ℕ) (ms : List Member) → AreMembers m ms
+    → length (member_lines m prefix) ≡ length ms
 unfolding members_of member_lines
-as_many_lines m folder ms h = length-lines m folder [] (names m.tree) ∙ sym (as_many ms (names m.tree) h.told)
+as_many_lines m prefix ms h = length-lines m prefix [] (names m.tree) ∙ sym (as_many ms (names m.tree) h.known)
 
 -- The lines so far.
 

@@ -5,5 +5,5 @@ pub mod Lines
 pub mod Members
 pub mod Open
 pub mod Sources
-pub mod Tellable
-pub mod Told
+pub mod Describable
+pub mod Known

@@ -50,8 +50,8 @@ line_with path text s = record {
 
 -- The line of a node at a path. The source of a file is its path in the directory.
 abbrev pub node_line : Image → List ℕ → List ℕ → Node → Line
-node_line m folder path x =
-    line_with path (text_of (kind_of x) (folder ++ path) (contents_of m.bytes x)) (stat_of x)
+node_line m prefix path x =
+    line_with path (text_of (kind_of x) (prefix ++ path) (contents_of m.bytes x)) (stat_of x)
 
 -- the line of a further name of the file at the path `old`
 abbrev pub hard_line : List ℕ → List ℕ → Line
@@ -74,20 +74,20 @@ first_name number ns = find (λ n. ino_of n.node == number) ns
 
 -- the line of a name, by the name of its node that comes before it, if there is one
 abbrev pub line_by : Image → List ℕ → Name → Option Name → Line
-line_by m folder n None = node_line m folder n.path n.node
-line_by m folder n (Some old) = hard_line n.path old.path
+line_by m prefix n None = node_line m prefix n.path n.node
+line_by m prefix n (Some old) = hard_line n.path old.path
 
 -- the line of a name behind others; a directory has a line of its own at each name
 abbrev pub line_behind : Image → List ℕ → List Name → Name → Line
-line_behind m folder before n =
-    line_by m folder n (if is_directory n.node then None else first_name (ino_of n.node) before)
+line_behind m prefix before n =
+    line_by m prefix n (if is_directory n.node then None else first_name (ino_of n.node) before)
 
 -- the lines of names, behind others
 abbrev pub lines_behind : Image → List ℕ → List Name → List Name → List Line
-lines_behind m folder before [] = []
-lines_behind m folder before (n ∷ ns) =
-    line_behind m folder before n ∷ lines_behind m folder (before ++ n ∷ []) ns
+lines_behind m prefix before [] = []
+lines_behind m prefix before (n ∷ ns) =
+    line_behind m prefix before n ∷ lines_behind m prefix (before ++ n ∷ []) ns
 
 -- the lines of all names, with sources in this directory
 unfoldable pub member_lines : Image → List ℕ → List Line
-member_lines m folder = lines_behind m folder [] (names m.tree)
+member_lines m prefix = lines_behind m prefix [] (names m.tree)

@@ -12,7 +12,7 @@ use Rattle.image_manifest.specs.Composed.{path_by, ways_of}
 use Rattle.image_manifest.specs.declared.naming.Member.{Member}
 
 -- what a member has of a name: its node's number, and the index of the first name of that node
-pub record Told : Type 0 where
+pub record Known : Type 0 where
   pub number : ℕ
   pub first : Option ℕ
 
@@ -27,23 +27,23 @@ abbrev pub first_behind : List Name → Node → Option ℕ
 first_behind before x = if is_directory x then None else place_of (ino_of x) before
 
 -- what a member has of a name behind others
-abbrev pub told_behind : List Name → Name → Told
-told_behind before n = record {
+abbrev pub known_behind : List Name → Name → Known
+known_behind before n = record {
   number = ino_of n.node;
   first = first_behind before n.node;
 }
 
 -- the same for each of some names, behind others
-abbrev pub all_behind : List Name → List Name → List Told
+abbrev pub all_behind : List Name → List Name → List Known
 all_behind before [] = []
-all_behind before (n ∷ ns) = told_behind before n ∷ all_behind (before ++ n ∷ []) ns
+all_behind before (n ∷ ns) = known_behind before n ∷ all_behind (before ++ n ∷ []) ns
 
-unfoldable pub members_of : Node → List Told
+unfoldable pub members_of : Node → List Known
 members_of t = all_behind [] (names t)
 
 -- the number and the index that a member of the code has
-abbrev pub told_of : Member → Told
-told_of m = record { number = m.node.0; first = m.first }
+abbrev pub known_of : Member → Known
+known_of m = record { number = m.node.0; first = m.first }
 
 -- no manifest accepts this name
 abbrev pub is_long : Name → Bool
@@ -55,6 +55,6 @@ has_long_path t = list_any is_long (names t)
 
 -- These are the members of the image. Their paths are those of its names, and none is too long.
 pub record AreMembers (m : Image) (ms : List Member) : Type 0 where
-  pub told : map told_of ms ≡ members_of m.tree
+  pub known : map known_of ms ≡ members_of m.tree
   pub paths : map path_by (ways_of ms) ≡ map (λ n. n.path) (names m.tree)
   pub short : has_long_path m.tree ≡ false

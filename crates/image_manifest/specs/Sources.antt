@@ -2,7 +2,7 @@
 -- the sources that the lines name are the image's files. (This project's own.)
 use Rattle.std.specs.Prelude.{◌≡◌, ℕ, Bool, ◌&&◌, List, [], ◌∷◌, ◌++◌, is_none, if◌then◌else◌, map}
 use Rattle.manifest.specs.Lines.{sources_of as sources_named}
-use Rattle.manifest_text.specs.Printed.{as_read}
+use Rattle.manifest.specs.Printed.{as_read}
 use Rattle.rom_tree.specs.Image.{Image, contents_of}
 use Rattle.rom_tree.specs.Names.{Name, names}
 use Rattle.rom_tree.specs.Tree.{Node, ino_of, is_regular}
@@ -35,7 +35,7 @@ source_names t = source_names_behind [] (names t)
 
 -- The sources that the lines name are the regular files of the image, in their order. Each is the
 -- path of the file's first name in the directory. Their contents are those of the files.
-pub record AreSources (m : Image) (volume folder : List ℕ) : Type 0 where
-  pub named : sources_named (as_read volume (member_lines m folder)).lines
-      ≡ map (λ n. folder ++ n.path) (source_names m.tree)
+pub record AreSources (m : Image) (volume prefix : List ℕ) : Type 0 where
+  pub named : sources_named (as_read volume (member_lines m prefix)).lines
+      ≡ map (λ n. prefix ++ n.path) (source_names m.tree)
   pub held : file_contents m ≡ map (λ n. contents_of m.bytes n.node) (source_names m.tree)

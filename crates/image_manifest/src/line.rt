@@ -1,19 +1,18 @@
 //! The line of one name.
 ghost use Rattle.std.specs.Prelude.{◌≡◌, ◌≢◌, ◌++◌, ◌<◌, ◌≤◌, ℕ, Some, IfSome, codes, length};
-ghost use Rattle.manifest_text.specs.Printed.{line_text};
+ghost use Rattle.manifest.specs.Printed.{line_text};
 ghost use Rattle.rom_fields.specs.Written.{Puts, sink};
 ghost use Rattle.rom_tree.specs.Tree.{Node};
 ghost use Rattle.rom_tree.specs.Image.{image_node, HasNode};
 ghost use Rattle.rom_tree.specs.declared.types.Kind.TheVariants.{Regular};
 ghost use Rattle.image_manifest.specs.Composed.{path_at};
 ghost use Rattle.image_manifest.specs.Lines.{hard_line, line_with, node_line, word_of};
-ghost use Rattle.image_manifest.specs.Told.{line_told};
+ghost use Rattle.image_manifest.specs.Known.{line_described};
 
 use crate::composing::path_of;
 use crate::naming::Member;
 use arrayvec::ArrayVec;
-use manifest::Word;
-use manifest_text::{Entry, put_line};
+use manifest::{Entry, Word, put_line};
 use rom_fields::{ByteWrite, put, put_decimal, put_escaped, put_octal};
 use rom_tree::{Kind, NodeId, Stat, TreeImage, link_text};
 
@@ -33,10 +32,10 @@ fn word_of(kind: Kind) -> Word
 }
 
 /// Puts the line of a regular file. Its source is its path in the directory.
-fn put_file<W: ByteWrite>(w: &mut W, failed: &mut bool, folder: &[u8], path: &[u8], stat: Stat)
+fn put_file<W: ByteWrite>(w: &mut W, failed: &mut bool, prefix: &[u8], path: &[u8], stat: Stat)
     requires { stat.kind ≡ Regular }
     ensures { Puts (sink (W.output w.old) failed.old) (sink (W.output w.new) failed.new)
-        (line_text (line_with path.now (folder.now ++ path.now) stat) ++ codes "\n") }
+        (line_text (line_with path.now (prefix.now ++ path.now) stat) ++ codes "\n") }
 {
     put(w, failed, b"file ");
     put_escaped(w, failed, path);
@@ -47,7 +46,7 @@ fn put_file<W: ByteWrite>(w: &mut W, failed: &mut bool, folder: &[u8], path: &[u
     put(w, failed, b" ");
     put_decimal(w, failed, stat.gid);
     put(w, failed, b" 4 ");
-    put_escaped(w, failed, folder);
+    put_escaped(w, failed, prefix);
     put_escaped(w, failed, path);
     put(w, failed, b"\n");
 }
@@ -96,18 +95,18 @@ fn put_node<'a, T: TreeImage<'a>, W: ByteWrite>(
     image: &T,
     w: &mut W,
     failed: &mut bool,
-    folder: &[u8],
+    prefix: &[u8],
     path: &[u8],
     node: NodeId,
 )
     requires { HasNode (T.image image.now) node.0 }
     ensures { (x : Node) → image_node (T.image image.now) node.0 ≡ Some x
         → Puts (sink (W.output w.old) failed.old) (sink (W.output w.new) failed.new)
-        (line_text (node_line (T.image image.now) folder.now path.now x) ++ codes "\n") }
+        (line_text (node_line (T.image image.now) prefix.now path.now x) ++ codes "\n") }
 {
     let stat = image.stat(node);
     match stat.kind {
-        Kind::Regular => put_file(w, failed, folder, path, stat),
+        Kind::Regular => put_file(w, failed, prefix, path, stat),
         Kind::Symlink => put_other(w, failed, path, link_text(image, node), stat),
         _ => put_other(w, failed, path, b"", stat),
     }
@@ -118,7 +117,7 @@ pub(crate) fn put_member<'a, T: TreeImage<'a>, W: ByteWrite>(
     image: &T,
     w: &mut W,
     failed: &mut bool,
-    folder: &[u8],
+    prefix: &[u8],
     members: &[Member<'a>],
     index: usize,
     member: Member<'a>,
@@ -129,13 +128,13 @@ pub(crate) fn put_member<'a, T: TreeImage<'a>, W: ByteWrite>(
     requires short { (i : ℕ) → length (path_at members.now i) ≤ 4095 }
     ensures { (x : Node) → image_node (T.image image.now) member.entry.node.0 ≡ Some x
         → Puts (sink (W.output w.old) failed.old) (sink (W.output w.new) failed.new)
-        (line_text (line_told (T.image image.now) folder.now members.now index x
+        (line_text (line_described (T.image image.now) prefix.now members.now index x
         member.entry.first) ++ codes "\n") }
 {
     let mut path = ArrayVec::new();
     path_of(members, index, &mut path);
     match member.first {
-        None => put_node(image, w, failed, folder, path.as_slice(), member.node),
+        None => put_node(image, w, failed, prefix, path.as_slice(), member.node),
         Some(first) => {
             let mut old = ArrayVec::new();
             path_of(members, first, &mut old);

@@ -1,7 +1,7 @@
 //! The names of an image.
 ghost use Rattle.std.specs.Prelude.{◌≡◌, ◌<◌, ◌≤◌, ℕ, [], ◌∷◌, ◌++◌, true, Some, length};
 ghost use Rattle.std.specs.Prelude.{IfOk, IfErr, OnOk};
-ghost use Rattle.rom_tree.specs.Tree.{Node, levels};
+ghost use Rattle.rom_tree.specs.Tree.{Node, IsShallow};
 ghost use Rattle.rom_tree.specs.Image.{image_node, HasNode};
 ghost use Rattle.rom_tree.specs.Walks.{given_path};
 ghost use Rattle.image_manifest.specs.declared.naming.Open.{Open};
@@ -132,8 +132,8 @@ fn first_noted<'a, T: TreeImage<'a>>(
 /// `LongPath` only if a path has more than 4,095 bytes; then the image has no manifest.
 /// `OutOfMemory` if memory was refused, also if there is such a path.
 pub fn members<'a, T: TreeImage<'a>>(alloc: Global, image: &T) -> Result<Vec<Member<'a>>, Refused>
-    requires { levels (T.image image.now).tree ≤ 65 }
-    ensures told { IfOk result (λ v. AreMembers (T.image image.now) v.items) }
+    requires { IsShallow (T.image image.now).tree }
+    ensures known { IfOk result (λ v. AreMembers (T.image image.now) v.items) }
     ensures long { IfErr result (λ e. e ≡ LongPath
         → has_long_path (T.image image.now).tree ≡ true) }
 {

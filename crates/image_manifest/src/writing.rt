@@ -1,5 +1,5 @@
 //! The writing of an image's manifest.
-ghost use Rattle.manifest_text.specs.Printed.{lines_text, manifest_text};
+ghost use Rattle.manifest.specs.Printed.{lines_text, manifest_text};
 ghost use Rattle.rom_fields.specs.Failures.{Counts};
 ghost use Rattle.rom_fields.specs.Written.{Puts, WritesText, sink};
 ghost use Rattle.image_manifest.specs.Lines.{member_lines};
@@ -7,7 +7,7 @@ ghost use Rattle.image_manifest.specs.Members.{AreMembers};
 
 use crate::line::put_member;
 use crate::naming::Member;
-use manifest_text::put_volume;
+use manifest::put_volume;
 use rom_fields::{ByteWrite, Failed};
 use rom_tree::TreeImage;
 
@@ -16,15 +16,15 @@ fn put_members<'a, T: TreeImage<'a>, W: ByteWrite>(
     image: &T,
     w: &mut W,
     failed: &mut bool,
-    folder: &[u8],
+    prefix: &[u8],
     members: &[Member<'a>],
 )
     requires { AreMembers (T.image image.now) members.now }
     ensures { Puts (sink (W.output w.old) failed.old) (sink (W.output w.new) failed.new)
-        (lines_text (member_lines (T.image image.now) folder.now)) }
+        (lines_text (member_lines (T.image image.now) prefix.now)) }
 {
     for index in 0..members.len() {
-        put_member(image, w, failed, folder, members, index, members[index]);
+        put_member(image, w, failed, prefix, members, index, members[index]);
     }
 }
 
@@ -45,16 +45,16 @@ pub fn write_manifest<'a, T: TreeImage<'a>, W: ByteWrite>(
     image: &T,
     members: &[Member<'a>],
     volume: &[u8],
-    folder: &[u8],
+    prefix: &[u8],
     w: &mut W,
 ) -> Result<(), Failed>
     requires { AreMembers (T.image image.now) members.now }
     ensures text { WritesText (W.output w.old).contents (W.output w.new).contents result
-        (manifest_text volume.now (member_lines (T.image image.now) folder.now)) }
+        (manifest_text volume.now (member_lines (T.image image.now) prefix.now)) }
     ensures count { Counts (W.output w.old).failures (W.output w.new).failures result }
 {
     let mut failed = false;
     put_volume(w, &mut failed, volume);
-    put_members(image, w, &mut failed, folder, members);
+    put_members(image, w, &mut failed, prefix, members);
     if failed { Err(Failed) } else { Ok(()) }
 }

@@ -2,7 +2,7 @@
 
 use crate::xml::put_xml;
 use image_extents::{Extents, put_path};
-use image_map::put_eight_digits;
+use image_info::put_eight_digits;
 use rom_fields::{ByteWrite, OutOfMemory, Plain, put, put_long_decimal};
 use std::alloc::Global;
 

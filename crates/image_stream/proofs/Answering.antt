@@ -8,14 +8,14 @@ use Rattle.std.proofs.lemmas.List.{take_all, drop_all}
 use Rattle.std.specs.Io.KnownBytes.{Appends}
 use Rattle.std.specs.Prelude.{Result, Ok, Err, OnOk}
 use Rattle.image_stream.specs.declared.outline.Outline.{Outline}
-use Rattle.image_stream.specs.Sources.{content_of, Told}
+use Rattle.image_stream.specs.Sources.{content_of, IfKnown}
 use Rattle.image_stream.specs.Segments.{Segment, fixed, content, place, len, segment_at, outline, zeros, IsBody}
 use Rattle.image_stream.specs.Segments.{IsImage}
 use Rattle.image_stream.specs.Outcomes.{FrontSized}
 use Rattle.image_stream.specs.Answers.{Answer, answer, Logs, Grew, AreOf, AreReads, IsBodyRead, IsImageRead}
 use Rattle.image_stream.specs.Steps.{IsFront, IsFrontRead, IsPiece, IsPieceRead, IsNext, IsNextRead, IsDone, IsDoneRead}
 use Rattle.image_stream.specs.Steps.{Gone, Read}
-use Rattle.image_stream.proofs.Fronts.{gone_more, gone_none, front_more, piece_told}
+use Rattle.image_stream.proofs.Fronts.{gone_more, gone_none, front_more, piece_known}
 use Rattle.image_stream.proofs.Images.{done_next, drop_part}
 
 -- a log that grows twice
@@ -164,35 +164,35 @@ pub gone_none_read : (P : List ℕ → Type 0) (R : List Answer → List ℕ →
 gone_none_read P R a Is was h r =
     gone_none (λ xs. P xs × Read R was was xs) a Is (h, record { answers = []; are = r; logged = logs_none was })
 
-pub gone_piece_read : (told told' : Option (List (List ℕ))) (p : Segment) (k n : ℕ) (a b c : Option (List ℕ))
-    (Was Is Next : List ℕ → Type 0) (was mid is : List Answer → Type 0) (ys : List ℕ) → told' ≡ told → length ys ≡ n
-    → Gone (λ xs. IsFront told p k xs × Read (λ answers zs. IsFrontRead p k answers zs) was mid xs) a b Was Is
-    → IsPiece told' p k ys
+pub gone_piece_read : (known known' : Option (List (List ℕ))) (p : Segment) (k n : ℕ) (a b c : Option (List ℕ))
+    (Was Is Next : List ℕ → Type 0) (was mid is : List Answer → Type 0) (ys : List ℕ) → known' ≡ known → length ys ≡ n
+    → Gone (λ xs. IsFront known p k xs × Read (λ answers zs. IsFrontRead p k answers zs) was mid xs) a b Was Is
+    → IsPiece known' p k ys
     → Read (λ answers zs. IsPieceRead p k answers zs) mid is ys → Appends b c ys
     → ((xs : List ℕ) → Is xs → Next (xs ++ ys))
-    → Gone (λ xs. IsFront told p (k + n) xs
+    → Gone (λ xs. IsFront known p (k + n) xs
     × Read (λ answers zs. IsFrontRead p (k + n) answers zs) was is xs) a c Was Next
-gone_piece_read told told' p k n a b c Was Is Next was mid is ys e m h q r w s =
-    let piece = piece_told told told' p k ys e q in
-    gone_read (IsFront told p k) (IsFront told p (k + n)) (λ answers zs. IsFrontRead p k answers zs)
+gone_piece_read known known' p k n a b c Was Is Next was mid is ys e m h q r w s =
+    let piece = piece_known known known' p k ys e q in
+    gone_read (IsFront known p k) (IsFront known p (k + n)) (λ answers zs. IsFrontRead p k answers zs)
     (λ answers zs. IsFrontRead p (k + n) answers zs) a b c Was Is Next was mid is ys r.answers h
-    (λ xs v. let F : ℕ → Type 0 = λ z. IsFront told p (k + z) (xs ++ ys) in subst F m
-    (front_more told p xs ys k v piece))
+    (λ xs v. let F : ℕ → Type 0 = λ z. IsFront known p (k + z) (xs ++ ys) in subst F m
+    (front_more known p xs ys k v piece))
     (λ answers xs v. let F : ℕ → Type 0 = λ z. IsFrontRead p (k + z) (answers ++ r.answers) (xs ++ ys) in subst F m
     (front_more_read p answers r.answers xs ys k v r.are))
     r.logged w s
 
 -- the zeros before a segment, and it
-pub gone_segment_read : (told : Option (List (List ℕ))) (at k : ℕ) (p : Segment) (a b c : Option (List ℕ))
+pub gone_segment_read : (known : Option (List (List ℕ))) (at k : ℕ) (p : Segment) (a b c : Option (List ℕ))
     (Was Is Next : List ℕ → Type 0) (was is : List Answer → Type 0) → k ≡ place p
     → Gone (λ xs. xs ≡ zeros (k - at)) a b Was Is
-    → Gone (λ xs. IsBody told p xs × Read (λ answers zs. IsBodyRead answers p zs) was is xs) b c Is Next
-    → Gone (λ xs. IsNext told at p xs × Read (λ answers zs. IsNextRead at p answers zs) was is xs) a c Was Next
-gone_segment_read told at k p a b c Was Is Next was is e z n =
+    → Gone (λ xs. IsBody known p xs × Read (λ answers zs. IsBodyRead answers p zs) was is xs) b c Is Next
+    → Gone (λ xs. IsNext known at p xs × Read (λ answers zs. IsNextRead at p answers zs) was is xs) a c Was Next
+gone_segment_read known at k p a b c Was Is Next was is e z n =
     let gap : (xs : List ℕ) → xs ≡ zeros (k - at) → xs ++ n.bytes ≡ zeros (place p - at) ++ n.bytes =
     λ xs v. ap (λ (y : List ℕ). y ++ n.bytes) (v ∙ ap (λ (j : ℕ). zeros (j - at)) e) in
     gone_more (λ xs. xs ≡ zeros (k - at))
-    (λ xs. IsNext told at p xs × Read
+    (λ xs. IsNext known at p xs × Read
     (λ answers zs. IsNextRead at p answers zs) was is xs) a b c Was Is Next n.bytes z
     (λ xs v. (
       record { body = n.bytes; stands = n.are.0; all = gap xs v },
@@ -218,28 +218,28 @@ done_next_read start parts end at p ps one two xs ys h n = λ later rest k.
     subst J (sym (append_assoc one two later))
     (subst I (sym split) (h (two ++ later) (gap ++ (body ++ rest)) (two, later, body, rest, refl, n.1, k, refl)))
 
-pub gone_next_read : (told told' : Option (List (List ℕ))) (start : ℕ) (parts : List Segment) (end at i : ℕ)
-    (a b c : Option (List ℕ)) (Was Is Next : List ℕ → Type 0) (was mid is : List Answer → Type 0) → told' ≡ told
+pub gone_next_read : (known known' : Option (List (List ℕ))) (start : ℕ) (parts : List Segment) (end at i : ℕ)
+    (a b c : Option (List ℕ)) (Was Is Next : List ℕ → Type 0) (was mid is : List Answer → Type 0) → known' ≡ known
     → i < length parts
-    → Gone (λ xs. IsDone told start parts end at (drop i parts) xs
+    → Gone (λ xs. IsDone known start parts end at (drop i parts) xs
     × Read (λ answers zs. IsDoneRead start parts end at (drop i parts) answers zs) was mid xs) a b Was Is
-    → Gone (λ xs. IsNext told' at (segment_at parts i) xs
+    → Gone (λ xs. IsNext known' at (segment_at parts i) xs
     × Read (λ answers zs. IsNextRead at (segment_at parts i) answers zs) mid is xs) b c Is Next
-    → Gone (λ xs. IsDone told start parts end (place (segment_at parts i) + len (segment_at parts i))
+    → Gone (λ xs. IsDone known start parts end (place (segment_at parts i) + len (segment_at parts i))
     (drop (i + 1) parts) xs
     × Read (λ answers zs. IsDoneRead start parts end (place (segment_at parts i) + len (segment_at parts i))
     (drop (i + 1) parts) answers zs) was is xs) a c Was Next
-gone_next_read told told' start parts end at i a b c Was Is Next was mid is e small h n =
+gone_next_read known known' start parts end at i a b c Was Is Next was mid is e small h n =
     let p = segment_at parts i in
     let ps = drop (i + 1) parts in
     let T : Option (List (List ℕ)) → Type 0 = λ v. IsNext v at p n.bytes in
     let split = drop_part parts i small in
-    gone_read (IsDone told start parts end at (drop i parts)) (IsDone told start parts end (place p + len p) ps)
+    gone_read (IsDone known start parts end at (drop i parts)) (IsDone known start parts end (place p + len p) ps)
     (λ answers zs. IsDoneRead start parts end at (drop i parts) answers zs)
     (λ answers zs. IsDoneRead start parts end
     (place p + len p) ps answers zs) a b c Was Is Next was mid is n.bytes n.are.1.answers h
-    (λ xs v. done_next told start parts end at p ps xs n.bytes
-    (let S : List Segment → Type 0 = λ z. IsDone told start parts end at z xs in subst S split v)
+    (λ xs v. done_next known start parts end at p ps xs n.bytes
+    (let S : List Segment → Type 0 = λ z. IsDone known start parts end at z xs in subst S split v)
     (subst T e n.are.0))
     (λ answers xs v. done_next_read start parts end at p ps answers n.are.1.answers xs n.bytes
     (let S : List Segment → Type 0 = λ z. IsDoneRead start parts end at z answers xs in subst S split v)
@@ -247,20 +247,20 @@ gone_next_read told told' start parts end at i a b c Was Is Next was mid is e sm
     n.are.1.logged n.written n.added
 
 -- zeros to the end
-pub gone_all_read : (told : Option (List (List ℕ))) (start : ℕ) (parts : List Segment) (end at i : ℕ)
+pub gone_all_read : (known : Option (List (List ℕ))) (start : ℕ) (parts : List Segment) (end at i : ℕ)
     (a b c : Option (List ℕ)) (Was Is Next : List ℕ → Type 0) (was is : List Answer → Type 0) → i ≡ length parts
-    → Gone (λ xs. IsDone told start parts end at (drop i parts) xs
+    → Gone (λ xs. IsDone known start parts end at (drop i parts) xs
     × Read (λ answers zs. IsDoneRead start parts end at (drop i parts) answers zs) was is xs) a b Was Is
     → Gone (λ xs. xs ≡ zeros (end - at)) b c Is Next
-    → Gone (λ xs. IsImage told start parts end xs
+    → Gone (λ xs. IsImage known start parts end xs
     × Read (λ answers zs. IsImageRead answers start parts end zs) was is xs) a c Was Next
-gone_all_read told start parts end at i a b c Was Is Next was is e h n =
+gone_all_read known start parts end at i a b c Was Is Next was is e h n =
     let none : drop i parts ≡ [] = drop_all i parts (omega arith) in
-    gone_read (IsDone told start parts end at (drop i parts)) (IsImage told start parts end)
+    gone_read (IsDone known start parts end at (drop i parts)) (IsImage known start parts end)
     (λ answers zs. IsDoneRead start parts end at (drop i parts) answers zs)
     (λ answers zs. IsImageRead answers start parts end zs) a b c Was Is Next was is is n.bytes [] h
     (λ xs v. v.more n.bytes (let S : List Segment
-    → Type 0 = λ z. IsImage told at z end n.bytes in subst S (sym none) n.are))
+    → Type 0 = λ z. IsImage known at z end n.bytes in subst S (sym none) n.are))
     (λ answers xs v. v [] n.bytes (let S : List Segment
     → Type 0 = λ z. IsImageRead [] at z end n.bytes in subst S (sym none) (refl, n.are)))
     (logs_none is) n.written n.added

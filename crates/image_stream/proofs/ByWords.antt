@@ -5,7 +5,7 @@ use Rattle.std.proofs.lemmas.Bool.{cases_lt}
 use Rattle.std.proofs.lemmas.List.{drop_all}
 use Rattle.byteorder.specs.Endian.{big_number}
 use Rattle.rom_fields.specs.Words.{words_total}
-use Rattle.image_parts.specs.Sums.{balance}
+use Rattle.rom_fields.specs.Sums.{balance}
 use Rattle.image_stream.specs.WordSums.{weight, term, weighted, balance_of}
 use Rattle.image_stream.proofs.Weights.{term_in, term_out}
 

@@ -6,17 +6,17 @@ use Rattle.std.proofs.lemmas.List.{drop_all}
 use Rattle.std.specs.Io.KnownBytes.{Appends}
 use Rattle.rom_fields.specs.Written.{AppendsPrefix}
 use Rattle.rom_fields.proofs.Joins.{front_after, front_first}
-use Rattle.image_stream.specs.Sources.{Told}
+use Rattle.image_stream.specs.Sources.{IfKnown}
 use Rattle.image_stream.specs.Segments.{Segment, fixed, content, place, len, segment_at, bytes_of, IsBody, zeros}
 use Rattle.image_stream.specs.Segments.{SegmentsRise, IsImage, image_from}
 use Rattle.image_stream.specs.Steps.{IsNext, next_bytes, IsDone, Gone}
 use Rattle.image_stream.proofs.Fronts.{gone_more}
 
--- if the contents are known, so are the bytes
-pub body_known : (told : Option (List (List ℕ))) (p : Segment) (xs : List ℕ) (cs : List (List ℕ)) → told ≡ Some cs
-    → IsBody told p xs → xs ≡ bytes_of cs p
-body_known told (fixed p bs) xs cs is h = h
-body_known told (content p n f) xs cs is h = h.1 cs is
+-- if the contents are facts, so are the bytes
+pub body_known : (known : Option (List (List ℕ))) (p : Segment) (xs : List ℕ) (cs : List (List ℕ)) → known ≡ Some cs
+    → IsBody known p xs → xs ≡ bytes_of cs p
+body_known known (fixed p bs) xs cs is h = h
+body_known known (content p n f) xs cs is h = h.1 cs is
 
 pub rises_end : (at end : ℕ) (ps : List Segment) → SegmentsRise at ps end → at ≤ end
 rises_end at end [] h = h
@@ -34,62 +34,63 @@ rises_here ps i at end h r =
     let q : SegmentsRise at (segment_at ps i ∷ drop (i + 1) ps) end = subst R (drop_part ps i h) r in
     (q.0, rises_end _ _ _ q.1, q.1)
 
-pub done_none : (told : Option (List (List ℕ))) (start : ℕ) (parts : List Segment) (end : ℕ)
-    → IsDone told start parts end start parts []
-done_none told start parts end = record { more = λ rest h. h; known = λ cs is. refl }
+pub done_none : (known : Option (List (List ℕ))) (start : ℕ) (parts : List Segment) (end : ℕ)
+    → IsDone known start parts end start parts []
+done_none known start parts end = record { more = λ rest h. h; facts = λ cs is. refl }
 
 -- one segment further
-pub done_next : (told : Option (List (List ℕ))) (start : ℕ) (parts : List Segment) (end at : ℕ) (p : Segment)
-    (ps : List Segment) (xs ys : List ℕ) → IsDone told start parts end at (p ∷ ps) xs → IsNext told at p ys
-    → IsDone told start parts end (place p + len p) ps (xs ++ ys)
-done_next told start parts end at p ps xs ys h n =
+pub done_next : (known : Option (List (List ℕ))) (start : ℕ) (parts : List Segment) (end at : ℕ) (p : Segment)
+    (ps : List Segment) (xs ys : List ℕ) → IsDone known start parts end at (p ∷ ps) xs → IsNext known at p ys
+    → IsDone known start parts end (place p + len p) ps (xs ++ ys)
+done_next known start parts end at p ps xs ys h n =
     let gap = zeros (place p - at) in
     let split : (rest : List ℕ) → (xs ++ ys) ++ rest ≡ xs ++ (gap ++ (n.body ++ rest)) =
     λ rest. append_assoc xs ys rest ∙ ap (λ (v : List ℕ). xs ++ v)
     (ap (λ (v : List ℕ). v ++ rest) n.all ∙ append_assoc gap n.body rest) in
     record {
-      more = λ rest k. let I : List ℕ → Type 0 = λ v. IsImage told start parts end v in
+      more = λ rest k. let I : List ℕ → Type 0 = λ v. IsImage known start parts end v in
           subst I (sym (split rest)) (h.more (gap ++ (n.body ++ rest)) (n.body, rest, n.stands, k, refl));
-      known = λ cs is. split (image_from cs (place p + len p) ps end)
+      facts = λ cs is. split (image_from cs (place p + len p) ps end)
           ∙ ap (λ (v : List ℕ). xs ++ (gap ++ (v ++ image_from cs (place p + len p) ps end)))
-          (body_known told p n.body cs is n.stands) ∙ h.known cs is;
+          (body_known known p n.body cs is n.stands) ∙ h.facts cs is;
     }
 
-pub gone_next : (told told' : Option (List (List ℕ))) (start : ℕ) (parts : List Segment) (end at i : ℕ)
-    (a b c : Option (List ℕ)) (Was Is Next : List ℕ → Type 0) → told' ≡ told → i < length parts
-    → Gone (IsDone told start parts end at (drop i parts)) a b Was Is
-    → Gone (IsNext told' at (segment_at parts i)) b c Is Next
-    → Gone (IsDone told start parts end (place (segment_at parts i) + len (segment_at parts i))
+pub gone_next : (known known' : Option (List (List ℕ))) (start : ℕ) (parts : List Segment) (end at i : ℕ)
+    (a b c : Option (List ℕ)) (Was Is Next : List ℕ → Type 0) → known' ≡ known → i < length parts
+    → Gone (IsDone known start parts end at (drop i parts)) a b Was Is
+    → Gone (IsNext known' at (segment_at parts i)) b c Is Next
+    → Gone (IsDone known start parts end (place (segment_at parts i) + len (segment_at parts i))
     (drop (i + 1) parts)) a c Was Next
-gone_next told told' start parts end at i a b c Was Is Next e small h n =
+gone_next known known' start parts end at i a b c Was Is Next e small h n =
     let T : Option (List (List ℕ)) → Type 0 = λ v. IsNext v at (segment_at parts i) n.bytes in
-    let D : List Segment → List ℕ → Type 0 = λ v xs. IsDone told start parts end at v xs in
-    gone_more (IsDone told start parts end at (drop i parts))
-    (IsDone told start parts end (place (segment_at parts i) + len (segment_at parts i))
+    let D : List Segment → List ℕ → Type 0 = λ v xs. IsDone known start parts end at v xs in
+    gone_more (IsDone known start parts end at (drop i parts))
+    (IsDone known start parts end (place (segment_at parts i) + len (segment_at parts i))
     (drop (i + 1) parts)) a b c Was Is Next n.bytes h
-    (λ xs v. done_next told start parts end at (segment_at parts i) (drop (i + 1) parts) xs n.bytes
+    (λ xs v. done_next known start parts end at (segment_at parts i) (drop (i + 1) parts) xs n.bytes
     (let S : List Segment → Type 0 = λ z. D z xs in subst S (drop_part parts i small) v) (subst T e n.are))
     n.written n.added
 
 -- zeros to the end
-pub gone_all : (told : Option (List (List ℕ))) (start : ℕ) (parts : List Segment) (end at i : ℕ)
+pub gone_all : (known : Option (List (List ℕ))) (start : ℕ) (parts : List Segment) (end at i : ℕ)
     (a b c : Option (List ℕ)) (Was Is Next : List ℕ → Type 0) → i ≡ length parts
-    → Gone (IsDone told start parts end at (drop i parts)) a b Was Is → Gone (λ xs. xs ≡ zeros (end - at)) b c Is Next
-    → Gone (IsImage told start parts end) a c Was Next
-gone_all told start parts end at i a b c Was Is Next e h n =
+    → Gone (IsDone known start parts end at (drop i parts)) a b Was Is → Gone (λ xs. xs ≡ zeros (end - at)) b c Is Next
+    → Gone (IsImage known start parts end) a c Was Next
+gone_all known start parts end at i a b c Was Is Next e h n =
     let none : drop i parts ≡ [] = drop_all i parts (omega arith) in
-    gone_more (IsDone told start parts end at (drop i parts)) (IsImage told start parts end) a b c Was Is Next n.bytes h
+    gone_more (IsDone known start parts end at (drop i parts))
+    (IsImage known start parts end) a b c Was Is Next n.bytes h
     (λ xs v. v.more n.bytes (let S : List Segment
-    → Type 0 = λ z. IsImage told at z end n.bytes in subst S (sym none) n.are))
+    → Type 0 = λ z. IsImage known at z end n.bytes in subst S (sym none) n.are))
     n.written n.added
 
 -- a front of the next segment is one of the image
-pub broken_next : (told told' : Option (List (List ℕ))) (start : ℕ) (parts : List Segment) (end at i : ℕ)
-    (a b c : Option (List ℕ)) (xs : List ℕ) (cs : List (List ℕ)) → told' ≡ told → told ≡ Some cs → i < length parts
-    → IsDone told start parts end at (drop i parts) xs → Appends a b xs
-    → Told told' (λ cs. AppendsPrefix b c (next_bytes cs at (segment_at parts i)))
+pub broken_next : (known known' : Option (List (List ℕ))) (start : ℕ) (parts : List Segment) (end at i : ℕ)
+    (a b c : Option (List ℕ)) (xs : List ℕ) (cs : List (List ℕ)) → known' ≡ known → known ≡ Some cs → i < length parts
+    → IsDone known start parts end at (drop i parts) xs → Appends a b xs
+    → IfKnown known' (λ cs. AppendsPrefix b c (next_bytes cs at (segment_at parts i)))
     → AppendsPrefix a c (image_from cs start parts end)
-broken_next told told' start parts end at i a b c xs cs e is small d w f =
+broken_next known known' start parts end at i a b c xs cs e is small d w f =
     let p = segment_at parts i in
     let rest = image_from cs (place p + len p) (drop (i + 1) parts) end in
     let t : AppendsPrefix a c ((xs ++ next_bytes cs at p) ++ rest) =
@@ -97,26 +98,26 @@ broken_next told told' start parts end at i a b c xs cs e is small d w f =
     let all : (xs ++ next_bytes cs at p) ++ rest ≡ image_from cs start parts end =
     append_assoc xs (next_bytes cs at p) rest
     ∙ ap (λ (v : List ℕ). xs ++ v) (append_assoc (zeros (place p - at)) (bytes_of cs p) rest)
-    ∙ ap (λ (v : List Segment). xs ++ image_from cs at v end) (sym (drop_part parts i small)) ∙ d.known cs is in
+    ∙ ap (λ (v : List Segment). xs ++ image_from cs at v end) (sym (drop_part parts i small)) ∙ d.facts cs is in
     (t.0, t.1, t.2, sym all ∙ t.3)
 
-pub broken_end : (told : Option (List (List ℕ))) (start : ℕ) (parts : List Segment) (end at i : ℕ)
-    (a b c : Option (List ℕ)) (xs : List ℕ) (cs : List (List ℕ)) → told ≡ Some cs → i ≡ length parts
-    → IsDone told start parts end at (drop i parts) xs → Appends a b xs → AppendsPrefix b c (zeros (end - at))
+pub broken_end : (known : Option (List (List ℕ))) (start : ℕ) (parts : List Segment) (end at i : ℕ)
+    (a b c : Option (List ℕ)) (xs : List ℕ) (cs : List (List ℕ)) → known ≡ Some cs → i ≡ length parts
+    → IsDone known start parts end at (drop i parts) xs → Appends a b xs → AppendsPrefix b c (zeros (end - at))
     → AppendsPrefix a c (image_from cs start parts end)
-broken_end told start parts end at i a b c xs cs is e d w f =
+broken_end known start parts end at i a b c xs cs is e d w f =
     let none : drop i parts ≡ [] = drop_all i parts (omega arith) in
     let t : AppendsPrefix a c (xs ++ zeros (end - at)) = front_after a b c xs (zeros (end - at)) w f in
     let all : xs ++ zeros (end - at) ≡ image_from cs start parts end =
-    ap (λ (v : List Segment). xs ++ image_from cs at v end) (sym none) ∙ d.known cs is in
+    ap (λ (v : List Segment). xs ++ image_from cs at v end) (sym none) ∙ d.facts cs is in
     (t.0, t.1, t.2, sym all ∙ t.3)
 
 -- the zeros before a segment, and it
-pub gone_segment : (told : Option (List (List ℕ))) (at k : ℕ) (p : Segment) (a b c : Option (List ℕ))
+pub gone_segment : (known : Option (List (List ℕ))) (at k : ℕ) (p : Segment) (a b c : Option (List ℕ))
     (Was Is Next : List ℕ → Type 0) → k ≡ place p → Gone (λ xs. xs ≡ zeros (k - at)) a b Was Is
-    → Gone (IsBody told p) b c Is Next → Gone (IsNext told at p) a c Was Next
-gone_segment told at k p a b c Was Is Next e z n =
-    gone_more (λ xs. xs ≡ zeros (k - at)) (IsNext told at p) a b c Was Is Next n.bytes z
+    → Gone (IsBody known p) b c Is Next → Gone (IsNext known at p) a c Was Next
+gone_segment known at k p a b c Was Is Next e z n =
+    gone_more (λ xs. xs ≡ zeros (k - at)) (IsNext known at p) a b c Was Is Next n.bytes z
     (λ xs v. record {
       body = n.bytes;
       stands = n.are;

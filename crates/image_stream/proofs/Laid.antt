@@ -1,8 +1,8 @@
 -- An image is its superblock and its segments, laid one after the other.
 use Rattle.std.proofs.Common.{◌≡◌, ℕ, suc, ◌+◌, ◌-◌, ◌<◌, List, [], ◌∷◌, ◌++◌, map, length, sym, ap, subst, ◌∙◌, arith}
 use Rattle.std.proofs.Common.{append-nil}
-use Rattle.image_parts.specs.Parts.{Part, part, with_part, laid, bytes_from, Rises}
-use Rattle.image_parts.proofs.Laid.{laid_from}
+use Rattle.rom_fields.specs.Parts.{Part, part, with_part, laid, bytes_from, Rises}
+use Rattle.rom_fields.proofs.Laid.{laid_from}
 use Rattle.image_stream.specs.Segments.{Segment, place, len, segment_at, bytes_of, zeros, image_from, SegmentsRise}
 use Rattle.image_stream.specs.Segments.{HasSource, segment_part, Form, IsLaidOut}
 use Rattle.image_stream.specs.Outcomes.{AreSized}

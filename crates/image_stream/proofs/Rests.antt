@@ -2,7 +2,7 @@
 use Rattle.std.proofs.Common.{◌≡◌, ℕ, ◌-◌, ◌≤◌, List, ◌++◌, length, take, drop, Option, Some, None, sym, refl, ◌∙◌}
 use Rattle.std.proofs.Common.{arith, subst, append_assoc, length-append, length-take, length-drop}
 use Rattle.std.proofs.lemmas.List.{length-replicate}
-use Rattle.image_stream.specs.Sources.{content_of, Told}
+use Rattle.image_stream.specs.Sources.{content_of, IfKnown}
 use Rattle.image_stream.specs.Segments.{Segment, fixed, content, len, IsBody, HasSource, zeros}
 use Rattle.image_stream.specs.Outcomes.{AreSized}
 use Rattle.image_stream.specs.Steps.{IsFront, Gone}
@@ -17,9 +17,10 @@ length_within c xs k n small e f =
     omega arith
 
 -- bytes behind a front of a segment that make it whole
-pub some_rest : (told : Option (List (List ℕ))) (sizes : List ℕ) (p : Segment) (xs : List ℕ) (k : ℕ) → HasSource sizes p
-    → Told told (AreSized sizes) → k ≤ len p → IsFront told p k xs → (rest : List ℕ) × IsBody told p (xs ++ rest)
-some_rest told sizes (fixed at bs) xs k h s small f = (drop k bs, sym (rest_of bs xs k f))
+pub some_rest : (known : Option (List (List ℕ))) (sizes : List ℕ) (p : Segment) (xs : List ℕ) (k : ℕ)
+    → HasSource sizes p
+    → IfKnown known (AreSized sizes) → k ≤ len p → IsFront known p k xs → (rest : List ℕ) × IsBody known p (xs ++ rest)
+some_rest known sizes (fixed at bs) xs k h s small f = (drop k bs, sym (rest_of bs xs k f))
 some_rest None sizes (content at n file) xs k h s small f =
     let l = length-append xs (zeros (n - k)) in
     let z : length (zeros (n - k)) ≡ n - k = length-replicate (n - k) 0 in
@@ -37,11 +38,11 @@ some_rest (Some cs) sizes (content at n file) xs k h s small f =
     )
 
 -- a segment of which no further byte counts
-pub gone_full : (told : Option (List (List ℕ))) (sizes : List ℕ) (p : Segment) (k : ℕ) (Was Is : List ℕ → Type 0)
-    → HasSource sizes p → Told told (AreSized sizes) → k ≤ len p → ((xs ys : List ℕ) → Is xs → Is (xs ++ ys))
-    → Gone (IsFront told p k) None None Was Is → Gone (IsBody told p) None None Was Is
-gone_full told sizes p k Was Is h s small full g =
-    let r = some_rest told sizes p g.bytes k h s small g.are in
+pub gone_full : (known : Option (List (List ℕ))) (sizes : List ℕ) (p : Segment) (k : ℕ) (Was Is : List ℕ → Type 0)
+    → HasSource sizes p → IfKnown known (AreSized sizes) → k ≤ len p → ((xs ys : List ℕ) → Is xs → Is (xs ++ ys))
+    → Gone (IsFront known p k) None None Was Is → Gone (IsBody known p) None None Was Is
+gone_full known sizes p k Was Is h s small full g =
+    let r = some_rest known sizes p g.bytes k h s small g.are in
     record {
       bytes = g.bytes ++ r.0;
       are = r.1;

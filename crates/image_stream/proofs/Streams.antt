@@ -9,19 +9,19 @@ use Rattle.rom_fields.specs.Written.{AppendsPrefix, Output}
 use Rattle.rom_fields.proofs.Joins.{front_after, front_first, appends_join, appends_keep}
 use Rattle.image_stream.specs.declared.error.StreamError.{StreamError}
 use Rattle.image_stream.specs.declared.error.StreamError.TheVariants.{SizeDiffers, SourceFault, WriteFault, Changed}
-use Rattle.image_stream.specs.Sources.{content_of, Told, Reads, FailedAt}
+use Rattle.image_stream.specs.Sources.{content_of, IfKnown, Reads, FailedAt}
 use Rattle.image_stream.specs.Segments.{Form, Segment, place, len, bytes_of, zeros, IsImage, image_from, checked}
 use Rattle.image_stream.specs.Outcomes.{FrontSized, AreSized, IsStreamFault}
 use Rattle.image_stream.specs.Steps.{Gone, IsFault, IsLeastStreamFault}
 use Rattle.image_stream.proofs.Images.{body_known}
 
--- if the contents are known, so is the image
-pub image_known : (told : Option (List (List ℕ))) (cs : List (List ℕ)) (at end : ℕ) (ps : List Segment) (xs : List ℕ)
-    → told ≡ Some cs → IsImage told at ps end xs → xs ≡ image_from cs at ps end
-image_known told cs at end [] xs is h = h
-image_known told cs at end (p ∷ ps) xs is h =
-    let body = body_known told p h.0 cs is h.2 in
-    let rest = image_known told cs (place p + len p) end ps h.1 is h.3 in
+-- if the contents are facts, so is the image
+pub image_known : (known : Option (List (List ℕ))) (cs : List (List ℕ)) (at end : ℕ) (ps : List Segment) (xs : List ℕ)
+    → known ≡ Some cs → IsImage known at ps end xs → xs ≡ image_from cs at ps end
+image_known known cs at end [] xs is h = h
+image_known known cs at end (p ∷ ps) xs is h =
+    let body = body_known known p h.0 cs is h.2 in
+    let rest = image_known known cs (place p + len p) end ps h.1 is h.3 in
     h.4 ∙ ap (λ (v : List ℕ). zeros (place p - at) ++ (v ++ h.1)) body
     ∙ ap (λ (v : List ℕ). zeros (place p - at) ++ (bytes_of cs p ++ v)) rest
 
@@ -48,13 +48,13 @@ module _ (head : ℕ → List ℕ) (S : List ℕ → ℕ) (stored : ℕ) (image 
       (appends_keep a c d (head stored ++ image) (appends_join a b c (head stored) image w f) k)
 
 -- nothing was written yet
-pub size_fault : (told : Option (List (List ℕ))) (f : Form) (stored : List ℕ → ℕ) (r r' : Reads) (w : Output)
-    (e : StreamError) → IsLeastStreamFault told f.sizes r r' e
-    → IsStreamFault told f stored r r' w w e
-size_fault told f stored r r' w (SizeDiffers k) h = (h.0, λ cs is. (h.1 cs is, refl))
-size_fault told f stored r r' w (SourceFault k) h = h
-size_fault told f stored r r' w WriteFault h = absurd h
-size_fault told f stored r r' w Changed h = absurd h
+pub size_fault : (known : Option (List (List ℕ))) (f : Form) (stored : List ℕ → ℕ) (r r' : Reads) (w : Output)
+    (e : StreamError) → IsLeastStreamFault known f.sizes r r' e
+    → IsStreamFault known f stored r r' w w e
+size_fault known f stored r r' w (SizeDiffers k) h = (h.0, λ cs is. (h.1 cs is, refl))
+size_fault known f stored r r' w (SourceFault k) h = h
+size_fault known f stored r r' w WriteFault h = absurd h
+size_fault known f stored r r' w Changed h = absurd h
 
 -- a file that has its planned size is not too short
 not_short : (sizes : List ℕ) (cs : List (List ℕ)) (f : ℕ) → AreSized sizes cs
@@ -70,29 +70,29 @@ front_sized : (sizes : List ℕ) (cs : List (List ℕ)) (k : ℕ) → k < length
 front_sized sizes cs k within h = λ j less. h j (omega arith)
 
 -- a fault of a pass over sources of the planned sizes
-pub pass_fault : (told told' : Option (List (List ℕ))) (f : Form) (stored : List ℕ → ℕ) (r r' r'' : Reads)
-    (w w' w'' : Output) (e : StreamError) → told' ≡ told → r' ≡ r
-    → (Rose w'.failures w''.failures → Rose w.failures w''.failures) → Told told (AreSized f.sizes)
-    → IsFault told' f.sizes r' r'' w'.failures w''.failures e → IsStreamFault told f stored r r'' w w'' e
-pass_fault told told' f stored r r' r'' w w' w'' (SizeDiffers k) t q o h g =
+pub pass_fault : (known known' : Option (List (List ℕ))) (f : Form) (stored : List ℕ → ℕ) (r r' r'' : Reads)
+    (w w' w'' : Output) (e : StreamError) → known' ≡ known → r' ≡ r
+    → (Rose w'.failures w''.failures → Rose w.failures w''.failures) → IfKnown known (AreSized f.sizes)
+    → IsFault known' f.sizes r' r'' w'.failures w''.failures e → IsStreamFault known f stored r r'' w w'' e
+pass_fault known known' f stored r r' r'' w w' w'' (SizeDiffers k) t q o h g =
     (g.0, λ cs is. absurd (not_short f.sizes cs k (h cs is) (g.1 cs (t ∙ is))))
-pass_fault told told' f stored r r' r'' w w' w'' (SourceFault k) t q o h g =
+pass_fault known known' f stored r r' r'' w w' w'' (SourceFault k) t q o h g =
     let R : Reads → Type 0 = λ v. FailedAt k v r'' in
     (g.0, subst R q g.1, λ cs is. front_sized f.sizes cs k g.0 (h cs is))
-pass_fault told told' f stored r r' r'' w w' w'' WriteFault t q o h g = o g
-pass_fault told told' f stored r r' r'' w w' w'' Changed t q o h g = absurd g
+pass_fault known known' f stored r r' r'' w w' w'' WriteFault t q o h g = o g
+pass_fault known known' f stored r r' r'' w w' w'' Changed t q o h g = absurd g
 
 never : (0 < 0) ⊎ (2 ^ 64 - 1 ≤ 0) → ⊥
 never h = search rules
 
 -- a pass that writes nowhere
-pub nowhere_fault : (told told' : Option (List (List ℕ))) (f : Form) (stored : List ℕ → ℕ) (r r' r'' : Reads)
-    (w : Output) (e : StreamError) → told' ≡ told → r' ≡ r → Told told (AreSized f.sizes)
-    → IsFault told' f.sizes r' r'' 0 0 e → IsStreamFault told f stored r r'' w w e
-nowhere_fault told told' f stored r r' r'' w (SizeDiffers k) t q h g =
+pub nowhere_fault : (known known' : Option (List (List ℕ))) (f : Form) (stored : List ℕ → ℕ) (r r' r'' : Reads)
+    (w : Output) (e : StreamError) → known' ≡ known → r' ≡ r → IfKnown known (AreSized f.sizes)
+    → IsFault known' f.sizes r' r'' 0 0 e → IsStreamFault known f stored r r'' w w e
+nowhere_fault known known' f stored r r' r'' w (SizeDiffers k) t q h g =
     (g.0, λ cs is. absurd (not_short f.sizes cs k (h cs is) (g.1 cs (t ∙ is))))
-nowhere_fault told told' f stored r r' r'' w (SourceFault k) t q h g =
+nowhere_fault known known' f stored r r' r'' w (SourceFault k) t q h g =
     let R : Reads → Type 0 = λ v. FailedAt k v r'' in
     (g.0, subst R q g.1, λ cs is. front_sized f.sizes cs k g.0 (h cs is))
-nowhere_fault told told' f stored r r' r'' w WriteFault t q h g = absurd (never g)
-nowhere_fault told told' f stored r r' r'' w Changed t q h g = absurd g
+nowhere_fault known known' f stored r r' r'' w WriteFault t q h g = absurd (never g)
+nowhere_fault known known' f stored r r' r'' w Changed t q h g = absurd g

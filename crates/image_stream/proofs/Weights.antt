@@ -3,7 +3,7 @@ use Rattle.std.proofs.Common.{◌≡◌, ℕ, ◌+◌, ◌-◌, ◌*◌, ◌%◌
 use Rattle.std.proofs.Common.{ap, ◌∙◌, arith, subst, inl, inr, append_assoc, length-append, length-take}
 use Rattle.std.proofs.lemmas.Bool.{lt-ltb, le-ltb, cases_lt}
 use Rattle.std.proofs.lemmas.List.{take_all, take-append-drop}
-use Rattle.image_parts.specs.Sums.{balance}
+use Rattle.rom_fields.specs.Sums.{balance}
 use Rattle.image_stream.specs.WordSums.{weight, term, weighted, IsSum, balance_of}
 
 weighted_last : (xs : List ℕ) (k x : ℕ) → weighted k (xs ++ x ∷ []) ≡ weighted k xs + term (k + length xs) x

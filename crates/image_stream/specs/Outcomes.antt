@@ -7,7 +7,7 @@ use Rattle.rom_fields.specs.Written.{Output}
 use Rattle.image_stream.specs.declared.error.StreamError.{StreamError}
 use Rattle.image_stream.specs.declared.error.StreamError.TheVariants.{SizeDiffers, SourceFault}
 use Rattle.image_stream.specs.declared.error.StreamError.TheVariants.{WriteFault, Changed}
-use Rattle.image_stream.specs.Sources.{content_of, Told, Reads, FailedAt}
+use Rattle.image_stream.specs.Sources.{content_of, IfKnown, Reads, FailedAt}
 use Rattle.image_stream.specs.Segments.{Form, IsImage, checked}
 use Rattle.image_stream.specs.Answers.{Answer, LogsLast, IsImageRead}
 
@@ -25,13 +25,13 @@ pub record IsLeastWrong (sizes : List ℕ) (file : ℕ) (cs : List (List ℕ)) :
   pub differs : length (content_of cs file) ≢ get_or sizes file 0
   pub least : FrontSized sizes file cs
 
--- A whole image was appended, whatever the sources are: with their contents if these are known, and
+-- A whole image was appended, whatever the sources are: with their contents if these are facts, and
 -- otherwise with some contents of the planned sizes, and with the check value of exactly these
 -- bytes. `answers` are the answers of the reads that its contents were taken from.
-pub record IsWritten (told : Option (List (List ℕ))) (f : Form) (stored : List ℕ → ℕ)
+pub record IsWritten (known : Option (List (List ℕ))) (f : Form) (stored : List ℕ → ℕ)
     (old new : Option (List ℕ)) : Type 0 where
   pub rest : List ℕ
-  pub stands : IsImage told f.start f.segments f.end rest
+  pub stands : IsImage known f.start f.segments f.end rest
   pub answers : List Answer
   pub read : IsImageRead answers f.start f.segments f.end rest
   pub written : Appends old new (checked f.head stored rest)
@@ -40,31 +40,31 @@ pub record IsWritten (told : Option (List (List ℕ))) (f : Form) (stored : List
 abbrev pub IsStreamed : Option (List (List ℕ)) → (List Answer → Type 0) → (List Answer → Type 0)
     → Form → (List ℕ → ℕ)
     → Option (List ℕ) → Option (List ℕ) → Type 0
-IsStreamed told was is f stored old new =
-    (w : IsWritten told f stored old new) × LogsLast was is w.answers
+IsStreamed known was is f stored old new =
+    (w : IsWritten known f stored old new) × LogsLast was is w.answers
 
 -- a whole image was appended, but its check value is not that of its bytes
-pub record IsMisstored (told : Option (List (List ℕ))) (f : Form) (stored : List ℕ → ℕ)
+pub record IsMisstored (known : Option (List (List ℕ))) (f : Form) (stored : List ℕ → ℕ)
     (old new : Option (List ℕ)) : Type 0 where
   pub rest : List ℕ
-  pub stands : IsImage told f.start f.segments f.end rest
+  pub stands : IsImage known f.start f.segments f.end rest
   pub value : ℕ
   pub differs : value ≢ stored (f.head 0 ++ rest)
   pub written : Appends old new (f.head value ++ rest)
 
--- The meaning of an early end, by the contents of the sources (if these are known), by the counts
+-- The meaning of an early end, by the contents of the sources (if these are facts), by the counts
 -- of failed reads and of the writer's failures, and by what was written. `SizeDiffers`: the file is
 -- the first with another size, and nothing was written. `SourceFault`: a read of the file failed,
 -- and the files before it have their sizes. `WriteFault`: the writer failed. `Changed`: what was
--- read changed, so the check value is wrong; this does not happen if the contents are known.
+-- read changed, so the check value is wrong; this does not happen if the contents are facts.
 abbrev pub IsStreamFault : Option (List (List ℕ)) → Form → (List ℕ → ℕ) → Reads → Reads → Output
     → Output → StreamError
     → Type 0
-IsStreamFault told f stored r r' w w' (SizeDiffers file) =
-    (file < length f.sizes) × Told told
+IsStreamFault known f stored r r' w w' (SizeDiffers file) =
+    (file < length f.sizes) × IfKnown known
     (λ cs. IsLeastWrong f.sizes file cs × (w'.contents ≡ w.contents))
-IsStreamFault told f stored r r' w w' (SourceFault file) =
-    (file < length f.sizes) × FailedAt file r r' × Told told (FrontSized f.sizes file)
-IsStreamFault told f stored r r' w w' WriteFault = Rose w.failures w'.failures
-IsStreamFault told f stored r r' w w' Changed =
-    IsMisstored told f stored w.contents w'.contents × Told told (λ cs. ⊥)
+IsStreamFault known f stored r r' w w' (SourceFault file) =
+    (file < length f.sizes) × FailedAt file r r' × IfKnown known (FrontSized f.sizes file)
+IsStreamFault known f stored r r' w w' WriteFault = Rose w.failures w'.failures
+IsStreamFault known f stored r r' w w' Changed =
+    IsMisstored known f stored w.contents w'.contents × IfKnown known (λ cs. ⊥)

@@ -1,11 +1,11 @@
--- An image before the contents of its files are known. `Segment`, `Form`: a superblock, segments at
+-- An image before the contents of its files are facts. `Segment`, `Form`: a superblock, segments at
 -- their offsets behind it, and zeros everywhere else. `image_from`, `image_of`: its bytes.
 -- `IsImage`: bytes that may be this image. `IsLaidOut`: it can be written. (This project's own.)
 use Rattle.std.specs.Prelude.{◌≡◌, ℕ, ◌+◌, ◌-◌, ◌<◌, ◌≤◌, ◌^◌, List, [], ◌∷◌, ◌++◌, length, take}
 use Rattle.std.specs.Prelude.{get_or, replicate, Option, Some, None}
-use Rattle.image_parts.specs.Parts.{Part, part}
+use Rattle.rom_fields.specs.Parts.{Part, part}
 use Rattle.image_stream.specs.declared.outline.Outline.{Outline}
-use Rattle.image_stream.specs.Sources.{content_of, Told}
+use Rattle.image_stream.specs.Sources.{content_of, IfKnown}
 
 -- an offset and the bytes there; or an offset, a length, and the file whose first bytes are there
 pub data Segment : Type 0 where
@@ -38,11 +38,11 @@ bytes_of cs (content at size file) = take size (content_of cs file)
 abbrev pub segment_part : List (List ℕ) → Segment → Part
 segment_part cs p = part (place p) (bytes_of cs p)
 
--- bytes that a segment may have: its own if they are known, and otherwise any bytes of its length
+-- bytes that a segment may have: its own if they are facts, and otherwise any bytes of its length
 abbrev pub IsBody : Option (List (List ℕ)) → Segment → List ℕ → Type 0
-IsBody told (fixed at bytes) xs = xs ≡ bytes
-IsBody told (content at size file) xs =
-    (length xs ≡ size) × Told told (λ cs. xs ≡ take size (content_of cs file))
+IsBody known (fixed at bytes) xs = xs ≡ bytes
+IsBody known (content at size file) xs =
+    (length xs ≡ size) × IfKnown known (λ cs. xs ≡ take size (content_of cs file))
 
 abbrev pub zeros : ℕ → List ℕ
 zeros n = replicate n 0
@@ -55,10 +55,10 @@ image_from cs at (p ∷ ps) end =
 
 -- the same for bytes that the segments may have
 abbrev pub IsImage : Option (List (List ℕ)) → ℕ → List Segment → ℕ → List ℕ → Type 0
-IsImage told at [] end xs = xs ≡ zeros (end - at)
-IsImage told at (p ∷ ps) end xs =
-    (body : List ℕ) × (rest : List ℕ) × IsBody told p body
-    × IsImage told (place p + len p) ps end rest
+IsImage known at [] end xs = xs ≡ zeros (end - at)
+IsImage known at (p ∷ ps) end xs =
+    (body : List ℕ) × (rest : List ℕ) × IsBody known p body
+    × IsImage known (place p + len p) ps end rest
     × (xs ≡ zeros (place p - at) ++ (body ++ rest))
 
 -- the segments are one after the other, from `at` to `end`

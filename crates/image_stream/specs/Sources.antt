@@ -1,4 +1,4 @@
--- `Told`: the contents of sources have a property, if they are known. `ReadsAt`: the result of a
+-- `IfKnown`: the contents of sources have a property, if they are facts. `ReadsAt`: the result of a
 -- read. `Reads`, `FailedAt`: the counts of failed reads. (This project's own.)
 use Rattle.std.specs.Prelude.{◌≡◌, ℕ, ◌<◌, ◌≤◌, List, [], take, drop, length, get_or, Option, Some}
 use Rattle.std.specs.Prelude.{None, Result, Ok, Err, MatchResult, ⊤}
@@ -8,15 +8,15 @@ use Rattle.rom_fields.specs.Failures.{one_more, Rose}
 abbrev pub content_of : List (List ℕ) → ℕ → List ℕ
 content_of cs file = get_or cs file []
 
--- P holds for the contents, if they are known
-abbrev pub Told : Option (List (List ℕ)) → (List (List ℕ) → Type 0) → Type 0
-Told told P = (cs : List (List ℕ)) → told ≡ Some cs → P cs
+-- P holds for the contents, if they are facts
+abbrev pub IfKnown : Option (List (List ℕ)) → (List (List ℕ) → Type 0) → Type 0
+IfKnown known P = (cs : List (List ℕ)) → known ≡ Some cs → P cs
 
 -- A read of n bytes at `at` returns the next n bytes of the file's contents. It returns none only
 -- at their end, behind it, or if there is no room for any.
 abbrev pub ReadsAt : {E : Type 0} → Option (List (List ℕ)) → ℕ → ℕ → Result ℕ E → List ℕ → Type 0
-ReadsAt told file at r buf =
-    MatchResult r (λ n. Told told (λ cs. (take n buf ≡ take n (drop at (content_of cs file)))
+ReadsAt known file at r buf =
+    MatchResult r (λ n. IfKnown known (λ cs. (take n buf ≡ take n (drop at (content_of cs file)))
     × (n ≡ 0 → 0 < length buf → length (content_of cs file) ≤ at))) (λ _. ⊤)
 
 -- the number of failed reads, up to 2^64 - 1, and the file of the last one that failed

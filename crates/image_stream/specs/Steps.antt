@@ -8,7 +8,7 @@ use Rattle.rom_fields.specs.Failures.{Rose}
 use Rattle.image_stream.specs.declared.error.StreamError.{StreamError}
 use Rattle.image_stream.specs.declared.error.StreamError.TheVariants.{SizeDiffers, SourceFault}
 use Rattle.image_stream.specs.declared.error.StreamError.TheVariants.{WriteFault, Changed}
-use Rattle.image_stream.specs.Sources.{content_of, Told, Reads, FailedAt}
+use Rattle.image_stream.specs.Sources.{content_of, IfKnown, Reads, FailedAt}
 use Rattle.image_stream.specs.Segments.{Segment, fixed, content, place, bytes_of, zeros, IsBody}
 use Rattle.image_stream.specs.Segments.{IsImage, image_from}
 use Rattle.image_stream.specs.Answers.{Answer, Logs, AreReads, IsBodyRead, IsImageRead}
@@ -16,32 +16,33 @@ use Rattle.image_stream.specs.Outcomes.{FrontSized, IsLeastWrong}
 
 -- bytes that the first k bytes of a segment may be
 abbrev pub IsFront : Option (List (List ℕ)) → Segment → ℕ → List ℕ → Type 0
-IsFront told (fixed p bs) k xs = xs ≡ take k bs
-IsFront told (content p n f) k xs =
-    (length xs ≡ k) × Told told (λ cs. xs ≡ take k (content_of cs f))
+IsFront known (fixed p bs) k xs = xs ≡ take k bs
+IsFront known (content p n f) k xs =
+    (length xs ≡ k) × IfKnown known (λ cs. xs ≡ take k (content_of cs f))
 
 -- bytes that those from k on may be
 abbrev pub IsPiece : Option (List (List ℕ)) → Segment → ℕ → List ℕ → Type 0
-IsPiece told (fixed p bs) k xs = xs ≡ take (length xs) (drop k bs)
-IsPiece told (content p n f) k xs =
-    Told told (λ cs. xs ≡ take (length xs) (drop k (content_of cs f)))
+IsPiece known (fixed p bs) k xs = xs ≡ take (length xs) (drop k bs)
+IsPiece known (content p n f) k xs =
+    IfKnown known (λ cs. xs ≡ take (length xs) (drop k (content_of cs f)))
 
 -- the zeros from `at` up to a segment, and its bytes
 abbrev pub next_bytes : List (List ℕ) → ℕ → Segment → List ℕ
 next_bytes cs at p = zeros (place p - at) ++ bytes_of cs p
 
-pub record IsNext (told : Option (List (List ℕ))) (at : ℕ) (p : Segment)
+pub record IsNext (known : Option (List (List ℕ))) (at : ℕ) (p : Segment)
     (xs : List ℕ) : Type 0 where
   pub body : List ℕ
-  pub stands : IsBody told p body
+  pub stands : IsBody known p body
   pub all : xs ≡ zeros (place p - at) ++ body
 
 -- xs and then what is from `at` on in the segments ps, which are the rest, are the image
-pub record IsDone (told : Option (List (List ℕ))) (start : ℕ) (segments : List Segment) (end at : ℕ)
+pub record IsDone (known : Option (List (List ℕ))) (start : ℕ) (segments : List Segment)
+    (end at : ℕ)
     (ps : List Segment) (xs : List ℕ) : Type 0 where
-  pub more : (rest : List ℕ) → IsImage told at ps end rest
-      → IsImage told start segments end (xs ++ rest)
-  pub known : Told told (λ cs. xs ++ image_from cs at ps end ≡ image_from cs start segments end)
+  pub more : (rest : List ℕ) → IsImage known at ps end rest
+      → IsImage known start segments end (xs ++ rest)
+  pub facts : IfKnown known (λ cs. xs ++ image_from cs at ps end ≡ image_from cs start segments end)
 
 -- the answers that the first k bytes of a segment were read from
 abbrev pub IsFrontRead : Segment → ℕ → List Answer → List ℕ → Type 0
@@ -81,35 +82,35 @@ pub record Gone (P : List ℕ → Type 0) (old new : Option (List ℕ))
 
 -- a file ended before `end`, or a read of it failed
 abbrev pub IsReadFault : Option (List (List ℕ)) → ℕ → ℕ → Reads → Reads → StreamError → Type 0
-IsReadFault told file end r r' (SizeDiffers f) =
-    (f ≡ file) × Told told (λ cs. length (content_of cs file) < end)
-IsReadFault told file end r r' (SourceFault f) = (f ≡ file) × FailedAt file r r'
-IsReadFault told file end r r' WriteFault = ⊥
-IsReadFault told file end r r' Changed = ⊥
+IsReadFault known file end r r' (SizeDiffers f) =
+    (f ≡ file) × IfKnown known (λ cs. length (content_of cs file) < end)
+IsReadFault known file end r r' (SourceFault f) = (f ≡ file) × FailedAt file r r'
+IsReadFault known file end r r' WriteFault = ⊥
+IsReadFault known file end r r' Changed = ⊥
 
 -- a file has another size, or a read of it failed
 abbrev pub IsSizeFault : Option (List (List ℕ)) → ℕ → ℕ → Reads → Reads → StreamError → Type 0
-IsSizeFault told file size r r' (SizeDiffers f) =
-    (f ≡ file) × Told told (λ cs. length (content_of cs file) ≢ size)
-IsSizeFault told file size r r' (SourceFault f) = (f ≡ file) × FailedAt file r r'
-IsSizeFault told file size r r' WriteFault = ⊥
-IsSizeFault told file size r r' Changed = ⊥
+IsSizeFault known file size r r' (SizeDiffers f) =
+    (f ≡ file) × IfKnown known (λ cs. length (content_of cs file) ≢ size)
+IsSizeFault known file size r r' (SourceFault f) = (f ≡ file) × FailedAt file r r'
+IsSizeFault known file size r r' WriteFault = ⊥
+IsSizeFault known file size r r' Changed = ⊥
 
 -- the first file of another size, or a file with a failed read; the files before it have their
 -- sizes
 abbrev pub IsLeastStreamFault : Option (List (List ℕ)) → List ℕ → Reads → Reads → StreamError
     → Type 0
-IsLeastStreamFault told sizes r r' (SizeDiffers f) =
-    (f < length sizes) × Told told (IsLeastWrong sizes f)
-IsLeastStreamFault told sizes r r' (SourceFault f) =
-    (f < length sizes) × FailedAt f r r' × Told told (FrontSized sizes f)
-IsLeastStreamFault told sizes r r' WriteFault = ⊥
-IsLeastStreamFault told sizes r r' Changed = ⊥
+IsLeastStreamFault known sizes r r' (SizeDiffers f) =
+    (f < length sizes) × IfKnown known (IsLeastWrong sizes f)
+IsLeastStreamFault known sizes r r' (SourceFault f) =
+    (f < length sizes) × FailedAt f r r' × IfKnown known (FrontSized sizes f)
+IsLeastStreamFault known sizes r r' WriteFault = ⊥
+IsLeastStreamFault known sizes r r' Changed = ⊥
 
 -- a fault while segments are sent
 abbrev pub IsFault : Option (List (List ℕ)) → List ℕ → Reads → Reads → ℕ → ℕ → StreamError → Type 0
-IsFault told sizes r r' w w' (SizeDiffers f) =
-    (f < length sizes) × Told told (λ cs. length (content_of cs f) < get_or sizes f 0)
-IsFault told sizes r r' w w' (SourceFault f) = (f < length sizes) × FailedAt f r r'
-IsFault told sizes r r' w w' WriteFault = Rose w w'
-IsFault told sizes r r' w w' Changed = ⊥
+IsFault known sizes r r' w w' (SizeDiffers f) =
+    (f < length sizes) × IfKnown known (λ cs. length (content_of cs f) < get_or sizes f 0)
+IsFault known sizes r r' w w' (SourceFault f) = (f < length sizes) × FailedAt f r r'
+IsFault known sizes r r' w w' WriteFault = Rose w w'
+IsFault known sizes r r' w w' Changed = ⊥

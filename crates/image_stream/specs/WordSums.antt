@@ -3,7 +3,7 @@
 -- Documentation/filesystems/romfs.rst.)
 use Rattle.std.specs.Prelude.{◌≡◌, ℕ, ◌+◌, ◌*◌, ◌%◌, ◌^◌, min, nat_lt, if◌then◌else◌, ◌==◌, List}
 use Rattle.std.specs.Prelude.{[], ◌∷◌, length}
-use Rattle.image_parts.specs.Sums.{balance}
+use Rattle.rom_fields.specs.Sums.{balance}
 
 -- the value of a byte's unit, by its index in its word
 abbrev pub weight : ℕ → ℕ

@@ -12,7 +12,7 @@ pub struct SizeDiffers {
 #[derive(Debug, Clone, Copy, PartialEq, Eq, Error)]
 pub enum StreamError {
     /// The contents of a file have another size than was planned. If the contents of the sources
-    /// are known, it is the first such file, and nothing was written.
+    /// are facts, it is the first such file, and nothing was written.
     #[error("file {file} has another size")]
     SizeDiffers { file: usize },
     /// A read of a file failed.

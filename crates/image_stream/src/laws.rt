@@ -1,7 +1,7 @@
 //! Laws on images of segments.
 ghost use Rattle.std.specs.Prelude.{◌≡◌, ℕ, ◌*◌, List, [], ◌∷◌, ◌++◌, map, length, take};
-ghost use Rattle.image_parts.specs.Parts.{part, laid};
-ghost use Rattle.image_parts.specs.Sums.{balance};
+ghost use Rattle.rom_fields.specs.Parts.{part, laid};
+ghost use Rattle.rom_fields.specs.Sums.{balance};
 ghost use Rattle.rom_fields.specs.Words.{words_total};
 ghost use Rattle.image_stream.specs.WordSums.{balance_of};
 ghost use Rattle.image_stream.specs.Segments.{Form, IsLaidOut, image_from, segment_part};

@@ -5,7 +5,7 @@
 //! Proved: an `Ok` of `write` or `stream` means that exactly this image was written, with the
 //! contents that were read last; `specs/Outcomes.antt` has the meaning of each error. An image is a
 //! superblock, which stores a check value of the whole, and segments at their offsets: bytes that
-//! are known, or the contents of a file (`specs/Segments.antt`). Every other byte is zero.
+//! are facts, or the contents of a file (`specs/Segments.antt`). Every other byte is zero.
 #![tactic(auto)]
 
 mod checksum;

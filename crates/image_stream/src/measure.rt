@@ -2,7 +2,7 @@
 ghost use Rattle.std.specs.Prelude.{◌≡◌, ◌<◌, ◌≤◌, ◌^◌, ℕ, List, true, false, length, get_or, OnOk};
 ghost use Rattle.std.specs.Prelude.{OnErr, IfOk, IfErr};
 ghost use Rattle.image_stream.specs.Answers.{Grew};
-ghost use Rattle.image_stream.specs.Sources.{Told, content_of, FailedAt};
+ghost use Rattle.image_stream.specs.Sources.{IfKnown, content_of, FailedAt};
 ghost use Rattle.image_stream.specs.Outcomes.{AreSized};
 ghost use Rattle.image_stream.specs.Steps.{IsSizeFault, IsLeastStreamFault};
 
@@ -19,11 +19,11 @@ fn reaches<S: Sources>(
 ) -> Result<bool, SourceFailed>
     requires file { file < S.files sources.old }
     requires room { 0 < length buffer.old }
-    ensures told { S.told sources.new ≡ S.told sources.old }
+    ensures known { S.known sources.new ≡ S.known sources.old }
     ensures files { S.files sources.new ≡ S.files sources.old }
-    ensures yes { IfOk result (λ yes. yes ≡ true → Told (S.told sources.old)
+    ensures yes { IfOk result (λ yes. yes ≡ true → IfKnown (S.known sources.old)
         (λ cs. size ≤ length (content_of cs file))) }
-    ensures no { IfOk result (λ yes. yes ≡ false → Told (S.told sources.old)
+    ensures no { IfOk result (λ yes. yes ≡ false → IfKnown (S.known sources.old)
         (λ cs. length (content_of cs file) < size)) }
     ensures grew { OnOk result (Grew (S.IsLog sources.old) (S.IsLog sources.new)) }
     ensures quiet { OnOk result (S.reads sources.new ≡ S.reads sources.old) }
@@ -49,13 +49,13 @@ fn measure<S: Sources>(
     requires file { file < S.files sources.old }
     requires small { size < 2 ^ 32 }
     requires room { 0 < length buffer.old }
-    ensures told { S.told sources.new ≡ S.told sources.old }
+    ensures known { S.known sources.new ≡ S.known sources.old }
     ensures files { S.files sources.new ≡ S.files sources.old }
-    ensures ok { OnOk result (Told (S.told sources.old)
+    ensures ok { OnOk result (IfKnown (S.known sources.old)
         (λ cs. length (content_of cs file) ≡ size)) }
     ensures grew { OnOk result (Grew (S.IsLog sources.old) (S.IsLog sources.new)) }
     ensures quiet { OnOk result (S.reads sources.new ≡ S.reads sources.old) }
-    ensures fault { IfErr result (IsSizeFault (S.told sources.old) file size
+    ensures fault { IfErr result (IsSizeFault (S.known sources.old) file size
         (S.reads sources.old) (S.reads sources.new)) }
 {
     match reaches(sources, file, size, buffer) {
@@ -79,12 +79,12 @@ pub fn measure_all<L: Segmented, S: Sources>(
     requires files { S.files sources.old ≡ length (L.form layout.now).sizes }
     requires small { (k : ℕ) → get_or (L.form layout.now).sizes k 0 < 2 ^ 32 }
     requires room { 0 < length buffer.old }
-    ensures told { S.told sources.new ≡ S.told sources.old }
+    ensures known { S.known sources.new ≡ S.known sources.old }
     ensures files { S.files sources.new ≡ S.files sources.old }
-    ensures ok { OnOk result (Told (S.told sources.old) (AreSized (L.form layout.now).sizes)) }
+    ensures ok { OnOk result (IfKnown (S.known sources.old) (AreSized (L.form layout.now).sizes)) }
     ensures grew { OnOk result (Grew (S.IsLog sources.old) (S.IsLog sources.new)) }
     ensures quiet { OnOk result (S.reads sources.new ≡ S.reads sources.old) }
-    ensures fault { IfErr result (IsLeastStreamFault (S.told sources.old) (L.form layout.now).sizes
+    ensures fault { IfErr result (IsLeastStreamFault (S.known sources.old) (L.form layout.now).sizes
         (S.reads sources.old) (S.reads sources.new)) }
 {
     for file in 0..layout.files() {

@@ -4,7 +4,7 @@ ghost use Rattle.std.specs.Prelude.{drop, replicate, OnOk, OnErr, IfErr, IfOk, M
 ghost use Rattle.rom_fields.specs.Failures.{Counts, Rose};
 ghost use Rattle.rom_fields.specs.Written.{WritesText, AppendsPrefix};
 ghost use Rattle.image_stream.specs.Answers.{AreReads, IsBodyRead, IsImageRead};
-ghost use Rattle.image_stream.specs.Sources.{Told, content_of};
+ghost use Rattle.image_stream.specs.Sources.{IfKnown, content_of};
 ghost use Rattle.image_stream.specs.Segments.{Segment, place, len, segment_at, outline, IsBody};
 ghost use Rattle.image_stream.specs.Segments.{HasSource, bytes_of, zeros, IsLaidOut, IsImage};
 ghost use Rattle.image_stream.specs.Segments.{image_from};
@@ -27,14 +27,14 @@ pub fn read_exactly<S: Sources>(
 ) -> Result<(), StreamError>
     requires file { file < S.files sources.old }
     requires small { at + length buffer.old < 2 ^ 64 }
-    ensures told { S.told sources.new ≡ S.told sources.old }
+    ensures known { S.known sources.new ≡ S.known sources.old }
     ensures files { S.files sources.new ≡ S.files sources.old }
-    ensures ok { OnOk result (Told (S.told sources.old)
+    ensures ok { OnOk result (IfKnown (S.known sources.old)
         (λ cs. buffer.new ≡ take (length buffer.new) (drop at (content_of cs file)))) }
     ensures read { OnOk result (Read (λ answers xs. AreReads file at answers xs)
         (S.IsLog sources.old) (S.IsLog sources.new) buffer.new) }
     ensures quiet { OnOk result (S.reads sources.new ≡ S.reads sources.old) }
-    ensures fault { IfErr result (IsReadFault (S.told sources.old) file (at + length buffer.old)
+    ensures fault { IfErr result (IsReadFault (S.known sources.old) file (at + length buffer.old)
         (S.reads sources.old) (S.reads sources.new)) }
 {
     let mut done = 0;
@@ -77,15 +77,15 @@ pub fn piece<L: Segmented, S: Sources>(
     requires file { HasSource (L.form layout.now).sizes
         (segment_at (L.form layout.now).segments i) }
     requires files { S.files sources.old ≡ length (L.form layout.now).sizes }
-    ensures told { S.told sources.new ≡ S.told sources.old }
+    ensures known { S.known sources.new ≡ S.known sources.old }
     ensures files { S.files sources.new ≡ S.files sources.old }
-    ensures ok { OnOk result (IsPiece (S.told sources.old)
+    ensures ok { OnOk result (IsPiece (S.known sources.old)
         (segment_at (L.form layout.now).segments i) from out.new) }
     ensures read { OnOk result (Read
         (λ answers xs. IsPieceRead (segment_at (L.form layout.now).segments i) from answers xs)
         (S.IsLog sources.old) (S.IsLog sources.new) out.new) }
     ensures quiet { OnOk result (S.reads sources.new ≡ S.reads sources.old) }
-    ensures fault { IfErr result (IsFault (S.told sources.old) (L.form layout.now).sizes
+    ensures fault { IfErr result (IsFault (S.known sources.old) (L.form layout.now).sizes
         (S.reads sources.old) (S.reads sources.new) 0 0) }
 {
     match segment.source {
@@ -113,20 +113,20 @@ pub fn copy_segment<L: Segmented, S: Sources, W: ByteWrite, C: Checksum>(
     requires files { S.files sources.old ≡ length (L.form layout.now).sizes }
     requires room { 0 < length buffer.old }
     requires words { length buffer.old % 4 ≡ 0 }
-    ensures told { S.told sources.new ≡ S.told sources.old }
+    ensures known { S.known sources.new ≡ S.known sources.old }
     ensures files { S.files sources.new ≡ S.files sources.old }
     ensures ok { OnOk result (Gone
-        (λ xs. IsBody (S.told sources.old) (segment_at (L.form layout.now).segments i) xs
+        (λ xs. IsBody (S.known sources.old) (segment_at (L.form layout.now).segments i) xs
         × Read (λ answers xs. IsBodyRead answers (segment_at (L.form layout.now).segments i) xs)
         (S.IsLog sources.old) (S.IsLog sources.new) xs)
         (W.output w.old).contents (W.output w.new).contents
         (C.Is check.old) (C.Is check.new)) }
     ensures quiet { OnOk result ((S.reads sources.new ≡ S.reads sources.old)
         × ((W.output w.new).failures ≡ (W.output w.old).failures)) }
-    ensures front { OnErr result (Told (S.told sources.old) (λ cs. AppendsPrefix
+    ensures front { OnErr result (IfKnown (S.known sources.old) (λ cs. AppendsPrefix
         (W.output w.old).contents (W.output w.new).contents
         (bytes_of cs (segment_at (L.form layout.now).segments i)))) }
-    ensures fault { IfErr result (IsFault (S.told sources.old) (L.form layout.now).sizes
+    ensures fault { IfErr result (IsFault (S.known sources.old) (L.form layout.now).sizes
         (S.reads sources.old) (S.reads sources.new)
         (W.output w.old).failures (W.output w.new).failures) }
 {
@@ -206,22 +206,22 @@ fn next_segment<L: Segmented, S: Sources, W: ByteWrite, C: Checksum>(
     requires files { S.files sources.old ≡ length (L.form layout.now).sizes }
     requires room { 0 < length buffer.old }
     requires words { length buffer.old % 4 ≡ 0 }
-    ensures told { S.told sources.new ≡ S.told sources.old }
+    ensures known { S.known sources.new ≡ S.known sources.old }
     ensures files { S.files sources.new ≡ S.files sources.old }
     ensures end { IfOk result (λ n. n ≡ place (segment_at (L.form layout.now).segments i)
         + len (segment_at (L.form layout.now).segments i)) }
     ensures ok { OnOk result (Gone
-        (λ xs. IsNext (S.told sources.old) at (segment_at (L.form layout.now).segments i) xs
+        (λ xs. IsNext (S.known sources.old) at (segment_at (L.form layout.now).segments i) xs
         × Read (λ answers xs. IsNextRead at (segment_at (L.form layout.now).segments i) answers xs)
         (S.IsLog sources.old) (S.IsLog sources.new) xs)
         (W.output w.old).contents (W.output w.new).contents
         (C.Is check.old) (C.Is check.new)) }
     ensures quiet { OnOk result ((S.reads sources.new ≡ S.reads sources.old)
         × ((W.output w.new).failures ≡ (W.output w.old).failures)) }
-    ensures front { OnErr result (Told (S.told sources.old) (λ cs. AppendsPrefix
+    ensures front { OnErr result (IfKnown (S.known sources.old) (λ cs. AppendsPrefix
         (W.output w.old).contents (W.output w.new).contents
         (next_bytes cs at (segment_at (L.form layout.now).segments i)))) }
-    ensures fault { IfErr result (IsFault (S.told sources.old) (L.form layout.now).sizes
+    ensures fault { IfErr result (IsFault (S.known sources.old) (L.form layout.now).sizes
         (S.reads sources.old) (S.reads sources.new)
         (W.output w.old).failures (W.output w.new).failures) }
 {
@@ -250,9 +250,9 @@ pub fn walk<L: Segmented, S: Sources, W: ByteWrite, C: Checksum>(
     requires files { S.files sources.old ≡ length (L.form layout.now).sizes }
     requires room { 0 < length buffer.old }
     requires words { length buffer.old % 4 ≡ 0 }
-    ensures told { S.told sources.new ≡ S.told sources.old }
+    ensures known { S.known sources.new ≡ S.known sources.old }
     ensures files { S.files sources.new ≡ S.files sources.old }
-    ensures ok { OnOk result (Gone (λ xs. IsImage (S.told sources.old)
+    ensures ok { OnOk result (Gone (λ xs. IsImage (S.known sources.old)
         (L.form layout.now).start (L.form layout.now).segments (L.form layout.now).end xs
         × Read (λ answers xs. IsImageRead answers (L.form layout.now).start
         (L.form layout.now).segments (L.form layout.now).end xs)
@@ -261,11 +261,11 @@ pub fn walk<L: Segmented, S: Sources, W: ByteWrite, C: Checksum>(
         (C.Is check.old) (C.Is check.new)) }
     ensures quiet { OnOk result ((S.reads sources.new ≡ S.reads sources.old)
         × ((W.output w.new).failures ≡ (W.output w.old).failures)) }
-    ensures front { OnErr result (Told (S.told sources.old) (λ cs. AppendsPrefix
+    ensures front { OnErr result (IfKnown (S.known sources.old) (λ cs. AppendsPrefix
         (W.output w.old).contents (W.output w.new).contents
         (image_from cs (L.form layout.now).start (L.form layout.now).segments
         (L.form layout.now).end))) }
-    ensures fault { IfErr result (IsFault (S.told sources.old) (L.form layout.now).sizes
+    ensures fault { IfErr result (IsFault (S.known sources.old) (L.form layout.now).sizes
         (S.reads sources.old) (S.reads sources.new)
         (W.output w.old).failures (W.output w.new).failures) }
 {

@@ -22,7 +22,7 @@ impl<'c> Slices<'c> {
 }
 
 impl<'c> Sources for Slices<'c> {
-    ghost told = { λ s. Some s.contents.now };
+    ghost known = { λ s. Some s.contents.now };
 
     ghost files = { λ s. length s.contents.now };
 

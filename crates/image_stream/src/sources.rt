@@ -2,7 +2,7 @@
 ghost use Rattle.std.specs.Prelude.{◌≡◌, ◌<◌, ℕ, List, Option, Some, length};
 ghost use Rattle.std.specs.Io.{ReadsAtMost};
 ghost use Rattle.image_stream.specs.Answers.{Answer, Logs, answer_of};
-ghost use Rattle.image_stream.specs.Sources.{Told, ReadsAt, Reads, after_read_of};
+ghost use Rattle.image_stream.specs.Sources.{IfKnown, ReadsAt, Reads, after_read_of};
 
 /// A read of a source failed.
 #[derive(Clone, Copy, PartialEq, Eq)]
@@ -10,8 +10,8 @@ pub struct SourceFailed;
 
 /// The contents of files, which can be read at any offset. Failed reads are counted.
 pub trait Sources {
-    // The contents of all files, if they are known.
-    ghost told: { Self → Option (List (List ℕ)) };
+    // The contents of all files, if they are facts.
+    ghost known: { Self → Option (List (List ℕ)) };
 
     // The number of files.
     ghost files: { Self → ℕ };
@@ -26,15 +26,15 @@ pub trait Sources {
     /// Returns the number of files.
     fn count(&self) -> usize
         ensures number { result ≡ files self.now }
-        ensures told { Told (told self.now) (λ cs. length cs ≡ files self.now) };
+        ensures known { IfKnown (known self.now) (λ cs. length cs ≡ files self.now) };
 
     /// Puts the next bytes of a file, from offset `at` on, into a prefix of `buf`, and returns
     /// their number. It is 0 at the end of the file and behind it.
     fn read_at(&mut self, file: usize, at: u64, buf: &mut [u8]) -> Result<usize, SourceFailed>
         requires { file < files self.old }
         ensures bound { ReadsAtMost result buf.new }
-        ensures bytes { ReadsAt (told self.old) file at result buf.new }
-        ensures told { told self.new ≡ told self.old }
+        ensures bytes { ReadsAt (known self.old) file at result buf.new }
+        ensures known { known self.new ≡ known self.old }
         ensures files { files self.new ≡ files self.old }
         ensures count { reads self.new ≡ after_read_of file (reads self.old) result }
         ensures log { Logs (IsLog self.old) (IsLog self.new)

@@ -4,7 +4,7 @@ ghost use Rattle.std.specs.Prelude.{get_or, OnOk, OnErr, IfErr};
 ghost use Rattle.std.specs.Io.KnownBytes.{Appends};
 ghost use Rattle.rom_fields.specs.Failures.{Counts};
 ghost use Rattle.rom_fields.specs.Written.{WritesText, AppendsPrefix};
-ghost use Rattle.image_stream.specs.Sources.{Told};
+ghost use Rattle.image_stream.specs.Sources.{IfKnown};
 ghost use Rattle.image_stream.specs.declared.error.StreamError.TheVariants.{Changed};
 ghost use Rattle.image_stream.specs.Segments.{IsLaidOut, image_of};
 ghost use Rattle.image_stream.specs.Outcomes.{AreSized, IsStreamFault, IsStreamed};
@@ -67,7 +67,7 @@ fn confirm<C: Checksum>(written: &C, stored: u32) -> Result<(), StreamError>
 ///
 /// At `Ok`, exactly the image was written, whatever the sources are. The contents of its files are
 /// what the reads answered last, one after the other. After an error, a prefix of the image was
-/// written, if the contents of the sources are known.
+/// written, if the contents of the sources are facts.
 ///
 /// # Errors
 ///
@@ -82,21 +82,21 @@ pub fn stream_through<L: Segmented, S: Sources, W: ByteWrite, C: Checksum>(
     requires files { S.files sources.old ≡ length (L.form layout.now).sizes }
     requires room { 4096 ≤ length buffer.old }
     requires words { length buffer.old % 4 ≡ 0 }
-    ensures told { S.told sources.new ≡ S.told sources.old }
+    ensures known { S.known sources.new ≡ S.known sources.old }
     ensures files { S.files sources.new ≡ S.files sources.old }
-    ensures some { OnOk result (IsStreamed (S.told sources.old) (S.IsLog sources.old)
+    ensures some { OnOk result (IsStreamed (S.known sources.old) (S.IsLog sources.old)
         (S.IsLog sources.new) (L.form layout.now) C.stored
         (W.output w.old).contents (W.output w.new).contents) }
-    ensures sized { OnOk result (Told (S.told sources.old) (AreSized (L.form layout.now).sizes)) }
-    ensures whole { OnOk result (Told (S.told sources.old) (λ cs. Appends
+    ensures sized { OnOk result (IfKnown (S.known sources.old) (AreSized (L.form layout.now).sizes)) }
+    ensures whole { OnOk result (IfKnown (S.known sources.old) (λ cs. Appends
         (W.output w.old).contents (W.output w.new).contents
         (image_of (L.form layout.now) C.stored cs))) }
     ensures quiet { OnOk result ((S.reads sources.new ≡ S.reads sources.old)
         × ((W.output w.new).failures ≡ (W.output w.old).failures)) }
-    ensures front { OnErr result (Told (S.told sources.old) (λ cs. AppendsPrefix
+    ensures front { OnErr result (IfKnown (S.known sources.old) (λ cs. AppendsPrefix
         (W.output w.old).contents (W.output w.new).contents
         (image_of (L.form layout.now) C.stored cs))) }
-    ensures fault { IfErr result (IsStreamFault (S.told sources.old) (L.form layout.now) C.stored
+    ensures fault { IfErr result (IsStreamFault (S.known sources.old) (L.form layout.now) C.stored
         (S.reads sources.old) (S.reads sources.new) (W.output w.old) (W.output w.new)) }
 {
     match measure_all(layout, sources, buffer) {
@@ -139,21 +139,21 @@ pub fn stream<L: Segmented, S: Sources, W: ByteWrite, C: Checksum>(
 ) -> Result<(), StreamError>
     requires laid { IsLaidOut (L.form layout.now) }
     requires files { S.files sources.old ≡ length (L.form layout.now).sizes }
-    ensures told { S.told sources.new ≡ S.told sources.old }
+    ensures known { S.known sources.new ≡ S.known sources.old }
     ensures files { S.files sources.new ≡ S.files sources.old }
-    ensures some { OnOk result (IsStreamed (S.told sources.old) (S.IsLog sources.old)
+    ensures some { OnOk result (IsStreamed (S.known sources.old) (S.IsLog sources.old)
         (S.IsLog sources.new) (L.form layout.now) C.stored
         (W.output w.old).contents (W.output w.new).contents) }
-    ensures sized { OnOk result (Told (S.told sources.old) (AreSized (L.form layout.now).sizes)) }
-    ensures whole { OnOk result (Told (S.told sources.old) (λ cs. Appends
+    ensures sized { OnOk result (IfKnown (S.known sources.old) (AreSized (L.form layout.now).sizes)) }
+    ensures whole { OnOk result (IfKnown (S.known sources.old) (λ cs. Appends
         (W.output w.old).contents (W.output w.new).contents
         (image_of (L.form layout.now) C.stored cs))) }
     ensures quiet { OnOk result ((S.reads sources.new ≡ S.reads sources.old)
         × ((W.output w.new).failures ≡ (W.output w.old).failures)) }
-    ensures front { OnErr result (Told (S.told sources.old) (λ cs. AppendsPrefix
+    ensures front { OnErr result (IfKnown (S.known sources.old) (λ cs. AppendsPrefix
         (W.output w.old).contents (W.output w.new).contents
         (image_of (L.form layout.now) C.stored cs))) }
-    ensures fault { IfErr result (IsStreamFault (S.told sources.old) (L.form layout.now) C.stored
+    ensures fault { IfErr result (IsStreamFault (S.known sources.old) (L.form layout.now) C.stored
         (S.reads sources.old) (S.reads sources.new) (W.output w.old) (W.output w.new)) }
 {
     let mut space: [u8; 4096] = [0; 4096];

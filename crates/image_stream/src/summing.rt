@@ -2,7 +2,7 @@
 ghost use Rattle.std.specs.Prelude.{◌≡◌, ◌+◌, ◌%◌, ◌<◌, ◌≤◌, ◌^◌, ℕ, List, None, length, OnOk};
 ghost use Rattle.std.specs.Prelude.{IfErr, IfOk};
 ghost use Rattle.image_stream.specs.Answers.{Grew};
-ghost use Rattle.image_stream.specs.Sources.{Told};
+ghost use Rattle.image_stream.specs.Sources.{IfKnown};
 ghost use Rattle.image_stream.specs.Segments.{place, len, segment_at, IsBody, HasSource, IsLaidOut};
 ghost use Rattle.image_stream.specs.Segments.{IsImage};
 ghost use Rattle.image_stream.specs.Outcomes.{AreSized};
@@ -29,17 +29,17 @@ fn sum_segment<L: Segmented, S: Sources, C: Checksum>(
     requires file { HasSource (L.form layout.now).sizes
         (segment_at (L.form layout.now).segments i) }
     requires files { S.files sources.old ≡ length (L.form layout.now).sizes }
-    requires sized { Told (S.told sources.old) (AreSized (L.form layout.now).sizes) }
+    requires sized { IfKnown (S.known sources.old) (AreSized (L.form layout.now).sizes) }
     requires room { 0 < length buffer.old }
     requires words { length buffer.old % 4 ≡ 0 }
-    ensures told { S.told sources.new ≡ S.told sources.old }
+    ensures known { S.known sources.new ≡ S.known sources.old }
     ensures files { S.files sources.new ≡ S.files sources.old }
     ensures ok { OnOk result (Gone
-        (IsBody (S.told sources.old) (segment_at (L.form layout.now).segments i))
+        (IsBody (S.known sources.old) (segment_at (L.form layout.now).segments i))
         None None (C.Is check.old) (C.Is check.new)) }
     ensures grew { OnOk result (Grew (S.IsLog sources.old) (S.IsLog sources.new)) }
     ensures quiet { OnOk result (S.reads sources.new ≡ S.reads sources.old) }
-    ensures fault { IfErr result (IsFault (S.told sources.old) (L.form layout.now).sizes
+    ensures fault { IfErr result (IsFault (S.known sources.old) (L.form layout.now).sizes
         (S.reads sources.old) (S.reads sources.new) 0 0) }
 {
     let segment = layout.segment(i);
@@ -77,19 +77,19 @@ fn sum_next<L: Segmented, S: Sources, C: Checksum>(
     requires file { HasSource (L.form layout.now).sizes
         (segment_at (L.form layout.now).segments i) }
     requires files { S.files sources.old ≡ length (L.form layout.now).sizes }
-    requires sized { Told (S.told sources.old) (AreSized (L.form layout.now).sizes) }
+    requires sized { IfKnown (S.known sources.old) (AreSized (L.form layout.now).sizes) }
     requires room { 0 < length buffer.old }
     requires words { length buffer.old % 4 ≡ 0 }
-    ensures told { S.told sources.new ≡ S.told sources.old }
+    ensures known { S.known sources.new ≡ S.known sources.old }
     ensures files { S.files sources.new ≡ S.files sources.old }
     ensures end { IfOk result (λ n. n ≡ place (segment_at (L.form layout.now).segments i)
         + len (segment_at (L.form layout.now).segments i)) }
     ensures ok { OnOk result (Gone
-        (IsNext (S.told sources.old) at (segment_at (L.form layout.now).segments i))
+        (IsNext (S.known sources.old) at (segment_at (L.form layout.now).segments i))
         None None (C.Is check.old) (C.Is check.new)) }
     ensures grew { OnOk result (Grew (S.IsLog sources.old) (S.IsLog sources.new)) }
     ensures quiet { OnOk result (S.reads sources.new ≡ S.reads sources.old) }
-    ensures fault { IfErr result (IsFault (S.told sources.old) (L.form layout.now).sizes
+    ensures fault { IfErr result (IsFault (S.known sources.old) (L.form layout.now).sizes
         (S.reads sources.old) (S.reads sources.new) 0 0) }
 {
     let segment = layout.segment(i);
@@ -115,17 +115,17 @@ pub fn sum_walk<L: Segmented, S: Sources, C: Checksum>(
 ) -> Result<(), StreamError>
     requires laid { IsLaidOut (L.form layout.now) }
     requires files { S.files sources.old ≡ length (L.form layout.now).sizes }
-    requires sized { Told (S.told sources.old) (AreSized (L.form layout.now).sizes) }
+    requires sized { IfKnown (S.known sources.old) (AreSized (L.form layout.now).sizes) }
     requires room { 0 < length buffer.old }
     requires words { length buffer.old % 4 ≡ 0 }
-    ensures told { S.told sources.new ≡ S.told sources.old }
+    ensures known { S.known sources.new ≡ S.known sources.old }
     ensures files { S.files sources.new ≡ S.files sources.old }
-    ensures ok { OnOk result (Gone (IsImage (S.told sources.old)
+    ensures ok { OnOk result (Gone (IsImage (S.known sources.old)
         (L.form layout.now).start (L.form layout.now).segments (L.form layout.now).end)
         None None (C.Is check.old) (C.Is check.new)) }
     ensures grew { OnOk result (Grew (S.IsLog sources.old) (S.IsLog sources.new)) }
     ensures quiet { OnOk result (S.reads sources.new ≡ S.reads sources.old) }
-    ensures fault { IfErr result (IsFault (S.told sources.old) (L.form layout.now).sizes
+    ensures fault { IfErr result (IsFault (S.known sources.old) (L.form layout.now).sizes
         (S.reads sources.old) (S.reads sources.new) 0 0) }
 {
     let mut at = layout.head_len();

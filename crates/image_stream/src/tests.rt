@@ -30,7 +30,7 @@ struct Turning {
 impl Sources for Turning {
     ghost use Rattle.std.specs.Prelude.{None, ⊤};
 
-    ghost told = { λ _. None };
+    ghost known = { λ _. None };
 
     ghost files = { λ _. 1 };
 

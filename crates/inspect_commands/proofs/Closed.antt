@@ -66,7 +66,8 @@ module _ (Text : HasText) (Stop : MayStop) (old mid new err err' : Output) (resu
     fails = f.1;
   }))
 
-  pub closed : (told : Result Status Stopped) → Writes Text Stop old mid told → Closes mid new err err' told result
+  pub closed : (printed : Result Status Stopped) → Writes Text Stop old mid printed
+      → Closes mid new err err' printed result
       → Ends Text Stop old new err err' result
   closed (Ok s) h (inl f) = inl (record {
     text = h.0;
@@ -101,8 +102,8 @@ module _ (Text : HasText) (Stop : MayStop) (old mid new err err' : Output) (resu
   closed (Err LongPath) h f = stopped LongPath h.0 h.1 h.2 h.3 f
 
 -- a text of which nothing is known: the status is `Done` only after a flush
-pub finished : (old new err err' : Output) (result : Status) (told : Result Status Stopped)
-    → IfOk told (λ s. s ≡ Done) → Closes old new err err' told result → Finishes new err err' result
+pub finished : (old new err err' : Output) (result : Status) (printed : Result Status Stopped)
+    → IfOk printed (λ s. s ≡ Done) → Closes old new err err' printed result → Finishes new err err' result
 finished old new err err' result (Ok s) h (inl f) = inl (f.2.0 ∙ h, counted new.flushes old.flushes f.1, f.2.1)
 finished old new err err' result (Ok s) h (inr f) = inr (WriteFault, f.1)
 finished old new err err' result (Err why) h (inl f) = inr (why, f.2)

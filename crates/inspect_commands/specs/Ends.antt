@@ -83,9 +83,9 @@ Says (Err why) err err' result = Fails why err err' result
 
 -- the flush succeeded, and what was told is said; or it failed, which standard error says
 abbrev pub Closes : Output → Output → Output → Output → Result Status Stopped → Status → Type 0
-Closes old new err err' told result =
+Closes old new err err' printed result =
     ((new.failures ≡ old.failures) × (new.flushes ≡ one_more old.flushes)
-    × Says told err err' result)
+    × Says printed err err' result)
     ⊎ ((new.failures ≡ one_more old.failures) × Fails WriteFault err err' result)
 
 -- the status is `Done` only after a flush succeeded, and then standard error has nothing; otherwise

@@ -9,7 +9,7 @@ use Rattle.image_check.specs.declared.any.AnyImage.{AnyImage}
 use Rattle.image_digest.specs.Digests.{digest_text, input_line}
 use Rattle.image_digest.specs.Digests.{HasLongPath as DigestHasLongPath}
 use Rattle.image_digest.specs.Differences.{verdict_text}
-use Rattle.image_diff.specs.Diff.{is_told, names_lines}
+use Rattle.image_diff.specs.Diff.{is_printed, names_lines}
 use Rattle.image_diff.specs.Rows.{AreSorted}
 use Rattle.image_diff.specs.Rows.{HasLongPath as DiffHasLongPath}
 use Rattle.image_extents.specs.declared.extent.Extents.{Extents}
@@ -52,9 +52,9 @@ abbrev pub IsVerdict : ℕ → Option ℕ → HasText
 IsVerdict size found text s = (text ≡ verdict_text size found) × (s ≡ verdict_status found)
 
 -- in what two images differ: if there is a line, the status is `Refused`
-abbrev pub told_status : Bool → Status
-told_status true = Refused
-told_status false = Done
+abbrev pub printed_status : Bool → Status
+printed_status true = Refused
+printed_status false = Done
 
 pub record IsDiff (places : Bool) (a b : Image) (text : List ℕ) (s : Status) : Type 0 where
   pub old_names : List Name
@@ -62,7 +62,7 @@ pub record IsDiff (places : Bool) (a b : Image) (text : List ℕ) (s : Status) :
   pub old_sorted : AreSorted a.tree old_names
   pub new_sorted : AreSorted b.tree new_names
   pub same : text ≡ names_lines places a.bytes b.bytes old_names new_names
-  pub status : s ≡ told_status (is_told text)
+  pub status : s ≡ printed_status (is_printed text)
 
 -- memory was refused or a path is too long, and nothing was printed
 abbrev pub StopsDiff : Image → Image → MayStop

@@ -1,6 +1,6 @@
 //! The digests of the files of an image, or that of the image.
 ghost use Rattle.std.specs.Prelude.{◌≤◌};
-ghost use Rattle.rom_tree.specs.Tree.{levels};
+ghost use Rattle.rom_tree.specs.Tree.{IsShallow};
 ghost use Rattle.inspect_commands.specs.Ends.{Ends, Writes};
 ghost use Rattle.inspect_commands.specs.Texts.{IsDigest, IsDigests, NeverStops, StopsDigests};
 
@@ -12,7 +12,7 @@ use rom_tree::TreeImage;
 
 /// Writes the digests of the files of an image.
 fn write_all<'a, T: TreeImage<'a>, W: ByteWrite>(image: &T, w: &mut W) -> Result<Status, Stopped>
-    requires { levels (T.image image.now).tree ≤ 65 }
+    requires { IsShallow (T.image image.now).tree }
     ensures { Writes (IsDigests (T.image image.now)) (StopsDigests (T.image image.now))
         (W.output w.old) (W.output w.new) result }
 {
@@ -41,12 +41,12 @@ pub fn print_digests<'a, T: TreeImage<'a>, W: ByteWrite, E: ByteWrite>(
     out: &mut W,
     err: &mut E,
 ) -> Status
-    requires { levels (T.image image.now).tree ≤ 65 }
+    requires { IsShallow (T.image image.now).tree }
     ensures { Ends (IsDigests (T.image image.now)) (StopsDigests (T.image image.now))
         (W.output out.old) (W.output out.new) (E.output err.old) (E.output err.new) result }
 {
-    let told = write_all(image, out);
-    end(out, err, told)
+    let printed = write_all(image, out);
+    end(out, err, printed)
 }
 
 /// Prints the digest of an image with these bytes to `out`, a line as `sha256sum` has it for its
@@ -60,6 +60,6 @@ pub fn print_image_digest<W: ByteWrite, E: ByteWrite>(
     ensures { Ends (IsDigest bytes.now) NeverStops (W.output out.old) (W.output out.new)
         (E.output err.old) (E.output err.new) result }
 {
-    let told = write_one(bytes, out);
-    end(out, err, told)
+    let printed = write_one(bytes, out);
+    end(out, err, printed)
 }

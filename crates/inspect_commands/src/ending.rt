@@ -2,7 +2,7 @@
 ghost use Rattle.std.specs.Io.KnownBytes.{Keeps};
 ghost use Rattle.inspect_commands.specs.Ends.{Closes, Fails};
 
-use rom_commands::{Failure, Status, tell};
+use rom_commands::{Failure, Status, report};
 use rom_fields::ByteWrite;
 
 /// Why a text was not printed whole.
@@ -21,9 +21,9 @@ fn fail<E: ByteWrite>(why: Stopped, err: &mut E) -> Status
     ensures { Fails why (E.output err.old) (E.output err.new) result }
 {
     match why {
-        Stopped::Memory => tell(Failure::Memory, err),
-        Stopped::LongPath => tell(Failure::LongPath, err),
-        Stopped::WriteFault => tell(Failure::WriteFault, err),
+        Stopped::Memory => report(Failure::Memory, err),
+        Stopped::LongPath => report(Failure::LongPath, err),
+        Stopped::WriteFault => report(Failure::WriteFault, err),
     }
 }
 
@@ -32,16 +32,16 @@ fn fail<E: ByteWrite>(why: Stopped, err: &mut E) -> Status
 pub(crate) fn end<W: ByteWrite, E: ByteWrite>(
     out: &mut W,
     err: &mut E,
-    told: Result<Status, Stopped>,
+    printed: Result<Status, Stopped>,
 ) -> Status
     ensures kept { Keeps (W.output out.old).contents (W.output out.new).contents }
     ensures ends { Closes (W.output out.old) (W.output out.new)
-        (E.output err.old) (E.output err.new) told result }
+        (E.output err.old) (E.output err.new) printed result }
 {
     if out.flush().is_err() {
         return fail(Stopped::WriteFault, err);
     }
-    match told {
+    match printed {
         Ok(status) => status,
         Err(why) => fail(why, err),
     }

@@ -1,7 +1,7 @@
 //! Where the bytes of an image lie in the flash.
 ghost use Rattle.std.specs.Prelude.{◌≡◌, ◌≤◌, IfOk};
-ghost use Rattle.rom_tree.specs.Tree.{levels};
-ghost use Rattle.image_gaps.specs.Gaps.{IsChecked};
+ghost use Rattle.rom_tree.specs.Tree.{IsShallow};
+ghost use Rattle.image_info.specs.Gaps.{IsChecked};
 ghost use Rattle.inspect_commands.specs.Ends.{Ends, Finishes, Writes};
 ghost use Rattle.inspect_commands.specs.Texts.{IsExtents, IsHeader, StopsHeader, StopsOfMemory};
 
@@ -43,7 +43,7 @@ fn write_macros<'a, T: TreeImage<'a>, W: ByteWrite>(
     prefix: &[u8],
     w: &mut W,
 ) -> Result<Status, Stopped>
-    requires { levels (T.image image.now).tree ≤ 65 }
+    requires { IsShallow (T.image image.now).tree }
     ensures { Writes (IsHeader prefix.now base (T.image image.now))
         (StopsHeader prefix.now base (T.image image.now)) (W.output w.old) (W.output w.new) result }
 {
@@ -70,8 +70,8 @@ pub fn print_extents<W: ByteWrite, E: ByteWrite>(
     ensures { Ends (IsExtents image.now base file) StopsOfMemory (W.output out.old)
         (W.output out.new) (E.output err.old) (E.output err.new) result }
 {
-    let told = write_all(alloc, image, base, file, out);
-    end(out, err, told)
+    let printed = write_all(alloc, image, base, file, out);
+    end(out, err, printed)
 }
 
 /// Prints to `out` a header for C and C++ of an image, whose first byte has the address `base`, and
@@ -85,13 +85,13 @@ pub fn print_header<'a, T: TreeImage<'a>, W: ByteWrite, E: ByteWrite>(
     out: &mut W,
     err: &mut E,
 ) -> Status
-    requires { levels (T.image image.now).tree ≤ 65 }
+    requires { IsShallow (T.image image.now).tree }
     ensures { Ends (IsHeader prefix.now base (T.image image.now))
         (StopsHeader prefix.now base (T.image image.now)) (W.output out.old) (W.output out.new)
         (E.output err.old) (E.output err.new) result }
 {
-    let told = write_macros(image, base, prefix, out);
-    end(out, err, told)
+    let printed = write_macros(image, base, prefix, out);
+    end(out, err, printed)
 }
 
 /// Writes the picture of an image.
@@ -129,6 +129,6 @@ pub fn print_picture<W: ByteWrite, E: ByteWrite>(
     requires { IsChecked image.now }
     ensures { Finishes (W.output out.new) (E.output err.old) (E.output err.new) result }
 {
-    let told = write_image(alloc, image, base, file, out);
-    end(out, err, told)
+    let printed = write_image(alloc, image, base, file, out);
+    end(out, err, printed)
 }

@@ -3,7 +3,7 @@ ghost use Rattle.std.specs.Prelude.{◌≡◌, ◌&&◌, IfOk};
 ghost use Rattle.std.specs.List.Sorted.{IsNonDecreasingBy};
 ghost use Rattle.rom_fields.specs.Failures.{Counts};
 ghost use Rattle.rom_fields.specs.Written.{WritesText};
-ghost use Rattle.image_gaps.specs.Gaps.{IsChecked};
+ghost use Rattle.image_info.specs.Gaps.{IsChecked};
 ghost use Rattle.image_extents.specs.Apart.{AreApart};
 ghost use Rattle.image_extents.specs.Sorted.{start_of};
 ghost use Rattle.inspect_commands.specs.Ends.{Ends, Writes};
@@ -99,6 +99,6 @@ pub fn print_places<W: ByteWrite, E: ByteWrite>(
     ensures { Ends (IsPlaces image.now base file addresses.now) StopsOfMemory (W.output out.old)
         (W.output out.new) (E.output err.old) (E.output err.new) result }
 {
-    let told = write_all(alloc, image, base, file, addresses, out);
-    end(out, err, told)
+    let printed = write_all(alloc, image, base, file, addresses, out);
+    end(out, err, printed)
 }

@@ -41,6 +41,6 @@ pub fn print_verdict<W: ByteWrite, E: ByteWrite>(
     ensures { Ends (IsVerdict size found) NeverStops (W.output out.old) (W.output out.new)
         (E.output err.old) (E.output err.new) result }
 {
-    let told = write_one(size, found, out);
-    end(out, err, told)
+    let printed = write_one(size, found, out);
+    end(out, err, printed)
 }

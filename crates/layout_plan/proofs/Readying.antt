@@ -5,7 +5,7 @@ use Rattle.std.specs.List.{AllByRecursion as Every}
 use Rattle.record_forest.specs.Faults.{IsNone, IsLeastFaultOf}
 use Rattle.cramfs_format.specs.declared.order.Order.{Order}
 use Rattle.cramfs_format.specs.declared.order.Order.TheVariants.{Little, Big}
-use Rattle.image_parts.specs.Padding.{pad}
+use Rattle.rom_fields.specs.Padding.{pad}
 use Rattle.manifest.specs.Grammar.{IsManifest}
 use Rattle.manifest.specs.Lines.{ManifestLines}
 use Rattle.manifest_tree.specs.Names.{Inode}
@@ -28,12 +28,12 @@ use Rattle.plan_types.specs.declared.format.Format.TheVariants as format
 use Rattle.plan_types.specs.declared.laid.Laid.{Laid}
 use Rattle.plan_types.specs.Views.{item_view}
 use Rattle.std.specs.Option.{option_map}
-use Rattle.plan_misfits.specs.declared.misfit.Misfit.{Misfit}
-use Rattle.plan_misfits.specs.Misfits.{misfit_fault}
+use Rattle.plan_rows.specs.declared.misfit.Misfit.{Misfit}
+use Rattle.plan_rows.specs.Misfits.{misfit_fault}
 use Rattle.plan_types.specs.Formats.{format_of}
-use Rattle.manifest_rows.specs.Fits.{IsFit}
-use Rattle.manifest_rows.specs.Rows.{Row}
-use Rattle.manifest_rows.proofs.Fitting.{rows_fit}
+use Rattle.plan_rows.specs.Fits.{IsFit}
+use Rattle.plan_rows.specs.Rows.{Row}
+use Rattle.plan_rows.proofs.Fitting.{rows_fit}
 use Rattle.romfs_plan.specs.Rows as of_romfs
 use Rattle.romfs_plan.proofs.Short as romfs_short
 use Rattle.cramfs_plan.specs.Wholes as of_cramfs
@@ -188,6 +188,6 @@ in_cramfs P z (inr e) p = subst (λ (x : code_format.Format). P (format_of x)) (
 pub lines_none : (f : Format) (m : ManifestLines) (sizes : List ℕ) (o : Option Misfit) → o ≡ None
     → IsLeastFaultOf (HasLineMisfit f m sizes) (option_map misfit_fault o) → IsNone (HasLineMisfit f m sizes)
 lines_none f m sizes o e h =
-    let told =
+    let reported =
     subst (λ (x : Option Misfit). IsLeastFaultOf (HasLineMisfit f m sizes) (option_map misfit_fault x)) e h in
-    λ d p. told.least d p
+    λ d p. reported.least d p

@@ -8,7 +8,7 @@ use Rattle.manifest_layout.specs.Format.{Format}
 use Rattle.manifest_layout.specs.Misfit.{HasLineMisfit}
 use Rattle.manifest_tree.specs.Names.{Inode}
 use Rattle.manifest_tree.specs.Tree.{tree_of, root_of}
-use Rattle.manifest_rows.specs.Rows.{Row, rows}
+use Rattle.plan_rows.specs.Rows.{Row, rows}
 
 -- these are the volume, the root and the rows of a manifest whose lines fit
 pub record IsReady (f : Format) (m : ManifestLines) (sizes volume : List ℕ) (root : Inode)

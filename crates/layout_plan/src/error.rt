@@ -2,7 +2,7 @@
 ghost use Rattle.std.specs.Prelude.{◌≡◌};
 ghost use Rattle.layout_plan.specs.Errors.{name_of_refusal};
 
-use plan_misfits::misfit::{ATTRIBUTE, HARD_LINK, NAME_TOO_LONG, TOO_LARGE};
+use plan_rows::misfit::{ATTRIBUTE, HARD_LINK, NAME_TOO_LONG, TOO_LARGE};
 use rom_fields::OutOfMemory;
 use std::fmt::{self, Display, Formatter};
 

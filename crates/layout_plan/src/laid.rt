@@ -7,12 +7,12 @@ ghost use Rattle.manifest.specs.Grammar.{IsManifest};
 ghost use Rattle.manifest.specs.Lines.{ManifestLines};
 ghost use Rattle.manifest_layout.specs.Format.{romfs, cramfs, items_of, sections_of, len_of};
 ghost use Rattle.manifest_layout.specs.Misfit.{HasWholeMisfit, HasNoMisfit};
-ghost use Rattle.manifest_rows.specs.Rows.{inode_view, row_view};
+ghost use Rattle.plan_rows.specs.Rows.{inode_view, row_view};
 ghost use Rattle.plan_types.specs.Formats.{format_of};
 ghost use Rattle.plan_types.specs.Views.{item_view, section_view};
 
 use cramfs_format::Order;
-use manifest_rows::{Inode, Row};
+use plan_rows::{Inode, Row};
 use plan_types::{Format, Item, Laid, Section};
 use rom_fields::OutOfMemory;
 use std::alloc::Global;

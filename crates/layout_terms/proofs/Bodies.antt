@@ -2,7 +2,7 @@
 use Rattle.std.proofs.Common.{get_or, drop, ap, ◌∙◌, ◌≡◌, ℕ, ◌+◌, ◌≤◌, List, [], ◌∷◌, ◌++◌, map, length, sym, subst}
 use Rattle.std.proofs.Common.{arith}
 use Rattle.std.specs.List.{AllByRecursion as Every}
-use Rattle.image_parts.specs.Parts.{Part, part, end_of_parts, Rises}
+use Rattle.rom_fields.specs.Parts.{Part, part, end_of_parts, Rises}
 use Rattle.std.proofs.lemmas.List.{drop-drop, get_or-drop}
 use Rattle.layout_terms.specs.Bodies.{no_item, item_at}
 use Rattle.layout_terms.specs.Items.{Item, Section, SectionsRise}

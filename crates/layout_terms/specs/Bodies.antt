@@ -1,7 +1,7 @@
 -- `body_bytes`, `section_part`: the bytes of a section of a planned image, and the section as a
 -- part. (This project's own.)
 use Rattle.std.specs.Prelude.{ℕ, List, [], get_or}
-use Rattle.image_parts.specs.Parts.{Part, part}
+use Rattle.rom_fields.specs.Parts.{Part, part}
 use Rattle.manifest_tree.specs.Names.{no_bytes, bytes_of}
 use Rattle.layout_terms.specs.Items.{Item, Body, super, record_of, table_of, text_of, contents_of}
 use Rattle.layout_terms.specs.Items.{Section}

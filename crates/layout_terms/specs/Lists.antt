@@ -4,7 +4,7 @@
 use Rattle.std.specs.Prelude.{◌≡◌, ◌≢◌, ℕ, ◌<◌, false, List, length, ◌⊎◌}
 use Rattle.std.specs.List.{AllByRecursion as Every, Contains}
 use Rattle.rom_tree.specs.Dots.{is_dots}
-use Rattle.manifest_tree.specs.Names.{Names, nothing, leaf, link, folder}
+use Rattle.manifest_tree.specs.Names.{Names, nothing, leaf, link, subdirectory}
 
 -- a name
 pub record IsName (name : List ℕ) : Type 0 where
@@ -18,7 +18,7 @@ abbrev pub StandsIn : List ℕ → Names → Type 0
 StandsIn m nothing = ⊥
 StandsIn m (leaf name i after) = (m ≡ name) ⊎ StandsIn m after
 StandsIn m (link name i after) = (m ≡ name) ⊎ StandsIn m after
-StandsIn m (folder name i own after) = (m ≡ name) ⊎ StandsIn m after
+StandsIn m (subdirectory name i own after) = (m ≡ name) ⊎ StandsIn m after
 
 -- a name that may be in a list before these: neither `.` nor `..`, and none of them
 pub record IsFree (name : List ℕ) (after : Names) : Type 0 where

@@ -1,3 +1,3 @@
 pub mod Walked
 pub mod Firsts
-pub mod Told
+pub mod Printed

@@ -1,4 +1,4 @@
--- `misreads_text`: a line for each thing that Linux misreads in a valid image. `Tells`: lines were
+-- `misreads_text`: a line for each thing that Linux misreads in a valid image. `Prints`: lines were
 -- put, and whether there is one was reported. (The lines are this project's own; docs/LINUX.md has
 -- what was seen. Linux fs/romfs/super.c and fs/cramfs/inode.c.)
 use Rattle.std.specs.Prelude.{ℕ, Bool, true, false, ◌&&◌, ◌||◌, ◌≡◌, ◌==◌, ◌%◌, nat_lt, not}
@@ -103,11 +103,11 @@ unfoldable pub misreads_text : AnyImage → List ℕ
 misreads_text a = volume_misreads a ++ flat_map (name_misreads a) (names (any_view a).tree)
 
 -- whether there is any line
-abbrev pub is_told : List ℕ → Bool
-is_told [] = false
-is_told (c ∷ cs) = true
+abbrev pub is_printed : List ℕ → Bool
+is_printed [] = false
+is_printed (c ∷ cs) = true
 
 -- These lines were put, and it was reported whether there is any line.
-pub record Tells (s t : Sink) (before after : Bool) (lines : List ℕ) : Type 0 where
+pub record Prints (s t : Sink) (before after : Bool) (lines : List ℕ) : Type 0 where
   pub puts : Puts s t lines
-  pub told : after ≡ (before || is_told lines)
+  pub printed : after ≡ (before || is_printed lines)

@@ -2,7 +2,7 @@
 ghost use Rattle.std.specs.Prelude.{◌≡◌, ◌≤◌, IfOk, ℕ, Some};
 ghost use Rattle.std.specs.BTreeMap.{get};
 ghost use Rattle.std.specs.Ordering.{nat_cmp};
-ghost use Rattle.rom_tree.specs.Tree.{Node, levels};
+ghost use Rattle.rom_tree.specs.Tree.{Node, IsShallow};
 ghost use Rattle.rom_tree.specs.Image.{image_node, HasNode};
 ghost use Rattle.rom_tree.specs.Names.{names};
 ghost use Rattle.image_check.specs.Any.{any_view};
@@ -63,7 +63,7 @@ fn note(first: &mut BTreeMap<u32, Known>, image: &Cramfs<'_>, n: NodeId) -> Resu
 ///
 /// `OutOfMemory` if memory is refused.
 fn first_of_tables(alloc: Global, image: &Cramfs<'_>) -> Result<BTreeMap<u32, Known>, OutOfMemory>
-    requires { levels (view image.now).tree ≤ 65 }
+    requires { IsShallow (view image.now).tree }
     ensures { IfOk result (λ m. AreFirst image.now
         (names (view image.now).tree) m) }
 {
@@ -85,7 +85,7 @@ pub(crate) fn first_files(
     alloc: Global,
     image: &AnyImage<'_>,
 ) -> Result<BTreeMap<u32, Known>, OutOfMemory>
-    requires { levels (any_view image.now).tree ≤ 65 }
+    requires { IsShallow (any_view image.now).tree }
     ensures { IfOk result (λ m. AreFirstOf image.now m) }
 {
     match image {

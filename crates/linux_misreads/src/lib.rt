@@ -13,7 +13,7 @@ mod inodes;
 mod known;
 pub mod laws;
 mod names;
+mod printing;
 mod readers;
-mod telling;
 
-pub use telling::misreads;
+pub use printing::misreads;

@@ -9,7 +9,7 @@ ghost use Rattle.image_check.specs.Any.{any_view};
 ghost use Rattle.linux_misreads.specs.Tables.{AreFirst, AreFirstOf, is_other_file, romfs_view};
 ghost use Rattle.linux_misreads.specs.Tables.{view};
 ghost use Rattle.linux_misreads.specs.Misreads.{cramfs_name, ends_with_a_block, misread_line};
-ghost use Rattle.linux_misreads.specs.Misreads.{name_misreads, romfs_name, Tells};
+ghost use Rattle.linux_misreads.specs.Misreads.{name_misreads, romfs_name, Prints};
 
 use crate::differences::{
     is_cut_link, is_cut_name, is_not_found, is_other_cramfs_device, is_other_romfs_device,
@@ -32,18 +32,18 @@ fn put_line<'a, W: ByteWrite>(
     text: &[u8],
     w: &mut W,
     failed: &mut bool,
-    told: &mut bool,
+    printed: &mut bool,
     walk: &Walk<'a>,
 )
-    ensures { Tells (sink (W.output w.old) failed.old) (sink (W.output w.new) failed.new)
-        told.old told.new
+    ensures { Prints (sink (W.output w.old) failed.old) (sink (W.output w.new) failed.new)
+        printed.old printed.new
         (if is_misread then misread_line text.now (given_path walk.now) else []) }
 {
     if is_misread {
         put(w, failed, text);
         walk.put_path(w, failed);
         put(w, failed, b"\n");
-        *told = true;
+        *printed = true;
     }
 }
 
@@ -81,30 +81,30 @@ fn put_cramfs_name<'a, W: ByteWrite>(
     first: &BTreeMap<u32, Known>,
     w: &mut W,
     failed: &mut bool,
-    told: &mut bool,
+    printed: &mut bool,
     n: NodeId,
     walk: &Walk<'a>,
 )
     requires node { HasNode (view image.now) n.0 }
     requires first { AreFirst image.now (names (view image.now).tree) first.now }
     ensures { (x : Node) → image_node (view image.now) n.0 ≡ Some x
-        → Tells (sink (W.output w.old) failed.old) (sink (W.output w.new) failed.new)
-        told.old told.new
+        → Prints (sink (W.output w.old) failed.old) (sink (W.output w.new) failed.new)
+        printed.old printed.new
         (cramfs_name image.now (names (view image.now).tree)
         (named (given_path walk.now) (given_name walk.now) x)) }
 {
     let is_short = is_in_whole_blocks(image, n);
-    put_line(is_short, b"linux 1 LastBlock ", w, failed, told, walk);
+    put_line(is_short, b"linux 1 LastBlock ", w, failed, printed, walk);
     let is_taken = is_taken_for_another(image, first, n);
-    put_line(is_taken, b"linux 2 SharedTable ", w, failed, told, walk);
+    put_line(is_taken, b"linux 2 SharedTable ", w, failed, printed, walk);
     let is_other = is_other_cramfs_device(image, n);
-    put_line(is_other, b"linux 6 Device ", w, failed, told, walk);
+    put_line(is_other, b"linux 6 Device ", w, failed, printed, walk);
     let is_lost = is_not_found(image, n, walk.name());
-    put_line(is_lost, b"linux 7 NamePadded ", w, failed, told, walk);
+    put_line(is_lost, b"linux 7 NamePadded ", w, failed, printed, walk);
     let has_zero = is_cut_link(image, n);
-    put_line(has_zero, b"linux 8 LinkCut ", w, failed, told, walk);
+    put_line(has_zero, b"linux 8 LinkCut ", w, failed, printed, walk);
     let has_mode = is_other_root(image, n, walk.name());
-    put_line(has_mode, b"linux 9 RootMode ", w, failed, told, walk);
+    put_line(has_mode, b"linux 9 RootMode ", w, failed, printed, walk);
 }
 
 /// Puts the lines of a name of a romfs image.
@@ -112,26 +112,33 @@ fn put_romfs_name<'a, W: ByteWrite>(
     image: &Romfs<'a>,
     w: &mut W,
     failed: &mut bool,
-    told: &mut bool,
+    printed: &mut bool,
     n: NodeId,
     walk: &Walk<'a>,
 )
     requires { HasNode (romfs_view image.now) n.0 }
     ensures { (x : Node) → image_node (romfs_view image.now) n.0 ≡ Some x
-        → Tells (sink (W.output w.old) failed.old) (sink (W.output w.new) failed.new)
-        told.old told.new
+        → Prints (sink (W.output w.old) failed.old) (sink (W.output w.new) failed.new)
+        printed.old printed.new
         (romfs_name image.now (named (given_path walk.now) (given_name walk.now) x)) }
 {
     let is_cut = is_cut_name(walk.name());
-    put_line(is_cut, b"linux 3 NameCut ", w, failed, told, walk);
+    put_line(is_cut, b"linux 3 NameCut ", w, failed, printed, walk);
     let is_found = romfs_finds(walk.name());
-    put_line(!is_found, b"linux 4 NameTooLong ", w, failed, told, walk);
+    put_line(!is_found, b"linux 4 NameTooLong ", w, failed, printed, walk);
     let is_other = is_other_romfs_device(image, n);
-    put_line(is_other, b"linux 6 Device ", w, failed, told, walk);
+    put_line(is_other, b"linux 6 Device ", w, failed, printed, walk);
     let has_zero = is_cut_link(image, n);
-    put_line(has_zero, b"linux 8 LinkCut ", w, failed, told, walk);
+    put_line(has_zero, b"linux 8 LinkCut ", w, failed, printed, walk);
     let is_elsewhere = is_read_elsewhere(image, n, walk.name());
-    put_line(is_elsewhere, b"linux 10 OtherPlace ", w, failed, told, walk);
+    put_line(
+        is_elsewhere,
+        b"linux 10 OtherPlace ",
+        w,
+        failed,
+        printed,
+        walk,
+    );
 }
 
 /// Puts the lines of the node that a walk returned last, if Linux misreads it.
@@ -140,19 +147,19 @@ pub(crate) fn put_misreads<'a, W: ByteWrite>(
     first: &BTreeMap<u32, Known>,
     w: &mut W,
     failed: &mut bool,
-    told: &mut bool,
+    printed: &mut bool,
     n: NodeId,
     walk: &Walk<'a>,
 )
     requires node { HasNode (any_view image.now) n.0 }
     requires first { AreFirstOf image.now first.now }
     ensures { (x : Node) → image_node (any_view image.now) n.0 ≡ Some x
-        → Tells (sink (W.output w.old) failed.old) (sink (W.output w.new) failed.new)
-        told.old told.new
+        → Prints (sink (W.output w.old) failed.old) (sink (W.output w.new) failed.new)
+        printed.old printed.new
         (name_misreads image.now (named (given_path walk.now) (given_name walk.now) x)) }
 {
     match image {
-        AnyImage::Romfs(image) => put_romfs_name(image, w, failed, told, n, walk),
-        AnyImage::Cramfs(image) => put_cramfs_name(image, first, w, failed, told, n, walk),
+        AnyImage::Romfs(image) => put_romfs_name(image, w, failed, printed, n, walk),
+        AnyImage::Cramfs(image) => put_cramfs_name(image, first, w, failed, printed, n, walk),
     }
 }

@@ -7,3 +7,7 @@ pub mod Parents
 pub mod Pieces
 pub mod Reached
 pub mod Whole
+mod Fitting
+mod Joined
+mod Decimals
+mod ReadBack

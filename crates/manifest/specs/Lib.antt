@@ -7,3 +7,5 @@ pub mod Grammar
 pub mod Views
 pub mod Reading
 pub mod Seeds
+pub mod Printed
+pub mod Entries

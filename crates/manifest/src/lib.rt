@@ -6,19 +6,24 @@
 //! grammar by an example.
 #![tactic(auto)]
 
+mod entry;
 pub mod error;
 mod fields;
+pub mod laws;
 mod line;
 mod names;
 mod numbers;
 mod path;
+mod printing;
 mod reader;
 mod reading;
 mod seeded;
 mod text;
 
+pub use entry::Entry;
 pub use error::{ManifestError, name};
 pub use line::{Line, Word};
 pub use names::Name;
+pub use printing::{put_line, put_lines, put_volume, write_line, write_manifest};
 pub use reading::{Manifest, parse};
 pub use seeded::{Seeded, seeded_by};

@@ -11,7 +11,7 @@ use Rattle.record_forest.proofs.Noted.{least_joined}
 use Rattle.manifest.specs.declared.line.Line.{Line}
 use Rattle.manifest.specs.Lines.{ManifestLines, is_hard}
 use Rattle.manifest.specs.Paths.{names_of}
-use Rattle.manifest_tree.specs.Names.{Inode, Names, nothing, leaf, link, folder}
+use Rattle.manifest_tree.specs.Names.{Inode, Names, nothing, leaf, link, subdirectory}
 use Rattle.manifest_tree.specs.Tree.{inode_of, tree_of}
 use Rattle.layout_terms.specs.Files.{height}
 use Rattle.romfs_format.specs.Tree.{mode_named}
@@ -187,14 +187,14 @@ abbrev pub has_long_list : Names → Bool
 has_long_list nothing = false
 has_long_list (leaf name i after) = has_long_list after
 has_long_list (link name i after) = has_long_list after
-has_long_list (folder name i own after) =
+has_long_list (subdirectory name i own after) =
     not (nat_lt (list_len own) (2 ^ 24)) || (has_long_list own || has_long_list after)
 
 long_list_decides : (n : Names) → Decides (has_long_list n) (HasLongList n)
 long_list_decides nothing = never
 long_list_decides (leaf name i after) = long_list_decides after
 long_list_decides (link name i after) = long_list_decides after
-long_list_decides (folder name i own after) =
+long_list_decides (subdirectory name i own after) =
     Decides-or (not (nat_lt (list_len own) (2 ^ 24))) (has_long_list own || has_long_list after)
     (le_decides (list_len own) (2 ^ 24))
     (Decides-or (has_long_list own) (has_long_list after) (long_list_decides own) (long_list_decides after))
@@ -256,23 +256,23 @@ abbrev pub least_misfit : Format → ManifestLines → List ℕ → Option Fault
 least_misfit f m sizes = else_whole (least_line f m sizes) (whole_test f m sizes)
 
 -- the manifest has this as its least misfit, or fits
-abbrev pub Told : Format → ManifestLines → List ℕ → Option Fault → Type 0
-Told f m sizes None = HasNoMisfit f m sizes
-Told f m sizes (Some e) = IsLeastMisfit f m sizes e
+abbrev pub Judged : Format → ManifestLines → List ℕ → Option Fault → Type 0
+Judged f m sizes None = HasNoMisfit f m sizes
+Judged f m sizes (Some e) = IsLeastMisfit f m sizes e
 
-pub told : (f : Format) (m : ManifestLines) (sizes : List ℕ) → Told f m sizes (least_misfit f m sizes)
-told f m sizes = by (least_line f m sizes) (whole_test f m sizes) (least_line_is f m sizes) (whole_decides f m sizes)
+pub decided : (f : Format) (m : ManifestLines) (sizes : List ℕ) → Judged f m sizes (least_misfit f m sizes)
+decided f m sizes = by (least_line f m sizes) (whole_test f m sizes) (least_line_is f m sizes) (whole_decides f m sizes)
   where
     by : (o : Option Fault) (b : Bool) → IsLeastFaultOf (HasLineMisfit f m sizes) o
-        → Decides b (HasWholeMisfit f m sizes) → Told f m sizes (else_whole o b)
+        → Decides b (HasWholeMisfit f m sizes) → Judged f m sizes (else_whole o b)
     by (Some e) b h d = line_misfit (record { here = h.here; least = λ c x. h.least c x })
     by None true h d = whole_misfit (λ e x. h.least e x) (d.0 refl) refl
     by None false h d = record { lines = λ e x. h.least e x; whole = λ x. let z : false ≡ true = d.1 x in absurd (cc) }
 
 pub answered : (f : Format) (m : ManifestLines) (sizes : List ℕ)
     → MatchOption (least_misfit f m sizes) (HasNoMisfit f m sizes) (IsLeastMisfit f m sizes)
-answered f m sizes = by (least_misfit f m sizes) (told f m sizes)
+answered f m sizes = by (least_misfit f m sizes) (decided f m sizes)
   where
-    by : (o : Option Fault) → Told f m sizes o → MatchOption o (HasNoMisfit f m sizes) (IsLeastMisfit f m sizes)
+    by : (o : Option Fault) → Judged f m sizes o → MatchOption o (HasNoMisfit f m sizes) (IsLeastMisfit f m sizes)
     by None h = h
     by (Some e) h = h

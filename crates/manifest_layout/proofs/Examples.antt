@@ -15,12 +15,12 @@ use Rattle.cramfs_layout.specs.Layout.{size_of, kept, data_of}
 use Rattle.manifest_layout.specs.Format.{Format, romfs, cramfs, len_of}
 use Rattle.manifest_layout.specs.Misfit.{ATTRIBUTE, TOO_LARGE, NAME_TOO_LONG, HARD_LINK}
 use Rattle.manifest_layout.specs.Tests.{fault}
-use Rattle.manifest_layout.proofs.Decided.{least_misfit, Told, told}
+use Rattle.manifest_layout.proofs.Decided.{least_misfit, Judged, decided}
 
 -- what is said of a text, if it is a manifest
-abbrev Tells : Format → List ℕ → Result ManifestLines grammar.Fault → Option Fault → Type 0
-Tells f sizes (Ok m) o = Told f m sizes o
-Tells f sizes (Err e) o = ⊥
+abbrev Decides : Format → List ℕ → Result ManifestLines grammar.Fault → Option Fault → Type 0
+Decides f sizes (Ok m) o = Judged f m sizes o
+Decides f sizes (Err e) o = ⊥
 
 abbrev least_by : Format → List ℕ → Result ManifestLines grammar.Fault → Option (Option Fault)
 least_by f sizes (Ok m) = Some (least_misfit f m sizes)
@@ -30,69 +30,70 @@ abbrev length_by : Format → List ℕ → Result ManifestLines grammar.Fault �
 length_by f sizes (Ok m) = len_of f m sizes
 length_by f sizes (Err e) = 0
 
-tells : (f : Format) (sizes : List ℕ) (r : Result ManifestLines grammar.Fault) (o : Option Fault)
-    → least_by f sizes r ≡ Some o → Tells f sizes r o
-tells f sizes (Ok m) o e = subst (Told f m sizes) (same e) (told f m sizes)
+decides : (f : Format) (sizes : List ℕ) (r : Result ManifestLines grammar.Fault) (o : Option Fault)
+    → least_by f sizes r ≡ Some o → Decides f sizes r o
+decides f sizes (Ok m) o e = subst (Judged f m sizes) (same e) (decided f m sizes)
   where
     same : {u v : Option Fault} → Some u ≡ Some v → u ≡ v
     same e = cc
-tells f sizes (Err r) o e = absurd (cc)
+decides f sizes (Err r) o e = absurd (cc)
 
 lines : List (List ℕ) → List ℕ
 lines [] = []
 lines (l ∷ ls) = l ++ (10 ∷ lines ls)
 
 -- one file of five bytes fits each format
-fits_romfs : Tells romfs (5 ∷ []) (manifest_of (lines (codes "file /a 0644 0 0 4 s" ∷ []))) None
+fits_romfs : Decides romfs (5 ∷ []) (manifest_of (lines (codes "file /a 0644 0 0 4 s" ∷ []))) None
 unfolding lines manifest_of read numbers_of fault_of octal decimal names_of is_bad_name percent_decode tree_of root_of
     file_at inode_of place_of data_align device_of code_of size_of kept data_of
-fits_romfs = tells romfs (5 ∷ []) (manifest_of (lines (codes "file /a 0644 0 0 4 s" ∷ []))) None refl
+fits_romfs = decides romfs (5 ∷ []) (manifest_of (lines (codes "file /a 0644 0 0 4 s" ∷ []))) None refl
 
-fits_cramfs : Tells (cramfs Little) (5 ∷ []) (manifest_of (lines (codes "file /a 0644 0 0 4 s" ∷ []))) None
+fits_cramfs : Decides (cramfs Little) (5 ∷ []) (manifest_of (lines (codes "file /a 0644 0 0 4 s" ∷ []))) None
 unfolding lines manifest_of read numbers_of fault_of octal decimal names_of is_bad_name percent_decode tree_of root_of
     file_at inode_of place_of data_align device_of code_of size_of kept data_of
-fits_cramfs = tells (cramfs Little) (5 ∷ []) (manifest_of (lines (codes "file /a 0644 0 0 4 s" ∷ []))) None refl
+fits_cramfs = decides (cramfs Little) (5 ∷ []) (manifest_of (lines (codes "file /a 0644 0 0 4 s" ∷ []))) None refl
 
-fits_cramfs_big : Tells (cramfs Big) (5 ∷ []) (manifest_of (lines (codes "file /a 0644 0 0 4 s" ∷ []))) None
+fits_cramfs_big : Decides (cramfs Big) (5 ∷ []) (manifest_of (lines (codes "file /a 0644 0 0 4 s" ∷ []))) None
 unfolding lines manifest_of read numbers_of fault_of octal decimal names_of is_bad_name percent_decode tree_of root_of
     file_at inode_of place_of data_align device_of code_of size_of kept data_of
-fits_cramfs_big = tells (cramfs Big) (5 ∷ []) (manifest_of (lines (codes "file /a 0644 0 0 4 s" ∷ []))) None refl
+fits_cramfs_big = decides (cramfs Big) (5 ∷ []) (manifest_of (lines (codes "file /a 0644 0 0 4 s" ∷ []))) None refl
 
 -- so does no line at all
-nothing_fits : Tells romfs [] (manifest_of (lines ([]))) None
+nothing_fits : Decides romfs [] (manifest_of (lines ([]))) None
 unfolding lines manifest_of read numbers_of fault_of octal decimal names_of is_bad_name percent_decode tree_of root_of
     file_at inode_of place_of data_align device_of code_of size_of kept data_of
-nothing_fits = tells romfs [] (manifest_of (lines ([]))) None refl
+nothing_fits = decides romfs [] (manifest_of (lines ([]))) None refl
 
 -- a file of more than 2^28 bytes is too large at its line
-large_file : Tells romfs (268435457 ∷ []) (manifest_of (lines (codes "file /a 0644 0 0 4 s" ∷ [])))
+large_file : Decides romfs (268435457 ∷ []) (manifest_of (lines (codes "file /a 0644 0 0 4 s" ∷ [])))
     (Some (fault TOO_LARGE 1))
 unfolding lines manifest_of read numbers_of fault_of octal decimal names_of is_bad_name percent_decode tree_of root_of
     file_at inode_of place_of data_align device_of code_of size_of kept data_of
-large_file = tells romfs (268435457 ∷ []) (manifest_of (lines (codes "file /a 0644 0 0 4 s" ∷ [])))
+large_file = decides romfs (268435457 ∷ []) (manifest_of (lines (codes "file /a 0644 0 0 4 s" ∷ [])))
     (Some (fault TOO_LARGE 1)) refl
 
 -- with 2^28 bytes it is the whole that is too large
-large_whole : Tells romfs (268435456 ∷ []) (manifest_of (lines (codes "file /a 0644 0 0 4 s" ∷ [])))
+large_whole : Decides romfs (268435456 ∷ []) (manifest_of (lines (codes "file /a 0644 0 0 4 s" ∷ [])))
     (Some (fault TOO_LARGE 0))
 unfolding lines manifest_of read numbers_of fault_of octal decimal names_of is_bad_name percent_decode tree_of root_of
     file_at inode_of place_of data_align device_of code_of size_of kept data_of
-large_whole = tells romfs (268435456 ∷ []) (manifest_of (lines (codes "file /a 0644 0 0 4 s" ∷ [])))
+large_whole = decides romfs (268435456 ∷ []) (manifest_of (lines (codes "file /a 0644 0 0 4 s" ∷ [])))
     (Some (fault TOO_LARGE 0)) refl
 
 -- in cramfs a size has 24 bits
-large_in_cramfs : Tells (cramfs Little) (16777216 ∷ []) (manifest_of (lines (codes "file /a 0644 0 0 4 s" ∷ [])))
+large_in_cramfs : Decides (cramfs Little) (16777216 ∷ []) (manifest_of (lines (codes "file /a 0644 0 0 4 s" ∷ [])))
     (Some (fault TOO_LARGE 1))
 unfolding lines manifest_of read numbers_of fault_of octal decimal names_of is_bad_name percent_decode tree_of root_of
     file_at inode_of place_of data_align device_of code_of size_of kept data_of
-large_in_cramfs = tells (cramfs Little) (16777216 ∷ []) (manifest_of (lines (codes "file /a 0644 0 0 4 s" ∷ [])))
+large_in_cramfs = decides (cramfs Little) (16777216 ∷ []) (manifest_of (lines (codes "file /a 0644 0 0 4 s" ∷ [])))
     (Some (fault TOO_LARGE 1)) refl
 
-largest_in_cramfs : Tells (cramfs Little) (16777215 ∷ []) (manifest_of (lines (codes "file /a 0644 0 0 4 s" ∷ []))) None
+largest_in_cramfs : Decides (cramfs Little) (16777215 ∷ [])
+    (manifest_of (lines (codes "file /a 0644 0 0 4 s" ∷ []))) None
 unfolding lines manifest_of read numbers_of fault_of octal decimal names_of is_bad_name percent_decode tree_of root_of
     file_at inode_of place_of data_align device_of code_of size_of kept data_of
 largest_in_cramfs =
-    tells (cramfs Little) (16777215 ∷ []) (manifest_of (lines (codes "file /a 0644 0 0 4 s" ∷ []))) None refl
+    decides (cramfs Little) (16777215 ∷ []) (manifest_of (lines (codes "file /a 0644 0 0 4 s" ∷ []))) None refl
 
 largest_length : length_by (cramfs Little) (16777215 ∷ []) (manifest_of (codes "file /a 0644 0 0 4 s")) ≡ 16797696
 unfolding manifest_of read numbers_of fault_of octal decimal names_of is_bad_name percent_decode tree_of root_of file_at
@@ -100,148 +101,153 @@ unfolding manifest_of read numbers_of fault_of octal decimal names_of is_bad_nam
 largest_length = refl
 
 -- romfs has no mode 0600 of a file
-mode : Tells romfs (5 ∷ []) (manifest_of (lines (codes "file /a 0600 0 0 4 s" ∷ []))) (Some (fault ATTRIBUTE 1))
+mode : Decides romfs (5 ∷ []) (manifest_of (lines (codes "file /a 0600 0 0 4 s" ∷ []))) (Some (fault ATTRIBUTE 1))
 unfolding lines manifest_of read numbers_of fault_of octal decimal names_of is_bad_name percent_decode tree_of root_of
     file_at inode_of place_of data_align device_of code_of size_of kept data_of
-mode = tells romfs (5 ∷ []) (manifest_of (lines (codes "file /a 0600 0 0 4 s" ∷ []))) (Some (fault ATTRIBUTE 1)) refl
+mode = decides romfs (5 ∷ []) (manifest_of (lines (codes "file /a 0600 0 0 4 s" ∷ []))) (Some (fault ATTRIBUTE 1)) refl
 
-mode_in_cramfs : Tells (cramfs Little) (5 ∷ []) (manifest_of (lines (codes "file /a 0600 0 0 4 s" ∷ []))) None
+mode_in_cramfs : Decides (cramfs Little) (5 ∷ []) (manifest_of (lines (codes "file /a 0600 0 0 4 s" ∷ []))) None
 unfolding lines manifest_of read numbers_of fault_of octal decimal names_of is_bad_name percent_decode tree_of root_of
     file_at inode_of place_of data_align device_of code_of size_of kept data_of
-mode_in_cramfs = tells (cramfs Little) (5 ∷ []) (manifest_of (lines (codes "file /a 0600 0 0 4 s" ∷ []))) None refl
+mode_in_cramfs = decides (cramfs Little) (5 ∷ []) (manifest_of (lines (codes "file /a 0600 0 0 4 s" ∷ []))) None refl
 
 -- romfs has no owners, and cramfs has
-owner : Tells romfs [] (manifest_of (lines (codes "dir /d 0755 5 0" ∷ []))) (Some (fault ATTRIBUTE 1))
+owner : Decides romfs [] (manifest_of (lines (codes "dir /d 0755 5 0" ∷ []))) (Some (fault ATTRIBUTE 1))
 unfolding lines manifest_of read numbers_of fault_of octal decimal names_of is_bad_name percent_decode tree_of root_of
     file_at inode_of place_of data_align device_of code_of size_of kept data_of
-owner = tells romfs [] (manifest_of (lines (codes "dir /d 0755 5 0" ∷ []))) (Some (fault ATTRIBUTE 1)) refl
+owner = decides romfs [] (manifest_of (lines (codes "dir /d 0755 5 0" ∷ []))) (Some (fault ATTRIBUTE 1)) refl
 
-owner_in_cramfs : Tells (cramfs Little) [] (manifest_of (lines (codes "dir /d 0755 5 0" ∷ []))) None
+owner_in_cramfs : Decides (cramfs Little) [] (manifest_of (lines (codes "dir /d 0755 5 0" ∷ []))) None
 unfolding lines manifest_of read numbers_of fault_of octal decimal names_of is_bad_name percent_decode tree_of root_of
     file_at inode_of place_of data_align device_of code_of size_of kept data_of
-owner_in_cramfs = tells (cramfs Little) [] (manifest_of (lines (codes "dir /d 0755 5 0" ∷ []))) None refl
+owner_in_cramfs = decides (cramfs Little) [] (manifest_of (lines (codes "dir /d 0755 5 0" ∷ []))) None refl
 
 -- in cramfs a group has 8 bits
-group : Tells (cramfs Little) [] (manifest_of (lines (codes "dir /d 0755 0 256" ∷ []))) (Some (fault ATTRIBUTE 1))
+group : Decides (cramfs Little) [] (manifest_of (lines (codes "dir /d 0755 0 256" ∷ []))) (Some (fault ATTRIBUTE 1))
 unfolding lines manifest_of read numbers_of fault_of octal decimal names_of is_bad_name percent_decode tree_of root_of
     file_at inode_of place_of data_align device_of code_of size_of kept data_of
-group = tells (cramfs Little) [] (manifest_of (lines (codes "dir /d 0755 0 256" ∷ []))) (Some (fault ATTRIBUTE 1)) refl
+group = decides (cramfs Little) [] (manifest_of (lines (codes "dir /d 0755 0 256" ∷ [])))
+    (Some (fault ATTRIBUTE 1)) refl
 
-greatest_group : Tells (cramfs Little) [] (manifest_of (lines (codes "dir /d 0755 0 255" ∷ []))) None
+greatest_group : Decides (cramfs Little) [] (manifest_of (lines (codes "dir /d 0755 0 255" ∷ []))) None
 unfolding lines manifest_of read numbers_of fault_of octal decimal names_of is_bad_name percent_decode tree_of root_of
     file_at inode_of place_of data_align device_of code_of size_of kept data_of
-greatest_group = tells (cramfs Little) [] (manifest_of (lines (codes "dir /d 0755 0 255" ∷ []))) None refl
+greatest_group = decides (cramfs Little) [] (manifest_of (lines (codes "dir /d 0755 0 255" ∷ []))) None refl
 
 -- a device has numbers of 16 bits in romfs, and of 8 bits in cramfs
-device : Tells romfs [] (manifest_of (lines (codes "nod /n 0600 0 0 b 65536 0" ∷ []))) (Some (fault ATTRIBUTE 1))
+device : Decides romfs [] (manifest_of (lines (codes "nod /n 0600 0 0 b 65536 0" ∷ []))) (Some (fault ATTRIBUTE 1))
 unfolding lines manifest_of read numbers_of fault_of octal decimal names_of is_bad_name percent_decode tree_of root_of
     file_at inode_of place_of data_align device_of code_of size_of kept data_of
-device = tells romfs [] (manifest_of (lines (codes "nod /n 0600 0 0 b 65536 0" ∷ []))) (Some (fault ATTRIBUTE 1)) refl
+device = decides romfs [] (manifest_of (lines (codes "nod /n 0600 0 0 b 65536 0" ∷ []))) (Some (fault ATTRIBUTE 1)) refl
 
-greatest_device : Tells romfs [] (manifest_of (lines (codes "nod /n 0600 0 0 b 65535 65535" ∷ []))) None
+greatest_device : Decides romfs [] (manifest_of (lines (codes "nod /n 0600 0 0 b 65535 65535" ∷ []))) None
 unfolding lines manifest_of read numbers_of fault_of octal decimal names_of is_bad_name percent_decode tree_of root_of
     file_at inode_of place_of data_align device_of code_of size_of kept data_of
-greatest_device = tells romfs [] (manifest_of (lines (codes "nod /n 0600 0 0 b 65535 65535" ∷ []))) None refl
+greatest_device = decides romfs [] (manifest_of (lines (codes "nod /n 0600 0 0 b 65535 65535" ∷ []))) None refl
 
-device_in_cramfs : Tells (cramfs Big) [] (manifest_of (lines (codes "nod /n 0600 0 0 c 0 256" ∷ [])))
+device_in_cramfs : Decides (cramfs Big) [] (manifest_of (lines (codes "nod /n 0600 0 0 c 0 256" ∷ [])))
     (Some (fault ATTRIBUTE 1))
 unfolding lines manifest_of read numbers_of fault_of octal decimal names_of is_bad_name percent_decode tree_of root_of
     file_at inode_of place_of data_align device_of code_of size_of kept data_of
 device_in_cramfs =
-    tells (cramfs Big) [] (manifest_of (lines (codes "nod /n 0600 0 0 c 0 256" ∷ []))) (Some (fault ATTRIBUTE 1)) refl
+    decides (cramfs Big) [] (manifest_of (lines (codes "nod /n 0600 0 0 c 0 256" ∷ []))) (Some (fault ATTRIBUTE 1)) refl
 
-greatest_device_in_cramfs : Tells (cramfs Big) [] (manifest_of (lines (codes "nod /n 0600 0 0 c 255 255" ∷ []))) None
+greatest_device_in_cramfs : Decides (cramfs Big) [] (manifest_of (lines (codes "nod /n 0600 0 0 c 255 255" ∷ []))) None
 unfolding lines manifest_of read numbers_of fault_of octal decimal names_of is_bad_name percent_decode tree_of root_of
     file_at inode_of place_of data_align device_of code_of size_of kept data_of
 greatest_device_in_cramfs =
-    tells (cramfs Big) [] (manifest_of (lines (codes "nod /n 0600 0 0 c 255 255" ∷ []))) None refl
+    decides (cramfs Big) [] (manifest_of (lines (codes "nod /n 0600 0 0 c 255 255" ∷ []))) None refl
 
 -- in cramfs a name has at most 252 bytes, and a volume name 16
-name : Tells (cramfs Little) [] (manifest_of (lines ((codes "pipe /" ++ (replicate 253 97 ++ codes " 0644 0 0")) ∷ [])))
+name : Decides (cramfs Little) [] (manifest_of (lines
+    ((codes "pipe /" ++ (replicate 253 97 ++ codes " 0644 0 0")) ∷ [])))
     (Some (fault NAME_TOO_LONG 1))
 unfolding lines manifest_of read numbers_of fault_of octal decimal names_of is_bad_name percent_decode tree_of root_of
     file_at inode_of place_of data_align device_of code_of size_of kept data_of
-name = tells (cramfs Little) [] (manifest_of (lines ((codes "pipe /" ++ (replicate 253 97 ++ codes " 0644 0 0")) ∷ [])))
+name = decides (cramfs Little) [] (manifest_of (lines
+    ((codes "pipe /" ++ (replicate 253 97 ++ codes " 0644 0 0")) ∷ [])))
     (Some (fault NAME_TOO_LONG 1)) refl
 
-longest_name : Tells (cramfs Little) []
+longest_name : Decides (cramfs Little) []
     (manifest_of (lines ((codes "pipe /" ++ (replicate 252 97 ++ codes " 0644 0 0")) ∷ []))) None
 unfolding lines manifest_of read numbers_of fault_of octal decimal names_of is_bad_name percent_decode tree_of root_of
     file_at inode_of place_of data_align device_of code_of size_of kept data_of
-longest_name = tells (cramfs Little) []
+longest_name = decides (cramfs Little) []
     (manifest_of (lines ((codes "pipe /" ++ (replicate 252 97 ++ codes " 0644 0 0")) ∷ []))) None refl
 
-name_in_romfs : Tells romfs [] (manifest_of
+name_in_romfs : Decides romfs [] (manifest_of
     (lines ((codes "pipe /" ++ (replicate 253 97 ++ codes " 0644 0 0")) ∷ []))) None
 unfolding lines manifest_of read numbers_of fault_of octal decimal names_of is_bad_name percent_decode tree_of root_of
     file_at inode_of place_of data_align device_of code_of size_of kept data_of
 name_in_romfs =
-    tells romfs [] (manifest_of (lines ((codes "pipe /" ++ (replicate 253 97 ++ codes " 0644 0 0")) ∷ []))) None refl
+    decides romfs [] (manifest_of (lines ((codes "pipe /" ++ (replicate 253 97 ++ codes " 0644 0 0")) ∷ []))) None refl
 
-volume : Tells (cramfs Little) [] (manifest_of (lines (codes "# a volume" ∷ codes "volume seventeen_letters" ∷ [])))
+volume : Decides (cramfs Little) [] (manifest_of (lines (codes "# a volume" ∷ codes "volume seventeen_letters" ∷ [])))
     (Some (fault NAME_TOO_LONG 2))
 unfolding lines manifest_of read numbers_of fault_of octal decimal names_of is_bad_name percent_decode tree_of root_of
     file_at inode_of place_of data_align device_of code_of size_of kept data_of
-volume = tells (cramfs Little) [] (manifest_of (lines (codes "# a volume" ∷ codes "volume seventeen_letters" ∷ [])))
+volume = decides (cramfs Little) [] (manifest_of (lines (codes "# a volume" ∷ codes "volume seventeen_letters" ∷ [])))
     (Some (fault NAME_TOO_LONG 2)) refl
 
-longest_volume : Tells (cramfs Little) [] (manifest_of (lines (codes "volume sixteen__letters" ∷ []))) None
+longest_volume : Decides (cramfs Little) [] (manifest_of (lines (codes "volume sixteen__letters" ∷ []))) None
 unfolding lines manifest_of read numbers_of fault_of octal decimal names_of is_bad_name percent_decode tree_of root_of
     file_at inode_of place_of data_align device_of code_of size_of kept data_of
-longest_volume = tells (cramfs Little) [] (manifest_of (lines (codes "volume sixteen__letters" ∷ []))) None refl
+longest_volume = decides (cramfs Little) [] (manifest_of (lines (codes "volume sixteen__letters" ∷ []))) None refl
 
 -- cramfs has no hard links
-hard_link : Tells (cramfs Little) (5 ∷ [])
+hard_link : Decides (cramfs Little) (5 ∷ [])
     (manifest_of (lines (codes "file /a 0644 0 0 4 s" ∷ codes "hard /b /a" ∷ []))) (Some (fault HARD_LINK 2))
 unfolding lines manifest_of read numbers_of fault_of octal decimal names_of is_bad_name percent_decode tree_of root_of
     file_at inode_of place_of data_align device_of code_of size_of kept data_of
-hard_link = tells (cramfs Little) (5 ∷ [])
+hard_link = decides (cramfs Little) (5 ∷ [])
     (manifest_of (lines (codes "file /a 0644 0 0 4 s" ∷ codes "hard /b /a" ∷ []))) (Some (fault HARD_LINK 2)) refl
 
-hard_link_in_romfs : Tells romfs (5 ∷ [])
+hard_link_in_romfs : Decides romfs (5 ∷ [])
     (manifest_of (lines (codes "file /a 0644 0 0 4 s" ∷ codes "hard /b /a" ∷ []))) None
 unfolding lines manifest_of read numbers_of fault_of octal decimal names_of is_bad_name percent_decode tree_of root_of
     file_at inode_of place_of data_align device_of code_of size_of kept data_of
 hard_link_in_romfs =
-    tells romfs (5 ∷ []) (manifest_of (lines (codes "file /a 0644 0 0 4 s" ∷ codes "hard /b /a" ∷ []))) None refl
+    decides romfs (5 ∷ []) (manifest_of (lines (codes "file /a 0644 0 0 4 s" ∷ codes "hard /b /a" ∷ []))) None refl
 
 -- a hard link has no attributes of its own: only the file is refused
-attribute_of_link : Tells romfs (5 ∷ []) (manifest_of (lines (codes "file /a 0600 0 0 4 s" ∷ codes "hard /b /a" ∷ [])))
+attribute_of_link : Decides romfs (5 ∷ []) (manifest_of
+    (lines (codes "file /a 0600 0 0 4 s" ∷ codes "hard /b /a" ∷ [])))
     (Some (fault ATTRIBUTE 1))
 unfolding lines manifest_of read numbers_of fault_of octal decimal names_of is_bad_name percent_decode tree_of root_of
     file_at inode_of place_of data_align device_of code_of size_of kept data_of
-attribute_of_link = tells romfs (5 ∷ []) (manifest_of (lines (codes "file /a 0600 0 0 4 s" ∷ codes "hard /b /a" ∷ [])))
+attribute_of_link = decides romfs (5 ∷ []) (manifest_of
+    (lines (codes "file /a 0600 0 0 4 s" ∷ codes "hard /b /a" ∷ [])))
     (Some (fault ATTRIBUTE 1)) refl
 
 -- of two misfits in one line the lesser number counts, and of two lines the first
-least_number : Tells romfs (268435457 ∷ []) (manifest_of (lines (codes "file /a 0600 0 0 4 s" ∷ [])))
+least_number : Decides romfs (268435457 ∷ []) (manifest_of (lines (codes "file /a 0600 0 0 4 s" ∷ [])))
     (Some (fault ATTRIBUTE 1))
 unfolding lines manifest_of read numbers_of fault_of octal decimal names_of is_bad_name percent_decode tree_of root_of
     file_at inode_of place_of data_align device_of code_of size_of kept data_of
-least_number = tells romfs (268435457 ∷ []) (manifest_of (lines (codes "file /a 0600 0 0 4 s" ∷ [])))
+least_number = decides romfs (268435457 ∷ []) (manifest_of (lines (codes "file /a 0600 0 0 4 s" ∷ [])))
     (Some (fault ATTRIBUTE 1)) refl
 
-first_line : Tells romfs (268435457 ∷ [])
+first_line : Decides romfs (268435457 ∷ [])
     (manifest_of (lines (codes "file /a 0644 0 0 4 s" ∷ codes "dir /d 0700 0 0" ∷ []))) (Some (fault TOO_LARGE 1))
 unfolding lines manifest_of read numbers_of fault_of octal decimal names_of is_bad_name percent_decode tree_of root_of
     file_at inode_of place_of data_align device_of code_of size_of kept data_of
-first_line = tells romfs (268435457 ∷ [])
+first_line = decides romfs (268435457 ∷ [])
     (manifest_of (lines (codes "file /a 0644 0 0 4 s" ∷ codes "dir /d 0700 0 0" ∷ []))) (Some (fault TOO_LARGE 1)) refl
 
 -- a line comes before the whole
-line_before_whole : Tells romfs (268435456 ∷ [])
+line_before_whole : Decides romfs (268435456 ∷ [])
     (manifest_of (lines (codes "file /a 0644 0 0 4 s" ∷ codes "dir /d 0700 0 0" ∷ []))) (Some (fault ATTRIBUTE 2))
 unfolding lines manifest_of read numbers_of fault_of octal decimal names_of is_bad_name percent_decode tree_of root_of
     file_at inode_of place_of data_align device_of code_of size_of kept data_of
-line_before_whole = tells romfs (268435456 ∷ [])
+line_before_whole = decides romfs (268435456 ∷ [])
     (manifest_of (lines (codes "file /a 0644 0 0 4 s" ∷ codes "dir /d 0700 0 0" ∷ []))) (Some (fault ATTRIBUTE 2)) refl
 
-line_before_volume : Tells (cramfs Little) []
+line_before_volume : Decides (cramfs Little) []
     (manifest_of (lines (codes "dir /d 0755 65536 0" ∷ codes "volume seventeen_letters" ∷ [])))
     (Some (fault ATTRIBUTE 1))
 unfolding lines manifest_of read numbers_of fault_of octal decimal names_of is_bad_name percent_decode tree_of root_of
     file_at inode_of place_of data_align device_of code_of size_of kept data_of
-line_before_volume = tells (cramfs Little) []
+line_before_volume = decides (cramfs Little) []
     (manifest_of (lines (codes "dir /d 0755 65536 0" ∷ codes "volume seventeen_letters" ∷ [])))
     (Some (fault ATTRIBUTE 1)) refl
 
@@ -255,17 +261,17 @@ dirs deep zero = []
 dirs deep (suc n) = (codes "dir " ++ (path_of_ds deep ++ codes " 0755 0 0")) ∷ dirs (suc deep) n
 
 -- 64 directories in one another fit, and 65 are too deep as a whole
-deepest : Tells romfs [] (manifest_of (lines (dirs 1 64))) None
+deepest : Decides romfs [] (manifest_of (lines (dirs 1 64))) None
 unfolding lines dirs path_of_ds manifest_of read numbers_of fault_of octal decimal names_of is_bad_name percent_decode
     tree_of root_of file_at inode_of place_of data_align device_of code_of size_of kept data_of
-deepest = tells romfs [] (manifest_of (lines (dirs 1 64))) None refl
+deepest = decides romfs [] (manifest_of (lines (dirs 1 64))) None refl
 
-too_deep : Tells romfs [] (manifest_of (lines (dirs 1 65))) (Some (fault TOO_LARGE 0))
+too_deep : Decides romfs [] (manifest_of (lines (dirs 1 65))) (Some (fault TOO_LARGE 0))
 unfolding lines dirs path_of_ds manifest_of read numbers_of fault_of octal decimal names_of is_bad_name percent_decode
     tree_of root_of file_at inode_of place_of data_align device_of code_of size_of kept data_of
-too_deep = tells romfs [] (manifest_of (lines (dirs 1 65))) (Some (fault TOO_LARGE 0)) refl
+too_deep = decides romfs [] (manifest_of (lines (dirs 1 65))) (Some (fault TOO_LARGE 0)) refl
 
-too_deep_in_cramfs : Tells (cramfs Little) [] (manifest_of (lines (dirs 1 65))) (Some (fault TOO_LARGE 0))
+too_deep_in_cramfs : Decides (cramfs Little) [] (manifest_of (lines (dirs 1 65))) (Some (fault TOO_LARGE 0))
 unfolding lines dirs path_of_ds manifest_of read numbers_of fault_of octal decimal names_of is_bad_name percent_decode
     tree_of root_of file_at inode_of place_of data_align device_of code_of size_of kept data_of
-too_deep_in_cramfs = tells (cramfs Little) [] (manifest_of (lines (dirs 1 65))) (Some (fault TOO_LARGE 0)) refl
+too_deep_in_cramfs = decides (cramfs Little) [] (manifest_of (lines (dirs 1 65))) (Some (fault TOO_LARGE 0)) refl

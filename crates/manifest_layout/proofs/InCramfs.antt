@@ -13,7 +13,7 @@ use Rattle.manifest_tree.specs.Names.{no_bytes, text, source, Inode, Names, byte
 use Rattle.manifest_tree.specs.Tree.{plain, with_contents, inode_by, inode_of, sources_before, bare_root}
 use Rattle.cramfs_format.specs.declared.order.Order.{Order}
 use Rattle.cramfs_layout.specs.Layout.{list_len}
-use Rattle.cramfs_layout.specs.Wells.{FitsKind, IsFile, IsFolder}
+use Rattle.cramfs_layout.specs.Wells.{FitsKind, IsFile, IsDirectory}
 use Rattle.manifest_layout.specs.Format.{cramfs}
 use Rattle.manifest_layout.specs.Misfit.{HasBadAttribute}
 use Rattle.manifest_layout.proofs.Written.{IsLine, is_device, is_slink}
@@ -103,10 +103,10 @@ module _ (o : Order) where
   unfolding inode_of
   file_made cs all l h d a i f b t = made_by cs all l l.word refl h d a i f b t
 
-  folder_by : (all : List Line) (sizes : List ℕ) (l : Line) (own : Names) (w : Word) → l.word ≡ w → is_dir w ≡ true
+  directory_by : (all : List Line) (sizes : List ℕ) (l : Line) (own : Names) (w : Word) → l.word ≡ w → is_dir w ≡ true
       → IsLine l → (HasBadAttribute (cramfs o) (inode_by all sizes w l) → ⊥) → list_len own < 2 ^ 24
-      → IsFolder (inode_by all sizes w l) own
-  folder_by all sizes l own Dir e d i b t =
+      → IsDirectory (inode_by all sizes w l) own
+  directory_by all sizes l own Dir e d i b t =
       let n = plain l kind.Directory 4 0 no_bytes in
       let s = sayable o n b in
       record {
@@ -117,22 +117,22 @@ module _ (o : Order) where
         bytes = refl;
         small = t;
       }
-  folder_by all sizes l own File e d i b t = absurd (cc)
-  folder_by all sizes l own Slink e d i b t = absurd (cc)
-  folder_by all sizes l own Block e d i b t = absurd (cc)
-  folder_by all sizes l own Character e d i b t = absurd (cc)
-  folder_by all sizes l own Fifo e d i b t = absurd (cc)
-  folder_by all sizes l own Socket e d i b t = absurd (cc)
-  folder_by all sizes l own Hard e d i b t = absurd (cc)
-  folder_by all sizes l own Same e d i b t = absurd (cc)
+  directory_by all sizes l own File e d i b t = absurd (cc)
+  directory_by all sizes l own Slink e d i b t = absurd (cc)
+  directory_by all sizes l own Block e d i b t = absurd (cc)
+  directory_by all sizes l own Character e d i b t = absurd (cc)
+  directory_by all sizes l own Fifo e d i b t = absurd (cc)
+  directory_by all sizes l own Socket e d i b t = absurd (cc)
+  directory_by all sizes l own Hard e d i b t = absurd (cc)
+  directory_by all sizes l own Same e d i b t = absurd (cc)
 
-  pub folder_made : (all : List Line) (sizes : List ℕ) (l : Line) (own : Names) → is_dir l.word ≡ true → IsLine l
+  pub directory_made : (all : List Line) (sizes : List ℕ) (l : Line) (own : Names) → is_dir l.word ≡ true → IsLine l
       → (HasBadAttribute (cramfs o) (inode_of all sizes l) → ⊥) → list_len own < 2 ^ 24
-      → IsFolder (inode_of all sizes l) own
+      → IsDirectory (inode_of all sizes l) own
   unfolding inode_of
-  folder_made all sizes l own d i b t = folder_by all sizes l own l.word refl d i b t
+  directory_made all sizes l own d i b t = directory_by all sizes l own l.word refl d i b t
 
-pub bare_made : (own : Names) → list_len own < 2 ^ 24 → IsFolder bare_root own
+pub bare_made : (own : Names) → list_len own < 2 ^ 24 → IsDirectory bare_root own
 bare_made own t = record {
   kind = refl;
   mode = omega arith;

@@ -13,7 +13,7 @@ use Rattle.manifest_tree.specs.Names.{no_bytes, text, source, Inode, bytes_of}
 use Rattle.manifest_tree.specs.Tree.{plain, with_contents, inode_by, inode_of, sources_before, bare_root}
 use Rattle.romfs_layout.specs.Layout.{data_align, number_of, runnable}
 use Rattle.romfs_format.specs.Tree.{mode_named}
-use Rattle.romfs_layout.specs.Wells.{HasMode, FitsKind, IsFile, IsFolder}
+use Rattle.romfs_layout.specs.Wells.{HasMode, FitsKind, IsFile, IsDirectory}
 use Rattle.manifest_layout.specs.Format.{romfs}
 use Rattle.manifest_layout.specs.Misfit.{HasBadAttribute}
 use Rattle.manifest_layout.proofs.Written.{IsLine, is_device, is_slink}
@@ -108,25 +108,25 @@ pub file_made : (cs : List (List ℕ)) (all : List Line) (l : Line) → is_hard 
 unfolding inode_of
 file_made cs all l h d a i f b = made_by cs all l l.word refl h d a i f b
 
-folder_by : (all : List Line) (sizes : List ℕ) (l : Line) (w : Word) → l.word ≡ w → is_dir w ≡ true → IsLine l
-    → (HasBadAttribute romfs (inode_by all sizes w l) → ⊥) → IsFolder (inode_by all sizes w l)
-folder_by all sizes l Dir e d i b =
+directory_by : (all : List Line) (sizes : List ℕ) (l : Line) (w : Word) → l.word ≡ w → is_dir w ≡ true → IsLine l
+    → (HasBadAttribute romfs (inode_by all sizes w l) → ⊥) → IsDirectory (inode_by all sizes w l)
+directory_by all sizes l Dir e d i b =
     let n = plain l kind.Directory 4 0 no_bytes in
     let s = sayable n b in
     record { kind = refl; mode = s.mode; owner = s.owner; numbers = i.numbers (ap is_device e); bytes = refl }
-folder_by all sizes l File e d i b = absurd (cc)
-folder_by all sizes l Slink e d i b = absurd (cc)
-folder_by all sizes l Block e d i b = absurd (cc)
-folder_by all sizes l Character e d i b = absurd (cc)
-folder_by all sizes l Fifo e d i b = absurd (cc)
-folder_by all sizes l Socket e d i b = absurd (cc)
-folder_by all sizes l Hard e d i b = absurd (cc)
-folder_by all sizes l Same e d i b = absurd (cc)
+directory_by all sizes l File e d i b = absurd (cc)
+directory_by all sizes l Slink e d i b = absurd (cc)
+directory_by all sizes l Block e d i b = absurd (cc)
+directory_by all sizes l Character e d i b = absurd (cc)
+directory_by all sizes l Fifo e d i b = absurd (cc)
+directory_by all sizes l Socket e d i b = absurd (cc)
+directory_by all sizes l Hard e d i b = absurd (cc)
+directory_by all sizes l Same e d i b = absurd (cc)
 
-pub folder_made : (all : List Line) (sizes : List ℕ) (l : Line) → is_dir l.word ≡ true → IsLine l
-    → (HasBadAttribute romfs (inode_of all sizes l) → ⊥) → IsFolder (inode_of all sizes l)
+pub directory_made : (all : List Line) (sizes : List ℕ) (l : Line) → is_dir l.word ≡ true → IsLine l
+    → (HasBadAttribute romfs (inode_of all sizes l) → ⊥) → IsDirectory (inode_of all sizes l)
 unfolding inode_of
-folder_made all sizes l d i b = folder_by all sizes l l.word refl d i b
+directory_made all sizes l d i b = directory_by all sizes l l.word refl d i b
 
-pub bare_made : IsFolder bare_root
+pub bare_made : IsDirectory bare_root
 bare_made = record { kind = refl; mode = refl; owner = (refl, refl); numbers = (refl, refl); bytes = refl }

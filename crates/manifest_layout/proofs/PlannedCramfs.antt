@@ -9,8 +9,8 @@ use Rattle.manifest.specs.declared.line.Word.TheVariants.{Dir, File, Slink, Bloc
 use Rattle.manifest.specs.Paths.{names_of}
 use Rattle.manifest.specs.Grammar.{IsManifest}
 use Rattle.manifest.specs.Lines.{ManifestLines, is_dir, is_hard}
-use Rattle.manifest_tree.specs.Names.{Names, nothing, leaf, link, folder}
-use Rattle.manifest_tree.specs.Tree.{What, a_leaf, a_link, a_folder, what_by, inode_of, grown, tree_of, root_of}
+use Rattle.manifest_tree.specs.Names.{Names, nothing, leaf, link, subdirectory}
+use Rattle.manifest_tree.specs.Tree.{What, a_leaf, a_link, a_directory, what_by, inode_of, grown, tree_of, root_of}
 use Rattle.manifest_tree.proofs.Law.{grown_by}
 use Rattle.layout_terms.specs.Files.{files, height}
 use Rattle.cramfs_format.proofs.Orders.{never_self}
@@ -28,18 +28,18 @@ use Rattle.cramfs_format.specs.declared.order.Order.{Order}
 use Rattle.cramfs_layout.specs.Layout.{list_len, count, size_of, State, entry_len, pad4, after_file, after_list}
 use Rattle.cramfs_layout.specs.Layout.{after_names, first_state}
 use Rattle.cramfs_layout.specs.Items as items
-use Rattle.cramfs_layout.specs.Wells.{IsName, IsFile, IsFolder, AreWell}
+use Rattle.cramfs_layout.specs.Wells.{IsName, IsFile, IsDirectory, AreWell}
 use Rattle.cramfs_layout.specs.Planned.{IsPlanned}
 use Rattle.manifest_layout.specs.Misfit.{large, long_name, hard_link, of_volume, long_list, HasLongList, name_len}
 use Rattle.manifest_layout.proofs.Plain.{last_length}
 use Rattle.manifest_layout.proofs.Aligned.{under_by}
-use Rattle.manifest_layout.proofs.InCramfs.{file_made, folder_made, bare_made}
+use Rattle.manifest_layout.proofs.InCramfs.{file_made, directory_made, bare_made}
 
 -- what a name is to have; a further name of a file is none
 abbrev IsFit : List (List ℕ) → What → Type 0
 IsFit cs (a_leaf i) = IsFile cs i
 IsFit cs (a_link i) = ⊥
-IsFit cs (a_folder i) = (own : Names) → list_len own < 2 ^ 24 → IsFolder i own
+IsFit cs (a_directory i) = (own : Names) → list_len own < 2 ^ 24 → IsDirectory i own
 
 abbrev IsFine : List (List ℕ) → List ℕ → What → Type 0
 IsFine cs name w = IsPlain name × (length name ≤ 252) × IsFit cs w
@@ -54,7 +54,7 @@ well : (cs : List (List ℕ)) (n : Names) → AreSorted n → (HasLongList n →
 well cs nothing s t h = tt
 well cs (leaf name i after) s t h = (is_name name after h.0.0 h.0.1 s.0, h.0.2, well cs after s.1 t h.1)
 well cs (link name i after) s t h = absurd h.0.2
-well cs (folder name i own after) s t h = (
+well cs (subdirectory name i own after) s t h = (
   is_name name after h.0.0 h.0.1 s.0,
   h.0.2 own (under_by (2 ^ 24) (list_len own) (λ l. t (inl l))),
   well cs own s.1 (λ l. t (inr (inl l))) h.1,
@@ -69,7 +69,7 @@ items_count o l s (leaf name i rest) =
     let h = items_count o (l + entry_len name) (after_file s i) rest in omega (arith, h)
 items_count o l s (link name i rest) =
     let h = items_count o (l + entry_len name) (after_file s i) rest in omega (arith, h)
-items_count o l s (folder name i own rest) =
+items_count o l s (subdirectory name i own rest) =
     let s1 = after_list s own in
     let s2 = after_names s1 own in
     let h = items_count o (pad4 s.at) s1 own in
@@ -90,9 +90,10 @@ module _ (o : Order) (m : ManifestLines) (cs : List (List ℕ)) (latest : List L
       (has_of IsFaultless latest l here w.faultless)
       (λ b. fits l here 1 (attribute refl h b)) (λ t. fits l here 2 (large refl t))
 
-  own_folder : (l : Line) → Has (λ x. x ≡ l) latest → is_dir l.word ≡ true → is_hard l.word ≡ false → (own : Names)
-      → list_len own < 2 ^ 24 → IsFolder (inode_of m.lines (map length cs) l) own
-  own_folder l here d h own t = folder_made o m.lines (map length cs) l own d (has_of IsLine latest l here w.lines)
+  own_directory : (l : Line) → Has (λ x. x ≡ l) latest → is_dir l.word ≡ true → is_hard l.word ≡ false → (own : Names)
+      → list_len own < 2 ^ 24 → IsDirectory (inode_of m.lines (map length cs) l) own
+  own_directory l here d h own t = directory_made o m.lines (map length cs) l own d
+      (has_of IsLine latest l here w.lines)
       (λ b. fits l here 1 (attribute refl h b)) t
 
   fit_leaf : (l : Line) → Has (λ x. x ≡ l) latest → (f : HasFile m.lines (map length cs) latest l)
@@ -101,8 +102,8 @@ module _ (o : Order) (m : ManifestLines) (cs : List (List ℕ)) (latest : List L
 
   fit : (l : Line) → Has (λ x. x ≡ l) latest → (f : HasFile m.lines (map length cs) latest l) (v : Word) → l.word ≡ v
       → IsFit cs (what_by v f.inode)
-  fit l here f Dir e = λ own t. subst (λ i. IsFolder i own) (sym (f.own (ap is_hard e)))
-      (own_folder l here (ap is_dir e) (ap is_hard e) own t)
+  fit l here f Dir e = λ own t. subst (λ i. IsDirectory i own) (sym (f.own (ap is_hard e)))
+      (own_directory l here (ap is_dir e) (ap is_hard e) own t)
   fit l here f File e = fit_leaf l here f (ap is_hard e) (ap is_dir e)
   fit l here f Slink e = fit_leaf l here f (ap is_hard e) (ap is_dir e)
   fit l here f Block e = fit_leaf l here f (ap is_hard e) (ap is_dir e)
@@ -126,11 +127,11 @@ module _ (o : Order) (m : ManifestLines) (cs : List (List ℕ)) (latest : List L
       (every_of (Gives (IsFine cs) m.lines (map length cs) latest) latest
       (λ l here f n ns e. (last_plain l.path n ns e, short_name l here n ns e, fit l here f l.word refl)))
 
-  folder_is : (own : Names) → list_len own < 2 ^ 24 → RootIs m (map length cs) latest
-      → IsFolder (root_of m.lines (map length cs)) own
-  folder_is own t (bare e) = subst (λ i. IsFolder i own) (sym e) (bare_made own t)
-  folder_is own t (by_line k e here d names) =
-      subst (λ i. IsFolder i own) (sym e) (own_folder k here d (dir_not_hard k.word d) own t)
+  directory_is : (own : Names) → list_len own < 2 ^ 24 → RootIs m (map length cs) latest
+      → IsDirectory (root_of m.lines (map length cs)) own
+  directory_is own t (bare e) = subst (λ i. IsDirectory i own) (sym e) (bare_made own t)
+  directory_is own t (by_line k e here d names) =
+      subst (λ i. IsDirectory i own) (sym e) (own_directory k here d (dir_not_hard k.word d) own t)
 
   tree_is : grown_by m.lines (map length cs) latest ≡ tree_of m.lines (map length cs)
   unfolding tree_of
@@ -155,7 +156,8 @@ planned o m cs h none =
     record {
       short = below_by 16 (length m.volume)
           (λ l. none.lines (record { number = 3; at = m.volume_line }) (of_volume l refl));
-      folder = folder_is o m cs latest w n (under_by (2 ^ 24) (list_len n) (λ l. none.whole (long_list (inl l)))) r;
+      subdirectory = directory_is o m cs latest w n
+          (under_by (2 ^ 24) (list_len n) (λ l. none.whole (long_list (inl l)))) r;
       well = well cs n g.sorted (λ l. none.whole (long_list (inr l))) g.hold;
       lines = (root_apart m sizes latest (files n) r w.numbered w.apart g.owned, g.apart);
       room = below_by (2 ^ 28) (size_of n) (λ l. none.whole (long l));

@@ -11,16 +11,16 @@ use Rattle.manifest.specs.declared.line.Word.{Word}
 use Rattle.manifest.specs.declared.line.Word.TheVariants.{Dir, File, Slink, Block, Character, Fifo, Socket, Hard, Same}
 use Rattle.manifest.specs.Grammar.{IsManifest}
 use Rattle.manifest.specs.Lines.{ManifestLines, is_dir, is_hard}
-use Rattle.manifest_tree.specs.Names.{Inode, Names, nothing, leaf, link, folder}
-use Rattle.manifest_tree.specs.Tree.{What, a_leaf, a_link, a_folder, what_by, inode_of, grown, tree_of, root_of}
+use Rattle.manifest_tree.specs.Names.{Inode, Names, nothing, leaf, link, subdirectory}
+use Rattle.manifest_tree.specs.Tree.{What, a_leaf, a_link, a_directory, what_by, inode_of, grown, tree_of, root_of}
 use Rattle.manifest_tree.proofs.Law.{grown_by}
-use Rattle.image_parts.specs.Padding.{pad}
-use Rattle.image_parts.proofs.Padding.{pad-after}
+use Rattle.rom_fields.specs.Padding.{pad}
+use Rattle.rom_fields.proofs.Padding.{pad-after}
 use Rattle.layout_terms.specs.Files.{files, height}
 use Rattle.cramfs_format.proofs.Orders.{never_self}
 use Rattle.romfs_layout.specs.Layout.{root_at, full_size_of, all_headers}
 use Rattle.romfs_layout.specs.Items.{item_of}
-use Rattle.romfs_layout.specs.Wells.{IsFile, IsFolder, AreWell, AreLinks, file_of}
+use Rattle.romfs_layout.specs.Wells.{IsFile, IsDirectory, AreWell, AreLinks, file_of}
 use Rattle.romfs_layout.specs.Planned.{IsPlanned}
 use Rattle.manifest_layout.proofs.Bools.{dir_not_hard}
 use Rattle.manifest_layout.specs.Format.{romfs}
@@ -32,7 +32,7 @@ use Rattle.manifest_layout.proofs.Written.{IsLine}
 use Rattle.manifest_layout.proofs.Plain.{IsPlain, last_plain, good_text}
 use Rattle.manifest_layout.proofs.Aligned.{below_by}
 use Rattle.manifest_layout.proofs.Known.{Fits, IsKnown, known, named_file, RootIs, bare, by_line, root_is, root_apart}
-use Rattle.manifest_layout.proofs.InRomfs.{file_made, folder_made, bare_made}
+use Rattle.manifest_layout.proofs.InRomfs.{file_made, directory_made, bare_made}
 
 -- a further name is of the file of a line that is not about the root
 abbrev IsTarget : List Line → List ℕ → List Line → Inode → Type 0
@@ -42,7 +42,7 @@ IsTarget all sizes latest i =
 abbrev IsFit : List (List ℕ) → List Line → List Line → What → Type 0
 IsFit cs all latest (a_leaf i) = IsFile cs i
 IsFit cs all latest (a_link i) = IsFile cs i × IsTarget all (map length cs) latest i
-IsFit cs all latest (a_folder i) = IsFolder i
+IsFit cs all latest (a_directory i) = IsDirectory i
 
 abbrev IsFine : List (List ℕ) → List Line → List Line → List ℕ → What → Type 0
 IsFine cs all latest name w = IsPlain name × IsFit cs all latest w
@@ -61,7 +61,7 @@ well cs all latest (link name i after) s h = (
   h.0.1.0,
   well cs all latest after s.1 h.1,
 )
-well cs all latest (folder name i own after) s h = (
+well cs all latest (subdirectory name i own after) s h = (
   record { written = h.0.0.name; no_dots = h.0.0.no_dots; alone = λ k. never_self name (s.0 name k) },
   h.0.1,
   well cs all latest own s.1 h.1,
@@ -89,7 +89,7 @@ links cs all latest is (link name i after) p t h =
       file_found is i p (subst (λ j. Has (λ (i : Inode). i ≡ j) is) (sym k.1) there),
       links cs all latest is after p t h.1,
     )
-links cs all latest is (folder name i own after) p t h =
+links cs all latest is (subdirectory name i own after) p t h =
     (links cs all latest is own p t h.1, links cs all latest is after p t h.2)
 
 -- no bad attribute, if nothing misfits
@@ -106,10 +106,10 @@ module _ (m : ManifestLines) (cs : List (List ℕ)) (latest : List Line)
       (has_of IsFaultless latest l here w.faultless)
       (sayable m (map length cs) l (has_of (Fits romfs m (map length cs)) latest l here w.fit) h)
 
-  own_folder : (l : Line) → Has (λ x. x ≡ l) latest → is_dir l.word ≡ true → is_hard l.word ≡ false
-      → IsFolder (inode_of m.lines (map length cs) l)
-  own_folder l here d h =
-      folder_made m.lines (map length cs) l d (has_of IsLine latest l here w.lines)
+  own_directory : (l : Line) → Has (λ x. x ≡ l) latest → is_dir l.word ≡ true → is_hard l.word ≡ false
+      → IsDirectory (inode_of m.lines (map length cs) l)
+  own_directory l here d h =
+      directory_made m.lines (map length cs) l d (has_of IsLine latest l here w.lines)
       (sayable m (map length cs) l (has_of (Fits romfs m (map length cs)) latest l here w.fit) h)
 
   fit_leaf : (l : Line) → Has (λ x. x ≡ l) latest → (f : HasFile m.lines (map length cs) latest l)
@@ -126,7 +126,8 @@ module _ (m : ManifestLines) (cs : List (List ℕ)) (latest : List Line)
 
   fit : (l : Line) → Has (λ x. x ≡ l) latest → (f : HasFile m.lines (map length cs) latest l) (v : Word) → l.word ≡ v
       → IsFit cs m.lines latest (what_by v f.inode)
-  fit l here f Dir e = subst IsFolder (sym (f.own (ap is_hard e))) (own_folder l here (ap is_dir e) (ap is_hard e))
+  fit l here f Dir e = subst IsDirectory (sym (f.own (ap is_hard e)))
+      (own_directory l here (ap is_dir e) (ap is_hard e))
   fit l here f File e = fit_leaf l here f (ap is_hard e) (ap is_dir e)
   fit l here f Slink e = fit_leaf l here f (ap is_hard e) (ap is_dir e)
   fit l here f Block e = fit_leaf l here f (ap is_hard e) (ap is_dir e)
@@ -144,9 +145,9 @@ module _ (m : ManifestLines) (cs : List (List ℕ)) (latest : List Line)
       (every_of (Gives (IsFine cs m.lines latest) m.lines (map length cs) latest) latest
       (λ l here f n ns e. (last_plain l.path n ns e, fit l here f l.word refl)))
 
-  folder_is : RootIs m (map length cs) latest → IsFolder (root_of m.lines (map length cs))
-  folder_is (bare e) = subst IsFolder (sym e) bare_made
-  folder_is (by_line k e here d names) = subst IsFolder (sym e) (own_folder k here d (dir_not_hard k.word d))
+  directory_is : RootIs m (map length cs) latest → IsDirectory (root_of m.lines (map length cs))
+  directory_is (bare e) = subst IsDirectory (sym e) bare_made
+  directory_is (by_line k e here d names) = subst IsDirectory (sym e) (own_directory k here d (dir_not_hard k.word d))
 
   tree_is : grown_by m.lines (map length cs) latest ≡ tree_of m.lines (map length cs)
   unfolding tree_of
@@ -174,7 +175,7 @@ planned m cs h none =
     record {
       short = omega arith;
       no_zero = v.1;
-      folder = folder_is m cs latest w r;
+      subdirectory = directory_is m cs latest w r;
       well = well cs m.lines latest n g.sorted g.hold;
       lines = (root_apart m sizes latest (files n) r w.numbered w.apart g.owned, g.apart);
       links = links cs m.lines latest (files n) n g.apart g.there g.hold;

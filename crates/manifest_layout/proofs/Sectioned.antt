@@ -4,7 +4,7 @@ use Rattle.std.proofs.lemmas.List.{length-replicate}
 use Rattle.manifest.specs.Grammar.{IsManifest}
 use Rattle.manifest.specs.Lines.{ManifestLines}
 use Rattle.manifest_tree.specs.Tree.{tree_of, root_of}
-use Rattle.image_parts.proofs.Padding.{pad-after}
+use Rattle.rom_fields.proofs.Padding.{pad-after}
 use Rattle.layout_terms.specs.Items.{SectionsRise}
 use Rattle.layout_terms.proofs.Sections.{rise_wider}
 use Rattle.romfs_layout.specs.Layout.{root_at, full_size_of}

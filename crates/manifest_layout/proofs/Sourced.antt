@@ -13,8 +13,9 @@ use Rattle.manifest.specs.declared.line.Word.{Word}
 use Rattle.manifest.specs.declared.line.Word.TheVariants.{Dir, File, Slink, Block, Character, Fifo, Socket, Hard, Same}
 use Rattle.manifest.specs.Lines.{ManifestLines, is_file, is_hard, filed}
 use Rattle.manifest.specs.Grammar.{IsManifest}
-use Rattle.manifest_tree.specs.Names.{source, Inode, Names, nothing, leaf, link, folder}
-use Rattle.manifest_tree.specs.Tree.{What, a_leaf, a_link, a_folder, what_by, sources_before, with_contents, inode_by}
+use Rattle.manifest_tree.specs.Names.{source, Inode, Names, nothing, leaf, link, subdirectory}
+use Rattle.manifest_tree.specs.Tree.{What, a_leaf, a_link, a_directory, what_by, sources_before, with_contents}
+use Rattle.manifest_tree.specs.Tree.{inode_by}
 use Rattle.manifest_tree.specs.Tree.{inode_of, grown, tree_of}
 use Rattle.manifest_tree.proofs.Law.{grown_by}
 use Rattle.cramfs_layout.specs.Items.{AreAlignedBy}
@@ -127,13 +128,13 @@ align_is all x p h f =
 abbrev IsSourced : List Line → List ℕ → What → Type 0
 IsSourced all name (a_leaf i) = (k : ℕ) → i.fill ≡ source k → i.align ≡ align_of all k
 IsSourced all name (a_link i) = Unit {0}
-IsSourced all name (a_folder i) = Unit {0}
+IsSourced all name (a_directory i) = Unit {0}
 
 aligned_by : (all : List Line) (n : Names) → HoldAll (IsSourced all) n → AreAlignedBy (align_of all) n
 aligned_by all nothing h = tt
 aligned_by all (leaf name i after) h = (h.0, aligned_by all after h.1)
 aligned_by all (link name i after) h = aligned_by all after h.1
-aligned_by all (folder name i own after) h = (aligned_by all own h.1, aligned_by all after h.2)
+aligned_by all (subdirectory name i own after) h = (aligned_by all own h.1, aligned_by all after h.2)
 
 same_source : {j k : ℕ} → source j ≡ source k → j ≡ k
 same_source e = cc

@@ -5,7 +5,7 @@ use Rattle.std.specs.Prelude.{◌^◌, map, ℕ, List, length}
 use Rattle.cramfs_format.specs.declared.order.Order.{Order}
 use Rattle.manifest.specs.Lines.{ManifestLines}
 use Rattle.manifest_tree.specs.Tree.{tree_of, root_of}
-use Rattle.image_parts.specs.Padding.{pad}
+use Rattle.rom_fields.specs.Padding.{pad}
 use Rattle.layout_terms.specs.Items.{Item, Section}
 use Rattle.romfs_layout.specs.Layout as of_romfs
 use Rattle.romfs_layout.specs.Items as romfs_items

@@ -11,7 +11,7 @@ use Rattle.record_forest.specs.Members.{Has}
 use Rattle.manifest.specs.declared.line.Line.{Line}
 use Rattle.manifest.specs.Lines.{ManifestLines, is_hard}
 use Rattle.manifest.specs.Paths.{names_of}
-use Rattle.manifest_tree.specs.Names.{Inode, Names, nothing, leaf, link, folder}
+use Rattle.manifest_tree.specs.Names.{Inode, Names, nothing, leaf, link, subdirectory}
 use Rattle.manifest_tree.specs.Tree.{inode_of, tree_of}
 use Rattle.layout_terms.specs.Files.{height}
 use Rattle.romfs_layout.specs.Wells.{HasMode}
@@ -93,7 +93,7 @@ abbrev pub HasLongList : Names → Type 0
 HasLongList nothing = ⊥
 HasLongList (leaf name i after) = HasLongList after
 HasLongList (link name i after) = HasLongList after
-HasLongList (folder name i own after) =
+HasLongList (subdirectory name i own after) =
     (2 ^ 24 ≤ list_len own) ⊎ (HasLongList own ⊎ HasLongList after)
 
 abbrev pub HasLongLists : Format → Names → Type 0

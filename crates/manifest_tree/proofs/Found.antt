@@ -5,12 +5,12 @@ use Rattle.std.specs.Cmp.Lexicographic.{bytes_decides, nat_list_eq_equiv}
 use Rattle.std.specs.Option.{option_map, option_and_then}
 use Rattle.std.specs.Str.{bytes_eq}
 use Rattle.manifest.specs.Paths.{but_last}
-use Rattle.manifest_tree.specs.Names.{Inode, Names, nothing, leaf, link, folder}
+use Rattle.manifest_tree.specs.Names.{Inode, Names, nothing, leaf, link, subdirectory}
 use Rattle.manifest_tree.specs.Shape.{find_name, file_under}
-use Rattle.manifest_tree.specs.Tree.{What, a_leaf, a_link, a_folder, named, put, put_at, is_before, names_eq}
+use Rattle.manifest_tree.specs.Tree.{What, a_leaf, a_link, a_directory, named, put, put_at, is_before, names_eq}
 
 pub record Found : Type 0 where
-  pub is_folder : Bool
+  pub is_directory : Bool
   pub inode : Inode
 
 -- at the last name, or below it
@@ -19,14 +19,14 @@ last_or [] here below = here
 last_or (m ∷ ms) here below = below
 
 abbrev pub a_file : Bool → Inode → Option Found
-a_file b i = Some (record { is_folder = b; inode = i })
+a_file b i = Some (record { is_directory = b; inode = i })
 
 abbrev pub found : List (List ℕ) → Names → Option Found
 found [] n = None
 found (m ∷ ms) nothing = None
 found (m ∷ ms) (leaf name i after) = if bytes_eq name m then last_or ms (a_file false i) None else found (m ∷ ms) after
 found (m ∷ ms) (link name i after) = if bytes_eq name m then last_or ms (a_file false i) None else found (m ∷ ms) after
-found (m ∷ ms) (folder name i own after) =
+found (m ∷ ms) (subdirectory name i own after) =
     if bytes_eq name m then last_or ms (a_file true i) (found ms own) else found (m ∷ ms) after
 
 pub file_of : (r : Inode) (m : List ℕ) (ms : List (List ℕ)) (n : Names)
@@ -56,14 +56,14 @@ file_of r m ms (link name i after) =
         ≡ option_map (λ f. f.inode) (last_or ks (a_file false i) None)
     alone [] = refl
     alone (k ∷ ks) = refl
-file_of r m [] (folder name i own after) =
+file_of r m [] (subdirectory name i own after) =
     elim (bytes_eq name m) as (λ t. option_and_then (λ y. file_under [] y)
     (cond t (Some (record { inode = i; own = own })) (find_name after m))
     ≡ option_map (λ f. f.inode) (cond t (a_file true i) (found (m ∷ []) after))) [
       | true ↦ refl
       | false ↦ file_of r m [] after
     ]
-file_of r m (k ∷ ks) (folder name i own after) =
+file_of r m (k ∷ ks) (subdirectory name i own after) =
     elim (bytes_eq name m) as (λ t. option_and_then (λ y. file_under (k ∷ ks) y)
     (cond t (Some (record { inode = i; own = own })) (find_name after m))
     ≡ option_map (λ f. f.inode) (cond t (found (k ∷ ks) own) (found (m ∷ k ∷ ks) after))) [
@@ -75,7 +75,7 @@ file_of r m (k ∷ ks) (folder name i own after) =
 abbrev pub found_as : What → Option Found
 found_as (a_leaf i) = a_file false i
 found_as (a_link i) = a_file false i
-found_as (a_folder i) = a_file true i
+found_as (a_directory i) = a_file true i
 
 -- a name that another is not differs from what is the same as that
 other_name : (name m k : List ℕ) → bytes_eq name m ≡ false → bytes_eq name k ≡ true → bytes_eq m k ≡ false
@@ -107,7 +107,7 @@ none_below m ms (leaf name i after) h =
     let s = not_here (bytes_eq name m) _ (found (m ∷ []) after) h in rw s.0 (none_below m ms after s.1)
 none_below m ms (link name i after) h =
     let s = not_here (bytes_eq name m) _ (found (m ∷ []) after) h in rw s.0 (none_below m ms after s.1)
-none_below m ms (folder name i own after) h =
+none_below m ms (subdirectory name i own after) h =
     let s = not_here (bytes_eq name m) _ (found (m ∷ []) after) h in rw s.0 (none_below m ms after s.1)
 
 -- at the name that is put
@@ -133,8 +133,8 @@ here w m n k ks h = by w ks
     by (a_leaf i) (x ∷ xs) = by_test (a_file false i) x xs (bytes_eq m k) refl
     by (a_link i) [] = alone (bytes_eq m k) (a_file false i) (found (k ∷ []) n)
     by (a_link i) (x ∷ xs) = by_test (a_file false i) x xs (bytes_eq m k) refl
-    by (a_folder i) [] = alone (bytes_eq m k) (a_file true i) (found (k ∷ []) n)
-    by (a_folder i) (x ∷ xs) = by_test (a_file true i) x xs (bytes_eq m k) refl
+    by (a_directory i) [] = alone (bytes_eq m k) (a_file true i) (found (k ∷ []) n)
+    by (a_directory i) (x ∷ xs) = by_test (a_file true i) x xs (bytes_eq m k) refl
 
 -- a name more in a list
 put_found : (w : What) (m : List ℕ) (n : Names) (k : List ℕ) (ks : List (List ℕ)) → found (m ∷ []) n ≡ None
@@ -158,39 +158,39 @@ put_found w m (link name i after) k ks h =
           past name m k (names_eq [] ks) (found_as w) (last_or ks (a_file false i) None) (found (k ∷ ks) after)
           (found (k ∷ ks) (put w m after)) s.0 (put_found w m after k ks s.1)
     ]
-put_found w m (folder name i own after) k ks h =
+put_found w m (subdirectory name i own after) k ks h =
     elim (is_before m name) as (λ t. found (k ∷ ks)
-    (cond t (named w m (folder name i own after)) (folder name i own (put w m after)))
-    ≡ cond (bytes_eq m k && names_eq [] ks) (found_as w) (found (k ∷ ks) (folder name i own after))) [
-      | true ↦ here w m (folder name i own after) k ks h
+    (cond t (named w m (subdirectory name i own after)) (subdirectory name i own (put w m after)))
+    ≡ cond (bytes_eq m k && names_eq [] ks) (found_as w) (found (k ∷ ks) (subdirectory name i own after))) [
+      | true ↦ here w m (subdirectory name i own after) k ks h
       | false ↦ let s = not_here (bytes_eq name m) _ (found (m ∷ []) after) h in
           past name m k (names_eq [] ks) (found_as w) (last_or ks (a_file true i) (found ks own)) (found (k ∷ ks) after)
           (found (k ∷ ks) (put w m after)) s.0 (put_found w m after k ks s.1)
     ]
 
-abbrev pub is_a_folder : Option Found → Bool
-is_a_folder None = false
-is_a_folder (Some f) = f.is_folder
+abbrev pub is_a_directory : Option Found → Bool
+is_a_directory None = false
+is_a_directory (Some f) = f.is_directory
 
 -- the root, or a directory of the names
 abbrev pub is_parent : List (List ℕ) → Names → Bool
 is_parent [] n = true
-is_parent (p ∷ ps) n = is_a_folder (found (p ∷ ps) n)
+is_parent (p ∷ ps) n = is_a_directory (found (p ∷ ps) n)
 
 -- past a file that is no directory
 pub past_file : (name m : List ℕ) (ps : List (List ℕ)) (i : Inode) (o : Option Found)
-    → is_a_folder (cond (bytes_eq name m) (last_or ps (a_file false i) None) o) ≡ true
-    → (bytes_eq name m ≡ false) × (is_a_folder o ≡ true)
+    → is_a_directory (cond (bytes_eq name m) (last_or ps (a_file false i) None) o) ≡ true
+    → (bytes_eq name m ≡ false) × (is_a_directory o ≡ true)
 past_file name m ps i o h = by (bytes_eq name m) ps h
   where
-    by : (b : Bool) (ps : List (List ℕ)) → is_a_folder (cond b (last_or ps (a_file false i) None) o) ≡ true
-        → (b ≡ false) × (is_a_folder o ≡ true)
+    by : (b : Bool) (ps : List (List ℕ)) → is_a_directory (cond b (last_or ps (a_file false i) None) o) ≡ true
+        → (b ≡ false) × (is_a_directory o ≡ true)
     by true [] h = absurd (cc)
     by true (p ∷ ps) h = absurd (cc)
     by false ps h = (refl, h)
 
 pub own_parent : (ps : List (List ℕ)) (i : Inode) (own : Names)
-    → is_a_folder (last_or ps (a_file true i) (found ps own)) ≡ true → is_parent ps own ≡ true
+    → is_a_directory (last_or ps (a_file true i) (found ps own)) ≡ true → is_parent ps own ≡ true
 own_parent [] i own h = refl
 own_parent (p ∷ ps) i own h = h
 
@@ -239,14 +239,14 @@ put_at_found w m (x ∷ xs) (link name i after) k ks p h =
     past name m k (names_eq (x ∷ xs) ks) (found_as w) (last_or ks (a_file false i) None) (found (k ∷ ks) after)
     (found (k ∷ ks) (put_at w (m ∷ x ∷ xs) after)) s.0
     (put_at_found w m (x ∷ xs) after k ks s.1 (rw s.0 at h))
-put_at_found w m (x ∷ xs) (folder name i own after) k ks p h =
+put_at_found w m (x ∷ xs) (subdirectory name i own after) k ks p h =
     elim (bytes_eq name m) as (λ t. bytes_eq name m ≡ t
-    → is_a_folder (cond t (last_or (but_last (x ∷ xs)) (a_file true i) (found (but_last (x ∷ xs)) own))
+    → is_a_directory (cond t (last_or (but_last (x ∷ xs)) (a_file true i) (found (but_last (x ∷ xs)) own))
     (found (m ∷ but_last (x ∷ xs)) after)) ≡ true
     → cond t (found (x ∷ xs) own) (found (m ∷ x ∷ xs) after) ≡ None
-    → found (k ∷ ks) (cond t (folder name i (put_at w (x ∷ xs) own) after)
-    (folder name i own (put_at w (m ∷ x ∷ xs) after)))
-    ≡ cond (bytes_eq m k && names_eq (x ∷ xs) ks) (found_as w) (found (k ∷ ks) (folder name i own after))) [
+    → found (k ∷ ks) (cond t (subdirectory name i (put_at w (x ∷ xs) own) after)
+    (subdirectory name i own (put_at w (m ∷ x ∷ xs) after)))
+    ≡ cond (bytes_eq m k && names_eq (x ∷ xs) ks) (found_as w) (found (k ∷ ks) (subdirectory name i own after))) [
       | true ↦ λ e q g. into w name m i x xs own after k ks e
           (λ y ys. put_at_found w x xs own y ys (own_parent (but_last (x ∷ xs)) i own q) g)
       | false ↦ λ e q g. past name m k (names_eq (x ∷ xs) ks) (found_as w) (last_or ks (a_file true i) (found ks own))

@@ -19,7 +19,7 @@ use Rattle.manifest_tree.specs.Names.{Inode, Names, nothing}
 use Rattle.manifest_tree.specs.Shape.{HasShape, file_value, file_under}
 use Rattle.manifest_tree.specs.Tree.{what_by, put_line, grown, tree_of, root_of, file_at, file_named, inode_of}
 use Rattle.manifest_tree.specs.Tree.{names_eq, is_named}
-use Rattle.manifest_tree.proofs.Found.{Found, found, found_as, file_of, is_a_folder, is_parent, put_at_found}
+use Rattle.manifest_tree.proofs.Found.{Found, found, found_as, file_of, is_a_directory, is_parent, put_at_found}
 
 names_same : (ns : List (List ℕ)) → names_eq ns ns ≡ true
 names_same [] = refl
@@ -78,7 +78,7 @@ line_named_is (l ∷ ls) k ks h =
     ∙ ap (λ (o : Option Line). cond (bytes_eq l.path (path_of (k ∷ ks))) (Some l) o) (line_named_is ls k ks h)
 
 abbrev pub as_found : List Line → List ℕ → Line → Option Found
-as_found all sizes l = option_map (λ i. record { is_folder = is_dir l.word; inode = i }) (file_at all sizes l.path)
+as_found all sizes l = option_map (λ i. record { is_directory = is_dir l.word; inode = i }) (file_at all sizes l.path)
 
 -- what a list of names leads to by the lines, from the last to the first
 abbrev pub found_by : List Line → List ℕ → List Line → List (List ℕ) → Option Found
@@ -113,16 +113,16 @@ HaveFiles all sizes ls = (q : List ℕ) → is_some (line_at ls q) ≡ true → 
 -- a `dir` line is found as a directory
 dir_found : (all : List Line) (sizes : List ℕ) (ls : List Line) (q : List ℕ) → HaveFiles all sizes ls
     → is_dir_line (line_at ls q) ≡ true
-    → is_a_folder (option_and_then (as_found all sizes) (line_at ls q)) ≡ true
+    → is_a_directory (option_and_then (as_found all sizes) (line_at ls q)) ≡ true
 dir_found all sizes ls q f h = by (line_at ls q) refl h
   where
     of_file : (d : Line) (o : Option Inode) → is_some o ≡ true → is_dir d.word ≡ true
-        → is_a_folder (option_map (λ i. record { is_folder = is_dir d.word; inode = i }) o) ≡ true
+        → is_a_directory (option_map (λ i. record { is_directory = is_dir d.word; inode = i }) o) ≡ true
     of_file d None s e = absurd (cc)
     of_file d (Some i) s e = e
 
     by : (o : Option Line) → line_at ls q ≡ o → is_dir_line o ≡ true
-        → is_a_folder (option_and_then (as_found all sizes) o) ≡ true
+        → is_a_directory (option_and_then (as_found all sizes) o) ≡ true
     by None e g = absurd (cc)
     by (Some d) e g = of_file d (file_at all sizes d.path)
         (subst (λ p. is_some (file_at all sizes p) ≡ true) (sym (line_has_path ls q d e)) (f q (ap is_some e))) g
@@ -142,7 +142,7 @@ one_more all sizes l ls =
     ap (λ xs. grown all sizes xs nothing) (reverse-append (l ∷ []) ls) ∙ grown-push all sizes (reverse ls) l nothing
 
 -- how the word says what is put
-put_as : (w : Word) (i : Inode) → found_as (what_by w i) ≡ Some (record { is_folder = is_dir w; inode = i })
+put_as : (w : Word) (i : Inode) → found_as (what_by w i) ≡ Some (record { is_directory = is_dir w; inode = i })
 put_as Dir i = refl
 put_as File i = refl
 put_as Slink i = refl
@@ -167,7 +167,7 @@ parent_there all sizes l ls m ms n s f h same = by (but_last (m ∷ ms)) refl
         let there : has_parent ls (path_of (p ∷ ps)) ≡ true =
         ap (λ x. has_parent ls (path_of x)) (sym e) ∙ ap (λ o. has_parent ls (parent_of o)) (sym h)
         ∙ (sound_place ls l s).0 in
-        ap is_a_folder (same p ps ∙ ap (option_and_then (as_found all sizes))
+        ap is_a_directory (same p ps ∙ ap (option_and_then (as_found all sizes))
         (line_named_is ls p ps (parent_named l.path m ms p ps h e)))
         ∙ dir_found all sizes ls (path_of (p ∷ ps)) f there
 
@@ -185,7 +185,7 @@ step all sizes l ls n s f g same k ks = by (file_at all sizes l.path) (names_of 
         → cond b (found_as (what_by l.word i)) x
         ≡ option_and_then (as_found all sizes) (cond b (Some l) (line_named ls (k ∷ ks)))
     chosen true i x e h =
-        put_as l.word i ∙ ap (option_map (λ i. record { is_folder = is_dir l.word; inode = i })) (sym e)
+        put_as l.word i ∙ ap (option_map (λ i. record { is_directory = is_dir l.word; inode = i })) (sym e)
     chosen false i x e h = h
 
     by : (o : Option Inode) (names : Option (List (List ℕ))) → file_at all sizes l.path ≡ o → names_of l.path ≡ names
@@ -271,7 +271,7 @@ files_of all sizes None = refl
 files_of all sizes (Some l) = by (file_at all sizes l.path)
   where
     by : (o : Option Inode) → option_map (λ (f : Found). f.inode)
-        (option_map (λ i. record { is_folder = is_dir l.word; inode = i }) o) ≡ o
+        (option_map (λ i. record { is_directory = is_dir l.word; inode = i }) o) ≡ o
     by None = refl
     by (Some i) = refl
 

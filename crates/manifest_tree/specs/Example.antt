@@ -5,7 +5,7 @@ use Rattle.rom_tree.specs.declared.types.Kind.TheVariants.{Directory, Regular}
 use Rattle.manifest.specs.Lines.{ManifestLines}
 use Rattle.manifest.specs.Grammar.{Fault}
 use Rattle.manifest_tree.specs.Names.{Fill, no_bytes, source, Inode, Names, nothing, leaf, link}
-use Rattle.manifest_tree.specs.Names.{folder}
+use Rattle.manifest_tree.specs.Names.{subdirectory}
 use Rattle.manifest_tree.specs.Tree.{tree_of}
 
 abbrev pub example : List ℕ
@@ -40,6 +40,6 @@ abbrev pub example_names : Names
 example_names =
     leaf (codes "a") (example_file 4 Regular 384 1 2 16 5 (source 0))
     (leaf (codes "b") (example_file 2 Regular 420 0 0 16 5 (source 0))
-    (folder (codes "d") (example_file 1 Directory 493 0 0 4 0 no_bytes)
+    (subdirectory (codes "d") (example_file 1 Directory 493 0 0 4 0 no_bytes)
     (link (codes "c") (example_file 2 Regular 420 0 0 16 5 (source 0)) nothing)
     nothing))

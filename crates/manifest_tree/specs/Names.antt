@@ -25,13 +25,13 @@ pub record Inode : Type 0 where
   pub fill : Fill
 
 -- The names of a directory in order, each with the names that follow it in the list: `leaf` names a
--- file that is not a directory, `link` is a further name of such a file, and `folder` names a
+-- file that is not a directory, `link` is a further name of such a file, and `subdirectory` names a
 -- directory with its own names.
 pub data Names : Type 0 where
   nothing : Names
   leaf : List ℕ → Inode → Names → Names
   link : List ℕ → Inode → Names → Names
-  folder : List ℕ → Inode → Names → Names → Names
+  subdirectory : List ℕ → Inode → Names → Names → Names
 
 -- the bytes of a file, if the sources have these contents
 abbrev pub bytes_of : List (List ℕ) → Fill → List ℕ

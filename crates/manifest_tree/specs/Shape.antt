@@ -8,7 +8,7 @@ use Rattle.std.specs.Option.{option_and_then, option_map}
 use Rattle.rom_tree.specs.declared.types.Kind.{Kind}
 use Rattle.rom_tree.specs.Tree.{Node, attributes_of, kind_of, places_of, entries_of, ino_of}
 use Rattle.rom_tree.specs.Image.{find_entry}
-use Rattle.manifest_tree.specs.Names.{Inode, Names, nothing, leaf, link, folder, bytes_of}
+use Rattle.manifest_tree.specs.Names.{Inode, Names, nothing, leaf, link, subdirectory, bytes_of}
 
 -- the attributes and the bytes of a file, apart from its number
 pub record Value : Type 0 where
@@ -59,7 +59,7 @@ find_name (leaf name i after) m =
     if bytes_eq name m then Some (with_names i nothing) else find_name after m
 find_name (link name i after) m =
     if bytes_eq name m then Some (with_names i nothing) else find_name after m
-find_name (folder name i own after) m =
+find_name (subdirectory name i own after) m =
     if bytes_eq name m then Some (with_names i own) else find_name after m
 
 -- the node or file to which the names on a path lead

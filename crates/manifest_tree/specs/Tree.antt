@@ -16,7 +16,7 @@ use Rattle.manifest.specs.declared.line.Word.TheVariants.{Dir, File, Slink, Bloc
 use Rattle.manifest.specs.declared.line.Word.TheVariants.{Socket, Hard, Same}
 use Rattle.manifest.specs.Lines.{is_file, led, filed}
 use Rattle.manifest_tree.specs.Names.{Fill, no_bytes, text, source, Inode, Names, nothing, leaf}
-use Rattle.manifest_tree.specs.Names.{link, folder}
+use Rattle.manifest_tree.specs.Names.{link, subdirectory}
 
 -- the number of `file` lines before line n, which is the index of the source that line n names
 abbrev pub sources_before : ℕ → List Line → ℕ
@@ -95,12 +95,12 @@ is_before a b = is_lt (slice_cmp nat_cmp a b)
 pub data What : Type 0 where
   a_leaf : Inode → What
   a_link : Inode → What
-  a_folder : Inode → What
+  a_directory : Inode → What
 
 abbrev pub named : What → List ℕ → Names → Names
 named (a_leaf i) name after = leaf name i after
 named (a_link i) name after = link name i after
-named (a_folder i) name after = folder name i nothing after
+named (a_directory i) name after = subdirectory name i nothing after
 
 -- a list with one more name, in order
 abbrev pub put : What → List ℕ → Names → Names
@@ -109,9 +109,9 @@ put w name (leaf m i after) =
     if is_before name m then named w name (leaf m i after) else leaf m i (put w name after)
 put w name (link m i after) =
     if is_before name m then named w name (link m i after) else link m i (put w name after)
-put w name (folder m i own after) =
-    if is_before name m then named w name (folder m i own after)
-    else folder m i own (put w name after)
+put w name (subdirectory m i own after) =
+    if is_before name m then named w name (subdirectory m i own after)
+    else subdirectory m i own (put w name after)
 
 -- names with one more path: its last name is put into the list of the directory to which the other
 -- names lead
@@ -121,12 +121,12 @@ put_at w (name ∷ []) n = put w name n
 put_at w (name ∷ next ∷ more) nothing = nothing
 put_at w (name ∷ next ∷ more) (leaf m i after) = leaf m i (put_at w (name ∷ next ∷ more) after)
 put_at w (name ∷ next ∷ more) (link m i after) = link m i (put_at w (name ∷ next ∷ more) after)
-put_at w (name ∷ next ∷ more) (folder m i own after) =
-    if bytes_eq m name then folder m i (put_at w (next ∷ more) own) after
-    else folder m i own (put_at w (name ∷ next ∷ more) after)
+put_at w (name ∷ next ∷ more) (subdirectory m i own after) =
+    if bytes_eq m name then subdirectory m i (put_at w (next ∷ more) own) after
+    else subdirectory m i own (put_at w (name ∷ next ∷ more) after)
 
 abbrev pub what_by : Word → Inode → What
-what_by Dir i = a_folder i
+what_by Dir i = a_directory i
 what_by Hard i = a_link i
 what_by _ i = a_leaf i
 

@@ -1,7 +1,7 @@
 //! The calls on one image with open files.
 ghost use Rattle.std.specs.Prelude.{◌≡◌, ◌≤◌, ℕ, length, take, drop, Option, Some, None, Ok, Err};
 ghost use Rattle.std.specs.Prelude.{MatchResult, MatchOption, option_map};
-ghost use Rattle.rom_tree.specs.Tree.{levels};
+ghost use Rattle.rom_tree.specs.Tree.{IsShallow};
 ghost use Rattle.open_files.specs.Calls.{Of, Named, answer, viewed};
 ghost use Rattle.open_files.specs.Machine.{no_files};
 ghost use Rattle.open_files.specs.Slots.{unlabelled, lent_by, named_by};
@@ -19,7 +19,7 @@ impl<'a, T: TreeImage<'a>, const N: usize> Files<'a, T, N> {
     /// 65,536.
     pub fn new(image: T) -> Self
         requires narrow { N ≤ 65536 }
-        requires deep { levels (T.image image).tree ≤ 65 }
+        requires deep { IsShallow (T.image image).tree }
         ensures image { held result ≡ image }
         ensures empty { table result ≡ no_files N }
     {

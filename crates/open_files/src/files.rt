@@ -1,6 +1,6 @@
 //! One image with open files.
 ghost use Rattle.std.specs.Prelude.{◌≤◌};
-ghost use Rattle.rom_tree.specs.Tree.{levels};
+ghost use Rattle.rom_tree.specs.Tree.{IsShallow};
 ghost use Rattle.open_files.specs.Slots.{AreSound};
 
 use crate::slot::Slots;
@@ -16,6 +16,6 @@ pub struct Files<'a, T: Viewed, const N: usize> {
     pub(crate) slots: Slots<N>,
     pub(crate) borrows: PhantomData<&'a [u8]>,
     ghost sound: { AreSound (T.image image) slots },
-    ghost deep: { levels (T.image image).tree ≤ 65 },
+    ghost deep: { IsShallow (T.image image).tree },
     ghost narrow: { N ≤ 65536 },
 }

@@ -2,7 +2,7 @@
 //! generic over the image can make them, for image types of any size.
 ghost use Rattle.std.specs.Prelude.{◌≡◌, ◌≤◌, ℕ, length, take, drop, Option, Some, None, Ok, Err};
 ghost use Rattle.std.specs.Prelude.{MatchResult, MatchOption, option_map};
-ghost use Rattle.rom_tree.specs.Tree.{Node, levels};
+ghost use Rattle.rom_tree.specs.Tree.{Node, IsShallow};
 ghost use Rattle.open_files.specs.Calls.{Of, Named, answer, give, viewed};
 ghost use Rattle.open_files.specs.Machine.{Table, image_calls};
 ghost use Rattle.open_files.specs.Slots.{table_in, AreSound, LeadsIn, IsPartIn, unlabelled};
@@ -21,7 +21,7 @@ use rom_tree::{Entry, NodeId, Piece, Stat, TreeImage};
 ///
 /// Those of `path_walk::walk`.
 pub fn lookup<'a, T: TreeImage<'a>>(image: &mut T, path: &[u8]) -> Result<NodeId, CallError>
-    requires { levels (T.image image.old).tree ≤ 65 }
+    requires { IsShallow (T.image image.old).tree }
     ensures reply { (n : ℕ) (t : Table Node)
         → (image_calls n (T.image image.old)).lookup t path.now
         ≡ answer (viewed (unlabelled (λ n. n.0)) result) t }
@@ -38,7 +38,7 @@ pub fn lookup<'a, T: TreeImage<'a>>(image: &mut T, path: &[u8]) -> Result<NodeId
 ///
 /// Those of `path_walk::walk`.
 pub fn stat<'a, T: TreeImage<'a>>(image: &mut T, path: &[u8]) -> Result<Stat, CallError>
-    requires { levels (T.image image.old).tree ≤ 65 }
+    requires { IsShallow (T.image image.old).tree }
     ensures reply { (n : ℕ) (t : Table Node)
         → (image_calls n (T.image image.old)).stat t path.now
         ≡ answer (viewed (unlabelled (λ s. s)) result) t }
@@ -55,7 +55,7 @@ pub fn stat<'a, T: TreeImage<'a>>(image: &mut T, path: &[u8]) -> Result<Stat, Ca
 ///
 /// Those of `path_walk::walk`.
 pub fn lstat<'a, T: TreeImage<'a>>(image: &mut T, path: &[u8]) -> Result<Stat, CallError>
-    requires { levels (T.image image.old).tree ≤ 65 }
+    requires { IsShallow (T.image image.old).tree }
     ensures reply { (n : ℕ) (t : Table Node)
         → (image_calls n (T.image image.old)).lstat t path.now
         ≡ answer (viewed (unlabelled (λ s. s)) result) t }
@@ -71,7 +71,7 @@ pub fn lstat<'a, T: TreeImage<'a>>(image: &mut T, path: &[u8]) -> Result<Stat, C
 ///
 /// Those of `path_walk::walk`, then `Einval` if the node is no link.
 pub fn readlink<'a, T: TreeImage<'a>>(image: &mut T, path: &[u8]) -> Result<Piece<'a>, CallError>
-    requires { levels (T.image image.old).tree ≤ 65 }
+    requires { IsShallow (T.image image.old).tree }
     ensures reply { (n : ℕ) (t : Table Node)
         → (image_calls n (T.image image.old)).readlink t path.now
         ≡ answer (viewed (unlabelled lent_by) result) t }
@@ -94,7 +94,7 @@ pub fn open<'a, T: TreeImage<'a>, const N: usize>(
     slots: &mut Slots<N>,
     path: &[u8],
 ) -> Result<Fd, CallError>
-    requires deep { levels (T.image image.old).tree ≤ 65 }
+    requires deep { IsShallow (T.image image.old).tree }
     requires narrow { N ≤ 65536 }
     requires sound { AreSound (T.image image.old) slots.old }
     ensures reply { (image_calls N (T.image image.old)).open_path

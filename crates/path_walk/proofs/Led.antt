@@ -14,21 +14,22 @@ use Rattle.path_walk.proofs.GraftNodes.{link_length}
 -- a step from the images of `k`, which are those of `h`
 module _ (k h : Held) (e : k ≡ h) (us : List Mount) (current : Location) (ancestors : List Location)
     (s : Trail MountedNode) (p : List ℕ) (stays : Bool) (current' : Location) (ancestors' : List Location) where
-  abbrev pub Told : Held → Result (Option Location) WalkError → Type 0
-  Told v r = IsTrail v.images us current ancestors s
+  abbrev pub Known : Held → Result (Option Location) WalkError → Type 0
+  Known v r = IsTrail v.images us current ancestors s
       → Leads v.images us s (step (graft v.images us) s p stays) current' ancestors' r
 
-  pub led : (r : Result (Option Location) WalkError) → IsTrail h.images us current ancestors s → Told k r
+  pub led : (r : Result (Option Location) WalkError) → IsTrail h.images us current ancestors s → Known k r
       → Leads h.images us s (step (graft h.images us) s p stays) current' ancestors' r
-  led r i f = let told : Held → Type 0 = λ v. Told v r in subst told e f i
+  led r i f = let known : Held → Type 0 = λ v. Known v r in subst known e f i
 
-  pub led_on : (o : Option Location) → o ≡ None → IsTrail h.images us current ancestors s → Told k (Ok o)
+  pub led_on : (o : Option Location) → o ≡ None → IsTrail h.images us current ancestors s → Known k (Ok o)
       → Leads h.images us s (step (graft h.images us) s p stays) current' ancestors' (Ok None)
-  led_on o q i f = let told : Option Location → Type 0 = λ v. Told k (Ok v) in led (Ok None) i (subst told q f)
+  led_on o q i f = let known : Option Location → Type 0 = λ v. Known k (Ok v) in led (Ok None) i (subst known q f)
 
   pub led_link : (o : Option Location) (x : Location) → o ≡ Some x → IsTrail h.images us current ancestors s
-      → Told k (Ok o) → Leads h.images us s (step (graft h.images us) s p stays) current' ancestors' (Ok (Some x))
-  led_link o x q i f = let told : Option Location → Type 0 = λ v. Told k (Ok v) in led (Ok (Some x)) i (subst told q f)
+      → Known k (Ok o) → Leads h.images us s (step (graft h.images us) s p stays) current' ancestors' (Ok (Some x))
+  led_link o x q i f = let known : Option Location
+      → Type 0 = λ v. Known k (Ok v) in led (Ok (Some x)) i (subst known q f)
 
 -- what a place names in the images as they were, it names in them as they are
 pub named_there : (k h : Held) → k ≡ h → (p : Location) (s : MountedNode) → NamesAt h.images p s → NamesAt k.images p s

@@ -1,7 +1,7 @@
 //! The walk along a path.
 ghost use Rattle.std.specs.Prelude.{Bool, ◌≡◌, ◌<◌, ◌≤◌, true, MatchResult, IfOk, Ok, Err, length};
 ghost use Rattle.std.specs.Prelude.{Some, map};
-ghost use Rattle.rom_tree.specs.Tree.{Node, levels};
+ghost use Rattle.rom_tree.specs.Tree.{Node, IsShallow};
 ghost use Rattle.rom_tree.specs.Image.{image_node};
 ghost use Rattle.path_walk.specs.Components.{components};
 ghost use Rattle.path_walk.specs.Resolution.{Namespace, at_root, resolution, resolve};
@@ -118,7 +118,7 @@ pub fn walk<'a, T: TreeImage<'a>>(
     path: &[u8],
     follow_last: bool,
 ) -> Result<NodeId, WalkError>
-    requires { levels (T.image image.old).tree ≤ 65 }
+    requires { IsShallow (T.image image.old).tree }
     ensures leads { MatchResult result
         (λ n. (x : Node)
         × (resolution (tree_namespace (T.image image.old).bytes (T.image image.old).tree)

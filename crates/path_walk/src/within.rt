@@ -1,6 +1,6 @@
 //! The walk along a path that compares no more names than a budget.
 ghost use Rattle.std.specs.Prelude.{Bool, ◌≡◌, ◌<◌, ◌≤◌, true, MatchResult, Ok, length, Some};
-ghost use Rattle.rom_tree.specs.Tree.{Node, levels};
+ghost use Rattle.rom_tree.specs.Tree.{Node, IsShallow};
 ghost use Rattle.rom_tree.specs.Image.{image_node};
 ghost use Rattle.path_walk.specs.Resolution.{resolution, tree_namespace};
 ghost use Rattle.path_walk.specs.Graft.{MountedNode, graft, are_mounts, AreShallow};
@@ -97,7 +97,7 @@ pub fn walk_within<'a, T: TreeImage<'a>>(
     follow_last: bool,
     budget: &mut u64,
 ) -> Result<NodeId, WithinError>
-    requires { levels (T.image image.old).tree ≤ 65 }
+    requires { IsShallow (T.image image.old).tree }
     ensures leads { MatchResult result
         (λ n. (x : Node)
         × (resolution (tree_namespace (T.image image.old).bytes (T.image image.old).tree)

@@ -40,8 +40,8 @@ lesser_some (Some m) q e = cc
 abbrev pub Before : Fault → Fault → Bool
 Before d e = nat_lt d.at e.at || (d.at == e.at && nat_le d.number e.number)
 
-pub before_tells : (d e : Fault) → ((Before d e ≡ true) × NotAfter d e) ⊎ ((Before d e ≡ false) × NotAfter e d)
-before_tells d e =
+pub before_decides : (d e : Fault) → ((Before d e ≡ true) × NotAfter d e) ⊎ ((Before d e ≡ false) × NotAfter e d)
+before_decides d e =
     elim (cases_lt d.at e.at) [
       | inl l ↦ inl (rw (lt-ltb d.at e.at l) refl, inl l)
       | inr l ↦ elim (eqb_tells d.at e.at) [
@@ -77,17 +77,17 @@ CaughtFault (Some e) d = NotAfter e d
 caught_fault_lesser : (o : Option Fault) (e d : Fault) → NotAfter e d → CaughtFault (lesser_fault o e) d
 caught_fault_lesser None e d h = h
 caught_fault_lesser (Some c) e d h =
-    elim (before_tells c e) [ inl t ↦ rw t.0 (not_after_both c e d t.1 h) | inr t ↦ rw t.0 h ]
+    elim (before_decides c e) [ inl t ↦ rw t.0 (not_after_both c e d t.1 h) | inr t ↦ rw t.0 h ]
 
 caught_fault_kept : (o : Option Fault) (e d : Fault) → CaughtFault o d → CaughtFault (lesser_fault o e) d
 caught_fault_kept None e d h = absurd h
 caught_fault_kept (Some c) e d h =
-    elim (before_tells c e) [ inl t ↦ rw t.0 h | inr t ↦ rw t.0 (not_after_both e c d t.1 h) ]
+    elim (before_decides c e) [ inl t ↦ rw t.0 h | inr t ↦ rw t.0 (not_after_both e c d t.1 h) ]
 
 pub truly_lesser_fault : (P : Fault → Type 0) (o : Option Fault) (e : Fault) → IfSome o P → P e
     → IfSome (lesser_fault o e) P
 truly_lesser_fault P None e h k = k
-truly_lesser_fault P (Some c) e h k = elim (before_tells c e) [ inl t ↦ rw t.0 h | inr t ↦ rw t.0 k ]
+truly_lesser_fault P (Some c) e h k = elim (before_decides c e) [ inl t ↦ rw t.0 h | inr t ↦ rw t.0 k ]
 
 pub lesser_fault_some : (o : Option Fault) (e : Fault) → lesser_fault o e ≡ None → ⊥
 lesser_fault_some None e i = cc
@@ -174,7 +174,7 @@ module _ {P Q R : Fault → Type 0} (left : (f : Fault) → P f → R f) (right 
     (either : (f : Fault) → R f → P f ⊎ Q f) where
   some_less : (d e : Fault) → IsLeastFaultOf P (Some d) → IsLeastFaultOf Q (Some e)
       → IsLeastFaultOf R (lesser_fault (Some d) e)
-  some_less d e x y = elim (before_tells d e) [
+  some_less d e x y = elim (before_decides d e) [
     | inl h ↦ rw h.0 (record {
       here = left d x.here;
       least = λ f r. elim (either f r) [ inl q ↦ x.least f q | inr q ↦ not_after_both d e f h.1 (y.least f q) ];

@@ -8,7 +8,7 @@ use Rattle.record_forest.specs.declared.reference.Row.{Row}
 use Rattle.record_forest.specs.Faults.{IsLeast}
 use Rattle.record_forest.specs.Sweep.{IsLeastRowFault, StandsAtRow}
 use Rattle.record_forest.specs.Lesser.{lesser_fault}
-use Rattle.record_forest.proofs.Noted.{before_tells, not_after_at, truly_lesser_fault, lesser_fault_some}
+use Rattle.record_forest.proofs.Noted.{before_decides, not_after_at, truly_lesser_fault, lesser_fault_some}
 
 -- a member of xs ++ x is x, or is in xs
 pub split_push : {X : Type 0} (xs : List X) (x : X) (before : List X) (y : X) (after : List X)
@@ -33,12 +33,12 @@ NotedBy o p = IsSomeAnd o (λ e. e.at ≤ p)
 lesser_kept : (o : Option Fault) (f : Fault) (p : ℕ) → NotedBy o p → NotedBy (lesser_fault o f) p
 lesser_kept None f p h = absurd h
 lesser_kept (Some d) f p h =
-    elim (before_tells d f) [ inl k ↦ rw k.0 h | inr k ↦ let l = not_after_at f d k.1 in rw k.0 (omega arith) ]
+    elim (before_decides d f) [ inl k ↦ rw k.0 h | inr k ↦ let l = not_after_at f d k.1 in rw k.0 (omega arith) ]
 
 lesser_here : (o : Option Fault) (f : Fault) → NotedBy (lesser_fault o f) f.at
 lesser_here None f = omega arith
 lesser_here (Some d) f =
-    elim (before_tells d f) [ inl k ↦ rw k.0 (not_after_at d f k.1) | inr k ↦ rw k.0 (omega arith) ]
+    elim (before_decides d f) [ inl k ↦ rw k.0 (not_after_at d f k.1) | inr k ↦ rw k.0 (omega arith) ]
 
 module _ (P : List Row → Row → ℕ → Type 0) where
   stands_more : (xs : List Row) (x : Row) (e : Fault) → StandsAtRow P xs e → StandsAtRow P (xs ++ x ∷ []) e

@@ -17,8 +17,8 @@ use Rattle.record_forest.proofs.Found.{At}
 abbrev pub Visits : BTreeSet ℕ → List Row → Type 0
 Visits s found = (p : ℕ) → (contains nat_cmp s p ≡ true) ↔ Has (At p) found
 
-at_tells : (p q : ℕ) → ((is_at (nat_cmp p) q ≡ true) × (p ≡ q)) ⊎ ((is_at (nat_cmp p) q ≡ false) × (p ≢ q))
-at_tells p q =
+at_decides : (p q : ℕ) → ((is_at (nat_cmp p) q ≡ true) × (p ≡ q)) ⊎ ((is_at (nat_cmp p) q ≡ false) × (p ≢ q))
+at_decides p q =
     elim (eqb_tells p q) [
       | inl e ↦ inl (rw (le-ltb p q (omega arith), e.0) refl, e.1)
       | inr n ↦ elim (cases_lt p q) [
@@ -33,7 +33,7 @@ pub visits_more : (s n : BTreeSet ℕ) (found : List Row) (x : Row) → Visits s
     → Visits n (found ++ x ∷ [])
 visits_more s n found x h u p =
     let is = u.0 p in
-    elim (at_tells x.offset p) [
+    elim (at_decides x.offset p) [
       | inl e ↦ ((λ _. has_right (At p) found (x ∷ []) (inl e.1)), (λ _. is ∙ rw e.0 refl))
       | inr e ↦
           let old : contains nat_cmp n p ≡ contains nat_cmp s p = is ∙ rw e.0 refl in (
@@ -47,7 +47,7 @@ visits_more s n found x h u p =
 pub visits_start : (s : BTreeSet ℕ) (x : Row) → s.keys ≡ x.offset ∷ [] → Visits s (x ∷ [])
 visits_start s x e p =
     let is : contains nat_cmp s p ≡ is_at (nat_cmp p) x.offset || false = ap (list_any (is_at (nat_cmp p))) e in
-    elim (at_tells p x.offset) [
+    elim (at_decides p x.offset) [
       | inl t ↦ ((λ _. inl (sym t.1)), (λ _. is ∙ rw t.0 refl))
       | inr t ↦ (
         (λ k. absurd (false≢true (sym (is ∙ rw t.0 refl) ∙ k))),

@@ -15,7 +15,7 @@ use Rattle.rom_c.specs.declared.answers.RomtoolPlace.{RomtoolPlace}
 use Rattle.rom_c.specs.declared.file.RomtoolFile.{RomtoolFile}
 use Rattle.rom_c.specs.declared.file.RomtoolEntry.{RomtoolEntry}
 use Rattle.rom_c.specs.Held.{usual}
-use Rattle.rom_c.specs.Told.{IsText, IsTextAt}
+use Rattle.rom_c.specs.Reported.{IsText, IsTextAt}
 use Rattle.rom_c.specs.Opened.{stands_in}
 use Rattle.rom_c.specs.Outcomes.{IsCopied, IsEntryOf, IsListed}
 use Rattle.rom_c.specs.Files.{IsOpenAt, IsOpenedBy, MovesTo, file_in, file_at}
@@ -66,9 +66,9 @@ IsListed-prop (Err e) error r = Prim.hlevel props
 abbrev pub One : Type 0
 One = (all : List ℕ) (limits others : Limits) (t u : Node) → HasTree all limits t → HasTree all others u → t ≡ u
 
-pub told : (P : List ℕ → Node → Type 0) (all held : List ℕ) (t kept shown : Node) → One → IsProp (P all t)
+pub reported : (P : List ℕ → Node → Type 0) (all held : List ℕ) (t kept shown : Node) → One → IsProp (P all t)
     → ∥ HasTree all usual kept ∥₁ → HasTree all usual t → held ≡ all → shown ≡ kept → P held shown → P all t
-told P all held t kept shown one proper has h e f p =
+reported P all held t kept shown one proper has h e f p =
     ∥∥₁_elim has proper (λ k. subst (P all) (one all usual usual kept t k h)
     (subst (P all) f (subst (λ b. P b shown) e p)))
 
@@ -87,7 +87,7 @@ pub in_tree : (K : List ℕ → Node → Open Node → Type 0) (all held : List 
     → IsSomeAnd (stands_in t all n node position) (K all t)
 in_tree K all held t kept shown n node position one proper has h e f s k =
     let P : List ℕ → Node → Type 0 = λ b u. IsSomeAnd (stands_in u all n node position) (K b u) in
-    told P all held t kept shown one (some_prop (stands_in t all n node position) (K all t) proper) has h e f
+    reported P all held t kept shown one (some_prop (stands_in t all n node position) (K all t) proper) has h e f
     (some_and (stands_in shown all n node position) (K held shown) s k)
 
 -- what holds of a node, if there is one

@@ -14,22 +14,22 @@ use Rattle.path_walk.proofs.GraftNodes.{none_some}
 use Rattle.open_files.proofs.Standing.{IsOpen, is_open}
 use Rattle.rom_c.specs.declared.file.RomtoolEntry.{RomtoolEntry}
 use Rattle.rom_c.specs.Outcomes.{HasKindIn}
-use Rattle.rom_c.specs.Told.{kind_number}
+use Rattle.rom_c.specs.Reported.{kind_number}
 
 -- the entry of an outcome, and its number
-abbrev told_entry : Outcome (Option (Of Named)) → Option (Of Named)
-told_entry (Ok a) = a.0
-told_entry (Err e) = None
+abbrev reported_entry : Outcome (Option (Of Named)) → Option (Of Named)
+reported_entry (Ok a) = a.0
+reported_entry (Err e) = None
 
-abbrev told_number : Option (Of Named) → ℕ
-told_number (Some a) = a.1.node
-told_number None = 0
+abbrev reported_number : Option (Of Named) → ℕ
+reported_number (Some a) = a.1.node
+reported_number None = 0
 
 -- the entry that is read at an index is one of the list
 read_at : (v : Option (List ℕ × Node)) (p q : ℕ) (e : Of Named)
     → next_entry None p v ≡ Ok (Some e, q) → (y : List ℕ × Node) × (v ≡ Some y) × (e.1.node ≡ ino_of y.1)
-read_at None p q e h = absurd (none_some e (ap told_entry h))
-read_at (Some y) p q e h = (y, refl, sym (ap told_number (ap told_entry h)))
+read_at None p q e h = absurd (none_some e (ap reported_entry h))
+read_at (Some y) p q e h = (y, refl, sym (ap reported_number (ap reported_entry h)))
 
 read_in : (b : Bool) (v : Option (List ℕ × Node)) (p q : ℕ) (e : Of Named)
     → directory_only b (next_entry None p v) ≡ Ok (Some e, q)

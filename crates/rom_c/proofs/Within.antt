@@ -2,13 +2,14 @@
 use Rattle.std.proofs.Common.{◌≡◌, ℕ, ◌+◌, ◌-◌, ◌<◌, arith, refl, sym}
 use Rattle.path_walk.proofs.Trails.{lt_true, lt_false}
 use Rattle.rom_c.specs.declared.answers.RomtoolNode.{RomtoolNode}
-use Rattle.rom_c.specs.Told.{within_told, no_node}
+use Rattle.rom_c.specs.Reported.{within_reported, no_node}
 
-pub told_left : (budget left names : ℕ) (r : RomtoolNode) → left + names ≡ budget → r ≡ within_told budget names r
-told_left budget left names r e = rw (lt_false budget names (omega (arith, e))) refl
+pub reported_left : (budget left names : ℕ) (r : RomtoolNode) → left + names ≡ budget
+    → r ≡ within_reported budget names r
+reported_left budget left names r e = rw (lt_false budget names (omega (arith, e))) refl
 
-pub told_none : (budget names : ℕ) (r : RomtoolNode) → budget < names → no_node 16 ≡ within_told budget names r
-told_none budget names r l = rw (lt_true budget names l) refl
+pub reported_none : (budget names : ℕ) (r : RomtoolNode) → budget < names → no_node 16 ≡ within_reported budget names r
+reported_none budget names r l = rw (lt_true budget names l) refl
 
 pub left_of : (budget left names : ℕ) → left + names ≡ budget → left ≡ budget - names
 left_of budget left names e = omega (arith, e)

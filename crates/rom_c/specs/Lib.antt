@@ -1,5 +1,5 @@
 pub mod Held
-pub mod Told
+pub mod Reported
 pub mod Opened
 pub mod Outcomes
 pub mod Files

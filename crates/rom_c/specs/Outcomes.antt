@@ -1,5 +1,6 @@
--- An outcome of the machine of open files as it is reported to C: `error_told`, `place_told`,
--- `file_stat_told`, `IsCopied`, `IsListed`, `HasKindIn`. (This project's own.)
+-- An outcome of the machine of open files as it is reported to C: `error_reported`,
+-- `place_reported`, `file_stat_reported`, `IsCopied`, `IsListed`, `HasKindIn`. (This project's
+-- own.)
 use Rattle.std.specs.Prelude.{◌≡◌, ℕ, List, [], ◌++◌, length, drop, Option, Some, None, Ok, Err}
 use Rattle.std.specs.Prelude.{IsSomeAnd}
 use Rattle.rom_tree.specs.declared.types.Stat.{Stat}
@@ -12,21 +13,21 @@ use Rattle.open_files.specs.Errors.{error_number}
 use Rattle.rom_c.specs.declared.answers.RomtoolPlace.{RomtoolPlace}
 use Rattle.rom_c.specs.declared.answers.RomtoolStat.{RomtoolStat}
 use Rattle.rom_c.specs.declared.file.RomtoolEntry.{RomtoolEntry}
-use Rattle.rom_c.specs.Told.{kind_number, no_place, no_stat, stat_told}
+use Rattle.rom_c.specs.Reported.{kind_number, no_place, no_stat, stat_reported}
 
-abbrev pub error_told : {R : Type 0} → Outcome R → ℕ
-error_told (Ok a) = 0
-error_told (Err e) = error_number e
+abbrev pub error_reported : {R : Type 0} → Outcome R → ℕ
+error_reported (Ok a) = 0
+error_reported (Err e) = error_number e
 
 -- the offset and the length of the bytes that are lent, or the error
-abbrev pub place_told : Outcome (Of Lent) → RomtoolPlace
-place_told (Ok a) = record { error = 0; at = a.0.1.place; len = length a.0.1.bytes }
-place_told (Err e) = no_place (error_number e)
+abbrev pub place_reported : Outcome (Of Lent) → RomtoolPlace
+place_reported (Ok a) = record { error = 0; at = a.0.1.place; len = length a.0.1.bytes }
+place_reported (Err e) = no_place (error_number e)
 
 -- a kind and numbers, or the error
-abbrev pub file_stat_told : Outcome (Of Stat) → RomtoolStat
-file_stat_told (Ok a) = stat_told a.0.1
-file_stat_told (Err e) = no_stat (error_number e)
+abbrev pub file_stat_reported : Outcome (Of Stat) → RomtoolStat
+file_stat_reported (Ok a) = stat_reported a.0.1
+file_stat_reported (Err e) = no_stat (error_number e)
 
 -- The n bytes are in the front of the buffer, and the rest is as it was. After an error, the whole
 -- buffer is as it was.

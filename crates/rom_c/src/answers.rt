@@ -1,8 +1,8 @@
 //! The answers to C, as structs of numbers.
 ghost use Rattle.std.specs.Prelude.{◌≡◌};
-ghost use Rattle.rom_c.specs.Told.{kind_number, stat_told};
-ghost use Rattle.rom_c.specs.Told.{no_node as no_node_told, no_stat as no_stat_told};
-ghost use Rattle.rom_c.specs.Told.{no_place as no_place_told};
+ghost use Rattle.rom_c.specs.Reported.{kind_number, stat_reported};
+ghost use Rattle.rom_c.specs.Reported.{no_node as no_node_reported, no_stat as no_stat_reported};
+ghost use Rattle.rom_c.specs.Reported.{no_place as no_place_reported};
 
 use rom_tree::{Kind, Stat};
 
@@ -58,14 +58,14 @@ pub(crate) fn number_of(kind: Kind) -> u32
 
 /// Returns no node, with an error.
 pub(crate) fn no_node(error: u32) -> RomtoolNode
-    ensures { result ≡ no_node_told error }
+    ensures { result ≡ no_node_reported error }
 {
     RomtoolNode { error, node: 0 }
 }
 
 /// Returns no stat, with an error.
 pub(crate) fn no_stat(error: u32) -> RomtoolStat
-    ensures { result ≡ no_stat_told error }
+    ensures { result ≡ no_stat_reported error }
 {
     RomtoolStat {
         error,
@@ -82,7 +82,7 @@ pub(crate) fn no_stat(error: u32) -> RomtoolStat
 
 /// Returns no offset, with an error.
 pub(crate) fn no_place(error: u32) -> RomtoolPlace
-    ensures { result ≡ no_place_told error }
+    ensures { result ≡ no_place_reported error }
 {
     RomtoolPlace {
         error,
@@ -93,7 +93,7 @@ pub(crate) fn no_place(error: u32) -> RomtoolPlace
 
 /// Returns a kind and numbers in the form for C.
 pub(crate) fn shown(stat: Stat) -> RomtoolStat
-    ensures { result ≡ stat_told stat }
+    ensures { result ≡ stat_reported stat }
 {
     RomtoolStat {
         error: 0,

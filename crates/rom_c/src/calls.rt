@@ -1,11 +1,12 @@
 //! Calls by paths, on an image that is open.
 ghost use Rattle.std.specs.Prelude.{◌≡◌, ◌≤◌, ◌-◌, false, Some};
-ghost use Rattle.rom_tree.specs.Tree.{Node, levels};
+ghost use Rattle.rom_tree.specs.Tree.{Node, IsShallow};
 ghost use Rattle.rom_tree.specs.Image.{HasNode, image_node, stat_of};
 ghost use Rattle.path_walk.specs.Resolution.{resolution, tree_namespace};
 ghost use Rattle.path_walk.specs.Compared.{names_compared};
 ghost use Rattle.image_check.specs.Any.{any_view};
-ghost use Rattle.rom_c.specs.Told.{IsText, led_told, within_told, shown_told, stat_told};
+ghost use Rattle.rom_c.specs.Reported.{IsText, led_reported, within_reported, shown_reported};
+ghost use Rattle.rom_c.specs.Reported.{stat_reported};
 
 use crate::answers::{RomtoolNode, RomtoolPlace, RomtoolStat, no_node, no_place, no_stat, shown};
 use image_check::AnyImage;
@@ -20,8 +21,8 @@ const TOO_MANY_NAMES: u32 = 16;
 
 /// Returns the node to which a path leads in an image.
 pub(crate) fn lookup_in(image: &mut AnyImage<'_>, path: &[u8], follow: bool) -> RomtoolNode
-    requires { levels (any_view image.old).tree ≤ 65 }
-    ensures { result ≡ led_told (resolution
+    requires { IsShallow (any_view image.old).tree }
+    ensures { result ≡ led_reported (resolution
         (tree_namespace (any_view image.old).bytes (any_view image.old).tree) path.now follow) }
 {
     match walk(image, path, follow) {
@@ -41,11 +42,11 @@ pub(crate) fn lookup_within_in(
     follow: bool,
     budget: &mut u64,
 ) -> RomtoolNode
-    requires { levels (any_view image.old).tree ≤ 65 }
-    ensures leads { result ≡ within_told budget.old
+    requires { IsShallow (any_view image.old).tree }
+    ensures leads { result ≡ within_reported budget.old
         (names_compared (tree_namespace (any_view image.old).bytes (any_view image.old).tree)
         path.now follow)
-        (led_told (resolution
+        (led_reported (resolution
         (tree_namespace (any_view image.old).bytes (any_view image.old).tree) path.now follow)) }
     ensures left { budget.new ≡ budget.old
         - names_compared (tree_namespace (any_view image.old).bytes (any_view image.old).tree)
@@ -65,8 +66,8 @@ pub(crate) fn lookup_within_in(
 
 /// Returns the kind and numbers of the node to which a path leads in an image.
 pub(crate) fn stat_in(image: &mut AnyImage<'_>, path: &[u8], follow: bool) -> RomtoolStat
-    requires { levels (any_view image.old).tree ≤ 65 }
-    ensures { result ≡ shown_told (resolution
+    requires { IsShallow (any_view image.old).tree }
+    ensures { result ≡ shown_reported (resolution
         (tree_namespace (any_view image.old).bytes (any_view image.old).tree) path.now follow) }
 {
     match walk(image, path, follow) {
@@ -79,14 +80,14 @@ pub(crate) fn stat_in(image: &mut AnyImage<'_>, path: &[u8], follow: bool) -> Ro
 pub(crate) fn stat_at(image: &AnyImage<'_>, node: NodeId) -> RomtoolStat
     requires { HasNode (any_view image.now) node.0 }
     ensures { (x : Node) → image_node (any_view image.now) node.0 ≡ Some x
-        → result ≡ stat_told (stat_of x) }
+        → result ≡ stat_reported (stat_of x) }
 {
     shown(image.stat(node))
 }
 
 /// Returns the offset and the length of the text of the link to which a path leads in an image.
 pub(crate) fn readlink_in(image: &mut AnyImage<'_>, path: &[u8]) -> RomtoolPlace
-    requires { levels (any_view image.old).tree ≤ 65 }
+    requires { IsShallow (any_view image.old).tree }
     ensures { IsText (resolution
         (tree_namespace (any_view image.old).bytes (any_view image.old).tree)
         path.now false) result }

@@ -7,8 +7,9 @@ ghost use Rattle.path_walk.specs.Resolution.{resolution, tree_namespace};
 ghost use Rattle.open_files.specs.Machine.{fstat_on, seek_on, read_on, lend_on, map_on, readdir_on};
 ghost use Rattle.image_check.specs.Checked.{HasTree};
 ghost use Rattle.rom_c.specs.Held.{usual};
-ghost use Rattle.rom_c.specs.Told.{no_stat as no_stat_told, no_place as no_place_told};
-ghost use Rattle.rom_c.specs.Outcomes.{error_told, place_told, file_stat_told, IsCopied, IsListed};
+ghost use Rattle.rom_c.specs.Reported.{no_stat as no_stat_reported, no_place as no_place_reported};
+ghost use Rattle.rom_c.specs.Outcomes.{error_reported, place_reported, file_stat_reported};
+ghost use Rattle.rom_c.specs.Outcomes.{IsCopied, IsListed};
 ghost use Rattle.rom_c.specs.Outcomes.{IsNoEntry, HasKindIn};
 ghost use Rattle.rom_c.specs.Files.{IsNoFile, IsOpen, IsOpenAt, IsOpenedBy, MovesTo, file_in};
 
@@ -86,10 +87,10 @@ pub extern "C" fn romtool_open_node<'a>(
 /// Returns the kind and numbers of an open file. The error is 6 if the file is not open.
 #[unsafe(no_mangle)]
 pub extern "C" fn romtool_fstat(file: &RomtoolFile<'_>) -> RomtoolStat
-    ensures closed { (IsOpen file.now → ⊥) → result ≡ no_stat_told 6 }
+    ensures closed { (IsOpen file.now → ⊥) → result ≡ no_stat_reported 6 }
     ensures shows { IsOpen file.now → (t : Node) → HasTree file.now.image.bytes.now usual t
         → IsSomeAnd (file_in t file.now)
-        (λ o. result ≡ file_stat_told (fstat_on None o.place o.position)) }
+        (λ o. result ≡ file_stat_reported (fstat_on None o.place o.position)) }
 {
     one_tree();
     if !is_open(file) {
@@ -104,10 +105,10 @@ pub extern "C" fn romtool_fstat(file: &RomtoolFile<'_>) -> RomtoolStat
 /// follow one another in the image.
 #[unsafe(no_mangle)]
 pub extern "C" fn romtool_map(file: &RomtoolFile<'_>, off: u64, len: u64) -> RomtoolPlace
-    ensures closed { (IsOpen file.now → ⊥) → result ≡ no_place_told 6 }
+    ensures closed { (IsOpen file.now → ⊥) → result ≡ no_place_reported 6 }
     ensures lent { IsOpen file.now → (t : Node) → HasTree file.now.image.bytes.now usual t
         → IsSomeAnd (file_in t file.now)
-        (λ o. result ≡ place_told (map_on None file.now.image.bytes.now off len o.place
+        (λ o. result ≡ place_reported (map_on None file.now.image.bytes.now off len o.place
         o.position)) }
 {
     one_tree();
@@ -127,10 +128,11 @@ pub extern "C" fn romtool_lend(file: &mut RomtoolFile<'_>, max: u64) -> RomtoolP
     ensures node { file.new.node ≡ file.old.node }
     ensures error { file.new.error ≡ file.old.error }
     ensures closed { (IsOpen file.old → ⊥)
-        → (result ≡ no_place_told 6) × (file.new.position ≡ file.old.position) }
+        → (result ≡ no_place_reported 6) × (file.new.position ≡ file.old.position) }
     ensures lent { IsOpen file.old → (t : Node) → HasTree file.old.image.bytes.now usual t
         → IsSomeAnd (file_in t file.old)
-        (λ o. (result ≡ place_told (lend_on None file.old.image.bytes.now max o.place o.position))
+        (λ o. (result ≡ place_reported (lend_on None file.old.image.bytes.now max o.place
+        o.position))
         × MovesTo t file.old file.new.position
         (lend_on None file.old.image.bytes.now max o.place o.position)) }
 {
@@ -188,7 +190,7 @@ pub extern "C" fn romtool_seek(file: &mut RomtoolFile<'_>, position: u64) -> u32
         → (result ≡ 6) × (file.new.position ≡ file.old.position) }
     ensures sought { IsOpen file.old → (t : Node) → HasTree file.old.image.bytes.now usual t
         → IsSomeAnd (file_in t file.old)
-        (λ o. (result ≡ error_told (seek_on position o.place o.position))
+        (λ o. (result ≡ error_reported (seek_on position o.place o.position))
         × MovesTo t file.old file.new.position (seek_on position o.place o.position)) }
 {
     one_tree();

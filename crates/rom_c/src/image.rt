@@ -1,6 +1,6 @@
 //! The check, and the struct that C holds of an image.
 ghost use Rattle.std.specs.Prelude.{◌≡◌, ◌≢◌, ◌≤◌, ◌⊎◌};
-ghost use Rattle.rom_tree.specs.Tree.{Node, levels};
+ghost use Rattle.rom_tree.specs.Tree.{Node, levels, IsShallow};
 ghost use Rattle.rom_faults.specs.declared.error.CheckError.TheVariants.{Fault, OutOfMemory};
 ghost use Rattle.romfs_image.specs.Parts.{AreParts as AreRomfsParts};
 ghost use Rattle.cramfs_image.specs.Parts.{AreParts as AreCramfsParts};
@@ -135,7 +135,7 @@ fn opened_cramfs<'a>(bytes: &'a [u8], parts: CramfsParts) -> RomtoolImage<'a>
 fn opened<'a>(bytes: &'a [u8], found: &AnyImage<'a>) -> RomtoolImage<'a>
     requires shows { Shows bytes.now usual (any_view found.now) (report_of found.now) }
     requires format { HasFormat bytes.now found.now }
-    requires shallow { levels (any_view found.now).tree ≤ 65 }
+    requires shallow { IsShallow (any_view found.now).tree }
     ensures status { result.status ≡ 1 }
     ensures bytes { result.bytes.now ≡ bytes.now }
     ensures format { IsFormat bytes.now result.format }
@@ -248,7 +248,7 @@ pub(crate) fn image_of<'a>(image: &RomtoolImage<'a>) -> AnyImage<'a>
     ensures cursors { (any_view result).cursor_index ≡ cursors_of_parts image.now.bytes.now
         (parts_of image.now.format image.now.accessible image.now.root image.now.references
         image.now.depth) }
-    ensures shallow { levels (any_view result).tree ≤ 65 }
+    ensures shallow { IsShallow (any_view result).tree }
 {
     AnyImage::again(image.bytes, numbers(image))
 }

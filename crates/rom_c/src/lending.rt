@@ -6,7 +6,8 @@ ghost use Rattle.open_files.specs.Machine.{Open, fstat_on, seek_on, read_on, len
 ghost use Rattle.open_files.specs.Machine.{readdir_on};
 ghost use Rattle.open_files.specs.Slots.{stands, image_view};
 ghost use Rattle.image_check.specs.Any.{any_view};
-ghost use Rattle.rom_c.specs.Outcomes.{error_told, place_told, file_stat_told, IsCopied, IsListed};
+ghost use Rattle.rom_c.specs.Outcomes.{error_reported, place_reported, file_stat_reported};
+ghost use Rattle.rom_c.specs.Outcomes.{IsCopied, IsListed};
 ghost use Rattle.rom_c.specs.Outcomes.{Follows, HasKindIn};
 
 use crate::answers::{RomtoolPlace, RomtoolStat, no_place, number_of, shown};
@@ -28,7 +29,7 @@ pub(crate) fn can_open(image: &AnyImage<'_>, node: NodeId) -> bool
 pub(crate) fn fstat_in(image: &AnyImage<'_>, opened: OpenNode) -> RomtoolStat
     requires { (o : Open Node) × (stands (image_view (any_view image.now)) opened ≡ Some o) }
     ensures { (o : Open Node) → stands (image_view (any_view image.now)) opened ≡ Some o
-        → result ≡ file_stat_told (fstat_on None o.place o.position) }
+        → result ≡ file_stat_reported (fstat_on None o.place o.position) }
 {
     shown(opened::fstat(image, opened))
 }
@@ -37,7 +38,8 @@ pub(crate) fn fstat_in(image: &AnyImage<'_>, opened: OpenNode) -> RomtoolStat
 pub(crate) fn map_in(image: &AnyImage<'_>, opened: OpenNode, off: u64, len: u64) -> RomtoolPlace
     requires { (o : Open Node) × (stands (image_view (any_view image.now)) opened ≡ Some o) }
     ensures { (o : Open Node) → stands (image_view (any_view image.now)) opened ≡ Some o
-        → result ≡ place_told (map_on None (any_view image.now).bytes off len o.place o.position) }
+        → result ≡ place_reported (map_on None
+        (any_view image.now).bytes off len o.place o.position) }
 {
     match opened::map(image, opened, off, len) {
         Ok(piece) => RomtoolPlace {
@@ -54,7 +56,7 @@ pub(crate) fn map_in(image: &AnyImage<'_>, opened: OpenNode, off: u64, len: u64)
 pub(crate) fn lend_in(image: &AnyImage<'_>, opened: &mut OpenNode, max: u64) -> RomtoolPlace
     requires { (o : Open Node) × (stands (image_view (any_view image.now)) opened.old ≡ Some o) }
     ensures lent { (o : Open Node) → stands (image_view (any_view image.now)) opened.old ≡ Some o
-        → (result ≡ place_told (lend_on None (any_view image.now).bytes max o.place o.position))
+        → (result ≡ place_reported (lend_on None (any_view image.now).bytes max o.place o.position))
         × Follows (image_view (any_view image.now)) o opened.old opened.new
         (lend_on None (any_view image.now).bytes max o.place o.position) }
     ensures stands { is_some (stands (image_view (any_view image.now)) opened.new) ≡ true }
@@ -103,7 +105,7 @@ pub(crate) fn read_in(
 pub(crate) fn seek_in(image: &AnyImage<'_>, opened: &mut OpenNode, position: u64) -> u32
     requires { (o : Open Node) × (stands (image_view (any_view image.now)) opened.old ≡ Some o) }
     ensures sought { (o : Open Node) → stands (image_view (any_view image.now)) opened.old ≡ Some o
-        → (result ≡ error_told (seek_on position o.place o.position))
+        → (result ≡ error_reported (seek_on position o.place o.position))
         × Follows (image_view (any_view image.now)) o opened.old opened.new
         (seek_on position o.place o.position) }
     ensures stands { is_some (stands (image_view (any_view image.now)) opened.new) ≡ true }

@@ -7,9 +7,10 @@ ghost use Rattle.path_walk.specs.Compared.{names_compared};
 ghost use Rattle.rom_faults.specs.declared.error.CheckError.TheVariants.{Fault, OutOfMemory};
 ghost use Rattle.image_check.specs.Checked.{HasTree, IsLeastFaultUnder};
 ghost use Rattle.rom_c.specs.Held.{usual, IsFormat, IsReported};
-ghost use Rattle.rom_c.specs.Told.{IsText, led_told, within_told, shown_told, stat_told};
-ghost use Rattle.rom_c.specs.Told.{no_node as no_node_told, no_stat as no_stat_told};
-ghost use Rattle.rom_c.specs.Told.{no_place as no_place_told};
+ghost use Rattle.rom_c.specs.Reported.{IsText, led_reported, within_reported, shown_reported};
+ghost use Rattle.rom_c.specs.Reported.{stat_reported};
+ghost use Rattle.rom_c.specs.Reported.{no_node as no_node_reported, no_stat as no_stat_reported};
+ghost use Rattle.rom_c.specs.Reported.{no_place as no_place_reported};
 
 use crate::answers::{CLOSED, RomtoolNode, RomtoolPlace, RomtoolStat, no_node, no_place, no_stat};
 use crate::calls::{lookup_in, lookup_within_in, readlink_in, stat_at, stat_in};
@@ -53,9 +54,9 @@ pub extern "C" fn romtool_check<'a>(
 /// component is followed. The errors are 13 if no image is open, and those of `path_walk::walk`.
 #[unsafe(no_mangle)]
 pub extern "C" fn romtool_lookup(image: &RomtoolImage<'_>, path: &[u8], follow: bool) -> RomtoolNode
-    ensures closed { image.now.status ≢ 1 → result ≡ no_node_told 13 }
+    ensures closed { image.now.status ≢ 1 → result ≡ no_node_reported 13 }
     ensures leads { image.now.status ≡ 1 → (t : Node) → HasTree image.now.bytes.now usual t
-        → result ≡ led_told (resolution (tree_namespace image.now.bytes.now t) path.now follow) }
+        → result ≡ led_reported (resolution (tree_namespace image.now.bytes.now t) path.now follow) }
 {
     one_tree();
     if image.status != OPEN {
@@ -76,11 +77,11 @@ pub extern "C" fn romtool_lookup_within(
     budget: &mut u64,
 ) -> RomtoolNode
     ensures closed { image.now.status ≢ 1
-        → (result ≡ no_node_told 13) × (budget.new ≡ budget.old) }
+        → (result ≡ no_node_reported 13) × (budget.new ≡ budget.old) }
     ensures leads { image.now.status ≡ 1 → (t : Node) → HasTree image.now.bytes.now usual t
-        → result ≡ within_told budget.old
+        → result ≡ within_reported budget.old
         (names_compared (tree_namespace image.now.bytes.now t) path.now follow)
-        (led_told (resolution (tree_namespace image.now.bytes.now t) path.now follow)) }
+        (led_reported (resolution (tree_namespace image.now.bytes.now t) path.now follow)) }
     ensures left { image.now.status ≡ 1 → (t : Node) → HasTree image.now.bytes.now usual t
         → budget.new
         ≡ budget.old - names_compared (tree_namespace image.now.bytes.now t) path.now follow }
@@ -96,9 +97,9 @@ pub extern "C" fn romtool_lookup_within(
 /// those of `romtool_lookup`.
 #[unsafe(no_mangle)]
 pub extern "C" fn romtool_stat(image: &RomtoolImage<'_>, path: &[u8], follow: bool) -> RomtoolStat
-    ensures closed { image.now.status ≢ 1 → result ≡ no_stat_told 13 }
+    ensures closed { image.now.status ≢ 1 → result ≡ no_stat_reported 13 }
     ensures shows { image.now.status ≡ 1 → (t : Node) → HasTree image.now.bytes.now usual t
-        → result ≡ shown_told (resolution (tree_namespace image.now.bytes.now t) path.now
+        → result ≡ shown_reported (resolution (tree_namespace image.now.bytes.now t) path.now
         follow) }
 {
     one_tree();
@@ -114,9 +115,9 @@ pub extern "C" fn romtool_stat(image: &RomtoolImage<'_>, path: &[u8], follow: bo
 pub extern "C" fn romtool_stat_node(image: &RomtoolImage<'_>, node: u32) -> RomtoolStat
     requires { image.now.status ≡ 1 → (t : Node) → HasTree image.now.bytes.now usual t
         → IsSome (node_at t node) }
-    ensures closed { image.now.status ≢ 1 → result ≡ no_stat_told 13 }
+    ensures closed { image.now.status ≢ 1 → result ≡ no_stat_reported 13 }
     ensures shows { image.now.status ≡ 1 → (t : Node) → HasTree image.now.bytes.now usual t
-        → IfSome (node_at t node) (λ x. result ≡ stat_told (stat_of x)) }
+        → IfSome (node_at t node) (λ x. result ≡ stat_reported (stat_of x)) }
 {
     one_tree();
     if image.status != OPEN {
@@ -130,7 +131,7 @@ pub extern "C" fn romtool_stat_node(image: &RomtoolImage<'_>, node: u32) -> Romt
 /// path does not lead to a link.
 #[unsafe(no_mangle)]
 pub extern "C" fn romtool_readlink(image: &RomtoolImage<'_>, path: &[u8]) -> RomtoolPlace
-    ensures closed { image.now.status ≢ 1 → result ≡ no_place_told 13 }
+    ensures closed { image.now.status ≢ 1 → result ≡ no_place_reported 13 }
     ensures text { image.now.status ≡ 1 → (t : Node) → HasTree image.now.bytes.now usual t
         → IsText (resolution (tree_namespace image.now.bytes.now t) path.now false) result }
 {

@@ -13,7 +13,7 @@ use Rattle.rom_commands.specs.declared.copying.Copied.TheVariants.{Done, WriteFa
 use Rattle.rom_commands.proofs.Printed.{counted, unsaid, rose_counted}
 
 -- how it ended, what the status is, and what was said
-pub record Told (bytes path : List ℕ) (old new err err' : Output) (result : Status) : Type 0 where
+pub record Reported (bytes path : List ℕ) (old new err err' : Output) (result : Status) : Type 0 where
   pub outcome : Copied
   pub status : result ≡ copied_status outcome
   pub ends : CopyEnds bytes path old new outcome
@@ -29,9 +29,9 @@ module _ (bytes path : List ℕ) (old mid new err err' : Output) (result : Statu
   risen : 0 < new.failures → Rose old.failures new.failures
   risen l = inl (omega (arith, fresh, l))
 
-  pub done_told : CopyEnds bytes path old mid Done → Flushes mid new err err' status.Done result
-      → Told bytes path old new err err' result
-  done_told h (inl f) =
+  pub done_reported : CopyEnds bytes path old mid Done → Flushes mid new err err' status.Done result
+      → Reported bytes path old new err err' result
+  done_reported h (inl f) =
       let c = h.2 in
       record {
         outcome = WriteFault;
@@ -50,7 +50,7 @@ module _ (bytes path : List ℕ) (old mid new err err' : Output) (result : Statu
         handed = tt;
         said = f.2;
       }
-  done_told h (inr f) =
+  done_reported h (inr f) =
       let c = h.2 in
       record {
         outcome = Done;
@@ -66,7 +66,14 @@ module _ (bytes path : List ℕ) (old mid new err err' : Output) (result : Statu
   failed_before : CopyEnds bytes path old mid WriteFault → mid.failures ≡ 0 → ⊥
   failed_before h e = let c = h.2 in rose_counted old.failures mid.failures fresh c.3 e
 
-  pub fault_told : CopyEnds bytes path old mid WriteFault → Flushes mid new err err' status.Failed result
-      → Told bytes path old new err err' result
-  fault_told h (inl f) = record { outcome = WriteFault; status = f.1; ends = kept_fault h f.0; handed = tt; said = f.2 }
-  fault_told h (inr f) = absurd (failed_before h f.0)
+  pub fault_reported : CopyEnds bytes path old mid WriteFault → Flushes mid new err err' status.Failed result
+      → Reported bytes path old new err err' result
+  fault_reported h (inl f) = record {
+    outcome = WriteFault;
+    status = f.1;
+    ends = kept_fault h f.0;
+    handed = tt;
+    said =
+        f.2;
+  }
+  fault_reported h (inr f) = absurd (failed_before h f.0)

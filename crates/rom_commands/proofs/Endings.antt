@@ -25,7 +25,7 @@ use Rattle.rom_commands.specs.Refused.{EndsUnserved, IsFirst}
 use Rattle.rom_commands.specs.declared.several.NoImage.{NoImage}
 use Rattle.rom_commands.specs.declared.several.NoImage.TheVariants as none
 use Rattle.rom_commands.specs.Answers.{IsFaultTextUnder}
-use Rattle.rom_commands.specs.Serving.{Input, EndsServed, EndsRefused, Tells, CheckedEnds, ServingEndsUnder, HoldAll}
+use Rattle.rom_commands.specs.Serving.{Input, EndsServed, EndsRefused, Reports, CheckedEnds, ServingEndsUnder, HoldAll}
 use Rattle.rom_commands.specs.Serving.{IsFirstFaultText, SpaceEnds, fault_in_line, serving_of, refusal_of}
 
 -- lines were answered
@@ -69,22 +69,22 @@ refuses_by IsText r w₀ w text (Ok _) h a b f = (refl, (text, h, a), b, f)
 refuses_by IsText r w₀ w text (Err _) h a b f = (refl, (text, h, a), b)
 
 -- this text was written
-pub tells_by : (r : Input) (w₀ w : Output) (text : List ℕ) (q : Result (Unit {0}) Failed)
+pub reports_by : (r : Input) (w₀ w : Output) (text : List ℕ) (q : Result (Unit {0}) Failed)
     → WritesText w₀.contents w.contents q text
-    → Counts w₀.failures w.failures q → OnOk q (w.flushes ≡ one_more w₀.flushes) → Tells text r r w₀ w (refusal_of q)
-tells_by r w₀ w text (Ok _) a b f = (refl, a, b, f)
-tells_by r w₀ w text (Err _) a b f = (refl, a, b)
+    → Counts w₀.failures w.failures q → OnOk q (w.flushes ≡ one_more w₀.flushes) → Reports text r r w₀ w (refusal_of q)
+reports_by r w₀ w text (Ok _) a b f = (refl, a, b, f)
+reports_by r w₀ w text (Err _) a b f = (refl, a, b)
 
 -- a text that was written is one of a fault
-told : (IsText : List ℕ → Type 0) (text : List ℕ) (r₀ r : Input) (w₀ w : Output) (o : Serving) → IsText text
-    → Tells text r₀ r w₀ w o
+reported : (IsText : List ℕ → Type 0) (text : List ℕ) (r₀ r : Input) (w₀ w : Output) (o : Serving) → IsText text
+    → Reports text r₀ r w₀ w o
     → EndsRefused IsText r₀ r w₀ w o
-told IsText text r₀ r w₀ w Refused is t = (t.0, (text, is, t.1), t.2, t.3)
-told IsText text r₀ r w₀ w WriteFault is t = (t.0, (text, is, t.1), t.2)
-told IsText text r₀ r w₀ w Memory is t = absurd t
-told IsText text r₀ r w₀ w Served is t = absurd t
-told IsText text r₀ r w₀ w ReadFault is t = absurd t
-told IsText text r₀ r w₀ w TooManyReads is t = absurd t
+reported IsText text r₀ r w₀ w Refused is t = (t.0, (text, is, t.1), t.2, t.3)
+reported IsText text r₀ r w₀ w WriteFault is t = (t.0, (text, is, t.1), t.2)
+reported IsText text r₀ r w₀ w Memory is t = absurd t
+reported IsText text r₀ r w₀ w Served is t = absurd t
+reported IsText text r₀ r w₀ w ReadFault is t = absurd t
+reported IsText text r₀ r w₀ w TooManyReads is t = absurd t
 
 unserved : (IsText : List ℕ → Type 0) (r₀ r : Input) (w₀ w : Output) (o : Serving) → o ≡ Memory → r ≡ r₀ → w ≡ w₀
     → EndsRefused IsText r₀ r w₀ w o
@@ -101,7 +101,7 @@ under_by limits bytes (Ok v) r₀ r w₀ w o shows clean refused least ends =
 under_by limits bytes (Err (check.Fault number at)) r₀ r w₀ w o shows clean refused least ends =
     let is : IsFaultTextUnder limits bytes (fault_line number at) =
     record { number = number; at = at; fault = record { refused = refused; least = least }; same = refl } in
-    inr (told (IsFaultTextUnder limits bytes) (fault_line number at) r₀ r w₀ w o is ends)
+    inr (reported (IsFaultTextUnder limits bytes) (fault_line number at) r₀ r w₀ w o is ends)
 under_by limits bytes (Err check.OutOfMemory) r₀ r w₀ w o shows clean refused least ends =
     inr (unserved (IsFaultTextUnder limits bytes) r₀ r w₀ w o ends.0 ends.1 ends.2)
 
@@ -115,7 +115,7 @@ all_by images all (Ok v) r₀ r w₀ w o held first served unserved_by = inl (im
 all_by images all (Err (none.Fault number at image)) r₀ r w₀ w o held first served unserved_by =
     let is : IsFirstFaultText all (fault_in_line number at image) =
     record { number = number; at = at; image = image; first = first; same = refl } in
-    inr (told (IsFirstFaultText all) (fault_in_line number at image) r₀ r w₀ w o is unserved_by)
+    inr (reported (IsFirstFaultText all) (fault_in_line number at image) r₀ r w₀ w o is unserved_by)
 all_by images all (Err none.OutOfMemory) r₀ r w₀ w o held first served unserved_by =
     inr (unserved (IsFirstFaultText all) r₀ r w₀ w o unserved_by.0 unserved_by.1 unserved_by.2)
 

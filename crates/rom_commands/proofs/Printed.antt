@@ -25,7 +25,7 @@ pub counted : (n m : ℕ) → n ≡ one_more m → 0 < n
 counted n m e = omega (arith, e)
 
 -- how it ended, what the status is, and what was said
-pub record Told (bytes : List ℕ) (asked : Asked) (old new err err' : Output) (result : Status) : Type 0 where
+pub record Reported (bytes : List ℕ) (asked : Asked) (old new err err' : Output) (result : Status) : Type 0 where
   pub outcome : Outcome
   pub status : result ≡ status_of outcome
   pub ends : Ends bytes asked old new outcome
@@ -37,9 +37,9 @@ module _ (bytes : List ℕ) (asked : Asked) (old mid new err err' : Output) (res
   risen : 0 < new.failures → Rose old.failures new.failures
   risen l = inl (omega (arith, fresh, l))
 
-  pub done_told : Ends bytes asked old mid Done → Flushes mid new err err' status.Done result
-      → Told bytes asked old new err err' result
-  done_told h (inl f) = record {
+  pub done_reported : Ends bytes asked old mid Done → Flushes mid new err err' status.Done result
+      → Reported bytes asked old new err err' result
+  done_reported h (inl f) = record {
     outcome = WriteFault;
     status = f.1;
     ends = (
@@ -52,7 +52,7 @@ module _ (bytes : List ℕ) (asked : Asked) (old mid new err err' : Output) (res
     handed = tt;
     said = f.2;
   }
-  done_told h (inr f) = record {
+  done_reported h (inr f) = record {
     outcome = Done;
     status = f.2;
     ends = (h.0, h.1, appends_keep old.contents mid.contents new.contents h.0 h.2 k, f.1 ∙ sym fresh);
@@ -60,9 +60,9 @@ module _ (bytes : List ℕ) (asked : Asked) (old mid new err err' : Output) (res
     said = unsaid err err' f.3;
   }
 
-  pub warned_told : Ends bytes asked old mid Warned → Flushes mid new err err' status.Refused result
-      → Told bytes asked old new err err' result
-  warned_told h (inl f) = record {
+  pub warned_reported : Ends bytes asked old mid Warned → Flushes mid new err err' status.Refused result
+      → Reported bytes asked old new err err' result
+  warned_reported h (inl f) = record {
     outcome = WriteFault;
     status = f.1;
     ends = (
@@ -75,7 +75,7 @@ module _ (bytes : List ℕ) (asked : Asked) (old mid new err err' : Output) (res
     handed = tt;
     said = f.2;
   }
-  warned_told h (inr f) = record {
+  warned_reported h (inr f) = record {
     outcome = Warned;
     status = f.2;
     ends = (h.0, h.1, appends_keep old.contents mid.contents new.contents h.0 h.2 k, f.1 ∙ sym fresh);
@@ -83,9 +83,9 @@ module _ (bytes : List ℕ) (asked : Asked) (old mid new err err' : Output) (res
     said = unsaid err err' f.3;
   }
 
-  pub refused_told : Ends bytes asked old mid Refused → Flushes mid new err err' status.Refused result
-      → Told bytes asked old new err err' result
-  refused_told h (inl f) = record {
+  pub refused_reported : Ends bytes asked old mid Refused → Flushes mid new err err' status.Refused result
+      → Reported bytes asked old new err err' result
+  refused_reported h (inl f) = record {
     outcome = WriteFault;
     status = f.1;
     ends = (
@@ -98,7 +98,7 @@ module _ (bytes : List ℕ) (asked : Asked) (old mid new err err' : Output) (res
     handed = tt;
     said = f.2;
   }
-  refused_told h (inr f) = record {
+  refused_reported h (inr f) = record {
     outcome = Refused;
     status = f.2;
     ends = (h.0, h.1, appends_keep old.contents mid.contents new.contents h.0 h.2 k, f.1 ∙ sym fresh);
@@ -106,9 +106,9 @@ module _ (bytes : List ℕ) (asked : Asked) (old mid new err err' : Output) (res
     said = unsaid err err' f.3;
   }
 
-  pub fault_told : Ends bytes asked old mid WriteFault → Flushes mid new err err' status.Failed result
-      → Told bytes asked old new err err' result
-  fault_told h (inl f) =
+  pub fault_reported : Ends bytes asked old mid WriteFault → Flushes mid new err err' status.Failed result
+      → Reported bytes asked old new err err' result
+  fault_reported h (inl f) =
       let a = h.2 in
       record {
         outcome = WriteFault;
@@ -117,4 +117,4 @@ module _ (bytes : List ℕ) (asked : Asked) (old mid new err err' : Output) (res
         handed = tt;
         said = f.2;
       }
-  fault_told h (inr f) = absurd (rose_counted old.failures mid.failures fresh h.3 f.0)
+  fault_reported h (inr f) = absurd (rose_counted old.failures mid.failures fresh h.3 f.0)

@@ -3,9 +3,9 @@ use Rattle.std.specs.Prelude.{ℕ, ◌+◌, ◌^◌, ◌≤◌, ◌++◌, Bool, 
 use Rattle.rom_tree.specs.Listing.{list_text}
 use Rattle.image_check.specs.declared.any.AnyImage.{AnyImage}
 use Rattle.image_check.specs.Any.{any_view, report_of}
-use Rattle.image_map.specs.Map.{map_text}
+use Rattle.image_info.specs.Map.{map_text}
 use Rattle.image_info.specs.Info.{info_text}
-use Rattle.linux_misreads.specs.Misreads.{is_told, misreads_text}
+use Rattle.linux_misreads.specs.Misreads.{is_printed, misreads_text}
 use Rattle.rom_commands.specs.Formats.{format_of}
 use Rattle.rom_commands.specs.Room.{fits, room_text}
 use Rattle.rom_commands.specs.Lines.{ok_line}
@@ -25,7 +25,7 @@ sound_text (Fit file limit) a = info_text file a ++ room_text limit a
 
 -- whether it reports something that Linux misreads, or that the image does not fit
 abbrev pub warns : Asked → AnyImage → Bool
-warns Misreads a = is_told (misreads_text a)
+warns Misreads a = is_printed (misreads_text a)
 warns (Fit file limit) a = not (fits limit a)
 warns _ a = false
 

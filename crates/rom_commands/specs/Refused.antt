@@ -2,7 +2,7 @@
 use Rattle.std.specs.Prelude.{◌≡◌, ℕ, List}
 use Rattle.rom_fields.specs.Written.{Output}
 use Rattle.rom_commands.specs.Answers.{HasFault}
-use Rattle.rom_commands.specs.Serving.{HasFirstFault, Input, Tells, fault_in_line}
+use Rattle.rom_commands.specs.Serving.{HasFirstFault, Input, Reports, fault_in_line}
 use Rattle.rom_commands.specs.declared.serving.Serving.{Serving}
 use Rattle.rom_commands.specs.declared.serving.Serving.TheVariants.{Memory}
 use Rattle.rom_commands.specs.declared.several.NoImage.{NoImage}
@@ -22,4 +22,5 @@ IsFirst all (Fault number at image) = HasFirstFault all number at image
 -- written; or nothing is done, if memory was refused to the checks.
 abbrev pub EndsUnserved : NoImage → Input → Input → Output → Output → Serving → Type 0
 EndsUnserved OutOfMemory r₀ r w₀ w o = (o ≡ Memory) × (r ≡ r₀) × (w ≡ w₀)
-EndsUnserved (Fault number at image) r₀ r w₀ w o = Tells (fault_in_line number at image) r₀ r w₀ w o
+EndsUnserved (Fault number at image) r₀ r w₀ w o =
+    Reports (fault_in_line number at image) r₀ r w₀ w o

@@ -5,7 +5,7 @@ use Rattle.cramfs_format.specs.Superblock.{accessible_size}
 use Rattle.cramfs_image.specs.Reported.{order_in}
 use Rattle.image_check.specs.declared.any.AnyImage.{AnyImage}
 use Rattle.image_check.specs.declared.any.AnyImage.TheVariants.{Romfs, Cramfs}
-use Rattle.image_gaps.specs.Gaps.{gaps_of}
+use Rattle.image_info.specs.Gaps.{gaps_of}
 use Rattle.image_info.specs.Info.{number_line, plain_line}
 
 -- the number of bytes of an image, as its superblock states it

@@ -81,16 +81,16 @@ EndsRefused IsText r₀ r w₀ w TooManyReads = ⊥
 
 -- No line was answered, and nothing was read. This text was written and flushed once, or that
 -- failed.
-abbrev pub Tells : List ℕ → Input → Input → Output → Output → Serving → Type 0
-Tells text r₀ r w₀ w Refused =
+abbrev pub Reports : List ℕ → Input → Input → Output → Output → Serving → Type 0
+Reports text r₀ r w₀ w Refused =
     (r ≡ r₀) × Appends w₀.contents w.contents text
     × (w.failures ≡ w₀.failures) × (w.flushes ≡ one_more w₀.flushes)
-Tells text r₀ r w₀ w WriteFault =
+Reports text r₀ r w₀ w WriteFault =
     (r ≡ r₀) × AppendsPrefix w₀.contents w.contents text × Rose w₀.failures w.failures
-Tells text r₀ r w₀ w Memory = ⊥
-Tells text r₀ r w₀ w Served = ⊥
-Tells text r₀ r w₀ w ReadFault = ⊥
-Tells text r₀ r w₀ w TooManyReads = ⊥
+Reports text r₀ r w₀ w Memory = ⊥
+Reports text r₀ r w₀ w Served = ⊥
+Reports text r₀ r w₀ w ReadFault = ⊥
+Reports text r₀ r w₀ w TooManyReads = ⊥
 
 -- The writing of a fault's line ended in this way, and the status says so. If it failed, standard
 -- error says so as well.
@@ -100,8 +100,8 @@ Says (Err _) err err' result = (result ≡ status.Failed) × Prints err err' (co
 
 -- The line of a fault was written and flushed once, and the status says so; or a write failed,
 -- which is reported.
-abbrev pub TellsFault : List ℕ → Output → Output → Output → Output → Status → Type 0
-TellsFault text w₀ w err err' result =
+abbrev pub ReportsFault : List ℕ → Output → Output → Output → Output → Status → Type 0
+ReportsFault text w₀ w err err' result =
     ((result ≡ status.Refused) × Appends w₀.contents w.contents text × (w.failures ≡ w₀.failures)
     × (w.flushes ≡ one_more w₀.flushes) × Prints err err' [])
     ⊎ ((result ≡ status.Failed) × AppendsPrefix w₀.contents w.contents text
@@ -114,7 +114,7 @@ TellsFault text w₀ w err err' result =
 abbrev pub CheckedEnds : Result AnyImage CheckError → Input → Input → Output → Output → Serving
     → Type 0
 CheckedEnds (Ok v) r₀ r w₀ w o = EndsServed (image_machine (any_view v)) (no_files 64) r₀ r w₀ w o
-CheckedEnds (Err (check.Fault number at)) r₀ r w₀ w o = Tells (fault_line number at) r₀ r w₀ w o
+CheckedEnds (Err (check.Fault number at)) r₀ r w₀ w o = Reports (fault_line number at) r₀ r w₀ w o
 CheckedEnds (Err check.OutOfMemory) r₀ r w₀ w o = (o ≡ Memory) × (r ≡ r₀) × (w ≡ w₀)
 
 -- The bytes hold an image under these limits, and lines were answered from its tree, with nothing

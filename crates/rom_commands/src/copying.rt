@@ -1,6 +1,6 @@
 //! Writes the bytes of one file of an image.
 ghost use Rattle.std.specs.Prelude.{◌≡◌, ◌≤◌};
-ghost use Rattle.rom_tree.specs.Tree.{levels};
+ghost use Rattle.rom_tree.specs.Tree.{IsShallow};
 ghost use Rattle.image_check.specs.Any.{any_view};
 ghost use Rattle.rom_commands.specs.Answers.{Prints};
 ghost use Rattle.rom_commands.specs.Copying.{Copies, CopyEnds, IsHandedOn, copied_status};
@@ -10,7 +10,7 @@ use crate::printing::{complain, flushed};
 use crate::serving::complain_of_fault;
 use crate::status::Status;
 use image_check::{AnyImage, check};
-use image_map::cat;
+use image_info::cat;
 use path_walk::{WalkError, walk};
 use rom_faults::{CheckError, Fault};
 use rom_fields::{ByteWrite, Plain};
@@ -51,7 +51,7 @@ pub enum Copied {
 
 /// Writes the bytes of the regular file to which a path leads. Symbolic links are followed.
 fn copy_file<W: ByteWrite>(image: &mut AnyImage, path: &[u8], w: &mut W) -> Copied
-    requires { levels (any_view image.old).tree ≤ 65 }
+    requires { IsShallow (any_view image.old).tree }
     ensures { Copies (any_view image.old) path.now (W.output w.old) (W.output w.new) result }
 {
     let node = match walk(image, path, true) {

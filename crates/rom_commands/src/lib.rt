@@ -26,4 +26,4 @@ pub use serving::{
 };
 pub use several::{refuse_in, serve_images, serve_several_on};
 pub use shown::{Outcome, has_addresses, show, takes_fault};
-pub use status::{Failure, Status, tell};
+pub use status::{Failure, Status, report};

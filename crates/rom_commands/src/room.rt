@@ -2,15 +2,14 @@
 ghost use Rattle.std.specs.Prelude.{◌≡◌, nat_lt, not, IfOk, IfErr};
 ghost use Rattle.rom_fields.specs.Failures.{Counts};
 ghost use Rattle.rom_fields.specs.Written.{Puts, WritesText, sink};
-ghost use Rattle.image_gaps.specs.Gaps.{gaps_of, IsChecked};
+ghost use Rattle.image_info.specs.Gaps.{gaps_of, IsChecked};
 ghost use Rattle.image_info.specs.declared.info.InfoError.TheVariants as info;
 ghost use Rattle.image_info.specs.Info.{number_line};
 ghost use Rattle.rom_commands.specs.Room.{fits_word, room_lines, size_of};
 
 use cramfs_format::superblock::accessible_size;
 use image_check::AnyImage;
-use image_gaps::count_gaps;
-use image_info::InfoError;
+use image_info::{InfoError, count_gaps};
 use rom_fields::{ByteWrite, Failed, put, put_long_decimal};
 use rom_tree::TreeImage;
 use romfs_format::superblock::stated_size;

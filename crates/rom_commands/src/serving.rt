@@ -2,13 +2,13 @@
 ghost use Rattle.std.specs.Prelude.{◌≡◌, ◌≤◌, ℕ, List, length, map, false, true, IfOk, OnOk};
 ghost use Rattle.rom_fields.specs.Failures.{Counts, one_more};
 ghost use Rattle.rom_fields.specs.Written.{WritesText};
-ghost use Rattle.rom_tree.specs.Tree.{levels};
+ghost use Rattle.rom_tree.specs.Tree.{IsShallow};
 ghost use Rattle.image_check.specs.Any.{any_view};
 ghost use Rattle.open_files.specs.Machine.{no_files};
 ghost use Rattle.rom_serve.specs.Machines.{image_machine};
 ghost use Rattle.rom_commands.specs.Lines.{fault_line};
 ghost use Rattle.rom_commands.specs.Answers.{Ends, HasFault, Prints, complaint_of, status_of};
-ghost use Rattle.rom_commands.specs.Serving.{Says, TellsFault};
+ghost use Rattle.rom_commands.specs.Serving.{Says, ReportsFault};
 ghost use Rattle.rom_commands.specs.Asked.{takes_fault};
 ghost use Rattle.rom_commands.specs.declared.shown.Outcome.{Outcome};
 ghost use Rattle.rom_commands.specs.declared.status.Status.TheVariants.{Refused as refused_status};
@@ -22,7 +22,7 @@ use crate::printing::complain;
 use crate::shown::{takes_fault, write_fault_line};
 use crate::status::Status;
 use image_check::{AnyImage, check};
-use name_index::Indexed;
+use lookups::Indexed;
 use rom_faults::{CheckError, Fault};
 use rom_fields::{ByteRead, ByteWrite, Failed, put};
 use rom_serve::{Cached, NoCache, ServeError, serve};
@@ -98,7 +98,7 @@ pub(crate) fn refused(written: Result<(), Failed>) -> Serving
 }
 
 /// Writes the line of a fault, and flushes it.
-fn tell_fault<W: ByteWrite>(w: &mut W, number: u32, at: u32) -> Result<(), Failed>
+fn report_fault<W: ByteWrite>(w: &mut W, number: u32, at: u32) -> Result<(), Failed>
     ensures text { WritesText (W.output w.old).contents (W.output w.new).contents result
         (fault_line number at) }
     ensures count { Counts (W.output w.old).failures (W.output w.new).failures result }
@@ -109,7 +109,7 @@ fn tell_fault<W: ByteWrite>(w: &mut W, number: u32, at: u32) -> Result<(), Faile
 }
 
 /// Ends the report of a fault. If a write failed, `err` says so.
-pub(crate) fn told<E: ByteWrite>(written: Result<(), Failed>, err: &mut E) -> Status
+pub(crate) fn reported<E: ByteWrite>(written: Result<(), Failed>, err: &mut E) -> Status
     ensures { Says written (E.output err.old) (E.output err.new) result }
 {
     match written {
@@ -143,8 +143,8 @@ pub fn refuse<W: ByteWrite, E: ByteWrite>(
     w: &mut W,
     err: &mut E,
 ) -> Status
-    ensures tells { takes_fault asked ≡ true
-        → TellsFault (fault_line fault.number fault.at) (W.output w.old) (W.output w.new)
+    ensures reports { takes_fault asked ≡ true
+        → ReportsFault (fault_line fault.number fault.at) (W.output w.old) (W.output w.new)
         (E.output err.old) (E.output err.new) result }
     ensures ends { (bytes : List ℕ) → HasFault bytes fault.number fault.at
         → (o : Outcome) × (result ≡ status_of o)
@@ -152,8 +152,8 @@ pub fn refuse<W: ByteWrite, E: ByteWrite>(
         × Prints (E.output err.old) (E.output err.new) (complaint_of o) }
 {
     if takes_fault(asked) {
-        let written = tell_fault(w, fault.number, fault.at);
-        told(written, err)
+        let written = report_fault(w, fault.number, fault.at);
+        reported(written, err)
     } else {
         complain_of_fault(fault, err)
     }
@@ -167,7 +167,7 @@ fn answer_lines<'a, R: ByteRead, W: ByteWrite>(
     r: &mut R,
     w: &mut W,
 ) -> Serving
-    requires { levels (any_view image).tree ≤ 65 }
+    requires { IsShallow (any_view image).tree }
     ensures { EndsServed (image_machine (any_view image.entry)) (no_files 64)
         (input_of (R.remaining r.old) (R.failures r.old))
         (input_of (R.remaining r.new) (R.failures r.new))
@@ -188,7 +188,7 @@ pub fn serve_checked<'a, R: ByteRead, W: ByteWrite>(
     r: &mut R,
     w: &mut W,
 ) -> Serving
-    requires { IfOk checked (λ v. levels (any_view v).tree ≤ 65) }
+    requires { IfOk checked (λ v. IsShallow (any_view v).tree) }
     ensures { CheckedEnds checked.entry
         (input_of (R.remaining r.old) (R.failures r.old))
         (input_of (R.remaining r.new) (R.failures r.new))
@@ -196,7 +196,7 @@ pub fn serve_checked<'a, R: ByteRead, W: ByteWrite>(
 {
     match checked {
         Ok(image) => answer_lines(alloc, image, r, w),
-        Err(CheckError::Fault { number, at }) => refused(tell_fault(w, number, at)),
+        Err(CheckError::Fault { number, at }) => refused(report_fault(w, number, at)),
         Err(CheckError::OutOfMemory) => Serving::Memory,
     }
 }

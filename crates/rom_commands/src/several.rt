@@ -4,21 +4,21 @@ ghost use Rattle.rom_fields.specs.Failures.{Counts, one_more};
 ghost use Rattle.rom_fields.specs.Written.{WritesText};
 ghost use Rattle.path_walk.specs.Graft.{AreShallow};
 ghost use Rattle.image_check.specs.Any.{any_view};
-ghost use Rattle.rom_tree.specs.Tree.{levels};
+ghost use Rattle.rom_tree.specs.Tree.{IsShallow};
 ghost use Rattle.rom_commands.specs.Answers.{Holds, Prints};
 ghost use Rattle.rom_commands.specs.Serving.{input_of, fault_in_line, HoldAll, SpaceEnds};
 ghost use Rattle.rom_commands.specs.Serving.{serving_status, serving_complaint};
 ghost use Rattle.open_files.specs.Sessions.{no_sessions};
 ghost use Rattle.rom_serve.specs.Machines.{space_machine};
-ghost use Rattle.rom_commands.specs.Serving.{EndsServed, HasFirstFault, Input, TellsFault};
+ghost use Rattle.rom_commands.specs.Serving.{EndsServed, HasFirstFault, Input, ReportsFault};
 ghost use Rattle.rom_commands.specs.declared.serving.Serving.{Serving};
 ghost use Rattle.rom_commands.specs.Refused.{EndsUnserved, IsFaultAt, IsFirst};
 
 use crate::fault::put_fault;
-use crate::serving::{Serving, conclude, ended, refused, told};
+use crate::serving::{Serving, conclude, ended, refused, reported};
 use crate::status::Status;
 use image_check::{AnyImage, check};
-use name_index::Indexed;
+use lookups::Indexed;
 use rom_faults::{CheckError, Fault};
 use rom_fields::{ByteRead, ByteWrite, Failed, put, put_decimal};
 use rom_serve::serve_space;
@@ -44,7 +44,7 @@ enum NoImage {
 /// Checks the image at number `image`, under the usual limits.
 fn checked<'a>(alloc: Global, bytes: &'a [u8], image: u32) -> Result<AnyImage<'a>, NoImage>
     ensures held { IfOk result (λ v. Holds bytes.now (any_view v)) }
-    ensures shallow { IfOk result (λ v. levels (any_view v).tree ≤ 65) }
+    ensures shallow { IfOk result (λ v. IsShallow (any_view v).tree) }
     ensures fault { IfErr result (IsFaultAt bytes.now image) }
 {
     match check(alloc, bytes, Limits::usual()) {
@@ -102,7 +102,7 @@ fn write_fault_in_line<W: ByteWrite>(
 }
 
 /// Writes the line of the fault of one of several images, and flushes it.
-fn tell_fault_in<W: ByteWrite>(w: &mut W, number: u32, at: u32, image: u32) -> Result<(), Failed>
+fn report_fault_in<W: ByteWrite>(w: &mut W, number: u32, at: u32, image: u32) -> Result<(), Failed>
     ensures text { WritesText (W.output w.old).contents (W.output w.new).contents result
         (fault_in_line number at image) }
     ensures count { Counts (W.output w.old).failures (W.output w.new).failures result }
@@ -120,7 +120,7 @@ pub fn refuse_in<W: ByteWrite, E: ByteWrite>(
     w: &mut W,
     err: &mut E,
 ) -> Status
-    ensures tells { TellsFault (fault_in_line fault.number fault.at image) (W.output w.old)
+    ensures reports { ReportsFault (fault_in_line fault.number fault.at image) (W.output w.old)
         (W.output w.new) (E.output err.old) (E.output err.new) result }
     ensures ends { (all : List (List ℕ)) (r : Input)
         → HasFirstFault all fault.number fault.at image
@@ -128,8 +128,8 @@ pub fn refuse_in<W: ByteWrite, E: ByteWrite>(
         × SpaceEnds all r r (W.output w.old) (W.output w.new) o
         × Prints (E.output err.old) (E.output err.new) (serving_complaint o) }
 {
-    let written = tell_fault_in(w, fault.number, fault.at, image);
-    told(written, err)
+    let written = report_fault_in(w, fault.number, fault.at, image);
+    reported(written, err)
 }
 
 /// Serves several images after their checks. If all were accepted, answers the lines of `r` from
@@ -155,7 +155,7 @@ fn serve_all_checked<'a, R: ByteRead, W: ByteWrite>(
 {
     match checked {
         Ok(images) => ended(serve_space(images, r, w)),
-        Err(NoImage::Fault { number, at, image }) => refused(tell_fault_in(w, number, at, image)),
+        Err(NoImage::Fault { number, at, image }) => refused(report_fault_in(w, number, at, image)),
         Err(NoImage::OutOfMemory) => Serving::Memory,
     }
 }

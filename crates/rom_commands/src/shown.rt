@@ -2,11 +2,11 @@
 ghost use Rattle.std.specs.Prelude.{◌≡◌, ◌≤◌, ◌↔◌, ◌++◌, false, length, not, IfOk, IsTrue};
 ghost use Rattle.rom_fields.specs.Failures.{Counts};
 ghost use Rattle.rom_fields.specs.Written.{WritesText};
-ghost use Rattle.rom_tree.specs.Tree.{levels};
+ghost use Rattle.rom_tree.specs.Tree.{IsShallow};
 ghost use Rattle.image_info.specs.Endings.{WritesAll};
 ghost use Rattle.image_info.specs.Info.{info_text};
 ghost use Rattle.image_check.specs.Any.{any_view, report_of};
-ghost use Rattle.image_gaps.specs.Gaps.{IsChecked};
+ghost use Rattle.image_info.specs.Gaps.{IsChecked};
 ghost use Rattle.rom_commands.specs.Lines.{fault_line, ok_line};
 ghost use Rattle.rom_commands.specs.Asked.{sound_text, takes_fault, warns, Fits};
 ghost use Rattle.rom_commands.specs.Answers.{Ends, FaultEnds};
@@ -18,8 +18,7 @@ use crate::asked::Asked;
 use crate::fault::put_fault;
 use crate::room::{free_bytes, image_size, write_room};
 use image_check::{AnyImage, check};
-use image_info::{InfoError, write_info};
-use image_map::map;
+use image_info::{InfoError, map, write_info};
 use linux_misreads::misreads;
 use rom_faults::CheckError;
 use rom_fields::{ByteWrite, Failed, put, put_decimal};
@@ -118,7 +117,7 @@ fn write_facts<W: ByteWrite>(
     file: u64,
     w: &mut W,
 ) -> Result<bool, InfoError>
-    requires shallow { levels (any_view image.now).tree ≤ 65 }
+    requires shallow { IsShallow (any_view image.now).tree }
     requires checked { IsChecked image.now }
     ensures text { WritesAll (W.output w.old) (W.output w.new) (info_text file image.now) result }
     ensures quiet { IfOk result (λ b. b ≡ false) }
@@ -137,7 +136,7 @@ fn write_fit<W: ByteWrite>(
     limit: u64,
     w: &mut W,
 ) -> Result<bool, InfoError>
-    requires shallow { levels (any_view image.now).tree ≤ 65 }
+    requires shallow { IsShallow (any_view image.now).tree }
     requires checked { IsChecked image.now }
     ensures text { WritesAll (W.output w.old) (W.output w.new)
         (info_text file image.now ++ room_text limit image.now) result }
@@ -160,7 +159,7 @@ fn write_sound<W: ByteWrite>(
     asked: Asked,
     w: &mut W,
 ) -> Result<bool, InfoError>
-    requires shallow { levels (any_view image.now).tree ≤ 65 }
+    requires shallow { IsShallow (any_view image.now).tree }
     requires checked { IsChecked image.now }
     requires fits { Fits asked (length (any_view image.now).bytes) }
     ensures text { WritesAll (W.output w.old) (W.output w.new) (sound_text asked image.now) result }

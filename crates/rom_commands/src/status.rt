@@ -81,7 +81,7 @@ fn status_of(failure: Failure<'_>) -> Status
 
 /// Prints to `err`, the standard error, why a command did not do what was asked for: one line, in
 /// which a name is escaped. Returns the status.
-pub fn tell<E: ByteWrite>(failure: Failure<'_>, err: &mut E) -> Status
+pub fn report<E: ByteWrite>(failure: Failure<'_>, err: &mut E) -> Status
     ensures said { Prints (E.output err.old) (E.output err.new) (failure_line failure.entry) }
     ensures status { result ≡ failure_status failure.entry }
 {

@@ -4,3 +4,10 @@ pub mod Puts
 pub mod Escapes
 pub mod Same
 pub mod Look
+pub mod Parts
+pub mod Padding
+pub mod Laid
+pub mod Determined
+pub mod Words
+pub mod Sealed
+pub mod Climbs

@@ -4,3 +4,6 @@ pub mod Failures
 pub mod Written
 pub mod Texts
 pub mod Extents
+pub mod Parts
+pub mod Padding
+pub mod Sums

@@ -12,6 +12,7 @@ mod canvas;
 mod contents;
 mod extents;
 mod faulty;
+pub mod laws;
 mod memory;
 mod sink;
 mod span;

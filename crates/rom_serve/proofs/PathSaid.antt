@@ -17,7 +17,7 @@ pub path_said : {R : Type 0} (f : R → List ℕ) (m n : Image) (slots : List (O
     → a ≡ answer r (table_of (image_view m) slots) → text ≡ result_text f r → n ≡ m
     → obeyed (image_calls 64 m) (table_of (image_view m) slots) (on_path k path)
     ≡ says text (table_of (image_view n) slots)
-path_said f m n slots path k l a r text is by gives told stays =
+path_said f m n slots path k l a r text is by gives known stays =
     ap (λ (x : PathCall). obeyed (image_calls 64 m) (table_of (image_view m) slots) (on_path x path)) is ∙ by
-    ∙ ap (said f) gives ∙ ap (λ (t : List ℕ). says t (table_of (image_view m) slots)) (sym told)
+    ∙ ap (said f) gives ∙ ap (λ (t : List ℕ). says t (table_of (image_view m) slots)) (sym known)
     ∙ ap (λ (i : Image). says text (table_of (image_view i) slots)) (sym stays)

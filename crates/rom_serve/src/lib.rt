@@ -19,7 +19,7 @@ mod serving;
 mod several;
 mod several_sessions;
 
-pub use lookup_cache::{Cached, NoCache};
+pub use lookups::{Cached, NoCache};
 pub use rom_fields::{ByteRead, ByteWrite, Plain};
 pub use serve_lines::ServeError;
 pub use serving::{serve, serve_bounded, serve_space};

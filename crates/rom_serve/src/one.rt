@@ -1,6 +1,6 @@
 //! The open files of one image.
 ghost use Rattle.std.specs.Prelude.{◌≡◌, ◌≤◌, option_map};
-ghost use Rattle.rom_tree.specs.Tree.{Node, levels};
+ghost use Rattle.rom_tree.specs.Tree.{Node, IsShallow};
 ghost use Rattle.open_files.specs.Calls.{Of, Named, viewed};
 ghost use Rattle.open_files.specs.Machine.{Table, image_calls};
 ghost use Rattle.open_files.specs.Slots.{AreSound, table_in, unlabelled, lent_by, named_by};
@@ -63,7 +63,7 @@ pub(crate) struct One<'s, T: Viewed> {
     pub(crate) image: &'s mut T,
     pub(crate) slots: Slots<64>,
     ghost sound: { AreSound (T.image image.now) slots },
-    ghost deep: { levels (T.image image.now).tree ≤ 65 },
+    ghost deep: { IsShallow (T.image image.now).tree },
 }
 
 impl<'s, 'a, T: TreeImage<'a>> OpenCalls<'a> for One<'s, T> {

@@ -1,7 +1,7 @@
 //! The serving of lines over images.
 ghost use Rattle.std.specs.Prelude.{◌≡◌, ◌≤◌, ◌<◌, ◌^◌, ℕ, List, length, map, Err, OnOk};
 ghost use Rattle.rom_fields.specs.Failures.{Rose};
-ghost use Rattle.rom_tree.specs.Tree.{levels};
+ghost use Rattle.rom_tree.specs.Tree.{IsShallow};
 ghost use Rattle.path_walk.specs.Graft.{AreShallow};
 ghost use Rattle.open_files.specs.Machine.{no_files};
 ghost use Rattle.open_files.specs.Sessions.{no_sessions};
@@ -35,7 +35,7 @@ pub fn serve<'a, T: TreeImage<'a>, R: ByteRead, W: ByteWrite>(
     r: &mut R,
     w: &mut W,
 ) -> Result<(), ServeError>
-    requires { levels (T.image image).tree ≤ 65 }
+    requires { IsShallow (T.image image).tree }
     ensures ok { OnOk result (Serves (image_machine (T.image image)) (no_files 64)
         (R.remaining r.old) (R.remaining r.new) (W.output w.old) (W.output w.new)) }
     ensures quiet { OnOk result ((R.failures r.new ≡ R.failures r.old)
@@ -67,7 +67,7 @@ pub fn serve_bounded<'a, T: TreeImage<'a>, R: ByteRead, W: ByteWrite>(
     w: &mut W,
     reads: u64,
 ) -> Result<(), ServeError>
-    requires { levels (T.image image).tree ≤ 65 }
+    requires { IsShallow (T.image image).tree }
     ensures ok { OnOk result (Serves (image_machine (T.image image)) (no_files 64)
         (R.remaining r.old) (R.remaining r.new) (W.output w.old) (W.output w.new)) }
     ensures quiet { OnOk result ((R.failures r.new ≡ R.failures r.old)

@@ -35,9 +35,9 @@ some_among n (x ∷ xs) h = elim (eqb (ino_of x) n) as
     ] h
 
 -- a number names a node if one has it
-pub among_tells : (t : Node) (n : ℕ) (v : Bool) → v ≡ among n (nodes t) → IsTrue v ↔ IsSome (node_at t n)
+pub among_decides : (t : Node) (n : ℕ) (v : Bool) → v ≡ among n (nodes t) → IsTrue v ↔ IsSome (node_at t n)
 unfolding node_at
-among_tells t n v e = ((λ h. among_some n (nodes t) (sym e ∙ h)), (λ h. e ∙ some_among n (nodes t) h))
+among_decides t n v e = ((λ h. among_some n (nodes t) (sym e ∙ h)), (λ h. e ∙ some_among n (nodes t) h))
 
 pub length_row : (p k : ℕ) → length (row_from p k) ≡ k
 length_row p zero = refl

@@ -2,7 +2,8 @@
 -- directory's body is a list of names with nodes. `node_at`: the node of a number. `depth`,
 -- `levels`: the depth of a tree in names, and in directories. `IsCoherent`: two nodes of one number
 -- are equal. (This project's own.)
-use Rattle.std.specs.Prelude.{◌≡◌, ℕ, zero, suc, ◌+◌, max, ◌==◌, Bool, true, false, List, [], ◌∷◌}
+use Rattle.std.specs.Prelude.{◌≤◌, ◌≡◌, ℕ, zero, suc, ◌+◌, max, ◌==◌, Bool, true, false, List, []}
+use Rattle.std.specs.Prelude.{◌∷◌}
 use Rattle.std.specs.Prelude.{◌++◌, find, Option, Some, None}
 use Rattle.rom_tree.specs.declared.types.Kind.{Kind}
 use Rattle.rom_tree.specs.declared.types.Kind.TheVariants.{Directory, Regular, Symlink, Block}
@@ -176,3 +177,7 @@ pub data IsIn (x : Node) : List Node → Type 0 where
 -- two nodes of one number are equal
 abbrev pub IsCoherent : Node → Type 0
 IsCoherent t = (x y : Node) → IsIn x (nodes t) → IsIn y (nodes t) → ino_of x ≡ ino_of y → x ≡ y
+
+-- a tree of at most 64 directories, one in the other, and a name in the last
+abbrev pub IsShallow : Node → Type 0
+IsShallow t = levels t ≤ 65

@@ -3,7 +3,7 @@ ghost use Rattle.std.specs.Prelude.{◌≤◌, OnOk, OnErr};
 ghost use Rattle.std.specs.Io.KnownBytes.{Appends};
 ghost use Rattle.rom_fields.specs.Failures.{Counts};
 ghost use Rattle.rom_fields.specs.Written.{AppendsPrefix};
-ghost use Rattle.rom_tree.specs.Tree.{levels};
+ghost use Rattle.rom_tree.specs.Tree.{IsShallow};
 ghost use Rattle.rom_tree.specs.Listing.{list_text};
 
 use crate::frame::Walk;
@@ -23,7 +23,7 @@ use rom_fields::ByteWrite;
 ///
 /// `WriteFault` if a write failed. Then a prefix of the list was written.
 pub fn list<'a, T: TreeImage<'a>, W: ByteWrite>(image: &T, w: &mut W) -> Result<(), ListError>
-    requires { levels (T.image image.now).tree ≤ 65 }
+    requires { IsShallow (T.image image.now).tree }
     ensures ok { OnOk result (Appends (W.output w.old).contents (W.output w.new).contents
         (list_text (T.image image.now).bytes (T.image image.now).tree)) }
     ensures err { OnErr result (AppendsPrefix (W.output w.old).contents (W.output w.new).contents

@@ -4,7 +4,7 @@ ghost use Rattle.std.specs.Prelude.{OnOk, OnErr};
 ghost use Rattle.arrayvec.specs.ArrayVec.{array_vec_len};
 ghost use Rattle.rom_fields.specs.Texts.{escaped};
 ghost use Rattle.rom_fields.specs.Written.{Puts, sink};
-ghost use Rattle.rom_tree.specs.Tree.{levels};
+ghost use Rattle.rom_tree.specs.Tree.{IsShallow};
 ghost use Rattle.rom_tree.specs.Image.{Image};
 ghost use Rattle.rom_tree.specs.Names.{names};
 ghost use Rattle.rom_tree.specs.Frames.{AreFrames, Follows, Gives};
@@ -62,7 +62,7 @@ fn step<'a, T: TreeImage<'a>>(image: &T, stack: &mut ArrayVec<Frame<'a>, 65>) ->
 impl<'a> Walk<'a> {
     /// Makes a walk that has returned no name yet.
     pub fn new() -> Walk<'a>
-        ensures walk { (m : Image) → levels m.tree ≤ 65 → IsWalk m result }
+        ensures walk { (m : Image) → IsShallow m.tree → IsWalk m result }
         ensures all { (m : Image) → to_come m result ≡ names m.tree }
     {
         Walk {

@@ -59,13 +59,13 @@ any_nowhere q (x ∷ xs) h = elim (eqb_tells x q) [
 -- what a search tells
 pub among : (rows : List Row) (xs : List ℕ) (q : ℕ) (r : Result ℕ ℕ) → AreOffsets rows xs
     → IsBinarySearchResult (λ y. nat_cmp y q) xs r → is_ok r ≡ list_any (λ (x : Row). x.offset == q) rows
-among rows xs q r a h = tells r (searched xs q r h a.rise) ∙ a.same q
+among rows xs q r a h = finds r (searched xs q r h a.rise) ∙ a.same q
   where
-    tells : (r : Result ℕ ℕ) → MatchResult r (λ i. (i < length xs) × (get_or xs i 0 ≡ q))
+    finds : (r : Result ℕ ℕ) → MatchResult r (λ i. (i < length xs) × (get_or xs i 0 ≡ q))
         (λ i. (i ≤ length xs) × ((k : ℕ) → k < i → get_or xs k 0 < q)
         × ((k : ℕ) → i ≤ k → k < length xs → q < get_or xs k 0)) → is_ok r ≡ list_any (λ y. y == q) xs
-    tells (Ok i) k = sym (any_here q xs i k.0 k.1)
-    tells (Err i) k = sym (any_nowhere q xs (λ j l e. elim (cases_lt j i) [
+    finds (Ok i) k = sym (any_here q xs i k.0 k.1)
+    finds (Err i) k = sym (any_nowhere q xs (λ j l e. elim (cases_lt j i) [
       | inl u ↦ (let z = k.1 j u in absurd (omega arith))
       | inr u ↦ (let z = k.2 j u l in absurd (omega arith))
     ]))

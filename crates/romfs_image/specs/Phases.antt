@@ -31,7 +31,7 @@ Repeats b before x = Any (λ (y : Row). (y.directory ≡ x.directory)
     × (name_of b y.offset ≡ name_of b x.offset)) before
 
 -- whether an earlier row of the same list has the same name
-pub record TellsRepeated (b : List ℕ) (before : List Row) (x : Row) (repeated : Bool) : Type 0 where
+pub record FindsRepeated (b : List ℕ) (before : List Row) (x : Row) (repeated : Bool) : Type 0 where
   pub old : repeated ≡ true → Repeats b before x
   pub new : repeated ≡ false → Repeats b before x → ⊥
 

@@ -12,7 +12,7 @@ use std::alloc::Global;
 impl<'a> Romfs<'a> {
     ghost use Rattle.romfs_image.specs.Checked.{Shows, IsRefused, IsLeastAnswer};
     ghost use Rattle.romfs_format.specs.Faults.{HasNoFault};
-    ghost use Rattle.rom_tree.specs.Tree.{levels};
+    ghost use Rattle.rom_tree.specs.Tree.{IsShallow};
     ghost use Rattle.romfs_image.specs.Reported.{report_of};
 
     /// Checks these bytes, and returns their image if they hold the tree of a romfs image within
@@ -25,7 +25,7 @@ impl<'a> Romfs<'a> {
     pub fn check(alloc: Global, bytes: &'a [u8], limits: Limits) -> Result<Romfs<'a>, CheckError>
         ensures ok { IfOk result (λ v. Shows bytes.now limits (⟦<Romfs<'a> as Viewed>⟧.image v)
             (report_of v)) }
-        ensures shallow { IfOk result (λ v. levels (⟦<Romfs<'a> as Viewed>⟧.image v).tree ≤ 65) }
+        ensures shallow { IfOk result (λ v. IsShallow (⟦<Romfs<'a> as Viewed>⟧.image v).tree) }
         ensures clean { IfOk result (λ v. HasNoFault bytes.now limits.references limits.depth) }
         ensures fault { IfErr result (IsRefused bytes.now limits) }
         ensures least { IfErr result (IsLeastAnswer bytes.now limits) }

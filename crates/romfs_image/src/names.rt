@@ -10,7 +10,7 @@ ghost use Rattle.romfs_format.specs.Tree.{follow};
 ghost use Rattle.rom_tree.specs.Dots.{dot, dot_dot, is_dots};
 ghost use Rattle.record_forest.specs.Listed.{AreNames};
 ghost use Rattle.record_forest.specs.Sweep.{IsLeastRowFault};
-ghost use Rattle.romfs_image.specs.Phases.{AreOffsets, TellsRepeated, IsNameFault, IsWellNamed};
+ghost use Rattle.romfs_image.specs.Phases.{AreOffsets, FindsRepeated, IsNameFault, IsWellNamed};
 
 use crate::accessible::Accessible;
 use crate::rows::{led_to, offsets_of};
@@ -106,9 +106,9 @@ fn name_fault(
     requires all { All (λ x. IsSound b.now.bytes.now b.now.root x.offset) all.now }
     requires offsets { AreOffsets all.now offsets.now }
     requires row { IsSound b.now.bytes.now b.now.root row.offset }
-    ensures well { (before : List Row) → TellsRepeated b.now.bytes.now before row repeated
+    ensures well { (before : List Row) → FindsRepeated b.now.bytes.now before row repeated
         → IfNone result (IsWellNamed b.now.bytes.now b.now.root all.now before row) }
-    ensures fault { (before : List Row) → TellsRepeated b.now.bytes.now before row repeated
+    ensures fault { (before : List Row) → FindsRepeated b.now.bytes.now before row repeated
         → IfSome result (λ n. IsLeast (IsNameFault b.now.bytes.now b.now.root all.now before row)
         n) }
 {

@@ -1,5 +1,5 @@
 -- The records of a layout occur once, and nothing overlaps.
-use Rattle.image_parts.proofs.Climbs.{Climbs, climbs_later, climbs_added, no_overlap}
+use Rattle.rom_fields.proofs.Climbs.{Climbs, climbs_later, climbs_added, no_overlap}
 use Rattle.std.proofs.Common.{◌≡◌, ℕ, ◌+◌, ◌-◌, ◌<◌, ◌≤◌, Bool, true, false, if◌then◌else◌, List, [], ◌∷◌, ◌++◌, map}
 use Rattle.std.proofs.Common.{refl, sym, ap, subst, ◌∙◌, arith, append_assoc}
 use Rattle.std.specs.List.{AllByRecursion as Every, flat_map}

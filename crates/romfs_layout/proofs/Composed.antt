@@ -4,10 +4,10 @@ use Rattle.std.proofs.Common.{drop, replicate, get_or, refl, sym, ap, subst, ◌
 use Rattle.std.proofs.lemmas.Bool.Decides.{eqb_tells}
 use Rattle.std.specs.List.{AllByRecursion as Every}
 use Rattle.record_forest.proofs.Lists.{every_join}
-use Rattle.image_parts.specs.Padding.{pad}
-use Rattle.image_parts.specs.Parts.{Part, part, with_part, laid}
-use Rattle.image_parts.specs.Sums.{sealed}
-use Rattle.image_parts.proofs.Parts.{length-with_part}
+use Rattle.rom_fields.specs.Padding.{pad}
+use Rattle.rom_fields.specs.Parts.{Part, part, with_part, laid}
+use Rattle.rom_fields.specs.Sums.{sealed}
+use Rattle.rom_fields.proofs.Parts.{length-with_part}
 use Rattle.manifest_tree.specs.Names.{Fill, no_bytes, text, source, Inode, Names, bytes_of}
 use Rattle.layout_terms.specs.Items.{Item, Section, fill_section, bytes_section}
 use Rattle.layout_terms.specs.Bodies.{item_at, body_bytes}

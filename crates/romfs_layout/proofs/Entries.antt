@@ -13,7 +13,7 @@ use Rattle.romfs_format.specs.Tree.{led, entries_at, node_of, body_named, places
 use Rattle.rom_tree.specs.Dots.{is_dots}
 use Rattle.romfs_format.proofs.Trees.{led_self}
 use Rattle.rom_tree.proofs.ByKind.{by_kind_map, by_kind_directory, by_kind_rest}
-use Rattle.manifest_tree.specs.Names.{Names, nothing, leaf, link, folder}
+use Rattle.manifest_tree.specs.Names.{Names, nothing, leaf, link, subdirectory}
 use Rattle.romfs_layout.specs.Layout.{number_of, code_of, place_of, leaf_end, header_end, ends, first_place, headers}
 use Rattle.romfs_layout.specs.Reads.{Reads}
 use Rattle.romfs_layout.specs.Wells.{AreWell}
@@ -31,7 +31,7 @@ made_of b at' from (leaf name i after) =
     entry name (node_of b (place_of from name i) no_entries) (made_of b at' (leaf_end from name i) after)
 made_of b at' from (link name i after) =
     entry name (node_of b (at' i.line) no_entries) (made_of b at' (header_end from name) after)
-made_of b at' from (folder name i own after) =
+made_of b at' from (subdirectory name i own after) =
     let h = header_end from name in
     entry name (node_of b (pad16 from) (made_of b at' (h + 64) own)) (made_of b at' (ends (h + 64) own) after)
 
@@ -72,7 +72,7 @@ entries_is b cs all at' dir from (link name i after) h led reads =
     take_entry b p (at' i.line) name none (offsets q after) no_entries (made_of b at' q after) reads.0.name h.0.no_dots
     (led_once 7 b p (at' i.line) s.kind (says_target b p (at' i.line) reads.0.spec led.0.even) led.0.live) refl
     (entries_is b cs all at' dir q after h.2 led.2 reads.1)
-entries_is b cs all at' dir from (folder name i own after) h led reads =
+entries_is b cs all at' dir from (subdirectory name i own after) h led reads =
     let p = pad16 from in
     let he = header_end from name in
     let q = ends (he + 64) own in
@@ -112,7 +112,7 @@ made_depth b at' from (link name i after) =
     let d = node_depth b (at' i.line) no_entries in
     let e = made_depth b at' (header_end from name) after in
     omega (arith, d, e)
-made_depth b at' from (folder name i own after) =
+made_depth b at' from (subdirectory name i own after) =
     let h = header_end from name in
     let d = node_depth b (pad16 from) (made_of b at' (h + 64) own) in
     let c = made_depth b at' (h + 64) own in

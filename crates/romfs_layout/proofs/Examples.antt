@@ -1,11 +1,11 @@
 -- Worked images, by computing.
 use Rattle.std.proofs.Common.{◌≡◌, ℕ, ◌-◌, List, [], ◌∷◌, ◌++◌, length, replicate, refl, codes}
 use Rattle.byteorder.specs.Endian.{big_bytes}
-use Rattle.image_parts.specs.Sums.{balance, balanced, sealed}
-use Rattle.image_parts.specs.Parts.{with_part}
+use Rattle.rom_fields.specs.Sums.{balance, balanced, sealed}
+use Rattle.rom_fields.specs.Parts.{with_part}
 use Rattle.rom_tree.specs.declared.types.Kind.{Kind}
 use Rattle.rom_tree.specs.declared.types.Kind.TheVariants.{Directory, Regular, Symlink, Character}
-use Rattle.manifest_tree.specs.Names.{Fill, no_bytes, text, source, Inode, Names, nothing, leaf, link, folder}
+use Rattle.manifest_tree.specs.Names.{Fill, no_bytes, text, source, Inode, Names, nothing, leaf, link, subdirectory}
 use Rattle.layout_terms.specs.Items.{Item, section, super, record_of, text_of, contents_of}
 use Rattle.romfs_layout.specs.Items.{items_of, sections_of}
 use Rattle.romfs_layout.specs.Layout.{header_bytes, padded_name, place_of, data_align, device_of, code_of, layout}
@@ -122,7 +122,7 @@ same_contents = refl
 device_names : Names
 unfolding inode
 device_names =
-    folder (codes "d") (inode 1 Directory 493 4 0 no_bytes)
+    subdirectory (codes "d") (inode 1 Directory 493 4 0 no_bytes)
     (leaf (codes "l") (inode 2 Symlink 511 4 2 (text (codes "/x"))) nothing)
     (leaf (codes "n") (record {
       line = 3;

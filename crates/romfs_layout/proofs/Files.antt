@@ -10,8 +10,8 @@ use Rattle.record_forest.specs.declared.reference.Row.{Row}
 use Rattle.record_forest.proofs.Lists.{every_join, every_left, every_right}
 use Rattle.romfs_format.specs.Record.{pad16, type_of, size_of, end_of}
 use Rattle.romfs_format.specs.Tree.{executable, mode_named}
-use Rattle.image_parts.specs.Parts.{HasAt}
-use Rattle.manifest_tree.specs.Names.{Inode, Names, nothing, leaf, link, folder, bytes_of}
+use Rattle.rom_fields.specs.Parts.{HasAt}
+use Rattle.manifest_tree.specs.Names.{Inode, Names, nothing, leaf, link, subdirectory, bytes_of}
 use Rattle.romfs_layout.specs.Layout.{Header, placed, place_with, number_of, mode_bit, runnable, code_of, device_of}
 use Rattle.romfs_layout.specs.Layout.{place_of, leaf_end, header_end, ends, first_place, headers}
 use Rattle.layout_terms.specs.Files.{Placed}
@@ -97,7 +97,7 @@ files_at b cs Q at' dir from (leaf name i after) h reads k =
     )
 files_at b cs Q at' dir from (link name i after) h reads k =
     files_at b cs Q at' dir (header_end from name) after h.2 reads.1 k.1
-files_at b cs Q at' dir from (folder name i own after) h reads k =
+files_at b cs Q at' dir from (subdirectory name i own after) h reads k =
     let p = pad16 from in
     let he = header_end from name in
     let q = ends (he + 64) own in
@@ -128,7 +128,7 @@ pub placed_files : (from : ℕ) (n : Names) → map (λ (x : Placed). x.inode) (
 placed_files from nothing = refl
 placed_files from (leaf name i after) = ap (λ (is : List Inode). i ∷ is) (placed_files (leaf_end from name i) after)
 placed_files from (link name i after) = placed_files (header_end from name) after
-placed_files from (folder name i own after) =
+placed_files from (subdirectory name i own after) =
     let he = header_end from name in
     let q = ends (he + 64) own in
     ap (λ (is : List Inode). i ∷ is) (map-append (λ (x : Placed). x.inode) (placed (he + 64) own) (placed q after)
@@ -158,5 +158,5 @@ led_by b cs all xs (link name i after) h l a =
       λ z. (number_is cs i h.1).0 (sym k.0.kind ∙ z),
       led_by b cs all xs after h.2 l.1 a,
     )
-led_by b cs all xs (folder name i own after) h l a =
+led_by b cs all xs (subdirectory name i own after) h l a =
     (led_by b cs all xs own h.2 l.0 a, led_by b cs all xs after h.3 l.1 a)

@@ -7,7 +7,7 @@ use Rattle.rom_tree.specs.declared.types.Kind.TheVariants.{Directory, Regular, S
 use Rattle.record_forest.proofs.Lists.{every_join}
 use Rattle.romfs_format.specs.Record.{pad16}
 use Rattle.rom_tree.specs.Dots.{dot, dot_dot}
-use Rattle.manifest_tree.specs.Names.{Fill, no_bytes, Inode, Names, nothing, leaf, link, folder, bytes_of}
+use Rattle.manifest_tree.specs.Names.{Fill, no_bytes, Inode, Names, nothing, leaf, link, subdirectory, bytes_of}
 use Rattle.romfs_layout.specs.Layout.{Header, record_len, number_of, mode_bit, runnable, code_of, device_of, leaf_end}
 use Rattle.romfs_layout.specs.Layout.{header_end, ends, first_place, headers}
 use Rattle.romfs_layout.specs.Reads.{IsHeader}
@@ -120,7 +120,7 @@ headers_well cs at dir from (link name i after) up h low fits =
       }) refl refl (omega arith) (up i.line) h.0.written (λ z. absurd (omega arith)),
       headers_well cs at dir q after up h.2 low fits,
     )
-headers_well cs at dir from (folder name i own after) up h low fits =
+headers_well cs at dir from (subdirectory name i own after) up h low fits =
     let p = pad16 from in
     let he = header_end from name in
     let q = ends (he + 64) own in
@@ -195,7 +195,7 @@ headers_ascend cs at dir from (link name i after) h =
       ascend_later (q + 0) q (ends q after) (headers at dir q after) (omega arith)
           (headers_ascend cs at dir q after h.2),
     )
-headers_ascend cs at dir from (folder name i own after) h =
+headers_ascend cs at dir from (subdirectory name i own after) h =
     let p = pad16 from in
     let he = header_end from name in
     let q = ends (he + 64) own in

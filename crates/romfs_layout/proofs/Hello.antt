@@ -2,10 +2,10 @@
 use Rattle.std.proofs.Common.{◌≡◌, ◌≢◌, ℕ, zero, suc, List, [], ◌∷◌, codes, ap, get_or, refl, arith, rules, inl, inr}
 use Rattle.std.specs.List.{Contains}
 use Rattle.rom_tree.specs.declared.types.Kind.TheVariants.{Directory, Regular}
-use Rattle.manifest_tree.specs.Names.{Inode, nothing, leaf, link, folder, source, no_bytes}
+use Rattle.manifest_tree.specs.Names.{Inode, nothing, leaf, link, subdirectory, source, no_bytes}
 use Rattle.layout_terms.specs.Lists.{IsName}
 use Rattle.romfs_layout.specs.Layout.{data_align, place_of}
-use Rattle.romfs_layout.specs.Wells.{IsFile, IsFolder}
+use Rattle.romfs_layout.specs.Wells.{IsFile, IsDirectory}
 use Rattle.romfs_layout.specs.Planned.{IsPlanned}
 
 directory : ℕ → Inode
@@ -43,9 +43,9 @@ no_slash x n (suc i, k, e) = absurd (omega arith)
 is_name : (x : ℕ) → x ≢ 0 → x ≢ 47 → IsName (x ∷ [])
 is_name x z n = record { named = omega arith; short = omega arith; no_zero = (z, tt); no_slash = no_slash x n }
 
-is_folder : (line : ℕ) → IsFolder (directory line)
+is_directory : (line : ℕ) → IsDirectory (directory line)
 unfolding directory
-is_folder line = record { kind = refl; mode = refl; owner = (refl, refl); numbers = (refl, refl); bytes = refl }
+is_directory line = record { kind = refl; mode = refl; owner = (refl, refl); numbers = (refl, refl); bytes = refl }
 
 is_file : IsFile (codes "hello" ∷ []) file
 unfolding file data_align
@@ -62,13 +62,13 @@ is_file = record {
 }
 
 planned : IsPlanned (codes "vol") (directory 0)
-    (leaf (codes "a") file (folder (codes "d") (directory 2) (link (codes "c") file nothing) nothing))
+    (leaf (codes "a") file (subdirectory (codes "d") (directory 2) (link (codes "c") file nothing) nothing))
     (codes "hello" ∷ [])
 unfolding directory file place_of data_align
 planned = record {
   short = omega arith;
   no_zero = search rules;
-  folder = is_folder 0;
+  subdirectory = is_directory 0;
   well = (
     record {
       written = is_name 97 (λ z. absurd (omega (arith, z))) (λ z. absurd (omega (arith, z)));
@@ -86,7 +86,7 @@ planned = record {
         no_dots = refl;
         alone = λ z. z;
       },
-      is_folder 2,
+      is_directory 2,
       (
         record {
           written = is_name 99 (λ z. absurd (omega (arith, z))) (λ z. absurd (omega (arith, z)));

@@ -13,23 +13,23 @@ use Rattle.rom_tree.specs.Tree.{Node}
 use Rattle.romfs_format.specs.Record.{name_of, before_zero}
 use Rattle.romfs_format.specs.Tree.{magic, full_size, root_of, RomfsTree, node_of}
 use Rattle.rom_tree.specs.Dots.{dot, dot_dot}
-use Rattle.image_parts.specs.Parts.{Part, end_of_part, with_part, laid, Rises, end_of_parts, HasAt, HasParts}
-use Rattle.image_parts.specs.Sums.{balance, sealed}
-use Rattle.manifest_tree.specs.Names.{no_bytes, Inode, Names, nothing, leaf, link, folder, bytes_of}
+use Rattle.rom_fields.specs.Parts.{Part, end_of_part, with_part, laid, Rises, end_of_parts, HasAt, HasParts}
+use Rattle.rom_fields.specs.Sums.{balance, sealed}
+use Rattle.manifest_tree.specs.Names.{no_bytes, Inode, Names, nothing, leaf, link, subdirectory, bytes_of}
 use Rattle.romfs_layout.specs.Layout.{Header, placed, place_with, number_of, code_of, record_len, leaf_end, header_end}
 use Rattle.romfs_layout.specs.Layout.{ends, first_place, padded_name, parts, root_at, all_headers, full_size_of}
 use Rattle.romfs_layout.specs.Layout.{superblock, image_of, layout}
-use Rattle.image_parts.specs.Parts.{part}
-use Rattle.image_parts.specs.Padding.{pad}
+use Rattle.rom_fields.specs.Parts.{part}
+use Rattle.rom_fields.specs.Padding.{pad}
 use Rattle.layout_terms.specs.Files.{Placed}
 use Rattle.romfs_layout.specs.Reads.{IsHeader}
 use Rattle.romfs_layout.specs.Wells.{AreWell}
 use Rattle.romfs_layout.specs.Forest.{all_offsets}
 use Rattle.romfs_layout.specs.Planned.{IsPlanned}
-use Rattle.image_parts.proofs.Parts.{HasParts-laid, length-laid, laid_keeps}
-use Rattle.image_parts.proofs.Padding.{pad-after}
+use Rattle.rom_fields.proofs.Parts.{HasParts-laid, length-laid, laid_keeps}
+use Rattle.rom_fields.proofs.Padding.{pad-after}
 use Rattle.romfs_layout.proofs.ReadBack.{length-header, length-padded_name, name_of-has, all_read}
-use Rattle.image_parts.proofs.Sealed.{HasAt-sealed, words_sum-sealed}
+use Rattle.rom_fields.proofs.Sealed.{HasAt-sealed, words_sum-sealed}
 use Rattle.romfs_layout.proofs.Places.{ends_after, first_even, first_within}
 use Rattle.romfs_layout.proofs.Headers.{Ascend, code_is, alone_header, headers_well, dot_name, dots_name}
 use Rattle.romfs_layout.proofs.Stands.{says}
@@ -44,7 +44,7 @@ placed_low cs from to (leaf name i after) h l =
     let e = ends_after cs (leaf_end from name i) after h.2 in
     (omega arith, placed_low cs (leaf_end from name i) to after h.2 l)
 placed_low cs from to (link name i after) h l = placed_low cs (header_end from name) to after h.2 l
-placed_low cs from to (folder name i own after) h l =
+placed_low cs from to (subdirectory name i own after) h l =
     let he = header_end from name in
     let q = ends (he + 64) own in
     let o = ends_after cs (he + 64) own h.2 in
@@ -127,7 +127,7 @@ planned_headers volume root n cs h =
     let room = h.room in
     let c = code_is root in
     let small = c.small in
-    let kind : code_of root % 8 ≡ 1 = c.kind ∙ ap number_of h.folder.kind in
+    let kind : code_of root % 8 ≡ 1 = c.kind ∙ ap number_of h.subdirectory.kind in
     let after = ends_after cs (r + 64) n h.well in
     let e = first_even cs (r + 64) n h.well in
     let w = first_within cs (r + 64) n h.well in
@@ -208,7 +208,7 @@ is_image volume root n cs h =
       holds = record {
         positive = omega arith;
         even = omega arith;
-        folder = h.folder;
+        subdirectory = h.subdirectory;
         well = h.well;
         links = h.links;
         headers = headers';
@@ -253,7 +253,7 @@ has_tree volume root n cs h =
         volume = omega (arith, name_len, ls);
         root = omega (arith, name_len);
         fits = omega (arith, ls);
-        directory = s0.kind ∙ c.kind ∙ ap number_of h.folder.kind;
+        directory = s0.kind ∙ c.kind ∙ ap number_of h.subdirectory.kind;
       };
       forest = all_offsets r n;
       whole = t.0;

@@ -10,7 +10,7 @@ use Rattle.romfs_format.specs.Record.{pad16, type_of, spec_offset_of, name_of}
 use Rattle.romfs_format.specs.Refers.{references}
 use Rattle.romfs_format.specs.Tree.{follow, LeadsWell}
 use Rattle.rom_tree.specs.Dots.{dot, dot_dot, is_dots}
-use Rattle.manifest_tree.specs.Names.{Names, nothing, leaf, link, folder}
+use Rattle.manifest_tree.specs.Names.{Names, nothing, leaf, link, subdirectory}
 use Rattle.romfs_layout.specs.Layout.{Header, number_of, code_of, place_of, leaf_end, header_end, ends, first_place}
 use Rattle.romfs_layout.specs.Layout.{headers}
 use Rattle.romfs_layout.specs.Reads.{Reads}
@@ -37,7 +37,7 @@ AreLed b all at' nothing = Unit {0}
 AreLed b all at' (leaf name i after) = AreLed b all at' after
 AreLed b all at' (link name i after) =
     IsTarget b all (at' i.line) × (type_of b (at' i.line) ≢ 1) × AreLed b all at' after
-AreLed b all at' (folder name i own after) = AreLed b all at' own × AreLed b all at' after
+AreLed b all at' (subdirectory name i own after) = AreLed b all at' own × AreLed b all at' after
 
 pub follow_once : (b : List ℕ) (all : List Row) (p q : ℕ) → type_of b p ≡ 0 → spec_offset_of b p ≡ q
     → IsTarget b all q → follow b all 8 p ≡ Some q
@@ -100,7 +100,7 @@ leads b r cs at' all x dir up depth from (link name i after) h led d reads liste
       },
       leads b r cs at' all (g.after x) dir up depth q after h.2 led.2 d reads.1 listed.1,
     )
-leads b r cs at' all x dir up depth from (folder name i own after) h led d reads listed =
+leads b r cs at' all x dir up depth from (subdirectory name i own after) h led d reads listed =
     let g = references b r in
     let p = pad16 from in
     let he = header_end from name in

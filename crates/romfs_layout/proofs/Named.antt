@@ -13,7 +13,7 @@ use Rattle.romfs_format.specs.Record.{pad16, type_of, name_of, end_of, IsSound}
 use Rattle.romfs_format.specs.Refers.{references}
 use Rattle.rom_tree.specs.Dots.{dot, dot_dot, is_dots}
 use Rattle.record_forest.specs.Forest.{NamesDiffer}
-use Rattle.manifest_tree.specs.Names.{Names, nothing, leaf, link, folder}
+use Rattle.manifest_tree.specs.Names.{Names, nothing, leaf, link, subdirectory}
 use Rattle.romfs_layout.specs.Layout.{Header, record_len, place_of, leaf_end, header_end, ends, headers}
 use Rattle.romfs_layout.specs.Reads.{Reads, IsHeader}
 use Rattle.romfs_layout.specs.Wells.{AreWell}
@@ -105,7 +105,7 @@ located b r cs at' x dir up depth from (link name i after) h reads =
           (rows g (g.after x) dir up depth (offsets q after))
           (located b r cs at' (g.after x) dir up depth q after h.2 reads.1),
     )
-located b r cs at' x dir up depth from (folder name i own after) h reads =
+located b r cs at' x dir up depth from (subdirectory name i own after) h reads =
     let g = references b r in
     let p = pad16 from in
     let he = header_end from name in
@@ -117,16 +117,16 @@ located b r cs at' x dir up depth from (folder name i own after) h reads =
     let y1 = g.own x in
     let y2 = g.after y1 in
     let y3 = g.after y2 in
-    let inner = every_weaker (Located b p (he + 64) own) (Located b dir from (folder name i own after))
+    let inner = every_weaker (Located b p (he + 64) own) (Located b dir from (subdirectory name i own after))
     (λ y k. inr (inner_located b p (he + 64) from (ends q after) own y (omega arith) (omega arith) (omega arith)
     (omega arith) k)) (rows g y3 p dir (depth + 1) (offsets (he + 64) own))
     (located b r cs at' y3 p dir (depth + 1) (he + 64) own h.2 (every_left (Reads b cs) mine theirs reads.1.1.1)) in
-    let later = every_weaker (Located b dir q after) (Located b dir from (folder name i own after))
-    (λ y k. later_located b dir from q (folder name i own after) after y (λ m s. inr s) (omega arith) refl k)
+    let later = every_weaker (Located b dir q after) (Located b dir from (subdirectory name i own after))
+    (λ y k. later_located b dir from q (subdirectory name i own after) after y (λ m s. inr s) (omega arith) refl k)
     (rows g (g.after x) dir up depth (offsets q after))
     (located b r cs at' (g.after x) dir up depth q after h.3 (every_right (Reads b cs) mine theirs reads.1.1.1)) in (
       inl (refl, inl reads.0.name),
-      every_join (Located b dir from (folder name i own after))
+      every_join (Located b dir from (subdirectory name i own after))
           (rows g y1 p dir (depth + 1) (at he none (at (he + 32) none (offsets (he + 64) own))))
           (rows g (g.after x) dir up depth (offsets q after))
           (inr (omega arith, omega arith), (inr (omega arith, omega arith), inner)) later,
@@ -139,8 +139,8 @@ no_name cs m (leaf name i after) d h (inl e) = false≢true (sym h.0.no_dots ∙
 no_name cs m (leaf name i after) d h (inr s) = no_name cs m after d h.2 s
 no_name cs m (link name i after) d h (inl e) = false≢true (sym h.0.no_dots ∙ ap is_dots (sym e) ∙ d)
 no_name cs m (link name i after) d h (inr s) = no_name cs m after d h.2 s
-no_name cs m (folder name i own after) d h (inl e) = false≢true (sym h.0.no_dots ∙ ap is_dots (sym e) ∙ d)
-no_name cs m (folder name i own after) d h (inr s) = no_name cs m after d h.3 s
+no_name cs m (subdirectory name i own after) d h (inl e) = false≢true (sym h.0.no_dots ∙ ap is_dots (sym e) ∙ d)
+no_name cs m (subdirectory name i own after) d h (inr s) = no_name cs m after d h.3 s
 
 -- a head before rows that are located behind it
 pub head_differs : (b : List ℕ) (x y : Row) (dir q : ℕ) (after : Names) → x.directory ≡ dir → dir < q
@@ -191,7 +191,7 @@ names_differ b r cs at' x dir up depth from (link name i after) h low reads =
           (located b r cs at' (g.after x) dir up depth q after h.2 reads.1),
       names_differ b r cs at' (g.after x) dir up depth q after h.2 (omega arith) reads.1,
     )
-names_differ b r cs at' x dir up depth from (folder name i own after) h low reads =
+names_differ b r cs at' x dir up depth from (subdirectory name i own after) h low reads =
     let g = references b r in
     let p = pad16 from in
     let he = header_end from name in

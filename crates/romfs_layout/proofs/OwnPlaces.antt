@@ -11,7 +11,7 @@ use Rattle.rom_tree.specs.Tree.{Node, Entries, places_of, row_from}
 use Rattle.rom_tree.proofs.ByKind.{body_places_is}
 use Rattle.romfs_format.specs.Record.{pad16, end_of, size_of, type_of}
 use Rattle.romfs_format.specs.Tree.{node_of, places_at, by_type, kind_numbers}
-use Rattle.manifest_tree.specs.Names.{Inode, Names, nothing, leaf, link, folder}
+use Rattle.manifest_tree.specs.Names.{Inode, Names, nothing, leaf, link, subdirectory}
 use Rattle.manifest_tree.specs.Shape.{node_under, file_under, with_names}
 use Rattle.layout_terms.specs.Files.{Placed, at_place}
 use Rattle.layout_terms.proofs.Alike.{alike_some}
@@ -76,7 +76,7 @@ files_rise b cs at' dir from (link name i after) h r =
     let q = header_end from name in
     rising_join b from q (ends q after) [] (placed q after) (omega arith) (ends_after cs q after h.2) (no_file b from q)
     (files_rise b cs at' dir q after h.2 r.1)
-files_rise b cs at' dir from (folder name i own after) h r =
+files_rise b cs at' dir from (subdirectory name i own after) h r =
     let p = pad16 from in
     let he = header_end from name in
     let q = ends (he + 64) own in
@@ -188,7 +188,7 @@ has_apart volume root n cs h q s x y i j a c e f differ =
     let reads = (is_image volume root n cs h).holds.reads in
     let rising = files_rise b cs (place_with xs) r (r + 64) n h.well reads.1.1 in
     let rise : Pairs (IsBefore b) all =
-    (every_all (IsBefore b (at_place root r)) (λ y z. absurd (z h.folder.kind)) xs, rising.rises) in
+    (every_all (IsBefore b (at_place root r)) (λ y z. absurd (z h.subdirectory.kind)) xs, rising.rises) in
     let alike = ends_alike volume root n cs h in
     ends_apart b cs all x y i j rise (alike_some (IsEnd b cs Q) (node_under q t) (file_under q m) x i (alike q) a e)
     (alike_some (IsEnd b cs Q) (node_under s t) (file_under s m) y j (alike s) c f) differ

@@ -12,7 +12,7 @@ use Rattle.record_forest.proofs.Lists.{every_left, every_right}
 use Rattle.romfs_format.specs.Record.{pad16, type_of}
 use Rattle.romfs_format.specs.Tree.{node_of, places_at, kind_numbers}
 use Rattle.rom_tree.proofs.ByKind.{by_kind_map, by_kind_directory, by_kind_rest}
-use Rattle.manifest_tree.specs.Names.{Inode, Names, nothing, leaf, link, folder}
+use Rattle.manifest_tree.specs.Names.{Inode, Names, nothing, leaf, link, subdirectory}
 use Rattle.romfs_layout.specs.Layout.{placed, place_with, place_of, leaf_end, header_end, ends, number_of}
 use Rattle.layout_terms.specs.Files.{Placed}
 use Rattle.romfs_layout.specs.Wells.{AreWell, AreLinks}
@@ -52,7 +52,7 @@ LinksAt b cs Q at' nothing = Unit {0}
 LinksAt b cs Q at' (leaf name i after) = LinksAt b cs Q at' after
 LinksAt b cs Q at' (link name i after) =
     KnownAt b cs Q (record { inode = i; place = at' i.line }) × LinksAt b cs Q at' after
-LinksAt b cs Q at' (folder name i own after) = LinksAt b cs Q at' own × LinksAt b cs Q at' after
+LinksAt b cs Q at' (subdirectory name i own after) = LinksAt b cs Q at' own × LinksAt b cs Q at' after
 
 pub links_at : (b : List ℕ) (cs : List (List ℕ)) (Q : Placed → Type 0) (xs : List Placed) (n : Names)
     → AreLinks (map (λ (x : Placed). x.inode) xs) n → Every (KnownAt b cs Q) xs → LinksAt b cs Q (place_with xs) n
@@ -60,7 +60,7 @@ links_at b cs Q xs nothing l a = tt
 links_at b cs Q xs (leaf name i after) l a = links_at b cs Q xs after l a
 links_at b cs Q xs (link name i after) l a =
     (with_line (KnownAt b cs Q) xs i.line i a l.0, links_at b cs Q xs after l.1 a)
-links_at b cs Q xs (folder name i own after) l a = (links_at b cs Q xs own l.0 a, links_at b cs Q xs after l.1 a)
+links_at b cs Q xs (subdirectory name i own after) l a = (links_at b cs Q xs own l.0 a, links_at b cs Q xs after l.1 a)
 
 -- the node x shows the file and the names of m
 pub record IsShown (b : List ℕ) (cs : List (List ℕ)) (Q : Placed → Type 0) (at' : ℕ → ℕ) (x : Node)
@@ -111,7 +111,7 @@ find_alike b cs Q at' m from (link name i after) h k l =
       | true ↦ alone_shown b cs Q at' (at' i.line) i l.0
       | false ↦ find_alike b cs Q at' m (header_end from name) after h.2 k l.1
     ]
-find_alike b cs Q at' m from (folder name i own after) h k l =
+find_alike b cs Q at' m from (subdirectory name i own after) h k l =
     let p = pad16 from in
     let he = header_end from name in
     let q = ends (he + 64) own in

@@ -1,11 +1,11 @@
 -- The offsets of headers and data.
-use Rattle.image_parts.proofs.Padding.{pad-after}
+use Rattle.rom_fields.proofs.Padding.{pad-after}
 use Rattle.std.proofs.Common.{◌≡◌, ℕ, ◌+◌, ◌-◌, ◌*◌, ◌/◌, ◌%◌, ◌<◌, ◌≤◌, List, refl, ap, ◌∙◌, arith}
 use Rattle.romfs_format.specs.Record.{pad16}
-use Rattle.manifest_tree.specs.Names.{Inode, Names, nothing, leaf, link, folder}
+use Rattle.manifest_tree.specs.Names.{Inode, Names, nothing, leaf, link, subdirectory}
 use Rattle.romfs_layout.specs.Wells.{IsFile, AreWell}
 use Rattle.romfs_layout.specs.Layout.{record_len, data_align, place_of, leaf_end, header_end, ends, first_place}
-use Rattle.image_parts.specs.Padding.{pad}
+use Rattle.rom_fields.specs.Padding.{pad}
 
 times16 : (x m : ℕ) → (x * (16 * m)) % 16 ≡ 0
 times16 x m = omega arith
@@ -40,7 +40,7 @@ ends_after cs from (leaf name i after) h =
     let n = ends_after cs (leaf_end from name i) after h.2 in
     omega arith
 ends_after cs from (link name i after) h = let n = ends_after cs (header_end from name) after h.2 in omega arith
-ends_after cs from (folder name i own after) h =
+ends_after cs from (subdirectory name i own after) h =
     let m = ends_after cs (header_end from name + 64) own h.2 in
     let n = ends_after cs (ends (header_end from name + 64) own) after h.3 in
     omega arith
@@ -49,13 +49,13 @@ pub first_even : (cs : List (List ℕ)) (from : ℕ) (n : Names) → AreWell cs 
 first_even cs from nothing h = refl
 first_even cs from (leaf name i after) h = place_even cs from name i h.1
 first_even cs from (link name i after) h = omega arith
-first_even cs from (folder name i own after) h = omega arith
+first_even cs from (subdirectory name i own after) h = omega arith
 
 pub first_within : (cs : List (List ℕ)) (from : ℕ) (n : Names) → AreWell cs n → first_place from n ≤ ends from n
 first_within cs from nothing h = omega arith
 first_within cs from (leaf name i after) h = let n = ends_after cs (leaf_end from name i) after h.2 in omega arith
 first_within cs from (link name i after) h = let n = ends_after cs (header_end from name) after h.2 in omega arith
-first_within cs from (folder name i own after) h =
+first_within cs from (subdirectory name i own after) h =
     let m = ends_after cs (header_end from name + 64) own h.2 in
     let n = ends_after cs (ends (header_end from name + 64) own) after h.3 in
     omega arith

@@ -1,5 +1,5 @@
 -- A header that was laid is read back.
-use Rattle.image_parts.proofs.Parts.{HasAt-before, HasAt-after, HasAt-moved}
+use Rattle.rom_fields.proofs.Parts.{HasAt-before, HasAt-after, HasAt-moved}
 use Rattle.std.proofs.Common.{◌≡◌, ◌≢◌, ℕ, zero, suc, ◌+◌, ◌-◌, ◌<◌, true, false, eqb, cond, List, [], ◌∷◌, ◌++◌}
 use Rattle.std.proofs.Common.{length, drop, take, replicate, refl, ap, ◌∙◌, arith, append_assoc, length-append}
 use Rattle.std.proofs.lemmas.List.{length-replicate, take_at}
@@ -8,12 +8,12 @@ use Rattle.std.specs.List.{AllByRecursion}
 use Rattle.byteorder.specs.Endian.{big_bytes}
 use Rattle.rom_fields.specs.Words.{words_sum, words_total, part_of}
 use Rattle.romfs_format.specs.Record.{before_zero, name_of, size_of, end_of, pad16}
-use Rattle.image_parts.specs.Parts.{HasAt, HasParts}
-use Rattle.image_parts.specs.Sums.{balance, balanced}
+use Rattle.rom_fields.specs.Parts.{HasAt, HasParts}
+use Rattle.rom_fields.specs.Sums.{balance, balanced}
 use Rattle.manifest_tree.specs.Names.{bytes_of}
 use Rattle.romfs_layout.specs.Layout.{Header, header_bytes, padded_name, record_len, parts}
 use Rattle.romfs_layout.specs.Reads.{Reads, IsHeader}
-use Rattle.image_parts.proofs.Words.{words_sum-balanced, word_be-has}
+use Rattle.rom_fields.proofs.Words.{words_sum-balanced, word_be-has}
 
 before_zero_ended : (name rest : List ℕ) → AllByRecursion (λ x. x ≢ 0) name → before_zero (name ++ 0 ∷ rest) ≡ name
 before_zero_ended [] rest h = refl

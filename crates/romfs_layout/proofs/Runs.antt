@@ -11,16 +11,16 @@ use Rattle.rom_tree.specs.Tree.{Entries, places_of, row_from}
 use Rattle.rom_tree.proofs.ByKind.{body_places_is}
 use Rattle.romfs_format.specs.Record.{pad16, end_of, size_of, type_of}
 use Rattle.romfs_format.specs.Tree.{node_of, places_at, by_type, kind_numbers}
-use Rattle.image_parts.specs.Padding.{pad}
-use Rattle.image_parts.proofs.Padding.{pad-after}
-use Rattle.manifest_tree.specs.Names.{Inode, Names, nothing, leaf, link, folder}
+use Rattle.rom_fields.specs.Padding.{pad}
+use Rattle.rom_fields.proofs.Padding.{pad-after}
+use Rattle.manifest_tree.specs.Names.{Inode, Names, nothing, leaf, link, subdirectory}
 use Rattle.layout_terms.specs.Files.{Placed, at_place}
 use Rattle.layout_terms.specs.Placement.{IsRun}
 use Rattle.layout_terms.proofs.Runs.{no_run, run_of}
 use Rattle.romfs_layout.specs.Layout.{record_len, data_align, place_of, data_of, leaf_end, header_end, ends, placed}
 use Rattle.romfs_layout.specs.Layout.{headers, number_of}
 use Rattle.romfs_layout.specs.Reads.{Reads}
-use Rattle.romfs_layout.specs.Wells.{IsFile, IsFolder, AreWell}
+use Rattle.romfs_layout.specs.Wells.{IsFile, IsDirectory, AreWell}
 use Rattle.romfs_layout.proofs.Files.{IsAt}
 
 -- the data of a file begin at a multiple of its data's alignment
@@ -47,7 +47,7 @@ files_aligned b cs at' dir from (leaf name i after) h r =
     ((λ _. (d.0, r.0.ends ∙ d.1)), files_aligned b cs at' dir (leaf_end from name i) after h.2 r.1)
 files_aligned b cs at' dir from (link name i after) h r =
     files_aligned b cs at' dir (header_end from name) after h.2 r.1
-files_aligned b cs at' dir from (folder name i own after) h r =
+files_aligned b cs at' dir from (subdirectory name i own after) h r =
     let p = pad16 from in
     let he = header_end from name in
     let q = ends (he + 64) own in
@@ -82,7 +82,7 @@ run_by Socket align ps h = no_run align
 run_by Fifo align ps h = no_run align
 
 -- the node of a file has its offsets in a run
-pub node_run : (b : List ℕ) (cs : List (List ℕ)) (i : Inode) (p : ℕ) (es : Entries) → IsFile cs i ⊎ IsFolder i
+pub node_run : (b : List ℕ) (cs : List (List ℕ)) (i : Inode) (p : ℕ) (es : Entries) → IsFile cs i ⊎ IsDirectory i
     → IsAt b cs i p → IsAligned b (at_place i p) → IsRun i.align (places_of (node_of b p es))
 unfolding node_of places_at
 node_run b cs i p es g a d =

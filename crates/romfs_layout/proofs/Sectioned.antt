@@ -4,7 +4,7 @@ use Rattle.std.proofs.Common.{map, refl, sym, subst, ◌∙◌, arith, inl, inr}
 use Rattle.std.proofs.lemmas.Bool.Decides.{eqb_tells}
 use Rattle.std.specs.List.{AllByRecursion as Every}
 use Rattle.record_forest.proofs.Lists.{every_join}
-use Rattle.manifest_tree.specs.Names.{Fill, no_bytes, text, source, Inode, Names, nothing, leaf, link, folder}
+use Rattle.manifest_tree.specs.Names.{Fill, no_bytes, text, source, Inode, Names, nothing, leaf, link, subdirectory}
 use Rattle.romfs_format.specs.Record.{pad16}
 use Rattle.layout_terms.specs.Items.{Section, SectionsRise, fill_section}
 use Rattle.layout_terms.proofs.Sections.{rise_later}
@@ -26,7 +26,7 @@ data_behind at dir from nothing = tt
 data_behind at dir from (leaf name i after) =
     (behind i.size (data_of from name i), data_behind at dir (leaf_end from name i) after)
 data_behind at dir from (link name i after) = (λ z. absurd (z refl), data_behind at dir (header_end from name) after)
-data_behind at dir from (folder name i own after) =
+data_behind at dir from (subdirectory name i own after) =
     let h = header_end from name in
     let q = ends (h + 64) own in (
       λ z. absurd (z refl),

@@ -1,6 +1,6 @@
 -- The tree of a planned volume has the shape of its names.
 use Rattle.layout_terms.proofs.Alike.{Alike, alike_map, alike_some, same_both, pairs_unmap}
-use Rattle.image_parts.proofs.Parts.{moved}
+use Rattle.rom_fields.proofs.Parts.{moved}
 use Rattle.std.proofs.Common.{◌↔◌, ◌≡◌, ◌≢◌, ℕ, ◌+◌, ◌-◌, ◌<◌, ◌≤◌, ◌⊎◌, List, [], ◌∷◌, ◌++◌, replicate, refl, sym, ap}
 use Rattle.std.proofs.Common.{subst, ◌∙◌, arith, inl, inr}
 use Rattle.std.specs.List.{AllByRecursion as Every}
@@ -9,13 +9,13 @@ use Rattle.record_forest.specs.Members.{Has, Pairs}
 use Rattle.record_forest.proofs.Lists.{every_join, every_weaker, every_both, every_of, every_all, pairs_join}
 use Rattle.romfs_format.specs.Record.{pad16}
 use Rattle.romfs_format.specs.Tree.{node_of, attributes_at}
-use Rattle.manifest_tree.specs.Names.{Inode, Names, nothing, leaf, link, folder}
+use Rattle.manifest_tree.specs.Names.{Inode, Names, nothing, leaf, link, subdirectory}
 use Rattle.romfs_layout.specs.Layout.{Header, placed, place_with, code_of, place_of, leaf_end, header_end, ends}
 use Rattle.romfs_layout.specs.Layout.{root_at, all_headers, full_size_of, image_of, layout, number_of, headers}
-use Rattle.image_parts.specs.Padding.{pad}
+use Rattle.rom_fields.specs.Padding.{pad}
 use Rattle.layout_terms.specs.Files.{Placed, at_place}
 use Rattle.layout_terms.specs.Placement.{IsRun, AreInRuns}
-use Rattle.romfs_layout.specs.Wells.{IsFile, IsFolder, AreWell, AreLinks}
+use Rattle.romfs_layout.specs.Wells.{IsFile, IsDirectory, AreWell, AreLinks}
 use Rattle.romfs_layout.specs.Planned.{IsPlanned}
 use Rattle.manifest_tree.specs.Shape.{node_value, file_value, node_under, file_under, with_names, HasShape}
 use Rattle.romfs_layout.proofs.Places.{place_after, ends_after}
@@ -25,19 +25,19 @@ use Rattle.romfs_layout.proofs.Files.{IsAt, AtPlace, files_at, placed_files, mod
 use Rattle.romfs_layout.proofs.Stands.{says}
 use Rattle.romfs_layout.proofs.Entries.{made_of}
 use Rattle.romfs_layout.proofs.Image.{tree_in, is_image}
-use Rattle.romfs_layout.proofs.Values.{file_is, folder_is}
+use Rattle.romfs_layout.proofs.Values.{file_is, directory_is}
 use Rattle.romfs_layout.proofs.Runs.{IsAligned, files_aligned, node_run}
 use Rattle.romfs_layout.proofs.Paths.{KnownAt, IsShown, IsEnd, links_at, path_alike, entries_one}
 
 abbrev IsGood : List (List ℕ) → Inode → Type 0
-IsGood cs i = IsFile cs i ⊎ IsFolder i
+IsGood cs i = IsFile cs i ⊎ IsDirectory i
 
 good_files : (cs : List (List ℕ)) (from : ℕ) (n : Names) → AreWell cs n
     → Every (λ (x : Placed). IsGood cs x.inode) (placed from n)
 good_files cs from nothing h = tt
 good_files cs from (leaf name i after) h = (inl h.1, good_files cs (leaf_end from name i) after h.2)
 good_files cs from (link name i after) h = good_files cs (header_end from name) after h.2
-good_files cs from (folder name i own after) h =
+good_files cs from (subdirectory name i own after) h =
     let he = header_end from name in
     let q = ends (he + 64) own in (
       inr h.1,
@@ -80,7 +80,7 @@ files_apart cs from (link name i after) h =
     let q = header_end from name in
     apart_join from q (ends q after) [] (placed q after) (omega arith) (ends_after cs q after h.2)
     (record { within = tt; apart = tt }) (files_apart cs q after h.2)
-files_apart cs from (folder name i own after) h =
+files_apart cs from (subdirectory name i own after) h =
     let he = header_end from name in
     let q = ends (he + 64) own in
     let x : Placed = record { inode = i; place = pad16 from } in
@@ -135,10 +135,10 @@ ends_alike volume root n cs h q =
     let root_is : IsAt b cs root r = record {
       even = held.even;
       kind = s0.kind ∙ c.kind;
-      mode = mode_is b root r (r + 32) h.folder.mode reads.0.word (let even = held.even in omega arith);
-      size = λ z. absurd (z h.folder.kind);
-      numbers = λ z. absurd (z h.folder.kind);
-      content = λ z. absurd (z h.folder.kind);
+      mode = mode_is b root r (r + 32) h.subdirectory.mode reads.0.word (let even = held.even in omega arith);
+      size = λ z. absurd (z h.subdirectory.kind);
+      numbers = λ z. absurd (z h.subdirectory.kind);
+      content = λ z. absurd (z h.subdirectory.kind);
     } in
     let ats = files_at b cs (λ _. Unit {0}) at' r (r + 64) n h.well reads.1.1
     (every_all (λ (i : Header). Unit {0}) (λ _. tt) (headers at' r (r + 64) n)) in
@@ -162,8 +162,8 @@ ends_alike volume root n cs h q =
       from = r + 64;
       entries = es;
       is = refl;
-      list = entries_one b r es (s0.kind ∙ c.kind ∙ ap number_of h.folder.kind);
-      known = (root_is, (inr h.folder, inl refl, λ z. absurd (z h.folder.kind)));
+      list = entries_one b r es (s0.kind ∙ c.kind ∙ ap number_of h.subdirectory.kind);
+      known = (root_is, (inr h.subdirectory, inl refl, λ z. absurd (z h.subdirectory.kind)));
       inner = known;
       links = links;
       well = h.well;
@@ -186,7 +186,7 @@ has_shape volume root n cs h =
     let value : (x : Node) (i : Inode) → IsEnd b cs Q x i → node_value v x ≡ file_value cs i =
     λ x i k. ap (node_value v) k.is ∙ elim k.known.1.0 [
       | inl f ↦ file_is v b cs i k.place k.entries (moved b zeros) f k.known.0
-      | inr f ↦ folder_is v b cs i k.place k.entries f k.known.0
+      | inr f ↦ directory_is v b cs i k.place k.entries f k.known.0
     ] in
     let apart = files_apart cs (r + 64) n h.well in
     let places : Pairs (λ (u w : Placed). u.place ≢ w.place) all = (

@@ -15,7 +15,7 @@ use Rattle.romfs_format.specs.Refers.{references, reference_offset, some_offset}
 use Rattle.romfs_format.specs.Made.{StandsAt}
 use Rattle.record_forest.specs.Forest.{Everywhere}
 use Rattle.romfs_format.proofs.Bridge.{own_offset, after_offset}
-use Rattle.manifest_tree.specs.Names.{Inode, Names, nothing, leaf, link, folder}
+use Rattle.manifest_tree.specs.Names.{Inode, Names, nothing, leaf, link, subdirectory}
 use Rattle.romfs_layout.specs.Layout.{Header, number_of, code_of, place_of, leaf_end, header_end, ends, first_place}
 use Rattle.romfs_layout.specs.Layout.{headers}
 use Rattle.romfs_layout.specs.Reads.{Reads}
@@ -84,7 +84,7 @@ stands_at b cs at' dir from (link name i after) h pos r =
       first_none b p 0 s.kind (λ z. absurd (omega arith)),
       subst (λ (x : ℕ). StandsAt b x (offsets q after)) (sym s.next) rest,
     )
-stands_at b cs at' dir from (folder name i own after) h pos r =
+stands_at b cs at' dir from (subdirectory name i own after) h pos r =
     let p = pad16 from in
     let he = header_end from name in
     let q = ends (he + 64) own in
@@ -172,7 +172,7 @@ headers_in_row at' dir from (leaf name i after) =
     ap (λ (ys : List ℕ). place_of from name i ∷ ys) (headers_in_row at' dir (leaf_end from name i) after)
 headers_in_row at' dir from (link name i after) =
     ap (λ (ys : List ℕ). pad16 from ∷ ys) (headers_in_row at' dir (header_end from name) after)
-headers_in_row at' dir from (folder name i own after) =
+headers_in_row at' dir from (subdirectory name i own after) =
     let p = pad16 from in
     let he = header_end from name in
     let q = ends (he + 64) own in

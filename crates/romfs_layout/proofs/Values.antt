@@ -11,10 +11,10 @@ use Rattle.romfs_format.specs.Tree.{node_of, attributes_at, places_at, by_type, 
 use Rattle.romfs_format.specs.Tree.{executable}
 use Rattle.rom_tree.specs.Tree.{row_from}
 use Rattle.rom_tree.proofs.ByKind.{body_kind_is, body_places_is}
-use Rattle.image_parts.specs.Parts.{HasAt}
+use Rattle.rom_fields.specs.Parts.{HasAt}
 use Rattle.manifest_tree.specs.Names.{Inode, bytes_of}
 use Rattle.romfs_layout.specs.Layout.{number_of, device_of}
-use Rattle.romfs_layout.specs.Wells.{FitsKind, IsFile, IsFolder}
+use Rattle.romfs_layout.specs.Wells.{FitsKind, IsFile, IsDirectory}
 use Rattle.manifest_tree.specs.Shape.{Value, node_value, file_value}
 use Rattle.romfs_layout.proofs.Files.{IsAt, file_kind}
 
@@ -90,10 +90,11 @@ file_is v b cs i p es moved h a =
     ∙ ap (λ (k : ℕ). map (λ q. get_or v q 0) (by_type k [] ps ps [] [] [] [])) t
     ∙ bytes_by i.kind cs i v ps h.kind row)
 
-pub folder_is : (v b : List ℕ) (cs : List (List ℕ)) (i : Inode) (p : ℕ) (es : Entries) → IsFolder i → IsAt b cs i p
+pub directory_is : (v b : List ℕ) (cs : List (List ℕ)) (i : Inode) (p : ℕ) (es : Entries) → IsDirectory i
+    → IsAt b cs i p
     → node_value v (node_of b p es) ≡ file_value cs i
 unfolding node_value file_value node_of attributes_at places_at
-folder_is v b cs i p es h a =
+directory_is v b cs i p es h a =
     let t : type_of b p ≡ 1 = a.kind ∙ ap number_of h.kind in
     let ps = row_from (end_of b p) (size_of b p) in
     same_value (node_value v (node_of b p es)) (file_value cs i)

@@ -1,8 +1,8 @@
 -- `composed`: a romfs image from the sections of its items. (This project's own.)
 use Rattle.std.specs.Prelude.{ℕ, ◌-◌, List, [], ◌∷◌, ◌++◌, map, replicate}
-use Rattle.image_parts.specs.Padding.{pad}
-use Rattle.image_parts.specs.Parts.{Part, part, laid}
-use Rattle.image_parts.specs.Sums.{sealed}
+use Rattle.rom_fields.specs.Padding.{pad}
+use Rattle.rom_fields.specs.Parts.{Part, part, laid}
+use Rattle.rom_fields.specs.Sums.{sealed}
 use Rattle.layout_terms.specs.Items.{Item, Section}
 use Rattle.layout_terms.specs.Bodies.{section_part}
 use Rattle.romfs_layout.specs.Layout.{superblock, header_bytes}

@@ -3,7 +3,7 @@
 use Rattle.std.specs.Prelude.{ℕ, ◌+◌, List, [], ◌∷◌, ◌++◌}
 use Rattle.record_forest.specs.Forest.{Forest, none, at}
 use Rattle.romfs_format.specs.Record.{pad16}
-use Rattle.manifest_tree.specs.Names.{Names, nothing, leaf, link, folder}
+use Rattle.manifest_tree.specs.Names.{Names, nothing, leaf, link, subdirectory}
 use Rattle.romfs_layout.specs.Layout.{place_of, leaf_end, header_end, ends}
 
 -- the offsets of the records of a list that is placed from `from` on
@@ -12,7 +12,7 @@ offsets from nothing = none
 offsets from (leaf name i after) =
     at (place_of from name i) none (offsets (leaf_end from name i) after)
 offsets from (link name i after) = at (pad16 from) none (offsets (header_end from name) after)
-offsets from (folder name i own after) =
+offsets from (subdirectory name i own after) =
     let h = header_end from name in
     at (pad16 from) (at h none (at (h + 32) none (offsets (h + 64) own)))
     (offsets (ends (h + 64) own) after)

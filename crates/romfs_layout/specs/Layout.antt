@@ -15,10 +15,11 @@ use Rattle.rom_tree.specs.declared.types.Kind.TheVariants.{Character, Socket, Fi
 use Rattle.romfs_format.specs.Record.{pad16}
 use Rattle.rom_tree.specs.Dots.{dot, dot_dot}
 use Rattle.romfs_format.specs.Tree.{magic}
-use Rattle.image_parts.specs.Padding.{pad}
-use Rattle.image_parts.specs.Parts.{Part, part, laid}
-use Rattle.image_parts.specs.Sums.{balanced, sealed}
-use Rattle.manifest_tree.specs.Names.{Fill, no_bytes, Inode, Names, nothing, leaf, link, folder}
+use Rattle.rom_fields.specs.Padding.{pad}
+use Rattle.rom_fields.specs.Parts.{Part, part, laid}
+use Rattle.rom_fields.specs.Sums.{balanced, sealed}
+use Rattle.manifest_tree.specs.Names.{Fill, no_bytes, Inode, Names, nothing, leaf, link}
+use Rattle.manifest_tree.specs.Names.{subdirectory}
 use Rattle.manifest_tree.specs.Names.{bytes_of}
 use Rattle.layout_terms.specs.Files.{Placed, at_place}
 
@@ -94,14 +95,14 @@ abbrev pub ends : ℕ → Names → ℕ
 ends from nothing = from
 ends from (leaf name i after) = ends (leaf_end from name i) after
 ends from (link name i after) = ends (header_end from name) after
-ends from (folder name i own after) = ends (ends (header_end from name + 64) own) after
+ends from (subdirectory name i own after) = ends (ends (header_end from name + 64) own) after
 
 -- the offset of the first header from `from` on, or 0 if there is none
 abbrev pub first_place : ℕ → Names → ℕ
 first_place from nothing = 0
 first_place from (leaf name i after) = place_of from name i
 first_place from (link name i after) = pad16 from
-first_place from (folder name i own after) = pad16 from
+first_place from (subdirectory name i own after) = pad16 from
 
 -- the files that are placed from `from` on, each with the offset of its header
 abbrev pub placed : ℕ → Names → List Placed
@@ -109,7 +110,7 @@ placed from nothing = []
 placed from (leaf name i after) =
     at_place i (place_of from name i) ∷ placed (leaf_end from name i) after
 placed from (link name i after) = placed (header_end from name) after
-placed from (folder name i own after) =
+placed from (subdirectory name i own after) =
     at_place i (pad16 from)
     ∷ placed (header_end from name + 64) own ++ placed (ends (header_end from name + 64) own) after
 
@@ -148,7 +149,7 @@ headers at dir from (leaf name i after) =
 headers at dir from (link name i after) =
     header_alone (pad16 from) (first_place (header_end from name) after) (at i.line) name
     ∷ headers at dir (header_end from name) after
-headers at dir from (folder name i own after) =
+headers at dir from (subdirectory name i own after) =
     let h = header_end from name in
     let q = ends (h + 64) own in
     header_alone (pad16 from) (first_place q after + code_of i) h name

@@ -6,14 +6,14 @@ use Rattle.record_forest.specs.Members.{Pairs}
 use Rattle.manifest_tree.specs.Names.{Inode, Names}
 use Rattle.layout_terms.specs.Files.{files, height}
 use Rattle.romfs_layout.specs.Layout.{root_at, ends, all_headers}
-use Rattle.romfs_layout.specs.Wells.{IsFolder, AreWell, AreLinks}
+use Rattle.romfs_layout.specs.Wells.{IsDirectory, AreWell, AreLinks}
 
 pub record IsPlanned (volume : List ℕ) (root : Inode) (n : Names)
     (contents : List (List ℕ)) : Type 0 where
   -- the volume's name
   pub short : length volume < 256
   pub no_zero : Every (λ x. x ≢ 0) volume
-  pub folder : IsFolder root
+  pub directory : IsDirectory root
   pub well : AreWell contents n
   -- no line makes two files
   pub lines : Pairs (λ i j. i.line ≢ j.line) (root ∷ files n)

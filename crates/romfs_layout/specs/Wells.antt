@@ -8,7 +8,8 @@ use Rattle.rom_tree.specs.declared.types.Kind.{Kind}
 use Rattle.rom_tree.specs.declared.types.Kind.TheVariants.{Directory, Regular, Symlink, Block}
 use Rattle.rom_tree.specs.declared.types.Kind.TheVariants.{Character, Socket, Fifo}
 use Rattle.romfs_format.specs.Tree.{mode_named}
-use Rattle.manifest_tree.specs.Names.{no_bytes, Inode, Names, nothing, leaf, link, folder, bytes_of}
+use Rattle.manifest_tree.specs.Names.{no_bytes, Inode, Names, nothing, leaf, link, subdirectory}
+use Rattle.manifest_tree.specs.Names.{bytes_of}
 use Rattle.romfs_layout.specs.Layout.{number_of, data_align, runnable}
 use Rattle.layout_terms.specs.Lists.{IsFree}
 
@@ -40,7 +41,7 @@ pub record IsFile (contents : List (List ℕ)) (i : Inode) : Type 0 where
   pub of_align : max 16 i.align ≡ times * i.align
 
 -- a directory
-pub record IsFolder (i : Inode) : Type 0 where
+pub record IsDirectory (i : Inode) : Type 0 where
   pub kind : i.kind ≡ Directory
   pub mode : HasMode i
   pub owner : (i.uid ≡ 0) × (i.gid ≡ 0)
@@ -54,8 +55,8 @@ AreWell contents (leaf name i after) =
     IsFree name after × IsFile contents i × AreWell contents after
 AreWell contents (link name i after) =
     IsFree name after × IsFile contents i × AreWell contents after
-AreWell contents (folder name i own after) =
-    IsFree name after × IsFolder i × AreWell contents own × AreWell contents after
+AreWell contents (subdirectory name i own after) =
+    IsFree name after × IsDirectory i × AreWell contents own × AreWell contents after
 
 -- the file of a line
 abbrev pub file_of : List Inode → ℕ → Option Inode
@@ -67,4 +68,4 @@ abbrev pub AreLinks : List Inode → Names → Type 0
 AreLinks all nothing = Unit {0}
 AreLinks all (leaf name i after) = AreLinks all after
 AreLinks all (link name i after) = (file_of all i.line ≡ Some i) × AreLinks all after
-AreLinks all (folder name i own after) = AreLinks all own × AreLinks all after
+AreLinks all (subdirectory name i own after) = AreLinks all own × AreLinks all after

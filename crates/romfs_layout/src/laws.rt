@@ -1,6 +1,6 @@
 //! Laws on the layout of a romfs image.
 ghost use Rattle.std.specs.Prelude.{◌≡◌, List, ℕ, ◌^◌, length, drop};
-ghost use Rattle.image_parts.specs.Padding.{pad};
+ghost use Rattle.rom_fields.specs.Padding.{pad};
 ghost use Rattle.std.specs.List.{AllByRecursion as Every};
 ghost use Rattle.manifest_tree.specs.Names.{Inode, Names};
 ghost use Rattle.manifest_tree.specs.Shape.{HasShape};

@@ -6,15 +6,15 @@ use Rattle.std.specs.List.{All, AllByRecursion as Every}
 use Rattle.record_forest.proofs.Lists.{every_join}
 use Rattle.rom_tree.specs.declared.types.Kind.{Kind}
 use Rattle.rom_tree.specs.declared.types.Kind.TheVariants.{Directory, Regular, Symlink, Block, Character, Socket, Fifo}
-use Rattle.manifest_tree.specs.Names.{Inode, Names, nothing, leaf, link, folder}
-use Rattle.manifest_tree.specs.Tree.{What, a_leaf, a_link, a_folder}
+use Rattle.manifest_tree.specs.Names.{Inode, Names, nothing, leaf, link, subdirectory}
+use Rattle.manifest_tree.specs.Tree.{What, a_leaf, a_link, a_directory}
 use Rattle.layout_terms.specs.Files.{height}
 use Rattle.romfs_layout.specs.Layout.{leaf_end, header_end, ends, root_at, placed, place_with}
 use Rattle.romfs_layout.specs.Planned.{IsPlanned}
 use Rattle.romfs_layout.specs.Wells.{FitsKind, AreWell}
 use Rattle.romfs_layout.proofs.Places.{ends_after, first_within}
-use Rattle.manifest_rows.specs.Rows.{rows, row_view}
-use Rattle.manifest_rows.specs.declared.row.Row.{Row as CodeRow}
+use Rattle.plan_rows.specs.Rows.{rows, row_view}
+use Rattle.plan_rows.specs.declared.row.Row.{Row as CodeRow}
 use Rattle.romfs_plan.specs.declared.places.Place.{Place}
 use Rattle.romfs_plan.specs.Passes.{named_places}
 use Rattle.romfs_plan.specs.Headers.{IsNear, IsFineWhat, IsFineRow}
@@ -44,7 +44,7 @@ near cs from (link name i after) w room =
     let a = ends_after cs q after w.2 in
     let b = first_within cs q after w.2 in
     ((omega (arith, room, a), omega (arith, room, b), omega arith), near cs q after w.2 room)
-near cs from (folder name i own after) w room =
+near cs from (subdirectory name i own after) w room =
     let h = header_end from name + 64 in
     let q = ends h own in
     let a = ends_after cs q after w.3 in
@@ -71,7 +71,7 @@ fine cs d from (leaf name i after) w low room =
 fine cs d from (link name i after) w low room =
     let q = header_end from name in
     ((w.0.written.short, omega (arith, low), tt), fine cs d q after w.2 (omega (arith, low)) room)
-fine cs d from (folder name i own after) w low room =
+fine cs d from (subdirectory name i own after) w low room =
     let h = header_end from name + 64 in
     let q = ends h own in
     let a = ends_after cs q after w.3 in
@@ -111,4 +111,4 @@ each_fit rs h k d l = let f = h k d l in (f.0, fit (row_view (get_or rs k d)).wh
     fit : (w : What) → IsFineWhat w → IsFitWhat w
     fit (a_leaf i) h = h.0
     fit (a_link i) h = tt
-    fit (a_folder i) h = tt
+    fit (a_directory i) h = tt

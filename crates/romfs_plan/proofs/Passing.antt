@@ -4,11 +4,11 @@ use Rattle.std.proofs.Common.{refl, sym, ap, ◌∙◌, arith}
 use Rattle.std.proofs.Math.ListN.{set}
 use Rattle.std.proofs.lemmas.List.{set-set, set-get_or, get_or-set_same, get_or-set_other, length-set}
 use Rattle.romfs_format.specs.Record.{pad16}
-use Rattle.manifest_tree.specs.Names.{Names, nothing, leaf, link, folder}
-use Rattle.manifest_tree.specs.Tree.{a_leaf, a_link, a_folder}
+use Rattle.manifest_tree.specs.Names.{Names, nothing, leaf, link, subdirectory}
+use Rattle.manifest_tree.specs.Tree.{a_leaf, a_link, a_directory}
 use Rattle.layout_terms.specs.Files.{height}
 use Rattle.romfs_layout.specs.Layout.{place_of, leaf_end, header_end, ends, first_place}
-use Rattle.manifest_rows.specs.Rows.{Row, row, rows}
+use Rattle.plan_rows.specs.Rows.{Row, row, rows}
 use Rattle.romfs_plan.specs.declared.places.Place.{Place}
 use Rattle.romfs_plan.specs.Passes.{row_place, row_end, places, places_end, place, placed, heads_with, heads_of}
 use Rattle.romfs_plan.specs.Passes.{places_of, named_places}
@@ -27,7 +27,7 @@ pub rows_end_is : (d from : ℕ) (n : Names) → places_end from (rows d n) ≡ 
 rows_end_is d from nothing = refl
 rows_end_is d from (leaf name i after) = rows_end_is d (leaf_end from name i) after
 rows_end_is d from (link name i after) = rows_end_is d (header_end from name) after
-rows_end_is d from (folder name i own after) =
+rows_end_is d from (subdirectory name i own after) =
     let h = header_end from name + 64 in
     places_end-append h (rows (d + 1) own) (rows d after)
     ∙ ap (λ (x : ℕ). places_end x (rows d after)) (rows_end_is (d + 1) h own)
@@ -108,8 +108,8 @@ computes d from heads (link name i after) room zeros =
     let s = single d (pad16 from) q heads (row d name (a_link i)) after refl (omega (arith, room))
     (zeros (d + 1) (omega arith)) later in
     record { heads_are = s.0; places_are = s.1 }
-computes d from heads (folder name i own after) room zeros =
-    let r = row d name (a_folder i) in
+computes d from heads (subdirectory name i own after) room zeros =
+    let r = row d name (a_directory i) in
     let p = pad16 from in
     let s = header_end from name + 64 in
     let q = ends s own in

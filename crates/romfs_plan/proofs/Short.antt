@@ -3,7 +3,7 @@ use Rattle.std.proofs.Common.{◌+◌, ◌<◌, ℕ, List, [], ◌∷◌, length
 use Rattle.std.specs.List.{AllByRecursion as Every}
 use Rattle.record_forest.proofs.Lists.{every_join}
 use Rattle.romfs_format.specs.Record.{pad16}
-use Rattle.manifest_tree.specs.Names.{Inode, Names, nothing, leaf, link, folder}
+use Rattle.manifest_tree.specs.Names.{Inode, Names, nothing, leaf, link, subdirectory}
 use Rattle.layout_terms.specs.Items.{Item}
 use Rattle.romfs_layout.specs.Items.{item_of, items_of}
 use Rattle.romfs_layout.specs.Layout.{Header, headers, leaf_end, header_end, ends, root_at, all_headers, placed}
@@ -21,7 +21,7 @@ short_headers at cs dir from (leaf name i after) w =
     (w.0.written.short, short_headers at cs dir (leaf_end from name i) after w.2)
 short_headers at cs dir from (link name i after) w =
     (w.0.written.short, short_headers at cs dir (header_end from name) after w.2)
-short_headers at cs dir from (folder name i own after) w =
+short_headers at cs dir from (subdirectory name i own after) w =
     let h = header_end from name + 64 in (
       w.0.written.short,
       (

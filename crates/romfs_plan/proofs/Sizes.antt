@@ -3,16 +3,16 @@ use Rattle.std.proofs.Common.{◌≡◌, ◌+◌, ◌<◌, ◌≤◌, ◌^◌, �
 use Rattle.std.proofs.Common.{refl, ap, ◌∙◌, arith}
 use Rattle.std.proofs.lemmas.Bool.{lt-ltb, le-ltb}
 use Rattle.std.proofs.lemmas.List.{length-append, length-map}
-use Rattle.image_parts.specs.Padding.{pad}
+use Rattle.rom_fields.specs.Padding.{pad}
 use Rattle.romfs_format.specs.Record.{pad16}
-use Rattle.manifest_tree.specs.Names.{Inode, Names, nothing, leaf, link, folder}
-use Rattle.manifest_tree.specs.Tree.{What, a_leaf, a_link, a_folder}
+use Rattle.manifest_tree.specs.Names.{Inode, Names, nothing, leaf, link, subdirectory}
+use Rattle.manifest_tree.specs.Tree.{What, a_leaf, a_link, a_directory}
 use Rattle.layout_terms.specs.Files.{height}
 use Rattle.romfs_layout.specs.Layout.{root_at, full_size_of, headers, all_headers, leaf_end, header_end, ends, placed}
 use Rattle.romfs_layout.specs.Layout.{place_with}
 use Rattle.romfs_layout.specs.Items.{item_of, items_of}
-use Rattle.manifest_rows.proofs.Depths.{deepest_is}
-use Rattle.manifest_rows.specs.Rows.{Row, rows, deepest}
+use Rattle.plan_rows.proofs.Depths.{deepest_is}
+use Rattle.plan_rows.specs.Rows.{Row, rows, deepest}
 use Rattle.romfs_plan.specs.Rows.{count_of, header_count, too_large}
 
 header_count-append : (rs qs : List Row) → header_count (rs ++ qs) ≡ header_count rs + header_count qs
@@ -24,7 +24,7 @@ pub counted : (at : ℕ → ℕ) (d dir from : ℕ) (n : Names) → length (head
 counted at d dir from nothing = refl
 counted at d dir from (leaf name i after) = let e = counted at d dir (leaf_end from name i) after in omega (arith, e)
 counted at d dir from (link name i after) = let e = counted at d dir (header_end from name) after in omega (arith, e)
-counted at d dir from (folder name i own after) =
+counted at d dir from (subdirectory name i own after) =
     let h = header_end from name + 64 in
     let e = counted at (d + 1) (pad16 from) h own in
     let f = counted at d dir (ends h own) after in
@@ -47,7 +47,7 @@ fewer (r ∷ rs) = let e = fewer rs in let f = some r.what in omega (arith, e, f
     some : (w : What) → 1 ≤ count_of w
     some (a_leaf i) = omega arith
     some (a_link i) = omega arith
-    some (a_folder i) = omega arith
+    some (a_directory i) = omega arith
 
 or_true : (b : Bool) → b || true ≡ true
 or_true true = refl

@@ -7,13 +7,13 @@ use Rattle.std.proofs.Math.Path.{fun_ext}
 use Rattle.std.proofs.lemmas.List.{get_or-set_same, get_or-set_other, length-set, length-append}
 use Rattle.record_forest.proofs.Lists.{every_join}
 use Rattle.romfs_format.specs.Record.{pad16}
-use Rattle.manifest_tree.specs.Names.{Inode, Names, nothing, leaf, link, folder}
-use Rattle.manifest_tree.specs.Tree.{a_leaf, a_link, a_folder}
+use Rattle.manifest_tree.specs.Names.{Inode, Names, nothing, leaf, link, subdirectory}
+use Rattle.manifest_tree.specs.Tree.{a_leaf, a_link, a_directory}
 use Rattle.layout_terms.specs.Files.{Placed, at_place, height}
 use Rattle.romfs_layout.specs.Layout.{Header, headers, place_of, leaf_end, header_end, ends, first_place, placed}
 use Rattle.romfs_layout.specs.Layout.{place_with, root_at}
 use Rattle.romfs_layout.specs.Items.{item_of, items_of}
-use Rattle.manifest_rows.specs.Rows.{Row, rows}
+use Rattle.plan_rows.specs.Rows.{Row, rows}
 use Rattle.romfs_plan.specs.declared.places.Place.{Place}
 use Rattle.romfs_plan.specs.Passes.{place, named_places}
 use Rattle.romfs_plan.specs.Headers.{headers_by, headers_of, root_headers, placed_by, placed_of, first_of}
@@ -44,7 +44,7 @@ below : (d k : ℕ) (n : Names) → d ≤ k → Every (λ r. d ≤ r.depth) (row
 below d k nothing h = tt
 below d k (leaf name i after) h = (h, below d k after h)
 below d k (link name i after) h = (h, below d k after h)
-below d k (folder name i own after) h = (
+below d k (subdirectory name i own after) h = (
   h,
   every_join (λ (r : Row). d ≤ r.depth) (rows (k + 1) own) (rows k after) (below d (k + 1) own (omega (arith, h)))
       (below d k after h),
@@ -54,7 +54,7 @@ pub length-named : (d from : ℕ) (n : Names) → length (named_places from n) �
 length-named d from nothing = refl
 length-named d from (leaf name i after) = ap suc (length-named d (leaf_end from name i) after)
 length-named d from (link name i after) = ap suc (length-named d (header_end from name) after)
-length-named d from (folder name i own after) =
+length-named d from (subdirectory name i own after) =
     let h = header_end from name + 64 in
     let a = length-named (d + 1) h own in
     let b = length-named d (ends h own) after in
@@ -95,7 +95,7 @@ walked at d from dirs (link name i after) room =
     ap (λ (hs : List Header). headers_by at (get_or dirs d 0) name (a_link i) p ++ hs)
     (walked at d q dirs1 after (omega (arith, room, same))
     ∙ ap (λ (x : ℕ). headers at x q after) (get_or-set_other dirs (d + 1) d p.at 0 ne))
-walked at d from dirs (folder name i own after) room =
+walked at d from dirs (subdirectory name i own after) room =
     let h = header_end from name + 64 in
     let q = ends h own in
     let p = place (pad16 from) (first_place q after) (first_place h own) in
@@ -111,7 +111,7 @@ walked at d from dirs (folder name i own after) room =
     ∙ get_or-set_other dirs (d + 1) d p.at 0 ne in
     let outer =
     walked at d q dirs2 after (omega (arith, room, same, same2)) ∙ ap (λ (x : ℕ). headers at x q after) kept in
-    ap (λ (hs : List Header). headers_by at dir name (a_folder i) p ++ hs)
+    ap (λ (hs : List Header). headers_by at dir name (a_directory i) p ++ hs)
     (headers_of-append at dirs1 (rows (d + 1) own) (rows d after) (named_places h own) (named_places q after)
     (length-named (d + 1) h own)
     ∙ ap (λ (hs : List Header). hs ++ headers_of at dirs2 (rows d after) (named_places q after)) inner
@@ -133,7 +133,7 @@ placed_is d from nothing = refl
 placed_is d from (leaf name i after) =
     ap (λ (xs : List Placed). at_place i (place_of from name i) ∷ xs) (placed_is d (leaf_end from name i) after)
 placed_is d from (link name i after) = placed_is d (header_end from name) after
-placed_is d from (folder name i own after) =
+placed_is d from (subdirectory name i own after) =
     let h = header_end from name + 64 in
     let q = ends h own in
     ap (λ (xs : List Placed). at_place i (pad16 from) ∷ xs)
@@ -146,7 +146,7 @@ pub first_is : (from : ℕ) (n : Names) → first_of (named_places from n) ≡ f
 first_is from nothing = refl
 first_is from (leaf name i after) = refl
 first_is from (link name i after) = refl
-first_is from (folder name i own after) = refl
+first_is from (subdirectory name i own after) = refl
 
 -- the root's headers and those of the rows are all
 pub whole : (volume : List ℕ) (root : Inode) (n : Names) (rs : List Row) (ps qs : List Place) (at : ℕ → ℕ) (r first : ℕ)

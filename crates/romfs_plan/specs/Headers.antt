@@ -8,10 +8,10 @@ use Rattle.std.specs.Ordering.{nat_cmp}
 use Rattle.std.specs.BTreeMap.{get_by, BTreeMap}
 use Rattle.rom_tree.specs.Dots.{dot, dot_dot}
 use Rattle.manifest_tree.specs.Names.{Inode}
-use Rattle.manifest_tree.specs.Tree.{What, a_leaf, a_link, a_folder}
+use Rattle.manifest_tree.specs.Tree.{What, a_leaf, a_link, a_directory}
 use Rattle.layout_terms.specs.Files.{Placed, at_place}
 use Rattle.romfs_layout.specs.Layout.{Header, header_alone, code_of, device_of, record_len}
-use Rattle.manifest_rows.specs.Rows.{Row}
+use Rattle.plan_rows.specs.Rows.{Row}
 use Rattle.romfs_plan.specs.declared.places.Place.{Place}
 
 -- the header of a file, if it is at this offset
@@ -27,8 +27,8 @@ leaf_header name i p = record {
 }
 
 -- the headers of a directory that is in the directory at `dir`: its own, `.` and `..`
-abbrev pub folder_headers : ℕ → List ℕ → Inode → Place → List Header
-folder_headers dir name i p =
+abbrev pub directory_headers : ℕ → List ℕ → Inode → Place → List Header
+directory_headers dir name i p =
     let h = p.at + record_len name in
     header_alone p.at (p.next + code_of i) h name
     ∷ header_alone h (h + 32) p.at dot
@@ -39,7 +39,7 @@ folder_headers dir name i p =
 abbrev pub headers_by : (ℕ → ℕ) → ℕ → List ℕ → What → Place → List Header
 headers_by at dir name (a_leaf i) p = leaf_header name i p ∷ []
 headers_by at dir name (a_link i) p = header_alone p.at p.next (at i.line) name ∷ []
-headers_by at dir name (a_folder i) p = folder_headers dir name i p
+headers_by at dir name (a_directory i) p = directory_headers dir name i p
 
 -- the headers of rows; for each depth, `dirs` has the directory whose list was met last there
 abbrev pub headers_of : (ℕ → ℕ) → List ℕ → List Row → List Place → List Header
@@ -63,7 +63,7 @@ first_of (p ∷ ps) = p.at
 abbrev pub placed_by : What → ℕ → List Placed
 placed_by (a_leaf i) at = at_place i at ∷ []
 placed_by (a_link i) at = []
-placed_by (a_folder i) at = at_place i at ∷ []
+placed_by (a_directory i) at = at_place i at ∷ []
 
 abbrev pub placed_of : List Row → List Place → List Placed
 placed_of [] ps = []
@@ -78,7 +78,7 @@ noted m line = unwrap_or (get_by (nat_cmp line) m) 0
 abbrev pub noted_by : What → ℕ → ℕ → ℕ → ℕ
 noted_by (a_leaf i) at old line = if i.line == line then at else old
 noted_by (a_link i) at old line = old
-noted_by (a_folder i) at old line = if i.line == line then at else old
+noted_by (a_directory i) at old line = if i.line == line then at else old
 
 -- offsets within the greatest image
 abbrev pub IsNear : Place → Type 0
@@ -88,7 +88,7 @@ IsNear p = (p.at ≤ 2 ^ 28) × (p.next ≤ 2 ^ 28) × (p.first ≤ 2 ^ 28)
 abbrev pub IsFineWhat : What → Type 0
 IsFineWhat (a_leaf i) = (i.size ≤ 2 ^ 28) × (i.major < 65536) × (i.minor < 65536)
 IsFineWhat (a_link i) = Unit {0}
-IsFineWhat (a_folder i) = Unit {0}
+IsFineWhat (a_directory i) = Unit {0}
 
 abbrev pub IsFineRow : Row → Type 0
 IsFineRow r = (length r.name < 256) × (r.depth < 65) × IsFineWhat r.what

@@ -2,18 +2,18 @@
 -- `places_of`: backwards, what each header leads on to. `named_places`: the same in the layout's
 -- words. (This project's own.)
 use Rattle.std.specs.Prelude.{ℕ, ◌+◌, List, [], ◌∷◌, ◌++◌, slice_index, slice_set}
-use Rattle.manifest_tree.specs.Names.{Names, nothing, leaf, link, folder}
-use Rattle.manifest_tree.specs.Tree.{What, a_leaf, a_link, a_folder}
+use Rattle.manifest_tree.specs.Names.{Names, nothing, leaf, link, subdirectory}
+use Rattle.manifest_tree.specs.Tree.{What, a_leaf, a_link, a_directory}
 use Rattle.romfs_format.specs.Record.{pad16}
 use Rattle.romfs_layout.specs.Layout.{place_of, leaf_end, header_end, ends, first_place}
-use Rattle.manifest_rows.specs.Rows.{Row}
+use Rattle.plan_rows.specs.Rows.{Row}
 use Rattle.romfs_plan.specs.declared.places.Place.{Place}
 
 -- the offset of a row's header, if what was placed before ends at `from`
 abbrev pub place_by : ℕ → List ℕ → What → ℕ
 place_by from name (a_leaf i) = place_of from name i
 place_by from name (a_link i) = pad16 from
-place_by from name (a_folder i) = pad16 from
+place_by from name (a_directory i) = pad16 from
 
 abbrev pub row_place : ℕ → Row → ℕ
 row_place from r = place_by from r.name r.what
@@ -22,7 +22,7 @@ row_place from r = place_by from r.name r.what
 abbrev pub end_by : ℕ → List ℕ → What → ℕ
 end_by from name (a_leaf i) = leaf_end from name i
 end_by from name (a_link i) = header_end from name
-end_by from name (a_folder i) = header_end from name + 64
+end_by from name (a_directory i) = header_end from name + 64
 
 abbrev pub row_end : ℕ → Row → ℕ
 row_end from r = end_by from r.name r.what
@@ -68,7 +68,7 @@ named_places from (leaf name i after) =
 named_places from (link name i after) =
     place (pad16 from) (first_place (header_end from name) after) 0
     ∷ named_places (header_end from name) after
-named_places from (folder name i own after) =
+named_places from (subdirectory name i own after) =
     let h = header_end from name + 64 in
     place (pad16 from) (first_place (ends h own) after) (first_place h own)
     ∷ (named_places h own ++ named_places (ends h own) after)

@@ -3,19 +3,19 @@
 -- project's.)
 use Rattle.std.specs.Prelude.{ℕ, ◌+◌, ◌^◌, ◌<◌, ◌≤◌, ◌||◌, nat_lt, Bool, false, List, [], ◌∷◌}
 use Rattle.std.specs.Prelude.{length}
-use Rattle.image_parts.specs.Padding.{pad}
+use Rattle.rom_fields.specs.Padding.{pad}
 use Rattle.manifest_tree.specs.Names.{Inode, Names}
-use Rattle.manifest_tree.specs.Tree.{What, a_leaf, a_link, a_folder}
+use Rattle.manifest_tree.specs.Tree.{What, a_leaf, a_link, a_directory}
 use Rattle.layout_terms.specs.Files.{height}
 use Rattle.romfs_layout.specs.Layout.{root_at, full_size_of}
 use Rattle.romfs_layout.specs.Items.{items_of}
-use Rattle.manifest_rows.specs.Rows.{Row}
+use Rattle.plan_rows.specs.Rows.{Row}
 
 -- the number of headers of a name; a directory's list begins with `.` and `..`
 abbrev pub count_of : What → ℕ
 count_of (a_leaf i) = 1
 count_of (a_link i) = 1
-count_of (a_folder i) = 3
+count_of (a_directory i) = 3
 
 abbrev pub header_count : List Row → ℕ
 header_count [] = 0
@@ -25,7 +25,7 @@ header_count (r ∷ rs) = count_of r.what + header_count rs
 abbrev pub IsFitWhat : What → Type 0
 IsFitWhat (a_leaf i) = i.size ≤ 2 ^ 28
 IsFitWhat (a_link i) = Unit {0}
-IsFitWhat (a_folder i) = Unit {0}
+IsFitWhat (a_directory i) = Unit {0}
 
 abbrev pub IsFitRow : Row → Type 0
 IsFitRow r = (length r.name < 256) × IsFitWhat r.what

@@ -1,15 +1,16 @@
 //! The headers of a romfs image.
 ghost use Rattle.std.specs.Prelude.{◌≡◌, ◌+◌, ◌<◌, ◌≤◌, ◌^◌, ◌++◌, IfOk, OnOk, length, map};
-ghost use Rattle.manifest_rows.specs.Rows.{bytes_view, inode_view, row_view};
+ghost use Rattle.plan_rows.specs.Rows.{bytes_view, inode_view, row_view};
 ghost use Rattle.plan_types.specs.Views.{item_view, fill_view};
 ghost use Rattle.romfs_layout.specs.Items.{item_of};
 ghost use Rattle.romfs_layout.specs.Layout.{code_of, device_of, header_alone, mode_bit, number_of};
-ghost use Rattle.romfs_plan.specs.Headers.{leaf_header, folder_headers, headers_by, root_headers};
+ghost use Rattle.romfs_plan.specs.Headers.{leaf_header, directory_headers, headers_by};
+ghost use Rattle.romfs_plan.specs.Headers.{root_headers};
 ghost use Rattle.romfs_plan.specs.Headers.{noted, IsNear, IsFineRow};
 
 use crate::places::{Place, record_len};
 use manifest::Name;
-use manifest_rows::{Bytes, Inode, Row, What};
+use plan_rows::{Bytes, Inode, Row, What};
 use plan_types::{Fill, Item};
 use rom_fields::OutOfMemory;
 use rom_tree::Kind;
@@ -124,7 +125,7 @@ fn leaf_header(alloc: Global, row: &Row<'_>, place: Place) -> Result<Item, OutOf
 }
 
 /// Appends the headers of a directory that is in the directory at `dir`: its own, `.` and `..`.
-fn push_folder(
+fn push_directory(
     alloc: Global,
     found: &mut Vec<Item>,
     row: &Row<'_>,
@@ -134,7 +135,7 @@ fn push_folder(
     requires name { length row.now.name.now < 256 }
     requires near { IsNear place }
     ensures { OnOk result (map item_view found.new.items ≡ map item_view found.old.items
-        ++ map item_of (folder_headers dir row.now.name.now (inode_view row.now.inode) place)) }
+        ++ map item_of (directory_headers dir row.now.name.now (inode_view row.now.inode) place)) }
 {
     let at = place.at as u32;
     let list = at + record_len(row.name);
@@ -197,7 +198,7 @@ pub fn push_row(
             let name = name_of(alloc, row.name)?;
             found.push(header_alone(place.at as u32, place.next as u32, target, name))?;
         }
-        What::Folder => push_folder(alloc, found, row, place, dir)?,
+        What::Directory => push_directory(alloc, found, row, place, dir)?,
     }
     Ok(())
 }

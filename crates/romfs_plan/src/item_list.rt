@@ -2,7 +2,7 @@
 ghost use Rattle.std.specs.Prelude.{◌≡◌, ◌++◌, ℕ, List, IfOk, OnOk, length, map, replicate};
 ghost use Rattle.std.specs.List.{All};
 ghost use Rattle.manifest_tree.specs.Names.{Names};
-ghost use Rattle.manifest_rows.specs.Rows.{rows as rows_of, inode_view, row_view};
+ghost use Rattle.plan_rows.specs.Rows.{rows as rows_of, inode_view, row_view};
 ghost use Rattle.plan_types.specs.Views.{item_view};
 ghost use Rattle.romfs_layout.specs.Items.{item_of, items_of};
 ghost use Rattle.romfs_layout.specs.Layout.{place_with};
@@ -14,7 +14,7 @@ use crate::headers::{push_root, push_row};
 use crate::passes::{DEPTHS, places_of};
 use crate::places::Place;
 use crate::size::root_at;
-use manifest_rows::{Inode, Row, What};
+use plan_rows::{Inode, Row, What};
 use plan_types::Item;
 use rom_fields::OutOfMemory;
 use std::alloc::Global;
@@ -26,7 +26,7 @@ fn note_row(lines: &mut BTreeMap<u64, u32>, row: &Row<'_>, at: u32) -> Result<()
         ≡ noted_by (row_view row.now).what at (noted lines.old line) line) }
 {
     match row.what {
-        What::Leaf | What::Folder => {
+        What::Leaf | What::Directory => {
             lines.insert(row.inode.line, at)?;
         }
         What::Link => {}

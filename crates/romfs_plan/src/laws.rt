@@ -2,7 +2,7 @@
 ghost use Rattle.std.specs.Prelude.{◌≡◌, ◌≤◌, ℕ, replicate};
 ghost use Rattle.layout_terms.specs.Files.{height};
 ghost use Rattle.manifest_tree.specs.Names.{Names};
-ghost use Rattle.manifest_rows.specs.Rows.{rows};
+ghost use Rattle.plan_rows.specs.Rows.{rows};
 ghost use Rattle.romfs_layout.specs.Layout.{ends};
 ghost use Rattle.romfs_plan.specs.Passes.{places, places_end, places_of, named_places};
 

@@ -3,12 +3,12 @@ ghost use Rattle.std.specs.Prelude.{◌≡◌, ◌<◌, ◌≤◌, ◌^◌, IfOk
 ghost use Rattle.std.specs.List.{All};
 ghost use Rattle.layout_terms.specs.Files.{height};
 ghost use Rattle.manifest_tree.specs.Names.{Names};
-ghost use Rattle.manifest_rows.specs.Rows.{rows as rows_of, row_view};
+ghost use Rattle.plan_rows.specs.Rows.{rows as rows_of, row_view};
 ghost use Rattle.romfs_plan.specs.Passes.{places, places_end, places_of, named_places};
 ghost use Rattle.romfs_plan.specs.Rows.{IsFitRow};
 
 use crate::places::{Place, row_end, row_place};
-use manifest_rows::Row;
+use plan_rows::Row;
 use rom_fields::OutOfMemory;
 use std::alloc::Global;
 

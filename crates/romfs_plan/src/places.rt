@@ -1,12 +1,12 @@
 //! The offsets of the headers of rows.
 ghost use Rattle.std.specs.Prelude.{◌≡◌, ◌+◌, ◌*◌, ◌<◌, ◌≤◌, ◌^◌, length};
-ghost use Rattle.image_parts.specs.Padding.{pad};
-ghost use Rattle.manifest_rows.specs.Rows.{row_view};
+ghost use Rattle.rom_fields.specs.Padding.{pad};
+ghost use Rattle.plan_rows.specs.Rows.{row_view};
 ghost use Rattle.romfs_layout.specs.Layout.{record_len};
 ghost use Rattle.romfs_plan.specs.Passes.{row_place, row_end};
 ghost use Rattle.romfs_plan.specs.Rows.{IsFitRow};
 
-use manifest_rows::{Row, What};
+use plan_rows::{Row, What};
 use std::cmp::max;
 
 /// The offset of a header, of the next one in its list, and of the first in its own list; 0 if
@@ -59,7 +59,7 @@ pub fn row_place(from: u64, row: &Row<'_>) -> u64
             };
             padded(start + len, multiple) - len
         }
-        What::Link | What::Folder => start,
+        What::Link | What::Directory => start,
     }
 }
 
@@ -74,6 +74,6 @@ pub fn row_end(from: u64, row: &Row<'_>) -> u64
     match row.what {
         What::Leaf => end + row.inode.size,
         What::Link => end,
-        What::Folder => end + 64,
+        What::Directory => end + 64,
     }
 }

@@ -2,15 +2,15 @@
 ghost use Rattle.std.specs.Prelude.{◌≡◌, ◌+◌, ◌*◌, ◌<◌, ◌≤◌, ◌^◌, if◌then◌else◌, Some, None, map};
 ghost use Rattle.std.specs.Prelude.{length};
 ghost use Rattle.std.specs.List.{AllByRecursion as Every};
-ghost use Rattle.image_parts.specs.Padding.{pad};
+ghost use Rattle.rom_fields.specs.Padding.{pad};
 ghost use Rattle.manifest_tree.specs.Names.{Inode, Names};
-ghost use Rattle.manifest_rows.specs.Rows.{rows as rows_of, row_view};
+ghost use Rattle.plan_rows.specs.Rows.{rows as rows_of, row_view};
 ghost use Rattle.romfs_layout.specs.Layout.{full_size_of, root_at};
 ghost use Rattle.romfs_plan.specs.Rows.{count_of, header_count, IsFitRow, too_large};
 
 use crate::passes::rows_end;
 use crate::places::{padded, record_len};
-use manifest_rows::{Row, What, deepest};
+use plan_rows::{Row, What, deepest};
 use romfs_format::disk;
 
 /// The most headers of an image: 2^20, this project's limit of references.
@@ -29,7 +29,7 @@ fn count_of(row: &Row<'_>) -> usize
 {
     match row.what {
         What::Leaf | What::Link => 1,
-        What::Folder => 3,
+        What::Directory => 3,
     }
 }
 

@@ -1,12 +1,12 @@
--- The known facts of a romfs plan.
+-- The facts facts of a romfs plan.
 use Rattle.std.proofs.Common.{◌≡◌, ℕ, ◌+◌, ◌-◌, ◌^◌, ◌<◌, List, [], ◌∷◌, ◌++◌, map, length, get_or, refl, sym, ap}
 use Rattle.std.proofs.Common.{subst, ◌∙◌, arith}
 use Rattle.manifest.specs.Grammar.{IsManifest}
 use Rattle.manifest.specs.Lines.{ManifestLines, sources_of}
-use Rattle.manifest_tree.specs.Names.{Inode, Names, nothing, leaf, link, folder}
+use Rattle.manifest_tree.specs.Names.{Inode, Names, nothing, leaf, link, subdirectory}
 use Rattle.manifest_tree.specs.Tree.{tree_of, root_of}
 use Rattle.romfs_format.specs.Record.{pad16}
-use Rattle.image_parts.specs.Padding.{pad}
+use Rattle.rom_fields.specs.Padding.{pad}
 use Rattle.layout_terms.specs.Items.{Item, Section, SectionsRise}
 use Rattle.layout_terms.specs.Bodies.{item_at}
 use Rattle.romfs_layout.specs.Layout.{Header, record_len, leaf_end, header_end, ends, headers, all_headers, place_with}
@@ -43,7 +43,7 @@ headers_last at dir from (link name i after) =
     let q = header_end from name in
     let e : q + 0 ≡ q = omega arith in
     ap (λ (k : ℕ). last_end k (headers at dir q after)) e ∙ headers_last at dir q after
-headers_last at dir from (folder name i own after) =
+headers_last at dir from (subdirectory name i own after) =
     let h = header_end from name in
     let q = ends (h + 64) own in
     let inner = headers at (pad16 from) (h + 64) own in
@@ -161,9 +161,9 @@ of_names volume root n cs h sized =
       sized = sized;
     }
 
-pub known : Fitting → (m : ManifestLines) (sizes : List ℕ) → IsManifest m → (length sizes ≡ length (sources_of m.lines))
+pub facts : Fitting → (m : ManifestLines) (sizes : List ℕ) → IsManifest m → (length sizes ≡ length (sources_of m.lines))
     → HasNoMisfit romfs m sizes → IsRomfsPlan (planned m sizes)
-known fitting m sizes h l n =
+facts fitting m sizes h l n =
     let e = lengths sizes in
     let cs = zeros sizes in
     let n' = subst (HasNoMisfit romfs m) (sym e) n in
@@ -178,4 +178,4 @@ plan_known fitting p h e =
     let m = h.0 in
     let sizes = h.1 in
     let is : IsPlanOf romfs m sizes p = subst (λ (f : Format). IsPlanOf f m sizes p) e h.4 in
-    subst IsRomfsPlan (sym (planned_is m sizes p is)) (known fitting m sizes h.2 h.3 is.fits)
+    subst IsRomfsPlan (sym (planned_is m sizes p is)) (facts fitting m sizes h.2 h.3 is.fits)

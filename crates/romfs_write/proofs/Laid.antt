@@ -2,7 +2,7 @@
 use Rattle.std.proofs.Common.{◌≡◌, ℕ, zero, suc, ◌+◌, ◌<◌, ◌≤◌, List, [], ◌∷◌, map, length, drop, refl, sym, ap, ◌∙◌}
 use Rattle.std.proofs.Common.{arith}
 use Rattle.std.specs.List.{AllByRecursion as Every}
-use Rattle.image_parts.proofs.Padding.{pad-after}
+use Rattle.rom_fields.proofs.Padding.{pad-after}
 use Rattle.image_stream.specs.Segments.{place, len, segment_at, SegmentsRise, HasSource, IsLaidOut}
 use Rattle.manifest_tree.specs.Names.{Fill, bytes_of}
 use Rattle.layout_terms.specs.Items.{Item, Section, Body, super, record_of, table_of, text_of, contents_of}

@@ -6,11 +6,11 @@ use Rattle.std.proofs.lemmas.List.{replicate-append-replicate, take_all, take-ap
 use Rattle.std.specs.List.{AllByRecursion as Every}
 use Rattle.byteorder.specs.Endian.{big_bytes}
 use Rattle.rom_fields.specs.Words.{words_total}
-use Rattle.image_parts.specs.Padding.{pad}
-use Rattle.image_parts.specs.Parts.{Part, part, laid, with_part}
-use Rattle.image_parts.specs.Sums.{balance, sealed}
-use Rattle.image_parts.proofs.Parts.{laid-append, length-laid}
-use Rattle.image_parts.proofs.Padding.{pad-after}
+use Rattle.rom_fields.specs.Padding.{pad}
+use Rattle.rom_fields.specs.Parts.{Part, part, laid, with_part}
+use Rattle.rom_fields.specs.Sums.{balance, sealed}
+use Rattle.rom_fields.proofs.Parts.{laid-append, length-laid}
+use Rattle.rom_fields.proofs.Padding.{pad-after}
 use Rattle.image_stream.specs.Segments.{segment_part, image_from, image_of}
 use Rattle.image_stream.specs.Outcomes.{AreSized}
 use Rattle.image_stream.specs.WordSums.{weighted, weight, balance_of, term}
@@ -156,7 +156,7 @@ rise_low from end (s ∷ ss) r = let l = rise_low (s.place + s.len) end ss r.2 i
 pub names_mean : (volume : List ℕ) (root : Inode) (n : Names) (cs : List (List ℕ)) → IsPlanned volume root n cs
     → IsRomfsPlan (planned_by volume root n (map length cs))
     → image_of (form_of (planned_by volume root n (map length cs))) balance_of cs ≡ layout volume root n cs
-names_mean volume root n cs h known =
+names_mean volume root n cs h facts =
     let p = planned_by volume root n (map length cs) in
     let is = items_of volume root n in
     let ss = sections_from 0 is in
@@ -168,10 +168,10 @@ names_mean volume root n cs h known =
     let sb = superblock size volume in
     let lp = length-padded_name volume in
     let ls : length sb ≡ root_at volume = omega (arith, lp) in
-    let il = image_laid f cs (laid_out p known) (λ k l. size_is cs k) ls in
+    let il = image_laid f cs (laid_out p facts) (λ k l. size_is cs k) ls in
     let all = il ∙ ap (λ (ps : List Part). laid [] (part 0 sb ∷ (ps ++ part f.end [] ∷ [])))
-    (parts_by volume size cs is ss known.bodies)
-    ∙ ap (λ (k : ℕ). laid [] (part 0 sb ∷ (map rp ss ++ part k [] ∷ []))) known.end in
+    (parts_by volume size cs is ss facts.bodies)
+    ∙ ap (λ (k : ℕ). laid [] (part 0 sb ∷ (map rp ss ++ part k [] ∷ []))) facts.end in
     let up = subst (λ (k : ℕ). SectionsRise 0 k (sections_of volume is)) (sym fs) (in_romfs.rise volume root n cs h) in
     let long = subst (λ (k : ℕ). Every (λ s. length (romfs_part volume k cs is s).bytes ≡ s.len)
     (sections_of volume is)) (sym fs) (are_long volume root n cs h) in
@@ -182,16 +182,16 @@ names_mean volume root n cs h known =
 
 pub means : Fitting → (p : Planned) (m : ManifestLines) (cs : List (List ℕ)) → IsManifest m → IsRomfsPlan p
     → IsPlanOf romfs m (map length cs) p → image_of (form_of p) balance_of cs ≡ layout_of romfs m cs
-means fitting p m cs hm known is =
+means fitting p m cs hm facts is =
     let e = planned_is m (map length cs) p is in
     subst (λ (q : Planned). image_of (form_of q) balance_of cs ≡ layout_of romfs m cs) (sym e)
     (names_mean m.volume (root_of m.lines (map length cs)) (tree_of m.lines (map length cs)) cs
-    (fitting romfs m cs hm is.fits) (subst IsRomfsPlan e known))
+    (fitting romfs m cs hm is.fits) (subst IsRomfsPlan e facts))
 
 pub sized_means : Fitting → (p : Planned) (m : ManifestLines) (sizes : List ℕ) (cs : List (List ℕ)) → IsManifest m
     → IsRomfsPlan p
     → IsPlanOf romfs m sizes p → length cs ≡ length p.sizes → AreSized p.sizes cs
     → (map length cs ≡ sizes) × (image_of (form_of p) balance_of cs ≡ layout_of romfs m cs)
-sized_means fitting p m sizes cs hm known is n sized =
+sized_means fitting p m sizes cs hm facts is n sized =
     let e : map length cs ≡ sizes = sizes_are p.sizes cs n sized ∙ is.of_sources in
-    (e, means fitting p m cs hm known (subst (λ (xs : List ℕ). IsPlanOf romfs m xs p) (sym e) is))
+    (e, means fitting p m cs hm facts (subst (λ (xs : List ℕ). IsPlanOf romfs m xs p) (sym e) is))

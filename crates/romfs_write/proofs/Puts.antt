@@ -4,8 +4,8 @@ use Rattle.std.proofs.Common.{arith, append_assoc, length-append}
 use Rattle.std.proofs.lemmas.List.{length-replicate, drop_at, take_at, replicate-append-replicate}
 use Rattle.byteorder.specs.Endian.{big_bytes}
 use Rattle.rom_fields.specs.Words.{words_total, words_sum}
-use Rattle.image_parts.specs.Sums.{balance, balanced}
-use Rattle.image_parts.proofs.Words.{words_total-append, words_total-word}
+use Rattle.rom_fields.specs.Sums.{balance, balanced}
+use Rattle.rom_fields.proofs.Words.{words_total-append, words_total-word}
 use Rattle.romfs_format.specs.Record.{pad16}
 use Rattle.romfs_format.specs.Tree.{magic}
 use Rattle.romfs_layout.specs.Layout.{header_bytes, padded_name, record_len}

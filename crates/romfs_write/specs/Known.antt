@@ -1,8 +1,8 @@
--- `IsRomfsPlan`: the known facts of the plan of a romfs image. (This project's own.)
+-- `IsRomfsPlan`: the facts facts of the plan of a romfs image. (This project's own.)
 use Rattle.std.specs.Prelude.{◌≡◌, ℕ, ◌+◌, ◌^◌, ◌<◌, List, ◌∷◌, length, drop, get_or}
 use Rattle.std.specs.List.{AllByRecursion as Every}
 use Rattle.manifest_tree.specs.Names.{text}
-use Rattle.image_parts.specs.Padding.{pad}
+use Rattle.rom_fields.specs.Padding.{pad}
 use Rattle.plan_types.specs.Plans.{Planned}
 use Rattle.layout_terms.specs.Items.{Item, Body, super, record_of, table_of, text_of, contents_of}
 use Rattle.layout_terms.specs.Items.{section, SectionsRise}

@@ -24,8 +24,8 @@ pub struct RomfsForm<'p> {
     ghost romfs: { plan.now.format ≡ romfs },
 }
 
-/// Shows the known facts of the plan of a romfs image.
-pub fn known(plan: &Plan)
+/// Shows the facts facts of the plan of a romfs image.
+pub fn facts(plan: &Plan)
     requires { plan.now.format ≡ romfs }
     ensures plan { IsRomfsPlan plan.now }
     ensures count { length plan.now.sections < 2 ^ 64 }
@@ -77,7 +77,7 @@ impl<'p> RomfsForm<'p> {
     fn full_size(&self) -> u32
         ensures { result ≡ full_size self.now.plan.now.items }
     {
-        known(self.plan);
+        facts(self.plan);
         let items = self.plan.items();
         let item = &items[items.len() - 1];
         let record = 16 + padded_len(item.name.as_bytes());
@@ -93,7 +93,7 @@ impl<'p> RomfsForm<'p> {
         ensures body { IsBody self.now.plan.now.items self.now.plan.now.sizes result.len
             (section_view result).body }
     {
-        known(self.plan);
+        facts(self.plan);
         match self.plan.section(i + 1) {
             Some(section) => section,
             None => Section {

@@ -1,7 +1,7 @@
 //! The writing of an image into a buffer, or to a writer.
 ghost use Rattle.std.specs.Prelude.{◌≡◌, ◌%◌, ◌≤◌, ℕ, List, map, length, OnOk, OnErr, IfErr};
 ghost use Rattle.image_stream.specs.Outcomes.{AreSized, IsLeastWrong, IsStreamFault, IsStreamed};
-ghost use Rattle.image_stream.specs.Sources.{Told};
+ghost use Rattle.image_stream.specs.Sources.{IfKnown};
 ghost use Rattle.image_stream.specs.WordSums.{balance_of};
 ghost use Rattle.manifest.specs.Grammar.{IsManifest};
 ghost use Rattle.manifest.specs.Lines.{ManifestLines};
@@ -11,7 +11,7 @@ ghost use Rattle.rom_fields.specs.Written.{AppendsPrefix};
 ghost use Rattle.std.specs.Io.KnownBytes.{Appends};
 ghost use Rattle.romfs_write.specs.Form.{form_of};
 
-use crate::form::{RomfsForm, known};
+use crate::form::{RomfsForm, facts};
 use image_stream::{SizeDiffers, Sources, StreamError, WordSum};
 use plan_types::Plan;
 use rom_fields::{ByteWrite, Contents};
@@ -34,7 +34,7 @@ pub fn write(plan: &Plan, contents: &Contents<'_>, out: &mut [u8]) -> Result<(),
     ensures err { IfErr result (λ e. IsLeastWrong plan.now.sizes e.file contents.now
         × (out.new ≡ out.old)) }
 {
-    known(plan);
+    facts(plan);
     manifest_layout::laws::fitting_is_planned();
     let form = RomfsForm::new(plan);
     image_stream::write::<RomfsForm<'_>, WordSum>(&form, contents, out)
@@ -43,13 +43,13 @@ pub fn write(plan: &Plan, contents: &Contents<'_>, out: &mut [u8]) -> Result<(),
 /// Writes the image of a plan through a buffer of the caller's, without taking memory, and flushes
 /// the writer. `image_stream::stream_through` describes how the sources are read.
 ///
-/// At `Ok`, exactly the layout was written, if the contents of the sources are known. Otherwise a
+/// At `Ok`, exactly the layout was written, if the contents of the sources are facts. Otherwise a
 /// whole image was written, with some contents of the planned sizes and the sum of exactly these
 /// bytes.
 ///
 /// # Errors
 ///
-/// `StreamError` has the reasons. If the contents of the sources are known and have the planned
+/// `StreamError` has the reasons. If the contents of the sources are facts and have the planned
 /// sizes, a prefix of the layout was written.
 pub fn stream_through<S: Sources, W: ByteWrite>(
     plan: &Plan,
@@ -61,26 +61,26 @@ pub fn stream_through<S: Sources, W: ByteWrite>(
     requires files { S.files sources.old ≡ length plan.now.sizes }
     requires room { 4096 ≤ length buffer.old }
     requires words { length buffer.old % 4 ≡ 0 }
-    ensures told { S.told sources.new ≡ S.told sources.old }
+    ensures known { S.known sources.new ≡ S.known sources.old }
     ensures files { S.files sources.new ≡ S.files sources.old }
-    ensures some { OnOk result (IsStreamed (S.told sources.old) (S.IsLog sources.old)
+    ensures some { OnOk result (IsStreamed (S.known sources.old) (S.IsLog sources.old)
         (S.IsLog sources.new) (form_of plan.now) balance_of
         (W.output w.old).contents (W.output w.new).contents) }
-    ensures sized { OnOk result (Told (S.told sources.old) (AreSized plan.now.sizes)) }
+    ensures sized { OnOk result (IfKnown (S.known sources.old) (AreSized plan.now.sizes)) }
     ensures whole { (m : ManifestLines) (sizes : List ℕ) → IsManifest m
         → IsPlanOf romfs m sizes plan.now
-        → OnOk result (Told (S.told sources.old) (λ cs. (map length cs ≡ sizes) × Appends
+        → OnOk result (IfKnown (S.known sources.old) (λ cs. (map length cs ≡ sizes) × Appends
         (W.output w.old).contents (W.output w.new).contents (layout_of romfs m cs))) }
     ensures quiet { OnOk result ((S.reads sources.new ≡ S.reads sources.old)
         × ((W.output w.new).failures ≡ (W.output w.old).failures)) }
     ensures front { (m : ManifestLines) (sizes : List ℕ) → IsManifest m
         → IsPlanOf romfs m sizes plan.now
-        → OnErr result (Told (S.told sources.old) (λ cs. map length cs ≡ sizes → AppendsPrefix
+        → OnErr result (IfKnown (S.known sources.old) (λ cs. map length cs ≡ sizes → AppendsPrefix
         (W.output w.old).contents (W.output w.new).contents (layout_of romfs m cs))) }
-    ensures fault { IfErr result (IsStreamFault (S.told sources.old) (form_of plan.now) balance_of
+    ensures fault { IfErr result (IsStreamFault (S.known sources.old) (form_of plan.now) balance_of
         (S.reads sources.old) (S.reads sources.new) (W.output w.old) (W.output w.new)) }
 {
-    known(plan);
+    facts(plan);
     manifest_layout::laws::fitting_is_planned();
     let _ = sources.count();
     let form = RomfsForm::new(plan);
@@ -95,23 +95,23 @@ pub fn stream<S: Sources, W: ByteWrite>(
 ) -> Result<(), StreamError>
     requires format { plan.now.format ≡ romfs }
     requires files { S.files sources.old ≡ length plan.now.sizes }
-    ensures told { S.told sources.new ≡ S.told sources.old }
+    ensures known { S.known sources.new ≡ S.known sources.old }
     ensures files { S.files sources.new ≡ S.files sources.old }
-    ensures some { OnOk result (IsStreamed (S.told sources.old) (S.IsLog sources.old)
+    ensures some { OnOk result (IsStreamed (S.known sources.old) (S.IsLog sources.old)
         (S.IsLog sources.new) (form_of plan.now) balance_of
         (W.output w.old).contents (W.output w.new).contents) }
-    ensures sized { OnOk result (Told (S.told sources.old) (AreSized plan.now.sizes)) }
+    ensures sized { OnOk result (IfKnown (S.known sources.old) (AreSized plan.now.sizes)) }
     ensures whole { (m : ManifestLines) (sizes : List ℕ) → IsManifest m
         → IsPlanOf romfs m sizes plan.now
-        → OnOk result (Told (S.told sources.old) (λ cs. (map length cs ≡ sizes) × Appends
+        → OnOk result (IfKnown (S.known sources.old) (λ cs. (map length cs ≡ sizes) × Appends
         (W.output w.old).contents (W.output w.new).contents (layout_of romfs m cs))) }
     ensures quiet { OnOk result ((S.reads sources.new ≡ S.reads sources.old)
         × ((W.output w.new).failures ≡ (W.output w.old).failures)) }
     ensures front { (m : ManifestLines) (sizes : List ℕ) → IsManifest m
         → IsPlanOf romfs m sizes plan.now
-        → OnErr result (Told (S.told sources.old) (λ cs. map length cs ≡ sizes → AppendsPrefix
+        → OnErr result (IfKnown (S.known sources.old) (λ cs. map length cs ≡ sizes → AppendsPrefix
         (W.output w.old).contents (W.output w.new).contents (layout_of romfs m cs))) }
-    ensures fault { IfErr result (IsStreamFault (S.told sources.old) (form_of plan.now) balance_of
+    ensures fault { IfErr result (IsStreamFault (S.known sources.old) (form_of plan.now) balance_of
         (S.reads sources.old) (S.reads sources.new) (W.output w.old) (W.output w.new)) }
 {
     let mut space: [u8; 4096] = [0; 4096];

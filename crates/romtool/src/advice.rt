@@ -4,10 +4,10 @@
 //! page's end are zeros (`cramfs_last_page_is_shared`). A line is printed for each file whose bytes
 //! are in one piece, begin at a page, and have others after them in the last page.
 ghost use Rattle.std.specs.Prelude.{◌≤◌};
-ghost use Rattle.rom_tree.specs.Tree.{levels};
+ghost use Rattle.rom_tree.specs.Tree.{IsShallow};
 ghost use Rattle.image_check.specs.Any.{any_view};
 
-use crate::teller::Teller;
+use crate::reporter::Reporter;
 use cramfs_format::{Order, inode};
 use image_check::{AnyImage, check};
 use program_streams::Again;
@@ -105,7 +105,7 @@ fn layout_of<'a, T: TreeImage<'a>>(
     image: &T,
     order: Order,
 ) -> Result<Layout, AllocError>
-    requires depth { levels (T.image image.now).tree ≤ 65 }
+    requires depth { IsShallow (T.image image.now).tree }
 {
     let mut layout = Layout {
         pieces: BTreeMap::new(alloc),
@@ -157,7 +157,7 @@ fn add_paths<'a, T: TreeImage<'a>>(
     image: &T,
     paths: &mut BTreeMap<usize, Vec<u8>>,
 ) -> Result<(), AllocError>
-    requires depth { levels (T.image image.now).tree ≤ 65 }
+    requires depth { IsShallow (T.image image.now).tree }
 {
     let mut name = 0usize;
     let mut walk = Walk::new();
@@ -237,13 +237,13 @@ fn align_of(behind: Option<Piece>) -> u32 {
 
 /// Prints a line for each of these files.
 fn print(
-    teller: &Teller<'_>,
+    reporter: &Reporter<'_>,
     all: &[Shared],
     paths: &BTreeMap<usize, Vec<u8>>,
 ) -> Result<(), Status> {
-    let rt = teller.rt;
+    let rt = reporter.rt;
     let Ok(out) = BufWriter::new(rt.alloc(), Again::new(io::writer(rt))) else {
-        return Err(teller.say(Failure::Memory));
+        return Err(reporter.say(Failure::Memory));
     };
     let mut out = Plain::new(out);
     let mut failed = false;
@@ -270,7 +270,7 @@ fn print(
         put(&mut out, &mut failed, b"\n");
     }
     if out.flush().is_err() || failed {
-        return Err(teller.say(Failure::WriteFault));
+        return Err(reporter.say(Failure::WriteFault));
     }
     Ok(())
 }
@@ -281,7 +281,7 @@ fn found(
     image: &AnyImage<'_>,
     order: Order,
 ) -> Result<(Vec<Shared>, BTreeMap<usize, Vec<u8>>), AllocError>
-    requires { levels (any_view image.now).tree ≤ 65 }
+    requires { IsShallow (any_view image.now).tree }
 {
     let layout = layout_of(alloc, image, order)?;
     let all = shared_of(alloc, image.bytes(), &layout)?;
@@ -292,8 +292,8 @@ fn found(
 
 /// Prints a line for each file of a valid cramfs image that shares its last page. Returns this
 /// status if that succeeds.
-pub fn run(teller: &Teller<'_>, bytes: &[u8], status: Status) -> Status {
-    let alloc = teller.rt.alloc();
+pub fn run(reporter: &Reporter<'_>, bytes: &[u8], status: Status) -> Status {
+    let alloc = reporter.rt.alloc();
     let Ok(image) = check(alloc, bytes, Limits::usual()) else {
         return status;
     };
@@ -302,9 +302,9 @@ pub fn run(teller: &Teller<'_>, bytes: &[u8], status: Status) -> Status {
         AnyImage::Cramfs(image) => image.parts().order,
     };
     let Ok((all, paths)) = found(alloc, &image, order) else {
-        return teller.say(Failure::Memory);
+        return reporter.say(Failure::Memory);
     };
-    match print(teller, &all, &paths) {
+    match print(reporter, &all, &paths) {
         Ok(()) => status,
         Err(status) => status,
     }

@@ -1,6 +1,6 @@
 //! The alignments of the scanned files.
 use crate::patterns::Patterns;
-use crate::teller::Teller;
+use crate::reporter::Reporter;
 use build_commands::elf::{HEAD_LEN, is_program};
 use build_commands::inventory::{FileKind, NamedFile, align_of};
 use program_streams::read_until;
@@ -47,16 +47,16 @@ fn align_at(
 /// otherwise this one if the file is a program, a library or executable. Reports a file that cannot
 /// be read.
 pub fn align_all(
-    teller: &Teller<'_>,
+    reporter: &Reporter<'_>,
     patterns: &Patterns,
     align: u32,
     found: &mut [NamedFile],
 ) -> Result<(), Status> {
     for file in found {
         if matches!(file.kind, FileKind::Regular) {
-            match align_at(teller.rt, patterns, align, file) {
+            match align_at(reporter.rt, patterns, align, file) {
                 Ok(align) => file.align = align,
-                Err(e) => return Err(teller.refused(file.place.as_bytes(), &e)),
+                Err(e) => return Err(reporter.refused(file.place.as_bytes(), &e)),
             }
         }
     }

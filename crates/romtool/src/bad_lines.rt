@@ -4,7 +4,7 @@
 //! the path that it names, and an earlier one with its own path. A bad line counts as one that
 //! makes its path, so that lines below a bad directory are not reported for that reason.
 use crate::explained;
-use crate::teller::Teller;
+use crate::reporter::Reporter;
 use manifest::{ManifestError, parse};
 use sentences::words::escaped;
 use std::alloc::{AllocError, Global};
@@ -174,8 +174,13 @@ impl Earlier {
 }
 
 /// Reports which lines after the bad one of this number are bad as well.
-fn try_others(teller: &Teller<'_>, name: &str, text: &[u8], first: u64) -> Result<(), AllocError> {
-    let alloc = teller.rt.alloc();
+fn try_others(
+    reporter: &Reporter<'_>,
+    name: &str,
+    text: &[u8],
+    first: u64,
+) -> Result<(), AllocError> {
+    let alloc = reporter.rt.alloc();
     let mut earlier = Earlier {
         paths: BTreeMap::new(alloc),
         has_volume: false,
@@ -190,7 +195,7 @@ fn try_others(teller: &Teller<'_>, name: &str, text: &[u8], first: u64) -> Resul
             continue;
         };
         if line > first && said < MOST_SAID {
-            explained::bad_manifest(teller, name, text, line, number);
+            explained::bad_manifest(reporter, name, text, line, number);
             said = said.saturating_add(1);
         } else if line > first {
             more = more.saturating_add(1);
@@ -198,15 +203,15 @@ fn try_others(teller: &Teller<'_>, name: &str, text: &[u8], first: u64) -> Resul
     }
     if more > 0 {
         let what = format!(in alloc; "{more} more lines are bad")?;
-        teller.explain(name.as_bytes(), &what);
+        reporter.explain(name.as_bytes(), &what);
     }
     Ok(())
 }
 
 /// Explains which lines of a text are bad, after its first bad one: some of them one by one, and
 /// then how many more.
-pub fn explain_others(teller: &Teller<'_>, name: &str, text: &[u8], first: u64) {
-    if teller.is_explained() {
-        let _ = try_others(teller, name, text, first);
+pub fn explain_others(reporter: &Reporter<'_>, name: &str, text: &[u8], first: u64) {
+    if reporter.is_explained() {
+        let _ = try_others(reporter, name, text, first);
     }
 }

@@ -63,7 +63,7 @@ struct Part {
 pub struct Beside {
     whole: String,
     // the directory, if it can be opened
-    folder: Option<File>,
+    directory: Option<File>,
     // the permissions of a part, before the process's mask is applied
     mode: u32,
     // the file whose owner and permissions a part gets
@@ -85,7 +85,7 @@ impl Beside {
     pub fn new(
         rt: &HostRuntime,
         whole: &str,
-        folder: Option<File>,
+        directory: Option<File>,
         mode: u32,
         like: Option<Metadata>,
     ) -> io::Result<Beside>
@@ -94,7 +94,7 @@ impl Beside {
     {
         Ok(Beside {
             whole: String::from_str(rt.alloc(), whole)?,
-            folder,
+            directory,
             mode,
             like,
             part: None,
@@ -305,10 +305,10 @@ impl System<'_> {
 
     /// Synchronizes the directory, if that can be done.
     fn synced(&self) -> Result<Durability, KeepError> {
-        let Some(folder) = &self.beside.folder else {
+        let Some(directory) = &self.beside.directory else {
             return Ok(Durability::Unknown);
         };
-        match folder.sync_all() {
+        match directory.sync_all() {
             Ok(()) => Ok(Durability::Durable),
             Err(e) if is_of_its_kind(&e) => Ok(Durability::Unknown),
             Err(e) => Err(KeepError::Refused(e)),

@@ -11,12 +11,12 @@ use crate::foreseen::{Warnings, foreseen};
 use crate::imaging::Unchanged;
 use crate::origin::Origin;
 use crate::progress::Progress;
+use crate::reporter::Reporter;
 use crate::sources::{joined_names, names_of, sizes_of, stamps_of, texts_of};
 use crate::stamp::{Identity, Stamp, has_changed, let_rest};
 use crate::target::{FillError, Target};
-use crate::teller::Teller;
 use crate::{bad_lines, depfile, explained, reading, warned};
-use build_commands::{tell_bad_manifest, tell_built, tell_misfit, tell_size, tell_strict};
+use build_commands::{print_bad_manifest, print_built, print_misfit, print_size, print_strict};
 use command_line::Build;
 use image_build::StreamError;
 use image_file::{PlanImage, Unwritten};
@@ -46,40 +46,40 @@ const OUTPUT: &str = "/proc/self/fd/1";
 const NULL_DEVICE: u64 = 0x103;
 
 /// The ending of a refusal whose line was written.
-fn told(teller: &Teller<'_>, written: Result<(), Failed>) -> Status {
+fn printed(reporter: &Reporter<'_>, written: Result<(), Failed>) -> Status {
     match written {
         Ok(()) => Status::Refused,
-        Err(Failed) => teller.say(Failure::WriteFault),
+        Err(Failed) => reporter.say(Failure::WriteFault),
     }
 }
 
 /// The text of the manifest in a file.
-fn text_of(teller: &Teller<'_>, name: &str) -> Result<reading::Text, Status> {
+fn text_of(reporter: &Reporter<'_>, name: &str) -> Result<reading::Text, Status> {
     let text = if name == INPUT {
-        reading::manifest_of_input(teller.rt)
+        reading::manifest_of_input(reporter.rt)
     } else {
-        reading::manifest(teller.rt, name)
+        reading::manifest(reporter.rt, name)
     };
     match text {
         Ok(text) => {
-            explained::returns(teller, name, &text.bytes);
+            explained::returns(reporter, name, &text.bytes);
             Ok(text)
         }
-        Err(e) => Err(teller.refused(name.as_bytes(), &e)),
+        Err(e) => Err(reporter.refused(name.as_bytes(), &e)),
     }
 }
 
 /// The manifest of a text, which is in the file of this name.
-fn manifest_of(teller: &Teller<'_>, name: &str, text: &[u8]) -> Result<Manifest, Status> {
-    let rt = teller.rt;
+fn manifest_of(reporter: &Reporter<'_>, name: &str, text: &[u8]) -> Result<Manifest, Status> {
+    let rt = reporter.rt;
     match parse(rt.alloc(), text) {
         Ok(manifest) => Ok(manifest),
-        Err(ManifestError::OutOfMemory) => Err(teller.say(Failure::Memory)),
+        Err(ManifestError::OutOfMemory) => Err(reporter.say(Failure::Memory)),
         Err(ManifestError::Bad { line, number }) => {
             let out = &mut Plain::new(Held::new(rt.alloc(), io::writer(rt)));
-            let status = told(teller, tell_bad_manifest(out, line, number));
-            explained::bad_manifest(teller, name, text, line, number);
-            bad_lines::explain_others(teller, name, text, line);
+            let status = printed(reporter, print_bad_manifest(out, line, number));
+            explained::bad_manifest(reporter, name, text, line, number);
+            bad_lines::explain_others(reporter, name, text, line);
             Err(status)
         }
     }
@@ -87,7 +87,7 @@ fn manifest_of(teller: &Teller<'_>, name: &str, text: &[u8]) -> Result<Manifest,
 
 /// The plan of a manifest whose sources have these sizes.
 fn planned(
-    teller: &Teller<'_>,
+    reporter: &Reporter<'_>,
     format: Format,
     origin: Origin<'_>,
     sizes: &[u64],
@@ -96,14 +96,14 @@ fn planned(
     ensures plan { IfOk result (IsPlanOf (format_of format) origin.entry.manifest.now sizes.now) }
     ensures sizes { IfOk result (λ plan. plan.sizes ≡ sizes.now) }
 {
-    let rt = teller.rt;
+    let rt = reporter.rt;
     match plan(rt.alloc(), origin.manifest, sizes, format) {
         Ok(plan) => Ok(plan),
-        Err(PlanError::OutOfMemory) => Err(teller.say(Failure::Memory)),
+        Err(PlanError::OutOfMemory) => Err(reporter.say(Failure::Memory)),
         Err(PlanError::Refused { line, number }) => {
             let out = &mut Plain::new(Held::new(rt.alloc(), io::writer(rt)));
-            let status = told(teller, tell_misfit(out, line, number));
-            explained::misfit(teller, format, origin, sizes, (line, number));
+            let status = printed(reporter, print_misfit(out, line, number));
+            explained::misfit(reporter, format, origin, sizes, (line, number));
             Err(status)
         }
     }
@@ -119,27 +119,27 @@ struct Files<'a> {
 
 impl Files<'_> {
     /// Reports that a source changed.
-    fn say_changed(&self, teller: &Teller<'_>, file: usize) -> Status {
-        let status = teller.say(Failure::Changed);
-        teller.explain_source(self.origin, file, &SOURCE_CHANGED);
+    fn say_changed(&self, reporter: &Reporter<'_>, file: usize) -> Status {
+        let status = reporter.say(Failure::Changed);
+        reporter.explain_source(self.origin, file, &SOURCE_CHANGED);
         status
     }
 
     /// Reports that a source could not be read as it was: it changed, or the system refused it, for
     /// this reason if there is one.
-    fn say_fault(&self, teller: &Teller<'_>, file: usize, reason: Option<io::Error>) -> Status {
+    fn say_fault(&self, reporter: &Reporter<'_>, file: usize, reason: Option<io::Error>) -> Status {
         let (Some(name), Some(stamp)) = (self.names.get(file), self.stamps.get(file)) else {
-            return teller.say(Failure::Changed);
+            return reporter.say(Failure::Changed);
         };
-        let reason = match has_changed(teller.rt, name, stamp) {
-            Ok(true) => return self.say_changed(teller, file),
+        let reason = match has_changed(reporter.rt, name, stamp) {
+            Ok(true) => return self.say_changed(reporter, file),
             Ok(false) => reason,
             Err(e) => Some(e),
         };
-        let status = teller.say(Failure::File(name.as_bytes()));
+        let status = reporter.say(Failure::File(name.as_bytes()));
         match reason {
-            Some(e) => teller.explain_error(self.origin, file, &e),
-            None => teller.explain_source(self.origin, file, &SOURCE_UNREAD),
+            Some(e) => reporter.explain_error(self.origin, file, &e),
+            None => reporter.explain_source(self.origin, file, &SOURCE_UNREAD),
         }
         status
     }
@@ -148,22 +148,22 @@ impl Files<'_> {
     /// reason.
     fn say_unwritten(
         &self,
-        teller: &Teller<'_>,
+        reporter: &Reporter<'_>,
         e: StreamError,
         reasons: (Option<io::Error>, Option<io::Error>),
         out: &str,
     ) -> Status {
         let (of_source, of_out) = reasons;
         match e {
-            StreamError::SizeDiffers { file } => self.say_fault(teller, file, None),
-            StreamError::SourceFault { file } => self.say_fault(teller, file, of_source),
+            StreamError::SizeDiffers { file } => self.say_fault(reporter, file, None),
+            StreamError::SourceFault { file } => self.say_fault(reporter, file, of_source),
             StreamError::WriteFault => match of_out {
-                Some(e) => teller.failed_by(out.as_bytes(), &e),
-                None => teller.failed(out.as_bytes(), &NOT_TAKEN),
+                Some(e) => reporter.failed_by(out.as_bytes(), &e),
+                None => reporter.failed(out.as_bytes(), &NOT_TAKEN),
             },
-            StreamError::Changed => match first_changed(teller.rt, self.names, self.stamps) {
-                Some(file) => self.say_changed(teller, file),
-                None => teller.changed(out.as_bytes(), &SUM_DIFFERS),
+            StreamError::Changed => match first_changed(reporter.rt, self.names, self.stamps) {
+                Some(file) => self.say_changed(reporter, file),
+                None => reporter.changed(out.as_bytes(), &SUM_DIFFERS),
             },
         }
     }
@@ -195,33 +195,33 @@ impl Inputs<'_> {
 }
 
 /// Refuses a file that must not be written, since the image is made of it or it is standard output.
-fn check_output(teller: &Teller<'_>, name: &str, inputs: Inputs<'_>) -> Result<(), Status> {
-    if let Ok(found) = fs::metadata(teller.rt, name) {
+fn check_output(reporter: &Reporter<'_>, name: &str, inputs: Inputs<'_>) -> Result<(), Status> {
+    if let Ok(found) = fs::metadata(reporter.rt, name) {
         if inputs.has(Identity::of(&found)) {
-            return Err(teller.failed(name.as_bytes(), &OWN_INPUT));
+            return Err(reporter.failed(name.as_bytes(), &OWN_INPUT));
         }
-        if is_own_output(teller.rt, &found) {
-            return Err(teller.failed(name.as_bytes(), &OWN_OUTPUT));
+        if is_own_output(reporter.rt, &found) {
+            return Err(reporter.failed(name.as_bytes(), &OWN_OUTPUT));
         }
     }
     Ok(())
 }
 
 /// Opens the target of an image. It is neither the manifest nor a source, nor standard output.
-fn target_of(teller: &Teller<'_>, out: &str, inputs: Inputs<'_>) -> Result<Target, Status> {
-    check_output(teller, out, inputs)?;
-    match Target::open(teller.rt, out) {
+fn target_of(reporter: &Reporter<'_>, out: &str, inputs: Inputs<'_>) -> Result<Target, Status> {
+    check_output(reporter, out, inputs)?;
+    match Target::open(reporter.rt, out) {
         Ok(target) => {
-            explained::parts(teller, &target);
+            explained::parts(reporter, &target);
             Ok(target)
         }
-        Err(e) => Err(teller.refused(out.as_bytes(), &e)),
+        Err(e) => Err(reporter.refused(out.as_bytes(), &e)),
     }
 }
 
 /// Writes the rule of a build, if one is asked for. The written part does not have its name yet.
 fn rule_of(
-    teller: &Teller<'_>,
+    reporter: &Reporter<'_>,
     asked: Build<'_>,
     names: &[&str],
     inputs: Inputs<'_>,
@@ -230,8 +230,8 @@ fn rule_of(
     let Some(name) = asked.depfile else {
         return Ok(None);
     };
-    check_output(teller, name, inputs)?;
-    Ok(Some(depfile::written(teller, name, rule(asked, names), image)?))
+    check_output(reporter, name, inputs)?;
+    Ok(Some(depfile::written(reporter, name, rule(asked, names), image)?))
 }
 
 /// The rule of a build.
@@ -280,24 +280,24 @@ fn disk_of<'a>(rt: &'a HostRuntime, plan: &Plan, files: Files<'a>) -> Disk<'a>
 }
 
 /// Prints why a target did not get its name.
-fn say_unkept(teller: &Teller<'_>, e: KeepError, name: &str) -> Status {
+fn say_unkept(reporter: &Reporter<'_>, e: KeepError, name: &str) -> Status {
     match e {
-        KeepError::Refused(e) => teller.refused(name.as_bytes(), &e),
-        KeepError::Changed => teller.changed(name.as_bytes(), &PART_REPLACED),
+        KeepError::Refused(e) => reporter.refused(name.as_bytes(), &e),
+        KeepError::Changed => reporter.changed(name.as_bytes(), &PART_REPLACED),
     }
 }
 
 /// Gives its name to a target that was written.
-fn keep(teller: &Teller<'_>, target: Target, name: &str) -> Result<(), Status> {
-    match target.keep(teller.rt) {
+fn keep(reporter: &Reporter<'_>, target: Target, name: &str) -> Result<(), Status> {
+    match target.keep(reporter.rt) {
         Ok(()) => Ok(()),
-        Err(e) => Err(say_unkept(teller, e, name)),
+        Err(e) => Err(say_unkept(reporter, e, name)),
     }
 }
 
 /// Writes the image of a plan, made of these files, through a buffer, and gives it its name.
 fn put_image(
-    teller: &Teller<'_>,
+    reporter: &Reporter<'_>,
     plan: &Plan,
     files: Files<'_>,
     place: (Target, &str),
@@ -307,7 +307,7 @@ fn put_image(
     requires buffer { 4096 ≤ length buffer.old }
     requires words { length buffer.old % 4 ≡ 0 }
 {
-    let rt = teller.rt;
+    let rt = reporter.rt;
     let (target, out) = place;
     let sources = disk_of(rt, plan, files);
     let (names, stamps) = (files.names, files.stamps);
@@ -328,12 +328,12 @@ fn put_image(
     disk.end();
     match filled {
         Ok(()) => Ok(()),
-        Err(FillError::NotKept(e)) => Err(say_unkept(teller, e, out)),
+        Err(FillError::NotKept(e)) => Err(say_unkept(reporter, e, out)),
         Err(FillError::NotWritten(Unwritten::Late(file), _)) => Err(files.say_changed(
-            teller, file,
+            reporter, file,
         )),
         Err(FillError::NotWritten(Unwritten::Stream(e), reason)) => {
-            Err(files.say_unwritten(teller, e, (disk.reason(), reason), out))
+            Err(files.say_unwritten(reporter, e, (disk.reason(), reason), out))
         }
     }
 }
@@ -341,7 +341,7 @@ fn put_image(
 /// Writes the image of a plan, made of these files, through a large buffer if there is memory for
 /// it, and gives it its name.
 fn write_image(
-    teller: &Teller<'_>,
+    reporter: &Reporter<'_>,
     plan: &Plan,
     files: Files<'_>,
     target: Target,
@@ -349,30 +349,30 @@ fn write_image(
 ) -> Result<(), Status>
     requires { length plan.now.sizes ≡ length files.names.now }
 {
-    match buffer_of(teller.rt, LARGE) {
-        Some(mut buffer) => put_image(teller, plan, files, (target, out), buffer.as_mut_slice()),
+    match buffer_of(reporter.rt, LARGE) {
+        Some(mut buffer) => put_image(reporter, plan, files, (target, out), buffer.as_mut_slice()),
         None => {
             let mut buffer: [u8; 4096] = [0; 4096];
-            put_image(teller, plan, files, (target, out), buffer.as_mut_slice())
+            put_image(reporter, plan, files, (target, out), buffer.as_mut_slice())
         }
     }
 }
 
 /// Removes a target that was written, if there is one.
-fn abandon(teller: &Teller<'_>, target: Option<Target>) {
+fn abandon(reporter: &Reporter<'_>, target: Option<Target>) {
     if let Some(target) = target {
-        target.abandon(teller.rt);
+        target.abandon(reporter.rt);
     }
 }
 
 /// Refuses a plan whose image is longer than it may be.
-fn check_size(teller: &Teller<'_>, asked: Build<'_>, plan: &Plan) -> Result<(), Status> {
+fn check_size(reporter: &Reporter<'_>, asked: Build<'_>, plan: &Plan) -> Result<(), Status> {
     let len = plan.image_len() as u64;
     match asked.max_size {
         Some(most) if len > most => {
-            let out = &mut Plain::new(Held::new(teller.rt.alloc(), io::writer(teller.rt)));
-            let status = told(teller, tell_size(out, len, most));
-            warned::explain_size(teller, asked.out, len, most);
+            let out = &mut Plain::new(Held::new(reporter.rt.alloc(), io::writer(reporter.rt)));
+            let status = printed(reporter, print_size(out, len, most));
+            warned::explain_size(reporter, asked.out, len, most);
             Err(status)
         }
         _ => Ok(()),
@@ -381,23 +381,23 @@ fn check_size(teller: &Teller<'_>, asked: Build<'_>, plan: &Plan) -> Result<(), 
 
 /// Returns the warnings for the planned image. A strict build refuses it if there are any.
 fn warnings_of<'m>(
-    teller: &Teller<'_>,
+    reporter: &Reporter<'_>,
     asked: Build<'_>,
     origin: Origin<'m>,
     sizes: &[u64],
 ) -> Result<Warnings<'m>, Status>
     requires { length sizes.now ≡ length (sources_of origin.manifest.now.lines) }
 {
-    let alloc = teller.rt.alloc();
+    let alloc = reporter.rt.alloc();
     let Ok(warnings) = foreseen(alloc, asked.format, origin.manifest, sizes) else {
-        return Err(teller.say(Failure::Memory));
+        return Err(reporter.say(Failure::Memory));
     };
     match warnings.least() {
         Some((line, number)) if asked.strict => {
             let number = u32::try_from(number).unwrap_or(u32::MAX);
-            let out = &mut Plain::new(Held::new(alloc, io::writer(teller.rt)));
-            let status = told(teller, tell_strict(out, line, number));
-            warned::explain(teller, origin, &warnings, "");
+            let out = &mut Plain::new(Held::new(alloc, io::writer(reporter.rt)));
+            let status = printed(reporter, print_strict(out, line, number));
+            warned::explain(reporter, origin, &warnings, "");
             Err(status)
         }
         _ => Ok(warnings),
@@ -406,7 +406,7 @@ fn warnings_of<'m>(
 
 /// Writes the image of a plan into the file that is asked for, and the rule if one is.
 fn write_files(
-    teller: &Teller<'_>,
+    reporter: &Reporter<'_>,
     asked: Build<'_>,
     plan: &Plan,
     files: Files<'_>,
@@ -419,23 +419,23 @@ fn write_files(
         stamps: files.stamps,
     };
     if let Some(name) = asked.depfile {
-        depfile::check(teller, name, rule(asked, files.names))?;
+        depfile::check(reporter, name, rule(asked, files.names))?;
     }
-    let target = target_of(teller, asked.out, inputs)?;
-    let rule = match rule_of(teller, asked, files.names, inputs, &target) {
+    let target = target_of(reporter, asked.out, inputs)?;
+    let rule = match rule_of(reporter, asked, files.names, inputs, &target) {
         Ok(rule) => rule,
         Err(status) => {
-            target.abandon(teller.rt);
+            target.abandon(reporter.rt);
             return Err(status);
         }
     };
-    let_rest(teller.rt, files.stamps);
-    if let Err(status) = write_image(teller, plan, files, target, asked.out) {
-        abandon(teller, rule);
+    let_rest(reporter.rt, files.stamps);
+    if let Err(status) = write_image(reporter, plan, files, target, asked.out) {
+        abandon(reporter, rule);
         return Err(status);
     }
     match (rule, asked.depfile) {
-        (Some(rule), Some(name)) => keep(teller, rule, name),
+        (Some(rule), Some(name)) => keep(reporter, rule, name),
         _ => Ok(()),
     }
 }
@@ -443,7 +443,7 @@ fn write_files(
 /// Builds the image of a manifest, whose sources have these names. Its text is in the file of this
 /// identity, if it is in one.
 fn build_from(
-    teller: &Teller<'_>,
+    reporter: &Reporter<'_>,
     asked: Build<'_>,
     origin: Origin<'_>,
     names: &[&str],
@@ -451,35 +451,35 @@ fn build_from(
 ) -> Result<Status, Status>
     requires { length names.now ≡ length (sources_of origin.manifest.now.lines) }
 {
-    let stamps = stamps_of(teller, origin, names)?;
-    let sizes = sizes_of(teller, &stamps)?;
-    let plan = planned(teller, asked.format, origin, &sizes)?;
-    check_size(teller, asked, &plan)?;
-    let warnings = warnings_of(teller, asked, origin, &sizes)?;
+    let stamps = stamps_of(reporter, origin, names)?;
+    let sizes = sizes_of(reporter, &stamps)?;
+    let plan = planned(reporter, asked.format, origin, &sizes)?;
+    check_size(reporter, asked, &plan)?;
+    let warnings = warnings_of(reporter, asked, origin, &sizes)?;
     let files = Files {
         origin,
         names,
         stamps: &stamps,
     };
-    write_files(teller, asked, &plan, files, manifest)?;
-    let status = say_built(teller, plan.image_len() as u64);
-    warned::explain(teller, origin, &warnings, "warning: ");
-    warned::explain_pages(teller, &plan, asked.out);
+    write_files(reporter, asked, &plan, files, manifest)?;
+    let status = say_built(reporter, plan.image_len() as u64);
+    warned::explain(reporter, origin, &warnings, "warning: ");
+    warned::explain_pages(reporter, &plan, asked.out);
     Ok(status)
 }
 
 /// Reports that an image of this number of bytes was built.
-fn say_built(teller: &Teller<'_>, len: u64) -> Status {
-    let line = &mut Plain::new(Held::new(teller.rt.alloc(), io::writer(teller.rt)));
-    match tell_built(line, len) {
+fn say_built(reporter: &Reporter<'_>, len: u64) -> Status {
+    let line = &mut Plain::new(Held::new(reporter.rt.alloc(), io::writer(reporter.rt)));
+    match print_built(line, len) {
         Ok(()) => Status::Done,
-        Err(Failed) => teller.say(Failure::WriteFault),
+        Err(Failed) => reporter.say(Failure::WriteFault),
     }
 }
 
 /// Builds the image of a manifest, whose sources are named as it names them.
 fn build_plain<'a>(
-    teller: &Teller<'_>,
+    reporter: &Reporter<'_>,
     asked: Build<'a>,
     manifest: &'a Manifest,
     identity: Option<Identity>,
@@ -490,13 +490,13 @@ fn build_plain<'a>(
         joined: None,
         no_follow: asked.no_follow,
     };
-    let names = names_of(teller, origin, manifest.sources())?;
-    build_from(teller, asked, origin, &names, identity)
+    let names = names_of(reporter, origin, manifest.sources())?;
+    build_from(reporter, asked, origin, &names, identity)
 }
 
 /// Builds the image of a manifest, whose sources have these joined names.
 fn build_joined<'a>(
-    teller: &Teller<'_>,
+    reporter: &Reporter<'_>,
     asked: Build<'a>,
     joined: &'a [Vec<u8>],
     manifest: &'a Manifest,
@@ -511,35 +511,35 @@ fn build_joined<'a>(
         joined: given,
         no_follow: asked.no_follow,
     };
-    let names = texts_of(teller, origin, joined)?;
-    build_from(teller, asked, origin, &names, identity)
+    let names = texts_of(reporter, origin, joined)?;
+    build_from(reporter, asked, origin, &names, identity)
 }
 
 /// Builds the image of a manifest, whose sources are in a directory.
 fn build_in(
-    teller: &Teller<'_>,
+    reporter: &Reporter<'_>,
     asked: Build<'_>,
-    folder: &str,
+    directory: &str,
     manifest: &Manifest,
     identity: Option<Identity>,
 ) -> Result<Status, Status> {
-    let joined = joined_names(teller, folder, manifest.sources())?;
-    build_joined(teller, asked, &joined, manifest, identity)
+    let joined = joined_names(reporter, directory, manifest.sources())?;
+    build_joined(reporter, asked, &joined, manifest, identity)
 }
 
 /// Builds what is asked for, and reports the result.
-fn build(teller: &Teller<'_>, asked: Build<'_>) -> Result<Status, Status> {
-    let text = text_of(teller, asked.manifest)?;
-    let manifest = manifest_of(teller, asked.manifest, &text.bytes)?;
+fn build(reporter: &Reporter<'_>, asked: Build<'_>) -> Result<Status, Status> {
+    let text = text_of(reporter, asked.manifest)?;
+    let manifest = manifest_of(reporter, asked.manifest, &text.bytes)?;
     match asked.sources {
-        None => build_plain(teller, asked, &manifest, text.identity),
-        Some(folder) => build_in(teller, asked, folder, &manifest, text.identity),
+        None => build_plain(reporter, asked, &manifest, text.identity),
+        Some(directory) => build_in(reporter, asked, directory, &manifest, text.identity),
     }
 }
 
 /// Builds what is asked for, reports the result, and returns the status.
-pub fn run(teller: &Teller<'_>, asked: Build<'_>) -> Status {
-    match build(teller, asked) {
+pub fn run(reporter: &Reporter<'_>, asked: Build<'_>) -> Status {
+    match build(reporter, asked) {
         Ok(status) => status,
         Err(status) => status,
     }

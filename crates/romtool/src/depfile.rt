@@ -2,8 +2,8 @@
 //!
 //! GNU make reads a backslash before some bytes as part of a name's spelling, and has no spelling
 //! of some other bytes. A name that it cannot read is refused before anything is written.
+use crate::reporter::Reporter;
 use crate::target::Target;
-use crate::teller::Teller;
 use rom_commands::{Failure, Status};
 use rom_fields::{ByteWrite, put};
 use sentences::reasons::{NOT_TAKEN, OWN_RULE, RULE_UNFIT};
@@ -121,17 +121,17 @@ impl Rule<'_> {
 
 /// Writes a rule to the part that is to get the name of the file.
 fn write(
-    teller: &Teller<'_>,
+    reporter: &Reporter<'_>,
     name: &str,
     rule: Rule<'_>,
     target: &mut Target,
 ) -> Result<(), Status> {
-    let rt = teller.rt;
+    let rt = reporter.rt;
     let Ok(text) = rule.text(rt) else {
-        return Err(teller.say(Failure::Memory));
+        return Err(reporter.say(Failure::Memory));
     };
     let Some(mut writer) = target.take_writer() else {
-        return Err(teller.failed(name.as_bytes(), &NOT_TAKEN));
+        return Err(reporter.failed(name.as_bytes(), &NOT_TAKEN));
     };
     let mut failed = false;
     put(&mut writer, &mut failed, &text);
@@ -140,37 +140,37 @@ fn write(
         return Ok(());
     }
     Err(match writer.into_inner().error() {
-        Some(e) => teller.failed_by(name.as_bytes(), &e),
-        None => teller.failed(name.as_bytes(), &NOT_TAKEN),
+        Some(e) => reporter.failed_by(name.as_bytes(), &e),
+        None => reporter.failed(name.as_bytes(), &NOT_TAKEN),
     })
 }
 
 /// Refuses a rule that make could not read.
-pub fn check(teller: &Teller<'_>, name: &str, rule: Rule<'_>) -> Result<(), Status> {
+pub fn check(reporter: &Reporter<'_>, name: &str, rule: Rule<'_>) -> Result<(), Status> {
     if rule.is_sayable() {
         Ok(())
     } else {
-        Err(teller.failed(name.as_bytes(), &RULE_UNFIT))
+        Err(reporter.failed(name.as_bytes(), &RULE_UNFIT))
     }
 }
 
 /// Writes a rule to a part beside the file of this name, which is not the image's file. The part
 /// gets its name after the image has got its own.
 pub fn written(
-    teller: &Teller<'_>,
+    reporter: &Reporter<'_>,
     name: &str,
     rule: Rule<'_>,
     image: &Target,
 ) -> Result<Target, Status> {
-    let rt = teller.rt;
+    let rt = reporter.rt;
     let mut target = match Target::open(rt, name) {
         Ok(target) => target,
-        Err(e) => return Err(teller.refused(name.as_bytes(), &e)),
+        Err(e) => return Err(reporter.refused(name.as_bytes(), &e)),
     };
     let result = if target.has_place_of(rt, image) {
-        Err(teller.failed(name.as_bytes(), &OWN_RULE))
+        Err(reporter.failed(name.as_bytes(), &OWN_RULE))
     } else {
-        write(teller, name, rule, &mut target)
+        write(reporter, name, rule, &mut target)
     };
     match result {
         Ok(()) => Ok(target),

@@ -1,12 +1,11 @@
 //! A file of devices, directories and links that are added to the scanned files.
 use crate::overlay::{file_at, is_directory, sort};
-use crate::teller::Teller;
+use crate::reporter::Reporter;
 use crate::{explained, reading};
 use build_commands::inventory::{Device, FileKind, Inode, NamedFile};
-use build_commands::tell_bad_manifest;
+use build_commands::print_bad_manifest;
 use manifest::error::{BAD_WORD, EXISTS, NO_PARENT};
-use manifest::{Line, ManifestError, Word, parse};
-use manifest_text::{Entry, write_line};
+use manifest::{Entry, Line, ManifestError, Word, parse, write_line};
 use percent_encoding::percent_decode;
 use program_streams::Held;
 use rom_commands::{Failure, Status};
@@ -185,21 +184,21 @@ fn wrong_in(
 }
 
 /// Reports on standard error which line of the file is refused, and why.
-fn refuse(teller: &Teller<'_>, name: &str, text: &[u8], line: u64, why: LineError) -> Status {
+fn refuse(reporter: &Reporter<'_>, name: &str, text: &[u8], line: u64, why: LineError) -> Status {
     let (number, reason) = match why {
-        LineError::OutOfMemory => return teller.say(Failure::Memory),
+        LineError::OutOfMemory => return reporter.say(Failure::Memory),
         LineError::Bad(number) => (number, None),
         LineError::Other(number, reason) => (number, Some(reason)),
     };
-    let rt = teller.rt;
-    let _ = tell_bad_manifest(
+    let rt = reporter.rt;
+    let _ = print_bad_manifest(
         &mut Plain::new(Held::new(rt.alloc(), rt.stderr())),
         line,
         number,
     );
     match reason {
-        None => explained::bad_manifest(teller, name, text, line, number),
-        Some(reason) => explained::bad_line(teller, name, line, reason),
+        None => explained::bad_manifest(reporter, name, text, line, number),
+        Some(reason) => explained::bad_line(reporter, name, line, reason),
     }
     Status::Refused
 }
@@ -241,26 +240,26 @@ fn first_wrong(listed: &[NamedFile], found: &[NamedFile]) -> Option<(u64, u32, &
 /// Returns the files that the lines of the file of this name make, in the order of `sort`. The
 /// scanned files are in that order, too. If there are none, reports why.
 pub fn listed(
-    teller: &Teller<'_>,
+    reporter: &Reporter<'_>,
     name: &str,
     found: &[NamedFile],
 ) -> Result<Vec<NamedFile>, Status> {
-    let text = match reading::manifest(teller.rt, name) {
+    let text = match reading::manifest(reporter.rt, name) {
         Ok(text) => text.bytes,
-        Err(e) => return Err(teller.refused(name.as_bytes(), &e)),
+        Err(e) => return Err(reporter.refused(name.as_bytes(), &e)),
     };
-    let mut listed = match files_of(teller.rt.alloc(), &text) {
+    let mut listed = match files_of(reporter.rt.alloc(), &text) {
         Ok(listed) => listed,
-        Err((line, e)) => return Err(refuse(teller, name, &text, line, e)),
+        Err((line, e)) => return Err(refuse(reporter, name, &text, line, e)),
     };
     if sort(&mut listed).is_err() {
-        return Err(teller.say(Failure::Memory));
+        return Err(reporter.say(Failure::Memory));
     }
     match first_wrong(&listed, found) {
         None => Ok(listed),
         Some((line, number, why)) => {
             let why = LineError::Other(number, why);
-            Err(refuse(teller, name, &text, line, why))
+            Err(refuse(reporter, name, &text, line, why))
         }
     }
 }

@@ -81,12 +81,12 @@ impl<'a> Disk<'a> {
 ///
 /// The operating system's error; `InvalidInput` for a link and for a file that is not regular.
 pub fn stamp_unlinked(rt: &HostRuntime, name: &str) -> io::Result<Stamp> {
-    let told = fs::symlink_metadata(rt, name)?;
-    if told.is_symlink() {
+    let metadata = fs::symlink_metadata(rt, name)?;
+    if metadata.is_symlink() {
         return Err(io::Error::new(io::ErrorKind::InvalidInput, SOURCE_LINK));
     }
     let stamp = stamp_of(rt, name)?;
-    if stamp.identity() != Identity::of(&told) {
+    if stamp.identity() != Identity::of(&metadata) {
         return Err(io::Error::new(io::ErrorKind::NotFound, REPLACED));
     }
     Ok(stamp)
@@ -143,7 +143,7 @@ impl<'a> Disk<'a> {
 impl<'a> Sources for Disk<'a> {
     ghost use Rattle.std.specs.Prelude.{None, length, ⊤};
 
-    ghost told = { λ _. None };
+    ghost known = { λ _. None };
 
     ghost files = { λ s. length s.names.now };
 

@@ -2,22 +2,21 @@
 //! standard output.
 ghost use Rattle.std.specs.Prelude.{◌<◌, ◌≤◌, length};
 ghost use Rattle.rom_tree.specs.Image.{HasNode};
-ghost use Rattle.rom_tree.specs.Tree.{levels};
+ghost use Rattle.rom_tree.specs.Tree.{IsShallow};
 ghost use Rattle.image_check.specs.Any.{any_view};
 ghost use Rattle.image_manifest.specs.Members.{AreMembers};
 
-use crate::folders::base;
+use crate::directories::base;
 use crate::making::{
-    Owner, Rights, Top, finish_file, new_file, new_folder, new_link, new_name, set_folder,
+    Owner, Rights, Top, finish_file, new_directory, new_file, new_link, new_name, set_directory,
 };
-use crate::teller::Teller;
+use crate::reporter::Reporter;
 use crate::totals::is_many_times;
 use arrayvec::ArrayVec;
 use command_line::Extract;
 use image_check::AnyImage;
-use image_info::volume;
+use image_info::{cat, volume};
 use image_manifest::{Member, PATH_MAX, Refused, members, path_of, write_manifest};
-use image_map::cat;
 use program_streams::{Again, Remembering};
 use rom_commands::{Failure, Status};
 use rom_fields::{ByteWrite, Plain};
@@ -66,7 +65,7 @@ const LENDING: u32 = 0o6000;
 enum Phase {
     /// Nothing is made; the names are checked against the system's limits.
     Names,
-    Folders,
+    Directories,
     Files,
     Links,
     /// Modes and owners of directories, after these are filled.
@@ -114,10 +113,10 @@ struct Notes {
 /// end.
 #[derive(Clone, Copy)]
 struct Extraction<'a> {
-    teller: &'a Teller<'a>,
+    reporter: &'a Reporter<'a>,
     image: &'a AnyImage<'a>,
     members: &'a [Member<'a>],
-    folder: &'a str,
+    directory: &'a str,
     owners: bool,
     /// The bits of a mode that the process's mask removes from new files.
     masked: u32,
@@ -147,8 +146,8 @@ impl<'a> Extraction<'a> {
     {
         let mut path: ArrayVec<u8, PATH_MAX> = ArrayVec::new();
         path_of(self.members, index, &mut path);
-        let mut name = Vec::new(self.teller.rt.alloc());
-        name.extend_from_slice(self.folder.as_bytes())?;
+        let mut name = Vec::new(self.reporter.rt.alloc());
+        name.extend_from_slice(self.directory.as_bytes())?;
         name.extend_from_slice(path.as_slice())?;
         Ok(name)
     }
@@ -170,8 +169,8 @@ impl<'a> Extraction<'a> {
         requires within { index < length self.now.members.now }
     {
         match self.named(index) {
-            Ok(name) => self.teller.refused(&name, e),
-            Err(_) => self.teller.say(Failure::Memory),
+            Ok(name) => self.reporter.refused(&name, e),
+            Err(_) => self.reporter.say(Failure::Memory),
         }
     }
 
@@ -179,7 +178,7 @@ impl<'a> Extraction<'a> {
     fn text(&self, node: NodeId) -> io::Result<String>
         requires { HasNode (any_view self.now.image.now) node.0 }
     {
-        let mut text = Plain::new(Vec::new(self.teller.rt.alloc()));
+        let mut text = Plain::new(Vec::new(self.reporter.rt.alloc()));
         if cat(self.image, node, &mut text).is_err() {
             return Err(io::Error::from(io::ErrorKind::OutOfMemory));
         }
@@ -213,7 +212,7 @@ impl<'a> Extraction<'a> {
     }
 
     /// Makes a directory that only this user may read. The root's exists already.
-    fn make_folder(&self, index: usize, stat: Stat, notes: &mut Notes) -> io::Result<()>
+    fn make_directory(&self, index: usize, stat: Stat, notes: &mut Notes) -> io::Result<()>
         requires names { AreMembers (any_view self.now.image.now) self.now.members.now }
         requires within { index < length self.now.members.now }
     {
@@ -221,18 +220,18 @@ impl<'a> Extraction<'a> {
             notes.root = self.rights(stat);
             return Ok(());
         }
-        new_folder(self.teller.rt, &self.place(index)?)
+        new_directory(self.reporter.rt, &self.place(index)?)
     }
 
     /// Sets the mode and owner of a filled directory. Those of the root are set last.
-    fn finish_folder(&self, index: usize, stat: Stat) -> io::Result<()>
+    fn finish_directory(&self, index: usize, stat: Stat) -> io::Result<()>
         requires names { AreMembers (any_view self.now.image.now) self.now.members.now }
         requires within { index < length self.now.members.now }
     {
         if index == 0 {
             return Ok(());
         }
-        set_folder(self.teller.rt, &self.place(index)?, self.rights(stat))
+        set_directory(self.reporter.rt, &self.place(index)?, self.rights(stat))
     }
 
     /// Makes a file with a node's bytes. It is written through one descriptor, which is closed
@@ -240,7 +239,7 @@ impl<'a> Extraction<'a> {
     fn write_file(&self, place: &str, stat: Stat, node: NodeId) -> io::Result<()>
         requires { HasNode (any_view self.now.image.now) node.0 }
     {
-        let file = new_file(self.teller.rt, place)?;
+        let file = new_file(self.reporter.rt, place)?;
         let mut out = Plain::new(Remembering::new(Again::new(&file)));
         let copied = cat(self.image, node, &mut out);
         if let Some(e) = out.into_inner().error() {
@@ -249,7 +248,7 @@ impl<'a> Extraction<'a> {
         if copied.is_err() {
             return Err(io::Error::new(io::ErrorKind::WriteZero, FILE_NOT_TAKEN));
         }
-        finish_file(self.teller.rt, file, self.rights(stat))
+        finish_file(self.reporter.rt, file, self.rights(stat))
     }
 
     /// Makes a further name of a file that was made, if the system allows it, and returns whether
@@ -260,7 +259,7 @@ impl<'a> Extraction<'a> {
         if first >= self.members.len() {
             return Ok(false);
         }
-        new_name(self.teller.rt, &self.place(first)?, place)
+        new_name(self.reporter.rt, &self.place(first)?, place)
     }
 
     /// Makes a file. A further name becomes a link to the same file; or a file of its own, if the
@@ -295,7 +294,7 @@ impl<'a> Extraction<'a> {
     {
         let text = self.text(node)?;
         let owner = self.rights(stat).owner;
-        new_link(self.teller.rt, &text, &self.place(index)?, owner)
+        new_link(self.reporter.rt, &text, &self.place(index)?, owner)
     }
 
     /// Does the work of this pass for the name at an index.
@@ -316,10 +315,10 @@ impl<'a> Extraction<'a> {
                 notes.counts.count(stat, member.first.is_none());
                 self.try_name(index, member.node, stat)
             }
-            (Phase::Folders, Kind::Directory) => self.make_folder(index, stat, notes),
+            (Phase::Directories, Kind::Directory) => self.make_directory(index, stat, notes),
             (Phase::Files, Kind::Regular) => self.make_file(index, member, stat, notes),
             (Phase::Links, Kind::Symlink) => self.make_link(index, member.node, stat),
-            (Phase::Rights, Kind::Directory) => self.finish_folder(index, stat),
+            (Phase::Rights, Kind::Directory) => self.finish_directory(index, stat),
             _ => Ok(()),
         }
     }
@@ -352,47 +351,47 @@ impl<'a> Extraction<'a> {
     fn fill(&self, notes: &mut Notes) -> Result<(), Status>
         requires { AreMembers (any_view self.now.image.now) self.now.members.now }
     {
-        self.make_all(Phase::Folders, notes)?;
+        self.make_all(Phase::Directories, notes)?;
         self.make_all(Phase::Files, notes)?;
         self.make_all(Phase::Links, notes)?;
         self.finish_all(notes)
     }
 
     /// Fills the open directory of this name, and syncs it to the disk.
-    fn complete(&self, folder: &str, top: Top, notes: &mut Notes) -> Result<(), Status>
+    fn complete(&self, directory: &str, top: Top, notes: &mut Notes) -> Result<(), Status>
         requires { AreMembers (any_view self.now.image.now) self.now.members.now }
     {
         self.fill(notes)?;
-        match top.end(self.teller.rt, folder, notes.root) {
+        match top.end(self.reporter.rt, directory, notes.root) {
             Ok(()) => Ok(()),
-            Err(e) => Err(self.teller.refused(folder.as_bytes(), &e)),
+            Err(e) => Err(self.reporter.refused(directory.as_bytes(), &e)),
         }
     }
 
     /// Makes all files in the directory of this name. Nothing is made if the system refuses a name
     /// of the image.
-    fn run(&self, folder: &str) -> Result<Counts, Status>
+    fn run(&self, directory: &str) -> Result<Counts, Status>
         requires { AreMembers (any_view self.now.image.now) self.now.members.now }
     {
-        let (rt, teller) = (self.teller.rt, self.teller);
+        let (rt, reporter) = (self.reporter.rt, self.reporter);
         let mut notes = Notes {
             root: USUAL,
             counts: Counts::default(),
         };
         self.make_all(Phase::Names, &mut notes)?;
         self.explain_bytes(notes.counts.bytes);
-        let top = match Top::open(rt, folder) {
+        let top = match Top::open(rt, directory) {
             Ok(top) => top,
-            Err(e) => return Err(teller.refused(folder.as_bytes(), &e)),
+            Err(e) => return Err(reporter.refused(directory.as_bytes(), &e)),
         };
         let filling = Extraction {
             masked: top.masked(),
             ..*self
         };
-        match filling.complete(folder, top, &mut notes) {
+        match filling.complete(directory, top, &mut notes) {
             Ok(()) => Ok(notes.counts),
             Err(status) => {
-                teller.explain(folder.as_bytes(), &INCOMPLETE);
+                reporter.explain(directory.as_bytes(), &INCOMPLETE);
                 Err(status)
             }
         }
@@ -400,7 +399,7 @@ impl<'a> Extraction<'a> {
 
     /// Explains how the directory differs from the image.
     fn explain(&self, counts: Counts) {
-        if self.teller.is_explained() {
+        if self.reporter.is_explained() {
             self.explain_one(counts.specials, SPECIALS);
             self.explain_one(if self.owners { 0 } else { counts.lending }, LENDERS);
             self.explain_one(counts.further, FURTHER);
@@ -411,22 +410,22 @@ impl<'a> Extraction<'a> {
     /// Explains how many bytes will be written, if they are many times those of the image.
     fn explain_bytes(&self, bytes: u64) {
         let len = self.image.bytes().len();
-        if self.teller.is_explained()
+        if self.reporter.is_explained()
             && is_many_times(bytes, len)
-            && let Ok(what) = format!(in self.teller.rt.alloc();
+            && let Ok(what) = format!(in self.reporter.rt.alloc();
                 "its files have {bytes} bytes, and the image {len}"
             )
         {
-            self.teller.explain(self.folder.as_bytes(), &what);
+            self.reporter.explain(self.directory.as_bytes(), &what);
         }
     }
 
     /// Explains for how many names something holds, if for any.
     fn explain_one(&self, count: u64, what: &str) {
         if count > 0
-            && let Ok(what) = format!(in self.teller.rt.alloc(); "{what}: {count}")
+            && let Ok(what) = format!(in self.reporter.rt.alloc(); "{what}: {count}")
         {
-            self.teller.explain(self.folder.as_bytes(), &what);
+            self.reporter.explain(self.directory.as_bytes(), &what);
         }
     }
 }
@@ -442,63 +441,74 @@ fn is_link_text(text: &str) -> bool {
 }
 
 /// Prints the manifest of an image whose files are in this directory.
-fn print(teller: &Teller<'_>, image: &AnyImage<'_>, members: &[Member<'_>], folder: &str) -> Status
+fn print(
+    reporter: &Reporter<'_>,
+    image: &AnyImage<'_>,
+    members: &[Member<'_>],
+    directory: &str,
+) -> Status
     requires { AreMembers (any_view image.now) members.now }
 {
-    let Ok(out) = BufWriter::new(teller.rt.alloc(), Again::new(io::writer(teller.rt))) else {
-        return teller.say(Failure::Memory);
+    let Ok(out) = BufWriter::new(reporter.rt.alloc(), Again::new(io::writer(reporter.rt))) else {
+        return reporter.say(Failure::Memory);
     };
     let mut out = Plain::new(out);
-    let written = write_manifest(image, members, volume(image), folder.as_bytes(), &mut out);
+    let written = write_manifest(
+        image,
+        members,
+        volume(image),
+        directory.as_bytes(),
+        &mut out,
+    );
     if written.is_err() || out.flush().is_err() {
-        return teller.say(Failure::WriteFault);
+        return reporter.say(Failure::WriteFault);
     }
     Status::Done
 }
 
 /// Makes the files of an image in a directory, and prints the manifest of the image.
 fn take_apart<'a>(
-    teller: &'a Teller<'a>,
+    reporter: &'a Reporter<'a>,
     image: &'a AnyImage<'a>,
     members: &'a [Member<'a>],
     asked: Extract<'a>,
 ) -> Status
     requires { AreMembers (any_view image.now) members.now }
 {
-    let folder = base(asked.folder);
+    let directory = base(asked.directory);
     let extraction = Extraction {
-        teller,
+        reporter,
         image,
         members,
-        folder,
+        directory,
         owners: asked.owners,
         masked: 0,
     };
-    match extraction.run(asked.folder) {
+    match extraction.run(asked.directory) {
         Ok(counts) => {
             extraction.explain(counts);
-            print(teller, image, members, folder)
+            print(reporter, image, members, directory)
         }
         Err(status) => status,
     }
 }
 
 /// Takes a checked image apart, prints its manifest, and returns the status.
-pub fn run<'a>(teller: &'a Teller<'a>, image: &'a AnyImage<'a>, asked: Extract<'a>) -> Status
-    requires { levels (any_view image.now).tree ≤ 65 }
+pub fn run<'a>(reporter: &'a Reporter<'a>, image: &'a AnyImage<'a>, asked: Extract<'a>) -> Status
+    requires { IsShallow (any_view image.now).tree }
 {
     let name = asked.image.as_bytes();
     if volume(image).len() > LONGEST_VOLUME {
-        let status = teller.say(Failure::LongVolume);
-        teller.explain(name, &LONG_VOLUME);
+        let status = reporter.say(Failure::LongVolume);
+        reporter.explain(name, &LONG_VOLUME);
         return status;
     }
-    match members(teller.rt.alloc(), image) {
-        Ok(members) => take_apart(teller, image, &members, asked),
-        Err(Refused::OutOfMemory) => teller.say(Failure::Memory),
+    match members(reporter.rt.alloc(), image) {
+        Ok(members) => take_apart(reporter, image, &members, asked),
+        Err(Refused::OutOfMemory) => reporter.say(Failure::Memory),
         Err(Refused::LongPath) => {
-            let status = teller.say(Failure::LongPath);
-            teller.explain(name, &LONG_PATH);
+            let status = reporter.say(Failure::LongPath);
+            reporter.explain(name, &LONG_PATH);
             status
         }
     }

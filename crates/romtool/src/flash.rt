@@ -1,11 +1,11 @@
 //! The bytes of an image in the flash: its extents as lines, as a header for C, and as a picture.
 ghost use Rattle.std.specs.Prelude.{◌≤◌};
-ghost use Rattle.rom_tree.specs.Tree.{levels};
+ghost use Rattle.rom_tree.specs.Tree.{IsShallow};
 ghost use Rattle.image_check.specs.Any.{any_view};
-ghost use Rattle.image_gaps.specs.Gaps.{IsChecked};
+ghost use Rattle.image_info.specs.Gaps.{IsChecked};
 
+use crate::reporter::Reporter;
 use crate::sound::{checked, loaded};
-use crate::teller::Teller;
 use command_line::{Map, MapForm, Which};
 use image_check::AnyImage;
 use image_header::is_prefix;
@@ -41,26 +41,26 @@ struct Flash {
 }
 
 /// Prints a map of the image in a file, in a form other than the lines of files.
-pub fn map(teller: &Teller<'_>, map: Map<'_>) -> Status {
+pub fn map(reporter: &Reporter<'_>, map: Map<'_>) -> Status {
     match map.form {
-        MapForm::Files | MapForm::All => run(teller, map.image, map.base, Asked::All),
-        MapForm::Svg => run(teller, map.image, map.base, Asked::Picture),
+        MapForm::Files | MapForm::All => run(reporter, map.image, map.base, Asked::All),
+        MapForm::Svg => run(reporter, map.image, map.base, Asked::Picture),
         MapForm::C(prefix) => {
             let prefix = prefix.unwrap_or(PREFIX);
             if !is_prefix(prefix.as_bytes()) {
-                let status = teller.say(Failure::Usage);
-                teller.explain(prefix.as_bytes(), &NO_PREFIX);
+                let status = reporter.say(Failure::Usage);
+                reporter.explain(prefix.as_bytes(), &NO_PREFIX);
                 return status;
             }
-            run(teller, map.image, map.base, Asked::Header(prefix))
+            run(reporter, map.image, map.base, Asked::Header(prefix))
         }
     }
 }
 
 /// Prints what is at some addresses of the image in a file.
-pub fn which(teller: &Teller<'_>, which: &Which<'_>) -> Status {
+pub fn which(reporter: &Reporter<'_>, which: &Which<'_>) -> Status {
     run(
-        teller,
+        reporter,
         which.image,
         which.base,
         Asked::At(which.addresses.as_slice()),
@@ -73,8 +73,8 @@ fn has_addresses(flash: Flash) -> bool {
 }
 
 /// Prints what is asked of the image in a file, whose first byte has this address.
-fn run(teller: &Teller<'_>, name: &str, base: u64, asked: Asked<'_>) -> Status {
-    let loaded = match loaded(teller, name) {
+fn run(reporter: &Reporter<'_>, name: &str, base: u64, asked: Asked<'_>) -> Status {
+    let loaded = match loaded(reporter, name) {
         Ok(loaded) => loaded,
         Err(status) => return status,
     };
@@ -83,12 +83,12 @@ fn run(teller: &Teller<'_>, name: &str, base: u64, asked: Asked<'_>) -> Status {
         file: loaded.file.max(loaded.bytes.len() as u64),
     };
     if !has_addresses(flash) {
-        let status = teller.say(Failure::Usage);
-        teller.explain(name.as_bytes(), &NO_ADDRESS);
+        let status = reporter.say(Failure::Usage);
+        reporter.explain(name.as_bytes(), &NO_ADDRESS);
         return status;
     }
-    match checked(teller, name, &loaded.bytes) {
-        Ok(image) => print(teller, &image, flash, asked),
+    match checked(reporter, name, &loaded.bytes) {
+        Ok(image) => print(reporter, &image, flash, asked),
         Err(status) => status,
     }
 }
@@ -102,7 +102,7 @@ fn print_to<W: ByteWrite, E: ByteWrite>(
     out: &mut W,
     err: &mut E,
 ) -> Status
-    requires shallow { levels (any_view image.now).tree ≤ 65 }
+    requires shallow { IsShallow (any_view image.now).tree }
     requires checked { IsChecked image.now }
 {
     let Flash { base, file } = flash;
@@ -115,17 +115,17 @@ fn print_to<W: ByteWrite, E: ByteWrite>(
 }
 
 /// Prints what is asked of a valid image on the standard streams.
-fn print(teller: &Teller<'_>, image: &AnyImage<'_>, flash: Flash, asked: Asked<'_>) -> Status
-    requires shallow { levels (any_view image.now).tree ≤ 65 }
+fn print(reporter: &Reporter<'_>, image: &AnyImage<'_>, flash: Flash, asked: Asked<'_>) -> Status
+    requires shallow { IsShallow (any_view image.now).tree }
     requires checked { IsChecked image.now }
 {
-    let rt = teller.rt;
+    let rt = reporter.rt;
     let Ok(out) = BufWriter::new(rt.alloc(), Again::new(io::writer(rt))) else {
-        return teller.say(Failure::Memory);
+        return reporter.say(Failure::Memory);
     };
     let mut out = Plain::new(out);
     let mut err = Plain::new(Held::new(rt.alloc(), rt.stderr()));
     let status = print_to(rt.alloc(), image, flash, asked, &mut out, &mut err);
-    teller.hand_on(err);
+    reporter.hand_on(err);
     status
 }

@@ -4,7 +4,7 @@ ghost use Rattle.std.specs.Prelude.{◌≡◌, length};
 ghost use Rattle.manifest.specs.Lines.{sources_of};
 
 use manifest::{Line, Manifest, Word};
-use manifest_rows::PathTargets;
+use plan_rows::PathTargets;
 use plan_types::Format;
 use rom_fields::OutOfMemory;
 use std::alloc::Global;

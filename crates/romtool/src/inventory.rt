@@ -1,7 +1,7 @@
 //! Scans directories as they are, with all that is below them.
-use crate::folders::{self, Folder, Reach, all_stayed, base, is_foreign};
+use crate::directories::{self, Directory, Reach, all_stayed, base, is_foreign};
 use crate::patterns::Patterns;
-use crate::teller::Teller;
+use crate::reporter::Reporter;
 use build_commands::inventory::{Device, FileKind, Inode, NamedFile};
 use command_line::ScanAll;
 use rom_commands::{Failure, Status};
@@ -28,8 +28,8 @@ fn device_of(numbers: u64) -> Device {
 }
 
 /// The kind of the file with this name and these attributes.
-fn kind_of(rt: &HostRuntime, place: &str, told: &Metadata) -> io::Result<FileKind> {
-    let kind = told.file_type();
+fn kind_of(rt: &HostRuntime, place: &str, metadata: &Metadata) -> io::Result<FileKind> {
+    let kind = metadata.file_type();
     Ok(if kind.is_dir() {
         FileKind::Directory
     } else if kind.is_file() {
@@ -37,9 +37,9 @@ fn kind_of(rt: &HostRuntime, place: &str, told: &Metadata) -> io::Result<FileKin
     } else if kind.is_symlink() {
         FileKind::Symlink(fs::read_link(rt, place)?.into_string())
     } else if kind.is_block_device() {
-        FileKind::Block(device_of(told.rdev()))
+        FileKind::Block(device_of(metadata.rdev()))
     } else if kind.is_char_device() {
-        FileKind::Character(device_of(told.rdev()))
+        FileKind::Character(device_of(metadata.rdev()))
     } else if kind.is_fifo() {
         FileKind::Fifo
     } else if kind.is_socket() {
@@ -60,7 +60,7 @@ struct Foreign {
 #[derive(Drop)]
 struct Walked<'a> {
     top: &'a str,
-    seen: Vec<Folder>,
+    seen: Vec<Directory>,
 }
 
 /// The files that are found below a directory, and its directories that are still to be entered or
@@ -71,29 +71,29 @@ struct Below<'a> {
     top: &'a str,
     found: Vec<NamedFile>,
     foreign: Vec<Foreign>,
-    waiting: Vec<Folder>,
-    seen: Vec<Folder>,
+    waiting: Vec<Directory>,
+    seen: Vec<Directory>,
     reach: Reach,
 }
 
 impl<'a> Below<'a> {
     /// Adds the file of this name, with these attributes.
-    fn add(&mut self, rt: &HostRuntime, place: String, told: &Metadata) -> io::Result<()> {
-        let kind = kind_of(rt, &place, told)?;
-        if matches!(kind, FileKind::Directory) && self.reach.has(told) {
-            self.waiting.push(Folder::new(rt, &place, told)?)?;
+    fn add(&mut self, rt: &HostRuntime, place: String, metadata: &Metadata) -> io::Result<()> {
+        let kind = kind_of(rt, &place, metadata)?;
+        if matches!(kind, FileKind::Directory) && self.reach.has(metadata) {
+            self.waiting.push(Directory::new(rt, &place, metadata)?)?;
         }
         self.found.push(NamedFile {
             place,
             front: base(self.top).len(),
             kind,
-            mode: told.mode() & MODE_BITS,
-            uid: told.uid(),
-            gid: told.gid(),
+            mode: metadata.mode() & MODE_BITS,
+            uid: metadata.uid(),
+            gid: metadata.gid(),
             align: USUAL_ALIGN,
             inode: Inode {
-                device: told.dev(),
-                number: told.ino(),
+                device: metadata.dev(),
+                number: metadata.ino(),
             },
         })?;
         Ok(())
@@ -107,13 +107,18 @@ impl<'a> Below<'a> {
     }
 
     /// Notes that a name, or a name in the directory of this name, is no UTF-8.
-    fn note(&mut self, teller: &Teller<'_>, place: &str, why: &'static str) -> Result<(), Status> {
-        let Ok(place) = String::from_str(teller.rt.alloc(), place) else {
-            return Err(teller.say(Failure::Memory));
+    fn note(
+        &mut self,
+        reporter: &Reporter<'_>,
+        place: &str,
+        why: &'static str,
+    ) -> Result<(), Status> {
+        let Ok(place) = String::from_str(reporter.rt.alloc(), place) else {
+            return Err(reporter.say(Failure::Memory));
         };
         match self.foreign.push(Foreign { place, why }) {
             Ok(()) => Ok(()),
-            Err(_) => Err(teller.say(Failure::Memory)),
+            Err(_) => Err(reporter.say(Failure::Memory)),
         }
     }
 
@@ -121,54 +126,54 @@ impl<'a> Below<'a> {
     /// be read.
     fn add_entry(
         &mut self,
-        teller: &Teller<'_>,
+        reporter: &Reporter<'_>,
         place: String,
         entry: &DirEntry,
     ) -> Result<(), Status> {
-        match self.excludes(teller.rt, &place) {
+        match self.excludes(reporter.rt, &place) {
             Ok(false) => {}
             Ok(true) => return Ok(()),
-            Err(_) => return Err(teller.say(Failure::Memory)),
+            Err(_) => return Err(reporter.say(Failure::Memory)),
         }
         let added = match entry.metadata() {
-            Ok(told) => self.add(teller.rt, place, &told),
+            Ok(metadata) => self.add(reporter.rt, place, &metadata),
             Err(e) => Err(e),
         };
         match added {
             Ok(()) => Ok(()),
-            Err(e) if is_foreign(&e) => self.note(teller, entry.path().as_str(), FOREIGN_LINK),
-            Err(e) => Err(teller.refused(entry.path().as_str().as_bytes(), &e)),
+            Err(e) if is_foreign(&e) => self.note(reporter, entry.path().as_str(), FOREIGN_LINK),
+            Err(e) => Err(reporter.refused(entry.path().as_str().as_bytes(), &e)),
         }
     }
 
     /// Adds the entries of a directory, which is opened by the name `named`.
     fn look_into(
         &mut self,
-        teller: &Teller<'_>,
-        folder: &Folder,
+        reporter: &Reporter<'_>,
+        directory: &Directory,
         named: &str,
     ) -> Result<(), Status> {
-        folder.rest(teller.rt);
-        let entries = match fs::read_dir(teller.rt, named) {
+        directory.rest(reporter.rt);
+        let entries = match fs::read_dir(reporter.rt, named) {
             Ok(entries) => entries,
-            Err(e) => return Err(teller.refused(named.as_bytes(), &e)),
+            Err(e) => return Err(reporter.refused(named.as_bytes(), &e)),
         };
         let mut has_foreign = false;
         for entry in entries {
             match entry {
                 Ok(entry) => {
-                    let alloc = teller.rt.alloc();
-                    match format!(in alloc; "{}/{}", &folder.place, entry.file_name()) {
-                        Ok(place) => self.add_entry(teller, place, &entry)?,
-                        Err(_) => return Err(teller.say(Failure::Memory)),
+                    let alloc = reporter.rt.alloc();
+                    match format!(in alloc; "{}/{}", &directory.place, entry.file_name()) {
+                        Ok(place) => self.add_entry(reporter, place, &entry)?,
+                        Err(_) => return Err(reporter.say(Failure::Memory)),
                     }
                 }
                 Err(e) if is_foreign(&e) => has_foreign = true,
-                Err(e) => return Err(teller.refused(named.as_bytes(), &e)),
+                Err(e) => return Err(reporter.refused(named.as_bytes(), &e)),
             }
         }
         if has_foreign {
-            self.note(teller, named, FOREIGN_NAME)
+            self.note(reporter, named, FOREIGN_NAME)
         } else {
             Ok(())
         }
@@ -176,21 +181,21 @@ impl<'a> Below<'a> {
 
     /// Starts with the directory of this name, as the first file that is found.
     fn start(&mut self, rt: &HostRuntime, top: &'a str, one_file_system: bool) -> io::Result<()> {
-        let told = folders::top(rt, top)?;
+        let metadata = directories::top(rt, top)?;
         self.top = top;
-        self.reach = Reach::of(&told, one_file_system);
-        self.add(rt, String::from_str(rt.alloc(), base(top))?, &told)
+        self.reach = Reach::of(&metadata, one_file_system);
+        self.add(rt, String::from_str(rt.alloc(), base(top))?, &metadata)
     }
 
     /// Adds all files below the first directory.
-    fn walk(&mut self, teller: &Teller<'_>) -> Result<(), Status> {
+    fn walk(&mut self, reporter: &Reporter<'_>) -> Result<(), Status> {
         for _ in 0..u64::MAX {
             let Some(waiting) = self.waiting.pop() else {
                 break;
             };
-            self.look_into(teller, &waiting, waiting.name(self.top))?;
+            self.look_into(reporter, &waiting, waiting.name(self.top))?;
             if self.seen.push(waiting).is_err() {
-                return Err(teller.say(Failure::Memory));
+                return Err(reporter.say(Failure::Memory));
             }
         }
         Ok(())
@@ -199,26 +204,26 @@ impl<'a> Below<'a> {
     /// Adds the directory of this name and all files below it.
     fn add_top(
         &mut self,
-        teller: &Teller<'_>,
+        reporter: &Reporter<'_>,
         top: &'a str,
         one_file_system: bool,
     ) -> Result<Walked<'a>, Status> {
-        if let Err(e) = self.start(teller.rt, top, one_file_system) {
-            return Err(teller.refused(top.as_bytes(), &e));
+        if let Err(e) = self.start(reporter.rt, top, one_file_system) {
+            return Err(reporter.refused(top.as_bytes(), &e));
         }
-        self.walk(teller)?;
-        let seen = mem::replace(&mut self.seen, Vec::new(teller.rt.alloc()));
+        self.walk(reporter)?;
+        let seen = mem::replace(&mut self.seen, Vec::new(reporter.rt.alloc()));
         Ok(Walked { top, seen })
     }
 
     /// Reports all names and texts that are no UTF-8, in the order of the bytes of names.
-    fn all_texts(&mut self, teller: &Teller<'_>) -> Result<(), Status> {
+    fn all_texts(&mut self, reporter: &Reporter<'_>) -> Result<(), Status> {
         if self.foreign.sort_by(|a, b| a.place.cmp(&b.place)).is_err() {
-            return Err(teller.say(Failure::Memory));
+            return Err(reporter.say(Failure::Memory));
         }
         let mut status = Ok(());
         for foreign in &self.foreign {
-            status = Err(teller.failed(foreign.place.as_bytes(), &foreign.why));
+            status = Err(reporter.failed(foreign.place.as_bytes(), &foreign.why));
         }
         status
     }
@@ -228,11 +233,11 @@ impl<'a> Below<'a> {
 /// each directory are together. Reports each file that cannot be read, and a directory that changed
 /// during the scan.
 pub fn all_below<'a>(
-    teller: &Teller<'_>,
+    reporter: &Reporter<'_>,
     scan: &'a ScanAll<'a>,
     patterns: &'a Patterns,
 ) -> Result<Vec<NamedFile>, Status> {
-    let alloc = teller.rt.alloc();
+    let alloc = reporter.rt.alloc();
     let mut below = Below {
         patterns,
         top: "",
@@ -243,21 +248,21 @@ pub fn all_below<'a>(
         reach: Reach::all(),
     };
     let mut walked = Vec::new(alloc);
-    for top in &scan.folders {
-        let one = below.add_top(teller, top, scan.one_file_system)?;
+    for top in &scan.directories {
+        let one = below.add_top(reporter, top, scan.one_file_system)?;
         if walked.push(one).is_err() {
-            return Err(teller.say(Failure::Memory));
+            return Err(reporter.say(Failure::Memory));
         }
     }
-    below.all_texts(teller)?;
-    stayed(teller, &walked)?;
+    below.all_texts(reporter)?;
+    stayed(reporter, &walked)?;
     Ok(below.found)
 }
 
 /// Reports which of the scanned directories changed, if one did.
-fn stayed(teller: &Teller<'_>, walked: &[Walked<'_>]) -> Result<(), Status> {
+fn stayed(reporter: &Reporter<'_>, walked: &[Walked<'_>]) -> Result<(), Status> {
     for one in walked {
-        all_stayed(teller, one.top, &one.seen)?;
+        all_stayed(reporter, one.top, &one.seen)?;
     }
     Ok(())
 }

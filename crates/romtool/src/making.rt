@@ -1,6 +1,6 @@
 //! Makes directories, files and links where nothing exists, and syncs them to the disk.
 use crate::closing::close;
-use crate::place::folder_of;
+use crate::place::directory_of;
 use crate::stamp::Identity;
 use sentences::reasons::{NOT_EMPTY, OF_ANOTHER_USER, REPLACED};
 use std::fs::{self, DirBuilder, File, OpenFile, OpenOptions, Permissions};
@@ -57,7 +57,7 @@ impl Rights {
 }
 
 /// Makes a directory that nobody else may read.
-pub fn new_folder(rt: &HostRuntime, place: &str) -> io::Result<()> {
+pub fn new_directory(rt: &HostRuntime, place: &str) -> io::Result<()> {
     DirBuilder::new().mode(PRIVATE_FOLDER).create(rt, place)
 }
 
@@ -81,17 +81,17 @@ pub fn new_link(rt: &HostRuntime, text: &str, place: &str, owner: Option<Owner>)
 
 /// Opens an existing directory. No link is followed.
 fn opened(rt: &HostRuntime, place: &str) -> io::Result<File> {
-    let folder = File::open(rt, place)?;
+    let directory = File::open(rt, place)?;
     let found = fs::symlink_metadata(rt, place)?;
-    if Identity::of(&found) != Identity::of(&folder.metadata()?) {
+    if Identity::of(&found) != Identity::of(&directory.metadata()?) {
         return Err(io::Error::new(io::ErrorKind::NotFound, REPLACED));
     }
-    Ok(folder)
+    Ok(directory)
 }
 
 /// Syncs a directory to the disk, if its file system can do that.
-fn sync_folder(folder: &File) -> io::Result<()> {
-    match folder.sync_all() {
+fn sync_directory(directory: &File) -> io::Result<()> {
+    match directory.sync_all() {
         Err(e)
             if !matches!(
                 e.kind(),
@@ -102,10 +102,10 @@ fn sync_folder(folder: &File) -> io::Result<()> {
 }
 
 /// Sets the mode and owner of a directory that was made, and syncs it to the disk.
-pub fn set_folder(rt: &HostRuntime, place: &str, rights: Rights) -> io::Result<()> {
-    let folder = opened(rt, place)?;
-    rights.give(&folder)?;
-    sync_folder(&folder)
+pub fn set_directory(rt: &HostRuntime, place: &str, rights: Rights) -> io::Result<()> {
+    let directory = opened(rt, place)?;
+    rights.give(&directory)?;
+    sync_directory(&directory)
 }
 
 /// Sets the mode and owner of a file that was written, syncs it to the disk, and closes it. Some
@@ -131,7 +131,7 @@ pub fn new_name(rt: &HostRuntime, file: &str, place: &str) -> io::Result<bool> {
 /// The directory that an image is taken apart into.
 #[derive(Drop)]
 pub struct Top {
-    folder: File,
+    directory: File,
     /// Whether it was made; otherwise it existed.
     is_made: bool,
     /// The bits of a mode that the process's mask removes from new files.
@@ -148,19 +148,19 @@ impl Top {
     /// The operating system's error; `DirectoryNotEmpty`; `PermissionDenied` for another user's
     /// directory. Then an existing directory is unchanged.
     pub fn open(rt: &HostRuntime, name: &str) -> io::Result<Top> {
-        let is_made = match new_folder(rt, name) {
+        let is_made = match new_directory(rt, name) {
             Ok(()) => true,
             Err(e) if e.kind() == io::ErrorKind::AlreadyExists => false,
             Err(e) => return Err(e),
         };
-        let folder = File::open(rt, name)?;
+        let directory = File::open(rt, name)?;
         if let Some(entry) = fs::read_dir(rt, name)?.next() {
             entry?;
             return Err(io::Error::new(io::ErrorKind::DirectoryNotEmpty, NOT_EMPTY));
         }
-        let masked = masked_in(rt, name, &folder)?;
+        let masked = masked_in(rt, name, &directory)?;
         Ok(Top {
-            folder,
+            directory,
             is_made,
             masked,
         })
@@ -174,16 +174,16 @@ impl Top {
     /// Sets the mode and owner of the directory after it is filled, and syncs it and its name to
     /// the disk. A directory that existed keeps its mode and owner.
     pub fn end(self, rt: &HostRuntime, name: &str, rights: Rights) -> io::Result<()> {
-        if Identity::of(&fs::metadata(rt, name)?) != Identity::of(&self.folder.metadata()?) {
+        if Identity::of(&fs::metadata(rt, name)?) != Identity::of(&self.directory.metadata()?) {
             return Err(io::Error::new(io::ErrorKind::NotFound, REPLACED));
         }
         if !self.is_made {
-            return sync_folder(&self.folder);
+            return sync_directory(&self.directory);
         }
-        rights.give(&self.folder)?;
-        sync_folder(&self.folder)?;
-        match File::open(rt, folder_of(name.trim_end_matches('/'))) {
-            Ok(above) => sync_folder(&above),
+        rights.give(&self.directory)?;
+        sync_directory(&self.directory)?;
+        match File::open(rt, directory_of(name.trim_end_matches('/'))) {
+            Ok(above) => sync_directory(&above),
             // without the right to read the directory above, that one cannot be synced
             Err(e) if e.kind() == io::ErrorKind::PermissionDenied => Ok(()),
             Err(e) => Err(e),
@@ -194,14 +194,14 @@ impl Top {
 /// The bits of a mode that the process's mask removes from new files in an open directory of this
 /// name, which has to belong to the user of the process. An empty file shows both, and is removed
 /// again.
-fn masked_in(rt: &HostRuntime, name: &str, folder: &File) -> io::Result<u32> {
+fn masked_in(rt: &HostRuntime, name: &str, directory: &File) -> io::Result<u32> {
     let place = format!(in rt.alloc(); "{}/{PROBE}", name.trim_end_matches('/'))?;
     let probe = OpenOptions::new()
         .write(true)
         .create_new(true)
         .mode(ALL_PERMISSIONS)
         .open(rt, &place)?;
-    let (made, there) = (probe.metadata()?, folder.metadata()?);
+    let (made, there) = (probe.metadata()?, directory.metadata()?);
     if Identity::of(&fs::symlink_metadata(rt, &place)?) != Identity::of(&made) {
         return Err(io::Error::new(io::ErrorKind::NotFound, REPLACED));
     }

@@ -5,12 +5,12 @@ use crate::devices;
 use crate::inventory::all_below;
 use crate::overlay::{OverlayError, laid_over, sort};
 use crate::patterns::Patterns;
+use crate::reporter::Reporter;
 use crate::target::Target;
-use crate::teller::Teller;
 use crate::unfit::Unfit;
 use build_commands::inventory::{NamedFile, lines, put_found};
 use command_line::{Owner, ScanAll};
-use manifest_text::Entry;
+use manifest::Entry;
 use program_streams::Again;
 use rom_commands::{Failure, Status};
 use rom_fields::{Failed, Plain};
@@ -23,15 +23,15 @@ use std::os::unix::fs::MetadataExt;
 const MOST_VOLUME: usize = 255;
 
 /// Lays files over one another. Reports a file that cannot replace another one.
-fn laid(teller: &Teller<'_>, mut found: Vec<NamedFile>) -> Result<Vec<NamedFile>, Status> {
+fn laid(reporter: &Reporter<'_>, mut found: Vec<NamedFile>) -> Result<Vec<NamedFile>, Status> {
     if sort(&mut found).is_err() {
-        return Err(teller.say(Failure::Memory));
+        return Err(reporter.say(Failure::Memory));
     }
-    match laid_over(teller.rt.alloc(), found) {
+    match laid_over(reporter.rt.alloc(), found) {
         Ok(laid) => Ok(laid),
-        Err(OverlayError::OutOfMemory) => Err(teller.say(Failure::Memory)),
+        Err(OverlayError::OutOfMemory) => Err(reporter.say(Failure::Memory)),
         Err(OverlayError::Kinds(file)) => {
-            Err(teller.failed(file.place.as_bytes(), &KINDS_DIFFER))
+            Err(reporter.failed(file.place.as_bytes(), &KINDS_DIFFER))
         }
     }
 }
@@ -48,126 +48,126 @@ fn own_all(found: &mut [NamedFile], owner: Option<Owner>) {
 
 /// Lays the files of a list over those that were found, if one is named.
 fn with_devices(
-    teller: &Teller<'_>,
+    reporter: &Reporter<'_>,
     devices: Option<&str>,
     mut found: Vec<NamedFile>,
 ) -> Result<Vec<NamedFile>, Status> {
     let Some(name) = devices else {
         return Ok(found);
     };
-    for file in devices::listed(teller, name, &found)? {
+    for file in devices::listed(reporter, name, &found)? {
         if found.push(file).is_err() {
-            return Err(teller.say(Failure::Memory));
+            return Err(reporter.say(Failure::Memory));
         }
     }
-    laid(teller, found)
+    laid(reporter, found)
 }
 
 /// All files of the manifest, in the order of its lines.
-fn all_found(teller: &Teller<'_>, scan: &ScanAll<'_>) -> Result<Vec<NamedFile>, Status> {
-    let patterns = Patterns::of(teller, scan)?;
-    let mut found = laid(teller, all_below(teller, scan, &patterns)?)?;
+fn all_found(reporter: &Reporter<'_>, scan: &ScanAll<'_>) -> Result<Vec<NamedFile>, Status> {
+    let patterns = Patterns::of(reporter, scan)?;
+    let mut found = laid(reporter, all_below(reporter, scan, &patterns)?)?;
     own_all(&mut found, scan.owner);
-    align_all(teller, &patterns, scan.align, &mut found)?;
-    with_devices(teller, scan.devices, found)
+    align_all(reporter, &patterns, scan.align, &mut found)?;
+    with_devices(reporter, scan.devices, found)
 }
 
 /// Opens the target for the manifest, which must not be a file that the manifest names.
-fn target_of(teller: &Teller<'_>, name: &str, found: &[NamedFile]) -> Result<Target, Status> {
-    if let Ok(there) = fs::metadata(teller.rt, name) {
+fn target_of(reporter: &Reporter<'_>, name: &str, found: &[NamedFile]) -> Result<Target, Status> {
+    if let Ok(there) = fs::metadata(reporter.rt, name) {
         let mine = (there.dev(), there.ino());
         let is_mine = |file: &NamedFile| (file.inode.device, file.inode.number) == mine;
         if found.iter().any(is_mine) {
-            return Err(teller.failed(name.as_bytes(), &OWN_FILE));
+            return Err(reporter.failed(name.as_bytes(), &OWN_FILE));
         }
     }
-    match Target::open(teller.rt, name) {
+    match Target::open(reporter.rt, name) {
         Ok(target) => Ok(target),
-        Err(e) => Err(teller.refused(name.as_bytes(), &e)),
+        Err(e) => Err(reporter.refused(name.as_bytes(), &e)),
     }
 }
 
 /// Writes a manifest to its target. Reports a failure.
 fn write_to(
-    teller: &Teller<'_>,
+    reporter: &Reporter<'_>,
     target: &mut Target,
     name: &str,
     volume: &[u8],
     lines: &[Entry<'_>],
 ) -> Result<(), Status> {
     let Some(mut writer) = target.take_writer() else {
-        return Err(teller.failed(name.as_bytes(), &MANIFEST_NOT_TAKEN));
+        return Err(reporter.failed(name.as_bytes(), &MANIFEST_NOT_TAKEN));
     };
     if put_found(&mut writer, volume, lines).is_ok() {
         target.put_back(writer);
         return Ok(());
     }
     Err(match writer.into_inner().error() {
-        Some(e) => teller.refused(name.as_bytes(), &e),
-        None => teller.failed(name.as_bytes(), &MANIFEST_NOT_TAKEN),
+        Some(e) => reporter.refused(name.as_bytes(), &e),
+        None => reporter.failed(name.as_bytes(), &MANIFEST_NOT_TAKEN),
     })
 }
 
 /// Writes a manifest into a file, which then has all of it, or stays as it was.
 fn write_file(
-    teller: &Teller<'_>,
+    reporter: &Reporter<'_>,
     name: &str,
     volume: &[u8],
     lines: &[Entry<'_>],
     found: &[NamedFile],
 ) -> Result<(), Status> {
-    let mut target = target_of(teller, name, found)?;
-    if let Err(status) = write_to(teller, &mut target, name, volume, lines) {
-        target.abandon(teller.rt);
+    let mut target = target_of(reporter, name, found)?;
+    if let Err(status) = write_to(reporter, &mut target, name, volume, lines) {
+        target.abandon(reporter.rt);
         return Err(status);
     }
-    match target.keep(teller.rt) {
+    match target.keep(reporter.rt) {
         Ok(()) => Ok(()),
-        Err(KeepError::Refused(e)) => Err(teller.refused(name.as_bytes(), &e)),
-        Err(KeepError::Changed) => Err(teller.changed(name.as_bytes(), &PART_REPLACED)),
+        Err(KeepError::Refused(e)) => Err(reporter.refused(name.as_bytes(), &e)),
+        Err(KeepError::Changed) => Err(reporter.changed(name.as_bytes(), &PART_REPLACED)),
     }
 }
 
 /// Prints a manifest on standard output.
-fn print(teller: &Teller<'_>, volume: &[u8], lines: &[Entry<'_>]) -> Result<(), Status> {
-    let Ok(out) = BufWriter::new(teller.rt.alloc(), Again::new(io::writer(teller.rt))) else {
-        return Err(teller.say(Failure::Memory));
+fn print(reporter: &Reporter<'_>, volume: &[u8], lines: &[Entry<'_>]) -> Result<(), Status> {
+    let Ok(out) = BufWriter::new(reporter.rt.alloc(), Again::new(io::writer(reporter.rt))) else {
+        return Err(reporter.say(Failure::Memory));
     };
     match put_found(&mut Plain::new(out), volume, lines) {
         Ok(()) => Ok(()),
-        Err(Failed) => Err(teller.say(Failure::WriteFault)),
+        Err(Failed) => Err(reporter.say(Failure::WriteFault)),
     }
 }
 
 /// Scans, and writes the manifest. Nothing is written if a file cannot be read.
-fn pack(teller: &Teller<'_>, scan: &ScanAll<'_>) -> Result<(), Status> {
+fn pack(reporter: &Reporter<'_>, scan: &ScanAll<'_>) -> Result<(), Status> {
     let volume = scan.volume.unwrap_or("").as_bytes();
     if volume.len() > MOST_VOLUME {
-        let status = teller.say(Failure::Usage);
-        teller.explain(volume, &LONG_NAME);
+        let status = reporter.say(Failure::Usage);
+        reporter.explain(volume, &LONG_NAME);
         return Err(status);
     }
-    let found = all_found(teller, scan)?;
-    let Ok(lines) = lines(teller.rt.alloc(), scan.format, &found) else {
-        return Err(teller.say(Failure::Memory));
+    let found = all_found(reporter, scan)?;
+    let Ok(lines) = lines(reporter.rt.alloc(), scan.format, &found) else {
+        return Err(reporter.say(Failure::Memory));
     };
-    let Ok(unfit) = Unfit::of(teller.rt.alloc(), &lines, &found) else {
-        return Err(teller.say(Failure::Memory));
+    let Ok(unfit) = Unfit::of(reporter.rt.alloc(), &lines, &found) else {
+        return Err(reporter.say(Failure::Memory));
     };
     if scan.strict && !unfit.is_none() {
-        return Err(unfit.refuse(teller, scan));
+        return Err(unfit.refuse(reporter, scan));
     }
     match scan.output {
-        Some(name) => write_file(teller, name, volume, &lines, &found)?,
-        None => print(teller, volume, &lines)?,
+        Some(name) => write_file(reporter, name, volume, &lines, &found)?,
+        None => print(reporter, volume, &lines)?,
     }
-    unfit.explain(teller, scan);
+    unfit.explain(reporter, scan);
     Ok(())
 }
 
 /// Prints a manifest of directories as they are, or writes it into a file. Returns the status.
-pub fn run(teller: &Teller<'_>, scan: &ScanAll<'_>) -> Status {
-    match pack(teller, scan) {
+pub fn run(reporter: &Reporter<'_>, scan: &ScanAll<'_>) -> Status {
+    match pack(reporter, scan) {
         Ok(()) => Status::Done,
         Err(status) => status,
     }

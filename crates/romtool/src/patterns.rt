@@ -1,5 +1,5 @@
 //! The patterns of a scan: for excluded paths and for alignments.
-use crate::teller::Teller;
+use crate::reporter::Reporter;
 use command_line::ScanAll;
 use path_patterns::{PatternError, Piece, matches, pieces_of};
 use rom_commands::{Failure, Status};
@@ -36,24 +36,24 @@ fn read(alloc: Global, pattern: &str) -> Result<Vec<Piece>, PatternError> {
 }
 
 /// The pieces of a pattern. Reports why a text is not a pattern.
-fn pieces(teller: &Teller<'_>, pattern: &str) -> Result<Vec<Piece>, Status> {
-    let why = match read(teller.rt.alloc(), pattern) {
+fn pieces(reporter: &Reporter<'_>, pattern: &str) -> Result<Vec<Piece>, Status> {
+    let why = match read(reporter.rt.alloc(), pattern) {
         Ok(pieces) => return Ok(pieces),
-        Err(PatternError::OutOfMemory) => return Err(teller.say(Failure::Memory)),
+        Err(PatternError::OutOfMemory) => return Err(reporter.say(Failure::Memory)),
         Err(PatternError::Unfinished) => PATTERN_UNFINISHED,
         Err(PatternError::Class) => PATTERN_CLASS,
     };
-    let status = teller.say(Failure::Usage);
-    teller.explain(pattern.as_bytes(), &why);
+    let status = reporter.say(Failure::Usage);
+    reporter.explain(pattern.as_bytes(), &why);
     Err(status)
 }
 
 /// The patterns of excluded paths.
-fn excludes_of(teller: &Teller<'_>, scan: &ScanAll<'_>) -> Result<Vec<Vec<Piece>>, Status> {
-    let mut excludes = Vec::new(teller.rt.alloc());
+fn excludes_of(reporter: &Reporter<'_>, scan: &ScanAll<'_>) -> Result<Vec<Vec<Piece>>, Status> {
+    let mut excludes = Vec::new(reporter.rt.alloc());
     for pattern in &scan.excludes {
-        if excludes.push(pieces(teller, pattern)?).is_err() {
-            return Err(teller.say(Failure::Memory));
+        if excludes.push(pieces(reporter, pattern)?).is_err() {
+            return Err(reporter.say(Failure::Memory));
         }
     }
     Ok(excludes)
@@ -61,13 +61,13 @@ fn excludes_of(teller: &Teller<'_>, scan: &ScanAll<'_>) -> Result<Vec<Vec<Piece>
 
 impl Patterns {
     /// Returns the patterns of a scan. Reports why a text is not a pattern.
-    pub fn of(teller: &Teller<'_>, scan: &ScanAll<'_>) -> Result<Patterns, Status> {
-        let excludes = excludes_of(teller, scan)?;
-        let mut aligns = Vec::new(teller.rt.alloc());
+    pub fn of(reporter: &Reporter<'_>, scan: &ScanAll<'_>) -> Result<Patterns, Status> {
+        let excludes = excludes_of(reporter, scan)?;
+        let mut aligns = Vec::new(reporter.rt.alloc());
         for rule in &scan.aligns {
-            let (pieces, align) = (pieces(teller, rule.pattern)?, rule.align);
+            let (pieces, align) = (pieces(reporter, rule.pattern)?, rule.align);
             if aligns.push(AlignPattern { pieces, align }).is_err() {
-                return Err(teller.say(Failure::Memory));
+                return Err(reporter.say(Failure::Memory));
             }
         }
         Ok(Patterns { excludes, aligns })

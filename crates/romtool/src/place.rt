@@ -6,16 +6,16 @@ use std::{fs, io};
 const MOST_LINKS: u32 = 40;
 
 /// Returns the directory that a name is in.
-pub fn folder_of(name: &str) -> &str {
+pub fn directory_of(name: &str) -> &str {
     match name.rsplit_once('/') {
         Some(("", _)) => "/",
-        Some((folder, _)) => folder,
+        Some((directory, _)) => directory,
         None => ".",
     }
 }
 
 /// Returns the last name of a path, which the file has in its directory.
-pub fn name_in_folder(name: &str) -> &str {
+pub fn name_in_directory(name: &str) -> &str {
     match name.rsplit_once('/') {
         Some((_, last)) => last,
         None => name,
@@ -25,8 +25,8 @@ pub fn name_in_folder(name: &str) -> &str {
 /// The name to which the text of a link leads, if the link has this name.
 fn led_to(rt: &HostRuntime, link: &str, text: &str) -> io::Result<String> {
     match link.rsplit_once('/') {
-        Some((folder, _)) if !text.starts_with('/') => {
-            Ok(format!(in rt.alloc(); "{folder}/{text}")?)
+        Some((directory, _)) if !text.starts_with('/') => {
+            Ok(format!(in rt.alloc(); "{directory}/{text}")?)
         }
         _ => Ok(String::from_str(rt.alloc(), text)?),
     }

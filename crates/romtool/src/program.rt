@@ -6,8 +6,8 @@ use crate::arguments::words;
 use crate::closing::settle_output;
 use crate::printed::{asked_by, in_file};
 use crate::replies::Replies;
+use crate::reporter::Reporter;
 use crate::streams::hold_closed;
-use crate::teller::Teller;
 use crate::{
     advice, building, differing, digesting, extracting, flash, packing, reading, scanning, totals,
     verifying, version,
@@ -34,66 +34,66 @@ const EXAMPLE: &str =
 pub fn run(rt: &HostRuntime) -> u8
     ensures { result ≤ 3 }
 {
-    let teller = &Teller::new(rt);
+    let reporter = &Reporter::new(rt);
     let _held = match hold_closed(rt) {
         Ok(held) => held,
-        Err(e) => return teller.refused(b"/", &e).code(),
+        Err(e) => return reporter.refused(b"/", &e).code(),
     };
     let words = match words(rt) {
         Ok(words) => words,
-        Err(wrong) => return teller.refused_word(wrong).code(),
+        Err(wrong) => return reporter.refused_word(wrong).code(),
     };
     match read(rt.alloc(), words.as_slice()) {
-        Ok(request) => settled(teller, done(teller, request)).code(),
-        Err(error) => teller.refused_words(error).code(),
+        Ok(request) => settled(reporter, done(reporter, request)).code(),
+        Err(error) => reporter.refused_words(error).code(),
     }
 }
 
 /// The final status of a command, after a check that standard output keeps what was written to it.
-fn settled(teller: &Teller<'_>, status: Status) -> Status {
+fn settled(reporter: &Reporter<'_>, status: Status) -> Status {
     match status {
-        Status::Done | Status::Refused if settle_output(teller.rt).is_err() => {
-            teller.say(Failure::WriteFault)
+        Status::Done | Status::Refused if settle_output(reporter.rt).is_err() => {
+            reporter.say(Failure::WriteFault)
         }
         _ => status,
     }
 }
 
 /// Does what is asked for.
-fn done(teller: &Teller<'_>, request: Request<'_>) -> Status {
+fn done(reporter: &Reporter<'_>, request: Request<'_>) -> Status {
     let asked = asked_by(&request);
     match request {
-        Request::Example => example(teller),
-        Request::Version => version::run(teller),
-        Request::Check(image) | Request::List(image) => file(teller, image, asked),
-        Request::Info(info) => file(teller, info.image, asked),
-        Request::Linux(linux) => misread(teller, linux, asked),
+        Request::Example => example(reporter),
+        Request::Version => version::run(reporter),
+        Request::Check(image) | Request::List(image) => file(reporter, image, asked),
+        Request::Info(info) => file(reporter, info.image, asked),
+        Request::Linux(linux) => misread(reporter, linux, asked),
         Request::Map(map) => match map.form {
-            MapForm::Files => file(teller, map.image, asked),
-            _ => flash::map(teller, map),
+            MapForm::Files => file(reporter, map.image, asked),
+            _ => flash::map(reporter, map),
         },
-        Request::Which(which) => flash::which(teller, &which),
-        Request::Cat(cat) => copy(teller, cat.image, cat.path),
-        Request::Serve(image) => serve(teller, image),
-        Request::Space(images) => space(teller, images.as_slice()),
-        Request::Build(build) => building::run(teller, build),
-        Request::Scan(scan) => scanning::run(teller, scan),
-        Request::ScanAll(scan) => packing::run(teller, &scan),
-        Request::Extract(extract) => take_apart(teller, extract),
-        Request::Digest(digest) => digesting::run(teller, digest),
-        Request::Verify(verify) => verifying::run(teller, verify),
-        Request::Diff(diff) => differing::run(teller, diff),
+        Request::Which(which) => flash::which(reporter, &which),
+        Request::Cat(cat) => copy(reporter, cat.image, cat.path),
+        Request::Serve(image) => serve(reporter, image),
+        Request::Space(images) => space(reporter, images.as_slice()),
+        Request::Build(build) => building::run(reporter, build),
+        Request::Scan(scan) => scanning::run(reporter, scan),
+        Request::ScanAll(scan) => packing::run(reporter, &scan),
+        Request::Extract(extract) => take_apart(reporter, extract),
+        Request::Digest(digest) => digesting::run(reporter, digest),
+        Request::Verify(verify) => verifying::run(reporter, verify),
+        Request::Diff(diff) => differing::run(reporter, diff),
     }
 }
 
 /// Checks and lists the example image.
-fn example(teller: &Teller<'_>) -> Status {
+fn example(reporter: &Reporter<'_>) -> Status {
     let image = hello();
-    let checked = print_out(teller, b"hello", &image, Asked::Report);
+    let checked = print_out(reporter, b"hello", &image, Asked::Report);
     if checked == Status::Done {
-        let listed = print_out(teller, b"hello", &image, Asked::List);
+        let listed = print_out(reporter, b"hello", &image, Asked::List);
         if listed == Status::Done {
-            teller.explain(b"hello", &EXAMPLE);
+            reporter.explain(b"hello", &EXAMPLE);
         }
         listed
     } else {
@@ -102,78 +102,78 @@ fn example(teller: &Teller<'_>) -> Status {
 }
 
 /// The image in a file, of which this is asked. Reports why there is none.
-fn image_in(teller: &Teller<'_>, name: &str, asked: Asked) -> Result<Loaded, Status> {
-    match reading::image(teller.rt, name) {
+fn image_in(reporter: &Reporter<'_>, name: &str, asked: Asked) -> Result<Loaded, Status> {
+    match reading::image(reporter.rt, name) {
         Ok(Found::Image(image)) => Ok(image),
         Ok(Found::Refused(front)) if !has_addresses(asked, front.reach as usize) => {
-            Err(no_address(teller, name))
+            Err(no_address(reporter, name))
         }
-        Ok(Found::Refused(front)) => Err(refuse_front(teller, name, &front, asked)),
-        Err(e) => Err(teller.refused(name.as_bytes(), &e)),
+        Ok(Found::Refused(front)) => Err(refuse_front(reporter, name, &front, asked)),
+        Err(e) => Err(reporter.refused(name.as_bytes(), &e)),
     }
 }
 
 /// Prints the fault that a file has by its first bytes.
-fn refuse_front(teller: &Teller<'_>, name: &str, front: &Front, asked: Asked) -> Status {
-    let rt = teller.rt;
+fn refuse_front(reporter: &Reporter<'_>, name: &str, front: &Front, asked: Asked) -> Status {
+    let rt = reporter.rt;
     let mut out = Plain::new(Held::new(rt.alloc(), io::writer(rt)));
     let mut err = Plain::new(Held::new(rt.alloc(), rt.stderr()));
     let status = refuse(front.fault, asked, &mut out, &mut err);
-    teller.hand_on(err);
+    reporter.hand_on(err);
     if status == Status::Refused {
-        teller.explain_fault(name.as_bytes(), &front.bytes, front.fault);
+        reporter.explain_fault(name.as_bytes(), &front.bytes, front.fault);
     }
     status
 }
 
 /// The bytes of the image in a file. If it has a fault, the fault's line is printed as for a
 /// report.
-fn bytes_of(teller: &Teller<'_>, name: &str) -> Result<Vec<u8>, Status> {
-    Ok(image_in(teller, name, Asked::Report)?.bytes)
+fn bytes_of(reporter: &Reporter<'_>, name: &str) -> Result<Vec<u8>, Status> {
+    Ok(image_in(reporter, name, Asked::Report)?.bytes)
 }
 
 /// The bytes of the image in a file that is to be copied. If it has a fault, the fault's line goes
 /// to standard error.
-fn bytes_to_copy(teller: &Teller<'_>, name: &str) -> Result<Vec<u8>, Status> {
-    match reading::image(teller.rt, name) {
+fn bytes_to_copy(reporter: &Reporter<'_>, name: &str) -> Result<Vec<u8>, Status> {
+    match reading::image(reporter.rt, name) {
         Ok(Found::Image(image)) => Ok(image.bytes),
-        Ok(Found::Refused(front)) => Err(complain(teller, name, &front.bytes, front.fault)),
-        Err(e) => Err(teller.refused(name.as_bytes(), &e)),
+        Ok(Found::Refused(front)) => Err(complain(reporter, name, &front.bytes, front.fault)),
+        Err(e) => Err(reporter.refused(name.as_bytes(), &e)),
     }
 }
 
 /// Reports on standard error which fault a file has, by all its bytes or by its first ones.
-fn complain(teller: &Teller<'_>, name: &str, bytes: &[u8], fault: Fault) -> Status {
-    let rt = teller.rt;
+fn complain(reporter: &Reporter<'_>, name: &str, bytes: &[u8], fault: Fault) -> Status {
+    let rt = reporter.rt;
     let mut err = Plain::new(Held::new(rt.alloc(), rt.stderr()));
     let status = complain_of_fault(fault, &mut err);
-    teller.hand_on(err);
-    teller.explain_fault(name.as_bytes(), bytes, fault);
+    reporter.hand_on(err);
+    reporter.explain_fault(name.as_bytes(), bytes, fault);
     status
 }
 
 /// Reports that some bytes of an image have no address.
-fn no_address(teller: &Teller<'_>, name: &str) -> Status {
-    let status = teller.say(Failure::Usage);
-    teller.explain(name.as_bytes(), &NO_ADDRESS);
+fn no_address(reporter: &Reporter<'_>, name: &str) -> Status {
+    let status = reporter.say(Failure::Usage);
+    reporter.explain(name.as_bytes(), &NO_ADDRESS);
     status
 }
 
 /// Prints what is asked of the image in a file.
-fn file(teller: &Teller<'_>, name: &str, asked: Asked) -> Status {
-    match image_in(teller, name, asked) {
-        Ok(image) => shown(teller, name, &image.bytes, in_file(image.file, asked)),
+fn file(reporter: &Reporter<'_>, name: &str, asked: Asked) -> Status {
+    match image_in(reporter, name, asked) {
+        Ok(image) => shown(reporter, name, &image.bytes, in_file(image.file, asked)),
         Err(status) => status,
     }
 }
 
 /// Prints what Linux misreads in the image in a file, and with `--advice` the files that share
 /// their last pages.
-fn misread(teller: &Teller<'_>, linux: Linux<'_>, asked: Asked) -> Status {
-    match image_in(teller, linux.image, asked) {
-        Ok(image) => match shown(teller, linux.image, &image.bytes, asked) {
+fn misread(reporter: &Reporter<'_>, linux: Linux<'_>, asked: Asked) -> Status {
+    match image_in(reporter, linux.image, asked) {
+        Ok(image) => match shown(reporter, linux.image, &image.bytes, asked) {
             Status::Failed => Status::Failed,
-            status if linux.advice => advice::run(teller, &image.bytes, status),
+            status if linux.advice => advice::run(reporter, &image.bytes, status),
             status => status,
         },
         Err(status) => status,
@@ -181,53 +181,53 @@ fn misread(teller: &Teller<'_>, linux: Linux<'_>, asked: Asked) -> Status {
 }
 
 /// Prints what is asked of an image, if all its bytes have addresses.
-fn shown(teller: &Teller<'_>, name: &str, bytes: &[u8], asked: Asked) -> Status {
+fn shown(reporter: &Reporter<'_>, name: &str, bytes: &[u8], asked: Asked) -> Status {
     if !has_addresses(asked, bytes.len()) {
-        return no_address(teller, name);
+        return no_address(reporter, name);
     }
-    totals::explain(teller, name.as_bytes(), bytes, asked);
-    print_out(teller, name.as_bytes(), bytes, asked)
+    totals::explain(reporter, name.as_bytes(), bytes, asked);
+    print_out(reporter, name.as_bytes(), bytes, asked)
 }
 
 /// Prints the bytes of the file to which a path leads in the image in a file.
-fn copy(teller: &Teller<'_>, name: &str, path: &str) -> Status {
-    let rt = teller.rt;
-    let bytes = match bytes_to_copy(teller, name) {
+fn copy(reporter: &Reporter<'_>, name: &str, path: &str) -> Status {
+    let rt = reporter.rt;
+    let bytes = match bytes_to_copy(reporter, name) {
         Ok(bytes) => bytes,
         Err(status) => return status,
     };
     let Ok(out) = BufWriter::new(rt.alloc(), Again::new(io::writer(rt))) else {
-        return teller.say(Failure::Memory);
+        return reporter.say(Failure::Memory);
     };
     let mut err = Plain::new(Held::new(rt.alloc(), rt.stderr()));
     let path = path.as_bytes();
     let status = print_file(rt.alloc(), &bytes, path, &mut Plain::new(out), &mut err);
-    teller.hand_on_about(err, path);
+    reporter.hand_on_about(err, path);
     if status == Status::Refused {
-        teller.explain_image(name.as_bytes(), &bytes);
+        reporter.explain_image(name.as_bytes(), &bytes);
     }
     status
 }
 
 /// Takes the image in a file apart.
-fn take_apart(teller: &Teller<'_>, asked: Extract<'_>) -> Status {
-    let bytes = match bytes_to_copy(teller, asked.image) {
+fn take_apart(reporter: &Reporter<'_>, asked: Extract<'_>) -> Status {
+    let bytes = match bytes_to_copy(reporter, asked.image) {
         Ok(bytes) => bytes,
         Err(status) => return status,
     };
-    match check(teller.rt.alloc(), &bytes, Limits::usual()) {
-        Ok(image) => extracting::run(teller, &image, asked),
-        Err(CheckError::OutOfMemory) => teller.say(Failure::Memory),
+    match check(reporter.rt.alloc(), &bytes, Limits::usual()) {
+        Ok(image) => extracting::run(reporter, &image, asked),
+        Err(CheckError::OutOfMemory) => reporter.say(Failure::Memory),
         Err(CheckError::Fault { number, at }) => {
-            complain(teller, asked.image, &bytes, Fault { number, at })
+            complain(reporter, asked.image, &bytes, Fault { number, at })
         }
     }
 }
 
 /// Serves the image in a file.
-fn serve(teller: &Teller<'_>, name: &str) -> Status {
-    let rt = teller.rt;
-    let bytes = match bytes_of(teller, name) {
+fn serve(reporter: &Reporter<'_>, name: &str) -> Status {
+    let rt = reporter.rt;
+    let bytes = match bytes_of(reporter, name) {
         Ok(bytes) => bytes,
         Err(status) => return status,
     };
@@ -236,13 +236,13 @@ fn serve(teller: &Teller<'_>, name: &str) -> Status {
         rt.alloc(),
         &bytes,
         &mut Plain::new(Ahead::new(rt.reader())),
-        &mut Plain::new(Replies::new(*teller, io::writer(rt))),
+        &mut Plain::new(Replies::new(*reporter, io::writer(rt))),
         &mut err,
     );
     if status == Status::Refused {
-        teller.explain_image(name.as_bytes(), &bytes);
+        reporter.explain_image(name.as_bytes(), &bytes);
     }
-    teller.hand_on(err);
+    reporter.hand_on(err);
     status
 }
 
@@ -284,52 +284,52 @@ fn read_all<'a>(
 }
 
 /// Reports that the file of this number cannot be served, and why.
-fn say_missing(teller: &Teller<'_>, name: &str, image: u32, missing: &Missing) -> Status {
+fn say_missing(reporter: &Reporter<'_>, name: &str, image: u32, missing: &Missing) -> Status {
     let front = match missing {
-        Missing::Unread(e) => return teller.refused(name.as_bytes(), e),
+        Missing::Unread(e) => return reporter.refused(name.as_bytes(), e),
         Missing::Refused(front) => front,
     };
-    let rt = teller.rt;
+    let rt = reporter.rt;
     let mut out = Plain::new(Held::new(rt.alloc(), io::writer(rt)));
     let mut err = Plain::new(Held::new(rt.alloc(), rt.stderr()));
     let status = refuse_in(front.fault, image, &mut out, &mut err);
     if status == Status::Refused {
-        teller.explain_fault(name.as_bytes(), &front.bytes, front.fault);
+        reporter.explain_fault(name.as_bytes(), &front.bytes, front.fault);
     }
-    teller.hand_on(err);
+    reporter.hand_on(err);
     status
 }
 
 /// Answers lines from the images in one to eight files of these names, or reports their first
 /// fault.
 fn serve_files<R: ByteRead>(
-    teller: &Teller<'_>,
+    reporter: &Reporter<'_>,
     names: &[&str],
     files: &[Vec<u8>],
     lines: &mut R,
 ) -> Status {
-    let rt = teller.rt;
+    let rt = reporter.rt;
     if files.is_empty() || files.len() > 8 {
-        return teller.say(Failure::Usage);
+        return reporter.say(Failure::Usage);
     }
     let mut err = Plain::new(Held::new(rt.alloc(), rt.stderr()));
-    let out = &mut Plain::new(Replies::new(*teller, io::writer(rt)));
+    let out = &mut Plain::new(Replies::new(*reporter, io::writer(rt)));
     let status = serve_several_on(rt.alloc(), files, lines, out, &mut err);
     if status == Status::Refused {
-        teller.explain_images(names, files);
+        reporter.explain_images(names, files);
     }
-    teller.hand_on(err);
+    reporter.hand_on(err);
     status
 }
 
 /// Serves the images in one to eight files. If one cannot be read, a fault of an image before it is
 /// reported first. To find it, the images before it are served with no lines.
-fn space(teller: &Teller<'_>, names: &[&str]) -> Status {
-    let rt = teller.rt;
+fn space(reporter: &Reporter<'_>, names: &[&str]) -> Status {
+    let rt = reporter.rt;
     let mut files = Vec::new(rt.alloc());
     match read_all(rt, names, &mut files) {
         Ok(()) => serve_files(
-            teller,
+            reporter,
             names,
             &files,
             &mut Plain::new(Ahead::new(rt.reader())),
@@ -340,10 +340,10 @@ fn space(teller: &Teller<'_>, names: &[&str]) -> Status {
             let status = if files.is_empty() {
                 Status::Done
             } else {
-                serve_files(teller, names, &files, &mut Plain::new(no_lines))
+                serve_files(reporter, names, &files, &mut Plain::new(no_lines))
             };
             if status == Status::Done {
-                say_missing(teller, name, number, &missing)
+                say_missing(reporter, name, number, &missing)
             } else {
                 status
             }
@@ -352,40 +352,40 @@ fn space(teller: &Teller<'_>, names: &[&str]) -> Status {
 }
 
 /// Explains by how many bytes an image is too large.
-fn explain_size(teller: &Teller<'_>, name: &[u8], bytes: &[u8], limit: u64) {
-    let alloc = teller.rt.alloc();
+fn explain_size(reporter: &Reporter<'_>, name: &[u8], bytes: &[u8], limit: u64) {
+    let alloc = reporter.rt.alloc();
     let Ok(image) = check(alloc, bytes, Limits::usual()) else {
         return;
     };
     let size = image_size(&image);
     let more = size.saturating_sub(limit);
     if let Ok(what) = format!(in alloc; "it has {size} bytes, {more} more than {limit}") {
-        teller.explain(name, &what);
+        reporter.explain(name, &what);
     }
 }
 
 /// Explains why a valid image was refused: Linux misreads it, or it does not fit.
-fn explain_warning(teller: &Teller<'_>, name: &[u8], bytes: &[u8], asked: Asked) {
+fn explain_warning(reporter: &Reporter<'_>, name: &[u8], bytes: &[u8], asked: Asked) {
     match asked {
-        Asked::Misreads => teller.explain(name, &MISREAD),
-        Asked::Fit { limit, .. } => explain_size(teller, name, bytes, limit),
+        Asked::Misreads => reporter.explain(name, &MISREAD),
+        Asked::Fit { limit, .. } => explain_size(reporter, name, bytes, limit),
         _ => {}
     }
 }
 
 /// Prints on the standard streams what is shown of an image. The image has this name.
-fn print_out(teller: &Teller<'_>, name: &[u8], bytes: &[u8], asked: Asked) -> Status
+fn print_out(reporter: &Reporter<'_>, name: &[u8], bytes: &[u8], asked: Asked) -> Status
     requires { Fits asked (length bytes.now) }
 {
-    let rt = teller.rt;
+    let rt = reporter.rt;
     let Ok(out) = BufWriter::new(rt.alloc(), Again::new(io::writer(rt))) else {
-        return teller.say(Failure::Memory);
+        return reporter.say(Failure::Memory);
     };
     let mut err = Plain::new(Held::new(rt.alloc(), rt.stderr()));
     let status = print(rt.alloc(), bytes, asked, &mut Plain::new(out), &mut err);
-    teller.hand_on(err);
-    if status == Status::Refused && teller.explain_image(name, bytes) {
-        explain_warning(teller, name, bytes, asked);
+    reporter.hand_on(err);
+    if status == Status::Refused && reporter.explain_image(name, bytes) {
+        explain_warning(reporter, name, bytes, asked);
     }
     status
 }

@@ -14,8 +14,8 @@ const MOST_OF_MANIFEST: u64 = 1 << 30;
 
 /// Returns the image in a file, with the bytes that a check reads: up to the size that it states. A
 /// check of these bytes returns the same as one of the whole file
-/// (`image_reach::laws::no_further`). If the first 512 bytes of a romfs image in a regular file
-/// have a wrong checksum, no more is read: this is its fault (`image_reach::laws::refused`).
+/// (`image_check::laws::no_further`). If the first 512 bytes of a romfs image in a regular file
+/// have a wrong checksum, no more is read: this is its fault (`image_check::laws::refused`).
 ///
 /// # Errors
 ///

@@ -3,7 +3,7 @@ ghost use Rattle.std.specs.Prelude.{◌≡◌, [], OnOk};
 ghost use Rattle.std.specs.Io.KnownBytes.{Keeps};
 ghost use Rattle.program_streams.specs.Streams.{held_back, held_contents};
 
-use crate::teller::Teller;
+use crate::reporter::Reporter;
 use program_streams::Held;
 use sentences::{call_sentence, line_sentence};
 use std::io::{self, Write};
@@ -17,7 +17,7 @@ const FRONT: usize = 32;
 #[derive(Drop)]
 pub struct Replies<'a, X> {
     inner: Held<X>,
-    teller: Teller<'a>,
+    reporter: Reporter<'a>,
     front: Vec<u8>,
     lines: u64,
 }
@@ -38,11 +38,11 @@ fn refusal(reply: &[u8]) -> Option<&'static str> {
 
 impl<'a, X: Write> Replies<'a, X> {
     /// Returns a writer in front of this one.
-    pub fn new(teller: Teller<'a>, inner: X) -> Replies<'a, X> {
+    pub fn new(reporter: Reporter<'a>, inner: X) -> Replies<'a, X> {
         Replies {
-            inner: Held::new(teller.rt.alloc(), inner),
-            teller,
-            front: Vec::new(teller.rt.alloc()),
+            inner: Held::new(reporter.rt.alloc(), inner),
+            reporter,
+            front: Vec::new(reporter.rt.alloc()),
             lines: 0,
         }
     }
@@ -62,9 +62,9 @@ impl<'a, X: Write> Replies<'a, X> {
     {
         self.lines = self.lines.saturating_add(1);
         if let Some(sentence) = refusal(&self.front) {
-            let alloc = self.teller.rt.alloc();
+            let alloc = self.reporter.rt.alloc();
             if let Ok(place) = format!(in alloc; "stdin:{}", self.lines) {
-                self.teller.explain(place.as_bytes(), &sentence);
+                self.reporter.explain(place.as_bytes(), &sentence);
             }
         }
         self.front.clear();
@@ -75,7 +75,7 @@ impl<X: Write> Write for Replies<'_, X> {
     ghost contents = { λ s. held_contents X.contents s.inner };
 
     fn write(&mut self, b: &[u8]) -> io::Result<usize> {
-        if self.teller.is_explained() {
+        if self.reporter.is_explained() {
             self.note(b);
         }
         self.inner.write(b)
@@ -87,7 +87,7 @@ impl<X: Write> Write for Replies<'_, X> {
         ensures empty { OnOk result (held_back self.new.inner ≡ []) }
     {
         self.inner.flush()?;
-        if self.teller.is_explained() {
+        if self.reporter.is_explained() {
             self.explain();
         }
         Ok(())

@@ -1,6 +1,6 @@
 //! Prints the manifest of a directory.
-use crate::folders::{self, Folder, Reach, all_stayed, base, refused_entry};
-use crate::teller::Teller;
+use crate::directories::{self, Directory, Reach, all_stayed, base, refused_entry};
+use crate::reporter::Reporter;
 use build_commands::{Found, put_scan};
 use command_line::Scan;
 use program_streams::Again;
@@ -33,14 +33,14 @@ impl PassedOver {
     }
 
     /// Explains what was ignored, if something was.
-    fn explain(&self, teller: &Teller<'_>, folder: &str) {
-        if teller.is_explained() {
-            let _ = self.try_explain(teller, folder);
+    fn explain(&self, reporter: &Reporter<'_>, directory: &str) {
+        if reporter.is_explained() {
+            let _ = self.try_explain(reporter, directory);
         }
     }
 
-    fn try_explain(&self, teller: &Teller<'_>, folder: &str) -> Result<(), AllocError> {
-        let alloc = teller.rt.alloc();
+    fn try_explain(&self, reporter: &Reporter<'_>, directory: &str) -> Result<(), AllocError> {
+        let alloc = reporter.rt.alloc();
         let mut kinds = String::new(alloc);
         for (count, one, several) in [
             (self.links, "link", "links"),
@@ -56,7 +56,7 @@ impl PassedOver {
         if !kinds.is_empty() {
             let more = "modes and owners are not kept: scan --all keeps them";
             let what = format!(in alloc; "skipped {kinds}; {more}")?;
-            teller.explain(folder.as_bytes(), &what);
+            reporter.explain(directory.as_bytes(), &what);
         }
         Ok(())
     }
@@ -67,8 +67,8 @@ impl PassedOver {
 #[derive(Drop)]
 struct Below {
     found: Vec<Found>,
-    waiting: Vec<Folder>,
-    seen: Vec<Folder>,
+    waiting: Vec<Directory>,
+    seen: Vec<Directory>,
     passed: PassedOver,
     reach: Reach,
 }
@@ -76,15 +76,18 @@ struct Below {
 impl Below {
     /// Adds an entry of this name, if it is a regular file or a directory.
     fn add(&mut self, rt: &HostRuntime, entry: &DirEntry, place: String) -> io::Result<()> {
-        let told = entry.metadata()?;
-        let is_folder = told.is_dir();
-        if is_folder && self.reach.has(&told) {
-            self.waiting.push(Folder::new(rt, &place, &told)?)?;
+        let metadata = entry.metadata()?;
+        let is_directory = metadata.is_dir();
+        if is_directory && self.reach.has(&metadata) {
+            self.waiting.push(Directory::new(rt, &place, &metadata)?)?;
         }
-        if is_folder || told.is_file() {
-            self.found.push(Found { place, is_folder })?;
+        if is_directory || metadata.is_file() {
+            self.found.push(Found {
+                place,
+                is_directory,
+            })?;
         } else {
-            self.passed.add(told.file_type());
+            self.passed.add(metadata.file_type());
         }
         Ok(())
     }
@@ -93,19 +96,19 @@ impl Below {
     /// `named`.
     fn look_into(
         &mut self,
-        teller: &Teller<'_>,
-        folder: &Folder,
+        reporter: &Reporter<'_>,
+        directory: &Directory,
         named: &str,
     ) -> Result<(), Status> {
-        folder.rest(teller.rt);
-        let entries = match fs::read_dir(teller.rt, named) {
+        directory.rest(reporter.rt);
+        let entries = match fs::read_dir(reporter.rt, named) {
             Ok(entries) => entries,
-            Err(e) => return Err(teller.refused(named.as_bytes(), &e)),
+            Err(e) => return Err(reporter.refused(named.as_bytes(), &e)),
         };
         for entry in entries {
             match entry {
-                Ok(entry) => self.add_named(teller, &folder.place, &entry)?,
-                Err(e) => return Err(refused_entry(teller, named, &e)),
+                Ok(entry) => self.add_named(reporter, &directory.place, &entry)?,
+                Err(e) => return Err(refused_entry(reporter, named, &e)),
             }
         }
         Ok(())
@@ -114,75 +117,75 @@ impl Below {
     /// Adds an entry of a directory. Reports it if it cannot be read.
     fn add_named(
         &mut self,
-        teller: &Teller<'_>,
-        folder: &str,
+        reporter: &Reporter<'_>,
+        directory: &str,
         entry: &DirEntry,
     ) -> Result<(), Status> {
-        let Ok(place) = format!(in teller.rt.alloc(); "{folder}/{}", entry.file_name()) else {
-            return Err(teller.say(Failure::Memory));
+        let Ok(place) = format!(in reporter.rt.alloc(); "{directory}/{}", entry.file_name()) else {
+            return Err(reporter.say(Failure::Memory));
         };
-        match self.add(teller.rt, entry, place) {
+        match self.add(reporter.rt, entry, place) {
             Ok(()) => Ok(()),
-            Err(e) => Err(teller.refused(entry.path().as_str().as_bytes(), &e)),
+            Err(e) => Err(reporter.refused(entry.path().as_str().as_bytes(), &e)),
         }
     }
 }
 
 /// The directory that is scanned, as the first one to enter.
 fn top(rt: &HostRuntime, scan: Scan<'_>) -> io::Result<Below> {
-    let told = folders::top(rt, scan.folder)?;
+    let metadata = directories::top(rt, scan.directory)?;
     let mut waiting = Vec::new(rt.alloc());
-    waiting.push(Folder::new(rt, base(scan.folder), &told)?)?;
+    waiting.push(Directory::new(rt, base(scan.directory), &metadata)?)?;
     Ok(Below {
         found: Vec::new(rt.alloc()),
         waiting,
         seen: Vec::new(rt.alloc()),
         passed: PassedOver::default(),
-        reach: Reach::of(&told, scan.one_file_system),
+        reach: Reach::of(&metadata, scan.one_file_system),
     })
 }
 
 /// All files below a directory, each directory before its entries, in the order of the bytes of
 /// paths. Reports a file that cannot be read, and a directory that changed during the scan. A name
 /// that is no UTF-8 is reported for its directory.
-fn all_below(teller: &Teller<'_>, scan: Scan<'_>) -> Result<Below, Status> {
-    let folder = scan.folder;
-    let mut below = match top(teller.rt, scan) {
+fn all_below(reporter: &Reporter<'_>, scan: Scan<'_>) -> Result<Below, Status> {
+    let directory = scan.directory;
+    let mut below = match top(reporter.rt, scan) {
         Ok(below) => below,
-        Err(e) => return Err(teller.refused(folder.as_bytes(), &e)),
+        Err(e) => return Err(reporter.refused(directory.as_bytes(), &e)),
     };
     for _ in 0..u64::MAX {
         let Some(waiting) = below.waiting.pop() else {
             break;
         };
-        below.look_into(teller, &waiting, waiting.name(folder))?;
+        below.look_into(reporter, &waiting, waiting.name(directory))?;
         if below.seen.push(waiting).is_err() {
-            return Err(teller.say(Failure::Memory));
+            return Err(reporter.say(Failure::Memory));
         }
     }
-    all_stayed(teller, folder, &below.seen)?;
+    all_stayed(reporter, directory, &below.seen)?;
     match below.found.sort() {
         Ok(()) => Ok(below),
-        Err(_) => Err(teller.say(Failure::Memory)),
+        Err(_) => Err(reporter.say(Failure::Memory)),
     }
 }
 
 /// Prints a manifest of the regular files and the directories below a directory, and returns the
 /// status. Nothing is printed if one of the directories cannot be listed.
-pub fn run(teller: &Teller<'_>, scan: Scan<'_>) -> Status {
-    let folder = scan.folder;
-    let below = match all_below(teller, scan) {
+pub fn run(reporter: &Reporter<'_>, scan: Scan<'_>) -> Status {
+    let directory = scan.directory;
+    let below = match all_below(reporter, scan) {
         Ok(below) => below,
         Err(status) => return status,
     };
-    let Ok(out) = BufWriter::new(teller.rt.alloc(), Again::new(io::writer(teller.rt))) else {
-        return teller.say(Failure::Memory);
+    let Ok(out) = BufWriter::new(reporter.rt.alloc(), Again::new(io::writer(reporter.rt))) else {
+        return reporter.say(Failure::Memory);
     };
-    match put_scan(&mut Plain::new(out), base(folder).len(), &below.found) {
+    match put_scan(&mut Plain::new(out), base(directory).len(), &below.found) {
         Ok(()) => {
-            below.passed.explain(teller, folder);
+            below.passed.explain(reporter, directory);
             Status::Done
         }
-        Err(Failed) => teller.say(Failure::WriteFault),
+        Err(Failed) => reporter.say(Failure::WriteFault),
     }
 }

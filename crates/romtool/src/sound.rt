@@ -1,12 +1,12 @@
 //! Reads images for commands that print no fault on standard output. A fault is reported on
 //! standard error.
 ghost use Rattle.std.specs.Prelude.{◌≤◌, IfOk};
-ghost use Rattle.rom_tree.specs.Tree.{levels};
+ghost use Rattle.rom_tree.specs.Tree.{IsShallow};
 ghost use Rattle.image_check.specs.Any.{any_view};
-ghost use Rattle.image_gaps.specs.Gaps.{IsChecked};
+ghost use Rattle.image_info.specs.Gaps.{IsChecked};
 
 use crate::reading;
-use crate::teller::Teller;
+use crate::reporter::Reporter;
 use image_check::{AnyImage, check};
 use image_load::{Found, Loaded};
 use program_streams::Held;
@@ -16,12 +16,12 @@ use rom_fields::Plain;
 use rom_tree::Limits;
 
 /// Reports on standard error which fault a file has, by its bytes.
-fn say_fault(teller: &Teller<'_>, name: &str, bytes: &[u8], fault: Fault) -> Status {
-    let rt = teller.rt;
+fn say_fault(reporter: &Reporter<'_>, name: &str, bytes: &[u8], fault: Fault) -> Status {
+    let rt = reporter.rt;
     let mut err = Plain::new(Held::new(rt.alloc(), rt.stderr()));
     let status = complain_of_fault(fault, &mut err);
-    teller.hand_on(err);
-    teller.explain_fault(name.as_bytes(), bytes, fault);
+    reporter.hand_on(err);
+    reporter.explain_fault(name.as_bytes(), bytes, fault);
     status
 }
 
@@ -30,8 +30,8 @@ fn say_fault(teller: &Teller<'_>, name: &str, bytes: &[u8], fault: Fault) -> Sta
 /// # Errors
 ///
 /// The status if there is no image, after the reason was reported on standard error.
-pub fn read(teller: &Teller<'_>, name: &str) -> Result<Vec<u8>, Status> {
-    Ok(loaded(teller, name)?.bytes)
+pub fn read(reporter: &Reporter<'_>, name: &str) -> Result<Vec<u8>, Status> {
+    Ok(loaded(reporter, name)?.bytes)
 }
 
 /// Returns the same, with the length of the file.
@@ -39,11 +39,11 @@ pub fn read(teller: &Teller<'_>, name: &str) -> Result<Vec<u8>, Status> {
 /// # Errors
 ///
 /// Those of `read`.
-pub fn loaded(teller: &Teller<'_>, name: &str) -> Result<Loaded, Status> {
-    match reading::image(teller.rt, name) {
+pub fn loaded(reporter: &Reporter<'_>, name: &str) -> Result<Loaded, Status> {
+    match reading::image(reporter.rt, name) {
         Ok(Found::Image(image)) => Ok(image),
-        Ok(Found::Refused(front)) => Err(say_fault(teller, name, &front.bytes, front.fault)),
-        Err(e) => Err(teller.refused(name.as_bytes(), &e)),
+        Ok(Found::Refused(front)) => Err(say_fault(reporter, name, &front.bytes, front.fault)),
+        Err(e) => Err(reporter.refused(name.as_bytes(), &e)),
     }
 }
 
@@ -52,15 +52,19 @@ pub fn loaded(teller: &Teller<'_>, name: &str) -> Result<Loaded, Status> {
 /// # Errors
 ///
 /// The status if it has a fault or memory was refused, after that was reported on standard error.
-pub fn checked<'a>(teller: &Teller<'_>, name: &str, bytes: &'a [u8]) -> Result<AnyImage<'a>, Status>
-    ensures shallow { IfOk result (λ v. levels (any_view v).tree ≤ 65) }
+pub fn checked<'a>(
+    reporter: &Reporter<'_>,
+    name: &str,
+    bytes: &'a [u8],
+) -> Result<AnyImage<'a>, Status>
+    ensures shallow { IfOk result (λ v. IsShallow (any_view v).tree) }
     ensures checked { IfOk result IsChecked }
 {
-    match check(teller.rt.alloc(), bytes, Limits::usual()) {
+    match check(reporter.rt.alloc(), bytes, Limits::usual()) {
         Ok(image) => Ok(image),
-        Err(CheckError::OutOfMemory) => Err(teller.say(Failure::Memory)),
+        Err(CheckError::OutOfMemory) => Err(reporter.say(Failure::Memory)),
         Err(CheckError::Fault { number, at }) => {
-            Err(say_fault(teller, name, bytes, Fault { number, at }))
+            Err(say_fault(reporter, name, bytes, Fault { number, at }))
         }
     }
 }

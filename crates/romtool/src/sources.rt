@@ -3,8 +3,8 @@ ghost use Rattle.std.specs.Prelude.{◌≡◌, length, IfOk};
 
 use crate::disk::stamp_unlinked;
 use crate::origin::Origin;
+use crate::reporter::Reporter;
 use crate::stamp::{Stamp, stamp_of};
-use crate::teller::Teller;
 use manifest::Name;
 use rom_commands::{Failure, Status};
 use sentences::reasons::NO_TEXT;
@@ -24,11 +24,11 @@ enum Missing {
 }
 
 /// The name of a source in a directory. A name that begins with a slash stays.
-fn joined(rt: &HostRuntime, folder: &str, source: &[u8]) -> Result<Vec<u8>, AllocError> {
+fn joined(rt: &HostRuntime, directory: &str, source: &[u8]) -> Result<Vec<u8>, AllocError> {
     let mut name = Vec::new(rt.alloc());
     if source.first() != Some(&b'/') {
-        name.extend_from_slice(folder.as_bytes())?;
-        if !folder.ends_with('/') && !folder.is_empty() {
+        name.extend_from_slice(directory.as_bytes())?;
+        if !directory.ends_with('/') && !directory.is_empty() {
             name.push(b'/')?;
         }
     }
@@ -38,75 +38,75 @@ fn joined(rt: &HostRuntime, folder: &str, source: &[u8]) -> Result<Vec<u8>, Allo
 
 /// Returns the names of the sources in a directory.
 pub fn joined_names(
-    teller: &Teller<'_>,
-    folder: &str,
+    reporter: &Reporter<'_>,
+    directory: &str,
     sources: &[Name],
 ) -> Result<Vec<Vec<u8>>, Status>
     ensures { IfOk result (λ names. length names.items ≡ length sources.now) }
 {
-    let mut names = Vec::new(teller.rt.alloc());
+    let mut names = Vec::new(reporter.rt.alloc());
     for source in sources {
-        let Ok(name) = joined(teller.rt, folder, source.as_bytes()) else {
-            return Err(teller.say(Failure::Memory));
+        let Ok(name) = joined(reporter.rt, directory, source.as_bytes()) else {
+            return Err(reporter.say(Failure::Memory));
         };
         if names.push(name).is_err() {
-            return Err(teller.say(Failure::Memory));
+            return Err(reporter.say(Failure::Memory));
         }
     }
     Ok(names)
 }
 
 /// The state of the source of this name.
-fn stamp_by(teller: &Teller<'_>, origin: Origin<'_>, name: &str) -> io::Result<Stamp> {
+fn stamp_by(reporter: &Reporter<'_>, origin: Origin<'_>, name: &str) -> io::Result<Stamp> {
     if origin.no_follow {
-        stamp_unlinked(teller.rt, name)
+        stamp_unlinked(reporter.rt, name)
     } else {
-        stamp_of(teller.rt, name)
+        stamp_of(reporter.rt, name)
     }
 }
 
 /// Why the source of this number cannot be read, if it cannot.
-fn why_missing(teller: &Teller<'_>, origin: Origin<'_>, number: usize) -> Option<Missing> {
+fn why_missing(reporter: &Reporter<'_>, origin: Origin<'_>, number: usize) -> Option<Missing> {
     let Ok(name) = str::from_utf8(origin.source(number)) else {
         return Some(Missing::NoText);
     };
-    match stamp_by(teller, origin, name) {
+    match stamp_by(reporter, origin, name) {
         Ok(_) => None,
         Err(e) => Some(Missing::Refused(e)),
     }
 }
 
 /// Explains why a source cannot be read.
-fn explain(teller: &Teller<'_>, origin: Origin<'_>, number: usize, why: &Missing) {
+fn explain(reporter: &Reporter<'_>, origin: Origin<'_>, number: usize, why: &Missing) {
     match why {
-        Missing::NoText => teller.explain_source(origin, number, &NO_TEXT),
-        Missing::Refused(e) => teller.explain_error(origin, number, e),
+        Missing::NoText => reporter.explain_source(origin, number, &NO_TEXT),
+        Missing::Refused(e) => reporter.explain_error(origin, number, e),
     }
 }
 
 /// Reports that a source cannot be read, and why.
-fn refused(teller: &Teller<'_>, origin: Origin<'_>, number: usize, why: &Missing) -> Status {
+fn refused(reporter: &Reporter<'_>, origin: Origin<'_>, number: usize, why: &Missing) -> Status {
     match why {
         Missing::NoText => {
-            let status = teller.say(Failure::File(origin.source(number)));
-            explain(teller, origin, number, why);
+            let status = reporter.say(Failure::File(origin.source(number)));
+            explain(reporter, origin, number, why);
             status
         }
-        Missing::Refused(e) => teller.refused_source(origin, number, e),
+        Missing::Refused(e) => reporter.refused_source(origin, number, e),
     }
 }
 
 /// Explains which later sources cannot be read either: some of them one by one, and then how many
 /// more.
-fn explain_others(teller: &Teller<'_>, origin: Origin<'_>, first: usize) {
-    if !teller.is_explained() {
+fn explain_others(reporter: &Reporter<'_>, origin: Origin<'_>, first: usize) {
+    if !reporter.is_explained() {
         return;
     }
     let (mut said, mut more) = (1u64, 0u64);
     for number in first.saturating_add(1)..origin.count() {
-        if let Some(why) = why_missing(teller, origin, number) {
+        if let Some(why) = why_missing(reporter, origin, number) {
             if said < MOST_SAID {
-                explain(teller, origin, number, &why);
+                explain(reporter, origin, number, &why);
                 said = said.saturating_add(1);
             } else {
                 more = more.saturating_add(1);
@@ -114,46 +114,51 @@ fn explain_others(teller: &Teller<'_>, origin: Origin<'_>, first: usize) {
         }
     }
     if more > 0
-        && let Ok(what) = format!(in teller.rt.alloc(); "{more} more sources cannot be read")
+        && let Ok(what) = format!(in reporter.rt.alloc(); "{more} more sources cannot be read")
     {
-        teller.explain(origin.name.as_bytes(), &what);
+        reporter.explain(origin.name.as_bytes(), &what);
     }
 }
 
 /// Reports the first source that cannot be read by a line of the protocol, and explains all of them
 /// in words. Those before this one can be read.
-fn say_missing(teller: &Teller<'_>, origin: Origin<'_>, number: usize, why: &Missing) -> Status {
-    let status = refused(teller, origin, number, why);
-    explain_others(teller, origin, number);
+fn say_missing(
+    reporter: &Reporter<'_>,
+    origin: Origin<'_>,
+    number: usize,
+    why: &Missing,
+) -> Status {
+    let status = refused(reporter, origin, number, why);
+    explain_others(reporter, origin, number);
     status
 }
 
 /// Reports the source of this number, whose name is no UTF-8, or an earlier one that cannot be
 /// read.
-fn say_no_text(teller: &Teller<'_>, origin: Origin<'_>, number: usize) -> Status {
+fn say_no_text(reporter: &Reporter<'_>, origin: Origin<'_>, number: usize) -> Status {
     for before in 0..number {
-        if let Some(why) = why_missing(teller, origin, before) {
-            return say_missing(teller, origin, before, &why);
+        if let Some(why) = why_missing(reporter, origin, before) {
+            return say_missing(reporter, origin, before, &why);
         }
     }
-    say_missing(teller, origin, number, &Missing::NoText)
+    say_missing(reporter, origin, number, &Missing::NoText)
 }
 
 /// Returns the names of the sources as texts, since only a UTF-8 name can be opened.
 pub fn names_of<'m>(
-    teller: &Teller<'_>,
+    reporter: &Reporter<'_>,
     origin: Origin<'_>,
     sources: &'m [Name],
 ) -> Result<Vec<&'m str>, Status>
     ensures { IfOk result (λ names. length names.items ≡ length sources.now) }
 {
-    let mut names = Vec::new(teller.rt.alloc());
+    let mut names = Vec::new(reporter.rt.alloc());
     for source in sources {
         let Ok(name) = str::from_utf8(source.as_bytes()) else {
-            return Err(say_no_text(teller, origin, names.len()));
+            return Err(say_no_text(reporter, origin, names.len()));
         };
         if names.push(name).is_err() {
-            return Err(teller.say(Failure::Memory));
+            return Err(reporter.say(Failure::Memory));
         }
     }
     Ok(names)
@@ -161,19 +166,19 @@ pub fn names_of<'m>(
 
 /// Returns the same for names that were joined with a directory.
 pub fn texts_of<'m>(
-    teller: &Teller<'_>,
+    reporter: &Reporter<'_>,
     origin: Origin<'_>,
     joined: &'m [Vec<u8>],
 ) -> Result<Vec<&'m str>, Status>
     ensures { IfOk result (λ names. length names.items ≡ length joined.now) }
 {
-    let mut names = Vec::new(teller.rt.alloc());
+    let mut names = Vec::new(reporter.rt.alloc());
     for bytes in joined {
         let Ok(name) = str::from_utf8(bytes) else {
-            return Err(say_no_text(teller, origin, names.len()));
+            return Err(say_no_text(reporter, origin, names.len()));
         };
         if names.push(name).is_err() {
-            return Err(teller.say(Failure::Memory));
+            return Err(reporter.say(Failure::Memory));
         }
     }
     Ok(names)
@@ -181,35 +186,35 @@ pub fn texts_of<'m>(
 
 /// Returns the state of each source.
 pub fn stamps_of(
-    teller: &Teller<'_>,
+    reporter: &Reporter<'_>,
     origin: Origin<'_>,
     names: &[&str],
 ) -> Result<Vec<Stamp>, Status>
     ensures { IfOk result (λ stamps. length stamps.items ≡ length names.now) }
 {
-    let mut stamps = Vec::new(teller.rt.alloc());
+    let mut stamps = Vec::new(reporter.rt.alloc());
     for name in names {
-        let stamp = match stamp_by(teller, origin, name) {
+        let stamp = match stamp_by(reporter, origin, name) {
             Ok(stamp) => stamp,
             Err(e) => {
-                return Err(say_missing(teller, origin, stamps.len(), &Missing::Refused(e)));
+                return Err(say_missing(reporter, origin, stamps.len(), &Missing::Refused(e)));
             }
         };
         if stamps.push(stamp).is_err() {
-            return Err(teller.say(Failure::Memory));
+            return Err(reporter.say(Failure::Memory));
         }
     }
     Ok(stamps)
 }
 
 /// Returns the number of bytes of each source.
-pub fn sizes_of(teller: &Teller<'_>, stamps: &[Stamp]) -> Result<Vec<u64>, Status>
+pub fn sizes_of(reporter: &Reporter<'_>, stamps: &[Stamp]) -> Result<Vec<u64>, Status>
     ensures { IfOk result (λ sizes. length sizes.items ≡ length stamps.now) }
 {
-    let mut sizes = Vec::new(teller.rt.alloc());
+    let mut sizes = Vec::new(reporter.rt.alloc());
     for stamp in stamps {
         if sizes.push(stamp.len()).is_err() {
-            return Err(teller.say(Failure::Memory));
+            return Err(reporter.say(Failure::Memory));
         }
     }
     Ok(sizes)

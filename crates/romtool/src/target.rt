@@ -4,7 +4,7 @@ ghost use Rattle.atomic_file.specs.Accounts.{log_of, room_of};
 
 use crate::beside::{Beside, KeepError, NAMES, Others, System, Writer, is_of_its_kind};
 use crate::closing::close;
-use crate::place::{behind_links, folder_of, name_in_folder};
+use crate::place::{behind_links, directory_of, name_in_directory};
 use crate::stamp::Identity;
 use atomic_file::{Begun, Fill, Unbegun, Unfinished, abandon, begin, keep};
 use image_file::{LastCheck, PlanImage, Unwritten, put};
@@ -67,9 +67,9 @@ fn to_write(rt: &HostRuntime, name: &str) -> io::Result<File> {
 }
 
 /// Opens the directory of a file, if this process may list it.
-fn opened_folder(rt: &HostRuntime, name: &str) -> io::Result<Option<File>> {
-    match File::open(rt, folder_of(name)) {
-        Ok(folder) => Ok(Some(folder)),
+fn opened_directory(rt: &HostRuntime, name: &str) -> io::Result<Option<File>> {
+    match File::open(rt, directory_of(name)) {
+        Ok(directory) => Ok(Some(directory)),
         Err(e) if e.kind() == io::ErrorKind::PermissionDenied => Ok(None),
         Err(e) => Err(e),
     }
@@ -116,8 +116,11 @@ fn in_place_of(rt: &HostRuntime, name: &str) -> io::Result<Target> {
     if Identity::of(&fs::symlink_metadata(rt, &whole)?) != Identity::of(&found) {
         return Err(io::Error::new(io::ErrorKind::NotFound, REPLACED));
     }
-    let folder = opened_folder(rt, &whole)?;
-    target_beside(rt, Beside::new(rt, &whole, folder, PRIVATE, Some(found))?)
+    let directory = opened_directory(rt, &whole)?;
+    target_beside(
+        rt,
+        Beside::new(rt, &whole, directory, PRIVATE, Some(found))?,
+    )
 }
 
 /// Makes a new file beside a name that nothing has, not even a link that leads nowhere.
@@ -125,8 +128,8 @@ fn in_a_new_place(rt: &HostRuntime, name: &str, missing: io::Error) -> io::Resul
     match fs::symlink_metadata(rt, name) {
         Ok(_) => Err(missing),
         Err(e) if e.kind() == io::ErrorKind::NotFound => {
-            let folder = opened_folder(rt, name)?;
-            target_beside(rt, Beside::new(rt, name, folder, USUAL, None)?)
+            let directory = opened_directory(rt, name)?;
+            target_beside(rt, Beside::new(rt, name, directory, USUAL, None)?)
         }
         Err(e) => Err(e),
     }
@@ -148,14 +151,14 @@ fn straight(rt: &HostRuntime, name: &str) -> io::Result<Target> {
 
 /// Returns whether both are to get one name in one directory.
 fn are_for_one_name(rt: &HostRuntime, one: &str, another: &str) -> bool {
-    let folders = (
-        fs::metadata(rt, folder_of(one)),
-        fs::metadata(rt, folder_of(another)),
+    let directories = (
+        fs::metadata(rt, directory_of(one)),
+        fs::metadata(rt, directory_of(another)),
     );
-    match folders {
+    match directories {
         (Ok(first), Ok(second)) => {
             Identity::of(&first) == Identity::of(&second)
-                && name_in_folder(one) == name_in_folder(another)
+                && name_in_directory(one) == name_in_directory(another)
         }
         _ => one == another,
     }

@@ -1,8 +1,8 @@
 //! The size of all files of an image, explained before it is printed.
 ghost use Rattle.std.specs.Prelude.{◌≤◌};
-ghost use Rattle.rom_tree.specs.Tree.{levels};
+ghost use Rattle.rom_tree.specs.Tree.{IsShallow};
 
-use crate::teller::Teller;
+use crate::reporter::Reporter;
 use image_check::check;
 use rom_commands::Asked;
 use rom_fields::Plain;
@@ -67,7 +67,7 @@ impl Totals {
 
 /// The sums over all names of regular files of an image.
 fn totals_of<'a, T: TreeImage<'a>>(image: &T) -> Totals
-    requires depth { levels (T.image image.now).tree ≤ 65 }
+    requires depth { IsShallow (T.image image.now).tree }
 {
     let mut totals = Totals::default();
     let mut walk = Walk::new();
@@ -87,9 +87,9 @@ pub fn is_many_times(bytes: u64, len: usize) -> bool {
 
 /// Explains how long the output for an image will be, if its files are many times larger than the
 /// image. This can be so if cramfs files share blocks, or a romfs file has many names.
-pub fn explain(teller: &Teller<'_>, name: &[u8], bytes: &[u8], asked: Asked) {
-    let alloc = teller.rt.alloc();
-    if !teller.is_explained() || !matches!(asked, Asked::Map(_) | Asked::Facts(_)) {
+pub fn explain(reporter: &Reporter<'_>, name: &[u8], bytes: &[u8], asked: Asked) {
+    let alloc = reporter.rt.alloc();
+    if !reporter.is_explained() || !matches!(asked, Asked::Map(_) | Asked::Facts(_)) {
         return;
     }
     let Ok(image) = check(alloc, bytes, Limits::usual()) else {
@@ -112,6 +112,6 @@ pub fn explain(teller: &Teller<'_>, name: &[u8], bytes: &[u8], asked: Asked) {
         format!(in alloc; "its files have {contents} bytes and the image {len}")
     };
     if let Ok(what) = what {
-        teller.explain(name, &what);
+        reporter.explain(name, &what);
     }
 }

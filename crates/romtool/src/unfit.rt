@@ -1,9 +1,9 @@
 //! The attributes of the scanned files that a format does not keep.
-use crate::teller::Teller;
+use crate::reporter::Reporter;
 use build_commands::changes::{Changes, changes_of};
 use build_commands::inventory::NamedFile;
 use command_line::ScanAll;
-use manifest_text::Entry;
+use manifest::Entry;
 use plan_types::Format;
 use rom_commands::{Failure, Status};
 use sentences::words::escaped;
@@ -115,17 +115,17 @@ impl Unfit {
     }
 
     /// Explains what is changed, if something is.
-    pub fn explain(&self, teller: &Teller<'_>, scan: &ScanAll<'_>) {
-        if teller.is_explained() && !self.is_none() {
-            let _ = self.try_explain(teller, scan);
+    pub fn explain(&self, reporter: &Reporter<'_>, scan: &ScanAll<'_>) {
+        if reporter.is_explained() && !self.is_none() {
+            let _ = self.try_explain(reporter, scan);
         }
     }
 
-    fn try_explain(&self, teller: &Teller<'_>, scan: &ScanAll<'_>) -> Result<(), AllocError> {
-        if let (Some(format), Some(place)) = (scan.format, scan.folders.first()) {
+    fn try_explain(&self, reporter: &Reporter<'_>, scan: &ScanAll<'_>) -> Result<(), AllocError> {
+        if let (Some(format), Some(place)) = (scan.format, scan.directories.first()) {
             let format = word_of(format);
-            self.explain_changed(teller, place, format, scan.strict)?;
-            self.explain_opened(teller, place, format)?;
+            self.explain_changed(reporter, place, format, scan.strict)?;
+            self.explain_opened(reporter, place, format)?;
         }
         Ok(())
     }
@@ -133,12 +133,12 @@ impl Unfit {
     /// Explains what is changed, or would be changed if that is refused.
     fn explain_changed(
         &self,
-        teller: &Teller<'_>,
+        reporter: &Reporter<'_>,
         place: &str,
         format: &str,
         is_refused: bool,
     ) -> Result<(), AllocError> {
-        let alloc = teller.rt.alloc();
+        let alloc = reporter.rt.alloc();
         let does = if is_refused {
             "would change"
         } else {
@@ -151,37 +151,37 @@ impl Unfit {
         let what = format!(in alloc;
             "--for {format} {does} {owners}, {groups} and {modes}: {paths}"
         )?;
-        teller.explain(place.as_bytes(), &what);
+        reporter.explain(place.as_bytes(), &what);
         Ok(())
     }
 
     /// Explains which files become readable by all, if any do.
     fn explain_opened(
         &self,
-        teller: &Teller<'_>,
+        reporter: &Reporter<'_>,
         place: &str,
         format: &str,
     ) -> Result<(), AllocError> {
-        let alloc = teller.rt.alloc();
+        let alloc = reporter.rt.alloc();
         if self.opened.count > 0 {
             let count = counted(alloc, self.opened.count, "name")?;
             let paths = self.opened.shown(alloc)?;
             let what = format!(in alloc;
                 "{count} not readable by all, and readable by all in {format}: {paths}"
             )?;
-            teller.explain(place.as_bytes(), &what);
+            reporter.explain(place.as_bytes(), &what);
         }
         Ok(())
     }
 
     /// Reports a refusal by the line `unfit OWNERS GROUPS MODES` on standard error.
-    pub fn refuse(&self, teller: &Teller<'_>, scan: &ScanAll<'_>) -> Status {
+    pub fn refuse(&self, reporter: &Reporter<'_>, scan: &ScanAll<'_>) -> Status {
         let (owners, groups, modes) = (self.owners, self.groups, self.modes);
-        let Ok(line) = format!(in teller.rt.alloc(); "unfit {owners} {groups} {modes}\n") else {
-            return teller.say(Failure::Memory);
+        let Ok(line) = format!(in reporter.rt.alloc(); "unfit {owners} {groups} {modes}\n") else {
+            return reporter.say(Failure::Memory);
         };
-        teller.put(line.as_bytes());
-        self.explain(teller, scan);
+        reporter.put(line.as_bytes());
+        self.explain(reporter, scan);
         Status::Refused
     }
 }

@@ -1,10 +1,10 @@
 //! Compares an image with the bytes of a dump.
 ghost use Rattle.std.specs.Prelude.{◌≤◌};
-ghost use Rattle.rom_tree.specs.Tree.{levels};
+ghost use Rattle.rom_tree.specs.Tree.{IsShallow};
 ghost use Rattle.image_check.specs.Any.{any_view};
 
+use crate::reporter::Reporter;
 use crate::sound::{checked, read};
-use crate::teller::Teller;
 use command_line::Verify;
 use image_check::AnyImage;
 use image_digest::{compare, find_holder, pass_over};
@@ -19,15 +19,15 @@ use std::io::{self, BufReader, BufWriter, Seek, SeekFrom};
 use std::str;
 
 /// Compares the image in a file with a dump, and prints the result.
-pub fn run(teller: &Teller<'_>, asked: Verify<'_>) -> Status {
-    let bytes = match read(teller, asked.image) {
+pub fn run(reporter: &Reporter<'_>, asked: Verify<'_>) -> Status {
+    let bytes = match read(reporter, asked.image) {
         Ok(bytes) => bytes,
         Err(status) => return status,
     };
-    match checked(teller, asked.image, &bytes) {
-        Ok(image) => match difference(teller.rt, image.bytes(), asked) {
-            Ok(found) => tell(teller, &image, asked, found),
-            Err(e) => teller.refused(asked.dump.as_bytes(), &e),
+    match checked(reporter, asked.image, &bytes) {
+        Ok(image) => match difference(reporter.rt, image.bytes(), asked) {
+            Ok(found) => report(reporter, &image, asked, found),
+            Err(e) => reporter.refused(asked.dump.as_bytes(), &e),
         },
         Err(status) => status,
     }
@@ -46,41 +46,41 @@ fn difference(rt: &HostRuntime, image: &[u8], asked: Verify<'_>) -> io::Result<O
 }
 
 /// Prints the result of a comparison, and explains where the dump differs.
-fn tell(
-    teller: &Teller<'_>,
+fn report(
+    reporter: &Reporter<'_>,
     image: &AnyImage<'_>,
     asked: Verify<'_>,
     found: Option<usize>,
 ) -> Status
-    requires { levels (any_view image.now).tree ≤ 65 }
+    requires { IsShallow (any_view image.now).tree }
 {
-    let rt = teller.rt;
+    let rt = reporter.rt;
     let Ok(out) = BufWriter::new(rt.alloc(), Again::new(io::writer(rt))) else {
-        return teller.say(Failure::Memory);
+        return reporter.say(Failure::Memory);
     };
     let mut out = Plain::new(out);
     let mut err = Plain::new(Held::new(rt.alloc(), rt.stderr()));
     let status = print_verdict(image.bytes().len(), found, &mut out, &mut err);
-    teller.hand_on(err);
+    reporter.hand_on(err);
     if status == Status::Refused
-        && teller.is_explained()
+        && reporter.is_explained()
         && let Some(at) = found
     {
-        let _ = explain(teller, image, asked, at);
+        let _ = explain(reporter, image, asked, at);
     }
     status
 }
 
 /// Explains where the dump differs.
 fn explain(
-    teller: &Teller<'_>,
+    reporter: &Reporter<'_>,
     image: &AnyImage<'_>,
     asked: Verify<'_>,
     at: usize,
 ) -> Result<(), AllocError>
-    requires { levels (any_view image.now).tree ≤ 65 }
+    requires { IsShallow (any_view image.now).tree }
 {
-    let alloc = teller.rt.alloc();
+    let alloc = reporter.rt.alloc();
     let place = asked.offset.saturating_add(at as u64);
     let holder = match u32::try_from(at) {
         Ok(at) => find_holder(image, at),
@@ -99,6 +99,6 @@ fn explain(
         "byte {place} differs or is missing; it is byte {at} of the \
         image, in {what}"
     )?;
-    teller.explain(asked.dump.as_bytes(), &words);
+    reporter.explain(asked.dump.as_bytes(), &words);
     Ok(())
 }

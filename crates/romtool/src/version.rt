@@ -1,19 +1,19 @@
 //! Prints the program's version, for scripts.
-use crate::teller::Teller;
+use crate::reporter::Reporter;
 use command_line::VERSION;
 use program_streams::Held;
 use rom_commands::{Failure, Status};
 use std::io::{self, Write};
 
 /// Prints `romtool VERSION`, by one write.
-pub fn run(teller: &Teller<'_>) -> Status {
-    let rt = teller.rt;
+pub fn run(reporter: &Reporter<'_>) -> Status {
+    let rt = reporter.rt;
     let Ok(line) = format!(in rt.alloc(); "romtool {VERSION}\n") else {
-        return teller.say(Failure::Memory);
+        return reporter.say(Failure::Memory);
     };
     let mut out = Held::new(rt.alloc(), io::writer(rt));
     match out.write_all(line.as_bytes()).and_then(|()| out.flush()) {
         Ok(()) => Status::Done,
-        Err(_) => teller.say(Failure::WriteFault),
+        Err(_) => reporter.say(Failure::WriteFault),
     }
 }

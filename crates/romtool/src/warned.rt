@@ -1,7 +1,7 @@
 //! The warnings of a build in words, and its refusal if it is strict.
 use crate::foreseen::{Warning, Warnings};
 use crate::origin::Origin;
-use crate::teller::Teller;
+use crate::reporter::Reporter;
 use plan_types::{Body, Format, Plan};
 use sentences::words::shown;
 use std::alloc::AllocError;
@@ -30,13 +30,13 @@ fn sentence(number: usize) -> &'static str {
 
 /// Explains the warning of one number.
 fn explain_one(
-    teller: &Teller<'_>,
+    reporter: &Reporter<'_>,
     origin: Origin<'_>,
     number: usize,
     warning: &Warning<'_>,
     word: &str,
 ) -> Result<(), AllocError> {
-    let alloc = teller.rt.alloc();
+    let alloc = reporter.rt.alloc();
     let (name, sentence) = (
         build_commands::warning_name(u32::try_from(number).unwrap_or(u32::MAX)),
         sentence(number),
@@ -53,18 +53,18 @@ fn explain_one(
         let path = shown(alloc, warning.path)?;
         format!(in alloc; "{word}{name} ({number}): {sentence}; files: {count}, first {path}")?
     };
-    teller.explain(place.as_bytes(), &what);
+    reporter.explain(place.as_bytes(), &what);
     Ok(())
 }
 
 /// Explains the warnings, each after a word.
-pub fn explain(teller: &Teller<'_>, origin: Origin<'_>, warnings: &Warnings<'_>, word: &str) {
-    if !teller.is_explained() {
+pub fn explain(reporter: &Reporter<'_>, origin: Origin<'_>, warnings: &Warnings<'_>, word: &str) {
+    if !reporter.is_explained() {
         return;
     }
     for (number, warning) in warnings.all().iter().enumerate() {
         if warning.count > 0 {
-            let _ = explain_one(teller, origin, number, warning, word);
+            let _ = explain_one(reporter, origin, number, warning, word);
         }
     }
 }
@@ -94,26 +94,26 @@ fn shared_pages(plan: &Plan) -> u64 {
 }
 
 /// Explains for how many files of cramfs Linux does not map the last page.
-pub fn explain_pages(teller: &Teller<'_>, plan: &Plan, out: &str) {
-    if !teller.is_explained() || matches!(plan.format(), Format::Romfs) {
+pub fn explain_pages(reporter: &Reporter<'_>, plan: &Plan, out: &str) {
+    if !reporter.is_explained() || matches!(plan.format(), Format::Romfs) {
         return;
     }
     let count = shared_pages(plan);
     if count > 0
-        && let Ok(what) = format!(in teller.rt.alloc();
+        && let Ok(what) = format!(in reporter.rt.alloc();
             "files at a multiple of 4096 whose last page holds something else, so that Linux copies this page: {count}; romtool linux --advice lists them"
         )
     {
-        teller.explain(out.as_bytes(), &what);
+        reporter.explain(out.as_bytes(), &what);
     }
 }
 
 /// Explains by how many bytes an image would be too large.
-pub fn explain_size(teller: &Teller<'_>, out: &str, len: u64, most: u64) {
+pub fn explain_size(reporter: &Reporter<'_>, out: &str, len: u64, most: u64) {
     let more = len.saturating_sub(most);
-    if let Ok(what) = format!(in teller.rt.alloc();
+    if let Ok(what) = format!(in reporter.rt.alloc();
         "the image would have {len} bytes, {more} more than {most}"
     ) {
-        teller.explain(out.as_bytes(), &what);
+        reporter.explain(out.as_bytes(), &what);
     }
 }

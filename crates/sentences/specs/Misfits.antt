@@ -1,7 +1,7 @@
 -- The misfits in words, by number. (This project's own.)
 use Rattle.std.specs.Prelude.{ℕ, List, ◌==◌, if◌then◌else◌, codes}
-use Rattle.plan_misfits.specs.declared.misfit.TheConstants.{ATTRIBUTE, TOO_LARGE, NAME_TOO_LONG}
-use Rattle.plan_misfits.specs.declared.misfit.TheConstants.{HARD_LINK}
+use Rattle.plan_rows.specs.declared.misfit.TheConstants.{ATTRIBUTE, TOO_LARGE, NAME_TOO_LONG}
+use Rattle.plan_rows.specs.declared.misfit.TheConstants.{HARD_LINK}
 
 -- the sentence of the misfit of this number
 abbrev pub misfit_sentence : ℕ → List ℕ

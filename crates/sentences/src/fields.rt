@@ -80,7 +80,7 @@ pub fn is_mode(text: &[u8]) -> bool {
 }
 
 /// Returns the directory that a path is in.
-pub fn folder_of(path: &[u8]) -> &[u8] {
+pub fn directory_of(path: &[u8]) -> &[u8] {
     match path.iter().rposition(|byte| *byte == b'/') {
         Some(end) => path.get(..end).unwrap_or(path),
         None => path,

@@ -1,6 +1,6 @@
 //! The fields of a manifest's line at a fault.
 use crate::fields::{
-    count_of, field_of, folder_of, is_decimal, is_mode, line_of, numbers_of, wanted_count,
+    count_of, directory_of, field_of, is_decimal, is_mode, line_of, numbers_of, wanted_count,
 };
 use crate::path_rule::{Meant, broken};
 use crate::words::field_shown;
@@ -55,7 +55,7 @@ fn wrong_number(alloc: Global, line: &[u8]) -> Result<String, AllocError> {
 fn texts_of(line: &[u8]) -> [(usize, Meant); 2] {
     let last = count_of(line).saturating_sub(1);
     match field_of(line, 0) {
-        b"dir" => [(1, Meant::Folder), (1, Meant::Folder)],
+        b"dir" => [(1, Meant::Directory), (1, Meant::Directory)],
         b"volume" => [(1, Meant::Volume), (1, Meant::Volume)],
         b"slink" => [(1, Meant::Path), (last, Meant::Target)],
         b"hard" | b"same" => [(1, Meant::Path), (last, Meant::Path)],
@@ -84,7 +84,7 @@ pub fn seen(alloc: Global, text: &[u8], line: u64, number: u32) -> Result<String
     match number {
         BAD_WORD => wrong_word(alloc, line),
         BAD_NUMBER => wrong_number(alloc, line),
-        NO_PARENT => field_shown(alloc, folder_of(field_of(line, 1))),
+        NO_PARENT => field_shown(alloc, directory_of(field_of(line, 1))),
         EXISTS => field_shown(alloc, field_of(line, 1)),
         BAD_ALIGN => field_shown(alloc, field_of(line, ALIGN_PLACE)),
         BAD_TARGET => field_shown(alloc, field_of(line, count_of(line).saturating_sub(1))),

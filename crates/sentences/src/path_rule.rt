@@ -12,7 +12,7 @@ const NAME_MOST: usize = 255;
 #[derive(Clone, Copy, PartialEq, Eq)]
 pub enum Meant {
     /// A path, which may be that of the root.
-    Folder,
+    Directory,
     /// A path that is not that of the root.
     Path,
     /// The text of a symbolic link.
@@ -39,7 +39,7 @@ fn rule_of_names(names: &[u8]) -> Option<&'static str> {
 /// The rule of paths that a text breaks, if it breaks one.
 fn rule_of_path(path: &[u8], meant: Meant) -> Option<&'static str> {
     match path {
-        [b'/'] if meant == Meant::Folder => None,
+        [b'/'] if meant == Meant::Directory => None,
         [b'/'] => Some("is the root, which is not allowed here"),
         [b'/', names @ ..] => rule_of_names(names),
         _ => Some("does not begin with a slash"),
@@ -56,7 +56,7 @@ fn rule_of(text: &[u8], meant: Meant) -> Option<&'static str> {
         Meant::Volume => None,
         _ if text.len() > PATH_MOST => Some("has more than 4095 bytes"),
         Meant::Target => None,
-        Meant::Folder | Meant::Path => rule_of_path(text, meant),
+        Meant::Directory | Meant::Path => rule_of_path(text, meant),
     }
 }
 

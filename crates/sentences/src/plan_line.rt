@@ -2,7 +2,7 @@
 use crate::attribute;
 use crate::words::shown;
 use manifest::{Line, Manifest, Word};
-use plan_misfits::misfit::{ATTRIBUTE, NAME_TOO_LONG, TOO_LARGE};
+use plan_rows::misfit::{ATTRIBUTE, NAME_TOO_LONG, TOO_LARGE};
 use plan_types::Format;
 use std::alloc::{AllocError, Global};
 

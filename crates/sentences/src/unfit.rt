@@ -2,7 +2,7 @@
 ghost use Rattle.std.specs.Prelude.{◌≡◌};
 ghost use Rattle.sentences.specs.Misfits.{misfit_sentence};
 
-use plan_misfits::misfit::{ATTRIBUTE, HARD_LINK, NAME_TOO_LONG, TOO_LARGE};
+use plan_rows::misfit::{ATTRIBUTE, HARD_LINK, NAME_TOO_LONG, TOO_LARGE};
 
 /// Returns the sentence of the misfit of this number. docs/internals/LAYOUTS.md says more.
 pub fn misfit_sentence(number: u32) -> &'static str

@@ -20,19 +20,19 @@ use Rattle.serve_lines.specs.Served.{last_reply, used_after, line_feed}
 pub record Run {S : Type 0} (m : Machine S) (start : S) (r₀ r : Option (List ℕ)) (w₀ w : Output) (s : S) (line : List ℕ)
     (count : ℕ) : Type 0 where
   pub y : List ℕ
-  pub told : List Exchange
+  pub known : List Exchange
   pub read : Consumes r₀ r y
-  pub wrote : Appends w₀.contents w.contents (replies_text told)
-  pub flushed : w.flushes ≡ after_flushes w₀.flushes (length told)
+  pub wrote : Appends w₀.contents w.contents (replies_text known)
+  pub flushed : w.flushes ≡ after_flushes w₀.flushes (length known)
   pub served-on : (z : List ℕ) → exchanges m start (lines_after [] (y ++ z))
-      ≡ told ++ exchanges m s (lines_after line z)
+      ≡ known ++ exchanges m s (lines_after line z)
   pub finished-on : (z : List ℕ) → exchanges m start (whole_lines_after [] (y ++ z))
-      ≡ told ++ exchanges m s (whole_lines_after line z)
+      ≡ known ++ exchanges m s (whole_lines_after line z)
   pub used-on : (z : List ℕ) → used_after m [] (y ++ z) ≡ y ++ used_after m line z
   pub goes-on : (z : List ℕ) → list_any m.ends (whole_lines_after [] (y ++ z))
       ≡ list_any m.ends (whole_lines_after line z)
   pub counted : length y ≡ count
-  pub held : 0 < length line → exchanges m start (whole_lines_after [] (but_last y)) ≡ told
+  pub held : 0 < length line → exchanges m start (whole_lines_after [] (but_last y)) ≡ known
   pub held-on : 0 < length line → list_any m.ends (whole_lines_after [] (but_last y)) ≡ false
 
 pub replies-append : (es fs : List Exchange) → replies_text (es ++ fs) ≡ replies_text es ++ replies_text fs
@@ -60,7 +60,7 @@ module _ {S : Type 0} (m : Machine S) where
   pub begin : (start : S) (r : Option (List ℕ)) (w : Output) → Run m start r r w w start [] 0
   begin start r w = record {
     y = [];
-    told = [];
+    known = [];
     read = Consumes-nil r;
     wrote = Appends-nil w.contents;
     flushed = refl;
@@ -106,11 +106,11 @@ module _ {S : Type 0} (m : Machine S) where
 
   -- what was written are the replies to the finished lines
   finished-so-far : (start : S) (r₀ r : Option (List ℕ)) (w₀ w : Output) (s : S) (line : List ℕ) (count : ℕ)
-      → (run : Run m start r₀ r w₀ w s line count) → exchanges m start (whole_lines_after [] run.y) ≡ run.told
+      → (run : Run m start r₀ r w₀ w s line count) → exchanges m start (whole_lines_after [] run.y) ≡ run.known
   finished-so-far start r₀ r w₀ w s line count run =
       ap (λ t. exchanges m start (whole_lines_after [] t)) (sym (append-nil run.y)) ∙ run.finished-on []
-      ∙ ap (λ t. run.told ++ exchanges m s t) (no-lines line) ∙ ap (λ t. run.told ++ t) (no-exchanges s)
-      ∙ append-nil run.told
+      ∙ ap (λ t. run.known ++ exchanges m s t) (no-lines line) ∙ ap (λ t. run.known ++ t) (no-exchanges s)
+      ∙ append-nil run.known
 
   -- none of them ended the serving
   on-so-far : (start : S) (r₀ r : Option (List ℕ)) (w₀ w : Output) (s : S) (line : List ℕ) (count : ℕ)
@@ -136,14 +136,14 @@ module _ {S : Type 0} (m : Machine S) where
       → Run m start r₀ r' w₀ w s (line ++ b ∷ []) (count + 1)
   more start r₀ r r' w₀ w s line count b h run read = record {
     y = run.y ++ b ∷ [];
-    told = run.told;
+    known = run.known;
     read = Consumes-trans r₀ r r' run.y (b ∷ []) run.read read;
     wrote = run.wrote;
     flushed = run.flushed;
     served-on = λ z. ap (λ t. exchanges m start (lines_after [] t)) (append_assoc run.y (b ∷ []) z)
-        ∙ run.served-on (b ∷ z) ∙ ap (λ t. run.told ++ t) (served-byte s line b z h);
+        ∙ run.served-on (b ∷ z) ∙ ap (λ t. run.known ++ t) (served-byte s line b z h);
     finished-on = λ z. ap (λ t. exchanges m start (whole_lines_after [] t)) (append_assoc run.y (b ∷ []) z)
-        ∙ run.finished-on (b ∷ z) ∙ ap (λ t. run.told ++ exchanges m s t) (whole-byte line b z h);
+        ∙ run.finished-on (b ∷ z) ∙ ap (λ t. run.known ++ exchanges m s t) (whole-byte line b z h);
     used-on = λ z. ap (used_after m []) (append_assoc run.y (b ∷ []) z) ∙ run.used-on (b ∷ z)
         ∙ ap (λ t. run.y ++ t) (used-byte line b z h)
         ∙ sym (append_assoc run.y (b ∷ []) (used_after m (line ++ b ∷ []) z));
@@ -203,21 +203,22 @@ module _ {S : Type 0} (m : Machine S) where
   answered start r₀ r r' w₀ w w' s line count h run read wrote flushed =
       let e = exchange s line in record {
         y = run.y ++ line_feed ∷ [];
-        told = run.told ++ e ∷ [];
+        known = run.known ++ e ∷ [];
         read = Consumes-trans r₀ r r' run.y (line_feed ∷ []) run.read read;
-        wrote = subst (Appends w₀.contents w'.contents) (sym (replies-one run.told e))
-            (Appends-trans w₀.contents w.contents w'.contents (replies_text run.told) (m.reply s line) run.wrote wrote);
-        flushed = flushes-one w₀.flushes w.flushes w'.flushes run.told e run.flushed flushed;
+        wrote = subst (Appends w₀.contents w'.contents) (sym (replies-one run.known e))
+            (Appends-trans w₀.contents w.contents w'.contents (replies_text run.known)
+            (m.reply s line) run.wrote wrote);
+        flushed = flushes-one w₀.flushes w.flushes w'.flushes run.known e run.flushed flushed;
         served-on = λ z. ap (λ t. exchanges m start (lines_after [] t)) (append_assoc run.y (line_feed ∷ []) z)
             ∙ run.served-on (line_feed ∷ z)
-            ∙ ap (λ t. run.told ++ exchanges m s t) (feed-line line z)
-            ∙ ap (λ t. run.told ++ t) (first-exchange s line (lines_after [] z) h)
-            ∙ sym (append_assoc run.told (e ∷ []) (exchanges m (m.next s line) (lines_after [] z)));
+            ∙ ap (λ t. run.known ++ exchanges m s t) (feed-line line z)
+            ∙ ap (λ t. run.known ++ t) (first-exchange s line (lines_after [] z) h)
+            ∙ sym (append_assoc run.known (e ∷ []) (exchanges m (m.next s line) (lines_after [] z)));
         finished-on = λ z. ap (λ t. exchanges m start (whole_lines_after [] t)) (append_assoc run.y (line_feed ∷ []) z)
             ∙ run.finished-on (line_feed ∷ z)
-            ∙ ap (λ t. run.told ++ exchanges m s t) (feed-whole line z)
-            ∙ ap (λ t. run.told ++ t) (first-exchange s line (whole_lines_after [] z) h)
-            ∙ sym (append_assoc run.told (e ∷ []) (exchanges m (m.next s line) (whole_lines_after [] z)));
+            ∙ ap (λ t. run.known ++ exchanges m s t) (feed-whole line z)
+            ∙ ap (λ t. run.known ++ t) (first-exchange s line (whole_lines_after [] z) h)
+            ∙ sym (append_assoc run.known (e ∷ []) (exchanges m (m.next s line) (whole_lines_after [] z)));
         used-on = λ z. ap (used_after m []) (append_assoc run.y (line_feed ∷ []) z) ∙ run.used-on (line_feed ∷ z)
             ∙ ap (λ t. run.y ++ t) (used-line line z h)
             ∙ sym (append_assoc run.y (line_feed ∷ []) (used_after m [] z));
@@ -233,15 +234,15 @@ module _ {S : Type 0} (m : Machine S) where
   pub stops : (start : S) (r₀ r : Option (List ℕ)) (w₀ w : Output) (s : S) (line : List ℕ) (count : ℕ)
       → Run m start r₀ r w₀ w s line count → (y : List ℕ) × (length y ≡ count) × Finishes m start r₀ r w₀ w y
   stops start r₀ r w₀ w s line count run =
-      let told = finished-so-far start r₀ r w₀ w s line count run in (
+      let known = finished-so-far start r₀ r w₀ w s line count run in (
         run.y,
         run.counted,
         record {
           read = run.read;
           uses = used-so-far start r₀ r w₀ w s line count run;
           goes_on = on-so-far start r₀ r w₀ w s line count run;
-          wrote = subst (Appends w₀.contents w.contents) (ap replies_text (sym told)) run.wrote;
-          flushed = run.flushed ∙ ap (λ t. after_flushes w₀.flushes (length t)) (sym told);
+          wrote = subst (Appends w₀.contents w.contents) (ap replies_text (sym known)) run.wrote;
+          flushed = run.flushed ∙ ap (λ t. after_flushes w₀.flushes (length t)) (sym known);
         },
       )
 
@@ -268,10 +269,10 @@ module _ {S : Type 0} (m : Machine S) where
   -- all exchanges of an input that ends behind the unfinished line
   pub whole : (start : S) (r₀ r : Option (List ℕ)) (w₀ w : Output) (s : S) (line : List ℕ) (count : ℕ)
       → (run : Run m start r₀ r w₀ w s line count)
-      → exchanges m start (lines_after [] run.y) ≡ run.told ++ map (exchange s) (last_line line)
+      → exchanges m start (lines_after [] run.y) ≡ run.known ++ map (exchange s) (last_line line)
   whole start r₀ r w₀ w s line count run =
       ap (λ t. exchanges m start (lines_after [] t)) (sym (append-nil run.y)) ∙ run.served-on []
-      ∙ ap (λ t. run.told ++ exchanges m s t) (no-more line) ∙ ap (λ t. run.told ++ t) (last-exchanges s line)
+      ∙ ap (λ t. run.known ++ exchanges m s t) (no-more line) ∙ ap (λ t. run.known ++ t) (last-exchanges s line)
 
   used-last : (line z : List ℕ) → m.ends line ≡ true → used_after m line (line_feed ∷ z) ≡ line_feed ∷ []
   unfolding used_after
@@ -291,15 +292,16 @@ module _ {S : Type 0} (m : Machine S) where
       let split : x ≡ run.y ++ line_feed ∷ z = run.read ∙ ap (λ t. run.y ++ t) read in
       let all : used_after m [] x ≡ run.y ++ line_feed ∷ [] =
       ap (used_after m []) split ∙ run.used-on (line_feed ∷ z) ∙ ap (λ t. run.y ++ t) (used-last line z h) in
-      let told : exchanges m start (lines_after [] x) ≡ run.told ++ e ∷ [] =
+      let known : exchanges m start (lines_after [] x) ≡ run.known ++ e ∷ [] =
       ap (λ t. exchanges m start (lines_after [] t)) split ∙ run.served-on (line_feed ∷ z)
-      ∙ ap (λ t. run.told ++ exchanges m s t) (feed-line line z)
-      ∙ ap (λ t. run.told ++ t) (last-exchange s line (lines_after [] z) h) in (
+      ∙ ap (λ t. run.known ++ exchanges m s t) (feed-line line z)
+      ∙ ap (λ t. run.known ++ t) (last-exchange s line (lines_after [] z) h) in (
         split ∙ sym (append_assoc run.y (line_feed ∷ []) z) ∙ ap (λ t. t ++ z) (sym all),
-        subst (Appends w₀.contents w'.contents) (sym (ap replies_text told ∙ replies-one run.told e))
-            (Appends-trans w₀.contents w.contents w'.contents (replies_text run.told) (m.reply s line) run.wrote wrote),
-        flushes-one w₀.flushes w.flushes w'.flushes run.told e run.flushed flushed
-            ∙ ap (λ t. after_flushes w₀.flushes (length t)) (sym told),
+        subst (Appends w₀.contents w'.contents) (sym (ap replies_text known ∙ replies-one run.known e))
+            (Appends-trans w₀.contents w.contents w'.contents (replies_text run.known)
+            (m.reply s line) run.wrote wrote),
+        flushes-one w₀.flushes w.flushes w'.flushes run.known e run.flushed flushed
+            ∙ ap (λ t. after_flushes w₀.flushes (length t)) (sym known),
       )
 
   -- the flushes of the unfinished line
@@ -321,17 +323,17 @@ module _ {S : Type 0} (m : Machine S) where
       let same : x ≡ run.y = split ∙ append-nil run.y in
       let all : used_after m [] x ≡ run.y =
       ap (used_after m []) same ∙ used-so-far start (Some x) (Some q) w₀ w s line count run in
-      let told : exchanges m start (lines_after [] x) ≡ run.told ++ map (exchange s) (last_line line) =
+      let known : exchanges m start (lines_after [] x) ≡ run.known ++ map (exchange s) (last_line line) =
       ap (λ t. exchanges m start (lines_after [] t)) same ∙ whole start (Some x) (Some q) w₀ w s line count run in
-      let text : replies_text (exchanges m start (lines_after [] x)) ≡ replies_text run.told ++ last_reply m s line =
-      ap replies_text told ∙ replies-append run.told (map (exchange s) (last_line line))
-      ∙ ap (λ t. replies_text run.told ++ t) (last-text s line) in (
+      let text : replies_text (exchanges m start (lines_after [] x)) ≡ replies_text run.known ++ last_reply m s line =
+      ap replies_text known ∙ replies-append run.known (map (exchange s) (last_line line))
+      ∙ ap (λ t. replies_text run.known ++ t) (last-text s line) in (
         run.read ∙ ap (λ t. t ++ q) (sym all),
         subst (Appends w₀.contents w'.contents) (sym text)
-            (Appends-trans w₀.contents w.contents w'.contents (replies_text run.told)
+            (Appends-trans w₀.contents w.contents w'.contents (replies_text run.known)
             (last_reply m s line) run.wrote wrote),
-        last-flushed w₀.flushes w.flushes w'.flushes run.told s line run.flushed flushed
-            ∙ ap (λ t. after_flushes w₀.flushes (length t)) (sym told),
+        last-flushed w₀.flushes w.flushes w'.flushes run.known s line run.flushed flushed
+            ∙ ap (λ t. after_flushes w₀.flushes (length t)) (sym known),
       )
 
   -- the replies to what follows begin with that to the line
@@ -350,22 +352,23 @@ module _ {S : Type 0} (m : Machine S) where
       let y = run.y ++ line_feed ∷ [] in
       let more = served-front s line (lines_after [] []) in
       let text : replies_text (exchanges m start (lines_after [] y))
-      ≡ (replies_text run.told ++ part) ++ (front.0 ++ more.0) =
-      ap replies_text (run.served-on (line_feed ∷ []) ∙ ap (λ t. run.told ++ exchanges m s t) (feed-line line []))
-      ∙ replies-append run.told (exchanges m s (line ∷ lines_after [] []))
-      ∙ ap (λ t. replies_text run.told ++ t) (more.1 ∙ ap (λ t. t ++ more.0) front.1 ∙ append_assoc part front.0 more.0)
-      ∙ sym (append_assoc (replies_text run.told) part (front.0 ++ more.0)) in
-      let before : exchanges m start (whole_lines_after [] (but_last y)) ≡ run.told =
+      ≡ (replies_text run.known ++ part) ++ (front.0 ++ more.0) =
+      ap replies_text (run.served-on (line_feed ∷ []) ∙ ap (λ t. run.known ++ exchanges m s t) (feed-line line []))
+      ∙ replies-append run.known (exchanges m s (line ∷ lines_after [] []))
+      ∙ ap (λ t. replies_text run.known ++ t) (more.1 ∙ ap (λ t. t ++ more.0) front.1
+      ∙ append_assoc part front.0 more.0)
+      ∙ sym (append_assoc (replies_text run.known) part (front.0 ++ more.0)) in
+      let before : exchanges m start (whole_lines_after [] (but_last y)) ≡ run.known =
       ap (λ t. exchanges m start (whole_lines_after [] t)) (but_last-byte run.y line_feed)
       ∙ finished-so-far start r₀ r w₀ w s line count run in
       record {
         y = y;
-        out = replies_text run.told ++ part;
+        out = replies_text run.known ++ part;
         read = Consumes-trans r₀ r r' run.y (line_feed ∷ []) run.read read;
         uses = run.used-on (line_feed ∷ []) ∙ ap (λ t. run.y ++ t) (used-feed line);
         goes_on = ap (λ t. list_any m.ends (whole_lines_after [] t)) (but_last-byte run.y line_feed)
             ∙ on-so-far start r₀ r w₀ w s line count run;
-        wrote = Appends-trans w₀.contents w.contents w'.contents (replies_text run.told) part run.wrote wrote;
+        wrote = Appends-trans w₀.contents w.contents w'.contents (replies_text run.known) part run.wrote wrote;
         front = (front.0 ++ more.0, text);
         holds = (part, ap (λ t. replies_text t ++ part) (sym before));
         flushed = flushed ∙ run.flushed ∙ ap (λ t. after_flushes w₀.flushes (length t)) (sym before);
@@ -379,16 +382,16 @@ module _ {S : Type 0} (m : Machine S) where
       → Breaks m start r₀ r w₀ w'
   breaks_at_end start r₀ r w₀ w w' s [] count part run some wrote front flushed = absurd (omega (arith, some))
   breaks_at_end start r₀ r w₀ w w' s (c ∷ line) count part run some wrote front flushed =
-      let text : replies_text (exchanges m start (lines_after [] run.y)) ≡ (replies_text run.told ++ part) ++ front.0 =
-      ap replies_text (whole start r₀ r w₀ w s (c ∷ line) count run) ∙ replies-one run.told (exchange s (c ∷ line))
-      ∙ ap (λ t. replies_text run.told ++ t) front.1 ∙ sym (append_assoc (replies_text run.told) part front.0) in
+      let text : replies_text (exchanges m start (lines_after [] run.y)) ≡ (replies_text run.known ++ part) ++ front.0 =
+      ap replies_text (whole start r₀ r w₀ w s (c ∷ line) count run) ∙ replies-one run.known (exchange s (c ∷ line))
+      ∙ ap (λ t. replies_text run.known ++ t) front.1 ∙ sym (append_assoc (replies_text run.known) part front.0) in
       record {
         y = run.y;
-        out = replies_text run.told ++ part;
+        out = replies_text run.known ++ part;
         read = run.read;
         uses = used-so-far start r₀ r w₀ w s (c ∷ line) count run;
         goes_on = run.held-on some;
-        wrote = Appends-trans w₀.contents w.contents w'.contents (replies_text run.told) part run.wrote wrote;
+        wrote = Appends-trans w₀.contents w.contents w'.contents (replies_text run.known) part run.wrote wrote;
         front = (front.0, text);
         holds = (part, ap (λ t. replies_text t ++ part) (sym (run.held some)));
         flushed = flushed ∙ run.flushed ∙ ap (λ t. after_flushes w₀.flushes (length t)) (sym (run.held some));
@@ -443,18 +446,18 @@ module _ {S : Type 0} (m : Machine S) where
       )
 
 module _ {S : Type 0} (m : Machine S) (law : ForgetsLong m) where
-  reply-known : (s : S) (items line : List ℕ) → items ≡ take 8192 line → m.reply s items ≡ m.reply s line
-  reply-known s items line e = ap (m.reply s) e ∙ law.reply s line
+  reply-facts : (s : S) (items line : List ℕ) → items ≡ take 8192 line → m.reply s items ≡ m.reply s line
+  reply-facts s items line e = ap (m.reply s) e ∙ law.reply s line
 
-  last_reply-known : (s : S) (items line : List ℕ) → items ≡ take 8192 line → last_reply m s items ≡ last_reply m s line
-  last_reply-known s items [] e = ap (last_reply m s) e
-  last_reply-known s items (b ∷ line) e = ap (last_reply m s) e ∙ law.reply s (b ∷ line)
+  last_reply-facts : (s : S) (items line : List ℕ) → items ≡ take 8192 line → last_reply m s items ≡ last_reply m s line
+  last_reply-facts s items [] e = ap (last_reply m s) e
+  last_reply-facts s items (b ∷ line) e = ap (last_reply m s) e ∙ law.reply s (b ∷ line)
 
   kept-read : (start : S) (r₀ r r' : Option (List ℕ)) (w₀ w : Output) (s : S) (line : List ℕ) (count : ℕ) → Keeps r r'
       → Run m start r₀ r w₀ w s line count → Run m start r₀ r' w₀ w s line count
   kept-read start r₀ r r' w₀ w s line count kept run = record {
     y = run.y;
-    told = run.told;
+    known = run.known;
     read = Consumes-kept r₀ r r' run.y run.read kept;
     wrote = run.wrote;
     flushed = run.flushed;
@@ -483,9 +486,9 @@ module _ {S : Type 0} (m : Machine S) (law : ForgetsLong m) where
       stops m start r₀ r' w₀ w s runs.line count (kept-read start r₀ r r' w₀ w s runs.line count kept runs.run) in
       (found.0, found.2)
 
-  last-known : (items line : List ℕ) → items ≡ take 8192 line → length (last_line items) ≡ length (last_line line)
-  last-known items [] e = ap (λ t. length (last_line t)) e
-  last-known items (b ∷ line) e = ap (λ t. length (last_line t)) e
+  last-facts : (items line : List ℕ) → items ≡ take 8192 line → length (last_line items) ≡ length (last_line line)
+  last-facts items [] e = ap (λ t. length (last_line t)) e
+  last-facts items (b ∷ line) e = ap (λ t. length (last_line t)) e
 
   pub run-ends : (start : S) (r₀ r r' : Option (List ℕ)) (w₀ w w' : Output) (s : S) (items : List ℕ) (count : ℕ)
       (now : Machine S) → now ≡ m → Runs m start r₀ r w₀ w s items count
@@ -495,12 +498,12 @@ module _ {S : Type 0} (m : Machine S) (law : ForgetsLong m) where
       ended m start r₀ r' w₀ w w' s runs.line count
       (kept-read start r₀ r r' w₀ w s runs.line count kept runs.run) at_end
       (subst (Appends w.contents w'.contents)
-      (ap (λ (k : Machine S). last_reply k s items) same ∙ last_reply-known s items runs.line runs.items-is) wrote)
-      (flushed ∙ ap (after_flushes w.flushes) (last-known items runs.line runs.items-is))
+      (ap (λ (k : Machine S). last_reply k s items) same ∙ last_reply-facts s items runs.line runs.items-is) wrote)
+      (flushed ∙ ap (after_flushes w.flushes) (last-facts items runs.line runs.items-is))
 
-  some-known : (items line : List ℕ) → items ≡ take 8192 line → 0 < length items → 0 < length line
-  some-known items [] e some = subst (λ t. 0 < length t) e some
-  some-known items (b ∷ line) e some = omega arith
+  some-facts : (items line : List ℕ) → items ≡ take 8192 line → 0 < length items → 0 < length line
+  some-facts items [] e some = subst (λ t. 0 < length t) e some
+  some-facts items (b ∷ line) e some = omega arith
 
   pub run-breaks_at_end : (start : S) (r₀ r r' : Option (List ℕ)) (w₀ w w' : Output) (s : S) (items : List ℕ)
       (count : ℕ) (now : Machine S) → now ≡ m → Runs m start r₀ r w₀ w s items count
@@ -509,9 +512,9 @@ module _ {S : Type 0} (m : Machine S) (law : ForgetsLong m) where
   run-breaks_at_end start r₀ r r' w₀ w w' s items count now same runs kept some wrote flushed =
       breaks_at_end m start r₀ r' w₀ w w' s runs.line count wrote.0
       (kept-read start r₀ r r' w₀ w s runs.line count kept runs.run)
-      (some-known items runs.line runs.items-is some) wrote.2
+      (some-facts items runs.line runs.items-is some) wrote.2
       (subst (IsFront wrote.0) (ap (λ (k : Machine S). k.reply s items) same
-      ∙ reply-known s items runs.line runs.items-is) (wrote.1, wrote.3))
+      ∙ reply-facts s items runs.line runs.items-is) (wrote.1, wrote.3))
       flushed
 
   pub run-goes_on : (start : S) (r₀ r r' : Option (List ℕ)) (w₀ w : Output) (s : S) (items kept : List ℕ) (count b : ℕ)
@@ -543,7 +546,7 @@ module _ {S : Type 0} (m : Machine S) (law : ForgetsLong m) where
             (subst (λ k. Consumes r r' (k ∷ [])) feed read)
             (subst (Appends w.contents w'.contents)
             (ap (λ (k : Machine S). k.reply s items) same
-            ∙ reply-known s items runs.line runs.items-is) wrote) flushed);
+            ∙ reply-facts s items runs.line runs.items-is) wrote) flushed);
       }
 
   pub run-quits : (start : S) (r₀ r r' : Option (List ℕ)) (w₀ w w' : Output) (s : S) (items : List ℕ) (count b : ℕ)
@@ -557,7 +560,7 @@ module _ {S : Type 0} (m : Machine S) (law : ForgetsLong m) where
       ∙ sym is_last ∙ done) runs.run
       (subst (λ k. Consumes r r' (k ∷ [])) feed read)
       (subst (Appends w.contents w'.contents)
-      (ap (λ (k : Machine S). k.reply s items) same ∙ reply-known s items runs.line runs.items-is) wrote) flushed
+      (ap (λ (k : Machine S). k.reply s items) same ∙ reply-facts s items runs.line runs.items-is) wrote) flushed
 
   pub run-breaks : (start : S) (r₀ r r' : Option (List ℕ)) (w₀ w w' : Output) (s : S) (items : List ℕ) (count b : ℕ)
       (now : Machine S) → now ≡ m → Runs m start r₀ r w₀ w s items count
@@ -567,4 +570,4 @@ module _ {S : Type 0} (m : Machine S) (law : ForgetsLong m) where
       breaks m start r₀ r r' w₀ w w' s runs.line count wrote.0 runs.run
       (subst (λ k. Consumes r r' (k ∷ [])) feed read) wrote.2
       (subst (IsFront wrote.0) (ap (λ (k : Machine S). k.reply s items) same
-      ∙ reply-known s items runs.line runs.items-is) (wrote.1, wrote.3)) flushed
+      ∙ reply-facts s items runs.line runs.items-is) (wrote.1, wrote.3)) flushed

@@ -1,7 +1,7 @@
 use Rattle.std.proofs.Common.{arith}
 use Rattle.atomic_file.specs.Runs.{IsTry, refused}
 use Rattle.atomic_file.proofs.Logs.{adds_both, some_holds, none_holds}
-use Rattle.atomic_file.proofs.Tries.{later_made, tells_all, is_begun, throughout_begun, after_tries, throughout_tries}
+use Rattle.atomic_file.proofs.Tries.{later_made, knows_all, is_begun, throughout_begun, after_tries, throughout_tries}
 use Rattle.atomic_file.proofs.beginning.begin.Goals as goal
 
 pub returns-in-Ok-Some-clause-any_moment : goal.returns-in-Ok-Some-clause-any_moment
@@ -36,7 +36,7 @@ loop-name-preserved g c = record {
   spent = omega arith;
   run = adds_both (IsTry c.args.names) _ _ _ c.loop-name.invariant.run (none_holds _ _ c.in-Ok-None.field-0-is
       c.in-Ok-None.ensures.none).0;
-  taken = tells_all c.args.names _ _ _ c.loop-name.name c.loop-name.invariant.run (none_holds _ _
+  taken = knows_all c.args.names _ _ _ c.loop-name.name c.loop-name.invariant.run (none_holds _ _
       c.in-Ok-None.field-0-is c.in-Ok-None.ensures.none).0
       (none_holds _ _ c.in-Ok-None.field-0-is c.in-Ok-None.ensures.none).1 c.loop-name.invariant.taken;
 }

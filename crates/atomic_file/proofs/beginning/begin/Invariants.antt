@@ -1,5 +1,5 @@
 use Rattle.std.proofs.Common.{ℕ, ◌≤◌, ◌<◌, ◌+◌, ◌*◌}
-use Rattle.atomic_file.specs.Log.{Create, Refused, Tells}
+use Rattle.atomic_file.specs.Log.{Create, Refused, Knows}
 use Rattle.atomic_file.specs.Runs.{Adds, IsTry}
 use Rattle.atomic_file.proofs.beginning.begin.Given as goal
 
@@ -10,5 +10,5 @@ invariant-loop-name g l = record {
   spent : g.D.Directory.room l.initial.directory + 3 * l.fn.names.first ≤ g.D.Directory.room l.directory + 3 * l.name;
   run : Adds (IsTry l.fn.names) (g.D.Directory.log l.initial.directory) (g.D.Directory.log l.directory);
   taken : (n : ℕ) → l.fn.names.first ≤ n → n < l.name
-      → Tells (Refused (Create n)) (g.D.Directory.log l.initial.directory) (g.D.Directory.log l.directory);
+      → Knows (Refused (Create n)) (g.D.Directory.log l.initial.directory) (g.D.Directory.log l.directory);
 }

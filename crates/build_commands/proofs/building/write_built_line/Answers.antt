@@ -1,5 +1,5 @@
 use Rattle.rom_fields.proofs.Joins.{chain, said_ok, said_front, said_rose, said_quiet}
-use Rattle.build_commands.specs.Told.{built_line}
+use Rattle.build_commands.specs.Printed.{built_line}
 use Rattle.build_commands.proofs.building.write_built_line.Goals as goal
 
 pub returns-then-failed-clause-text : goal.returns-then-failed-clause-text

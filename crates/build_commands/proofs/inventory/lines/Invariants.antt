@@ -1,5 +1,5 @@
 use Rattle.std.proofs.Common.{◌≡◌, ℕ, map, take}
-use Rattle.manifest_text.specs.Views.{line_of}
+use Rattle.manifest.specs.Entries.{line_of}
 use Rattle.build_commands.specs.Inventory.{first_of, lines_found}
 use Rattle.build_commands.specs.Noted.{noted}
 use Rattle.build_commands.proofs.inventory.lines.Given as goal

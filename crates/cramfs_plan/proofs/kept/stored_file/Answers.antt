@@ -1,5 +1,5 @@
 use Rattle.std.proofs.Common.{sym, ap, subst, ◌∙◌, arith}
-use Rattle.manifest_rows.specs.Rows.{inode_view}
+use Rattle.plan_rows.specs.Rows.{inode_view}
 use Rattle.cramfs_plan.specs.Entries.{kept_view, tables_after, Knows}
 use Rattle.cramfs_plan.proofs.Placing.{tables_are}
 use Rattle.cramfs_plan.proofs.kept.stored_file.Goals as goal

@@ -2,13 +2,13 @@ use Rattle.std.proofs.Common.{◌≡◌, ◌||◌, ℕ, map, length, replicate, 
 use Rattle.std.specs.List.{AllByRecursion as Every, list_any}
 use Rattle.std.proofs.lemmas.List.{length-map}
 use Rattle.manifest_layout.specs.Format.{cramfs}
-use Rattle.manifest_rows.specs.Fits.{IsFit}
-use Rattle.manifest_rows.specs.Rows.{deepest, row_view, inode_view}
+use Rattle.plan_rows.specs.Fits.{IsFit}
+use Rattle.plan_rows.specs.Rows.{deepest, row_view, inode_view}
 use Rattle.cramfs_layout.specs.Layout.{size_of}
 use Rattle.cramfs_layout.specs.Items.{items_of}
 use Rattle.cramfs_plan.specs.Wholes.{is_long_list, has_long_list}
 use Rattle.cramfs_plan.proofs.Ordered.{items_rise}
-use Rattle.cramfs_plan.proofs.Whole.{too_many, too_deep, too_long, long_lists, not_large, any_long, told, own_counted}
+use Rattle.cramfs_plan.proofs.Whole.{too_many, too_deep, too_long, long_lists, not_large, any_long, known, own_counted}
 use Rattle.cramfs_plan.proofs.Whole.{all_rows, all_narrow, all_small, all_are, size_is, found_is}
 use Rattle.cramfs_plan.proofs.laying.lay_out.Goals as goal
 use Rattle.cramfs_plan.proofs.laying.lay_out.Goals.{then-rows-ge-MOST_ITEMS-via-then-rows-ge-MOST_ITEMS}
@@ -41,7 +41,7 @@ pub returns-then-has_long_list-clause-whole : goal.returns-then-has_long_list-cl
 returns-then-has_long_list-clause-whole c = λ n e.
     let k = c.if-deepest-gt-MOST_NAMES.false in
     let g = c.deepest.ensures in
-    let t = told c.args.order (map row_view c.args.rows.now) n e (omega (arith, k, g)) in
+    let t = known c.args.order (map row_view c.args.rows.now) n e (omega (arith, k, g)) in
     let root = c.in_ok-lens.ensures.root ∙ t.root in
     let own = c.in_ok-lens.ensures.own ∙ t.own in
     long_lists c.args.order (inode_view c.args.root.now) n
@@ -66,7 +66,7 @@ returns-then-image_len-gt-MOST_BYTES-clause-whole c = λ n e.
     let rs = map row_view c.args.rows.now in
     let k = c.if-deepest-gt-MOST_NAMES.false in
     let g = c.deepest.ensures in
-    let t = told c.args.order rs n e (omega (arith, k, g)) in
+    let t = known c.args.order rs n e (omega (arith, k, g)) in
     let root = c.in_ok-lens.ensures.root ∙ t.root in
     let own = c.deref.ensures.value ∙ c.in_ok-lens.ensures.own ∙ t.own in
     let size : c.pad-image_len.result ≡ size_of n =
@@ -80,7 +80,7 @@ returns-clause-whole c = λ n e.
     let rs = map row_view c.args.rows.now in
     let k = c.if-deepest-gt-MOST_NAMES.false in
     let g = c.deepest.ensures in
-    let t = told c.args.order rs n e (omega (arith, k, g)) in
+    let t = known c.args.order rs n e (omega (arith, k, g)) in
     let root = c.in_ok-lens.ensures.root ∙ t.root in
     let lens = c.in_ok-lens.ensures.own ∙ t.own in
     let own = c.deref.ensures.value ∙ lens in
@@ -107,7 +107,7 @@ returns-clause-items c = λ n volume contents e p.
     let i = inode_view c.args.root.now in
     let k = c.if-deepest-gt-MOST_NAMES.false in
     let g = c.deepest.ensures in
-    let t = told c.args.order rs n e (omega (arith, k, g)) in
+    let t = known c.args.order rs n e (omega (arith, k, g)) in
     let root = c.in_ok-lens.ensures.root ∙ t.root in
     let own = c.deref.ensures.value ∙ c.in_ok-lens.ensures.own ∙ t.own in
     let found = found_is c.args.order rs n c.in_ok-lens.lens.root c.deref.result.now _ t root own

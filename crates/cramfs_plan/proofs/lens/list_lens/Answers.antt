@@ -3,7 +3,7 @@ use Rattle.std.proofs.Common.{◌∙◌, arith}
 use Rattle.std.specs.Prelude.{reverse, slice_index, slice_set}
 use Rattle.std.proofs.Math.Seq.{drop-cons}
 use Rattle.std.proofs.lemmas.List.{reverse-append, length-set}
-use Rattle.manifest_rows.specs.Rows.{row_view}
+use Rattle.plan_rows.specs.Rows.{row_view}
 use Rattle.cramfs_plan.specs.Passes.{lens_of, lens_with, own_lens}
 use Rattle.cramfs_plan.proofs.Placing.{no_row}
 use Rattle.cramfs_plan.proofs.Measuring.{longer_fits}

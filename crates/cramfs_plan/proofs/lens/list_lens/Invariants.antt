@@ -1,6 +1,6 @@
 use Rattle.std.proofs.Common.{◌≡◌, ℕ, length, drop, map, replicate}
 use Rattle.std.specs.Prelude.{reverse}
-use Rattle.manifest_rows.specs.Rows.{row_view}
+use Rattle.plan_rows.specs.Rows.{row_view}
 use Rattle.cramfs_plan.specs.Passes.{lens_of, own_lens}
 use Rattle.cramfs_plan.proofs.lens.list_lens.Given as goal
 

@@ -1,5 +1,5 @@
 use Rattle.std.proofs.Common.{◌≡◌, ℕ, ◌+◌, ◌*◌, ◌^◌, get_or, sym, subst, ◌∙◌, arith}
-use Rattle.manifest_rows.specs.Rows.{row_view}
+use Rattle.plan_rows.specs.Rows.{row_view}
 use Rattle.cramfs_plan.specs.Entries.{entry_view}
 use Rattle.cramfs_plan.specs.Passes.{step}
 use Rattle.cramfs_plan.specs.Placers.{IsNear}

@@ -1,5 +1,5 @@
 use Rattle.std.proofs.Common.{◌≡◌, ◌+◌, ◌*◌, ◌^◌, ◌++◌, drop, map}
-use Rattle.manifest_rows.specs.Rows.{row_view}
+use Rattle.plan_rows.specs.Rows.{row_view}
 use Rattle.cramfs_plan.specs.Entries.{entry_view}
 use Rattle.cramfs_plan.specs.Passes.{Walk, first_walk, walked, after_rows}
 use Rattle.cramfs_plan.specs.Placers.{StandsAt, IsNear}

@@ -18,46 +18,46 @@ use Rattle.cramfs_write.proofs.writing.stream_through.Goals as goal
 pub stream_through-requires-clause-laid : goal.stream_through-requires-clause-laid
 stream_through-requires-clause-laid g c =
     let f = c.new-form.result in
-    laid_out f.order f.plan.now (subst IsCramfsPlan (sym c.new-form.ensures.plan) c.known.ensures.plan)
+    laid_out f.order f.plan.now (subst IsCramfsPlan (sym c.new-form.ensures.plan) c.facts.ensures.plan)
 
 pub returns-clause-whole : goal.returns-clause-whole
 returns-clause-whole g c = λ o m sizes hm is.
     let e = sym c.new-form.ensures.plan in
     let p = c.new-form.result.plan.now in
-    let known = subst IsCramfsPlan e c.known.ensures.plan in
+    let facts = subst IsCramfsPlan e c.facts.ensures.plan in
     let same = c.new-form.ensures.order ∙ one_order (sym c.order_of-order.ensures ∙ is.format) in
     let is' = subst (IsPlanOf (cramfs o) m sizes) e is in
     let n = c.requires.files ∙ ap (λ (p : Planned). length p.sizes) e in
     let old = (g.W.ByteWrite.output c.args.w.now).contents in
     let new = (g.W.ByteWrite.output c.stream_through.new.w).contents in
-    ok_both c.stream_through.result (λ sized whole cs told.
-    let r = sized_means c.fitting_is_planned.ensures o p m sizes cs hm known is' (c.count.ensures.told cs told ∙ n)
-    (sized cs told) in (
+    ok_both c.stream_through.result (λ sized whole cs known.
+    let r = sized_means c.fitting_is_planned.ensures o p m sizes cs hm facts is' (c.count.ensures.known cs known ∙ n)
+    (sized cs known) in (
       r.0,
       subst (Appends old new) (ap (λ (q : Order). image_of (form_of q p) crc_of cs) same ∙ r.1)
-          (whole cs told),
+          (whole cs known),
     )) c.stream_through.ensures.sized c.stream_through.ensures.whole
 
 pub returns-clause-front : goal.returns-clause-front
 returns-clause-front g c = λ o m sizes hm is.
     let e = sym c.new-form.ensures.plan in
     let p = c.new-form.result.plan.now in
-    let known = subst IsCramfsPlan e c.known.ensures.plan in
+    let facts = subst IsCramfsPlan e c.facts.ensures.plan in
     let same = c.new-form.ensures.order ∙ one_order (sym c.order_of-order.ensures ∙ is.format) in
     let is' = subst (IsPlanOf (cramfs o) m sizes) e is in
     let old = (g.W.ByteWrite.output c.args.w.now).contents in
     let new = (g.W.ByteWrite.output c.stream_through.new.w).contents in
-    err_weaker c.stream_through.result (λ h cs told s.
-    let r = means c.fitting_is_planned.ensures o p m cs hm known
+    err_weaker c.stream_through.result (λ h cs known s.
+    let r = means c.fitting_is_planned.ensures o p m cs hm facts
     (subst (λ (xs : List ℕ). IsPlanOf (cramfs o) m xs p) (sym s) is') in
     subst (AppendsPrefix old new) (ap (λ (q : Order). image_of (form_of q p) crc_of cs) same ∙ r)
-    (h cs told)) c.stream_through.ensures.front
+    (h cs known)) c.stream_through.ensures.front
 
 pub returns-clause-fault : goal.returns-clause-fault
 returns-clause-fault g c = λ o is.
     let e = c.new-form.ensures in
     let same = one_order (sym c.order_of-order.ensures ∙ is) in
-    subst (λ (f : Form). IfErr c.stream_through.result (IsStreamFault (g.S.Sources.told c.args.sources.now) f crc_of
+    subst (λ (f : Form). IfErr c.stream_through.result (IsStreamFault (g.S.Sources.known c.args.sources.now) f crc_of
     (g.S.Sources.reads c.args.sources.now) (g.S.Sources.reads c.stream_through.new.sources)
     (g.W.ByteWrite.output c.args.w.now) (g.W.ByteWrite.output c.stream_through.new.w)))
     (one_form (e.order ∙ same) e.plan) c.stream_through.ensures.fault
@@ -67,7 +67,7 @@ returns-clause-some g c = λ o is.
     let e = c.new-form.ensures in
     let same = one_order (sym c.order_of-order.ensures ∙ is) in
     subst (λ (f : Form). OnOk c.stream_through.result
-    (IsStreamed (g.S.Sources.told c.args.sources.now) (g.S.Sources.IsLog c.args.sources.now)
+    (IsStreamed (g.S.Sources.known c.args.sources.now) (g.S.Sources.IsLog c.args.sources.now)
     (g.S.Sources.IsLog c.stream_through.new.sources) f crc_of
     (g.W.ByteWrite.output c.args.w.now).contents (g.W.ByteWrite.output c.stream_through.new.w).contents))
     (one_form (e.order ∙ same) e.plan) c.stream_through.ensures.some

@@ -13,11 +13,11 @@ returns-clause-ok c =
     let m = c.in_ok-manifest.manifest in
     let cs = c.args.contents.now in
     let bytes = c.fill.new.out in
-    let told = c.in_ok-manifest.ensures in
-    let given : IsGiven c.args.manifest.now cs m = record { manifest = told; count = search rules } in
+    let known = c.in_ok-manifest.ensures in
+    let given : IsGiven c.args.manifest.now cs m = record { manifest = known; count = search rules } in
     let plan = subst (λ (s : List ℕ). IsPlanOf f m s c.in_ok-plan.plan)
     (c.deref.ensures.value ∙ c.in_ok-sizes.ensures) c.in_ok-plan.ensures.ok in
-    let laid = c.fill.ensures m (c.args.manifest.now, told)
+    let laid = c.fill.ensures m (c.args.manifest.now, known)
     (subst (λ g. IsPlanOf g m (map length cs) c.in_ok-plan.plan) (sym plan.format) plan) in
     let ok = c.in_ok-image.image.ok in
     let lent = c.deref_mut.ensures.len in
@@ -27,5 +27,5 @@ returns-clause-ok c =
       given,
       plan.fits,
       image_of f m cs _ (whole ∙ (laid ∙ ap (λ g. layout_of g m cs) plan.format))
-          (c.layout_is_meant.ensures.tree f m cs (c.args.manifest.now, told) plan.fits),
+          (c.layout_is_meant.ensures.tree f m cs (c.args.manifest.now, known) plan.fits),
     )

@@ -1,7 +1,7 @@
 use Rattle.image_build.proofs.streaming.stream.Goals as goal
 
-pub returns-clause-told : goal.returns-clause-told
-returns-clause-told g c = c.stream_through.ensures.told
+pub returns-clause-known : goal.returns-clause-known
+returns-clause-known g c = c.stream_through.ensures.known
 
 pub returns-clause-files : goal.returns-clause-files
 returns-clause-files g c = c.stream_through.ensures.files

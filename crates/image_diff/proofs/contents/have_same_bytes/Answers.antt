@@ -4,7 +4,7 @@ use Rattle.rom_tree.specs.Tree.{places_of}
 use Rattle.rom_tree.specs.Image.{Image, IsRun, contents_of}
 use Rattle.rom_tree.proofs.Named.{node_by}
 use Rattle.image_diff.proofs.Compared.{part_fits, part_is, part_differs, part_same, all_same}
-use Rattle.image_diff.proofs.Told.{size_of}
+use Rattle.image_diff.proofs.Printed.{size_of}
 use Rattle.image_diff.proofs.contents.have_same_bytes.Goals as goal
 
 pub is_same_part-requires : goal.is_same_part-requires

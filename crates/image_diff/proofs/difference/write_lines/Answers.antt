@@ -6,7 +6,7 @@ use Rattle.rom_fields.specs.Written.{AppendsPrefix}
 use Rattle.rom_fields.proofs.Joins.{said_ok, said_quiet, said_front, said_rose, front_first}
 use Rattle.rom_tree.specs.Image.{Image}
 use Rattle.image_diff.specs.declared.rows.Row.{Row}
-use Rattle.image_diff.specs.Diff.{names_lines, is_told}
+use Rattle.image_diff.specs.Diff.{names_lines, is_printed}
 use Rattle.image_diff.proofs.Reached.{reached_more, reached_all, known_left, rows_left}
 use Rattle.image_diff.proofs.difference.write_lines.Goals as goal
 
@@ -17,7 +17,7 @@ returns-then-are_over g c = λ ps qs d e.
     let h = c.loop-failed.invariant.reached ps qs d e in
     let all : h.done ≡ names_lines c.args.places m.bytes n.bytes ps qs =
     reached_all _ _ c.args.places m.bytes n.bytes m n c.args.xs.now c.args.ys.now ps qs c.loop-failed.i c.loop-failed.j
-    c.loop-failed.told d e c.if-are_over.ensures.over h in
+    c.loop-failed.printed d e c.if-are_over.ensures.over h in
     let P : List ℕ → Type 0 = λ v. Appends (g.W.ByteWrite.output c.args.w.now).contents
     (g.W.ByteWrite.output c.loop-failed.w).contents v in (
       subst P all (said_ok (g.W.ByteWrite.output c.args.w.now) (g.W.ByteWrite.output c.loop-failed.w)
@@ -25,7 +25,7 @@ returns-then-are_over g c = λ ps qs d e.
           h.done c.loop-failed-test.true h.puts),
       said_quiet (g.W.ByteWrite.output c.args.w.now) (g.W.ByteWrite.output c.loop-failed.w) c.loop-failed.failed
           h.done c.loop-failed-test.true h.puts,
-      h.told_is ∙ ap is_told all,
+      h.printed_is ∙ ap is_printed all,
     )
 
 pub put_step-step-requires : goal.put_step-step-requires
@@ -54,9 +54,9 @@ loop-failed-preserved g c =
       within_old = omega (arith, k, i.within_old, c.put_step-step.ensures.within_old);
       within_new = omega (arith, l, i.within_new, c.put_step-step.ensures.within_new);
       reached = λ ps qs d e. reached_more _ _ _ c.args.places m.bytes n.bytes ps qs c.loop-failed.i c.loop-failed.j
-          c.loop-failed.told c.either-told.result c.put_step-step.result (i.reached ps qs d e)
+          c.loop-failed.printed c.either-printed.result c.put_step-step.result (i.reached ps qs d e)
           (c.put_step-step.ensures.puts _ _ (rows_left m xs ps c.loop-failed.i d) (rows_left n ys qs c.loop-failed.j e))
-          c.either-told.ensures;
+          c.either-printed.ensures;
     }
 
 pub returns : goal.returns

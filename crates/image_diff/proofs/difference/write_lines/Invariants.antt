@@ -13,7 +13,7 @@ invariant-loop-failed g l = record {
   within_new : l.j ≤ length l.ys;
   reached : (ps qs : List Name) → AreRows (g.T.Viewed.image l.old) l.xs ps → AreRows (g.T.Viewed.image l.new) l.ys qs
       → IsReached (sink (g.W.ByteWrite.output l.fn.w) false) (sink (g.W.ByteWrite.output l.w) l.failed) l.places
-      (Image.bytes (g.T.Viewed.image l.old)) (Image.bytes (g.T.Viewed.image l.new)) ps qs l.i l.j l.told;
+      (Image.bytes (g.T.Viewed.image l.old)) (Image.bytes (g.T.Viewed.image l.new)) ps qs l.i l.j l.printed;
 }
 
 abbrev pub decreases-loop-failed : goal.decreases-loop-failed

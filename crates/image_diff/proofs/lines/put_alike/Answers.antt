@@ -1,4 +1,4 @@
-use Rattle.image_diff.proofs.Told.{alike_put, alike_told}
+use Rattle.image_diff.proofs.Printed.{alike_put, alike_printed}
 use Rattle.image_diff.proofs.lines.put_alike.Goals as goal
 
 pub returns-clause-puts : goal.returns-clause-puts
@@ -8,9 +8,9 @@ returns-clause-puts g c = λ p q d e.
     c.put_changed-changed.ensures.puts (c.put_compared-rewritten.ensures.puts p q d e)
     (c.put_places-moved.ensures.puts p q d e)
 
-pub returns-clause-told : goal.returns-clause-told
-returns-clause-told g c = λ p q d e.
-    alike_told c.args.places (g.T.Viewed.image c.args.old.now).bytes (g.T.Viewed.image c.args.new.now).bytes
+pub returns-clause-printed : goal.returns-clause-printed
+returns-clause-printed g c = λ p q d e.
+    alike_printed c.args.places (g.T.Viewed.image c.args.old.now).bytes (g.T.Viewed.image c.args.new.now).bytes
     c.args.path.now p q _ _ (c.stat.ensures p d) (c.stat-2.ensures q e) _ _ _ _ c.any.ensures
-    c.put_changed-changed.ensures.told (c.put_compared-rewritten.ensures.told p q d e)
-    (c.put_places-moved.ensures.told p q d e)
+    c.put_changed-changed.ensures.printed (c.put_compared-rewritten.ensures.printed p q d e)
+    (c.put_places-moved.ensures.printed p q d e)

@@ -1,14 +1,15 @@
-use Rattle.image_diff.proofs.Told.{puts_none, told_none, told_some, contents_same, contents_differ, contents_put}
-use Rattle.image_diff.proofs.Told.{size_of}
+use Rattle.image_diff.proofs.Printed.{puts_none, printed_none, printed_some, contents_same, contents_differ}
+use Rattle.image_diff.proofs.Printed.{contents_put}
+use Rattle.image_diff.proofs.Printed.{size_of}
 use Rattle.image_diff.proofs.lines.put_compared.Goals as goal
 
 pub returns-then-have_same_bytes-clause-puts : goal.returns-then-have_same_bytes-clause-puts
 returns-then-have_same_bytes-clause-puts g c = λ p q d e.
     puts_none _ _ (contents_same c.args.path.now _ _ (c.if-have_same_bytes.ensures p q d e))
 
-pub returns-then-have_same_bytes-clause-told : goal.returns-then-have_same_bytes-clause-told
-returns-then-have_same_bytes-clause-told g c = λ p q d e.
-    told_none _ (contents_same c.args.path.now _ _ (c.if-have_same_bytes.ensures p q d e))
+pub returns-then-have_same_bytes-clause-printed : goal.returns-then-have_same_bytes-clause-printed
+returns-then-have_same_bytes-clause-printed g c = λ p q d e.
+    printed_none _ (contents_same c.args.path.now _ _ (c.if-have_same_bytes.ensures p q d e))
 
 pub returns-clause-puts : goal.returns-clause-puts
 returns-clause-puts g c = λ p q d e. contents_put _ _ c.args.path.now _ _ _ _
@@ -16,6 +17,6 @@ returns-clause-puts g c = λ p q d e. contents_put _ _ c.args.path.now _ _ _ _
     (size_of q (g.T.Viewed.image c.args.new.now).bytes _ (c.stat-2.ensures q e))
     (c.if-have_same_bytes.ensures p q d e) c.put_contents.ensures
 
-pub returns-clause-told : goal.returns-clause-told
-returns-clause-told g c = λ p q d e.
-    told_some _ _ _ (contents_differ c.args.path.now _ _ (c.if-have_same_bytes.ensures p q d e))
+pub returns-clause-printed : goal.returns-clause-printed
+returns-clause-printed g c = λ p q d e.
+    printed_some _ _ _ (contents_differ c.args.path.now _ _ (c.if-have_same_bytes.ensures p q d e))

@@ -1,16 +1,16 @@
 use Rattle.std.proofs.Common.{ℕ, subst}
 use Rattle.rom_fields.specs.Written.{Puts, sink}
 use Rattle.rom_fields.proofs.Joins.{chain}
-use Rattle.image_map.specs.Map.{eight_digits}
-use Rattle.image_diff.proofs.Told.{puts_as, puts_none, told_none, told_some, moved_same, moved_differ}
+use Rattle.image_info.specs.Map.{eight_digits}
+use Rattle.image_diff.proofs.Printed.{puts_as, puts_none, printed_none, printed_some, moved_same, moved_differ}
 use Rattle.image_diff.proofs.lines.put_move.Goals as goal
 
 pub returns-then-old-new-clause-puts : goal.returns-then-old-new-clause-puts
 returns-then-old-new-clause-puts g c = puts_none _ _ (moved_same c.args.path.now c.args.old c.args.new
     c.if-old-new.true)
 
-pub returns-then-old-new-clause-told : goal.returns-then-old-new-clause-told
-returns-then-old-new-clause-told g c = told_none _ (moved_same c.args.path.now c.args.old c.args.new
+pub returns-then-old-new-clause-printed : goal.returns-then-old-new-clause-printed
+returns-then-old-new-clause-printed g c = printed_none _ (moved_same c.args.path.now c.args.old c.args.new
     c.if-old-new.true)
 
 pub returns-clause-puts : goal.returns-clause-puts
@@ -24,5 +24,5 @@ returns-clause-puts g c =
     (chain (subst P c.from.ensures c.put_eight_digits.ensures) (chain c.put-3.ensures
     (chain (subst Q c.from-2.ensures c.put_eight_digits-2.ensures) c.put-4.ensures))))))
 
-pub returns-clause-told : goal.returns-clause-told
-returns-clause-told g c = told_some _ _ _ (moved_differ c.args.path.now c.args.old c.args.new c.if-old-new.false)
+pub returns-clause-printed : goal.returns-clause-printed
+returns-clause-printed g c = printed_some _ _ _ (moved_differ c.args.path.now c.args.old c.args.new c.if-old-new.false)

@@ -15,7 +15,7 @@ returns-then-is_before-2-clause-puts g c = λ p q ps qs d x e y.
 
 pub returns-clause-puts : goal.returns-clause-puts
 returns-clause-puts g c = λ p q ps qs d x e y.
-    step_both _ _ c.args.places _ _ p q ps qs _ _ _ _ _ c.put_nodes-told.result (c.as_slice.ensures.value ∙ d)
+    step_both _ _ c.args.places _ _ p q ps qs _ _ _ _ _ c.put_nodes-printed.result (c.as_slice.ensures.value ∙ d)
     (c.as_slice-2.ensures.value ∙ e) (c.as_slice-3.ensures.value ∙ e) (c.as_slice-4.ensures.value ∙ d)
     (c.as_slice-5.ensures.value ∙ d) c.if-is_before.ensures c.if-is_before-2.ensures
-    (c.put_nodes-told.ensures.puts p.node q.node x y) (c.put_nodes-told.ensures.told p.node q.node x y)
+    (c.put_nodes-printed.ensures.puts p.node q.node x y) (c.put_nodes-printed.ensures.printed p.node q.node x y)

@@ -50,9 +50,9 @@ returns-in-len1-up-empty-clause-puts g c = λ ps qs d e.
     let s = sink (g.W.ByteWrite.output c.args.w.now) c.args.failed.now in
     let t = sink (g.W.ByteWrite.output c.put_removed.new.w) c.put_removed.new.failed in
     let P : List Name → Type 0 = λ v. StepPuts s t c.args.places m.bytes n.bytes v qs
-    (record { old = 1; new = 0; told = true }) in
+    (record { old = 1; new = 0; printed = true }) in
     let Q : List Name → Type 0 = λ v. StepPuts s t c.args.places m.bytes n.bytes (x.name ∷ x.rest) v
-    (record { old = 1; new = 0; told = true }) in
+    (record { old = 1; new = 0; printed = true }) in
     subst P (sym x.is) (subst Q (sym none) (step_old s t c.args.places m.bytes n.bytes x.name x.name x.rest x.rest _
     (c.as_slice-in-len1-up-empty.ensures.value ∙ x.path) c.put_removed.ensures))
 
@@ -67,8 +67,8 @@ returns-in-empty-len1-up-clause-puts g c = λ ps qs d e.
     let s = sink (g.W.ByteWrite.output c.args.w.now) c.args.failed.now in
     let t = sink (g.W.ByteWrite.output c.put_added.new.w) c.put_added.new.failed in
     let P : List Name → Type 0 = λ v. StepPuts s t c.args.places m.bytes n.bytes v qs
-    (record { old = 0; new = 1; told = true }) in
+    (record { old = 0; new = 1; printed = true }) in
     let Q : List Name → Type 0 = λ v. StepPuts s t c.args.places m.bytes n.bytes [] v
-    (record { old = 0; new = 1; told = true }) in
+    (record { old = 0; new = 1; printed = true }) in
     subst P (sym none) (subst Q (sym y.is) (step_new s t c.args.places m.bytes n.bytes y.name y.name y.rest y.rest _
     (c.as_slice.ensures.value ∙ y.path) c.put_added.ensures))

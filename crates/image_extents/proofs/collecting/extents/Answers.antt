@@ -2,13 +2,13 @@ use Rattle.std.proofs.Common.{◌∙◌, ℕ, List, sym, ap, subst, arith}
 use Rattle.rom_tree.specs.Tree.{ino_of}
 use Rattle.romfs_format.proofs.Trees.{made_ino}
 use Rattle.cramfs_format.specs.declared.order.Order.{Order}
-use Rattle.image_gaps.specs.Gaps.{IsChecked}
-use Rattle.image_gaps.specs.Held.{HoldsRomfs, HoldsCramfs}
+use Rattle.image_info.specs.Gaps.{IsChecked}
+use Rattle.image_info.specs.Held.{HoldsRomfs, HoldsCramfs}
 use Rattle.std.specs.Prelude.{IfOk}
 use Rattle.romfs_format.specs.Superblock.{accessible as romfs_accessible}
 use Rattle.image_check.specs.declared.any.AnyImage.{AnyImage}
 use Rattle.image_extents.specs.Sorted.{AreRomfs, AreOf}
-use Rattle.image_gaps.proofs.Given.{checked_romfs, checked_cramfs}
+use Rattle.image_info.proofs.Given.{checked_romfs, checked_cramfs}
 use Rattle.image_extents.proofs.collecting.extents.Goals as goal
 
 pub romfs_extents-requires : goal.romfs_extents-requires

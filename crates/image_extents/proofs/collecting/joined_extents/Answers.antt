@@ -3,7 +3,7 @@ use Rattle.cramfs_format.specs.Superblock.{accessible as cramfs_accessible}
 use Rattle.image_extents.proofs.CramfsApart.{cramfs_apart}
 use Rattle.image_extents.specs.Apart.{AreApart}
 use Rattle.image_extents.specs.Sorted.{AreBlocks}
-use Rattle.image_gaps.proofs.Given.{cramfs_size, cramfs_known}
+use Rattle.image_info.proofs.Given.{cramfs_size, cramfs_known}
 use Rattle.image_extents.proofs.collecting.joined_extents.Goals as goal
 
 pub slice_bounds-bytes-end : goal.slice_bounds-bytes-end

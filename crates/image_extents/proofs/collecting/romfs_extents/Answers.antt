@@ -1,7 +1,7 @@
 use Rattle.std.proofs.Common.{◌≢◌, ◌∙◌, ℕ, List, take, ap, subst, arith}
 use Rattle.romfs_format.specs.Superblock.{accessible}
 use Rattle.romfs_image.proofs.Reading.{root_above}
-use Rattle.image_gaps.proofs.Given.{romfs_known}
+use Rattle.image_info.proofs.Given.{romfs_known}
 use Rattle.image_extents.specs.declared.extent.Extent.{Extent}
 use Rattle.image_extents.specs.Listed.{romfs_listed}
 use Rattle.image_extents.specs.Found.{romfs_all_found}

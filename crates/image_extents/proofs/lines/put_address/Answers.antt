@@ -1,7 +1,7 @@
 use Rattle.std.proofs.Common.{List, ℕ, sym, subst}
 use Rattle.rom_fields.specs.Written.{Puts, sink}
 use Rattle.rom_fields.proofs.Joins.{chain}
-use Rattle.image_map.proofs.Lines.{address_low, address_high}
+use Rattle.image_info.proofs.Lines.{address_low, address_high}
 use Rattle.image_extents.proofs.lines.put_address.Goals as goal
 
 pub returns-then-address-lt4294967296 : goal.returns-then-address-lt4294967296

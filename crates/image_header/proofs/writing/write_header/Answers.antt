@@ -9,7 +9,7 @@ use Rattle.rom_tree.specs.Names.{Name}
 use Rattle.rom_tree.specs.Walks.{to_come}
 use Rattle.rom_tree.proofs.Named.{has_node}
 use Rattle.rom_tree.proofs.Listed.{fewer}
-use Rattle.image_map.proofs.Walked.{last_texts, more_texts}
+use Rattle.image_info.proofs.Walked.{last_texts, more_texts}
 use Rattle.image_header.specs.Header.{head_text, name_macros, node_macros}
 use Rattle.image_header.proofs.Headers.{end_err, end_ok, end_rose, header_front, header_is, most_text, tail}
 use Rattle.image_header.proofs.writing.write_header.Goals as goal

@@ -5,8 +5,8 @@ use Rattle.rom_tree.specs.Image.{Image, stat_of}
 use Rattle.rom_tree.specs.Names.{names}
 use Rattle.rom_tree.specs.Walks.{to_come}
 use Rattle.image_info.specs.Tallies.{is_among}
-use Rattle.image_info.proofs.Counting.{HoldsNumbers, holds_none, holds_more, started, fewer_than, has_room, counts_more}
-use Rattle.image_info.proofs.Counting.{all_counted}
+use Rattle.image_info.proofs.Counted.{HoldsNumbers, holds_none, holds_more, started, fewer_than, has_room, counts_more}
+use Rattle.image_info.proofs.Counted.{all_counted}
 use Rattle.image_info.proofs.tally.count_names.Goals as goal
 
 pub loop-node-init : goal.loop-node-init
@@ -53,7 +53,7 @@ loop-node-preserved g c =
       counts =
           counts_more i.counts n.name (to_come m c.next.new.self) n.first c.stat-stat.result c.in_ok-fresh.fresh
           c.counted-tally.result e (omega (arith, s)) fresh
-          k.files k.folders k.links k.others k.contents;
+          k.files k.directories k.links k.others k.contents;
     }
 
 pub returns : goal.returns

@@ -1,7 +1,7 @@
 use Rattle.std.proofs.Common.{List, ℕ, length}
 use Rattle.rom_tree.specs.Names.{names}
 use Rattle.rom_tree.specs.Walks.{IsWalk, to_come}
-use Rattle.image_info.proofs.Counting.{HoldsNumbers, Counts}
+use Rattle.image_info.proofs.Counted.{HoldsNumbers, Counts}
 use Rattle.image_info.proofs.tally.count_names.Given as goal
 
 -- the names that were met are counted, and those to come are not

@@ -1,6 +1,6 @@
-use Rattle.manifest_text.specs.Printed.{first_number}
+use Rattle.manifest.specs.Printed.{first_number}
 use Rattle.image_manifest.proofs.Taken.{are_taken}
 use Rattle.image_manifest.proofs.laws.lines_are_taken.Goals as goal
 
 pub returns : goal.returns
-returns c = λ m volume folder h f. are_taken m folder (first_number volume) h f
+returns c = λ m volume prefix h f. are_taken m prefix (first_number volume) h f

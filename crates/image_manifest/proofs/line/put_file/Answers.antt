@@ -8,7 +8,7 @@ pub returns : goal.returns
 returns g c =
     let P : List ℕ → Type 0 = λ v. Puts (sink (g.W.ByteWrite.output c.args.w.now) c.args.failed.now)
     (sink (g.W.ByteWrite.output c.put-6.new.w) c.put-6.new.failed) v in
-    subst P (sym (file_text c.args.path.now c.args.folder.now c.args.stat c.requires))
+    subst P (sym (file_text c.args.path.now c.args.prefix.now c.args.stat c.requires))
     (chain c.put.ensures (chain c.put_escaped.ensures
     (chain c.put-2.ensures (chain c.put_octal.ensures (chain c.put-3.ensures
     (chain c.put_decimal.ensures (chain c.put-4.ensures (chain c.put_decimal-2.ensures (chain c.put-5.ensures

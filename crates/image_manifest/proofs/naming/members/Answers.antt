@@ -10,10 +10,10 @@ use Rattle.image_manifest.specs.declared.naming.Member.{Member}
 use Rattle.image_manifest.specs.declared.naming.Open.{Open}
 use Rattle.image_manifest.specs.Composed.{path_by, way_with, ways_of}
 use Rattle.image_manifest.specs.Firsts.{noted}
-use Rattle.image_manifest.specs.Members.{all_behind, is_long, members_of, told_of}
+use Rattle.image_manifest.specs.Members.{all_behind, is_long, members_of, known_of}
 use Rattle.image_manifest.specs.Open.{AreOpen, AreToCome, parent_in}
 use Rattle.image_manifest.proofs.Behind.{as_many, first_as, firsts_more, none_left, none_long, one_more, pushed}
-use Rattle.image_manifest.proofs.Behind.{told_as}
+use Rattle.image_manifest.proofs.Behind.{known_as}
 use Rattle.image_manifest.proofs.Entering.{IsEntered, entered, many_ways, names_stand, paths_pushed, ways_pushed}
 use Rattle.image_manifest.proofs.naming.members.Goals as goal
 use Rattle.image_manifest.proofs.naming.members.Goals.{then-is_empty, else-is_empty}
@@ -26,7 +26,7 @@ loop-node-init g c =
       walk = c.new-walk.ensures.walk m c.requires;
       done = [];
       rest = c.new-walk.ensures.all m;
-      found = ap (map told_of) c.new-found.ensures.items;
+      found = ap (map known_of) c.new-found.ensures.items;
       firsts = grind (arith, common_steps);
       short = refl;
       paths = ap (λ (v : List Member). map path_by (ways_of v)) c.new-found.ensures.items;
@@ -86,7 +86,7 @@ loop-node-preserved g c =
       done = i.done ++ n.name ∷ [];
       rest = one_more i.done (to_come m c.loop-node.walk) rest (names m.tree) n.name n.first i.rest;
       found = pushed items c.push-in-Some.new.self.items x i.done n.name c.in-Ok-push.ensures.items i.found
-          (told_as x i.done n.name is first);
+          (known_as x i.done n.name is first);
       firsts = λ number. firsts_more i.done n.name node c.len-index.result number (noted c.loop-node.firsts number)
           (noted c.note_first.new.firsts number)
           (c.in_ok-note_first.ensures.ok number) (i.firsts number) is
@@ -99,14 +99,14 @@ loop-node-preserved g c =
       below = e.below;
     }
 
-pub returns-clause-told : goal.returns-clause-told
+pub returns-clause-known : goal.returns-clause-known
 unfolding members_of
-returns-clause-told g c =
+returns-clause-known g c =
     let m : Image = g.T.Viewed.image c.args.image.now in
     let i = c.loop-node.invariant in
     let whole = none_left i.done (to_come m c.loop-node.walk) (names m.tree) c.in_default.ensures.given.before i.rest in
     record {
-      told = i.found ∙ ap (all_behind []) whole;
+      known = i.found ∙ ap (all_behind []) whole;
       paths = i.paths ∙ ap (λ (v : List Name). map (λ (n : Name). n.path) v) whole;
       short = ap (list_any is_long) (sym whole) ∙ i.short;
     }

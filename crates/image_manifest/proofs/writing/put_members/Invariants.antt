@@ -1,5 +1,5 @@
 use Rattle.std.proofs.Common.{take}
-use Rattle.manifest_text.specs.Printed.{lines_text}
+use Rattle.manifest.specs.Printed.{lines_text}
 use Rattle.rom_fields.specs.Written.{Puts, sink}
 use Rattle.image_manifest.specs.Lines.{member_lines}
 use Rattle.image_manifest.proofs.writing.put_members.Given as goal
@@ -8,4 +8,4 @@ use Rattle.image_manifest.proofs.writing.put_members.Given as goal
 abbrev pub invariant-loop-index : goal.invariant-loop-index
 invariant-loop-index g l =
     Puts (sink (g.W.ByteWrite.output l.fn.w) l.fn.failed) (sink (g.W.ByteWrite.output l.w) l.failed)
-    (lines_text (take l.index (member_lines (g.T.Viewed.image l.image) l.folder)))
+    (lines_text (take l.index (member_lines (g.T.Viewed.image l.image) l.prefix)))

@@ -9,7 +9,7 @@ loop-file-preserved g c =
     let inv = c.loop-file.invariant in
     record {
       room = c.measure.auto.buffer ∙ inv.room;
-      told = c.measure.ensures.told ∙ inv.told;
+      known = c.measure.ensures.known ∙ inv.known;
       files = c.measure.ensures.files ∙ inv.files;
       grew = grew_join (g.S.Sources.IsLog c.args.sources.now) (g.S.Sources.IsLog c.loop-file.sources)
           (g.S.Sources.IsLog c.measure.new.sources) inv.grew c.in-Ok.ensures.grew;
@@ -17,7 +17,7 @@ loop-file-preserved g c =
       sized = λ cs is.
           let here : length (content_of cs c.loop-file.file)
           ≡ get_or (g.L.Segmented.form c.args.layout.now).sizes c.loop-file.file 0 =
-          c.in-Ok.ensures.ok cs (inv.told ∙ is) ∙ c.size.ensures in
+          c.in-Ok.ensures.ok cs (inv.known ∙ is) ∙ c.size.ensures in
           sized_more (g.L.Segmented.form c.args.layout.now).sizes cs c.loop-file.file (inv.sized cs is) here;
     }
 

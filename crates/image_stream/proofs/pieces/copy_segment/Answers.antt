@@ -1,6 +1,6 @@
 use Rattle.std.proofs.Common.{◌≡◌, refl, length, drop, ◌∙◌, arith, length-drop, length-take, length-append}
 use Rattle.image_stream.specs.Segments.{segment_at, len}
-use Rattle.image_stream.proofs.Fronts.{front_none, front_written, front_broken, outline_len, piece_told}
+use Rattle.image_stream.proofs.Fronts.{front_none, front_written, front_broken, outline_len, piece_known}
 use Rattle.image_stream.specs.Steps.{IsFront, IsFrontRead}
 use Rattle.image_stream.proofs.Answering.{front_none_read, gone_none_read, gone_piece_read}
 use Rattle.image_stream.proofs.pieces.copy_segment.Goals as goal
@@ -8,17 +8,17 @@ use Rattle.image_stream.proofs.pieces.copy_segment.Goals as goal
 pub loop-from-init : goal.loop-from-init
 loop-from-init g c =
     let p = segment_at (g.L.Segmented.form c.args.layout.now).segments c.args.i in
-    let told = g.S.Sources.told c.args.sources.now in
+    let known = g.S.Sources.known c.args.sources.now in
     record {
       within = omega arith;
       words = λ _. refl;
       room = refl;
-      told = refl;
+      known = refl;
       files = refl;
       read = refl;
       wrote = refl;
-      gone = gone_none_read (IsFront told p 0) (λ answers zs. IsFrontRead p 0 answers zs) _ _
-          (g.S.Sources.IsLog c.args.sources.now) (front_none told p) (front_none_read p);
+      gone = gone_none_read (IsFront known p 0) (λ answers zs. IsFrontRead p 0 answers zs) _ _
+          (g.S.Sources.IsLog c.args.sources.now) (front_none known p) (front_none_read p);
     }
 
 pub returns-in-Err-clause-front : goal.returns-in-Err-clause-front
@@ -26,7 +26,7 @@ returns-in-Err-clause-front g c = λ cs is.
     let p = segment_at (g.L.Segmented.form c.args.layout.now).segments c.args.i in
     let inv = c.loop-from.invariant in
     let n : c.segment-segment.result.len ≡ len p = outline_len p c.segment-segment.result c.segment-segment.ensures in
-    front_written (g.S.Sources.told c.args.sources.now) p inv.gone.bytes c.loop-from.from cs _ _ is
+    front_written (g.S.Sources.known c.args.sources.now) p inv.gone.bytes c.loop-from.from cs _ _ is
     (omega arith) inv.gone.are.0 inv.gone.written
 
 pub returns-in-Err-emit-clause-front : goal.returns-in-Err-emit-clause-front
@@ -36,8 +36,8 @@ returns-in-Err-emit-clause-front g c = λ cs is.
     let n : c.segment-segment.result.len ≡ len p = outline_len p c.segment-segment.result c.segment-segment.ensures in
     let m : length c.piece.new.out ≡ c.min-n.result =
     c.piece.auto.out ∙ length-take c.min-n.result c.loop-from.buffer ∙ omega arith in
-    front_broken (g.S.Sources.told c.args.sources.now) p inv.gone.bytes c.piece.new.out c.loop-from.from cs _ _ _ is
-    (omega arith) inv.gone.are.0 (piece_told _ _ p _ _ inv.told c.in-Ok.ensures.ok) inv.gone.written
+    front_broken (g.S.Sources.known c.args.sources.now) p inv.gone.bytes c.piece.new.out c.loop-from.from cs _ _ _ is
+    (omega arith) inv.gone.are.0 (piece_known _ _ p _ _ inv.known c.in-Ok.ensures.ok) inv.gone.written
     c.in-Err-emit.ensures.text
 
 pub loop-from-preserved : goal.loop-from-preserved
@@ -51,11 +51,11 @@ loop-from-preserved g c =
       words = λ more. let here = inv.words c.loop-from-test.true in let whole = c.requires.words in omega arith;
       room = length-append c.piece.new.out (drop c.min-n.result c.loop-from.buffer)
           ∙ omega (arith, length-drop c.min-n.result c.loop-from.buffer);
-      told = c.piece.ensures.told ∙ inv.told;
+      known = c.piece.ensures.known ∙ inv.known;
       files = c.piece.ensures.files ∙ inv.files;
       read = c.in-Ok.ensures.quiet ∙ inv.read;
       wrote = c.in-Ok-emit.ensures.count ∙ inv.wrote;
-      gone = gone_piece_read (g.S.Sources.told c.args.sources.now)
-          (g.S.Sources.told c.loop-from.sources) p c.loop-from.from c.min-n.result _ _ _ _ _ _ _ _ _ c.piece.new.out
-          inv.told m inv.gone c.in-Ok.ensures.ok c.in-Ok.ensures.read c.in-Ok-emit.ensures.text c.emit.ensures.check;
+      gone = gone_piece_read (g.S.Sources.known c.args.sources.now)
+          (g.S.Sources.known c.loop-from.sources) p c.loop-from.from c.min-n.result _ _ _ _ _ _ _ _ _ c.piece.new.out
+          inv.known m inv.gone c.in-Ok.ensures.ok c.in-Ok.ensures.read c.in-Ok-emit.ensures.text c.emit.ensures.check;
     }

@@ -8,11 +8,11 @@ invariant-loop-from g l = record {
   within : l.from ≤ l.len;
   words : l.from < l.len → l.from % 4 ≡ 0;
   room : length l.buffer ≡ length l.initial.buffer;
-  told : g.S.Sources.told l.sources ≡ g.S.Sources.told l.initial.sources;
+  known : g.S.Sources.known l.sources ≡ g.S.Sources.known l.initial.sources;
   files : g.S.Sources.files l.sources ≡ g.S.Sources.files l.initial.sources;
   read : g.S.Sources.reads l.sources ≡ g.S.Sources.reads l.initial.sources;
   wrote : (g.W.ByteWrite.output l.w).failures ≡ (g.W.ByteWrite.output l.initial.w).failures;
-  gone : Gone (λ xs. IsFront (g.S.Sources.told l.initial.sources)
+  gone : Gone (λ xs. IsFront (g.S.Sources.known l.initial.sources)
       (segment_at (g.L.Segmented.form l.layout).segments l.i) l.from xs
       × Read (λ answers zs. IsFrontRead (segment_at (g.L.Segmented.form l.layout).segments l.i) l.from answers zs)
       (g.S.Sources.IsLog l.initial.sources) (g.S.Sources.IsLog l.sources) xs)

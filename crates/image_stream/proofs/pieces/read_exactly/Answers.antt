@@ -18,7 +18,7 @@ loop-done-preserved g c =
     record {
       within = rw room (omega (arith, len, c.in-Ok.ensures.bound.0));
       room = room ∙ inv.room;
-      told = c.read_at.ensures.told ∙ inv.told;
+      known = c.read_at.ensures.known ∙ inv.known;
       files = c.read_at.ensures.files ∙ inv.files;
       quiet = c.in-Ok.ensures.count ∙ inv.quiet;
       logged =
@@ -39,7 +39,7 @@ loop-done-preserved g c =
                 (g.S.Sources.IsLog c.read_at.new.self) r.answers one r.logged c.in-Ok.ensures.log;
           };
       read = λ cs is.
-          let next = (c.in-Ok.ensures.bytes cs (inv.told ∙ is)).0 in
+          let next = (c.in-Ok.ensures.bytes cs (inv.known ∙ is)).0 in
           fill_step b c.read_at.new.buf (drop c.args.at (content_of cs c.args.file)) d c.in-Ok.n inv.within
           (inv.read cs is)
           (next ∙ ap (take c.in-Ok.n) (sym (drop-drop d c.args.at (content_of cs c.args.file))));

@@ -10,25 +10,25 @@ pub loop-i-init : goal.loop-i-init
 loop-i-init g c =
     let L = g.L.Segmented in
     let parts = (L.form c.args.layout.now).segments in
-    let told = g.S.Sources.told c.args.sources.now in
+    let known = g.S.Sources.known c.args.sources.now in
     let D : ℕ → Type 0 =
-    λ v. IsDone told (L.form c.args.layout.now).start parts (L.form c.args.layout.now).end v parts [] in
+    λ v. IsDone known (L.form c.args.layout.now).start parts (L.form c.args.layout.now).end v parts [] in
     let E : ℕ → Type 0 =
     λ v. IsDoneRead (L.form c.args.layout.now).start parts (L.form c.args.layout.now).end v parts [] [] in
     let R : ℕ → Type 0 = λ v. SegmentsRise v parts (L.form c.args.layout.now).end in
     record {
       room = refl;
-      told = refl;
+      known = refl;
       files = refl;
       read = refl;
       wrote = refl;
       rises = subst R (sym c.head_len-at.ensures) c.requires.laid.rises;
-      gone = gone_none_read (IsDone told (L.form c.args.layout.now).start parts
+      gone = gone_none_read (IsDone known (L.form c.args.layout.now).start parts
           (L.form c.args.layout.now).end c.head_len-at.result parts)
           (λ answers zs. IsDoneRead (L.form c.args.layout.now).start parts
           (L.form c.args.layout.now).end c.head_len-at.result parts answers zs) _ _ _
           (subst D (sym c.head_len-at.ensures)
-          (done_none told (L.form c.args.layout.now).start parts (L.form c.args.layout.now).end))
+          (done_none known (L.form c.args.layout.now).start parts (L.form c.args.layout.now).end))
           (subst E (sym c.head_len-at.ensures)
           (done_none_read (L.form c.args.layout.now).start parts (L.form c.args.layout.now).end));
     }
@@ -45,10 +45,10 @@ pub returns-in-Err-clause-front : goal.returns-in-Err-clause-front
 returns-in-Err-clause-front g c = λ cs is.
     let L = g.L.Segmented in
     let inv = c.loop-i.invariant in
-    broken_next (g.S.Sources.told c.args.sources.now) (g.S.Sources.told c.loop-i.sources)
+    broken_next (g.S.Sources.known c.args.sources.now) (g.S.Sources.known c.loop-i.sources)
     (L.form c.args.layout.now).start (L.form c.args.layout.now).segments
     (L.form c.args.layout.now).end c.loop-i.at c.loop-i.i
-    _ _ _ inv.gone.bytes cs inv.told is (omega arith) inv.gone.are.0 inv.gone.written c.in-Err.ensures.front
+    _ _ _ inv.gone.bytes cs inv.known is (omega arith) inv.gone.are.0 inv.gone.written c.in-Err.ensures.front
 
 pub loop-i-preserved : goal.loop-i-preserved
 loop-i-preserved g c =
@@ -56,13 +56,13 @@ loop-i-preserved g c =
     let parts = (L.form c.args.layout.now).segments in
     let end = (L.form c.args.layout.now).end in
     let p = segment_at parts c.loop-i.i in
-    let told = g.S.Sources.told c.args.sources.now in
+    let known = g.S.Sources.known c.args.sources.now in
     let inv = c.loop-i.invariant in
     let small : c.loop-i.i < length parts = omega arith in
     let h = rises_here parts c.loop-i.i c.loop-i.at end small inv.rises in
     let R : ℕ → Type 0 = λ v. SegmentsRise v (drop (c.loop-i.i + 1) parts) end in
     let G : ℕ → Type 0 =
-    λ v. Gone (λ xs. IsDone told (L.form c.args.layout.now).start parts end v (drop (c.loop-i.i + 1) parts) xs
+    λ v. Gone (λ xs. IsDone known (L.form c.args.layout.now).start parts end v (drop (c.loop-i.i + 1) parts) xs
     × Read (λ answers zs. IsDoneRead (L.form c.args.layout.now).start parts end v
     (drop (c.loop-i.i + 1) parts) answers zs) (g.S.Sources.IsLog c.args.sources.now)
     (g.S.Sources.IsLog c.next_segment.new.sources) xs) (g.W.ByteWrite.output c.args.w.now).contents
@@ -70,14 +70,14 @@ loop-i-preserved g c =
     (g.C.Checksum.Is c.next_segment.new.check) in
     record {
       room = c.next_segment.auto.buffer ∙ inv.room;
-      told = c.next_segment.ensures.told ∙ inv.told;
+      known = c.next_segment.ensures.known ∙ inv.known;
       files = c.next_segment.ensures.files ∙ inv.files;
       read = c.in-Ok.ensures.quiet.0 ∙ inv.read;
       wrote = c.in-Ok.ensures.quiet.1 ∙ inv.wrote;
       rises = subst R (sym c.in-Ok.ensures.end) h.2;
       gone = subst G (sym c.in-Ok.ensures.end)
-          (gone_next_read told (g.S.Sources.told c.loop-i.sources)
-          (L.form c.args.layout.now).start parts end c.loop-i.at c.loop-i.i _ _ _ _ _ _ _ _ _ inv.told small inv.gone
+          (gone_next_read known (g.S.Sources.known c.loop-i.sources)
+          (L.form c.args.layout.now).start parts end c.loop-i.at c.loop-i.i _ _ _ _ _ _ _ _ _ inv.known small inv.gone
           c.in-Ok.ensures.ok);
     }
 
@@ -85,11 +85,11 @@ pub returns-in-Ok-emit_zeros-clause-ok : goal.returns-in-Ok-emit_zeros-clause-ok
 returns-in-Ok-emit_zeros-clause-ok g c =
     let L = g.L.Segmented in
     let end = (L.form c.args.layout.now).end in
-    let told = g.S.Sources.told c.args.sources.now in
+    let known = g.S.Sources.known c.args.sources.now in
     let Z : ℕ → Type 0 = λ v. Gone (λ xs. xs ≡ zeros (v - c.loop-i.at)) (g.W.ByteWrite.output c.loop-i.w).contents
     (g.W.ByteWrite.output c.emit_zeros.new.w).contents (g.C.Checksum.Is c.loop-i.check)
     (g.C.Checksum.Is c.emit_zeros.new.check) in
-    gone_all_read told (L.form c.args.layout.now).start
+    gone_all_read known (L.form c.args.layout.now).start
     (L.form c.args.layout.now).segments end c.loop-i.at c.loop-i.i _ _ _ _ _ _ _ _
     (omega arith) c.loop-i.invariant.gone (subst Z c.image_len.ensures c.in-Ok-emit_zeros.ensures.ok)
 
@@ -100,7 +100,7 @@ returns-in-Err-emit_zeros-clause-front g c = λ cs is.
     let inv = c.loop-i.invariant in
     let Z : ℕ → Type 0 = λ v. AppendsPrefix (g.W.ByteWrite.output c.loop-i.w).contents
     (g.W.ByteWrite.output c.emit_zeros.new.w).contents (zeros (v - c.loop-i.at)) in
-    broken_end (g.S.Sources.told c.args.sources.now) (L.form c.args.layout.now).start
+    broken_end (g.S.Sources.known c.args.sources.now) (L.form c.args.layout.now).start
     (L.form c.args.layout.now).segments end c.loop-i.at c.loop-i.i _ _ _ inv.gone.bytes cs is
     (omega arith) inv.gone.are.0 inv.gone.written
     (subst Z c.image_len.ensures c.in-Err-emit_zeros.ensures.front)

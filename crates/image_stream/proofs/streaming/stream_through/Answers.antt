@@ -17,11 +17,11 @@ returns-in-Err-clause-fault g c = size_fault _ (g.L.Segmented.form c.args.layout
 
 pub returns-in-Err-sum_walk-clause-fault : goal.returns-in-Err-sum_walk-clause-fault
 returns-in-Err-sum_walk-clause-fault g c =
-    nowhere_fault (g.S.Sources.told c.args.sources.now) (g.S.Sources.told c.measure_all.new.sources)
+    nowhere_fault (g.S.Sources.known c.args.sources.now) (g.S.Sources.known c.measure_all.new.sources)
     (g.L.Segmented.form c.args.layout.now) g.C.Checksum.stored
     (g.S.Sources.reads c.args.sources.now) (g.S.Sources.reads c.measure_all.new.sources) _
     (g.W.ByteWrite.output c.args.w.now)
-    c.in-Err-sum_walk.e c.measure_all.ensures.told c.in-Ok.ensures.quiet c.in-Ok.ensures.ok
+    c.in-Err-sum_walk.e c.measure_all.ensures.known c.in-Ok.ensures.quiet c.in-Ok.ensures.ok
     c.in-Err-sum_walk.ensures.fault
 
 pub returns-in-Err-write_head-clause-front : goal.returns-in-Err-write_head-clause-front
@@ -30,7 +30,7 @@ returns-in-Err-write_head-clause-front g c = λ cs is.
     let one = c.in-Ok-sum_walk.ensures.ok in
     let image = image_from cs (L.form c.args.layout.now).start (L.form c.args.layout.now).segments
     (L.form c.args.layout.now).end in
-    let same : one.bytes ≡ image = image_known _ cs _ _ _ _ (c.measure_all.ensures.told ∙ is) one.are in
+    let same : one.bytes ≡ image = image_known _ cs _ _ _ _ (c.measure_all.ensures.known ∙ is) one.are in
     let right : c.value-stored.result ≡ g.C.Checksum.stored ((L.form c.args.layout.now).head 0 ++ image) =
     value_of _ _ _ ((L.form c.args.layout.now).head 0) g.C.Checksum.stored c.value-stored.result c.start-first.ensures
     c.add_head.ensures one c.value-stored.ensures
@@ -44,24 +44,24 @@ returns-in-Err-walk-clause-front g c = λ cs is.
     let one = c.in-Ok-sum_walk.ensures.ok in
     let image = image_from cs (L.form c.args.layout.now).start (L.form c.args.layout.now).segments
     (L.form c.args.layout.now).end in
-    let same : one.bytes ≡ image = image_known _ cs _ _ _ _ (c.measure_all.ensures.told ∙ is) one.are in
+    let same : one.bytes ≡ image = image_known _ cs _ _ _ _ (c.measure_all.ensures.known ∙ is) one.are in
     let right : c.value-stored.result ≡ g.C.Checksum.stored ((L.form c.args.layout.now).head 0 ++ image) =
     value_of _ _ _ ((L.form c.args.layout.now).head 0) g.C.Checksum.stored c.value-stored.result c.start-first.ensures
     c.add_head.ensures one c.value-stored.ensures
     ∙ ap (λ (v : List ℕ). g.C.Checksum.stored ((L.form c.args.layout.now).head 0 ++ v)) same in
     front_image (L.form c.args.layout.now).head g.C.Checksum.stored c.value-stored.result image right _ _ _
     c.in-Ok-write_head.ensures.text (c.in-Err-walk.ensures.front cs
-    (c.sum_walk.ensures.told ∙ c.measure_all.ensures.told ∙ is))
+    (c.sum_walk.ensures.known ∙ c.measure_all.ensures.known ∙ is))
 
 pub returns-in-Err-walk-clause-fault : goal.returns-in-Err-walk-clause-fault
 returns-in-Err-walk-clause-fault g c =
     let old = g.W.ByteWrite.output c.args.w.now in
     let new = g.W.ByteWrite.output c.walk.new.w in
-    pass_fault (g.S.Sources.told c.args.sources.now) (g.S.Sources.told c.sum_walk.new.sources)
+    pass_fault (g.S.Sources.known c.args.sources.now) (g.S.Sources.known c.sum_walk.new.sources)
     (g.L.Segmented.form c.args.layout.now) g.C.Checksum.stored
     (g.S.Sources.reads c.args.sources.now) (g.S.Sources.reads c.sum_walk.new.sources) _ old
     (g.W.ByteWrite.output c.write_head.new.w) new
-    c.in-Err-walk.e (c.sum_walk.ensures.told ∙ c.measure_all.ensures.told)
+    c.in-Err-walk.e (c.sum_walk.ensures.known ∙ c.measure_all.ensures.known)
     (c.in-Ok-sum_walk.ensures.quiet ∙ c.in-Ok.ensures.quiet)
     (λ r. let R : ℕ → Type 0 = λ v. Rose v new.failures in subst R c.in-Ok-write_head.ensures.count r)
     c.in-Ok.ensures.ok c.in-Err-walk.ensures.fault
@@ -73,7 +73,7 @@ returns-in-Err-flush-clause-front g c = λ cs is.
     let two = c.in-Ok-walk.ensures.ok in
     let image = image_from cs (L.form c.args.layout.now).start (L.form c.args.layout.now).segments
     (L.form c.args.layout.now).end in
-    let same : one.bytes ≡ image = image_known _ cs _ _ _ _ (c.measure_all.ensures.told ∙ is) one.are in
+    let same : one.bytes ≡ image = image_known _ cs _ _ _ _ (c.measure_all.ensures.known ∙ is) one.are in
     let right : c.value-stored.result ≡ g.C.Checksum.stored ((L.form c.args.layout.now).head 0 ++ image) =
     value_of _ _ _ ((L.form c.args.layout.now).head 0) g.C.Checksum.stored c.value-stored.result c.start-first.ensures
     c.add_head.ensures one c.value-stored.ensures
@@ -83,7 +83,7 @@ returns-in-Err-flush-clause-front g c = λ cs is.
     front_all _ _ _ (whole_image (L.form c.args.layout.now).head g.C.Checksum.stored c.value-stored.result image right _
     _ _ _ c.in-Ok-write_head.ensures.text
     (subst A (image_known _ cs _ _ _ _
-    (c.sum_walk.ensures.told ∙ c.measure_all.ensures.told ∙ is) two.are.0) two.written) c.flush.ensures.bytes)
+    (c.sum_walk.ensures.known ∙ c.measure_all.ensures.known ∙ is) two.are.0) two.written) c.flush.ensures.bytes)
 
 pub returns-in-Err-confirm-clause-front : goal.returns-in-Err-confirm-clause-front
 returns-in-Err-confirm-clause-front g c = λ cs is.
@@ -92,7 +92,7 @@ returns-in-Err-confirm-clause-front g c = λ cs is.
     let two = c.in-Ok-walk.ensures.ok in
     let image = image_from cs (L.form c.args.layout.now).start (L.form c.args.layout.now).segments
     (L.form c.args.layout.now).end in
-    let same : one.bytes ≡ image = image_known _ cs _ _ _ _ (c.measure_all.ensures.told ∙ is) one.are in
+    let same : one.bytes ≡ image = image_known _ cs _ _ _ _ (c.measure_all.ensures.known ∙ is) one.are in
     let right : c.value-stored.result ≡ g.C.Checksum.stored ((L.form c.args.layout.now).head 0 ++ image) =
     value_of _ _ _ ((L.form c.args.layout.now).head 0) g.C.Checksum.stored c.value-stored.result c.start-first.ensures
     c.add_head.ensures one c.value-stored.ensures
@@ -102,11 +102,11 @@ returns-in-Err-confirm-clause-front g c = λ cs is.
     front_all _ _ _ (whole_image (L.form c.args.layout.now).head g.C.Checksum.stored c.value-stored.result image right _
     _ _ _ c.in-Ok-write_head.ensures.text
     (subst A (image_known _ cs _ _ _ _
-    (c.sum_walk.ensures.told ∙ c.measure_all.ensures.told ∙ is) two.are.0) two.written) c.flush.ensures.bytes)
+    (c.sum_walk.ensures.known ∙ c.measure_all.ensures.known ∙ is) two.are.0) two.written) c.flush.ensures.bytes)
 
 pub returns-in-Err-confirm-clause-fault : goal.returns-in-Err-confirm-clause-fault
 returns-in-Err-confirm-clause-fault g c =
-    let told = g.S.Sources.told c.args.sources.now in
+    let known = g.S.Sources.known c.args.sources.now in
     let f = g.L.Segmented.form c.args.layout.now in
     let one = c.in-Ok-sum_walk.ensures.ok in
     let two = c.in-Ok-walk.ensures.ok in
@@ -116,21 +116,22 @@ returns-in-Err-confirm-clause-fault g c =
     c.value-stored.ensures in
     let again = two.added (f.head 0) (c.add_head.ensures [] c.start-first.ensures) in
     let T : Option (List (List ℕ)) → Type 0 = λ t. IsImage t f.start f.segments f.end two.bytes in
-    let E : StreamError → Type 0 = λ e. IsStreamFault told f S (g.S.Sources.reads c.args.sources.now)
+    let E : StreamError → Type 0 = λ e. IsStreamFault known f S (g.S.Sources.reads c.args.sources.now)
     (g.S.Sources.reads c.walk.new.sources) (g.W.ByteWrite.output c.args.w.now)
     (g.W.ByteWrite.output c.flush.new.self) e in
     let changed : E Changed = (
       record {
         rest = two.bytes;
-        stands = subst T (c.sum_walk.ensures.told ∙ c.measure_all.ensures.told) two.are.0;
+        stands = subst T (c.sum_walk.ensures.known ∙ c.measure_all.ensures.known) two.are.0;
         value = c.value-stored.result;
         differs = err.1 (f.head 0 ++ two.bytes) again;
         written = appends_keep _ _ _ _ (appends_join _ _ _ _ _ c.in-Ok-write_head.ensures.text two.written)
             c.flush.ensures.bytes;
       },
       λ cs is.
-          let first = image_known _ cs _ _ _ _ (c.measure_all.ensures.told ∙ is) one.are in
-          let second = image_known _ cs _ _ _ _ (c.sum_walk.ensures.told ∙ c.measure_all.ensures.told ∙ is) two.are.0 in
+          let first = image_known _ cs _ _ _ _ (c.measure_all.ensures.known ∙ is) one.are in
+          let second = image_known _ cs _ _ _ _ (c.sum_walk.ensures.known ∙ c.measure_all.ensures.known ∙ is) two.are.0
+          in
           err.1 (f.head 0 ++ two.bytes) again (v ∙ ap (λ (x : List ℕ). S (f.head 0 ++ x)) (first ∙ sym second)),
     ) in
     subst E (sym err.0) changed
@@ -142,7 +143,7 @@ returns-clause-whole g c = λ cs is.
     let two = c.in-Ok-walk.ensures.ok in
     let image = image_from cs (L.form c.args.layout.now).start (L.form c.args.layout.now).segments
     (L.form c.args.layout.now).end in
-    let same : one.bytes ≡ image = image_known _ cs _ _ _ _ (c.measure_all.ensures.told ∙ is) one.are in
+    let same : one.bytes ≡ image = image_known _ cs _ _ _ _ (c.measure_all.ensures.known ∙ is) one.are in
     let right : c.value-stored.result ≡ g.C.Checksum.stored ((L.form c.args.layout.now).head 0 ++ image) =
     value_of _ _ _ ((L.form c.args.layout.now).head 0) g.C.Checksum.stored c.value-stored.result c.start-first.ensures
     c.add_head.ensures one c.value-stored.ensures
@@ -152,7 +153,7 @@ returns-clause-whole g c = λ cs is.
     whole_image (L.form c.args.layout.now).head g.C.Checksum.stored c.value-stored.result image right _ _ _ _
     c.in-Ok-write_head.ensures.text
     (subst A (image_known _ cs _ _ _ _
-    (c.sum_walk.ensures.told ∙ c.measure_all.ensures.told ∙ is) two.are.0) two.written) c.flush.ensures.bytes
+    (c.sum_walk.ensures.known ∙ c.measure_all.ensures.known ∙ is) two.are.0) two.written) c.flush.ensures.bytes
 
 pub returns-clause-some : goal.returns-clause-some
 returns-clause-some g c =
@@ -166,7 +167,7 @@ returns-clause-some g c =
     (g.S.Sources.IsLog c.sum_walk.new.sources) one more in (
       record {
         rest = two.bytes;
-        stands = subst T (c.sum_walk.ensures.told ∙ c.measure_all.ensures.told) two.are.0;
+        stands = subst T (c.sum_walk.ensures.known ∙ c.measure_all.ensures.known) two.are.0;
         answers = two.are.1.answers;
         read = two.are.1.are;
         written = whole_image f.head g.C.Checksum.stored c.value-stored.result two.bytes

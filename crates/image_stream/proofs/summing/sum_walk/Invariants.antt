@@ -7,12 +7,12 @@ use Rattle.image_stream.proofs.summing.sum_walk.Given as goal
 abbrev pub invariant-loop-i : goal.invariant-loop-i
 invariant-loop-i g l = record {
   room : length l.buffer ≡ length l.initial.buffer;
-  told : g.S.Sources.told l.sources ≡ g.S.Sources.told l.initial.sources;
+  known : g.S.Sources.known l.sources ≡ g.S.Sources.known l.initial.sources;
   files : g.S.Sources.files l.sources ≡ g.S.Sources.files l.initial.sources;
   grew : Grew (g.S.Sources.IsLog l.initial.sources) (g.S.Sources.IsLog l.sources);
   read : g.S.Sources.reads l.sources ≡ g.S.Sources.reads l.initial.sources;
   rises : SegmentsRise l.at (drop l.i (g.L.Segmented.form l.layout).segments) (g.L.Segmented.form l.layout).end;
-  gone : Gone (IsDone (g.S.Sources.told l.initial.sources) (g.L.Segmented.form l.layout).start
+  gone : Gone (IsDone (g.S.Sources.known l.initial.sources) (g.L.Segmented.form l.layout).start
       (g.L.Segmented.form l.layout).segments (g.L.Segmented.form l.layout).end l.at
       (drop l.i (g.L.Segmented.form l.layout).segments))
       None None (g.C.Checksum.Is l.initial.check) (g.C.Checksum.Is l.check);

@@ -8,6 +8,6 @@ returns g c =
     let a : Image = g.T.Viewed.image c.args.old.now in
     let b : Image = g.T.Viewed.image c.args.new.now in
     closed (IsDiff c.args.places a b) (StopsDiff a b)
-    (g.W.ByteWrite.output c.args.out.now) (g.W.ByteWrite.output c.write_all-told.new.w)
+    (g.W.ByteWrite.output c.args.out.now) (g.W.ByteWrite.output c.write_all-printed.new.w)
     (g.W.ByteWrite.output c.end.new.out) (g.E.ByteWrite.output c.args.err.now) (g.E.ByteWrite.output c.end.new.err)
-    c.end.result c.end.ensures.kept c.write_all-told.result c.write_all-told.ensures c.end.ensures.ends
+    c.end.result c.end.ensures.kept c.write_all-printed.result c.write_all-printed.ensures c.end.ensures.ends

@@ -1,7 +1,7 @@
 use Rattle.std.proofs.Common.{[], ap, inl, inr, refl, ◌∙◌, List, ℕ}
 use Rattle.rom_tree.specs.Image.{Image}
-use Rattle.image_diff.specs.Diff.{is_told, names_lines}
-use Rattle.inspect_commands.specs.Texts.{told_status}
+use Rattle.image_diff.specs.Diff.{is_printed, names_lines}
+use Rattle.inspect_commands.specs.Texts.{printed_status}
 use Rattle.inspect_commands.proofs.Closed.{nothing}
 use Rattle.inspect_commands.proofs.differences.write_all.Goals as goal
 
@@ -17,7 +17,7 @@ returns-in-Ok g c =
         old_sorted = d.old_sorted;
         new_sorted = d.new_sorted;
         same = refl;
-        status = c.told_status.ensures ∙ ap told_status d.lines.2;
+        status = c.printed_status.ensures ∙ ap printed_status d.lines.2;
       },
       d.lines.0,
       d.lines.1,
@@ -43,7 +43,7 @@ returns-in-Err-WriteFault g c =
     let text : List ℕ = names_lines c.args.places a.bytes b.bytes d.old_names d.new_names in (
       text,
       (
-        told_status (is_told text),
+        printed_status (is_printed text),
         record {
           old_names = d.old_names;
           new_names = d.new_names;

@@ -5,6 +5,6 @@ use Rattle.inspect_commands.proofs.digests.print_image_digest.Goals as goal
 pub returns : goal.returns
 returns g c =
     closed (IsDigest c.args.bytes.now) NeverStops
-    (g.W.ByteWrite.output c.args.out.now) (g.W.ByteWrite.output c.write_one-told.new.w)
+    (g.W.ByteWrite.output c.args.out.now) (g.W.ByteWrite.output c.write_one-printed.new.w)
     (g.W.ByteWrite.output c.end.new.out) (g.E.ByteWrite.output c.args.err.now) (g.E.ByteWrite.output c.end.new.err)
-    c.end.result c.end.ensures.kept c.write_one-told.result c.write_one-told.ensures c.end.ensures.ends
+    c.end.result c.end.ensures.kept c.write_one-printed.result c.write_one-printed.ensures c.end.ensures.ends

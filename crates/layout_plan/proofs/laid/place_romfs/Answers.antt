@@ -1,7 +1,7 @@
 use Rattle.std.proofs.Common.{map}
 use Rattle.manifest_layout.specs.Format.{romfs}
 use Rattle.manifest_tree.specs.Tree.{tree_of}
-use Rattle.manifest_rows.specs.Rows.{inode_view, row_view}
+use Rattle.plan_rows.specs.Rows.{inode_view, row_view}
 use Rattle.romfs_plan.proofs.Fitting.{fitting}
 use Rattle.layout_plan.proofs.Readying.{ready_volume, rows_are_fit, romfs_whole, romfs_fits, romfs_planned_in}
 use Rattle.layout_plan.proofs.Readying.{romfs_items_are}

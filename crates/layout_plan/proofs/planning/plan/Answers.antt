@@ -6,8 +6,8 @@ use Rattle.manifest_layout.specs.Misfit.{HasLineMisfit, HasWholeMisfit, HasNoMis
 use Rattle.plan_types.specs.Plans.{IsPlanOf}
 use Rattle.plan_types.specs.Views.{item_view}
 use Rattle.plan_types.specs.Formats.{format_of}
-use Rattle.plan_misfits.specs.Misfits.{misfit_fault}
-use Rattle.manifest_rows.specs.Rows.{inode_view, row_view}
+use Rattle.plan_rows.specs.Misfits.{misfit_fault}
+use Rattle.plan_rows.specs.Rows.{inode_view, row_view}
 use Rattle.layout_plan.specs.Ready.{IsReady}
 use Rattle.layout_plan.proofs.Readying.{lines_none}
 use Rattle.layout_plan.proofs.planning.plan.Goals as goal
@@ -17,9 +17,9 @@ returns-in-Some-clause-err c =
     let m = c.args.m.now in
     let sizes = c.args.sizes.now in
     let least = c.least_of_lines.ensures.least sizes c.in_ok-files.ensures in
-    let told = subst (λ o. IsLeastFaultOf (HasLineMisfit (format_of c.args.format) m sizes) o)
+    let reported = subst (λ o. IsLeastFaultOf (HasLineMisfit (format_of c.args.format) m sizes) o)
     (ap (λ o. option_map misfit_fault o) c.in-Some.is) least in
-    line_misfit (record { here = told.here; least = λ d p. told.least d p })
+    line_misfit (record { here = reported.here; least = λ d p. reported.least d p })
 
 pub place-requires : goal.place-requires
 place-requires c =
@@ -53,10 +53,10 @@ returns-in_default-2-clause-err c =
       root_is = c.root-root.ensures sizes of;
       rows_are = ap (map row_view) c.deref.ensures.value ∙ c.in_ok-rows.ensures sizes of;
     } in
-    let told = subst (λ o. MatchOption o (HasWholeMisfit f m sizes)
+    let reported = subst (λ o. MatchOption o (HasWholeMisfit f m sizes)
     (λ l. HasNoMisfit f m sizes × (l.image_len ≡ len_of f m sizes)
     × (map item_view l.items.items ≡ items_of f m sizes))) c.in_default-2.is (c.in_ok-laid.ensures m sizes ready) in
-    whole_misfit none told refl
+    whole_misfit none reported refl
 
 pub sections-requires : goal.sections-requires
 sections-requires c =
@@ -73,15 +73,15 @@ sections-requires c =
       root_is = c.root-root.ensures sizes of;
       rows_are = ap (map row_view) c.deref.ensures.value ∙ c.in_ok-rows.ensures sizes of;
     } in
-    let told = subst (λ o. MatchOption o (HasWholeMisfit f m sizes)
+    let reported = subst (λ o. MatchOption o (HasWholeMisfit f m sizes)
     (λ l. HasNoMisfit f m sizes × (l.image_len ≡ len_of f m sizes)
     × (map item_view l.items.items ≡ items_of f m sizes))) c.in-Some-2.is (c.in_ok-laid.ensures m sizes ready) in (
       m,
       sizes,
       c.least_of_lines.ensures.of_text,
-      told.0,
+      reported.0,
       c.volume-2.ensures,
-      ap (map item_view) c.deref-2.ensures.value ∙ told.2,
+      ap (map item_view) c.deref-2.ensures.value ∙ reported.2,
     )
 
 pub new-requires-2 : goal.new-requires-2
@@ -99,21 +99,22 @@ new-requires-2 c =
       root_is = c.root-root.ensures sizes of;
       rows_are = ap (map row_view) c.deref.ensures.value ∙ c.in_ok-rows.ensures sizes of;
     } in
-    let told = subst (λ o. MatchOption o (HasWholeMisfit f m sizes)
+    let reported = subst (λ o. MatchOption o (HasWholeMisfit f m sizes)
     (λ l. HasNoMisfit f m sizes × (l.image_len ≡ len_of f m sizes)
     × (map item_view l.items.items ≡ items_of f m sizes))) c.in-Some-2.is (c.in_ok-laid.ensures m sizes ready) in
-    let items = ap (map item_view) c.deref-2.ensures.value ∙ told.2 in (
+    let items = ap (map item_view) c.deref-2.ensures.value ∙ reported.2 in (
       m,
       sizes,
       c.least_of_lines.ensures.of_text,
       c.requires,
       record {
-        fits = told.0;
+        fits = reported.0;
         format = refl;
         volume = c.in_ok-volume.ensures;
-        image_len = told.1;
-        items = told.2;
-        sections = c.in_ok-sections.ensures m sizes c.least_of_lines.ensures.of_text told.0 c.volume-2.ensures items;
+        image_len = reported.1;
+        items = reported.2;
+        sections = c.in_ok-sections.ensures m sizes c.least_of_lines.ensures.of_text reported.0 c.volume-2.ensures
+            items;
         of_sources = c.in_ok-sizes.ensures;
       },
     )
@@ -133,16 +134,16 @@ returns-clause-ok c =
       root_is = c.root-root.ensures sizes of;
       rows_are = ap (map row_view) c.deref.ensures.value ∙ c.in_ok-rows.ensures sizes of;
     } in
-    let told = subst (λ o. MatchOption o (HasWholeMisfit f m sizes)
+    let reported = subst (λ o. MatchOption o (HasWholeMisfit f m sizes)
     (λ l. HasNoMisfit f m sizes × (l.image_len ≡ len_of f m sizes)
     × (map item_view l.items.items ≡ items_of f m sizes))) c.in-Some-2.is (c.in_ok-laid.ensures m sizes ready) in
-    let items = ap (map item_view) c.deref-2.ensures.value ∙ told.2 in
+    let items = ap (map item_view) c.deref-2.ensures.value ∙ reported.2 in
     subst (IsPlanOf f m sizes) (sym c.new-2.ensures) (record {
-      fits = told.0;
+      fits = reported.0;
       format = refl;
       volume = c.in_ok-volume.ensures;
-      image_len = told.1;
-      items = told.2;
-      sections = c.in_ok-sections.ensures m sizes c.least_of_lines.ensures.of_text told.0 c.volume-2.ensures items;
+      image_len = reported.1;
+      items = reported.2;
+      sections = c.in_ok-sections.ensures m sizes c.least_of_lines.ensures.of_text reported.0 c.volume-2.ensures items;
       of_sources = c.in_ok-sizes.ensures;
     })

@@ -1,7 +1,7 @@
 use Rattle.std.proofs.Common.{refl, ap, ◌∙◌}
 use Rattle.image_check.specs.Any.{any_view}
 use Rattle.rom_tree.proofs.Named.{node_number}
-use Rattle.rom_c.specs.Told.{no_node}
+use Rattle.rom_c.specs.Reported.{no_node}
 use Rattle.rom_c.proofs.calls.lookup_in.Goals as goal
 
 pub returns-in-Ok : goal.returns-in-Ok

@@ -7,8 +7,8 @@ use Rattle.path_walk.specs.Resolution.{resolution, tree_namespace}
 use Rattle.path_walk.specs.Compared.{names_compared, IsRefusedBy, Leaves}
 use Rattle.image_check.specs.Any.{any_view}
 use Rattle.rom_c.specs.declared.answers.RomtoolNode.{RomtoolNode}
-use Rattle.rom_c.specs.Told.{no_node, led_told, within_told}
-use Rattle.rom_c.proofs.Within.{told_left, told_none, left_of, none_left}
+use Rattle.rom_c.specs.Reported.{no_node, led_reported, within_reported}
+use Rattle.rom_c.proofs.Within.{reported_left, reported_none, left_of, none_left}
 use Rattle.rom_c.proofs.calls.lookup_within_in.Goals as goal
 
 pub returns-in-Ok-clause-leads : goal.returns-in-Ok-clause-leads
@@ -16,10 +16,11 @@ returns-in-Ok-clause-leads c =
     let m = any_view c.args.image.now in
     let g = tree_namespace m.bytes m.tree in
     let w = c.in-Ok.ensures.leads in
-    let r : RomtoolNode = led_told (resolution g c.args.path.now c.args.follow) in
-    let told : record { error = 0; node = c.in-Ok.node.0 } ≡ r =
+    let r : RomtoolNode = led_reported (resolution g c.args.path.now c.args.follow) in
+    let reported : record { error = 0; node = c.in-Ok.node.0 } ≡ r =
     rw w.1 (rw (node_number m c.in-Ok.node.0 w.0 w.2) refl) in
-    told ∙ told_left c.args.budget.now c.walk_within.new.budget (names_compared g c.args.path.now c.args.follow) r
+    reported ∙ reported_left c.args.budget.now c.walk_within.new.budget
+    (names_compared g c.args.path.now c.args.follow) r
     c.in-Ok.ensures.left
 
 pub returns-in-Ok-clause-left : goal.returns-in-Ok-clause-left
@@ -38,8 +39,8 @@ returns-in-Path-clause-leads c =
     let L : WithinError → Type 0 = λ v. Leaves c.args.budget.now c.walk_within.new.budget n v in
     let e = subst P c.in-Path.is c.in-Err.ensures.leads in
     let l = subst L c.in-Path.is c.in-Err.ensures.left in
-    (c.no_node.ensures ∙ (ap no_node c.number.ensures ∙ sym (ap led_told e)))
-    ∙ told_left c.args.budget.now c.walk_within.new.budget n (led_told all) l
+    (c.no_node.ensures ∙ (ap no_node c.number.ensures ∙ sym (ap led_reported e)))
+    ∙ reported_left c.args.budget.now c.walk_within.new.budget n (led_reported all) l
 
 pub returns-in-Path-clause-left : goal.returns-in-Path-clause-left
 returns-in-Path-clause-left c =
@@ -56,7 +57,7 @@ returns-in-TooManyNames-clause-leads c =
     let L : WithinError → Type 0 = λ v. Leaves c.args.budget.now c.walk_within.new.budget n v in
     let l = subst L c.in-TooManyNames.is c.in-Err.ensures.left in
     c.no_node-in-TooManyNames.ensures
-    ∙ told_none c.args.budget.now n (led_told (resolution g c.args.path.now c.args.follow)) l.1
+    ∙ reported_none c.args.budget.now n (led_reported (resolution g c.args.path.now c.args.follow)) l.1
 
 pub returns-in-TooManyNames-clause-left : goal.returns-in-TooManyNames-clause-left
 returns-in-TooManyNames-clause-left c =

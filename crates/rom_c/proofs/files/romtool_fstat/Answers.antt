@@ -7,7 +7,7 @@ use Rattle.image_check.specs.Any.{any_view}
 use Rattle.image_check.specs.Parts.{tree_of_parts}
 use Rattle.rom_c.specs.Files.{parts_in}
 use Rattle.rom_c.specs.Opened.{stands_at}
-use Rattle.rom_c.specs.Outcomes.{file_stat_told}
+use Rattle.rom_c.specs.Outcomes.{file_stat_reported}
 use Rattle.rom_c.proofs.Alone.{in_tree}
 use Rattle.rom_c.proofs.Standing.{some_by, same, kept}
 use Rattle.rom_c.proofs.files.romtool_fstat.Goals as goal
@@ -31,7 +31,7 @@ returns-clause-shows c = λ z t h.
     let n = parts_in f.image in
     let m = any_view c.image_of.result in
     let K : List ℕ → Node → Open Node → Type 0 =
-    λ b u o. c.fstat_in.result ≡ file_stat_told (fstat_on None o.place o.position) in
+    λ b u o. c.fstat_in.result ≡ file_stat_reported (fstat_on None o.place o.position) in
     let s = ap is_some (kept m all n f.node f.position c.image_of.ensures.tree) ∙ f.stands z.0 z.1 in
     let e = same m all n c.node_of.result f.node f.position c.image_of.ensures.cursors c.node_of.ensures.node
     c.node_of.ensures.position in

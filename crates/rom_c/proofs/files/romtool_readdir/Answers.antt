@@ -8,7 +8,7 @@ use Rattle.image_check.specs.Parts.{tree_of_parts}
 use Rattle.rom_c.specs.Files.{MovesTo, parts_in}
 use Rattle.rom_c.specs.Opened.{stands_at}
 use Rattle.rom_c.specs.Outcomes.{IsListed, HasKindIn}
-use Rattle.rom_c.proofs.Alone.{told, in_tree, both, MovesTo-prop, IsListed-prop}
+use Rattle.rom_c.proofs.Alone.{reported, in_tree, both, MovesTo-prop, IsListed-prop}
 use Rattle.rom_c.proofs.Standing.{some_by, same, kept, nothing_lies}
 use Rattle.rom_c.proofs.Moving.{file_moves}
 use Rattle.rom_c.proofs.Listed.{HasKindIn-prop}
@@ -64,6 +64,6 @@ returns-clause-kind c = λ z t h.
     let i = c.args.file.now.image in
     let m = any_view c.image_of.result in
     let K : List ℕ → Node → Type 0 = λ b u. HasKindIn u c.readdir_in-error.new.entry in
-    told K i.bytes.now m.bytes t (tree_of_parts i.bytes.now (parts_in i)) m.tree c.one_tree.ensures
+    reported K i.bytes.now m.bytes t (tree_of_parts i.bytes.now (parts_in i)) m.tree c.one_tree.ensures
     (HasKindIn-prop t c.readdir_in-error.new.entry) (i.tree z.0) h c.image_of.ensures.bytes c.image_of.ensures.tree
     c.readdir_in-error.ensures.kind

@@ -7,7 +7,7 @@ use Rattle.image_check.specs.Any.{any_view}
 use Rattle.image_check.specs.Parts.{tree_of_parts}
 use Rattle.rom_c.specs.Files.{MovesTo, parts_in}
 use Rattle.rom_c.specs.Opened.{stands_at}
-use Rattle.rom_c.specs.Outcomes.{error_told}
+use Rattle.rom_c.specs.Outcomes.{error_reported}
 use Rattle.rom_c.proofs.Alone.{in_tree, both, MovesTo-prop}
 use Rattle.rom_c.proofs.Standing.{some_by, same, kept}
 use Rattle.rom_c.proofs.Moving.{file_moves}
@@ -35,7 +35,7 @@ returns-clause-sought c = λ z t h.
     let old = c.node_of-opened.result in
     let new = c.seek_in-error.new.opened in
     let A : List ℕ → Open Node → Type 0 =
-    λ b o. c.seek_in-error.result ≡ error_told (seek_on c.args.position o.place o.position) in
+    λ b o. c.seek_in-error.result ≡ error_reported (seek_on c.args.position o.place o.position) in
     let K : List ℕ → Node → Open Node → Type 0 =
     λ b u o. A b o × MovesTo u f p (seek_on c.args.position o.place o.position) in
     let s = ap is_some (kept m all n f.node f.position c.image_of.ensures.tree) ∙ f.stands z.0 z.1 in

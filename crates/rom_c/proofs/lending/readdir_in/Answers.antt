@@ -6,7 +6,7 @@ use Rattle.rom_tree.specs.declared.types.Stat.{Stat}
 use Rattle.rom_tree.specs.Image.{LieIn}
 use Rattle.rom_tree.proofs.Named.{has_node}
 use Rattle.image_check.specs.Any.{any_view}
-use Rattle.rom_c.specs.Told.{kind_number}
+use Rattle.rom_c.specs.Reported.{kind_number}
 use Rattle.rom_c.proofs.Standing.{nothing_lies}
 use Rattle.rom_c.proofs.Listed.{entry_there, kind_there, no_kind}
 use Rattle.rom_c.proofs.lending.readdir_in.Goals as goal

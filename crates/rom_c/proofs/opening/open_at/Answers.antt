@@ -5,7 +5,7 @@ use Rattle.rom_tree.proofs.Named.{node_number, node_by}
 use Rattle.image_check.specs.Any.{any_view}
 use Rattle.image_check.specs.Parts.{tree_of_parts}
 use Rattle.rom_c.specs.Files.{IsOpenAt, parts_in}
-use Rattle.rom_c.proofs.Alone.{told, if_prop, if_some, node_there, IsOpenAt-prop}
+use Rattle.rom_c.proofs.Alone.{reported, if_prop, if_some, node_there, IsOpenAt-prop}
 use Rattle.rom_c.proofs.Standing.{starts, kept}
 use Rattle.rom_c.proofs.Moving.{file_starts}
 use Rattle.rom_c.proofs.opening.open_at.Goals as goal
@@ -49,7 +49,7 @@ returns-then-can_open-clause-opened c = λ t h.
       c.opened_at.ensures.position,
       z,
     )) in
-    told P i.bytes.now m.bytes t (tree_of_parts i.bytes.now (parts_in i)) m.tree c.one_tree.ensures
+    reported P i.bytes.now m.bytes t (tree_of_parts i.bytes.now (parts_in i)) m.tree c.one_tree.ensures
     (if_prop (node_at t n.0) (Q t) (λ x. IsOpenAt-prop t x f (is_directory x || is_regular x)))
     (i.tree c.requires.open) h
     c.image_of.ensures.bytes c.image_of.ensures.tree q
@@ -65,7 +65,7 @@ returns-else-can_open-clause-opened c = λ t h.
     let q : P m.bytes m.tree = if_some (node_at m.tree n.0) (Q m.tree) (λ x e.
     let b : false ≡ (is_directory x || is_regular x) = sym c.if-can_open.false ∙ c.can_open.ensures x e in
     rw (← b) (c.no_file.ensures.error, c.no_file.ensures.numbers.0, c.no_file.ensures.numbers.1)) in
-    told P i.bytes.now m.bytes t (tree_of_parts i.bytes.now (parts_in i)) m.tree c.one_tree.ensures
+    reported P i.bytes.now m.bytes t (tree_of_parts i.bytes.now (parts_in i)) m.tree c.one_tree.ensures
     (if_prop (node_at t n.0) (Q t) (λ x. IsOpenAt-prop t x f (is_directory x || is_regular x)))
     (i.tree c.requires.open) h
     c.image_of.ensures.bytes c.image_of.ensures.tree q

@@ -7,7 +7,7 @@ use Rattle.path_walk.specs.Resolution.{resolution, tree_namespace}
 use Rattle.image_check.specs.Any.{any_view}
 use Rattle.image_check.specs.Parts.{tree_of_parts}
 use Rattle.rom_c.specs.Files.{IsOpenedBy, parts_in}
-use Rattle.rom_c.proofs.Alone.{told, IsOpenedBy-prop}
+use Rattle.rom_c.proofs.Alone.{reported, IsOpenedBy-prop}
 use Rattle.rom_c.proofs.Standing.{starts, kept}
 use Rattle.rom_c.proofs.Moving.{file_starts}
 use Rattle.rom_c.proofs.opening.open_in.Goals as goal
@@ -42,7 +42,7 @@ returns-then-can_open-clause-opened c = λ t h.
       c.opened_at.ensures.position,
       z,
     )) in
-    told Q i.bytes.now m.bytes t (tree_of_parts i.bytes.now (parts_in i)) m.tree c.one_tree.ensures
+    reported Q i.bytes.now m.bytes t (tree_of_parts i.bytes.now (parts_in i)) m.tree c.one_tree.ensures
     (IsOpenedBy-prop t (resolution (tree_namespace i.bytes.now t) c.args.path.now true) f)
     (i.tree c.requires) h c.image_of-held.ensures.bytes c.image_of-held.ensures.tree q
 
@@ -58,7 +58,7 @@ returns-else-can_open-clause-opened c = λ t h.
     let Q : List ℕ → Node → Type 0 = λ b u. IsOpenedBy u (resolution (tree_namespace b u) c.args.path.now true) f in
     let q : Q m.bytes m.tree =
     rw w.1 (rw (← b) (c.no_file.ensures.error, c.no_file.ensures.numbers.0, c.no_file.ensures.numbers.1)) in
-    told Q i.bytes.now m.bytes t (tree_of_parts i.bytes.now (parts_in i)) m.tree c.one_tree.ensures
+    reported Q i.bytes.now m.bytes t (tree_of_parts i.bytes.now (parts_in i)) m.tree c.one_tree.ensures
     (IsOpenedBy-prop t (resolution (tree_namespace i.bytes.now t) c.args.path.now true) f)
     (i.tree c.requires) h c.image_of-held.ensures.bytes c.image_of-held.ensures.tree q
 
@@ -73,6 +73,6 @@ returns-in-Err-clause-opened c = λ t h.
       c.no_file-in-Err.ensures.numbers.0,
       c.no_file-in-Err.ensures.numbers.1,
     ) in
-    told Q i.bytes.now m.bytes t (tree_of_parts i.bytes.now (parts_in i)) m.tree c.one_tree.ensures
+    reported Q i.bytes.now m.bytes t (tree_of_parts i.bytes.now (parts_in i)) m.tree c.one_tree.ensures
     (IsOpenedBy-prop t (resolution (tree_namespace i.bytes.now t) c.args.path.now true) f)
     (i.tree c.requires) h c.image_of-held.ensures.bytes c.image_of-held.ensures.tree q

@@ -5,8 +5,8 @@ use Rattle.image_check.specs.Any.{any_view}
 use Rattle.image_check.specs.Parts.{tree_of_parts}
 use Rattle.std.proofs.Props.{props}
 use Rattle.path_walk.specs.Compared.{names_compared}
-use Rattle.rom_c.specs.Told.{led_told, within_told}
-use Rattle.rom_c.proofs.Alone.{told}
+use Rattle.rom_c.specs.Reported.{led_reported, within_reported}
+use Rattle.rom_c.proofs.Alone.{reported}
 use Rattle.rom_c.specs.Files.{parts_in}
 use Rattle.rom_c.proofs.paths.romtool_lookup_within.Goals as goal
 
@@ -15,9 +15,10 @@ returns-clause-leads c = λ z t h.
     let i = c.args.image.now in
     let m = any_view c.image_of.result in
     let P : List ℕ → Node → Type 0 = λ b u. c.lookup_within_in.result
-    ≡ within_told c.args.budget.now (names_compared (tree_namespace b u) c.args.path.now c.args.follow)
-    (led_told (resolution (tree_namespace b u) c.args.path.now c.args.follow)) in
-    told P i.bytes.now m.bytes t (tree_of_parts i.bytes.now (parts_in i)) m.tree c.one_tree.ensures (Prim.hlevel props)
+    ≡ within_reported c.args.budget.now (names_compared (tree_namespace b u) c.args.path.now c.args.follow)
+    (led_reported (resolution (tree_namespace b u) c.args.path.now c.args.follow)) in
+    reported P i.bytes.now m.bytes t (tree_of_parts i.bytes.now (parts_in i)) m.tree c.one_tree.ensures
+    (Prim.hlevel props)
     (i.tree z) h
     c.image_of.ensures.bytes c.image_of.ensures.tree c.lookup_within_in.ensures.leads
 
@@ -27,6 +28,7 @@ returns-clause-left c = λ z t h.
     let m = any_view c.image_of.result in
     let P : List ℕ → Node → Type 0 = λ b u. c.lookup_within_in.new.budget
     ≡ c.args.budget.now - names_compared (tree_namespace b u) c.args.path.now c.args.follow in
-    told P i.bytes.now m.bytes t (tree_of_parts i.bytes.now (parts_in i)) m.tree c.one_tree.ensures (Prim.hlevel props)
+    reported P i.bytes.now m.bytes t (tree_of_parts i.bytes.now (parts_in i)) m.tree c.one_tree.ensures
+    (Prim.hlevel props)
     (i.tree z) h
     c.image_of.ensures.bytes c.image_of.ensures.tree c.lookup_within_in.ensures.left

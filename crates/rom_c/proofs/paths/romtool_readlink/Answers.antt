@@ -3,8 +3,8 @@ use Rattle.rom_tree.specs.Tree.{Node}
 use Rattle.path_walk.specs.Resolution.{resolution, tree_namespace}
 use Rattle.image_check.specs.Any.{any_view}
 use Rattle.image_check.specs.Parts.{tree_of_parts}
-use Rattle.rom_c.specs.Told.{IsText}
-use Rattle.rom_c.proofs.Alone.{told, IsText-prop}
+use Rattle.rom_c.specs.Reported.{IsText}
+use Rattle.rom_c.proofs.Alone.{reported, IsText-prop}
 use Rattle.rom_c.specs.Files.{parts_in}
 use Rattle.rom_c.proofs.paths.romtool_readlink.Goals as goal
 
@@ -14,7 +14,7 @@ returns-clause-text c = λ z t h.
     let m = any_view c.image_of.result in
     let P : List ℕ → Node → Type 0 =
     λ b u. IsText (resolution (tree_namespace b u) c.args.path.now false) c.readlink_in.result in
-    told P i.bytes.now m.bytes t (tree_of_parts i.bytes.now (parts_in i)) m.tree c.one_tree.ensures
+    reported P i.bytes.now m.bytes t (tree_of_parts i.bytes.now (parts_in i)) m.tree c.one_tree.ensures
     (IsText-prop (resolution (tree_namespace i.bytes.now t) c.args.path.now false) c.readlink_in.result)
     (i.tree z) h
     c.image_of.ensures.bytes c.image_of.ensures.tree c.readlink_in.ensures

@@ -5,8 +5,8 @@ use Rattle.rom_tree.specs.Image.{stat_of}
 use Rattle.image_check.specs.Any.{any_view}
 use Rattle.image_check.specs.Parts.{tree_of_parts}
 use Rattle.std.proofs.Props.{props}
-use Rattle.rom_c.specs.Told.{stat_told}
-use Rattle.rom_c.proofs.Alone.{told, if_prop, if_some, node_there}
+use Rattle.rom_c.specs.Reported.{stat_reported}
+use Rattle.rom_c.proofs.Alone.{reported, if_prop, if_some, node_there}
 use Rattle.rom_c.specs.Files.{parts_in}
 use Rattle.rom_c.proofs.paths.romtool_stat_node.Goals as goal
 
@@ -23,8 +23,8 @@ returns-clause-shows c = λ z t h.
     let i = c.args.image.now in
     let m = any_view c.image_of.result in
     let n = c.args.node in
-    let P : List ℕ → Node → Type 0 = λ b u. IfSome (node_at u n) (λ x. c.stat_at.result ≡ stat_told (stat_of x)) in
-    told P i.bytes.now m.bytes t (tree_of_parts i.bytes.now (parts_in i)) m.tree c.one_tree.ensures
-    (if_prop (node_at t n) (λ x. c.stat_at.result ≡ stat_told (stat_of x)) (λ x. Prim.hlevel props)) (i.tree z) h
+    let P : List ℕ → Node → Type 0 = λ b u. IfSome (node_at u n) (λ x. c.stat_at.result ≡ stat_reported (stat_of x)) in
+    reported P i.bytes.now m.bytes t (tree_of_parts i.bytes.now (parts_in i)) m.tree c.one_tree.ensures
+    (if_prop (node_at t n) (λ x. c.stat_at.result ≡ stat_reported (stat_of x)) (λ x. Prim.hlevel props)) (i.tree z) h
     c.image_of.ensures.bytes c.image_of.ensures.tree
-    (if_some (node_at m.tree n) (λ x. c.stat_at.result ≡ stat_told (stat_of x)) c.stat_at.ensures)
+    (if_some (node_at m.tree n) (λ x. c.stat_at.result ≡ stat_reported (stat_of x)) c.stat_at.ensures)

@@ -4,7 +4,7 @@ use Rattle.rom_fields.specs.Texts.{escaped}
 use Rattle.rom_fields.specs.Written.{Output, output_of}
 use Rattle.rom_commands.specs.declared.copying.Copied.TheVariants.{NoFile as Fileless, Refused, Memory}
 use Rattle.rom_commands.specs.Answers.{Prints}
-use Rattle.rom_commands.proofs.Copies.{done_told, fault_told}
+use Rattle.rom_commands.proofs.Copies.{done_reported, fault_reported}
 use Rattle.rom_commands.proofs.copying.print_file.Goals as goal
 
 pub returns-in-Done : goal.returns-in-Done
@@ -14,7 +14,7 @@ returns-in-Done g c =
     let mid : Output = output_of (g.X.Write.contents c.copy.new.w.inner) c.copy.new.w.failures c.copy.new.w.flushes in
     let new : Output =
     output_of (g.X.Write.contents c.flushed.new.out.inner) c.flushed.new.out.failures c.flushed.new.out.flushes in
-    let t = done_told c.args.bytes.now c.args.path.now old mid new (g.E.ByteWrite.output c.args.err.now)
+    let t = done_reported c.args.bytes.now c.args.path.now old mid new (g.E.ByteWrite.output c.args.err.now)
     (g.E.ByteWrite.output c.flushed.new.err) c.flushed.result c.requires c.flushed.ensures.kept c.in-Done.ensures
     c.flushed.ensures.ends in
     record { ends = (t.outcome, t.status, t.ends, t.handed, t.said) }
@@ -37,7 +37,7 @@ returns-in-WriteFault g c =
     let mid : Output = output_of (g.X.Write.contents c.copy.new.w.inner) c.copy.new.w.failures c.copy.new.w.flushes in
     let new : Output = output_of (g.X.Write.contents c.flushed-in-WriteFault.new.out.inner)
     c.flushed-in-WriteFault.new.out.failures c.flushed-in-WriteFault.new.out.flushes in
-    let t = fault_told c.args.bytes.now c.args.path.now old mid new (g.E.ByteWrite.output c.args.err.now)
+    let t = fault_reported c.args.bytes.now c.args.path.now old mid new (g.E.ByteWrite.output c.args.err.now)
     (g.E.ByteWrite.output c.flushed-in-WriteFault.new.err) c.flushed-in-WriteFault.result c.requires
     c.flushed-in-WriteFault.ensures.kept c.in-WriteFault.ensures c.flushed-in-WriteFault.ensures.ends in
     record { ends = (t.outcome, t.status, t.ends, t.handed, t.said) }

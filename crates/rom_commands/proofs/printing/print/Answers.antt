@@ -2,7 +2,7 @@ use Rattle.std.proofs.Common.{refl}
 use Rattle.rom_fields.specs.Texts.{escaped}
 use Rattle.rom_fields.specs.Written.{Output, output_of}
 use Rattle.rom_commands.specs.declared.shown.Outcome.TheVariants.{Faulty, Memory}
-use Rattle.rom_commands.proofs.Printed.{done_told, warned_told, refused_told, fault_told}
+use Rattle.rom_commands.proofs.Printed.{done_reported, warned_reported, refused_reported, fault_reported}
 use Rattle.rom_commands.proofs.printing.print.Goals as goal
 
 pub returns-in-Done : goal.returns-in-Done
@@ -12,7 +12,7 @@ returns-in-Done g c =
     let mid : Output = output_of (g.X.Write.contents c.show.new.w.inner) c.show.new.w.failures c.show.new.w.flushes in
     let new : Output =
     output_of (g.X.Write.contents c.flushed.new.out.inner) c.flushed.new.out.failures c.flushed.new.out.flushes in
-    let t = done_told c.args.bytes.now c.args.asked old mid new (g.E.ByteWrite.output c.args.err.now)
+    let t = done_reported c.args.bytes.now c.args.asked old mid new (g.E.ByteWrite.output c.args.err.now)
     (g.E.ByteWrite.output c.flushed.new.err) c.flushed.result c.requires.fresh c.flushed.ensures.kept
     c.in-Done.ensures c.flushed.ensures.ends in
     record { ends = (t.outcome, t.status, t.ends, t.handed, t.said) }
@@ -24,7 +24,7 @@ returns-in-Warned g c =
     let mid : Output = output_of (g.X.Write.contents c.show.new.w.inner) c.show.new.w.failures c.show.new.w.flushes in
     let new : Output = output_of (g.X.Write.contents c.flushed-in-Warned.new.out.inner)
     c.flushed-in-Warned.new.out.failures c.flushed-in-Warned.new.out.flushes in
-    let t = warned_told c.args.bytes.now c.args.asked old mid new (g.E.ByteWrite.output c.args.err.now)
+    let t = warned_reported c.args.bytes.now c.args.asked old mid new (g.E.ByteWrite.output c.args.err.now)
     (g.E.ByteWrite.output c.flushed-in-Warned.new.err) c.flushed-in-Warned.result c.requires.fresh
     c.flushed-in-Warned.ensures.kept c.in-Warned.ensures c.flushed-in-Warned.ensures.ends in
     record { ends = (t.outcome, t.status, t.ends, t.handed, t.said) }
@@ -36,7 +36,7 @@ returns-in-Refused g c =
     let mid : Output = output_of (g.X.Write.contents c.show.new.w.inner) c.show.new.w.failures c.show.new.w.flushes in
     let new : Output = output_of (g.X.Write.contents c.flushed-in-Refused.new.out.inner)
     c.flushed-in-Refused.new.out.failures c.flushed-in-Refused.new.out.flushes in
-    let t = refused_told c.args.bytes.now c.args.asked old mid new (g.E.ByteWrite.output c.args.err.now)
+    let t = refused_reported c.args.bytes.now c.args.asked old mid new (g.E.ByteWrite.output c.args.err.now)
     (g.E.ByteWrite.output c.flushed-in-Refused.new.err) c.flushed-in-Refused.result c.requires.fresh
     c.flushed-in-Refused.ensures.kept c.in-Refused.ensures c.flushed-in-Refused.ensures.ends in
     record { ends = (t.outcome, t.status, t.ends, t.handed, t.said) }
@@ -48,7 +48,7 @@ returns-in-WriteFault g c =
     let mid : Output = output_of (g.X.Write.contents c.show.new.w.inner) c.show.new.w.failures c.show.new.w.flushes in
     let new : Output = output_of (g.X.Write.contents c.flushed-in-WriteFault.new.out.inner)
     c.flushed-in-WriteFault.new.out.failures c.flushed-in-WriteFault.new.out.flushes in
-    let t = fault_told c.args.bytes.now c.args.asked old mid new (g.E.ByteWrite.output c.args.err.now)
+    let t = fault_reported c.args.bytes.now c.args.asked old mid new (g.E.ByteWrite.output c.args.err.now)
     (g.E.ByteWrite.output c.flushed-in-WriteFault.new.err) c.flushed-in-WriteFault.result c.requires.fresh
     c.flushed-in-WriteFault.ensures.kept c.in-WriteFault.ensures c.flushed-in-WriteFault.ensures.ends in
     record { ends = (t.outcome, t.status, t.ends, t.handed, t.said) }

@@ -2,8 +2,8 @@ use Rattle.std.proofs.Common.{◌≡◌, Err, subst, sym}
 use Rattle.rom_faults.specs.declared.error.CheckError.{CheckError}
 use Rattle.rom_faults.specs.declared.error.CheckError.TheVariants as check
 use Rattle.rom_commands.specs.Lines.{fault_line}
-use Rattle.rom_commands.specs.Serving.{Input, input_of, CheckedEnds, Tells}
-use Rattle.rom_commands.proofs.Endings.{tells_by}
+use Rattle.rom_commands.specs.Serving.{Input, input_of, CheckedEnds, Reports}
+use Rattle.rom_commands.proofs.Endings.{reports_by}
 use Rattle.rom_commands.proofs.serving.serve_checked.Goals as goal
 
 pub returns-in-Ok : goal.returns-in-Ok
@@ -15,10 +15,10 @@ returns-in-Err-Fault g c =
     let text = fault_line v.number v.at in
     let r₀ : Input = input_of (g.R.ByteRead.remaining c.args.r.now) (g.R.ByteRead.failures c.args.r.now) in
     let w₀ = g.W.ByteWrite.output c.args.w.now in
-    let w = g.W.ByteWrite.output c.tell_fault.new.w in
-    let told : Tells text r₀ r₀ w₀ w c.refused.result =
-    subst (λ o. Tells text r₀ r₀ w₀ w o) (sym c.refused.ensures)
-    (tells_by r₀ w₀ w text c.tell_fault.result c.tell_fault.ensures.text c.tell_fault.ensures.count
-    c.tell_fault.ensures.flushed) in
+    let w = g.W.ByteWrite.output c.report_fault.new.w in
+    let reported : Reports text r₀ r₀ w₀ w c.refused.result =
+    subst (λ o. Reports text r₀ r₀ w₀ w o) (sym c.refused.ensures)
+    (reports_by r₀ w₀ w text c.report_fault.result c.report_fault.ensures.text c.report_fault.ensures.count
+    c.report_fault.ensures.flushed) in
     let e : v.field-0 ≡ check.Fault v.number v.at = rw v.is at v.field-0-is in
-    rw v.is (subst (λ (f : CheckError). CheckedEnds (Err f) r₀ r₀ w₀ w c.refused.result) (sym e) told)
+    rw v.is (subst (λ (f : CheckError). CheckedEnds (Err f) r₀ r₀ w₀ w c.refused.result) (sym e) reported)

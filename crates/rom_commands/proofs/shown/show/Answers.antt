@@ -2,7 +2,7 @@ use Rattle.std.proofs.Common.{◌≡◌, ℕ, true, false, inl, refl, sym, ◌�
 use Rattle.rom_fields.specs.Failures.{Rose}
 use Rattle.rom_fields.specs.Written.{AppendsPrefix, Output}
 use Rattle.image_check.specs.declared.any.AnyImage.{AnyImage}
-use Rattle.image_gaps.proofs.Given.{check_gave}
+use Rattle.image_info.proofs.Given.{check_gave}
 use Rattle.rom_commands.specs.Asked.{sound_text, warns}
 use Rattle.rom_commands.specs.Answers.{usual_limits}
 use Rattle.rom_commands.proofs.Texts.{usual, sound, fault_of, fault_ends, shown_fits}

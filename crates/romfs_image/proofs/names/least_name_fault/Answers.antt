@@ -3,7 +3,7 @@ use Rattle.std.proofs.lemmas.List.{get_or_default}
 use Rattle.record_forest.proofs.Listing.{marked_old, marked_new}
 use Rattle.record_forest.proofs.Sweeps.{blank, sweep_start, sweep_well_at, sweep_fault_at}
 use Rattle.romfs_format.specs.Record.{name_of}
-use Rattle.romfs_image.specs.Phases.{TellsRepeated}
+use Rattle.romfs_image.specs.Phases.{FindsRepeated}
 use Rattle.romfs_image.proofs.Naming.{well_faultless}
 use Rattle.romfs_image.proofs.names.least_name_fault.Goals as goal
 use Rattle.romfs_image.proofs.names.least_name_fault.Goals.{in-Some, in_default}
@@ -22,7 +22,7 @@ loop-i-preserved c =
     get_or_default marks i false c.index.result.now
     (let k = c.in_ok-repeated.ensures.count in let l = names.count in let m = c.loop-i-test.true in omega arith)
     ∙ sym c.index.ensures in
-    let tells : TellsRepeated b (take i xs) (get_or xs i blank) c.index.result.now = record {
+    let finds : FindsRepeated b (take i xs) (get_or xs i blank) c.index.result.now = record {
       old = λ e. marked_old (name_of b) xs c.in_ok-names_of.field-0.items marks names c.in_ok-repeated.ensures i blank
           c.loop-i-test.true (is ∙ e);
       new = λ e. marked_new (name_of b) xs c.in_ok-names_of.field-0.items marks names c.in_ok-repeated.ensures i blank
@@ -30,7 +30,7 @@ loop-i-preserved c =
     } in
     elim c.match-name_fault.branch [
       | in-Some w ↦ sweep_fault_at xs i w.in-Some.number _ _ c.loop-i-test.true
-          (w.noted-is ∙ w.lesser_fault-noted.ensures) c.loop-i.invariant (w.in-Some.ensures.fault (take i xs) tells)
+          (w.noted-is ∙ w.lesser_fault-noted.ensures) c.loop-i.invariant (w.in-Some.ensures.fault (take i xs) finds)
       | in_default w ↦ sweep_well_at xs i _ _ c.loop-i-test.true w.noted-is c.loop-i.invariant
-          (w.in_default.ensures.well (take i xs) tells) (well_faultless (w.in_default.ensures.well (take i xs) tells))
+          (w.in_default.ensures.well (take i xs) finds) (well_faultless (w.in_default.ensures.well (take i xs) finds))
     ]

@@ -1,7 +1,7 @@
 use Rattle.std.proofs.Common.{[], ◌∷◌, ◌++◌, map, sym, ap, ◌∙◌}
 use Rattle.std.proofs.lemmas.List.{map-append}
 use Rattle.plan_types.specs.Views.{item_view}
-use Rattle.manifest_rows.specs.Rows.{what_view, inode_view}
+use Rattle.plan_rows.specs.Rows.{what_view, inode_view}
 use Rattle.romfs_layout.specs.Items.{item_of}
 use Rattle.romfs_layout.specs.Layout.{header_alone}
 use Rattle.romfs_plan.specs.Headers.{noted, headers_by}
@@ -23,11 +23,11 @@ returns-in_ok-push-in-Link c =
     (headers_by (noted c.args.lines.now) c.args.dir row.name.now (what_view w (inode_view row.inode)) p))
     (sym c.in-Link.is)
 
-pub returns-in_ok-push_folder-in-Folder : goal.returns-in_ok-push_folder-in-Folder
-returns-in_ok-push_folder-in-Folder c =
+pub returns-in_ok-push_directory-in-Directory : goal.returns-in_ok-push_directory-in-Directory
+returns-in_ok-push_directory-in-Directory c =
     let row = c.args.row.now in
-    c.in_ok-push_folder-in-Folder.ensures
+    c.in_ok-push_directory-in-Directory.ensures
     ∙ ap (λ w. map item_view c.args.found.now.items
     ++ map item_of (headers_by (noted c.args.lines.now) c.args.dir row.name.now
     (what_view w (inode_view row.inode)) c.args.place))
-    (sym c.in-Folder.is)
+    (sym c.in-Directory.is)

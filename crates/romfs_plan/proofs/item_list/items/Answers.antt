@@ -3,7 +3,7 @@ use Rattle.std.proofs.lemmas.List.{length-map}
 use Rattle.layout_terms.specs.Items.{Item}
 use Rattle.plan_types.specs.declared.item.Item as code_item
 use Rattle.plan_types.specs.Views.{item_view}
-use Rattle.manifest_rows.specs.Rows.{inode_view, row_view}
+use Rattle.plan_rows.specs.Rows.{inode_view, row_view}
 use Rattle.romfs_layout.specs.Items.{item_of}
 use Rattle.romfs_layout.specs.Layout.{root_at}
 use Rattle.romfs_plan.specs.Passes.{named_places}

@@ -1,5 +1,5 @@
 use Rattle.std.proofs.Common.{◌≡◌, drop, map, ℕ}
-use Rattle.manifest_rows.specs.Rows.{row_view}
+use Rattle.plan_rows.specs.Rows.{row_view}
 use Rattle.romfs_layout.specs.Layout.{place_with}
 use Rattle.romfs_plan.specs.Headers.{noted, placed_of}
 use Rattle.romfs_plan.proofs.item_list.lines_of.Given as goal

@@ -1,5 +1,5 @@
 use Rattle.std.proofs.Common.{refl}
-use Rattle.manifest_rows.specs.Rows.{rows}
+use Rattle.plan_rows.specs.Rows.{rows}
 use Rattle.romfs_plan.specs.Passes.{places}
 use Rattle.romfs_plan.proofs.Passing.{places_are, rows_end_is}
 use Rattle.romfs_plan.proofs.laws.rows_are_placed.Goals as goal

@@ -3,10 +3,10 @@ use Rattle.std.specs.Prelude.{reverse}
 use Rattle.std.proofs.Math.Seq.{drop-cons}
 use Rattle.std.proofs.lemmas.List.{reverse-append, length-set}
 use Rattle.rom_tree.specs.declared.types.Kind.TheVariants as kind
-use Rattle.manifest_rows.specs.declared.row.Bytes.TheVariants as bytes
-use Rattle.manifest_rows.specs.declared.row.Row as code
-use Rattle.manifest_rows.specs.declared.row.What.TheVariants as what
-use Rattle.manifest_rows.specs.Rows.{row_view}
+use Rattle.plan_rows.specs.declared.row.Bytes.TheVariants as bytes
+use Rattle.plan_rows.specs.declared.row.Row as code
+use Rattle.plan_rows.specs.declared.row.What.TheVariants as what
+use Rattle.plan_rows.specs.Rows.{row_view}
 use Rattle.romfs_plan.specs.Passes.{heads_of, heads_with, places_of, placed}
 use Rattle.romfs_plan.proofs.passes.linked.Goals as goal
 

@@ -1,6 +1,6 @@
 use Rattle.std.proofs.Common.{◌≡◌, length, drop, map, replicate, ℕ}
 use Rattle.std.specs.Prelude.{reverse}
-use Rattle.manifest_rows.specs.Rows.{row_view}
+use Rattle.plan_rows.specs.Rows.{row_view}
 use Rattle.romfs_plan.specs.Passes.{heads_of, places_of}
 use Rattle.romfs_plan.proofs.passes.linked.Given as goal
 

@@ -1,6 +1,6 @@
 use Rattle.std.proofs.Common.{◌≡◌, List, IfOk, length, map, ap, subst, ◌∙◌}
 use Rattle.std.proofs.lemmas.List.{length-map}
-use Rattle.manifest_rows.specs.Rows.{row_view}
+use Rattle.plan_rows.specs.Rows.{row_view}
 use Rattle.romfs_plan.specs.declared.places.Place.{Place}
 use Rattle.romfs_plan.proofs.Passing.{length-places, places_are}
 use Rattle.romfs_plan.proofs.passes.places_of.Goals as goal

@@ -1,5 +1,5 @@
 use Rattle.std.proofs.Common.{◌≡◌, ◌+◌, ◌*◌, ◌≤◌, drop, map}
-use Rattle.manifest_rows.specs.Rows.{row_view}
+use Rattle.plan_rows.specs.Rows.{row_view}
 use Rattle.romfs_plan.specs.Rows.{header_count}
 use Rattle.romfs_plan.proofs.size.header_count.Given as goal
 

@@ -1,7 +1,7 @@
 use Rattle.std.proofs.Common.{◌≡◌, ◌+◌, ℕ, map, Option, Some, None, refl, if◌then◌else◌, ap, ◌∙◌, arith, true, false}
 use Rattle.std.proofs.Common.{Bool}
-use Rattle.image_parts.specs.Padding.{pad}
-use Rattle.manifest_rows.specs.Rows.{deepest, row_view}
+use Rattle.rom_fields.specs.Padding.{pad}
+use Rattle.plan_rows.specs.Rows.{deepest, row_view}
 use Rattle.romfs_layout.specs.Layout.{ends}
 use Rattle.romfs_format.specs.Record.{pad16}
 use Rattle.romfs_plan.specs.Passes.{places_end}

@@ -17,38 +17,38 @@ use Rattle.romfs_write.proofs.writing.stream_through.Goals as goal
 pub stream_through-requires-clause-laid : goal.stream_through-requires-clause-laid
 stream_through-requires-clause-laid g c =
     subst (λ (p : Planned). IsLaidOut (form_of p)) (sym c.new-form.ensures)
-    (laid_out c.args.plan.now c.known.ensures.plan)
+    (laid_out c.args.plan.now c.facts.ensures.plan)
 
 pub returns-clause-whole : goal.returns-clause-whole
 returns-clause-whole g c = λ m sizes hm is.
     let e = sym c.new-form.ensures in
     let p = c.new-form.result.plan.now in
-    let known = subst IsRomfsPlan e c.known.ensures.plan in
+    let facts = subst IsRomfsPlan e c.facts.ensures.plan in
     let is' = subst (IsPlanOf romfs m sizes) e is in
     let n = c.requires.files ∙ ap (λ (p : Planned). length p.sizes) e in
     let old = (g.W.ByteWrite.output c.args.w.now).contents in
     let new = (g.W.ByteWrite.output c.stream_through.new.w).contents in
-    ok_both c.stream_through.result (λ sized whole cs told.
-    let r = sized_means c.fitting_is_planned.ensures p m sizes cs hm known is' (c.count.ensures.told cs told ∙ n)
-    (sized cs told) in
-    (r.0, subst (Appends old new) r.1 (whole cs told))) c.stream_through.ensures.sized c.stream_through.ensures.whole
+    ok_both c.stream_through.result (λ sized whole cs known.
+    let r = sized_means c.fitting_is_planned.ensures p m sizes cs hm facts is' (c.count.ensures.known cs known ∙ n)
+    (sized cs known) in
+    (r.0, subst (Appends old new) r.1 (whole cs known))) c.stream_through.ensures.sized c.stream_through.ensures.whole
 
 pub returns-clause-front : goal.returns-clause-front
 returns-clause-front g c = λ m sizes hm is.
     let e = sym c.new-form.ensures in
     let p = c.new-form.result.plan.now in
-    let known = subst IsRomfsPlan e c.known.ensures.plan in
+    let facts = subst IsRomfsPlan e c.facts.ensures.plan in
     let is' = subst (IsPlanOf romfs m sizes) e is in
     let old = (g.W.ByteWrite.output c.args.w.now).contents in
     let new = (g.W.ByteWrite.output c.stream_through.new.w).contents in
-    err_weaker c.stream_through.result (λ h cs told s.
-    subst (AppendsPrefix old new) (means c.fitting_is_planned.ensures p m cs hm known
-    (subst (λ (xs : List ℕ). IsPlanOf romfs m xs p) (sym s) is')) (h cs told)) c.stream_through.ensures.front
+    err_weaker c.stream_through.result (λ h cs known s.
+    subst (AppendsPrefix old new) (means c.fitting_is_planned.ensures p m cs hm facts
+    (subst (λ (xs : List ℕ). IsPlanOf romfs m xs p) (sym s) is')) (h cs known)) c.stream_through.ensures.front
 
 pub returns-clause-fault : goal.returns-clause-fault
 returns-clause-fault g c =
     subst (λ (p : Planned). IfErr c.stream_through.result
-    (IsStreamFault (g.S.Sources.told c.args.sources.now) (form_of p) balance_of
+    (IsStreamFault (g.S.Sources.known c.args.sources.now) (form_of p) balance_of
     (g.S.Sources.reads c.args.sources.now) (g.S.Sources.reads c.stream_through.new.sources)
     (g.W.ByteWrite.output c.args.w.now)
     (g.W.ByteWrite.output c.stream_through.new.w))) c.new-form.ensures c.stream_through.ensures.fault
@@ -56,7 +56,7 @@ returns-clause-fault g c =
 pub returns-clause-some : goal.returns-clause-some
 returns-clause-some g c =
     subst (λ (p : Planned). OnOk c.stream_through.result
-    (IsStreamed (g.S.Sources.told c.args.sources.now) (g.S.Sources.IsLog c.args.sources.now)
+    (IsStreamed (g.S.Sources.known c.args.sources.now) (g.S.Sources.IsLog c.args.sources.now)
     (g.S.Sources.IsLog c.stream_through.new.sources) (form_of p) balance_of
     (g.W.ByteWrite.output c.args.w.now).contents
     (g.W.ByteWrite.output c.stream_through.new.w).contents)) c.new-form.ensures c.stream_through.ensures.some

@@ -1,4 +1,4 @@
-use Rattle.image_gaps.proofs.Given.{check_gave}
+use Rattle.image_info.proofs.Given.{check_gave}
 use Rattle.romtool.proofs.sound.checked.Goals as goal
 
 pub returns-in-Ok-clause-checked : goal.returns-in-Ok-clause-checked

@@ -1,11 +1,11 @@
 use Rattle.std.proofs.Common.{true, false, sym, ◌∙◌, arith, lit<}
-use Rattle.rom_tree.proofs.Numbers.{among_tells}
+use Rattle.rom_tree.proofs.Numbers.{among_decides}
 use Rattle.cramfs_image.proofs.Walk.{step_at, walk_end, room, room_more, walk_found, walk_entry, is_root, walk_start}
 use Rattle.cramfs_image.proofs.Walk.{none_left}
 use Rattle.cramfs_image.proofs.image.CramfsTreeImage.is_node.Goals as goal
 
 pub returns-then-n-eq-ROOT : goal.returns-then-n-eq-ROOT
-returns-then-n-eq-ROOT c = among_tells _ c.args.n.0 true
+returns-then-n-eq-ROOT c = among_decides _ c.args.n.0 true
     (is_root c.args.self.now.accessible.order c.args.self.now.accessible.bytes.now c.args.self.now.references c.args.n.0
     c.args.self.now.sound c.if-n-eq-ROOT.true)
 
@@ -25,7 +25,7 @@ loop-list-preserved-then-at-list c =
     (walk_end c.pop.new.self.items c.in-Some.list c.loop-list.invariant c.in-Some.ensures.items c.if-at-list.true).0
 
 pub returns-then-at-n : goal.returns-then-at-n
-returns-then-at-n c = among_tells _ c.args.n.0 true
+returns-then-at-n c = among_decides _ c.args.n.0 true
     (sym (walk_found c.pop.new.self.items c.in-Some.list c.loop-list.invariant c.in-Some.ensures.items
     c.if-at-list.false c.if-at-n.true))
 
@@ -74,6 +74,6 @@ loop-list-preserved c = (walk_entry c.pop.new.self.items c.in-Some.list c.loop-l
     (λ t. (c.offset_at-in-Some.ensures.start t, c.list_end_at-in-Some.ensures t)) c.push-in-Some-2.ensures.items).0
 
 pub returns : goal.returns
-returns c = among_tells _ c.args.n.0 false
+returns c = among_decides _ c.args.n.0 false
     (none_left c.args.self.now.accessible.order c.args.self.now.accessible.bytes.now c.args.self.now.references
     c.args.n.0 c.loop-list.stack.items c.in_default.ensures.variant.1 ∙ c.loop-list.invariant.same)

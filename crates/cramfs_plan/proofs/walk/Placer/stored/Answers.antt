@@ -1,5 +1,5 @@
 use Rattle.std.proofs.Common.{◌≡◌, ◌+◌, refl, sym, arith}
-use Rattle.manifest_rows.specs.Rows.{inode_view}
+use Rattle.plan_rows.specs.Rows.{inode_view}
 use Rattle.cramfs_plan.specs.Entries.{stored_item, Knows}
 use Rattle.cramfs_plan.specs.Passes.{item_by, state_by}
 use Rattle.cramfs_plan.proofs.Placing.{by_file}

@@ -11,7 +11,7 @@ pub overflow_add-i : goal.overflow_add-i
 overflow_add-i c =
     let n = length-drop 1 c.args.self.now.plan.now.sections in
     let l = c.requires in
-    let k = c.known.ensures.count in
+    let k = c.facts.ensures.count in
     omega arith
 
 pub returns-in-Some-clause-is : goal.returns-in-Some-clause-is
@@ -27,7 +27,7 @@ returns-in-Some-clause-body c =
     (ap (option_map section_view) (sym c.in-Some.is) ∙ c.section.ensures) in
     subst (λ (s : Section). IsBody p.items p.sizes s.len s.body) (sym e)
     (every_at (λ (s : Section). IsBody p.items p.sizes s.len s.body)
-    (drop 1 p.sections) c.args.i d c.known.ensures.plan.bodies c.requires)
+    (drop 1 p.sections) c.args.i d c.facts.ensures.plan.bodies c.requires)
 
 pub returns-in-None-clause-is : goal.returns-in-None-clause-is
 returns-in-None-clause-is c = absurd

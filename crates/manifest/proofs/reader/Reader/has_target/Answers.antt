@@ -8,10 +8,10 @@ use Rattle.manifest.specs.Reading.{is_no_directory, reached, to_no_directory}
 use Rattle.manifest.proofs.Reached.{no_directory_is}
 use Rattle.manifest.proofs.reader.Reader.has_target.Goals as goal
 
-of_hard : (latest : List Line) (w : Word) (old : List ℕ) (told : Bool) → w ≡ Hard
+of_hard : (latest : List Line) (w : Word) (old : List ℕ) (known : Bool) → w ≡ Hard
     → ((path : List ℕ) → is_target (led latest path) ≡ is_no_directory (line_at latest path))
-    → told ≡ to_no_directory (reached latest old) → told ≡ has_target latest w old
-of_hard latest w old told hard targets leads =
+    → known ≡ to_no_directory (reached latest old) → known ≡ has_target latest w old
+of_hard latest w old known hard targets leads =
     leads ∙ sym (no_directory_is latest old) ∙ sym (targets old) ∙ ap (λ (v : Word). has_target latest v old) (sym hard)
 
 pub returns-in-Hard : goal.returns-in-Hard

@@ -1,12 +1,12 @@
 use Rattle.std.proofs.Common.{arith, true, false, sym, ap, ◌∙◌, lit<}
 use Rattle.rom_tree.specs.Dots.{is_dots}
-use Rattle.rom_tree.proofs.Numbers.{among_tells}
+use Rattle.rom_tree.proofs.Numbers.{among_decides}
 use Rattle.romfs_image.proofs.Walk.{step_at, walk_zero, room, room_more, walk_dot, walk_found, walk_entry, is_root}
 use Rattle.romfs_image.proofs.Walk.{walk_start, none_left}
 use Rattle.romfs_image.proofs.image.RomfsTreeImage.is_node.Goals as goal
 
 pub returns-then-n-self : goal.returns-then-n-self
-returns-then-n-self c = among_tells _ c.args.n.0 true
+returns-then-n-self c = among_decides _ c.args.n.0 true
     (is_root c.args.self.now.accessible.bytes.now c.args.self.now.accessible.root c.args.self.now.references c.args.n.0
     c.args.self.now.sound c.if-n-self.true)
 
@@ -51,7 +51,7 @@ led_at-requires c = (step_at c.pop.new.self.items c.in-Some.at c.loop-at.invaria
     c.if-at-eq0.false).good.linked (ap is_dots (sym c.name_at.ensures) ∙ sym c.is_dots.ensures ∙ c.if-is_dots.false)
 
 pub returns-then-led_at-n : goal.returns-then-led_at-n
-returns-then-led_at-n c = among_tells _ c.args.n.0 true
+returns-then-led_at-n c = among_decides _ c.args.n.0 true
     (sym (walk_found c.pop.new.self.items c.in-Some.at c.loop-at.invariant c.in-Some.ensures.items c.if-at-eq0.false
     (ap is_dots (sym c.name_at.ensures) ∙ sym c.is_dots.ensures ∙ c.if-is_dots.false)
     (sym c.led_at.ensures ∙ c.if-led_at-n.true)))
@@ -85,6 +85,6 @@ loop-at-preserved c = (walk_entry c.pop.new.self.items c.in-Some.at c.loop-at.in
     c.push-in-Some-2.ensures.items).0
 
 pub returns : goal.returns
-returns c = among_tells _ c.args.n.0 false
+returns c = among_decides _ c.args.n.0 false
     (none_left c.args.self.now.accessible.bytes.now c.args.self.now.references c.args.n.0 c.loop-at.stack.items
     c.in_default.ensures.variant.1 ∙ c.loop-at.invariant.same)

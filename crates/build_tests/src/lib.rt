@@ -1,0 +1,34 @@
+//! Tests of building that use several crates: the lines, rows and plans of manifests; the bytes of
+//! one image in each format; images that are built in memory, written into a buffer and streamed,
+//! with readers and writers that fail; and manifests that are written. No crate depends on this
+//! one.
+#![tactic(auto)]
+
+#[cfg(test)]
+mod commands;
+#[cfg(test)]
+mod cramfs_written;
+#[cfg(test)]
+mod hello;
+#[cfg(test)]
+mod images;
+#[cfg(test)]
+mod known;
+#[cfg(test)]
+mod layouts;
+#[cfg(test)]
+mod lines;
+#[cfg(test)]
+mod made;
+#[cfg(test)]
+mod romfs_written;
+#[cfg(test)]
+mod rows;
+#[cfg(test)]
+mod spoiled;
+#[cfg(test)]
+mod streams;
+#[cfg(test)]
+mod sums;
+#[cfg(test)]
+mod texts;

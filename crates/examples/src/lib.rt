@@ -1,0 +1,28 @@
+//! Short, proved callers of the libraries. They are run as tests, and the CALLING.md of a library
+//! quotes its caller.
+//!
+//! Proved: the conditions of each call are met by the contracts of the calls before it. For
+//! example, `check` promises that a tree has at most 65 levels, which is the condition of `list`,
+//! `walk`, `Files::new` and `serve`. No crate depends on this one.
+#![tactic(auto)]
+
+#[cfg(test)]
+mod built;
+#[cfg(test)]
+mod cached;
+#[cfg(test)]
+mod checked;
+#[cfg(test)]
+mod known;
+#[cfg(test)]
+mod mapped;
+#[cfg(test)]
+mod opened;
+#[cfg(test)]
+mod planned;
+#[cfg(test)]
+mod served;
+#[cfg(test)]
+mod streamed;
+#[cfg(test)]
+mod walked;

@@ -1,5 +1,0 @@
-use Rattle.image_gaps.proofs.Left.{Left}
-use Rattle.image_gaps.proofs.spans.left_by.Given as goal
-
-abbrev pub invariant-spans : goal.invariant-spans
-invariant-spans l = Left l.spans l.x-index l.left l.reach l.size

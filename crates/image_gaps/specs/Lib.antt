@@ -1,4 +1,0 @@
-pub mod Unused
-pub mod Gaps
-pub mod Records
-pub mod Held

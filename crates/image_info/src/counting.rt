@@ -1,0 +1,52 @@
+//! The count of the bytes that nothing uses.
+ghost use Rattle.std.specs.Prelude.{◌≡◌, ◌≤◌, length, IfOk};
+ghost use Rattle.image_info.specs.Gaps.{romfs_gaps, cramfs_gaps, gaps_of, IsChecked};
+ghost use Rattle.image_info.specs.Held.{HoldsRomfs, HoldsCramfs};
+
+use crate::cramfs_records::cramfs_spans;
+use crate::romfs_records::romfs_spans;
+use crate::spans::unused_bytes;
+use cramfs_format::Order;
+use cramfs_format::superblock::accessible_size;
+use image_check::AnyImage;
+use rom_fields::OutOfMemory;
+use rom_tree::TreeImage;
+use romfs_format::superblock::stated_size;
+use std::alloc::Global;
+
+/// Does the same as `count_gaps` for a romfs image whose root is at `root`.
+fn count_romfs(alloc: Global, all: &[u8], root: u32) -> Result<u32, OutOfMemory>
+    requires { HoldsRomfs all.now root }
+    ensures { IfOk result (λ n. n ≡ romfs_gaps all.now) }
+{
+    let size = stated_size(all);
+    let mut spans = romfs_spans(alloc, &all[..size as usize], root)?;
+    Ok(unused_bytes(&mut spans, size))
+}
+
+/// Does the same as `count_gaps` for a cramfs image.
+fn count_cramfs(alloc: Global, order: Order, all: &[u8]) -> Result<u32, OutOfMemory>
+    requires { HoldsCramfs order all.now }
+    ensures { IfOk result (λ n. n ≡ cramfs_gaps order all.now) }
+{
+    let size = accessible_size(order, all);
+    let mut spans = cramfs_spans(alloc, order, &all[..size as usize])?;
+    Ok(unused_bytes(&mut spans, size))
+}
+
+/// Counts the accessible bytes of an image that nothing uses: no superblock, record with its name,
+/// list, table or contents. The records are read again. For n records and blocks, the time grows as
+/// n log n, and the memory is some 20 bytes for each of them (this is not proved).
+///
+/// # Errors
+///
+/// `OutOfMemory` if memory is refused.
+pub fn count_gaps(alloc: Global, image: &AnyImage<'_>) -> Result<u32, OutOfMemory>
+    requires { IsChecked image.now }
+    ensures { IfOk result (λ n. n ≡ gaps_of image.now) }
+{
+    match image {
+        AnyImage::Romfs(image) => count_romfs(alloc, image.bytes(), image.parts().root),
+        AnyImage::Cramfs(image) => count_cramfs(alloc, image.parts().order, image.bytes()),
+    }
+}

@@ -1,5 +1,0 @@
-use Rattle.image_told.proofs.Again.{built_again}
-use Rattle.image_told.proofs.laws.built_again_is_alike.Goals as goal
-
-pub returns : goal.returns
-returns c = built_again

@@ -1,4 +1,0 @@
-use Rattle.lookup_cache.proofs.cache.CachedTreeImage.entry.Goals as goal
-
-pub returns : goal.returns
-returns g c = c.entry.ensures

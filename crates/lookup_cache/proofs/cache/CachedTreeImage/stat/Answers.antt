@@ -1,8 +1,0 @@
-use Rattle.std.proofs.Common.{refl}
-use Rattle.lookup_cache.proofs.cache.CachedTreeImage.stat.Goals as goal
-
-pub stat-requires : goal.stat-requires
-stat-requires g c κs = ((refl, tt), c.requires)
-
-pub returns : goal.returns
-returns g c = c.stat.ensures

@@ -1,0 +1,4 @@
+use Rattle.lookups.proofs.cache.CachedTreeImage.is_node.Goals as goal
+
+pub returns : goal.returns
+returns g c = c.is_node.ensures

@@ -1,0 +1,8 @@
+use Rattle.std.proofs.Common.{refl}
+use Rattle.lookups.proofs.cache.CachedTreeImage.stat.Goals as goal
+
+pub stat-requires : goal.stat-requires
+stat-requires g c κs = ((refl, tt), c.requires)
+
+pub returns : goal.returns
+returns g c = c.stat.ensures

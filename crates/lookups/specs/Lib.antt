@@ -1,0 +1,4 @@
+pub mod Remembers
+pub mod Cache
+pub mod Indices
+pub mod Inner

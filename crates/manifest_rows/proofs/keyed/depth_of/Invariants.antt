@@ -1,9 +1,0 @@
-use Rattle.std.proofs.Common.{◌≡◌, ◌≤◌, take}
-use Rattle.manifest_rows.specs.Keyed.{count}
-use Rattle.manifest_rows.proofs.keyed.depth_of.Given as goal
-
-abbrev pub invariant-loop-byte : goal.invariant-loop-byte
-invariant-loop-byte l = record {
-  so_far : l.depth ≡ count 47 (take l.byte-index l.path);
-  few : l.depth ≤ l.byte-index;
-}

@@ -1,6 +1,0 @@
-use Rattle.std.proofs.Common.{◌≡◌, take}
-use Rattle.manifest_rows.specs.Keyed.{zeroed}
-use Rattle.manifest_rows.proofs.keyed.key_of.Given as goal
-
-abbrev pub invariant-loop-byte : goal.invariant-loop-byte
-invariant-loop-byte l = l.key.items ≡ zeroed (take l.byte-index l.path)

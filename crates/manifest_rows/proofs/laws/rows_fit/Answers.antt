@@ -1,5 +1,0 @@
-use Rattle.manifest_rows.proofs.Fitting as fitting
-use Rattle.manifest_rows.proofs.laws.rows_fit.Goals as goal
-
-pub returns : goal.returns
-returns c = λ f m sizes h none. fitting.rows_fit f m sizes h none

@@ -1,5 +1,0 @@
-pub mod Orders
-pub mod Firsts
-pub mod Lists
-pub mod Passed
-pub mod Kept

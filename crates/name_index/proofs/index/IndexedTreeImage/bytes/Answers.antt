@@ -1,4 +1,0 @@
-use Rattle.name_index.proofs.index.IndexedTreeImage.bytes.Goals as goal
-
-pub returns : goal.returns
-returns g c = c.bytes.ensures

@@ -1,4 +1,0 @@
-use Rattle.name_index.proofs.index.IndexedTreeImage.is_node.Goals as goal
-
-pub returns : goal.returns
-returns g c = c.is_node.ensures

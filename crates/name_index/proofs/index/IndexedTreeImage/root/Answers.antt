@@ -1,4 +1,0 @@
-use Rattle.name_index.proofs.index.IndexedTreeImage.root.Goals as goal
-
-pub returns : goal.returns
-returns g c = c.root.ensures

@@ -1,4 +1,0 @@
-mod Names
-mod Numbers
-mod Firsts
-mod Paths

@@ -1,0 +1,45 @@
+-- `without_bytes`, `size_by`: the kind and the size of a line's file. `misfit_fault`: a misfit of
+-- the code as a fault. (This project's own.)
+use Rattle.std.specs.Prelude.{ℕ, length, Option, Some, None}
+use Rattle.rom_faults.specs.declared.fault.Fault.{Fault}
+use Rattle.rom_tree.specs.declared.types.Kind.{Kind}
+use Rattle.rom_tree.specs.declared.types.Kind.TheVariants as kind
+use Rattle.manifest.specs.declared.line.Line.{Line}
+use Rattle.manifest.specs.declared.line.Word.{Word}
+use Rattle.manifest.specs.declared.line.Word.TheVariants.{Dir, File, Slink, Block, Character, Fifo}
+use Rattle.manifest.specs.declared.line.Word.TheVariants.{Socket, Hard, Same}
+use Rattle.manifest_tree.specs.Names.{no_bytes, Inode}
+use Rattle.manifest_tree.specs.Tree.{plain}
+use Rattle.plan_rows.specs.declared.files.SourceUse.{SourceUse}
+use Rattle.plan_rows.specs.declared.misfit.Misfit.{Misfit}
+
+-- the kind of file that a word makes; a `hard` line makes none, and counts as a regular file here
+abbrev pub kind_by : Word → Kind
+kind_by Dir = kind.Directory
+kind_by File = kind.Regular
+kind_by Slink = kind.Symlink
+kind_by Block = kind.Block
+kind_by Character = kind.Character
+kind_by Fifo = kind.Fifo
+kind_by Socket = kind.Socket
+kind_by Hard = kind.Regular
+kind_by Same = kind.Regular
+
+-- a line's kind and attributes, without its bytes
+abbrev pub without_bytes : Line → Inode
+without_bytes l = plain l (kind_by l.word) 4 0 no_bytes
+
+abbrev pub size_or : Option SourceUse → ℕ
+size_or None = 0
+size_or (Some c) = c.size
+
+-- the size of a line's file in bytes, if its path leads to these contents
+abbrev pub size_by : Word → Line → Option SourceUse → ℕ
+size_by Slink l o = length l.text
+size_by File l o = size_or o
+size_by Same l o = size_or o
+size_by _ l o = 0
+
+-- a misfit as a fault, at the number of its line
+abbrev pub misfit_fault : Misfit → Fault
+misfit_fault e = record { number = e.number; at = e.line }

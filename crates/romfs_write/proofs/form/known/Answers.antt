@@ -1,5 +1,0 @@
-use Rattle.romfs_write.proofs.Facts.{plan_known}
-use Rattle.romfs_write.proofs.form.known.Goals as goal
-
-pub returns-clause-plan : goal.returns-clause-plan
-returns-clause-plan c = plan_known c.fitting_is_planned.ensures c.args.plan.now c.image_len.ensures.planned c.requires
