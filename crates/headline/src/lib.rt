@@ -13,6 +13,10 @@
 //!   before, or to a whole image of the manifest in which a check finds no fault.
 //!
 //! `specs/Headline.antt` defines these words, and `specs/Lent.antt` defines what is lent.
+//!
+//! `laws` says which accepted images their manifest describes whole: all, unless a link's text has
+//! a zero byte, a path is too long, or the volume's name is. The tree that the manifest means is
+//! like the image (`specs/Alike.antt`).
 #![tactic(auto)]
 
 pub mod durable;

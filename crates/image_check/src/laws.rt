@@ -1,4 +1,4 @@
-//! Laws of images of either format.
+//! Laws of images of either format, and of the bytes that a check looks at.
 ghost use Rattle.cramfs_format.specs.Superblock.{order_of};
 ghost use Rattle.image_check.specs.Checked.{HasTree, IsFaultless, BeginsRomfs, BeginsCramfs};
 ghost use Rattle.image_check.specs.Checked.{IsLeastFaultUnder, IsRefused, Shows};

@@ -1,10 +1,14 @@
 //! `check`, which recognizes the format of an image by its first bytes and checks it (Linux
 //! Documentation/filesystems/romfs.rst and cramfs.rst); and `AnyImage`, an image of either format
-//! as a `TreeImage`.
+//! as a `TreeImage`. `reach_of`: the length to which an image reaches, by the first 76 bytes of its
+//! file. `is_sum_refused`: the first 512 bytes already have the fault of the whole file, a wrong
+//! sum.
 //!
 //! Proved: an image is returned only if its bytes hold a tree of files of one of the two formats,
 //! and have no fault. A fault is returned only if they hold no tree of either, and it is the least
-//! one. Each call on the image answers from that tree.
+//! one. Each call on the image answers from that tree. A check of the bytes up to the length of
+//! `reach_of` answers the same as one of the whole file. A refusal of the first 512 bytes is that of
+//! the whole file.
 #![tactic(auto)]
 
 mod any;

@@ -1,4 +1,4 @@
-//! Laws of runs, for readers of a map.
+//! Laws of runs, for readers of a map, and of the records whose extents count.
 ghost use Rattle.cramfs_format.specs.Refers.{references as cramfs_references};
 ghost use Rattle.cramfs_format.specs.Tree.{IsTree as IsCramfsTree};
 ghost use Rattle.cramfs_format.specs.declared.order.Order.{Order};

@@ -1,9 +1,13 @@
-//! `write_info`: the facts of a valid image's superblock, check and names, and the number of bytes
-//! that nothing uses, a line for each fact. `volume`: the name of its volume.
+//! What an image is and where its bytes are. `write_info` writes the facts of a valid image, a line
+//! for each fact; `volume` returns the name of its volume. `count_gaps` counts the accessible bytes
+//! that are in none of its extents. `map` writes the offsets of each regular file, a line for each
+//! run of consecutive bytes, in the list's order. `cat` writes the bytes of a file.
 //!
-//! Proved: `write_info` writes exactly the text of `specs/Info.antt`, or a prefix of it if the
-//! writer failed, or nothing if memory was refused. `volume` returns the name of
-//! `specs/Volumes.antt`.
+//! Proved: `write_info` writes exactly the text of `specs/Info.antt`, `map` that of
+//! `specs/Map.antt`, and `cat` exactly a file's bytes; or a prefix of it if the writer failed, or
+//! nothing if memory was refused. `count_gaps` returns exactly the number that `specs/Gaps.antt`
+//! defines, over the extents that a check tests for overlaps (`laws::of_the_tree`). `laws` also has
+//! what a reader needs to know of runs. `map` and `cat` allocate no memory.
 #![tactic(auto)]
 
 mod contents;

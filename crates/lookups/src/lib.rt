@@ -1,7 +1,10 @@
-//! `Cached`: a `TreeImage` over any other that remembers look-ups, also those that found nothing.
+//! Faster look-ups of names: two wrappers over any `TreeImage`. `Cached` remembers look-ups, also
+//! those that found nothing. `Indexed` sorts the names of a directory when one of them is first
+//! looked up; a later look-up needs time as the logarithm of the list's length.
 //!
-//! Proved: `Cached` answers each call as the image in it does, whichever names it keeps, also after
-//! memory was refused for one. `specs/Remembers.antt` defines the answers that are kept.
+//! Proved: both answer each call as the image in them does, whichever names or lists they keep, also
+//! after memory was refused. `specs/Remembers.antt` defines the answers that are kept, and
+//! `specs/Indices.antt` the index of a list and the answer of a list's front.
 #![tactic(auto)]
 
 mod cache;

@@ -1,9 +1,10 @@
 //! The manifest is a text that describes, line by line, what an image holds. `parse` returns the
-//! lines of a manifest, or its first fault.
+//! lines of a manifest, or its first fault. `put_line` and `write_manifest` print any lines.
 //!
 //! Proved: on all bytes, if memory is not refused, `parse` is the grammar's function from the bytes
-//! of a text to its lines or its first fault (`specs/Grammar.antt`). docs/MANIFEST.md explains the
-//! grammar by an example.
+//! of a text to its lines or its first fault (`specs/Grammar.antt`). If the grammar accepts each
+//! line behind those before it, exactly these lines are read back from their text
+//! (`laws::reads_back`). docs/MANIFEST.md explains the grammar by an example.
 #![tactic(auto)]
 
 mod entry;

@@ -1,10 +1,12 @@
 //! What the crates that read, build and serve images share: words of bytes and their sums, readers
-//! and writers that count their failures, texts that are written whole or as a prefix, and the
-//! first overlap of extents.
+//! and writers that count their failures, texts that are written whole or as a prefix, the first
+//! overlap of extents, and bytes in which parts are at their offsets.
 //!
 //! Proved: each word that is read or put is that of `specs/Words.antt` (romfs stores big-endian
 //! words: Linux Documentation/filesystems/romfs.rst). Each text is written whole, or as a prefix if
-//! the writer failed.
+//! the writer failed. `laws`: each part can be read after it is laid, every other byte is zero, and
+//! the sums are 0. `specs/Parts.antt` lays parts one after the other, with zeros between them;
+//! `specs/Sums.antt` has the words that bring the sums of romfs to 0.
 #![tactic(auto)]
 
 mod bytes;
