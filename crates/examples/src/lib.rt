@@ -8,21 +8,12 @@
 
 #[cfg(test)]
 mod built;
-#[cfg(test)]
 mod cached;
-#[cfg(test)]
 mod checked;
-#[cfg(test)]
-mod known;
-#[cfg(test)]
+mod described;
 mod mapped;
-#[cfg(test)]
 mod opened;
-#[cfg(test)]
 mod planned;
-#[cfg(test)]
 mod served;
-#[cfg(test)]
 mod streamed;
-#[cfg(test)]
 mod walked;
